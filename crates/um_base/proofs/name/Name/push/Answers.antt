@@ -1,0 +1,14 @@
+-- One more at the end of the front keeps the room behind it blank.
+use Rattle.std.proofs.Common.{◌<◌, arith, ap, length, ◌∙◌, ◌++◌, ◌∷◌, []}
+use Rattle.um_base.specs.Room.{IsRoom-push, front-push, length-front}
+use Rattle.um_base.proofs.name.Name.push.Goals as goal
+
+pub invariant_of-self : goal.invariant_of-self
+invariant_of-self c =
+    let room : c.self.inside.len < 24 = omega (arith, length-front c.self.invariant, ap length c.self.view_is) in
+    IsRoom-push _ c.self.invariant room
+
+pub returns : goal.returns
+returns c =
+    let room : c.self.inside.len < 24 = omega (arith, length-front c.self.invariant, ap length c.self.view_is) in
+    front-push _ c.self.invariant room ∙ ap (λ xs. xs ++ c.args.byte ∷ []) c.self.view_is

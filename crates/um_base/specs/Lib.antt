@@ -1,0 +1,6 @@
+pub mod Room
+pub mod Places
+pub mod Regions
+pub mod Layout
+pub mod Weight
+pub mod Lawful

@@ -1,0 +1,81 @@
+//! Lists with a greatest length.
+
+ghost use Rattle.std.specs.Prelude.{◌≡◌, ◌==◌, ◌<◌, ◌≤◌, [], ◌∷◌, ◌++◌, length, OnOk, OnErr};
+
+use crate::memory::Memory;
+use std::alloc::Global;
+use std::marker::Model;
+
+/// A list of at most `MOST` items, on the heap.
+#[derive(Drop)]
+pub struct BoundedVec<T: Drop, const MOST: usize> {
+    items: Vec<T>,
+}
+
+impl<T: Drop, const MOST: usize> Model for BoundedVec<T, MOST> {
+    ghost use Rattle.std.specs.Prelude.{List, length, ◌≤◌};
+
+    ghost Value = { List T };
+
+    ghost view = { λ v. v.items.items };
+
+    ghost invariant = { λ v. length v.items.items ≤ MOST };
+}
+
+impl<T: Drop, const MOST: usize> BoundedVec<T, MOST> {
+    /// None. It takes no memory.
+    pub fn new(alloc: Global) -> Self
+        ensures { result ≡ [] }
+    {
+        BoundedVec {
+            items: Vec::new(alloc),
+        }
+    }
+
+    pub fn len(&self) -> usize
+        ensures value { result ≡ length self.now }
+        ensures few { result ≤ MOST }
+    {
+        self.items.len()
+    }
+
+    pub fn is_empty(&self) -> bool
+        ensures { result ≡ (length self.now == 0) }
+    {
+        self.items.is_empty()
+    }
+
+    pub fn as_slice(&self) -> &[T]
+        ensures value { result.now ≡ self.now }
+        ensures few { length result.now ≤ MOST }
+    {
+        self.items.as_slice()
+    }
+
+    /// One more at the end.
+    pub fn push(&mut self, item: T) -> Result<(), Memory>
+        requires { length self.old < MOST }
+        ensures ok { OnOk result (self.new ≡ self.old ++ item ∷ []) }
+        ensures err { OnErr result (self.new ≡ self.old) }
+    {
+        self.items.push(item)?;
+        Ok(())
+    }
+}
+
+impl<T: Drop, const MOST: usize> BoundedVec<T, MOST> {
+    /// The items of a list that is short enough. It takes no memory.
+    pub fn from_vec(items: Vec<T>) -> Self
+        requires { length items.items ≤ MOST }
+        ensures { result ≡ items.items }
+    {
+        BoundedVec { items }
+    }
+
+    /// The items.
+    pub fn into_vec(self) -> Vec<T>
+        ensures { result.items ≡ self }
+    {
+        self.items
+    }
+}

@@ -1,0 +1,260 @@
+//! Short lists of a fixed room, which take no memory.
+
+ghost use Rattle.std.specs.Prelude.{◌≡◌, ◌<◌, ◌≤◌, [], ◌∷◌, ◌++◌, length};
+
+use crate::attr::Attr;
+use crate::limits::{DOMAIN_PARTITIONS, NAMED_PARTITIONS, PIECE, THREADS};
+use crate::names::{Addr, PartRef, Range, Reply, ThreadIx};
+use std::marker::Model;
+
+/// The woken threads, each with what its call answers.
+#[derive(Clone, Copy, PartialEq, Eq)]
+pub struct Replies {
+    items: [(ThreadIx, Reply); THREADS],
+    len: usize,
+}
+
+impl Model for Replies {
+    ghost use Rattle.std.specs.Prelude.{List, length, take, ℕ};
+    ghost use Rattle.std.proofs.Common.{ap};
+    ghost use Rattle.um_base.specs.declared.limits.TheConstants.{THREADS};
+    ghost use Rattle.um_base.specs.declared.names.ThreadIx.{ThreadIx};
+    ghost use Rattle.um_base.specs.declared.names.Reply.{Reply};
+    ghost use Rattle.um_base.specs.declared.names.Reply.TheVariants.{Void};
+    ghost use Rattle.um_base.specs.Room.{IsRoom, filled, room-front};
+
+    ghost Value = { List (ThreadIx × Reply) };
+
+    ghost view = { λ r. take r.len r.items };
+
+    ghost invariant = { λ r. IsRoom THREADS (record { 0 = 0 }, Void) r.items r.len };
+
+    ghost inverse = { λ l. record { items = filled THREADS (record { 0 = 0 }, Void) l; len = length l } };
+
+    ghost inverse_ok = { λ a h. ap (λ (p : List (ThreadIx × Reply) × ℕ). record { items = p.0; len = p.1 }) (room-front h) };
+}
+
+impl Replies {
+    /// None.
+    pub fn new() -> Replies
+        ensures { result ≡ [] }
+    {
+        Replies {
+            items: [(ThreadIx(0), Reply::Void); THREADS],
+            len: 0,
+        }
+    }
+
+    pub fn as_slice(&self) -> &[(ThreadIx, Reply)]
+        ensures value { result.now ≡ self.now }
+        ensures few { length result.now ≤ THREADS }
+    {
+        &self.items[..self.len]
+    }
+
+    pub fn len(&self) -> usize
+        ensures value { result ≡ length self.now }
+        ensures few { result ≤ THREADS }
+    {
+        self.len
+    }
+
+    /// One more at the end.
+    pub fn push(&mut self, thread: ThreadIx, reply: Reply)
+        requires { length self.old < THREADS }
+        ensures { self.new ≡ self.old ++ (thread, reply) ∷ [] }
+    {
+        self.items[self.len] = (thread, reply);
+        self.len += 1;
+    }
+}
+
+/// The partitions that an initialisation of a domain names.
+#[derive(Clone, Copy, PartialEq, Eq)]
+pub struct PartRefs {
+    items: [PartRef; NAMED_PARTITIONS],
+    len: usize,
+}
+
+impl Model for PartRefs {
+    ghost use Rattle.std.specs.Prelude.{List, length, take, ℕ};
+    ghost use Rattle.std.proofs.Common.{ap};
+    ghost use Rattle.um_base.specs.declared.limits.TheConstants.{NAMED_PARTITIONS};
+    ghost use Rattle.um_base.specs.declared.names.PartRef.{PartRef};
+    ghost use Rattle.um_base.specs.declared.names.PartRef.TheVariants.{At};
+    ghost use Rattle.um_base.specs.Room.{IsRoom, filled, room-front};
+
+    ghost Value = { List PartRef };
+
+    ghost view = { λ p. take p.len p.items };
+
+    ghost invariant = { λ p. IsRoom NAMED_PARTITIONS (At 0) p.items p.len };
+
+    ghost inverse = { λ l. record { items = filled NAMED_PARTITIONS (At 0) l; len = length l } };
+
+    ghost inverse_ok = { λ a h. ap (λ (p : List PartRef × ℕ). record { items = p.0; len = p.1 }) (room-front h) };
+}
+
+impl PartRefs {
+    /// None.
+    pub fn new() -> PartRefs
+        ensures { result ≡ [] }
+    {
+        PartRefs {
+            items: [PartRef::At(0); NAMED_PARTITIONS],
+            len: 0,
+        }
+    }
+
+    pub fn as_slice(&self) -> &[PartRef]
+        ensures value { result.now ≡ self.now }
+        ensures few { length result.now ≤ NAMED_PARTITIONS }
+    {
+        &self.items[..self.len]
+    }
+
+    pub fn len(&self) -> usize
+        ensures value { result ≡ length self.now }
+        ensures few { result ≤ NAMED_PARTITIONS }
+    {
+        self.len
+    }
+
+    /// One more at the end.
+    pub fn push(&mut self, part: &PartRef)
+        requires { length self.old < NAMED_PARTITIONS }
+        ensures { self.new ≡ self.old ++ part.now ∷ [] }
+    {
+        self.items[self.len] = *part;
+        self.len += 1;
+    }
+}
+
+/// The partitions of a domain, each a range with its rights.
+#[derive(Clone, Copy, PartialEq, Eq)]
+pub struct Parts {
+    items: [(Range, Attr); DOMAIN_PARTITIONS],
+    len: usize,
+}
+
+impl Model for Parts {
+    ghost use Rattle.std.specs.Prelude.{List, length, take, ℕ};
+    ghost use Rattle.std.proofs.Common.{ap};
+    ghost use Rattle.um_base.specs.declared.limits.TheConstants.{DOMAIN_PARTITIONS};
+    ghost use Rattle.um_base.specs.declared.names.Range.{Range};
+    ghost use Rattle.um_base.specs.declared.attr.Attr.{Attr};
+    ghost use Rattle.um_base.specs.Room.{IsRoom, filled, room-front};
+
+    ghost Value = { List (Range × Attr) };
+
+    ghost view = { λ p. take p.len p.items };
+
+    ghost invariant = { λ p. IsRoom DOMAIN_PARTITIONS (record { start = record { 0 = 0 }; size = 0 }, record { 0 = 0 }) p.items p.len };
+
+    ghost inverse = { λ l. record { items = filled DOMAIN_PARTITIONS (record { start = record { 0 = 0 }; size = 0 }, record { 0 = 0 }) l; len = length l } };
+
+    ghost inverse_ok = { λ a h. ap (λ (p : List (Range × Attr) × ℕ). record { items = p.0; len = p.1 }) (room-front h) };
+}
+
+/// A blank.
+const NO_PART: (Range, Attr) = (
+    Range {
+        start: Addr(0),
+        size: 0,
+    },
+    Attr(0),
+);
+
+impl Parts {
+    /// None.
+    pub fn new() -> Parts
+        ensures { result ≡ [] }
+    {
+        Parts {
+            items: [NO_PART; DOMAIN_PARTITIONS],
+            len: 0,
+        }
+    }
+
+    pub fn as_slice(&self) -> &[(Range, Attr)]
+        ensures value { result.now ≡ self.now }
+        ensures few { length result.now ≤ DOMAIN_PARTITIONS }
+    {
+        &self.items[..self.len]
+    }
+
+    pub fn len(&self) -> usize
+        ensures value { result ≡ length self.now }
+        ensures few { result ≤ DOMAIN_PARTITIONS }
+    {
+        self.len
+    }
+
+    /// One more at the end.
+    pub fn push(&mut self, range: Range, attr: Attr)
+        requires { length self.old < DOMAIN_PARTITIONS }
+        ensures { self.new ≡ self.old ++ (range, attr) ∷ [] }
+    {
+        self.items[self.len] = (range, attr);
+        self.len += 1;
+    }
+}
+
+/// A few bytes, as a message or a name.
+#[derive(Clone, Copy, PartialEq, Eq)]
+pub struct Piece {
+    items: [u8; PIECE],
+    len: usize,
+}
+
+impl Model for Piece {
+    ghost use Rattle.std.specs.Prelude.{List, length, take, ℕ};
+    ghost use Rattle.std.proofs.Common.{ap};
+    ghost use Rattle.um_base.specs.declared.limits.TheConstants.{PIECE};
+    ghost use Rattle.um_base.specs.Room.{IsRoom, filled, room-front};
+
+    ghost Value = { List ℕ };
+
+    ghost view = { λ p. take p.len p.items };
+
+    ghost invariant = { λ p. IsRoom PIECE 0 p.items p.len };
+
+    ghost inverse = { λ l. record { items = filled PIECE 0 l; len = length l } };
+
+    ghost inverse_ok = { λ a h. ap (λ (p : List ℕ × ℕ). record { items = p.0; len = p.1 }) (room-front h) };
+}
+
+impl Piece {
+    /// None.
+    pub fn new() -> Piece
+        ensures { result ≡ [] }
+    {
+        Piece {
+            items: [0; PIECE],
+            len: 0,
+        }
+    }
+
+    pub fn as_slice(&self) -> &[u8]
+        ensures value { result.now ≡ self.now }
+        ensures few { length result.now ≤ PIECE }
+    {
+        &self.items[..self.len]
+    }
+
+    pub fn len(&self) -> usize
+        ensures value { result ≡ length self.now }
+        ensures few { result ≤ PIECE }
+    {
+        self.len
+    }
+
+    /// One more byte at the end.
+    pub fn push(&mut self, byte: u8)
+        requires { length self.old < PIECE }
+        ensures { self.new ≡ self.old ++ byte ∷ [] }
+    {
+        self.items[self.len] = byte;
+        self.len += 1;
+    }
+}
