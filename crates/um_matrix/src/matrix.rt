@@ -1,0 +1,113 @@
+//! The machine's state, kept plainly.
+
+ghost use Rattle.std.specs.Prelude.{◌≡◌, ◌≤◌, length};
+
+use crate::object::Object;
+use crate::thread::Thread;
+use std::marker::Model;
+use um_base::{AREA_SIZE, DOMAINS, Image, POOLS, Parts, ROWS, THREADS};
+
+/// The event is no step of the machine from its present state.
+#[derive(Clone, Copy, PartialEq, Eq)]
+pub struct NotAStep;
+
+/// A state of the machine.
+#[derive(Drop)]
+pub struct Matrix<'a> {
+    image: &'a Image,
+    threads: Vec<Thread>,
+    objects: Vec<Object>,
+    pairs: Vec<[bool; THREADS]>,
+    domains: Vec<Option<Parts>>,
+    memory: Vec<u8>,
+    stacks: Vec<u8>,
+    pools: Vec<u32>,
+}
+
+impl<'a> Model for Matrix<'a> {
+    ghost use Rattle.std.specs.Prelude.{◌≡◌, ◌≤◌, length};
+    ghost use Rattle.um_base.specs.declared.limits.TheConstants.{THREADS, ROWS, DOMAINS, AREA_SIZE, POOLS};
+    ghost use Rattle.um_matrix.specs.State.{State};
+
+    ghost Value = { State };
+
+    ghost view = { λ m. record {
+      image = m.image.now;
+      threads = m.threads.items;
+      objects = m.objects.items;
+      pairs = m.pairs.items;
+      domains = m.domains.items;
+      memory = m.memory.items;
+      stacks = m.stacks.items;
+      pools = m.pools.items;
+    } };
+
+    ghost invariant = { λ m.
+        (length m.threads.items ≡ THREADS) × (length m.objects.items ≡ ROWS) × (length m.pairs.items ≡ ROWS) × (length m.domains.items ≤ DOMAINS)
+        × (length m.memory.items ≡ AREA_SIZE) × (length m.stacks.items ≡ AREA_SIZE) × (length m.pools.items ≤ POOLS) };
+}
+
+impl<'a> Matrix<'a> {
+    /// The image that runs.
+    pub fn image(&self) -> &'a Image
+        ensures { result.now ≡ self.now.image }
+    {
+        self.image
+    }
+
+    /// The threads, by thread index.
+    pub fn threads(&self) -> &[Thread]
+        ensures value { result.now ≡ self.now.threads }
+        ensures all { length result.now ≡ THREADS }
+    {
+        self.threads.as_slice()
+    }
+
+    /// The objects, by row.
+    pub fn objects(&self) -> &[Object]
+        ensures value { result.now ≡ self.now.objects }
+        ensures all { length result.now ≡ ROWS }
+    {
+        self.objects.as_slice()
+    }
+
+    /// Which threads have a pair with an object, by row and then by thread index.
+    pub fn pairs(&self) -> &[[bool; THREADS]]
+        ensures value { result.now ≡ self.now.pairs }
+        ensures all { length result.now ≡ ROWS }
+    {
+        self.pairs.as_slice()
+    }
+
+    /// The partitions of the domains, where they are initialised.
+    pub fn domains(&self) -> &[Option<Parts>]
+        ensures value { result.now ≡ self.now.domains }
+        ensures few { length result.now ≤ DOMAINS }
+    {
+        self.domains.as_slice()
+    }
+
+    /// The bytes of the area of the partitions.
+    pub fn memory(&self) -> &[u8]
+        ensures value { result.now ≡ self.now.memory }
+        ensures all { length result.now ≡ AREA_SIZE }
+    {
+        self.memory.as_slice()
+    }
+
+    /// The bytes of the area of the thread stacks.
+    pub fn stacks(&self) -> &[u8]
+        ensures value { result.now ≡ self.now.stacks }
+        ensures all { length result.now ≡ AREA_SIZE }
+    {
+        self.stacks.as_slice()
+    }
+
+    /// The bytes that are left in the pools.
+    pub fn pools(&self) -> &[u32]
+        ensures value { result.now ≡ self.now.pools }
+        ensures few { length result.now ≤ POOLS }
+    {
+        self.pools.as_slice()
+    }
+}
