@@ -1,0 +1,5 @@
+pub mod Bytes
+pub mod Calls
+pub mod Causes
+pub mod InMemory
+pub mod Room

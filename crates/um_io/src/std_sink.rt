@@ -1,0 +1,61 @@
+//! A sink over a writer of std.
+
+use crate::{Failed, Sink};
+use std::io::Write;
+
+/// A writer, with a count of its errors. It tells the bytes taken where the writer does, and
+/// promises no room. A writer that takes nothing of a piece that isn't empty has failed.
+#[derive(Drop)]
+pub struct StdSink<W: Write + Drop> {
+    inner: W,
+    faults: u64,
+}
+
+impl<W: Write + Drop> StdSink<W> {
+    ghost use Rattle.std.specs.Prelude.{◌≡◌};
+
+    /// A sink into the writer, which has not failed yet.
+    pub fn new(inner: W) -> Self
+        ensures taken { ⟦<StdSink<W> as Sink>⟧.taken result ≡ W.contents inner }
+        ensures faults { ⟦<StdSink<W> as Sink>⟧.faults result ≡ 0 }
+    {
+        StdSink { inner, faults: 0 }
+    }
+}
+
+impl<W: Write + Drop> Sink for StdSink<W> {
+    ghost use Rattle.std.specs.Prelude.{◌≡◌, Ok, length};
+    ghost use Rattle.std.specs.Io.{WritesAtMost};
+    ghost use Rattle.um_io.specs.Bytes.{TakesFront};
+    ghost use Rattle.um_io.specs.Causes.{HasCause, CountsErrors};
+    ghost use Rattle.um_io.specs.Room.{UsesRoom};
+
+    ghost taken = { λ s. W.contents s.inner };
+
+    ghost faults = { λ s. s.faults };
+
+    ghost room = { λ _. 0 };
+
+    fn write(&mut self, piece: &[u8]) -> Result<usize, Failed>
+        ensures bound { WritesAtMost result piece.now }
+        ensures bytes { TakesFront (⟦<Self as Sink>⟧.taken self.old)
+            (⟦<Self as Sink>⟧.taken self.new) result piece.now }
+        ensures progress { result ≡ Ok 0 → length piece.now ≡ 0 }
+        ensures cause { HasCause (⟦<Self as Sink>⟧.faults self.old)
+            (⟦<Self as Sink>⟧.faults self.new) result }
+        ensures room { UsesRoom (⟦<Self as Sink>⟧.room self.old) (⟦<Self as Sink>⟧.room self.new)
+            (⟦<Self as Sink>⟧.faults self.old) (⟦<Self as Sink>⟧.faults self.new) result }
+
+        // Each error is counted, and nothing else.
+        ensures faults { CountsErrors (⟦<Self as Sink>⟧.faults self.old)
+            (⟦<Self as Sink>⟧.faults self.new) result }
+    {
+        match self.inner.write(piece) {
+            Ok(count) if count > 0 || piece.is_empty() => Ok(count),
+            _ => {
+                self.faults = self.faults.saturating_add(1);
+                Err(Failed)
+            }
+        }
+    }
+}
