@@ -1,1 +1,9 @@
+mod ByteLemmas
+mod FrameLemmas
+mod KeptLemmas
+mod LineLemmas
+mod OfferLemmas
+mod PairLemmas
+mod PlaceLemmas
+mod RegionLemmas
 mod StepLemmas

@@ -6,3 +6,5 @@ pub mod Domains
 pub mod Order
 pub mod Table
 pub mod Run
+pub mod Built
+pub mod Offered

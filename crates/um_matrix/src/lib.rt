@@ -1,10 +1,17 @@
 //! The access-matrix machine: threads against objects and byte ranges, and the steps that they may make.
 #![tactic(auto)]
 
+mod bytes;
 mod contents;
 mod matrix;
 mod object;
+mod order;
 mod pending;
+mod places;
+mod regions;
+mod rows;
+mod same;
+mod tables;
 mod thread;
 mod waiters;
 

@@ -226,6 +226,18 @@ impl Pendings {
         }
     }
 
+    /// The step after the next one.
+    #[tactic(auto, using(crate::proofs::StepLemmas::front_more))]
+    pub fn second(&self) -> Option<Pending>
+        ensures { result ≡ slice_get self.now 1 }
+    {
+        if self.len < 2 {
+            None
+        } else {
+            Some(self.items[self.len - 2])
+        }
+    }
+
     /// Leaves the next step out.
     pub fn pop(&mut self)
         ensures { self.new ≡ drop 1 self.old }
@@ -235,11 +247,31 @@ impl Pendings {
         }
     }
 
+    /// Leaves the next so many steps out.
+    pub fn skip(&mut self, taken: usize)
+        ensures { self.new ≡ drop taken self.old }
+    {
+        for _ in 0..taken {
+            self.pop();
+        }
+    }
+
     /// Puts a step before the others.
     pub fn push(&mut self, step: &Pending)
         requires { length self.old < 12 }
         ensures { self.new ≡ step.now ∷ self.old }
     {
+        self.items[self.len] = *step;
+        self.len += 1;
+    }
+
+    /// Puts another step in the place of the next one.
+    pub fn replace(&mut self, step: &Pending)
+        ensures { self.new ≡ step.now ∷ drop 1 self.old }
+    {
+        if self.len > 0 {
+            self.len -= 1;
+        }
         self.items[self.len] = *step;
         self.len += 1;
     }

@@ -1,0 +1,111 @@
+//! The tables that a state of the machine is kept in.
+
+mod apply;
+mod boot;
+mod checks;
+mod memory;
+mod moves;
+mod offers;
+mod steps;
+
+use std::marker::Model;
+
+use um_base::{AREA_SIZE, DOMAINS, Image, POOLS, Parts, ROWS, THREADS};
+
+use crate::object::Object;
+use crate::thread::Thread;
+
+ghost use Rattle.std.specs.Prelude.{◌≡◌, ◌≤◌, length};
+
+/// The tables. The bytes of the read-only data are filled up with zeros to its rounded size.
+#[derive(Drop)]
+pub struct Tables<'a> {
+    image: &'a Image,
+    rodata: Vec<u8>,
+    threads: Vec<Thread>,
+    objects: Vec<Object>,
+    pairs: Vec<[bool; THREADS]>,
+    domains: Vec<Option<Parts>>,
+    memory: Vec<u8>,
+    stacks: Vec<u8>,
+    pools: Vec<u32>,
+}
+
+impl<'a> Model for Tables<'a> {
+    ghost use Rattle.std.specs.Prelude.{◌≡◌, ◌≤◌, length};
+    ghost use Rattle.um_base.specs.declared.limits.TheConstants.{THREADS, ROWS, DOMAINS, AREA_SIZE, POOLS};
+    ghost use Rattle.um_matrix.specs.State.{State};
+    ghost use Rattle.um_matrix.specs.Memory.{rodata_of};
+
+    ghost Value = { State };
+
+    ghost view = {
+        λ m. record {
+          image = m.image.now; threads = m.threads.items; objects = m.objects.items; pairs = m.pairs.items; domains = m.domains.items;
+          memory = m.memory.items; stacks = m.stacks.items; pools = m.pools.items;
+        }
+    };
+
+    ghost invariant = {
+        λ m.
+          (length m.threads.items ≡ THREADS) × (length m.objects.items ≡ ROWS) × (length m.pairs.items ≡ ROWS) × (length m.domains.items ≤ DOMAINS)
+          × (length m.memory.items ≡ AREA_SIZE) × (length m.stacks.items ≡ AREA_SIZE) × (length m.pools.items ≤ POOLS) × (m.rodata.items ≡ rodata_of m.image.now)
+    };
+}
+
+impl<'a> Tables<'a> {
+    pub fn image(&self) -> &'a Image
+        ensures { result.now ≡ self.now.image }
+    {
+        self.image
+    }
+
+    pub fn threads(&self) -> &[Thread]
+        ensures value { result.now ≡ self.now.threads }
+        ensures all { length result.now ≡ THREADS }
+    {
+        self.threads.as_slice()
+    }
+
+    pub fn objects(&self) -> &[Object]
+        ensures value { result.now ≡ self.now.objects }
+        ensures all { length result.now ≡ ROWS }
+    {
+        self.objects.as_slice()
+    }
+
+    pub fn pairs(&self) -> &[[bool; THREADS]]
+        ensures value { result.now ≡ self.now.pairs }
+        ensures all { length result.now ≡ ROWS }
+    {
+        self.pairs.as_slice()
+    }
+
+    pub fn domains(&self) -> &[Option<Parts>]
+        ensures value { result.now ≡ self.now.domains }
+        ensures few { length result.now ≤ DOMAINS }
+    {
+        self.domains.as_slice()
+    }
+
+    pub fn memory(&self) -> &[u8]
+        ensures value { result.now ≡ self.now.memory }
+        ensures all { length result.now ≡ AREA_SIZE }
+    {
+        self.memory.as_slice()
+    }
+
+    pub fn stacks(&self) -> &[u8]
+        ensures value { result.now ≡ self.now.stacks }
+        ensures all { length result.now ≡ AREA_SIZE }
+    {
+        self.stacks.as_slice()
+    }
+
+    pub fn pools(&self) -> &[u32]
+        ensures value { result.now ≡ self.now.pools }
+        ensures few { length result.now ≤ POOLS }
+    {
+        self.pools.as_slice()
+    }
+}
