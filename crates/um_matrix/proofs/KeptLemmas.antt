@@ -48,7 +48,7 @@ begin-option : (s : State) → IsKept s → (thread_at s 0).life ≡ Life.Living
 begin-option s k life none None here some h = cc
 begin-option s k life none (Some instr) here some h = begin-instr s k life none instr here h
 
-none-gone : (s : State) (t x : ℕ) → IsKept s → IsTrue (is_gone (object_at s x).status) → ⊥
+pub none-gone : (s : State) (t x : ℕ) → IsKept s → IsTrue (is_gone (object_at s x).status) → ⊥
 none-gone s t x k gone = let no : is_gone (object_at s x).status ≡ false = k.none_gone x in cc
 
 step-rests : (s : State) (x : ℕ) {p : Pending} {rest : Steps} → IsKept s → (thread_at s 0).life ≡ Life.Living → (thread_at s 0).pending ≡ [] → Offers s 0 p rest → MayChoose s 0 x p → Leads (steps_left s) (after s 0 x p rest)

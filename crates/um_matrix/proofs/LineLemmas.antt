@@ -11,11 +11,11 @@ use Rattle.um_matrix.specs.declared.thread.Place.{Place}
 use Rattle.um_matrix.specs.State.{script_lines, lines_of, instruction_at, past_end, into_repeat, settled, place_after, next_place}
 use Rattle.um_matrix.specs.Built.{is_access, IsBuilt}
 
-and-left : (a b : Bool) → IsTrue (a && b) → IsTrue a
+pub and-left : (a b : Bool) → IsTrue (a && b) → IsTrue a
 and-left true b h = refl
 and-left false b h = cc
 
-and-right : (a b : Bool) → IsTrue (a && b) → IsTrue b
+pub and-right : (a b : Bool) → IsTrue (a && b) → IsTrue b
 and-right true b h = h
 and-right false b h = cc
 

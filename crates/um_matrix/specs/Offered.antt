@@ -1,5 +1,5 @@
 -- Which steps a thread is offered, as tests that compute.
-use Rattle.std.specs.Prelude.{ℕ, ◌+◌, Bool, true, false, ◌&&◌, not, nat_le, if◌then◌else◌, take, Option, Some, None}
+use Rattle.std.specs.Prelude.{ℕ, ◌+◌, Bool, true, false, ◌&&◌, not, nat_le, if◌then◌else◌, take, slice_get, Option, Some, None}
 use Rattle.std.specs.List.{list_all}
 use Rattle.um_base.specs.declared.act.Act.{Act}
 use Rattle.um_base.specs.declared.act.Act.TheVariants as Act
@@ -8,8 +8,9 @@ use Rattle.um_base.specs.declared.instr.Instr.{Instr}
 use Rattle.um_matrix.specs.declared.pending.Pending.{Pending}
 use Rattle.um_matrix.specs.declared.pending.Pending.TheVariants as Pending
 use Rattle.um_matrix.specs.declared.thread.Place.{Place}
+use Rattle.um_matrix.specs.declared.thread.Thread.{Thread}
 use Rattle.um_matrix.specs.State.{State, thread_at, pair_at, is_living, instruction_at}
-use Rattle.um_matrix.specs.Run.{Step}
+use Rattle.um_matrix.specs.Run.{Step, none_due}
 
 -- what a thread at rest says next, by the instruction at its place: it begins it, or exits where there is none
 abbrev pub line_act : Place → Option Instr → Act
@@ -25,6 +26,10 @@ rest_act s t =
 abbrev pub first_of_drops : Option Pending → Option ℕ
 first_of_drops (Some (Pending.Drops from)) = Some from
 first_of_drops _ = None
+
+-- the step after the drops of an end, where nothing is due
+abbrev pub after_drops : Thread → Option Pending
+after_drops me = if none_due me then slice_get me.pending 1 else None
 
 -- whether the drops of an end may choose a row
 abbrev pub may_drop : State → ℕ → ℕ → ℕ → Bool

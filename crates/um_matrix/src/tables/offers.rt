@@ -16,7 +16,36 @@ use crate::thread::Life;
 impl<'a> Tables<'a> {
     ghost use Rattle.um_matrix.specs.Built.{is_built_step};
     ghost use Rattle.um_matrix.specs.Table.{act_of};
-    ghost use Rattle.um_matrix.specs.Offered.{rest_act, may_drop};
+    ghost use Rattle.um_matrix.specs.State.{thread_at};
+    ghost use Rattle.um_matrix.specs.Offered.{rest_act, may_drop, first_of_drops, after_drops};
+
+    /// The next step of a thread's instruction.
+    pub fn first_step(&self, t: usize) -> Option<Pending>
+        requires { t < THREADS }
+        ensures { result ≡ slice_get (thread_at self.now t).pending 0 }
+    {
+        self.threads[t].pending.first()
+    }
+
+    /// The row from which on a thread drops its pairs, where that is its next step.
+    pub fn drops_from(&self, t: usize) -> Option<u8>
+        requires { t < THREADS }
+        ensures { result ≡ first_of_drops (slice_get (thread_at self.now t).pending 0) }
+    {
+        match self.threads[t].pending.first() {
+            Some(Pending::Drops { from }) => Some(from),
+            _ => None,
+        }
+    }
+
+    /// The step after the drops of an end, where nothing is due.
+    pub fn after_drops(&self, t: usize) -> Option<Pending>
+        requires { t < THREADS }
+        ensures { result ≡ after_drops (thread_at self.now t) }
+    {
+        let thread = &self.threads[t];
+        if none_set(&thread.due) { thread.pending.second() } else { None }
+    }
 
     /// What a thread at rest says next.
     pub fn rest_act(&self, t: usize) -> Option<Act>
