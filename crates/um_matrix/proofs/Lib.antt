@@ -1,3 +1,4 @@
+mod BootLemmas
 mod ByteLemmas
 mod FrameLemmas
 mod KeptLemmas

@@ -117,17 +117,21 @@ is_set_up _ = false
 abbrev pub boots_row : ℕ → Boot → Bool
 boots_row x boot = boot.thread.0 == x || boot.stack.0 == x
 
--- the objects of a description, from a row on, and after them none
-abbrev pub objects_from : List Boot → ℕ → List ObjectDef → List Object
-objects_from boots x [] = replicate (ROWS - x) vacant
-objects_from boots x (o ∷ os) =
+-- a static object of a row: one that a boot entry names is initialised
+abbrev pub opening_object : List Boot → ℕ → ObjectDef → Object
+opening_object boots x o =
     record vacant {
       kind = Some o.kind;
       status = Status.Live;
       public = o.public;
       init = is_set_up o.setup || list_any (boots_row x) boots;
       contents = setup_contents o.setup;
-    } ∷ objects_from boots (x + 1) os
+    }
+
+-- the objects of a description, from a row on, and after them none
+abbrev pub objects_from : List Boot → ℕ → List ObjectDef → List Object
+objects_from boots x [] = replicate (ROWS - x) vacant
+objects_from boots x (o ∷ os) = opening_object boots x o ∷ objects_from boots (x + 1) os
 
 -- a boot entry's thread, at its script's first line
 abbrev pub boot_thread : Image → Boot → Thread
@@ -152,11 +156,14 @@ abbrev pub granted : ℕ → List Row → State → State
 granted t [] s = s
 granted t (x ∷ xs) s = granted t xs (with_pair s t x.0 true)
 
+abbrev pub booted_one : Boot → State → State
+booted_one boot s =
+    let t = index_or (thread_of_row s.image boot.thread.0) in
+    granted t (boot.thread ∷ boot.grants) (with_thread s t (boot_thread s.image boot))
+
 abbrev pub booted : List Boot → State → State
 booted [] s = s
-booted (boot ∷ boots) s =
-    let t = index_or (thread_of_row s.image boot.thread.0) in
-    booted boots (granted t (boot.thread ∷ boot.grants) (with_thread s t (boot_thread s.image boot)))
+booted (boot ∷ boots) s = booted boots (booted_one boot s)
 
 -- the bytes of the partitions stand in memory
 abbrev pub loaded : List Partition → State → State
@@ -167,24 +174,23 @@ abbrev pub parts_of : Image → Option (List ℕ) → Option Partitions
 parts_of image None = None
 parts_of image (Some numbers) = Some (map (λ i. part_at (slice_get image.partitions i)) numbers)
 
-abbrev pub domains_from : Image → List DomainDef → List (Option Partitions)
-domains_from image [] = []
-domains_from image (d ∷ ds) = parts_of image d.parts ∷ domains_from image ds
-
--- the opening state of an image
-abbrev pub opening : Image → State
-opening image =
-    booted image.boots (loaded image.partitions (
+-- the state of an image without what the partitions and the boot entries put there
+unfoldable pub blank : Image → State
+blank image =
     record {
       image = image;
       threads = replicate THREADS nobody;
       objects = objects_from image.boots 0 image.objects;
       pairs = replicate ROWS (replicate THREADS false);
-      domains = domains_from image image.domains;
+      domains = map (λ (d : DomainDef). parts_of image d.parts) image.domains;
       memory = replicate AREA_SIZE 0;
       stacks = replicate AREA_SIZE 0;
       pools = map (λ (p : Pool). p.size) image.pools;
-    }))
+    }
+
+-- the opening state of an image
+abbrev pub opening : Image → State
+opening image = booted image.boots (loaded image.partitions (blank image))
 
 -- a run of an image, which ends in s
 abbrev pub IsRun : Image → List Event → State → Type 0
