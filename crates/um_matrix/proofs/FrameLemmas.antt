@@ -1,13 +1,13 @@
 -- What stays of the states that are built so far, where a table changes.
-use Rattle.std.proofs.Common.{◌≡◌, ◌≢◌, ℕ, zero, suc, ◌+◌, ◌-◌, ◌<◌, ◌≤◌, Bool, true, false, ◌&&◌, List, [], ◌∷◌, length, refl, sym, ap, subst, ◌∙◌, arith, slice_index_or, slice_set, if◌then◌else◌}
+use Rattle.std.proofs.Common.{◌≡◌, ◌≢◌, ℕ, zero, suc, ◌+◌, ◌-◌, ◌<◌, Bool, true, false, List, [], ◌∷◌, length, refl, sym, ap, subst, ◌∙◌, arith, slice_index_or, slice_set, if◌then◌else◌}
 use Rattle.std.specs.Prelude.{nat_lt}
 use Rattle.std.proofs.lemmas.List.{get_or-set_same, get_or-set_other, length-set}
-use Rattle.um_base.specs.declared.limits.TheConstants.{PARTITION_AREA, STACK_AREA, THREADS, STATIC_ROWS}
+use Rattle.um_base.specs.declared.limits.TheConstants.{PARTITION_AREA, STACK_AREA}
 use Rattle.um_base.specs.declared.image.Image.{Image}
 use Rattle.um_matrix.specs.declared.object.Object.{Object}
 use Rattle.um_matrix.specs.declared.thread.Place.{Place}
 use Rattle.um_matrix.specs.declared.thread.Thread.{Thread}
-use Rattle.um_matrix.specs.State.{State, nobody, vacant, thread_at, object_at, with_thread, with_object, pair_at, with_pair, script_lines}
+use Rattle.um_matrix.specs.State.{State, nobody, vacant, thread_at, with_thread, with_object, with_pair, script_lines}
 use Rattle.um_matrix.specs.Memory.{with_bytes, put_bytes}
 use Rattle.um_matrix.specs.Objects.{is_gone}
 use Rattle.um_matrix.specs.Order.{Steps}
@@ -37,7 +37,7 @@ way-along {image} e w = subst (λ (x : Thread). IsOnItsWay image x) (sym e) w
 
 -- only the first thread changes
 pub leads-thread : (n : ℕ) (s : State) (me : Thread) → IsKept s → IsOnItsWay s.image me
-  → left_of me.life (length (script_lines s.image me.place.script) - me.place.line) me.pending < n → Leads n (with_thread s 0 me)
+    → left_of me.life (length (script_lines s.image me.place.script) - me.place.line) me.pending < n → Leads n (with_thread s 0 me)
 leads-thread n s me k way fewer =
     let e : thread_at (with_thread s 0 me) 0 ≡ me = at-same s me k in
     record {
@@ -60,18 +60,19 @@ kept-stacks s bytes k = record { image = k.image; threads = k.threads; first = k
 
 -- bytes are written, and then the first thread changes, as the image has it
 pub leads-bytes : (n : ℕ) (s : State) (a : ℕ) (bytes : List ℕ) (me : Image → Thread) → IsKept s → IsOnItsWay s.image (me s.image)
-  → left_of (me s.image).life (length (script_lines s.image (me s.image).place.script) - (me s.image).place.line) (me s.image).pending < n
-  → Leads n (let s2 = with_bytes s a bytes in with_thread s2 0 (me s2.image))
+    → left_of (me s.image).life (length (script_lines s.image (me s.image).place.script) - (me s.image).place.line) (me s.image).pending < n
+    → Leads n (let s2 = with_bytes s a bytes in with_thread s2 0 (me s2.image))
 leads-bytes n s a bytes me k way fewer =
     let memory = put_bytes s.memory (a - PARTITION_AREA) bytes in
     let stacks = put_bytes s.stacks (a - STACK_AREA) bytes in
     elim (nat_lt a STACK_AREA) as (λ b. Leads n (let s2 = if b then record s { memory = memory } else record s { stacks = stacks } in with_thread s2 0 (me s2.image))) [
-      true ↦ leads-thread n (record s { memory = memory }) (me s.image) (kept-memory s memory k) way fewer
-    | false ↦ leads-thread n (record s { stacks = stacks }) (me s.image) (kept-stacks s stacks k) way fewer ]
+      | true ↦ leads-thread n (record s { memory = memory }) (me s.image) (kept-memory s memory k) way fewer
+      | false ↦ leads-thread n (record s { stacks = stacks }) (me s.image) (kept-stacks s stacks k) way fewer
+    ]
 
 -- no object is gone, after one that isn't was written
 none_gone-set : (os : List Object) (y : ℕ) (o : Object) → ((x : ℕ) → is_gone (slice_index_or os x vacant).status ≡ false) → is_gone o.status ≡ false
-  → (x : ℕ) → is_gone (slice_index_or (slice_set os y o) x vacant).status ≡ false
+    → (x : ℕ) → is_gone (slice_index_or (slice_set os y o) x vacant).status ≡ false
 none_gone-set [] y o h e x = h x
 none_gone-set (p ∷ os) zero o h e zero = e
 none_gone-set (p ∷ os) zero o h e (suc x) = h (suc x)
@@ -84,7 +85,7 @@ kept-object s y o k e =
 
 -- an object that isn't gone is written, and then the first thread changes
 pub leads-object : (n : ℕ) (s : State) (y : ℕ) (o : Object) (me : Thread) → IsKept s → is_gone o.status ≡ false → IsOnItsWay s.image me
-  → left_of me.life (length (script_lines s.image me.place.script) - me.place.line) me.pending < n → Leads n (with_thread (with_object s y o) 0 me)
+    → left_of me.life (length (script_lines s.image me.place.script) - me.place.line) me.pending < n → Leads n (with_thread (with_object s y o) 0 me)
 leads-object n s y o me k e way fewer = leads-thread n (with_object s y o) me (kept-object s y o k e) way fewer
 
 -- a pair that goes leaves no pair where there was none
@@ -96,7 +97,7 @@ unset-flag (f ∷ flags) (suc t) zero h = h
 unset-flag (f ∷ flags) (suc t) (suc u) h = unset-flag flags t u h
 
 unset-pair : (pairs : List (List Bool)) (x t y u : ℕ) → slice_index_or (slice_index_or pairs y []) u false ≡ false
-  → slice_index_or (slice_index_or (slice_set pairs x (slice_set (slice_index_or pairs x []) t false)) y []) u false ≡ false
+    → slice_index_or (slice_index_or (slice_set pairs x (slice_set (slice_index_or pairs x []) t false)) y []) u false ≡ false
 unset-pair [] x t y u h = h
 unset-pair (flags ∷ pairs) zero t zero u h = unset-flag flags t u h
 unset-pair (flags ∷ pairs) zero t (suc y) u h = h
@@ -146,9 +147,9 @@ kept-paired s x k =
 
 -- the first thread drops a pair, and goes on
 pub leads-paired : (n : ℕ) (s : State) (x : ℕ) (steps : Steps) → IsKept s → (me : Thread) → thread_at s 0 ≡ me
-  → ((a : Thread) → a.life ≡ me.life → a.pending ≡ steps → a.place ≡ me.place → IsOnItsWay s.image a)
-  → left_of me.life (length (script_lines s.image me.place.script) - me.place.line) steps < n
-  → Leads n (let s2 = paired s 0 x false in with_thread s2 0 (record (thread_at s2 0) { pending = steps }))
+    → ((a : Thread) → a.life ≡ me.life → a.pending ≡ steps → a.place ≡ me.place → IsOnItsWay s.image a)
+    → left_of me.life (length (script_lines s.image me.place.script) - me.place.line) steps < n
+    → Leads n (let s2 = paired s 0 x false in with_thread s2 0 (record (thread_at s2 0) { pending = steps }))
 leads-paired n s x steps k me is ways fewer =
     let holders = slice_index_or (with_pair s 0 x false).pairs x [] in
     let s2 = paired s 0 x false in

@@ -4,6 +4,7 @@ mod FrameLemmas
 mod KeptLemmas
 mod LineLemmas
 mod OfferLemmas
+mod OpeningLemmas
 mod PairLemmas
 mod PlaceLemmas
 mod RegionLemmas

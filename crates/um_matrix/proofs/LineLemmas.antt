@@ -1,14 +1,13 @@
 -- Places in scripts whose lines load and store.
-use Rattle.std.proofs.Common.{◌≡◌, ℕ, zero, suc, ◌+◌, ◌<◌, Bool, true, false, ◌&&◌, List, [], ◌∷◌, length, refl, ap, ◌∙◌, Option, Some, None, slice_get, if◌then◌else◌}
+use Rattle.std.proofs.Common.{◌≡◌, ℕ, zero, suc, ◌+◌, ◌<◌, Bool, true, false, ◌&&◌, List, [], ◌∷◌, length, refl, Option, Some, None, slice_get}
 use Rattle.std.specs.Prelude.{IsTrue, IfSome}
 use Rattle.std.specs.List.{list_all}
 use Rattle.std.proofs.lemmas.Option.{slice_get-get_or}
 use Rattle.um_base.specs.declared.image.Image.{Image}
 use Rattle.um_base.specs.declared.image.Script.{Script}
 use Rattle.um_base.specs.declared.instr.Instr.{Instr}
-use Rattle.um_base.specs.declared.instr.Instr.TheVariants as Instr
 use Rattle.um_matrix.specs.declared.thread.Place.{Place}
-use Rattle.um_matrix.specs.State.{script_lines, lines_of, instruction_at, past_end, into_repeat, settled, place_after, next_place}
+use Rattle.um_matrix.specs.State.{script_lines, lines_of, instruction_at, past_end, into_repeat, settled, next_place}
 use Rattle.um_matrix.specs.Built.{is_access, IsBuilt}
 
 pub and-left : (a b : Bool) → IsTrue (a && b) → IsTrue a
@@ -37,7 +36,7 @@ lines-access (Some script) h = h
 pub access-line : (image : Image) → IsBuilt image → (script line : ℕ) → IfSome (slice_get (script_lines image script) line) (λ i. IsTrue (is_access i))
 access-line image built script line =
     all-get is_access (script_lines image script) line
-      (lines-access (slice_get image.scripts script) (all-get (λ (c : Script). list_all is_access c.lines) image.scripts script built.accesses))
+    (lines-access (slice_get image.scripts script) (all-get (λ (c : Script). list_all is_access c.lines) image.scripts script built.accesses))
 
 -- such a line is no end and no repeat
 past_end-access : (lines : List Instr) (place : Place) (o : Option Instr) → IfSome o (λ i. IsTrue (is_access i)) → past_end lines place o ≡ place
@@ -56,7 +55,7 @@ settled-access : (image : Image) → IsBuilt image → (place : Place) → settl
 settled-access image built place =
     let lines = script_lines image place.script in
     let e : past_end lines place (slice_get lines place.line) ≡ place =
-      past_end-access lines place (slice_get lines place.line) (access-line image built place.script place.line) in
+    past_end-access lines place (slice_get lines place.line) (access-line image built place.script place.line) in
     rw e (into_repeat-access place (slice_get lines place.line) (access-line image built place.script place.line))
 
 -- the place after a line is the next line

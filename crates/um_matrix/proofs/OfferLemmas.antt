@@ -1,23 +1,19 @@
 -- What a thread is offered, and what its event says then.
-use Rattle.std.proofs.Common.{◌≡◌, ◌≢◌, ℕ, zero, suc, ◌+◌, ◌≤◌, ◌<◌, Bool, true, false, ◌&&◌, ◌==◌, not, ap, sym, subst, ◌∙◌, refl, arith, length, List, [], ◌∷◌, drop, take, Option, Some, None, slice_get, slice_index_or, if◌then◌else◌, inl, inr}
+use Rattle.std.proofs.Common.{◌≡◌, ℕ, zero, suc, ◌+◌, ◌<◌, Bool, true, false, ◌&&◌, not, ap, sym, subst, ◌∙◌, refl, arith, [], ◌∷◌, drop, take, Option, Some, None, slice_get, if◌then◌else◌}
 use Rattle.std.specs.Prelude.{IsTrue, nat_le, is_some, MatchOption}
 use Rattle.std.specs.List.{list_all}
 use Rattle.std.proofs.lemmas.Bool.{le-leb, leb-true}
 use Rattle.um_base.specs.Places.{own_row}
 use Rattle.um_base.specs.declared.names.ThreadIx.{ThreadIx}
 use Rattle.um_base.specs.declared.act.Act.{Act}
-use Rattle.um_base.specs.declared.act.Act.TheVariants as Act
 use Rattle.um_base.specs.declared.act.Cause.TheVariants as Cause
 use Rattle.um_base.specs.declared.act.Event.{Event}
 use Rattle.um_base.specs.declared.image.Image.{Image}
 use Rattle.um_base.specs.declared.instr.Instr.{Instr}
 use Rattle.um_matrix.specs.declared.pending.Pending.{Pending}
-use Rattle.um_matrix.specs.declared.pending.Pending.TheVariants as Pending
-use Rattle.um_matrix.specs.declared.thread.Life.TheVariants as Life
 use Rattle.um_matrix.specs.declared.thread.Place.{Place}
 use Rattle.um_matrix.specs.declared.thread.Thread.{Thread}
-use Rattle.um_matrix.specs.State.{State, thread_at, object_at, pair_at, is_living, instruction_at}
-use Rattle.um_matrix.specs.Objects.{is_gone}
+use Rattle.um_matrix.specs.State.{State, thread_at, pair_at, is_living, instruction_at}
 use Rattle.um_matrix.specs.Order.{Steps}
 use Rattle.um_matrix.specs.Table.{act_of, after}
 use Rattle.um_matrix.specs.Run.{Offers, goes, skips_inherit, skips_drops, begins, exits, cleans_pair, recycles, MayChoose, Step, IsComplete, none_due}
@@ -77,15 +73,15 @@ not-true false h = refl
 
 -- what a thread at rest says is what begins, or exits
 rest-begins : (s : State) (t : ℕ) (instr : Instr) → is_living (thread_at s t).life ≡ true → (thread_at s t).doomed ≡ false → instruction_at s.image (thread_at s t).place ≡ Some instr
-  → rest_act s t ≡ Some (act_of s t 0 Pending.Begin)
+    → rest_act s t ≡ Some (act_of s t 0 Pending.Begin)
 rest-begins s t instr living doomed here = rw (living, doomed, here) refl
 
 rest-exits : (s : State) (t : ℕ) → is_living (thread_at s t).life ≡ true → (thread_at s t).doomed ≡ false → instruction_at s.image (thread_at s t).place ≡ None
-  → rest_act s t ≡ Some Act.Exit
+    → rest_act s t ≡ Some Act.Exit
 rest-exits s t living doomed here = rw (living, doomed, here) refl
 
 rest-conditions : (s : State) (t : ℕ) (act : Act) → rest_act s t ≡ Some act
-  → IsTrue (is_living (thread_at s t).life) × ((thread_at s t).doomed ≡ false) × (line_act (thread_at s t).place (instruction_at s.image (thread_at s t).place) ≡ act)
+    → IsTrue (is_living (thread_at s t).life) × ((thread_at s t).doomed ≡ false) × (line_act (thread_at s t).place (instruction_at s.image (thread_at s t).place) ≡ act)
 rest-conditions s t act h =
     let me = thread_at s t in
     let both = chosen-some (is_living me.life && not me.doomed) (line_act me.place (instruction_at s.image me.place)) act h in
@@ -96,12 +92,14 @@ line-begins place None h = cc
 line-begins place (Some instr) h = refl
 
 pub step-begins : (s : State) (event : Event) (act : Act) → slice_get (thread_at s event.thread.0).pending 0 ≡ None → rest_act s event.thread.0 ≡ Some act → event.act ≡ act
-  → IsTrue (is_some (instruction_at s.image (thread_at s event.thread.0).place)) → Step s event (after s event.thread.0 0 Pending.Begin [])
+    → IsTrue (is_some (instruction_at s.image (thread_at s event.thread.0).place)) → Step s event (after s event.thread.0 0 Pending.Begin [])
 step-begins s event act none said says some =
     let me = thread_at s event.thread.0 in
     let c = rest-conditions s event.thread.0 act said in
     record {
-      step = Pending.Begin; rest = []; row = 0;
+      step = Pending.Begin;
+      rest = [];
+      row = 0;
       offered = begins (empty me.pending none) c.0 c.1 some;
       chosen = tt;
       says = says ∙ sym c.2 ∙ line-begins me.place (instruction_at s.image me.place) some;
@@ -109,12 +107,14 @@ step-begins s event act none said says some =
     }
 
 pub step-exits : (s : State) (event : Event) (act : Act) → slice_get (thread_at s event.thread.0).pending 0 ≡ None → rest_act s event.thread.0 ≡ Some act → event.act ≡ act
-  → instruction_at s.image (thread_at s event.thread.0).place ≡ None → Step s event (after s event.thread.0 0 Pending.Exit [])
+    → instruction_at s.image (thread_at s event.thread.0).place ≡ None → Step s event (after s event.thread.0 0 Pending.Exit [])
 step-exits s event act none said says here =
     let me = thread_at s event.thread.0 in
     let c = rest-conditions s event.thread.0 act said in
     record {
-      step = Pending.Exit; rest = []; row = 0;
+      step = Pending.Exit;
+      rest = [];
+      row = 0;
       offered = exits (empty me.pending none) c.0 c.1 here;
       chosen = tt;
       says = says ∙ sym c.2 ∙ ap (line_act me.place) here;
@@ -122,7 +122,7 @@ step-exits s event act none said says here =
     }
 
 rest-some : (s : State) (t : ℕ) (o : Option Instr) → is_living (thread_at s t).life ≡ true → (thread_at s t).doomed ≡ false → instruction_at s.image (thread_at s t).place ≡ o → IsTrue (is_some o)
-  → rest_act s t ≡ Some (act_of s t 0 Pending.Begin)
+    → rest_act s t ≡ Some (act_of s t 0 Pending.Begin)
 rest-some s t None living doomed here some = cc
 rest-some s t (Some instr) living doomed here some = rest-begins s t instr living doomed here
 
@@ -188,11 +188,13 @@ drops-head (Pending.Drops f ∷ rest) from h = let e : f ≡ from = cc in ap (λ
 drops-head (_ ∷ rest) from h = cc
 
 pub step-drop : (s : State) (event : Event) (from x : ℕ) → first_of_drops (slice_get (thread_at s event.thread.0).pending 0) ≡ Some from → may_drop s event.thread.0 from x ≡ true
-  → event.act ≡ act_of s event.thread.0 x (Pending.Drops from) → Step s event (after s event.thread.0 x (Pending.Drops from) (drop 1 (thread_at s event.thread.0).pending))
+    → event.act ≡ act_of s event.thread.0 x (Pending.Drops from) → Step s event (after s event.thread.0 x (Pending.Drops from) (drop 1 (thread_at s event.thread.0).pending))
 step-drop s event from x head may says =
     let t = event.thread.0 in
     record {
-      step = Pending.Drops from; rest = drop 1 (thread_at s t).pending; row = x;
+      step = Pending.Drops from;
+      rest = drop 1 (thread_at s t).pending;
+      row = x;
       offered = goes-first s t (Pending.Drops from) (drops-head (thread_at s t).pending from head);
       chosen = drop-chosen s t from x may;
       says = says;
@@ -242,7 +244,7 @@ first-built s zero p k other head = way-first p k.first other head
 first-built s (suc t) p k other head = let never = k.others (suc t) (omega arith) in let none : (thread_at s (suc t)).pending ≡ [] = never.pending in let h = rw none at head in cc
 
 drops-says : (s : State) (event : Event) (from x : ℕ) {p : Pending} {rest : Steps} → IsKept s → slice_get (thread_at s event.thread.0).pending 0 ≡ Some (Pending.Drops from)
-  → Offers s event.thread.0 p rest → MayChoose s event.thread.0 x p → event.act ≡ act_of s event.thread.0 x p → DropsOr s event from
+    → Offers s event.thread.0 p rest → MayChoose s event.thread.0 x p → event.act ≡ act_of s event.thread.0 x p → DropsOr s event from
 drops-says s event from x {p} k head (goes e) chosen says =
     let h = rw e at head in
     let q : p ≡ Pending.Drops from = cc in
@@ -285,14 +287,14 @@ due-some false o p h e = cc
 
 -- a step of a thread that drops its pairs is a drop, or the step after them
 drops-or : (s : State) (event : Event) (from : ℕ) → DropsOr s event from
-  → ((x : ℕ) → may_drop s event.thread.0 from x ≡ true → event.act ≡ act_of s event.thread.0 x (Pending.Drops from) → ⊥)
-  → (p : Pending) × (after_drops (thread_at s event.thread.0) ≡ Some p) × (event.act ≡ act_of s event.thread.0 0 p)
+    → ((x : ℕ) → may_drop s event.thread.0 from x ≡ true → event.act ≡ act_of s event.thread.0 x (Pending.Drops from) → ⊥)
+    → (p : Pending) × (after_drops (thread_at s event.thread.0) ≡ Some p) × (event.act ≡ act_of s event.thread.0 0 p)
 drops-or s event from (is_drop x may says) none = absurd (none x may says)
 drops-or s event from (is_next p due next says) none = (p, due-some (none_due (thread_at s event.thread.0)) (slice_get (thread_at s event.thread.0).pending 1) p due next, says)
 
 pub only-next : (s : State) (event : Event) (from : ℕ) (s2 : State) → IsKept s → first_of_drops (slice_get (thread_at s event.thread.0).pending 0) ≡ Some from
-  → ((x : ℕ) → may_drop s event.thread.0 from x ≡ true → event.act ≡ act_of s event.thread.0 x (Pending.Drops from) → ⊥) → Step s event s2
-  → (p : Pending) × (after_drops (thread_at s event.thread.0) ≡ Some p) × (event.act ≡ act_of s event.thread.0 0 p)
+    → ((x : ℕ) → may_drop s event.thread.0 from x ≡ true → event.act ≡ act_of s event.thread.0 x (Pending.Drops from) → ⊥) → Step s event s2
+    → (p : Pending) × (after_drops (thread_at s event.thread.0) ≡ Some p) × (event.act ≡ act_of s event.thread.0 0 p)
 only-next s event from s2 k head none step = drops-or s event from (only-drops s event s2 from k head step) none
 
 -- Whether any event is a step.
@@ -326,7 +328,7 @@ rest-match s k none None e = complete-first s k (λ event s2 first step. no-rest
 rest-match s k none (Some act) e = rest-step s 0 act none (sym e)
 
 no-end : (s : State) (event : Event) (s2 : State) (from t : ℕ) → event.thread.0 ≡ t → IsKept s → first_of_drops (slice_get (thread_at s t).pending 0) ≡ Some from
-  → ((x : ℕ) → may_drop s t from x ≡ false) → after_drops (thread_at s t) ≡ None → Step s event s2 → ⊥
+    → ((x : ℕ) → may_drop s t from x ≡ false) → after_drops (thread_at s t) ≡ None → Step s event s2 → ⊥
 no-end s event s2 from t e k head none nothing step =
     let here : first_of_drops (slice_get (thread_at s event.thread.0).pending 0) ≡ Some from = subst (λ (u : ℕ). first_of_drops (slice_get (thread_at s u).pending 0) ≡ Some from) (sym e) head in
     let after : after_drops (thread_at s event.thread.0) ≡ None = subst (λ (u : ℕ). after_drops (thread_at s u) ≡ None) (sym e) nothing in

@@ -1,7 +1,6 @@
 -- Pairs come and go, and the steps that the threads have left stay.
 use Rattle.std.proofs.Common.{◌≡◌, ℕ, zero, suc, ◌+◌, Bool, true, false, List, [], ◌∷◌, refl, slice_index_or, if◌then◌else◌}
 use Rattle.um_base.specs.declared.act.Leftover.{Leftover}
-use Rattle.um_base.specs.declared.act.Leftover.TheVariants as Leftover
 use Rattle.um_matrix.specs.declared.thread.Thread.{Thread}
 use Rattle.um_matrix.specs.declared.object.Status.TheVariants as Status
 use Rattle.um_matrix.specs.State.{State, nobody, thread_at, object_at, with_object}
@@ -20,14 +19,16 @@ pending-paired s u x there t = pending-with_dues x 0 _ s.threads t
 pub pending-after_given : (s : State) (u x t : ℕ) → (thread_at (after_given s u x) t).pending ≡ (thread_at s t).pending
 pending-after_given s u x t =
     elim (is_gone (object_at s x).status) as (λ b. (thread_at (if b then s else paired s u x true) t).pending ≡ (thread_at s t).pending) [
-      true ↦ refl
-    | false ↦ pending-paired s u x true t ]
+      | true ↦ refl
+      | false ↦ pending-paired s u x true t
+    ]
 
 pub pending-after_drop : (s : State) (u x t : ℕ) → (thread_at (after_drop s u x) t).pending ≡ (thread_at s t).pending
 pending-after_drop s u x t =
     elim (dropped s u x) as (λ l. (thread_at (elim l as (λ _. State) [ Leftover.NoPair ↦ s | Leftover.Kept ↦ paired s u x false | Leftover.Gone ↦ with_object (paired s u x false) x (record (object_at s x) { status = Status.Gone }) ]) t).pending ≡ (thread_at s t).pending) [
-      Leftover.NoPair ↦ refl
-    | Leftover.Kept ↦ pending-paired s u x false t
-    | Leftover.Gone ↦ pending-paired s u x false t ]
+      | Leftover.NoPair ↦ refl
+      | Leftover.Kept ↦ pending-paired s u x false t
+      | Leftover.Gone ↦ pending-paired s u x false t
+    ]
 
 pub ruleset pendings_kept = (pending-after_given, pending-after_drop)

@@ -1,5 +1,5 @@
 -- What is built so far: images of one boot thread without grants, whose lines load and store, under the policy that ends a thread.
-use Rattle.std.specs.Prelude.{◌≡◌, ℕ, ◌+◌, ◌-◌, ◌*◌, ◌<◌, ◌≤◌, Bool, true, false, ◌==◌, ◌&&◌, not, nat_lt, nat_le, IsTrue, List, [], ◌∷◌, length, Some}
+use Rattle.std.specs.Prelude.{◌≡◌, ℕ, ◌+◌, ◌-◌, ◌*◌, ◌<◌, ◌≤◌, Bool, true, false, ◌==◌, ◌&&◌, nat_lt, nat_le, IsTrue, [], ◌∷◌, length, Some}
 use Rattle.std.specs.List.{list_all}
 use Rattle.um_base.specs.declared.limits.TheConstants.{THREADS, ROWS, STATIC_ROWS}
 use Rattle.um_base.specs.declared.names.Addr.{Addr}
@@ -9,12 +9,9 @@ use Rattle.um_base.specs.declared.image.Boot.{Boot}
 use Rattle.um_base.specs.declared.image.Image.{Image}
 use Rattle.um_base.specs.declared.image.Script.{Script}
 use Rattle.um_base.specs.declared.instr.Instr.{Instr}
-use Rattle.um_base.specs.declared.instr.Instr.TheVariants as Instr
 use Rattle.um_base.specs.Places.{thread_of_row}
 use Rattle.um_matrix.specs.declared.pending.Pending.{Pending}
-use Rattle.um_matrix.specs.declared.pending.Pending.TheVariants as Pending
 use Rattle.um_matrix.specs.declared.thread.Life.{Life}
-use Rattle.um_matrix.specs.declared.thread.Life.TheVariants as Life
 use Rattle.um_matrix.specs.declared.thread.Thread.{Thread}
 use Rattle.um_matrix.specs.State.{State, thread_at, object_at, pair_at, script_lines}
 use Rattle.um_matrix.specs.Objects.{is_gone}

@@ -5,14 +5,13 @@ ghost use Rattle.std.specs.List.{list_any};
 ghost use Rattle.um_matrix.specs.State.{nobody, vacant};
 ghost use Rattle.um_matrix.specs.Run.{boot_thread, boots_row, setup_contents, is_set_up, opening_object};
 
-use um_base::{Boot, Image, Mode, ObjectDef, Piece, ROWS, Reply, Row, Setup};
-
 use crate::contents::{Contents, Messages, Values};
 use crate::object::{Object, Status};
 use crate::pending::Pendings;
 use crate::places::first_place;
 use crate::thread::{Life, Place, Thread};
 use crate::waiters::Waiters;
+use um_base::{Boot, Image, Mode, ObjectDef, Piece, ROWS, Reply, Row, Setup};
 
 /// An index on which no thread was started.
 pub fn nobody() -> Thread
@@ -27,7 +26,11 @@ pub fn nobody() -> Thread
         priority: 0,
         pool: None,
         registers: [0; 8],
-        place: Place { script: 0, line: 0, left: 0 },
+        place: Place {
+            script: 0,
+            line: 0,
+            left: 0,
+        },
         pending: Pendings::new(),
         reply: Reply::Void,
         buffer: Piece::new(),
@@ -78,10 +81,24 @@ fn setup_contents(setup: Setup) -> Contents
 {
     match setup {
         Setup::Sem { count, limit } => Contents::Sem { count, limit },
-        Setup::Mutex => Contents::Mutex { owner: None, depth: 0 },
-        Setup::Msgq { msg_size, max_msgs } => Contents::Msgq { size: msg_size, most: max_msgs, messages: Messages::new() },
-        Setup::Stack { entries } => Contents::Stack { most: entries, values: Values::new() },
-        Setup::Pipe { size } => Contents::Pipe { size, bytes: Piece::new(), closed: false },
+        Setup::Mutex => Contents::Mutex {
+            owner: None,
+            depth: 0,
+        },
+        Setup::Msgq { msg_size, max_msgs } => Contents::Msgq {
+            size: msg_size,
+            most: max_msgs,
+            messages: Messages::new(),
+        },
+        Setup::Stack { entries } => Contents::Stack {
+            most: entries,
+            values: Values::new(),
+        },
+        Setup::Pipe { size } => Contents::Pipe {
+            size,
+            bytes: Piece::new(),
+            closed: false,
+        },
         _ => Contents::Nothing,
     }
 }
@@ -91,7 +108,11 @@ fn is_set_up(setup: Setup) -> bool
     ensures { result ≡ is_set_up setup }
 {
     match setup {
-        Setup::Sem { .. } | Setup::Mutex | Setup::Msgq { .. } | Setup::Stack { .. } | Setup::Pipe { .. } => true,
+        Setup::Sem { .. }
+        | Setup::Mutex
+        | Setup::Msgq { .. }
+        | Setup::Stack { .. }
+        | Setup::Pipe { .. } => true,
         _ => false,
     }
 }

@@ -7,11 +7,10 @@ ghost use Rattle.um_matrix.specs.State.{value_of};
 ghost use Rattle.um_matrix.specs.Order.{steps_of, end_steps};
 ghost use Rattle.um_matrix.specs.Built.{is_access};
 
-use um_base::{Addr, Image, Instr, THREADS, Term};
-
 use crate::pending::{Pending, Pendings};
 use crate::rows::{addr_of, own_row};
 use crate::thread::Thread;
+use um_base::{Addr, Image, Instr, THREADS, Term};
 
 /// The value of an operand.
 pub fn value_of(registers: &[u32], term: &Term) -> u32
@@ -47,7 +46,11 @@ fn access(registers: &[u32; 8], instr: &Instr) -> Pending
     ensures { (image : Image) → (t : ℕ) → (me : Thread) → me.registers ≡ registers.now → steps_of image t me instr.now ≡ result ∷ [] }
 {
     match instr {
-        Instr::Load { to, addr, size } => Pending::Load { to: *to, addr: Addr(value_of(registers, addr)), size: *size as u32 },
+        Instr::Load { to, addr, size } => Pending::Load {
+            to: *to,
+            addr: Addr(value_of(registers, addr)),
+            size: *size as u32,
+        },
         Instr::Store { addr, size, value } => Pending::Store {
             addr: Addr(value_of(registers, addr)),
             size: *size as u32,

@@ -1,12 +1,11 @@
 //! Places in scripts.
 
-ghost use Rattle.std.specs.Prelude.{◌≡◌, ◌+◌, ◌<◌, ◌≤◌, ◌^◌, is_some, length, slice_get, IsTrue};
+ghost use Rattle.std.specs.Prelude.{◌≡◌, ◌+◌, ◌-◌, ◌<◌, ◌≤◌, ◌^◌, is_some, length, slice_get, IsTrue};
 ghost use Rattle.std.specs.Option.{option_copied};
 ghost use Rattle.um_matrix.specs.State.{script_lines, instruction_at, is_repeat, repeat_before, past_end, into_repeat, settled, first_place, next_place};
 
-use um_base::{Image, Instr};
-
 use crate::thread::Place;
+use um_base::{Image, Instr};
 
 /// A line of a script.
 fn line_at(image: &Image, script: u8, line: usize) -> Option<&Instr>
@@ -52,9 +51,17 @@ fn past_end(image: &Image, place: Place) -> Place
     match line_at(image, place.script, place.line as usize) {
         Some(Instr::End) => {
             if place.left <= 1 {
-                Place { script: place.script, line: place.line + 1, left: 0 }
+                Place {
+                    script: place.script,
+                    line: place.line + 1,
+                    left: 0,
+                }
             } else {
-                Place { script: place.script, line: repeat_before(image, place.script, place.line) + 1, left: place.left - 1 }
+                Place {
+                    script: place.script,
+                    line: repeat_before(image, place.script, place.line) + 1,
+                    left: place.left - 1,
+                }
             }
         }
         _ => place,
@@ -66,7 +73,11 @@ fn into_repeat(image: &Image, place: Place) -> Place
     ensures { result ≡ into_repeat place (slice_get (script_lines image.now place.script) place.line) }
 {
     match line_at(image, place.script, place.line as usize) {
-        Some(Instr::Repeat { times }) => Place { script: place.script, line: place.line + 1, left: *times },
+        Some(Instr::Repeat { times }) => Place {
+            script: place.script,
+            line: place.line + 1,
+            left: *times,
+        },
         _ => place,
     }
 }
@@ -82,7 +93,14 @@ fn settled(image: &Image, place: Place) -> Place
 pub fn first_place(image: &Image, script: u8) -> Place
     ensures { result ≡ first_place image.now script }
 {
-    settled(image, Place { script, line: 0, left: 0 })
+    settled(
+        image,
+        Place {
+            script,
+            line: 0,
+            left: 0,
+        },
+    )
 }
 
 /// The instruction at a place, or none after the last line.
@@ -98,7 +116,25 @@ pub fn next_place(image: &Image, place: Place) -> Place
     ensures { result ≡ next_place image.now place }
 {
     match line_at(image, place.script, place.line as usize) {
-        Some(_) => settled(image, Place { script: place.script, line: place.line + 1, left: place.left }),
+        Some(_) => settled(
+            image,
+            Place {
+                script: place.script,
+                line: place.line + 1,
+                left: place.left,
+            },
+        ),
         None => place,
+    }
+}
+
+/// How many lines of its script a place has behind it, itself included.
+pub fn lines_behind(image: &Image, place: Place) -> usize
+    ensures value { result ≡ length (script_lines image.now place.script) - place.line }
+    ensures few { result ≤ 1000 }
+{
+    match image.scripts.as_slice().get(place.script as usize) {
+        Some(script) => script.lines.len().saturating_sub(place.line as usize),
+        None => 0,
     }
 }

@@ -86,7 +86,11 @@ pub fn rodata_allows(rodata: Option<Range>, access: Access, a: u32, n: u32) -> b
 fn stacks_allow(image: &Image, access: Access, a: u32, n: u32) -> bool
     ensures { result ≡ list_any (λ (o : ObjectDef). list_any (region_allows access a n) (range_region read_write (stack_range o.setup))) image.now.objects }
 {
-    image.objects.as_slice().iter().any(|o| stack_allows(o.setup, access, a, n))
+    image
+        .objects
+        .as_slice()
+        .iter()
+        .any(|o| stack_allows(o.setup, access, a, n))
 }
 
 /// Whether one of these partitions allows it.
@@ -107,7 +111,14 @@ fn setup_allows(image: &Image, stack: Row, access: Access, a: u32, n: u32) -> bo
 }
 
 /// Whether a partition of a domain allows it.
-pub fn domain_allows(domains: &[Option<Parts>], domain: u8, mode: Mode, access: Access, a: u32, n: u32) -> bool
+pub fn domain_allows(
+    domains: &[Option<Parts>],
+    domain: u8,
+    mode: Mode,
+    access: Access,
+    a: u32,
+    n: u32,
+) -> bool
     ensures { result ≡ list_any (λ (part : Range × Attr). region_allows access a n (partition_region mode part)) (parts_or_none (slice_index_or domains.now domain None)) }
 {
     match domains.get(domain as usize) {
@@ -118,7 +129,14 @@ pub fn domain_allows(domains: &[Option<Parts>], domain: u8, mode: Mode, access: 
 
 /// Whether one of the stacks that a thread reaches allows it.
 #[tactic(auto, using(crate::proofs::RegionLemmas::regions_allow))]
-pub fn stack_regions_allow(image: &Image, mode: Mode, stack: Row, access: Access, a: u32, n: u32) -> bool
+pub fn stack_regions_allow(
+    image: &Image,
+    mode: Mode,
+    stack: Row,
+    access: Access,
+    a: u32,
+    n: u32,
+) -> bool
     ensures { result ≡ list_any (region_allows access a n) (stack_regions image.now mode stack.0) }
 {
     match mode {

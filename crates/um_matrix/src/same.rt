@@ -2,7 +2,10 @@
 
 ghost use Rattle.std.specs.Prelude.{◌≡◌, ◌↔◌, IsTrue};
 
-use um_base::{Act, Addr, Answer, Attr, Cause, Errno, Found, Given, Kind, Leftover, Piece, Range, Replies, Reply, Row, SetSaid, ThreadIx, Want};
+use um_base::{
+    Act, Addr, Answer, Attr, Cause, Errno, Found, Given, Kind, Leftover, Piece, Range, Replies,
+    Reply, Row, SetSaid, ThreadIx, Want,
+};
 
 pub fn same_addr(a: Addr, b: Addr) -> bool
     ensures { IsTrue result ↔ (a ≡ b) }
@@ -133,19 +136,43 @@ pub fn same_act(a: &Act, b: &Act) -> bool
 {
     match a {
         Act::Begin { script, line } => match b {
-            Act::Begin { script: script2, line: line2 } => *script == *script2 && *line == *line2,
+            Act::Begin {
+                script: script2,
+                line: line2,
+            } => *script == *script2 && *line == *line2,
             _ => false,
         },
-        Act::Check { addr, kind, want, verdict } => match b {
-            Act::Check { addr: addr2, kind: kind2, want: want2, verdict: verdict2 } => *addr == *addr2 && same_some_kind(*kind, *kind2) && *want == *want2 && same_verdict(*verdict, *verdict2),
+        Act::Check {
+            addr,
+            kind,
+            want,
+            verdict,
+        } => match b {
+            Act::Check {
+                addr: addr2,
+                kind: kind2,
+                want: want2,
+                verdict: verdict2,
+            } => *addr == *addr2
+                && same_some_kind(*kind, *kind2)
+                && *want == *want2
+                && same_verdict(*verdict, *verdict2),
             _ => false,
         },
         Act::Load { addr, size, value } => match b {
-            Act::Load { addr: addr2, size: size2, value: value2 } => *addr == *addr2 && *size == *size2 && *value == *value2,
+            Act::Load {
+                addr: addr2,
+                size: size2,
+                value: value2,
+            } => *addr == *addr2 && *size == *size2 && *value == *value2,
             _ => false,
         },
         Act::Store { addr, size, value } => match b {
-            Act::Store { addr: addr2, size: size2, value: value2 } => *addr == *addr2 && *size == *size2 && *value == *value2,
+            Act::Store {
+                addr: addr2,
+                size: size2,
+                value: value2,
+            } => *addr == *addr2 && *size == *size2 && *value == *value2,
             _ => false,
         },
         Act::Fetch { addr } => match b {
@@ -153,31 +180,58 @@ pub fn same_act(a: &Act, b: &Act) -> bool
             _ => false,
         },
         Act::Fault { access, addr, size } => match b {
-            Act::Fault { access: access2, addr: addr2, size: size2 } => *access == *access2 && *addr == *addr2 && *size == *size2,
+            Act::Fault {
+                access: access2,
+                addr: addr2,
+                size: size2,
+            } => *access == *access2 && *addr == *addr2 && *size == *size2,
             _ => false,
         },
         Act::Probe { addr, size, fits } => match b {
-            Act::Probe { addr: addr2, size: size2, fits: fits2 } => *addr == *addr2 && *size == *size2 && *fits == *fits2,
+            Act::Probe {
+                addr: addr2,
+                size: size2,
+                fits: fits2,
+            } => *addr == *addr2 && *size == *size2 && *fits == *fits2,
             _ => false,
         },
         Act::CopyIn { addr, size, fits } => match b {
-            Act::CopyIn { addr: addr2, size: size2, fits: fits2 } => *addr == *addr2 && *size == *size2 && *fits == *fits2,
+            Act::CopyIn {
+                addr: addr2,
+                size: size2,
+                fits: fits2,
+            } => *addr == *addr2 && *size == *size2 && *fits == *fits2,
             _ => false,
         },
         Act::CopyOut { addr, size, fits } => match b {
-            Act::CopyOut { addr: addr2, size: size2, fits: fits2 } => *addr == *addr2 && *size == *size2 && *fits == *fits2,
+            Act::CopyOut {
+                addr: addr2,
+                size: size2,
+                fits: fits2,
+            } => *addr == *addr2 && *size == *size2 && *fits == *fits2,
             _ => false,
         },
         Act::CopyStr { addr, found } => match b {
-            Act::CopyStr { addr: addr2, found: found2 } => *addr == *addr2 && *found == *found2,
+            Act::CopyStr {
+                addr: addr2,
+                found: found2,
+            } => *addr == *addr2 && *found == *found2,
             _ => false,
         },
         Act::Erase { stack } => match b {
             Act::Erase { stack: stack2 } => *stack == *stack2,
             _ => false,
         },
-        Act::Work { addr, answer, woken } => match b {
-            Act::Work { addr: addr2, answer: answer2, woken: woken2 } => *addr == *addr2 && *answer == *answer2 && same_replies(woken, woken2),
+        Act::Work {
+            addr,
+            answer,
+            woken,
+        } => match b {
+            Act::Work {
+                addr: addr2,
+                answer: answer2,
+                woken: woken2,
+            } => *addr == *addr2 && *answer == *answer2 && same_replies(woken, woken2),
             _ => false,
         },
         Act::Resume => matches!(b, Act::Resume),
@@ -186,27 +240,47 @@ pub fn same_act(a: &Act, b: &Act) -> bool
             _ => false,
         },
         Act::Grant { who, addr, given } => match b {
-            Act::Grant { who: who2, addr: addr2, given: given2 } => *who == *who2 && *addr == *addr2 && *given == *given2,
+            Act::Grant {
+                who: who2,
+                addr: addr2,
+                given: given2,
+            } => *who == *who2 && *addr == *addr2 && *given == *given2,
             _ => false,
         },
         Act::Own { who, given } => match b {
-            Act::Own { who: who2, given: given2 } => *who == *who2 && *given == *given2,
+            Act::Own {
+                who: who2,
+                given: given2,
+            } => *who == *who2 && *given == *given2,
             _ => false,
         },
         Act::Inherit { who, addr } => match b {
-            Act::Inherit { who: who2, addr: addr2 } => *who == *who2 && *addr == *addr2,
+            Act::Inherit {
+                who: who2,
+                addr: addr2,
+            } => *who == *who2 && *addr == *addr2,
             _ => false,
         },
         Act::DropPair { who, addr, left } => match b {
-            Act::DropPair { who: who2, addr: addr2, left: left2 } => *who == *who2 && *addr == *addr2 && *left == *left2,
+            Act::DropPair {
+                who: who2,
+                addr: addr2,
+                left: left2,
+            } => *who == *who2 && *addr == *addr2 && *left == *left2,
             _ => false,
         },
         Act::Publish { addr, given } => match b {
-            Act::Publish { addr: addr2, given: given2 } => *addr == *addr2 && *given == *given2,
+            Act::Publish {
+                addr: addr2,
+                given: given2,
+            } => *addr == *addr2 && *given == *given2,
             _ => false,
         },
         Act::SetInit { addr, set } => match b {
-            Act::SetInit { addr: addr2, set: set2 } => *addr == *addr2 && *set == *set2,
+            Act::SetInit {
+                addr: addr2,
+                set: set2,
+            } => *addr == *addr2 && *set == *set2,
             _ => false,
         },
         Act::ClearInit { addr } => match b {
@@ -218,7 +292,10 @@ pub fn same_act(a: &Act, b: &Act) -> bool
             _ => false,
         },
         Act::Reserve { kind, addr } => match b {
-            Act::Reserve { kind: kind2, addr: addr2 } => *kind == *kind2 && *addr == *addr2,
+            Act::Reserve {
+                kind: kind2,
+                addr: addr2,
+            } => *kind == *kind2 && *addr == *addr2,
             _ => false,
         },
         Act::Born { addr } => match b {
@@ -226,7 +303,10 @@ pub fn same_act(a: &Act, b: &Act) -> bool
             _ => false,
         },
         Act::Buffer { size, fits } => match b {
-            Act::Buffer { size: size2, fits: fits2 } => *size == *size2 && *fits == *fits2,
+            Act::Buffer {
+                size: size2,
+                fits: fits2,
+            } => *size == *size2 && *fits == *fits2,
             _ => false,
         },
         Act::Unbuffer { size } => match b {
@@ -238,19 +318,46 @@ pub fn same_act(a: &Act, b: &Act) -> bool
             _ => false,
         },
         Act::DomInit { domain, reply } => match b {
-            Act::DomInit { domain: domain2, reply: reply2 } => *domain == *domain2 && *reply == *reply2,
+            Act::DomInit {
+                domain: domain2,
+                reply: reply2,
+            } => *domain == *domain2 && *reply == *reply2,
             _ => false,
         },
-        Act::DomAdd { domain, range, attr, reply } => match b {
-            Act::DomAdd { domain: domain2, range: range2, attr: attr2, reply: reply2 } => *domain == *domain2 && *range == *range2 && *attr == *attr2 && *reply == *reply2,
+        Act::DomAdd {
+            domain,
+            range,
+            attr,
+            reply,
+        } => match b {
+            Act::DomAdd {
+                domain: domain2,
+                range: range2,
+                attr: attr2,
+                reply: reply2,
+            } => *domain == *domain2 && *range == *range2 && *attr == *attr2 && *reply == *reply2,
             _ => false,
         },
-        Act::DomRemove { domain, range, attr, reply } => match b {
-            Act::DomRemove { domain: domain2, range: range2, attr: attr2, reply: reply2 } => *domain == *domain2 && *range == *range2 && *attr == *attr2 && *reply == *reply2,
+        Act::DomRemove {
+            domain,
+            range,
+            attr,
+            reply,
+        } => match b {
+            Act::DomRemove {
+                domain: domain2,
+                range: range2,
+                attr: attr2,
+                reply: reply2,
+            } => *domain == *domain2 && *range == *range2 && *attr == *attr2 && *reply == *reply2,
             _ => false,
         },
         Act::DomMove { domain, who, reply } => match b {
-            Act::DomMove { domain: domain2, who: who2, reply: reply2 } => *domain == *domain2 && *who == *who2 && *reply == *reply2,
+            Act::DomMove {
+                domain: domain2,
+                who: who2,
+                reply: reply2,
+            } => *domain == *domain2 && *who == *who2 && *reply == *reply2,
             _ => false,
         },
         Act::Start { who } => match b {
@@ -259,7 +366,10 @@ pub fn same_act(a: &Act, b: &Act) -> bool
         },
         Act::EnterUser => matches!(b, Act::EnterUser),
         Act::Fatal { reason, cause } => match b {
-            Act::Fatal { reason: reason2, cause: cause2 } => *reason == *reason2 && *cause == *cause2,
+            Act::Fatal {
+                reason: reason2,
+                cause: cause2,
+            } => *reason == *reason2 && *cause == *cause2,
             _ => false,
         },
         Act::Doom { who } => match b {

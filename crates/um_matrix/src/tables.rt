@@ -8,14 +8,12 @@ mod moves;
 mod offers;
 mod steps;
 
-use std::marker::Model;
-
-use um_base::{AREA_SIZE, DOMAINS, Image, POOLS, Parts, ROWS, THREADS};
+ghost use Rattle.std.specs.Prelude.{◌≡◌, ◌≤◌, length};
 
 use crate::object::Object;
 use crate::thread::Thread;
-
-ghost use Rattle.std.specs.Prelude.{◌≡◌, ◌≤◌, length};
+use std::marker::Model;
+use um_base::{AREA_SIZE, DOMAINS, Image, POOLS, Parts, ROWS, THREADS};
 
 /// The tables. The bytes of the read-only data are filled up with zeros to its rounded size.
 #[derive(Drop)]
@@ -39,18 +37,20 @@ impl<'a> Model for Tables<'a> {
 
     ghost Value = { State };
 
-    ghost view = {
-        λ m. record {
-          image = m.image.now; threads = m.threads.items; objects = m.objects.items; pairs = m.pairs.items; domains = m.domains.items;
-          memory = m.memory.items; stacks = m.stacks.items; pools = m.pools.items;
-        }
-    };
+    ghost view = { λ m. record {
+      image = m.image.now;
+      threads = m.threads.items;
+      objects = m.objects.items;
+      pairs = m.pairs.items;
+      domains = m.domains.items;
+      memory = m.memory.items;
+      stacks = m.stacks.items;
+      pools = m.pools.items;
+    } };
 
-    ghost invariant = {
-        λ m.
-          (length m.threads.items ≡ THREADS) × (length m.objects.items ≡ ROWS) × (length m.pairs.items ≡ ROWS) × (length m.domains.items ≤ DOMAINS)
-          × (length m.memory.items ≡ AREA_SIZE) × (length m.stacks.items ≡ AREA_SIZE) × (length m.pools.items ≤ POOLS) × (m.rodata.items ≡ rodata_of m.image.now)
-    };
+    ghost invariant = { λ m.
+        (length m.threads.items ≡ THREADS) × (length m.objects.items ≡ ROWS) × (length m.pairs.items ≡ ROWS) × (length m.domains.items ≤ DOMAINS)
+        × (length m.memory.items ≡ AREA_SIZE) × (length m.stacks.items ≡ AREA_SIZE) × (length m.pools.items ≤ POOLS) × (m.rodata.items ≡ rodata_of m.image.now) };
 }
 
 impl<'a> Tables<'a> {

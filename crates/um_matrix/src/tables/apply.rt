@@ -1,17 +1,16 @@
 //! One event at a time.
 
-ghost use Rattle.std.specs.Prelude.{◌≡◌, ◌<◌, OnOk, OnErr, Some, None, slice_get, drop, MatchOption, IsTrue};
-
-use um_base::{Act, Event, THREADS, ThreadIx};
+ghost use Rattle.std.specs.Prelude.{◌≡◌, ◌<◌, ◌≤◌, OnOk, OnErr, Some, None, slice_get, drop, MatchOption, IsTrue};
 
 use crate::matrix::NotAStep;
 use crate::pending::Pending;
-use crate::places::instruction_at;
+use crate::places::{instruction_at, lines_behind};
 use crate::same::same_act;
 use crate::tables::Tables;
+use um_base::{Act, Event, ROWS, THREADS, ThreadIx};
 
 impl<'a> Tables<'a> {
-    ghost use Rattle.um_matrix.specs.Built.{IsKept, is_built_step};
+    ghost use Rattle.um_matrix.specs.Built.{IsKept, is_built_step, steps_left};
     ghost use Rattle.um_matrix.specs.State.{State, thread_at};
     ghost use Rattle.um_matrix.specs.Table.{act_of, after};
     ghost use Rattle.um_matrix.specs.Run.{Offers, Step, IsComplete};
@@ -146,8 +145,20 @@ impl<'a> Tables<'a> {
         ensures { MatchOption result (IsComplete self.now) (λ event. IsStep self.now event) }
     {
         match self.next_act() {
-            Some(act) => Some(Event { thread: ThreadIx(0), act }),
+            Some(act) => Some(Event {
+                thread: ThreadIx(0),
+                act,
+            }),
             None => None,
         }
+    }
+
+    /// A number of steps that no run from here exceeds.
+    #[tactic(auto, using(crate::proofs::KeptLemmas::most_left))]
+    pub fn most_steps(&self) -> usize
+        requires { IsKept self.now }
+        ensures { steps_left self.now ≤ result }
+    {
+        ROWS + 6 + 3 * lines_behind(self.image, self.threads[0].place)
     }
 }

@@ -9,14 +9,16 @@ ghost use Rattle.um_matrix.specs.Memory.{rodata_of};
 ghost use Rattle.um_matrix.specs.Domains.{part_at};
 ghost use Rattle.um_matrix.specs.Run.{boot_thread, objects_from, parts_of};
 
-use std::alloc::Global;
-use um_base::{AREA_SIZE, Addr, Attr, Boot, DOMAIN_PARTITIONS, DOMAINS, DomainDef, Image, Memory, POOLS, Partition, Parts, ROWS, Range, Row, THREADS};
-
 use crate::blank::{boot_thread, nobody, opening_object, vacant};
 use crate::object::Object;
 use crate::rows::thread_of_row;
 use crate::tables::Tables;
 use crate::thread::Thread;
+use std::alloc::Global;
+use um_base::{
+    AREA_SIZE, Addr, Attr, Boot, DOMAIN_PARTITIONS, DOMAINS, DomainDef, Image, Memory, POOLS,
+    Partition, Parts, ROWS, Range, Row, THREADS,
+};
 
 /// The bytes of the read-only data, filled up with zeros.
 fn rodata(alloc: Global, image: &Image) -> Result<Vec<u8>, Memory>
@@ -89,7 +91,13 @@ fn zeros(alloc: Global, size: usize) -> Result<Vec<u8>, Memory>
 }
 
 /// A blank partition.
-const NO_PART: (Range, Attr) = (Range { start: Addr(0), size: 0 }, Attr(0));
+const NO_PART: (Range, Attr) = (
+    Range {
+        start: Addr(0),
+        size: 0,
+    },
+    Attr(0),
+);
 
 /// The range and the rights of a partition of the image, or a blank one.
 fn part_at(partitions: &[Partition], i: u8) -> (Range, Attr)
@@ -232,7 +240,17 @@ impl<'a> Tables<'a> {
         let rodata = rodata(alloc, image)?;
         let memory = zeros(alloc, AREA_SIZE as usize)?;
         let stacks = zeros(alloc, AREA_SIZE as usize)?;
-        Ok(Tables { image, rodata, threads, objects, pairs, domains, memory, stacks, pools })
+        Ok(Tables {
+            image,
+            rodata,
+            threads,
+            objects,
+            pairs,
+            domains,
+            memory,
+            stacks,
+            pools,
+        })
     }
 
     /// The opening state.

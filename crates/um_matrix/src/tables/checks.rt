@@ -3,10 +3,9 @@
 ghost use Rattle.std.specs.Prelude.{◌≡◌, ◌<◌, not, false, slice_set};
 ghost use Rattle.std.specs.List.{list_all};
 
-use um_base::{Addr, Leftover, ROWS, STATIC_ROWS, THREADS};
-
 use crate::rows::row_at;
 use crate::tables::Tables;
+use um_base::{Addr, Leftover, ROWS, STATIC_ROWS, THREADS};
 
 impl<'a> Tables<'a> {
     ghost use Rattle.um_matrix.specs.Table.{row_of, dropped};
@@ -32,7 +31,11 @@ impl<'a> Tables<'a> {
         if !holders[t] {
             return Leftover::NoPair;
         }
-        if x >= STATIC_ROWS && nobody_but(holders, t) { Leftover::Gone } else { Leftover::Kept }
+        if x >= STATIC_ROWS && nobody_but(holders, t) {
+            Leftover::Gone
+        } else {
+            Leftover::Kept
+        }
     }
 }
 

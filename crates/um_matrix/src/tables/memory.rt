@@ -2,11 +2,10 @@
 
 ghost use Rattle.std.specs.Prelude.{◌≡◌, ◌<◌, ◌≤◌, ◌+◌, ◌^◌, length};
 
-use um_base::{Access, PARTITION_AREA, RODATA, STACK_AREA, THREADS};
-
 use crate::bytes::{part, write};
 use crate::regions;
 use crate::tables::Tables;
+use um_base::{Access, PARTITION_AREA, RODATA, STACK_AREA, THREADS};
 
 impl<'a> Tables<'a> {
     ghost use Rattle.um_matrix.specs.Memory.{allowed, bytes_at, with_bytes, le_bytes};
@@ -24,8 +23,22 @@ impl<'a> Tables<'a> {
         if a as u64 + n as u64 > 0x1_0000_0000 {
             return false;
         }
-        let stacks = regions::stack_regions_allow(self.image, thread.mode, thread.stack, access, a, n);
-        let parts = regions::domain_allows(self.domains.as_slice(), thread.domain, thread.mode, access, a, n);
+        let stacks = regions::stack_regions_allow(
+            self.image,
+            thread.mode,
+            thread.stack,
+            access,
+            a,
+            n,
+        );
+        let parts = regions::domain_allows(
+            self.domains.as_slice(),
+            thread.domain,
+            thread.mode,
+            access,
+            a,
+            n,
+        );
         let rodata = regions::rodata_allows(self.image.rodata, access, a, n);
         stacks || parts || rodata
     }
@@ -36,11 +49,23 @@ impl<'a> Tables<'a> {
         ensures few { length result.now ≤ n }
     {
         if a < PARTITION_AREA {
-            part(self.rodata.as_slice(), a.saturating_sub(RODATA) as usize, n as usize)
+            part(
+                self.rodata.as_slice(),
+                a.saturating_sub(RODATA) as usize,
+                n as usize,
+            )
         } else if a < STACK_AREA {
-            part(self.memory.as_slice(), (a - PARTITION_AREA) as usize, n as usize)
+            part(
+                self.memory.as_slice(),
+                (a - PARTITION_AREA) as usize,
+                n as usize,
+            )
         } else {
-            part(self.stacks.as_slice(), (a - STACK_AREA) as usize, n as usize)
+            part(
+                self.stacks.as_slice(),
+                (a - STACK_AREA) as usize,
+                n as usize,
+            )
         }
     }
 
@@ -50,7 +75,11 @@ impl<'a> Tables<'a> {
         ensures { self.new ≡ with_bytes self.old a bytes.now }
     {
         if a < STACK_AREA {
-            write(&mut self.memory, a.saturating_sub(PARTITION_AREA) as usize, bytes);
+            write(
+                &mut self.memory,
+                a.saturating_sub(PARTITION_AREA) as usize,
+                bytes,
+            );
         } else {
             write(&mut self.stacks, (a - STACK_AREA) as usize, bytes);
         }

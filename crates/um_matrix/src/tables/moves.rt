@@ -3,13 +3,12 @@
 ghost use Rattle.std.specs.Prelude.{◌≡◌, ◌<◌, [], ◌∷◌, drop, false, slice_index_or, map, length, List, Bool};
 ghost use Rattle.um_matrix.specs.Table.{stays_due, with_dues};
 
-use um_base::{Image, Leftover, ROWS, THREADS, ThreadIx};
-
 use crate::object::Status;
 use crate::pending::Pending;
 use crate::places::next_place;
 use crate::tables::Tables;
 use crate::thread::{Life, Thread};
+use um_base::{Image, Leftover, ROWS, THREADS, ThreadIx};
 
 impl Thread {
     ghost use Rattle.um_matrix.specs.Table.{at_steps};

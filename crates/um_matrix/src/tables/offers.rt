@@ -2,8 +2,6 @@
 
 ghost use Rattle.std.specs.Prelude.{◌≡◌, ◌<◌, ◌≤◌, slice_get, IfSome, IfNone, IsTrue, MatchOption, true, false, ℕ};
 
-use um_base::{Access, Act, Addr, Leftover, ROWS, THREADS, ThreadIx};
-
 use crate::bytes::le_value;
 use crate::pending::Pending;
 use crate::places::instruction_at;
@@ -12,6 +10,7 @@ use crate::same::same_act;
 use crate::tables::Tables;
 use crate::tables::checks::none_set;
 use crate::thread::Life;
+use um_base::{Access, Act, Addr, Leftover, ROWS, THREADS, ThreadIx};
 
 impl<'a> Tables<'a> {
     ghost use Rattle.um_matrix.specs.Built.{is_built_step};
@@ -44,7 +43,11 @@ impl<'a> Tables<'a> {
         ensures { result ≡ after_drops (thread_at self.now t) }
     {
         let thread = &self.threads[t];
-        if none_set(&thread.due) { thread.pending.second() } else { None }
+        if none_set(&thread.due) {
+            thread.pending.second()
+        } else {
+            None
+        }
     }
 
     /// What a thread at rest says next.
@@ -57,7 +60,10 @@ impl<'a> Tables<'a> {
             return None;
         }
         match instruction_at(self.image, thread.place) {
-            Some(_) => Some(Act::Begin { script: thread.place.script, line: thread.place.line + 1 }),
+            Some(_) => Some(Act::Begin {
+                script: thread.place.script,
+                line: thread.place.line + 1,
+            }),
             None => Some(Act::Exit),
         }
     }
@@ -71,7 +77,10 @@ impl<'a> Tables<'a> {
         match step {
             Pending::Load { addr, size, .. } => self.says_load(t, *addr, *size),
             Pending::Store { addr, size, value } => self.says_store(t, *addr, *size, *value),
-            Pending::Fatal { reason, cause } => Act::Fatal { reason: *reason, cause: *cause },
+            Pending::Fatal { reason, cause } => Act::Fatal {
+                reason: *reason,
+                cause: *cause,
+            },
             Pending::ClearInit { addr } => Act::ClearInit { addr: *addr },
             _ => unreachable!(),
         }
@@ -83,9 +92,17 @@ impl<'a> Tables<'a> {
         ensures { result ≡ act_of self.now t 0 (Pending.Load 0 addr size) }
     {
         if self.allowed(t, Access::Read, addr.0, size) {
-            Act::Load { addr, size, value: le_value(self.bytes_at(addr.0, size)) }
+            Act::Load {
+                addr,
+                size,
+                value: le_value(self.bytes_at(addr.0, size)),
+            }
         } else {
-            Act::Fault { access: Access::Read, addr, size }
+            Act::Fault {
+                access: Access::Read,
+                addr,
+                size,
+            }
         }
     }
 
@@ -96,7 +113,11 @@ impl<'a> Tables<'a> {
         if self.allowed(t, Access::Write, addr.0, size) {
             Act::Store { addr, size, value }
         } else {
-            Act::Fault { access: Access::Write, addr, size }
+            Act::Fault {
+                access: Access::Write,
+                addr,
+                size,
+            }
         }
     }
 
@@ -107,7 +128,11 @@ impl<'a> Tables<'a> {
         ensures { result ≡ act_of self.now t x (Pending.Drops from) }
     {
         let _ = from;
-        Act::DropPair { who: ThreadIx(t as u8), addr: Addr(addr_of(self.image, x)), left: self.dropped(t, x) }
+        Act::DropPair {
+            who: ThreadIx(t as u8),
+            addr: Addr(addr_of(self.image, x)),
+            left: self.dropped(t, x),
+        }
     }
 
     /// Whether the drops of an end may choose a row.

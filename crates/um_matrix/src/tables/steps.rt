@@ -2,8 +2,6 @@
 
 ghost use Rattle.std.specs.Prelude.{◌≡◌, ◌<◌, ◌≤◌, [], drop, Some, IfSome, IsTrue};
 
-use um_base::{Access, Addr, Cause, Policy, ROWS, THREADS};
-
 use crate::bytes::le_value;
 use crate::order;
 use crate::pending::Pending;
@@ -11,9 +9,13 @@ use crate::places::instruction_at;
 use crate::rows::own_row;
 use crate::tables::Tables;
 use crate::tables::moves::rows_held;
+use um_base::{Access, Addr, Cause, Policy, ROWS, THREADS};
 
 /// What follows an access that isn't allowed.
-const FAULT: Pending = Pending::Fatal { reason: 0, cause: Cause::Access };
+const FAULT: Pending = Pending::Fatal {
+    reason: 0,
+    cause: Cause::Access,
+};
 
 impl<'a> Tables<'a> {
     ghost use Rattle.um_matrix.specs.Built.{is_access};
@@ -108,6 +110,8 @@ impl<'a> Tables<'a> {
         ensures { self.new ≡ after self.old t x (Pending.Drops from) (drop 1 (thread_at self.old t).pending) }
     {
         self.drop_pair(t, x);
-        self.threads[t].pending.replace(&Pending::Drops { from: x as u8 + 1 });
+        self.threads[t]
+            .pending
+            .replace(&Pending::Drops { from: x as u8 + 1 });
     }
 }

@@ -1,4 +1,4 @@
-use Rattle.std.proofs.Common.{◌≡◌, sym}
+use Rattle.std.proofs.Common.{sym}
 use Rattle.um_matrix.proofs.OfferLemmas.{goes-first, first-built, only-plain}
 use Rattle.um_matrix.proofs.tables.Tables.apply.Goals as goal
 

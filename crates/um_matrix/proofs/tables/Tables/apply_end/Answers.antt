@@ -25,7 +25,7 @@ apply_plain-requires-clause-only c = λ s2 step.
 pub returns-in-Some-clause-ok : goal.returns-in-Some-clause-ok
 returns-in-Some-clause-ok c =
     rw c.end_drop.ensures
-      (step-drop c.args.self.now c.args.event.now c.args.from c.in-Some.x c.requires.drops c.in-Some.ensures.found c.in-Some.ensures.says)
+    (step-drop c.args.self.now c.args.event.now c.args.from c.in-Some.x c.requires.drops c.in-Some.ensures.found c.in-Some.ensures.says)
 
 pub returns-in-None-after_drops-clause-refused : goal.returns-in-None-after_drops-clause-refused
 returns-in-None-after_drops-clause-refused c = λ s2 step.
