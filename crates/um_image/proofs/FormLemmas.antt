@@ -28,6 +28,7 @@ IfSome-if : {A : Type 0} (P : A → Type 0) (b : Bool) (o : Option A) → (IsTru
 IfSome-if P true o h = h refl
 IfSome-if P false o h = tt
 
+-- each line that is read is an access
 passes-line_at : (d : Data) → IsTrue (passes is_access (line_at d))
 passes-line_at d = passes-bind is_access (as_str d) line_of passes-line_of
 
@@ -40,23 +41,28 @@ all_more None others h k = refl
 all_more (Some i) None h k = refl
 all_more (Some i) (Some x) h k = both_true (is_access i) (list_all is_access x) h k
 
+-- so are all of them
 passes-lines_in : (ds : Items) → IsTrue (passes (list_all is_access) (lines_in ds))
 passes-lines_in no_items = refl
 passes-lines_in (item d ds) = all_more (line_at d) (lines_in ds) (passes-line_at d) (passes-lines_in ds)
 
-count_more : (first : Option Instr) (others : Option (List Instr)) (n : ℕ) → IfSome others (λ x. length x ≡ n) → IfSome (first >>= λ i. others >>= λ x. Some (i ∷ x)) (λ x. length x ≡ suc n)
+count_more : (first : Option Instr) (others : Option (List Instr)) (n : ℕ) → IfSome others (λ x. length x ≡ n)
+    → IfSome (first >>= λ i. others >>= λ x. Some (i ∷ x)) (λ x. length x ≡ suc n)
 count_more None others n h = tt
 count_more (Some i) None n h = tt
 count_more (Some i) (Some x) n h = ap suc h
 
+-- and as many as there are items
 length-lines_in : (ds : Items) → IfSome (lines_in ds) (λ x. length x ≡ item_count ds)
 length-lines_in no_items = refl
 length-lines_in (item d ds) = count_more (line_at d) (lines_in ds) (item_count ds) (length-lines_in ds)
 
-few_lines : (n : ℕ) (o : Option (List Instr)) → IsTrue (nat_le 1 n && nat_le n 100) → IsTrue (passes (list_all is_access) o) → IfSome o (λ x. length x ≡ n) → IfSome o AreLines
+few_lines : (n : ℕ) (o : Option (List Instr)) → IsTrue (nat_le 1 n && nat_le n 100) → IsTrue (passes (list_all is_access) o) → IfSome o (λ x. length x ≡ n)
+    → IfSome o AreLines
 few_lines n None few h k = tt
 few_lines n (Some x) few h k = record { accesses = h; some = grind (arith, nat_tests); few = grind (arith, nat_tests) }
 
+-- what stands as the lines of a script, as the script, and in the table, is 1 to 100 accesses
 AreLines-lines_at : (d : Option Data) → IfSome (lines_at d) AreLines
 AreLines-lines_at d =
     IfSome-bind AreLines d (λ v. as_array v >>= λ ds. if nat_le 1 (item_count ds) && nat_le (item_count ds) 100 then lines_in ds else None)
@@ -89,13 +95,15 @@ found P o x h is = subst (λ y. IfSome y P) is h
 pub IsFirstImage-Describes : {text : List ℕ} {image : Image} → Describes text image → IsFirstImage image
 IsFirstImage-Describes {image = image} d = found IsFirstImage (image_of_table d.table) image (IsFirstImage-image_of_table d.table) d.form
 
+-- such an image is lawful
 pub IsLawful-IsFirstImage : {image : Image} → IsFirstImage image → IsLawful image
 IsLawful-IsFirstImage h = subst IsLawful (sym h.whole) (IsLawful-first_image h.lines h.accesses h.some h.few)
 
--- its script has these lines, so it has no others
+-- its script has these lines, so an image has one list of lines at most
 pub script_lines-IsFirstImage : {image : Image} (h : IsFirstImage image) → script_lines image ≡ h.lines
 script_lines-IsFirstImage h = ap script_lines h.whole
 
+-- its script has 1 to 100 lines
 pub few-IsFirstImage : {image : Image} → IsFirstImage image → (1 ≤ length (script_lines image)) × (length (script_lines image) ≤ 100)
 few-IsFirstImage h = rw (script_lines-IsFirstImage h) (h.some, h.few)
 

@@ -18,6 +18,13 @@ and_right : (a b : Bool) → IsTrue (a && b) → IsTrue b
 and_right true b h = h
 and_right false b h = absurd (false≢true h)
 
+first_of_all : (line : Instr) (lines : List Instr) → IsTrue (list_all is_access (line ∷ lines)) → IsTrue (is_access line)
+first_of_all line lines h = and_left (is_access line) (list_all is_access lines) h
+
+others_of_all : (line : Instr) (lines : List Instr) → IsTrue (list_all is_access (line ∷ lines)) → IsTrue (list_all is_access lines)
+others_of_all line lines h = and_right (is_access line) (list_all is_access lines) h
+
+-- a load or a store is lawful in each script
 line_lawful : (image : Image) (i : ℕ) (line : Instr) → IsTrue (is_access line) → IsTrue (is_lawful_line image i line)
 line_lawful image i (Load to addr size) h = h
 line_lawful image i (Store addr size value) h = h
@@ -26,8 +33,9 @@ line_lawful image i line h = absurd (false≢true h)
 lines_lawful : (image : Image) (i : ℕ) (lines : List Instr) → IsTrue (list_all is_access lines) → IsTrue (list_all (is_lawful_line image i) lines)
 lines_lawful image i [] h = refl
 lines_lawful image i (line ∷ lines) h =
-    rw (line_lawful image i line (and_left (is_access line) (list_all is_access lines) h), lines_lawful image i lines (and_right (is_access line) (list_all is_access lines) h)) refl
+    rw (line_lawful image i line (first_of_all line lines h), lines_lawful image i lines (others_of_all line lines h)) refl
 
+-- it opens and ends no block
 closed_more : (line : Instr) (lines : List Instr) → IsTrue (is_access line) → IsTrue (is_closed outside lines) → IsTrue (is_closed outside (line ∷ lines))
 closed_more (Load to addr size) lines h k = k
 closed_more (Store addr size value) lines h k = k
@@ -36,7 +44,7 @@ closed_more line lines h k = absurd (false≢true h)
 lines_closed : (lines : List Instr) → IsTrue (list_all is_access lines) → IsTrue (is_closed outside lines)
 lines_closed [] h = refl
 lines_closed (line ∷ lines) h =
-    closed_more line lines (and_left (is_access line) (list_all is_access lines) h) (lines_closed lines (and_right (is_access line) (list_all is_access lines) h))
+    closed_more line lines (first_of_all line lines h) (lines_closed lines (others_of_all line lines h))
 
 cost_more : (line : Instr) (lines : List Instr) (cost : ℕ) → IsTrue (is_access line) → lines_cost [] 0 1 lines ≡ cost → lines_cost [] 0 1 (line ∷ lines) ≡ 12 + cost
 cost_more (Load to addr size) lines cost h k = omega (arith, k)
@@ -47,15 +55,17 @@ cost_more line lines cost h k = absurd (false≢true h)
 cost_of_lines : (lines : List Instr) → IsTrue (list_all is_access lines) → lines_cost [] 0 1 lines ≡ 12 * length lines
 cost_of_lines [] h = refl
 cost_of_lines (line ∷ lines) h =
-    let one = cost_more line lines (12 * length lines) (and_left (is_access line) (list_all is_access lines) h) (cost_of_lines lines (and_right (is_access line) (list_all is_access lines) h)) in
+    let one = cost_more line lines (12 * length lines) (first_of_all line lines h) (cost_of_lines lines (others_of_all line lines h)) in
     omega (arith, one)
 
+-- the script is lawful
 scripts_lawful : (image : Image) (lines : List Instr) → IsTrue (list_all is_access lines) → 1 ≤ length lines
     → IsTrue (nat_le 1 (length lines) && list_all (is_lawful_line image 0) lines && is_closed outside lines && true)
 scripts_lawful image lines h some =
     let least : IsTrue (nat_le 1 (length lines)) = grind (arith, nat_tests) in
     rw (least, lines_lawful image 0 lines h, lines_closed lines h) refl
 
+-- the image of 1 to 100 loads and stores is lawful
 pub IsLawful-first_image : (lines : List Instr) → IsTrue (list_all is_access lines) → 1 ≤ length lines → length lines ≤ 100 → IsLawful (first_image lines)
 IsLawful-first_image lines accesses some few = record {
   regions = refl;

@@ -18,6 +18,7 @@ passes-if : {A : Type 0} (p : A → Bool) (b : Bool) (x y : Option A) → IsTrue
 passes-if p true x y h k = h
 passes-if p false x y h k = k
 
+-- a register is below 8
 register_if : (b : Bool) (x : ℕ) → IsTrue (passes is_register (if b && nat_le x 55 then Some (x - 48) else None))
 register_if false x = refl
 register_if true x = grind (arith, nat_tests)
@@ -34,13 +35,17 @@ passes-register None h = refl
 passes-register (Some r) h = h
 
 passes-address_of : (word : List ℕ) → IsTrue (passes is_operand (address_of word))
-passes-address_of word = passes-if is_operand (bytes_eq (take 1 word) (codes "@")) (option_map Num (place_of word)) (option_map Num (number_of word)) (passes-number (place_of word)) (passes-number (number_of word))
+passes-address_of word =
+    passes-if is_operand (bytes_eq (take 1 word) (codes "@")) (option_map Num (place_of word)) (option_map Num (number_of word))
+    (passes-number (place_of word)) (passes-number (number_of word))
 
 passes-value_of : (word : List ℕ) → IsTrue (passes is_operand (value_of word))
 passes-value_of word =
-    passes-if is_operand (bytes_eq (take 1 word) (codes "r")) (option_map Reg (register_of word)) (option_map Num (number_of word)) (passes-register (register_of word) (passes-register_of word))
+    passes-if is_operand (bytes_eq (take 1 word) (codes "r")) (option_map Reg (register_of word)) (option_map Num (number_of word))
+    (passes-register (register_of word) (passes-register_of word))
     (passes-number (number_of word))
 
+-- a size is 1, 2 or 4
 size_if : (a b c : Bool) → IsTrue (passes is_size (if a then Some 1 else (if b then Some 2 else (if c then Some 4 else None))))
 size_if true b c = refl
 size_if false true c = refl
@@ -53,6 +58,7 @@ passes-size_of word = size_if (bytes_eq word (codes "1")) (bytes_eq word (codes 
 all_true : (a b c : Bool) → IsTrue a → IsTrue b → IsTrue c → IsTrue (a && b && c)
 all_true a b c h k l = rw (h, k, l) refl
 
+-- a load and a store with lawful operands pass
 load_passes : (to : Option ℕ) (addr : Option Term) (size : Option ℕ) → IsTrue (passes is_register to) → IsTrue (passes is_operand addr) → IsTrue (passes is_size size)
     → IsTrue (passes is_access (to >>= λ r. addr >>= λ a. size >>= λ n. Some (Load r a n)))
 load_passes None addr size h k l = refl
@@ -85,6 +91,7 @@ pub passes-bind : {A B : Type 0} (p : B → Bool) (o : Option A) (f : A → Opti
 passes-bind p None f h = refl
 passes-bind p (Some x) f h = h x
 
+-- each line that is read is a load or a store with lawful operands
 pub passes-line_of : (line : List ℕ) → IsTrue (passes is_access (line_of line))
 passes-line_of line =
     passes-bind is_access (cut line) (λ a. cut a.1 >>= λ b. cut b.1 >>= λ c. instr_of a.0 b.0 c.0 c.1)

@@ -17,7 +17,7 @@ use Rattle.um_base.specs.declared.instr.Instr.{Instr}
 use Rattle.um_base.specs.declared.instr.Instr.TheVariants.{Load, Store}
 use Rattle.um_base.specs.Lawful.{is_operand, is_register, is_size}
 
--- `p`: 32 bytes at the start of the partitions, which users read and write
+-- `p`: 32 bytes at the start of the partitions, which users read and write (Zephyr: User Mode, Memory Protection Design)
 abbrev pub first_partition : Partition
 first_partition = record { name = codes "p"; range = record { start = record { 0 = PARTITION_AREA }; size = 32 }; attr = record { 0 = 27 }; bytes = [] }
 
@@ -59,6 +59,7 @@ first_boot =
 abbrev pub first_script : List Instr → Script
 first_script lines = record { name = codes "m"; lines = lines }
 
+-- all of it, under a protection unit of the seventh version with 8 regions, where an oops ends its thread alone
 abbrev pub first_image : List Instr → Image
 first_image lines =
     record {

@@ -20,7 +20,7 @@ fn sole<T: Drop, const MOST: usize>(alloc: Global, item: T) -> Result<BoundedVec
     Ok(list)
 }
 
-/// `p`: 32 bytes at the start of the partitions, which users read and write.
+/// `p`: 32 bytes at the start of the partitions, which users read and write (Zephyr: User Mode, Memory Protection Design).
 fn partition(alloc: Global) -> Partition
     ensures { result ≡ first_partition }
 {

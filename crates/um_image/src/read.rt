@@ -102,11 +102,11 @@ fn image(alloc: Global, table: &Table) -> Result<Image, ImageFault>
     Ok(build::image(alloc, sole_script(alloc, table)?)?)
 }
 
-/// Reads a description of the first form.
+/// Reads a description of the first form: UTF-8 text of a TOML document, of any length.
 ///
 /// # Errors
 ///
-/// `NotYet` exactly where the text has no such form, and `Memory` where memory ran out.
+/// `NotYet` exactly where the text is no such description, and `Memory` where memory ran out.
 pub fn read_image(alloc: Global, text: &[u8]) -> Result<Image, ImageFault>
     ensures ok { IfOk result (λ image. Describes text.now image) }
     ensures lawful { IfOk result (λ image. IsLawful image) }
