@@ -79,3 +79,14 @@ impl<T: Drop, const MOST: usize> BoundedVec<T, MOST> {
         self.items
     }
 }
+
+impl<T: Copy + Drop, const MOST: usize> BoundedVec<T, MOST> {
+    /// One more at the end, a copy of the item.
+    pub fn push_copy(&mut self, item: &T) -> Result<(), Memory>
+        requires { length self.old < MOST }
+        ensures ok { OnOk result (self.new ≡ self.old ++ item.now ∷ []) }
+        ensures err { OnErr result (self.new ≡ self.old) }
+    {
+        self.push(*item)
+    }
+}

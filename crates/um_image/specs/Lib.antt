@@ -1,0 +1,4 @@
+pub mod Lines
+pub mod FirstImage
+pub mod Form
+pub mod Reading
