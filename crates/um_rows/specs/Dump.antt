@@ -1,9 +1,7 @@
 -- What the closing dump shows of a state, as values.
-use Rattle.std.specs.Prelude.{ℕ, zero, suc, ◌+◌, ◌*◌, ◌/◌, Bool, true, false, ◌==◌, ◌&&◌, not, nat_lt, List, [], ◌∷◌, ◌++◌, length, map, filter, flat_map, take, drop, Option, Some, None, ℤ, position, unwrap_or, slice_index_or, sum}
+use Rattle.std.specs.Prelude.{ℕ, zero, suc, ◌+◌, ◌/◌, Bool, true, false, ◌==◌, not, nat_lt, List, [], ◌∷◌, ◌++◌, length, map, filter, take, drop, Option, Some, None, ℤ, position, sum}
 use Rattle.std.specs.List.{list_all, list_any}
 use Rattle.um_base.specs.declared.ask.Waiter.{Waiter}
-use Rattle.um_base.specs.declared.image.Image.{Image}
-use Rattle.um_base.specs.declared.image.ObjectDef.{ObjectDef}
 use Rattle.um_base.specs.declared.image.Partition.{Partition}
 use Rattle.um_base.specs.declared.limits.TheConstants.{STATIC_THREADS, PARTITION_AREA, STACK_AREA}
 use Rattle.um_base.specs.declared.names.Kind.{Kind}
@@ -14,7 +12,6 @@ use Rattle.um_base.specs.Places.{own_row, is_thread_index}
 use Rattle.um_base.specs.Regions.{Partitions}
 use Rattle.um_matrix.specs.declared.contents.Contents.{Contents}
 use Rattle.um_matrix.specs.declared.object.Object.{Object}
-use Rattle.um_matrix.specs.declared.pending.Pending.{Pending}
 use Rattle.um_matrix.specs.declared.thread.Life.{Life}
 use Rattle.um_matrix.specs.declared.thread.Thread.{Thread}
 use Rattle.um_matrix.specs.State.{State, thread_at, object_at, pair_at}
@@ -131,8 +128,12 @@ stage_of o = elim (is_gone o.status) as (λ _. Stage) [ true ↦ gone | false �
 abbrev pub object_line : State → ℕ → Object → ObjectLine
 object_line s x o =
     record {
-      row = x; kind = o.kind; stage = stage_of o; public = o.public;
-      holders = filter (λ t. pair_at s t x) all_threads; content = content_of o;
+      row = x;
+      kind = o.kind;
+      stage = stage_of o;
+      public = o.public;
+      holders = filter (λ t. pair_at s t x) all_threads;
+      content = content_of o;
     }
 
 abbrev pub object_lines : State → List ObjectLine

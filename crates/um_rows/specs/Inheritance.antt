@@ -1,4 +1,4 @@
--- A child gets its creator's permissions.
+-- A child gets its creator's permissions, but for the one on the creator itself.
 use Rattle.std.specs.Prelude.{◌≡◌, true, false, List, [], ◌∷◌, Some, None, pos, codes, refl}
 use Rattle.um_base.specs.declared.names.Errno.TheVariants as Errno
 use Rattle.um_base.specs.declared.names.Kind.TheVariants as Kind
@@ -31,8 +31,11 @@ script_0 =
 
 abbrev pub script_1 : Script
 script_1 =
-    record { name = codes "c"; lines = Instr.SemGive (Term.Num 0x40000100)
-    ∷ Instr.Release (Term.Num 0x40000000) ∷ [] }
+    record {
+      name = codes "c";
+      lines = Instr.SemGive (Term.Num 0x40000100)
+          ∷ Instr.Release (Term.Num 0x40000000) ∷ [];
+    }
 
 abbrev pub image : Image
 image =
@@ -46,13 +49,13 @@ image =
       partitions = [];
       domains = record { name = codes "d"; parts = Some [] } ∷ [];
       objects = record { name = codes "a"; kind = Kind.Thread; addr = at 0x40000000; public = false; setup = Setup.Thread (thread 0) }
-        ∷ record { name = codes "sa"; kind = Kind.ThreadStack; addr = at 0x20080000; public = false; setup = Setup.ThreadStack (range 0x20080000 64) 64 }
-        ∷ record { name = codes "b"; kind = Kind.Thread; addr = at 0x40000080; public = false; setup = Setup.Thread (thread 1) }
-        ∷ record { name = codes "sb"; kind = Kind.ThreadStack; addr = at 0x20080040; public = false; setup = Setup.ThreadStack (range 0x20080040 64) 64 }
-        ∷ record { name = codes "s"; kind = Kind.Sem; addr = at 0x40000100; public = false; setup = Setup.Sem 0 1 } ∷ [];
+          ∷ record { name = codes "sa"; kind = Kind.ThreadStack; addr = at 0x20080000; public = false; setup = Setup.ThreadStack (range 0x20080000 64) 64 }
+          ∷ record { name = codes "b"; kind = Kind.Thread; addr = at 0x40000080; public = false; setup = Setup.Thread (thread 1) }
+          ∷ record { name = codes "sb"; kind = Kind.ThreadStack; addr = at 0x20080040; public = false; setup = Setup.ThreadStack (range 0x20080040 64) 64 }
+          ∷ record { name = codes "s"; kind = Kind.Sem; addr = at 0x40000100; public = false; setup = Setup.Sem 0 1 } ∷ [];
       boots = record { thread = row 0; stack = row 1; script = 0; mode = Mode.User; priority = pos 0; domain = 0; pool = None; grants = row 2 ∷ row 3 ∷ row 4 ∷ [] } ∷ [];
       scripts = script_0
-        ∷ script_1 ∷ [];
+          ∷ script_1 ∷ [];
     }
 
 -- which thread makes each step, and which one
@@ -127,12 +130,12 @@ abbrev pub dump : Dump
 dump =
     record {
       threads = started 0 ended Mode.User (pos 0) 0
-        ∷ started 1 ended Mode.User (pos 0) 0 ∷ [];
+          ∷ started 1 ended Mode.User (pos 0) 0 ∷ [];
       objects = record { row = 0; kind = Some Kind.Thread; stage = uninitialised; public = false; holders = []; content = nothing }
-        ∷ record { row = 1; kind = Some Kind.ThreadStack; stage = uninitialised; public = false; holders = []; content = nothing }
-        ∷ record { row = 2; kind = Some Kind.Thread; stage = uninitialised; public = false; holders = []; content = nothing }
-        ∷ record { row = 3; kind = Some Kind.ThreadStack; stage = uninitialised; public = false; holders = []; content = nothing }
-        ∷ record { row = 4; kind = Some Kind.Sem; stage = initialised; public = false; holders = []; content = filled 1 1 } ∷ [];
+          ∷ record { row = 1; kind = Some Kind.ThreadStack; stage = uninitialised; public = false; holders = []; content = nothing }
+          ∷ record { row = 2; kind = Some Kind.Thread; stage = uninitialised; public = false; holders = []; content = nothing }
+          ∷ record { row = 3; kind = Some Kind.ThreadStack; stage = uninitialised; public = false; holders = []; content = nothing }
+          ∷ record { row = 4; kind = Some Kind.Sem; stage = initialised; public = false; holders = []; content = filled 1 1 } ∷ [];
       domains = Some [] ∷ [];
       pools = [];
       memory = [];

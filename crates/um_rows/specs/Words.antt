@@ -1,5 +1,5 @@
 -- Short words for the parts of images, events and choices.
-use Rattle.std.specs.Prelude.{ℕ, List, Option, Some, None}
+use Rattle.std.specs.Prelude.{ℕ}
 use Rattle.um_base.specs.declared.attr.Attr.{Attr}
 use Rattle.um_base.specs.declared.names.Addr.{Addr}
 use Rattle.um_base.specs.declared.names.Range.{Range}

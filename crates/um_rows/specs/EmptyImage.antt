@@ -1,0 +1,48 @@
+-- Nothing is described, and nothing runs.
+use Rattle.std.specs.Prelude.{◌≡◌, true, List, [], None, refl}
+use Rattle.um_base.specs.declared.names.Mpu.TheVariants as Mpu
+use Rattle.um_base.specs.declared.names.Policy.TheVariants as Policy
+use Rattle.um_base.specs.declared.act.Event.{Event}
+use Rattle.um_base.specs.declared.image.Image.{Image}
+use Rattle.um_rows.specs.Evaluate.{Choice}
+use Rattle.um_rows.specs.Dump.{Dump}
+use Rattle.um_rows.specs.Whole.{whole_run}
+
+abbrev pub image : Image
+image =
+    record {
+      mpu = Mpu.V7;
+      regions = 8;
+      policy = Policy.Abort;
+      rodata = None;
+      rodata_bytes = [];
+      pools = [];
+      partitions = [];
+      domains = [];
+      objects = [];
+      boots = [];
+      scripts = [];
+    }
+
+-- which thread makes each step, and which one
+abbrev pub choices : List Choice
+choices =
+    []
+
+-- what the trace shows
+abbrev pub events : List Event
+events =
+    []
+
+abbrev pub dump : Dump
+dump =
+    record {
+      threads = [];
+      objects = [];
+      domains = [];
+      pools = [];
+      memory = [];
+    }
+
+pub runs : whole_run image choices ≡ record { events = events; is_lawful = true; is_complete = true; dump = dump }
+runs = refl
