@@ -16,6 +16,7 @@ pub mod CreateWithTooLargeStack
 pub mod CreateWithoutUserOption
 pub mod DomainAnswers
 pub mod DomainFull
+pub mod EdgeOfMemory
 pub mod EmptyImage
 pub mod GrantedUninitialised
 pub mod Inheritance
@@ -23,7 +24,9 @@ pub mod LastByte
 pub mod LastByteUnderHalt
 pub mod LastRelease
 pub mod LateGrant
+pub mod LateGrantRefused
 pub mod MutexOwners
+pub mod NameOverBothAreas
 pub mod NoInheritance
 pub mod NoReuse
 pub mod NotGranted

@@ -16,6 +16,9 @@ use Rattle.um_base.specs.declared.instr.Instr.TheVariants as Instr
 use Rattle.um_base.specs.declared.act.Event.{Event}
 use Rattle.um_base.specs.declared.image.Image.{Image}
 use Rattle.um_base.specs.declared.image.Script.{Script}
+use Rattle.um_base.specs.Lawful.{IsLawful}
+use Rattle.um_base.specs.Weight.{weight}
+use Rattle.std.proofs.Math.Bridge.{le_by_compare, IsLe}
 use Rattle.um_rows.specs.Evaluate.{Choice, skips, begins}
 use Rattle.um_rows.specs.Dump.{Dump, started, ended, uninitialised, nothing}
 use Rattle.um_rows.specs.Words.{at, thread, row, range, rights, by, on, choose}
@@ -74,6 +77,28 @@ dump =
       pools = [];
       memory = [];
     }
+
+pub is_lawful : IsLawful image
+unfolding IsLe
+is_lawful = record {
+  regions = refl;
+  names = refl;
+  distinct = refl;
+  rodata = refl;
+  pools = refl;
+  partitions = refl;
+  partitions_placed = record { starts_are = refl; fit = le_by_compare 32 524288 tt };
+  domains = refl;
+  objects = refl;
+  indices = refl;
+  rows = refl;
+  stacks_placed = record { starts_are = refl; fit = le_by_compare 64 524288 tt };
+  boots = refl;
+  boot_threads = refl;
+  boot_stacks = refl;
+  scripts = refl;
+  light = le_by_compare (weight image) 400000 tt;
+}
 
 pub runs : whole_run image choices ≡ record { events = events; is_lawful = true; is_complete = true; dump = dump }
 runs = refl
