@@ -121,19 +121,20 @@ pub record Course : Type 0 where
 abbrev pub event_of : State → Choice → Pending → Event
 event_of s c p = record { thread = to_thread c.thread; act = act_of s c.thread c.row p }
 
+-- a choice that takes an offer, and what goes on from there
+abbrev pub course_by : State → Choice → (State → Course) → Offer → Course
+course_by s c go None = record { events = []; is_lawful = false; last = s }
+course_by s c go (Some step) =
+    let rest = go (after s c.thread c.row step.0 step.1) in
+    record {
+      events = event_of s c step.0 ∷ rest.events;
+      is_lawful = may_choose s c.thread c.row step.0 && rest.is_lawful;
+      last = rest.last;
+    }
+
 abbrev pub course : List Choice → State → Course
 course [] s = record { events = []; is_lawful = true; last = s }
-course (c ∷ cs) s =
-    elim (offered s c.thread c.way) as (λ _. Course) [
-      | None ↦ record { events = []; is_lawful = false; last = s }
-      | Some step ↦
-          let rest = course cs (after s c.thread c.row step.0 step.1) in
-          record {
-            events = event_of s c step.0 ∷ rest.events;
-            is_lawful = may_choose s c.thread c.row step.0 && rest.is_lawful;
-            last = rest.last;
-          }
-    ]
+course (c ∷ cs) s = course_by s c (course cs) (offered s c.thread c.way)
 
 -- whether a thread can make a step by this way
 abbrev pub can_go : State → ℕ → Way → Bool
