@@ -1,23 +1,20 @@
 -- What the evaluation accepts is a run of the machine.
-use Rattle.std.specs.Prelude.{◌≡◌, ◌≢◌, ◌⊎◌, ◌≤◌, ◌<◌, ℕ, zero, suc, ◌+◌, Bool, true, false, ◌==◌, ◌&&◌, ◌||◌, not, nat_lt, nat_le, IsTrue, List, [], ◌∷◌, take, Option, Some, None, is_some, refl}
-use Rattle.std.specs.List.{list_all, list_any}
+use Rattle.std.specs.Prelude.{◌≡◌, ◌≢◌, ◌⊎◌, ◌≤◌, ◌<◌, ℕ, zero, suc, ◌+◌, Bool, true, false, ◌==◌, ◌&&◌, not, nat_lt, nat_le, IsTrue, List, [], ◌∷◌, Option, Some, None, is_some, refl}
+use Rattle.std.specs.List.{list_any}
 use Rattle.std.proofs.Common.{arith, ap, eq-or-lt_of_le, sym, ◌∙◌}
-use Rattle.std.proofs.lemmas.Bool.{false≢true, true≢false, and_parts, or_parts, or_cases, not-true, leb-true, ltb-true, eqb-true, eq-eqb, false_from_ne_true, not_from_true}
+use Rattle.std.proofs.lemmas.Bool.{false≢true, true≢false, and_parts, or_parts, or_cases, not-true, leb-true, ltb-true, eqb-true, eq-eqb, false_from_ne_true}
 use mathlib.Core.Logic.{inl, inr}
 use Rattle.um_base.specs.declared.instr.Instr.{Instr}
 use Rattle.um_base.specs.declared.names.Kind.{Kind}
 use Rattle.um_base.specs.declared.names.ThreadIx.{ThreadIx}
 use Rattle.um_base.specs.declared.image.Image.{Image}
 use Rattle.um_base.specs.declared.limits.TheConstants.{ROWS, STATIC_ROWS}
-use Rattle.um_base.specs.Places.{own_row, thread_of_row}
 use Rattle.um_matrix.specs.declared.pending.Pending.{Pending}
-use Rattle.um_matrix.specs.declared.thread.Thread.{Thread}
-use Rattle.um_matrix.specs.State.{State, thread_at, object_at, pair_at, is_living, is_started, instruction_at}
-use Rattle.um_matrix.specs.Objects.{is_gone, is_held}
+use Rattle.um_matrix.specs.State.{State, thread_at, is_living, is_started, instruction_at}
 use Rattle.um_matrix.specs.Order.{Steps, to_thread}
 use Rattle.um_matrix.specs.Table.{after, pays}
-use Rattle.um_matrix.specs.Run.{none_due, is_free_for, Offers, Step, Runs, IsRun, MayChoose, MayClean, NoPairsOf, opening}
-use Rattle.um_rows.specs.Evaluate.{Way, goes, skips, begins, exits, cleans, recycles, Choice, Offer, offer_if, next_offer, later_offer, unless_due, is_at_rest, offered, numbers, all_rows, is_cleaner, may_clean, no_pairs_of, may_reserve, may_choose, Course, course_by, course, run_of}
+use Rattle.um_matrix.specs.Run.{none_due, is_free_for, Offers, Runs, IsRun, MayChoose, MayClean, NoPairsOf, opening}
+use Rattle.um_rows.specs.Evaluate.{Way, goes, skips, begins, exits, cleans, recycles, Choice, Offer, offer_if, next_offer, later_offer, unless_due, rests, is_at_rest, offered, numbers, all_rows, is_cleaner, may_clean, no_pairs_of, may_reserve, may_choose, Course, course_by, course, run_of}
 
 -- an offer is one that the machine makes
 abbrev pub OffersIt : State → ℕ → Offer → Type 0
@@ -38,11 +35,14 @@ skip-sound s t true h = later-sound s t (thread_at s t).pending refl h
 skip-sound s t false h = tt
 
 -- what a thread at rest is
+pending-parts : (steps : Steps) (b : Bool) → rests steps b ≡ true → (steps ≡ []) × (b ≡ true)
+pending-parts [] b h = (refl, h)
+pending-parts (p ∷ rest) b h = absurd (false≢true h)
+
 rest-parts : (s : State) (t : ℕ) → IsTrue (is_at_rest (thread_at s t)) → ((thread_at s t).pending ≡ []) × IsTrue (is_living (thread_at s t).life) × ((thread_at s t).doomed ≡ false)
-rest-parts s t h = by-pending (thread_at s t).pending refl h where
-  by-pending : (steps : Steps) → (thread_at s t).pending ≡ steps → (elim steps as (λ _. Bool) [ [] ↦ is_living (thread_at s t).life && not (thread_at s t).doomed | p ∷ rest ↦ false ]) ≡ true → ((thread_at s t).pending ≡ []) × IsTrue (is_living (thread_at s t).life) × ((thread_at s t).doomed ≡ false)
-  by-pending [] e b = let parts = and_parts _ _ b in (e, parts.0, not-true _ parts.1)
-  by-pending (p ∷ rest) e b = absurd (false≢true b)
+rest-parts s t h =
+    let both = pending-parts _ _ h in
+    let lives = and_parts _ _ both.1 in (both.0, lives.0, not-true _ lives.1)
 
 no-instr : (i : Option Instr) → not (is_some i) ≡ true → i ≡ None
 no-instr None h = refl
@@ -74,15 +74,15 @@ offered-sound s t (cleans who) = clean-sound s t who (is_started (thread_at s t)
 offered-sound s t recycles = recycle-sound s t (is_started (thread_at s t).life) refl
 
 -- numbers that fail a test
-any-numbers : (p : ℕ → Bool) (i n : ℕ) → list_any p (numbers i n) ≡ false → (k : ℕ) → i ≤ k → k < i + n → p k ≡ false
+pub any-numbers : (p : ℕ → Bool) (i n : ℕ) → list_any p (numbers i n) ≡ false → (k : ℕ) → i ≤ k → k < i + n → p k ≡ false
 any-numbers p i zero h k low high = absurd (omega arith)
 any-numbers p i (suc n) h k low high =
     let parts = or_parts (p i) (list_any p (numbers (i + 1) n)) h in
     first-or-later (eq-or-lt_of_le low) parts.0 λ l. any-numbers p (i + 1) n parts.1 k (omega (arith, l)) (omega (arith, high))
   where
-  first-or-later : (i ≡ k) ⊎ (i < k) → p i ≡ false → (i < k → p k ≡ false) → p k ≡ false
-  first-or-later (inl e) first later = rw (sym e) first
-  first-or-later (inr l) first later = later l
+    first-or-later : (i ≡ k) ⊎ (i < k) → p i ≡ false → (i < k → p k ≡ false) → p k ≡ false
+    first-or-later (inl e) first later = rw (sym e) first
+    first-or-later (inr l) first later = later l
 
 cleaner-sound : (t : ℕ) (o : Option ThreadIx) → IsTrue (is_cleaner t o) → (o ≡ None) ⊎ (o ≡ Some (to_thread t))
 cleaner-sound t None h = inl refl
@@ -99,6 +99,7 @@ none-free : (s : State) (kind : Kind) → not (list_any (is_free_for s kind) all
 none-free s kind h y = false_from_ne_true _ λ free. refused free (any-numbers (is_free_for s kind) 0 ROWS (not-true _ h) y (omega arith) (below free)) where
   below : is_free_for s kind y ≡ true → y < 128
   below free = ltb-true y 128 (and_parts (nat_le STATIC_ROWS y) (nat_lt y ROWS) (and_parts _ _ (and_parts _ _ free).0).0).1
+
   refused : is_free_for s kind y ≡ true → is_free_for s kind y ≡ false → ⊥
   refused is_so is_not = true≢false (sym is_so ∙ is_not)
 
@@ -131,11 +132,10 @@ chosen-sound s t x _ h = tt
 by-sound : (s : State) (c : Choice) (go : State → Course) → ((s2 : State) → IsTrue (go s2).is_lawful → Runs s2 (go s2).events (go s2).last) → (o : Offer) → OffersIt s c.thread o → IsTrue (course_by s c go o).is_lawful → Runs s (course_by s c go o).events (course_by s c go o).last
 by-sound s c go runs None offers h = absurd (false≢true h)
 by-sound s c go runs (Some step) offers h =
-    let both = and_parts _ _ h in
-    (
+    let both = and_parts _ _ h in (
       after s c.thread c.row step.0 step.1,
       record { step = step.0; rest = step.1; row = c.row; offered = offers; chosen = chosen-sound s c.thread c.row step.0 both.0; says = refl; leaves = refl },
-      runs _ both.1
+      runs _ both.1,
     )
 
 pub course-runs : (cs : List Choice) (s : State) → IsTrue (course cs s).is_lawful → Runs s (course cs s).events (course cs s).last

@@ -1,5 +1,5 @@
 -- The machine by evaluation: a run from a list of choices, and tests for what its relations say.
-use Rattle.std.specs.Prelude.{ℕ, zero, suc, ◌+◌, Bool, true, false, ◌==◌, ◌&&◌, ◌||◌, not, nat_le, List, [], ◌∷◌, take, Option, Some, None, is_some}
+use Rattle.std.specs.Prelude.{ℕ, zero, suc, ◌+◌, Bool, true, false, ◌==◌, ◌&&◌, ◌||◌, not, nat_le, List, [], ◌∷◌, length, take, Option, Some, None, is_some}
 use Rattle.std.specs.List.{list_all, list_any}
 use Rattle.um_base.specs.declared.limits.TheConstants.{THREADS, ROWS}
 use Rattle.um_base.specs.declared.names.Kind.{Kind}
@@ -58,8 +58,13 @@ abbrev pub unless_due : Bool → Offer → Offer
 unless_due true offer = offer
 unless_due false offer = None
 
+-- whether nothing is pending, and this holds
+abbrev pub rests : Steps → Bool → Bool
+rests [] b = b
+rests (p ∷ rest) b = false
+
 abbrev pub is_at_rest : Thread → Bool
-is_at_rest me = elim me.pending as (λ _. Bool) [ [] ↦ is_living me.life && not me.doomed | p ∷ rest ↦ false ]
+is_at_rest me = rests me.pending (is_living me.life && not me.doomed)
 
 -- the step that a thread is offered by a way, or none
 abbrev pub offered : State → ℕ → Way → Offer
@@ -136,9 +141,13 @@ abbrev pub course : List Choice → State → Course
 course [] s = record { events = []; is_lawful = true; last = s }
 course (c ∷ cs) s = course_by s c (course cs) (offered s c.thread c.way)
 
--- whether a thread can make a step by this way
+-- whether a thread can make the step of an offer, with any row
+abbrev pub can_take : State → ℕ → Offer → Bool
+can_take s t None = false
+can_take s t (Some step) = list_any (λ x. may_choose s t x step.0) all_rows
+
 abbrev pub can_go : State → ℕ → Way → Bool
-can_go s t way = elim (offered s t way) as (λ _. Bool) [ None ↦ false | Some step ↦ list_any (λ x. may_choose s t x step.0) all_rows ]
+can_go s t way = can_take s t (offered s t way)
 
 abbrev pub is_stuck : State → ℕ → Bool
 is_stuck s t = not (can_go s t goes || can_go s t skips || can_go s t begins || can_go s t exits)
@@ -148,9 +157,15 @@ abbrev pub is_cleanable : State → Bool → ℕ → Bool
 is_cleanable s false x = false
 is_cleanable s true x = list_any (λ t. is_started (thread_at s t).life && may_clean s t x) all_threads
 
+-- whether a state has no more threads and rows than there may be
+abbrev pub keeps_limits : State → Bool
+keeps_limits s = nat_le (length s.threads) THREADS && nat_le (length s.objects) ROWS && nat_le (length s.pairs) ROWS
+
 -- whether no step is left
 abbrev pub is_complete : State → Bool
-is_complete s = list_all (is_stuck s) all_threads && not (list_any (λ x. is_cleanable s (is_gone (object_at s x).status) x) all_rows)
+is_complete s =
+    keeps_limits s && list_all (is_stuck s) all_threads
+    && not (list_any (λ x. is_cleanable s (is_gone (object_at s x).status) x) all_rows)
 
 -- a run of an image by choices
 abbrev pub run_of : Image → List Choice → Course
