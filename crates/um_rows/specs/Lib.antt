@@ -25,6 +25,7 @@ pub mod LastByteUnderHalt
 pub mod LastRelease
 pub mod LateGrant
 pub mod LateGrantRefused
+pub mod LayoutPlaces
 pub mod MutexOwners
 pub mod NameOverBothAreas
 pub mod NoInheritance
@@ -43,4 +44,5 @@ pub mod SupervisorGrantsNothing
 pub mod SupervisorPanics
 pub mod UnreadableName
 pub mod UserPanics
+pub mod WeightLimit
 pub mod WriteToRodata
