@@ -69,3 +69,8 @@ string_from s t a (suc limit) before =
 -- what a string read finds: the number of bytes before the first zero
 abbrev pub string_read : State → ℕ → ℕ → ℕ → Found
 string_read s t a limit = string_from s t a limit 0
+
+-- the bytes of a string, each by itself: it may begin at the end of one area and go on in the next
+abbrev pub string_bytes : State → ℕ → ℕ → List ℕ
+string_bytes s a zero = []
+string_bytes s a (suc n) = slice_index (bytes_at s a 1) 0 ∷ string_bytes s (a + 1) n

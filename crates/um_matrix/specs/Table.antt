@@ -33,7 +33,7 @@ use Rattle.um_base.specs.declared.limits.TheConstants.{STATIC_ROWS, THREADS, PIE
 use Rattle.um_base.specs.Lawful.{most_parts}
 use Rattle.um_base.specs.Places.{row_at, own_row, addr_of, setup_at}
 use Rattle.um_base.specs.Regions.{Partitions, stack_range}
-use Rattle.um_matrix.specs.Memory.{allowed, bytes_at, with_bytes, le_bytes, le_value, string_read}
+use Rattle.um_matrix.specs.Memory.{allowed, bytes_at, with_bytes, le_bytes, le_value, string_read, string_bytes}
 use Rattle.um_matrix.specs.Objects.{verdict, is_gone, has_no_pair}
 use Rattle.um_matrix.specs.Services.{Acted, acted, is_empty}
 use Rattle.um_matrix.specs.Domains.{initialised, added, removed, reply_to, domain_after, part_named}
@@ -298,7 +298,7 @@ fault = Pending.Fatal 0 Cause.Access ∷ []
 
 -- what follows a string read
 abbrev pub after_string : State → ℕ → Thread → Addr → Steps → Found → State
-after_string s t me a rest (Found.Length n) = goes_on s t (record me { buffer = bytes_at s a.0 n }) rest
+after_string s t me a rest (Found.Length n) = goes_on s t (record me { buffer = string_bytes s a.0 n }) rest
 after_string s t me a rest Found.Unreadable = goes_on s t me (answer_error Errno.EFAULT)
 after_string s t me a rest Found.TooLong = goes_on s t me (answer_error Errno.EINVAL)
 

@@ -1,0 +1,2 @@
+//! Worked runs of the access-matrix machine, evaluated by its definitions.
+#![tactic(auto)]
