@@ -1,0 +1,4 @@
+//! What a run of the machine did, as text: a line for each event, and then the dump of the last state.
+#![tactic(auto)]
+
+mod room;
