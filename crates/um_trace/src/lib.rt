@@ -1,7 +1,12 @@
 //! What a run of the machine did, as text: a line for each event, and then the dump of the last state.
 #![tactic(auto)]
 
+mod domains;
+mod memory;
 mod names;
+mod objects;
+mod pairs;
 mod places;
 mod room;
+mod threads;
 mod words;
