@@ -9,4 +9,7 @@ mod pairs;
 mod places;
 mod room;
 mod threads;
+mod trace;
 mod words;
+
+pub use trace::text_room;
