@@ -1,5 +1,5 @@
 -- What is printed of a state: its threads, objects, domains, pools and memory.
-use Rattle.std.specs.Prelude.{ℕ, zero, suc, ◌+◌, ◌*◌, Bool, true, false, ◌==◌, ◌&&◌, ◌||◌, not, nat_lt, if◌then◌else◌, List, [], ◌∷◌, ◌++◌, length, codes, decimal, filter, Option, Some, None, is_some, slice_get, slice_index, slice_index_or}
+use Rattle.std.specs.Prelude.{ℕ, ◌+◌, ◌*◌, Bool, true, false, ◌==◌, ◌||◌, not, nat_lt, if◌then◌else◌, List, [], ◌∷◌, ◌++◌, length, codes, decimal, filter, Option, Some, None, position, slice_get, slice_index, slice_index_or}
 use Rattle.std.specs.Fmt.{signed_decimal}
 use Rattle.std.specs.List.{flat_map, join_by, list_all, list_any, range_with_len, slice_range}
 use Rattle.um_base.specs.declared.ask.Waiter.{Waiter}
@@ -21,8 +21,9 @@ use Rattle.um_matrix.specs.declared.object.Status.TheVariants as Status
 use Rattle.um_matrix.specs.declared.thread.Life.{Life}
 use Rattle.um_matrix.specs.declared.thread.Life.TheVariants as Life
 use Rattle.um_matrix.specs.declared.thread.Thread.{Thread}
-use Rattle.um_matrix.specs.State.{State, thread_at, object_at, pair_at}
+use Rattle.um_matrix.specs.State.{State, thread_at, object_at, pair_at, is_started}
 use Rattle.um_matrix.specs.Objects.{is_free, is_gone}
+use Rattle.um_trace.specs.declared.dump.memory.TheConstants.{BLOCKS}
 use Rattle.um_trace.specs.Digits.{address, hex2}
 use Rattle.um_trace.specs.Words.{kind_word, mode_word}
 use Rattle.um_trace.specs.Names.{row_text, thread_text, domain_text, part_text}
@@ -35,15 +36,27 @@ numbers n = range_with_len 0 n
 unfoldable pub is_shown : Image → State → ℕ → Bool
 is_shown image s x = nat_lt x (length image.objects) || not (is_free (object_at s x).status)
 
+-- these, each behind the first with a comma before it
+abbrev pub joined : {A : Type 0} → (A → List ℕ) → List A → List ℕ
+joined f xs = join_by f (codes ",") xs
+
+-- the same, or a dash for none
+abbrev pub listed : {A : Type 0} → (A → List ℕ) → List A → List ℕ
+listed f [] = codes "-"
+listed f (x ∷ xs) = joined f (x ∷ xs)
+
+-- so many of so many
+unfoldable pub share_text : ℕ → ℕ → List ℕ
+share_text part whole = decimal part ++ codes "/" ++ decimal whole
+
 -- Threads.
 
 abbrev pub is_waiter : ℕ → Waiter → Bool
 is_waiter t waiter = waiter.thread.0 == t
 
--- the row of the object in whose list of waiters a thread stands, among these from a row on
-unfoldable pub awaited_from : ℕ → ℕ → List Object → Option ℕ
-awaited_from t x [] = None
-awaited_from t x (o ∷ os) = if list_any (is_waiter t) o.waiters then Some x else awaited_from t (x + 1) os
+-- the row of the object in whose list of waiters a thread stands
+abbrev pub awaited : List Object → ℕ → Option ℕ
+awaited objects t = position (λ (o : Object). list_any (is_waiter t) o.waiters) objects
 
 abbrev pub waits_text : Image → Option ℕ → List ℕ
 waits_text image (Some x) = codes "waits:" ++ row_text image x
@@ -53,21 +66,21 @@ abbrev pub is_ended : Life → Bool
 is_ended Life.Ended = true
 is_ended _ = false
 
--- what a thread that was started does: the first of these that holds
-unfoldable pub status_text : Image → State → ℕ → List ℕ
-status_text image s t =
-    if (thread_at s t).doomed then codes "doomed" else if is_ended (thread_at s t).life then codes "ended"
-    else waits_text image (awaited_from t 0 s.objects)
+-- how a thread is that was started: the first of these that holds
+unfoldable pub status_text : Image → State → ℕ → Thread → List ℕ
+status_text image s t me =
+    if me.doomed then codes "doomed" else if is_ended me.life then codes "ended" else waits_text image (awaited s.objects t)
 
--- what follows a thread's object
-abbrev pub life_text : Image → State → ℕ → Life → List ℕ
-life_text image s t Life.Unborn = codes "unborn"
-life_text image s t _ =
-    status_text image s t ++ codes " " ++ mode_word (thread_at s t).mode ++ codes " " ++ signed_decimal (thread_at s t).priority ++ codes " "
-    ++ domain_text image (thread_at s t).domain
+-- what follows the object of a thread
+unfoldable pub life_text : Image → State → ℕ → Thread → List ℕ
+life_text image s t me =
+    if is_started me.life
+    then
+      status_text image s t me ++ codes " " ++ mode_word me.mode ++ codes " " ++ signed_decimal me.priority ++ codes " " ++ domain_text image me.domain
+    else codes "unborn"
 
 unfoldable pub thread_line : Image → State → ℕ → ℕ → List ℕ
-thread_line image s x t = codes "thread " ++ row_text image x ++ codes " " ++ life_text image s t (thread_at s t).life ++ codes "\n"
+thread_line image s x t = codes "thread " ++ row_text image x ++ codes " " ++ life_text image s t (thread_at s t) ++ codes "\n"
 
 abbrev pub thread_line_in : Image → State → ℕ → Option ℕ → List ℕ
 thread_line_in image s x (Some t) = thread_line image s x t
@@ -79,33 +92,27 @@ thread_line_of image s x = if is_shown image s x then thread_line_in image s x (
 
 -- Objects.
 
-abbrev pub state_word : Object → List ℕ
+unfoldable pub state_word : Object → List ℕ
 state_word o = if is_gone o.status then codes "gone" else if o.init then codes "init" else codes "uninit"
 
-abbrev pub flag_word : Bool → List ℕ
+unfoldable pub flag_word : Bool → List ℕ
 flag_word true = codes "public"
 flag_word false = codes "private"
 
--- the threads that have a pair with an object, by thread index
-unfoldable pub holders : State → ℕ → List ℕ
-holders s x = filter (λ t. pair_at s t x) (numbers THREADS)
+-- an object's kind, state and flag
+unfoldable pub marks_text : Object → List ℕ
+marks_text o = kind_word o.kind ++ codes " " ++ state_word o ++ codes " " ++ flag_word o.public
 
-abbrev pub or_dash : List ℕ → List ℕ
-or_dash [] = codes "-"
-or_dash (b ∷ bs) = b ∷ bs
+-- the threads with an index below n that have a pair with an object, ascending
+abbrev pub holders_below : State → ℕ → ℕ → List ℕ
+holders_below s x n = filter (λ t. pair_at s t x) (numbers n)
 
--- these, each behind the first with a comma before it, or a dash for none
-abbrev pub listed : {A : Type 0} → (A → List ℕ) → List A → List ℕ
-listed f [] = codes "-"
-listed f (x ∷ xs) = join_by f (codes ",") (x ∷ xs)
+unfoldable pub holders_text : Image → State → ℕ → List ℕ
+holders_text image s x = listed (thread_text image) (holders_below s x THREADS)
 
-abbrev pub owner_text : Image → Option ThreadIx → ℕ → List ℕ
+unfoldable pub owner_text : Image → Option ThreadIx → ℕ → List ℕ
 owner_text image None depth = codes "free"
 owner_text image (Some owner) depth = thread_text image owner.0 ++ codes "*" ++ decimal depth
-
--- so many of so many
-unfoldable pub share_text : ℕ → ℕ → List ℕ
-share_text part whole = decimal part ++ codes "/" ++ decimal whole
 
 -- what an initialised object keeps
 unfoldable pub kept_text : Image → Contents → List ℕ
@@ -117,9 +124,14 @@ kept_text image (Contents.Msgq size most messages) = share_text (length messages
 kept_text image (Contents.Stack most values) = share_text (length values) most
 kept_text image (Contents.Pipe size bytes closed) = if closed then codes "closed" else share_text (length bytes) size
 
+-- a name in digits, or a dash for none
+unfoldable pub digits_text : List ℕ → List ℕ
+digits_text [] = codes "-"
+digits_text (b ∷ bs) = flat_map hex2 (b ∷ bs)
+
 -- a thread's name, which stays when the thread ends
-abbrev pub name_text : Contents → List ℕ
-name_text (Contents.Named name) = or_dash (flat_map hex2 name)
+unfoldable pub name_text : Contents → List ℕ
+name_text (Contents.Named name) = digits_text name
 name_text _ = codes "-"
 
 abbrev pub is_thread : Option Kind → Bool
@@ -133,8 +145,8 @@ content_text image o =
 
 unfoldable pub object_line : Image → State → ℕ → List ℕ
 object_line image s x =
-    codes "object " ++ row_text image x ++ codes " " ++ kind_word (object_at s x).kind ++ codes " " ++ state_word (object_at s x) ++ codes " "
-    ++ flag_word (object_at s x).public ++ codes " " ++ listed (thread_text image) (holders s x) ++ codes " " ++ content_text image (object_at s x) ++ codes "\n"
+    codes "object " ++ row_text image x ++ codes " " ++ marks_text (object_at s x) ++ codes " " ++ holders_text image s x ++ codes " "
+    ++ content_text image (object_at s x) ++ codes "\n"
 
 -- the line of a row, where an object stands there
 unfoldable pub object_line_of : Image → State → ℕ → List ℕ
@@ -171,10 +183,7 @@ block_line area bytes k =
     if list_all (λ b. b == 0) (block bytes k) then []
     else codes "memory " ++ address (area + 32 * k) ++ codes " " ++ flat_map hex2 (block bytes k) ++ codes "\n"
 
--- the blocks of an area
-abbrev pub BLOCKS : ℕ
-BLOCKS = 0x4000
-
+-- the lines of an area
 unfoldable pub area_lines : ℕ → List ℕ → List ℕ
 area_lines area bytes = flat_map (block_line area bytes) (numbers BLOCKS)
 

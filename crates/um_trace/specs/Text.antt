@@ -6,6 +6,7 @@ use Rattle.um_base.specs.declared.act.Act.TheVariants as Act
 use Rattle.um_base.specs.declared.act.Event.{Event}
 use Rattle.um_base.specs.declared.image.Image.{Image}
 use Rattle.um_matrix.specs.State.{State}
+use Rattle.um_trace.specs.declared.trace.TheConstants.{DUMP_ROOM}
 use Rattle.um_trace.specs.Acts.{event_line}
 use Rattle.um_trace.specs.Dump.{dump}
 
@@ -20,9 +21,6 @@ woken_by _ = 0
 -- how many bytes an event's line has at most, and those of a whole text
 abbrev pub line_room : Event → ℕ
 line_room event = 128 + 64 * woken_by event.act
-
-abbrev pub DUMP_ROOM : ℕ
-DUMP_ROOM = 3_000_000
 
 unfoldable pub room_for : List Event → ℕ
 room_for events = DUMP_ROOM + sum_by line_room events

@@ -2,6 +2,7 @@
 #![tactic(auto)]
 
 mod domains;
+mod dump;
 mod memory;
 mod names;
 mod objects;

@@ -1,6 +1,7 @@
 use Rattle.std.proofs.Common.{◌≡◌, ◌+◌, ◌*◌, ◌≤◌, take}
 use Rattle.std.specs.List.{sum_by}
-use Rattle.um_trace.specs.Text.{line_room, DUMP_ROOM}
+use Rattle.um_trace.specs.declared.trace.TheConstants.{DUMP_ROOM}
+use Rattle.um_trace.specs.Text.{line_room}
 use Rattle.um_trace.proofs.trace.text_room.Given as goal
 
 abbrev pub invariant-loop-event : goal.invariant-loop-event

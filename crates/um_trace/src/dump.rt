@@ -1,0 +1,3 @@
+//! The dump of a state.
+
+mod memory;
