@@ -1,3 +1,5 @@
 //! The dump of a state.
 
 mod memory;
+mod state;
+mod threads;
