@@ -45,6 +45,11 @@ abbrev pub listed : {A : Type 0} → (A → List ℕ) → List A → List ℕ
 listed f [] = codes "-"
 listed f (x ∷ xs) = joined f (x ∷ xs)
 
+-- what stands before a piece of such a list
+abbrev pub lead : Bool → List ℕ
+lead true = []
+lead false = codes ","
+
 -- so many of so many
 unfoldable pub share_text : ℕ → ℕ → List ℕ
 share_text part whole = decimal part ++ codes "/" ++ decimal whole
@@ -164,9 +169,13 @@ parts_text (Some parts) = listed part_of parts
 unfoldable pub domain_line : Image → State → ℕ → List ℕ
 domain_line image s d = codes "domain " ++ domain_text image d ++ codes " " ++ parts_text (slice_index_or s.domains d None) ++ codes "\n"
 
+-- a pool: what is left of its bytes
+unfoldable pub pool_text : Pool → ℕ → List ℕ
+pool_text pool left = codes "pool " ++ pool.name ++ codes " " ++ share_text left pool.size ++ codes "\n"
+
 abbrev pub pool_line_in : Option Pool → ℕ → List ℕ
+pool_line_in (Some pool) left = pool_text pool left
 pool_line_in None left = []
-pool_line_in (Some pool) left = codes "pool " ++ pool.name ++ codes " " ++ share_text left pool.size ++ codes "\n"
 
 unfoldable pub pool_line : Image → State → ℕ → List ℕ
 pool_line image s i = pool_line_in (slice_get image.pools i) (slice_index s.pools i)

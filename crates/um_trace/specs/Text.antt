@@ -6,7 +6,7 @@ use Rattle.um_base.specs.declared.act.Act.TheVariants as Act
 use Rattle.um_base.specs.declared.act.Event.{Event}
 use Rattle.um_base.specs.declared.image.Image.{Image}
 use Rattle.um_matrix.specs.State.{State}
-use Rattle.um_trace.specs.declared.trace.TheConstants.{DUMP_ROOM}
+use Rattle.um_trace.specs.declared.dump.TheConstants.{DUMP_ROOM}
 use Rattle.um_trace.specs.Acts.{event_line}
 use Rattle.um_trace.specs.Dump.{dump}
 

@@ -13,4 +13,4 @@ mod threads;
 mod trace;
 mod words;
 
-pub use trace::text_room;
+pub use trace::{text_room, trace_text};

@@ -4,15 +4,14 @@ ghost use Rattle.std.specs.Prelude.{◌≡◌, ◌+◌, ◌*◌, ◌≤◌, ◌^
 ghost use Rattle.std.specs.List.{flat_map, sum_by};
 ghost use Rattle.um_trace.specs.Acts.{event_line};
 ghost use Rattle.um_trace.specs.Room.{Puts};
-ghost use Rattle.um_trace.specs.Text.{woken_by, line_room, room_for};
+ghost use Rattle.um_trace.specs.Text.{woken_by, line_room, room_for, text};
 
+use crate::dump::{DUMP_ROOM, put_dump};
 use crate::memory::put_act;
 use crate::names::put_thread;
 use crate::room::put_text;
 use um_base::{Act, Event, Image};
-
-/// How much room the dump of a state takes at most.
-const DUMP_ROOM: usize = 3_000_000;
+use um_matrix::Matrix;
 
 fn woken_by(act: &Act) -> usize
     ensures value { result ≡ woken_by act.now }
@@ -57,4 +56,15 @@ fn put_events(room: &mut Vec<u8>, image: &Image, events: &[Event])
     for event in events {
         put_event(room, image, event);
     }
+}
+
+/// Appends the text of a run: a line for each event, and then the dump of the last state. The room is reserved, so it takes no memory.
+#[tactic(auto, unfolding(crate::specs::Text::text, crate::specs::Text::room_for))]
+pub fn trace_text(image: &Image, events: &[Event], last: &Matrix, room: &mut Vec<u8>)
+    requires room { vec_len room.old + room_for events.now ≤ vec_capacity room.old }
+    ensures text { room.new.items ≡ room.old.items ++ text image.now events.now last.now }
+    ensures capacity { vec_capacity room.old ≤ vec_capacity room.new }
+{
+    put_events(room, image, events);
+    put_dump(room, image, last);
 }

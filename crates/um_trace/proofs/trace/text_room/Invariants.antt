@@ -1,6 +1,6 @@
 use Rattle.std.proofs.Common.{◌≡◌, ◌+◌, ◌*◌, ◌≤◌, take}
 use Rattle.std.specs.List.{sum_by}
-use Rattle.um_trace.specs.declared.trace.TheConstants.{DUMP_ROOM}
+use Rattle.um_trace.specs.declared.dump.TheConstants.{DUMP_ROOM}
 use Rattle.um_trace.specs.Text.{line_room}
 use Rattle.um_trace.proofs.trace.text_room.Given as goal
 
