@@ -8,18 +8,13 @@ use Rattle.um_base.specs.declared.image.Image.{Image}
 use Rattle.um_base.specs.declared.image.Pool.{Pool}
 use Rattle.um_base.specs.declared.limits.TheConstants.{ROWS, THREADS, PARTITION_AREA, STACK_AREA}
 use Rattle.um_base.specs.declared.names.Kind.{Kind}
-use Rattle.um_base.specs.declared.names.Kind.TheVariants as Kind
 use Rattle.um_base.specs.declared.names.Range.{Range}
 use Rattle.um_base.specs.declared.names.ThreadIx.{ThreadIx}
 use Rattle.um_base.specs.Places.{thread_of_row}
 use Rattle.um_base.specs.Regions.{Partitions}
 use Rattle.um_matrix.specs.declared.contents.Contents.{Contents}
-use Rattle.um_matrix.specs.declared.contents.Contents.TheVariants as Contents
 use Rattle.um_matrix.specs.declared.object.Object.{Object}
-use Rattle.um_matrix.specs.declared.object.Status.{Status}
-use Rattle.um_matrix.specs.declared.object.Status.TheVariants as Status
 use Rattle.um_matrix.specs.declared.thread.Life.{Life}
-use Rattle.um_matrix.specs.declared.thread.Life.TheVariants as Life
 use Rattle.um_matrix.specs.declared.thread.Thread.{Thread}
 use Rattle.um_matrix.specs.State.{State, thread_at, object_at, pair_at, is_started}
 use Rattle.um_matrix.specs.Objects.{is_free, is_gone}
@@ -81,7 +76,7 @@ unfoldable pub life_text : Image → State → ℕ → Thread → List ℕ
 life_text image s t me =
     if is_started me.life
     then
-      status_text image s t me ++ codes " " ++ mode_word me.mode ++ codes " " ++ signed_decimal me.priority ++ codes " " ++ domain_text image me.domain
+    status_text image s t me ++ codes " " ++ mode_word me.mode ++ codes " " ++ signed_decimal me.priority ++ codes " " ++ domain_text image me.domain
     else codes "unborn"
 
 unfoldable pub thread_line : Image → State → ℕ → ℕ → List ℕ

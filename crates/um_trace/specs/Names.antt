@@ -8,7 +8,6 @@ use Rattle.um_base.specs.declared.image.Script.{Script}
 use Rattle.um_base.specs.declared.limits.TheConstants.{STATIC_ROWS}
 use Rattle.um_base.specs.declared.names.Range.{Range}
 use Rattle.um_base.specs.declared.names.Reply.{Reply}
-use Rattle.um_base.specs.declared.names.Reply.TheVariants as Reply
 use Rattle.um_base.specs.Places.{row_at, own_row}
 use Rattle.um_trace.specs.Digits.{address}
 use Rattle.um_trace.specs.Words.{errno_word, attr_word}

@@ -1,24 +1,15 @@
 -- The words of traces and dumps.
 use Rattle.std.specs.Prelude.{ℕ, Bool, true, false, ◌==◌, if◌then◌else◌, List, [], codes, Option, Some, None}
 use Rattle.um_base.specs.declared.act.Cause.{Cause}
-use Rattle.um_base.specs.declared.act.Cause.TheVariants as Cause
 use Rattle.um_base.specs.declared.act.Given.{Given}
-use Rattle.um_base.specs.declared.act.Given.TheVariants as Given
 use Rattle.um_base.specs.declared.act.Leftover.{Leftover}
-use Rattle.um_base.specs.declared.act.Leftover.TheVariants as Leftover
 use Rattle.um_base.specs.declared.act.SetSaid.{SetSaid}
-use Rattle.um_base.specs.declared.act.SetSaid.TheVariants as SetSaid
 use Rattle.um_base.specs.declared.attr.Attr.{Attr}
 use Rattle.um_base.specs.declared.names.Access.{Access}
-use Rattle.um_base.specs.declared.names.Access.TheVariants as Access
 use Rattle.um_base.specs.declared.names.Errno.{Errno}
-use Rattle.um_base.specs.declared.names.Errno.TheVariants as Errno
 use Rattle.um_base.specs.declared.names.Kind.{Kind}
-use Rattle.um_base.specs.declared.names.Kind.TheVariants as Kind
 use Rattle.um_base.specs.declared.names.Mode.{Mode}
-use Rattle.um_base.specs.declared.names.Mode.TheVariants as Mode
 use Rattle.um_base.specs.declared.names.Want.{Want}
-use Rattle.um_base.specs.declared.names.Want.TheVariants as Want
 
 unfoldable pub errno_word : Errno → List ℕ
 errno_word Errno.EPERM = codes "EPERM"

@@ -42,11 +42,21 @@ pub fn put_domain_act(room: &mut Vec<u8>, image: &Image, act: &Act)
             put_text(room, " ");
             put_reply(room, image, *reply);
         }
-        Act::DomAdd { domain, range, attr, reply } => {
+        Act::DomAdd {
+            domain,
+            range,
+            attr,
+            reply,
+        } => {
             put_on(room, image, "domain add ", *domain);
             put_outcome(room, image, *range, *attr, *reply);
         }
-        Act::DomRemove { domain, range, attr, reply } => {
+        Act::DomRemove {
+            domain,
+            range,
+            attr,
+            reply,
+        } => {
             put_on(room, image, "domain remove ", *domain);
             put_outcome(room, image, *range, *attr, *reply);
         }

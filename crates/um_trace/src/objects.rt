@@ -16,12 +16,7 @@ use crate::room::{put_decimal, put_text};
 use crate::words::{kind_word, pool_word, set_word, verdict_word, want_word};
 use um_base::{Act, Addr, Answer, Errno, Image, Kind, Reply, ThreadIx, Want};
 
-fn put_check(
-    room: &mut Vec<u8>,
-    kind: Option<Kind>,
-    want: Want,
-    verdict: Option<Errno>,
-)
+fn put_check(room: &mut Vec<u8>, kind: Option<Kind>, want: Want, verdict: Option<Errno>)
     requires { vec_len room.old + 31 ≤ vec_capacity room.old }
     ensures { Puts room.old room.new (codes " " ++ kind_word kind ++ codes " " ++ want_word want ++ codes " " ++ verdict_word verdict) 31 }
 {
@@ -94,11 +89,20 @@ pub fn put_object_act(room: &mut Vec<u8>, image: &Image, act: &Act)
     ensures { Puts room.old room.new (object_act_text image.now act.now) (100 + 64 * woken_by act.now) }
 {
     match act {
-        Act::Check { addr, kind, want, verdict } => {
+        Act::Check {
+            addr,
+            kind,
+            want,
+            verdict,
+        } => {
             put_on(room, image, "check ", *addr);
             put_check(room, *kind, *want, *verdict);
         }
-        Act::Work { addr, answer, woken } => {
+        Act::Work {
+            addr,
+            answer,
+            woken,
+        } => {
             put_on(room, image, "act ", *addr);
             put_text(room, " ");
             put_answer(room, image, *answer);

@@ -5,8 +5,8 @@ ghost use Rattle.um_base.specs.Places.{row_at, own_row, dynamic_row, is_thread_i
 ghost use Rattle.um_base.specs.declared.image.ObjectDef.{ObjectDef};
 
 use um_base::{
-    Addr, DYNAMIC_OBJECTS, Image, OBJECT_STEP, ObjectDef, ROWS, STATIC_ROWS, STATIC_THREADS,
-    Setup, THREADS,
+    Addr, DYNAMIC_OBJECTS, Image, OBJECT_STEP, ObjectDef, ROWS, STATIC_ROWS, STATIC_THREADS, Setup,
+    THREADS,
 };
 
 fn static_row(objects: &[ObjectDef], addr: Addr) -> Option<usize>

@@ -18,7 +18,11 @@ fn woken_by(act: &Act) -> usize
     ensures few { result ≤ 24 }
 {
     match act {
-        Act::Work { addr: _, answer: _, woken } => woken.len(),
+        Act::Work {
+            addr: _,
+            answer: _,
+            woken,
+        } => woken.len(),
         _ => 0,
     }
 }

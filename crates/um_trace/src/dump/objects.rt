@@ -105,13 +105,19 @@ fn put_kept(room: &mut Vec<u8>, image: &Image, contents: &Contents)
         Contents::Named(_) => put_text(room, "-"),
         Contents::Sem { count, limit } => put_share(room, *count, *limit),
         Contents::Mutex { owner, depth } => put_owner(room, image, *owner, *depth),
-        Contents::Msgq { size: _, most, messages } => {
-            put_share(room, messages.as_slice().len() as u32, *most)
-        }
+        Contents::Msgq {
+            size: _,
+            most,
+            messages,
+        } => { put_share(room, messages.as_slice().len() as u32, *most) }
         Contents::Stack { most, values } => {
             put_share(room, values.as_slice().len() as u32, *most)
         }
-        Contents::Pipe { size, bytes, closed } => {
+        Contents::Pipe {
+            size,
+            bytes,
+            closed,
+        } => {
             if *closed {
                 put_text(room, "closed")
             } else {

@@ -16,7 +16,11 @@ use um_matrix::{Life, Matrix, Object, Thread};
 fn is_awaited(object: &Object, thread: u8) -> bool
     ensures { result ≡ list_any (is_waiter thread) object.now.waiters }
 {
-    object.waiters.as_slice().iter().any(|w| w.thread.0 == thread)
+    object
+        .waiters
+        .as_slice()
+        .iter()
+        .any(|w| w.thread.0 == thread)
 }
 
 /// The row of the object in whose list of waiters a thread stands.

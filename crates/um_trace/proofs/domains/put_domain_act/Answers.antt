@@ -31,7 +31,7 @@ unfolding domain_act_text
 returns-in-DomMove c = record {
   items =
       rw (c.put_reply-in-DomMove.ensures.items, c.put_text-in-DomMove-2.ensures.items, c.put_thread.ensures.items, c.put_text-in-DomMove.ensures.items, c.put_on-in-DomMove.ensures.items, c.in-DomMove.is)
-        (simp append_assoc);
+      (simp append_assoc);
   len = omega arith;
   capacity = omega arith;
 }

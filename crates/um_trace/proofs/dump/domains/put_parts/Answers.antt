@@ -1,4 +1,4 @@
-use Rattle.std.proofs.Common.{◌≡◌, ◌*◌, length, take, take_all, get_or, refl, sym, ◌∙◌, arith}
+use Rattle.std.proofs.Common.{◌*◌, take, take_all, get_or, refl, sym, ◌∙◌, arith}
 use Rattle.std.proofs.lemmas.List.{take_more}
 use Rattle.um_matrix.specs.Domains.{no_part}
 use Rattle.um_trace.specs.Dump.{part_of}

@@ -22,7 +22,7 @@ loop-thread-preserved c =
     record {
       text =
           puts_choice (thread_text c.args.image.now) holds c.loop-thread.thread c.loop-thread.first (25 * c.loop-thread.thread) 25 _ _ _ _ before.text before.first
-            (rw c.pair_at.ensures at step.text) (omega arith);
+          (rw c.pair_at.ensures at step.text) (omega arith);
       first = rw (step.none, c.pair_at.ensures) (is_none_choice holds c.loop-thread.thread c.loop-thread.first before.first);
     }
 
@@ -32,7 +32,7 @@ returns-else-first c =
     let all : c.loop-thread.thread ≡ THREADS = omega arith in
     let before = c.loop-thread.invariant in
     puts_listed (thread_text c.args.image.now) (holders_below c.args.last.now c.args.row THREADS) 600 601 _ _ (rw all at before.text)
-      (sym (rw all at before.first) ∙ c.if-first.false) (omega arith)
+    (sym (rw all at before.first) ∙ c.if-first.false) (omega arith)
 
 pub returns-then-first : goal.returns-then-first
 unfolding holders_text
@@ -40,4 +40,4 @@ returns-then-first c =
     let all : c.loop-thread.thread ≡ THREADS = omega arith in
     let before = c.loop-thread.invariant in
     puts_dash (thread_text c.args.image.now) (holders_below c.args.last.now c.args.row THREADS) 600 1 601 _ _ _ (rw all at before.text)
-      (sym (rw all at before.first) ∙ c.if-first.true) c.put_text.ensures (omega arith)
+    (sym (rw all at before.first) ∙ c.if-first.true) c.put_text.ensures (omega arith)
