@@ -68,8 +68,16 @@ pair_act_text image (Act.Own who given) = codes "own " ++ thread_text image who.
 pair_act_text image (Act.Inherit who addr) = codes "inherit " ++ thread_text image who.0 ++ codes " " ++ object_text image addr.0
 pair_act_text image (Act.DropPair who addr left) =
     codes "drop " ++ thread_text image who.0 ++ codes " " ++ object_text image addr.0 ++ codes " " ++ leftover_word left
-pair_act_text image (Act.Publish addr given) = codes "public " ++ object_text image addr.0 ++ codes " " ++ given_word given
 pair_act_text image act = domain_act_text image act
+
+-- acts on the heap, and the others
+unfoldable pub heap_act_text : Image → Act → List ℕ
+heap_act_text image (Act.Reserve kind addr) = codes "reserve " ++ kind_word (Some kind) ++ codes " " ++ reserved_text image addr
+heap_act_text image (Act.Born addr) = codes "born " ++ object_text image addr.0
+heap_act_text image (Act.Buffer size fits) = codes "buffer " ++ decimal size ++ codes " " ++ pool_word fits
+heap_act_text image (Act.Unbuffer size) = codes "unbuffer " ++ decimal size
+heap_act_text image (Act.Recycle addr) = codes "recycle " ++ object_text image addr.0
+heap_act_text image act = pair_act_text image act
 
 -- acts on objects, and the others
 unfoldable pub object_act_text : Image → Act → List ℕ
@@ -77,14 +85,10 @@ object_act_text image (Act.Check addr kind want verdict) =
     codes "check " ++ object_text image addr.0 ++ codes " " ++ kind_word kind ++ codes " " ++ want_word want ++ codes " " ++ verdict_word verdict
 object_act_text image (Act.Work addr answer woken) =
     codes "act " ++ object_text image addr.0 ++ codes " " ++ answer_text image answer ++ flat_map (wake_text image) woken
+object_act_text image (Act.Publish addr given) = codes "public " ++ object_text image addr.0 ++ codes " " ++ given_word given
 object_act_text image (Act.SetInit addr said) = codes "setinit " ++ object_text image addr.0 ++ codes " " ++ set_word said
 object_act_text image (Act.ClearInit addr) = codes "uninit " ++ object_text image addr.0
-object_act_text image (Act.Reserve kind addr) = codes "reserve " ++ kind_word (Some kind) ++ codes " " ++ reserved_text image addr
-object_act_text image (Act.Born addr) = codes "born " ++ object_text image addr.0
-object_act_text image (Act.Buffer size fits) = codes "buffer " ++ decimal size ++ codes " " ++ pool_word fits
-object_act_text image (Act.Unbuffer size) = codes "unbuffer " ++ decimal size
-object_act_text image (Act.Recycle addr) = codes "recycle " ++ object_text image addr.0
-object_act_text image act = pair_act_text image act
+object_act_text image act = heap_act_text image act
 
 -- acts on memory, and the others
 unfoldable pub act_text : Image → Act → List ℕ

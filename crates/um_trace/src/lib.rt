@@ -3,6 +3,7 @@
 
 mod domains;
 mod dump;
+mod heap;
 mod memory;
 mod names;
 mod objects;

@@ -1,13 +1,13 @@
 //! How threads, objects, domains, ranges and replies are shown.
 
-ghost use Rattle.std.specs.Prelude.{◌+◌, ◌<◌, ◌≤◌, vec_len, vec_capacity};
+ghost use Rattle.std.specs.Prelude.{◌+◌, ◌<◌, ◌≤◌, ◌++◌, length, vec_len, vec_capacity};
 ghost use Rattle.um_trace.specs.Names.{row_text, thread_text, object_text, domain_text, script_text, part_text, reply_text};
 ghost use Rattle.um_trace.specs.Room.{Puts};
 
 use crate::places::{own_row, row_at};
 use crate::room::{put, put_address, put_decimal, put_text};
 use crate::words::{attr_word, errno_word};
-use um_base::{Addr, Attr, Image, Range, Reply, STATIC_ROWS};
+use um_base::{Addr, Attr, Image, Range, Reply, STATIC_ROWS, ThreadIx};
 
 /// The object of a row: a static one by its name, the dynamic address j as `#j`.
 #[tactic(auto, unfolding(crate::specs::Names::row_text))]
@@ -93,4 +93,22 @@ pub fn put_reply(room: &mut Vec<u8>, image: &Image, reply: Reply)
         Reply::Null => put_text(room, "NULL"),
         Reply::Fail(error) => put_text(room, errno_word(error)),
     }
+}
+
+/// A word, and a thread.
+pub fn put_of(room: &mut Vec<u8>, image: &Image, word: &str, thread: ThreadIx)
+    requires { vec_len room.old + length word.now + 24 ≤ vec_capacity room.old }
+    ensures { Puts room.old room.new (word.now ++ thread_text image.now thread.0) (length word.now + 24) }
+{
+    put_text(room, word);
+    put_thread(room, image, thread.0);
+}
+
+/// A word, and the object at an address.
+pub fn put_on(room: &mut Vec<u8>, image: &Image, word: &str, addr: Addr)
+    requires { vec_len room.old + length word.now + 24 ≤ vec_capacity room.old }
+    ensures { Puts room.old room.new (word.now ++ object_text image.now addr.0) (length word.now + 24) }
+{
+    put_text(room, word);
+    put_object(room, image, addr);
 }

@@ -4,17 +4,16 @@ ghost use Rattle.std.specs.Prelude.{◌+◌, ◌*◌, ◌≤◌, ◌++◌, lengt
 ghost use Rattle.std.specs.List.{flat_map};
 ghost use Rattle.um_base.specs.declared.names.Reply.{Reply};
 ghost use Rattle.um_base.specs.declared.names.ThreadIx.{ThreadIx};
-ghost use Rattle.um_trace.specs.Acts.{answer_text, wake_text, reserved_text, object_act_text};
-ghost use Rattle.um_trace.specs.Names.{object_text};
+ghost use Rattle.um_trace.specs.Acts.{answer_text, wake_text, object_act_text};
 ghost use Rattle.um_trace.specs.Room.{Puts};
 ghost use Rattle.um_trace.specs.Text.{woken_by};
 ghost use Rattle.um_trace.specs.Words.{kind_word, want_word, verdict_word};
 
-use crate::names::{put_object, put_reply, put_thread};
-use crate::pairs::put_pair_act;
-use crate::room::{put_decimal, put_text};
-use crate::words::{kind_word, pool_word, set_word, verdict_word, want_word};
-use um_base::{Act, Addr, Answer, Errno, Image, Kind, Reply, ThreadIx, Want};
+use crate::heap::put_heap_act;
+use crate::names::{put_of, put_on, put_reply};
+use crate::room::put_text;
+use crate::words::{given_word, kind_word, set_word, verdict_word, want_word};
+use um_base::{Act, Answer, Errno, Image, Kind, Reply, ThreadIx, Want};
 
 fn put_check(room: &mut Vec<u8>, kind: Option<Kind>, want: Want, verdict: Option<Errno>)
     requires { vec_len room.old + 31 ≤ vec_capacity room.old }
@@ -45,8 +44,7 @@ fn put_wake(room: &mut Vec<u8>, image: &Image, woken: (ThreadIx, Reply))
     requires { vec_len room.old + 64 ≤ vec_capacity room.old }
     ensures { Puts room.old room.new (wake_text image.now woken) 64 }
 {
-    put_text(room, " wake ");
-    put_thread(room, image, woken.0.0);
+    put_of(room, image, " wake ", woken.0);
     put_text(room, " ");
     put_reply(room, image, woken.1);
 }
@@ -59,27 +57,6 @@ fn put_wakes(room: &mut Vec<u8>, image: &Image, woken: &[(ThreadIx, Reply)])
     for one in woken {
         put_wake(room, image, *one);
     }
-}
-
-/// A new object's address, or none.
-#[tactic(auto, unfolding(crate::specs::Acts::reserved_text))]
-fn put_reserved(room: &mut Vec<u8>, image: &Image, addr: Option<Addr>)
-    requires { vec_len room.old + 24 ≤ vec_capacity room.old }
-    ensures { Puts room.old room.new (reserved_text image.now addr) 24 }
-{
-    match addr {
-        Some(addr) => put_object(room, image, addr),
-        None => put_text(room, "NULL"),
-    }
-}
-
-/// A word, and the object at an address.
-fn put_on(room: &mut Vec<u8>, image: &Image, word: &str, addr: Addr)
-    requires { vec_len room.old + length word.now + 24 ≤ vec_capacity room.old }
-    ensures { Puts room.old room.new (word.now ++ object_text image.now addr.0) (length word.now + 24) }
-{
-    put_text(room, word);
-    put_object(room, image, addr);
 }
 
 /// The text of an act on an object, or of any other that isn't about memory.
@@ -108,30 +85,17 @@ pub fn put_object_act(room: &mut Vec<u8>, image: &Image, act: &Act)
             put_answer(room, image, *answer);
             put_wakes(room, image, woken.as_slice());
         }
+        Act::Publish { addr, given } => {
+            put_on(room, image, "public ", *addr);
+            put_text(room, " ");
+            put_text(room, given_word(*given));
+        }
         Act::SetInit { addr, set } => {
             put_on(room, image, "setinit ", *addr);
             put_text(room, " ");
             put_text(room, set_word(*set));
         }
         Act::ClearInit { addr } => put_on(room, image, "uninit ", *addr),
-        Act::Reserve { kind, addr } => {
-            put_text(room, "reserve ");
-            put_text(room, kind_word(Some(*kind)));
-            put_text(room, " ");
-            put_reserved(room, image, *addr);
-        }
-        Act::Born { addr } => put_on(room, image, "born ", *addr),
-        Act::Buffer { size, fits } => {
-            put_text(room, "buffer ");
-            put_decimal(room, *size);
-            put_text(room, " ");
-            put_text(room, pool_word(*fits));
-        }
-        Act::Unbuffer { size } => {
-            put_text(room, "unbuffer ");
-            put_decimal(room, *size);
-        }
-        Act::Recycle { addr } => put_on(room, image, "recycle ", *addr),
-        _ => put_pair_act(room, image, act),
+        _ => put_heap_act(room, image, act),
     }
 }

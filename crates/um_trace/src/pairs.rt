@@ -5,7 +5,7 @@ ghost use Rattle.um_trace.specs.Acts.{pair_act_text};
 ghost use Rattle.um_trace.specs.Room.{Puts};
 
 use crate::domains::put_domain_act;
-use crate::names::{put_object, put_thread};
+use crate::names::{put_of, put_on};
 use crate::room::put_text;
 use crate::words::{given_word, leftover_word};
 use um_base::{Act, Image};
@@ -18,38 +18,25 @@ pub fn put_pair_act(room: &mut Vec<u8>, image: &Image, act: &Act)
 {
     match act {
         Act::Grant { who, addr, given } => {
-            put_text(room, "grant ");
-            put_thread(room, image, who.0);
-            put_text(room, " ");
-            put_object(room, image, *addr);
+            put_of(room, image, "grant ", *who);
+            put_on(room, image, " ", *addr);
             put_text(room, " ");
             put_text(room, given_word(*given));
         }
         Act::Own { who, given } => {
-            put_text(room, "own ");
-            put_thread(room, image, who.0);
+            put_of(room, image, "own ", *who);
             put_text(room, " ");
             put_text(room, given_word(*given));
         }
         Act::Inherit { who, addr } => {
-            put_text(room, "inherit ");
-            put_thread(room, image, who.0);
-            put_text(room, " ");
-            put_object(room, image, *addr);
+            put_of(room, image, "inherit ", *who);
+            put_on(room, image, " ", *addr);
         }
         Act::DropPair { who, addr, left } => {
-            put_text(room, "drop ");
-            put_thread(room, image, who.0);
-            put_text(room, " ");
-            put_object(room, image, *addr);
+            put_of(room, image, "drop ", *who);
+            put_on(room, image, " ", *addr);
             put_text(room, " ");
             put_text(room, leftover_word(*left));
-        }
-        Act::Publish { addr, given } => {
-            put_text(room, "public ");
-            put_object(room, image, *addr);
-            put_text(room, " ");
-            put_text(room, given_word(*given));
         }
         _ => put_domain_act(room, image, act),
     }

@@ -4,7 +4,7 @@ ghost use Rattle.std.specs.Prelude.{◌+◌, ◌≤◌, vec_len, vec_capacity};
 ghost use Rattle.um_trace.specs.Acts.{thread_act_text};
 ghost use Rattle.um_trace.specs.Room.{Puts};
 
-use crate::names::{put_reply, put_script, put_thread};
+use crate::names::{put_of, put_reply, put_script};
 use crate::room::{put_decimal, put_text};
 use crate::words::cause_word;
 use um_base::{Act, Image};
@@ -27,14 +27,8 @@ pub fn put_thread_act(room: &mut Vec<u8>, image: &Image, act: &Act)
             put_text(room, "reply ");
             put_reply(room, image, *reply);
         }
-        Act::Named { who } => {
-            put_text(room, "name ");
-            put_thread(room, image, who.0);
-        }
-        Act::Start { who } => {
-            put_text(room, "start ");
-            put_thread(room, image, who.0);
-        }
+        Act::Named { who } => put_of(room, image, "name ", *who),
+        Act::Start { who } => put_of(room, image, "start ", *who),
         Act::EnterUser => put_text(room, "user"),
         Act::Fatal { reason, cause } => {
             put_text(room, "fatal ");
