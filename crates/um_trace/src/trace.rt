@@ -72,3 +72,6 @@ pub fn trace_text(image: &Image, events: &[Event], last: &Matrix, room: &mut Vec
     put_events(room, image, events);
     put_dump(room, image, last);
 }
+
+#[cfg(test)]
+mod tests;

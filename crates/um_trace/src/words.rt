@@ -181,3 +181,55 @@ pub fn mode_word(mode: Mode) -> &'static str
         Mode::Supervisor => "supervisor",
     }
 }
+
+#[cfg(test)]
+mod tests {
+    use super::*;
+
+    #[test]
+    fn errors_kinds_and_attributes(rt: HostRuntime) {
+        for (error, want) in [
+            (Errno::EPERM, "EPERM"),
+            (Errno::EBADF, "EBADF"),
+            (Errno::EINVAL, "EINVAL"),
+            (Errno::EADDRINUSE, "EADDRINUSE"),
+            (Errno::EFAULT, "EFAULT"),
+            (Errno::EBUSY, "EBUSY"),
+            (Errno::EAGAIN, "EAGAIN"),
+            (Errno::ENOMEM, "ENOMEM"),
+            (Errno::ENOMSG, "ENOMSG"),
+            (Errno::ENOSPC, "ENOSPC"),
+            (Errno::ENOENT, "ENOENT"),
+            (Errno::EPIPE, "EPIPE"),
+            (Errno::ECANCELED, "ECANCELED"),
+        ] {
+            assert_eq!(rt; verdict_word(Some(error)), want);
+        }
+        for (kind, want) in [
+            (Kind::Thread, "thread"),
+            (Kind::ThreadStack, "thread_stack"),
+            (Kind::Sem, "sem"),
+            (Kind::Mutex, "mutex"),
+            (Kind::Msgq, "msgq"),
+            (Kind::Stack, "stack"),
+            (Kind::Pipe, "pipe"),
+        ] {
+            assert_eq!(rt; kind_word(Some(kind)), want);
+        }
+        for (attr, want) in [
+            (Attr::P_RW_U_RW, "P_RW_U_RW"),
+            (Attr::P_RW_U_RO, "P_RW_U_RO"),
+            (Attr::P_RW_U_NA, "P_RW_U_NA"),
+            (Attr::P_RO_U_RO, "P_RO_U_RO"),
+            (Attr::P_RO_U_NA, "P_RO_U_NA"),
+            (Attr::P_RX_U_RX, "P_RX_U_RX"),
+            (Attr::P_RWX_U_RWX, "P_RWX_U_RWX"),
+        ] {
+            assert_eq!(rt; attr_word(attr), want);
+        }
+        assert_eq!(rt; verdict_word(None), "ok");
+        assert_eq!(rt; kind_word(None), "any");
+        assert_eq!(rt; leftover_word(Leftover::NoPair), "none");
+        assert_eq!(rt; cause_word(Cause::PriorityHigher), "priority_higher");
+    }
+}
