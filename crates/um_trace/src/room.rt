@@ -34,12 +34,12 @@ pub fn put_decimal(room: &mut Vec<u8>, n: u32)
 }
 
 /// A priority.
-pub fn put_signed(room: &mut Vec<u8>, n: i8)
+pub fn put_signed(room: &mut Vec<u8>, priority: i8)
     requires { vec_len room.old + 4 ≤ vec_capacity room.old }
-    ensures { Puts room.old room.new (signed_decimal n) 4 }
+    ensures { Puts room.old room.new (signed_decimal priority) 4 }
 {
     let mut buffer = Buffer::new();
-    put_text(room, buffer.format(n))
+    put_text(room, buffer.format(priority))
 }
 
 fn glyph(d: u32) -> u8
