@@ -15,7 +15,7 @@ use crate::room::put_text;
 use um_base::{Image, PARTITION_AREA, STACK_AREA};
 use um_matrix::Matrix;
 
-/// How much room a dump takes at most.
+/// How many bytes a dump takes at most.
 pub const DUMP_ROOM: usize = 3_000_000;
 
 /// The dump of a state: threads, objects, domains, pools and memory.

@@ -46,6 +46,7 @@ pub fn put_object(room: &mut Vec<u8>, image: &Image, addr: Addr)
     }
 }
 
+/// A domain by its name.
 #[tactic(auto, unfolding(crate::specs::Names::domain_text))]
 pub fn put_domain(room: &mut Vec<u8>, image: &Image, domain: u8)
     requires { vec_len room.old + 24 ≤ vec_capacity room.old }
@@ -57,6 +58,7 @@ pub fn put_domain(room: &mut Vec<u8>, image: &Image, domain: u8)
     }
 }
 
+/// A script by its name.
 #[tactic(auto, unfolding(crate::specs::Names::script_text))]
 pub fn put_script(room: &mut Vec<u8>, image: &Image, script: u8)
     requires { vec_len room.old + 24 ≤ vec_capacity room.old }
@@ -81,6 +83,7 @@ pub fn put_part(room: &mut Vec<u8>, range: Range, attr: Attr)
     put_text(room, attr_word(attr));
 }
 
+/// What a call answers.
 #[tactic(auto, unfolding(crate::specs::Names::reply_text))]
 pub fn put_reply(room: &mut Vec<u8>, image: &Image, reply: Reply)
     requires { vec_len room.old + 24 ≤ vec_capacity room.old }

@@ -15,6 +15,7 @@ use crate::room::put_text;
 use crate::words::{given_word, kind_word, set_word, verdict_word, want_word};
 use um_base::{Act, Answer, Errno, Image, Kind, Reply, ThreadIx, Want};
 
+/// The kind and the state that a check wants, and what it says.
 fn put_check(room: &mut Vec<u8>, kind: Option<Kind>, want: Want, verdict: Option<Errno>)
     requires { vec_len room.old + 31 ≤ vec_capacity room.old }
     ensures { Puts room.old room.new (codes " " ++ kind_word kind ++ codes " " ++ want_word want ++ codes " " ++ verdict_word verdict) 31 }
@@ -39,6 +40,7 @@ fn put_answer(room: &mut Vec<u8>, image: &Image, answer: Answer)
     }
 }
 
+/// A thread that is woken, with its reply.
 #[tactic(auto, unfolding(crate::specs::Acts::wake_text))]
 fn put_wake(room: &mut Vec<u8>, image: &Image, woken: (ThreadIx, Reply))
     requires { vec_len room.old + 64 ≤ vec_capacity room.old }

@@ -9,6 +9,7 @@ use um_base::{
     THREADS,
 };
 
+/// The row of the static object at an address.
 fn static_row(objects: &[ObjectDef], addr: Addr) -> Option<usize>
     requires { length objects.now ≤ STATIC_ROWS }
     ensures few { IfSome result (λ x. x < 1000) }
@@ -17,6 +18,7 @@ fn static_row(objects: &[ObjectDef], addr: Addr) -> Option<usize>
     objects.iter().position(|o| o.addr.0 == addr.0)
 }
 
+/// The dynamic row at an address.
 fn dynamic_row(addr: Addr) -> Option<usize>
     ensures few { IfSome result (λ x. x < 1000) }
     ensures value { result ≡ dynamic_row addr.0 }
@@ -43,6 +45,7 @@ pub fn row_at(image: &Image, addr: Addr) -> Option<usize>
     }
 }
 
+/// Whether an object is that of a thread index.
 fn is_thread_index(object: &ObjectDef, thread: u8) -> bool
     ensures { result ≡ is_thread_index thread object.now }
 {
@@ -52,6 +55,7 @@ fn is_thread_index(object: &ObjectDef, thread: u8) -> bool
     }
 }
 
+/// The row of a static thread object, by its thread index.
 fn static_thread_row(objects: &[ObjectDef], thread: u8) -> Option<usize>
     requires { length objects.now ≤ STATIC_ROWS }
     ensures few { IfSome result (λ x. x < 1000) }

@@ -17,6 +17,7 @@ pub fn put(room: &mut Vec<u8>, piece: &[u8])
     room.extend_from_slice(piece).unwrap()
 }
 
+/// A piece of text.
 pub fn put_text(room: &mut Vec<u8>, text: &str)
     requires { vec_len room.old + length text.now ≤ vec_capacity room.old }
     ensures { Puts room.old room.new text.now (length text.now) }
@@ -42,6 +43,7 @@ pub fn put_signed(room: &mut Vec<u8>, priority: i8)
     put_text(room, buffer.format(priority))
 }
 
+/// A digit, in lower case.
 fn glyph(d: u32) -> u8
     requires { d < 16 }
     ensures { result ≡ glyph_of d }
@@ -49,6 +51,7 @@ fn glyph(d: u32) -> u8
     if d < 10 { 48 + d as u8 } else { 87 + d as u8 }
 }
 
+/// The eight digits of a number.
 #[tactic(auto, unfolding(crate::specs::Digits::hex8))]
 fn digits(n: u32) -> [u8; 8]
     ensures value { result ≡ hex8 n }
@@ -76,6 +79,7 @@ pub fn put_address(room: &mut Vec<u8>, addr: Addr)
     put(room, &digits(addr.0))
 }
 
+/// How many of a number's eight digits are zeros in front.
 fn leading(n: u32) -> usize
     ensures value { result ≡ leading n }
     ensures some { result < 8 }
@@ -110,6 +114,7 @@ pub fn put_value(room: &mut Vec<u8>, n: u32)
     put(room, &all[leading(n)..])
 }
 
+/// The two digits of a byte.
 #[tactic(auto, unfolding(crate::specs::Digits::hex2))]
 fn put_byte(room: &mut Vec<u8>, byte: u8)
     requires { vec_len room.old + 2 ≤ vec_capacity room.old }

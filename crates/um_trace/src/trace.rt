@@ -13,6 +13,7 @@ use crate::room::put_text;
 use um_base::{Act, Event, Image};
 use um_matrix::Matrix;
 
+/// How many threads an act wakes.
 fn woken_by(act: &Act) -> usize
     ensures value { result ≡ woken_by act.now }
     ensures few { result ≤ 24 }
@@ -27,7 +28,7 @@ fn woken_by(act: &Act) -> usize
     }
 }
 
-/// How much room the text of these events takes at most, whatever the image and the last state.
+/// How many bytes the text of these events takes at most, whatever the image and the last state.
 #[tactic(auto, unfolding(crate::specs::Text::room_for))]
 pub fn text_room(events: &[Event]) -> usize
     requires few { length events.now ≤ 2 ^ 32 }

@@ -5,6 +5,7 @@ ghost use Rattle.um_trace.specs.Words.{errno_word, verdict_word, kind_word, want
 
 use um_base::{Access, Attr, Cause, Errno, Given, Kind, Leftover, Mode, SetSaid, Want};
 
+/// An error by its name.
 #[tactic(auto, unfolding(crate::specs::Words::errno_word))]
 pub fn errno_word(error: Errno) -> &'static str
     ensures value { result.now ≡ errno_word error }
@@ -57,6 +58,7 @@ pub fn kind_word(kind: Option<Kind>) -> &'static str
     }
 }
 
+/// The state that a check asks for.
 #[tactic(auto, unfolding(crate::specs::Words::want_word))]
 pub fn want_word(want: Want) -> &'static str
     ensures value { result.now ≡ want_word want }
@@ -69,6 +71,7 @@ pub fn want_word(want: Want) -> &'static str
     }
 }
 
+/// What an instruction does with memory.
 #[tactic(auto, unfolding(crate::specs::Words::access_word))]
 pub fn access_word(access: Access) -> &'static str
     ensures value { result.now ≡ access_word access }
@@ -99,6 +102,7 @@ pub fn pool_word(fits: bool) -> &'static str
     if fits { "ok" } else { "ENOMEM" }
 }
 
+/// Whether an object still stood.
 #[tactic(auto, unfolding(crate::specs::Words::given_word))]
 pub fn given_word(given: Given) -> &'static str
     ensures value { result.now ≡ given_word given }
@@ -110,6 +114,7 @@ pub fn given_word(given: Given) -> &'static str
     }
 }
 
+/// What a dropped permission left.
 #[tactic(auto, unfolding(crate::specs::Words::leftover_word))]
 pub fn leftover_word(left: Leftover) -> &'static str
     ensures value { result.now ≡ leftover_word left }
@@ -122,6 +127,7 @@ pub fn leftover_word(left: Leftover) -> &'static str
     }
 }
 
+/// What marking an object as initialised said.
 #[tactic(auto, unfolding(crate::specs::Words::set_word))]
 pub fn set_word(said: SetSaid) -> &'static str
     ensures value { result.now ≡ set_word said }
@@ -134,6 +140,7 @@ pub fn set_word(said: SetSaid) -> &'static str
     }
 }
 
+/// Why a thread fails.
 #[tactic(auto, unfolding(crate::specs::Words::cause_word))]
 pub fn cause_word(cause: Cause) -> &'static str
     ensures value { result.now ≡ cause_word cause }
@@ -171,6 +178,7 @@ pub fn attr_word(attr: Attr) -> &'static str
     }
 }
 
+/// Whose rights a thread has.
 #[tactic(auto, unfolding(crate::specs::Words::mode_word))]
 pub fn mode_word(mode: Mode) -> &'static str
     ensures value { result.now ≡ mode_word mode }

@@ -11,6 +11,7 @@ use crate::room::{put, put_text};
 use um_base::{Attr, DOMAIN_PARTITIONS, DOMAINS, Image, POOLS, Pool, Range};
 use um_matrix::Matrix;
 
+/// A partition, behind the first with a comma before it.
 fn put_next(room: &mut Vec<u8>, part: (Range, Attr), first: bool)
     requires { vec_len room.old + 34 ≤ vec_capacity room.old }
     ensures { Puts room.old room.new (lead first ++ part_of part) 34 }
@@ -35,6 +36,7 @@ fn put_parts(room: &mut Vec<u8>, parts: &[(Range, Attr)])
     }
 }
 
+/// The partitions of a domain, where it is initialised.
 #[tactic(auto, unfolding(crate::specs::Dump::parts_text))]
 fn put_domain_parts(room: &mut Vec<u8>, last: &Matrix, domain: usize)
     requires { vec_len room.old + 600 ≤ vec_capacity room.old }
@@ -46,6 +48,7 @@ fn put_domain_parts(room: &mut Vec<u8>, last: &Matrix, domain: usize)
     }
 }
 
+/// The line of a domain.
 #[tactic(auto, unfolding(crate::specs::Dump::domain_line))]
 fn put_domain_line(room: &mut Vec<u8>, image: &Image, last: &Matrix, domain: usize)
     requires room { vec_len room.old + 640 ≤ vec_capacity room.old }
@@ -69,6 +72,7 @@ pub fn put_domains(room: &mut Vec<u8>, image: &Image, last: &Matrix)
     }
 }
 
+/// The bytes that are left in a pool.
 fn left_in(last: &Matrix, pool: usize) -> u32
     ensures { result ≡ slice_index last.now.pools pool }
 {
@@ -78,6 +82,7 @@ fn left_in(last: &Matrix, pool: usize) -> u32
     }
 }
 
+/// A pool, and what is left of its bytes.
 #[tactic(auto, unfolding(crate::specs::Dump::pool_text))]
 fn put_pool(room: &mut Vec<u8>, pool: &Pool, left: u32)
     requires { vec_len room.old + 64 ≤ vec_capacity room.old }
@@ -90,6 +95,7 @@ fn put_pool(room: &mut Vec<u8>, pool: &Pool, left: u32)
     put_text(room, "\n");
 }
 
+/// The line of a pool.
 #[tactic(auto, unfolding(crate::specs::Dump::pool_line))]
 fn put_pool_line(room: &mut Vec<u8>, image: &Image, last: &Matrix, pool: usize)
     requires { vec_len room.old + 64 ≤ vec_capacity room.old }

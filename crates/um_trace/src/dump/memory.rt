@@ -14,6 +14,7 @@ const BLOCK: usize = 32;
 /// The blocks of an area.
 const BLOCKS: usize = 0x4000;
 
+/// Whether all bytes are zero.
 fn are_zero(bytes: &[u8]) -> bool
     ensures { result ≡ list_all (λ b. b == 0) bytes.now }
 {

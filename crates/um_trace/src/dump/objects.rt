@@ -15,6 +15,7 @@ use crate::words::kind_word;
 use um_base::{Image, Kind, PIECE, ROWS, THREADS, ThreadIx};
 use um_matrix::{Contents, Matrix, Object, Status};
 
+/// Whether an object is initialised, or gone.
 #[tactic(auto, unfolding(crate::specs::Dump::state_word))]
 fn state_word(object: &Object) -> &'static str
     ensures value { result.now ≡ state_word object.now }
@@ -29,6 +30,7 @@ fn state_word(object: &Object) -> &'static str
     }
 }
 
+/// Whether everybody may use an object.
 #[tactic(auto, unfolding(crate::specs::Dump::flag_word))]
 fn flag_word(public: bool) -> &'static str
     ensures value { result.now ≡ flag_word public }
@@ -50,7 +52,7 @@ fn put_marks(room: &mut Vec<u8>, object: &Object)
     put_text(room, flag_word(object.public));
 }
 
-/// A thread where it holds an object. Whether it is still to come that one does.
+/// A thread where it holds an object, behind the first with a comma before it. The answer is whether the first is still to come.
 fn put_holder(room: &mut Vec<u8>, image: &Image, holds: bool, thread: u8, first: bool) -> bool
     requires { vec_len room.old + 25 ≤ vec_capacity room.old }
     ensures text { Puts room.old room.new (if holds then lead first ++ thread_text image.now thread else []) 25 }
@@ -79,6 +81,7 @@ fn put_holders(room: &mut Vec<u8>, image: &Image, last: &Matrix, row: usize)
     }
 }
 
+/// Who has locked a mutex, and how often.
 #[tactic(auto, unfolding(crate::specs::Dump::owner_text))]
 fn put_owner(room: &mut Vec<u8>, image: &Image, owner: Option<ThreadIx>, depth: u32)
     requires { vec_len room.old + 35 ≤ vec_capacity room.old }
@@ -153,6 +156,7 @@ fn put_name(room: &mut Vec<u8>, contents: &Contents)
     }
 }
 
+/// What an object keeps.
 #[tactic(auto, unfolding(crate::specs::Dump::content_text))]
 fn put_content(room: &mut Vec<u8>, image: &Image, object: &Object)
     requires { vec_len room.old + 512 ≤ vec_capacity room.old }

@@ -35,6 +35,7 @@ pub fn is_shown(image: &Image, last: &Matrix, row: usize) -> bool
     row < image.objects.len() || object_at(last, row).status != Status::Free
 }
 
+/// The thread index that a row's setup gives.
 fn setup_thread(image: &Image, row: usize) -> Option<u8>
     ensures { result ≡ setup_thread (setup_at image.now row) }
 {

@@ -13,6 +13,7 @@ use crate::words::mode_word;
 use um_base::{Image, ROWS};
 use um_matrix::{Life, Matrix, Object, Thread};
 
+/// Whether a thread waits on an object.
 fn is_awaited(object: &Object, thread: u8) -> bool
     ensures { result ≡ list_any (is_waiter thread) object.now.waiters }
 {
@@ -32,6 +33,7 @@ fn awaited(objects: &[Object], thread: u8) -> Option<usize>
     objects.iter().position(|o| is_awaited(o, thread))
 }
 
+/// Whether a thread waits, and on what.
 fn put_waits(room: &mut Vec<u8>, image: &Image, row: Option<usize>)
     requires room { vec_len room.old + 30 ≤ vec_capacity room.old }
     requires few { IfSome row (λ x. x < 1000) }
