@@ -1,0 +1,13 @@
+use Rattle.std.proofs.Common.{arith, append_assoc}
+use Rattle.um_trace.specs.Dump.{object_line}
+use Rattle.um_trace.proofs.dump.objects.put_object_line.Goals as goal
+
+pub returns : goal.returns
+unfolding object_line
+returns c = record {
+  items =
+      rw (c.put_text-5.ensures.items, c.put_content.ensures.items, c.put_text-4.ensures.items, c.put_holders.ensures.items, c.put_text-3.ensures.items, c.put_marks.ensures.items, c.put_text-2.ensures.items, c.put_row.ensures.items, c.put_text.ensures.items, c.object_at-object.ensures)
+      (simp append_assoc);
+  len = omega arith;
+  capacity = omega arith;
+}

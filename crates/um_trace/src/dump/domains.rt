@@ -1,0 +1,153 @@
+//! The domains and pools of a dump.
+
+ghost use Rattle.std.specs.Prelude.{◌≡◌, ◌+◌, ◌*◌, ◌≤◌, ◌<◌, ◌++◌, None, length, slice_index, slice_index_or, vec_len, vec_capacity};
+ghost use Rattle.std.specs.List.{flat_map};
+ghost use Rattle.um_trace.specs.Dump.{numbers, lead, part_of, listed, parts_text, domain_line, pool_text, pool_line};
+ghost use Rattle.um_trace.specs.Room.{Puts};
+
+use crate::dump::lists::{put_lead, put_share};
+use crate::names::{put_domain, put_part};
+use crate::room::{put, put_text};
+use um_base::{Attr, DOMAIN_PARTITIONS, DOMAINS, Image, POOLS, Pool, Range};
+use um_matrix::Matrix;
+
+/// A partition, behind the first with a comma before it.
+fn put_next(room: &mut Vec<u8>, part: (Range, Attr), first: bool)
+    requires { vec_len room.old + 34 ≤ vec_capacity room.old }
+    ensures { Puts room.old room.new (lead first ++ part_of part) 34 }
+{
+    put_lead(room, first);
+    put_part(room, part.0, part.1);
+}
+
+/// The partitions of an initialised domain, in the order of adding.
+fn put_parts(room: &mut Vec<u8>, parts: &[(Range, Attr)])
+    requires room { vec_len room.old + 600 ≤ vec_capacity room.old }
+    requires few { length parts.now ≤ DOMAIN_PARTITIONS }
+    ensures { Puts room.old room.new (listed part_of parts.now) 600 }
+{
+    let mut first = true;
+    for part in parts {
+        put_next(room, *part, first);
+        first = false;
+    }
+    if first {
+        put_text(room, "-");
+    }
+}
+
+/// The partitions of a domain, where it is initialised.
+#[tactic(auto, unfolding(crate::specs::Dump::parts_text))]
+fn put_domain_parts(room: &mut Vec<u8>, last: &Matrix, domain: usize)
+    requires { vec_len room.old + 600 ≤ vec_capacity room.old }
+    ensures { Puts room.old room.new (parts_text (slice_index_or last.now.domains domain None)) 600 }
+{
+    match last.domains().get(domain) {
+        Some(Some(parts)) => put_parts(room, parts.as_slice()),
+        _ => put_text(room, "uninit"),
+    }
+}
+
+/// The line of a domain.
+#[tactic(auto, unfolding(crate::specs::Dump::domain_line))]
+fn put_domain_line(room: &mut Vec<u8>, image: &Image, last: &Matrix, domain: usize)
+    requires room { vec_len room.old + 640 ≤ vec_capacity room.old }
+    requires few { domain < DOMAINS }
+    ensures { Puts room.old room.new (domain_line image.now last.now domain) 640 }
+{
+    put_text(room, "domain ");
+    put_domain(room, image, domain as u8);
+    put_text(room, " ");
+    put_domain_parts(room, last, domain);
+    put_text(room, "\n");
+}
+
+/// The lines of domains.
+pub fn put_domains(room: &mut Vec<u8>, image: &Image, last: &Matrix)
+    requires { vec_len room.old + 640 * DOMAINS ≤ vec_capacity room.old }
+    ensures { Puts room.old room.new (flat_map (domain_line image.now last.now) (numbers (length image.now.domains))) (640 * DOMAINS) }
+{
+    for domain in 0..image.domains.len() {
+        put_domain_line(room, image, last, domain);
+    }
+}
+
+/// The bytes that are left in a pool.
+fn left_in(last: &Matrix, pool: usize) -> u32
+    ensures { result ≡ slice_index last.now.pools pool }
+{
+    match last.pools().get(pool) {
+        Some(left) => *left,
+        None => 0,
+    }
+}
+
+/// A pool, and what is left of its bytes.
+#[tactic(auto, unfolding(crate::specs::Dump::pool_text))]
+fn put_pool(room: &mut Vec<u8>, pool: &Pool, left: u32)
+    requires { vec_len room.old + 64 ≤ vec_capacity room.old }
+    ensures { Puts room.old room.new (pool_text pool.now left) 64 }
+{
+    put_text(room, "pool ");
+    put(room, pool.name.as_slice());
+    put_text(room, " ");
+    put_share(room, left, pool.size);
+    put_text(room, "\n");
+}
+
+/// The line of a pool.
+#[tactic(auto, unfolding(crate::specs::Dump::pool_line))]
+fn put_pool_line(room: &mut Vec<u8>, image: &Image, last: &Matrix, pool: usize)
+    requires { vec_len room.old + 64 ≤ vec_capacity room.old }
+    ensures { Puts room.old room.new (pool_line image.now last.now pool) 64 }
+{
+    match image.pools.as_slice().get(pool) {
+        Some(named) => put_pool(room, named, left_in(last, pool)),
+        None => {}
+    }
+}
+
+/// The lines of pools.
+pub fn put_pools(room: &mut Vec<u8>, image: &Image, last: &Matrix)
+    requires { vec_len room.old + 64 * POOLS ≤ vec_capacity room.old }
+    ensures { Puts room.old room.new (flat_map (pool_line image.now last.now) (numbers (length image.now.pools))) (64 * POOLS) }
+{
+    for pool in 0..image.pools.len() {
+        put_pool_line(room, image, last, pool);
+    }
+}
+
+#[cfg(test)]
+mod tests {
+    use super::*;
+    use std::test::Fail;
+    use um_base::{Addr, Name};
+
+    fn part(start: u32, size: u32, attr: Attr) -> (Range, Attr) {
+        let start = Addr(start);
+        (Range { start, size }, attr)
+    }
+
+    #[test]
+    fn partitions_and_pools(rt: HostRuntime) -> Result<(), Fail> {
+        let two = [
+            part(0x2000_0000, 256, Attr::P_RW_U_RW),
+            part(0x2000_0100, 32, Attr::P_RO_U_RO),
+        ];
+        let mut room = Vec::with_capacity(rt.alloc(), 2000)?;
+        put_parts(&mut room, &[]);
+        put_text(&mut room, "\n");
+        put_parts(&mut room, &two);
+        put_text(&mut room, "\n");
+        let pool = Pool {
+            name: Name::from_bytes(b"h"),
+            size: 128,
+        };
+        put_pool(&mut room, &pool, 64);
+        assert_eq!(rt;
+            room.as_slice(),
+            "-\n0x20000000/256/P_RW_U_RW,0x20000100/32/P_RO_U_RO\npool h 64/128\n".as_bytes()
+        );
+        Ok(())
+    }
+}

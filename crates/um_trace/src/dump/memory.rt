@@ -1,0 +1,74 @@
+//! The memory of a dump: the blocks of 32 bytes that aren't all zero.
+
+ghost use Rattle.std.specs.Prelude.{◌≡◌, ◌==◌, ◌+◌, ◌*◌, ◌≤◌, ◌<◌, ◌^◌, length, vec_len, vec_capacity};
+ghost use Rattle.std.specs.List.{list_all};
+ghost use Rattle.um_trace.specs.Dump.{block_line, area_lines};
+ghost use Rattle.um_trace.specs.Room.{Puts};
+
+use crate::room::{put_address, put_bytes, put_text};
+use um_base::{AREA_SIZE, Addr, STACK_AREA};
+
+/// The bytes of a block.
+const BLOCK: usize = 32;
+
+/// The blocks of an area.
+const BLOCKS: usize = 0x4000;
+
+/// Whether all bytes are zero.
+fn are_zero(bytes: &[u8]) -> bool
+    ensures { result ≡ list_all (λ b. b == 0) bytes.now }
+{
+    bytes.iter().all(|b| *b == 0)
+}
+
+/// The line of the k-th block of an area, unless it is all zero.
+#[tactic(auto, unfolding(crate::specs::Dump::block, crate::specs::Dump::block_line))]
+fn put_block(room: &mut Vec<u8>, area: u32, bytes: &[u8], k: usize)
+    requires room { vec_len room.old + 83 ≤ vec_capacity room.old }
+    requires within { BLOCK * k + BLOCK ≤ length bytes.now }
+    requires fits { area + length bytes.now < 2 ^ 32 }
+    ensures { Puts room.old room.new (block_line area bytes.now k) 83 }
+{
+    let block = &bytes[BLOCK * k..BLOCK * k + BLOCK];
+    if !are_zero(block) {
+        put_text(room, "memory ");
+        put_address(room, Addr(area + (BLOCK * k) as u32));
+        put_text(room, " ");
+        put_bytes(room, block);
+        put_text(room, "\n");
+    }
+}
+
+/// The lines of an area.
+#[tactic(auto, unfolding(crate::specs::Dump::area_lines))]
+pub fn put_area(room: &mut Vec<u8>, area: u32, bytes: &[u8])
+    requires room { vec_len room.old + 83 * BLOCKS ≤ vec_capacity room.old }
+    requires whole { length bytes.now ≡ AREA_SIZE }
+    requires place { area ≤ STACK_AREA }
+    ensures { Puts room.old room.new (area_lines area bytes.now) (83 * BLOCKS) }
+{
+    for k in 0..BLOCKS {
+        put_block(room, area, bytes, k);
+    }
+}
+
+#[cfg(test)]
+mod tests {
+    use super::*;
+    use std::test::Fail;
+
+    #[test]
+    fn a_block_that_is_not_zero(rt: HostRuntime) -> Result<(), Fail> {
+        let mut bytes = [0; 64];
+        bytes[63] = 0xab;
+        let mut room = Vec::with_capacity(rt.alloc(), 166)?;
+        put_block(&mut room, STACK_AREA, &bytes, 0);
+        assert_eq!(rt; room.len(), 0);
+        put_block(&mut room, STACK_AREA, &bytes, 1);
+        assert_eq!(rt;
+            room.as_slice(),
+            "memory 0x20080020 00000000000000000000000000000000000000000000000000000000000000ab\n".as_bytes()
+        );
+        Ok(())
+    }
+}

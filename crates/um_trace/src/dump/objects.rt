@@ -1,0 +1,218 @@
+//! The objects of a dump.
+
+ghost use Rattle.std.specs.Prelude.{◌≡◌, ◌+◌, ◌*◌, ◌≤◌, ◌<◌, ◌++◌, ◌&&◌, [], length, not, vec_len, vec_capacity, if◌then◌else◌};
+ghost use Rattle.std.specs.List.{flat_map};
+ghost use Rattle.um_matrix.specs.State.{pair_at};
+ghost use Rattle.um_trace.specs.Dump.{numbers, lead, state_word, flag_word, marks_text, holders_text, owner_text, kept_text, digits_text, name_text, content_text, object_line, object_line_of};
+ghost use Rattle.um_trace.specs.Names.{thread_text};
+ghost use Rattle.um_trace.specs.Room.{Puts};
+
+use crate::dump::lists::{put_lead, put_share};
+use crate::dump::state::{is_shown, object_at, pair_at};
+use crate::names::{put_row, put_thread};
+use crate::room::{put_bytes, put_decimal, put_text};
+use crate::words::kind_word;
+use um_base::{Image, Kind, PIECE, ROWS, THREADS, ThreadIx};
+use um_matrix::{Contents, Matrix, Object, Status};
+
+/// Whether an object is initialised, or gone.
+#[tactic(auto, unfolding(crate::specs::Dump::state_word))]
+fn state_word(object: &Object) -> &'static str
+    ensures value { result.now ≡ state_word object.now }
+    ensures short { length result.now ≤ 6 }
+{
+    if object.status == Status::Gone {
+        "gone"
+    } else if object.init {
+        "init"
+    } else {
+        "uninit"
+    }
+}
+
+/// Whether everybody may use an object.
+#[tactic(auto, unfolding(crate::specs::Dump::flag_word))]
+fn flag_word(public: bool) -> &'static str
+    ensures value { result.now ≡ flag_word public }
+    ensures short { length result.now ≤ 7 }
+{
+    if public { "public" } else { "private" }
+}
+
+/// An object's kind, state and flag.
+#[tactic(auto, unfolding(crate::specs::Dump::marks_text))]
+fn put_marks(room: &mut Vec<u8>, object: &Object)
+    requires { vec_len room.old + 27 ≤ vec_capacity room.old }
+    ensures { Puts room.old room.new (marks_text object.now) 27 }
+{
+    put_text(room, kind_word(object.kind));
+    put_text(room, " ");
+    put_text(room, state_word(object));
+    put_text(room, " ");
+    put_text(room, flag_word(object.public));
+}
+
+/// A thread where it holds an object, behind the first with a comma before it. The answer is whether the first is still to come.
+fn put_holder(room: &mut Vec<u8>, image: &Image, holds: bool, thread: u8, first: bool) -> bool
+    requires { vec_len room.old + 25 ≤ vec_capacity room.old }
+    ensures text { Puts room.old room.new (if holds then lead first ++ thread_text image.now thread else []) 25 }
+    ensures none { result ≡ (first && not holds) }
+{
+    if holds {
+        put_lead(room, first);
+        put_thread(room, image, thread);
+    }
+    first && !holds
+}
+
+/// The threads that have a pair with an object, by index.
+#[tactic(auto, unfolding(crate::specs::Dump::holders_text))]
+fn put_holders(room: &mut Vec<u8>, image: &Image, last: &Matrix, row: usize)
+    requires room { vec_len room.old + 601 ≤ vec_capacity room.old }
+    requires row { row < ROWS }
+    ensures { Puts room.old room.new (holders_text image.now last.now row) 601 }
+{
+    let mut first = true;
+    for thread in 0..THREADS {
+        first = put_holder(room, image, pair_at(last, thread, row), thread as u8, first);
+    }
+    if first {
+        put_text(room, "-");
+    }
+}
+
+/// Who has locked a mutex, and how often.
+#[tactic(auto, unfolding(crate::specs::Dump::owner_text))]
+fn put_owner(room: &mut Vec<u8>, image: &Image, owner: Option<ThreadIx>, depth: u32)
+    requires { vec_len room.old + 35 ≤ vec_capacity room.old }
+    ensures { Puts room.old room.new (owner_text image.now owner depth) 35 }
+{
+    match owner {
+        None => put_text(room, "free"),
+        Some(owner) => {
+            put_thread(room, image, owner.0);
+            put_text(room, "*");
+            put_decimal(room, depth);
+        }
+    }
+}
+
+/// What an initialised object keeps.
+#[tactic(auto, unfolding(crate::specs::Dump::kept_text))]
+fn put_kept(room: &mut Vec<u8>, image: &Image, contents: &Contents)
+    requires { vec_len room.old + 35 ≤ vec_capacity room.old }
+    ensures { Puts room.old room.new (kept_text image.now contents.now) 35 }
+{
+    match contents {
+        Contents::Nothing => put_text(room, "-"),
+        Contents::Named(_) => put_text(room, "-"),
+        Contents::Sem { count, limit } => put_share(room, *count, *limit),
+        Contents::Mutex { owner, depth } => put_owner(room, image, *owner, *depth),
+        Contents::Msgq {
+            size: _,
+            most,
+            messages,
+        } => { put_share(room, messages.as_slice().len() as u32, *most) }
+        Contents::Stack { most, values } => {
+            put_share(room, values.as_slice().len() as u32, *most)
+        }
+        Contents::Pipe {
+            size,
+            bytes,
+            closed,
+        } => {
+            if *closed {
+                put_text(room, "closed")
+            } else {
+                put_share(room, bytes.len() as u32, *size)
+            }
+        }
+    }
+}
+
+/// A name in digits, or a dash for none.
+#[tactic(auto, unfolding(crate::specs::Dump::digits_text))]
+fn put_digits(room: &mut Vec<u8>, name: &[u8])
+    requires room { vec_len room.old + 512 ≤ vec_capacity room.old }
+    requires short { length name.now ≤ PIECE }
+    ensures { Puts room.old room.new (digits_text name.now) 512 }
+{
+    if name.is_empty() {
+        put_text(room, "-");
+    } else {
+        put_bytes(room, name);
+    }
+}
+
+/// A thread's name.
+#[tactic(auto, unfolding(crate::specs::Dump::name_text))]
+fn put_name(room: &mut Vec<u8>, contents: &Contents)
+    requires { vec_len room.old + 512 ≤ vec_capacity room.old }
+    ensures { Puts room.old room.new (name_text contents.now) 512 }
+{
+    match contents {
+        Contents::Named(name) => put_digits(room, name.as_slice()),
+        _ => put_text(room, "-"),
+    }
+}
+
+/// What an object keeps.
+#[tactic(auto, unfolding(crate::specs::Dump::content_text))]
+fn put_content(room: &mut Vec<u8>, image: &Image, object: &Object)
+    requires { vec_len room.old + 512 ≤ vec_capacity room.old }
+    ensures { Puts room.old room.new (content_text image.now object.now) 512 }
+{
+    if object.status == Status::Gone {
+        put_text(room, "-");
+    } else if object.kind == Some(Kind::Thread) {
+        put_name(room, &object.contents);
+    } else if object.init {
+        put_kept(room, image, &object.contents);
+    } else {
+        put_text(room, "-");
+    }
+}
+
+/// The line of an object.
+#[tactic(auto, unfolding(crate::specs::Dump::object_line))]
+fn put_object_line(room: &mut Vec<u8>, image: &Image, last: &Matrix, row: usize)
+    requires room { vec_len room.old + 1280 ≤ vec_capacity room.old }
+    requires row { row < ROWS }
+    ensures { Puts room.old room.new (object_line image.now last.now row) 1280 }
+{
+    let object = object_at(last, row);
+    put_text(room, "object ");
+    put_row(room, image, row);
+    put_text(room, " ");
+    put_marks(room, object);
+    put_text(room, " ");
+    put_holders(room, image, last, row);
+    put_text(room, " ");
+    put_content(room, image, object);
+    put_text(room, "\n");
+}
+
+/// The line of a row, where an object stands there.
+#[tactic(auto, unfolding(crate::specs::Dump::object_line_of))]
+fn put_line_of(room: &mut Vec<u8>, image: &Image, last: &Matrix, row: usize)
+    requires room { vec_len room.old + 1280 ≤ vec_capacity room.old }
+    requires row { row < ROWS }
+    ensures { Puts room.old room.new (object_line_of image.now last.now row) 1280 }
+{
+    if is_shown(image, last, row) {
+        put_object_line(room, image, last, row);
+    }
+}
+
+/// The lines of objects, by row.
+pub fn put_objects(room: &mut Vec<u8>, image: &Image, last: &Matrix)
+    requires { vec_len room.old + 1280 * ROWS ≤ vec_capacity room.old }
+    ensures { Puts room.old room.new (flat_map (object_line_of image.now last.now) (numbers ROWS)) (1280 * ROWS) }
+{
+    for row in 0..ROWS {
+        put_line_of(room, image, last, row);
+    }
+}
+
+#[cfg(test)]
+mod tests;

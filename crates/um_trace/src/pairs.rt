@@ -1,0 +1,43 @@
+//! The texts of acts on permissions.
+
+ghost use Rattle.std.specs.Prelude.{◌+◌, ◌≤◌, vec_len, vec_capacity};
+ghost use Rattle.um_trace.specs.Acts.{pair_act_text};
+ghost use Rattle.um_trace.specs.Room.{Puts};
+
+use crate::domains::put_domain_act;
+use crate::names::{put_of, put_on};
+use crate::room::put_text;
+use crate::words::{given_word, leftover_word};
+use um_base::{Act, Image};
+
+/// The text of an act on permissions, on a domain, or of what a thread does by itself. Of any other it puts nothing.
+#[tactic(auto, unfolding(crate::specs::Acts::pair_act_text))]
+pub fn put_pair_act(room: &mut Vec<u8>, image: &Image, act: &Act)
+    requires { vec_len room.old + 100 ≤ vec_capacity room.old }
+    ensures { Puts room.old room.new (pair_act_text image.now act.now) 100 }
+{
+    match act {
+        Act::Grant { who, addr, given } => {
+            put_of(room, image, "grant ", *who);
+            put_on(room, image, " ", *addr);
+            put_text(room, " ");
+            put_text(room, given_word(*given));
+        }
+        Act::Own { who, given } => {
+            put_of(room, image, "own ", *who);
+            put_text(room, " ");
+            put_text(room, given_word(*given));
+        }
+        Act::Inherit { who, addr } => {
+            put_of(room, image, "inherit ", *who);
+            put_on(room, image, " ", *addr);
+        }
+        Act::DropPair { who, addr, left } => {
+            put_of(room, image, "drop ", *who);
+            put_on(room, image, " ", *addr);
+            put_text(room, " ");
+            put_text(room, leftover_word(*left));
+        }
+        _ => put_domain_act(room, image, act),
+    }
+}

@@ -1,0 +1,169 @@
+//! Text, appended into reserved room.
+
+ghost use Rattle.std.specs.Prelude.{◌≡◌, ◌+◌, ◌*◌, ◌≤◌, ◌<◌, length, vec_len, vec_capacity, decimal};
+ghost use Rattle.std.specs.Fmt.{signed_decimal};
+ghost use Rattle.std.specs.List.{flat_map};
+ghost use Rattle.um_trace.specs.Digits.{hex2, hex8, address, value, glyph_of, leading};
+ghost use Rattle.um_trace.specs.Room.{Puts};
+
+use itoa::Buffer;
+use um_base::Addr;
+
+/// A piece. The room is there, so it takes no memory.
+pub fn put(room: &mut Vec<u8>, piece: &[u8])
+    requires { vec_len room.old + length piece.now ≤ vec_capacity room.old }
+    ensures { Puts room.old room.new piece.now (length piece.now) }
+{
+    room.extend_from_slice(piece).unwrap()
+}
+
+/// A piece of text.
+pub fn put_text(room: &mut Vec<u8>, text: &str)
+    requires { vec_len room.old + length text.now ≤ vec_capacity room.old }
+    ensures { Puts room.old room.new text.now (length text.now) }
+{
+    put(room, text.as_bytes())
+}
+
+/// A number.
+pub fn put_decimal(room: &mut Vec<u8>, n: u32)
+    requires { vec_len room.old + 10 ≤ vec_capacity room.old }
+    ensures { Puts room.old room.new (decimal n) 10 }
+{
+    let mut buffer = Buffer::new();
+    put_text(room, buffer.format(n))
+}
+
+/// A priority.
+pub fn put_signed(room: &mut Vec<u8>, priority: i8)
+    requires { vec_len room.old + 4 ≤ vec_capacity room.old }
+    ensures { Puts room.old room.new (signed_decimal priority) 4 }
+{
+    let mut buffer = Buffer::new();
+    put_text(room, buffer.format(priority))
+}
+
+/// A digit, in lower case.
+fn glyph(d: u32) -> u8
+    requires { d < 16 }
+    ensures { result ≡ glyph_of d }
+{
+    if d < 10 { 48 + d as u8 } else { 87 + d as u8 }
+}
+
+/// The eight digits of a number.
+#[tactic(auto, unfolding(crate::specs::Digits::hex8))]
+fn digits(n: u32) -> [u8; 8]
+    ensures value { result ≡ hex8 n }
+    ensures len { length (hex8 n) ≡ 8 }
+{
+    [
+        glyph(n / 0x1000_0000),
+        glyph(n / 0x100_0000 % 16),
+        glyph(n / 0x10_0000 % 16),
+        glyph(n / 0x1_0000 % 16),
+        glyph(n / 0x1000 % 16),
+        glyph(n / 0x100 % 16),
+        glyph(n / 0x10 % 16),
+        glyph(n % 16),
+    ]
+}
+
+/// An address in memory: `0x` and eight digits.
+#[tactic(auto, unfolding(crate::specs::Digits::address))]
+pub fn put_address(room: &mut Vec<u8>, addr: Addr)
+    requires { vec_len room.old + 10 ≤ vec_capacity room.old }
+    ensures { Puts room.old room.new (address addr.0) 10 }
+{
+    put_text(room, "0x");
+    put(room, &digits(addr.0))
+}
+
+/// How many of a number's eight digits are zeros in front.
+fn leading(n: u32) -> usize
+    ensures value { result ≡ leading n }
+    ensures some { result < 8 }
+{
+    if n < 0x10 {
+        7
+    } else if n < 0x100 {
+        6
+    } else if n < 0x1000 {
+        5
+    } else if n < 0x1_0000 {
+        4
+    } else if n < 0x10_0000 {
+        3
+    } else if n < 0x100_0000 {
+        2
+    } else if n < 0x1000_0000 {
+        1
+    } else {
+        0
+    }
+}
+
+/// A value: `0x` and its digits, without zeros in front.
+#[tactic(auto, unfolding(crate::specs::Digits::value))]
+pub fn put_value(room: &mut Vec<u8>, n: u32)
+    requires { vec_len room.old + 10 ≤ vec_capacity room.old }
+    ensures { Puts room.old room.new (value n) 10 }
+{
+    put_text(room, "0x");
+    let all = digits(n);
+    put(room, &all[leading(n)..])
+}
+
+/// The two digits of a byte.
+#[tactic(auto, unfolding(crate::specs::Digits::hex2))]
+fn put_byte(room: &mut Vec<u8>, byte: u8)
+    requires { vec_len room.old + 2 ≤ vec_capacity room.old }
+    ensures { Puts room.old room.new (hex2 byte) 2 }
+{
+    put(room, &[glyph(byte as u32 / 16), glyph(byte as u32 % 16)])
+}
+
+/// Bytes, two digits each.
+pub fn put_bytes(room: &mut Vec<u8>, bytes: &[u8])
+    requires { vec_len room.old + 2 * length bytes.now ≤ vec_capacity room.old }
+    ensures { Puts room.old room.new (flat_map hex2 bytes.now) (2 * length bytes.now) }
+{
+    for byte in bytes {
+        put_byte(room, *byte);
+    }
+}
+
+#[cfg(test)]
+mod tests {
+    use super::*;
+    use std::test::Fail;
+
+    #[test]
+    fn numbers(rt: HostRuntime) -> Result<(), Fail> {
+        for (n, address, value, decimal) in [
+            (0, "0x00000000", "0x0", "0"),
+            (9, "0x00000009", "0x9", "9"),
+            (10, "0x0000000a", "0xa", "10"),
+            (0x100, "0x00000100", "0x100", "256"),
+            (0x2008_0000, "0x20080000", "0x20080000", "537395200"),
+            (0xdead_beef, "0xdeadbeef", "0xdeadbeef", "3735928559"),
+            (u32::MAX, "0xffffffff", "0xffffffff", "4294967295"),
+        ] {
+            let mut room = Vec::with_capacity(rt.alloc(), 10)?;
+            put_address(&mut room, Addr(n));
+            assert_eq!(rt; room.as_slice(), address.as_bytes());
+            let mut room = Vec::with_capacity(rt.alloc(), 10)?;
+            put_value(&mut room, n);
+            assert_eq!(rt; room.as_slice(), value.as_bytes());
+            let mut room = Vec::with_capacity(rt.alloc(), 10)?;
+            put_decimal(&mut room, n);
+            assert_eq!(rt; room.as_slice(), decimal.as_bytes());
+        }
+        let mut room = Vec::with_capacity(rt.alloc(), 20)?;
+        put_signed(&mut room, -16);
+        put_text(&mut room, " ");
+        put_bytes(&mut room, b"za\x00\xff");
+        assert_eq!(rt; room.as_slice(), "-16 7a6100ff".as_bytes());
+        Ok(())
+    }
+}

@@ -1,0 +1,343 @@
+//! Lines of events over a small image, as worked examples show them.
+
+ghost use Rattle.std.specs.Prelude.{◌≤◌, length};
+
+use super::*;
+use std::alloc::Global;
+use std::test::Fail;
+use um_base::{
+    Access, Addr, Answer, Attr, BoundedVec, Cause, DomainDef, Errno, Found, Given, Kind, Leftover,
+    Memory, Mpu, Name, ObjectDef, Policy, Range, Replies, Reply, Row, Script, SetSaid, Setup,
+    ThreadIx, Want,
+};
+
+fn named(name: &str) -> Name
+    requires { length name.now ≤ 24 }
+{
+    Name::from_bytes(name.as_bytes())
+}
+
+fn object(name: &str, kind: Kind, addr: u32, setup: Setup) -> ObjectDef
+    requires { length name.now ≤ 24 }
+{
+    ObjectDef {
+        name: named(name),
+        kind,
+        addr: Addr(addr),
+        public: false,
+        setup,
+    }
+}
+
+fn thread(name: &str, index: u8, addr: u32) -> ObjectDef
+    requires { length name.now ≤ 24 }
+{
+    object(
+        name,
+        Kind::Thread,
+        addr,
+        Setup::Thread {
+            index: ThreadIx(index),
+        },
+    )
+}
+
+fn stack(name: &str, start: u32) -> ObjectDef
+    requires { length name.now ≤ 24 }
+{
+    let range = Range {
+        start: Addr(start),
+        size: 64,
+    };
+    object(
+        name,
+        Kind::ThreadStack,
+        start,
+        Setup::ThreadStack {
+            range,
+            declared: 64,
+        },
+    )
+}
+
+/// Threads `a` and `b` with their stacks, a semaphore `s`, a domain `d` and a script `m`.
+fn small_image(alloc: Global) -> Result<Image, Memory> {
+    let objects = vec![in alloc;
+        thread("a", 0, 0x4000_0000),
+        stack("sa", 0x2008_0000),
+        thread("b", 1, 0x4000_0080),
+        stack("sb", 0x2008_0040),
+        object("s", Kind::Sem, 0x4000_0100, Setup::Bare),
+    ]?;
+    let domains = vec![in alloc;
+        DomainDef {
+            name: named("d"),
+            parts: None
+        },
+    ]?;
+    let scripts = vec![in alloc;
+        Script {
+            name: named("m"),
+            lines: BoundedVec::new(alloc)
+        },
+    ]?;
+    Ok(Image {
+        mpu: Mpu::V7,
+        regions: 8,
+        policy: Policy::Abort,
+        rodata: None,
+        rodata_bytes: BoundedVec::new(alloc),
+        pools: BoundedVec::new(alloc),
+        partitions: BoundedVec::new(alloc),
+        domains: BoundedVec::from_vec(domains),
+        objects: BoundedVec::from_vec(objects),
+        boots: BoundedVec::new(alloc),
+        scripts: BoundedVec::from_vec(scripts),
+    })
+}
+
+/// The lines of these acts of thread `a`.
+fn lines_of(rt: &HostRuntime, acts: &[Act]) -> Result<Vec<u8>, Fail> {
+    let image = small_image(rt.alloc())?;
+    let mut lines = Vec::new(rt.alloc());
+    for act in acts {
+        let event = Event {
+            thread: ThreadIx(0),
+            act: *act,
+        };
+        let mut room = Vec::with_capacity(rt.alloc(), 128 + 64 * woken_by(act))?;
+        put_event(&mut room, &image, &event);
+        lines.extend_from_slice(&room)?;
+    }
+    Ok(lines)
+}
+
+#[test]
+fn acts_of_threads(rt: HostRuntime) -> Result<(), Fail> {
+    let acts = [
+        Act::Begin { script: 0, line: 1 },
+        Act::Resume,
+        Act::Answered { reply: Reply::Null },
+        Act::Named { who: ThreadIx(1) },
+        Act::Start { who: ThreadIx(20) },
+        Act::EnterUser,
+        Act::Fatal {
+            reason: 3,
+            cause: Cause::Refused(Errno::EPERM),
+        },
+        Act::Fatal {
+            reason: 0,
+            cause: Cause::Access,
+        },
+        Act::Doom { who: ThreadIx(23) },
+        Act::Exit,
+    ];
+    assert_eq!(rt;
+        lines_of(&rt, &acts)?.as_slice(),
+        "a begin m 1\na resume\na reply NULL\na name b\na start #0\na user\na fatal 3 EPERM\na fatal 0 access\na doom 23\na exit\n".as_bytes()
+    );
+    Ok(())
+}
+
+#[test]
+fn acts_on_domains_and_pairs(rt: HostRuntime) -> Result<(), Fail> {
+    let range = Range {
+        start: Addr(0x2000_0000),
+        size: 32,
+    };
+    let attr = Attr::P_RW_U_RW;
+    let acts = [
+        Act::DomInit {
+            domain: 0,
+            reply: Reply::Num(0),
+        },
+        Act::DomAdd {
+            domain: 0,
+            range,
+            attr,
+            reply: Reply::Fail(Errno::ENOSPC),
+        },
+        Act::DomRemove {
+            domain: 0,
+            range,
+            attr,
+            reply: Reply::Num(0),
+        },
+        Act::DomMove {
+            domain: 0,
+            who: ThreadIx(1),
+            reply: Reply::Num(0),
+        },
+        Act::Grant {
+            who: ThreadIx(1),
+            addr: Addr(0x4800_0400),
+            given: Given::Done,
+        },
+        Act::Own {
+            who: ThreadIx(1),
+            given: Given::Gone,
+        },
+        Act::Inherit {
+            who: ThreadIx(1),
+            addr: Addr(0x2008_0040),
+        },
+        Act::DropPair {
+            who: ThreadIx(0),
+            addr: Addr(0x4000_0000),
+            left: Leftover::Kept,
+        },
+        Act::DropPair {
+            who: ThreadIx(1),
+            addr: Addr(0x4800_0400),
+            left: Leftover::Gone,
+        },
+    ];
+    assert_eq!(rt;
+        lines_of(&rt, &acts)?.as_slice(),
+        "a domain init d 0\na domain add d 0x20000000/32/P_RW_U_RW ENOSPC\na domain remove d 0x20000000/32/P_RW_U_RW 0\na domain move d b 0\na grant b #16 ok\na own b gone\na inherit b sb\na drop a a kept\na drop b #16 gone\n".as_bytes()
+    );
+    Ok(())
+}
+
+#[test]
+fn acts_on_objects(rt: HostRuntime) -> Result<(), Fail> {
+    let s = Addr(0x4000_0100);
+    let dynamic = Addr(0x4800_0100);
+    let kind = Some(Kind::Sem);
+    let mut woken = Replies::new();
+    woken.push(ThreadIx(1), Reply::Num(0));
+    let acts = [
+        Act::Check {
+            addr: s,
+            kind,
+            want: Want::Init,
+            verdict: Some(Errno::EPERM),
+        },
+        Act::Check {
+            addr: Addr(0),
+            kind: None,
+            want: Want::Any,
+            verdict: None,
+        },
+        Act::Work {
+            addr: s,
+            answer: Answer::Wait,
+            woken: Replies::new(),
+        },
+        Act::Work {
+            addr: s,
+            answer: Answer::Now(Reply::Void),
+            woken,
+        },
+        Act::Publish {
+            addr: s,
+            given: Given::Done,
+        },
+        Act::SetInit {
+            addr: dynamic,
+            set: SetSaid::Done,
+        },
+        Act::SetInit {
+            addr: s,
+            set: SetSaid::Fail(Errno::EADDRINUSE),
+        },
+        Act::ClearInit {
+            addr: Addr(0x2008_0000),
+        },
+        Act::Reserve {
+            kind: Kind::Sem,
+            addr: Some(dynamic),
+        },
+        Act::Reserve {
+            kind: Kind::Msgq,
+            addr: None,
+        },
+        Act::Born { addr: dynamic },
+        Act::Buffer {
+            size: 8,
+            fits: false,
+        },
+        Act::Unbuffer { size: 8 },
+        Act::Recycle { addr: dynamic },
+    ];
+    assert_eq!(rt;
+        lines_of(&rt, &acts)?.as_slice(),
+        "a check s sem init EPERM\na check 0x00000000 any any ok\na act s wait\na act s void wake b 0\na public s ok\na setinit #4 ok\na setinit s EADDRINUSE\na uninit sa\na reserve sem #4\na reserve msgq NULL\na born #4\na buffer 8 ENOMEM\na unbuffer 8\na recycle #4\n".as_bytes()
+    );
+    Ok(())
+}
+
+#[test]
+fn acts_on_memory(rt: HostRuntime) -> Result<(), Fail> {
+    let acts = [
+        Act::Load {
+            addr: Addr(0x2000_0000),
+            size: 4,
+            value: 0,
+        },
+        Act::Store {
+            addr: Addr(0x2000_001f),
+            size: 1,
+            value: 0xab,
+        },
+        Act::Fetch {
+            addr: Addr(0x0800_0000),
+        },
+        Act::Fault {
+            access: Access::Read,
+            addr: Addr(0x2000_0020),
+            size: 1,
+        },
+        Act::Probe {
+            addr: Addr(0x2000_0000),
+            size: 4,
+            fits: true,
+        },
+        Act::CopyIn {
+            addr: Addr(0xdead_0000),
+            size: 0,
+            fits: true,
+        },
+        Act::CopyOut {
+            addr: Addr(0x2000_0000),
+            size: 4,
+            fits: false,
+        },
+        Act::CopyStr {
+            addr: Addr(0x0800_0000),
+            found: Found::Length(6),
+        },
+        Act::CopyStr {
+            addr: Addr(0x0800_0000),
+            found: Found::TooLong,
+        },
+        Act::Erase { stack: Row(1) },
+    ];
+    assert_eq!(rt;
+        lines_of(&rt, &acts)?.as_slice(),
+        "a load 0x20000000 4 0x0\na store 0x2000001f 1 0xab\na exec 0x08000000\na fault read 0x20000020 1\na probe 0x20000000 4 ok\na copyin 0xdead0000 0 ok\na copyout 0x20000000 4 EFAULT\na copystr 0x08000000 6\na copystr 0x08000000 toolong\na erase sa\n".as_bytes()
+    );
+    Ok(())
+}
+
+#[test]
+fn room_of_a_text(rt: HostRuntime) {
+    let mut woken = Replies::new();
+    woken.push(ThreadIx(1), Reply::Num(0));
+    let act = Act::Work {
+        addr: Addr(0x4000_0100),
+        answer: Answer::Wait,
+        woken,
+    };
+    let events = [
+        Event {
+            thread: ThreadIx(0),
+            act: Act::Exit,
+        },
+        Event {
+            thread: ThreadIx(0),
+            act,
+        },
+    ];
+    assert_eq!(rt; text_room(&events), 3_000_000 + 128 + 192);
+}
