@@ -4,6 +4,7 @@
 
 mod calls;
 mod failed;
+mod gate;
 mod mem_sink;
 mod mem_source;
 mod reading;
@@ -14,6 +15,7 @@ mod std_source;
 mod writing;
 
 pub use failed::Failed;
+pub use gate::{Gate, NoGate};
 pub use mem_sink::MemSink;
 pub use mem_source::MemSource;
 pub use reading::{ReadAll, read_all};

@@ -1,6 +1,6 @@
 //! The machine, one event at a time.
 
-ghost use Rattle.std.specs.Prelude.{◌≡◌, ◌<◌, ◌≤◌, OnOk, OnErr, IfOk, IsTrue, MatchOption, false, length};
+ghost use Rattle.std.specs.Prelude.{◌≡◌, ◌<◌, ◌≤◌, ◌^◌, OnOk, OnErr, IfOk, IsTrue, MatchOption, false, length};
 ghost use Rattle.um_base.specs.declared.act.Event.{Event};
 ghost use Rattle.um_base.specs.Lawful.{IsLawful};
 ghost use Rattle.um_matrix.specs.Built.{IsBuilt, steps_left};
@@ -77,7 +77,8 @@ impl<'a> Matrix<'a> {
 
     /// A number of steps that no run from here exceeds.
     pub fn most_steps(&self) -> usize
-        ensures { steps_left self.now ≤ result }
+        ensures enough { steps_left self.now ≤ result }
+        ensures few { result ≤ 2 ^ 16 }
     {
         self.tables.most_steps()
     }

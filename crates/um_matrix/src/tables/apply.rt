@@ -1,6 +1,6 @@
 //! One event at a time.
 
-ghost use Rattle.std.specs.Prelude.{◌≡◌, ◌<◌, ◌≤◌, OnOk, OnErr, Some, None, slice_get, drop, MatchOption, IsTrue};
+ghost use Rattle.std.specs.Prelude.{◌≡◌, ◌<◌, ◌≤◌, ◌^◌, OnOk, OnErr, Some, None, slice_get, drop, MatchOption, IsTrue};
 
 use crate::matrix::NotAStep;
 use crate::pending::Pending;
@@ -157,7 +157,8 @@ impl<'a> Tables<'a> {
     #[tactic(auto, using(crate::proofs::KeptLemmas::most_left))]
     pub fn most_steps(&self) -> usize
         requires { IsKept self.now }
-        ensures { steps_left self.now ≤ result }
+        ensures enough { steps_left self.now ≤ result }
+        ensures few { result ≤ 2 ^ 16 }
     {
         ROWS + 6 + 3 * lines_behind(self.image, self.threads[0].place)
     }

@@ -1,0 +1,17 @@
+//! A place where processors may be held, for tests.
+
+/// Is called by each processor of a run before each of its steps, whose number counts from 0. It can be shared between threads,
+/// and means nothing to a run but that the step comes after it.
+pub trait Gate {
+    fn pause(&self, cpu: u32, step: u64);
+}
+
+/// Holds nobody.
+#[derive(Clone, Copy)]
+pub struct NoGate;
+
+impl Gate for NoGate {
+    fn pause(&self, cpu: u32, step: u64) {
+        let _ = (cpu, step);
+    }
+}
