@@ -1,0 +1,14 @@
+//! The top call: from command words and a description to the text of a run.
+#![tactic(auto)]
+
+mod answer;
+mod run;
+mod status;
+mod top;
+mod words;
+
+
+
+
+pub use status::Status;
+
