@@ -11,4 +11,5 @@ mod words;
 
 
 pub use status::Status;
+pub use top::zumode;
 
