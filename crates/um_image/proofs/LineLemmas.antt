@@ -1,5 +1,5 @@
 -- Each line that is read is a load or a store with lawful operands.
-use Rattle.std.proofs.Common.{ℕ, ◌-◌, Bool, true, false, ◌&&◌, ◌==◌, nat_le, IsTrue, List, Option, Some, None, option_map, if◌then◌else◌, bytes_eq, take, codes, slice_index, length, arith, refl}
+use Rattle.std.proofs.Common.{ℕ, ◌-◌, Bool, true, false, ◌&&◌, ◌==◌, nat_le, IsTrue, List, Option, Some, None, option_map, if◌then◌else◌, bytes_eq, take, drop, codes, slice_index, length, arith, refl}
 use Rattle.std.proofs.lemmas.Bool.Decides.{nat_tests}
 use Rattle.um_base.specs.declared.names.Term.{Term}
 use Rattle.um_base.specs.declared.names.Term.TheVariants.{Num, Reg}
@@ -36,8 +36,8 @@ passes-register (Some r) h = h
 
 passes-address_of : (word : List ℕ) → IsTrue (passes is_operand (address_of word))
 passes-address_of word =
-    passes-if is_operand (bytes_eq (take 1 word) (codes "@")) (option_map Num (place_of word)) (option_map Num (number_of word))
-    (passes-number (place_of word)) (passes-number (number_of word))
+    passes-if is_operand (bytes_eq (take 1 word) (codes "@")) (option_map Num (place_of (drop 1 word))) (option_map Num (number_of word))
+    (passes-number (place_of (drop 1 word))) (passes-number (number_of word))
 
 passes-value_of : (word : List ℕ) → IsTrue (passes is_operand (value_of word))
 passes-value_of word =

@@ -1,6 +1,6 @@
 -- The lines of a script, as far as they are read: words with one space between them, of which the first is `load` or `store`.
 use Rattle.std.specs.Prelude.{ℕ, ◌+◌, ◌-◌, ◌*◌, ◌^◌, List, [], ◌∷◌, length, take, drop, codes, bytes_eq, Bool, true, false, ◌&&◌, nat_le, ◌==◌, if◌then◌else◌, Option, Some, None, option_map, slice_index, position}
-use Rattle.um_base.specs.declared.limits.TheConstants.{PARTITION_AREA}
+use Rattle.um_base.specs.declared.limits.TheConstants.{PARTITION_AREA, STACK_AREA, OBJECTS}
 use Rattle.um_base.specs.declared.names.Term.{Term}
 use Rattle.um_base.specs.declared.names.Term.TheVariants.{Num, Reg}
 use Rattle.um_base.specs.declared.instr.Instr.{Instr}
@@ -11,9 +11,20 @@ abbrev pub ◌>>=◌ : {A B : Type 0} → Option A → (A → Option B) → Opti
 None >>= f = None
 (Some x) >>= f = f x
 
+-- what stands between words, and between a name and an offset
+abbrev pub space : ℕ
+space = 32
+
+abbrev pub plus : ℕ
+plus = 43
+
+-- the bytes before the first such byte, and those behind it
+abbrev pub cut_at : ℕ → List ℕ → Option (List ℕ × List ℕ)
+cut_at byte text = option_map (λ k. (take k text, drop (k + 1) text)) (position (λ b. b == byte) text)
+
 -- the bytes before the first space, and those behind it
 abbrev pub cut : List ℕ → Option (List ℕ × List ℕ)
-cut line = option_map (λ k. (take k line, drop (k + 1) line)) (position (λ b. b == 32) line)
+cut line = cut_at space line
 
 -- the value of a digit below 10, or also of a letter from a to f
 abbrev pub digit_of : Bool → ℕ → Option ℕ
@@ -38,15 +49,31 @@ abbrev pub number_of : List ℕ → Option ℕ
 number_of word =
     if bytes_eq (take 2 word) (codes "0x") then digits_of true 8 (2 ^ 32 - 1) (drop 2 word) else digits_of false 10 (2 ^ 32 - 1) word
 
--- the address of `@p`, or of `@p+` and an offset: 1 to 10 decimal digits, at most 65,536
-abbrev pub place_of : List ℕ → Option ℕ
-place_of word =
-    if bytes_eq (take 3 word) (codes "@p+") then option_map (λ n. PARTITION_AREA + n) (digits_of false 10 65536 (drop 3 word))
-    else (if bytes_eq word (codes "@p") then Some PARTITION_AREA else None)
+-- the address of what is named: the partition, the thread or its stack
+abbrev pub start_of : List ℕ → Option ℕ
+start_of name =
+    if bytes_eq name (codes "p") then Some PARTITION_AREA
+    else (if bytes_eq name (codes "a") then Some OBJECTS else (if bytes_eq name (codes "sa") then Some STACK_AREA else None))
 
--- an address: a place or a number
+-- an offset: 1 to 10 decimal digits, at most 65,536
+abbrev pub offset_of : List ℕ → Option ℕ
+offset_of word = digits_of false 10 65536 word
+
+-- the address of a name, or of the name before a `+` and the offset behind it
+abbrev pub place_at : List ℕ → Option (List ℕ × List ℕ) → Option ℕ
+place_at name None = start_of name
+place_at _ (Some parts) = do
+  start ← start_of parts.0
+  offset ← offset_of parts.1
+  Some (start + offset)
+
+-- the address of a place: a name, or a name, `+` and an offset
+abbrev pub place_of : List ℕ → Option ℕ
+place_of word = place_at word (cut_at plus word)
+
+-- an address: `@` and a place, or a number
 abbrev pub address_of : List ℕ → Option Term
-address_of word = if bytes_eq (take 1 word) (codes "@") then option_map Num (place_of word) else option_map Num (number_of word)
+address_of word = if bytes_eq (take 1 word) (codes "@") then option_map Num (place_of (drop 1 word)) else option_map Num (number_of word)
 
 -- `r0` to `r7`
 abbrev pub register_of : List ℕ → Option ℕ

@@ -1,24 +1,24 @@
 //! The lines of a script: words with one space between them.
 
 ghost use Rattle.std.specs.Prelude.{◌≡◌, ◌<◌, ◌≤◌, ◌==◌, length, option_map, position, IfSome};
-ghost use Rattle.um_image.specs.Lines.{cut, digit_of, number_from, digits_of, number_of, place_of, address_of, register_of, value_of, size_of, instr_of, line_of};
+ghost use Rattle.um_image.specs.Lines.{cut_at, digit_of, number_from, digits_of, number_of, start_of, offset_of, place_of, address_of, register_of, value_of, size_of, instr_of, line_of};
 
-use um_base::{Instr, PARTITION_AREA, Term};
+use um_base::{Instr, OBJECTS, PARTITION_AREA, STACK_AREA, Term};
 
-/// Where the first space stands.
-fn space(line: &[u8]) -> Option<usize>
-    ensures place { result ≡ position (λ b. b == 32) line.now }
-    ensures within { IfSome result (λ k. k < length line.now) }
+/// Where a byte stands first.
+fn first(byte: u8, text: &[u8]) -> Option<usize>
+    ensures place { result ≡ position (λ b. b == byte) text.now }
+    ensures within { IfSome result (λ k. k < length text.now) }
 {
-    line.iter().position(|b| *b == b' ')
+    text.iter().position(|b| *b == byte)
 }
 
-/// What stands before the first space, and what behind it.
-fn split(line: &[u8]) -> Option<(&[u8], &[u8])>
-    ensures { option_map (λ x. (x.0.now, x.1.now)) result ≡ cut line.now }
+/// What stands before the first such byte, and what behind it.
+fn split(byte: u8, text: &[u8]) -> Option<(&[u8], &[u8])>
+    ensures { option_map (λ x. (x.0.now, x.1.now)) result ≡ cut_at byte text.now }
 {
-    let place = space(line)?;
-    Some((&line[..place], &line[place + 1..]))
+    let place = first(byte, text)?;
+    Some((&text[..place], &text[place + 1..]))
 }
 
 /// The value of a digit.
@@ -73,26 +73,43 @@ fn number(word: &[u8]) -> Option<u32>
     }
 }
 
-/// The address that `@p` or `@p+N` names.
-fn place(word: &[u8]) -> Option<u32>
-    ensures { result ≡ place_of word.now }
+/// The address of what is named: the partition, the thread or its stack.
+fn start(name: &[u8]) -> Option<u32>
+    ensures value { result ≡ start_of name.now }
+    ensures within { IfSome result (λ start. start ≤ OBJECTS) }
 {
-    match word {
-        [b'@', b'p', b'+', rest @ ..] => {
-            let offset = digits(false, 10, 65_536, rest)?;
-            Some(PARTITION_AREA + offset)
-        }
-        [b'@', b'p'] => Some(PARTITION_AREA),
+    match name {
+        b"p" => Some(PARTITION_AREA),
+        b"a" => Some(OBJECTS),
+        b"sa" => Some(STACK_AREA),
         _ => None,
     }
 }
 
-/// An address: a place or a number.
+/// An offset in bytes: 1 to 10 decimal digits, at most 65,536.
+fn offset(word: &[u8]) -> Option<u32>
+    ensures value { result ≡ offset_of word.now }
+    ensures small { IfSome result (λ offset. offset ≤ 65536) }
+{
+    digits(false, 10, 65_536, word)
+}
+
+/// The address of a place: a name, or a name, `+` and an offset.
+fn place(word: &[u8]) -> Option<u32>
+    ensures { result ≡ place_of word.now }
+{
+    match split(b'+', word) {
+        Some((name, digits)) => Some(start(name)? + offset(digits)?),
+        None => start(word),
+    }
+}
+
+/// An address: `@` and a place, or a number.
 fn address(word: &[u8]) -> Option<Term>
     ensures { result ≡ address_of word.now }
 {
     match word {
-        [b'@', ..] => Some(Term::Num(place(word)?)),
+        [b'@', rest @ ..] => Some(Term::Num(place(rest)?)),
         _ => Some(Term::Num(number(word)?)),
     }
 }
@@ -152,8 +169,8 @@ fn instr(word: &[u8], a: &[u8], b: &[u8], c: &[u8]) -> Option<Instr>
 pub fn line(line: &[u8]) -> Option<Instr>
     ensures { result ≡ line_of line.now }
 {
-    let (word, rest) = split(line)?;
-    let (a, rest) = split(rest)?;
-    let (b, c) = split(rest)?;
+    let (word, rest) = split(b' ', line)?;
+    let (a, rest) = split(b' ', rest)?;
+    let (b, c) = split(b' ', rest)?;
     instr(word, a, b, c)
 }

@@ -60,7 +60,7 @@ const OTHERS: [(&str, &str); 30] = [
 ];
 
 /// Lines that no script of the first form has.
-const OTHER_LINES: [&str; 36] = [
+const OTHER_LINES: [&str; 42] = [
     "",
     "load",
     "load r0",
@@ -87,7 +87,13 @@ const OTHER_LINES: [&str; 36] = [
     "load r0 @p+0x1 1",
     "load r0 @p-1 1",
     "load r0 @q 1",
+    "load r0 @b 1",
+    "load r0 @rodata 1",
+    "load r0 @a+ 1",
+    "load r0 @sa+65537 1",
+    "load r0 @p+1+1 1",
     "load r0 @ 1",
+    "load r0 @+1 1",
     "load r0 r1 1",
     "load r0 0xAB 1",
     "load r0 0x 1",
@@ -142,6 +148,10 @@ fn operands_are_read(rt: HostRuntime) -> Result<(), Fail> {
             4,
             Term::Num(u32::MAX),
         ),
+        ("store @a 4 r0", 0x4000_0000, 4, Term::Reg(0)),
+        ("store @a+65536 2 r0", 0x4001_0000, 2, Term::Reg(0)),
+        ("store @sa 1 7", 0x2008_0000, 1, Term::Num(7)),
+        ("store @sa+63 1 7", 0x2008_003f, 1, Term::Num(7)),
     ] {
         let changed = text.as_str().replacen(alloc, "load r0 @p+32 1", line, 1)?;
         let store = Instr::Store {
