@@ -43,3 +43,28 @@ impl Flags for Attr {
         Attr(bits)
     }
 }
+
+#[cfg(test)]
+mod tests {
+    use super::*;
+
+    /// Zephyr's names, with the rights of supervisors (read 1, write 2, execute 4) and of users (8, 16, 32).
+    #[test]
+    fn has_its_names(rt: HostRuntime) {
+        for (name, bits) in [
+            ("P_RW_U_RW", Some(1 + 2 + 8 + 16)),
+            ("P_RW_U_RO", Some(1 + 2 + 8)),
+            ("P_RW_U_NA", Some(1 + 2)),
+            ("P_RO_U_RO", Some(1 + 8)),
+            ("P_RO_U_NA", Some(1)),
+            ("P_RX_U_RX", Some(1 + 4 + 8 + 32)),
+            ("P_RWX_U_RWX", Some(1 + 2 + 4 + 8 + 16 + 32)),
+            ("P_RO_U_RW", None),
+            ("p_rw_u_rw", None),
+            ("", None),
+        ] {
+            let found = Attr::from_name(name).map(|attr| attr.0);
+            assert_eq!(rt; found, bits, "at {name}");
+        }
+    }
+}

@@ -90,3 +90,30 @@ impl<T: Copy + Drop, const MOST: usize> BoundedVec<T, MOST> {
         self.push(*item)
     }
 }
+
+#[cfg(test)]
+mod tests {
+    use super::*;
+    use std::test::Fail;
+
+    #[test]
+    fn grows_at_its_end(rt: HostRuntime) -> Result<(), Fail> {
+        let mut list: BoundedVec<u8, 3> = BoundedVec::new(rt.alloc());
+        assert!(rt; list.is_empty());
+        list.push(7)?;
+        list.push_copy(&9)?;
+        list.push(7)?;
+        assert!(rt; !list.is_empty());
+        assert_eq!(rt; list.len(), 3);
+        assert_eq!(rt; list.as_slice(), [7, 9, 7].as_slice());
+        Ok(())
+    }
+
+    #[test]
+    fn gives_its_items_back(rt: HostRuntime) -> Result<(), Fail> {
+        let list: BoundedVec<u32, 2> = BoundedVec::from_vec(vec![in rt.alloc(); 3, 4]?);
+        assert_eq!(rt; list.as_slice(), [3, 4].as_slice());
+        assert_eq!(rt; list.into_vec().as_slice(), [3, 4].as_slice());
+        Ok(())
+    }
+}

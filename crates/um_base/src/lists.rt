@@ -258,3 +258,6 @@ impl Piece {
         self.len += 1;
     }
 }
+
+#[cfg(test)]
+mod tests;

@@ -73,3 +73,21 @@ impl Name {
         name
     }
 }
+
+#[cfg(test)]
+mod tests {
+    use super::*;
+
+    #[test]
+    fn keeps_its_bytes(rt: HostRuntime) {
+        let mut name = Name::from_bytes(b"stack_");
+        name.push(b'0');
+        assert_eq!(rt; name.as_slice(), b"stack_0".as_slice());
+        assert_eq!(rt; name.len(), 7);
+        assert!(rt; name == Name::from_bytes(b"stack_0"));
+        assert!(rt; name != Name::from_bytes(b"stack_"));
+        assert_eq!(rt; Name::new().len(), 0);
+        let longest = Name::from_bytes(b"abcdefghijklmnopqrstuvwx");
+        assert_eq!(rt; longest.as_slice(), b"abcdefghijklmnopqrstuvwx".as_slice());
+    }
+}
