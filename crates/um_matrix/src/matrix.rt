@@ -146,3 +146,6 @@ impl<'a> Matrix<'a> {
         self.tables.pools()
     }
 }
+
+#[cfg(test)]
+mod tests;

@@ -1,115 +1,29 @@
-//! Equality of small values.
+//! Equality of acts, and of what is in them.
 
 ghost use Rattle.std.specs.Prelude.{◌≡◌, ◌↔◌, IsTrue};
 
-use um_base::{
-    Act, Addr, Answer, Attr, Cause, Errno, Found, Given, Kind, Leftover, Piece, Range, Replies,
-    Reply, Row, SetSaid, ThreadIx, Want,
-};
+use um_base::{Act, Errno, Kind, Replies, Reply, ThreadIx};
 
-pub fn same_addr(a: Addr, b: Addr) -> bool
+fn same_some_kind(a: Option<Kind>, b: Option<Kind>) -> bool
     ensures { IsTrue result ↔ (a ≡ b) }
 {
     a == b
 }
 
-pub fn same_range(a: Range, b: Range) -> bool
+fn same_verdict(a: Option<Errno>, b: Option<Errno>) -> bool
     ensures { IsTrue result ↔ (a ≡ b) }
 {
     a == b
 }
 
-pub fn same_attr(a: Attr, b: Attr) -> bool
+fn same_woken_one(a: (ThreadIx, Reply), b: (ThreadIx, Reply)) -> bool
     ensures { IsTrue result ↔ (a ≡ b) }
 {
     a == b
 }
 
-pub fn same_errno(a: Errno, b: Errno) -> bool
-    ensures { IsTrue result ↔ (a ≡ b) }
-{
-    a == b
-}
-
-pub fn same_kind(a: Kind, b: Kind) -> bool
-    ensures { IsTrue result ↔ (a ≡ b) }
-{
-    a == b
-}
-
-pub fn same_some_kind(a: Option<Kind>, b: Option<Kind>) -> bool
-    ensures { IsTrue result ↔ (a ≡ b) }
-{
-    a == b
-}
-
-pub fn same_verdict(a: Option<Errno>, b: Option<Errno>) -> bool
-    ensures { IsTrue result ↔ (a ≡ b) }
-{
-    a == b
-}
-
-pub fn same_some_addr(a: Option<Addr>, b: Option<Addr>) -> bool
-    ensures { IsTrue result ↔ (a ≡ b) }
-{
-    a == b
-}
-
-pub fn same_reply(a: Reply, b: Reply) -> bool
-    ensures { IsTrue result ↔ (a ≡ b) }
-{
-    a == b
-}
-
-pub fn same_answer(a: Answer, b: Answer) -> bool
-    ensures { IsTrue result ↔ (a ≡ b) }
-{
-    a == b
-}
-
-pub fn same_cause(a: Cause, b: Cause) -> bool
-    ensures { IsTrue result ↔ (a ≡ b) }
-{
-    a == b
-}
-
-pub fn same_found(a: Found, b: Found) -> bool
-    ensures { IsTrue result ↔ (a ≡ b) }
-{
-    a == b
-}
-
-pub fn same_given(a: Given, b: Given) -> bool
-    ensures { IsTrue result ↔ (a ≡ b) }
-{
-    a == b
-}
-
-pub fn same_left(a: Leftover, b: Leftover) -> bool
-    ensures { IsTrue result ↔ (a ≡ b) }
-{
-    a == b
-}
-
-pub fn same_set(a: SetSaid, b: SetSaid) -> bool
-    ensures { IsTrue result ↔ (a ≡ b) }
-{
-    a == b
-}
-
-pub fn same_want(a: Want, b: Want) -> bool
-    ensures { IsTrue result ↔ (a ≡ b) }
-{
-    a == b
-}
-
-pub fn same_woken_one(a: (ThreadIx, Reply), b: (ThreadIx, Reply)) -> bool
-    ensures { IsTrue result ↔ (a ≡ b) }
-{
-    a == b
-}
-
-pub fn same_replies(a: &Replies, b: &Replies) -> bool
+/// Whether the same threads are woken, in the same order, each with the same reply.
+fn same_replies(a: &Replies, b: &Replies) -> bool
     ensures { IsTrue result ↔ (a.now ≡ b.now) }
 {
     let xs = a.as_slice();
@@ -125,12 +39,7 @@ pub fn same_replies(a: &Replies, b: &Replies) -> bool
     true
 }
 
-pub fn same_piece(a: &Piece, b: &Piece) -> bool
-    ensures { IsTrue result ↔ (a.now ≡ b.now) }
-{
-    a.as_slice() == b.as_slice()
-}
-
+/// Whether two acts are the same.
 pub fn same_act(a: &Act, b: &Act) -> bool
     ensures { IsTrue result ↔ (a.now ≡ b.now) }
 {
