@@ -3,11 +3,10 @@
 ghost use Rattle.std.specs.Prelude.{◌≡◌};
 ghost use Rattle.um_app.specs.Answers.{Answers};
 
+use crate::run::run;
 use std::alloc::Global;
 use um_base::Memory;
 use um_image::ImageFault;
-
-use crate::run::run;
 
 /// What an input answers, before a byte is written.
 #[derive(Drop)]

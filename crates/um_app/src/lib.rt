@@ -4,12 +4,10 @@
 mod answer;
 mod run;
 mod status;
+#[cfg(test)]
+mod tests;
 mod top;
 mod words;
 
-
-
-
 pub use status::Status;
 pub use top::zumode;
-

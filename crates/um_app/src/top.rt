@@ -10,12 +10,11 @@ ghost use Rattle.um_app.specs.Messages.{line_of};
 ghost use Rattle.um_app.specs.Top.{most_input, IsTextOf, ReadsAll, ReadsWithin, ReadsPast, DescribesNone, Tells};
 ghost use Rattle.um_app.specs.Words.{is_sim};
 
-use std::alloc::Global;
-use um_io::{Gate, ReadAll, Sink, Source, read_all, write_all};
-
 use crate::answer::{Answer, answer_to};
 use crate::status::Status;
 use crate::words;
+use std::alloc::Global;
+use um_io::{Gate, ReadAll, Sink, Source, read_all, write_all};
 
 /// How many bytes an input has at most.
 const LIMIT: u32 = 0x10_0000;
