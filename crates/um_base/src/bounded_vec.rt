@@ -32,6 +32,7 @@ impl<T: Drop, const MOST: usize> BoundedVec<T, MOST> {
         }
     }
 
+    /// How many items.
     pub fn len(&self) -> usize
         ensures value { result ≡ length self.now }
         ensures few { result ≤ MOST }
@@ -39,12 +40,14 @@ impl<T: Drop, const MOST: usize> BoundedVec<T, MOST> {
         self.items.len()
     }
 
+    /// Whether it has no item.
     pub fn is_empty(&self) -> bool
         ensures { result ≡ (length self.now == 0) }
     {
         self.items.is_empty()
     }
 
+    /// The items, in the order in which they came.
     pub fn as_slice(&self) -> &[T]
         ensures value { result.now ≡ self.now }
         ensures few { length result.now ≤ MOST }
@@ -52,7 +55,7 @@ impl<T: Drop, const MOST: usize> BoundedVec<T, MOST> {
         self.items.as_slice()
     }
 
-    /// One more at the end.
+    /// One more at the end. Where memory runs out, the list stays as it was.
     pub fn push(&mut self, item: T) -> Result<(), Memory>
         requires { length self.old < MOST }
         ensures ok { OnOk result (self.new ≡ self.old ++ item ∷ []) }
@@ -81,7 +84,7 @@ impl<T: Drop, const MOST: usize> BoundedVec<T, MOST> {
 }
 
 impl<T: Copy + Drop, const MOST: usize> BoundedVec<T, MOST> {
-    /// One more at the end, a copy of the item.
+    /// One more at the end, a copy of the item. Where memory runs out, the list stays as it was.
     pub fn push_copy(&mut self, item: &T) -> Result<(), Memory>
         requires { length self.old < MOST }
         ensures ok { OnOk result (self.new ≡ self.old ++ item.now ∷ []) }

@@ -12,20 +12,25 @@ pub const ROWS: usize = 128;
 /// Rows of static objects.
 pub const STATIC_ROWS: usize = 96;
 
+/// Pools.
 pub const POOLS: usize = 4;
 
+/// Partitions of an image.
 pub const PARTITIONS: usize = 32;
 
+/// Domains.
 pub const DOMAINS: usize = 8;
 
+/// Threads that are ready from the beginning.
 pub const BOOTS: usize = 20;
 
+/// Scripts.
 pub const SCRIPTS: usize = 32;
 
 /// Lines of a script.
 pub const LINES: usize = 1000;
 
-/// Bytes of a partition, of a stack, and of read-only data.
+/// The most bytes of a partition, of a stack, and of read-only data.
 pub const AREA_ENTRY: usize = 65_536;
 
 /// Partitions of a domain: fewer where the protection unit has fewer regions.
@@ -37,7 +42,7 @@ pub const NAMED_PARTITIONS: usize = 4;
 /// Bytes of a message, of a pipe and of a name: what a call copies at once.
 pub const PIECE: usize = 256;
 
-/// The greatest weight of a description.
+/// The greatest weight of a description, a number that no run from it exceeds in events.
 pub const MOST_WEIGHT: u64 = 400_000;
 
 /// Where read-only data stands.

@@ -45,6 +45,7 @@ impl Replies {
         }
     }
 
+    /// The threads and replies, in the order in which they woke.
     pub fn as_slice(&self) -> &[(ThreadIx, Reply)]
         ensures value { result.now ≡ self.now }
         ensures few { length result.now ≤ THREADS }
@@ -52,6 +53,7 @@ impl Replies {
         &self.items[..self.len]
     }
 
+    /// How many threads.
     pub fn len(&self) -> usize
         ensures value { result ≡ length self.now }
         ensures few { result ≤ THREADS }
@@ -106,6 +108,7 @@ impl PartRefs {
         }
     }
 
+    /// The partitions, in their order.
     pub fn as_slice(&self) -> &[PartRef]
         ensures value { result.now ≡ self.now }
         ensures few { length result.now ≤ NAMED_PARTITIONS }
@@ -113,6 +116,7 @@ impl PartRefs {
         &self.items[..self.len]
     }
 
+    /// How many partitions.
     pub fn len(&self) -> usize
         ensures value { result ≡ length self.now }
         ensures few { result ≤ NAMED_PARTITIONS }
@@ -176,6 +180,7 @@ impl Parts {
         }
     }
 
+    /// The ranges and rights, in their order.
     pub fn as_slice(&self) -> &[(Range, Attr)]
         ensures value { result.now ≡ self.now }
         ensures few { length result.now ≤ DOMAIN_PARTITIONS }
@@ -183,6 +188,7 @@ impl Parts {
         &self.items[..self.len]
     }
 
+    /// How many partitions.
     pub fn len(&self) -> usize
         ensures value { result ≡ length self.now }
         ensures few { result ≤ DOMAIN_PARTITIONS }
@@ -235,6 +241,7 @@ impl Piece {
         }
     }
 
+    /// The bytes.
     pub fn as_slice(&self) -> &[u8]
         ensures value { result.now ≡ self.now }
         ensures few { length result.now ≤ PIECE }
@@ -242,6 +249,7 @@ impl Piece {
         &self.items[..self.len]
     }
 
+    /// How many bytes.
     pub fn len(&self) -> usize
         ensures value { result ≡ length self.now }
         ensures few { result ≤ PIECE }

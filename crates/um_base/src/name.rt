@@ -38,6 +38,7 @@ impl Name {
         }
     }
 
+    /// How many bytes.
     pub fn len(&self) -> usize
         ensures value { result ≡ length self.now }
         ensures few { result ≤ 24 }
@@ -45,6 +46,7 @@ impl Name {
         self.len as usize
     }
 
+    /// The bytes.
     pub fn as_slice(&self) -> &[u8]
         ensures value { result.now ≡ self.now }
         ensures few { length result.now ≤ 24 }

@@ -37,6 +37,7 @@ impl Messages {
         }
     }
 
+    /// The messages, the oldest first.
     pub fn as_slice(&self) -> &[Piece]
         ensures value { result.now ≡ self.now }
         ensures few { length result.now ≤ 64 }
@@ -74,6 +75,7 @@ impl Values {
         }
     }
 
+    /// The values, the newest last.
     pub fn as_slice(&self) -> &[u32]
         ensures value { result.now ≡ self.now }
         ensures few { length result.now ≤ 64 }

@@ -202,6 +202,7 @@ impl Pendings {
         }
     }
 
+    /// How many steps.
     pub fn len(&self) -> usize
         ensures value { result ≡ length self.now }
         ensures few { result ≤ 12 }
@@ -209,6 +210,7 @@ impl Pendings {
         self.len
     }
 
+    /// Whether no step is left.
     pub fn is_empty(&self) -> bool
         ensures { result ≡ (length self.now == 0) }
     {

@@ -54,12 +54,14 @@ impl<'a> Model for Tables<'a> {
 }
 
 impl<'a> Tables<'a> {
+    /// The image that runs.
     pub fn image(&self) -> &'a Image
         ensures { result.now ≡ self.now.image }
     {
         self.image
     }
 
+    /// The threads, by thread index.
     pub fn threads(&self) -> &[Thread]
         ensures value { result.now ≡ self.now.threads }
         ensures all { length result.now ≡ THREADS }
@@ -67,6 +69,7 @@ impl<'a> Tables<'a> {
         self.threads.as_slice()
     }
 
+    /// The objects, by row.
     pub fn objects(&self) -> &[Object]
         ensures value { result.now ≡ self.now.objects }
         ensures all { length result.now ≡ ROWS }
@@ -74,6 +77,7 @@ impl<'a> Tables<'a> {
         self.objects.as_slice()
     }
 
+    /// Which threads have a pair with an object, by row and then by thread index.
     pub fn pairs(&self) -> &[[bool; THREADS]]
         ensures value { result.now ≡ self.now.pairs }
         ensures all { length result.now ≡ ROWS }
@@ -81,6 +85,7 @@ impl<'a> Tables<'a> {
         self.pairs.as_slice()
     }
 
+    /// The partitions of the domains, where they are initialised.
     pub fn domains(&self) -> &[Option<Parts>]
         ensures value { result.now ≡ self.now.domains }
         ensures few { length result.now ≤ DOMAINS }
@@ -88,6 +93,7 @@ impl<'a> Tables<'a> {
         self.domains.as_slice()
     }
 
+    /// The bytes of the area of the partitions.
     pub fn memory(&self) -> &[u8]
         ensures value { result.now ≡ self.now.memory }
         ensures all { length result.now ≡ AREA_SIZE }
@@ -95,6 +101,7 @@ impl<'a> Tables<'a> {
         self.memory.as_slice()
     }
 
+    /// The bytes of the area of the thread stacks.
     pub fn stacks(&self) -> &[u8]
         ensures value { result.now ≡ self.now.stacks }
         ensures all { length result.now ≡ AREA_SIZE }
@@ -102,6 +109,7 @@ impl<'a> Tables<'a> {
         self.stacks.as_slice()
     }
 
+    /// The bytes that are left in the pools.
     pub fn pools(&self) -> &[u32]
         ensures value { result.now ≡ self.now.pools }
         ensures few { length result.now ≤ POOLS }

@@ -42,6 +42,7 @@ impl Waiters {
         }
     }
 
+    /// Those who wait, the one who waits longest first.
     pub fn as_slice(&self) -> &[Waiter]
         ensures value { result.now ≡ self.now }
         ensures few { length result.now ≤ THREADS }
