@@ -1,13 +1,12 @@
 -- Images of the one form that is read are built so far.
-use Rattle.std.proofs.Common.{◌≡◌, ℕ, Bool, true, false, ◌&&◌, ◌||◌, ◌==◌, nat_le, List, [], ◌∷◌, refl, sym, subst, lit<, arith}
+use Rattle.std.proofs.Common.{ℕ, Bool, true, false, ◌&&◌, nat_le, List, [], ◌∷◌, refl, sym, subst, lit<, arith}
 use Rattle.std.specs.Prelude.{IsTrue, nat_lt}
 use Rattle.std.specs.List.{list_all}
 use Rattle.std.proofs.lemmas.Bool.Decides.{nat_tests}
 use Rattle.um_base.specs.Lawful.{is_register, is_operand, is_size}
 use Rattle.um_base.specs.declared.image.Image.{Image}
 use Rattle.um_base.specs.declared.instr.Instr.{Instr}
-use Rattle.um_base.specs.declared.instr.Instr.TheVariants as Instr
-use Rattle.um_image.specs.FirstImage.{first_image, first_boot, is_access, IsFirstImage}
+use Rattle.um_image.specs.FirstImage.{first_image, first_boot, is_access}
 use Rattle.um_image.specs.Form.{Describes}
 use Rattle.um_image.proofs.FormLemmas.{IsFirstImage-Describes}
 use Rattle.um_matrix.specs.Built as built

@@ -1,5 +1,5 @@
 -- Runs grow by one event at their end.
-use Rattle.std.proofs.Common.{◌≡◌, List, [], ◌∷◌, ◌++◌, refl, subst}
+use Rattle.std.proofs.Common.{List, [], ◌∷◌, ◌++◌, refl, subst}
 use Rattle.um_base.specs.declared.act.Event.{Event}
 use Rattle.um_matrix.specs.State.{State}
 use Rattle.um_matrix.specs.Run.{Step, Runs}

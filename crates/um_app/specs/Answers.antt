@@ -1,7 +1,6 @@
 -- What an input answers.
 use Rattle.std.specs.Prelude.{ℕ, List}
 use Rattle.um_app.specs.declared.answer.Answer.{Answer}
-use Rattle.um_app.specs.declared.answer.Answer.TheVariants as Answer
 use Rattle.um_app.specs.Top.{IsTextOf, DescribesNone}
 
 -- the text of a complete run, or that no image is described, or nothing where memory ran out

@@ -1,7 +1,6 @@
 -- What a status says: the exit status of the program, and the line on standard error.
 use Rattle.std.specs.Prelude.{ℕ, List, [], codes}
 use Rattle.um_app.specs.declared.status.Status.{Status}
-use Rattle.um_app.specs.declared.status.Status.TheVariants as Status
 
 abbrev pub code_of : Status → ℕ
 code_of Status.Done = 0

@@ -1,4 +1,4 @@
-use Rattle.std.proofs.Common.{◌+◌, ◌≤◌, ◌^◌, arith, length, length-append}
+use Rattle.std.proofs.Common.{arith, length-append}
 use Rattle.um_base.specs.declared.act.Event.{Event}
 use Rattle.um_matrix.specs.Run.{opening}
 use Rattle.um_app.proofs.RunLemmas.{runs-push}
