@@ -1,0 +1,6 @@
+pub mod Faults
+pub mod Words
+pub mod Numbers
+pub mod Operands
+pub mod Instructions
+pub mod Lines
