@@ -1,2 +1,4 @@
 pub mod WordLemmas
 pub mod NumberLemmas
+pub mod OptionLoop
+pub mod PartLoop

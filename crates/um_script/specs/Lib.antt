@@ -4,3 +4,4 @@ pub mod Numbers
 pub mod Operands
 pub mod Instructions
 pub mod Lines
+pub mod Cursor

@@ -1,5 +1,5 @@
 -- The operands of instructions: each form, from a word to its value.
-use Rattle.std.specs.Prelude.{◌≡◌, ℕ, zero, suc, ◌+◌, ◌-◌, List, [], ◌∷◌, length, take, drop, codes, bytes_eq, slice_index, Bool, true, false, not, ◌==◌, ◌&&◌, ◌||◌, if◌then◌else◌, Option, Some, None, option_map, position, Result, Ok, Err, ℤ}
+use Rattle.std.specs.Prelude.{◌≡◌, ℕ, zero, suc, ◌+◌, ◌-◌, List, [], ◌∷◌, length, take, drop, codes, bytes_eq, find, ok_or, Bool, true, false, not, ◌==◌, ◌&&◌, ◌||◌, if◌then◌else◌, Option, Some, None, option_map, position, Result, Ok, Err, ℤ}
 use Rattle.um_base.specs.Lawful.{is_name, is_within}
 use Rattle.um_base.specs.declared.attr.Attr.{Attr}
 use Rattle.um_base.specs.declared.instr.Options.{Options}
@@ -22,19 +22,29 @@ abbrev pub begins_with : ℕ → List ℕ → Bool
 begins_with mark [] = false
 begins_with mark (b ∷ bs) = b == mark
 
--- what a word of a table stands for
-abbrev pub among : {A : Type 0} → List (List ℕ × A) → List ℕ → Result A LineKind
-among [] bytes = Err LineKind.Operand
-among (x ∷ xs) bytes = if bytes_eq bytes x.0 then Ok x.1 else among xs bytes
+-- the one of these that a word spells
+abbrev pub spelled : {A : Type 0} → (A → List ℕ) → List A → List ℕ → Result A LineKind
+spelled spelling xs bytes = ok_or (find (λ x. bytes_eq bytes (spelling x)) xs) LineKind.Operand
 
 -- `r0` to `r7`
-abbrev pub register : List ℕ → Result ℕ LineKind
-register bytes =
-    among ((codes "r0", 0) ∷ (codes "r1", 1) ∷ (codes "r2", 2) ∷ (codes "r3", 3) ∷ (codes "r4", 4) ∷ (codes "r5", 5) ∷ (codes "r6", 6) ∷ (codes "r7", 7) ∷ []) bytes
+abbrev pub register_word : ℕ → List ℕ
+register_word r = 114 ∷ (48 + r) ∷ []
 
--- how many bytes are loaded or stored
+abbrev pub registers : List ℕ
+registers = 0 ∷ 1 ∷ 2 ∷ 3 ∷ 4 ∷ 5 ∷ 6 ∷ 7 ∷ []
+
+abbrev pub register : List ℕ → Result ℕ LineKind
+register bytes = spelled register_word registers bytes
+
+-- how many bytes are loaded or stored: 1, 2 or 4
+abbrev pub size_word : ℕ → List ℕ
+size_word n = (48 + n) ∷ []
+
+abbrev pub sizes : List ℕ
+sizes = 1 ∷ 2 ∷ 4 ∷ []
+
 abbrev pub size : List ℕ → Result ℕ LineKind
-size bytes = among ((codes "1", 1) ∷ (codes "2", 2) ∷ (codes "4", 4) ∷ []) bytes
+size bytes = spelled size_word sizes bytes
 
 -- what a place stands in: an object, a partition, or the read-only data
 abbrev pub is_place_name : List ℕ → Bool
@@ -57,10 +67,19 @@ term bytes =
 abbrev pub named : List ℕ → Result Ref LineKind
 named bytes = if is_name bytes then Ok (Ref.Named bytes) else Err LineKind.Operand
 
+-- the seven sets of rights
+abbrev pub rights_word : Attr → List ℕ
+rights_word attr =
+    if attr.0 == 27 then codes "P_RW_U_RW" else (if attr.0 == 11 then codes "P_RW_U_RO" else (if attr.0 == 3 then codes "P_RW_U_NA"
+    else (if attr.0 == 9 then codes "P_RO_U_RO" else (if attr.0 == 1 then codes "P_RO_U_NA" else (if attr.0 == 45 then codes "P_RX_U_RX"
+    else codes "P_RWX_U_RWX")))))
+
+abbrev pub rights_in_lines : List Attr
+rights_in_lines =
+    record { 0 = 27 } ∷ record { 0 = 11 } ∷ record { 0 = 3 } ∷ record { 0 = 9 } ∷ record { 0 = 1 } ∷ record { 0 = 45 } ∷ record { 0 = 63 } ∷ []
+
 abbrev pub rights : List ℕ → Result Attr LineKind
-rights bytes =
-    among ((codes "P_RW_U_RW", record { 0 = 27 }) ∷ (codes "P_RW_U_RO", record { 0 = 11 }) ∷ (codes "P_RW_U_NA", record { 0 = 3 }) ∷ (codes "P_RO_U_RO", record { 0 = 9 })
-        ∷ (codes "P_RO_U_NA", record { 0 = 1 }) ∷ (codes "P_RX_U_RX", record { 0 = 45 }) ∷ (codes "P_RWX_U_RWX", record { 0 = 63 }) ∷ []) bytes
+rights bytes = spelled rights_word rights_in_lines bytes
 
 -- where a partition begins, its size and its rights
 abbrev pub given_part : List ℕ → List ℕ → List ℕ → Result PartRef LineKind
@@ -76,18 +95,39 @@ given_part start bytes attr =
 abbrev pub part_from : List ℕ → List ℕ → Result PartRef LineKind
 part_from start rest = elim (cut 47 rest) [ None ↦ Err LineKind.Operand | Some x ↦ given_part start x.0 x.1 ]
 
+abbrev pub named_part : List ℕ → Result PartRef LineKind
+named_part bytes = if is_name bytes then Ok (PartRef.Named bytes) else Err LineKind.Operand
+
 -- a partition's name, or its address, size and rights with `/` between them
 abbrev pub part : List ℕ → Result PartRef LineKind
-part bytes = elim (cut 47 bytes) [ None ↦ (if is_name bytes then Ok (PartRef.Named bytes) else Err LineKind.Operand) | Some x ↦ part_from x.0 x.1 ]
+part bytes = elim (cut 47 bytes) [ None ↦ named_part bytes | Some x ↦ part_from x.0 x.1 ]
 
 -- the kinds that can be allocated
+abbrev pub kind_word : Kind → List ℕ
+kind_word Kind.Thread = codes "thread"
+kind_word Kind.ThreadStack = codes "thread_stack"
+kind_word Kind.Sem = codes "sem"
+kind_word Kind.Mutex = codes "mutex"
+kind_word Kind.Msgq = codes "msgq"
+kind_word Kind.Stack = codes "stack"
+kind_word Kind.Pipe = codes "pipe"
+
+abbrev pub kinds : List Kind
+kinds = Kind.Thread ∷ Kind.Sem ∷ Kind.Mutex ∷ Kind.Msgq ∷ Kind.Stack ∷ Kind.Pipe ∷ []
+
 abbrev pub kind : List ℕ → Result Kind LineKind
-kind bytes =
-    among ((codes "thread", Kind.Thread) ∷ (codes "sem", Kind.Sem) ∷ (codes "mutex", Kind.Mutex) ∷ (codes "msgq", Kind.Msgq)
-        ∷ (codes "stack", Kind.Stack) ∷ (codes "pipe", Kind.Pipe) ∷ []) bytes
+kind bytes = spelled kind_word kinds bytes
+
+-- how long a call waits
+abbrev pub timeout_word : Timeout → List ℕ
+timeout_word Timeout.NoWait = codes "K_NO_WAIT"
+timeout_word Timeout.Forever = codes "K_FOREVER"
+
+abbrev pub timeouts : List Timeout
+timeouts = Timeout.NoWait ∷ Timeout.Forever ∷ []
 
 abbrev pub timeout : List ℕ → Result Timeout LineKind
-timeout bytes = among ((codes "K_NO_WAIT", Timeout.NoWait) ∷ (codes "K_FOREVER", Timeout.Forever) ∷ []) bytes
+timeout bytes = spelled timeout_word timeouts bytes
 
 abbrev pub no_options : Options
 no_options = record { user = false; inherit = false; essential = false }
@@ -101,7 +141,7 @@ option set bytes =
     else Err LineKind.Operand))
 
 -- at most so many more options, joined by `+`
-abbrev pub more_options : ℕ → Options → List ℕ → Result Options LineKind
+unfoldable pub more_options : ℕ → Options → List ℕ → Result Options LineKind
 more_options zero set bytes = Err LineKind.Operand
 more_options (suc n) set bytes = elim (cut 43 bytes) [ None ↦ option set bytes | Some x ↦ option set x.0 >>= λ more. more_options n more x.1 ]
 
@@ -148,7 +188,7 @@ one read (ends column) = Err (record { kind = LineKind.Missing; column = column 
 one read (word bytes column rest) = placed column rest (read bytes)
 
 -- up to so many partitions, as many as there are
-abbrev pub parts : ℕ → Words → Result (List PartRef × Words) LineFault
+unfoldable pub parts : ℕ → Words → Result (List PartRef × Words) LineFault
 parts zero words = Ok ([], words)
 parts (suc n) (ends column) = Ok ([], ends column)
 parts (suc n) (word bytes column rest) = do

@@ -1,9 +1,15 @@
 //! Script lines both ways: a line to its instruction or its first fault, and an instruction to its canonical line.
 #![tactic(auto)]
 
+mod choices;
+mod cut;
 mod fault;
 mod mnemonic;
+mod names;
 mod numbers;
+mod operands;
+mod partitions;
+mod terms;
 mod words;
 
 pub use fault::{LineFault, LineKind};

@@ -1,12 +1,13 @@
 //! The words of a line, one after the other.
 
-ghost use Rattle.std.specs.Prelude.{◌≡◌, ◌+◌, ◌-◌, ◌<◌, ◌≤◌, ◌^◌, length, drop, false, MatchResult};
+ghost use Rattle.std.specs.Prelude.{◌≡◌, ◌+◌, ◌-◌, ◌<◌, ◌≤◌, ◌^◌, length, drop, false, MatchOption, MatchResult};
 ghost use Rattle.std.specs.List.{prefix_len};
 ghost use Rattle.um_script.specs.Words.{is_space, is_word_byte, words_from, ends, word};
 
 use crate::fault::{LineFault, LineKind};
 
 /// A word of a line.
+#[derive(Clone, Copy)]
 pub struct Word<'a> {
     pub bytes: &'a [u8],
     /// The column of its first byte.
@@ -14,6 +15,7 @@ pub struct Word<'a> {
 }
 
 /// The words of a line that are still to be read.
+#[derive(Drop)]
 pub struct Words<'a> {
     pub rest: &'a [u8],
     /// The column of the first byte of the rest.
@@ -69,26 +71,38 @@ impl<'a> Words<'a> {
         self.column += count as u32;
     }
 
-    /// The next word.
-    pub fn next(&mut self) -> Result<Word<'a>, LineFault>
-        ensures { MatchResult result
-            (λ w. words_from false self.old.column self.old.rest.now ≡ word w.bytes.now w.column (words_from false self.new.column self.new.rest.now))
-            (λ e. (words_from false self.old.column self.old.rest.now ≡ ends e.column) × (e.kind ≡ LineKind.Missing)) }
+    /// The next word, or none where the line ends.
+    pub fn next(&mut self) -> Option<Word<'a>>
+        ensures { MatchOption result
+            ((words_from false self.old.column self.old.rest.now ≡ ends (self.new.column + length self.new.rest.now))
+                × (words_from false self.new.column self.new.rest.now ≡ ends (self.new.column + length self.new.rest.now)))
+            (λ w. words_from false self.old.column self.old.rest.now ≡ word w.bytes.now w.column (words_from false self.new.column self.new.rest.now)) }
     {
         self.skip(leading_spaces(self.rest));
         let count = word_length(self.rest);
         if count == 0 {
-            let column = self.column + self.rest.len() as u32;
-            return Err(LineFault {
-                kind: LineKind::Missing,
-                column,
-            });
+            return None;
         }
         let word = Word {
             bytes: &self.rest[..count],
             column: self.column,
         };
         self.skip(count);
-        Ok(word)
+        Some(word)
+    }
+
+    /// The next word, which has to stand there.
+    pub fn word(&mut self) -> Result<Word<'a>, LineFault>
+        ensures { MatchResult result
+            (λ w. words_from false self.old.column self.old.rest.now ≡ word w.bytes.now w.column (words_from false self.new.column self.new.rest.now))
+            (λ e. (words_from false self.old.column self.old.rest.now ≡ ends e.column) × (e.kind ≡ LineKind.Missing)) }
+    {
+        match self.next() {
+            Some(word) => Ok(word),
+            None => Err(LineFault {
+                kind: LineKind::Missing,
+                column: self.column + self.rest.len() as u32,
+            }),
+        }
     }
 }
