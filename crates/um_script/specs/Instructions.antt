@@ -2,147 +2,118 @@
 use Rattle.std.specs.Prelude.{ℕ, List, [], ◌∷◌, codes}
 use Rattle.um_base.specs.declared.instr.Instr.{Instr}
 use Rattle.um_script.specs.declared.mnemonic.Mnemonic.{Mnemonic}
-use Rattle.um_script.specs.Operands.{Form, Times, Register, Size, AnyTerm, Named, Part, Parts, ObjectKind, Wait, Priority, OptionSet, Value, Values}
+use Rattle.um_script.specs.declared.mnemonic.Plain.{Plain}
+use Rattle.um_script.specs.declared.mnemonic.DomainCall.{DomainCall}
+use Rattle.um_script.specs.declared.mnemonic.ObjectCall.{ObjectCall}
+use Rattle.um_script.specs.declared.mnemonic.ThreadCall.{ThreadCall}
+use Rattle.um_script.specs.declared.mnemonic.SemCall.{SemCall}
+use Rattle.um_script.specs.declared.mnemonic.MutexCall.{MutexCall}
+use Rattle.um_script.specs.declared.mnemonic.MsgqCall.{MsgqCall}
+use Rattle.um_script.specs.declared.mnemonic.StackCall.{StackCall}
+use Rattle.um_script.specs.declared.mnemonic.PipeCall.{PipeCall}
+use Rattle.um_script.specs.Operands.{Times, Register, Size, AnyTerm, Named, Part, Parts, ObjectKind, Wait, Priority, OptionSet, Syntax, takes, makes}
 
 -- the word that a line of the instruction begins with
 abbrev pub spelling : Mnemonic → List ℕ
-spelling Mnemonic.End = codes "end"
-spelling Mnemonic.Oops = codes "k_oops"
-spelling Mnemonic.Panic = codes "k_panic"
-spelling Mnemonic.Repeat = codes "repeat"
-spelling Mnemonic.Set = codes "set"
-spelling Mnemonic.Add = codes "add"
-spelling Mnemonic.Load = codes "load"
-spelling Mnemonic.Store = codes "store"
-spelling Mnemonic.Exec = codes "exec"
-spelling Mnemonic.DomainInit = codes "k_mem_domain_init"
-spelling Mnemonic.DomainAdd = codes "k_mem_domain_add_partition"
-spelling Mnemonic.DomainRemove = codes "k_mem_domain_remove_partition"
-spelling Mnemonic.DomainMove = codes "k_mem_domain_add_thread"
-spelling Mnemonic.ObjectAlloc = codes "k_object_alloc"
-spelling Mnemonic.Grant = codes "k_object_access_grant"
-spelling Mnemonic.Revoke = codes "k_object_access_revoke"
-spelling Mnemonic.Release = codes "k_object_release"
-spelling Mnemonic.AllGrant = codes "k_object_access_all_grant"
-spelling Mnemonic.Create = codes "k_thread_create"
-spelling Mnemonic.UserMode = codes "k_thread_user_mode_enter"
-spelling Mnemonic.NameSet = codes "k_thread_name_set"
-spelling Mnemonic.SemInit = codes "k_sem_init"
-spelling Mnemonic.SemTake = codes "k_sem_take"
-spelling Mnemonic.SemGive = codes "k_sem_give"
-spelling Mnemonic.SemReset = codes "k_sem_reset"
-spelling Mnemonic.SemCount = codes "k_sem_count_get"
-spelling Mnemonic.MutexInit = codes "k_mutex_init"
-spelling Mnemonic.MutexLock = codes "k_mutex_lock"
-spelling Mnemonic.MutexUnlock = codes "k_mutex_unlock"
-spelling Mnemonic.MsgqInit = codes "k_msgq_alloc_init"
-spelling Mnemonic.MsgqPut = codes "k_msgq_put"
-spelling Mnemonic.MsgqGet = codes "k_msgq_get"
-spelling Mnemonic.MsgqPeek = codes "k_msgq_peek"
-spelling Mnemonic.MsgqPurge = codes "k_msgq_purge"
-spelling Mnemonic.MsgqUsed = codes "k_msgq_num_used_get"
-spelling Mnemonic.StackInit = codes "k_stack_alloc_init"
-spelling Mnemonic.StackPush = codes "k_stack_push"
-spelling Mnemonic.StackPop = codes "k_stack_pop"
-spelling Mnemonic.PipeInit = codes "k_pipe_init"
-spelling Mnemonic.PipeWrite = codes "k_pipe_write"
-spelling Mnemonic.PipeRead = codes "k_pipe_read"
-spelling Mnemonic.PipeReset = codes "k_pipe_reset"
-spelling Mnemonic.PipeClose = codes "k_pipe_close"
+spelling (Mnemonic.Plain Plain.End) = codes "end"
+spelling (Mnemonic.Plain Plain.Oops) = codes "k_oops"
+spelling (Mnemonic.Plain Plain.Panic) = codes "k_panic"
+spelling (Mnemonic.Plain Plain.Repeat) = codes "repeat"
+spelling (Mnemonic.Plain Plain.Set) = codes "set"
+spelling (Mnemonic.Plain Plain.Add) = codes "add"
+spelling (Mnemonic.Plain Plain.Load) = codes "load"
+spelling (Mnemonic.Plain Plain.Store) = codes "store"
+spelling (Mnemonic.Plain Plain.Exec) = codes "exec"
+spelling (Mnemonic.Domain DomainCall.Init) = codes "k_mem_domain_init"
+spelling (Mnemonic.Domain DomainCall.AddPartition) = codes "k_mem_domain_add_partition"
+spelling (Mnemonic.Domain DomainCall.RemovePartition) = codes "k_mem_domain_remove_partition"
+spelling (Mnemonic.Domain DomainCall.AddThread) = codes "k_mem_domain_add_thread"
+spelling (Mnemonic.Object ObjectCall.Alloc) = codes "k_object_alloc"
+spelling (Mnemonic.Object ObjectCall.AccessGrant) = codes "k_object_access_grant"
+spelling (Mnemonic.Object ObjectCall.AccessRevoke) = codes "k_object_access_revoke"
+spelling (Mnemonic.Object ObjectCall.Release) = codes "k_object_release"
+spelling (Mnemonic.Object ObjectCall.AccessAllGrant) = codes "k_object_access_all_grant"
+spelling (Mnemonic.Thread ThreadCall.Create) = codes "k_thread_create"
+spelling (Mnemonic.Thread ThreadCall.UserModeEnter) = codes "k_thread_user_mode_enter"
+spelling (Mnemonic.Thread ThreadCall.NameSet) = codes "k_thread_name_set"
+spelling (Mnemonic.Sem SemCall.Init) = codes "k_sem_init"
+spelling (Mnemonic.Sem SemCall.Take) = codes "k_sem_take"
+spelling (Mnemonic.Sem SemCall.Give) = codes "k_sem_give"
+spelling (Mnemonic.Sem SemCall.Reset) = codes "k_sem_reset"
+spelling (Mnemonic.Sem SemCall.CountGet) = codes "k_sem_count_get"
+spelling (Mnemonic.Mutex MutexCall.Init) = codes "k_mutex_init"
+spelling (Mnemonic.Mutex MutexCall.Lock) = codes "k_mutex_lock"
+spelling (Mnemonic.Mutex MutexCall.Unlock) = codes "k_mutex_unlock"
+spelling (Mnemonic.Msgq MsgqCall.AllocInit) = codes "k_msgq_alloc_init"
+spelling (Mnemonic.Msgq MsgqCall.Put) = codes "k_msgq_put"
+spelling (Mnemonic.Msgq MsgqCall.Get) = codes "k_msgq_get"
+spelling (Mnemonic.Msgq MsgqCall.Peek) = codes "k_msgq_peek"
+spelling (Mnemonic.Msgq MsgqCall.Purge) = codes "k_msgq_purge"
+spelling (Mnemonic.Msgq MsgqCall.NumUsedGet) = codes "k_msgq_num_used_get"
+spelling (Mnemonic.Stack StackCall.AllocInit) = codes "k_stack_alloc_init"
+spelling (Mnemonic.Stack StackCall.Push) = codes "k_stack_push"
+spelling (Mnemonic.Stack StackCall.Pop) = codes "k_stack_pop"
+spelling (Mnemonic.Pipe PipeCall.Init) = codes "k_pipe_init"
+spelling (Mnemonic.Pipe PipeCall.Write) = codes "k_pipe_write"
+spelling (Mnemonic.Pipe PipeCall.Read) = codes "k_pipe_read"
+spelling (Mnemonic.Pipe PipeCall.Reset) = codes "k_pipe_reset"
+spelling (Mnemonic.Pipe PipeCall.Close) = codes "k_pipe_close"
 
--- the forms of its operands, from left to right
-abbrev pub forms : Mnemonic → List Form
-forms Mnemonic.End = []
-forms Mnemonic.Oops = []
-forms Mnemonic.Panic = []
-forms Mnemonic.Repeat = Times ∷ []
-forms Mnemonic.Set = Register ∷ AnyTerm ∷ []
-forms Mnemonic.Add = Register ∷ AnyTerm ∷ []
-forms Mnemonic.Load = Register ∷ AnyTerm ∷ Size ∷ []
-forms Mnemonic.Store = AnyTerm ∷ Size ∷ AnyTerm ∷ []
-forms Mnemonic.Exec = AnyTerm ∷ []
-forms Mnemonic.DomainInit = Named ∷ Parts ∷ []
-forms Mnemonic.DomainAdd = Named ∷ Part ∷ []
-forms Mnemonic.DomainRemove = Named ∷ Part ∷ []
-forms Mnemonic.DomainMove = Named ∷ AnyTerm ∷ []
-forms Mnemonic.ObjectAlloc = ObjectKind ∷ Register ∷ []
-forms Mnemonic.Grant = AnyTerm ∷ AnyTerm ∷ []
-forms Mnemonic.Revoke = AnyTerm ∷ AnyTerm ∷ []
-forms Mnemonic.Release = AnyTerm ∷ []
-forms Mnemonic.AllGrant = AnyTerm ∷ []
-forms Mnemonic.Create = AnyTerm ∷ AnyTerm ∷ AnyTerm ∷ Named ∷ Priority ∷ OptionSet ∷ []
-forms Mnemonic.UserMode = Named ∷ []
-forms Mnemonic.NameSet = AnyTerm ∷ AnyTerm ∷ []
-forms Mnemonic.SemInit = AnyTerm ∷ AnyTerm ∷ AnyTerm ∷ []
-forms Mnemonic.SemTake = AnyTerm ∷ Wait ∷ []
-forms Mnemonic.SemGive = AnyTerm ∷ []
-forms Mnemonic.SemReset = AnyTerm ∷ []
-forms Mnemonic.SemCount = AnyTerm ∷ Register ∷ []
-forms Mnemonic.MutexInit = AnyTerm ∷ []
-forms Mnemonic.MutexLock = AnyTerm ∷ Wait ∷ []
-forms Mnemonic.MutexUnlock = AnyTerm ∷ []
-forms Mnemonic.MsgqInit = AnyTerm ∷ AnyTerm ∷ AnyTerm ∷ []
-forms Mnemonic.MsgqPut = AnyTerm ∷ AnyTerm ∷ Wait ∷ []
-forms Mnemonic.MsgqGet = AnyTerm ∷ AnyTerm ∷ Wait ∷ []
-forms Mnemonic.MsgqPeek = AnyTerm ∷ AnyTerm ∷ []
-forms Mnemonic.MsgqPurge = AnyTerm ∷ []
-forms Mnemonic.MsgqUsed = AnyTerm ∷ Register ∷ []
-forms Mnemonic.StackInit = AnyTerm ∷ AnyTerm ∷ []
-forms Mnemonic.StackPush = AnyTerm ∷ AnyTerm ∷ []
-forms Mnemonic.StackPop = AnyTerm ∷ AnyTerm ∷ Wait ∷ []
-forms Mnemonic.PipeInit = AnyTerm ∷ AnyTerm ∷ []
-forms Mnemonic.PipeWrite = AnyTerm ∷ AnyTerm ∷ AnyTerm ∷ Wait ∷ []
-forms Mnemonic.PipeRead = AnyTerm ∷ AnyTerm ∷ AnyTerm ∷ Wait ∷ []
-forms Mnemonic.PipeReset = AnyTerm ∷ []
-forms Mnemonic.PipeClose = AnyTerm ∷ []
-
--- the instruction that it makes of their values
-abbrev pub build : (mnemonic : Mnemonic) → Values (forms mnemonic) → Instr
-build Mnemonic.End v = Instr.End
-build Mnemonic.Oops v = Instr.Oops
-build Mnemonic.Panic v = Instr.Panic
-build Mnemonic.Repeat v = Instr.Repeat v.0
-build Mnemonic.Set v = Instr.Set v.0 v.1.0
-build Mnemonic.Add v = Instr.Add v.0 v.1.0
-build Mnemonic.Load v = Instr.Load v.0 v.1.0 v.1.1.0
-build Mnemonic.Store v = Instr.Store v.0 v.1.0 v.1.1.0
-build Mnemonic.Exec v = Instr.Exec v.0
-build Mnemonic.DomainInit v = Instr.DomainInit v.0 v.1.0
-build Mnemonic.DomainAdd v = Instr.DomainAdd v.0 v.1.0
-build Mnemonic.DomainRemove v = Instr.DomainRemove v.0 v.1.0
-build Mnemonic.DomainMove v = Instr.DomainMove v.0 v.1.0
-build Mnemonic.ObjectAlloc v = Instr.ObjectAlloc v.0 v.1.0
-build Mnemonic.Grant v = Instr.Grant v.0 v.1.0
-build Mnemonic.Revoke v = Instr.Revoke v.0 v.1.0
-build Mnemonic.Release v = Instr.Release v.0
-build Mnemonic.AllGrant v = Instr.AllGrant v.0
-build Mnemonic.Create v = Instr.Create v.0 v.1.0 v.1.1.0 v.1.1.1.0 v.1.1.1.1.0 v.1.1.1.1.1.0
-build Mnemonic.UserMode v = Instr.UserMode v.0
-build Mnemonic.NameSet v = Instr.NameSet v.0 v.1.0
-build Mnemonic.SemInit v = Instr.SemInit v.0 v.1.0 v.1.1.0
-build Mnemonic.SemTake v = Instr.SemTake v.0 v.1.0
-build Mnemonic.SemGive v = Instr.SemGive v.0
-build Mnemonic.SemReset v = Instr.SemReset v.0
-build Mnemonic.SemCount v = Instr.SemCount v.0 v.1.0
-build Mnemonic.MutexInit v = Instr.MutexInit v.0
-build Mnemonic.MutexLock v = Instr.MutexLock v.0 v.1.0
-build Mnemonic.MutexUnlock v = Instr.MutexUnlock v.0
-build Mnemonic.MsgqInit v = Instr.MsgqInit v.0 v.1.0 v.1.1.0
-build Mnemonic.MsgqPut v = Instr.MsgqPut v.0 v.1.0 v.1.1.0
-build Mnemonic.MsgqGet v = Instr.MsgqGet v.0 v.1.0 v.1.1.0
-build Mnemonic.MsgqPeek v = Instr.MsgqPeek v.0 v.1.0
-build Mnemonic.MsgqPurge v = Instr.MsgqPurge v.0
-build Mnemonic.MsgqUsed v = Instr.MsgqUsed v.0 v.1.0
-build Mnemonic.StackInit v = Instr.StackInit v.0 v.1.0
-build Mnemonic.StackPush v = Instr.StackPush v.0 v.1.0
-build Mnemonic.StackPop v = Instr.StackPop v.0 v.1.0 v.1.1.0
-build Mnemonic.PipeInit v = Instr.PipeInit v.0 v.1.0
-build Mnemonic.PipeWrite v = Instr.PipeWrite v.0 v.1.0 v.1.1.0 v.1.1.1.0
-build Mnemonic.PipeRead v = Instr.PipeRead v.0 v.1.0 v.1.1.0 v.1.1.1.0
-build Mnemonic.PipeReset v = Instr.PipeReset v.0
-build Mnemonic.PipeClose v = Instr.PipeClose v.0
+-- its operands, from left to right, and what it is with their values
+abbrev pub syntax : Mnemonic → Syntax
+syntax (Mnemonic.Plain Plain.End) = makes Instr.End
+syntax (Mnemonic.Plain Plain.Oops) = makes Instr.Oops
+syntax (Mnemonic.Plain Plain.Panic) = makes Instr.Panic
+syntax (Mnemonic.Plain Plain.Repeat) = takes Times (λ times. makes (Instr.Repeat times))
+syntax (Mnemonic.Plain Plain.Set) = takes Register (λ to. takes AnyTerm (λ value. makes (Instr.Set to value)))
+syntax (Mnemonic.Plain Plain.Add) = takes Register (λ to. takes AnyTerm (λ value. makes (Instr.Add to value)))
+syntax (Mnemonic.Plain Plain.Load) = takes Register (λ to. takes AnyTerm (λ addr. takes Size (λ size. makes (Instr.Load to addr size))))
+syntax (Mnemonic.Plain Plain.Store) = takes AnyTerm (λ addr. takes Size (λ size. takes AnyTerm (λ value. makes (Instr.Store addr size value))))
+syntax (Mnemonic.Plain Plain.Exec) = takes AnyTerm (λ addr. makes (Instr.Exec addr))
+syntax (Mnemonic.Domain DomainCall.Init) = takes Named (λ domain. takes Parts (λ parts. makes (Instr.DomainInit domain parts)))
+syntax (Mnemonic.Domain DomainCall.AddPartition) = takes Named (λ domain. takes Part (λ part. makes (Instr.DomainAdd domain part)))
+syntax (Mnemonic.Domain DomainCall.RemovePartition) = takes Named (λ domain. takes Part (λ part. makes (Instr.DomainRemove domain part)))
+syntax (Mnemonic.Domain DomainCall.AddThread) = takes Named (λ domain. takes AnyTerm (λ thread. makes (Instr.DomainMove domain thread)))
+syntax (Mnemonic.Object ObjectCall.Alloc) = takes ObjectKind (λ kind. takes Register (λ to. makes (Instr.ObjectAlloc kind to)))
+syntax (Mnemonic.Object ObjectCall.AccessGrant) = takes AnyTerm (λ object. takes AnyTerm (λ thread. makes (Instr.Grant object thread)))
+syntax (Mnemonic.Object ObjectCall.AccessRevoke) = takes AnyTerm (λ object. takes AnyTerm (λ thread. makes (Instr.Revoke object thread)))
+syntax (Mnemonic.Object ObjectCall.Release) = takes AnyTerm (λ object. makes (Instr.Release object))
+syntax (Mnemonic.Object ObjectCall.AccessAllGrant) = takes AnyTerm (λ object. makes (Instr.AllGrant object))
+syntax (Mnemonic.Thread ThreadCall.Create) = takes AnyTerm (λ thread. takes AnyTerm (λ stack. takes AnyTerm (λ size. takes Named (λ script. takes Priority (λ priority. takes OptionSet (λ options. makes (Instr.Create thread stack size script priority options)))))))
+syntax (Mnemonic.Thread ThreadCall.UserModeEnter) = takes Named (λ script. makes (Instr.UserMode script))
+syntax (Mnemonic.Thread ThreadCall.NameSet) = takes AnyTerm (λ thread. takes AnyTerm (λ addr. makes (Instr.NameSet thread addr)))
+syntax (Mnemonic.Sem SemCall.Init) = takes AnyTerm (λ object. takes AnyTerm (λ count. takes AnyTerm (λ limit. makes (Instr.SemInit object count limit))))
+syntax (Mnemonic.Sem SemCall.Take) = takes AnyTerm (λ object. takes Wait (λ timeout. makes (Instr.SemTake object timeout)))
+syntax (Mnemonic.Sem SemCall.Give) = takes AnyTerm (λ object. makes (Instr.SemGive object))
+syntax (Mnemonic.Sem SemCall.Reset) = takes AnyTerm (λ object. makes (Instr.SemReset object))
+syntax (Mnemonic.Sem SemCall.CountGet) = takes AnyTerm (λ object. takes Register (λ to. makes (Instr.SemCount object to)))
+syntax (Mnemonic.Mutex MutexCall.Init) = takes AnyTerm (λ object. makes (Instr.MutexInit object))
+syntax (Mnemonic.Mutex MutexCall.Lock) = takes AnyTerm (λ object. takes Wait (λ timeout. makes (Instr.MutexLock object timeout)))
+syntax (Mnemonic.Mutex MutexCall.Unlock) = takes AnyTerm (λ object. makes (Instr.MutexUnlock object))
+syntax (Mnemonic.Msgq MsgqCall.AllocInit) = takes AnyTerm (λ object. takes AnyTerm (λ msg_size. takes AnyTerm (λ max_msgs. makes (Instr.MsgqInit object msg_size max_msgs))))
+syntax (Mnemonic.Msgq MsgqCall.Put) = takes AnyTerm (λ object. takes AnyTerm (λ addr. takes Wait (λ timeout. makes (Instr.MsgqPut object addr timeout))))
+syntax (Mnemonic.Msgq MsgqCall.Get) = takes AnyTerm (λ object. takes AnyTerm (λ addr. takes Wait (λ timeout. makes (Instr.MsgqGet object addr timeout))))
+syntax (Mnemonic.Msgq MsgqCall.Peek) = takes AnyTerm (λ object. takes AnyTerm (λ addr. makes (Instr.MsgqPeek object addr)))
+syntax (Mnemonic.Msgq MsgqCall.Purge) = takes AnyTerm (λ object. makes (Instr.MsgqPurge object))
+syntax (Mnemonic.Msgq MsgqCall.NumUsedGet) = takes AnyTerm (λ object. takes Register (λ to. makes (Instr.MsgqUsed object to)))
+syntax (Mnemonic.Stack StackCall.AllocInit) = takes AnyTerm (λ object. takes AnyTerm (λ entries. makes (Instr.StackInit object entries)))
+syntax (Mnemonic.Stack StackCall.Push) = takes AnyTerm (λ object. takes AnyTerm (λ value. makes (Instr.StackPush object value)))
+syntax (Mnemonic.Stack StackCall.Pop) = takes AnyTerm (λ object. takes AnyTerm (λ addr. takes Wait (λ timeout. makes (Instr.StackPop object addr timeout))))
+syntax (Mnemonic.Pipe PipeCall.Init) = takes AnyTerm (λ object. takes AnyTerm (λ size. makes (Instr.PipeInit object size)))
+syntax (Mnemonic.Pipe PipeCall.Write) = takes AnyTerm (λ object. takes AnyTerm (λ addr. takes AnyTerm (λ length. takes Wait (λ timeout. makes (Instr.PipeWrite object addr length timeout)))))
+syntax (Mnemonic.Pipe PipeCall.Read) = takes AnyTerm (λ object. takes AnyTerm (λ addr. takes AnyTerm (λ length. takes Wait (λ timeout. makes (Instr.PipeRead object addr length timeout)))))
+syntax (Mnemonic.Pipe PipeCall.Reset) = takes AnyTerm (λ object. makes (Instr.PipeReset object))
+syntax (Mnemonic.Pipe PipeCall.Close) = takes AnyTerm (λ object. makes (Instr.PipeClose object))
 
 -- all of them
 abbrev pub mnemonics : List Mnemonic
 mnemonics =
-    Mnemonic.End ∷ Mnemonic.Oops ∷ Mnemonic.Panic ∷ Mnemonic.Repeat ∷ Mnemonic.Set ∷ Mnemonic.Add ∷ Mnemonic.Load ∷ Mnemonic.Store ∷ Mnemonic.Exec ∷ Mnemonic.DomainInit ∷ Mnemonic.DomainAdd ∷ Mnemonic.DomainRemove ∷ Mnemonic.DomainMove ∷ Mnemonic.ObjectAlloc ∷ Mnemonic.Grant ∷ Mnemonic.Revoke ∷ Mnemonic.Release ∷ Mnemonic.AllGrant ∷ Mnemonic.Create ∷ Mnemonic.UserMode ∷ Mnemonic.NameSet ∷ Mnemonic.SemInit ∷ Mnemonic.SemTake ∷ Mnemonic.SemGive ∷ Mnemonic.SemReset ∷ Mnemonic.SemCount ∷ Mnemonic.MutexInit ∷ Mnemonic.MutexLock ∷ Mnemonic.MutexUnlock ∷ Mnemonic.MsgqInit ∷ Mnemonic.MsgqPut ∷ Mnemonic.MsgqGet ∷ Mnemonic.MsgqPeek ∷ Mnemonic.MsgqPurge ∷ Mnemonic.MsgqUsed ∷ Mnemonic.StackInit ∷ Mnemonic.StackPush ∷ Mnemonic.StackPop ∷ Mnemonic.PipeInit ∷ Mnemonic.PipeWrite ∷ Mnemonic.PipeRead ∷ Mnemonic.PipeReset ∷ Mnemonic.PipeClose ∷ []
+    Mnemonic.Plain Plain.End ∷ Mnemonic.Plain Plain.Oops ∷ Mnemonic.Plain Plain.Panic ∷ Mnemonic.Plain Plain.Repeat ∷ Mnemonic.Plain Plain.Set ∷ Mnemonic.Plain Plain.Add ∷ Mnemonic.Plain Plain.Load ∷ Mnemonic.Plain Plain.Store ∷ Mnemonic.Plain Plain.Exec
+    ∷ Mnemonic.Domain DomainCall.Init ∷ Mnemonic.Domain DomainCall.AddPartition ∷ Mnemonic.Domain DomainCall.RemovePartition ∷ Mnemonic.Domain DomainCall.AddThread
+    ∷ Mnemonic.Object ObjectCall.Alloc ∷ Mnemonic.Object ObjectCall.AccessGrant ∷ Mnemonic.Object ObjectCall.AccessRevoke ∷ Mnemonic.Object ObjectCall.Release ∷ Mnemonic.Object ObjectCall.AccessAllGrant
+    ∷ Mnemonic.Thread ThreadCall.Create ∷ Mnemonic.Thread ThreadCall.UserModeEnter ∷ Mnemonic.Thread ThreadCall.NameSet
+    ∷ Mnemonic.Sem SemCall.Init ∷ Mnemonic.Sem SemCall.Take ∷ Mnemonic.Sem SemCall.Give ∷ Mnemonic.Sem SemCall.Reset ∷ Mnemonic.Sem SemCall.CountGet
+    ∷ Mnemonic.Mutex MutexCall.Init ∷ Mnemonic.Mutex MutexCall.Lock ∷ Mnemonic.Mutex MutexCall.Unlock
+    ∷ Mnemonic.Msgq MsgqCall.AllocInit ∷ Mnemonic.Msgq MsgqCall.Put ∷ Mnemonic.Msgq MsgqCall.Get ∷ Mnemonic.Msgq MsgqCall.Peek ∷ Mnemonic.Msgq MsgqCall.Purge ∷ Mnemonic.Msgq MsgqCall.NumUsedGet
+    ∷ Mnemonic.Stack StackCall.AllocInit ∷ Mnemonic.Stack StackCall.Push ∷ Mnemonic.Stack StackCall.Pop
+    ∷ Mnemonic.Pipe PipeCall.Init ∷ Mnemonic.Pipe PipeCall.Write ∷ Mnemonic.Pipe PipeCall.Read ∷ Mnemonic.Pipe PipeCall.Reset ∷ Mnemonic.Pipe PipeCall.Close ∷ []

@@ -5,8 +5,8 @@ use Rattle.um_script.specs.declared.fault.LineFault.{LineFault}
 use Rattle.um_script.specs.declared.fault.LineKind.{LineKind}
 use Rattle.um_script.specs.declared.mnemonic.Mnemonic.{Mnemonic}
 use Rattle.um_script.specs.Faults.{◌>>=◌}
-use Rattle.um_script.specs.Instructions.{spelling, forms, build, mnemonics}
-use Rattle.um_script.specs.Operands.{operands}
+use Rattle.um_script.specs.Instructions.{spelling, syntax, mnemonics}
+use Rattle.um_script.specs.Operands.{reading}
 use Rattle.um_script.specs.Words.{Words, ends, word, words_of_line}
 
 -- the instruction that a word names
@@ -15,14 +15,16 @@ mnemonic_of bytes = find (λ m. bytes_eq bytes (spelling m)) mnemonics
 
 -- the instruction with the operands that these words begin with
 abbrev pub instruction : Mnemonic → Words → Result (Instr × Words) LineFault
-instruction mnemonic words = do
-  read ← operands (forms mnemonic) words
-  Ok (build mnemonic read.0, read.1)
+instruction mnemonic words = reading (syntax mnemonic) words
 
 -- no word is left
 abbrev pub alone : Instr → Words → Result Instr LineFault
 alone instr (ends column) = Ok instr
 alone instr (word bytes column rest) = Err (record { kind = LineKind.Extra; column = column })
+
+-- the instruction of exactly these operands
+abbrev pub whole : Mnemonic → Words → Result Instr LineFault
+whole mnemonic words = instruction mnemonic words >>= λ read. alone read.0 read.1
 
 -- an instruction, its operands, and no more: or the first fault from the left
 abbrev pub line_of_words : Words → Result Instr LineFault
@@ -30,7 +32,7 @@ line_of_words (ends column) = Err (record { kind = LineKind.Missing; column = co
 line_of_words (word bytes column rest) =
     elim (mnemonic_of bytes) [
       | None ↦ Err (record { kind = LineKind.UnknownWord; column = column })
-      | Some mnemonic ↦ instruction mnemonic rest >>= λ read. alone read.0 read.1
+      | Some mnemonic ↦ whole mnemonic rest
     ]
 
 abbrev pub line_of : List ℕ → Result Instr LineFault

@@ -2,6 +2,7 @@
 use Rattle.std.specs.Prelude.{◌≡◌, ℕ, zero, suc, ◌+◌, ◌-◌, List, [], ◌∷◌, length, take, drop, codes, bytes_eq, find, ok_or, Bool, true, false, not, ◌==◌, ◌&&◌, ◌||◌, if◌then◌else◌, Option, Some, None, option_map, position, Result, Ok, Err, ℤ}
 use Rattle.um_base.specs.Lawful.{is_name, is_within}
 use Rattle.um_base.specs.declared.attr.Attr.{Attr}
+use Rattle.um_base.specs.declared.instr.Instr.{Instr}
 use Rattle.um_base.specs.declared.instr.Options.{Options}
 use Rattle.um_base.specs.declared.names.Kind.{Kind}
 use Rattle.um_base.specs.declared.names.PartRef.{PartRef}
@@ -183,7 +184,7 @@ placed column rest (Ok x) = Ok (x, rest)
 placed column rest (Err kind) = Err (record { kind = kind; column = column })
 
 -- one word of a form
-abbrev pub one : {A : Type 0} → (List ℕ → Result A LineKind) → Words → Result (A × Words) LineFault
+unfoldable pub one : {A : Type 0} → (List ℕ → Result A LineKind) → Words → Result (A × Words) LineFault
 one read (ends column) = Err (record { kind = LineKind.Missing; column = column })
 one read (word bytes column rest) = placed column rest (read bytes)
 
@@ -210,15 +211,12 @@ operand Wait words = one timeout words
 operand Priority words = one priority words
 operand OptionSet words = one options words
 
--- the values of several operands
-abbrev pub Values : List Form → Type 0
-Values [] = Unit {0}
-Values (form ∷ forms) = Value form × Values forms
+-- What a line is made of: operands of these forms, each of whose values the rest may depend on, and then the instruction.
+pub data Syntax : Type 0 where
+  takes : (form : Form) → (Value form → Syntax) → Syntax
+  makes : Instr → Syntax
 
--- operands from left to right
-abbrev pub operands : (forms : List Form) → Words → Result (Values forms × Words) LineFault
-operands [] words = Ok (tt, words)
-operands (form ∷ forms) words = do
-  first ← operand form words
-  others ← operands forms first.1
-  Ok ((first.0, others.0), others.1)
+-- operands from left to right, and the instruction
+abbrev pub reading : Syntax → Words → Result (Instr × Words) LineFault
+reading (makes instr) words = Ok (instr, words)
+reading (takes form rest) words = operand form words >>= λ read. reading (rest read.0) read.1

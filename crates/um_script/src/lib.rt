@@ -8,8 +8,10 @@ mod mnemonic;
 mod names;
 mod numbers;
 mod operands;
+mod parse;
 mod partitions;
 mod terms;
 mod words;
 
 pub use fault::{LineFault, LineKind};
+pub use parse::parse_line;

@@ -1,11 +1,11 @@
-//! The words that lines begin with.
+//! The words that lines begin with, by what they are about. The calls have Zephyr's names.
 
 ghost use Rattle.std.specs.Prelude.{◌≡◌, find, bytes_eq};
 ghost use Rattle.um_script.specs.Instructions.{spelling, mnemonics};
 
-/// What a line does.
+/// Lines that are no calls.
 #[derive(Clone, Copy)]
-pub enum Mnemonic {
+pub enum Plain {
     End,
     Oops,
     Panic,
@@ -15,88 +15,266 @@ pub enum Mnemonic {
     Load,
     Store,
     Exec,
-    DomainInit,
-    DomainAdd,
-    DomainRemove,
-    DomainMove,
-    ObjectAlloc,
-    Grant,
-    Revoke,
-    Release,
-    AllGrant,
-    Create,
-    UserMode,
-    NameSet,
-    SemInit,
-    SemTake,
-    SemGive,
-    SemReset,
-    SemCount,
-    MutexInit,
-    MutexLock,
-    MutexUnlock,
-    MsgqInit,
-    MsgqPut,
-    MsgqGet,
-    MsgqPeek,
-    MsgqPurge,
-    MsgqUsed,
-    StackInit,
-    StackPush,
-    StackPop,
-    PipeInit,
-    PipeWrite,
-    PipeRead,
-    PipeReset,
-    PipeClose,
 }
 
-/// All of them, those that scripts use most first.
+/// Calls on memory domains.
+#[derive(Clone, Copy)]
+pub enum DomainCall {
+    Init,
+    AddPartition,
+    RemovePartition,
+    AddThread,
+}
+
+/// Calls on kernel objects of any kind.
+#[derive(Clone, Copy)]
+pub enum ObjectCall {
+    Alloc,
+    AccessGrant,
+    AccessRevoke,
+    Release,
+    AccessAllGrant,
+}
+
+/// Calls on threads.
+#[derive(Clone, Copy)]
+pub enum ThreadCall {
+    Create,
+    UserModeEnter,
+    NameSet,
+}
+
+/// Calls on semaphores.
+#[derive(Clone, Copy)]
+pub enum SemCall {
+    Init,
+    Take,
+    Give,
+    Reset,
+    CountGet,
+}
+
+/// Calls on mutexes.
+#[derive(Clone, Copy)]
+pub enum MutexCall {
+    Init,
+    Lock,
+    Unlock,
+}
+
+/// Calls on message queues.
+#[derive(Clone, Copy)]
+pub enum MsgqCall {
+    AllocInit,
+    Put,
+    Get,
+    Peek,
+    Purge,
+    NumUsedGet,
+}
+
+/// Calls on stacks.
+#[derive(Clone, Copy)]
+pub enum StackCall {
+    AllocInit,
+    Push,
+    Pop,
+}
+
+/// Calls on pipes.
+#[derive(Clone, Copy)]
+pub enum PipeCall {
+    Init,
+    Write,
+    Read,
+    Reset,
+    Close,
+}
+
+/// What a line does.
+#[derive(Clone, Copy)]
+pub enum Mnemonic {
+    Plain(Plain),
+    Domain(DomainCall),
+    Object(ObjectCall),
+    Thread(ThreadCall),
+    Sem(SemCall),
+    Mutex(MutexCall),
+    Msgq(MsgqCall),
+    Stack(StackCall),
+    Pipe(PipeCall),
+}
+
+/// All of them.
 const ALL: [Mnemonic; 43] = [
-    Mnemonic::End,
-    Mnemonic::Oops,
-    Mnemonic::Panic,
-    Mnemonic::Repeat,
-    Mnemonic::Set,
-    Mnemonic::Add,
-    Mnemonic::Load,
-    Mnemonic::Store,
-    Mnemonic::Exec,
-    Mnemonic::DomainInit,
-    Mnemonic::DomainAdd,
-    Mnemonic::DomainRemove,
-    Mnemonic::DomainMove,
-    Mnemonic::ObjectAlloc,
-    Mnemonic::Grant,
-    Mnemonic::Revoke,
-    Mnemonic::Release,
-    Mnemonic::AllGrant,
-    Mnemonic::Create,
-    Mnemonic::UserMode,
-    Mnemonic::NameSet,
-    Mnemonic::SemInit,
-    Mnemonic::SemTake,
-    Mnemonic::SemGive,
-    Mnemonic::SemReset,
-    Mnemonic::SemCount,
-    Mnemonic::MutexInit,
-    Mnemonic::MutexLock,
-    Mnemonic::MutexUnlock,
-    Mnemonic::MsgqInit,
-    Mnemonic::MsgqPut,
-    Mnemonic::MsgqGet,
-    Mnemonic::MsgqPeek,
-    Mnemonic::MsgqPurge,
-    Mnemonic::MsgqUsed,
-    Mnemonic::StackInit,
-    Mnemonic::StackPush,
-    Mnemonic::StackPop,
-    Mnemonic::PipeInit,
-    Mnemonic::PipeWrite,
-    Mnemonic::PipeRead,
-    Mnemonic::PipeReset,
-    Mnemonic::PipeClose,
+    Mnemonic::Plain(Plain::End),
+    Mnemonic::Plain(Plain::Oops),
+    Mnemonic::Plain(Plain::Panic),
+    Mnemonic::Plain(Plain::Repeat),
+    Mnemonic::Plain(Plain::Set),
+    Mnemonic::Plain(Plain::Add),
+    Mnemonic::Plain(Plain::Load),
+    Mnemonic::Plain(Plain::Store),
+    Mnemonic::Plain(Plain::Exec),
+    Mnemonic::Domain(DomainCall::Init),
+    Mnemonic::Domain(DomainCall::AddPartition),
+    Mnemonic::Domain(DomainCall::RemovePartition),
+    Mnemonic::Domain(DomainCall::AddThread),
+    Mnemonic::Object(ObjectCall::Alloc),
+    Mnemonic::Object(ObjectCall::AccessGrant),
+    Mnemonic::Object(ObjectCall::AccessRevoke),
+    Mnemonic::Object(ObjectCall::Release),
+    Mnemonic::Object(ObjectCall::AccessAllGrant),
+    Mnemonic::Thread(ThreadCall::Create),
+    Mnemonic::Thread(ThreadCall::UserModeEnter),
+    Mnemonic::Thread(ThreadCall::NameSet),
+    Mnemonic::Sem(SemCall::Init),
+    Mnemonic::Sem(SemCall::Take),
+    Mnemonic::Sem(SemCall::Give),
+    Mnemonic::Sem(SemCall::Reset),
+    Mnemonic::Sem(SemCall::CountGet),
+    Mnemonic::Mutex(MutexCall::Init),
+    Mnemonic::Mutex(MutexCall::Lock),
+    Mnemonic::Mutex(MutexCall::Unlock),
+    Mnemonic::Msgq(MsgqCall::AllocInit),
+    Mnemonic::Msgq(MsgqCall::Put),
+    Mnemonic::Msgq(MsgqCall::Get),
+    Mnemonic::Msgq(MsgqCall::Peek),
+    Mnemonic::Msgq(MsgqCall::Purge),
+    Mnemonic::Msgq(MsgqCall::NumUsedGet),
+    Mnemonic::Stack(StackCall::AllocInit),
+    Mnemonic::Stack(StackCall::Push),
+    Mnemonic::Stack(StackCall::Pop),
+    Mnemonic::Pipe(PipeCall::Init),
+    Mnemonic::Pipe(PipeCall::Write),
+    Mnemonic::Pipe(PipeCall::Read),
+    Mnemonic::Pipe(PipeCall::Reset),
+    Mnemonic::Pipe(PipeCall::Close),
 ];
+
+impl Plain {
+    fn word(self) -> &'static [u8]
+        ensures { result.now ≡ spelling (Mnemonic.Plain self) }
+    {
+        match self {
+            Plain::End => b"end",
+            Plain::Oops => b"k_oops",
+            Plain::Panic => b"k_panic",
+            Plain::Repeat => b"repeat",
+            Plain::Set => b"set",
+            Plain::Add => b"add",
+            Plain::Load => b"load",
+            Plain::Store => b"store",
+            Plain::Exec => b"exec",
+        }
+    }
+}
+
+impl DomainCall {
+    fn word(self) -> &'static [u8]
+        ensures { result.now ≡ spelling (Mnemonic.Domain self) }
+    {
+        match self {
+            DomainCall::Init => b"k_mem_domain_init",
+            DomainCall::AddPartition => b"k_mem_domain_add_partition",
+            DomainCall::RemovePartition => b"k_mem_domain_remove_partition",
+            DomainCall::AddThread => b"k_mem_domain_add_thread",
+        }
+    }
+}
+
+impl ObjectCall {
+    fn word(self) -> &'static [u8]
+        ensures { result.now ≡ spelling (Mnemonic.Object self) }
+    {
+        match self {
+            ObjectCall::Alloc => b"k_object_alloc",
+            ObjectCall::AccessGrant => b"k_object_access_grant",
+            ObjectCall::AccessRevoke => b"k_object_access_revoke",
+            ObjectCall::Release => b"k_object_release",
+            ObjectCall::AccessAllGrant => b"k_object_access_all_grant",
+        }
+    }
+}
+
+impl ThreadCall {
+    fn word(self) -> &'static [u8]
+        ensures { result.now ≡ spelling (Mnemonic.Thread self) }
+    {
+        match self {
+            ThreadCall::Create => b"k_thread_create",
+            ThreadCall::UserModeEnter => b"k_thread_user_mode_enter",
+            ThreadCall::NameSet => b"k_thread_name_set",
+        }
+    }
+}
+
+impl SemCall {
+    fn word(self) -> &'static [u8]
+        ensures { result.now ≡ spelling (Mnemonic.Sem self) }
+    {
+        match self {
+            SemCall::Init => b"k_sem_init",
+            SemCall::Take => b"k_sem_take",
+            SemCall::Give => b"k_sem_give",
+            SemCall::Reset => b"k_sem_reset",
+            SemCall::CountGet => b"k_sem_count_get",
+        }
+    }
+}
+
+impl MutexCall {
+    fn word(self) -> &'static [u8]
+        ensures { result.now ≡ spelling (Mnemonic.Mutex self) }
+    {
+        match self {
+            MutexCall::Init => b"k_mutex_init",
+            MutexCall::Lock => b"k_mutex_lock",
+            MutexCall::Unlock => b"k_mutex_unlock",
+        }
+    }
+}
+
+impl MsgqCall {
+    fn word(self) -> &'static [u8]
+        ensures { result.now ≡ spelling (Mnemonic.Msgq self) }
+    {
+        match self {
+            MsgqCall::AllocInit => b"k_msgq_alloc_init",
+            MsgqCall::Put => b"k_msgq_put",
+            MsgqCall::Get => b"k_msgq_get",
+            MsgqCall::Peek => b"k_msgq_peek",
+            MsgqCall::Purge => b"k_msgq_purge",
+            MsgqCall::NumUsedGet => b"k_msgq_num_used_get",
+        }
+    }
+}
+
+impl StackCall {
+    fn word(self) -> &'static [u8]
+        ensures { result.now ≡ spelling (Mnemonic.Stack self) }
+    {
+        match self {
+            StackCall::AllocInit => b"k_stack_alloc_init",
+            StackCall::Push => b"k_stack_push",
+            StackCall::Pop => b"k_stack_pop",
+        }
+    }
+}
+
+impl PipeCall {
+    fn word(self) -> &'static [u8]
+        ensures { result.now ≡ spelling (Mnemonic.Pipe self) }
+    {
+        match self {
+            PipeCall::Init => b"k_pipe_init",
+            PipeCall::Write => b"k_pipe_write",
+            PipeCall::Read => b"k_pipe_read",
+            PipeCall::Reset => b"k_pipe_reset",
+            PipeCall::Close => b"k_pipe_close",
+        }
+    }
+}
 
 impl Mnemonic {
     /// The word.
@@ -104,49 +282,15 @@ impl Mnemonic {
         ensures { result.now ≡ spelling self }
     {
         match self {
-            Mnemonic::End => b"end",
-            Mnemonic::Oops => b"k_oops",
-            Mnemonic::Panic => b"k_panic",
-            Mnemonic::Repeat => b"repeat",
-            Mnemonic::Set => b"set",
-            Mnemonic::Add => b"add",
-            Mnemonic::Load => b"load",
-            Mnemonic::Store => b"store",
-            Mnemonic::Exec => b"exec",
-            Mnemonic::DomainInit => b"k_mem_domain_init",
-            Mnemonic::DomainAdd => b"k_mem_domain_add_partition",
-            Mnemonic::DomainRemove => b"k_mem_domain_remove_partition",
-            Mnemonic::DomainMove => b"k_mem_domain_add_thread",
-            Mnemonic::ObjectAlloc => b"k_object_alloc",
-            Mnemonic::Grant => b"k_object_access_grant",
-            Mnemonic::Revoke => b"k_object_access_revoke",
-            Mnemonic::Release => b"k_object_release",
-            Mnemonic::AllGrant => b"k_object_access_all_grant",
-            Mnemonic::Create => b"k_thread_create",
-            Mnemonic::UserMode => b"k_thread_user_mode_enter",
-            Mnemonic::NameSet => b"k_thread_name_set",
-            Mnemonic::SemInit => b"k_sem_init",
-            Mnemonic::SemTake => b"k_sem_take",
-            Mnemonic::SemGive => b"k_sem_give",
-            Mnemonic::SemReset => b"k_sem_reset",
-            Mnemonic::SemCount => b"k_sem_count_get",
-            Mnemonic::MutexInit => b"k_mutex_init",
-            Mnemonic::MutexLock => b"k_mutex_lock",
-            Mnemonic::MutexUnlock => b"k_mutex_unlock",
-            Mnemonic::MsgqInit => b"k_msgq_alloc_init",
-            Mnemonic::MsgqPut => b"k_msgq_put",
-            Mnemonic::MsgqGet => b"k_msgq_get",
-            Mnemonic::MsgqPeek => b"k_msgq_peek",
-            Mnemonic::MsgqPurge => b"k_msgq_purge",
-            Mnemonic::MsgqUsed => b"k_msgq_num_used_get",
-            Mnemonic::StackInit => b"k_stack_alloc_init",
-            Mnemonic::StackPush => b"k_stack_push",
-            Mnemonic::StackPop => b"k_stack_pop",
-            Mnemonic::PipeInit => b"k_pipe_init",
-            Mnemonic::PipeWrite => b"k_pipe_write",
-            Mnemonic::PipeRead => b"k_pipe_read",
-            Mnemonic::PipeReset => b"k_pipe_reset",
-            Mnemonic::PipeClose => b"k_pipe_close",
+            Mnemonic::Plain(call) => call.word(),
+            Mnemonic::Domain(call) => call.word(),
+            Mnemonic::Object(call) => call.word(),
+            Mnemonic::Thread(call) => call.word(),
+            Mnemonic::Sem(call) => call.word(),
+            Mnemonic::Mutex(call) => call.word(),
+            Mnemonic::Msgq(call) => call.word(),
+            Mnemonic::Stack(call) => call.word(),
+            Mnemonic::Pipe(call) => call.word(),
         }
     }
 
@@ -154,6 +298,6 @@ impl Mnemonic {
     pub fn of_word(word: &[u8]) -> Option<Mnemonic>
         ensures { result ≡ find (λ m. bytes_eq word.now (spelling m)) mnemonics }
     {
-        ALL.iter().copied().find(|m| word == m.word())
+        ALL.iter().copied().find(|mnemonic| word == mnemonic.word())
     }
 }

@@ -31,6 +31,7 @@ impl Word<'_> {
 
 impl Words<'_> {
     /// How often lines are repeated.
+    #[tactic(auto, unfolding(crate::specs::Operands::one))]
     pub fn times(&mut self) -> Result<u16, LineFault>
         ensures { Gives result (operands.one numbers.times (words_left self.old)) (words_left self.new) }
     {
@@ -39,6 +40,7 @@ impl Words<'_> {
     }
 
     /// A register.
+    #[tactic(auto, unfolding(crate::specs::Operands::one))]
     pub fn register(&mut self) -> Result<u8, LineFault>
         ensures { Gives result (operands.one operands.register (words_left self.old)) (words_left self.new) }
     {
@@ -47,6 +49,7 @@ impl Words<'_> {
     }
 
     /// How many bytes are loaded or stored.
+    #[tactic(auto, unfolding(crate::specs::Operands::one))]
     pub fn size(&mut self) -> Result<u8, LineFault>
         ensures { Gives result (operands.one operands.size (words_left self.old)) (words_left self.new) }
     {
@@ -55,6 +58,7 @@ impl Words<'_> {
     }
 
     /// A place, a register or a number.
+    #[tactic(auto, unfolding(crate::specs::Operands::one))]
     pub fn term(&mut self) -> Result<Term, LineFault>
         ensures { Gives result (operands.one operands.term (words_left self.old)) (words_left self.new) }
     {
@@ -63,6 +67,7 @@ impl Words<'_> {
     }
 
     /// The name of a domain or of a script.
+    #[tactic(auto, unfolding(crate::specs::Operands::one))]
     pub fn named(&mut self) -> Result<Ref, LineFault>
         ensures { Gives result (operands.one operands.named (words_left self.old)) (words_left self.new) }
     {
@@ -71,6 +76,7 @@ impl Words<'_> {
     }
 
     /// A partition.
+    #[tactic(auto, unfolding(crate::specs::Operands::one))]
     pub fn part(&mut self) -> Result<PartRef, LineFault>
         ensures { Gives result (operands.one operands.part (words_left self.old)) (words_left self.new) }
     {
@@ -93,6 +99,7 @@ impl Words<'_> {
     }
 
     /// A kind of object that can be allocated.
+    #[tactic(auto, unfolding(crate::specs::Operands::one))]
     pub fn kind(&mut self) -> Result<Kind, LineFault>
         ensures { Gives result (operands.one operands.kind (words_left self.old)) (words_left self.new) }
     {
@@ -101,6 +108,7 @@ impl Words<'_> {
     }
 
     /// How long a call waits.
+    #[tactic(auto, unfolding(crate::specs::Operands::one))]
     pub fn timeout(&mut self) -> Result<Timeout, LineFault>
         ensures { Gives result (operands.one operands.timeout (words_left self.old)) (words_left self.new) }
     {
@@ -109,6 +117,7 @@ impl Words<'_> {
     }
 
     /// A priority.
+    #[tactic(auto, unfolding(crate::specs::Operands::one))]
     pub fn priority(&mut self) -> Result<i8, LineFault>
         ensures { Gives result (operands.one numbers.priority (words_left self.old)) (words_left self.new) }
     {
@@ -117,6 +126,7 @@ impl Words<'_> {
     }
 
     /// The options of a new thread.
+    #[tactic(auto, unfolding(crate::specs::Operands::one))]
     pub fn options(&mut self) -> Result<Options, LineFault>
         ensures { Gives result (operands.one operands.options (words_left self.old)) (words_left self.new) }
     {
