@@ -5,3 +5,4 @@ pub mod Operands
 pub mod Instructions
 pub mod Lines
 pub mod Cursor
+pub mod Canonical

@@ -10,8 +10,11 @@ mod numbers;
 mod operands;
 mod parse;
 mod partitions;
+mod print;
 mod terms;
 mod words;
+mod writing;
 
 pub use fault::{LineFault, LineKind};
 pub use parse::parse_line;
+pub use print::print_line;
