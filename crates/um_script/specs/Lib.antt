@@ -6,3 +6,4 @@ pub mod Instructions
 pub mod Lines
 pub mod Cursor
 pub mod Canonical
+pub mod Writable

@@ -1,6 +1,7 @@
 //! Operands that are one of a few words.
 
-ghost use Rattle.std.specs.Prelude.{◌≡◌, find, bytes_eq};
+ghost use Rattle.std.specs.Prelude.{◌≡◌, find, bytes_eq, IfOk, IsTrue};
+ghost use Rattle.um_base.specs.Lawful.{is_size, is_dynamic_kind};
 ghost use Rattle.um_script.specs.Operands as operands;
 
 use crate::cut::cut;
@@ -9,7 +10,8 @@ use um_base::{Kind, Options, Timeout};
 
 /// How many bytes are loaded or stored.
 pub fn size(word: &[u8]) -> Result<u8, LineKind>
-    ensures { result ≡ operands.size word.now }
+    ensures value { result ≡ operands.size word.now }
+    ensures fits { IfOk result (λ n. IsTrue (is_size n)) }
 {
     match word {
         b"1" => Ok(1),
@@ -51,7 +53,8 @@ fn find_kind(word: &[u8]) -> Option<Kind>
 
 /// A kind of object that can be allocated.
 pub fn kind(word: &[u8]) -> Result<Kind, LineKind>
-    ensures { result ≡ operands.kind word.now }
+    ensures value { result ≡ operands.kind word.now }
+    ensures fits { IfOk result (λ k. IsTrue (is_dynamic_kind k)) }
 {
     find_kind(word).ok_or(LineKind::Operand)
 }

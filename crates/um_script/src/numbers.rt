@@ -1,8 +1,10 @@
 //! Numbers as words spell them.
 
-ghost use Rattle.std.specs.Prelude.{◌≡◌, ◌≤◌, IfOk};
+ghost use Rattle.std.specs.Prelude.{◌≡◌, ◌≤◌, IfOk, IsTrue};
 ghost use Rattle.std.specs.List.{list_all};
+ghost use Rattle.um_base.specs.Lawful.{is_within};
 ghost use Rattle.um_script.specs.Numbers as numbers;
+ghost use Rattle.um_script.specs.Writable.{is_word32, is_priority};
 
 use crate::fault::LineKind;
 
@@ -87,7 +89,8 @@ pub fn is_number(word: &[u8]) -> bool
 
 /// A number of 32 bits, in decimal or hexadecimal digits.
 pub fn number(word: &[u8]) -> Result<u32, LineKind>
-    ensures { result ≡ numbers.number word.now }
+    ensures value { result ≡ numbers.number word.now }
+    ensures fits { IfOk result (λ n. IsTrue (is_word32 n)) }
 {
     match word {
         [b'0', b'x', rest @ ..] => digits(true, 8, u32::MAX, rest),
@@ -97,7 +100,8 @@ pub fn number(word: &[u8]) -> Result<u32, LineKind>
 
 /// How often lines are repeated: 1 to 1,000.
 pub fn times(word: &[u8]) -> Result<u16, LineKind>
-    ensures { result ≡ numbers.times word.now }
+    ensures value { result ≡ numbers.times word.now }
+    ensures fits { IfOk result (λ n. IsTrue (is_within 1 1000 n)) }
 {
     let times = number(word)?;
     if times >= 1 && times <= 1000 {
@@ -109,7 +113,8 @@ pub fn times(word: &[u8]) -> Result<u16, LineKind>
 
 /// A priority: -128 to 127.
 pub fn priority(word: &[u8]) -> Result<i8, LineKind>
-    ensures { result ≡ numbers.priority word.now }
+    ensures value { result ≡ numbers.priority word.now }
+    ensures fits { IfOk result (λ n. IsTrue (is_priority n)) }
 {
     match word {
         [b'-', rest @ ..] => {

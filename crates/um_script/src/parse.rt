@@ -1,9 +1,10 @@
 //! Lines to instructions.
 
-ghost use Rattle.std.specs.Prelude.{◌≡◌, ◌-◌, ◌<◌, ◌^◌, length, Err, MatchResult};
+ghost use Rattle.std.specs.Prelude.{◌≡◌, ◌-◌, ◌<◌, ◌^◌, length, Ok, Err, MatchResult, IfOk, IsTrue};
 ghost use Rattle.um_script.specs.Cursor.{words_left};
 ghost use Rattle.um_script.specs.Faults.{Gives};
 ghost use Rattle.um_script.specs.Lines.{instruction, alone, whole, line_of};
+ghost use Rattle.um_script.specs.Writable.{is_line};
 
 use crate::fault::{LineFault, LineKind};
 use crate::mnemonic::{
@@ -14,7 +15,8 @@ use um_base::Instr;
 
 impl Words<'_> {
     fn plain(&mut self, call: Plain) -> Result<Instr, LineFault>
-        ensures { Gives result (instruction (Mnemonic.Plain call) (words_left self.old)) (words_left self.new) }
+        ensures value { Gives result (instruction (Mnemonic.Plain call) (words_left self.old)) (words_left self.new) }
+        ensures writable { IfOk result (λ i. IsTrue (is_line i)) }
     {
         match call {
             Plain::End => Ok(Instr::End),
@@ -48,7 +50,8 @@ impl Words<'_> {
     }
 
     fn domain_call(&mut self, call: DomainCall) -> Result<Instr, LineFault>
-        ensures { Gives result (instruction (Mnemonic.Domain call) (words_left self.old)) (words_left self.new) }
+        ensures value { Gives result (instruction (Mnemonic.Domain call) (words_left self.old)) (words_left self.new) }
+        ensures writable { IfOk result (λ i. IsTrue (is_line i)) }
     {
         match call {
             DomainCall::Init => Ok(Instr::DomainInit {
@@ -71,7 +74,8 @@ impl Words<'_> {
     }
 
     fn object_call(&mut self, call: ObjectCall) -> Result<Instr, LineFault>
-        ensures { Gives result (instruction (Mnemonic.Object call) (words_left self.old)) (words_left self.new) }
+        ensures value { Gives result (instruction (Mnemonic.Object call) (words_left self.old)) (words_left self.new) }
+        ensures writable { IfOk result (λ i. IsTrue (is_line i)) }
     {
         match call {
             ObjectCall::Alloc => Ok(Instr::ObjectAlloc {
@@ -96,7 +100,8 @@ impl Words<'_> {
     }
 
     fn thread_call(&mut self, call: ThreadCall) -> Result<Instr, LineFault>
-        ensures { Gives result (instruction (Mnemonic.Thread call) (words_left self.old)) (words_left self.new) }
+        ensures value { Gives result (instruction (Mnemonic.Thread call) (words_left self.old)) (words_left self.new) }
+        ensures writable { IfOk result (λ i. IsTrue (is_line i)) }
     {
         match call {
             ThreadCall::Create => Ok(Instr::Create {
@@ -118,7 +123,8 @@ impl Words<'_> {
     }
 
     fn sem_call(&mut self, call: SemCall) -> Result<Instr, LineFault>
-        ensures { Gives result (instruction (Mnemonic.Sem call) (words_left self.old)) (words_left self.new) }
+        ensures value { Gives result (instruction (Mnemonic.Sem call) (words_left self.old)) (words_left self.new) }
+        ensures writable { IfOk result (λ i. IsTrue (is_line i)) }
     {
         match call {
             SemCall::Init => Ok(Instr::SemInit {
@@ -144,7 +150,8 @@ impl Words<'_> {
     }
 
     fn mutex_call(&mut self, call: MutexCall) -> Result<Instr, LineFault>
-        ensures { Gives result (instruction (Mnemonic.Mutex call) (words_left self.old)) (words_left self.new) }
+        ensures value { Gives result (instruction (Mnemonic.Mutex call) (words_left self.old)) (words_left self.new) }
+        ensures writable { IfOk result (λ i. IsTrue (is_line i)) }
     {
         match call {
             MutexCall::Init => Ok(Instr::MutexInit {
@@ -161,7 +168,8 @@ impl Words<'_> {
     }
 
     fn msgq_call(&mut self, call: MsgqCall) -> Result<Instr, LineFault>
-        ensures { Gives result (instruction (Mnemonic.Msgq call) (words_left self.old)) (words_left self.new) }
+        ensures value { Gives result (instruction (Mnemonic.Msgq call) (words_left self.old)) (words_left self.new) }
+        ensures writable { IfOk result (λ i. IsTrue (is_line i)) }
     {
         match call {
             MsgqCall::AllocInit => Ok(Instr::MsgqInit {
@@ -194,7 +202,8 @@ impl Words<'_> {
     }
 
     fn stack_call(&mut self, call: StackCall) -> Result<Instr, LineFault>
-        ensures { Gives result (instruction (Mnemonic.Stack call) (words_left self.old)) (words_left self.new) }
+        ensures value { Gives result (instruction (Mnemonic.Stack call) (words_left self.old)) (words_left self.new) }
+        ensures writable { IfOk result (λ i. IsTrue (is_line i)) }
     {
         match call {
             StackCall::AllocInit => Ok(Instr::StackInit {
@@ -214,7 +223,8 @@ impl Words<'_> {
     }
 
     fn pipe_call(&mut self, call: PipeCall) -> Result<Instr, LineFault>
-        ensures { Gives result (instruction (Mnemonic.Pipe call) (words_left self.old)) (words_left self.new) }
+        ensures value { Gives result (instruction (Mnemonic.Pipe call) (words_left self.old)) (words_left self.new) }
+        ensures writable { IfOk result (λ i. IsTrue (is_line i)) }
     {
         match call {
             PipeCall::Init => Ok(Instr::PipeInit {
@@ -244,7 +254,8 @@ impl Words<'_> {
 
     /// The operands of an instruction.
     fn instruction(&mut self, mnemonic: Mnemonic) -> Result<Instr, LineFault>
-        ensures { Gives result (instruction mnemonic (words_left self.old)) (words_left self.new) }
+        ensures value { Gives result (instruction mnemonic (words_left self.old)) (words_left self.new) }
+        ensures writable { IfOk result (λ i. IsTrue (is_line i)) }
     {
         match mnemonic {
             Mnemonic::Plain(call) => self.plain(call),
@@ -261,7 +272,8 @@ impl Words<'_> {
 
     /// The instruction, where no word is left.
     fn alone(&mut self, instr: Instr) -> Result<Instr, LineFault>
-        ensures { result ≡ alone instr (words_left self.old) }
+        ensures value { result ≡ alone instr (words_left self.old) }
+        ensures same { IfOk result (λ i. i ≡ instr) }
     {
         match self.next() {
             None => Ok(instr),
@@ -274,7 +286,8 @@ impl Words<'_> {
 
     /// What was read, where no word is left.
     fn ended(&mut self, read: Result<Instr, LineFault>) -> Result<Instr, LineFault>
-        ensures { MatchResult read (λ i. result ≡ alone i (words_left self.old)) (λ e. result ≡ Err e) }
+        ensures value { MatchResult read (λ i. result ≡ alone i (words_left self.old)) (λ e. result ≡ Err e) }
+        ensures same { IfOk result (λ i. read ≡ Ok i) }
     {
         match read {
             Ok(instr) => self.alone(instr),
@@ -284,7 +297,8 @@ impl Words<'_> {
 
     /// The operands of an instruction, and no more words.
     fn whole(&mut self, mnemonic: Mnemonic) -> Result<Instr, LineFault>
-        ensures { result ≡ whole mnemonic (words_left self.old) }
+        ensures value { result ≡ whole mnemonic (words_left self.old) }
+        ensures writable { IfOk result (λ i. IsTrue (is_line i)) }
     {
         let read = self.instruction(mnemonic);
         self.ended(read)
@@ -294,7 +308,9 @@ impl Words<'_> {
 /// The instruction of a line, or its first fault from the left.
 pub fn parse_line(line: &[u8]) -> Result<Instr, LineFault>
     requires { length line.now < 2 ^ 32 - 1 }
-    ensures { result ≡ line_of line.now }
+    ensures value { result ≡ line_of line.now }
+    // What a line gives has a canonical line.
+    ensures writable { IfOk result (λ instr. IsTrue (is_line instr)) }
 {
     let mut words = Words::of_line(line);
     let first = words.word()?;

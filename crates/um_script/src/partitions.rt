@@ -1,7 +1,9 @@
 //! Partitions, by name or by what they are.
 
-ghost use Rattle.std.specs.Prelude.{◌≡◌, find, bytes_eq};
+ghost use Rattle.std.specs.Prelude.{◌≡◌, find, bytes_eq, IfOk, IsTrue};
+ghost use Rattle.um_base.specs.Lawful.{is_named_attr};
 ghost use Rattle.um_script.specs.Operands as operands;
+ghost use Rattle.um_script.specs.Writable.{is_part};
 
 use crate::cut::cut;
 use crate::fault::LineKind;
@@ -41,14 +43,16 @@ fn find_rights(word: &[u8]) -> Option<Attr>
 }
 
 fn rights(word: &[u8]) -> Result<Attr, LineKind>
-    ensures { result ≡ operands.rights word.now }
+    ensures value { result ≡ operands.rights word.now }
+    ensures fits { IfOk result (λ a. IsTrue (is_named_attr a)) }
 {
     find_rights(word).ok_or(LineKind::Operand)
 }
 
 /// An address, a size and rights: the form of all three comes before the range of any.
 fn given_part(start: &[u8], size: &[u8], attr: &[u8]) -> Result<PartRef, LineKind>
-    ensures { result ≡ operands.given_part start.now size.now attr.now }
+    ensures value { result ≡ operands.given_part start.now size.now attr.now }
+    ensures fits { IfOk result (λ p. IsTrue (is_part p)) }
 {
     if !is_number(start) || !is_number(size) {
         return Err(LineKind::Operand);
@@ -63,7 +67,8 @@ fn given_part(start: &[u8], size: &[u8], attr: &[u8]) -> Result<PartRef, LineKin
 }
 
 fn part_from(start: &[u8], rest: &[u8]) -> Result<PartRef, LineKind>
-    ensures { result ≡ operands.part_from start.now rest.now }
+    ensures value { result ≡ operands.part_from start.now rest.now }
+    ensures fits { IfOk result (λ p. IsTrue (is_part p)) }
 {
     match cut(b'/', rest) {
         None => Err(LineKind::Operand),
@@ -73,7 +78,8 @@ fn part_from(start: &[u8], rest: &[u8]) -> Result<PartRef, LineKind>
 
 /// A partition's name, or its address, size and rights with `/` between them.
 pub fn part(word: &[u8]) -> Result<PartRef, LineKind>
-    ensures { result ≡ operands.part word.now }
+    ensures value { result ≡ operands.part word.now }
+    ensures fits { IfOk result (λ p. IsTrue (is_part p)) }
 {
     match cut(b'/', word) {
         None => named_part(word),
@@ -82,7 +88,8 @@ pub fn part(word: &[u8]) -> Result<PartRef, LineKind>
 }
 
 fn named_part(word: &[u8]) -> Result<PartRef, LineKind>
-    ensures { result ≡ operands.named_part word.now }
+    ensures value { result ≡ operands.named_part word.now }
+    ensures fits { IfOk result (λ p. IsTrue (is_part p)) }
 {
     if is_name(word) {
         Ok(PartRef::Named(Name::from_bytes(word)))

@@ -1,7 +1,9 @@
 //! Registers, places and numbers.
 
-ghost use Rattle.std.specs.Prelude.{◌≡◌};
+ghost use Rattle.std.specs.Prelude.{◌≡◌, ◌≤◌, IfOk, IsTrue};
+ghost use Rattle.um_base.specs.Lawful.{is_register};
 ghost use Rattle.um_script.specs.Operands as operands;
+ghost use Rattle.um_script.specs.Writable.{is_term, is_named};
 
 use crate::cut::cut;
 use crate::fault::LineKind;
@@ -11,7 +13,8 @@ use um_base::{Name, Ref, Term};
 
 /// A register, `r0` to `r7`.
 pub fn register(word: &[u8]) -> Result<u8, LineKind>
-    ensures { result ≡ operands.register word.now }
+    ensures value { result ≡ operands.register word.now }
+    ensures fits { IfOk result (λ r. IsTrue (is_register r)) }
 {
     match word {
         b"r0" => Ok(0),
@@ -27,7 +30,9 @@ pub fn register(word: &[u8]) -> Result<u8, LineKind>
 }
 
 fn at_offset(bytes: &[u8], offset: Result<u32, LineKind>) -> Result<Term, LineKind>
-    ensures { result ≡ operands.at_offset bytes.now offset }
+    requires { IfOk offset (λ n. n ≤ 65536) }
+    ensures value { result ≡ operands.at_offset bytes.now offset }
+    ensures fits { IfOk result (λ t. IsTrue (is_term t)) }
 {
     if is_place_name(bytes) {
         Ok(Term::Place {
@@ -41,7 +46,8 @@ fn at_offset(bytes: &[u8], offset: Result<u32, LineKind>) -> Result<Term, LineKi
 
 /// A place, behind its `@`.
 fn place(bytes: &[u8]) -> Result<Term, LineKind>
-    ensures { result ≡ operands.place bytes.now }
+    ensures value { result ≡ operands.place bytes.now }
+    ensures fits { IfOk result (λ t. IsTrue (is_term t)) }
 {
     match cut(b'+', bytes) {
         None => at_offset(bytes, Ok(0)),
@@ -51,7 +57,8 @@ fn place(bytes: &[u8]) -> Result<Term, LineKind>
 
 /// A place, a register or a number.
 pub fn term(word: &[u8]) -> Result<Term, LineKind>
-    ensures { result ≡ operands.term word.now }
+    ensures value { result ≡ operands.term word.now }
+    ensures fits { IfOk result (λ t. IsTrue (is_term t)) }
 {
     match word {
         [b'@', rest @ ..] => place(rest),
@@ -62,7 +69,8 @@ pub fn term(word: &[u8]) -> Result<Term, LineKind>
 
 /// The name of a domain or of a script.
 pub fn named(word: &[u8]) -> Result<Ref, LineKind>
-    ensures { result ≡ operands.named word.now }
+    ensures value { result ≡ operands.named word.now }
+    ensures fits { IfOk result (λ r. IsTrue (is_named r)) }
 {
     if is_name(word) {
         Ok(Ref::Named(Name::from_bytes(word)))
