@@ -5,3 +5,5 @@ pub mod PartLoop
 pub mod DigitsAgain
 pub mod FoundLemmas
 pub mod WordAgain
+pub mod NameAgain
+pub mod TermAgain

@@ -54,9 +54,13 @@ is_place_name bytes = is_name bytes || bytes_eq bytes (codes "rodata")
 abbrev pub at_offset : List ℕ → Result ℕ LineKind → Result Term LineKind
 at_offset bytes offset = if is_place_name bytes then (offset >>= λ n. Ok (Term.Place bytes n)) else Err LineKind.Operand
 
+abbrev pub place_cut : List ℕ → Option (List ℕ × List ℕ) → Result Term LineKind
+place_cut bytes None = at_offset bytes (Ok 0)
+place_cut bytes (Some x) = at_offset x.0 (digits false 10 65536 x.1)
+
 -- a name, or a name, `+` and 1 to 10 digits
 abbrev pub place : List ℕ → Result Term LineKind
-place bytes = elim (cut 43 bytes) [ None ↦ at_offset bytes (Ok 0) | Some x ↦ at_offset x.0 (digits false 10 65536 x.1) ]
+place bytes = place_cut bytes (cut 43 bytes)
 
 -- a place behind `@`, a register, or a number
 abbrev pub term : List ℕ → Result Term LineKind
@@ -92,16 +96,24 @@ given_part start bytes attr =
       Ok (PartRef.Given (record { start = record { 0 = s }; size = n }) a))
     else Err LineKind.Operand
 
+abbrev pub part_from_cut : List ℕ → Option (List ℕ × List ℕ) → Result PartRef LineKind
+part_from_cut start None = Err LineKind.Operand
+part_from_cut start (Some x) = given_part start x.0 x.1
+
 -- `ADDR/SIZE/ATTR` behind its first `/`
 abbrev pub part_from : List ℕ → List ℕ → Result PartRef LineKind
-part_from start rest = elim (cut 47 rest) [ None ↦ Err LineKind.Operand | Some x ↦ given_part start x.0 x.1 ]
+part_from start rest = part_from_cut start (cut 47 rest)
 
 abbrev pub named_part : List ℕ → Result PartRef LineKind
 named_part bytes = if is_name bytes then Ok (PartRef.Named bytes) else Err LineKind.Operand
 
+abbrev pub part_cut : List ℕ → Option (List ℕ × List ℕ) → Result PartRef LineKind
+part_cut bytes None = named_part bytes
+part_cut bytes (Some x) = part_from x.0 x.1
+
 -- a partition's name, or its address, size and rights with `/` between them
 abbrev pub part : List ℕ → Result PartRef LineKind
-part bytes = elim (cut 47 bytes) [ None ↦ named_part bytes | Some x ↦ part_from x.0 x.1 ]
+part bytes = part_cut bytes (cut 47 bytes)
 
 -- the kinds that can be allocated
 abbrev pub kind_word : Kind → List ℕ
