@@ -7,3 +7,4 @@ pub mod FoundLemmas
 pub mod WordAgain
 pub mod NameAgain
 pub mod TermAgain
+pub mod LineAgain

@@ -80,7 +80,8 @@ cut_some mark t u h =
     let long = length-append t (mark ∷ u) in
     let yes : nat_lt (length t) (length (t ++ (mark ∷ u))) ≡ true = grind (arith, nat_tests) in
     let some : position (λ b. b == mark) (t ++ (mark ∷ u)) ≡ Some (length t) = rw (e, yes) refl in
-    ap (option_map (λ k. (take k (t ++ (mark ∷ u)), drop (k + 1) (t ++ (mark ∷ u))))) some ∙ rw (take_at t (mark ∷ u) (length t) refl, drop_behind t u mark) refl
+    let parted : cut mark (t ++ (mark ∷ u)) ≡ Some (take (length t) (t ++ (mark ∷ u)), drop (length t + 1) (t ++ (mark ∷ u))) = ap (option_map (λ k. (take k (t ++ (mark ∷ u)), drop (k + 1) (t ++ (mark ∷ u))))) some in
+    parted ∙ ap (λ (x : List ℕ × List ℕ). Some x) (rw (take_at t (mark ∷ u) (length t) refl, drop_behind t u mark) refl)
 
 -- ---- numbers and registers
 

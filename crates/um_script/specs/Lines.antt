@@ -26,14 +26,15 @@ alone instr (word bytes column rest) = Err (record { kind = LineKind.Extra; colu
 abbrev pub whole : Mnemonic → Words → Result Instr LineFault
 whole mnemonic words = instruction mnemonic words >>= λ read. alone read.0 read.1
 
+-- what follows the first word, by what that names
+abbrev pub behind_first : ℕ → Words → Option Mnemonic → Result Instr LineFault
+behind_first column rest None = Err (record { kind = LineKind.UnknownWord; column = column })
+behind_first column rest (Some mnemonic) = whole mnemonic rest
+
 -- an instruction, its operands, and no more: or the first fault from the left
 abbrev pub line_of_words : Words → Result Instr LineFault
 line_of_words (ends column) = Err (record { kind = LineKind.Missing; column = column })
-line_of_words (word bytes column rest) =
-    elim (mnemonic_of bytes) [
-      | None ↦ Err (record { kind = LineKind.UnknownWord; column = column })
-      | Some mnemonic ↦ whole mnemonic rest
-    ]
+line_of_words (word bytes column rest) = behind_first column rest (mnemonic_of bytes)
 
 abbrev pub line_of : List ℕ → Result Instr LineFault
 line_of line = line_of_words (words_of_line line)

@@ -1,7 +1,9 @@
 //! Instructions to their canonical lines.
 
-ghost use Rattle.std.specs.Prelude.{◌≡◌, ◌∷◌, ◌++◌, decimal, IfOk, OnOk};
+ghost use Rattle.std.specs.Prelude.{◌≡◌, ◌∷◌, ◌++◌, IfOk, IsTrue, Ok, OnOk};
 ghost use Rattle.um_script.specs.Canonical as canonical;
+ghost use Rattle.um_script.specs.Lines.{line_of};
+ghost use Rattle.um_script.specs.Writable.{is_line};
 
 use crate::mnemonic::{
     DomainCall, Mnemonic, MsgqCall, MutexCall, ObjectCall, PipeCall, Plain, SemCall, StackCall, ThreadCall,
@@ -11,7 +13,7 @@ use crate::writing::{
 };
 use crate::choices::kind_word;
 use std::alloc::Global;
-use um_base::{Instr, Memory, Term, Timeout};
+use um_base::{Instr, Memory, Term};
 
 /// What a line of the instruction begins with.
 pub fn mnemonic(line: &Instr) -> Mnemonic
@@ -168,9 +170,11 @@ fn put_operands(text: &mut Vec<u8>, line: &Instr) -> Result<(), Memory>
     }
 }
 
-/// The canonical line of an instruction.
+/// The canonical line of an instruction that a line can give.
 pub fn print_line(alloc: Global, line: &Instr) -> Result<Vec<u8>, Memory>
+    requires { IsTrue (is_line line.now) }
     ensures text { IfOk result (λ text. text.items ≡ canonical.canonical line.now) }
+    ensures again { IfOk result (λ text. line_of text.items ≡ Ok line.now) }
 {
     let mut text = Vec::from_slice(alloc, mnemonic(line).word())?;
     put_operands(&mut text, line)?;
