@@ -1,11 +1,10 @@
 -- Numbers that are written in decimal are read back.
-use Rattle.std.proofs.Common.{◌≡◌, ℕ, suc, ◌+◌, ◌-◌, ◌*◌, ◌/◌, ◌%◌, ◌^◌, ◌≤◌, ◌<◌, Bool, true, false, cond, ◌&&◌, List, [], ◌∷◌, ◌++◌, length, take, drop, codes, bytes_eq, Result, Ok, Err, IsTrue, refl, sym, ap, subst, ◌∙◌, arith, decimal, nat_le, nat_lt, ◌==◌}
+use Rattle.std.proofs.Common.{◌≡◌, ℕ, ◌+◌, ◌-◌, ◌*◌, ◌/◌, ◌%◌, ◌^◌, ◌≤◌, ◌<◌, Bool, true, false, ◌&&◌, List, [], ◌∷◌, ◌++◌, length, Ok, IsTrue, refl, ◌∙◌, arith, decimal, nat_le}
 use Rattle.std.specs.List.{list_all}
 use Rattle.std.proofs.lemmas.Bool.Decides.{nat_tests}
 use Rattle.std.proofs.lemmas.List.Folds.{list_all-append}
 use Rattle.std.proofs.lemmas.Fmt.{decimal_by_steps, length-decimal-le, decimal_nonempty}
-use Rattle.um_script.specs.declared.fault.LineKind.{LineKind}
-use Rattle.um_script.specs.Numbers.{value_from, base, digit_value, is_digit, are_digits, in_range, digits, is_hexadecimal, is_number, number}
+use Rattle.um_script.specs.Numbers.{value_from, base, digit_value, is_digit, digits, is_hexadecimal, is_number, number}
 
 -- both tests hold
 pub and_true : (a b : Bool) → IsTrue (a && b) → IsTrue a × IsTrue b

@@ -1,5 +1,5 @@
 -- What is found in a list passes what all of the list pass.
-use Rattle.std.proofs.Common.{◌≡◌, Bool, true, false, ◌&&◌, List, [], ◌∷◌, Result, IsTrue, refl}
+use Rattle.std.proofs.Common.{◌≡◌, Bool, true, false, List, [], ◌∷◌, IsTrue, refl}
 use Rattle.std.specs.Prelude.{find, ok_or, IfOk}
 use Rattle.std.specs.List.{list_all}
 use Rattle.um_script.proofs.DigitsAgain.{and_true}

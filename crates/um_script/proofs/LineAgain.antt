@@ -1,5 +1,5 @@
 -- A canonical line is read back to its instruction.
-use Rattle.std.proofs.Common.{◌≡◌, ℕ, zero, suc, ◌+◌, ◌^◌, ◌≤◌, ◌<◌, Bool, true, false, ◌&&◌, nat_le, List, [], ◌∷◌, ◌++◌, length, Option, Some, None, Result, Ok, Err, IsTrue, decimal, ℤ, refl, sym, ap, subst, ◌∙◌, arith, add-zero, append_assoc, lit<}
+use Rattle.std.proofs.Common.{◌≡◌, ℕ, zero, suc, ◌+◌, ◌^◌, ◌≤◌, ◌<◌, false, nat_le, List, [], ◌∷◌, ◌++◌, length, Some, Result, Ok, IsTrue, decimal, refl, sym, ap, ◌∙◌, arith, append_assoc, lit<}
 use Rattle.std.specs.Fmt.{signed_decimal}
 use Rattle.std.specs.List.{prefix_len, list_all}
 use Rattle.std.proofs.lemmas.Bool.Decides.{nat_tests}
@@ -18,12 +18,11 @@ use Rattle.um_script.specs.declared.mnemonic.MsgqCall.{MsgqCall}
 use Rattle.um_script.specs.declared.mnemonic.StackCall.{StackCall}
 use Rattle.um_script.specs.declared.mnemonic.PipeCall.{PipeCall}
 use Rattle.um_script.specs.Canonical.{Operand, part_text, with_parts, with_operand, with_operands, term_text, named_text, options_word, mnemonic, operands_of, canonical}
-use Rattle.um_script.specs.Faults.{◌>>=◌}
 use Rattle.um_script.specs.Instructions.{spelling, syntax}
-use Rattle.um_script.specs.Lines.{mnemonic_of, instruction, alone, whole, behind_first, line_of_words, line_of}
+use Rattle.um_script.specs.Lines.{mnemonic_of, whole, behind_first, line_of_words, line_of}
 use Rattle.um_script.specs.Numbers.{times, priority}
-use Rattle.um_script.specs.Operands.{Form, Times, Register, Size, AnyTerm, Named, Part, Parts, ObjectKind, Wait, Priority, OptionSet, Value, Syntax, takes, makes, operand, reading, placed, one, part, parts, register, size, term, named, kind, timeout, options, kind_word, timeout_word}
-use Rattle.um_script.specs.Words.{Words, ends, word, words_from, words_of_line, is_word_byte}
+use Rattle.um_script.specs.Operands.{Form, Times, Register, Size, AnyTerm, Named, Part, Parts, ObjectKind, Wait, Priority, OptionSet, Value, Syntax, takes, makes, operand, reading, part, parts, register, size, term, named, kind, timeout, options, kind_word, timeout_word}
+use Rattle.um_script.specs.Words.{Words, word, words_from, words_of_line, is_word_byte}
 use Rattle.um_script.specs.Writable.{fits, all_fit, is_line, is_part}
 use Rattle.um_script.proofs.DigitsAgain.{and_true}
 use Rattle.um_script.proofs.NameAgain.{IsWord-decimal, IsWord-more, IsWord-named, times_again, register_again, size_again, named_again}
@@ -96,7 +95,7 @@ parts_again (p ∷ ps) (suc n) column le h =
     let free : IsFree (with_parts [] ps) = ap (prefix_len is_word_byte) (sym (append-nil (with_parts [] ps))) ∙ free_parts ps [] refl in
     let next = parts_again ps n (column + 1 + length (part_text p)) (omega arith) both.1 in
     let first : words_from false column (with_parts [] (p ∷ ps)) ≡ word (part_text p) (column + 1) (words_from false (column + 1 + length (part_text p)) (with_parts [] ps))
-      = ap (words_from false column) (with_parts-front (32 ∷ part_text p) ps) ∙ word_again (column + 1) (part_text p) (with_parts [] ps) (IsWord-part p both.0) free in
+    = ap (words_from false column) (with_parts-front (32 ∷ part_text p) ps) ∙ word_again (column + 1) (part_text p) (with_parts [] ps) (IsWord-part p both.0) free in
     (next.0, rw (first, part_again p both.0, next.1) refl)
 
 -- what has to follow an operand: nothing behind partitions, which are as many as there are
@@ -269,6 +268,6 @@ canonical_again instr h =
     let text : canonical instr ≡ spelling (mnemonic instr) ++ rest = with_operands-front (spelling (mnemonic instr)) (operands_of instr) in
     let back = reads_again (syntax (mnemonic instr)) (operands_of instr) instr (1 + length (spelling (mnemonic instr))) (follows instr) h in
     let words : words_of_line (canonical instr) ≡ word (spelling (mnemonic instr)) 1 (words_from false (1 + length (spelling (mnemonic instr))) rest)
-      = ap words_of_line text ∙ word_again 1 (spelling (mnemonic instr)) rest first.one_word (free_operands (operands_of instr)) in
+    = ap words_of_line text ∙ word_again 1 (spelling (mnemonic instr)) rest first.one_word (free_operands (operands_of instr)) in
     let read : whole (mnemonic instr) (words_from false (1 + length (spelling (mnemonic instr))) rest) ≡ Ok instr = rw back.1 refl in
     ap line_of_words words ∙ ap (behind_first 1 (words_from false (1 + length (spelling (mnemonic instr))) rest)) first.known ∙ read

@@ -1,29 +1,19 @@
 -- Operands that are written are read back.
-use Rattle.std.proofs.Common.{◌≡◌, ℕ, zero, suc, ◌+◌, ◌-◌, ◌^◌, ◌<◌, ◌≤◌, Bool, true, false, cond, not, ◌&&◌, ◌||◌, ◌==◌, nat_lt, nat_le, List, [], ◌∷◌, ◌++◌, length, take, drop, codes, bytes_eq, Option, Some, None, Result, Ok, Err, IsTrue, decimal, ℤ, pos, negsuc, refl, sym, ap, subst, ◌∙◌, arith, add-zero, append_assoc}
+use Rattle.std.proofs.Common.{◌≡◌, ℕ, zero, suc, ◌+◌, ◌-◌, ◌^◌, ◌<◌, ◌≤◌, Bool, true, false, not, ◌&&◌, ◌==◌, nat_lt, nat_le, List, [], ◌∷◌, ◌++◌, length, take, drop, codes, bytes_eq, Some, None, Ok, IsTrue, decimal, refl, ap, ◌∙◌, arith}
 use Rattle.std.specs.Prelude.{position, option_map}
-use Rattle.std.specs.Fmt.{signed_decimal}
 use Rattle.std.specs.List.{prefix_len, list_all}
 use Rattle.std.proofs.lemmas.Bool.Decides.{nat_tests}
 use Rattle.std.proofs.lemmas.Fmt.{decimal_digit, decimal_nonempty}
-use Rattle.std.proofs.lemmas.List.{take_at, drop_at, append-nil, length-append}
+use Rattle.std.proofs.lemmas.List.{take_at, length-append}
 use Rattle.std.proofs.lemmas.Slice.Eq.{bytes_eq-Decides}
-use Rattle.um_base.specs.Lawful.{is_name, is_name_byte, is_register, is_size, is_within, is_dynamic_kind, is_named_attr, begins_with_letter, is_letter}
-use Rattle.um_base.specs.declared.attr.Attr.{Attr}
-use Rattle.um_base.specs.declared.instr.Options.{Options}
-use Rattle.um_base.specs.declared.names.Kind.{Kind}
-use Rattle.um_base.specs.declared.names.PartRef.{PartRef}
-use Rattle.um_base.specs.declared.names.Range.{Range}
+use Rattle.um_base.specs.Lawful.{is_name, is_name_byte, is_register, is_size, is_within, begins_with_letter}
 use Rattle.um_base.specs.declared.names.Ref.{Ref}
-use Rattle.um_base.specs.declared.names.Term.{Term}
-use Rattle.um_base.specs.declared.names.Timeout.{Timeout}
-use Rattle.um_script.specs.declared.fault.LineKind.{LineKind}
-use Rattle.um_script.specs.Faults.{◌>>=◌}
-use Rattle.um_script.specs.Numbers.{is_digit, digits, number, is_number, times, priority, is_negative, in_range}
-use Rattle.um_script.specs.Operands.{cut, place, at_offset, is_place_name, term, register, registers, size, named, part, named_part, part_from, given_part, rights, rights_word, kind, kind_word, timeout, timeout_word, options, more_options, begins_with}
+use Rattle.um_script.specs.Numbers.{is_digit, times}
+use Rattle.um_script.specs.Operands.{cut, is_place_name, register, size, named}
 use Rattle.um_script.specs.Words.{is_word_byte}
-use Rattle.um_script.specs.Canonical.{term_text, offset_text, named_text, part_text, options_word}
-use Rattle.um_script.specs.Writable.{is_term, is_named, is_part, is_priority, is_word32}
-use Rattle.um_script.proofs.DigitsAgain.{and_true, list_all-weaker, decimal-spells, digits_again, number_again, is_number_again}
+use Rattle.um_script.specs.Canonical.{named_text}
+use Rattle.um_script.specs.Writable.{is_named, is_word32}
+use Rattle.um_script.proofs.DigitsAgain.{and_true, list_all-weaker, decimal-spells, number_again}
 use Rattle.um_script.proofs.WordAgain.{IsWord}
 
 -- ---- words

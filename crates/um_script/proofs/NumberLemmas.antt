@@ -1,6 +1,5 @@
 -- What digits spell.
-use Rattle.std.proofs.Common.{◌≡◌, ℕ, suc, ◌+◌, ◌*◌, ◌≤◌, ◌<◌, Bool, true, false, List, [], ◌∷◌, length, get_or, drop, Result, Ok, Err, refl, sym, ap, ◌∙◌, arith, add-one, drop-cons}
-use Rattle.std.proofs.lemmas.Bool.{lt-leb}
+use Rattle.std.proofs.Common.{◌≡◌, ℕ, suc, ◌+◌, ◌*◌, ◌≤◌, ◌<◌, Bool, true, false, List, [], ◌∷◌, length, get_or, drop, Err, refl, sym, arith, drop-cons}
 use Rattle.um_script.specs.declared.fault.LineKind.{LineKind}
 use Rattle.um_script.specs.Numbers.{value_from, base, digit_value, in_range}
 

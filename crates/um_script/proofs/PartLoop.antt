@@ -7,7 +7,7 @@ use Rattle.um_base.specs.declared.names.PartRef.{PartRef}
 use Rattle.um_script.specs.declared.fault.LineFault.{LineFault}
 use Rattle.um_script.specs.declared.fault.LineKind.{LineKind}
 use Rattle.um_script.specs.Faults.{◌>>=◌}
-use Rattle.um_script.specs.Operands.{placed, part, parts}
+use Rattle.um_script.specs.Operands.{part, parts}
 use Rattle.um_script.specs.Writable.{is_part}
 use Rattle.um_script.specs.Words.{Words, ends, word}
 

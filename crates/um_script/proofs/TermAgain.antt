@@ -1,27 +1,25 @@
 -- Terms, partitions and other operands that are written are read back.
-use Rattle.std.proofs.Common.{◌≡◌, ℕ, zero, suc, ◌+◌, ◌-◌, ◌^◌, ◌<◌, ◌≤◌, Bool, true, false, cond, not, ◌&&◌, ◌||◌, ◌==◌, nat_lt, nat_le, List, [], ◌∷◌, ◌++◌, length, take, drop, codes, bytes_eq, Option, Some, None, Result, Ok, Err, IsTrue, decimal, ℤ, pos, negsuc, refl, sym, ap, subst, ◌∙◌, arith, add-zero, append_assoc, inl, inr, ◌⊎◌, lit<}
+use Rattle.std.proofs.Common.{◌≡◌, ℕ, zero, suc, ◌-◌, ◌^◌, ◌<◌, ◌≤◌, Bool, true, false, not, ◌&&◌, ◌==◌, nat_le, List, [], ◌∷◌, ◌++◌, Some, None, Result, Ok, IsTrue, decimal, ℤ, pos, negsuc, refl, sym, ap, subst, ◌∙◌, arith, append_assoc, inl, inr, ◌⊎◌, lit<}
 use Rattle.std.specs.Fmt.{signed_decimal}
 use Rattle.std.specs.List.{list_all}
 use Rattle.std.proofs.lemmas.Bool.Decides.{nat_tests}
 use Rattle.std.proofs.lemmas.List.{append-nil, length-append}
 use Rattle.std.proofs.lemmas.List.Folds.{list_all-append}
-use Rattle.um_base.specs.Lawful.{is_name, is_name_byte, is_register, is_dynamic_kind, is_named_attr}
+use Rattle.um_base.specs.Lawful.{is_name_byte, is_dynamic_kind, is_named_attr}
 use Rattle.um_base.specs.declared.attr.Attr.{Attr}
 use Rattle.um_base.specs.declared.instr.Options.{Options}
 use Rattle.um_base.specs.declared.names.Kind.{Kind}
 use Rattle.um_base.specs.declared.names.PartRef.{PartRef}
-use Rattle.um_base.specs.declared.names.Range.{Range}
 use Rattle.um_base.specs.declared.names.Term.{Term}
 use Rattle.um_base.specs.declared.names.Timeout.{Timeout}
 use Rattle.um_script.specs.declared.fault.LineKind.{LineKind}
-use Rattle.um_script.specs.Faults.{◌>>=◌}
-use Rattle.um_script.specs.Numbers.{is_digit, digits, number, is_number, priority, is_negative}
-use Rattle.um_script.specs.Operands.{cut, place, place_cut, at_offset, is_place_name, term, register, part, part_cut, named_part, part_from, part_from_cut, given_part, rights, rights_word, kind, kind_word, timeout, timeout_word, options, more_options, begins_with}
+use Rattle.um_script.specs.Numbers.{is_digit, digits, priority, is_negative}
+use Rattle.um_script.specs.Operands.{cut, place, place_cut, at_offset, is_place_name, term, part, part_cut, part_from_cut, given_part, rights, rights_word, kind, kind_word, timeout, timeout_word, options, more_options, begins_with}
 use Rattle.um_script.specs.Words.{is_word_byte}
 use Rattle.um_script.specs.Canonical.{term_text, offset_text, part_text, options_word, options_by}
 use Rattle.um_script.specs.Writable.{is_term, is_part, is_priority, is_word32}
 use Rattle.um_script.proofs.DigitsAgain.{and_true, list_all-weaker, decimal-spells, digits_again, number_again, is_number_again}
-use Rattle.um_script.proofs.NameAgain.{digit_in_word, name_in_word, IsWord-decimal, IsWord-more, IsWord-name, word32-le, cut_none, cut_some, register_again, name_bytes, place_name_bytes, no_plus_name, no_slash_name, no_slash_digit}
+use Rattle.um_script.proofs.NameAgain.{name_in_word, IsWord-decimal, IsWord-more, IsWord-name, word32-le, cut_none, cut_some, register_again, name_bytes, place_name_bytes, no_plus_name, no_slash_name, no_slash_digit}
 use Rattle.um_script.proofs.WordAgain.{IsWord}
 
 -- ---- places
@@ -129,7 +127,7 @@ given_again start size n hs hz ha =
     let first : cut 47 (decimal start ++ (47 ∷ rest)) ≡ Some (decimal start, rest) = cut_some 47 (decimal start) rest (no_slash start ls) in
     let second : cut 47 rest ≡ Some (decimal size, rights_word attr) = cut_some 47 (decimal size) (rights_word attr) (no_slash size lz) in
     let read : given_part (decimal start) (decimal size) (rights_word attr) ≡ Ok (PartRef.Given (record { start = record { 0 = start }; size = size }) attr)
-      = rw (is_number_again start ls, is_number_again size lz, (rights_again n ha).read, number_again start ls, number_again size lz) refl in
+    = rw (is_number_again start ls, is_number_again size lz, (rights_again n ha).read, number_again start ls, number_again size lz) refl in
     ap part (given_text start size attr) ∙ ap (part_cut (decimal start ++ (47 ∷ rest))) first ∙ ap (part_from_cut (decimal start)) second ∙ read
 
 pub part_again : (p : PartRef) → IsTrue (is_part p) → part (part_text p) ≡ Ok p

@@ -1,10 +1,10 @@
 -- A word that is written behind a space is read back.
-use Rattle.std.proofs.Common.{◌≡◌, ℕ, suc, ◌+◌, ◌<◌, ◌≤◌, Bool, true, false, List, [], ◌∷◌, ◌++◌, length, take, drop, Result, Ok, IsTrue, refl, sym, ap, ◌∙◌, arith, add-zero}
+use Rattle.std.proofs.Common.{◌≡◌, ℕ, ◌+◌, ◌<◌, true, false, List, [], ◌∷◌, ◌++◌, length, take, drop, Result, Ok, IsTrue, refl, sym, ◌∙◌, arith}
 use Rattle.std.specs.List.{prefix_len, list_all}
 use Rattle.std.proofs.lemmas.List.{take_at, drop_at}
 use Rattle.um_script.specs.declared.fault.LineKind.{LineKind}
 use Rattle.um_script.specs.Operands.{one}
-use Rattle.um_script.specs.Words.{Words, ends, word, words_from, is_space, is_word_byte}
+use Rattle.um_script.specs.Words.{word, words_from, is_space, is_word_byte}
 use Rattle.um_script.proofs.DigitsAgain.{and_true}
 use Rattle.um_script.proofs.WordLemmas.{one_word}
 
@@ -38,7 +38,7 @@ word_again column t rest w free =
     let some : prefix_len is_word_byte (t ++ rest) ≡ 0 → ⊥ = λ none. let e : length t ≡ 0 = sym len ∙ none in omega (arith, e, w.some) in
     let read = one_word column (t ++ rest) (no_space_first t rest w) some in
     let at : (k : ℕ) → k ≡ length t → word (take k (t ++ rest)) column (words_from false (column + k) (drop k (t ++ rest))) ≡ word t column (words_from false (column + length t) rest)
-      = λ k e. rw (e, take_at t rest (length t) refl, drop_at t rest (length t) refl) refl in
+    = λ k e. rw (e, take_at t rest (length t) refl, drop_at t rest (length t) refl) refl in
     read ∙ at _ len
 
 -- an operand of one word, behind a space

@@ -1,5 +1,5 @@
 -- The words behind spaces, and behind a word.
-use Rattle.std.proofs.Common.{◌≡◌, ℕ, suc, ◌+◌, Bool, true, false, List, [], ◌∷◌, length, take, drop, refl, sym, ap, ◌∙◌, arith, add-zero}
+use Rattle.std.proofs.Common.{◌≡◌, ℕ, suc, ◌+◌, true, false, List, [], ◌∷◌, length, take, drop, refl, sym, ap, ◌∙◌, arith, add-zero}
 use Rattle.std.specs.List.{prefix_len}
 use Rattle.um_script.specs.Words.{Words, ends, word, words_from, is_space, is_word_byte}
 

@@ -1,7 +1,6 @@
 -- The canonical line of an instruction: one space before each operand, numbers in decimal, a place of offset 0 without it, options in one order.
-use Rattle.std.specs.Prelude.{ℕ, List, [], ◌∷◌, ◌++◌, codes, decimal, Bool, true, false, ◌==◌, ◌&&◌, nat_le, if◌then◌else◌, ℤ, pos, negsuc}
+use Rattle.std.specs.Prelude.{ℕ, List, [], ◌∷◌, ◌++◌, codes, decimal, Bool, true, false, ◌==◌, if◌then◌else◌}
 use Rattle.std.specs.Fmt.{signed_decimal}
-
 use Rattle.um_base.specs.declared.instr.Instr.{Instr}
 use Rattle.um_base.specs.declared.instr.Options.{Options}
 use Rattle.um_base.specs.declared.names.PartRef.{PartRef}

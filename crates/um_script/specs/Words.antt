@@ -1,5 +1,5 @@
 -- The words of a line: what stands between its spaces.
-use Rattle.std.specs.Prelude.{ℕ, ◌+◌, List, [], ◌∷◌, Bool, true, false, not, ◌==◌, ◌||◌, if◌then◌else◌}
+use Rattle.std.specs.Prelude.{ℕ, ◌+◌, List, [], ◌∷◌, Bool, false, not, ◌==◌, ◌||◌, if◌then◌else◌}
 use Rattle.std.specs.List.{take_while}
 
 abbrev pub is_space : ℕ → Bool

@@ -74,7 +74,10 @@ pub fn timeout_word(timeout: Timeout) -> &'static [u8]
 fn find_timeout(word: &[u8]) -> Option<Timeout>
     ensures { result ≡ find (λ t. bytes_eq word.now (operands.timeout_word t)) operands.timeouts }
 {
-    TIMEOUTS.iter().copied().find(|timeout| word == timeout_word(*timeout))
+    TIMEOUTS
+        .iter()
+        .copied()
+        .find(|timeout| word == timeout_word(*timeout))
 }
 
 /// How long a call waits.
@@ -85,7 +88,9 @@ pub fn timeout(word: &[u8]) -> Result<Timeout, LineKind>
 }
 
 const USER: &[u8] = b"K_USER";
+
 const INHERIT: &[u8] = b"K_INHERIT_PERMS";
+
 const ESSENTIAL: &[u8] = b"K_ESSENTIAL";
 
 /// One more option, which doesn't stand yet.

@@ -18,3 +18,6 @@ mod writing;
 pub use fault::{LineFault, LineKind};
 pub use parse::parse_line;
 pub use print::print_line;
+
+#[cfg(test)]
+mod tests;

@@ -61,12 +61,7 @@ fn value(hexadecimal: bool, limit: u32, digits: &[u8]) -> Result<u32, LineKind>
 }
 
 /// A number of 1 to `most` digits, of at most `limit`.
-pub fn digits(
-    hexadecimal: bool,
-    most: usize,
-    limit: u32,
-    bytes: &[u8],
-) -> Result<u32, LineKind>
+pub fn digits(hexadecimal: bool, most: usize, limit: u32, bytes: &[u8]) -> Result<u32, LineKind>
     ensures value { result ≡ numbers.digits hexadecimal most limit bytes.now }
     ensures small { IfOk result (λ n. n ≤ limit) }
 {

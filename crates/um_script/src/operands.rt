@@ -7,12 +7,9 @@ ghost use Rattle.um_script.specs.Numbers as numbers;
 ghost use Rattle.um_script.specs.Operands as operands;
 ghost use Rattle.um_script.specs.Writable.{fits};
 
-use crate::choices;
 use crate::fault::{LineFault, LineKind};
-use crate::numbers;
-use crate::partitions;
-use crate::terms;
 use crate::words::{Word, Words};
+use crate::{choices, numbers, partitions, terms};
 use um_base::{Kind, NAMED_PARTITIONS, Options, PartRef, PartRefs, Ref, Term, Timeout};
 
 impl Word<'_> {

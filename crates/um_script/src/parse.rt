@@ -8,7 +8,8 @@ ghost use Rattle.um_script.specs.Writable.{is_line};
 
 use crate::fault::{LineFault, LineKind};
 use crate::mnemonic::{
-    DomainCall, Mnemonic, MsgqCall, MutexCall, ObjectCall, PipeCall, Plain, SemCall, StackCall, ThreadCall,
+    DomainCall, Mnemonic, MsgqCall, MutexCall, ObjectCall, PipeCall, Plain, SemCall, StackCall,
+    ThreadCall,
 };
 use crate::words::Words;
 use um_base::Instr;
@@ -43,9 +44,7 @@ impl Words<'_> {
                 size: self.size()?,
                 value: self.term()?,
             }),
-            Plain::Exec => Ok(Instr::Exec {
-                addr: self.term()?,
-            }),
+            Plain::Exec => Ok(Instr::Exec { addr: self.term()? }),
         }
     }
 

@@ -39,7 +39,10 @@ pub fn rights_word(attr: Attr) -> &'static [u8]
 fn find_rights(word: &[u8]) -> Option<Attr>
     ensures { result ≡ find (λ a. bytes_eq word.now (operands.rights_word a)) operands.rights_in_lines }
 {
-    RIGHTS.iter().copied().find(|attr| word == rights_word(*attr))
+    RIGHTS
+        .iter()
+        .copied()
+        .find(|attr| word == rights_word(*attr))
 }
 
 fn rights(word: &[u8]) -> Result<Attr, LineKind>

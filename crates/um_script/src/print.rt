@@ -5,13 +5,15 @@ ghost use Rattle.um_script.specs.Canonical as canonical;
 ghost use Rattle.um_script.specs.Lines.{line_of};
 ghost use Rattle.um_script.specs.Writable.{is_line};
 
+use crate::choices::kind_word;
 use crate::mnemonic::{
-    DomainCall, Mnemonic, MsgqCall, MutexCall, ObjectCall, PipeCall, Plain, SemCall, StackCall, ThreadCall,
+    DomainCall, Mnemonic, MsgqCall, MutexCall, ObjectCall, PipeCall, Plain, SemCall, StackCall,
+    ThreadCall,
 };
 use crate::writing::{
-    put, put_named, put_number, put_options, put_part, put_parts, put_priority, put_register, put_term, put_timeout,
+    put, put_named, put_number, put_options, put_part, put_parts, put_priority, put_register,
+    put_term, put_timeout,
 };
-use crate::choices::kind_word;
 use std::alloc::Global;
 use um_base::{Instr, Memory, Term};
 
@@ -137,13 +139,36 @@ fn put_operands(text: &mut Vec<u8>, line: &Instr) -> Result<(), Memory>
         | Instr::PipeClose { object } => put_term(text, object),
         Instr::Grant { object, thread }
         | Instr::Revoke { object, thread }
-        | Instr::NameSet { thread: object, addr: thread }
-        | Instr::MsgqPeek { object, addr: thread }
-        | Instr::StackInit { object, entries: thread }
-        | Instr::StackPush { object, value: thread }
-        | Instr::PipeInit { object, size: thread } => put_two(text, object, thread),
-        Instr::SemInit { object, count, limit }
-        | Instr::MsgqInit { object, msg_size: count, max_msgs: limit } => {
+        | Instr::NameSet {
+            thread: object,
+            addr: thread,
+        }
+        | Instr::MsgqPeek {
+            object,
+            addr: thread,
+        }
+        | Instr::StackInit {
+            object,
+            entries: thread,
+        }
+        | Instr::StackPush {
+            object,
+            value: thread,
+        }
+        | Instr::PipeInit {
+            object,
+            size: thread,
+        } => put_two(text, object, thread),
+        Instr::SemInit {
+            object,
+            count,
+            limit,
+        }
+        | Instr::MsgqInit {
+            object,
+            msg_size: count,
+            max_msgs: limit,
+        } => {
             put_two(text, object, count)?;
             put_term(text, limit)
         }
@@ -155,14 +180,36 @@ fn put_operands(text: &mut Vec<u8>, line: &Instr) -> Result<(), Memory>
             put_term(text, object)?;
             put_register(text, *to)
         }
-        Instr::MsgqPut { object, addr, timeout }
-        | Instr::MsgqGet { object, addr, timeout }
-        | Instr::StackPop { object, addr, timeout } => {
+        Instr::MsgqPut {
+            object,
+            addr,
+            timeout,
+        }
+        | Instr::MsgqGet {
+            object,
+            addr,
+            timeout,
+        }
+        | Instr::StackPop {
+            object,
+            addr,
+            timeout,
+        } => {
             put_two(text, object, addr)?;
             put_timeout(text, *timeout)
         }
-        Instr::PipeWrite { object, addr, length, timeout }
-        | Instr::PipeRead { object, addr, length, timeout } => {
+        Instr::PipeWrite {
+            object,
+            addr,
+            length,
+            timeout,
+        }
+        | Instr::PipeRead {
+            object,
+            addr,
+            length,
+            timeout,
+        } => {
             put_two(text, object, addr)?;
             put_term(text, length)?;
             put_timeout(text, *timeout)

@@ -75,7 +75,7 @@ impl<'a> Words<'a> {
     pub fn next(&mut self) -> Option<Word<'a>>
         ensures { MatchOption result
             ((words_from false self.old.column self.old.rest.now ≡ ends (self.new.column + length self.new.rest.now))
-                × (words_from false self.new.column self.new.rest.now ≡ ends (self.new.column + length self.new.rest.now)))
+            × (words_from false self.new.column self.new.rest.now ≡ ends (self.new.column + length self.new.rest.now)))
             (λ w. words_from false self.old.column self.old.rest.now ≡ word w.bytes.now w.column (words_from false self.new.column self.new.rest.now)) }
     {
         self.skip(leading_spaces(self.rest));

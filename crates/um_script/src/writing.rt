@@ -8,7 +8,7 @@ ghost use Rattle.um_script.specs.Operands as operands;
 use crate::choices::timeout_word;
 use crate::partitions::rights_word;
 use itoa::Buffer;
-use um_base::{Memory, Options, PartRef, Range, Attr, Ref, Term, Timeout};
+use um_base::{Attr, Memory, Options, PartRef, Range, Ref, Term, Timeout};
 
 /// A word.
 pub fn put(text: &mut Vec<u8>, word: &[u8]) -> Result<(), Memory>

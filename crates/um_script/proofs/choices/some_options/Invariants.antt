@@ -1,4 +1,4 @@
-use Rattle.std.proofs.Common.{◌≡◌, ◌-◌, ◌≤◌}
+use Rattle.std.proofs.Common.{◌≡◌, ◌-◌}
 use Rattle.um_script.specs.Operands.{more_options, no_options}
 use Rattle.um_script.proofs.choices.some_options.Given as goal
 

@@ -1,5 +1,3 @@
-use Rattle.std.proofs.Common.{◌≡◌, ◌<◌, ◌+◌, ◌*◌, ap, get_or, arith}
-use Rattle.um_script.specs.Numbers.{base, digit_value}
 use Rattle.um_script.proofs.NumberLemmas.{past_limit}
 use Rattle.um_script.proofs.numbers.value.Goals as goal
 

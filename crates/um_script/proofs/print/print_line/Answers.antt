@@ -10,5 +10,5 @@ returns-clause-again c =
     let line = c.args.line.now in
     let first : c.in_ok-text.text.items ≡ spelling c.mnemonic.result = c.in_ok-text.ensures.items ∙ c.word.ensures in
     let text : c.put_operands.new.text.items ≡ canonical line =
-      c.in_ok-put_operands.ensures ∙ ap (λ (t : List ℕ). with_operands t (operands_of line)) (first ∙ ap spelling c.mnemonic.ensures) in
+    c.in_ok-put_operands.ensures ∙ ap (λ (t : List ℕ). with_operands t (operands_of line)) (first ∙ ap spelling c.mnemonic.ensures) in
     ap line_of text ∙ canonical_again line c.requires
