@@ -20,20 +20,14 @@ const LINES: &[(&str, &str)] = &[
     ("end", "end"),
     ("set r7 4294967295", "set r7 4294967295"),
     ("set r7 @p+31", "set r7 @p+31"),
-    ("set r0 0xff", "set r0 255"),
     ("add r0 0xff", "add r0 255"),
     ("add r0 @p+31", "add r0 @p+31"),
     ("load r7 4294967295 2", "load r7 4294967295 2"),
     ("load r7 @p 1", "load r7 @p 1"),
-    ("store r3 4 0xff", "store r3 4 255"),
     ("exec @p+31", "exec @p+31"),
     ("exec 0xff", "exec 255"),
     ("k_oops", "k_oops"),
     ("k_panic", "k_panic"),
-    (
-        "k_mem_domain_init d 0x20000020/48/P_RW_U_RW",
-        "k_mem_domain_init d 536870944/48/P_RW_U_RW",
-    ),
     (
         "k_mem_domain_add_partition app 0x20000020/48/P_RW_U_RW",
         "k_mem_domain_add_partition app 536870944/48/P_RW_U_RW",
@@ -41,10 +35,6 @@ const LINES: &[(&str, &str)] = &[
     (
         "k_mem_domain_add_partition app p",
         "k_mem_domain_add_partition app p",
-    ),
-    (
-        "k_mem_domain_add_partition d 536870912/0x20/P_RWX_U_RWX",
-        "k_mem_domain_add_partition d 536870912/32/P_RWX_U_RWX",
     ),
     (
         "k_mem_domain_remove_partition app 0x20000020/48/P_RW_U_RW",
@@ -150,10 +140,6 @@ const LINES: &[(&str, &str)] = &[
         "k_msgq_alloc_init 4294967295 r3 @rodata",
     ),
     (
-        "k_msgq_alloc_init @a_9+65536 0xff @p",
-        "k_msgq_alloc_init @a_9+65536 255 @p",
-    ),
-    (
         "k_msgq_put 4294967295 @p+31 K_NO_WAIT",
         "k_msgq_put 4294967295 @p+31 K_NO_WAIT",
     ),
@@ -170,7 +156,6 @@ const LINES: &[(&str, &str)] = &[
     ("k_msgq_peek @a_9+65536 @p", "k_msgq_peek @a_9+65536 @p"),
     ("k_msgq_purge @a_9+65536", "k_msgq_purge @a_9+65536"),
     ("k_msgq_purge r3", "k_msgq_purge r3"),
-    ("k_msgq_purge 0xff", "k_msgq_purge 255"),
     ("k_msgq_num_used_get 0xff r7", "k_msgq_num_used_get 255 r7"),
     (
         "k_msgq_num_used_get @a_9+65536 r7",
@@ -181,7 +166,6 @@ const LINES: &[(&str, &str)] = &[
         "k_stack_alloc_init 4294967295 @a_9+65536",
         "k_stack_alloc_init 4294967295 @a_9+65536",
     ),
-    ("k_stack_alloc_init 0xff 0", "k_stack_alloc_init 255 0"),
     ("k_stack_push @p+31 @p", "k_stack_push @p+31 @p"),
     (
         "k_stack_push @p+31 @a_9+65536",
@@ -209,10 +193,6 @@ const LINES: &[(&str, &str)] = &[
     (
         "k_pipe_read 0 r3 @rodata K_NO_WAIT",
         "k_pipe_read 0 r3 @rodata K_NO_WAIT",
-    ),
-    (
-        "k_pipe_read @p @p+31 0xff K_NO_WAIT",
-        "k_pipe_read @p @p+31 255 K_NO_WAIT",
     ),
     ("k_pipe_reset 4294967295", "k_pipe_reset 4294967295"),
     ("k_pipe_reset @a_9+65536", "k_pipe_reset @a_9+65536"),
@@ -355,7 +335,6 @@ const REFUSED: &[(&str, LineKind, u32)] = &[
     ),
     ("k_object_alloc any r7", LineKind::Operand, 16),
     ("k_object_alloc", LineKind::Missing, 15),
-    ("  k_object_alloc   mutex   r7  extra", LineKind::Extra, 32),
     (
         "k_object_access_grant @xxxxxxxxxxxxxxxxxxxxxxxxx @p+31",
         LineKind::Operand,
@@ -363,33 +342,9 @@ const REFUSED: &[(&str, LineKind, u32)] = &[
     ),
     ("k_object_access_grant @p+65537 r3", LineKind::Range, 23),
     ("k_object_access_grant ", LineKind::Missing, 23),
-    (
-        "  k_object_access_grant   0   0  extra",
-        LineKind::Extra,
-        34,
-    ),
     ("k_object_access_revoke @p+ @p", LineKind::Operand, 24),
-    ("k_object_access_revoke", LineKind::Missing, 23),
-    (
-        "  k_object_access_revoke   0   @a_9+65536  extra",
-        LineKind::Extra,
-        44,
-    ),
     ("k_object_release 4294967296", LineKind::Range, 18),
-    ("k_object_release 12345678901", LineKind::Operand, 18),
-    ("k_object_release ", LineKind::Missing, 18),
-    (
-        "k_object_access_all_grant 0x100000000",
-        LineKind::Operand,
-        27,
-    ),
     ("k_object_access_all_grant 4294967296", LineKind::Range, 27),
-    ("k_object_access_all_grant", LineKind::Missing, 26),
-    (
-        "k_thread_create @p+-1 @p 0 sense 14 K_ESSENTIAL+K_INHERIT_PERMS+K_USER",
-        LineKind::Operand,
-        17,
-    ),
     (
         "k_thread_create 0xff 4294967296 @a_9+65536 sense -128 K_INHERIT_PERMS+K_USER",
         LineKind::Range,
@@ -402,13 +357,6 @@ const REFUSED: &[(&str, LineKind, u32)] = &[
     ),
     ("k_sem_init @p @p+65537 0xff", LineKind::Range, 15),
     ("k_sem_take 4294967296 K_FOREVER", LineKind::Range, 12),
-    ("k_mutex_lock 4294967296 K_NO_WAIT", LineKind::Range, 14),
-    (
-        "k_msgq_alloc_init 4294967296 4294967295 0xff",
-        LineKind::Range,
-        19,
-    ),
-    ("k_msgq_put @p+65537 r3 K_FOREVER", LineKind::Range, 12),
     ("   ", LineKind::Missing, 4),
     ("SET r0 0", LineKind::UnknownWord, 1),
     ("é", LineKind::UnknownWord, 1),
