@@ -12,13 +12,13 @@ use crate::numbers::{is_number, number};
 use um_base::{Addr, Attr, Name, PartRef, Range};
 
 const RIGHTS: [Attr; 7] = [
-    Attr(27),
-    Attr(11),
-    Attr(3),
-    Attr(9),
-    Attr(1),
-    Attr(45),
-    Attr(63),
+    Attr::P_RW_U_RW,
+    Attr::P_RW_U_RO,
+    Attr::P_RW_U_NA,
+    Attr::P_RO_U_RO,
+    Attr::P_RO_U_NA,
+    Attr::P_RX_U_RX,
+    Attr::P_RWX_U_RWX,
 ];
 
 /// The word of a set of rights that a line can give.

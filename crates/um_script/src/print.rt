@@ -18,7 +18,7 @@ use std::alloc::Global;
 use um_base::{Instr, Memory, Term};
 
 /// What a line of the instruction begins with.
-pub fn mnemonic(line: &Instr) -> Mnemonic
+fn mnemonic(line: &Instr) -> Mnemonic
     ensures { result ≡ canonical.mnemonic line.now }
 {
     match line {
