@@ -1,0 +1,10 @@
+pub mod WordLemmas
+pub mod NumberLemmas
+pub mod OptionLoop
+pub mod PartLoop
+pub mod DigitsAgain
+pub mod FoundLemmas
+pub mod WordAgain
+pub mod NameAgain
+pub mod TermAgain
+pub mod LineAgain

@@ -1,0 +1,234 @@
+-- The operands of instructions: each form, from a word to its value.
+use Rattle.std.specs.Prelude.{ℕ, zero, suc, ◌+◌, List, [], ◌∷◌, take, drop, codes, bytes_eq, find, ok_or, Bool, true, false, not, ◌==◌, ◌&&◌, ◌||◌, if◌then◌else◌, Option, Some, None, option_map, position, Result, Ok, Err, ℤ}
+use Rattle.um_base.specs.Lawful.{is_name}
+use Rattle.um_base.specs.declared.attr.Attr.{Attr}
+use Rattle.um_base.specs.declared.instr.Instr.{Instr}
+use Rattle.um_base.specs.declared.instr.Options.{Options}
+use Rattle.um_base.specs.declared.names.Kind.{Kind}
+use Rattle.um_base.specs.declared.names.PartRef.{PartRef}
+use Rattle.um_base.specs.declared.names.Ref.{Ref}
+use Rattle.um_base.specs.declared.names.Term.{Term}
+use Rattle.um_base.specs.declared.names.Timeout.{Timeout}
+use Rattle.um_script.specs.declared.fault.LineFault.{LineFault}
+use Rattle.um_script.specs.declared.fault.LineKind.{LineKind}
+use Rattle.um_script.specs.Faults.{◌>>=◌}
+use Rattle.um_script.specs.Numbers.{digits, number, is_number, times, priority}
+use Rattle.um_script.specs.Words.{Words, ends, word}
+
+-- the bytes before the first `mark` of a word, and those behind it
+abbrev pub cut : ℕ → List ℕ → Option (List ℕ × List ℕ)
+cut mark bytes = option_map (λ k. (take k bytes, drop (k + 1) bytes)) (position (λ b. b == mark) bytes)
+
+abbrev pub begins_with : ℕ → List ℕ → Bool
+begins_with mark [] = false
+begins_with mark (b ∷ bs) = b == mark
+
+-- the one of these that a word spells
+abbrev pub spelled : {A : Type 0} → (A → List ℕ) → List A → List ℕ → Result A LineKind
+spelled spelling xs bytes = ok_or (find (λ x. bytes_eq bytes (spelling x)) xs) LineKind.Operand
+
+-- `r0` to `r7`
+abbrev pub register_word : ℕ → List ℕ
+register_word r = 114 ∷ (48 + r) ∷ []
+
+abbrev pub registers : List ℕ
+registers = 0 ∷ 1 ∷ 2 ∷ 3 ∷ 4 ∷ 5 ∷ 6 ∷ 7 ∷ []
+
+abbrev pub register : List ℕ → Result ℕ LineKind
+register bytes = spelled register_word registers bytes
+
+-- how many bytes are loaded or stored: 1, 2 or 4
+abbrev pub size_word : ℕ → List ℕ
+size_word n = (48 + n) ∷ []
+
+abbrev pub sizes : List ℕ
+sizes = 1 ∷ 2 ∷ 4 ∷ []
+
+abbrev pub size : List ℕ → Result ℕ LineKind
+size bytes = spelled size_word sizes bytes
+
+-- what a place stands in: an object, a partition, or the read-only data
+abbrev pub is_place_name : List ℕ → Bool
+is_place_name bytes = is_name bytes || bytes_eq bytes (codes "rodata")
+
+abbrev pub at_offset : List ℕ → Result ℕ LineKind → Result Term LineKind
+at_offset bytes offset = if is_place_name bytes then (offset >>= λ n. Ok (Term.Place bytes n)) else Err LineKind.Operand
+
+abbrev pub place_cut : List ℕ → Option (List ℕ × List ℕ) → Result Term LineKind
+place_cut bytes None = at_offset bytes (Ok 0)
+place_cut bytes (Some x) = at_offset x.0 (digits false 10 65536 x.1)
+
+-- a name, or a name, `+` and 1 to 10 digits
+abbrev pub place : List ℕ → Result Term LineKind
+place bytes = place_cut bytes (cut 43 bytes)
+
+-- a place behind `@`, a register, or a number
+abbrev pub term : List ℕ → Result Term LineKind
+term bytes =
+    if begins_with 64 bytes then place (drop 1 bytes)
+    else (if begins_with 114 bytes then (register bytes >>= λ r. Ok (Term.Reg r)) else (number bytes >>= λ n. Ok (Term.Num n)))
+
+-- the name of a domain or of a script
+abbrev pub named : List ℕ → Result Ref LineKind
+named bytes = if is_name bytes then Ok (Ref.Named bytes) else Err LineKind.Operand
+
+-- the seven sets of rights
+abbrev pub rights_word : Attr → List ℕ
+rights_word attr =
+    if attr.0 == 27 then codes "P_RW_U_RW" else (if attr.0 == 11 then codes "P_RW_U_RO" else (if attr.0 == 3 then codes "P_RW_U_NA"
+    else (if attr.0 == 9 then codes "P_RO_U_RO" else (if attr.0 == 1 then codes "P_RO_U_NA" else (if attr.0 == 45 then codes "P_RX_U_RX"
+    else codes "P_RWX_U_RWX")))))
+
+abbrev pub rights_in_lines : List Attr
+rights_in_lines =
+    record { 0 = 27 } ∷ record { 0 = 11 } ∷ record { 0 = 3 } ∷ record { 0 = 9 } ∷ record { 0 = 1 } ∷ record { 0 = 45 } ∷ record { 0 = 63 } ∷ []
+
+abbrev pub rights : List ℕ → Result Attr LineKind
+rights bytes = spelled rights_word rights_in_lines bytes
+
+-- where a partition begins, its size and its rights
+abbrev pub given_part : List ℕ → List ℕ → List ℕ → Result PartRef LineKind
+given_part start bytes attr =
+    if is_number start && is_number bytes then (do
+      a ← rights attr
+      s ← number start
+      n ← number bytes
+      Ok (PartRef.Given (record { start = record { 0 = s }; size = n }) a))
+    else Err LineKind.Operand
+
+abbrev pub part_from_cut : List ℕ → Option (List ℕ × List ℕ) → Result PartRef LineKind
+part_from_cut start None = Err LineKind.Operand
+part_from_cut start (Some x) = given_part start x.0 x.1
+
+-- `ADDR/SIZE/ATTR` behind its first `/`
+abbrev pub part_from : List ℕ → List ℕ → Result PartRef LineKind
+part_from start rest = part_from_cut start (cut 47 rest)
+
+abbrev pub named_part : List ℕ → Result PartRef LineKind
+named_part bytes = if is_name bytes then Ok (PartRef.Named bytes) else Err LineKind.Operand
+
+abbrev pub part_cut : List ℕ → Option (List ℕ × List ℕ) → Result PartRef LineKind
+part_cut bytes None = named_part bytes
+part_cut bytes (Some x) = part_from x.0 x.1
+
+-- a partition's name, or its address, size and rights with `/` between them
+abbrev pub part : List ℕ → Result PartRef LineKind
+part bytes = part_cut bytes (cut 47 bytes)
+
+-- the kinds that can be allocated
+abbrev pub kind_word : Kind → List ℕ
+kind_word Kind.Thread = codes "thread"
+kind_word Kind.ThreadStack = codes "thread_stack"
+kind_word Kind.Sem = codes "sem"
+kind_word Kind.Mutex = codes "mutex"
+kind_word Kind.Msgq = codes "msgq"
+kind_word Kind.Stack = codes "stack"
+kind_word Kind.Pipe = codes "pipe"
+
+abbrev pub kinds : List Kind
+kinds = Kind.Thread ∷ Kind.Sem ∷ Kind.Mutex ∷ Kind.Msgq ∷ Kind.Stack ∷ Kind.Pipe ∷ []
+
+abbrev pub kind : List ℕ → Result Kind LineKind
+kind bytes = spelled kind_word kinds bytes
+
+-- how long a call waits
+abbrev pub timeout_word : Timeout → List ℕ
+timeout_word Timeout.NoWait = codes "K_NO_WAIT"
+timeout_word Timeout.Forever = codes "K_FOREVER"
+
+abbrev pub timeouts : List Timeout
+timeouts = Timeout.NoWait ∷ Timeout.Forever ∷ []
+
+abbrev pub timeout : List ℕ → Result Timeout LineKind
+timeout bytes = spelled timeout_word timeouts bytes
+
+abbrev pub no_options : Options
+no_options = record { user = false; inherit = false; essential = false }
+
+-- one more option, which doesn't stand yet
+abbrev pub option : Options → List ℕ → Result Options LineKind
+option set bytes =
+    if bytes_eq bytes (codes "K_USER") && not set.user then Ok (record { user = true; inherit = set.inherit; essential = set.essential })
+    else (if bytes_eq bytes (codes "K_INHERIT_PERMS") && not set.inherit then Ok (record { user = set.user; inherit = true; essential = set.essential })
+    else (if bytes_eq bytes (codes "K_ESSENTIAL") && not set.essential then Ok (record { user = set.user; inherit = set.inherit; essential = true })
+    else Err LineKind.Operand))
+
+-- at most so many more options, joined by `+`
+unfoldable pub more_options : ℕ → Options → List ℕ → Result Options LineKind
+more_options zero set bytes = Err LineKind.Operand
+more_options (suc n) set bytes = elim (cut 43 bytes) [ None ↦ option set bytes | Some x ↦ option set x.0 >>= λ more. more_options n more x.1 ]
+
+-- `0`, or one to three options
+abbrev pub options : List ℕ → Result Options LineKind
+options bytes = if bytes_eq bytes (codes "0") then Ok no_options else more_options 3 no_options bytes
+
+-- The forms of operands.
+pub data Form : Type 0 where
+  Times : Form
+  Register : Form
+  Size : Form
+  AnyTerm : Form
+  Named : Form
+  Part : Form
+  Parts : Form
+  ObjectKind : Form
+  Wait : Form
+  Priority : Form
+  OptionSet : Form
+
+-- what an operand of a form stands for
+abbrev pub Value : Form → Type 0
+Value Times = ℕ
+Value Register = ℕ
+Value Size = ℕ
+Value AnyTerm = Term
+Value Named = Ref
+Value Part = PartRef
+Value Parts = List PartRef
+Value ObjectKind = Kind
+Value Wait = Timeout
+Value Priority = ℤ
+Value OptionSet = Options
+
+-- a word's value, or its fault at the word's column
+abbrev pub placed : {A : Type 0} → ℕ → Words → Result A LineKind → Result (A × Words) LineFault
+placed column rest (Ok x) = Ok (x, rest)
+placed column rest (Err kind) = Err (record { kind = kind; column = column })
+
+-- one word of a form
+unfoldable pub one : {A : Type 0} → (List ℕ → Result A LineKind) → Words → Result (A × Words) LineFault
+one read (ends column) = Err (record { kind = LineKind.Missing; column = column })
+one read (word bytes column rest) = placed column rest (read bytes)
+
+-- up to so many partitions, as many as there are
+unfoldable pub parts : ℕ → Words → Result (List PartRef × Words) LineFault
+parts zero words = Ok ([], words)
+parts (suc n) (ends column) = Ok ([], ends column)
+parts (suc n) (word bytes column rest) = do
+  first ← placed column rest (part bytes)
+  others ← parts n first.1
+  Ok (first.0 ∷ others.0, others.1)
+
+-- what an operand of a form takes from the words
+abbrev pub operand : (form : Form) → Words → Result (Value form × Words) LineFault
+operand Times words = one times words
+operand Register words = one register words
+operand Size words = one size words
+operand AnyTerm words = one term words
+operand Named words = one named words
+operand Part words = one part words
+operand Parts words = parts 4 words
+operand ObjectKind words = one kind words
+operand Wait words = one timeout words
+operand Priority words = one priority words
+operand OptionSet words = one options words
+
+-- What a line is made of: operands of these forms, each of whose values the rest may depend on, and then the instruction.
+pub data Syntax : Type 0 where
+  takes : (form : Form) → (Value form → Syntax) → Syntax
+  makes : Instr → Syntax
+
+-- operands from left to right, and the instruction
+abbrev pub reading : Syntax → Words → Result (Instr × Words) LineFault
+reading (makes instr) words = Ok (instr, words)
+reading (takes form rest) words = operand form words >>= λ read. reading (rest read.0) read.1

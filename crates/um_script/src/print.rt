@@ -1,0 +1,229 @@
+//! Instructions to their canonical lines.
+
+ghost use Rattle.std.specs.Prelude.{◌≡◌, ◌∷◌, ◌++◌, IfOk, IsTrue, Ok, OnOk};
+ghost use Rattle.um_script.specs.Canonical as canonical;
+ghost use Rattle.um_script.specs.Lines.{line_of};
+ghost use Rattle.um_script.specs.Writable.{is_line};
+
+use crate::choices::kind_word;
+use crate::mnemonic::{
+    DomainCall, Mnemonic, MsgqCall, MutexCall, ObjectCall, PipeCall, Plain, SemCall, StackCall,
+    ThreadCall,
+};
+use crate::writing::{
+    put, put_named, put_number, put_options, put_part, put_parts, put_priority, put_register,
+    put_term, put_timeout,
+};
+use std::alloc::Global;
+use um_base::{Instr, Memory, Term};
+
+/// What a line of the instruction begins with.
+fn mnemonic(line: &Instr) -> Mnemonic
+    ensures { result ≡ canonical.mnemonic line.now }
+{
+    match line {
+        Instr::End => Mnemonic::Plain(Plain::End),
+        Instr::Oops => Mnemonic::Plain(Plain::Oops),
+        Instr::Panic => Mnemonic::Plain(Plain::Panic),
+        Instr::Repeat { .. } => Mnemonic::Plain(Plain::Repeat),
+        Instr::Set { .. } => Mnemonic::Plain(Plain::Set),
+        Instr::Add { .. } => Mnemonic::Plain(Plain::Add),
+        Instr::Load { .. } => Mnemonic::Plain(Plain::Load),
+        Instr::Store { .. } => Mnemonic::Plain(Plain::Store),
+        Instr::Exec { .. } => Mnemonic::Plain(Plain::Exec),
+        Instr::DomainInit { .. } => Mnemonic::Domain(DomainCall::Init),
+        Instr::DomainAdd { .. } => Mnemonic::Domain(DomainCall::AddPartition),
+        Instr::DomainRemove { .. } => Mnemonic::Domain(DomainCall::RemovePartition),
+        Instr::DomainMove { .. } => Mnemonic::Domain(DomainCall::AddThread),
+        Instr::ObjectAlloc { .. } => Mnemonic::Object(ObjectCall::Alloc),
+        Instr::Grant { .. } => Mnemonic::Object(ObjectCall::AccessGrant),
+        Instr::Revoke { .. } => Mnemonic::Object(ObjectCall::AccessRevoke),
+        Instr::Release { .. } => Mnemonic::Object(ObjectCall::Release),
+        Instr::AllGrant { .. } => Mnemonic::Object(ObjectCall::AccessAllGrant),
+        Instr::Create { .. } => Mnemonic::Thread(ThreadCall::Create),
+        Instr::UserMode { .. } => Mnemonic::Thread(ThreadCall::UserModeEnter),
+        Instr::NameSet { .. } => Mnemonic::Thread(ThreadCall::NameSet),
+        Instr::SemInit { .. } => Mnemonic::Sem(SemCall::Init),
+        Instr::SemTake { .. } => Mnemonic::Sem(SemCall::Take),
+        Instr::SemGive { .. } => Mnemonic::Sem(SemCall::Give),
+        Instr::SemReset { .. } => Mnemonic::Sem(SemCall::Reset),
+        Instr::SemCount { .. } => Mnemonic::Sem(SemCall::CountGet),
+        Instr::MutexInit { .. } => Mnemonic::Mutex(MutexCall::Init),
+        Instr::MutexLock { .. } => Mnemonic::Mutex(MutexCall::Lock),
+        Instr::MutexUnlock { .. } => Mnemonic::Mutex(MutexCall::Unlock),
+        Instr::MsgqInit { .. } => Mnemonic::Msgq(MsgqCall::AllocInit),
+        Instr::MsgqPut { .. } => Mnemonic::Msgq(MsgqCall::Put),
+        Instr::MsgqGet { .. } => Mnemonic::Msgq(MsgqCall::Get),
+        Instr::MsgqPeek { .. } => Mnemonic::Msgq(MsgqCall::Peek),
+        Instr::MsgqPurge { .. } => Mnemonic::Msgq(MsgqCall::Purge),
+        Instr::MsgqUsed { .. } => Mnemonic::Msgq(MsgqCall::NumUsedGet),
+        Instr::StackInit { .. } => Mnemonic::Stack(StackCall::AllocInit),
+        Instr::StackPush { .. } => Mnemonic::Stack(StackCall::Push),
+        Instr::StackPop { .. } => Mnemonic::Stack(StackCall::Pop),
+        Instr::PipeInit { .. } => Mnemonic::Pipe(PipeCall::Init),
+        Instr::PipeWrite { .. } => Mnemonic::Pipe(PipeCall::Write),
+        Instr::PipeRead { .. } => Mnemonic::Pipe(PipeCall::Read),
+        Instr::PipeReset { .. } => Mnemonic::Pipe(PipeCall::Reset),
+        Instr::PipeClose { .. } => Mnemonic::Pipe(PipeCall::Close),
+    }
+}
+
+fn put_two(text: &mut Vec<u8>, first: &Term, second: &Term) -> Result<(), Memory>
+    ensures { OnOk result (text.new.items ≡ text.old.items ++ (32 ∷ canonical.term_text first.now) ++ (32 ∷ canonical.term_text second.now)) }
+{
+    put_term(text, first)?;
+    put_term(text, second)
+}
+
+/// The operands, each behind a space.
+fn put_operands(text: &mut Vec<u8>, line: &Instr) -> Result<(), Memory>
+    ensures { OnOk result (text.new.items ≡ canonical.with_operands text.old.items (canonical.operands_of line.now)) }
+{
+    match line {
+        Instr::End | Instr::Oops | Instr::Panic => Ok(()),
+        Instr::Repeat { times } => put_number(text, *times as u32),
+        Instr::Set { to, value } | Instr::Add { to, value } => {
+            put_register(text, *to)?;
+            put_term(text, value)
+        }
+        Instr::Load { to, addr, size } => {
+            put_register(text, *to)?;
+            put_term(text, addr)?;
+            put_number(text, *size as u32)
+        }
+        Instr::Store { addr, size, value } => {
+            put_term(text, addr)?;
+            put_number(text, *size as u32)?;
+            put_term(text, value)
+        }
+        Instr::DomainInit { domain, parts } => {
+            put_named(text, domain)?;
+            put_parts(text, parts.as_slice())
+        }
+        Instr::DomainAdd { domain, part } | Instr::DomainRemove { domain, part } => {
+            put_named(text, domain)?;
+            put_part(text, part)
+        }
+        Instr::DomainMove { domain, thread } => {
+            put_named(text, domain)?;
+            put_term(text, thread)
+        }
+        Instr::ObjectAlloc { kind, to } => {
+            put(text, kind_word(*kind))?;
+            put_register(text, *to)
+        }
+        Instr::UserMode { script } => put_named(text, script),
+        Instr::Create {
+            thread,
+            stack,
+            size,
+            script,
+            priority,
+            options,
+        } => {
+            put_two(text, thread, stack)?;
+            put_term(text, size)?;
+            put_named(text, script)?;
+            put_priority(text, *priority)?;
+            put_options(text, *options)
+        }
+        Instr::Exec { addr: object }
+        | Instr::Release { object }
+        | Instr::AllGrant { object }
+        | Instr::SemGive { object }
+        | Instr::SemReset { object }
+        | Instr::MutexInit { object }
+        | Instr::MutexUnlock { object }
+        | Instr::MsgqPurge { object }
+        | Instr::PipeReset { object }
+        | Instr::PipeClose { object } => put_term(text, object),
+        Instr::Grant { object, thread }
+        | Instr::Revoke { object, thread }
+        | Instr::NameSet {
+            thread: object,
+            addr: thread,
+        }
+        | Instr::MsgqPeek {
+            object,
+            addr: thread,
+        }
+        | Instr::StackInit {
+            object,
+            entries: thread,
+        }
+        | Instr::StackPush {
+            object,
+            value: thread,
+        }
+        | Instr::PipeInit {
+            object,
+            size: thread,
+        } => put_two(text, object, thread),
+        Instr::SemInit {
+            object,
+            count,
+            limit,
+        }
+        | Instr::MsgqInit {
+            object,
+            msg_size: count,
+            max_msgs: limit,
+        } => {
+            put_two(text, object, count)?;
+            put_term(text, limit)
+        }
+        Instr::SemTake { object, timeout } | Instr::MutexLock { object, timeout } => {
+            put_term(text, object)?;
+            put_timeout(text, *timeout)
+        }
+        Instr::SemCount { object, to } | Instr::MsgqUsed { object, to } => {
+            put_term(text, object)?;
+            put_register(text, *to)
+        }
+        Instr::MsgqPut {
+            object,
+            addr,
+            timeout,
+        }
+        | Instr::MsgqGet {
+            object,
+            addr,
+            timeout,
+        }
+        | Instr::StackPop {
+            object,
+            addr,
+            timeout,
+        } => {
+            put_two(text, object, addr)?;
+            put_timeout(text, *timeout)
+        }
+        Instr::PipeWrite {
+            object,
+            addr,
+            length,
+            timeout,
+        }
+        | Instr::PipeRead {
+            object,
+            addr,
+            length,
+            timeout,
+        } => {
+            put_two(text, object, addr)?;
+            put_term(text, length)?;
+            put_timeout(text, *timeout)
+        }
+    }
+}
+
+/// The canonical line of an instruction that a line can give.
+pub fn print_line(alloc: Global, line: &Instr) -> Result<Vec<u8>, Memory>
+    requires { IsTrue (is_line line.now) }
+    ensures text { IfOk result (λ text. text.items ≡ canonical.canonical line.now) }
+    ensures again { IfOk result (λ text. line_of text.items ≡ Ok line.now) }
+{
+    let mut text = Vec::from_slice(alloc, mnemonic(line).word())?;
+    put_operands(&mut text, line)?;
+    Ok(text)
+}
