@@ -1,0 +1,9 @@
+use Rattle.um_gen.specs.Description.{script}
+use Rattle.um_gen.proofs.WriteLemmas.{writes_none, writes_more}
+use Rattle.um_gen.proofs.writer.Writer.put_scripts.Goals as goal
+
+pub loop-i-init : goal.loop-i-init
+loop-i-init c = writes_none script 1700 c.args.self.now
+
+pub loop-i-preserved : goal.loop-i-preserved
+loop-i-preserved c = writes_more script 1700 c.loop-i.i _ _ _ c.loop-i.invariant c.put_script.ensures
