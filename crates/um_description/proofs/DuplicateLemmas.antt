@@ -1,0 +1,62 @@
+-- The first text of a whole description that stood before.
+use Rattle.std.proofs.Common.{◌≡◌, List, [], ◌∷◌, ◌++◌, Option, Some, None, refl, ap, ◌∙◌}
+use Rattle.std.specs.Option.{option_or}
+use Rattle.um_document.specs.declared.description.Description.{Description}
+use Rattle.um_document.specs.declared.place.Place.{Place}
+use Rattle.um_document.specs.declared.shape.Section.{Section}
+use Rattle.um_document.specs.First.{first_of}
+use Rattle.um_description.specs.Duplicates.{SameTexts, names_again, domains_again, boots_again, added, duplicates}
+use Rattle.um_description.specs.Names.{Text, is_among, pool_names, partition_names, domain_names, object_names, script_names}
+use Rattle.um_description.proofs.AgainLemmas.{same_names, same_domains, same_added}
+
+or_then : (xs ys : List Place) (a b : Option Place) → a ≡ first_of xs → (a ≡ None → b ≡ first_of ys) → option_or a b ≡ first_of (xs ++ ys)
+or_then [] ys a b is next = ap (λ o. option_or o b) is ∙ next is
+or_then (x ∷ xs) ys a b is next = ap (λ o. option_or o b) is
+
+none_left : (a b : Option Place) → option_or a b ≡ None → a ≡ None
+none_left None b h = refl
+none_left (Some x) b h = h
+
+none_right : (a b : Option Place) → option_or a b ≡ None → b ≡ None
+none_right None b h = h
+none_right (Some x) b h = cc
+
+-- names behind others that were all new
+after : (s before names : List Text) (a : Option Place) (t : List Text) → SameTexts s before → SameTexts t (added s names) → SameTexts t (added before names)
+after s before names a t same put q = put q ∙ same_added s before same names q
+
+pub duplicates_found : (d : Description) (s0 s1 s2 s3 s4 : List Text) (a b c e f g : Option Place) → s0 ≡ []
+    → a ≡ first_of (names_again s0 Section.Pool 0 (pool_names d)) → (a ≡ None → SameTexts s1 (added s0 (pool_names d)))
+    → b ≡ first_of (names_again s1 Section.Partition 0 (partition_names d)) → (b ≡ None → SameTexts s2 (added s1 (partition_names d)))
+    → c ≡ first_of (domains_again s2 0 d.domains) → (c ≡ None → SameTexts s3 (added s2 (domain_names d)))
+    → e ≡ first_of (names_again s3 Section.Object 0 (object_names d)) → (e ≡ None → SameTexts s4 (added s3 (object_names d)))
+    → f ≡ first_of (boots_again [] [] 0 d.boots)
+    → g ≡ first_of (names_again s4 Section.Script 0 (script_names d))
+    → option_or (option_or (option_or (option_or (option_or a b) c) e) f) g ≡ first_of (duplicates d)
+duplicates_found d s0 s1 s2 s3 s4 a b c e f g none a_is ka b_is kb c_is kc e_is ke f_is g_is =
+    let p = added [] (pool_names d) in
+    let q = added p (partition_names d) in
+    let r = added q (domain_names d) in
+    let t = added r (object_names d) in
+    let xs0 = names_again [] Section.Pool 0 (pool_names d) in
+    let xs1 = names_again p Section.Partition 0 (partition_names d) in
+    let xs2 = domains_again q 0 d.domains in
+    let xs3 = names_again r Section.Object 0 (object_names d) in
+    let xs4 = boots_again [] [] 0 d.boots in
+    let xs5 = names_again t Section.Script 0 (script_names d) in
+    let ab = option_or a b in
+    let abc = option_or ab c in
+    let abce = option_or abc e in
+    let abcef = option_or abce f in
+    let k1 : a ≡ None → SameTexts s1 p = λ n w. ka n w ∙ ap (λ s. is_among w (added s (pool_names d))) none in
+    let k2 : ab ≡ None → SameTexts s2 q = λ n. after s1 p (partition_names d) b s2 (k1 (none_left a b n)) (kb (none_right a b n)) in
+    let k3 : abc ≡ None → SameTexts s3 r = λ n. after s2 q (domain_names d) c s3 (k2 (none_left ab c n)) (kc (none_right ab c n)) in
+    let k4 : abce ≡ None → SameTexts s4 t = λ n. after s3 r (object_names d) e s4 (k3 (none_left abc e n)) (ke (none_right abc e n)) in
+    let h0 : a ≡ first_of xs0 = a_is ∙ ap (λ s. first_of (names_again s Section.Pool 0 (pool_names d))) none in
+    let h1 : ab ≡ first_of (xs0 ++ xs1) = or_then xs0 xs1 a b h0 (λ n. b_is ∙ ap first_of (same_names s1 p (k1 n) Section.Partition 0 (partition_names d))) in
+    let h2 : abc ≡ first_of (xs0 ++ xs1 ++ xs2) = or_then (xs0 ++ xs1) xs2 ab c h1 (λ n. c_is ∙ ap first_of (same_domains s2 q (k2 n) 0 d.domains)) in
+    let h3 : abce ≡ first_of (xs0 ++ xs1 ++ xs2 ++ xs3) =
+    or_then (xs0 ++ xs1 ++ xs2) xs3 abc e h2 (λ n. e_is ∙ ap first_of (same_names s3 r (k3 n) Section.Object 0 (object_names d))) in
+    let h4 : abcef ≡ first_of (xs0 ++ xs1 ++ xs2 ++ xs3 ++ xs4) = or_then (xs0 ++ xs1 ++ xs2 ++ xs3) xs4 abce f h3 (λ n. f_is) in
+    or_then (xs0 ++ xs1 ++ xs2 ++ xs3 ++ xs4) xs5 abcef g h4
+    (λ n. g_is ∙ ap first_of (same_names s4 t (k4 (none_left abce f n)) Section.Script 0 (script_names d)))

@@ -1,0 +1,175 @@
+-- Texts that are all new are distinct, and so are their numbers among names.
+use Rattle.std.proofs.Common.{◌≡◌, ℕ, suc, ◌+◌, ◌<◌, Bool, true, false, not, ◌&&◌, ◌==◌, nat_lt, List, [], ◌∷◌, ◌++◌, length, map, IsTrue, if◌then◌else◌, Option, Some, None, option_map, is_some, bytes_eq, refl, ap, sym, ◌∙◌, subst, arith}
+use Rattle.std.specs.Prelude.{unwrap_or}
+use Rattle.std.specs.List.{list_any, list_all}
+use Rattle.std.proofs.lemmas.Bool.{false≢true, true≢false, ne_eqb, or_parts}
+use Rattle.std.proofs.lemmas.Bool.Decides.{nat_tests}
+use Rattle.um_base.specs.Lawful.{are_distinct, are_distinct_names}
+use Rattle.um_document.specs.declared.description.BootEntry.{BootEntry}
+use Rattle.um_document.specs.declared.description.DomainEntry.{DomainEntry}
+use Rattle.um_document.specs.declared.place.Place.{Place}
+use Rattle.um_document.specs.declared.shape.Key.{Key}
+use Rattle.um_document.specs.declared.shape.Section.{Section}
+use Rattle.um_description.specs.Duplicates.{if_again, names_again, parts_again, domain_again, domains_again, boot_again, boots_again, added}
+use Rattle.um_description.specs.Names.{Text, is_among, items, named}
+use Rattle.um_description.specs.Resolve.{number_named}
+use Rattle.um_description.proofs.LawfulLists.{no_front, no_back, and_true, both_true, not_true, none_if, or_more, same_text, text_itself}
+
+-- none of these names stands before
+abbrev pub are_new : List Text → List Text → Bool
+are_new before [] = true
+are_new before (name ∷ names) = not (is_among name before) && are_new (name ∷ before) names
+
+one_new : (before : List Text) (place : Place) (text : Text) → if_again before place text ≡ [] → IsTrue (not (is_among text before))
+one_new before place text h = not_true (is_among text before) (none_if (is_among text before) place h)
+
+pub new_names : (before : List Text) (s : Section) (i : ℕ) (names : List Text) → names_again before s i names ≡ [] → IsTrue (are_new before names)
+new_names before s i [] h = refl
+new_names before s i (name ∷ names) h =
+    let front = if_again before (Place.Field s i Key.Name) name in
+    let back = names_again (name ∷ before) s (i + 1) names in
+    both_true (not (is_among name before)) (are_new (name ∷ before) names) (one_new before (Place.Field s i Key.Name) name (no_front front back h)) (new_names (name ∷ before) s (i + 1) names (no_back front back h))
+
+pub new_parts : (before : List Text) (i j : ℕ) (texts : List Text) → parts_again before i j texts ≡ [] → IsTrue (are_new before texts)
+new_parts before i j [] h = refl
+new_parts before i j (text ∷ texts) h =
+    let front = if_again before (Place.Item Section.Domain i Key.Partitions j) text in
+    let back = parts_again (text ∷ before) i (j + 1) texts in
+    both_true (not (is_among text before)) (are_new (text ∷ before) texts) (one_new before (Place.Item Section.Domain i Key.Partitions j) text (no_front front back h)) (new_parts (text ∷ before) i (j + 1) texts (no_back front back h))
+
+abbrev pub domain_name : DomainEntry → Text
+domain_name m = m.name
+
+pub new_domains : (before : List Text) (i : ℕ) (ms : List DomainEntry) → domains_again before i ms ≡ [] → IsTrue (are_new before (map domain_name ms))
+new_domains before i [] h = refl
+new_domains before i (m ∷ ms) h =
+    let own = if_again before (Place.Field Section.Domain i Key.Name) m.name in
+    let back = domains_again (m.name ∷ before) (i + 1) ms in
+    both_true (not (is_among m.name before)) (are_new (m.name ∷ before) (map domain_name ms))
+    (one_new before (Place.Field Section.Domain i Key.Name) m.name (no_front own (parts_again [] i 0 (items m.partitions)) (no_front (domain_again before i m) back h)))
+    (new_domains (m.name ∷ before) (i + 1) ms (no_back (domain_again before i m) back h))
+
+abbrev pub boot_thread : BootEntry → Text
+boot_thread b = b.thread
+
+abbrev pub boot_stack : BootEntry → Text
+boot_stack b = b.stack
+
+pub new_threads : (threads stacks : List Text) (i : ℕ) (bs : List BootEntry) → boots_again threads stacks i bs ≡ [] → IsTrue (are_new threads (map boot_thread bs))
+new_threads threads stacks i [] h = refl
+new_threads threads stacks i (b ∷ bs) h =
+    let back = boots_again (b.thread ∷ threads) (b.stack ∷ stacks) (i + 1) bs in
+    both_true (not (is_among b.thread threads)) (are_new (b.thread ∷ threads) (map boot_thread bs))
+    (one_new threads (Place.Field Section.Boot i Key.Thread) b.thread
+    (no_front (if_again threads (Place.Field Section.Boot i Key.Thread) b.thread) (if_again stacks (Place.Field Section.Boot i Key.Stack) b.stack) (no_front (boot_again threads stacks i b) back h)))
+    (new_threads (b.thread ∷ threads) (b.stack ∷ stacks) (i + 1) bs (no_back (boot_again threads stacks i b) back h))
+
+pub new_stacks : (threads stacks : List Text) (i : ℕ) (bs : List BootEntry) → boots_again threads stacks i bs ≡ [] → IsTrue (are_new stacks (map boot_stack bs))
+new_stacks threads stacks i [] h = refl
+new_stacks threads stacks i (b ∷ bs) h =
+    let back = boots_again (b.thread ∷ threads) (b.stack ∷ stacks) (i + 1) bs in
+    both_true (not (is_among b.stack stacks)) (are_new (b.stack ∷ stacks) (map boot_stack bs))
+    (one_new stacks (Place.Field Section.Boot i Key.Stack) b.stack
+    (no_back (if_again threads (Place.Field Section.Boot i Key.Thread) b.thread) (if_again stacks (Place.Field Section.Boot i Key.Stack) b.stack) (no_front (boot_again threads stacks i b) back h)))
+    (new_stacks (b.thread ∷ threads) (b.stack ∷ stacks) (i + 1) bs (no_back (boot_again threads stacks i b) back h))
+
+-- names behind others
+pub new_append : (before xs ys : List Text) → IsTrue (are_new before xs) → IsTrue (are_new (added before xs) ys) → IsTrue (are_new before (xs ++ ys))
+new_append before [] ys h k = k
+new_append before (x ∷ xs) ys h k =
+    let both = and_true (not (is_among x before)) (are_new (x ∷ before) xs) h in
+    both_true (not (is_among x before)) (are_new (x ∷ before) (xs ++ ys)) both.0 (new_append (x ∷ before) xs ys both.1 k)
+
+pub added_append : (before xs ys : List Text) → added before (xs ++ ys) ≡ added (added before xs) ys
+added_append before [] ys = refl
+added_append before (x ∷ xs) ys = added_append (x ∷ before) xs ys
+
+-- ---- new texts are distinct
+
+not_false : (a : Bool) → IsTrue (not a) → a ≡ false
+not_false true h = absurd (false≢true h)
+not_false false h = refl
+
+absent : (b x : Text) (before : List Text) → IsTrue (is_among b before) → is_among x before ≡ false → bytes_eq b x ≡ false
+absent b x before there gone = absent_by b x before (bytes_eq b x) refl there gone
+  where
+    absent_by : (b x : Text) (before : List Text) (same : Bool) → bytes_eq b x ≡ same → IsTrue (is_among b before) → is_among x before ≡ false → same ≡ false
+    absent_by b x before false is there gone = refl
+    absent_by b x before true is there gone = absurd (true≢false (sym (subst (λ (t : Text). IsTrue (is_among t before)) (same_text b x is) there) ∙ gone))
+
+pub not_later : (before names : List Text) → IsTrue (are_new before names) → (b : Text) → IsTrue (is_among b before) → is_among b names ≡ false
+not_later before [] h b there = refl
+not_later before (name ∷ names) h b there =
+    let both = and_true (not (is_among name before)) (are_new (name ∷ before) names) h in
+    let first = absent b name before there (not_false (is_among name before) both.0) in
+    let rest = not_later (name ∷ before) names both.1 b (or_more (bytes_eq b name) (is_among b before) there) in
+    rw (first, rest) refl
+
+pub distinct_names : (before names : List Text) → IsTrue (are_new before names) → IsTrue (are_distinct_names names)
+distinct_names before [] h = refl
+distinct_names before (name ∷ names) h =
+    let both = and_true (not (is_among name before)) (are_new (name ∷ before) names) h in
+    let itself : IsTrue (is_among name (name ∷ before)) = rw (text_itself name) refl in
+    both_true (not (is_among name names)) (are_distinct_names names) (not_true (is_among name names) (not_later (name ∷ before) names both.1 name itself)) (distinct_names (name ∷ before) names both.1)
+
+-- ---- numbers among names
+
+abbrev pub is_known : List Text → Text → Bool
+is_known names text = is_some (named names text)
+
+below_by : (here : Bool) (o : Option ℕ) (n : ℕ) → IsTrue (is_some (if here then Some 0 else option_map (λ i. i + 1) o)) → (IsTrue (is_some o) → unwrap_or o 0 < n)
+    → unwrap_or (if here then Some 0 else option_map (λ i. i + 1) o) 0 < suc n
+below_by true o n known later = omega arith
+below_by false None n known later = absurd (false≢true known)
+below_by false (Some i) n known later = omega (arith, later refl)
+
+pub number_below : (names : List Text) (text : Text) → IsTrue (is_known names text) → number_named names text < length names
+number_below [] text known = absurd (false≢true known)
+number_below (name ∷ names) text known = below_by (bytes_eq text name) (named names text) (length names) known (number_below names text)
+
+same_by : (a b name : Text) (p q : Bool) (s t : Option ℕ) → bytes_eq a name ≡ p → bytes_eq b name ≡ q
+    → IsTrue (is_some (if p then Some 0 else option_map (λ i. i + 1) s)) → IsTrue (is_some (if q then Some 0 else option_map (λ i. i + 1) t))
+    → unwrap_or (if p then Some 0 else option_map (λ i. i + 1) s) 0 ≡ unwrap_or (if q then Some 0 else option_map (λ i. i + 1) t) 0
+    → (IsTrue (is_some s) → IsTrue (is_some t) → unwrap_or s 0 ≡ unwrap_or t 0 → a ≡ b) → a ≡ b
+same_by a b name true true s t is_a is_b known_a known_b same later = same_text a name is_a ∙ sym (same_text b name is_b)
+same_by a b name true false s None is_a is_b known_a known_b same later = absurd (false≢true known_b)
+same_by a b name true false s (Some j) is_a is_b known_a known_b same later = absurd (omega (arith, same))
+same_by a b name false true None t is_a is_b known_a known_b same later = absurd (false≢true known_a)
+same_by a b name false true (Some i) t is_a is_b known_a known_b same later = absurd (omega (arith, same))
+same_by a b name false false None t is_a is_b known_a known_b same later = absurd (false≢true known_a)
+same_by a b name false false (Some i) None is_a is_b known_a known_b same later = absurd (false≢true known_b)
+same_by a b name false false (Some i) (Some j) is_a is_b known_a known_b same later = later refl refl (omega (arith, same))
+
+pub same_number : (names : List Text) (a b : Text) → IsTrue (is_known names a) → IsTrue (is_known names b) → number_named names a ≡ number_named names b → a ≡ b
+same_number [] a b known_a known_b same = absurd (false≢true known_a)
+same_number (name ∷ names) a b known_a known_b same =
+    same_by a b name (bytes_eq a name) (bytes_eq b name) (named names a) (named names b) refl refl known_a known_b same (same_number names a b)
+
+other_number : (names : List Text) (a b : Text) → IsTrue (is_known names a) → IsTrue (is_known names b) → bytes_eq a b ≡ false → (number_named names a == number_named names b) ≡ false
+other_number names a b known_a known_b other =
+    ne_eqb (number_named names a) (number_named names b) (λ same. true≢false (sym (text_itself a) ∙ ap (bytes_eq a) (same_number names a b known_a known_b same) ∙ other))
+
+no_number : (names : List Text) (a : Text) (texts : List Text) → IsTrue (is_known names a) → IsTrue (list_all (is_known names) texts) → is_among a texts ≡ false
+    → list_any (λ y. number_named names a == y) (map (number_named names) texts) ≡ false
+no_number names a [] known all gone = refl
+no_number names a (text ∷ texts) known all gone =
+    let both = and_true (is_known names text) (list_all (is_known names) texts) all in
+    let parts = or_parts (bytes_eq a text) (is_among a texts) gone in
+    rw (other_number names a text known both.0 parts.0, no_number names a texts known both.1 parts.1) refl
+
+pub distinct_numbers : (names texts : List Text) → IsTrue (list_all (is_known names) texts) → IsTrue (are_distinct_names texts) → IsTrue (are_distinct (map (number_named names) texts))
+distinct_numbers names [] all h = refl
+distinct_numbers names (text ∷ texts) all h =
+    let known = and_true (is_known names text) (list_all (is_known names) texts) all in
+    let both = and_true (not (is_among text texts)) (are_distinct_names texts) h in
+    both_true (not (list_any (λ y. number_named names text == y) (map (number_named names) texts))) (are_distinct (map (number_named names) texts))
+    (not_true (list_any (λ y. number_named names text == y) (map (number_named names) texts)) (no_number names text texts known.0 known.1 (not_false (is_among text texts) both.0)))
+    (distinct_numbers names texts known.1 both.1)
+
+pub numbers_below : (names texts : List Text) (n : ℕ) → length names ≡ n → IsTrue (list_all (is_known names) texts) → IsTrue (list_all (λ i. nat_lt i n) (map (number_named names) texts))
+numbers_below names [] n few all = refl
+numbers_below names (text ∷ texts) n few all =
+    let known = and_true (is_known names text) (list_all (is_known names) texts) all in
+    let below = number_below names text known.0 in
+    let first : IsTrue (nat_lt (number_named names text) n) = grind (arith, nat_tests, few, below) in
+    both_true (nat_lt (number_named names text) n) (list_all (λ i. nat_lt i n) (map (number_named names) texts)) first (numbers_below names texts n few known.1)

@@ -1,0 +1,121 @@
+-- The names of an image are those of its description: lawful and distinct.
+use Rattle.std.proofs.Common.{◌≡◌, ℕ, ◌+◌, Bool, List, [], ◌∷◌, ◌++◌, length, map, drop, IsTrue, refl, ap, sym, ◌∙◌, subst, arith}
+use Rattle.std.specs.List.{list_all}
+use Rattle.std.proofs.lemmas.List.Folds.{list_all-append}
+use Rattle.um_base.specs.declared.image.DomainDef.{DomainDef}
+use Rattle.um_base.specs.declared.image.ObjectDef.{ObjectDef}
+use Rattle.um_base.specs.declared.image.Partition.{Partition}
+use Rattle.um_base.specs.declared.image.Pool.{Pool}
+use Rattle.um_base.specs.declared.image.Script.{Script}
+use Rattle.um_base.specs.declared.names.Range.{Range}
+use Rattle.um_base.specs.Lawful.{is_name, names_of, are_distinct_names}
+use Rattle.um_document.specs.declared.description.Description.{Description}
+use Rattle.um_document.specs.declared.description.Details.{Details}
+use Rattle.um_document.specs.declared.description.ObjectEntry.{ObjectEntry}
+use Rattle.um_document.specs.declared.description.PartitionEntry.{PartitionEntry}
+use Rattle.um_document.specs.declared.shape.Section.{Section}
+use Rattle.um_description.specs.Duplicates.{names_again, domains_again, boots_again, added, duplicates}
+use Rattle.um_document.specs.LawfulNames.{AreLawfulNames}
+use Rattle.um_description.specs.Limits.{threads_after}
+use Rattle.um_description.specs.Names.{Text, pool_names, partition_names, domain_names, object_names, script_names}
+use Rattle.um_description.specs.Resolve.{pool_of, domain_of, placed_partitions, first_range, ranges_taken, object_def, objects_from, script_of, without_scripts, image_in}
+use Rattle.um_description.proofs.LawfulDistinct.{are_new, new_names, new_domains, new_append, added_append, distinct_names}
+use Rattle.um_description.proofs.LawfulLists.{no_front, no_back, both_true, map_map}
+use Rattle.um_description.proofs.LawfulObjects.{entry}
+
+-- all names of a description, in its order
+abbrev pub all_names : Description → List Text
+all_names d = pool_names d ++ partition_names d ++ domain_names d ++ object_names d ++ script_names d
+
+-- ---- the names of the parts
+
+partition_names_again : (ranges : List Range) (ps : List PartitionEntry) → length ranges ≡ length ps
+    → map (λ (p : Partition). p.name) (placed_partitions ranges ps) ≡ map (λ (p : PartitionEntry). p.name) ps
+partition_names_again [] [] h = refl
+partition_names_again [] (p ∷ ps) h = absurd (omega (arith, h))
+partition_names_again (range ∷ ranges) [] h = absurd (omega (arith, h))
+partition_names_again (range ∷ ranges) (p ∷ ps) h = ap (λ (ns : List Text). p.name ∷ ns) (partition_names_again ranges ps (omega (arith, h)))
+
+object_name : (range : Range) (x t : ℕ) (name : Text) (public : Bool) (details : Details) → (object_def range x t (entry name public details)).name ≡ name
+object_name range x t name public Details.Thread = refl
+object_name range x t name public (Details.ThreadStack size) = refl
+object_name range x t name public (Details.Sem numbers) = refl
+object_name range x t name public (Details.Mutex init) = refl
+object_name range x t name public (Details.Msgq numbers) = refl
+object_name range x t name public (Details.Stack entries) = refl
+object_name range x t name public (Details.Pipe size) = refl
+
+object_names_again : (ranges : List Range) (x t : ℕ) (os : List ObjectEntry) → map (λ (o : ObjectDef). o.name) (objects_from ranges x t os) ≡ map (λ (o : ObjectEntry). o.name) os
+object_names_again ranges x t [] = refl
+object_names_again ranges x t (o ∷ os) =
+    let rest = object_names_again (drop (ranges_taken o) ranges) (x + 1) (threads_after t o) os in
+    rw (object_name (first_range ranges) x t o.name o.public o.details, rest) refl
+
+pub names_again_in : (d : Description) (ps ss : List Range) → length ps ≡ length d.partitions → names_of (image_in d ps ss) ≡ all_names d
+names_again_in d ps ss h =
+    let pools : map (λ (p : Pool). p.name) (map pool_of d.pools) ≡ pool_names d = map_map pool_of (λ (p : Pool). p.name) d.pools in
+    let partitions : map (λ (p : Partition). p.name) (placed_partitions ps d.partitions) ≡ partition_names d = partition_names_again ps d.partitions h in
+    let domains : map (λ (m : DomainDef). m.name) (map (domain_of (partition_names d)) d.domains) ≡ domain_names d = map_map (domain_of (partition_names d)) (λ (m : DomainDef). m.name) d.domains in
+    let objects : map (λ (o : ObjectDef). o.name) (objects_from ss 0 0 d.objects) ≡ object_names d = object_names_again ss 0 0 d.objects in
+    let scripts : map (λ (s : Script). s.name) (map (script_of (without_scripts d ps ss) d) d.scripts) ≡ script_names d = map_map (script_of (without_scripts d ps ss) d) (λ (s : Script). s.name) d.scripts in
+    rw (pools, partitions, domains, objects, scripts) refl
+
+-- ---- lawful
+
+both_lists : (xs ys : List Text) → IsTrue (list_all is_name xs) → IsTrue (list_all is_name ys) → IsTrue (list_all is_name (xs ++ ys))
+both_lists xs ys h k = list_all-append is_name xs ys ∙ both_true (list_all is_name xs) (list_all is_name ys) h k
+
+pub names_lawful : (d : Description) → AreLawfulNames d → IsTrue (list_all is_name (all_names d))
+names_lawful d h =
+    both_lists (pool_names d ++ partition_names d ++ domain_names d ++ object_names d) (script_names d)
+    (both_lists (pool_names d ++ partition_names d ++ domain_names d) (object_names d)
+    (both_lists (pool_names d ++ partition_names d) (domain_names d)
+    (both_lists (pool_names d) (partition_names d) h.pools h.partitions) h.domains) h.objects) h.scripts
+
+-- ---- distinct
+
+-- what the texts that stood before leave to each section
+pub record HasNoDuplicates (d : Description) : Type 0 where
+  pub names : IsTrue (are_new [] (all_names d))
+  pub domains : domains_again (added (added [] (pool_names d)) (partition_names d)) 0 d.domains ≡ []
+  pub boots : boots_again [] [] 0 d.boots ≡ []
+
+pub no_duplicates : (d : Description) → duplicates d ≡ [] → HasNoDuplicates d
+no_duplicates d h =
+    let p = added [] (pool_names d) in
+    let q = added p (partition_names d) in
+    let r = added q (domain_names d) in
+    let t = added r (object_names d) in
+    let xs0 = names_again [] Section.Pool 0 (pool_names d) in
+    let xs1 = names_again p Section.Partition 0 (partition_names d) in
+    let xs2 = domains_again q 0 d.domains in
+    let xs3 = names_again r Section.Object 0 (object_names d) in
+    let xs4 = boots_again [] [] 0 d.boots in
+    let xs5 = names_again t Section.Script 0 (script_names d) in
+    let f4 = no_front (xs0 ++ xs1 ++ xs2 ++ xs3 ++ xs4) xs5 h in
+    let f3 = no_front (xs0 ++ xs1 ++ xs2 ++ xs3) xs4 f4 in
+    let f2 = no_front (xs0 ++ xs1 ++ xs2) xs3 f3 in
+    let f1 = no_front (xs0 ++ xs1) xs2 f2 in
+    let n1 : IsTrue (are_new [] (pool_names d)) = new_names [] Section.Pool 0 (pool_names d) (no_front xs0 xs1 f1) in
+    let n2 : IsTrue (are_new [] (pool_names d ++ partition_names d)) =
+    new_append [] (pool_names d) (partition_names d) n1 (new_names p Section.Partition 0 (partition_names d) (no_back xs0 xs1 f1)) in
+    let e2 : added [] (pool_names d ++ partition_names d) ≡ q = added_append [] (pool_names d) (partition_names d) in
+    let n3 : IsTrue (are_new [] (pool_names d ++ partition_names d ++ domain_names d)) =
+    new_append [] (pool_names d ++ partition_names d) (domain_names d) n2
+    (subst (λ (b : List Text). IsTrue (are_new b (domain_names d))) (sym e2) (new_domains q 0 d.domains (no_back (xs0 ++ xs1) xs2 f2))) in
+    let e3 : added [] (pool_names d ++ partition_names d ++ domain_names d) ≡ r =
+    added_append [] (pool_names d ++ partition_names d) (domain_names d) ∙ ap (λ (b : List Text). added b (domain_names d)) e2 in
+    let n4 : IsTrue (are_new [] (pool_names d ++ partition_names d ++ domain_names d ++ object_names d)) =
+    new_append [] (pool_names d ++ partition_names d ++ domain_names d) (object_names d) n3
+    (subst (λ (b : List Text). IsTrue (are_new b (object_names d))) (sym e3) (new_names r Section.Object 0 (object_names d) (no_back (xs0 ++ xs1 ++ xs2) xs3 f3))) in
+    let e4 : added [] (pool_names d ++ partition_names d ++ domain_names d ++ object_names d) ≡ t =
+    added_append [] (pool_names d ++ partition_names d ++ domain_names d) (object_names d) ∙ ap (λ (b : List Text). added b (object_names d)) e3 in
+    record {
+      names = new_append [] (pool_names d ++ partition_names d ++ domain_names d ++ object_names d) (script_names d) n4
+          (subst (λ (b : List Text). IsTrue (are_new b (script_names d))) (sym e4) (new_names t Section.Script 0 (script_names d) (no_back (xs0 ++ xs1 ++ xs2 ++ xs3 ++ xs4) xs5 h)));
+      domains = no_back (xs0 ++ xs1) xs2 f2;
+      boots = no_back (xs0 ++ xs1 ++ xs2 ++ xs3) xs4 f4;
+    }
+
+pub names_distinct : (d : Description) → HasNoDuplicates d → IsTrue (are_distinct_names (all_names d))
+names_distinct d h = distinct_names [] (all_names d) h.names

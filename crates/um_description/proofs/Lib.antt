@@ -1,0 +1,26 @@
+pub mod Firsts
+pub mod NameLemmas
+pub mod SeenLemmas
+pub mod AgainLemmas
+pub mod DuplicateLemmas
+mod EachLemmas
+mod KnownLemmas
+mod RangeLemmas
+mod WeightLemmas
+mod SameWeight
+mod MeaningLemmas
+mod WithoutLimits
+mod KindLemmas
+pub mod LawfulLists
+pub mod LawfulRanges
+pub mod LawfulLayout
+pub mod LawfulObjects
+pub mod LawfulDistinct
+pub mod LawfulNames
+pub mod LawfulDomains
+pub mod LawfulBoots
+pub mod LawfulReading
+pub mod LawfulBlocks
+pub mod LawfulLines
+pub mod LawfulScripts
+pub mod LawfulImage

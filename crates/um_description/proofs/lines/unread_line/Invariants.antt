@@ -1,0 +1,11 @@
+use Rattle.std.proofs.Common.{◌≡◌, drop}
+use Rattle.um_document.specs.First.{first_of}
+use Rattle.um_description.specs.Lines.{unread_at}
+use Rattle.um_description.specs.Names.{each}
+use Rattle.um_description.proofs.lines.unread_line.Given as goal
+
+abbrev pub invariant-loop-line : goal.invariant-loop-line
+invariant-loop-line l = record {
+  rest : first_of (each (unread_at l.script) l.index (drop l.line-index l.lines)) ≡ first_of (each (unread_at l.script) 0 l.lines);
+  index : l.index ≡ l.line-index;
+}

@@ -1,0 +1,6 @@
+use Rattle.std.proofs.Common.{◌≡◌, map, take}
+use Rattle.um_description.specs.Resolve.{script_of}
+use Rattle.um_description.proofs.resolve.scripts.scripts.Given as goal
+
+abbrev pub invariant-loop-entry : goal.invariant-loop-entry
+invariant-loop-entry l = l.all ≡ map (script_of l.image l.d) (take l.entry-index l.d.scripts)

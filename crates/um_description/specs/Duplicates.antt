@@ -1,0 +1,65 @@
+-- What is named twice, in the order of the places.
+use Rattle.std.specs.Prelude.{◌≡◌, ℕ, ◌+◌, List, [], ◌∷◌, ◌++◌, if◌then◌else◌}
+use Rattle.um_document.specs.declared.description.BootEntry.{BootEntry}
+use Rattle.um_document.specs.declared.description.Description.{Description}
+use Rattle.um_document.specs.declared.description.DomainEntry.{DomainEntry}
+use Rattle.um_document.specs.declared.place.Place.{Place}
+use Rattle.um_document.specs.declared.shape.Key.{Key}
+use Rattle.um_document.specs.declared.shape.Section.{Section}
+use Rattle.um_description.specs.Names.{Text, is_among, items, pool_names, partition_names, domain_names, object_names, script_names}
+
+-- a place, where its text stands among those before it
+abbrev pub if_again : List Text → Place → Text → List Place
+if_again before place text = if is_among text before then place ∷ [] else []
+
+-- the names of a section's entries from the i-th on that stood before
+abbrev pub names_again : List Text → Section → ℕ → List Text → List Place
+names_again before section i [] = []
+names_again before section i (name ∷ names) =
+    if_again before (Place.Field section i Key.Name) name ++ names_again (name ∷ before) section (i + 1) names
+
+-- the partitions of the i-th domain from the j-th on that stood before
+abbrev pub parts_again : List Text → ℕ → ℕ → List Text → List Place
+parts_again before i j [] = []
+parts_again before i j (text ∷ texts) =
+    if_again before (Place.Item Section.Domain i Key.Partitions j) text ++ parts_again (text ∷ before) i (j + 1) texts
+
+-- the name and the partitions of a domain
+abbrev pub domain_again : List Text → ℕ → DomainEntry → List Place
+domain_again before i m = if_again before (Place.Field Section.Domain i Key.Name) m.name ++ parts_again [] i 0 (items m.partitions)
+
+abbrev pub domains_again : List Text → ℕ → List DomainEntry → List Place
+domains_again before i [] = []
+domains_again before i (m ∷ ms) = domain_again before i m ++ domains_again (m.name ∷ before) (i + 1) ms
+
+-- the thread and the stack of a boot entry
+abbrev pub boot_again : List Text → List Text → ℕ → BootEntry → List Place
+boot_again threads stacks i b =
+    if_again threads (Place.Field Section.Boot i Key.Thread) b.thread ++ if_again stacks (Place.Field Section.Boot i Key.Stack) b.stack
+
+abbrev pub boots_again : List Text → List Text → ℕ → List BootEntry → List Place
+boots_again threads stacks i [] = []
+boots_again threads stacks i (b ∷ bs) = boot_again threads stacks i b ++ boots_again (b.thread ∷ threads) (b.stack ∷ stacks) (i + 1) bs
+
+-- names that stand among these when the names of a list were added to them
+abbrev pub added : List Text → List Text → List Text
+added before [] = before
+added before (name ∷ names) = added (name ∷ before) names
+
+-- all places of a description whose text stood before: as a name, in the same domain, or as another boot entry's thread or stack
+abbrev pub duplicates : Description → List Place
+duplicates d =
+    let pools = added [] (pool_names d) in
+    let partitions = added pools (partition_names d) in
+    let domains = added partitions (domain_names d) in
+    let objects = added domains (object_names d) in
+    names_again [] Section.Pool 0 (pool_names d)
+    ++ names_again pools Section.Partition 0 (partition_names d)
+    ++ domains_again partitions 0 d.domains
+    ++ names_again domains Section.Object 0 (object_names d)
+    ++ boots_again [] [] 0 d.boots
+    ++ names_again objects Section.Script 0 (script_names d)
+
+-- the same texts stand in both lists
+abbrev pub SameTexts : List Text → List Text → Type 0
+SameTexts a b = (q : Text) → is_among q a ≡ is_among q b

@@ -1,0 +1,14 @@
+pub mod Names
+pub mod Duplicates
+pub mod Unknown
+pub mod Known
+pub mod Limits
+pub mod Mentions
+pub mod Lines
+pub mod Resolve
+pub mod Weights
+pub mod InLimits
+pub mod Told
+pub mod Flaws
+pub mod Kinds
+pub mod Faults

@@ -1,0 +1,240 @@
+//! Names that stood before.
+
+ghost use Rattle.std.specs.Prelude.{◌≡◌, [], ◌∷◌, map, None, Ok, IfOk, OnOk};
+ghost use Rattle.um_document.specs.declared.description.DomainEntry.{DomainEntry};
+ghost use Rattle.um_document.specs.declared.description.ObjectEntry.{ObjectEntry};
+ghost use Rattle.um_document.specs.declared.description.PartitionEntry.{PartitionEntry};
+ghost use Rattle.um_document.specs.declared.description.PoolEntry.{PoolEntry};
+ghost use Rattle.um_document.specs.declared.description.ScriptEntry.{ScriptEntry};
+ghost use Rattle.um_document.specs.declared.shape.Section.{Section};
+ghost use Rattle.um_document.specs.First.{first_of};
+ghost use Rattle.um_description.specs.Duplicates as spec;
+
+use crate::seen::Seen;
+use std::alloc::Global;
+use um_base::{Memory, Name};
+use um_document::{
+    BootEntry, Description, DomainEntry, Key, ObjectEntry, PartitionEntry, Place, PoolEntry,
+    ScriptEntry, Section, Text,
+};
+
+/// The first of some names of a section that stood before.
+fn name_again(
+    alloc: Global,
+    seen: &mut Seen,
+    section: Section,
+    names: &[Name],
+) -> Result<Option<Place>, Memory>
+    ensures found { IfOk result (λ found. found ≡ first_of (spec.names_again seen.old section 0 names.now)) }
+    ensures added { result ≡ Ok None → spec.SameTexts seen.new (spec.added seen.old names.now) }
+{
+    let mut index = 0usize;
+    for name in names {
+        if seen.add(alloc, name.as_slice())? {
+            return Ok(Some(Place::Field(section, index, Key::Name)));
+        }
+        index += 1;
+    }
+    Ok(None)
+}
+
+/// The first of a domain's partitions that stands twice in it.
+fn part_again(alloc: Global, domain: usize, parts: &[Text]) -> Result<Option<Place>, Memory>
+    ensures { IfOk result (λ found. found ≡ first_of (spec.parts_again [] domain 0 parts.now)) }
+{
+    let mut seen = Seen::new(alloc);
+    let mut index = 0usize;
+    for part in parts {
+        if seen.add(alloc, part.as_slice())? {
+            return Ok(Some(Place::Item(Section::Domain, domain, Key::Partitions, index)));
+        }
+        index += 1;
+    }
+    Ok(None)
+}
+
+/// A domain whose name stood before, or the first of its partitions that stands twice in it.
+fn domain_found(
+    alloc: Global,
+    seen: &mut Seen,
+    index: usize,
+    domain: &DomainEntry,
+) -> Result<Option<Place>, Memory>
+    ensures found { IfOk result (λ found. found ≡ first_of (spec.domain_again seen.old index domain.now)) }
+    ensures added { OnOk result (spec.SameTexts seen.new (domain.now.name ∷ seen.old)) }
+{
+    if seen.add(alloc, domain.name.as_slice())? {
+        return Ok(Some(Place::Field(Section::Domain, index, Key::Name)));
+    }
+    match &domain.partitions {
+        Some(parts) => part_again(alloc, index, parts.as_slice()),
+        None => Ok(None),
+    }
+}
+
+/// The first of the names and the partitions of domains that stood before.
+fn domain_again(
+    alloc: Global,
+    seen: &mut Seen,
+    domains: &[DomainEntry],
+) -> Result<Option<Place>, Memory>
+    ensures found { IfOk result (λ found. found ≡ first_of (spec.domains_again seen.old 0 domains.now)) }
+    ensures added { result ≡ Ok None → spec.SameTexts seen.new (spec.added seen.old (map (λ (m : DomainEntry). m.name) domains.now)) }
+{
+    let mut index = 0usize;
+    for domain in domains {
+        let found = domain_found(alloc, seen, index, domain)?;
+        if found.is_some() {
+            return Ok(found);
+        }
+        index += 1;
+    }
+    Ok(None)
+}
+
+/// A boot entry's thread or stack that another one before it has.
+fn boot_found(
+    alloc: Global,
+    threads: &mut Seen,
+    stacks: &mut Seen,
+    index: usize,
+    boot: &BootEntry,
+) -> Result<Option<Place>, Memory>
+    ensures found { IfOk result (λ found. found ≡ first_of (spec.boot_again threads.old stacks.old index boot.now)) }
+    ensures threads { OnOk result (spec.SameTexts threads.new (boot.now.thread ∷ threads.old)) }
+    ensures stacks { OnOk result (spec.SameTexts stacks.new (boot.now.stack ∷ stacks.old)) }
+{
+    let thread = threads.add(alloc, boot.thread.as_slice())?;
+    let stack = stacks.add(alloc, boot.stack.as_slice())?;
+    if thread {
+        Ok(Some(Place::Field(Section::Boot, index, Key::Thread)))
+    } else if stack {
+        Ok(Some(Place::Field(Section::Boot, index, Key::Stack)))
+    } else {
+        Ok(None)
+    }
+}
+
+/// The first thread or stack that stands in two boot entries.
+fn boot_again(alloc: Global, boots: &[BootEntry]) -> Result<Option<Place>, Memory>
+    ensures { IfOk result (λ found. found ≡ first_of (spec.boots_again [] [] 0 boots.now)) }
+{
+    let mut threads = Seen::new(alloc);
+    let mut stacks = Seen::new(alloc);
+    let mut index = 0usize;
+    for boot in boots {
+        let found = boot_found(alloc, &mut threads, &mut stacks, index, boot)?;
+        if found.is_some() {
+            return Ok(found);
+        }
+        index += 1;
+    }
+    Ok(None)
+}
+
+fn pool_names(alloc: Global, pools: &[PoolEntry]) -> Result<Vec<Name>, Memory>
+    ensures { IfOk result (λ found. found.items ≡ map (λ (p : PoolEntry). p.name) pools.now) }
+{
+    let mut found = Vec::new(alloc);
+    for pool in pools {
+        found.push(pool.name)?;
+    }
+    Ok(found)
+}
+
+/// The names of partitions.
+pub fn partition_names(alloc: Global, partitions: &[PartitionEntry]) -> Result<Vec<Name>, Memory>
+    ensures { IfOk result (λ found. found.items ≡ map (λ (p : PartitionEntry). p.name) partitions.now) }
+{
+    let mut found = Vec::new(alloc);
+    for partition in partitions {
+        found.push(partition.name)?;
+    }
+    Ok(found)
+}
+
+/// The names of objects.
+pub fn object_names(alloc: Global, objects: &[ObjectEntry]) -> Result<Vec<Name>, Memory>
+    ensures { IfOk result (λ found. found.items ≡ map (λ (o : ObjectEntry). o.name) objects.now) }
+{
+    let mut found = Vec::new(alloc);
+    for object in objects {
+        found.push(object.name)?;
+    }
+    Ok(found)
+}
+
+fn script_names(alloc: Global, scripts: &[ScriptEntry]) -> Result<Vec<Name>, Memory>
+    ensures { IfOk result (λ found. found.items ≡ map (λ (s : ScriptEntry). s.name) scripts.now) }
+{
+    let mut found = Vec::new(alloc);
+    for script in scripts {
+        found.push(script.name)?;
+    }
+    Ok(found)
+}
+
+fn pools_again(alloc: Global, seen: &mut Seen, pools: &[PoolEntry]) -> Result<Option<Place>, Memory>
+    ensures found { IfOk result (λ found. found ≡ first_of (spec.names_again seen.old Section.Pool 0 (map (λ (p : PoolEntry). p.name) pools.now))) }
+    ensures added { result ≡ Ok None → spec.SameTexts seen.new (spec.added seen.old (map (λ (p : PoolEntry). p.name) pools.now)) }
+{
+    let names = pool_names(alloc, pools)?;
+    name_again(alloc, seen, Section::Pool, &names)
+}
+
+fn partitions_again(
+    alloc: Global,
+    seen: &mut Seen,
+    partitions: &[PartitionEntry],
+) -> Result<Option<Place>, Memory>
+    ensures found { IfOk result (λ found. found ≡ first_of (spec.names_again seen.old Section.Partition 0 (map (λ (p : PartitionEntry). p.name) partitions.now))) }
+    ensures added { result ≡ Ok None → spec.SameTexts seen.new (spec.added seen.old (map (λ (p : PartitionEntry). p.name) partitions.now)) }
+{
+    let names = partition_names(alloc, partitions)?;
+    name_again(alloc, seen, Section::Partition, &names)
+}
+
+fn objects_again(
+    alloc: Global,
+    seen: &mut Seen,
+    objects: &[ObjectEntry],
+) -> Result<Option<Place>, Memory>
+    ensures found { IfOk result (λ found. found ≡ first_of (spec.names_again seen.old Section.Object 0 (map (λ (o : ObjectEntry). o.name) objects.now))) }
+    ensures added { result ≡ Ok None → spec.SameTexts seen.new (spec.added seen.old (map (λ (o : ObjectEntry). o.name) objects.now)) }
+{
+    let names = object_names(alloc, objects)?;
+    name_again(alloc, seen, Section::Object, &names)
+}
+
+fn scripts_again(
+    alloc: Global,
+    seen: &mut Seen,
+    scripts: &[ScriptEntry],
+) -> Result<Option<Place>, Memory>
+    ensures { IfOk result (λ found. found ≡ first_of (spec.names_again seen.old Section.Script 0 (map (λ (s : ScriptEntry). s.name) scripts.now))) }
+{
+    let names = script_names(alloc, scripts)?;
+    name_again(alloc, seen, Section::Script, &names)
+}
+
+/// The first place of a description whose text stood before: as a name, in the same domain, or as another boot
+/// entry's thread or stack.
+pub fn first_duplicate(alloc: Global, d: &Description) -> Result<Option<Place>, Memory>
+    ensures { IfOk result (λ found. found ≡ first_of (spec.duplicates d.now)) }
+{
+    let mut seen = Seen::new(alloc);
+    let pools = pools_again(alloc, &mut seen, d.pools.as_slice())?;
+    let partitions = partitions_again(alloc, &mut seen, d.partitions.as_slice())?;
+    let domains = domain_again(alloc, &mut seen, d.domains.as_slice())?;
+    let objects = objects_again(alloc, &mut seen, d.objects.as_slice())?;
+    let boots = boot_again(alloc, d.boots.as_slice())?;
+    let scripts = scripts_again(alloc, &mut seen, d.scripts.as_slice())?;
+    Ok(
+        pools
+            .or(partitions)
+            .or(domains)
+            .or(objects)
+            .or(boots)
+            .or(scripts),
+    )
+}

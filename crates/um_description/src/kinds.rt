@@ -1,0 +1,64 @@
+//! The kinds of flaws in their order, and what a description means.
+
+ghost use Rattle.std.specs.Prelude.{◌≡◌, IfOk};
+ghost use Rattle.um_document.specs.First.{first_of};
+ghost use Rattle.um_description.specs.Flaws as spec;
+ghost use Rattle.um_description.specs.Kinds as kinds;
+
+use crate::blocks::first_block;
+use crate::duplicates::first_duplicate;
+use crate::flaw::Flaw;
+use crate::limits::first_limit;
+use crate::lines::first_unread;
+use crate::order::first_misordered;
+use crate::resolve::image_or_flaw;
+use crate::strangers::first_stranger;
+use crate::unknown::first_unknown;
+use std::alloc::Global;
+use um_base::{Image, Memory};
+use um_document::Description;
+
+/// The first flaw of a description's entries: a name given twice, one that names nothing, or a number out of its range.
+fn first_in_entries(alloc: Global, d: &Description) -> Result<Option<Flaw>, Memory>
+    ensures { IfOk result (λ found. found ≡ first_of (kinds.entry_flaws d.now)) }
+{
+    if let Some(place) = first_duplicate(alloc, d)? {
+        return Ok(Some(Flaw::Duplicate(place)));
+    }
+    if let Some(place) = first_unknown(alloc, d)? {
+        return Ok(Some(Flaw::UnknownName(place)));
+    }
+    Ok(first_limit(d))
+}
+
+/// The first flaw of the lines of a description's scripts.
+fn first_in_lines(alloc: Global, d: &Description) -> Result<Option<Flaw>, Memory>
+    ensures { IfOk result (λ found. found ≡ first_of (kinds.line_flaws d.now)) }
+{
+    if let Some(flaw) = first_unread(d.scripts.as_slice())? {
+        return Ok(Some(flaw));
+    }
+    if let Some(place) = first_block(alloc, d.scripts.as_slice())? {
+        return Ok(Some(Flaw::Block(place)));
+    }
+    if let Some(flaw) = first_stranger(d, d.scripts.as_slice())? {
+        return Ok(Some(flaw));
+    }
+    if let Some(place) = first_misordered(d)? {
+        return Ok(Some(Flaw::ScriptOrder(place)));
+    }
+    Ok(None)
+}
+
+/// The image that a description gives, or the first of its flaws.
+pub fn meaning(alloc: Global, d: &Description) -> Result<Result<Image, Flaw>, Memory>
+    ensures { IfOk result (λ r. r ≡ spec.meaning d.now) }
+{
+    if let Some(flaw) = first_in_entries(alloc, d)? {
+        return Ok(Err(flaw));
+    }
+    if let Some(flaw) = first_in_lines(alloc, d)? {
+        return Ok(Err(flaw));
+    }
+    image_or_flaw(alloc, d)
+}

@@ -1,0 +1,31 @@
+//! A description's meaning: the image that it gives, or its flaws in the order of their kinds and places.
+#![tactic(auto)]
+
+mod blocks;
+mod duplicates;
+mod fault;
+mod flaw;
+mod kinds;
+mod limits;
+mod lines;
+mod mentions;
+mod named;
+mod order;
+mod resolve;
+mod seen;
+mod strangers;
+mod unknown;
+mod weighing;
+
+pub use blocks::first_block;
+pub use duplicates::first_duplicate;
+pub use fault::fault_of;
+pub use flaw::{Counted, Flaw};
+pub use kinds::meaning;
+pub use limits::first_limit;
+pub use lines::first_unread;
+pub use order::first_misordered;
+pub use resolve::image_or_flaw;
+pub use strangers::first_stranger;
+pub use unknown::first_unknown;
+pub use weighing::weight;

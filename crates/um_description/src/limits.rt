@@ -1,0 +1,355 @@
+//! Counts and numbers that are out of their ranges.
+
+ghost use Rattle.std.specs.Prelude.{◌≡◌, ◌≤◌, length, pos};
+ghost use Rattle.um_document.specs.declared.place.Place.{Place};
+ghost use Rattle.um_document.specs.declared.shape.Key.{Key};
+ghost use Rattle.um_document.specs.declared.shape.Section.{Section};
+ghost use Rattle.um_document.specs.First.{first_of};
+ghost use Rattle.um_description.specs.Limits as limits;
+ghost use Rattle.um_description.specs.Names as names;
+
+use crate::flaw::{Counted, Flaw};
+use um_base::{
+    AREA_ENTRY, BOOTS, DOMAIN_PARTITIONS, DOMAINS, LINES, PARTITIONS, POOLS, SCRIPTS, STATIC_ROWS,
+    STATIC_THREADS,
+};
+use um_document::{
+    BootEntry, Description, Details, DomainEntry, Key, ObjectEntry, PartitionEntry, Place,
+    PoolEntry, ScriptEntry, Section,
+};
+
+/// A number at a key that is to be from `low` to `high`.
+fn outside(key: Key, low: i64, high: i64, place: Place, n: i64) -> Option<Flaw>
+    ensures { result ≡ first_of (limits.outside key low high place n) }
+{
+    let number = if n < low {
+        low
+    } else if n > high {
+        high
+    } else {
+        return None;
+    };
+    Some(Flaw::Limit {
+        counted: Counted::Key(key),
+        number,
+        place,
+    })
+}
+
+/// A list that is to have at most so many items.
+fn longer(key: Key, most: i64, place: Place, items: usize) -> Option<Flaw>
+    ensures { result ≡ first_of (limits.longer key most place items) }
+{
+    if items as i128 > most as i128 {
+        Some(Flaw::Limit {
+            counted: Counted::Key(key),
+            number: most,
+            place,
+        })
+    } else {
+        None
+    }
+}
+
+/// The first entry too many of a section.
+fn one_too_many(section: Section, most: usize, i: usize) -> Option<Flaw>
+    requires { most ≤ 96 }
+    ensures { result ≡ first_of (limits.one_too_many section most i) }
+{
+    if i == most {
+        Some(Flaw::Limit {
+            counted: Counted::Key(section.key()),
+            number: most as i64,
+            place: Place::Entry(section, i),
+        })
+    } else {
+        None
+    }
+}
+
+#[tactic(auto, using(crate::proofs::Firsts::first_or), unfolding(crate::specs::Limits::pool_limits))]
+fn pool_limit(i: usize, pool: &PoolEntry) -> Option<Flaw>
+    ensures { result ≡ first_of (limits.pool_limits i pool.now) }
+{
+    one_too_many(Section::Pool, POOLS, i).or(outside(
+        Key::Size,
+        0,
+        AREA_ENTRY as i64,
+        Place::Field(Section::Pool, i, Key::Size),
+        pool.size,
+    ))
+}
+
+#[tactic(auto, using(crate::proofs::Firsts::first_or), unfolding(crate::specs::Limits::partition_limits))]
+fn partition_limit(i: usize, partition: &PartitionEntry) -> Option<Flaw>
+    ensures { result ≡ first_of (limits.partition_limits i partition.now) }
+{
+    one_too_many(Section::Partition, PARTITIONS, i)
+        .or(outside(
+            Key::Size,
+            1,
+            AREA_ENTRY as i64,
+            Place::Field(Section::Partition, i, Key::Size),
+            partition.size,
+        ))
+        .or(longer(
+            Key::Data,
+            partition.size,
+            Place::Field(Section::Partition, i, Key::Data),
+            partition.data.len(),
+        ))
+}
+
+/// How many partitions a domain holds: stack, read-only data and program text need regions of their own.
+fn most_parts(d: &Description) -> usize
+    ensures value { result ≡ limits.most_parts d.now.regions }
+    ensures few { result ≤ 16 }
+{
+    if d.regions < 3 {
+        0
+    } else if d.regions > 19 {
+        DOMAIN_PARTITIONS
+    } else {
+        (d.regions - 3) as usize
+    }
+}
+
+/// How many partitions a domain lists.
+fn part_count(domain: &DomainEntry) -> usize
+    ensures { result ≡ length (names.items domain.now.partitions) }
+{
+    match &domain.partitions {
+        Some(parts) => parts.len(),
+        None => 0,
+    }
+}
+
+#[tactic(auto, using(crate::proofs::Firsts::first_or), unfolding(crate::specs::Limits::domain_limits))]
+fn domain_limit(most: usize, i: usize, domain: &DomainEntry) -> Option<Flaw>
+    requires { most ≤ 16 }
+    ensures { result ≡ first_of (limits.domain_limits most i domain.now) }
+{
+    one_too_many(Section::Domain, DOMAINS, i).or(longer(
+        Key::Partitions,
+        most as i64,
+        Place::Item(Section::Domain, i, Key::Partitions, most),
+        part_count(domain),
+    ))
+}
+
+/// A number of the i-th object.
+fn object_number(i: usize, key: Key, low: i64, high: i64, n: i64) -> Option<Flaw>
+    ensures { result ≡ first_of (limits.outside key low high (Place.Field Section.Object i key) n) }
+{
+    outside(key, low, high, Place::Field(Section::Object, i, key), n)
+}
+
+#[tactic(auto, using(crate::proofs::Firsts::first_or), unfolding(crate::specs::Limits::details_limits))]
+fn details_limit(i: usize, details: Details) -> Option<Flaw>
+    ensures { result ≡ first_of (limits.details_limits i details) }
+{
+    match details {
+        Details::Thread | Details::Mutex { .. } => None,
+        Details::ThreadStack { size } => object_number(i, Key::Size, 1, AREA_ENTRY as i64, size),
+        Details::Sem {
+            numbers: Some(numbers),
+        } => object_number(i, Key::Count, 0, numbers.limit, numbers.count).or(object_number(
+            i,
+            Key::Limit,
+            1,
+            4_294_967_295,
+            numbers.limit,
+        )),
+        Details::Msgq {
+            numbers: Some(numbers),
+        } => object_number(i, Key::MsgSize, 1, 256, numbers.msg_size).or(object_number(
+            i,
+            Key::MaxMsgs,
+            1,
+            64,
+            numbers.max_msgs,
+        )),
+        Details::Stack {
+            entries: Some(entries),
+        } => object_number(i, Key::Entries, 1, 64, entries),
+        Details::Pipe { size: Some(size) } => object_number(i, Key::Size, 1, 256, size),
+        _ => None,
+    }
+}
+
+/// Whether an object is a thread.
+pub fn is_thread(object: &ObjectEntry) -> bool
+    ensures { result ≡ names.is_thread object.now }
+{
+    matches!(object.details, Details::Thread)
+}
+
+/// The first thread object too many, behind so many others.
+fn one_thread_too_many(threads: usize, i: usize, object: &ObjectEntry) -> Option<Flaw>
+    ensures { result ≡ first_of (limits.one_thread_too_many threads i object.now) }
+{
+    if is_thread(object) && threads == STATIC_THREADS {
+        Some(Flaw::Limit {
+            counted: Counted::Threads,
+            number: STATIC_THREADS as i64,
+            place: Place::Entry(Section::Object, i),
+        })
+    } else {
+        None
+    }
+}
+
+#[tactic(auto, using(crate::proofs::Firsts::first_or), unfolding(crate::specs::Limits::object_limits))]
+fn object_limit(threads: usize, i: usize, object: &ObjectEntry) -> Option<Flaw>
+    ensures { result ≡ first_of (limits.object_limits threads i object.now) }
+{
+    one_too_many(Section::Object, STATIC_ROWS, i)
+        .or(one_thread_too_many(threads, i, object))
+        .or(details_limit(i, object.details))
+}
+
+#[tactic(auto, using(crate::proofs::Firsts::first_or), unfolding(crate::specs::Limits::boot_limits))]
+fn boot_limit(i: usize, boot: &BootEntry) -> Option<Flaw>
+    ensures { result ≡ first_of (limits.boot_limits i boot.now) }
+{
+    one_too_many(Section::Boot, BOOTS, i).or(outside(
+        Key::Priority,
+        -16,
+        14,
+        Place::Field(Section::Boot, i, Key::Priority),
+        boot.priority,
+    ))
+}
+
+/// A script that is to have 1 to 1,000 lines.
+fn lines_limit(i: usize, lines: usize) -> Option<Flaw>
+    ensures { result ≡ first_of (limits.outside Key.Lines (pos 1) (pos LINES) (Place.Field Section.Script i Key.Lines) (pos lines)) }
+{
+    let place = Place::Field(Section::Script, i, Key::Lines);
+    if lines < 1 {
+        outside(Key::Lines, 1, LINES as i64, place, 0)
+    } else {
+        longer(Key::Lines, LINES as i64, place, lines)
+    }
+}
+
+#[tactic(auto, using(crate::proofs::Firsts::first_or), unfolding(crate::specs::Limits::script_limits))]
+fn script_limit(i: usize, script: &ScriptEntry) -> Option<Flaw>
+    ensures { result ≡ first_of (limits.script_limits i script.now) }
+{
+    one_too_many(Section::Script, SCRIPTS, i).or(lines_limit(i, script.lines.len()))
+}
+
+fn pool_limits(pools: &[PoolEntry]) -> Option<Flaw>
+    ensures { result ≡ first_of (names.each limits.pool_limits 0 pools.now) }
+{
+    let mut index = 0usize;
+    for pool in pools {
+        let found = pool_limit(index, pool);
+        if found.is_some() {
+            return found;
+        }
+        index += 1;
+    }
+    None
+}
+
+fn partition_limits(partitions: &[PartitionEntry]) -> Option<Flaw>
+    ensures { result ≡ first_of (names.each limits.partition_limits 0 partitions.now) }
+{
+    let mut index = 0usize;
+    for partition in partitions {
+        let found = partition_limit(index, partition);
+        if found.is_some() {
+            return found;
+        }
+        index += 1;
+    }
+    None
+}
+
+fn domain_limits(most: usize, domains: &[DomainEntry]) -> Option<Flaw>
+    requires { most ≤ 16 }
+    ensures { result ≡ first_of (names.each (limits.domain_limits most) 0 domains.now) }
+{
+    let mut index = 0usize;
+    for domain in domains {
+        let found = domain_limit(most, index, domain);
+        if found.is_some() {
+            return found;
+        }
+        index += 1;
+    }
+    None
+}
+
+fn object_limits(objects: &[ObjectEntry]) -> Option<Flaw>
+    ensures { result ≡ first_of (limits.objects_limits 0 0 objects.now) }
+{
+    let mut threads = 0usize;
+    let mut index = 0usize;
+    for object in objects {
+        let found = object_limit(threads, index, object);
+        if found.is_some() {
+            return found;
+        }
+        if is_thread(object) {
+            threads += 1;
+        }
+        index += 1;
+    }
+    None
+}
+
+fn boot_limits(boots: &[BootEntry]) -> Option<Flaw>
+    ensures { result ≡ first_of (names.each limits.boot_limits 0 boots.now) }
+{
+    let mut index = 0usize;
+    for boot in boots {
+        let found = boot_limit(index, boot);
+        if found.is_some() {
+            return found;
+        }
+        index += 1;
+    }
+    None
+}
+
+fn script_limits(scripts: &[ScriptEntry]) -> Option<Flaw>
+    ensures { result ≡ first_of (names.each limits.script_limits 0 scripts.now) }
+{
+    let mut index = 0usize;
+    for script in scripts {
+        let found = script_limit(index, script);
+        if found.is_some() {
+            return found;
+        }
+        index += 1;
+    }
+    None
+}
+
+#[tactic(auto, using(crate::proofs::Firsts::first_or), unfolding(crate::specs::Limits::top_limits))]
+fn top_limit(d: &Description) -> Option<Flaw>
+    ensures { result ≡ first_of (limits.top_limits d.now) }
+{
+    outside(Key::Regions, 4, 32, Place::Top(Key::Regions), d.regions).or(longer(
+        Key::Rodata,
+        AREA_ENTRY as i64,
+        Place::Top(Key::Rodata),
+        d.rodata.len(),
+    ))
+}
+
+/// The first count or number of a description that is out of its range.
+pub fn first_limit(d: &Description) -> Option<Flaw>
+    ensures { result ≡ first_of (limits.limits d.now) }
+{
+    top_limit(d)
+        .or(pool_limits(d.pools.as_slice()))
+        .or(partition_limits(d.partitions.as_slice()))
+        .or(domain_limits(most_parts(d), d.domains.as_slice()))
+        .or(object_limits(d.objects.as_slice()))
+        .or(boot_limits(d.boots.as_slice()))
+        .or(script_limits(d.scripts.as_slice()))
+}

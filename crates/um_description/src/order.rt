@@ -1,0 +1,108 @@
+//! The order of scripts: a line names only those behind its own.
+
+ghost use Rattle.std.specs.Prelude.{◌≡◌, ◌<◌, length, IfOk};
+ghost use Rattle.um_document.specs.First.{first_of};
+ghost use Rattle.um_description.specs.Lines as spec;
+ghost use Rattle.um_description.specs.Names as names;
+
+use crate::lines::{line_place, read_line};
+use crate::mentions::is_script;
+use um_base::{Instr, Memory, Name, Ref};
+use um_document::{Description, Place, Text};
+
+fn name_in(named: &Ref) -> Option<Name>
+    ensures { result ≡ spec.name_in named.now }
+{
+    match named {
+        Ref::Named(name) => Some(*name),
+        Ref::At(_) => None,
+    }
+}
+
+/// The name of the script that an instruction names.
+fn script_in(instr: &Instr) -> Option<Name>
+    ensures { result ≡ spec.script_in instr.now }
+{
+    match instr {
+        Instr::Create { script, .. } => name_in(script),
+        Instr::UserMode { script } => name_in(script),
+        _ => None,
+    }
+}
+
+/// The name of the script that a line names.
+fn script_named(line: &Text) -> Result<Option<Name>, Memory>
+    ensures { IfOk result (λ name. name ≡ spec.script_named line.now) }
+{
+    match read_line(line) {
+        Ok(Ok(instr)) => Ok(script_in(&instr)),
+        Ok(Err(_)) => Ok(None),
+        Err(Memory) => Err(Memory),
+    }
+}
+
+/// A script that doesn't stand behind the one with this number.
+fn is_misordered(d: &Description, script: usize, name: Option<Name>) -> bool
+    requires { script < length d.now.scripts }
+    ensures { result ≡ spec.is_misordered d.now script name }
+{
+    match name {
+        Some(name) => is_script(&d.scripts.as_slice()[..script + 1], name.as_slice()),
+        None => false,
+    }
+}
+
+/// A line that names a script that doesn't stand behind its own.
+#[tactic(auto, unfolding(crate::specs::Lines::misordered_at))]
+fn misordered_line(
+    d: &Description,
+    script: usize,
+    index: usize,
+    line: &Text,
+) -> Result<Option<Place>, Memory>
+    requires { script < length d.now.scripts }
+    ensures { IfOk result (λ found. found ≡ first_of (spec.misordered_at d.now script index line.now)) }
+{
+    let name = script_named(line)?;
+    if is_misordered(d, script, name) {
+        Ok(Some(line_place(script, index)))
+    } else {
+        Ok(None)
+    }
+}
+
+/// The first such line of a script.
+#[tactic(auto, unfolding(crate::specs::Lines::misordered_in))]
+fn misordered_script(
+    d: &Description,
+    script: usize,
+    lines: &[Text],
+) -> Result<Option<Place>, Memory>
+    requires { script < length d.now.scripts }
+    ensures { IfOk result (λ found. found ≡ first_of (spec.misordered_in d.now script lines.now)) }
+{
+    let mut index = 0usize;
+    for line in lines {
+        let found = misordered_line(d, script, index, line)?;
+        if found.is_some() {
+            return Ok(found);
+        }
+        index += 1;
+    }
+    Ok(None)
+}
+
+/// The first line of a description that names a script that doesn't stand behind its own.
+pub fn first_misordered(d: &Description) -> Result<Option<Place>, Memory>
+    ensures { IfOk result (λ found. found ≡ first_of (names.each (spec.misordered_script d.now) 0 d.now.scripts)) }
+{
+    let mut index = 0usize;
+    for script in d.scripts.as_slice() {
+        let found = misordered_script(d, index, script.lines.as_slice())?;
+        if found.is_some() {
+            return Ok(found);
+        }
+        index += 1;
+    }
+    Ok(None)
+}

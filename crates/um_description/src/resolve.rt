@@ -1,0 +1,14 @@
+//! The image of a description.
+
+mod base;
+mod boots;
+mod domains;
+mod lines;
+mod numbers;
+mod objects;
+mod partitions;
+mod ranges;
+mod scripts;
+mod whole;
+
+pub use whole::image_or_flaw;

@@ -1,0 +1,318 @@
+//! Script lines, with the addresses and numbers of what they name.
+
+ghost use Rattle.std.specs.Prelude.{◌≡◌, ◌≤◌, length, map};
+ghost use Rattle.um_base.specs.declared.limits.TheConstants.{DOMAINS, PARTITIONS, SCRIPTS};
+ghost use Rattle.um_description.specs.Names.{domain_names, partition_names, script_names};
+ghost use Rattle.um_description.specs.Resolve.{start_named, object_addr, addr_named, term_of, ref_of, part_of, resolved};
+
+use crate::named::{domain_named, is_named, partition_named, script_named};
+use um_base::{Image, Instr, Name, ObjectDef, PartRef, PartRefs, Partition, RODATA, Ref, Term};
+use um_document::Description;
+
+/// The start of the partition with this name, or of the read-only data.
+fn start_named(partitions: &[Partition], name: &Name) -> u32
+    ensures { result ≡ start_named name.now partitions.now }
+{
+    for p in partitions {
+        if is_named(&p.name, name.as_slice()) {
+            return p.range.start.0;
+        }
+    }
+    RODATA
+}
+
+/// The address of the object with this name, or another one.
+fn object_addr(objects: &[ObjectDef], name: &Name, other: u32) -> u32
+    ensures { result ≡ object_addr name.now other objects.now }
+{
+    for o in objects {
+        if is_named(&o.name, name.as_slice()) {
+            return o.addr.0;
+        }
+    }
+    other
+}
+
+/// The address of what a place names.
+fn addr_named(image: &Image, name: &Name) -> u32
+    ensures { result ≡ addr_named image.now name.now }
+{
+    let other = start_named(image.partitions.as_slice(), name);
+    object_addr(image.objects.as_slice(), name, other)
+}
+
+fn term_of(image: &Image, term: &Term) -> Term
+    ensures { result ≡ term_of image.now term.now }
+{
+    match term {
+        Term::Num(n) => Term::Num(*n),
+        Term::Reg(r) => Term::Reg(*r),
+        Term::Place { name, offset } => Term::Num(addr_named(image, name).wrapping_add(*offset)),
+    }
+}
+
+fn domain_ref(d: &Description, domain: &Ref) -> Ref
+    requires { length d.now.domains ≤ DOMAINS }
+    ensures { result ≡ ref_of (domain_names d.now) domain.now }
+{
+    match domain {
+        Ref::At(i) => Ref::At(*i),
+        Ref::Named(name) => match domain_named(d.domains.as_slice(), name.as_slice()) {
+            Some(i) => Ref::At(i as u8),
+            None => Ref::At(0),
+        },
+    }
+}
+
+fn script_ref(d: &Description, script: &Ref) -> Ref
+    requires { length d.now.scripts ≤ SCRIPTS }
+    ensures { result ≡ ref_of (script_names d.now) script.now }
+{
+    match script {
+        Ref::At(i) => Ref::At(*i),
+        Ref::Named(name) => match script_named(d.scripts.as_slice(), name.as_slice()) {
+            Some(i) => Ref::At(i as u8),
+            None => Ref::At(0),
+        },
+    }
+}
+
+fn part_ref(d: &Description, part: &PartRef) -> PartRef
+    requires { length d.now.partitions ≤ PARTITIONS }
+    ensures { result ≡ part_of (partition_names d.now) part.now }
+{
+    match part {
+        PartRef::At(i) => PartRef::At(*i),
+        PartRef::Given { range, attr } => PartRef::Given {
+            range: *range,
+            attr: *attr,
+        },
+        PartRef::Named(name) => match partition_named(d.partitions.as_slice(), name.as_slice()) {
+            Some(i) => PartRef::At(i as u8),
+            None => PartRef::At(0),
+        },
+    }
+}
+
+fn part_refs(d: &Description, parts: &PartRefs) -> PartRefs
+    requires { length d.now.partitions ≤ PARTITIONS }
+    ensures { result ≡ map (part_of (partition_names d.now)) parts.now }
+{
+    let mut all = PartRefs::new();
+    for part in parts.as_slice() {
+        all.push(&part_ref(d, part));
+    }
+    all
+}
+
+/// An instruction whose names are resolved: places by an image, and numbers by the description.
+pub fn resolved(image: &Image, d: &Description, instr: &Instr) -> Instr
+    requires domains { length d.now.domains ≤ DOMAINS }
+    requires partitions { length d.now.partitions ≤ PARTITIONS }
+    requires scripts { length d.now.scripts ≤ SCRIPTS }
+    ensures { result ≡ resolved image.now d.now instr.now }
+{
+    match instr {
+        Instr::End => Instr::End,
+        Instr::Oops => Instr::Oops,
+        Instr::Panic => Instr::Panic,
+        Instr::Repeat { times } => Instr::Repeat { times: *times },
+        Instr::ObjectAlloc { kind, to } => Instr::ObjectAlloc {
+            kind: *kind,
+            to: *to,
+        },
+        Instr::Set { to, value } => Instr::Set {
+            to: *to,
+            value: term_of(image, value),
+        },
+        Instr::Add { to, value } => Instr::Add {
+            to: *to,
+            value: term_of(image, value),
+        },
+        Instr::Load { to, addr, size } => Instr::Load {
+            to: *to,
+            addr: term_of(image, addr),
+            size: *size,
+        },
+        Instr::Store { addr, size, value } => Instr::Store {
+            addr: term_of(image, addr),
+            size: *size,
+            value: term_of(image, value),
+        },
+        Instr::Exec { addr } => Instr::Exec {
+            addr: term_of(image, addr),
+        },
+        Instr::DomainInit { domain, parts } => Instr::DomainInit {
+            domain: domain_ref(d, domain),
+            parts: part_refs(d, parts),
+        },
+        Instr::DomainAdd { domain, part } => Instr::DomainAdd {
+            domain: domain_ref(d, domain),
+            part: part_ref(d, part),
+        },
+        Instr::DomainRemove { domain, part } => Instr::DomainRemove {
+            domain: domain_ref(d, domain),
+            part: part_ref(d, part),
+        },
+        Instr::DomainMove { domain, thread } => Instr::DomainMove {
+            domain: domain_ref(d, domain),
+            thread: term_of(image, thread),
+        },
+        Instr::Grant { object, thread } => Instr::Grant {
+            object: term_of(image, object),
+            thread: term_of(image, thread),
+        },
+        Instr::Revoke { object, thread } => Instr::Revoke {
+            object: term_of(image, object),
+            thread: term_of(image, thread),
+        },
+        Instr::Release { object } => Instr::Release {
+            object: term_of(image, object),
+        },
+        Instr::AllGrant { object } => Instr::AllGrant {
+            object: term_of(image, object),
+        },
+        Instr::SemGive { object } => Instr::SemGive {
+            object: term_of(image, object),
+        },
+        Instr::SemReset { object } => Instr::SemReset {
+            object: term_of(image, object),
+        },
+        Instr::MutexInit { object } => Instr::MutexInit {
+            object: term_of(image, object),
+        },
+        Instr::MutexUnlock { object } => Instr::MutexUnlock {
+            object: term_of(image, object),
+        },
+        Instr::MsgqPurge { object } => Instr::MsgqPurge {
+            object: term_of(image, object),
+        },
+        Instr::PipeReset { object } => Instr::PipeReset {
+            object: term_of(image, object),
+        },
+        Instr::PipeClose { object } => Instr::PipeClose {
+            object: term_of(image, object),
+        },
+        Instr::Create {
+            thread,
+            stack,
+            size,
+            script,
+            priority,
+            options,
+        } => Instr::Create {
+            thread: term_of(image, thread),
+            stack: term_of(image, stack),
+            size: term_of(image, size),
+            script: script_ref(d, script),
+            priority: *priority,
+            options: *options,
+        },
+        Instr::UserMode { script } => Instr::UserMode {
+            script: script_ref(d, script),
+        },
+        Instr::NameSet { thread, addr } => Instr::NameSet {
+            thread: term_of(image, thread),
+            addr: term_of(image, addr),
+        },
+        Instr::SemInit {
+            object,
+            count,
+            limit,
+        } => Instr::SemInit {
+            object: term_of(image, object),
+            count: term_of(image, count),
+            limit: term_of(image, limit),
+        },
+        Instr::SemTake { object, timeout } => Instr::SemTake {
+            object: term_of(image, object),
+            timeout: *timeout,
+        },
+        Instr::MutexLock { object, timeout } => Instr::MutexLock {
+            object: term_of(image, object),
+            timeout: *timeout,
+        },
+        Instr::SemCount { object, to } => Instr::SemCount {
+            object: term_of(image, object),
+            to: *to,
+        },
+        Instr::MsgqUsed { object, to } => Instr::MsgqUsed {
+            object: term_of(image, object),
+            to: *to,
+        },
+        Instr::MsgqInit {
+            object,
+            msg_size,
+            max_msgs,
+        } => Instr::MsgqInit {
+            object: term_of(image, object),
+            msg_size: term_of(image, msg_size),
+            max_msgs: term_of(image, max_msgs),
+        },
+        Instr::MsgqPut {
+            object,
+            addr,
+            timeout,
+        } => Instr::MsgqPut {
+            object: term_of(image, object),
+            addr: term_of(image, addr),
+            timeout: *timeout,
+        },
+        Instr::MsgqGet {
+            object,
+            addr,
+            timeout,
+        } => Instr::MsgqGet {
+            object: term_of(image, object),
+            addr: term_of(image, addr),
+            timeout: *timeout,
+        },
+        Instr::StackPop {
+            object,
+            addr,
+            timeout,
+        } => Instr::StackPop {
+            object: term_of(image, object),
+            addr: term_of(image, addr),
+            timeout: *timeout,
+        },
+        Instr::MsgqPeek { object, addr } => Instr::MsgqPeek {
+            object: term_of(image, object),
+            addr: term_of(image, addr),
+        },
+        Instr::StackInit { object, entries } => Instr::StackInit {
+            object: term_of(image, object),
+            entries: term_of(image, entries),
+        },
+        Instr::StackPush { object, value } => Instr::StackPush {
+            object: term_of(image, object),
+            value: term_of(image, value),
+        },
+        Instr::PipeInit { object, size } => Instr::PipeInit {
+            object: term_of(image, object),
+            size: term_of(image, size),
+        },
+        Instr::PipeWrite {
+            object,
+            addr,
+            length,
+            timeout,
+        } => Instr::PipeWrite {
+            object: term_of(image, object),
+            addr: term_of(image, addr),
+            length: term_of(image, length),
+            timeout: *timeout,
+        },
+        Instr::PipeRead {
+            object,
+            addr,
+            length,
+            timeout,
+        } => Instr::PipeRead {
+            object: term_of(image, object),
+            addr: term_of(image, addr),
+            length: term_of(image, length),
+            timeout: *timeout,
+        },
+    }
+}

@@ -1,0 +1,4 @@
+pub mod FirstLemmas
+pub mod FormLemmas
+pub mod EmptyLists
+pub mod LawfulForm

@@ -1,0 +1,12 @@
+pub mod Shape
+pub mod Words
+pub mod Forms
+pub mod Places
+pub mod Parts
+pub mod Broken
+pub mod First
+pub mod Unknown
+pub mod Reading
+pub mod Faults
+pub mod FaultTexts
+pub mod LawfulNames

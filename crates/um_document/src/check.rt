@@ -1,0 +1,210 @@
+//! The parts of a document, one after the other, held to what has to stand there.
+
+ghost use Rattle.std.specs.Prelude.{◌≡◌, ◌++◌, map, flat_map, option_map};
+ghost use Rattle.toml.specs.View.{view, array_view, table_view};
+ghost use Rattle.um_document.specs.Broken.{breaks};
+ghost use Rattle.um_document.specs.First.{first_place};
+ghost use Rattle.um_document.specs.Parts as parts;
+ghost use Rattle.um_document.specs.Shape as shape;
+
+use crate::forms::{has_form, is_bad_name};
+use crate::place::Place;
+use crate::shape::{Field, Form, Key, SECTIONS, Section, kind_fields, top_fields};
+use crate::tables::{is_needed, items_at, kind_of, value_at};
+use toml::value::Array;
+use toml::{Table, Value};
+
+/// What is looked for.
+#[derive(Clone, Copy)]
+pub enum Check {
+    /// What has to be there and isn't.
+    Missing,
+    /// What hasn't its form.
+    WrongType,
+    /// A text that is no lawful name, or none of the words that may stand there.
+    BadName,
+}
+
+/// Whether a part fails the check, by its form, whether something has to be there, and what is.
+fn breaks(check: Check, form: Form, needed: bool, value: Option<&Value>) -> bool
+    ensures { result ≡ breaks check form needed (option_map (λ v. view v.now) value.entry) }
+{
+    match (check, value) {
+        (Check::Missing, None) => needed,
+        (Check::WrongType, Some(value)) => !has_form(form, value),
+        (Check::BadName, Some(value)) => is_bad_name(form, value),
+        _ => false,
+    }
+}
+
+/// Whether a key of a table fails the check.
+fn breaks_at(check: Check, table: &Table, field: Field) -> bool
+    ensures { result ≡ breaks check field.1 (parts.is_needed field.2 (table_view table.now)) (parts.value_at field.0 (table_view table.now)) }
+{
+    breaks(
+        check,
+        field.1,
+        is_needed(table, field.2),
+        value_at(table, field.0),
+    )
+}
+
+/// The first key at the top that fails.
+#[tactic(auto, unfolding(crate::specs::Parts::top_parts))]
+fn broken_top(check: Check, table: &Table) -> Option<Place>
+    ensures { result ≡ first_place check (parts.top_parts (table_view table.now)) }
+{
+    for field in top_fields() {
+        if breaks_at(check, table, *field) {
+            return Some(Place::Top(field.0));
+        }
+    }
+    None
+}
+
+/// The first item of a list of texts that fails.
+fn broken_item(
+    check: Check,
+    section: Section,
+    entry: usize,
+    key: Key,
+    items: &Array,
+) -> Option<Place>
+    ensures { result ≡ first_place check (parts.item_parts section entry key 0 (array_view items.now)) }
+{
+    let mut index = 0usize;
+    for item in items {
+        if breaks(check, Form::Text, true, Some(item)) {
+            return Some(Place::Item(section, entry, key, index));
+        }
+        index += 1;
+    }
+    None
+}
+
+/// A key of an entry, or the first item of its list, that fails.
+fn broken_field(
+    check: Check,
+    section: Section,
+    entry: usize,
+    table: &Table,
+    field: Field,
+) -> Option<Place>
+    ensures { result ≡ first_place check (parts.field_parts section entry (table_view table.now) field) }
+{
+    if breaks_at(check, table, field) {
+        return Some(Place::Field(section, entry, field.0));
+    }
+    if field.1 != Form::Texts {
+        return None;
+    }
+    match items_at(table, field.0) {
+        Some(items) => broken_item(check, section, entry, field.0, items),
+        None => None,
+    }
+}
+
+/// The first of some keys of an entry, or of the items of their lists, that fails.
+fn broken_among(
+    check: Check,
+    section: Section,
+    entry: usize,
+    table: &Table,
+    fields: &[Field],
+) -> Option<Place>
+    ensures { result ≡ first_place check (flat_map (parts.field_parts section entry (table_view table.now)) fields.now) }
+{
+    for field in fields {
+        let found = broken_field(check, section, entry, table, *field);
+        if found.is_some() {
+            return found;
+        }
+    }
+    None
+}
+
+/// The keys that an entry has beside those of each entry: an object has those of its kind.
+fn further_fields(section: Section, table: &Table) -> &'static [Field]
+    ensures { result.now ≡ parts.further_fields section (table_view table.now) }
+{
+    match section {
+        Section::Object => match kind_of(table) {
+            Some(kind) => kind_fields(kind),
+            None => &[],
+        },
+        _ => &[],
+    }
+}
+
+/// The first key of an entry that fails.
+fn broken_key(check: Check, section: Section, entry: usize, table: &Table) -> Option<Place>
+    ensures { result ≡ first_place check (parts.key_parts section entry (table_view table.now)) }
+{
+    let found = broken_among(check, section, entry, table, section.fields());
+    if found.is_some() {
+        return found;
+    }
+    broken_among(check, section, entry, table, further_fields(section, table))
+}
+
+/// An entry, or the first of its keys, that fails.
+fn broken_entry(check: Check, section: Section, entry: usize, value: &Value) -> Option<Place>
+    ensures { result ≡ first_place check (parts.entry_parts section entry (view value.now)) }
+{
+    if breaks(check, Form::Table, true, Some(value)) {
+        return Some(Place::Entry(section, entry));
+    }
+    match value.as_table() {
+        Some(table) => broken_key(check, section, entry, table),
+        None => None,
+    }
+}
+
+/// The first of some entries that fails.
+fn broken_entries(check: Check, section: Section, items: &Array) -> Option<Place>
+    ensures { result ≡ first_place check (parts.entries_parts section 0 (array_view items.now)) }
+{
+    let mut index = 0usize;
+    for item in items {
+        let found = broken_entry(check, section, index, item);
+        if found.is_some() {
+            return found;
+        }
+        index += 1;
+    }
+    None
+}
+
+/// The first part of a section that fails.
+fn broken_section(check: Check, table: &Table, section: Section) -> Option<Place>
+    ensures { result ≡ first_place check (parts.section_parts (table_view table.now) section) }
+{
+    match items_at(table, section.key()) {
+        Some(items) => broken_entries(check, section, items),
+        None => None,
+    }
+}
+
+/// The first part of some sections that fails.
+fn broken_sections(check: Check, table: &Table, sections: &[Section]) -> Option<Place>
+    ensures { result ≡ first_place check (flat_map (parts.section_parts (table_view table.now)) sections.now) }
+{
+    for section in sections {
+        let found = broken_section(check, table, *section);
+        if found.is_some() {
+            return found;
+        }
+    }
+    None
+}
+
+/// The first part of a document that fails the check.
+pub fn broken(check: Check, table: &Table) -> Option<Place>
+    ensures { result ≡ first_place check (parts.parts (table_view table.now)) }
+{
+    let found = broken_top(check, table);
+    if found.is_some() {
+        return found;
+    }
+    broken_sections(check, table, SECTIONS)
+}

@@ -1,0 +1,48 @@
+//! Lawful names.
+
+ghost use Rattle.std.specs.Prelude.{◌≡◌, codes, bytes_eq};
+ghost use Rattle.std.specs.List.{list_all};
+ghost use Rattle.um_base.specs.Lawful as lawful;
+
+fn is_letter(byte: u8) -> bool
+    ensures { result ≡ lawful.is_letter byte }
+{
+    matches!(byte, b'A'..=b'Z') || matches!(byte, b'a'..=b'z')
+}
+
+fn is_name_byte(byte: u8) -> bool
+    ensures { result ≡ lawful.is_name_byte byte }
+{
+    is_letter(byte) || matches!(byte, b'0'..=b'9') || byte == b'_'
+}
+
+fn begins_with_letter(bytes: &[u8]) -> bool
+    ensures { result ≡ lawful.begins_with_letter bytes.now }
+{
+    match bytes {
+        [first, ..] => is_letter(*first),
+        [] => false,
+    }
+}
+
+fn are_name_bytes(bytes: &[u8]) -> bool
+    ensures { result ≡ list_all lawful.is_name_byte bytes.now }
+{
+    bytes.iter().all(|byte| is_name_byte(*byte))
+}
+
+const RODATA: &[u8] = b"rodata";
+
+/// Whether this is the word for the read-only data.
+fn is_rodata(bytes: &[u8]) -> bool
+    ensures { result ≡ bytes_eq bytes.now (codes "rodata") }
+{
+    bytes == RODATA
+}
+
+/// Whether these bytes are a lawful name: 1 to 24 letters, digits or `_`, the first a letter, and not `rodata`.
+pub fn is_name(bytes: &[u8]) -> bool
+    ensures { result ≡ lawful.is_name bytes.now }
+{
+    bytes.len() <= 24 && begins_with_letter(bytes) && are_name_bytes(bytes) && !is_rodata(bytes)
+}

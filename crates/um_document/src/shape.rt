@@ -1,0 +1,289 @@
+//! The shape of a description: which keys stand where, and what their values are.
+
+ghost use Rattle.std.specs.Prelude.{◌≡◌, flat_map};
+ghost use Rattle.um_document.specs.Shape as shape;
+ghost use Rattle.um_document.specs.Words.{kinds};
+
+use um_base::Kind;
+
+/// The lists of entries.
+#[derive(Clone, Copy, PartialEq, Eq)]
+pub enum Section {
+    Pool,
+    Partition,
+    Domain,
+    Object,
+    Boot,
+    Script,
+}
+
+/// The keys of all tables.
+#[derive(Clone, Copy, PartialEq, Eq)]
+pub enum Key {
+    Version,
+    Mpu,
+    Regions,
+    Oops,
+    Rodata,
+    Pool,
+    Partition,
+    Domain,
+    Object,
+    Boot,
+    Script,
+    Name,
+    Size,
+    Attr,
+    Data,
+    Partitions,
+    Kind,
+    Public,
+    Count,
+    Limit,
+    Init,
+    MsgSize,
+    MaxMsgs,
+    Entries,
+    Thread,
+    Stack,
+    Priority,
+    Mode,
+    Grants,
+    Lines,
+}
+
+/// What a word may say.
+#[derive(Clone, Copy, PartialEq, Eq)]
+pub enum Choice {
+    Mpu,
+    Policy,
+    Attr,
+    Kind,
+    Mode,
+}
+
+/// What a value is.
+#[derive(Clone, Copy, PartialEq, Eq)]
+pub enum Form {
+    Number,
+    Truth,
+    /// The name of an entry.
+    Name,
+    /// One of a few words.
+    Word(Choice),
+    /// Any text, as a name that is looked up or a line.
+    Text,
+    /// Bytes as pairs of lower-case hexadecimal digits.
+    Digits,
+    /// A list of texts.
+    Texts,
+    /// A list of tables.
+    Tables,
+    /// An entry.
+    Table,
+}
+
+/// Whether a key has to be there: always, never, or where another one is.
+#[derive(Clone, Copy, PartialEq, Eq)]
+pub enum Need {
+    Required,
+    Optional,
+    With(Key),
+}
+
+/// A key with what its value is.
+pub type Field = (Key, Form, Need);
+
+impl Key {
+    /// The key as it is written.
+    pub fn word(self) -> &'static str
+        ensures { result.now ≡ shape.word self }
+    {
+        match self {
+            Key::Version => "version",
+            Key::Mpu => "mpu",
+            Key::Regions => "regions",
+            Key::Oops => "oops",
+            Key::Rodata => "rodata",
+            Key::Pool => "pool",
+            Key::Partition => "partition",
+            Key::Domain => "domain",
+            Key::Object => "object",
+            Key::Boot => "boot",
+            Key::Script => "script",
+            Key::Name => "name",
+            Key::Size => "size",
+            Key::Attr => "attr",
+            Key::Data => "data",
+            Key::Partitions => "partitions",
+            Key::Kind => "kind",
+            Key::Public => "public",
+            Key::Count => "count",
+            Key::Limit => "limit",
+            Key::Init => "init",
+            Key::MsgSize => "msg_size",
+            Key::MaxMsgs => "max_msgs",
+            Key::Entries => "entries",
+            Key::Thread => "thread",
+            Key::Stack => "stack",
+            Key::Priority => "priority",
+            Key::Mode => "mode",
+            Key::Grants => "grants",
+            Key::Lines => "lines",
+        }
+    }
+}
+
+/// The sections, in their order.
+pub const SECTIONS: &[Section] = &[
+    Section::Pool,
+    Section::Partition,
+    Section::Domain,
+    Section::Object,
+    Section::Boot,
+    Section::Script,
+];
+
+/// The keys of the whole document.
+const TOP: &[Field] = &[
+    (Key::Version, Form::Number, Need::Required),
+    (Key::Mpu, Form::Word(Choice::Mpu), Need::Required),
+    (Key::Regions, Form::Number, Need::Required),
+    (Key::Oops, Form::Word(Choice::Policy), Need::Required),
+    (Key::Rodata, Form::Digits, Need::Optional),
+    (Key::Pool, Form::Tables, Need::Optional),
+    (Key::Partition, Form::Tables, Need::Optional),
+    (Key::Domain, Form::Tables, Need::Optional),
+    (Key::Object, Form::Tables, Need::Optional),
+    (Key::Boot, Form::Tables, Need::Optional),
+    (Key::Script, Form::Tables, Need::Optional),
+];
+
+const POOL: &[Field] = &[
+    (Key::Name, Form::Name, Need::Required),
+    (Key::Size, Form::Number, Need::Required),
+];
+
+const PARTITION: &[Field] = &[
+    (Key::Name, Form::Name, Need::Required),
+    (Key::Size, Form::Number, Need::Required),
+    (Key::Attr, Form::Word(Choice::Attr), Need::Required),
+    (Key::Data, Form::Digits, Need::Optional),
+];
+
+const DOMAIN: &[Field] = &[
+    (Key::Name, Form::Name, Need::Required),
+    (Key::Partitions, Form::Texts, Need::Optional),
+];
+
+/// The keys of an object of any kind.
+const OBJECT: &[Field] = &[
+    (Key::Name, Form::Name, Need::Required),
+    (Key::Kind, Form::Word(Choice::Kind), Need::Required),
+    (Key::Public, Form::Truth, Need::Optional),
+];
+
+const BOOT: &[Field] = &[
+    (Key::Thread, Form::Text, Need::Required),
+    (Key::Stack, Form::Text, Need::Required),
+    (Key::Script, Form::Text, Need::Required),
+    (Key::Priority, Form::Number, Need::Required),
+    (Key::Domain, Form::Text, Need::Required),
+    (Key::Mode, Form::Word(Choice::Mode), Need::Optional),
+    (Key::Pool, Form::Text, Need::Optional),
+    (Key::Grants, Form::Texts, Need::Optional),
+];
+
+const SCRIPT: &[Field] = &[
+    (Key::Name, Form::Name, Need::Required),
+    (Key::Lines, Form::Texts, Need::Required),
+];
+
+const THREAD_STACK: &[Field] = &[(Key::Size, Form::Number, Need::Required)];
+
+const SEM: &[Field] = &[
+    (Key::Count, Form::Number, Need::With(Key::Limit)),
+    (Key::Limit, Form::Number, Need::With(Key::Count)),
+];
+
+const MUTEX: &[Field] = &[(Key::Init, Form::Truth, Need::Optional)];
+
+const MSGQ: &[Field] = &[
+    (Key::MsgSize, Form::Number, Need::With(Key::MaxMsgs)),
+    (Key::MaxMsgs, Form::Number, Need::With(Key::MsgSize)),
+];
+
+const STACK: &[Field] = &[(Key::Entries, Form::Number, Need::Optional)];
+
+const PIPE: &[Field] = &[(Key::Size, Form::Number, Need::Optional)];
+
+/// The keys of the whole document.
+pub fn top_fields() -> &'static [Field]
+    ensures { result.now ≡ shape.top_fields }
+{
+    TOP
+}
+
+impl Section {
+    /// The key at which its entries stand.
+    pub fn key(self) -> Key
+        ensures { result ≡ shape.section_key self }
+    {
+        match self {
+            Section::Pool => Key::Pool,
+            Section::Partition => Key::Partition,
+            Section::Domain => Key::Domain,
+            Section::Object => Key::Object,
+            Section::Boot => Key::Boot,
+            Section::Script => Key::Script,
+        }
+    }
+
+    /// The keys of each of its entries.
+    pub fn fields(self) -> &'static [Field]
+        ensures { result.now ≡ shape.section_fields self }
+    {
+        match self {
+            Section::Pool => POOL,
+            Section::Partition => PARTITION,
+            Section::Domain => DOMAIN,
+            Section::Object => OBJECT,
+            Section::Boot => BOOT,
+            Section::Script => SCRIPT,
+        }
+    }
+}
+
+/// The further keys of an object of this kind.
+pub fn kind_fields(kind: Kind) -> &'static [Field]
+    ensures { result.now ≡ shape.kind_fields kind }
+{
+    match kind {
+        Kind::Thread => &[],
+        Kind::ThreadStack => THREAD_STACK,
+        Kind::Sem => SEM,
+        Kind::Mutex => MUTEX,
+        Kind::Msgq => MSGQ,
+        Kind::Stack => STACK,
+        Kind::Pipe => PIPE,
+    }
+}
+
+/// The further keys of objects of all kinds.
+const ANY_KIND: &[Field] = &[
+    (Key::Size, Form::Number, Need::Required),
+    (Key::Count, Form::Number, Need::With(Key::Limit)),
+    (Key::Limit, Form::Number, Need::With(Key::Count)),
+    (Key::Init, Form::Truth, Need::Optional),
+    (Key::MsgSize, Form::Number, Need::With(Key::MaxMsgs)),
+    (Key::MaxMsgs, Form::Number, Need::With(Key::MsgSize)),
+    (Key::Entries, Form::Number, Need::Optional),
+    (Key::Size, Form::Number, Need::Optional),
+];
+
+/// The further keys of objects of all kinds.
+pub fn any_kind_fields() -> &'static [Field]
+    ensures { result.now ≡ flat_map shape.kind_fields kinds }
+{
+    ANY_KIND
+}

@@ -1,0 +1,54 @@
+//! What stands at the keys of a table.
+
+ghost use Rattle.std.specs.Prelude.{◌≡◌, option_map};
+ghost use Rattle.toml.specs.Data.{as_array};
+ghost use Rattle.toml.specs.View.{view, array_view, table_view};
+ghost use Rattle.um_document.specs.Parts as parts;
+
+use crate::forms::text_of;
+use crate::shape::{Key, Need};
+use crate::words::kind_named;
+use toml::value::Array;
+use toml::{Table, Value};
+use um_base::Kind;
+
+/// The value at a key.
+pub fn value_at(table: &Table, key: Key) -> Option<&Value>
+    ensures { option_map (λ v. view v.now) result ≡ parts.value_at key (table_view table.now) }
+{
+    table.get(key.word())
+}
+
+/// The array at a key.
+pub fn items_at(table: &Table, key: Key) -> Option<&Array>
+    ensures { option_map (λ a. array_view a.now) result ≡ parts.◌>>=◌ (parts.value_at key (table_view table.now)) as_array }
+{
+    match value_at(table, key) {
+        Some(value) => value.as_array(),
+        None => None,
+    }
+}
+
+/// Whether a key has to be there.
+pub fn is_needed(table: &Table, need: Need) -> bool
+    ensures { result ≡ parts.is_needed need (table_view table.now) }
+{
+    match need {
+        Need::Required => true,
+        Need::Optional => false,
+        Need::With(key) => value_at(table, key).is_some(),
+    }
+}
+
+/// The kind of an object, where its `kind` is a kind's word.
+pub fn kind_of(table: &Table) -> Option<Kind>
+    ensures { result ≡ parts.kind_of (table_view table.now) }
+{
+    match value_at(table, Key::Kind) {
+        Some(value) => match text_of(value) {
+            Some(text) => kind_named(text),
+            None => None,
+        },
+        None => None,
+    }
+}

@@ -1,0 +1,144 @@
+//! Keys that mean nothing at their places.
+
+ghost use Rattle.std.specs.Prelude.{◌≡◌, flat_map, option_map, IfOk};
+ghost use Rattle.toml.specs.Data.{as_table};
+ghost use Rattle.toml.specs.View.{view, array_view, table_view};
+ghost use Rattle.um_document.specs.First.{first_of};
+ghost use Rattle.um_document.specs.Unknown as unknown;
+
+use crate::place::key_spot;
+use crate::shape::{Field, SECTIONS, Section, any_kind_fields, kind_fields, top_fields};
+use crate::spot::Spot;
+use crate::tables::{items_at, kind_of};
+use std::alloc::Global;
+use toml::value::Array;
+use toml::{Table, Value};
+use um_base::Memory;
+
+/// Whether one of the keys is written so.
+fn is_key(fields: &[Field], text: &str) -> bool
+    ensures { result ≡ unknown.is_key fields.now text.now }
+{
+    fields.iter().any(|field| text == field.0.word())
+}
+
+/// The first key of a table that stands in neither list.
+fn stray<'a>(table: &'a Table, fields: &[Field], further: &[Field]) -> Option<&'a str>
+    ensures { option_map (λ key. key.now) result ≡ first_of (unknown.strays fields.now further.now (table_view table.now)) }
+{
+    'keys: for (key, _value) in table.iter() {
+        let text = key.as_str();
+        if !is_key(fields, text) && !is_key(further, text) {
+            return Some(text);
+        }
+    }
+    None
+}
+
+/// The further keys that may stand in an entry: in an object those of its kind, and of any kind where it has none.
+fn known_further(section: Section, table: &Table) -> &'static [Field]
+    ensures { result.now ≡ unknown.known_further section (table_view table.now) }
+{
+    match section {
+        Section::Object => match kind_of(table) {
+            Some(kind) => kind_fields(kind),
+            None => any_kind_fields(),
+        },
+        _ => &[],
+    }
+}
+
+/// The first key of a table that means nothing there.
+fn stray_of_table(
+    alloc: Global,
+    section: Section,
+    entry: usize,
+    table: &Table,
+) -> Result<Option<Spot>, Memory>
+    ensures { IfOk result (λ found. found ≡ first_of (unknown.strays_of_entry section entry (table_view table.now))) }
+{
+    match stray(table, section.fields(), known_further(section, table)) {
+        Some(key) => Ok(Some(key_spot(alloc, section, entry, key)?)),
+        None => Ok(None),
+    }
+}
+
+/// The first such key of an entry.
+fn stray_of_entry(
+    alloc: Global,
+    section: Section,
+    entry: usize,
+    value: &Value,
+) -> Result<Option<Spot>, Memory>
+    ensures { IfOk result (λ found. found ≡ first_of (unknown.strays_of_table section entry (as_table (view value.now)))) }
+{
+    match value.as_table() {
+        Some(table) => stray_of_table(alloc, section, entry, table),
+        None => Ok(None),
+    }
+}
+
+/// The first such key of some entries.
+fn stray_of_entries(alloc: Global, section: Section, items: &Array) -> Result<Option<Spot>, Memory>
+    ensures { IfOk result (λ found. found ≡ first_of (unknown.strays_of_entries section 0 (array_view items.now))) }
+{
+    let mut index = 0usize;
+    for item in items {
+        let found = stray_of_entry(alloc, section, index, item)?;
+        if found.is_some() {
+            return Ok(found);
+        }
+        index += 1;
+    }
+    Ok(None)
+}
+
+/// The first such key of a section.
+fn stray_of_section(alloc: Global, table: &Table, section: Section) -> Result<Option<Spot>, Memory>
+    ensures { IfOk result (λ found. found ≡ first_of (unknown.strays_of_section (table_view table.now) section)) }
+{
+    match items_at(table, section.key()) {
+        Some(items) => stray_of_entries(alloc, section, items),
+        None => Ok(None),
+    }
+}
+
+/// The first such key of some sections.
+fn stray_of_sections(
+    alloc: Global,
+    table: &Table,
+    sections: &[Section],
+) -> Result<Option<Spot>, Memory>
+    ensures { IfOk result (λ found. found ≡ first_of (flat_map (unknown.strays_of_section (table_view table.now)) sections.now)) }
+{
+    for section in sections {
+        let found = stray_of_section(alloc, table, *section)?;
+        if found.is_some() {
+            return Ok(found);
+        }
+    }
+    Ok(None)
+}
+
+/// The first such key at the top.
+#[tactic(auto, unfolding(crate::specs::Unknown::strays_at_top))]
+fn stray_at_top(alloc: Global, table: &Table) -> Result<Option<Spot>, Memory>
+    ensures { IfOk result (λ found. found ≡ first_of (unknown.strays_at_top (table_view table.now))) }
+{
+    match stray(table, top_fields(), &[]) {
+        Some(key) => Ok(Some(Spot::of_text(alloc, key)?)),
+        None => Ok(None),
+    }
+}
+
+/// The place of the first key of a document that means nothing there.
+#[tactic(auto, unfolding(crate::specs::Unknown::strays_of_sections))]
+pub fn first_unknown(alloc: Global, table: &Table) -> Result<Option<Spot>, Memory>
+    ensures { IfOk result (λ found. found ≡ first_of (unknown.unknown_keys (table_view table.now))) }
+{
+    let found = stray_at_top(alloc, table)?;
+    if found.is_some() {
+        return Ok(found);
+    }
+    stray_of_sections(alloc, table, SECTIONS)
+}
