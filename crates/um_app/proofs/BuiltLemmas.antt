@@ -9,8 +9,8 @@ use Rattle.um_base.specs.declared.instr.Instr.{Instr}
 use Rattle.um_image.specs.FirstImage.{first_image, first_boot, is_access}
 use Rattle.um_image.specs.Form.{Describes}
 use Rattle.um_image.proofs.FormLemmas.{IsFirstImage-Describes}
-use Rattle.um_matrix.specs.Built as built
-use Rattle.um_matrix.specs.Built.{IsBuilt}
+use Rattle.um_app.specs.FirstRun as built
+use Rattle.um_app.specs.FirstRun.{IsBuilt}
 
 outer : (a b c : Bool) → IsTrue (a && b && c) → IsTrue a × IsTrue b × IsTrue c
 outer true true true h = (refl, refl, refl)

@@ -1,3 +1,7 @@
 mod BuiltLemmas
 mod Ends
+mod FrameLemmas
+mod KeptLemmas
+mod LineLemmas
+mod OpeningLemmas
 mod RunLemmas

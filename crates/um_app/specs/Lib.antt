@@ -1,4 +1,5 @@
 pub mod Answers
+pub mod FirstRun
 pub mod Messages
 pub mod Top
 pub mod Words

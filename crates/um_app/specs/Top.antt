@@ -6,8 +6,8 @@ use Rattle.um_base.specs.declared.image.Image.{Image}
 use Rattle.um_io.specs.Bytes.{AppendsFront}
 use Rattle.um_io.specs.Causes.{Rose}
 use Rattle.um_image.specs.Form.{Describes}
-use Rattle.um_matrix.specs.State.{State}
-use Rattle.um_matrix.specs.Run.{IsRun, IsComplete}
+use Rattle.um_machine.specs.State.{State}
+use Rattle.um_machine.specs.Run.{IsRun, IsComplete}
 use Rattle.um_trace.specs.Text.{text}
 
 -- how many bytes an input has at most

@@ -1,11 +1,8 @@
 mod BootLemmas
 mod ByteLemmas
-mod FrameLemmas
-mod KeptLemmas
-mod LineLemmas
 mod OfferLemmas
-mod OpeningLemmas
 mod PairLemmas
-mod PlaceLemmas
-mod RegionLemmas
-mod StepLemmas
+mod RunLemmas
+mod SizeLemmas
+mod StartLemmas
+mod StringLemmas

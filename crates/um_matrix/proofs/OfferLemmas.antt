@@ -1,41 +1,102 @@
 -- What a thread is offered, and what its event says then.
-use Rattle.std.proofs.Common.{◌≡◌, ℕ, zero, suc, ◌+◌, ◌<◌, Bool, true, false, ◌&&◌, not, ap, sym, subst, ◌∙◌, refl, arith, [], ◌∷◌, drop, take, Option, Some, None, slice_get, if◌then◌else◌}
-use Rattle.std.specs.Prelude.{IsTrue, nat_le, is_some, MatchOption}
-use Rattle.std.specs.List.{list_all}
-use Rattle.std.proofs.lemmas.Bool.{le-leb, leb-true}
-use Rattle.um_base.specs.Places.{own_row}
+use Rattle.std.proofs.Common.{◌≡◌, ◌⊎◌, inl, inr, ℕ, ◌+◌, ◌<◌, ◌≤◌, Bool, true, false, ◌&&◌, not, ap, sym, subst, ◌∙◌, refl, arith, [], ◌∷◌, drop, length, Option, Some, None, slice_get, slice_index_or, if◌then◌else◌}
+use Rattle.std.specs.Prelude.{IsTrue, IfSome, IfNone, nat_lt, is_some}
+use Rattle.std.proofs.Math.ListN.{get_or-eq_default}
+use Rattle.std.proofs.lemmas.Bool.{le-ltb}
+use Rattle.std.proofs.lemmas.Bool.Decides.{leb_tells}
+use Rattle.um_base.specs.declared.limits.TheConstants.{THREADS, ROWS}
+use Rattle.um_base.specs.declared.names.Kind.{Kind}
 use Rattle.um_base.specs.declared.names.ThreadIx.{ThreadIx}
 use Rattle.um_base.specs.declared.act.Act.{Act}
-use Rattle.um_base.specs.declared.act.Cause.TheVariants as Cause
 use Rattle.um_base.specs.declared.act.Event.{Event}
-use Rattle.um_base.specs.declared.image.Image.{Image}
 use Rattle.um_base.specs.declared.instr.Instr.{Instr}
-use Rattle.um_matrix.specs.declared.pending.Pending.{Pending}
-use Rattle.um_matrix.specs.declared.thread.Place.{Place}
-use Rattle.um_matrix.specs.declared.thread.Thread.{Thread}
-use Rattle.um_matrix.specs.State.{State, thread_at, pair_at, is_living, instruction_at}
-use Rattle.um_matrix.specs.Order.{Steps}
-use Rattle.um_matrix.specs.Table.{act_of, after}
-use Rattle.um_matrix.specs.Run.{Offers, goes, skips_inherit, skips_drops, begins, exits, cleans_pair, recycles, MayChoose, Step, IsComplete, none_due}
-use Rattle.um_matrix.specs.Offered.{line_act, rest_act, first_of_drops, may_drop, after_drops, IsStep, IsNoStep}
-use Rattle.um_matrix.specs.Built.{is_built_step, is_access_step, IsOnItsWay, rests, accesses, fails, drops, clears_both, clears_last, is_over, IsKept}
-use Rattle.um_matrix.proofs.LineLemmas.{and-left, and-right}
-use Rattle.um_matrix.proofs.KeptLemmas.{none-gone, others-idle}
+use Rattle.um_machine.specs.declared.pending.Pending.{Pending}
+use Rattle.um_machine.specs.declared.thread.Place.{Place}
+use Rattle.um_machine.specs.State.{State, nobody, vacant, thread_at, object_at, pair_at, is_living, is_started, instruction_at}
+use Rattle.um_machine.specs.Objects.{is_gone}
+use Rattle.um_machine.specs.Order.{Steps}
+use Rattle.um_machine.specs.Table.{act_of, after}
+use Rattle.um_machine.specs.Run.{Offers, goes, skips_inherit, skips_drops, begins, exits, cleans_pair, recycles, MayChoose, Step, IsComplete, none_due}
+use Rattle.um_matrix.specs.declared.matrix.choice.Choice.{Choice}
+use Rattle.um_matrix.specs.Offered.{line_act, line_step, rest_act, rest_step, first_step, second_step, is_skipped, chooses, row_count, SaysNot, ChoosesNone, is_cleaning, IsStep, IsNoStep, IsIdle, event_of, pair_of}
 
--- a built step chooses no row, and what it says doesn't depend on one
-plain-chosen : (s : State) (t : ℕ) (p : Pending) → IsTrue (is_built_step p) → MayChoose s t 0 p
-plain-chosen s t (Pending.Load to a n) h = tt
-plain-chosen s t (Pending.Store a n value) h = tt
-plain-chosen s t (Pending.Fatal reason cause) h = tt
-plain-chosen s t (Pending.ClearInit a) h = tt
-plain-chosen s t _ h = cc
+-- Rows.
 
-plain-says : (s : State) (t x : ℕ) (p : Pending) → IsTrue (is_built_step p) → act_of s t x p ≡ act_of s t 0 p
-plain-says s t x (Pending.Load to a n) h = refl
-plain-says s t x (Pending.Store a n value) h = refl
-plain-says s t x (Pending.Fatal reason cause) h = refl
-plain-says s t x (Pending.ClearInit a) h = refl
-plain-says s t x _ h = cc
+-- what a step says that chooses no row doesn't depend on one
+plain-says : (s : State) (t x : ℕ) (p : Pending) → chooses p ≡ false → act_of s t x p ≡ act_of s t 0 p
+plain-says s t x (Pending.Inherit who) h = cc
+plain-says s t x (Pending.Drops from) h = cc
+plain-says s t x (Pending.Reserve kind) h = cc
+plain-says s t x (Pending.CleanPair who) h = cc
+plain-says s t x Pending.Recycle h = cc
+plain-says s t x _ h = refl
+
+plain-chosen : (s : State) (t x : ℕ) (p : Pending) → chooses p ≡ false → MayChoose s t x p → MayChoose s t 0 p
+plain-chosen s t x (Pending.Inherit who) h m = cc
+plain-chosen s t x (Pending.Drops from) h m = cc
+plain-chosen s t x (Pending.Reserve kind) h m = cc
+plain-chosen s t x (Pending.CleanPair who) h m = cc
+plain-chosen s t x Pending.Recycle h m = cc
+plain-chosen s t x _ h m = m
+
+-- no row past the tables may be chosen
+no-pair-past : (s : State) (t x : ℕ) → length s.pairs ≡ ROWS → ROWS ≤ x → IsTrue (pair_at s t x) → ⊥
+no-pair-past s t x whole past h = let none : pair_at s t x ≡ false = rw (get_or-eq_default s.pairs [] {n = x} (omega arith)) refl in cc
+
+not-gone-past : (s : State) (x : ℕ) → length s.objects ≡ ROWS → ROWS ≤ x → IsTrue (is_gone (object_at s x).status) → ⊥
+not-gone-past s x whole past h =
+    let none : is_gone (object_at s x).status ≡ false = rw (get_or-eq_default s.objects vacant {n = x} (omega arith)) refl in cc
+
+and-left : (a b : Bool) → IsTrue (a && b) → IsTrue a
+and-left true b h = refl
+and-left false b h = cc
+
+and-right : (a b : Bool) → IsTrue (a && b) → IsTrue b
+and-right true b h = h
+and-right false b h = cc
+
+inside-of : (a b c d : Bool) → IsTrue (a && b && c && d) → IsTrue b
+inside-of a b c d h = and-right a b (and-left (a && b) c (and-left (a && b && c) d h))
+
+reserve-past : (s : State) (t x : ℕ) (kind : Kind) → ROWS ≤ x → MayChoose s t x (Pending.Reserve kind) → ⊥
+reserve-past s t x kind past (inl m) = let within : IsTrue (nat_lt x ROWS) = inside-of _ _ _ _ m.1 in let outside : nat_lt x ROWS ≡ false = le-ltb x ROWS past in cc
+reserve-past s t x kind past (inr m) = omega arith
+
+chosen-past : (s : State) (t x : ℕ) (p : Pending) → length s.objects ≡ ROWS → length s.pairs ≡ ROWS → chooses p ≡ true → ROWS ≤ x → MayChoose s t x p → ⊥
+chosen-past s t x (Pending.Inherit who) o w h past m = no-pair-past s t x w past m.0
+chosen-past s t x (Pending.Drops from) o w h past m = no-pair-past s t x w past m.1
+chosen-past s t x (Pending.Reserve kind) o w h past m = reserve-past s t x kind past m
+chosen-past s t x (Pending.CleanPair who) o w h past m = no-pair-past s who.0 x w past m.1
+chosen-past s t x Pending.Recycle o w h past m = not-gone-past s x o past m.0.0
+chosen-past s t x _ o w h past m = cc
+
+pub le-or-lt : (a b : ℕ) → (a < b) ⊎ (b ≤ a)
+le-or-lt a b = elim (leb_tells b a) [ inl past ↦ inr past.1 | inr within ↦ inl within.1 ]
+
+-- where the rows were tried, no other row does
+row-says : (s : State) (t : ℕ) (act : Act) (p : Pending) (b : Bool) → chooses p ≡ b → length s.objects ≡ ROWS → length s.pairs ≡ ROWS
+    → ((x : ℕ) → x < (if b then ROWS else 1) → MayChoose s t x p → act ≡ act_of s t x p → ⊥) → SaysNot s t act p
+row-says s t act p true e o w none x m says = elim (le-or-lt x ROWS) [ inl within ↦ none x within m says | inr past ↦ chosen-past s t x p o w e past m ]
+row-says s t act p false e o w none x m says = none 0 (omega arith) (plain-chosen s t x p e m) (says ∙ plain-says s t x p e)
+
+pub rows-say : (s : State) (t : ℕ) (act : Act) (p : Pending) → length s.objects ≡ ROWS → length s.pairs ≡ ROWS
+    → ((x : ℕ) → x < row_count p → MayChoose s t x p → act ≡ act_of s t x p → ⊥) → SaysNot s t act p
+rows-say s t act p o w none = row-says s t act p (chooses p) refl o w none
+
+row-chooses : (s : State) (t : ℕ) (p : Pending) (b : Bool) → chooses p ≡ b → length s.objects ≡ ROWS → length s.pairs ≡ ROWS
+    → ((x : ℕ) → x < (if b then ROWS else 1) → MayChoose s t x p → ⊥) → ChoosesNone s t p
+row-chooses s t p true e o w none x m = elim (le-or-lt x ROWS) [ inl within ↦ none x within m | inr past ↦ chosen-past s t x p o w e past m ]
+row-chooses s t p false e o w none x m = none 0 (omega arith) (plain-chosen s t x p e m)
+
+pub rows-choose : (s : State) (t : ℕ) (p : Pending) → length s.objects ≡ ROWS → length s.pairs ≡ ROWS
+    → ((x : ℕ) → x < row_count p → MayChoose s t x p → ⊥) → ChoosesNone s t p
+rows-choose s t p o w none = row-chooses s t p (chooses p) refl o w none
+
+-- what holds below a number and at it holds below the next one
+pub below-next : (P : ℕ → Type 0) (n : ℕ) → ((x : ℕ) → x < n → P x) → P n → (x : ℕ) → x < n + 1 → P x
+below-next P n below here x h = elim (le-or-lt x n) [ inl less ↦ below x less | inr more ↦ let same : n ≡ x = omega arith in subst P same here ]
+
+-- Offers.
 
 -- a list with a first element
 cons : (steps : Steps) (p : Pending) → slice_get steps 0 ≡ Some p → steps ≡ p ∷ drop 1 steps
@@ -46,21 +107,49 @@ empty : (steps : Steps) → slice_get steps 0 ≡ None → steps ≡ []
 empty [] h = refl
 empty (q ∷ rest) h = cc
 
--- an event that says what an offered step says is a step
-pub step-plain : (s : State) (event : Event) (p : Pending) (rest : Steps) → Offers s event.thread.0 p rest → IsTrue (is_built_step p) → event.act ≡ act_of s event.thread.0 0 p → Step s event (after s event.thread.0 0 p rest)
-step-plain s event p rest offered built says =
-    record { step = p; rest = rest; row = 0; offered = offered; chosen = plain-chosen s event.thread.0 p built; says = says; leaves = refl }
+-- the next step, with a row that it may choose
+pub step-first : (s : State) (t x : ℕ) (act : Act) (p : Pending) → slice_get (thread_at s t).pending 0 ≡ Some p → MayChoose s t x p → act ≡ act_of s t x p
+    → Step s (event_of t act) (after s t x p (drop 1 (thread_at s t).pending))
+step-first s t x act p head chosen says =
+    record { step = p; rest = drop 1 (thread_at s t).pending; row = x; offered = goes (cons (thread_at s t).pending p head); chosen = chosen; says = says; leaves = refl }
 
-pub goes-first : (s : State) (t : ℕ) (p : Pending) → slice_get (thread_at s t).pending 0 ≡ Some p → Offers s t p (drop 1 (thread_at s t).pending)
-goes-first s t p head = goes (cons (thread_at s t).pending p head)
+-- the step after one that is left out
+pub data Skips (steps : Steps) (p : Pending) : Type 0 where
+  past_inherit : {who : ThreadIx} → steps ≡ Pending.Inherit who ∷ p ∷ drop 2 steps → Skips steps p
+  past_drops : {from : ℕ} → steps ≡ Pending.Drops from ∷ p ∷ drop 2 steps → Skips steps p
 
-second-rest : (steps : Steps) (from : ℕ) (p : Pending) → slice_get steps 0 ≡ Some (Pending.Drops from) → slice_get steps 1 ≡ Some p → steps ≡ Pending.Drops from ∷ p ∷ drop 2 steps
-second-rest [] from p h g = cc
-second-rest (q ∷ []) from p h g = cc
-second-rest (q ∷ r ∷ rest) from p h g = cc
+skips-of : (steps : Steps) (due : Bool) (p : Pending) → (if is_skipped (slice_get steps 0) && due then slice_get steps 1 else None) ≡ Some p → Skips steps p × IsTrue due
+skips-of [] due p h = cc
+skips-of (Pending.Inherit who ∷ []) true p h = cc
+skips-of (Pending.Inherit who ∷ []) false p h = cc
+skips-of (Pending.Inherit who ∷ q ∷ rest) true p h = (past_inherit {who = who} cc, refl)
+skips-of (Pending.Inherit who ∷ q ∷ rest) false p h = cc
+skips-of (Pending.Drops from ∷ []) true p h = cc
+skips-of (Pending.Drops from ∷ []) false p h = cc
+skips-of (Pending.Drops from ∷ q ∷ rest) true p h = (past_drops {from = from} cc, refl)
+skips-of (Pending.Drops from ∷ q ∷ rest) false p h = cc
+skips-of (_ ∷ rest) due p h = cc
 
-pub goes-second : (s : State) (t from : ℕ) (p : Pending) → slice_get (thread_at s t).pending 0 ≡ Some (Pending.Drops from) → slice_get (thread_at s t).pending 1 ≡ Some p → IsTrue (none_due (thread_at s t)) → Offers s t p (drop 2 (thread_at s t).pending)
-goes-second s t from p head next none = skips_drops (second-rest (thread_at s t).pending from p head next) none
+skips-offer : (s : State) (t : ℕ) (p : Pending) → Skips (thread_at s t).pending p → IsTrue (none_due (thread_at s t)) → Offers s t p (drop 2 (thread_at s t).pending)
+skips-offer s t p (past_inherit e) due = skips_inherit e due
+skips-offer s t p (past_drops e) due = skips_drops e due
+
+pub step-second : (s : State) (t x : ℕ) (act : Act) (p : Pending) → second_step s t ≡ Some p → MayChoose s t x p → act ≡ act_of s t x p
+    → Step s (event_of t act) (after s t x p (drop 2 (thread_at s t).pending))
+step-second s t x act p next chosen says =
+    let both = skips-of (thread_at s t).pending (none_due (thread_at s t)) p next in
+    record { step = p; rest = drop 2 (thread_at s t).pending; row = x; offered = skips-offer s t p both.0 both.1; chosen = chosen; says = says; leaves = refl }
+
+-- the steps that clean
+pub step-cleans : (s : State) (t x : ℕ) (act : Act) (who : ThreadIx) → IsTrue (is_started (thread_at s t).life) → MayChoose s t x (Pending.CleanPair who) → act ≡ act_of s t x (Pending.CleanPair who)
+    → Step s (event_of t act) (after s t x (Pending.CleanPair who) [])
+step-cleans s t x act who started chosen says =
+    record { step = Pending.CleanPair who; rest = (thread_at s t).pending; row = x; offered = cleans_pair started; chosen = chosen; says = says; leaves = refl }
+
+pub step-recycles : (s : State) (t x : ℕ) (act : Act) → IsTrue (is_started (thread_at s t).life) → MayChoose s t x Pending.Recycle → act ≡ act_of s t x Pending.Recycle
+    → Step s (event_of t act) (after s t x Pending.Recycle [])
+step-recycles s t x act started chosen says =
+    record { step = Pending.Recycle; rest = (thread_at s t).pending; row = x; offered = recycles started; chosen = chosen; says = says; leaves = refl }
 
 -- At rest.
 chosen-some : {A : Type 0} (b : Bool) (x y : A) → (if b then Some x else None) ≡ Some y → IsTrue b × (x ≡ y)
@@ -70,15 +159,6 @@ chosen-some false x y h = cc
 not-true : (b : Bool) → IsTrue (not b) → b ≡ false
 not-true true h = cc
 not-true false h = refl
-
--- what a thread at rest says is what begins, or exits
-rest-begins : (s : State) (t : ℕ) (instr : Instr) → is_living (thread_at s t).life ≡ true → (thread_at s t).doomed ≡ false → instruction_at s.image (thread_at s t).place ≡ Some instr
-    → rest_act s t ≡ Some (act_of s t 0 Pending.Begin)
-rest-begins s t instr living doomed here = rw (living, doomed, here) refl
-
-rest-exits : (s : State) (t : ℕ) → is_living (thread_at s t).life ≡ true → (thread_at s t).doomed ≡ false → instruction_at s.image (thread_at s t).place ≡ None
-    → rest_act s t ≡ Some Act.Exit
-rest-exits s t living doomed here = rw (living, doomed, here) refl
 
 rest-conditions : (s : State) (t : ℕ) (act : Act) → rest_act s t ≡ Some act
     → IsTrue (is_living (thread_at s t).life) × ((thread_at s t).doomed ≡ false) × (line_act (thread_at s t).place (instruction_at s.image (thread_at s t).place) ≡ act)
@@ -91,11 +171,11 @@ line-begins : (place : Place) (o : Option Instr) → IsTrue (is_some o) → line
 line-begins place None h = cc
 line-begins place (Some instr) h = refl
 
-pub step-begins : (s : State) (event : Event) (act : Act) → slice_get (thread_at s event.thread.0).pending 0 ≡ None → rest_act s event.thread.0 ≡ Some act → event.act ≡ act
-    → IsTrue (is_some (instruction_at s.image (thread_at s event.thread.0).place)) → Step s event (after s event.thread.0 0 Pending.Begin [])
-step-begins s event act none said says some =
-    let me = thread_at s event.thread.0 in
-    let c = rest-conditions s event.thread.0 act said in
+pub step-begins : (s : State) (t : ℕ) (act said : Act) → slice_get (thread_at s t).pending 0 ≡ None → rest_act s t ≡ Some said → act ≡ said
+    → IsTrue (is_some (instruction_at s.image (thread_at s t).place)) → Step s (event_of t act) (after s t 0 Pending.Begin [])
+step-begins s t act said none e says some =
+    let me = thread_at s t in
+    let c = rest-conditions s t said e in
     record {
       step = Pending.Begin;
       rest = [];
@@ -106,11 +186,11 @@ step-begins s event act none said says some =
       leaves = refl;
     }
 
-pub step-exits : (s : State) (event : Event) (act : Act) → slice_get (thread_at s event.thread.0).pending 0 ≡ None → rest_act s event.thread.0 ≡ Some act → event.act ≡ act
-    → instruction_at s.image (thread_at s event.thread.0).place ≡ None → Step s event (after s event.thread.0 0 Pending.Exit [])
-step-exits s event act none said says here =
-    let me = thread_at s event.thread.0 in
-    let c = rest-conditions s event.thread.0 act said in
+pub step-exits : (s : State) (t : ℕ) (act said : Act) → slice_get (thread_at s t).pending 0 ≡ None → rest_act s t ≡ Some said → act ≡ said
+    → instruction_at s.image (thread_at s t).place ≡ None → Step s (event_of t act) (after s t 0 Pending.Exit [])
+step-exits s t act said none e says here =
+    let me = thread_at s t in
+    let c = rest-conditions s t said e in
     record {
       step = Pending.Exit;
       rest = [];
@@ -121,221 +201,205 @@ step-exits s event act none said says here =
       leaves = refl;
     }
 
-rest-some : (s : State) (t : ℕ) (o : Option Instr) → is_living (thread_at s t).life ≡ true → (thread_at s t).doomed ≡ false → instruction_at s.image (thread_at s t).place ≡ o → IsTrue (is_some o)
-    → rest_act s t ≡ Some (act_of s t 0 Pending.Begin)
-rest-some s t None living doomed here some = cc
-rest-some s t (Some instr) living doomed here some = rest-begins s t instr living doomed here
-
--- a step of a thread at rest says that
-rest-says : (s : State) (t x : ℕ) {p : Pending} {rest : Steps} → IsKept s → (thread_at s t).pending ≡ [] → Offers s t p rest → MayChoose s t x p → rest_act s t ≡ Some (act_of s t x p)
-rest-says s t x k none (goes e) chosen = absurd (let same : [] ≡ _ ∷ _ = sym none ∙ e in cc)
-rest-says s t x k none (skips_inherit e due) chosen = absurd (let same : [] ≡ _ ∷ _ = sym none ∙ e in cc)
-rest-says s t x k none (skips_drops e due) chosen = absurd (let same : [] ≡ _ ∷ _ = sym none ∙ e in cc)
-rest-says s t x k none (begins e l d some) chosen = rest-some s t (instruction_at s.image (thread_at s t).place) l d refl some
-rest-says s t x k none (exits e l d i) chosen = rest-exits s t l d i
-rest-says s t x k none (cleans_pair {who} l) chosen = absurd (none-gone s t (own_row s.image who.0) k chosen.0.0)
-rest-says s t x k none (recycles l) chosen = absurd (none-gone s t x k chosen.0.0)
-
-pub only-rest : (s : State) (event : Event) (s2 : State) → IsKept s → slice_get (thread_at s event.thread.0).pending 0 ≡ None → Step s event s2 → rest_act s event.thread.0 ≡ Some event.act
-only-rest s event s2 k none step =
-    rest-says s event.thread.0 step.row k (empty (thread_at s event.thread.0).pending none) step.offered step.chosen ∙ ap Some (sym step.says)
-
--- With a built step ahead.
-no-inherit : {p : Pending} {rest : Steps} {steps : Steps} (who : ThreadIx) → slice_get steps 0 ≡ Some p → IsTrue (is_built_step p) → steps ≡ Pending.Inherit who ∷ rest → ⊥
-no-inherit {p} who head built e = let h = rw e at head in let q : p ≡ Pending.Inherit who = cc in let b = rw q at built in cc
-
-no-drops : {p : Pending} {rest : Steps} {steps : Steps} (from : ℕ) → slice_get steps 0 ≡ Some p → IsTrue (is_built_step p) → steps ≡ Pending.Drops from ∷ rest → ⊥
-no-drops {p} from head built e = let h = rw e at head in let q : p ≡ Pending.Drops from = cc in let b = rw q at built in cc
-
-plain-only : (s : State) (t x : ℕ) {p q : Pending} {rest : Steps} → IsKept s → slice_get (thread_at s t).pending 0 ≡ Some p → IsTrue (is_built_step p) → Offers s t q rest → MayChoose s t x q → q ≡ p
-plain-only s t x k head built (goes e) chosen = let h = rw e at head in cc
-plain-only s t x k head built (skips_inherit {who} e due) chosen = absurd (no-inherit who head built e)
-plain-only s t x k head built (skips_drops {from} e due) chosen = absurd (no-drops from head built e)
-plain-only s t x k head built (begins e l d i) chosen = let h = rw e at head in cc
-plain-only s t x k head built (exits e l d i) chosen = let h = rw e at head in cc
-plain-only s t x k head built (cleans_pair {who} l) chosen = absurd (none-gone s t (own_row s.image who.0) k chosen.0.0)
-plain-only s t x k head built (recycles l) chosen = absurd (none-gone s t x k chosen.0.0)
-
-pub only-plain : (s : State) (event : Event) (s2 : State) (p : Pending) → IsKept s → slice_get (thread_at s event.thread.0).pending 0 ≡ Some p → IsTrue (is_built_step p) → Step s event s2 → event.act ≡ act_of s event.thread.0 0 p
-only-plain s event s2 p k head built step =
-    let t = event.thread.0 in
-    step.says ∙ ap (act_of s t step.row) (plain-only s t step.row k head built step.offered step.chosen) ∙ plain-says s t step.row p built
-
--- With the drops of an end ahead.
-both : (a b c : Bool) → IsTrue (a && b && c) → IsTrue a × IsTrue b × IsTrue c
-both true true true h = (refl, refl, refl)
-both true true false h = cc
-both true false c h = cc
-both false b c h = cc
-
-all-three : (a b c : Bool) → IsTrue a → IsTrue b → IsTrue c → (a && b && c) ≡ true
-all-three true true true p q r = refl
-all-three true true false p q r = cc
-all-three true false c p q r = cc
-all-three false b c p q r = cc
-
-drop-chosen : (s : State) (t from x : ℕ) → may_drop s t from x ≡ true → MayChoose s t x (Pending.Drops from)
-drop-chosen s t from x h =
-    let c = both (nat_le from x) (pair_at s t x) (list_all not (take x (thread_at s t).due)) h in (leb-true from x c.0, c.1, c.2)
-
-chosen-drop : (s : State) (t from x : ℕ) → MayChoose s t x (Pending.Drops from) → may_drop s t from x ≡ true
-chosen-drop s t from x c =
-    all-three (nat_le from x) (pair_at s t x) (list_all not (take x (thread_at s t).due)) (le-leb from x c.0) c.1 c.2
-
-drops-head : (steps : Steps) (from : ℕ) → first_of_drops (slice_get steps 0) ≡ Some from → slice_get steps 0 ≡ Some (Pending.Drops from)
-drops-head [] from h = cc
-drops-head (Pending.Drops f ∷ rest) from h = let e : f ≡ from = cc in ap (λ (n : ℕ). Some (Pending.Drops n)) e
-drops-head (_ ∷ rest) from h = cc
-
-pub step-drop : (s : State) (event : Event) (from x : ℕ) → first_of_drops (slice_get (thread_at s event.thread.0).pending 0) ≡ Some from → may_drop s event.thread.0 from x ≡ true
-    → event.act ≡ act_of s event.thread.0 x (Pending.Drops from) → Step s event (after s event.thread.0 x (Pending.Drops from) (drop 1 (thread_at s event.thread.0).pending))
-step-drop s event from x head may says =
-    let t = event.thread.0 in
-    record {
-      step = Pending.Drops from;
-      rest = drop 1 (thread_at s t).pending;
-      row = x;
-      offered = goes-first s t (Pending.Drops from) (drops-head (thread_at s t).pending from head);
-      chosen = drop-chosen s t from x may;
-      says = says;
-      leaves = refl;
-    }
-
-pub goes-next : (s : State) (t from : ℕ) (p : Pending) → first_of_drops (slice_get (thread_at s t).pending 0) ≡ Some from → slice_get (thread_at s t).pending 1 ≡ Some p → IsTrue (none_due (thread_at s t)) → Offers s t p (drop 2 (thread_at s t).pending)
-goes-next s t from p head next none = goes-second s t from p (drops-head (thread_at s t).pending from head) next none
-
--- An event is a drop of an end, or the step after it, where nothing is due.
-pub data DropsOr (s : State) (event : Event) (from : ℕ) : Type 0 where
-  is_drop : (x : ℕ) → may_drop s event.thread.0 from x ≡ true → event.act ≡ act_of s event.thread.0 x (Pending.Drops from) → DropsOr s event from
-  is_next : (p : Pending) → IsTrue (none_due (thread_at s event.thread.0)) → slice_get (thread_at s event.thread.0).pending 1 ≡ Some p → event.act ≡ act_of s event.thread.0 0 p → DropsOr s event from
-
-way-second : {image : Image} {me : Thread} (from : ℕ) (p : Pending) → IsOnItsWay image me → slice_get me.pending 0 ≡ Some (Pending.Drops from) → slice_get me.pending 1 ≡ Some p → IsTrue (is_built_step p)
-way-second from p (rests life none) head next = let h = rw none at head in cc
-way-second from p (accesses life one a within) head next = let n = rw one at next in cc
-way-second from p (fails life one) head next = let n = rw one at next in cc
-way-second from p (drops {a = a} life steps) head next = let n = rw steps at next in let e : Pending.ClearInit a ≡ p = cc in rw (← e) refl
-way-second from p (clears_both life steps) head next = let h = rw steps at head in cc
-way-second from p (clears_last life one) head next = let n = rw one at next in cc
-way-second from p (is_over life none) head next = let h = rw none at head in cc
-
-second-any : (s : State) (t from : ℕ) (p : Pending) → IsKept s → slice_get (thread_at s t).pending 0 ≡ Some (Pending.Drops from) → slice_get (thread_at s t).pending 1 ≡ Some p → IsTrue (is_built_step p)
-second-any s zero from p k head next = way-second from p k.first head next
-second-any s (suc t) from p k head next = let never = k.others (suc t) (omega arith) in let none : (thread_at s (suc t)).pending ≡ [] = never.pending in let h = rw none at head in cc
-
-pub second-built : (s : State) (t from : ℕ) (p : Pending) → IsKept s → first_of_drops (slice_get (thread_at s t).pending 0) ≡ Some from → slice_get (thread_at s t).pending 1 ≡ Some p → IsTrue (is_built_step p)
-second-built s t from p k head next = second-any s t from p k (drops-head (thread_at s t).pending from head) next
-
-access-built : (p : Pending) → IsTrue (is_access_step p) → IsTrue (is_built_step p)
-access-built (Pending.Load to a n) h = h
-access-built (Pending.Store a n value) h = h
-access-built _ h = cc
-
-way-first : {image : Image} {me : Thread} (p : Pending) → IsOnItsWay image me → first_of_drops (slice_get me.pending 0) ≡ None → slice_get me.pending 0 ≡ Some p → IsTrue (is_built_step p)
-way-first p (rests life none) other head = let h = rw none at head in cc
-way-first p (accesses {p = q} life one a within) other head = let h = rw one at head in let e : q ≡ p = cc in rw (← e) (access-built q a)
-way-first p (fails life one) other head = let h = rw one at head in let e : Pending.Fatal 0 Cause.Access ≡ p = cc in rw (← e) refl
-way-first p (drops life steps) other head = let n = rw steps at other in cc
-way-first p (clears_both {a} {b} life steps) other head = let h = rw steps at head in let e : Pending.ClearInit a ≡ p = cc in rw (← e) refl
-way-first p (clears_last {a} life one) other head = let h = rw one at head in let e : Pending.ClearInit a ≡ p = cc in rw (← e) refl
-way-first p (is_over life none) other head = let h = rw none at head in cc
-
-pub first-built : (s : State) (t : ℕ) (p : Pending) → IsKept s → first_of_drops (slice_get (thread_at s t).pending 0) ≡ None → slice_get (thread_at s t).pending 0 ≡ Some p → IsTrue (is_built_step p)
-first-built s zero p k other head = way-first p k.first other head
-first-built s (suc t) p k other head = let never = k.others (suc t) (omega arith) in let none : (thread_at s (suc t)).pending ≡ [] = never.pending in let h = rw none at head in cc
-
-drops-says : (s : State) (event : Event) (from x : ℕ) {p : Pending} {rest : Steps} → IsKept s → slice_get (thread_at s event.thread.0).pending 0 ≡ Some (Pending.Drops from)
-    → Offers s event.thread.0 p rest → MayChoose s event.thread.0 x p → event.act ≡ act_of s event.thread.0 x p → DropsOr s event from
-drops-says s event from x {p} k head (goes e) chosen says =
-    let h = rw e at head in
-    let q : p ≡ Pending.Drops from = cc in
-    is_drop x (chosen-drop s event.thread.0 from x (subst (λ (r : Pending). MayChoose s event.thread.0 x r) q chosen)) (says ∙ ap (act_of s event.thread.0 x) q)
-drops-says s event from x k head (skips_inherit e due) chosen says = let h = rw e at head in cc
-drops-says s event from x {p} k head (skips_drops e due) chosen says =
-    let next : slice_get (thread_at s event.thread.0).pending 1 ≡ Some p = ap (λ (steps : Steps). slice_get steps 1) e in
-    is_next p due next (says ∙ plain-says s event.thread.0 x p (second-any s event.thread.0 from p k head next))
-drops-says s event from x k head (begins e l d i) chosen says = let h = rw e at head in cc
-drops-says s event from x k head (exits e l d i) chosen says = let h = rw e at head in cc
-drops-says s event from x k head (cleans_pair {who} l) chosen says = absurd (none-gone s event.thread.0 (own_row s.image who.0) k chosen.0.0)
-drops-says s event from x k head (recycles l) chosen says = absurd (none-gone s event.thread.0 x k chosen.0.0)
-
-pub only-drops : (s : State) (event : Event) (s2 : State) (from : ℕ) → IsKept s → first_of_drops (slice_get (thread_at s event.thread.0).pending 0) ≡ Some from → Step s event s2 → DropsOr s event from
-only-drops s event s2 from k head step =
-    drops-says s event from step.row k (drops-head (thread_at s event.thread.0).pending from head) step.offered step.chosen step.says
-
--- a thread that isn't the first makes no step
-pub others-no-step : (s : State) (event : Event) → IsKept s → 0 < event.thread.0 → IsNoStep s event
-others-no-step s event k later s2 step = others-idle s event.thread.0 step.row k later step.offered step.chosen
-
 pub ruleset at_rest = (step-begins, step-exits)
 
-due-then : (b : Bool) (o : Option Pending) (p : Pending) → (if b then o else None) ≡ Some p → IsTrue b × (o ≡ Some p)
-due-then true o p h = (refl, h)
-due-then false o p h = cc
+-- what a thread at rest says is what its step says
+line-says : (s : State) (t x : ℕ) (b : Bool) (o : Option Instr) (p : Pending) → (if b then Some (line_step o) else None) ≡ Some p
+    → (if b then Some (line_act (thread_at s t).place o) else None) ≡ Some (act_of s t x p)
+line-says s t x true (Some instr) Pending.Begin h = refl
+line-says s t x true (Some instr) _ h = cc
+line-says s t x true None Pending.Exit h = refl
+line-says s t x true None _ h = cc
+line-says s t x false o p h = cc
 
--- the step after the drops is offered, and it is built
-pub next-offered : (s : State) (t from : ℕ) (p : Pending) → first_of_drops (slice_get (thread_at s t).pending 0) ≡ Some from → after_drops (thread_at s t) ≡ Some p → Offers s t p (drop 2 (thread_at s t).pending)
-next-offered s t from p head next =
-    let d = due-then (none_due (thread_at s t)) (slice_get (thread_at s t).pending 1) p next in goes-next s t from p head d.1 d.0
+pub rest-says : (s : State) (t x : ℕ) (p : Pending) → rest_step s t ≡ Some p → rest_act s t ≡ Some (act_of s t x p)
+rest-says s t x p h =
+    let me = thread_at s t in line-says s t x (is_living me.life && not me.doomed) (instruction_at s.image me.place) p h
 
-pub next-built : (s : State) (t from : ℕ) (p : Pending) → IsKept s → first_of_drops (slice_get (thread_at s t).pending 0) ≡ Some from → after_drops (thread_at s t) ≡ Some p → IsTrue (is_built_step p)
-next-built s t from p k head next =
-    second-built s t from p k head (due-then (none_due (thread_at s t)) (slice_get (thread_at s t).pending 1) p next).1
+-- where a thread at rest says something else, or nothing, an act is no step at rest
+pub rest-not : (s : State) (t : ℕ) (act : Act) → (rest_act s t ≡ Some act → ⊥) → (p : Pending) → rest_step s t ≡ Some p → SaysNot s t act p
+rest-not s t act none p e x chosen says = none (rest-says s t x p e ∙ ap Some (sym says))
 
-due-some : (b : Bool) (o : Option Pending) (p : Pending) → IsTrue b → o ≡ Some p → (if b then o else None) ≡ Some p
-due-some true o p h e = e
-due-some false o p h e = cc
-
--- a step of a thread that drops its pairs is a drop, or the step after them
-drops-or : (s : State) (event : Event) (from : ℕ) → DropsOr s event from
-    → ((x : ℕ) → may_drop s event.thread.0 from x ≡ true → event.act ≡ act_of s event.thread.0 x (Pending.Drops from) → ⊥)
-    → (p : Pending) × (after_drops (thread_at s event.thread.0) ≡ Some p) × (event.act ≡ act_of s event.thread.0 0 p)
-drops-or s event from (is_drop x may says) none = absurd (none x may says)
-drops-or s event from (is_next p due next says) none = (p, due-some (none_due (thread_at s event.thread.0)) (slice_get (thread_at s event.thread.0).pending 1) p due next, says)
-
-pub only-next : (s : State) (event : Event) (from : ℕ) (s2 : State) → IsKept s → first_of_drops (slice_get (thread_at s event.thread.0).pending 0) ≡ Some from
-    → ((x : ℕ) → may_drop s event.thread.0 from x ≡ true → event.act ≡ act_of s event.thread.0 x (Pending.Drops from) → ⊥) → Step s event s2
-    → (p : Pending) × (after_drops (thread_at s event.thread.0) ≡ Some p) × (event.act ≡ act_of s event.thread.0 0 p)
-only-next s event from s2 k head none step = drops-or s event from (only-drops s event s2 from k head step) none
-
--- Whether any event is a step.
-by-thread : (s : State) (event : Event) (s2 : State) (t : ℕ) → event.thread.0 ≡ t → IsKept s → (event.thread.0 ≡ 0 → Step s event s2 → ⊥) → Step s event s2 → ⊥
-by-thread s event s2 zero e k none step = none e step
-by-thread s event s2 (suc t) e k none step = others-no-step s event k (omega arith) s2 step
-
-pub complete-first : (s : State) → IsKept s → ((event : Event) (s2 : State) → event.thread.0 ≡ 0 → Step s event s2 → ⊥) → IsComplete s
-complete-first s k none event s2 step = by-thread s event s2 event.thread.0 refl k (none event s2) step
-
--- the event of a thread with an act
-abbrev pub event_of : ℕ → Act → Event
-event_of t act = record { thread = record { 0 = t }; act = act }
-
+-- what a thread says at rest is a step
 rest-step-at : (s : State) (t : ℕ) (act : Act) (o : Option Instr) → instruction_at s.image (thread_at s t).place ≡ o → slice_get (thread_at s t).pending 0 ≡ None → rest_act s t ≡ Some act → IsStep s (event_of t act)
-rest-step-at s t act None here none said = (_, step-exits s (event_of t act) act none said refl here)
-rest-step-at s t act (Some instr) here none said = (_, step-begins s (event_of t act) act none said refl (rw here refl))
+rest-step-at s t act None here none said = (_, step-exits s t act act none said refl here)
+rest-step-at s t act (Some instr) here none said = (_, step-begins s t act act none said refl (rw here refl))
 
-pub rest-step : (s : State) (t : ℕ) (act : Act) → slice_get (thread_at s t).pending 0 ≡ None → rest_act s t ≡ Some act → IsStep s (event_of t act)
-rest-step s t act none said = rest-step-at s t act (instruction_at s.image (thread_at s t).place) refl none said
+pub rest-is-step : (s : State) (t : ℕ) (act : Act) → slice_get (thread_at s t).pending 0 ≡ None → rest_act s t ≡ Some act → IsStep s (event_of t act)
+rest-is-step s t act none said = rest-step-at s t act (instruction_at s.image (thread_at s t).place) refl none said
 
-no-rest : (s : State) (event : Event) (s2 : State) (t : ℕ) → event.thread.0 ≡ t → IsKept s → slice_get (thread_at s t).pending 0 ≡ None → rest_act s t ≡ None → Step s event s2 → ⊥
-no-rest s event s2 t e k none nothing step =
-    let here : slice_get (thread_at s event.thread.0).pending 0 ≡ None = subst (λ (u : ℕ). slice_get (thread_at s u).pending 0 ≡ None) (sym e) none in
-    let said : rest_act s event.thread.0 ≡ None = subst (λ (u : ℕ). rest_act s u ≡ None) (sym e) nothing in
-    let says : rest_act s event.thread.0 ≡ Some event.act = only-rest s event s2 k here step in cc
+line-none : (b : Bool) (place : Place) (o : Option Instr) → (if b then Some (line_act place o) else None) ≡ None → (if b then Some (line_step o) else None) ≡ None
+line-none true place o h = cc
+line-none false place o h = refl
 
--- what the first thread says at rest is a step, or there is none
-pub rest-match : (s : State) → IsKept s → slice_get (thread_at s 0).pending 0 ≡ None → (o : Option Act) → o ≡ rest_act s 0 → MatchOption o (IsComplete s) (λ act. IsStep s (event_of 0 act))
-rest-match s k none None e = complete-first s k (λ event s2 first step. no-rest s event s2 0 first k none (sym e) step)
-rest-match s k none (Some act) e = rest-step s 0 act none (sym e)
+pub rest-none : (s : State) (t : ℕ) → rest_act s t ≡ None → rest_step s t ≡ None
+rest-none s t h = let me = thread_at s t in line-none (is_living me.life && not me.doomed) me.place (instruction_at s.image me.place) h
 
-no-end : (s : State) (event : Event) (s2 : State) (from t : ℕ) → event.thread.0 ≡ t → IsKept s → first_of_drops (slice_get (thread_at s t).pending 0) ≡ Some from
-    → ((x : ℕ) → may_drop s t from x ≡ false) → after_drops (thread_at s t) ≡ None → Step s event s2 → ⊥
-no-end s event s2 from t e k head none nothing step =
-    let here : first_of_drops (slice_get (thread_at s event.thread.0).pending 0) ≡ Some from = subst (λ (u : ℕ). first_of_drops (slice_get (thread_at s u).pending 0) ≡ Some from) (sym e) head in
-    let after : after_drops (thread_at s event.thread.0) ≡ None = subst (λ (u : ℕ). after_drops (thread_at s u) ≡ None) (sym e) nothing in
-    let rows : (x : ℕ) → may_drop s event.thread.0 from x ≡ false = subst (λ (u : ℕ). (x : ℕ) → may_drop s u from x ≡ false) (sym e) none in
-    let found = only-next s event from s2 k here (λ x may says. let not : may_drop s event.thread.0 from x ≡ false = rows x in cc) step in
-    let next = found.1 in cc
+-- No step.
+line-is-begin : (o : Option Instr) → IsTrue (is_some o) → line_step o ≡ Pending.Begin
+line-is-begin None h = cc
+line-is-begin (Some instr) h = refl
 
--- where the first thread has nothing left to drop and no step after that, no event is a step
-pub end-complete : (s : State) (from : ℕ) → IsKept s → first_of_drops (slice_get (thread_at s 0).pending 0) ≡ Some from → ((x : ℕ) → may_drop s 0 from x ≡ false) → after_drops (thread_at s 0) ≡ None → IsComplete s
-end-complete s from k head none nothing = complete-first s k (λ event s2 first step. no-end s event s2 from 0 first k head none nothing step)
+first-goes : (s : State) (t : ℕ) {p : Pending} {rest : Steps} → (thread_at s t).pending ≡ p ∷ rest → first_step s t ≡ Some p
+first-goes s t e = rw e refl
+
+first-begins : (s : State) (t : ℕ) → (thread_at s t).pending ≡ [] → is_living (thread_at s t).life ≡ true → (thread_at s t).doomed ≡ false → IsTrue (is_some (instruction_at s.image (thread_at s t).place))
+    → first_step s t ≡ Some Pending.Begin
+first-begins s t e l d some = rw (e, l, d, line-is-begin (instruction_at s.image (thread_at s t).place) some) refl
+
+first-exits : (s : State) (t : ℕ) → (thread_at s t).pending ≡ [] → is_living (thread_at s t).life ≡ true → (thread_at s t).doomed ≡ false → instruction_at s.image (thread_at s t).place ≡ None → first_step s t ≡ Some Pending.Exit
+first-exits s t e l d i = rw (e, l, d, i) refl
+
+second-inherit : (s : State) (t : ℕ) {who : ThreadIx} {p : Pending} {rest : Steps} → (thread_at s t).pending ≡ Pending.Inherit who ∷ p ∷ rest → none_due (thread_at s t) ≡ true → second_step s t ≡ Some p
+second-inherit s t e due = rw (e, due) refl
+
+second-drops : (s : State) (t : ℕ) {from : ℕ} {p : Pending} {rest : Steps} → (thread_at s t).pending ≡ Pending.Drops from ∷ p ∷ rest → none_due (thread_at s t) ≡ true → second_step s t ≡ Some p
+second-drops s t e due = rw (e, due) refl
+
+-- what a thread says at rest is a step, or it chooses nothing
+pub rest-if-some : (s : State) (t : ℕ) (o : Option Act) → slice_get (thread_at s t).pending 0 ≡ None → o ≡ rest_act s t → IfSome o (λ act. IsStep s (event_of t act))
+rest-if-some s t None none e = tt
+rest-if-some s t (Some act) none e = rest-is-step s t act none (sym e)
+
+pub rest-if-none : (s : State) (t : ℕ) (o : Option Act) → slice_get (thread_at s t).pending 0 ≡ None → o ≡ rest_act s t → IfNone o ((p : Pending) → first_step s t ≡ Some p → ChoosesNone s t p)
+rest-if-none s t (Some act) none e = tt
+rest-if-none s t None none e = λ p f.
+    let nothing : rest_step s t ≡ None = rest-none s t (sym e) in
+    let same : first_step s t ≡ rest_step s t = rw none refl in absurd (let bad : None ≡ Some p = sym nothing ∙ sym same ∙ f in cc)
+
+-- a step that cleans
+pub clean-step : (s : State) (t x : ℕ) (step : Pending) (act : Act) → IsTrue (is_started (thread_at s t).life) → IsTrue (is_cleaning step) → MayChoose s t x step → act ≡ act_of s t x step → IsStep s (event_of t act)
+clean-step s t x (Pending.CleanPair who) act started h m says = (_, step-cleans s t x act who started m says)
+clean-step s t x Pending.Recycle act started h m says = (_, step-recycles s t x act started m says)
+clean-step s t x _ act started h m says = cc
+
+-- nobody past those whom a row knows has a pair with it
+pub nobody-more : (s : State) (t x : ℕ) (who : ThreadIx) → length (slice_index_or s.pairs x []) ≤ who.0 → MayChoose s t x (Pending.CleanPair who) → ⊥
+nobody-more s t x who past m =
+    let none : pair_at s who.0 x ≡ false = get_or-eq_default (slice_index_or s.pairs x []) false {n = who.0} past in let yes : pair_at s who.0 x ≡ true = m.1 in cc
+
+-- what holds of the only step holds of each
+pub only-some : {o : Option Pending} (P : Pending → Type 0) (q : Pending) → o ≡ Some q → P q → (p : Pending) → o ≡ Some p → P p
+only-some P q e h p f = let same : q ≡ p = cc in subst P same h
+
+pub only-none : {o : Option Pending} (P : Pending → Type 0) → o ≡ None → (p : Pending) → o ≡ Some p → P p
+only-none P e p f = absurd (let bad : None ≡ Some p = sym e ∙ f in cc)
+
+pub only-first : (s : State) (t : ℕ) (P : Pending → Type 0) (q : Pending) → slice_get (thread_at s t).pending 0 ≡ Some q → P q → (p : Pending) → first_step s t ≡ Some p → P p
+only-first s t P q e h = only-some P q (rw e refl) h
+
+pub only-rest : (s : State) (t : ℕ) (P : Pending → Type 0) → slice_get (thread_at s t).pending 0 ≡ None → ((p : Pending) → rest_step s t ≡ Some p → P p) → (p : Pending) → first_step s t ≡ Some p → P p
+only-rest s t P e h p f = h p (let same : first_step s t ≡ rest_step s t = rw e refl in sym same ∙ f)
+
+-- an act that takes a pair cleans that thread's pair alone, and recycles nothing
+pub only-pair : (s : State) (t : ℕ) (act : Act) (who : ThreadIx) → pair_of act ≡ Some who → SaysNot s t act (Pending.CleanPair who) → (other : ThreadIx) → SaysNot s t act (Pending.CleanPair other)
+only-pair s t act who e none other x m says =
+    let same : who ≡ other = cc (e, ap pair_of says) in
+    subst (λ (w : ThreadIx). SaysNot s t act (Pending.CleanPair w)) same none x m says
+
+pub no-recycle : (s : State) (t : ℕ) (act : Act) (who : ThreadIx) → pair_of act ≡ Some who → SaysNot s t act Pending.Recycle
+no-recycle s t act who e x m says = let bad : Some who ≡ None = sym e ∙ ap pair_of says in cc
+
+pub no-pair : (s : State) (t : ℕ) (act : Act) → pair_of act ≡ None → (other : ThreadIx) → SaysNot s t act (Pending.CleanPair other)
+no-pair s t act e other x m says = let bad : None ≡ Some other = sym e ∙ ap pair_of says in cc
+
+-- What is refused of a thread's act: as its first step, as its second, and as a step that cleans.
+pub record IsRefused (s : State) (t : ℕ) (act : Act) : Type 0 where
+  pub first : (p : Pending) → first_step s t ≡ Some p → SaysNot s t act p
+  pub second : (p : Pending) → second_step s t ≡ Some p → SaysNot s t act p
+  pub pairs : IsTrue (is_started (thread_at s t).life) → (who : ThreadIx) → SaysNot s t act (Pending.CleanPair who)
+  pub objects : IsTrue (is_started (thread_at s t).life) → SaysNot s t act Pending.Recycle
+
+no-offer : (s : State) (t x : ℕ) (act : Act) {p : Pending} {rest : Steps} → IsRefused s t act → Offers s t p rest → MayChoose s t x p → act ≡ act_of s t x p → ⊥
+no-offer s t x act {p} r (goes e) m says = r.first p (first-goes s t e) x m says
+no-offer s t x act {p} r (skips_inherit e due) m says = r.second p (second-inherit s t e due) x m says
+no-offer s t x act {p} r (skips_drops e due) m says = r.second p (second-drops s t e due) x m says
+no-offer s t x act r (begins e l d some) m says = r.first Pending.Begin (first-begins s t e l d some) x m says
+no-offer s t x act r (exits e l d i) m says = r.first Pending.Exit (first-exits s t e l d i) x m says
+no-offer s t x act r (cleans_pair {who} l) m says = r.pairs l who x m says
+no-offer s t x act r (recycles l) m says = r.objects l x m says
+
+pub no-step : (s : State) (event : Event) → IsRefused s event.thread.0 event.act → IsNoStep s event
+no-step s event r s2 step = no-offer s event.thread.0 step.row event.act r step.offered step.chosen step.says
+
+-- What a thread can't do at all.
+pub record IsStill (s : State) (t : ℕ) : Type 0 where
+  pub first : (p : Pending) → first_step s t ≡ Some p → ChoosesNone s t p
+  pub second : (p : Pending) → second_step s t ≡ Some p → ChoosesNone s t p
+  pub pairs : IsTrue (is_started (thread_at s t).life) → (who : ThreadIx) → ChoosesNone s t (Pending.CleanPair who)
+  pub objects : IsTrue (is_started (thread_at s t).life) → ChoosesNone s t Pending.Recycle
+
+still-refuses : (s : State) (t : ℕ) (act : Act) → IsStill s t → IsRefused s t act
+still-refuses s t act still = record {
+  first = λ p e x m says. still.first p e x m;
+  second = λ p e x m says. still.second p e x m;
+  pairs = λ l who x m says. still.pairs l who x m;
+  objects = λ l x m says. still.objects l x m;
+}
+
+pub still-idle : (s : State) (t : ℕ) → IsStill s t → IsIdle s t
+still-idle s t still event s2 e step = no-step s event (still-refuses s event.thread.0 event.act (subst (λ (u : ℕ). IsStill s u) (sym e) still)) s2 step
+
+-- an event is no step where each of these is refused, and a thread is idle where each can't be made
+pub refused-step : (s : State) (event : Event) → ((p : Pending) → first_step s event.thread.0 ≡ Some p → SaysNot s event.thread.0 event.act p) → ((p : Pending) → second_step s event.thread.0 ≡ Some p → SaysNot s event.thread.0 event.act p)
+    → (IsTrue (is_started (thread_at s event.thread.0).life) → (who : ThreadIx) → SaysNot s event.thread.0 event.act (Pending.CleanPair who)) → (IsTrue (is_started (thread_at s event.thread.0).life) → SaysNot s event.thread.0 event.act Pending.Recycle)
+    → IsNoStep s event
+refused-step s event first second pairs objects = no-step s event (record { first = first; second = second; pairs = pairs; objects = objects })
+
+pub idle-thread : (s : State) (t : ℕ) → ((p : Pending) → first_step s t ≡ Some p → ChoosesNone s t p) → ((p : Pending) → second_step s t ≡ Some p → ChoosesNone s t p)
+    → (IsTrue (is_started (thread_at s t).life) → (who : ThreadIx) → ChoosesNone s t (Pending.CleanPair who)) → (IsTrue (is_started (thread_at s t).life) → ChoosesNone s t Pending.Recycle) → IsIdle s t
+idle-thread s t first second pairs objects = still-idle s t (record { first = first; second = second; pairs = pairs; objects = objects })
+
+-- the refusal of the one step that may clean is the refusal of all
+pub pair-refused-pairs : (s : State) (t : ℕ) (act : Act) (who : ThreadIx) (o : Option Choice) → pair_of act ≡ Some who → IfNone o (SaysNot s t act (Pending.CleanPair who)) → IfNone o (IsTrue (is_started (thread_at s t).life) → (w : ThreadIx) → SaysNot s t act (Pending.CleanPair w))
+pair-refused-pairs s t act who None e none = λ started w. only-pair s t act who e none w
+pair-refused-pairs s t act who (Some choice) e none = tt
+
+pub pair-refused-objects : (s : State) (t : ℕ) (act : Act) (who : ThreadIx) (o : Option Choice) → pair_of act ≡ Some who → IfNone o (IsTrue (is_started (thread_at s t).life) → SaysNot s t act Pending.Recycle)
+pair-refused-objects s t act who None e = λ started. no-recycle s t act who e
+pair-refused-objects s t act who (Some choice) e = tt
+
+pub object-refused-pairs : (s : State) (t : ℕ) (act : Act) (o : Option Choice) → pair_of act ≡ None → IfNone o (IsTrue (is_started (thread_at s t).life) → (w : ThreadIx) → SaysNot s t act (Pending.CleanPair w))
+object-refused-pairs s t act None e = λ started w. no-pair s t act e w
+object-refused-pairs s t act (Some choice) e = tt
+
+pub object-refused-objects : (s : State) (t : ℕ) (act : Act) (o : Option Choice) → IfNone o (SaysNot s t act Pending.Recycle) → IfNone o (IsTrue (is_started (thread_at s t).life) → SaysNot s t act Pending.Recycle)
+object-refused-objects s t act None none = λ started. none
+object-refused-objects s t act (Some choice) none = tt
+
+pub ruleset cleanings = (pair-refused-pairs, pair-refused-objects, object-refused-pairs, object-refused-objects)
+
+pub ruleset steps_made = (step-first, step-second, step-cleans, step-recycles)
+
+-- no thread stands past the tables
+nobody-past : (s : State) (t : ℕ) → length s.threads ≡ THREADS → THREADS ≤ t → thread_at s t ≡ nobody
+nobody-past s t whole past = get_or-eq_default s.threads nobody {n = t} (omega arith)
+
+first-past : (s : State) (t : ℕ) → thread_at s t ≡ nobody → first_step s t ≡ None
+first-past s t e = rw e refl
+
+second-past : (s : State) (t : ℕ) → thread_at s t ≡ nobody → second_step s t ≡ None
+second-past s t e = rw e refl
+
+started-past : (s : State) (t : ℕ) → thread_at s t ≡ nobody → is_started (thread_at s t).life ≡ false
+started-past s t e = rw e refl
+
+still-past : (s : State) (t : ℕ) → length s.threads ≡ THREADS → THREADS ≤ t → IsStill s t
+still-past s t whole past =
+    let e = nobody-past s t whole past in
+    record {
+      first = λ p h. let none = first-past s t e in absurd (let bad : None ≡ Some p = sym none ∙ h in cc);
+      second = λ p h. let none = second-past s t e in absurd (let bad : None ≡ Some p = sym none ∙ h in cc);
+      pairs = λ l who. absurd (let none = started-past s t e in let bad : false ≡ true = sym none ∙ l in cc);
+      objects = λ l. absurd (let none = started-past s t e in let bad : false ≡ true = sym none ∙ l in cc);
+    }
+
+pub past-no-step : (s : State) (event : Event) → length s.threads ≡ THREADS → THREADS ≤ event.thread.0 → IsNoStep s event
+past-no-step s event whole past = no-step s event (still-refuses s event.thread.0 event.act (still-past s event.thread.0 whole past))
+
+pub ruleset no_steps = (refused-step, past-no-step, idle-thread)
+
+-- where each thread is idle, no event is a step
+pub all-idle : (s : State) → length s.threads ≡ THREADS → ((t : ℕ) → t < THREADS → IsIdle s t) → IsComplete s
+all-idle s whole idle event s2 step =
+    elim (le-or-lt event.thread.0 THREADS) [ inl within ↦ idle event.thread.0 within event s2 refl step | inr past ↦ past-no-step s event whole past s2 step ]

@@ -1,11 +1,14 @@
 -- Pairs come and go, and the steps that the threads have left stay.
-use Rattle.std.proofs.Common.{◌≡◌, ℕ, zero, suc, ◌+◌, Bool, true, false, List, [], ◌∷◌, refl, slice_index_or, if◌then◌else◌}
+use Rattle.std.proofs.Common.{◌≡◌, ℕ, zero, suc, ◌+◌, Bool, true, false, List, [], ◌∷◌, refl, ◌∙◌, Some, slice_index_or, slice_set, if◌then◌else◌}
 use Rattle.um_base.specs.declared.act.Leftover.{Leftover}
-use Rattle.um_matrix.specs.declared.thread.Thread.{Thread}
-use Rattle.um_matrix.specs.declared.object.Status.TheVariants as Status
-use Rattle.um_matrix.specs.State.{State, nobody, thread_at, object_at, with_object}
-use Rattle.um_matrix.specs.Objects.{is_gone}
-use Rattle.um_matrix.specs.Table.{with_dues, paired, after_given, after_drop, dropped}
+use Rattle.um_base.specs.declared.ask.Told.{Told}
+use Rattle.um_base.specs.declared.names.Reply.{Reply}
+use Rattle.um_base.specs.declared.names.ThreadIx.{ThreadIx}
+use Rattle.um_machine.specs.declared.thread.Thread.{Thread}
+use Rattle.um_machine.specs.declared.object.Status.TheVariants as Status
+use Rattle.um_machine.specs.State.{State, nobody, thread_at, object_at, with_thread, with_object}
+use Rattle.um_machine.specs.Objects.{is_gone}
+use Rattle.um_machine.specs.Table.{with_dues, paired, after_given, after_drop, dropped, moved, all_woken}
 
 pending-with_dues : (x u : ℕ) (holders : List Bool) (ts : List Thread) (t : ℕ) → (slice_index_or (with_dues x u holders ts) t nobody).pending ≡ (slice_index_or ts t nobody).pending
 pending-with_dues x u holders [] zero = refl
@@ -31,4 +34,22 @@ pending-after_drop s u x t =
       | Leftover.Gone ↦ pending-paired s u x false t
     ]
 
-pub ruleset pendings_kept = (pending-after_given, pending-after_drop)
+-- a thread is written, with the steps that it has
+pending-set : (ts : List Thread) (u t : ℕ) (me : Thread) → me.pending ≡ (slice_index_or ts u nobody).pending → (slice_index_or (slice_set ts u me) t nobody).pending ≡ (slice_index_or ts t nobody).pending
+pending-set [] u t me h = refl
+pending-set (x ∷ ts) zero zero me h = h
+pending-set (x ∷ ts) zero (suc t) me h = refl
+pending-set (x ∷ ts) (suc u) zero me h = refl
+pending-set (x ∷ ts) (suc u) (suc t) me h = pending-set ts u t me h
+
+pub pending-moved : (s : State) (who d : ℕ) (reply : Reply) (t : ℕ) → (thread_at (moved s who d reply) t).pending ≡ (thread_at s t).pending
+pending-moved s who d (Reply.Num n) t = pending-set s.threads who t (record (thread_at s who) { domain = d }) refl
+pending-moved s who d _ t = refl
+
+pub pending-all_woken : (ws : List (ThreadIx × Told)) (s : State) (t : ℕ) → (thread_at (all_woken ws s) t).pending ≡ (thread_at s t).pending
+pending-all_woken [] s t = refl
+pending-all_woken (w ∷ ws) s t =
+    pending-all_woken ws (with_thread s w.0.0 (record (thread_at s w.0.0) { told = Some w.1 })) t
+    ∙ pending-set s.threads w.0.0 t (record (thread_at s w.0.0) { told = Some w.1 }) refl
+
+pub ruleset pendings_kept = (pending-paired, pending-after_given, pending-after_drop, pending-moved, pending-all_woken)

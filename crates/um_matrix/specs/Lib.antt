@@ -1,10 +1,2 @@
-pub mod State
-pub mod Memory
-pub mod Objects
-pub mod Services
-pub mod Domains
-pub mod Order
-pub mod Table
-pub mod Run
-pub mod Built
+pub mod Given
 pub mod Offered

@@ -1,16 +1,105 @@
--- Which steps a thread is offered, as tests that compute.
-use Rattle.std.specs.Prelude.{ℕ, ◌+◌, Bool, ◌&&◌, not, nat_le, if◌then◌else◌, take, slice_get, Option, Some, None}
-use Rattle.std.specs.List.{list_all}
+-- Which steps a thread is offered, and what may be made of an act.
+use Rattle.std.specs.Prelude.{◌≡◌, ℕ, ◌+◌, ◌<◌, Bool, true, false, ◌&&◌, not, if◌then◌else◌, List, [], take, drop, slice_get, Option, Some, None}
+use Rattle.um_base.specs.declared.names.ThreadIx.{ThreadIx}
 use Rattle.um_base.specs.declared.act.Act.{Act}
 use Rattle.um_base.specs.declared.act.Event.{Event}
+use Rattle.um_base.specs.declared.act.Found.{Found}
+use Rattle.um_base.specs.declared.limits.TheConstants.{ROWS}
 use Rattle.um_base.specs.declared.instr.Instr.{Instr}
-use Rattle.um_matrix.specs.declared.pending.Pending.{Pending}
-use Rattle.um_matrix.specs.declared.thread.Place.{Place}
-use Rattle.um_matrix.specs.declared.thread.Thread.{Thread}
-use Rattle.um_matrix.specs.State.{State, thread_at, pair_at, is_living, instruction_at}
-use Rattle.um_matrix.specs.Run.{Step, none_due}
+use Rattle.um_machine.specs.declared.pending.Pending.{Pending}
+use Rattle.um_machine.specs.declared.thread.Place.{Place}
+use Rattle.um_machine.specs.Limits.{IsSound}
+use Rattle.um_machine.specs.State.{State, thread_at, is_living, instruction_at}
+use Rattle.um_machine.specs.Table.{act_of, after}
+use Rattle.um_machine.specs.Run.{Step, Runs, MayChoose, none_due}
+use Rattle.um_matrix.specs.declared.matrix.choice.Choice.{Choice}
 
--- what a thread at rest says next, by the instruction at its place: it begins it, or exits where there is none
+-- an event is a step of a state
+abbrev pub IsStep : State → Event → Type 0
+IsStep s event = (s2 : State) × Step s event s2
+
+-- an event is no step
+abbrev pub IsNoStep : State → Event → Type 0
+IsNoStep s event = (s2 : State) → Step s event s2 → ⊥
+
+-- the event of a thread with an act
+abbrev pub event_of : ℕ → Act → Event
+event_of t act = record { thread = record { 0 = t }; act = act }
+
+-- what a thread at rest does next, by the instruction at its place: it begins it, or exits where there is none
+abbrev pub line_step : Option Instr → Pending
+line_step (Some instr) = Pending.Begin
+line_step None = Pending.Exit
+
+abbrev pub rest_step : State → ℕ → Option Pending
+rest_step s t =
+    let me = thread_at s t in if is_living me.life && not me.doomed then Some (line_step (instruction_at s.image me.place)) else None
+
+-- the next step of a thread: of its instruction, or at rest
+abbrev pub first_or : Option Pending → Option Pending → Option Pending
+first_or None rest = rest
+first_or (Some p) rest = Some p
+
+abbrev pub first_step : State → ℕ → Option Pending
+first_step s t = first_or (slice_get (thread_at s t).pending 0) (rest_step s t)
+
+-- the step after an inheritance or the drops of an end, where nothing is due
+abbrev pub is_skipped : Option Pending → Bool
+is_skipped (Some (Pending.Inherit who)) = true
+is_skipped (Some (Pending.Drops from)) = true
+is_skipped _ = false
+
+abbrev pub second_step : State → ℕ → Option Pending
+second_step s t =
+    let me = thread_at s t in if is_skipped (slice_get me.pending 0) && none_due me then slice_get me.pending 1 else None
+
+-- whether a step chooses a row
+abbrev pub chooses : Pending → Bool
+chooses (Pending.Inherit who) = true
+chooses (Pending.Drops from) = true
+chooses (Pending.Reserve kind) = true
+chooses (Pending.CleanPair who) = true
+chooses Pending.Recycle = true
+chooses _ = false
+
+-- a step says this act, with a row that it may choose
+abbrev pub Says : State → ℕ → Act → Pending → Type 0
+Says s t act step = (x : ℕ) × MayChoose s t x step × (act ≡ act_of s t x step)
+
+abbrev pub SaysNot : State → ℕ → Act → Pending → Type 0
+SaysNot s t act step = (x : ℕ) → MayChoose s t x step → act ≡ act_of s t x step → ⊥
+
+-- what is made of an event that is a step
+abbrev pub IsChoice : State → ℕ → Act → Choice → Type 0
+IsChoice s t act Choice.Begins = Step s (event_of t act) (after s t 0 Pending.Begin [])
+IsChoice s t act Choice.Exits = Step s (event_of t act) (after s t 0 Pending.Exit [])
+IsChoice s t act (Choice.Makes step row taken) =
+    IsSound step × (row < ROWS) × (0 < taken) × Step s (event_of t act) (after s t row step (drop taken (thread_at s t).pending))
+IsChoice s t act (Choice.CleansPair who row) = (row < ROWS) × Step s (event_of t act) (after s t row (Pending.CleanPair who) [])
+IsChoice s t act (Choice.Recycles row) = (row < ROWS) × Step s (event_of t act) (after s t row Pending.Recycle [])
+
+-- a step that cleans an object which is gone
+abbrev pub is_cleaning : Pending → Bool
+is_cleaning (Pending.CleanPair who) = true
+is_cleaning Pending.Recycle = true
+is_cleaning _ = false
+
+-- a step may choose no row
+abbrev pub ChoosesNone : State → ℕ → Pending → Type 0
+ChoosesNone s t step = (x : ℕ) → MayChoose s t x step → ⊥
+
+-- no event of a thread is a step
+abbrev pub IsIdle : State → ℕ → Type 0
+IsIdle s t = (event : Event) (s2 : State) → event.thread.0 ≡ t → Step s event s2 → ⊥
+
+-- The first k events of a list are a run to s2, and the next one is no step from there.
+pub record IsRefusedAt (s : State) (events : List Event) (k : ℕ) (s2 : State) : Type 0 where
+  pub event : Event
+  pub so_far : Runs s (take k events) s2
+  pub next : slice_get events k ≡ Some event
+  pub refused : IsNoStep s2 event
+
+-- what a thread at rest says next
 abbrev pub line_act : Place → Option Instr → Act
 line_act place (Some instr) = Act.Begin place.script (place.line + 1)
 line_act place None = Act.Exit
@@ -20,23 +109,16 @@ rest_act s t =
     let me = thread_at s t in
     if is_living me.life && not me.doomed then Some (line_act me.place (instruction_at s.image me.place)) else None
 
--- the row from which on a thread drops its pairs, where it does
-abbrev pub first_of_drops : Option Pending → Option ℕ
-first_of_drops (Some (Pending.Drops from)) = Some from
-first_of_drops _ = None
+-- how many rows are tried for a step
+abbrev pub row_count : Pending → ℕ
+row_count step = if chooses step then ROWS else 1
 
--- the step after the drops of an end, where nothing is due
-abbrev pub after_drops : Thread → Option Pending
-after_drops me = if none_due me then slice_get me.pending 1 else None
+-- the thread that loses a pair in an act
+abbrev pub pair_of : Act → Option ThreadIx
+pair_of (Act.DropPair who addr left) = Some who
+pair_of _ = None
 
--- whether the drops of an end may choose a row
-abbrev pub may_drop : State → ℕ → ℕ → ℕ → Bool
-may_drop s t from x = nat_le from x && pair_at s t x && list_all not (take x (thread_at s t).due)
-
--- an event is a step of a state
-abbrev pub IsStep : State → Event → Type 0
-IsStep s event = (s2 : State) × Step s event s2
-
--- an event is no step
-abbrev pub IsNoStep : State → Event → Type 0
-IsNoStep s event = (s2 : State) → Step s event s2 → ⊥
+-- a string that was found has fewer bytes than are read at most
+abbrev pub IsShort : Found → Type 0
+IsShort (Found.Length n) = n < 32
+IsShort _ = Unit {0}

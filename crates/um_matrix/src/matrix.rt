@@ -1,93 +1,85 @@
-//! The machine, one event at a time.
+//! A state of the machine, and its steps.
 
-ghost use Rattle.std.specs.Prelude.{◌≡◌, ◌<◌, ◌≤◌, ◌^◌, OnOk, OnErr, IfOk, IsTrue, MatchOption, false, length};
-ghost use Rattle.um_base.specs.declared.act.Event.{Event};
-ghost use Rattle.um_base.specs.Lawful.{IsLawful};
-ghost use Rattle.um_matrix.specs.Built.{IsBuilt, steps_left};
-ghost use Rattle.um_matrix.specs.Run.{Step, IsComplete, opening};
-ghost use Rattle.um_matrix.specs.Offered.{IsStep, IsNoStep};
+mod apply;
+mod boot;
+mod checks;
+mod choice;
+mod cleaning;
+mod creation;
+mod domains;
+mod dynamic;
+mod ends;
+mod make;
+mod memory;
+mod moves;
+mod next;
+mod objects;
+mod pairs;
+mod rows;
+mod says;
+mod strings;
+#[cfg(test)]
+mod tests;
+mod transfer;
+mod waiting;
 
-use crate::object::Object;
-use crate::tables::Tables;
-use crate::thread::Thread;
-use std::alloc::Global;
+ghost use Rattle.std.specs.Prelude.{◌≡◌, ◌≤◌, length};
+
 use std::marker::Model;
-use um_base::{AREA_SIZE, DOMAINS, Event, Image, Memory, POOLS, Parts, ROWS, THREADS};
+use um_base::{AREA_SIZE, DOMAINS, Image, POOLS, Parts, ROWS, THREADS};
+use um_machine::{Object, Thread};
 
 /// The event is no step of the machine from its present state.
 #[derive(Clone, Copy, PartialEq, Eq)]
 pub struct NotAStep;
 
 /// A state of the machine, which contracts see as the definitions have it.
+/// The bytes of the read-only data are filled up with zeros to its rounded size.
 #[derive(Drop)]
 pub struct Matrix<'a> {
-    tables: Tables<'a>,
+    image: &'a Image,
+    rodata: Vec<u8>,
+    threads: Vec<Thread>,
+    objects: Vec<Object>,
+    pairs: Vec<[bool; THREADS]>,
+    domains: Vec<Option<Parts>>,
+    memory: Vec<u8>,
+    stacks: Vec<u8>,
+    pools: Vec<u32>,
 }
 
 impl<'a> Model for Matrix<'a> {
-    ghost use Rattle.um_matrix.specs.State.{State};
-    ghost use Rattle.um_matrix.specs.Built.{IsKept};
+    ghost use Rattle.std.specs.Prelude.{◌≡◌, ◌≤◌, length};
+    ghost use Rattle.um_base.specs.declared.limits.TheConstants.{THREADS, ROWS, DOMAINS, AREA_SIZE, POOLS};
+    ghost use Rattle.um_machine.specs.State.{State};
+    ghost use Rattle.um_machine.specs.Memory.{rodata_of};
+    ghost use Rattle.um_matrix.specs.Given.{IsGiven};
 
     ghost Value = { State };
 
-    ghost view = { λ m. m.tables };
+    ghost view = { λ m. record {
+      image = m.image.now;
+      threads = m.threads.items;
+      objects = m.objects.items;
+      pairs = m.pairs.items;
+      domains = m.domains.items;
+      memory = m.memory.items;
+      stacks = m.stacks.items;
+      pools = m.pools.items;
+    } };
 
-    ghost invariant = { λ m. IsKept m.tables };
+    ghost invariant = { λ m.
+        (length m.threads.items ≡ THREADS) × (length m.objects.items ≡ ROWS) × (length m.pairs.items ≡ ROWS) × (length m.domains.items ≤ DOMAINS)
+        × (length m.memory.items ≡ AREA_SIZE) × (length m.stacks.items ≡ AREA_SIZE) × (length m.pools.items ≤ POOLS) × (m.rodata.items ≡ rodata_of m.image.now)
+        × IsGiven m.image.now };
 }
 
 impl<'a> Matrix<'a> {
-    /// The opening state of an image. All room is reserved here.
-    pub fn boot(alloc: Global, image: &'a Image) -> Result<Matrix<'a>, Memory>
-        requires lawful { IsLawful image.now }
-        // So far only images whose one thread loads and stores.
-        requires built { IsBuilt image.now }
-        ensures { IfOk result (λ matrix. matrix ≡ opening image.now) }
-    {
-        let tables = Tables::boot(alloc, image)?;
-        Ok(Matrix { tables })
-    }
-
-    /// Makes an event, where it is a step. A refusal changes nothing, and no call takes memory.
-    pub fn apply(&mut self, event: &Event) -> Result<(), NotAStep>
-        ensures ok { OnOk result (Step self.old event.now self.new) }
-        ensures refused { OnErr result (IsNoStep self.old event.now) }
-        ensures same { OnErr result (self.new ≡ self.old) }
-        ensures fewer { OnOk result (steps_left self.new < steps_left self.old) }
-    {
-        self.tables.apply(event)
-    }
-
-    /// An event that is a step, or none where no event is one.
-    pub fn next_event(&self) -> Option<Event>
-        ensures { MatchOption result (IsComplete self.now) (λ event. IsStep self.now event) }
-    {
-        self.tables.next_event()
-    }
-
-    /// Whether no event is a step.
-    pub fn is_final(&self) -> bool
-        ensures yes { IsTrue result → IsComplete self.now }
-        ensures no { result ≡ false → (event : Event) × IsStep self.now event }
-    {
-        match self.next_event() {
-            Some(_) => false,
-            None => true,
-        }
-    }
-
-    /// A number of steps that no run from here exceeds.
-    pub fn most_steps(&self) -> usize
-        ensures enough { steps_left self.now ≤ result }
-        ensures few { result ≤ 2 ^ 16 }
-    {
-        self.tables.most_steps()
-    }
-
     /// The image that runs.
     pub fn image(&self) -> &'a Image
         ensures { result.now ≡ self.now.image }
     {
-        self.tables.image()
+        self.image
     }
 
     /// The threads, by thread index.
@@ -95,7 +87,7 @@ impl<'a> Matrix<'a> {
         ensures value { result.now ≡ self.now.threads }
         ensures all { length result.now ≡ THREADS }
     {
-        self.tables.threads()
+        self.threads.as_slice()
     }
 
     /// The objects, by row.
@@ -103,7 +95,7 @@ impl<'a> Matrix<'a> {
         ensures value { result.now ≡ self.now.objects }
         ensures all { length result.now ≡ ROWS }
     {
-        self.tables.objects()
+        self.objects.as_slice()
     }
 
     /// Which threads have a pair with an object, by row and then by thread index.
@@ -111,7 +103,7 @@ impl<'a> Matrix<'a> {
         ensures value { result.now ≡ self.now.pairs }
         ensures all { length result.now ≡ ROWS }
     {
-        self.tables.pairs()
+        self.pairs.as_slice()
     }
 
     /// The partitions of the domains, where they are initialised.
@@ -119,7 +111,7 @@ impl<'a> Matrix<'a> {
         ensures value { result.now ≡ self.now.domains }
         ensures few { length result.now ≤ DOMAINS }
     {
-        self.tables.domains()
+        self.domains.as_slice()
     }
 
     /// The bytes of the area of the partitions.
@@ -127,7 +119,7 @@ impl<'a> Matrix<'a> {
         ensures value { result.now ≡ self.now.memory }
         ensures all { length result.now ≡ AREA_SIZE }
     {
-        self.tables.memory()
+        self.memory.as_slice()
     }
 
     /// The bytes of the area of the thread stacks.
@@ -135,7 +127,7 @@ impl<'a> Matrix<'a> {
         ensures value { result.now ≡ self.now.stacks }
         ensures all { length result.now ≡ AREA_SIZE }
     {
-        self.tables.stacks()
+        self.stacks.as_slice()
     }
 
     /// The bytes that are left in the pools.
@@ -143,9 +135,6 @@ impl<'a> Matrix<'a> {
         ensures value { result.now ≡ self.now.pools }
         ensures few { length result.now ≤ POOLS }
     {
-        self.tables.pools()
+        self.pools.as_slice()
     }
 }
-
-#[cfg(test)]
-mod tests;

@@ -9,13 +9,13 @@ use Rattle.um_base.specs.declared.names.Kind.{Kind}
 use Rattle.um_base.specs.declared.names.ThreadIx.{ThreadIx}
 use Rattle.um_base.specs.declared.limits.TheConstants.{ROWS, THREADS, STATIC_ROWS}
 use Rattle.um_base.specs.Places.{own_row}
-use Rattle.um_matrix.specs.declared.pending.Pending.{Pending}
-use Rattle.um_matrix.specs.declared.thread.Thread.{Thread}
-use Rattle.um_matrix.specs.State.{State, nobody, vacant, thread_at, object_at, pair_at, is_living, is_started}
-use Rattle.um_matrix.specs.Objects.{is_gone}
-use Rattle.um_matrix.specs.Order.{Steps, to_thread}
-use Rattle.um_matrix.specs.Table.{pays}
-use Rattle.um_matrix.specs.Run.{is_free_for, Offers, MayChoose, MayClean, NoPairsOf, IsComplete}
+use Rattle.um_machine.specs.declared.pending.Pending.{Pending}
+use Rattle.um_machine.specs.declared.thread.Thread.{Thread}
+use Rattle.um_machine.specs.State.{State, nobody, vacant, thread_at, object_at, pair_at, is_living, is_started}
+use Rattle.um_machine.specs.Objects.{is_gone}
+use Rattle.um_machine.specs.Order.{Steps, to_thread}
+use Rattle.um_machine.specs.Table.{pays}
+use Rattle.um_machine.specs.Run.{is_free_for, Offers, MayChoose, MayClean, NoPairsOf, IsComplete}
 use Rattle.um_rows.specs.Evaluate.{Way, goes, skips, begins, exits, offer_if, next_offer, later_offer, unless_due, rests, is_at_rest, offered, numbers, all_rows, is_cleaner, may_clean, no_pairs_of, may_reserve, may_choose, can_take, can_go, is_stuck, is_cleanable, keeps_limits, is_complete}
 use Rattle.um_rows.proofs.Sound.{any-numbers}
 

@@ -3,8 +3,8 @@ use Rattle.std.specs.Prelude.{◌≡◌, true, List}
 use Rattle.std.proofs.Common.{ap, subst}
 use Rattle.um_base.specs.declared.act.Event.{Event}
 use Rattle.um_base.specs.declared.image.Image.{Image}
-use Rattle.um_matrix.specs.State.{State}
-use Rattle.um_matrix.specs.Run.{IsRun, IsComplete}
+use Rattle.um_machine.specs.State.{State}
+use Rattle.um_machine.specs.Run.{IsRun, IsComplete}
 use Rattle.um_rows.specs.Evaluate.{Choice, run_of}
 use Rattle.um_rows.specs.Dump.{Dump, dump_of}
 use Rattle.um_rows.specs.Whole.{Whole, whole_run}

@@ -9,11 +9,11 @@ use Rattle.um_base.specs.declared.names.Kind.{Kind}
 use Rattle.um_base.specs.declared.names.ThreadIx.{ThreadIx}
 use Rattle.um_base.specs.declared.image.Image.{Image}
 use Rattle.um_base.specs.declared.limits.TheConstants.{ROWS, STATIC_ROWS}
-use Rattle.um_matrix.specs.declared.pending.Pending.{Pending}
-use Rattle.um_matrix.specs.State.{State, thread_at, is_living, is_started, instruction_at}
-use Rattle.um_matrix.specs.Order.{Steps, to_thread}
-use Rattle.um_matrix.specs.Table.{after, pays}
-use Rattle.um_matrix.specs.Run.{none_due, is_free_for, Offers, Runs, IsRun, MayChoose, MayClean, NoPairsOf, opening}
+use Rattle.um_machine.specs.declared.pending.Pending.{Pending}
+use Rattle.um_machine.specs.State.{State, thread_at, is_living, is_started, instruction_at}
+use Rattle.um_machine.specs.Order.{Steps, to_thread}
+use Rattle.um_machine.specs.Table.{after, pays}
+use Rattle.um_machine.specs.Run.{none_due, is_free_for, Offers, Runs, IsRun, MayChoose, MayClean, NoPairsOf, opening}
 use Rattle.um_rows.specs.Evaluate.{Way, goes, skips, begins, exits, cleans, recycles, Choice, Offer, offer_if, next_offer, later_offer, unless_due, rests, is_at_rest, offered, numbers, all_rows, is_cleaner, may_clean, no_pairs_of, may_reserve, may_choose, Course, course_by, course, run_of}
 
 -- an offer is one that the machine makes

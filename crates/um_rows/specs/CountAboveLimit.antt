@@ -20,7 +20,7 @@ use Rattle.um_base.specs.declared.image.Script.{Script}
 use Rattle.um_base.specs.Lawful.{IsLawful}
 use Rattle.um_base.specs.Weight.{weight}
 use Rattle.std.proofs.Math.Bridge.{le_by_compare, IsLe}
-use Rattle.um_matrix.specs.Run.{blank}
+use Rattle.um_machine.specs.Run.{blank}
 use Rattle.um_rows.specs.Evaluate.{Choice, skips, begins, goes}
 use Rattle.um_rows.specs.Dump.{Dump, started, ended, uninitialised, nothing}
 use Rattle.um_rows.specs.Words.{at, thread, row, range, rights, by, on, choose}

@@ -10,12 +10,12 @@ use Rattle.um_base.specs.declared.names.Range.{Range}
 use Rattle.um_base.specs.Lawful.{stack_ranges}
 use Rattle.um_base.specs.Places.{own_row, is_thread_index}
 use Rattle.um_base.specs.Regions.{Partitions}
-use Rattle.um_matrix.specs.declared.contents.Contents.{Contents}
-use Rattle.um_matrix.specs.declared.object.Object.{Object}
-use Rattle.um_matrix.specs.declared.thread.Life.{Life}
-use Rattle.um_matrix.specs.declared.thread.Thread.{Thread}
-use Rattle.um_matrix.specs.State.{State, thread_at, object_at, pair_at}
-use Rattle.um_matrix.specs.Objects.{is_free, is_gone}
+use Rattle.um_machine.specs.declared.contents.Contents.{Contents}
+use Rattle.um_machine.specs.declared.object.Object.{Object}
+use Rattle.um_machine.specs.declared.thread.Life.{Life}
+use Rattle.um_machine.specs.declared.thread.Thread.{Thread}
+use Rattle.um_machine.specs.State.{State, thread_at, object_at, pair_at}
+use Rattle.um_machine.specs.Objects.{is_free, is_gone}
 use Rattle.um_rows.specs.Evaluate.{all_rows, all_threads}
 
 -- how a thread stands that was started: waits has the row of the object
@@ -100,10 +100,9 @@ abbrev pub used_content : Contents → Content
 used_content (Contents.Sem count limit) = filled count limit
 used_content (Contents.Mutex None depth) = unlocked
 used_content (Contents.Mutex (Some owner) depth) = locked owner.0 depth
-used_content (Contents.Msgq size most messages) = filled (length messages) most
-used_content (Contents.Stack most values) = filled (length values) most
-used_content (Contents.Pipe size bytes true) = closed
-used_content (Contents.Pipe size bytes false) = filled (length bytes) size
+used_content (Contents.Msgq q) = filled (length q.messages) q.most
+used_content (Contents.Stack s) = filled (length s.values) s.most
+used_content (Contents.Pipe p) = elim p.closed as (λ _. Content) [ true ↦ closed | false ↦ filled (length p.bytes) p.size ]
 used_content _ = nothing
 
 abbrev pub name_content : Contents → Content

@@ -7,7 +7,7 @@ use Rattle.um_base.specs.declared.image.Image.{Image}
 use Rattle.um_base.specs.Lawful.{IsLawful}
 use Rattle.um_base.specs.Weight.{weight}
 use Rattle.std.proofs.Math.Bridge.{le_by_compare, IsLe}
-use Rattle.um_matrix.specs.Run.{blank}
+use Rattle.um_machine.specs.Run.{blank}
 use Rattle.um_rows.specs.Evaluate.{Choice}
 use Rattle.um_rows.specs.Dump.{Dump}
 use Rattle.um_rows.specs.Whole.{whole_run}

@@ -5,11 +5,11 @@ use Rattle.um_base.specs.declared.names.Kind.TheVariants as Kind
 use Rattle.um_base.specs.declared.names.Want.TheVariants as Want
 use Rattle.um_base.specs.declared.act.Act.{Act}
 use Rattle.um_base.specs.declared.act.Given.TheVariants as Given
-use Rattle.um_matrix.specs.declared.pending.Pending.TheVariants as Pending
-use Rattle.um_matrix.specs.State.{State}
-use Rattle.um_matrix.specs.Objects.{verdict}
-use Rattle.um_matrix.specs.Table.{act_of}
-use Rattle.um_matrix.specs.Run.{blank}
+use Rattle.um_machine.specs.declared.pending.Pending.TheVariants as Pending
+use Rattle.um_machine.specs.State.{State}
+use Rattle.um_machine.specs.Objects.{verdict}
+use Rattle.um_machine.specs.Table.{act_of}
+use Rattle.um_machine.specs.Run.{blank}
 use Rattle.um_rows.specs.Evaluate.{may_choose, run_of}
 use Rattle.um_rows.specs.LateGrant.{image, choices}
 use Rattle.um_rows.specs.Words.{at, thread}

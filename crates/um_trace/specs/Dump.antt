@@ -12,12 +12,12 @@ use Rattle.um_base.specs.declared.names.Range.{Range}
 use Rattle.um_base.specs.declared.names.ThreadIx.{ThreadIx}
 use Rattle.um_base.specs.Places.{thread_of_row}
 use Rattle.um_base.specs.Regions.{Partitions}
-use Rattle.um_matrix.specs.declared.contents.Contents.{Contents}
-use Rattle.um_matrix.specs.declared.object.Object.{Object}
-use Rattle.um_matrix.specs.declared.thread.Life.{Life}
-use Rattle.um_matrix.specs.declared.thread.Thread.{Thread}
-use Rattle.um_matrix.specs.State.{State, thread_at, object_at, pair_at, is_started}
-use Rattle.um_matrix.specs.Objects.{is_free, is_gone}
+use Rattle.um_machine.specs.declared.contents.Contents.{Contents}
+use Rattle.um_machine.specs.declared.object.Object.{Object}
+use Rattle.um_machine.specs.declared.thread.Life.{Life}
+use Rattle.um_machine.specs.declared.thread.Thread.{Thread}
+use Rattle.um_machine.specs.State.{State, thread_at, object_at, pair_at, is_started}
+use Rattle.um_machine.specs.Objects.{is_free, is_gone}
 use Rattle.um_trace.specs.declared.dump.memory.TheConstants.{BLOCKS}
 use Rattle.um_trace.specs.Digits.{address, hex2}
 use Rattle.um_trace.specs.Words.{kind_word, mode_word}
@@ -120,9 +120,9 @@ kept_text image Contents.Nothing = codes "-"
 kept_text image (Contents.Named name) = codes "-"
 kept_text image (Contents.Sem count limit) = share_text count limit
 kept_text image (Contents.Mutex owner depth) = owner_text image owner depth
-kept_text image (Contents.Msgq size most messages) = share_text (length messages) most
-kept_text image (Contents.Stack most values) = share_text (length values) most
-kept_text image (Contents.Pipe size bytes closed) = if closed then codes "closed" else share_text (length bytes) size
+kept_text image (Contents.Msgq q) = share_text (length q.messages) q.most
+kept_text image (Contents.Stack s) = share_text (length s.values) s.most
+kept_text image (Contents.Pipe p) = if p.closed then codes "closed" else share_text (length p.bytes) p.size
 
 -- a name in digits, or a dash for none
 unfoldable pub digits_text : List ℕ → List ℕ

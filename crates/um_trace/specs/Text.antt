@@ -4,7 +4,7 @@ use Rattle.std.specs.List.{flat_map, sum_by}
 use Rattle.um_base.specs.declared.act.Act.{Act}
 use Rattle.um_base.specs.declared.act.Event.{Event}
 use Rattle.um_base.specs.declared.image.Image.{Image}
-use Rattle.um_matrix.specs.State.{State}
+use Rattle.um_machine.specs.State.{State}
 use Rattle.um_trace.specs.declared.dump.TheConstants.{DUMP_ROOM}
 use Rattle.um_trace.specs.Acts.{event_line}
 use Rattle.um_trace.specs.Dump.{dump}

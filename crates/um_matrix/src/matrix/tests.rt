@@ -1,31 +1,34 @@
-//! Runs of a thread that stores to the last byte of its partition and then loads.
+//! A grant that was checked before the last pair was revoked: it says that the object is gone.
 
-ghost use Rattle.std.specs.Prelude.{◌≡◌, ◌<◌, IfOk, IsTrue, [], ◌∷◌, length, false, Some, None, pos, codes};
-ghost use Rattle.um_base.specs.declared.limits.TheConstants.{PARTITION_AREA, STACK_AREA, OBJECTS};
+ghost use Rattle.std.specs.Prelude.{◌≡◌, ◌<◌, ◌≤◌, ◌+◌, ◌*◌, IfOk, [], ◌∷◌, length, false, Some, None, pos, codes};
+ghost use Rattle.um_base.specs.declared.limits.TheConstants.{STACK_AREA, OBJECTS};
 ghost use Rattle.um_base.specs.declared.instr.Instr.{Instr};
-ghost use Rattle.um_base.specs.Lawful.{IsLawful, is_size};
-ghost use Rattle.um_matrix.specs.Built.{IsBuilt};
+ghost use Rattle.um_base.specs.Lawful.{IsLawful};
 
 use super::*;
-use crate::thread::Life;
+use std::alloc::Global;
 use std::process::Abort;
 use std::test::Fail;
 use um_base::{
-    Access, Act, Addr, Attr, Boot, BoundedVec, Cause, DomainDef, Instr, Kind, LINES, Leftover,
-    Mode, Mpu, Name, OBJECTS, ObjectDef, PARTITION_AREA, Partition, Policy, Range, Row, STACK_AREA,
-    Script, Setup, Term, ThreadIx,
+    Act, Addr, BOOTS, Boot, BoundedVec, DomainDef, Errno, Event, Given, Instr, Kind, LINES,
+    Leftover, Memory, Mode, Mpu, Name, OBJECTS, ObjectDef, Policy, Pool, Range, Reply, Row,
+    SCRIPTS, STACK_AREA, STATIC_ROWS, Script, Setup, Term, ThreadIx, Want,
 };
+use um_machine::Life;
 
-/// The last byte of the partition.
-const LAST: Addr = Addr(0x2000_001f);
+/// The threads a, b and c, and the stacks of a and c.
+const A: Addr = Addr(0x4000_0000);
 
-/// The first byte behind it.
-const PAST: Addr = Addr(0x2000_0020);
+const B: Addr = Addr(0x4000_0080);
 
-/// The addresses of the thread and of its stack.
-const THREAD: Addr = Addr(0x4000_0000);
+const C: Addr = Addr(0x4000_0100);
 
-const STACK: Addr = Addr(0x2008_0000);
+const STACK_OF_A: Addr = Addr(0x2008_0000);
+
+const STACK_OF_C: Addr = Addr(0x2008_0080);
+
+/// The semaphore that a allocates.
+const SEM: Addr = Addr(0x4800_0100);
 
 /// The list of one item.
 fn sole<T: Drop, const MOST: usize>(alloc: Global, item: T) -> Result<BoundedVec<T, MOST>, Memory>
@@ -52,59 +55,40 @@ fn both<T: Drop, const MOST: usize>(
     Ok(list)
 }
 
-/// 32 bytes, which users read and write.
-fn partition(alloc: Global) -> Partition
-    ensures { result ≡ record { name = codes "p"; range = record { start = record { 0 = PARTITION_AREA }; size = 32 }; attr = record { 0 = 27 }; bytes = [] } }
-{
-    Partition {
-        name: Name::from_bytes(b"p"),
-        range: Range {
-            start: Addr(PARTITION_AREA),
-            size: 32,
-        },
-        attr: Attr::P_RW_U_RW,
-        bytes: BoundedVec::new(alloc),
-    }
-}
-
-/// A domain with the partition.
-fn domain(alloc: Global) -> Result<DomainDef, Memory>
-    ensures { IfOk result (λ domain. domain ≡ record { name = codes "d"; parts = Some (0 ∷ []) }) }
-{
-    Ok(DomainDef {
-        name: Name::from_bytes(b"d"),
-        parts: Some(sole(alloc, 0)?),
-    })
-}
-
-fn thread() -> ObjectDef
-    ensures { result ≡ record { name = codes "a"; kind = Kind.Thread; addr = record { 0 = OBJECTS }; public = false; setup = Setup.Thread (record { 0 = 0 }) } }
+fn thread(name: &[u8], index: u8) -> ObjectDef
+    requires short { length name.now ≤ 24 }
+    requires few { index < 3 }
+    ensures { result ≡ record { name = name.now; kind = Kind.Thread; addr = record { 0 = OBJECTS + 128 * index }; public = false; setup = Setup.Thread (record { 0 = index }) } }
 {
     ObjectDef {
-        name: Name::from_bytes(b"a"),
+        name: Name::from_bytes(name),
         kind: Kind::Thread,
-        addr: Addr(OBJECTS),
+        addr: Addr(OBJECTS + 128 * index as u32),
         public: false,
-        setup: Setup::Thread { index: ThreadIx(0) },
+        setup: Setup::Thread {
+            index: ThreadIx(index),
+        },
     }
 }
 
-/// Its stack of 64 bytes.
-fn stack() -> ObjectDef
+/// A stack of 64 bytes.
+fn stack(name: &[u8], index: u8) -> ObjectDef
+    requires short { length name.now ≤ 24 }
+    requires few { index < 3 }
     ensures { result ≡ record {
-      name = codes "sa";
+      name = name.now;
       kind = Kind.ThreadStack;
-      addr = record { 0 = STACK_AREA };
+      addr = record { 0 = STACK_AREA + 64 * index };
       public = false;
-      setup = Setup.ThreadStack (record { start = record { 0 = STACK_AREA }; size = 64 }) 64;
+      setup = Setup.ThreadStack (record { start = record { 0 = STACK_AREA + 64 * index }; size = 64 }) 64;
     } }
 {
     let range = Range {
-        start: Addr(STACK_AREA),
+        start: Addr(STACK_AREA + 64 * index as u32),
         size: 64,
     };
     ObjectDef {
-        name: Name::from_bytes(b"sa"),
+        name: Name::from_bytes(name),
         kind: Kind::ThreadStack,
         addr: range.start,
         public: false,
@@ -115,60 +99,124 @@ fn stack() -> ObjectDef
     }
 }
 
-/// The thread on its stack, at the script, as a user in the domain.
-fn boot(alloc: Global) -> Boot
-    ensures { result ≡ record {
-      thread = record { 0 = 0 };
-      stack = record { 0 = 1 };
-      script = 0;
-      mode = Mode.User;
-      priority = pos 0;
-      domain = 0;
-      pool = None;
-      grants = [];
-    } }
+/// Three threads, each with its stack.
+fn objects(alloc: Global) -> Result<BoundedVec<ObjectDef, STATIC_ROWS>, Memory>
+    ensures { IfOk result (λ list. list
+        ≡ record { name = codes "a"; kind = Kind.Thread; addr = record { 0 = 0x40000000 }; public = false; setup = Setup.Thread (record { 0 = 0 }) }
+        ∷ record { name = codes "sa"; kind = Kind.ThreadStack; addr = record { 0 = 0x20080000 }; public = false; setup = Setup.ThreadStack (record { start = record { 0 = 0x20080000 }; size = 64 }) 64 }
+        ∷ record { name = codes "b"; kind = Kind.Thread; addr = record { 0 = 0x40000080 }; public = false; setup = Setup.Thread (record { 0 = 1 }) }
+        ∷ record { name = codes "sb"; kind = Kind.ThreadStack; addr = record { 0 = 0x20080040 }; public = false; setup = Setup.ThreadStack (record { start = record { 0 = 0x20080040 }; size = 64 }) 64 }
+        ∷ record { name = codes "c"; kind = Kind.Thread; addr = record { 0 = 0x40000100 }; public = false; setup = Setup.Thread (record { 0 = 2 }) }
+        ∷ record { name = codes "sc"; kind = Kind.ThreadStack; addr = record { 0 = 0x20080080 }; public = false; setup = Setup.ThreadStack (record { start = record { 0 = 0x20080080 }; size = 64 }) 64 }
+        ∷ []) }
 {
-    Boot {
+    let mut list = BoundedVec::new(alloc);
+    list.push(thread(b"a", 0))?;
+    list.push(stack(b"sa", 0))?;
+    list.push(thread(b"b", 1))?;
+    list.push(stack(b"sb", 1))?;
+    list.push(thread(b"c", 2))?;
+    list.push(stack(b"sc", 2))?;
+    Ok(list)
+}
+
+/// The user a with a pool and a pair with b, and the supervisor c. Nobody starts b.
+fn boots(alloc: Global) -> Result<BoundedVec<Boot, BOOTS>, Memory>
+    ensures { IfOk result (λ list. list
+        ≡ record { thread = record { 0 = 0 }; stack = record { 0 = 1 }; script = 0; mode = Mode.User; priority = pos 0; domain = 0; pool = Some 0; grants = record { 0 = 2 } ∷ [] }
+        ∷ record { thread = record { 0 = 4 }; stack = record { 0 = 5 }; script = 1; mode = Mode.Supervisor; priority = pos 0; domain = 0; pool = None; grants = [] }
+        ∷ []) }
+{
+    let user = Boot {
         thread: Row(0),
         stack: Row(1),
         script: 0,
         mode: Mode::User,
         priority: 0,
         domain: 0,
+        pool: Some(0),
+        grants: sole(alloc, Row(2))?,
+    };
+    let supervisor = Boot {
+        thread: Row(4),
+        stack: Row(5),
+        script: 1,
+        mode: Mode::Supervisor,
+        priority: 0,
+        domain: 0,
         pool: None,
         grants: BoundedVec::new(alloc),
+    };
+    both(alloc, user, supervisor)
+}
+
+/// Allocates a semaphore, and grants it to b.
+fn grants(alloc: Global) -> Result<BoundedVec<Instr, LINES>, Memory>
+    ensures { IfOk result (λ lines. lines ≡ Instr.ObjectAlloc Kind.Sem 0 ∷ Instr.Grant (Term.Reg 0) (Term.Num 0x40000080) ∷ []) }
+{
+    let mut lines: BoundedVec<Instr, LINES> = BoundedVec::new(alloc);
+    lines.push_copy(&Instr::ObjectAlloc {
+        kind: Kind::Sem,
+        to: 0,
+    })?;
+    lines.push_copy(&Instr::Grant {
+        object: Term::Reg(0),
+        thread: Term::Num(B.0),
+    })?;
+    Ok(lines)
+}
+
+/// Revokes it from a.
+fn revokes(alloc: Global) -> Result<BoundedVec<Instr, LINES>, Memory>
+    ensures { IfOk result (λ lines. lines ≡ Instr.Revoke (Term.Num 0x48000100) (Term.Num 0x40000000) ∷ []) }
+{
+    let mut lines: BoundedVec<Instr, LINES> = BoundedVec::new(alloc);
+    lines.push_copy(&Instr::Revoke {
+        object: Term::Num(SEM.0),
+        thread: Term::Num(A.0),
+    })?;
+    Ok(lines)
+}
+
+fn scripts(alloc: Global) -> Result<BoundedVec<Script, SCRIPTS>, Memory>
+    ensures { IfOk result (λ list. list
+        ≡ record { name = codes "m"; lines = Instr.ObjectAlloc Kind.Sem 0 ∷ Instr.Grant (Term.Reg 0) (Term.Num 0x40000080) ∷ [] }
+        ∷ record { name = codes "v"; lines = Instr.Revoke (Term.Num 0x48000100) (Term.Num 0x40000000) ∷ [] }
+        ∷ []) }
+{
+    let first = Script {
+        name: Name::from_bytes(b"m"),
+        lines: grants(alloc)?,
+    };
+    let second = Script {
+        name: Name::from_bytes(b"v"),
+        lines: revokes(alloc)?,
+    };
+    both(alloc, first, second)
+}
+
+/// A pool for one semaphore.
+fn pool() -> Pool
+    ensures { result ≡ record { name = codes "h"; size = 64 } }
+{
+    Pool {
+        name: Name::from_bytes(b"h"),
+        size: 64,
     }
 }
 
-/// A store of 0xab to the last byte, and a load of so many bytes from an address on.
-fn script(alloc: Global, addr: u32, size: u8) -> Result<Script, Memory>
-    ensures { IfOk result (λ script. script ≡ record {
-      name = codes "m";
-      lines = Instr.Store (Term.Num 0x2000001f) 1 (Term.Num 0xab) ∷ Instr.Load 0 (Term.Num addr) size ∷ [];
-    }) }
+/// A domain with no partition.
+fn domain(alloc: Global) -> DomainDef
+    ensures { result ≡ record { name = codes "d"; parts = Some [] } }
 {
-    let mut lines: BoundedVec<Instr, LINES> = BoundedVec::new(alloc);
-    lines.push_copy(&Instr::Store {
-        addr: Term::Num(LAST.0),
-        size: 1,
-        value: Term::Num(0xab),
-    })?;
-    lines.push_copy(&Instr::Load {
-        to: 0,
-        addr: Term::Num(addr),
-        size,
-    })?;
-    Ok(Script {
-        name: Name::from_bytes(b"m"),
-        lines,
-    })
+    DomainDef {
+        name: Name::from_bytes(b"d"),
+        parts: Some(BoundedVec::new(alloc)),
+    }
 }
 
-/// The thread with that script and its partition.
-fn image(alloc: Global, addr: u32, size: u8) -> Result<Image, Memory>
-    requires { IsTrue (is_size size) }
-    ensures lawful { IfOk result IsLawful }
-    ensures built { IfOk result IsBuilt }
+fn image(alloc: Global) -> Result<Image, Memory>
+    ensures { IfOk result IsLawful }
 {
     Ok(Image {
         mpu: Mpu::V7,
@@ -176,12 +224,12 @@ fn image(alloc: Global, addr: u32, size: u8) -> Result<Image, Memory>
         policy: Policy::Abort,
         rodata: None,
         rodata_bytes: BoundedVec::new(alloc),
-        pools: BoundedVec::new(alloc),
-        partitions: sole(alloc, partition(alloc))?,
-        domains: sole(alloc, domain(alloc)?)?,
-        objects: both(alloc, thread(), stack())?,
-        boots: sole(alloc, boot(alloc))?,
-        scripts: sole(alloc, script(alloc, addr, size)?)?,
+        pools: sole(alloc, pool())?,
+        partitions: BoundedVec::new(alloc),
+        domains: sole(alloc, domain(alloc))?,
+        objects: objects(alloc)?,
+        boots: boots(alloc)?,
+        scripts: scripts(alloc)?,
     })
 }
 
@@ -193,223 +241,247 @@ fn by(thread: u8, act: &Act) -> Event {
     }
 }
 
-/// What the thread does where its load is of the byte behind the partition.
-const FAULTS: [Act; 8] = [
-    Act::Begin { script: 0, line: 1 },
-    Act::Store {
-        addr: LAST,
-        size: 1,
-        value: 0xab,
-    },
-    Act::Begin { script: 0, line: 2 },
-    Act::Fault {
-        access: Access::Read,
-        addr: PAST,
-        size: 1,
-    },
-    Act::Fatal {
-        reason: 0,
-        cause: Cause::Access,
-    },
-    Act::DropPair {
-        who: ThreadIx(0),
-        addr: THREAD,
-        left: Leftover::Kept,
-    },
-    Act::ClearInit { addr: STACK },
-    Act::ClearInit { addr: THREAD },
-];
-
-/// What no thread of that image does at any time, each with a thread.
-const NEVER: [(u8, Act); 16] = [
-    // Another thread, and none.
-    (1, Act::Begin { script: 0, line: 1 }),
-    (23, Act::Exit),
-    (24, Act::Begin { script: 0, line: 1 }),
-    (255, Act::Exit),
-    // Another line, and another script.
-    (0, Act::Begin { script: 0, line: 0 }),
-    (0, Act::Begin { script: 0, line: 3 }),
-    (0, Act::Begin { script: 1, line: 1 }),
-    // Another value, another address and another size than the store's.
+/// a allocates a semaphore and checks that it may grant it. c revokes a's pair with it, which is the last one.
+/// Then a's grant says that it is gone, and the semaphore is recycled once c's call, which holds it, has answered.
+const STORY: [(u8, Act); 24] = [
+    (0, Act::Begin { script: 0, line: 1 }),
     (
         0,
-        Act::Store {
-            addr: LAST,
-            size: 1,
-            value: 0xaa,
+        Act::Reserve {
+            kind: Kind::Sem,
+            addr: Some(SEM),
+        },
+    ),
+    (0, Act::Born { addr: SEM }),
+    (
+        0,
+        Act::Answered {
+            reply: Reply::At(SEM),
+        },
+    ),
+    (0, Act::Begin { script: 0, line: 2 }),
+    (
+        0,
+        Act::Check {
+            addr: B,
+            kind: Some(Kind::Thread),
+            want: Want::Any,
+            verdict: None,
         },
     ),
     (
         0,
-        Act::Store {
-            addr: PAST,
-            size: 1,
-            value: 0xab,
+        Act::Check {
+            addr: SEM,
+            kind: None,
+            want: Want::Any,
+            verdict: None,
+        },
+    ),
+    (2, Act::Begin { script: 1, line: 1 }),
+    (
+        2,
+        Act::Check {
+            addr: A,
+            kind: Some(Kind::Thread),
+            want: Want::Any,
+            verdict: None,
         },
     ),
     (
-        0,
-        Act::Store {
-            addr: LAST,
-            size: 2,
-            value: 0xab,
-        },
-    ),
-    // The load that isn't allowed.
-    (
-        0,
-        Act::Load {
-            addr: PAST,
-            size: 1,
-            value: 0,
-        },
-    ),
-    // Another fault, and another failure.
-    (
-        0,
-        Act::Fault {
-            access: Access::Write,
-            addr: PAST,
-            size: 1,
+        2,
+        Act::Check {
+            addr: SEM,
+            kind: None,
+            want: Want::Any,
+            verdict: None,
         },
     ),
     (
-        0,
-        Act::Fatal {
-            reason: 0,
-            cause: Cause::KOops,
-        },
-    ),
-    // No pair is left out, and a static object is never gone.
-    (
-        0,
+        2,
         Act::DropPair {
             who: ThreadIx(0),
-            addr: THREAD,
+            addr: SEM,
             left: Leftover::Gone,
         },
     ),
     (
         0,
-        Act::DropPair {
-            who: ThreadIx(0),
-            addr: STACK,
-            left: Leftover::NoPair,
+        Act::Grant {
+            who: ThreadIx(1),
+            addr: SEM,
+            given: Given::Gone,
         },
     ),
-    // The thread fails before it is past its last line.
+    (0, Act::Answered { reply: Reply::Void }),
+    (2, Act::Answered { reply: Reply::Void }),
+    (0, Act::Recycle { addr: SEM }),
     (0, Act::Exit),
+    (2, Act::Exit),
+    (
+        2,
+        Act::DropPair {
+            who: ThreadIx(2),
+            addr: C,
+            left: Leftover::Kept,
+        },
+    ),
+    (2, Act::ClearInit { addr: STACK_OF_C }),
+    (2, Act::ClearInit { addr: C }),
+    (
+        0,
+        Act::DropPair {
+            who: ThreadIx(0),
+            addr: A,
+            left: Leftover::Kept,
+        },
+    ),
+    (
+        0,
+        Act::DropPair {
+            who: ThreadIx(0),
+            addr: B,
+            left: Leftover::Kept,
+        },
+    ),
+    (0, Act::ClearInit { addr: STACK_OF_A }),
+    (0, Act::ClearInit { addr: A }),
 ];
 
-/// None of the acts that no thread does is a step.
-fn refuses_others(rt: &impl Abort, matrix: &mut Matrix<'_>) {
-    for (thread, act) in &NEVER {
-        assert!(rt; matrix.apply(&by(*thread, act)).is_err());
-    }
-}
+/// What is no step before the event of this number.
+const NO_STEPS: [(usize, u8, Act); 18] = [
+    (0, 1, Act::Begin { script: 0, line: 1 }),
+    (0, 24, Act::Exit),
+    (0, 0, Act::Begin { script: 0, line: 2 }),
+    (
+        1,
+        0,
+        Act::Reserve {
+            kind: Kind::Sem,
+            addr: None,
+        },
+    ),
+    (
+        1,
+        0,
+        Act::Reserve {
+            kind: Kind::Sem,
+            addr: Some(B),
+        },
+    ),
+    (
+        6,
+        0,
+        Act::Check {
+            addr: SEM,
+            kind: None,
+            want: Want::Any,
+            verdict: Some(Errno::EBADF),
+        },
+    ),
+    (
+        9,
+        2,
+        Act::Check {
+            addr: SEM,
+            kind: None,
+            want: Want::Any,
+            verdict: Some(Errno::EPERM),
+        },
+    ),
+    (10, 0, Act::Recycle { addr: SEM }),
+    (
+        10,
+        2,
+        Act::DropPair {
+            who: ThreadIx(0),
+            addr: SEM,
+            left: Leftover::Kept,
+        },
+    ),
+    (
+        11,
+        0,
+        Act::Grant {
+            who: ThreadIx(1),
+            addr: SEM,
+            given: Given::Done,
+        },
+    ),
+    (11, 0, Act::Recycle { addr: SEM }),
+    (12, 0, Act::Recycle { addr: SEM }),
+    (13, 0, Act::Recycle { addr: SEM }),
+    (13, 2, Act::Recycle { addr: SEM }),
+    (15, 2, Act::Recycle { addr: SEM }),
+    (17, 2, Act::ClearInit { addr: C }),
+    (
+        20,
+        0,
+        Act::DropPair {
+            who: ThreadIx(0),
+            addr: B,
+            left: Leftover::Kept,
+        },
+    ),
+    (22, 0, Act::ClearInit { addr: A }),
+];
 
-/// Of these acts the thread does the one of this number next, and no other. None of that number: it does none.
-fn does_alone(rt: &impl Abort, matrix: &mut Matrix<'_>, acts: &[Act], next: usize) {
-    for (i, act) in acts.iter().enumerate() {
-        if i != next {
+/// What is no step before this event is refused.
+fn refuses(rt: &impl Abort, matrix: &mut Matrix<'_>, next: usize) {
+    for (before, thread, act) in &NO_STEPS {
+        if *before == next {
             assert!(rt;
-                matrix.apply(&by(0, act)).is_err(),
-                "act {i} before act {next}"
+                matrix.apply(&by(*thread, act)).is_err(),
+                "before event {next}"
             );
         }
     }
-    match acts.get(next) {
-        Some(act) => {
-            let event = by(0, act);
-            assert!(rt; !matrix.is_final(), "before act {next}");
-            assert!(rt; matrix.next_event() == Some(event), "before act {next}");
-            assert!(rt; matrix.apply(&event).is_ok(), "at act {next}");
-        }
-        None => {
-            assert!(rt; matrix.is_final());
-            assert!(rt; matrix.next_event().is_none());
-        }
-    }
 }
 
 #[test]
-fn runs_up_to_its_end(rt: HostRuntime) -> Result<(), Fail> {
-    let image = image(rt.alloc(), PAST.0, 1)?;
+fn a_late_grant_says_gone(rt: HostRuntime) -> Result<(), Fail> {
+    let image = image(rt.alloc())?;
     let mut matrix = Matrix::boot(rt.alloc(), &image)?;
-    assert!(rt; matrix.most_steps() >= FAULTS.len());
-    for next in 0..FAULTS.len() + 1 {
-        refuses_others(&rt, &mut matrix);
-        does_alone(&rt, &mut matrix, &FAULTS, next);
+    for (next, (thread, act)) in STORY.iter().enumerate() {
+        refuses(&rt, &mut matrix, next);
+        assert!(rt; !matrix.is_final(), "before event {next}");
+        assert!(rt; matrix.apply(&by(*thread, act)).is_ok(), "event {next}");
     }
-    Ok(())
-}
-
-/// The first byte that isn't zero, and how many are not.
-fn written(bytes: &[u8]) -> (Option<usize>, usize) {
-    (
-        bytes.iter().position(|byte| *byte != 0),
-        bytes.iter().filter(|byte| **byte != 0).count(),
-    )
-}
-
-#[test]
-fn leaves_what_it_did(rt: HostRuntime) -> Result<(), Fail> {
-    let image = image(rt.alloc(), PAST.0, 1)?;
-    let mut matrix = Matrix::boot(rt.alloc(), &image)?;
-    assert!(rt; matrix.pairs()[0][0]);
-    assert!(rt; matrix.objects()[0].init && matrix.objects()[1].init);
-    for act in &FAULTS {
-        assert!(rt; matrix.apply(&by(0, act)).is_ok());
-    }
+    assert!(rt; matrix.is_final());
+    assert!(rt; matrix.next_event().is_none());
     assert!(rt; matrix.threads()[0].life == Life::Ended);
     assert!(rt; matrix.threads()[1].life == Life::Unborn);
-    assert_eq!(rt; matrix.threads()[0].registers, [0; 8]);
-    assert!(rt; !matrix.pairs()[0][0]);
-    assert!(rt; !matrix.objects()[0].init && !matrix.objects()[1].init);
-    assert_eq!(rt; written(matrix.memory()), (Some(31), 1));
-    assert_eq!(rt; matrix.memory()[31], 0xab);
-    assert_eq!(rt; written(matrix.stacks()), (None, 0));
-    assert_eq!(rt; matrix.domains().len(), 1);
-    assert_eq!(rt; matrix.pools().len(), 0);
-    assert_eq!(rt; matrix.image().regions, 8);
+    assert_eq!(rt; matrix.pools(), [64].as_slice());
     Ok(())
 }
 
-/// What the thread does where it loads the last four bytes of its partition.
-const READS: [Act; 8] = [
-    Act::Begin { script: 0, line: 1 },
-    Act::Store {
-        addr: LAST,
-        size: 1,
-        value: 0xab,
-    },
-    Act::Begin { script: 0, line: 2 },
-    Act::Load {
-        addr: Addr(0x2000_001c),
-        size: 4,
-        value: 0xab00_0000,
-    },
-    Act::Exit,
-    Act::DropPair {
-        who: ThreadIx(0),
-        addr: THREAD,
-        left: Leftover::Kept,
-    },
-    Act::ClearInit { addr: STACK },
-    Act::ClearInit { addr: THREAD },
-];
+#[test]
+fn a_list_of_events_is_judged(rt: HostRuntime) -> Result<(), Fail> {
+    let image = image(rt.alloc())?;
+    let mut events = Vec::new(rt.alloc());
+    for (thread, act) in &STORY {
+        events.push(by(*thread, act))?;
+    }
+    assert!(rt; events.len() == 24);
+    let mut matrix = Matrix::boot(rt.alloc(), &image)?;
+    assert_eq!(rt; matrix.judge(&events[1..]), Err(0));
+    assert_eq!(rt; matrix.judge(&events[..11]), Ok(()));
+    assert_eq!(rt; matrix.judge(&events[12..]), Err(0));
+    assert_eq!(rt; matrix.judge(&events[11..]), Ok(()));
+    assert!(rt; matrix.is_final());
+    Ok(())
+}
 
 #[test]
-fn reads_what_it_wrote(rt: HostRuntime) -> Result<(), Fail> {
-    let image = image(rt.alloc(), 0x2000_001c, 4)?;
+fn runs_to_its_end(rt: HostRuntime) -> Result<(), Fail> {
+    let image = image(rt.alloc())?;
     let mut matrix = Matrix::boot(rt.alloc(), &image)?;
-    for next in 0..READS.len() + 1 {
-        does_alone(&rt, &mut matrix, &READS, next);
+    for _ in 0..64 {
+        if let Some(event) = matrix.next_event() {
+            assert!(rt; matrix.apply(&event).is_ok());
+        }
     }
-    assert_eq!(rt;
-        matrix.threads()[0].registers,
-        [0xab00_0000, 0, 0, 0, 0, 0, 0, 0]
-    );
+    assert!(rt; matrix.is_final());
+    assert!(rt; matrix.threads()[2].life == Life::Ended);
     Ok(())
 }

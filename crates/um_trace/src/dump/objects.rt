@@ -2,7 +2,7 @@
 
 ghost use Rattle.std.specs.Prelude.{◌≡◌, ◌+◌, ◌*◌, ◌≤◌, ◌<◌, ◌++◌, ◌&&◌, [], length, not, vec_len, vec_capacity, if◌then◌else◌};
 ghost use Rattle.std.specs.List.{flat_map};
-ghost use Rattle.um_matrix.specs.State.{pair_at};
+ghost use Rattle.um_machine.specs.State.{pair_at};
 ghost use Rattle.um_trace.specs.Dump.{numbers, lead, state_word, flag_word, marks_text, holders_text, owner_text, kept_text, digits_text, name_text, content_text, object_line, object_line_of};
 ghost use Rattle.um_trace.specs.Names.{thread_text};
 ghost use Rattle.um_trace.specs.Room.{Puts};
@@ -13,7 +13,8 @@ use crate::names::{put_row, put_thread};
 use crate::room::{put_bytes, put_decimal, put_text};
 use crate::words::kind_word;
 use um_base::{Image, Kind, PIECE, ROWS, THREADS, ThreadIx};
-use um_matrix::{Contents, Matrix, Object, Status};
+use um_machine::{Contents, Object, Status};
+use um_matrix::Matrix;
 
 /// Whether an object is initialised, or gone.
 #[tactic(auto, unfolding(crate::specs::Dump::state_word))]
@@ -108,23 +109,13 @@ fn put_kept(room: &mut Vec<u8>, image: &Image, contents: &Contents)
         Contents::Named(_) => put_text(room, "-"),
         Contents::Sem { count, limit } => put_share(room, *count, *limit),
         Contents::Mutex { owner, depth } => put_owner(room, image, *owner, *depth),
-        Contents::Msgq {
-            size: _,
-            most,
-            messages,
-        } => { put_share(room, messages.as_slice().len() as u32, *most) }
-        Contents::Stack { most, values } => {
-            put_share(room, values.as_slice().len() as u32, *most)
-        }
-        Contents::Pipe {
-            size,
-            bytes,
-            closed,
-        } => {
-            if *closed {
+        Contents::Msgq(queue) => put_share(room, queue.len() as u32, queue.most()),
+        Contents::Stack(stack) => put_share(room, stack.len() as u32, stack.most()),
+        Contents::Pipe(pipe) => {
+            if pipe.closed() {
                 put_text(room, "closed")
             } else {
-                put_share(room, bytes.len() as u32, *size)
+                put_share(room, pipe.len() as u32, pipe.size())
             }
         }
     }

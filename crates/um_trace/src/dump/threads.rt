@@ -2,7 +2,7 @@
 
 ghost use Rattle.std.specs.Prelude.{◌≡◌, ◌+◌, ◌*◌, ◌≤◌, ◌<◌, length, position, vec_len, vec_capacity, IfSome};
 ghost use Rattle.std.specs.List.{flat_map, list_any};
-ghost use Rattle.um_matrix.specs.State.{is_started, thread_at};
+ghost use Rattle.um_machine.specs.State.{is_started, thread_at};
 ghost use Rattle.um_trace.specs.Dump.{numbers, is_waiter, awaited, is_ended, waits_text, status_text, life_text, thread_line, thread_line_of};
 ghost use Rattle.um_trace.specs.Room.{Puts};
 
@@ -11,7 +11,8 @@ use crate::names::{put_domain, put_row};
 use crate::room::{put_signed, put_text};
 use crate::words::mode_word;
 use um_base::{Image, ROWS};
-use um_matrix::{Life, Matrix, Object, Thread};
+use um_machine::{Life, Object, Thread};
+use um_matrix::Matrix;
 
 /// Whether a thread waits on an object.
 fn is_awaited(object: &Object, thread: u8) -> bool

@@ -4,7 +4,7 @@ use super::*;
 use std::alloc::Global;
 use std::test::Fail;
 use um_base::{BoundedVec, Memory, Mpu, Piece, Policy};
-use um_matrix::{Messages, Waiters};
+use um_machine::{BytePipe, MessageQueue, Waiters};
 
 fn no_names(alloc: Global) -> Image {
     Image {
@@ -54,11 +54,6 @@ fn contents(rt: HostRuntime) -> Result<(), Fail> {
     let mut bytes = Piece::new();
     bytes.push(0x7a);
     bytes.push(0x61);
-    let pipe = Contents::Pipe {
-        size: 4,
-        bytes,
-        closed: false,
-    };
     for (kind, status, init, contents, want) in [
         (
             Kind::Thread,
@@ -116,19 +111,15 @@ fn contents(rt: HostRuntime) -> Result<(), Fail> {
             Kind::Msgq,
             Status::Live,
             true,
-            Contents::Msgq {
-                size: 4,
-                most: 8,
-                messages: Messages::new(),
-            },
+            Contents::Msgq(MessageQueue::new(4, 8)),
             "msgq init private 0/8",
         ),
         (
             Kind::Pipe,
             Status::Live,
             true,
-            pipe,
-            "pipe init private 2/4",
+            Contents::Pipe(BytePipe::new(4)),
+            "pipe init private 0/4",
         ),
     ] {
         let text = shown(rt.alloc(), kind, status, init, contents)?;

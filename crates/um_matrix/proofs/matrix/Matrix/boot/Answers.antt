@@ -1,8 +1,11 @@
-use Rattle.std.proofs.Common.{sym, subst}
-use Rattle.um_matrix.specs.State.{State}
-use Rattle.um_matrix.specs.Built.{IsKept}
-use Rattle.um_matrix.proofs.OpeningLemmas.{kept-opening}
+use Rattle.std.proofs.Common.{ap, ◌∙◌}
+use Rattle.um_machine.specs.State.{State}
+use Rattle.um_machine.specs.Run.{booted, loaded}
 use Rattle.um_matrix.proofs.matrix.Matrix.boot.Goals as goal
 
-pub invariant_of-result : goal.invariant_of-result
-invariant_of-result c = subst (λ (s : State). IsKept s) (sym c.in_ok-tables.ensures) (kept-opening c.args.image.now c.requires.built)
+pub returns : goal.returns
+returns c =
+    let image = c.args.image.now in
+    let loads = rw c.as_slice.ensures.value at c.load_all.ensures in
+    let boots = rw c.as_slice-2.ensures.value at c.boot_all.ensures in
+    boots ∙ ap (λ (s : State). booted image.boots s) (loads ∙ ap (λ (s : State). loaded image.partitions s) c.in_ok-matrix.ensures)

@@ -1,6 +1,6 @@
 use Rattle.std.proofs.Common.{◌*◌, take, take_all, get_or, refl, sym, ◌∙◌, arith}
 use Rattle.std.proofs.lemmas.List.{take_more}
-use Rattle.um_matrix.specs.Domains.{no_part}
+use Rattle.um_machine.specs.Domains.{no_part}
 use Rattle.um_trace.specs.Dump.{part_of}
 use Rattle.um_trace.proofs.ListLemmas.{puts_next, is_none_more, puts_listed, puts_dash}
 use Rattle.um_trace.proofs.dump.domains.put_parts.Goals as goal

@@ -1,7 +1,7 @@
 use Rattle.std.proofs.Common.{◌≡◌, ℕ, ◌*◌, Bool, refl, sym, ◌∙◌, arith}
 use Rattle.um_base.specs.declared.limits.TheConstants.{THREADS}
 use Rattle.std.proofs.lemmas.List.{append-nil}
-use Rattle.um_matrix.specs.State.{pair_at}
+use Rattle.um_machine.specs.State.{pair_at}
 use Rattle.um_trace.specs.Names.{thread_text}
 use Rattle.um_trace.specs.Dump.{holders_text, holders_below}
 use Rattle.um_trace.proofs.LineLemmas.{numbers_none}

@@ -1,0 +1,168 @@
+-- Accesses and verdicts: what a step says was allowed, or is the verdict.
+use Rattle.std.proofs.Common.{◌≡◌, ℕ, zero, suc, ◌+◌, ◌≤◌, Bool, true, false, refl, sym, subst, arith, if◌then◌else◌, length, slice_index}
+use Rattle.std.specs.Prelude.{IsTrue, ◌==◌}
+use Rattle.um_base.specs.declared.act.Act.{Act}
+use Rattle.um_base.specs.declared.act.Event.{Event}
+use Rattle.um_base.specs.declared.act.Found.{Found}
+use Rattle.um_base.specs.declared.names.Access.TheVariants as Access
+use Rattle.um_base.specs.declared.names.Addr.{Addr}
+use Rattle.um_machine.specs.declared.pending.Pending.{Pending}
+use Rattle.um_machine.specs.State.{State, thread_at}
+use Rattle.um_machine.specs.Memory.{allowed, string_from, string_read, bytes_at, le_value}
+use Rattle.um_machine.specs.Run.{Step}
+use Rattle.um_machine.specs.Table.{act_of, amount_of}
+use Rattle.um_laws.specs.Laws.{WasReadable, Allows, WasAllowed, SaysVerdict, IsVerdict}
+
+load_allowed : (s : State) (t : ℕ) (a : Addr) (n value : ℕ) (b : Bool) → allowed s t Access.Read a.0 n ≡ b → Allows s t (if b then Act.Load a n value else Act.Fault Access.Read a n)
+load_allowed s t a n value true e = e
+load_allowed s t a n value false e = tt
+
+store_allowed : (s : State) (t : ℕ) (a : Addr) (n value : ℕ) (b : Bool) → allowed s t Access.Write a.0 n ≡ b → Allows s t (if b then Act.Store a n value else Act.Fault Access.Write a n)
+store_allowed s t a n value true e = e
+store_allowed s t a n value false e = tt
+
+fetch_allowed : (s : State) (t : ℕ) (a : Addr) (b : Bool) → allowed s t Access.Exec a.0 4 ≡ b → Allows s t (if b then Act.Fetch a else Act.Fault Access.Exec a 4)
+fetch_allowed s t a true e = e
+fetch_allowed s t a false e = tt
+
+copy_in_allowed : (s : State) (t : ℕ) (a : Addr) (n : ℕ) (b : Bool) → allowed s t Access.Read a.0 n ≡ b → Allows s t (Act.CopyIn a n b)
+copy_in_allowed s t a n true e = e
+copy_in_allowed s t a n false e = tt
+
+copy_out_allowed : (s : State) (t : ℕ) (a : Addr) (n : ℕ) (b : Bool) → allowed s t Access.Write a.0 n ≡ b → Allows s t (Act.CopyOut a n b)
+copy_out_allowed s t a n true e = e
+copy_out_allowed s t a n false e = tt
+
+-- where a string read from an address on finds a length, all bytes from there up to the zero are readable
+abbrev IsReadableFrom : State → ℕ → ℕ → ℕ → Found → Type 0
+IsReadableFrom s t a before (Found.Length n) = (i : ℕ) → before + i ≤ n → IsTrue (allowed s t Access.Read (a + i) 1)
+IsReadableFrom s t a before found = Unit {0}
+
+at_first : (s : State) (t a before i : ℕ) → allowed s t Access.Read a 1 ≡ true → before + i ≤ before → IsTrue (allowed s t Access.Read (a + i) 1)
+at_first s t a before i e le = let same : a + i ≡ a = omega (arith, le) in rw same e
+
+one_more : (s : State) (t a before n : ℕ) → allowed s t Access.Read a 1 ≡ true
+    → ((i : ℕ) → before + 1 + i ≤ n → IsTrue (allowed s t Access.Read (a + 1 + i) 1))
+    → (i : ℕ) → before + i ≤ n → IsTrue (allowed s t Access.Read (a + i) 1)
+one_more s t a before n e h zero le = let same : a + 0 ≡ a = omega arith in rw same e
+one_more s t a before n e h (suc i) le =
+    let behind : before + 1 + i ≤ n = omega (arith, le) in
+    let same : a + suc i ≡ a + 1 + i = omega arith in rw same (h i behind)
+
+string_step : (s : State) (t a before : ℕ) (b : Bool) → allowed s t Access.Read a 1 ≡ b → (c : Bool) (rest : Found)
+    → IsReadableFrom s t (a + 1) (before + 1) rest
+    → IsReadableFrom s t a before (if b then (if c then Found.Length before else rest) else Found.Unreadable)
+string_step s t a before false e c rest h = tt
+string_step s t a before true e true rest h = λ i le. at_first s t a before i e le
+string_step s t a before true e false (Found.Length n) h = one_more s t a before n e h
+string_step s t a before true e false Found.Unreadable h = tt
+string_step s t a before true e false Found.TooLong h = tt
+
+readable_from : (s : State) (t limit a before : ℕ) → IsReadableFrom s t a before (string_from s t a limit before)
+readable_from s t zero a before = tt
+readable_from s t (suc limit) a before =
+    string_step s t a before (allowed s t Access.Read a 1) refl (slice_index (bytes_at s a 1) 0 == 0) (string_from s t (a + 1) limit (before + 1))
+    (readable_from s t limit (a + 1) (before + 1))
+
+from_none : (s : State) (t a : ℕ) (found : Found) → IsReadableFrom s t a 0 found → WasReadable s t a found
+from_none s t a (Found.Length n) h = λ i le. h i (omega (arith, le))
+from_none s t a Found.Unreadable h = tt
+from_none s t a Found.TooLong h = tt
+
+-- what a step says was allowed
+allowed_step : (s : State) (t x : ℕ) (p : Pending) → Allows s t (act_of s t x p)
+allowed_step s t x Pending.Begin = tt
+allowed_step s t x Pending.Exit = tt
+allowed_step s t x (Pending.Check a kind want refusal) = tt
+allowed_step s t x (Pending.Load to a n) = load_allowed s t a n (le_value (bytes_at s a.0 n)) (allowed s t Access.Read a.0 n) refl
+allowed_step s t x (Pending.Store a n value) = store_allowed s t a n value (allowed s t Access.Write a.0 n) refl
+allowed_step s t x (Pending.Fetch a) = fetch_allowed s t a (allowed s t Access.Exec a.0 4) refl
+allowed_step s t x (Pending.Probe a amount) = tt
+allowed_step s t x (Pending.CopyIn a amount) = copy_in_allowed s t a (amount_of s amount) (allowed s t Access.Read a.0 (amount_of s amount)) refl
+allowed_step s t x (Pending.CopyOut a) = copy_out_allowed s t a (length (thread_at s t).buffer) (allowed s t Access.Write a.0 (length (thread_at s t).buffer)) refl
+allowed_step s t x (Pending.CopyStr a) = from_none s t a.0 (string_read s t a.0 32) (readable_from s t 32 a.0 0)
+allowed_step s t x (Pending.Erase stack) = tt
+allowed_step s t x (Pending.Work a ask) = tt
+allowed_step s t x Pending.Resume = tt
+allowed_step s t x (Pending.Answer reply to) = tt
+allowed_step s t x (Pending.Grant who a) = tt
+allowed_step s t x (Pending.Own who) = tt
+allowed_step s t x (Pending.Inherit who) = tt
+allowed_step s t x (Pending.DropPair who a) = tt
+allowed_step s t x (Pending.Publish a) = tt
+allowed_step s t x (Pending.SetInit a strict undo) = tt
+allowed_step s t x (Pending.ClearInit a) = tt
+allowed_step s t x (Pending.Named who) = tt
+allowed_step s t x (Pending.Reserve kind) = tt
+allowed_step s t x (Pending.Born a) = tt
+allowed_step s t x (Pending.Buffer size) = tt
+allowed_step s t x (Pending.Unbuffer size) = tt
+allowed_step s t x (Pending.DomInit d parts) = tt
+allowed_step s t x (Pending.DomAdd d range attr) = tt
+allowed_step s t x (Pending.DomRemove d range attr) = tt
+allowed_step s t x (Pending.DomMove d who) = tt
+allowed_step s t x (Pending.Start who script stack priority mode) = tt
+allowed_step s t x (Pending.EnterUser script) = tt
+allowed_step s t x (Pending.Fatal reason cause) = tt
+allowed_step s t x (Pending.Drops from) = tt
+allowed_step s t x (Pending.Dooms from) = tt
+allowed_step s t x (Pending.CleanPair who) = tt
+allowed_step s t x Pending.Recycle = tt
+
+pub was_allowed : (s s2 : State) (event : Event) → Step s event s2 → WasAllowed s event
+was_allowed s s2 event step = subst (λ (act : Act). Allows s event.thread.0 act) (sym step.says) (allowed_step s event.thread.0 step.row step.step)
+
+load_said : (s : State) (t : ℕ) (a : Addr) (n value : ℕ) (b : Bool) → SaysVerdict s t (if b then Act.Load a n value else Act.Fault Access.Read a n)
+load_said s t a n value true = tt
+load_said s t a n value false = tt
+
+store_said : (s : State) (t : ℕ) (a : Addr) (n value : ℕ) (b : Bool) → SaysVerdict s t (if b then Act.Store a n value else Act.Fault Access.Write a n)
+store_said s t a n value true = tt
+store_said s t a n value false = tt
+
+fetch_said : (s : State) (t : ℕ) (a : Addr) (b : Bool) → SaysVerdict s t (if b then Act.Fetch a else Act.Fault Access.Exec a 4)
+fetch_said s t a true = tt
+fetch_said s t a false = tt
+
+-- what a check says is the verdict
+said : (s : State) (t x : ℕ) (p : Pending) → SaysVerdict s t (act_of s t x p)
+said s t x (Pending.Check a kind want refusal) = refl
+said s t x (Pending.Load to a n) = load_said s t a n (le_value (bytes_at s a.0 n)) (allowed s t Access.Read a.0 n)
+said s t x (Pending.Store a n value) = store_said s t a n value (allowed s t Access.Write a.0 n)
+said s t x (Pending.Fetch a) = fetch_said s t a (allowed s t Access.Exec a.0 4)
+said s t x Pending.Begin = tt
+said s t x Pending.Exit = tt
+said s t x (Pending.Probe a amount) = tt
+said s t x (Pending.CopyIn a amount) = tt
+said s t x (Pending.CopyOut a) = tt
+said s t x (Pending.CopyStr a) = tt
+said s t x (Pending.Erase stack) = tt
+said s t x (Pending.Work a ask) = tt
+said s t x Pending.Resume = tt
+said s t x (Pending.Answer reply to) = tt
+said s t x (Pending.Grant who a) = tt
+said s t x (Pending.Own who) = tt
+said s t x (Pending.Inherit who) = tt
+said s t x (Pending.DropPair who a) = tt
+said s t x (Pending.Publish a) = tt
+said s t x (Pending.SetInit a strict undo) = tt
+said s t x (Pending.ClearInit a) = tt
+said s t x (Pending.Named who) = tt
+said s t x (Pending.Reserve kind) = tt
+said s t x (Pending.Born a) = tt
+said s t x (Pending.Buffer size) = tt
+said s t x (Pending.Unbuffer size) = tt
+said s t x (Pending.DomInit d parts) = tt
+said s t x (Pending.DomAdd d range attr) = tt
+said s t x (Pending.DomRemove d range attr) = tt
+said s t x (Pending.DomMove d who) = tt
+said s t x (Pending.Start who script stack priority mode) = tt
+said s t x (Pending.EnterUser script) = tt
+said s t x (Pending.Fatal reason cause) = tt
+said s t x (Pending.Drops from) = tt
+said s t x (Pending.Dooms from) = tt
+said s t x (Pending.CleanPair who) = tt
+said s t x Pending.Recycle = tt
+
+pub is_verdict : (s s2 : State) (event : Event) → Step s event s2 → IsVerdict s event
+is_verdict s s2 event step = subst (λ (act : Act). SaysVerdict s event.thread.0 act) (sym step.says) (said s event.thread.0 step.row step.step)

@@ -1,0 +1,5 @@
+mod PlaceLemmas
+mod RingLemmas
+mod StepLemmas
+pub mod ServingLemmas
+pub mod WaiterLemmas

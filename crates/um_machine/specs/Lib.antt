@@ -1,0 +1,13 @@
+pub mod Contents
+pub mod Ring
+pub mod Waiting
+pub mod Limits
+pub mod State
+pub mod Memory
+pub mod Objects
+pub mod Services
+pub mod Serving
+pub mod Domains
+pub mod Order
+pub mod Table
+pub mod Run

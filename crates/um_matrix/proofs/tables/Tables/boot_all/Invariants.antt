@@ -1,6 +1,0 @@
-use Rattle.std.proofs.Common.{◌≡◌, drop}
-use Rattle.um_matrix.specs.Run.{booted}
-use Rattle.um_matrix.proofs.tables.Tables.boot_all.Given as goal
-
-abbrev pub invariant-loop-boot : goal.invariant-loop-boot
-invariant-loop-boot l = booted (drop l.boot-index l.boots) l.self ≡ booted l.boots l.fn.self

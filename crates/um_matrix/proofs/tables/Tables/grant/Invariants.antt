@@ -1,6 +1,0 @@
-use Rattle.std.proofs.Common.{◌≡◌, drop}
-use Rattle.um_matrix.specs.Run.{granted}
-use Rattle.um_matrix.proofs.tables.Tables.grant.Given as goal
-
-abbrev pub invariant-loop-x : goal.invariant-loop-x
-invariant-loop-x l = granted l.t (drop l.x-index l.rows) l.self ≡ granted l.t l.rows l.fn.self

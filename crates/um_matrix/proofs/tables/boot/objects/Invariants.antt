@@ -1,9 +1,0 @@
-use Rattle.std.proofs.Common.{◌≡◌, ◌++◌, drop, length}
-use Rattle.um_matrix.specs.Run.{objects_from}
-use Rattle.um_matrix.proofs.tables.boot.objects.Given as goal
-
-abbrev pub invariant-loop-x : goal.invariant-loop-x
-invariant-loop-x l = record {
-  whole : l.all.items ++ objects_from l.image.boots l.x (drop l.x l.image.objects) ≡ objects_from l.image.boots 0 l.image.objects;
-  count : length l.all.items ≡ l.x;
-}

@@ -1,6 +1,0 @@
-use Rattle.std.proofs.Common.{◌≡◌, map, take, slice_get, ℕ}
-use Rattle.um_matrix.specs.Domains.{part_at}
-use Rattle.um_matrix.proofs.tables.boot.parts_numbered.Given as goal
-
-abbrev pub invariant-loop-i : goal.invariant-loop-i
-invariant-loop-i l = l.parts ≡ map (λ (i : ℕ). part_at (slice_get l.image.partitions i)) (take l.i-index l.numbers)

@@ -1,0 +1,259 @@
+//! The opening state.
+
+ghost use Rattle.std.specs.Prelude.{◌≡◌, ◌<◌, ◌≤◌, ◌-◌, ◌++◌, IfOk, OnOk, IfSome, List, ℕ, Bool, length, map, replicate, slice_get, slice_set, true, false};
+ghost use Rattle.um_base.specs.declared.image.DomainDef.{DomainDef};
+ghost use Rattle.um_base.specs.declared.image.Pool.{Pool};
+ghost use Rattle.um_base.specs.Lawful.{IsLawful};
+ghost use Rattle.um_machine.specs.State.{nobody, vacant};
+ghost use Rattle.um_machine.specs.Memory.{rodata_of};
+ghost use Rattle.um_machine.specs.Domains.{part_at};
+ghost use Rattle.um_machine.specs.Run.{boot_thread, objects_from, parts_of};
+
+use crate::matrix::Matrix;
+use crate::matrix::moves::put;
+use std::alloc::Global;
+use um_base::{
+    AREA_SIZE, Addr, Attr, Boot, DOMAIN_PARTITIONS, DOMAINS, DomainDef, Image, Memory, POOLS,
+    Partition, Parts, ROWS, Range, Row, THREADS,
+};
+use um_machine::{Object, Thread};
+use um_rules::blank::{boot_thread, nobody, opening_object, vacant};
+use um_rules::rows::thread_of_row;
+
+/// The bytes of the read-only data, filled up with zeros.
+fn rodata(alloc: Global, image: &Image) -> Result<Vec<u8>, Memory>
+    ensures { IfOk result (λ bytes. bytes.items ≡ rodata_of image.now) }
+{
+    let size = match image.rodata {
+        Some(range) => range.size as usize,
+        None => 0,
+    };
+    let given = image.rodata_bytes.as_slice();
+    let mut bytes = given.to_vec(alloc)?;
+    bytes.resize(size.max(given.len()), 0)?;
+    Ok(bytes)
+}
+
+/// Indices on which no thread was started.
+fn threads(alloc: Global) -> Result<Vec<Thread>, Memory>
+    ensures items { IfOk result (λ all. all.items ≡ replicate THREADS nobody) }
+    ensures all { IfOk result (λ all. length all.items ≡ THREADS) }
+{
+    let mut all = Vec::with_capacity(alloc, THREADS)?;
+    for _ in 0..THREADS {
+        all.push(nobody())?;
+    }
+    Ok(all)
+}
+
+/// Fills a list of objects up to all rows.
+fn fill(all: &mut Vec<Object>) -> Result<(), Memory>
+    ensures { OnOk result (all.new.items ≡ all.old.items ++ replicate (ROWS - length all.old.items) vacant) }
+{
+    let missing = ROWS.saturating_sub(all.len());
+    for _ in 0..missing {
+        all.push(vacant())?;
+    }
+    Ok(())
+}
+
+/// The objects of a description, and after them none.
+#[tactic(auto, using(crate::proofs::BootLemmas::in_limits))]
+fn objects(alloc: Global, image: &Image) -> Result<Vec<Object>, Memory>
+    requires { IsLawful image.now }
+    ensures items { IfOk result (λ all. all.items ≡ objects_from image.now.boots 0 image.now.objects) }
+    ensures all { IfOk result (λ all. length all.items ≡ ROWS) }
+{
+    let mut all = Vec::with_capacity(alloc, ROWS)?;
+    for (x, object) in image.objects.as_slice().iter().enumerate() {
+        all.push(opening_object(image.boots.as_slice(), x, object))?;
+    }
+    fill(&mut all)?;
+    Ok(all)
+}
+
+/// No pairs.
+fn no_pairs(alloc: Global) -> Result<Vec<[bool; THREADS]>, Memory>
+    ensures items { IfOk result (λ pairs. pairs.items ≡ replicate {A = List Bool} ROWS (replicate {A = Bool} THREADS false)) }
+    ensures all { IfOk result (λ pairs. length pairs.items ≡ ROWS) }
+{
+    let mut pairs = Vec::new(alloc);
+    pairs.resize(ROWS, [false; THREADS])?;
+    Ok(pairs)
+}
+
+/// So many bytes, all zero.
+fn zeros(alloc: Global, size: usize) -> Result<Vec<u8>, Memory>
+    ensures items { IfOk result (λ bytes. bytes.items ≡ replicate {A = ℕ} size 0) }
+    ensures all { IfOk result (λ bytes. length bytes.items ≡ size) }
+{
+    let mut bytes = Vec::new(alloc);
+    bytes.resize(size, 0)?;
+    Ok(bytes)
+}
+
+/// A blank partition.
+const NO_PART: (Range, Attr) = (
+    Range {
+        start: Addr(0),
+        size: 0,
+    },
+    Attr(0),
+);
+
+/// The range and the rights of a partition of the image, or a blank one.
+fn part_at(partitions: &[Partition], i: u8) -> (Range, Attr)
+    ensures { result ≡ part_at (slice_get partitions.now i) }
+{
+    match partitions.get(i as usize) {
+        Some(partition) => (partition.range, partition.attr),
+        None => NO_PART,
+    }
+}
+
+/// The partitions of these numbers.
+fn parts_numbered(image: &Image, numbers: &[u8]) -> Parts
+    requires { length numbers.now ≤ DOMAIN_PARTITIONS }
+    ensures { result ≡ map (λ i. part_at (slice_get image.now.partitions i)) numbers.now }
+{
+    let mut parts = Parts::new();
+    for i in numbers {
+        let (range, attr) = part_at(image.partitions.as_slice(), *i);
+        parts.push(range, attr);
+    }
+    parts
+}
+
+/// The partitions of a domain, where it is initialised.
+fn parts_of(image: &Image, domain: &DomainDef) -> Option<Parts>
+    requires { IfSome domain.now.parts (λ numbers. length numbers ≤ DOMAIN_PARTITIONS) }
+    ensures { result ≡ parts_of image.now domain.now.parts }
+{
+    match &domain.parts {
+        Some(numbers) => Some(parts_numbered(image, numbers.as_slice())),
+        None => None,
+    }
+}
+
+/// The partitions of the domains.
+fn domains(alloc: Global, image: &Image) -> Result<Vec<Option<Parts>>, Memory>
+    requires { IsLawful image.now }
+    ensures items { IfOk result (λ all. all.items ≡ map (λ (d : DomainDef). parts_of image.now d.parts) image.now.domains) }
+    ensures few { IfOk result (λ all. length all.items ≤ DOMAINS) }
+{
+    let mut all = Vec::with_capacity(alloc, DOMAINS)?;
+    for domain in image.domains.as_slice() {
+        all.push(parts_of(image, domain))?;
+    }
+    Ok(all)
+}
+
+/// What the pools have.
+fn pools(alloc: Global, image: &Image) -> Result<Vec<u32>, Memory>
+    ensures items { IfOk result (λ all. all.items ≡ map (λ (p : Pool). p.size) image.now.pools) }
+    ensures few { IfOk result (λ all. length all.items ≤ POOLS) }
+{
+    let mut all = Vec::with_capacity(alloc, POOLS)?;
+    for pool in image.pools.as_slice() {
+        all.push(pool.size)?;
+    }
+    Ok(all)
+}
+
+impl<'a> Matrix<'a> {
+    ghost use Rattle.um_machine.specs.State.{with_pair, with_thread};
+    ghost use Rattle.um_machine.specs.Run.{granted, booted_one, booted, loaded, blank, opening};
+
+    /// A thread index has a pair with a row.
+    fn give(&mut self, t: usize, x: Row)
+        ensures { self.new ≡ with_pair self.old t x.0 true }
+    {
+        if (x.0 as usize) < self.pairs.len() {
+            put(&mut self.pairs[x.0 as usize], t, true);
+        }
+    }
+
+    fn grant_all(&mut self, t: usize, rows: &[Row])
+        ensures { self.new ≡ granted t rows.now self.old }
+    {
+        for x in rows {
+            self.give(t, *x);
+        }
+    }
+
+    /// A boot entry's thread stands under its index.
+    fn place_thread(&mut self, t: usize, boot: &Boot)
+        ensures { self.new ≡ with_thread self.old t (boot_thread self.old.image boot.now) }
+    {
+        if t < THREADS {
+            self.threads[t] = boot_thread(self.image, boot);
+        }
+    }
+
+    /// A boot entry's thread, with its own object and its grants.
+    fn boot_one(&mut self, boot: &Boot)
+        ensures { self.new ≡ booted_one boot.now self.old }
+    {
+        let t = match thread_of_row(self.image, boot.thread.0 as usize) {
+            Some(t) => t,
+            None => 0,
+        };
+        self.place_thread(t, boot);
+        self.give(t, boot.thread);
+        self.grant_all(t, boot.grants.as_slice());
+    }
+
+    fn boot_all(&mut self, boots: &[Boot])
+        ensures { self.new ≡ booted boots.now self.old }
+    {
+        for boot in boots {
+            self.boot_one(boot);
+        }
+    }
+
+    /// The bytes of the partitions stand in memory.
+    fn load_all(&mut self, partitions: &[Partition])
+        ensures { self.new ≡ loaded partitions.now self.old }
+    {
+        for partition in partitions {
+            self.write(partition.range.start.0, partition.bytes.as_slice());
+        }
+    }
+
+    /// The state of an image without what the partitions and the boot entries put there.
+    fn blank(alloc: Global, image: &'a Image) -> Result<Matrix<'a>, Memory>
+        requires { IsLawful image.now }
+        ensures { IfOk result (λ matrix. matrix ≡ blank image.now) }
+    {
+        let threads = threads(alloc)?;
+        let objects = objects(alloc, image)?;
+        let pairs = no_pairs(alloc)?;
+        let domains = domains(alloc, image)?;
+        let pools = pools(alloc, image)?;
+        let rodata = rodata(alloc, image)?;
+        let memory = zeros(alloc, AREA_SIZE as usize)?;
+        let stacks = zeros(alloc, AREA_SIZE as usize)?;
+        Ok(Matrix {
+            image,
+            rodata,
+            threads,
+            objects,
+            pairs,
+            domains,
+            memory,
+            stacks,
+            pools,
+        })
+    }
+
+    /// The opening state of an image. All room is reserved here.
+    pub fn boot(alloc: Global, image: &'a Image) -> Result<Matrix<'a>, Memory>
+        requires lawful { IsLawful image.now }
+        ensures { IfOk result (λ matrix. matrix ≡ opening image.now) }
+    {
+        let mut matrix = Matrix::blank(alloc, image)?;
+        matrix.load_all(image.partitions.as_slice());
+        matrix.boot_all(image.boots.as_slice());
+        Ok(matrix)
+    }
+}

@@ -1,0 +1,45 @@
+//! The steps that clean an object which is gone.
+
+ghost use Rattle.std.specs.Prelude.{◌≡◌, ◌<◌, []};
+
+use crate::matrix::Matrix;
+use crate::matrix::moves::pay_back;
+use um_base::{ROWS, THREADS, ThreadIx};
+use um_machine::Pending;
+use um_rules::blank::vacant;
+
+impl<'a> Matrix<'a> {
+    ghost use Rattle.um_machine.specs.Table.{after, cleaned_by};
+
+    /// A thread cleans the object of a row.
+    fn cleaned_by(&mut self, t: usize, x: usize)
+        requires { t < THREADS }
+        ensures { self.new ≡ cleaned_by self.old t x }
+    {
+        if x < ROWS {
+            self.objects[x].cleaner = Some(ThreadIx(t as u8));
+        }
+    }
+
+    /// The drop of one pair of a thread whose object is gone.
+    pub fn clean_pair(&mut self, t: usize, x: usize, who: ThreadIx)
+        requires thread { t < THREADS }
+        requires row { x < ROWS }
+        ensures { self.new ≡ after self.old t x (Pending.CleanPair who) [] }
+    {
+        self.cleaned_by(t, self.own_row(who));
+        self.drop_pair(who.0 as usize, x);
+    }
+
+    /// The recycling of an object: its row is free, and its pool gets its bytes back.
+    pub fn recycle(&mut self, x: usize)
+        requires { x < ROWS }
+        ensures { self.new ≡ after self.old 0 x Pending.Recycle [] }
+    {
+        let cost = self.objects[x].cost;
+        let buffer = self.objects[x].buffer;
+        pay_back(&mut self.pools, cost);
+        pay_back(&mut self.pools, buffer);
+        self.objects[x] = vacant();
+    }
+}

@@ -1,0 +1,149 @@
+//! The steps of memory domains.
+
+ghost use Rattle.std.specs.Prelude.{◌≡◌, ◌<◌, drop, map, ℕ};
+
+use crate::matrix::Matrix;
+use um_base::{Act, Attr, Errno, PartRefs, Parts, Range, Reply, THREADS, ThreadIx};
+use um_machine::Pending;
+use um_rules::domains::{added, domain_after, initialised, removed, reply_to};
+
+impl<'a> Matrix<'a> {
+    ghost use Rattle.um_base.specs.Lawful.{most_parts};
+    ghost use Rattle.um_machine.specs.Domains.{initialised, added, removed, reply_to, domain_after, part_named};
+    ghost use Rattle.um_machine.specs.State.{thread_at};
+    ghost use Rattle.um_machine.specs.Table.{act_of, after, after_domain, move_reply, moved, domain_at};
+
+    /// The partitions of a domain, where it is initialised.
+    fn domain_at(&self, domain: u8) -> Option<Parts>
+        ensures { result ≡ domain_at self.now domain }
+    {
+        match self.domains.get(domain as usize) {
+            Some(parts) => *parts,
+            None => None,
+        }
+    }
+
+    /// What a call makes of a domain.
+    fn put_domain(&mut self, t: usize, domain: u8, parts: Option<Parts>, reply: Reply, taken: usize)
+        requires { t < THREADS }
+        ensures { self.new ≡ after_domain self.old t (thread_at self.old t) domain parts reply (drop taken (thread_at self.old t).pending) }
+    {
+        if (domain as usize) < self.domains.len() {
+            self.domains[domain as usize] = parts;
+        }
+        let thread = &mut self.threads[t];
+        thread.reply = reply;
+        thread.goes_on(self.image, taken);
+    }
+
+    /// What an initialisation makes of a domain.
+    fn initialised(&self, domain: u8, parts: &PartRefs) -> Result<Parts, Errno>
+        ensures { result ≡ initialised self.now.image.mpu (most_parts self.now.image) (domain_at self.now domain) (map (part_named self.now.image) parts.now) }
+    {
+        initialised(self.image, &self.domain_at(domain), parts.as_slice())
+    }
+
+    /// What the initialisation of a domain says.
+    pub fn says_domain_init(&self, domain: u8, parts: &PartRefs) -> Act
+        ensures { (t x : ℕ) → result ≡ act_of self.now t x (Pending.DomInit domain parts.now) }
+    {
+        let made = self.initialised(domain, parts);
+        Act::DomInit {
+            domain,
+            reply: reply_to(&made),
+        }
+    }
+
+    /// What the addition of a partition to a domain says.
+    pub fn says_domain_add(&self, domain: u8, range: Range, attr: Attr) -> Act
+        ensures { (t x : ℕ) → result ≡ act_of self.now t x (Pending.DomAdd domain range attr) }
+    {
+        let made = added(self.image, &self.domain_at(domain), range, attr);
+        Act::DomAdd {
+            domain,
+            range,
+            attr,
+            reply: reply_to(&made),
+        }
+    }
+
+    /// What the removal of a partition from a domain says.
+    pub fn says_domain_remove(&self, domain: u8, range: Range, attr: Attr) -> Act
+        ensures { (t x : ℕ) → result ≡ act_of self.now t x (Pending.DomRemove domain range attr) }
+    {
+        let made = removed(&self.domain_at(domain), range);
+        Act::DomRemove {
+            domain,
+            range,
+            attr,
+            reply: reply_to(&made),
+        }
+    }
+
+    /// The initialisation of a domain.
+    pub fn domain_init(&mut self, t: usize, domain: u8, parts: &PartRefs, taken: usize)
+        requires { t < THREADS }
+        ensures { self.new ≡ after self.old t 0 (Pending.DomInit domain parts.now) (drop taken (thread_at self.old t).pending) }
+    {
+        let before = self.domain_at(domain);
+        let made = self.initialised(domain, parts);
+        let reply = reply_to(&made);
+        self.put_domain(t, domain, domain_after(before, made), reply, taken);
+    }
+
+    /// The addition of a partition to a domain.
+    pub fn domain_add(&mut self, t: usize, domain: u8, range: Range, attr: Attr, taken: usize)
+        requires { t < THREADS }
+        ensures { self.new ≡ after self.old t 0 (Pending.DomAdd domain range attr) (drop taken (thread_at self.old t).pending) }
+    {
+        let before = self.domain_at(domain);
+        let made = added(self.image, &before, range, attr);
+        let reply = reply_to(&made);
+        self.put_domain(t, domain, domain_after(before, made), reply, taken);
+    }
+
+    /// The removal of a partition from a domain.
+    pub fn domain_remove(&mut self, t: usize, domain: u8, range: Range, attr: Attr, taken: usize)
+        requires { t < THREADS }
+        ensures { self.new ≡ after self.old t 0 (Pending.DomRemove domain range attr) (drop taken (thread_at self.old t).pending) }
+    {
+        let before = self.domain_at(domain);
+        let made = removed(&before, range);
+        let reply = reply_to(&made);
+        self.put_domain(t, domain, domain_after(before, made), reply, taken);
+    }
+
+    /// What moving a thread into a domain replies.
+    pub fn move_reply(&self, domain: u8) -> Reply
+        ensures { result ≡ move_reply (domain_at self.now domain) }
+    {
+        match self.domains.get(domain as usize) {
+            Some(Some(_)) => Reply::Num(0),
+            _ => Reply::Fail(Errno::EINVAL),
+        }
+    }
+
+    /// A thread moves into a domain, where that is initialised.
+    #[tactic(auto, using(crate::proofs::PairLemmas::pendings_kept))]
+    pub fn domain_move(&mut self, t: usize, domain: u8, who: ThreadIx, taken: usize)
+        requires { t < THREADS }
+        ensures { self.new ≡ after self.old t 0 (Pending.DomMove domain who) (drop taken (thread_at self.old t).pending) }
+    {
+        let reply = self.move_reply(domain);
+        self.move_thread(who, domain, reply);
+        let thread = &mut self.threads[t];
+        thread.reply = reply;
+        thread.goes_on(self.image, taken);
+    }
+
+    /// A thread moves into a domain, unless that is refused.
+    fn move_thread(&mut self, who: ThreadIx, domain: u8, reply: Reply)
+        ensures { self.new ≡ moved self.old who.0 domain reply }
+    {
+        if let Reply::Num(_) = reply {
+            if (who.0 as usize) < THREADS {
+                self.threads[who.0 as usize].domain = domain;
+            }
+        }
+    }
+}

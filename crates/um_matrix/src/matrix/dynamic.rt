@@ -1,0 +1,79 @@
+//! The steps of dynamic objects and of pools.
+
+ghost use Rattle.std.specs.Prelude.{◌≡◌, ◌<◌, drop};
+
+use crate::matrix::Matrix;
+use crate::matrix::moves::{cost_of, pay_back, pay_from};
+use crate::matrix::transfer::answer_error;
+use um_base::{Addr, Errno, Kind, ROWS, Reply, THREADS};
+use um_machine::{Pending, Status};
+use um_rules::blank::vacant;
+use um_rules::rows::addr_of;
+
+/// What a dynamic object costs.
+const OBJECT_COST: u32 = 64;
+
+impl<'a> Matrix<'a> {
+    ghost use Rattle.um_machine.specs.State.{thread_at};
+    ghost use Rattle.um_machine.specs.Table.{after};
+
+    /// The reservation of a row, or NULL.
+    pub fn reserve(&mut self, t: usize, x: usize, kind: Kind, taken: usize)
+        requires thread { t < THREADS }
+        requires row { x < ROWS }
+        requires taken { 0 < taken }
+        ensures { self.new ≡ after self.old t x (Pending.Reserve kind) (drop taken (thread_at self.old t).pending) }
+    {
+        let thread = &mut self.threads[t];
+        if x == 0 {
+            thread.reply = Reply::Null;
+            thread.goes_on(self.image, taken);
+            return;
+        }
+        let addr = Addr(addr_of(self.image, x));
+        thread.reply = Reply::At(addr);
+        thread.goes_to(&Pending::Born { addr }, taken);
+        pay_from(&mut self.pools, thread.pool, OBJECT_COST);
+        let mut object = vacant();
+        object.kind = Some(kind);
+        object.status = Status::Reserved;
+        object.cost = cost_of(thread.pool, OBJECT_COST);
+        self.objects[x] = object;
+    }
+
+    /// The birth of a reserved object, which its creator holds.
+    #[tactic(auto, using(crate::proofs::PairLemmas::pendings_kept))]
+    pub fn born(&mut self, t: usize, a: Addr, taken: usize)
+        requires { t < THREADS }
+        ensures { self.new ≡ after self.old t 0 (Pending.Born a) (drop taken (thread_at self.old t).pending) }
+    {
+        let x = self.row_of(a);
+        self.objects[x].status = Status::Live;
+        self.paired(t, x, true);
+        self.threads[t].goes_on(self.image, taken);
+    }
+
+    /// A buffer from the pool, or the answer that there is none.
+    pub fn buffer(&mut self, t: usize, size: u32, taken: usize)
+        requires { t < THREADS }
+        ensures { self.new ≡ after self.old t 0 (Pending.Buffer size) (drop taken (thread_at self.old t).pending) }
+    {
+        let pool = self.threads[t].pool;
+        if self.pays(pool, size) {
+            pay_from(&mut self.pools, pool, size);
+            self.threads[t].goes_on(self.image, taken);
+        } else {
+            self.threads[t].turns_to(&answer_error(Errno::ENOMEM));
+        }
+    }
+
+    /// The pool gets a buffer back.
+    pub fn unbuffer(&mut self, t: usize, size: u32, taken: usize)
+        requires { t < THREADS }
+        ensures { self.new ≡ after self.old t 0 (Pending.Unbuffer size) (drop taken (thread_at self.old t).pending) }
+    {
+        let thread = &mut self.threads[t];
+        pay_back(&mut self.pools, cost_of(thread.pool, size));
+        thread.goes_on(self.image, taken);
+    }
+}

@@ -1,0 +1,91 @@
+//! What the steps change.
+
+ghost use Rattle.std.specs.Prelude.{◌≡◌, ◌<◌, drop};
+ghost use Rattle.um_machine.specs.Limits.{IsSound};
+
+use crate::matrix::Matrix;
+use crate::matrix::creation::Beginning;
+use um_base::{ROWS, THREADS};
+use um_machine::Pending;
+
+impl<'a> Matrix<'a> {
+    ghost use Rattle.um_machine.specs.State.{thread_at};
+    ghost use Rattle.um_machine.specs.Table.{after};
+
+    /// Makes a step with the row that it chooses, where it does. The thread goes on behind so many of its steps.
+    pub fn make(&mut self, t: usize, x: usize, step: &Pending, taken: usize)
+        requires thread { t < THREADS }
+        requires row { x < ROWS }
+        requires sound { IsSound step.now }
+        requires taken { 0 < taken }
+        ensures { self.new ≡ after self.old t x step.now (drop taken (thread_at self.old t).pending) }
+    {
+        match step {
+            Pending::Begin | Pending::Exit => unreachable!(),
+            Pending::Check {
+                addr,
+                kind,
+                want,
+                refusal,
+            } => self.check(t, *addr, *kind, *want, *refusal, taken),
+            Pending::Load { to, addr, size } => self.load(t, *to, *addr, *size, taken),
+            Pending::Store { addr, size, value } => self.store(t, *addr, *size, *value, taken),
+            Pending::Fetch { addr } => self.fetch(t, *addr, taken),
+            Pending::Probe { addr, amount } => self.probe(t, *addr, *amount, taken),
+            Pending::CopyIn { addr, amount } => self.copy_in(t, *addr, *amount, taken),
+            Pending::CopyOut { addr } => self.copy_out(t, *addr, taken),
+            Pending::CopyStr { addr } => self.copy_string(t, *addr, taken),
+            Pending::Erase { stack } => self.erase(t, *stack, taken),
+            Pending::Work { addr, ask } => self.work(t, *addr, ask, taken),
+            Pending::Resume => self.resume(t, taken),
+            Pending::Answer { reply, to } => self.answer(t, *reply, *to, taken),
+            Pending::Grant { who, addr } => self.grant(t, *who, *addr, taken),
+            Pending::Own { who } => self.own(t, *who, taken),
+            Pending::Inherit { who } => self.inherit(t, x, *who, taken),
+            Pending::DropPair { who, addr } => self.drop_by_call(t, *who, *addr, taken),
+            Pending::Publish { addr } => self.publish(t, *addr, taken),
+            Pending::SetInit { addr, strict, undo } => {
+                self.set_init(t, *addr, *strict, *undo, taken)
+            }
+            Pending::ClearInit { addr } => self.clear_init(t, *addr, taken),
+            Pending::Named { who } => self.named(t, *who, taken),
+            Pending::Reserve { kind } => self.reserve(t, x, *kind, taken),
+            Pending::Born { addr } => self.born(t, *addr, taken),
+            Pending::Buffer { size } => self.buffer(t, *size, taken),
+            Pending::Unbuffer { size } => self.unbuffer(t, *size, taken),
+            Pending::DomInit { domain, parts } => self.domain_init(t, *domain, parts, taken),
+            Pending::DomAdd {
+                domain,
+                range,
+                attr,
+            } => self.domain_add(t, *domain, *range, *attr, taken),
+            Pending::DomRemove {
+                domain,
+                range,
+                attr,
+            } => self.domain_remove(t, *domain, *range, *attr, taken),
+            Pending::DomMove { domain, who } => self.domain_move(t, *domain, *who, taken),
+            Pending::Start {
+                who,
+                script,
+                stack,
+                priority,
+                mode,
+            } => {
+                let start = Beginning {
+                    script: *script,
+                    stack: *stack,
+                    priority: *priority,
+                    mode: *mode,
+                };
+                self.start(t, *who, start, taken);
+            }
+            Pending::EnterUser { script } => self.enter_user(t, *script, taken),
+            Pending::Fatal { reason, cause } => self.fatal(t, *reason, *cause, taken),
+            Pending::Drops { from } => self.end_drop(t, x, *from, taken),
+            Pending::Dooms { from } => self.doom(t, *from, taken),
+            Pending::CleanPair { who } => self.clean_pair(t, x, *who),
+            Pending::Recycle => self.recycle(x),
+        }
+    }
+}

@@ -1,0 +1,154 @@
+//! What steps have in common: pairs come and go, and pools pay.
+
+ghost use Rattle.std.specs.Prelude.{◌≡◌, ◌<◌, ◌≤◌, [], false, not, ◌&&◌, slice_index_or, slice_set, map, length, List, Bool};
+ghost use Rattle.um_machine.specs.Table.{stays_due, with_dues, paid_back, paid_from, cost_of};
+
+use crate::matrix::Matrix;
+use um_base::{Given, Leftover, ROWS, THREADS, ThreadIx};
+use um_machine::{Cost, Status, Thread};
+
+impl<'a> Matrix<'a> {
+    ghost use Rattle.um_machine.specs.Table.{paired, after_drop, after_given};
+
+    /// A pair comes or goes, and the row leaves what is due.
+    pub fn paired(&mut self, t: usize, x: usize, there: bool)
+        ensures { self.new ≡ paired self.old t x there }
+    {
+        if x < ROWS {
+            put(&mut self.pairs[x], t, there);
+        }
+        settle(&mut self.threads, x, holders_of(self.pairs.as_slice(), x));
+    }
+
+    /// Drops a pair: a dynamic object that lost its last pair is gone.
+    pub fn drop_pair(&mut self, t: usize, x: usize)
+        requires { x < ROWS }
+        ensures { self.new ≡ after_drop self.old t x }
+    {
+        match self.dropped(t, x) {
+            Leftover::NoPair => {}
+            Leftover::Kept => self.paired(t, x, false),
+            Leftover::Gone => {
+                self.paired(t, x, false);
+                self.objects[x].status = Status::Gone;
+            }
+        }
+    }
+
+    /// Gives a pair, unless the object is gone.
+    pub fn give_pair(&mut self, t: usize, x: usize)
+        ensures { self.new ≡ after_given self.old t x }
+    {
+        match self.given(x) {
+            Given::Gone => {}
+            Given::Done => self.paired(t, x, true),
+        }
+    }
+}
+
+/// Who has a pair with the object of a row: nobody past the table.
+pub fn holders_of(pairs: &[[bool; THREADS]], x: usize) -> &[bool]
+    ensures value { result.now ≡ slice_index_or pairs.now x [] }
+    ensures few { length result.now ≤ THREADS }
+{
+    match pairs.get(x) {
+        Some(holders) => holders,
+        None => &[],
+    }
+}
+
+/// Whether a flag is set. None is past the end.
+pub fn flag(flags: &[bool], i: usize) -> bool
+    ensures { result ≡ slice_index_or flags.now i false }
+{
+    i < flags.len() && flags[i]
+}
+
+/// Writes a flag, if there is one.
+pub fn put(flags: &mut [bool], i: usize, there: bool)
+    ensures { flags.new ≡ slice_set flags.old i there }
+{
+    if i < flags.len() {
+        flags[i] = there;
+    }
+}
+
+/// The rows with which a thread has a pair.
+pub fn rows_held(pairs: &[[bool; THREADS]], t: usize) -> [bool; ROWS]
+    requires { length pairs.now ≡ ROWS }
+    ensures { result ≡ map (λ (flags : List Bool). slice_index_or flags t false) pairs.now }
+{
+    let mut rows = [false; ROWS];
+    for (x, holders) in pairs.iter().enumerate() {
+        rows[x] = flag(holders, t);
+    }
+    rows
+}
+
+/// The rows with which a thread has a pair and another has none.
+pub fn rows_to_pass(pairs: &[[bool; THREADS]], t: usize, who: usize) -> [bool; ROWS]
+    requires { length pairs.now ≡ ROWS }
+    ensures { result ≡ map (λ (holders : List Bool). slice_index_or holders t false && not (slice_index_or holders who false)) pairs.now }
+{
+    let mut rows = [false; ROWS];
+    for (x, holders) in pairs.iter().enumerate() {
+        rows[x] = flag(holders, t) && !flag(holders, who);
+    }
+    rows
+}
+
+/// Whether a row stays due to a thread, by those who hold it.
+fn stays_due(t: usize, child: Option<ThreadIx>, holders: &[bool]) -> bool
+    ensures { result ≡ stays_due t child holders.now }
+{
+    let has = flag(holders, t);
+    match child {
+        None => has,
+        Some(child) => has && !flag(holders, child.0 as usize),
+    }
+}
+
+/// The row leaves what is due to the threads.
+fn settle(threads: &mut [Thread], x: usize, holders: &[bool])
+    ensures { threads.new ≡ with_dues x 0 holders.now threads.old }
+{
+    for t in 0..threads.len() {
+        let thread = &mut threads[t];
+        let stays = flag(&thread.due, x) && stays_due(t, thread.child, holders);
+        put(&mut thread.due, x, stays);
+    }
+}
+
+/// A pool gets bytes back.
+pub fn pay_back(pools: &mut [u32], cost: Option<Cost>)
+    ensures { pools.new ≡ paid_back cost pools.old }
+{
+    if let Some(cost) = cost {
+        let pool = cost.pool as usize;
+        if pool < pools.len() {
+            pools[pool] = pools[pool].saturating_add(cost.bytes);
+        }
+    }
+}
+
+/// Bytes are taken from a pool.
+pub fn pay_from(pools: &mut [u32], pool: Option<u8>, size: u32)
+    ensures { pools.new ≡ paid_from pool size pools.old }
+{
+    if let Some(pool) = pool {
+        let pool = pool as usize;
+        if pool < pools.len() {
+            pools[pool] = pools[pool].saturating_sub(size);
+        }
+    }
+}
+
+/// What a thread's pool pays.
+pub fn cost_of(pool: Option<u8>, size: u32) -> Option<Cost>
+    ensures { result ≡ cost_of pool size }
+{
+    match pool {
+        None => None,
+        Some(pool) => Some(Cost { pool, bytes: size }),
+    }
+}

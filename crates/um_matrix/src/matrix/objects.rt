@@ -1,0 +1,170 @@
+//! Checks and answers, and the steps that mark an object.
+
+ghost use Rattle.std.specs.Prelude.{◌≡◌, ◌<◌, ◌∷◌, [], drop, Some};
+ghost use Rattle.um_machine.specs.Limits.{IsSound};
+ghost use Rattle.um_machine.specs.Order.{refuses};
+ghost use Rattle.um_machine.specs.Table.{after_check, with_answer, at_steps, cleared_first};
+ghost use Rattle.um_base.specs.declared.image.Image.{Image};
+
+use crate::matrix::Matrix;
+use crate::matrix::checks::set_said;
+use crate::matrix::transfer::put_register;
+use um_base::{
+    Addr, Cause, Errno, Given, Kind, Mode, ROWS, Reply, SetSaid, THREADS, ThreadIx, Want,
+};
+use um_machine::{Contents, Pending, Refusal, Thread};
+use um_rules::rows::own_row;
+
+/// The end of a call that is refused.
+pub fn refuses(mode: Mode, cause: Cause) -> Pending
+    ensures value { refuses mode cause ≡ result ∷ [] }
+    ensures sound { IsSound result }
+{
+    match mode {
+        Mode::User => Pending::Fatal { reason: 3, cause },
+        Mode::Supervisor => Pending::Fatal { reason: 4, cause },
+    }
+}
+
+/// What follows a check that isn't ok.
+fn refused(mode: Mode, refusal: Refusal, e: Errno) -> Pending
+    ensures value { after_check mode [] refusal (Some e) ≡ result ∷ [] }
+    ensures sound { IsSound result }
+{
+    match refusal {
+        Refusal::Fails => refuses(mode, Cause::Refused(e)),
+        Refusal::FailsUser => match mode {
+            Mode::User => refuses(mode, Cause::Refused(e)),
+            Mode::Supervisor => Pending::Answer {
+                reply: Some(Reply::Void),
+                to: None,
+            },
+        },
+        Refusal::Answers(reply) => Pending::Answer {
+            reply: Some(reply),
+            to: None,
+        },
+    }
+}
+
+/// Writes an answer to its register, where it has one and is a number, an address or NULL.
+fn put_answer(registers: &mut [u32], to: Option<u8>, reply: Reply)
+    ensures { registers.new ≡ with_answer registers.old to reply }
+{
+    let Some(to) = to else {
+        return;
+    };
+    match reply {
+        Reply::Num(n) => put_register(registers, to, n),
+        Reply::At(a) => put_register(registers, to, a.0),
+        Reply::Null => put_register(registers, to, 0),
+        _ => {}
+    }
+}
+
+/// What follows where an object can't be marked: the other one is cleared first.
+fn turn_back(thread: &mut Thread, undo: Option<Addr>, e: Errno)
+    ensures { (image : Image) → thread.new ≡ at_steps image thread.old (cleared_first undo (refuses thread.old.mode (Cause.Refused e))) }
+{
+    thread.turns_to(&refuses(thread.mode, Cause::Refused(e)));
+    if let Some(addr) = undo {
+        thread.pending.push(&Pending::ClearInit { addr });
+    }
+}
+
+impl<'a> Matrix<'a> {
+    ghost use Rattle.um_machine.specs.State.{thread_at};
+    ghost use Rattle.um_machine.specs.Table.{after};
+
+    /// A check: the object of one that is ok is held.
+    pub fn check(
+        &mut self,
+        t: usize,
+        a: Addr,
+        kind: Option<Kind>,
+        want: Want,
+        refusal: Refusal,
+        taken: usize,
+    )
+        requires { t < THREADS }
+        ensures { self.new ≡ after self.old t 0 (Pending.Check a kind want refusal) (drop taken (thread_at self.old t).pending) }
+    {
+        let verdict = self.verdict(t, a, kind, want);
+        let x = self.row_of(a);
+        let thread = &mut self.threads[t];
+        match verdict {
+            None => {
+                thread.checked[x] = true;
+                thread.goes_on(self.image, taken);
+            }
+            Some(e) => thread.turns_to(&refused(thread.mode, refusal, e)),
+        }
+    }
+
+    /// An answer: what the call has checked is let go.
+    pub fn answer(&mut self, t: usize, reply: Option<Reply>, to: Option<u8>, taken: usize)
+        requires { t < THREADS }
+        ensures { self.new ≡ after self.old t 0 (Pending.Answer reply to) (drop taken (thread_at self.old t).pending) }
+    {
+        let thread = &mut self.threads[t];
+        let reply = reply.unwrap_or(thread.reply);
+        thread.checked = [false; ROWS];
+        put_answer(&mut thread.registers, to, reply);
+        thread.goes_on(self.image, taken);
+    }
+
+    /// An object becomes public, unless it is gone.
+    pub fn publish(&mut self, t: usize, a: Addr, taken: usize)
+        requires { t < THREADS }
+        ensures { self.new ≡ after self.old t 0 (Pending.Publish a) (drop taken (thread_at self.old t).pending) }
+    {
+        let x = self.row_of(a);
+        match self.given(x) {
+            Given::Gone => {}
+            Given::Done => self.objects[x].public = true,
+        }
+        self.threads[t].goes_on(self.image, taken);
+    }
+
+    /// The marking of an object as initialised.
+    pub fn set_init(&mut self, t: usize, a: Addr, strict: bool, undo: Option<Addr>, taken: usize)
+        requires { t < THREADS }
+        ensures { self.new ≡ after self.old t 0 (Pending.SetInit a strict undo) (drop taken (thread_at self.old t).pending) }
+    {
+        let x = self.row_of(a);
+        match set_said(&self.objects[x], strict) {
+            SetSaid::Done => {
+                self.objects[x].init = true;
+                self.threads[t].goes_on(self.image, taken);
+            }
+            SetSaid::Gone => self.threads[t].goes_on(self.image, taken),
+            SetSaid::Fail(e) => turn_back(&mut self.threads[t], undo, e),
+        }
+    }
+
+    /// The clearing of an object's initialised state.
+    pub fn clear_init(&mut self, t: usize, a: Addr, taken: usize)
+        requires { t < THREADS }
+        ensures { self.new ≡ after self.old t 0 (Pending.ClearInit a) (drop taken (thread_at self.old t).pending) }
+    {
+        let x = self.row_of(a);
+        let own = own_row(self.image, t);
+        self.objects[x].init = false;
+        let thread = &mut self.threads[t];
+        thread.keeps_own = thread.keeps_own && x != own;
+        thread.goes_on(self.image, taken);
+    }
+
+    /// A thread object gets the name in the buffer.
+    pub fn named(&mut self, t: usize, who: ThreadIx, taken: usize)
+        requires { t < THREADS }
+        ensures { self.new ≡ after self.old t 0 (Pending.Named who) (drop taken (thread_at self.old t).pending) }
+    {
+        let x = self.own_row(who);
+        let name = self.threads[t].buffer;
+        if x < ROWS {
+            self.objects[x].contents = Contents::Named(name);
+        }
+        self.threads[t].goes_on(self.image, taken);
+    }
+}

@@ -1,0 +1,72 @@
+//! The steps that give, pass on and drop permissions.
+
+ghost use Rattle.std.specs.Prelude.{◌≡◌, ◌<◌, drop, slice_set, Some, false};
+
+use crate::matrix::Matrix;
+use crate::matrix::moves::{put, rows_to_pass};
+use um_base::{Addr, THREADS, ThreadIx};
+use um_machine::Pending;
+use um_rules::rows::own_row;
+
+impl<'a> Matrix<'a> {
+    ghost use Rattle.um_machine.specs.State.{thread_at};
+    ghost use Rattle.um_machine.specs.Table.{after, goes_on, rows_to_pass};
+
+    /// A grant, unless the object is gone.
+    #[tactic(auto, using(crate::proofs::PairLemmas::pendings_kept))]
+    pub fn grant(&mut self, t: usize, who: ThreadIx, a: Addr, taken: usize)
+        requires { t < THREADS }
+        ensures { self.new ≡ after self.old t 0 (Pending.Grant who a) (drop taken (thread_at self.old t).pending) }
+    {
+        let x = self.row_of(a);
+        self.give_pair(who.0 as usize, x);
+        self.threads[t].goes_on(self.image, taken);
+    }
+
+    /// A new thread gets its own object, and what its creator has to pass on is due.
+    #[tactic(auto, using(crate::proofs::PairLemmas::pendings_kept))]
+    pub fn own(&mut self, t: usize, who: ThreadIx, taken: usize)
+        requires { t < THREADS }
+        ensures { self.new ≡ after self.old t 0 (Pending.Own who) (drop taken (thread_at self.old t).pending) }
+    {
+        let x = self.own_row(who);
+        let own = own_row(self.image, t);
+        self.give_pair(who.0 as usize, x);
+        self.passes_on(t, who, own, taken);
+    }
+
+    /// A thread goes on, and what it has to pass on to a new thread is due: all that it has but its own object.
+    fn passes_on(&mut self, t: usize, who: ThreadIx, own: usize, taken: usize)
+        requires { t < THREADS }
+        ensures { self.new ≡ goes_on self.old t (record (thread_at self.old t) { child = Some who; due = slice_set (rows_to_pass self.old t who.0) own false }) (drop taken (thread_at self.old t).pending) }
+    {
+        let mut due = rows_to_pass(self.pairs.as_slice(), t, who.0 as usize);
+        put(&mut due, own, false);
+        let thread = &mut self.threads[t];
+        thread.child = Some(who);
+        thread.due = due;
+        thread.goes_on(self.image, taken);
+    }
+
+    /// One pair of an inheritance.
+    #[tactic(auto, using(crate::proofs::PairLemmas::pendings_kept))]
+    pub fn inherit(&mut self, t: usize, x: usize, who: ThreadIx, taken: usize)
+        requires thread { t < THREADS }
+        requires taken { 0 < taken }
+        ensures { self.new ≡ after self.old t x (Pending.Inherit who) (drop taken (thread_at self.old t).pending) }
+    {
+        self.paired(who.0 as usize, x, true);
+        self.threads[t].goes_to(&Pending::Inherit { who }, taken);
+    }
+
+    /// The drop of one pair by a call.
+    #[tactic(auto, using(crate::proofs::PairLemmas::pendings_kept))]
+    pub fn drop_by_call(&mut self, t: usize, who: ThreadIx, a: Addr, taken: usize)
+        requires { t < THREADS }
+        ensures { self.new ≡ after self.old t 0 (Pending.DropPair who a) (drop taken (thread_at self.old t).pending) }
+    {
+        let x = self.row_of(a);
+        self.drop_pair(who.0 as usize, x);
+        self.threads[t].goes_on(self.image, taken);
+    }
+}

@@ -1,0 +1,238 @@
+//! Accesses and copies: the steps that read and write memory.
+
+ghost use Rattle.std.specs.Prelude.{◌≡◌, ◌<◌, ◌≤◌, ◌∷◌, [], drop, take, slice_set};
+ghost use Rattle.um_base.specs.Regions.{stack_range};
+ghost use Rattle.um_machine.specs.Limits.{IsSound};
+ghost use Rattle.um_machine.specs.Order.{copy_fails, answer_error};
+ghost use Rattle.um_machine.specs.Table.{message_size};
+ghost use Rattle.um_matrix.specs.Offered.{IsShort};
+
+use crate::matrix::Matrix;
+use um_base::{
+    Access, Addr, Cause, Errno, Found, Mode, PIECE, Piece, Range, Reply, Row, Setup, THREADS,
+};
+use um_machine::{Amount, Contents, Pending};
+use um_rules::bytes::{le_value, part};
+
+/// What follows an access that isn't allowed.
+const FAULT: Pending = Pending::Fatal {
+    reason: 0,
+    cause: Cause::Access,
+};
+
+/// What follows a copy that isn't allowed.
+fn copy_fails(mode: Mode) -> Pending
+    ensures value { copy_fails mode ≡ result ∷ [] }
+    ensures sound { IsSound result }
+{
+    match mode {
+        Mode::User => Pending::Fatal {
+            reason: 3,
+            cause: Cause::Refused(Errno::EFAULT),
+        },
+        Mode::Supervisor => FAULT,
+    }
+}
+
+/// The answer of an error.
+pub fn answer_error(e: Errno) -> Pending
+    ensures value { answer_error e ≡ result ∷ [] }
+    ensures sound { IsSound result }
+{
+    Pending::Answer {
+        reply: Some(Reply::Fail(e)),
+        to: None,
+    }
+}
+
+/// The bytes of a message, where a queue keeps them.
+fn message_size(contents: &Contents) -> u32
+    ensures { result ≡ message_size contents.now }
+{
+    match contents {
+        Contents::Msgq(queue) => queue.size(),
+        _ => 0,
+    }
+}
+
+impl<'a> Matrix<'a> {
+    ghost use Rattle.um_machine.specs.State.{thread_at};
+    ghost use Rattle.um_machine.specs.Table.{after, after_string, amount_of, erased};
+    ghost use Rattle.um_base.specs.Places.{setup_at};
+
+    /// How many bytes are copied or probed.
+    pub fn amount_of(&self, amount: Amount) -> u32
+        ensures { result ≡ amount_of self.now amount }
+    {
+        match amount {
+            Amount::Bytes(n) => n,
+            Amount::MessageOf(a) => message_size(&self.objects[self.row_of(a)].contents),
+        }
+    }
+
+    /// A load, or its fault.
+    pub fn load(&mut self, t: usize, to: u8, a: Addr, n: u32, taken: usize)
+        requires thread { t < THREADS }
+        requires few { n ≤ 4 }
+        ensures { self.new ≡ after self.old t 0 (Pending.Load to a n) (drop taken (thread_at self.old t).pending) }
+    {
+        if self.allowed(t, Access::Read, a.0, n) {
+            let value = le_value(self.bytes_at(a.0, n));
+            let thread = &mut self.threads[t];
+            put_register(&mut thread.registers, to, value);
+            thread.goes_on(self.image, taken);
+        } else {
+            self.threads[t].turns_to(&FAULT);
+        }
+    }
+
+    /// A store, or its fault.
+    pub fn store(&mut self, t: usize, a: Addr, n: u32, value: u32, taken: usize)
+        requires { t < THREADS }
+        ensures { self.new ≡ after self.old t 0 (Pending.Store a n value) (drop taken (thread_at self.old t).pending) }
+    {
+        if self.allowed(t, Access::Write, a.0, n) {
+            self.write_number(a.0, n, value);
+            self.threads[t].goes_on(self.image, taken);
+        } else {
+            self.threads[t].turns_to(&FAULT);
+        }
+    }
+
+    /// A fetch, or its fault.
+    pub fn fetch(&mut self, t: usize, a: Addr, taken: usize)
+        requires { t < THREADS }
+        ensures { self.new ≡ after self.old t 0 (Pending.Fetch a) (drop taken (thread_at self.old t).pending) }
+    {
+        if self.allowed(t, Access::Exec, a.0, 4) {
+            self.threads[t].goes_on(self.image, taken);
+        } else {
+            self.threads[t].turns_to(&FAULT);
+        }
+    }
+
+    /// The test of a buffer that a call will write.
+    pub fn probe(&mut self, t: usize, a: Addr, amount: Amount, taken: usize)
+        requires { t < THREADS }
+        ensures { self.new ≡ after self.old t 0 (Pending.Probe a amount) (drop taken (thread_at self.old t).pending) }
+    {
+        let n = self.amount_of(amount);
+        if self.allowed(t, Access::Write, a.0, n) {
+            self.threads[t].goes_on(self.image, taken);
+        } else {
+            let thread = &mut self.threads[t];
+            thread.turns_to(&copy_fails(thread.mode));
+        }
+    }
+
+    /// A copy from a caller's memory.
+    pub fn copy_in(&mut self, t: usize, a: Addr, amount: Amount, taken: usize)
+        requires { t < THREADS }
+        ensures { self.new ≡ after self.old t 0 (Pending.CopyIn a amount) (drop taken (thread_at self.old t).pending) }
+    {
+        let n = self.amount_of(amount);
+        if self.allowed(t, Access::Read, a.0, n) {
+            let buffer = first_bytes(self.bytes_at(a.0, n));
+            let thread = &mut self.threads[t];
+            thread.buffer = buffer;
+            thread.goes_on(self.image, taken);
+        } else {
+            let thread = &mut self.threads[t];
+            thread.turns_to(&copy_fails(thread.mode));
+        }
+    }
+
+    /// A copy of the buffer to a caller's memory.
+    pub fn copy_out(&mut self, t: usize, a: Addr, taken: usize)
+        requires { t < THREADS }
+        ensures { self.new ≡ after self.old t 0 (Pending.CopyOut a) (drop taken (thread_at self.old t).pending) }
+    {
+        let buffer = self.threads[t].buffer;
+        if self.allowed(t, Access::Write, a.0, buffer.len() as u32) {
+            self.write(a.0, buffer.as_slice());
+            self.threads[t].goes_on(self.image, taken);
+        } else {
+            let thread = &mut self.threads[t];
+            thread.turns_to(&copy_fails(thread.mode));
+        }
+    }
+
+    /// A copy of a string from a caller's memory.
+    pub fn copy_string(&mut self, t: usize, a: Addr, taken: usize)
+        requires { t < THREADS }
+        ensures { self.new ≡ after self.old t 0 (Pending.CopyStr a) (drop taken (thread_at self.old t).pending) }
+    {
+        let found = self.string_read(t, a.0);
+        self.take_string(t, a, found, taken);
+    }
+
+    /// What follows a string read.
+    fn take_string(&mut self, t: usize, a: Addr, found: Found, taken: usize)
+        requires thread { t < THREADS }
+        requires short { IsShort found }
+        ensures { self.new ≡ after_string self.old t (thread_at self.old t) a (drop taken (thread_at self.old t).pending) found }
+    {
+        match found {
+            Found::Length(n) => {
+                let buffer = self.string_bytes(a.0, n);
+                let thread = &mut self.threads[t];
+                thread.buffer = buffer;
+                thread.goes_on(self.image, taken);
+            }
+            Found::Unreadable => self.threads[t].turns_to(&answer_error(Errno::EFAULT)),
+            Found::TooLong => self.threads[t].turns_to(&answer_error(Errno::EINVAL)),
+        }
+    }
+
+    /// Zero bytes over a thread stack.
+    pub fn erase(&mut self, t: usize, stack: Row, taken: usize)
+        requires { t < THREADS }
+        ensures { self.new ≡ after self.old t 0 (Pending.Erase stack) (drop taken (thread_at self.old t).pending) }
+    {
+        if let Some(range) = self.stack_range(stack) {
+            self.clear(range);
+        }
+        self.threads[t].goes_on(self.image, taken);
+    }
+
+    /// The range of the stack of a row, if it is one.
+    fn stack_range(&self, stack: Row) -> Option<Range>
+        ensures { result ≡ stack_range (setup_at self.now.image stack.0) }
+    {
+        match self.image.objects.as_slice().get(stack.0 as usize) {
+            Some(object) => stack_range(object.setup),
+            None => None,
+        }
+    }
+}
+
+/// The range of a stack.
+fn stack_range(setup: Setup) -> Option<Range>
+    ensures { result ≡ stack_range setup }
+{
+    match setup {
+        Setup::ThreadStack { range, .. } => Some(range),
+        _ => None,
+    }
+}
+
+/// As many bytes as a copy takes at most.
+fn first_bytes(bytes: &[u8]) -> Piece
+    ensures { result ≡ take PIECE bytes.now }
+{
+    let front = part(bytes, 0, PIECE);
+    let mut piece = Piece::new();
+    for i in 0..front.len() {
+        piece.push(front[i]);
+    }
+    piece
+}
+
+/// Writes a register, if it is one.
+pub fn put_register(registers: &mut [u32], to: u8, value: u32)
+    ensures { registers.new ≡ slice_set registers.old to value }
+{
+    if (to as usize) < registers.len() {
+        registers[to as usize] = value;
+    }
+}

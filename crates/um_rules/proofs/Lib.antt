@@ -1,0 +1,3 @@
+mod ByteLemmas
+pub mod OrderLemmas
+pub mod RegionLemmas

@@ -1,0 +1,10 @@
+//! The rules of the machine as functions over slices and records, each with a definition of the machine as its contract.
+#![tactic(auto)]
+
+pub mod blank;
+pub mod bytes;
+pub mod domains;
+pub mod order;
+pub mod regions;
+pub mod rows;
+pub mod same;

@@ -1,0 +1,3 @@
+pub mod PipeLemmas
+mod StackLemmas
+pub mod WakingLemmas

@@ -1,0 +1,113 @@
+//! Message queues (Zephyr: Kernel Services, Message Queues).
+
+ghost use Rattle.std.specs.Prelude.{◌≡◌, ◌<◌, length, List};
+ghost use Rattle.um_base.specs.declared.ask.Waiter.{Waiter};
+ghost use Rattle.um_machine.specs.declared.contents.Contents.TheVariants as Contents;
+ghost use Rattle.um_machine.specs.Serving.{served};
+ghost use Rattle.um_machine.specs.declared.served.Served.TheVariants as Served;
+ghost use Rattle.um_machine.specs.Services.{in_order, message_of, msgq_put, msgq_take, msgq_get, msgq_peek, msgq_purge, msgq_act};
+ghost use Rattle.um_service.specs.Left.{left};
+
+use crate::outcome::Outcome;
+use crate::waking::{answers, blocks, gives, wake_all, wakes};
+use um_base::{Answer, Ask, Errno, Piece, Reply, THREADS, Timeout, Waiter};
+use um_machine::{MessageQueue, Served, Waiters};
+
+/// Hands a message to the getter that is served first, or puts it behind the others, or waits for room.
+fn put(
+    queue: &mut MessageQueue,
+    waiters: &mut Waiters,
+    who: &Waiter,
+    message: &Piece,
+    timeout: Timeout,
+) -> Outcome
+    requires { who.now.thread.0 < THREADS }
+    ensures { msgq_put queue.old.size queue.old.most queue.old.messages waiters.old who.now message.now timeout (in_order (served Served.Getters waiters.old))
+        ≡ left (Contents.Msgq queue.new) waiters.new result }
+{
+    match waiters.take_first(Served::Getters) {
+        Some(first) => wakes(Reply::Num(0), &first, message),
+        None => {
+            if queue.len() >= queue.most() as usize {
+                return blocks(waiters, who, timeout, Errno::ENOMSG);
+            }
+            queue.push(message);
+            answers(Reply::Num(0))
+        }
+    }
+}
+
+/// The message that a waiting putter puts.
+fn message_of(ask: &Ask) -> Piece
+    ensures { result ≡ message_of ask.now }
+{
+    match ask {
+        Ask::MsgqPut { message, .. } => *message,
+        _ => Piece::new(),
+    }
+}
+
+/// Gives the caller a message that was taken, and puts that of the putter that is served first.
+fn pass(queue: &mut MessageQueue, waiters: &mut Waiters, message: &Piece) -> Outcome
+    requires { length queue.old.messages < 64 }
+    ensures { msgq_take queue.old.size queue.old.most message.now queue.old.messages waiters.old (in_order (served Served.Putters waiters.old))
+        ≡ left (Contents.Msgq queue.new) waiters.new result }
+{
+    match waiters.take_first(Served::Putters) {
+        Some(first) => {
+            queue.push(&message_of(&first.ask));
+            let mut outcome = wakes(Reply::Num(0), &first, &Piece::new());
+            outcome.taken = *message;
+            outcome
+        }
+        None => gives(Reply::Num(0), message),
+    }
+}
+
+/// Takes the oldest message, or waits for one.
+fn get(queue: &mut MessageQueue, waiters: &mut Waiters, who: &Waiter, timeout: Timeout) -> Outcome
+    requires { who.now.thread.0 < THREADS }
+    ensures { msgq_get queue.old.size queue.old.most queue.old.messages waiters.old who.now timeout ≡ left (Contents.Msgq queue.new) waiters.new result }
+{
+    match queue.pop() {
+        Some(message) => pass(queue, waiters, &message),
+        None => blocks(waiters, who, timeout, Errno::ENOMSG),
+    }
+}
+
+/// Copies the oldest message, which stays.
+fn peek(queue: &MessageQueue) -> Outcome
+    ensures { (waiters : List Waiter) → msgq_peek queue.now.size queue.now.most queue.now.messages waiters ≡ left (Contents.Msgq queue.now) waiters result }
+{
+    match queue.first() {
+        Some(message) => gives(Reply::Num(0), &message),
+        None => answers(Reply::Fail(Errno::ENOMSG)),
+    }
+}
+
+/// Takes all messages out, and wakes those who wait for room.
+fn purge(queue: &mut MessageQueue, waiters: &mut Waiters) -> Outcome
+    ensures { msgq_purge queue.old.size queue.old.most waiters.old ≡ left (Contents.Msgq queue.new) waiters.new result }
+{
+    queue.clear();
+    Outcome {
+        answer: Answer::Now(Reply::Void),
+        taken: Piece::new(),
+        woken: wake_all(waiters, Served::Putters, Errno::ENOMSG),
+    }
+}
+
+/// What a call asks of a queue.
+pub fn act(queue: &mut MessageQueue, waiters: &mut Waiters, who: &Waiter) -> Outcome
+    requires { who.now.thread.0 < THREADS }
+    ensures { msgq_act queue.old.size queue.old.most queue.old.messages waiters.old who.now who.now.ask ≡ left (Contents.Msgq queue.new) waiters.new result }
+{
+    match &who.ask {
+        Ask::MsgqPut { message, timeout } => put(queue, waiters, who, message, *timeout),
+        Ask::MsgqGet { timeout } => get(queue, waiters, who, *timeout),
+        Ask::MsgqPeek => peek(queue),
+        Ask::MsgqPurge => purge(queue, waiters),
+        Ask::MsgqUsed => answers(Reply::Num(queue.len() as u32)),
+        _ => answers(Reply::Void),
+    }
+}

@@ -1,0 +1,97 @@
+//! Mutexes (Zephyr: Kernel Services, Mutexes). A waiter's priority isn't lent to the owner.
+
+ghost use Rattle.std.specs.Prelude.{◌≡◌, ◌<◌};
+ghost use Rattle.um_machine.specs.declared.contents.Contents.TheVariants as Contents;
+ghost use Rattle.um_machine.specs.Services.{in_order, mutex_lock, mutex_passes, mutex_unlock, mutex_act};
+ghost use Rattle.um_service.specs.Left.{left};
+
+use crate::outcome::Outcome;
+use crate::waking::{answers, blocks, wakes};
+use um_base::{Ask, Errno, Piece, Reply, THREADS, ThreadIx, Timeout, Waiter};
+use um_machine::{Served, Waiters};
+
+/// Locks a free mutex, or one of the caller's once more, or waits for it.
+fn lock(
+    owner: &mut Option<ThreadIx>,
+    depth: &mut u32,
+    waiters: &mut Waiters,
+    who: &Waiter,
+    timeout: Timeout,
+) -> Outcome
+    requires { who.now.thread.0 < THREADS }
+    ensures { mutex_lock owner.old depth.old waiters.old who.now timeout ≡ left (Contents.Mutex owner.new depth.new) waiters.new result }
+{
+    match *owner {
+        None => {
+            *owner = Some(who.thread);
+            *depth = 1;
+            answers(Reply::Num(0))
+        }
+        Some(thread) => {
+            if thread.0 != who.thread.0 {
+                return blocks(waiters, who, timeout, Errno::EBUSY);
+            }
+            *depth = depth.saturating_add(1);
+            answers(Reply::Num(0))
+        }
+    }
+}
+
+/// Passes a mutex on to the waiter that is served first, or frees it.
+fn pass(owner: &mut Option<ThreadIx>, depth: &mut u32, waiters: &mut Waiters) -> Outcome
+    ensures { mutex_passes waiters.old (in_order waiters.old) ≡ left (Contents.Mutex owner.new depth.new) waiters.new result }
+{
+    match waiters.take_first(Served::All) {
+        Some(first) => {
+            *owner = Some(first.thread);
+            *depth = 1;
+            wakes(Reply::Num(0), &first, &Piece::new())
+        }
+        None => {
+            *owner = None;
+            *depth = 0;
+            answers(Reply::Num(0))
+        }
+    }
+}
+
+/// Unlocks a mutex of the caller's once.
+fn unlock(
+    owner: &mut Option<ThreadIx>,
+    depth: &mut u32,
+    waiters: &mut Waiters,
+    who: &Waiter,
+) -> Outcome
+    ensures { mutex_unlock owner.old depth.old waiters.old who.now ≡ left (Contents.Mutex owner.new depth.new) waiters.new result }
+{
+    match *owner {
+        None => answers(Reply::Fail(Errno::EINVAL)),
+        Some(thread) => {
+            if thread.0 != who.thread.0 {
+                return answers(Reply::Fail(Errno::EPERM));
+            }
+            if *depth > 1 {
+                *depth -= 1;
+                return answers(Reply::Num(0));
+            }
+            pass(owner, depth, waiters)
+        }
+    }
+}
+
+/// What a call asks of a mutex.
+pub fn act(
+    owner: &mut Option<ThreadIx>,
+    depth: &mut u32,
+    waiters: &mut Waiters,
+    who: &Waiter,
+) -> Outcome
+    requires { who.now.thread.0 < THREADS }
+    ensures { mutex_act owner.old depth.old waiters.old who.now who.now.ask ≡ left (Contents.Mutex owner.new depth.new) waiters.new result }
+{
+    match who.ask {
+        Ask::MutexLock { timeout } => lock(owner, depth, waiters, who, timeout),
+        Ask::MutexUnlock => unlock(owner, depth, waiters, who),
+        _ => answers(Reply::Void),
+    }
+}

@@ -1,0 +1,78 @@
+//! What an act answers, and whom it wakes.
+
+ghost use Rattle.std.specs.Prelude.{◌≡◌, ◌<◌, ◌≤◌, [], ◌∷◌, ◌++◌, length};
+
+use std::marker::Model;
+use um_base::{Answer, Piece, Reply, THREADS, ThreadIx, Told};
+
+/// The woken threads, in the order of waking, each with what it is told.
+#[derive(Drop)]
+pub struct Woken {
+    items: [(ThreadIx, Told); THREADS],
+    len: usize,
+}
+
+impl Model for Woken {
+    ghost use Rattle.std.specs.Prelude.{List, ◌≡◌, ◌≤◌, length, take};
+    ghost use Rattle.um_base.specs.declared.ask.Told.{Told};
+    ghost use Rattle.um_base.specs.declared.limits.TheConstants.{THREADS};
+    ghost use Rattle.um_base.specs.declared.names.ThreadIx.{ThreadIx};
+
+    ghost Value = { List (ThreadIx × Told) };
+
+    ghost view = { λ w. take w.len w.items };
+
+    ghost invariant = { λ w. (w.len ≤ THREADS) × (length w.items ≡ THREADS) };
+}
+
+impl Woken {
+    /// Nobody.
+    pub fn new() -> Woken
+        ensures { result ≡ [] }
+    {
+        let nobody = (
+            ThreadIx(0),
+            Told {
+                reply: Reply::Void,
+                taken: Piece::new(),
+            },
+        );
+        Woken {
+            items: [nobody; THREADS],
+            len: 0,
+        }
+    }
+
+    /// The woken, the first one first.
+    pub fn as_slice(&self) -> &[(ThreadIx, Told)]
+        ensures value { result.now ≡ self.now }
+        ensures few { length result.now ≤ THREADS }
+    {
+        &self.items[..self.len]
+    }
+
+    /// How many are woken.
+    pub fn len(&self) -> usize
+        ensures value { result ≡ length self.now }
+        ensures few { result ≤ THREADS }
+    {
+        self.len
+    }
+
+    /// One more is woken, and told this.
+    pub fn push(&mut self, thread: ThreadIx, told: &Told)
+        requires { length self.old < THREADS }
+        ensures { self.new ≡ self.old ++ (thread, told.now) ∷ [] }
+    {
+        self.items[self.len] = (thread, *told);
+        self.len += 1;
+    }
+}
+
+/// What an act answers its caller, the bytes that the caller takes, and the woken.
+#[derive(Drop)]
+pub struct Outcome {
+    pub answer: Answer,
+    pub taken: Piece,
+    pub woken: Woken,
+}

@@ -1,0 +1,213 @@
+//! Pipes.
+
+ghost use Rattle.std.specs.Prelude.{◌≡◌, ◌-◌, ◌<◌, ◌≤◌, ◌++◌, ◌∷◌, [], length, take, drop, filter};
+ghost use Rattle.um_base.specs.declared.names.Reply.TheVariants as Reply;
+ghost use Rattle.um_machine.specs.declared.contents.Contents.TheVariants as Contents;
+ghost use Rattle.um_machine.specs.Services.{in_order, told, is_empty, is_reader, is_writer, read_length, written_bytes, readers_served, writers_served, still_waiting, pipe_write, pipe_take, pipe_read, pipe_act};
+ghost use Rattle.um_service.specs.Left.{left};
+
+use crate::outcome::{Outcome, Woken};
+use crate::waking::{answers, blocks, wakes_all};
+use um_base::{Answer, Ask, Errno, Piece, Reply, THREADS, Timeout, Told, Waiter};
+use um_machine::{BytePipe, Served, Waiters};
+
+/// At most so many of the first bytes.
+fn first_bytes(bytes: &[u8], n: usize) -> &[u8]
+    ensures value { result.now ≡ take n bytes.now }
+    ensures few { length result.now ≤ n }
+{
+    if n >= bytes.len() { bytes } else { &bytes[..n] }
+}
+
+/// How many bytes a read asks for.
+fn read_length(ask: &Ask) -> usize
+    ensures { result ≡ read_length ask.now }
+{
+    match ask {
+        Ask::PipeRead { length, .. } => *length as usize,
+        _ => 0,
+    }
+}
+
+/// A reader takes the bytes that are there, and is told how many.
+fn serve_reader(pipe: &mut BytePipe, first: &Waiter, woken: &mut Woken)
+    requires { length woken.old < THREADS }
+    ensures left { pipe.new ≡ record pipe.old { bytes = drop (read_length first.now.ask) pipe.old.bytes } }
+    ensures woken { let taken = take (read_length first.now.ask) pipe.old.bytes in
+        woken.new ≡ woken.old ++ told first.now (Reply.Num (length taken)) taken ∷ [] }
+{
+    let taken = pipe.take(read_length(&first.ask));
+    let told = Told {
+        reply: Reply::Num(taken.len() as u32),
+        taken,
+    };
+    woken.push(first.thread, &told);
+}
+
+/// Readers are served in the order of service while a byte is there.
+fn serve_readers(pipe: &mut BytePipe, waiters: &mut Waiters) -> Woken
+    ensures bytes { pipe.new ≡ record pipe.old { bytes = (readers_served (in_order (filter is_reader waiters.old)) pipe.old.bytes).0 } }
+    ensures woken { result ≡ (readers_served (in_order (filter is_reader waiters.old)) pipe.old.bytes).1 }
+    ensures waiters { waiters.new ≡ still_waiting result waiters.old }
+{
+    let waiting = waiters.len();
+    prove!(waiting <= THREADS);
+    let mut woken = Woken::new();
+    'serving: loop {
+        if pipe.len() == 0 {
+            return woken;
+        }
+        match waiters.take_first(Served::Readers) {
+            Some(first) => serve_reader(pipe, &first, &mut woken),
+            None => return woken,
+        }
+    }
+}
+
+/// A writer puts its bytes as far as there is room, and is told how many.
+fn serve_writer(pipe: &mut BytePipe, first: &Waiter, woken: &mut Woken)
+    requires room { length woken.old < THREADS }
+    ensures left { pipe.new ≡ record pipe.old { bytes = pipe.old.bytes ++ take (pipe.old.size - length pipe.old.bytes) (written_bytes first.now.ask) } }
+    ensures woken { let put = take (pipe.old.size - length pipe.old.bytes) (written_bytes first.now.ask) in
+        woken.new ≡ woken.old ++ told first.now (Reply.Num (length put)) [] ∷ [] }
+{
+    let room = (pipe.size() as usize).saturating_sub(pipe.len());
+    let bytes = written_bytes(&first.ask);
+    let put = first_bytes(bytes, room);
+    pipe.append(put);
+    let told = Told {
+        reply: Reply::Num(put.len() as u32),
+        taken: Piece::new(),
+    };
+    woken.push(first.thread, &told);
+}
+
+/// The bytes that a writer writes.
+fn written_bytes(ask: &Ask) -> &[u8]
+    ensures value { result.now ≡ written_bytes ask.now }
+    ensures few { length result.now ≤ 256 }
+{
+    match ask {
+        Ask::PipeWrite { bytes, .. } => bytes.as_slice(),
+        _ => &[],
+    }
+}
+
+/// Writers are served in the order of service while there is room.
+fn serve_writers(pipe: &mut BytePipe, waiters: &mut Waiters) -> Woken
+    ensures bytes { pipe.new ≡ record pipe.old { bytes = (writers_served pipe.old.size (in_order (filter is_writer waiters.old)) pipe.old.bytes).0 } }
+    ensures woken { result ≡ (writers_served pipe.old.size (in_order (filter is_writer waiters.old)) pipe.old.bytes).1 }
+    ensures waiters { waiters.new ≡ still_waiting result waiters.old }
+{
+    let waiting = waiters.len();
+    prove!(waiting <= THREADS);
+    let mut woken = Woken::new();
+    'serving: loop {
+        if pipe.len() >= pipe.size() as usize {
+            return woken;
+        }
+        match waiters.take_first(Served::Writers) {
+            Some(first) => serve_writer(pipe, &first, &mut woken),
+            None => return woken,
+        }
+    }
+}
+
+/// Writes bytes as far as there is room and serves readers, or waits for room.
+fn write(
+    pipe: &mut BytePipe,
+    waiters: &mut Waiters,
+    who: &Waiter,
+    n: u32,
+    given: &Piece,
+    timeout: Timeout,
+) -> Outcome
+    requires { who.now.thread.0 < THREADS }
+    ensures { pipe_write pipe.old.size pipe.old.bytes pipe.old.closed waiters.old who.now n given.now timeout ≡ left (Contents.Pipe pipe.new) waiters.new result }
+{
+    if n == 0 {
+        return answers(Reply::Num(0));
+    }
+    let closed = pipe.closed();
+    if closed {
+        return answers(Reply::Fail(Errno::EPIPE));
+    }
+    if pipe.len() >= pipe.size() as usize {
+        return blocks(waiters, who, timeout, Errno::EAGAIN);
+    }
+    let put = first_bytes(given.as_slice(), pipe.size() as usize - pipe.len());
+    pipe.append(put);
+    let woken = serve_readers(pipe, waiters);
+    Outcome {
+        answer: Answer::Now(Reply::Num(put.len() as u32)),
+        taken: Piece::new(),
+        woken,
+    }
+}
+
+/// Takes bytes that are there, and serves writers.
+fn take(pipe: &mut BytePipe, waiters: &mut Waiters, n: u32) -> Outcome
+    ensures { pipe_take pipe.old.size pipe.old.bytes pipe.old.closed waiters.old n ≡ left (Contents.Pipe pipe.new) waiters.new result }
+{
+    let taken = pipe.take(n as usize);
+    let woken = serve_writers(pipe, waiters);
+    Outcome {
+        answer: Answer::Now(Reply::Num(taken.len() as u32)),
+        taken,
+        woken,
+    }
+}
+
+/// Whether a pipe has no byte.
+fn is_empty(pipe: &BytePipe) -> bool
+    ensures { result ≡ is_empty pipe.now.bytes }
+{
+    pipe.len() == 0
+}
+
+/// Reads the bytes that are there, or waits for one.
+fn read(
+    pipe: &mut BytePipe,
+    waiters: &mut Waiters,
+    who: &Waiter,
+    n: u32,
+    timeout: Timeout,
+) -> Outcome
+    requires { who.now.thread.0 < THREADS }
+    ensures { pipe_read pipe.old.size pipe.old.bytes pipe.old.closed waiters.old who.now n timeout ≡ left (Contents.Pipe pipe.new) waiters.new result }
+{
+    if n == 0 {
+        return answers(Reply::Num(0));
+    }
+    if !is_empty(pipe) {
+        return take(pipe, waiters, n);
+    }
+    if pipe.closed() {
+        return answers(Reply::Fail(Errno::EPIPE));
+    }
+    blocks(waiters, who, timeout, Errno::EAGAIN)
+}
+
+/// What a call asks of a pipe.
+pub fn act(pipe: &mut BytePipe, waiters: &mut Waiters, who: &Waiter) -> Outcome
+    requires { who.now.thread.0 < THREADS }
+    ensures { pipe_act pipe.old.size pipe.old.bytes pipe.old.closed waiters.old who.now who.now.ask ≡ left (Contents.Pipe pipe.new) waiters.new result }
+{
+    match &who.ask {
+        Ask::PipeWrite {
+            length,
+            bytes,
+            timeout,
+        } => write(pipe, waiters, who, *length, bytes, *timeout),
+        Ask::PipeRead { length, timeout } => read(pipe, waiters, who, *length, *timeout),
+        Ask::PipeReset => {
+            pipe.clear();
+            wakes_all(waiters, Reply::Void, Errno::ECANCELED)
+        }
+        Ask::PipeClose => {
+            pipe.close();
+            wakes_all(waiters, Reply::Void, Errno::EPIPE)
+        }
+        _ => answers(Reply::Void),
+    }
+}

@@ -1,0 +1,59 @@
+//! Semaphores (Zephyr: Kernel Services, Semaphores).
+
+ghost use Rattle.std.specs.Prelude.{◌≡◌, ◌<◌};
+ghost use Rattle.um_machine.specs.declared.contents.Contents.TheVariants as Contents;
+ghost use Rattle.um_machine.specs.Services.{in_order, sem_take, sem_give, sem_act};
+ghost use Rattle.um_service.specs.Left.{left};
+
+use crate::outcome::Outcome;
+use crate::waking::{answers, blocks, wakes, wakes_all};
+use um_base::{Ask, Errno, Piece, Reply, THREADS, Timeout, Waiter};
+use um_machine::{Served, Waiters};
+
+/// Takes one of the count, or waits for it.
+fn take(
+    count: &mut u32,
+    limit: u32,
+    waiters: &mut Waiters,
+    who: &Waiter,
+    timeout: Timeout,
+) -> Outcome
+    requires { who.now.thread.0 < THREADS }
+    ensures { sem_take count.old limit waiters.old who.now timeout ≡ left (Contents.Sem count.new limit) waiters.new result }
+{
+    if *count == 0 {
+        return blocks(waiters, who, timeout, Errno::EBUSY);
+    }
+    *count -= 1;
+    answers(Reply::Num(0))
+}
+
+/// Wakes the waiter that is served first, or raises the count up to its limit.
+fn give(count: &mut u32, limit: u32, waiters: &mut Waiters) -> Outcome
+    ensures { sem_give count.old limit waiters.old (in_order waiters.old) ≡ left (Contents.Sem count.new limit) waiters.new result }
+{
+    match waiters.take_first(Served::All) {
+        Some(first) => wakes(Reply::Void, &first, &Piece::new()),
+        None => {
+            *count = if *count < limit { *count + 1 } else { limit };
+            answers(Reply::Void)
+        }
+    }
+}
+
+/// What a call asks of a semaphore.
+pub fn act(count: &mut u32, limit: u32, waiters: &mut Waiters, who: &Waiter) -> Outcome
+    requires { who.now.thread.0 < THREADS }
+    ensures { sem_act count.old limit waiters.old who.now who.now.ask ≡ left (Contents.Sem count.new limit) waiters.new result }
+{
+    match who.ask {
+        Ask::SemTake { timeout } => take(count, limit, waiters, who, timeout),
+        Ask::SemGive => give(count, limit, waiters),
+        Ask::SemReset => {
+            *count = 0;
+            wakes_all(waiters, Reply::Void, Errno::EAGAIN)
+        }
+        Ask::SemCount => answers(Reply::Num(*count)),
+        _ => answers(Reply::Void),
+    }
+}

@@ -1,0 +1,60 @@
+//! Stacks (Zephyr: Kernel Services, Stacks).
+
+ghost use Rattle.std.specs.Prelude.{◌≡◌, ◌<◌, reverse};
+ghost use Rattle.um_machine.specs.Memory.{le_bytes};
+ghost use Rattle.um_machine.specs.declared.contents.Contents.TheVariants as Contents;
+ghost use Rattle.um_machine.specs.Services.{in_order, stack_push, stack_pop, stack_act};
+ghost use Rattle.um_service.specs.Left.{left};
+
+use crate::outcome::Outcome;
+use crate::waking::{answers, blocks, gives, wakes};
+use um_base::{Ask, Errno, Piece, Reply, THREADS, Timeout, Waiter};
+use um_machine::pieces::piece;
+use um_machine::{Served, ValueStack, Waiters};
+
+/// The four bytes of a value, the lowest first.
+fn value_bytes(value: u32) -> Piece
+    ensures { result ≡ le_bytes 4 value }
+{
+    piece(&value.to_le_bytes())
+}
+
+/// Hands a value to the waiter that is served first, or puts it on top.
+fn push(stack: &mut ValueStack, waiters: &mut Waiters, value: u32) -> Outcome
+    ensures { stack_push stack.old.most stack.old.values waiters.old value (in_order waiters.old) ≡ left (Contents.Stack stack.new) waiters.new result }
+{
+    match waiters.take_first(Served::All) {
+        Some(first) => wakes(Reply::Num(0), &first, &value_bytes(value)),
+        None => {
+            if stack.len() >= stack.most() as usize {
+                return answers(Reply::Fail(Errno::ENOMEM));
+            }
+            stack.push(value);
+            answers(Reply::Num(0))
+        }
+    }
+}
+
+/// Takes the value on top, or waits for one.
+#[tactic(auto, using(crate::proofs::StackLemmas::from_the_last))]
+fn pop(stack: &mut ValueStack, waiters: &mut Waiters, who: &Waiter, timeout: Timeout) -> Outcome
+    requires { who.now.thread.0 < THREADS }
+    ensures { stack_pop stack.old.most (reverse stack.old.values) waiters.old who.now timeout ≡ left (Contents.Stack stack.new) waiters.new result }
+{
+    match stack.pop() {
+        Some(value) => gives(Reply::Num(0), &value_bytes(value)),
+        None => blocks(waiters, who, timeout, Errno::EBUSY),
+    }
+}
+
+/// What a call asks of a stack.
+pub fn act(stack: &mut ValueStack, waiters: &mut Waiters, who: &Waiter) -> Outcome
+    requires { who.now.thread.0 < THREADS }
+    ensures { stack_act stack.old.most stack.old.values waiters.old who.now who.now.ask ≡ left (Contents.Stack stack.new) waiters.new result }
+{
+    match who.ask {
+        Ask::StackPush { value } => push(stack, waiters, value),
+        Ask::StackPop { timeout } => pop(stack, waiters, who, timeout),
+        _ => answers(Reply::Void),
+    }
+}

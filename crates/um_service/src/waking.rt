@@ -1,0 +1,96 @@
+//! What the services share: answers, waiting and waking.
+
+ghost use Rattle.std.specs.Prelude.{◌≡◌, ◌<◌, ◌≤◌, [], ◌∷◌, length};
+ghost use Rattle.um_base.specs.declared.act.Answer.TheVariants as Answer;
+ghost use Rattle.um_base.specs.declared.names.Reply.TheVariants as Reply;
+ghost use Rattle.um_machine.specs.declared.contents.Contents.{Contents};
+ghost use Rattle.um_machine.specs.Services.{told, all_told, blocks};
+ghost use Rattle.um_machine.specs.Serving.{served, unserved};
+ghost use Rattle.um_service.specs.Left.{left};
+
+use crate::outcome::{Outcome, Woken};
+use um_base::{Answer, Errno, Piece, Reply, THREADS, Timeout, Told, Waiter};
+use um_machine::{Served, Waiters};
+
+/// An answer at once that wakes nobody.
+pub fn answers(reply: Reply) -> Outcome
+    ensures { result ≡ record { answer = Answer.Now reply; taken = []; woken = [] } }
+{
+    gives(reply, &Piece::new())
+}
+
+/// The same, where the caller takes bytes.
+pub fn gives(reply: Reply, taken: &Piece) -> Outcome
+    ensures { result ≡ record { answer = Answer.Now reply; taken = taken.now; woken = [] } }
+{
+    Outcome {
+        answer: Answer::Now(reply),
+        taken: *taken,
+        woken: Woken::new(),
+    }
+}
+
+/// The caller waits behind all others, or has an error where it doesn't wait.
+pub fn blocks(waiters: &mut Waiters, who: &Waiter, timeout: Timeout, error: Errno) -> Outcome
+    requires { who.now.thread.0 < THREADS }
+    ensures { (contents : Contents) → blocks contents waiters.old who.now timeout error ≡ left contents waiters.new result }
+{
+    match timeout {
+        Timeout::NoWait => answers(Reply::Fail(error)),
+        Timeout::Forever => {
+            waiters.wait(who);
+            Outcome {
+                answer: Answer::Wait,
+                taken: Piece::new(),
+                woken: Woken::new(),
+            }
+        }
+    }
+}
+
+/// An answer at once that wakes a waiter, which is told a number and takes bytes.
+pub fn wakes(reply: Reply, first: &Waiter, taken: &Piece) -> Outcome
+    ensures { result ≡ record { answer = Answer.Now reply; taken = []; woken = told first.now (Reply.Num 0) taken.now ∷ [] } }
+{
+    let mut outcome = answers(reply);
+    outcome.woken.push(
+        first.thread,
+        &Told {
+            reply: Reply::Num(0),
+            taken: *taken,
+        },
+    );
+    outcome
+}
+
+/// Those whom an act serves are told an error, in the order of service.
+pub fn wake_all(waiters: &mut Waiters, which: Served, error: Errno) -> Woken
+    ensures woken { result ≡ all_told error (served which waiters.old) }
+    ensures others { waiters.new ≡ unserved which waiters.old }
+{
+    let waiting = waiters.len();
+    prove!(waiting <= THREADS);
+    let told = Told {
+        reply: Reply::Fail(error),
+        taken: Piece::new(),
+    };
+    let mut woken = Woken::new();
+    'waiting: loop {
+        match waiters.take_first(which) {
+            Some(first) => woken.push(first.thread, &told),
+            None => return woken,
+        }
+    }
+}
+
+/// An answer at once that empties the list of waiters.
+pub fn wakes_all(waiters: &mut Waiters, reply: Reply, error: Errno) -> Outcome
+    ensures outcome { result ≡ record { answer = Answer.Now reply; taken = []; woken = all_told error waiters.old } }
+    ensures nobody { waiters.new ≡ [] }
+{
+    Outcome {
+        answer: Answer::Now(reply),
+        taken: Piece::new(),
+        woken: wake_all(waiters, Served::All, error),
+    }
+}
