@@ -1,2 +1,6 @@
 mod AccessLemmas
 mod RecycleLemmas
+mod OriginLemmas
+mod LifeLemmas
+mod HoldLemmas
+mod Theorems

@@ -1,1 +1,4 @@
 pub mod Laws
+pub mod Origins
+pub mod Lives
+pub mod Holds

@@ -4,17 +4,38 @@ ghost use Rattle.um_machine.specs.State.{State};
 ghost use Rattle.um_machine.specs.Run.{IsRun, Step};
 ghost use Rattle.um_base.specs.declared.act.Event.{Event};
 ghost use Rattle.um_base.specs.declared.image.Image.{Image};
-ghost use Rattle.std.specs.Prelude.{List};
+ghost use Rattle.std.specs.Prelude.{◌≡◌, ℕ, List, [], ◌∷◌, ◌++◌, Option, None};
 ghost use Rattle.um_laws.specs.Laws.{WasAllowed, IsVerdict, IsUnheld};
+ghost use Rattle.um_reach.specs.Described.{IsDescribed};
+ghost use Rattle.um_laws.specs.Origins.{IsOwned};
+ghost use Rattle.um_laws.specs.Holds.{IsInCall};
+ghost use Rattle.um_base.specs.declared.names.Kind.{Kind};
+ghost use Rattle.um_base.specs.declared.names.Want.{Want};
+ghost use Rattle.um_laws.specs.Lives.{born, gone, recycled, marks, InTurns, IsWithoutBirth, WasBornAndGone};
+ghost use Rattle.um_base.specs.declared.act.Act.{Act};
+ghost use Rattle.um_base.specs.declared.names.Addr.{Addr};
 
-/// The laws over every run of every image, from its opening on: each event that a run goes on with keeps them.
+/// The laws over every run of an image, from its opening on: each event that a run goes on with keeps them. Those of
+/// origins, lives and holds are of images that a description gives, and the others of any.
 ///
 /// - A load, a store, a fetch, and a copy that succeeds was allowed in the state in which it stands, and each byte of
 ///   a string that was read, its zero too, was readable there by itself.
 /// - What a check says is the verdict of the state in which it stands.
+/// - Where a user's check of an object that isn't public is passed, its pair with the object came from a boot entry, or
+///   from a grant, an inheritance, its creation (for its own object), or a birth before it, and no drop of that pair
+///   came since.
+/// - Of the object at an address births, losses of the last pair and recyclings come in turns, in this order. So between
+///   two successive births it loses its last pair once, and is then recycled once; and where it is recycled, it was
+///   born and lost its last pair before.
+/// - Between a check that is passed and the thread's reply, fatal error or end the object isn't recycled.
 /// - An object that is recycled is gone there, and no thread holds it.
 pub fn every_run()
     ensures accesses { (image : Image) (before : List Event) (event : Event) (s s2 : State) → IsRun image before s → Step s event s2 → WasAllowed s event }
     ensures verdicts { (image : Image) (before : List Event) (event : Event) (s s2 : State) → IsRun image before s → Step s event s2 → IsVerdict s event }
+    ensures origins { (image : Image) (before : List Event) (event : Event) (s s2 : State) → IsDescribed image → IsRun image before s → Step s event s2 → IsOwned image before s event }
+    ensures turns { (image : Image) (events : List Event) (s : State) → IsDescribed image → IsRun image events s → (a : ℕ) → InTurns born (marks a events) }
+    ensures lives { (image : Image) (before middle : List Event) (birth rebirth : Event) (a : Addr) (s s2 : State) → IsDescribed image → IsRun image (before ++ birth ∷ middle) s → Step s rebirth s2 → birth.act ≡ Act.Born a → rebirth.act ≡ Act.Born a → IsWithoutBirth a middle → marks a.0 middle ≡ gone ∷ recycled ∷ [] }
+    ensures ends { (image : Image) (before : List Event) (event : Event) (a : Addr) (s s2 : State) → IsDescribed image → IsRun image before s → Step s event s2 → event.act ≡ Act.Recycle a → WasBornAndGone (marks a.0 before) }
+    ensures holds { (image : Image) (before middle : List Event) (check recycle : Event) (a : Addr) (kind : Option Kind) (want : Want) (s s2 : State) → IsDescribed image → IsRun image (before ++ check ∷ middle) s → Step s recycle s2 → check.act ≡ Act.Check a kind want None → IsInCall check.thread.0 middle → ¬ (recycle.act ≡ Act.Recycle a) }
     ensures recycles { (image : Image) (before : List Event) (event : Event) (s s2 : State) → IsRun image before s → Step s event s2 → IsUnheld s event }
 {}

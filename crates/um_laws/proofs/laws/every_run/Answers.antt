@@ -1,5 +1,6 @@
 use Rattle.um_laws.proofs.AccessLemmas.{was_allowed, is_verdict}
 use Rattle.um_laws.proofs.RecycleLemmas.{is_unheld}
+use Rattle.um_laws.proofs.Theorems.{owned_event, marks_turn, lives_between, was_alive, holds_until}
 use Rattle.um_laws.proofs.laws.every_run.Goals as goal
 
 pub returns-clause-accesses : goal.returns-clause-accesses
@@ -10,3 +11,18 @@ returns-clause-verdicts c = λ image before event s s2 run step. is_verdict s s2
 
 pub returns-clause-recycles : goal.returns-clause-recycles
 returns-clause-recycles c = λ image before event s s2 run step. is_unheld s s2 event step
+
+pub returns-clause-origins : goal.returns-clause-origins
+returns-clause-origins c = λ image before event s s2 given run step. owned_event image before event s s2 given run step
+
+pub returns-clause-turns : goal.returns-clause-turns
+returns-clause-turns c = λ image events s given run a. marks_turn image events s given run a
+
+pub returns-clause-lives : goal.returns-clause-lives
+returns-clause-lives c = λ image before middle birth rebirth a s s2 given run step e f none. lives_between image before middle birth rebirth a s s2 given run step e f none
+
+pub returns-clause-ends : goal.returns-clause-ends
+returns-clause-ends c = λ image before event a s s2 given run step e. was_alive image before event a s s2 given run step e
+
+pub returns-clause-holds : goal.returns-clause-holds
+returns-clause-holds c = λ image before middle check recycle a kind want s s2 given run step e calls. holds_until image before middle check recycle a kind want s s2 given run step e calls
