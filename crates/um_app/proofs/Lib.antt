@@ -1,7 +1,2 @@
-mod BuiltLemmas
 mod Ends
-mod FrameLemmas
-mod KeptLemmas
-mod LineLemmas
-mod OpeningLemmas
-mod RunLemmas
+mod EndLemmas

@@ -1,5 +1,3 @@
-pub mod Answers
-pub mod FirstRun
+pub mod Answered
 pub mod Messages
 pub mod Top
-pub mod Words

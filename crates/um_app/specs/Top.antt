@@ -1,28 +1,56 @@
 -- What the top call reads and writes.
-use Rattle.std.specs.Prelude.{◌≡◌, ℕ, ◌+◌, ◌≤◌, ◌⊎◌, List, length, Option}
+use Rattle.std.specs.Prelude.{◌≡◌, ℕ, ◌+◌, ◌≤◌, ◌⊎◌, Bool, true, false, List, length, Option}
 use Rattle.std.specs.Io.KnownBytes.{Appends, Consumes, IsAtEnd}
 use Rattle.um_base.specs.declared.act.Event.{Event}
 use Rattle.um_base.specs.declared.image.Image.{Image}
 use Rattle.um_io.specs.Bytes.{AppendsFront}
 use Rattle.um_io.specs.Causes.{Rose}
-use Rattle.um_image.specs.Form.{Describes}
+use Rattle.um_command.specs.declared.command.Command.{Command}
+use Rattle.um_gen.specs.Description.{description}
+use Rattle.um_image.specs.Meaning.{Describes}
 use Rattle.um_machine.specs.State.{State}
 use Rattle.um_machine.specs.Run.{IsRun, IsComplete}
+use Rattle.um_trace.specs.Layout.{layout_text}
+use Rattle.um_trace.specs.Summary.{summary_text}
 use Rattle.um_trace.specs.Text.{text}
 
 -- how many bytes an input has at most
 abbrev pub most_input : ℕ
 most_input = 0x100000
 
--- The bytes are the text of one complete run of the access-matrix machine from the image that the input describes.
-pub record IsTextOf (input written : List ℕ) : Type 0 where
-  pub image : Image
-  pub described : Describes input image
+-- The bytes are the text of one complete run of the access-matrix machine from an image.
+pub record IsRunText (image : Image) (written : List ℕ) : Type 0 where
   pub run : List Event
   pub last : State
   pub is_run : IsRun image run last
   pub complete : IsComplete last
   pub text_is : written ≡ text image run last
+
+-- The bytes are the counts of one complete run.
+pub record IsRunSummary (image : Image) (written : List ℕ) : Type 0 where
+  pub run : List Event
+  pub last : State
+  pub is_run : IsRun image run last
+  pub complete : IsComplete last
+  pub text_is : written ≡ summary_text image run last
+
+-- what a command writes of the image that it reads
+abbrev pub Writes : Command → Image → List ℕ → Type 0
+Writes (Command.Sim options) image written = IsRunText image written
+Writes (Command.Summary options) image written = IsRunSummary image written
+Writes Command.Layout image written = written ≡ layout_text image
+Writes (Command.Gen number) image written = written ≡ description number
+
+-- The input describes an image, of which a command writes these bytes.
+pub record IsOutput (command : Command) (input written : List ℕ) : Type 0 where
+  pub image : Image
+  pub described : Describes input image
+  pub writes : Writes command image written
+
+-- whether a command reads a description
+abbrev pub is_reading : Command → Bool
+is_reading (Command.Gen number) = false
+is_reading _ = true
 
 -- The source was read to its end, and gave these bytes.
 pub record ReadsAll (before now : Option (List ℕ)) (input : List ℕ) : Type 0 where
@@ -30,16 +58,23 @@ pub record ReadsAll (before now : Option (List ℕ)) (input : List ℕ) : Type 0
   pub at_end : IsAtEnd now
   pub short : length input ≤ most_input
 
+-- Of a source that was read to its end, a command writes these bytes.
+pub record IsRead (command : Command) (before now : Option (List ℕ)) (written : List ℕ) : Type 0 where
+  pub input : List ℕ
+  pub read : ReadsAll before now input
+  pub output : IsOutput command input written
+
+-- what a command writes: of a source that was read to its end, or the generated description, for which nothing is read
+abbrev pub Answers : Command → Option (List ℕ) → Option (List ℕ) → List ℕ → Type 0
+Answers (Command.Gen number) before now written = written ≡ description number
+Answers command before now written = IsRead command before now written
+
 -- at most as many bytes were read as an input may have, or one more
 abbrev pub ReadsWithin : Option (List ℕ) → Option (List ℕ) → Type 0
 ReadsWithin before now = (taken : List ℕ) × (length taken ≤ most_input) × Consumes before now taken
 
 abbrev pub ReadsPast : Option (List ℕ) → Option (List ℕ) → Type 0
 ReadsPast before now = (taken : List ℕ) × (length taken ≡ most_input + 1) × Consumes before now taken
-
--- no image is described
-abbrev pub DescribesNone : List ℕ → Type 0
-DescribesNone input = (image : Image) → ¬ Describes input image
 
 -- A line went out whole, or a front of it where the sink failed.
 abbrev pub Tells : Option (List ℕ) → Option (List ℕ) → ℕ → ℕ → List ℕ → Type 0

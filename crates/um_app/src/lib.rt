@@ -2,12 +2,12 @@
 #![tactic(auto)]
 
 mod answer;
-mod run;
+mod sim;
 mod status;
 #[cfg(test)]
 mod tests;
 mod top;
-mod words;
 
+pub use sim::sim_events;
 pub use status::Status;
 pub use top::zumode;

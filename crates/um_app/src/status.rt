@@ -38,7 +38,7 @@ impl Status {
         }
     }
 
-    /// The line on standard error, with its newline: none where all was done.
+    /// The line on standard error, with its newline: none where all was done, or where the description's fault has its own.
     #[tactic(auto, unfolding(crate::specs::Messages::line_of))]
     pub fn line(self) -> &'static str
         ensures { result.now ≡ line_of self }
@@ -48,7 +48,7 @@ impl Status {
             Status::Usage => {
                 "zumode: usage: sim [--cpus N] [--pick N] | run [--cpus N] | layout | gen N | summary [--cpus N] [--pick N]\n"
             }
-            Status::Refused => "zumode: refused: NotYet\n",
+            Status::Refused => "",
             Status::ReadFault => "zumode: read fault\n",
             Status::WriteFault => "zumode: write fault\n",
             Status::NoMemory => "zumode: no memory\n",

@@ -1,5 +1,9 @@
 //! The top call over memory.
 
+mod outside;
+mod processors;
+mod texts;
+
 ghost use Rattle.std.specs.Prelude.{◌≤◌};
 
 use super::*;
@@ -19,7 +23,7 @@ boot = [{thread = \"a\", stack = \"sa\", script = \"m\", priority = 0, domain = 
 script = [{name = \"m\", lines = [";
 
 /// The text of a store to the last byte of the partition, and a load past it.
-const LAST_BYTE: &str = "a begin m 1
+pub const LAST_BYTE: &str = "a begin m 1
 a store 0x2000001f 1 0xab
 a begin m 2
 a fault read 0x20000020 1
@@ -37,22 +41,22 @@ memory 0x20000000 00000000000000000000000000000000000000000000000000000000000000
 
 /// What a call answered and wrote.
 #[derive(Drop)]
-struct Ended {
-    status: Status,
-    out: MemSink,
-    err: MemSink,
+pub struct Ended {
+    pub status: Status,
+    pub out: MemSink,
+    pub err: MemSink,
 }
 
 /// How sources and sinks behave: so many bytes a call, and the calls that fail.
 #[derive(Drop)]
-struct Manner {
-    piece: u32,
-    reads: Vec<u32>,
-    writes: Vec<u32>,
+pub struct Manner {
+    pub piece: u32,
+    pub reads: Vec<u32>,
+    pub writes: Vec<u32>,
     ghost some: { 1 ≤ piece },
 }
 
-fn smooth(alloc: Global, piece: u32) -> Manner
+pub fn smooth(alloc: Global, piece: u32) -> Manner
     requires { 1 ≤ piece }
 {
     Manner {
@@ -62,14 +66,24 @@ fn smooth(alloc: Global, piece: u32) -> Manner
     }
 }
 
-fn call(rt: &HostRuntime, word: &str, input: Vec<u8>, manner: Manner) -> Result<Ended, Fail> {
+/// The words of a line, which stand one space apart.
+fn words_of(alloc: Global, line: &str) -> Result<Vec<String>, Fail> {
+    let mut words = Vec::new(alloc);
+    for word in line.split(' ') {
+        words.push(String::from_str(alloc, word)?)?;
+    }
+    Ok(words)
+}
+
+/// A command over memory.
+pub fn call(rt: &HostRuntime, line: &str, input: Vec<u8>, manner: Manner) -> Result<Ended, Fail> {
     let alloc = rt.alloc();
     let Manner {
         piece,
         reads,
         writes,
     } = manner;
-    let words = vec![in alloc; String::from_str(alloc, word)?]?;
+    let words = words_of(alloc, line)?;
     let mut source = MemSource::new(input, piece, reads);
     let mut out = MemSink::new(alloc, piece, writes)?;
     let mut err = MemSink::new(alloc, piece, Vec::new(alloc))?;
@@ -77,94 +91,8 @@ fn call(rt: &HostRuntime, word: &str, input: Vec<u8>, manner: Manner) -> Result<
     Ok(Ended { status, out, err })
 }
 
-fn last_byte(alloc: Global) -> Result<Vec<u8>, Fail> {
+/// The description of a store to the last byte of a partition, and a load past it.
+pub fn last_byte(alloc: Global) -> Result<Vec<u8>, Fail> {
     let text = format!(in alloc; "{HEAD}\"store @p+31 1 0xab\", \"load r0 @p+32 1\"]}}]\n")?;
     Ok(text.as_bytes().to_vec(alloc)?)
-}
-
-#[test]
-fn a_run_in_pieces(rt: HostRuntime) -> Result<(), Fail> {
-    let alloc = rt.alloc();
-    for piece in [1, 7, 4096] {
-        let ended = call(&rt, "sim", last_byte(alloc)?, smooth(alloc, piece))?;
-        assert_eq!(rt; ended.status, Status::Done);
-        assert_eq!(rt; ended.out.bytes(), LAST_BYTE.as_bytes());
-        assert_eq!(rt; ended.err.bytes().len(), 0);
-    }
-    Ok(())
-}
-
-#[test]
-fn words_that_are_no_command(rt: HostRuntime) -> Result<(), Fail> {
-    let alloc = rt.alloc();
-    let ended = call(&rt, "Sim", last_byte(alloc)?, smooth(alloc, 64))?;
-    assert_eq!(rt; ended.status, Status::Usage);
-    assert_eq!(rt; ended.out.bytes().len(), 0);
-    assert_eq!(rt;
-        ended.err.bytes(),
-        b"zumode: usage: sim [--cpus N] [--pick N] | run [--cpus N] | layout | gen N | summary [--cpus N] [--pick N]\n".as_slice()
-    );
-    Ok(())
-}
-
-#[test]
-fn a_first_read_that_fails(rt: HostRuntime) -> Result<(), Fail> {
-    let alloc = rt.alloc();
-    let mut manner = smooth(alloc, 64);
-    manner.reads = vec![in alloc; 0]?;
-    let ended = call(&rt, "sim", last_byte(alloc)?, manner)?;
-    assert_eq!(rt; ended.status, Status::ReadFault);
-    assert_eq!(rt; ended.out.bytes().len(), 0);
-    assert_eq!(rt; ended.err.bytes(), b"zumode: read fault\n".as_slice());
-    Ok(())
-}
-
-#[test]
-fn a_second_write_that_fails(rt: HostRuntime) -> Result<(), Fail> {
-    let alloc = rt.alloc();
-    let mut manner = smooth(alloc, 2);
-    manner.writes = vec![in alloc; 1]?;
-    let ended = call(&rt, "sim", last_byte(alloc)?, manner)?;
-    assert_eq!(rt; ended.status, Status::WriteFault);
-    assert_eq!(rt; ended.out.bytes(), b"a ".as_slice());
-    assert_eq!(rt; ended.err.bytes(), b"zumode: write fault\n".as_slice());
-    Ok(())
-}
-
-#[test]
-fn no_description(rt: HostRuntime) -> Result<(), Fail> {
-    let alloc = rt.alloc();
-    let four_lines = "version = 1\nmpu = \"pmsav7\"\nregions = 8\noops = \"abort\"\n";
-    let ended = call(
-        &rt,
-        "sim",
-        four_lines.as_bytes().to_vec(alloc)?,
-        smooth(alloc, 4096),
-    )?;
-    assert_eq!(rt; ended.status, Status::Refused);
-    assert_eq!(rt; ended.out.bytes().len(), 0);
-    assert_eq!(rt; ended.err.bytes(), b"zumode: refused: NotYet\n".as_slice());
-    Ok(())
-}
-
-#[test]
-fn an_input_of_the_greatest_length_and_one_byte_more(rt: HostRuntime) -> Result<(), Fail> {
-    let alloc = rt.alloc();
-    let ended = call(
-        &rt,
-        "sim",
-        vec![in alloc; b'#'; 1_048_576]?,
-        smooth(alloc, 4096),
-    )?;
-    assert_eq!(rt; ended.status, Status::Refused);
-    let ended = call(
-        &rt,
-        "sim",
-        vec![in alloc; b'#'; 1_048_577]?,
-        smooth(alloc, 4096),
-    )?;
-    assert_eq!(rt; ended.status, Status::TooLong);
-    assert_eq!(rt; ended.out.bytes().len(), 0);
-    assert_eq!(rt; ended.err.bytes(), b"zumode: input too long\n".as_slice());
-    Ok(())
 }

@@ -1,78 +1,130 @@
 //! The top call.
 
-ghost use Rattle.std.specs.Prelude.{◌≡◌, ◌≢◌, ◌↔◌, ◌<◌, ◌≤◌, ◌⊎◌, IsTrue, false, List, ℕ, Some, length};
+ghost use Rattle.std.specs.Prelude.{◌≡◌, ◌≢◌, ◌↔◌, ◌<◌, ◌≤◌, ◌⊎◌, IsTrue, List, ℕ, map, Some, None, length, string_bytes};
 ghost use Rattle.std.specs.Io.KnownBytes.{Appends};
 ghost use Rattle.um_base.specs.declared.image.Image.{Image};
-ghost use Rattle.um_io.specs.Causes.{Rose};
+ghost use Rattle.um_command.specs.declared.command.Command.{Command};
+ghost use Rattle.um_command.specs.Words.{HasFew, command_of};
+ghost use Rattle.um_document.specs.declared.fault.ImageFault.{ImageFault};
+ghost use Rattle.um_gen.specs.Description.{description};
+ghost use Rattle.um_image.specs.Meaning.{Describes, Refuses};
 ghost use Rattle.um_io.specs.Bytes.{AppendsFront};
-ghost use Rattle.um_image.specs.Form.{Describes};
-ghost use Rattle.um_app.specs.Messages.{line_of};
-ghost use Rattle.um_app.specs.Top.{most_input, IsTextOf, ReadsAll, ReadsWithin, ReadsPast, DescribesNone, Tells};
-ghost use Rattle.um_app.specs.Words.{is_sim};
+ghost use Rattle.um_io.specs.Causes.{Rose};
+ghost use Rattle.um_app.specs.Answered.{IsRefusal, TellsFault, WasRefused};
+ghost use Rattle.um_app.specs.Messages.{line_of, refused_line};
+ghost use Rattle.um_app.specs.Top.{most_input, Answers, IsRunText, IsRead, ReadsAll, ReadsWithin, ReadsPast, Tells, is_reading};
 
 use crate::answer::{Answer, answer_to};
 use crate::status::Status;
-use crate::words;
 use std::alloc::Global;
+use um_command::{Command, read_command};
 use um_io::{Gate, ReadAll, Sink, Source, read_all, write_all};
 
 /// How many bytes an input has at most.
 const LIMIT: u32 = 0x10_0000;
 
-/// Reads a description, and writes the text of its run.
-fn sim<S: Source, O: Sink>(alloc: Global, source: &mut S, out: &mut O) -> Status
-    ensures done { result ≡ Status.Done → (input : List ℕ) × (written : List ℕ)
-        × ReadsAll (S.left source.old) (S.left source.new) input × IsTextOf input written
+/// How a command ended: with a status, or refused with a line of its own.
+#[derive(Drop)]
+pub enum End {
+    With(Status),
+    Refused(String),
+}
+
+/// Writes a text whose memory is taken.
+fn write_text<O: Sink>(out: &mut O, text: &[u8]) -> Status
+    ensures either { (result ≡ Status.Done) ⊎ (result ≡ Status.WriteFault) }
+    ensures done { result ≡ Status.Done → Appends (O.taken out.old) (O.taken out.new) text.now }
+    ensures write_fault { result ≡ Status.WriteFault → Rose (O.faults out.old) (O.faults out.new) }
+    ensures front { result ≡ Status.WriteFault → AppendsFront (O.taken out.old) (O.taken out.new) text.now × (O.room out.old < length text.now) }
+{
+    match write_all(out, text) {
+        Ok(()) => Status::Done,
+        Err(_) => Status::WriteFault,
+    }
+}
+
+/// A command that reads a description.
+fn described<S: Source, O: Sink>(
+    alloc: Global,
+    command: Command,
+    source: &mut S,
+    out: &mut O,
+) -> End
+    requires few { HasFew command }
+    requires reading { IsTrue (is_reading command) }
+    ensures done { result ≡ End.With Status.Done → (written : List ℕ)
+        × IsRead command (S.left source.old) (S.left source.new) written
         × Appends (O.taken out.old) (O.taken out.new) written }
     ensures complete { (input : List ℕ) → S.left source.old ≡ Some input → length input ≤ most_input
         → (image : Image) → Describes input image
         → ¬ Rose (S.faults source.old) (S.faults source.new) → ¬ Rose (O.faults out.old) (O.faults out.new)
-        → (result ≡ Status.Done) ⊎ (result ≡ Status.NoMemory) }
-
-    ensures no_usage { result ≢ Status.Usage }
-    ensures read_fault { result ≡ Status.ReadFault → Rose (S.faults source.old) (S.faults source.new) }
-    ensures too_long { result ≡ Status.TooLong → ReadsPast (S.left source.old) (S.left source.new) }
-    ensures within { result ≢ Status.TooLong → result ≢ Status.NoMemory
+        → (result ≡ End.With Status.Done) ⊎ (result ≡ End.With Status.NoMemory) }
+    ensures no_usage { result ≢ End.With Status.Usage }
+    ensures no_plain_refusal { result ≢ End.With Status.Refused }
+    ensures read_fault { result ≡ End.With Status.ReadFault → Rose (S.faults source.old) (S.faults source.new) }
+    ensures too_long { result ≡ End.With Status.TooLong → ReadsPast (S.left source.old) (S.left source.new) }
+    ensures within { result ≢ End.With Status.TooLong → result ≢ End.With Status.NoMemory
         → ReadsWithin (S.left source.old) (S.left source.new) }
-    ensures refused { result ≡ Status.Refused → (input : List ℕ)
-        × ReadsAll (S.left source.old) (S.left source.new) input × DescribesNone input }
-    ensures refuses { (input : List ℕ) → S.left source.old ≡ Some input → length input ≤ most_input → DescribesNone input
-        → ¬ Rose (S.faults source.old) (S.faults source.new) → (result ≡ Status.Refused) ⊎ (result ≡ Status.NoMemory) }
+    ensures refused { TellsFault result (S.left source.old) (S.left source.new) }
+    ensures refuses { (input : List ℕ) → S.left source.old ≡ Some input → length input ≤ most_input → (fault : ImageFault) → Refuses input fault
+        → ¬ Rose (S.faults source.old) (S.faults source.new) → WasRefused result ⊎ (result ≡ End.With Status.NoMemory) }
     ensures exceeds { (input : List ℕ) → S.left source.old ≡ Some input → most_input < length input
-        → ¬ Rose (S.faults source.old) (S.faults source.new) → (result ≡ Status.TooLong) ⊎ (result ≡ Status.NoMemory) }
-    ensures write_fault { result ≡ Status.WriteFault → Rose (O.faults out.old) (O.faults out.new) }
-    ensures front { result ≡ Status.WriteFault → (input : List ℕ) × (written : List ℕ)
-        × ReadsAll (S.left source.old) (S.left source.new) input × IsTextOf input written
+        → ¬ Rose (S.faults source.old) (S.faults source.new) → (result ≡ End.With Status.TooLong) ⊎ (result ≡ End.With Status.NoMemory) }
+    ensures write_fault { result ≡ End.With Status.WriteFault → Rose (O.faults out.old) (O.faults out.new) }
+    ensures front { result ≡ End.With Status.WriteFault → (written : List ℕ)
+        × IsRead command (S.left source.old) (S.left source.new) written
         × AppendsFront (O.taken out.old) (O.taken out.new) written × (O.room out.old < length written) }
-
-    ensures nothing_written { result ≢ Status.Done → result ≢ Status.WriteFault → out.new ≡ out.old }
+    ensures nothing_written { result ≢ End.With Status.Done → result ≢ End.With Status.WriteFault → out.new ≡ out.old }
     ensures source_most { S.most source.new ≡ S.most source.old }
 {
     let input = match read_all(alloc, source, LIMIT) {
         Ok(input) => input,
-        Err(ReadAll::Fault) => return Status::ReadFault,
-        Err(ReadAll::TooLong) => return Status::TooLong,
-        Err(ReadAll::Memory) => return Status::NoMemory,
+        Err(ReadAll::Fault) => return End::With(Status::ReadFault),
+        Err(ReadAll::TooLong) => return End::With(Status::TooLong),
+        Err(ReadAll::Memory) => return End::With(Status::NoMemory),
     };
-    match answer_to(alloc, &input) {
-        Answer::Text(text) => match write_all(out, &text) {
-            Ok(()) => Status::Done,
-            Err(_) => Status::WriteFault,
-        },
-        Answer::Refused => Status::Refused,
-        Answer::NoMemory => Status::NoMemory,
+    match answer_to(alloc, command, &input) {
+        Answer::Text(text) => End::With(write_text(out, &text)),
+        Answer::Refused(line) => End::Refused(line),
+        Answer::NoMemory => End::With(Status::NoMemory),
     }
 }
 
-/// The line of a status on standard error.
-fn tell<E: Sink>(err: &mut E, status: Status)
-    ensures { Tells (E.taken err.old) (E.taken err.new) (E.faults err.old) (E.faults err.new) (line_of status) }
+/// The generated description of a number: nothing is read.
+fn generated<O: Sink>(alloc: Global, number: u64, out: &mut O) -> Status
+    ensures some { (result ≡ Status.Done) ⊎ ((result ≡ Status.WriteFault) ⊎ (result ≡ Status.NoMemory)) }
+    ensures done { result ≡ Status.Done → Appends (O.taken out.old) (O.taken out.new) (description number) }
+    ensures write_fault { result ≡ Status.WriteFault → Rose (O.faults out.old) (O.faults out.new) }
+    ensures front { result ≡ Status.WriteFault → AppendsFront (O.taken out.old) (O.taken out.new) (description number) × (O.room out.old < length (description number)) }
+    ensures nothing_written { result ≡ Status.NoMemory → out.new ≡ out.old }
 {
-    let _ = write_all(err, status.line().as_bytes());
+    match um_gen::generate(alloc, number) {
+        Ok(text) => write_text(out, &text),
+        Err(_) => Status::NoMemory,
+    }
 }
 
-/// Runs a command: reads a description from `source`, and writes the text of its run to `out`. A status other than `Done`
-/// has its line on `err`. All memory is taken before the first byte is written. The gate has no part in it yet.
+/// A line on standard error.
+fn tell<E: Sink>(err: &mut E, line: &str)
+    ensures { Tells (E.taken err.old) (E.taken err.new) (E.faults err.old) (E.faults err.new) line.now }
+{
+    let _ = write_all(err, line.as_bytes());
+}
+
+/// The line of a status on standard error: none where all was done.
+fn tell_status<E: Sink>(err: &mut E, status: Status)
+    ensures quiet { status ≡ Status.Done → err.new ≡ err.old }
+    ensures told { status ≢ Status.Done
+        → Tells (E.taken err.old) (E.taken err.new) (E.faults err.old) (E.faults err.new) (line_of status) }
+{
+    if status != Status::Done {
+        tell(err, status.line());
+    }
+}
+
+/// Runs a command: `sim`, `summary` and `layout` read a description from `source`, and write of it to `out` the text of a run,
+/// its counts, or the addresses; `gen` writes a generated description. A status other than `Done` has its line on `err`. All
+/// memory is taken before the first byte is written. The gate has no part in it yet.
 pub fn zumode<R: AllocGlobal, S: Source, O: Sink, E: Sink, G: Gate>(
     rt: &R,
     words: &[String],
@@ -81,52 +133,68 @@ pub fn zumode<R: AllocGlobal, S: Source, O: Sink, E: Sink, G: Gate>(
     err: &mut E,
     gate: &G,
 ) -> Status
-    // The headline: all that was read describes an image, and all that was written is the text of one complete run of it.
-    ensures done { result ≡ Status.Done → (input : List ℕ) × (written : List ℕ)
-        × ReadsAll (S.left source.old) (S.left source.new) input × IsTextOf input written
+    // The headline: the words are a command, all that was read describes an image, and all that was written is, for `sim`, the
+    // text of one complete run of it; for the other commands, what they write.
+    ensures done { result ≡ Status.Done → (command : Command) × (command_of (map string_bytes words.now) ≡ Some command)
+        × (written : List ℕ) × Answers command (S.left source.old) (S.left source.new) written
         × Appends (O.taken out.old) (O.taken out.new) written }
     ensures done_quiet { result ≡ Status.Done → err.new ≡ err.old }
 
-    // A described image is run, or memory ran out, unless the source or the sink failed.
-    ensures complete { IsTrue (is_sim words.now) → (input : List ℕ) → S.left source.old ≡ Some input
-        → length input ≤ most_input → (image : Image) → Describes input image
+    // A described image is answered, and a number, or memory ran out, unless the source or the sink failed.
+    ensures complete { (command : Command) → command_of (map string_bytes words.now) ≡ Some command → IsTrue (is_reading command)
+        → (input : List ℕ) → S.left source.old ≡ Some input → length input ≤ most_input → (image : Image) → Describes input image
         → ¬ Rose (S.faults source.old) (S.faults source.new) → ¬ Rose (O.faults out.old) (O.faults out.new)
         → (result ≡ Status.Done) ⊎ (result ≡ Status.NoMemory) }
+    ensures generates { (number : ℕ) → command_of (map string_bytes words.now) ≡ Some (Command.Gen number)
+        → ¬ Rose (O.faults out.old) (O.faults out.new) → (result ≡ Status.Done) ⊎ (result ≡ Status.NoMemory) }
 
     // When each other answer comes.
-    ensures usage { (result ≡ Status.Usage) ↔ (is_sim words.now ≡ false) }
+    ensures usage { (result ≡ Status.Usage) ↔ (command_of (map string_bytes words.now) ≡ None) }
     ensures nothing_read { result ≡ Status.Usage → source.new ≡ source.old }
+    ensures reads_none { (number : ℕ) → command_of (map string_bytes words.now) ≡ Some (Command.Gen number) → source.new ≡ source.old }
     ensures read_fault { result ≡ Status.ReadFault → Rose (S.faults source.old) (S.faults source.new) }
     ensures too_long { result ≡ Status.TooLong → ReadsPast (S.left source.old) (S.left source.new) }
-    ensures exceeds { IsTrue (is_sim words.now) → (input : List ℕ) → S.left source.old ≡ Some input
-        → most_input < length input → ¬ Rose (S.faults source.old) (S.faults source.new)
+    ensures exceeds { (command : Command) → command_of (map string_bytes words.now) ≡ Some command → IsTrue (is_reading command)
+        → (input : List ℕ) → S.left source.old ≡ Some input → most_input < length input → ¬ Rose (S.faults source.old) (S.faults source.new)
         → (result ≡ Status.TooLong) ⊎ (result ≡ Status.NoMemory) }
-    ensures within { result ≢ Status.Usage → result ≢ Status.TooLong → result ≢ Status.NoMemory
-        → ReadsWithin (S.left source.old) (S.left source.new) }
-    ensures refused { result ≡ Status.Refused → (input : List ℕ)
-        × ReadsAll (S.left source.old) (S.left source.new) input × DescribesNone input }
-    ensures refuses { IsTrue (is_sim words.now) → (input : List ℕ) → S.left source.old ≡ Some input
-        → length input ≤ most_input → DescribesNone input → ¬ Rose (S.faults source.old) (S.faults source.new)
-        → (result ≡ Status.Refused) ⊎ (result ≡ Status.NoMemory) }
+    ensures within { result ≢ Status.TooLong → result ≢ Status.NoMemory
+        → (source.new ≡ source.old) ⊎ ReadsWithin (S.left source.old) (S.left source.new) }
+    ensures refused { result ≡ Status.Refused → (input line : List ℕ) × ReadsAll (S.left source.old) (S.left source.new) input
+        × IsRefusal input line × Tells (E.taken err.old) (E.taken err.new) (E.faults err.old) (E.faults err.new) line }
+    ensures refuses { (command : Command) → command_of (map string_bytes words.now) ≡ Some command → IsTrue (is_reading command)
+        → (input : List ℕ) → S.left source.old ≡ Some input → length input ≤ most_input → (fault : ImageFault) → Refuses input fault
+        → ¬ Rose (S.faults source.old) (S.faults source.new) → (result ≡ Status.Refused) ⊎ (result ≡ Status.NoMemory) }
     ensures write_fault { result ≡ Status.WriteFault → Rose (O.faults out.old) (O.faults out.new) }
-    ensures front { result ≡ Status.WriteFault → (input : List ℕ) × (written : List ℕ)
-        × ReadsAll (S.left source.old) (S.left source.new) input × IsTextOf input written
+    ensures front { result ≡ Status.WriteFault → (command : Command) × (command_of (map string_bytes words.now) ≡ Some command)
+        × (written : List ℕ) × Answers command (S.left source.old) (S.left source.new) written
         × AppendsFront (O.taken out.old) (O.taken out.new) written × (O.room out.old < length written) }
 
     // What stays as it was, and the line on standard error.
     ensures nothing_written { result ≢ Status.Done → result ≢ Status.WriteFault → out.new ≡ out.old }
-    ensures told { result ≢ Status.Done
+    ensures told { result ≢ Status.Done → result ≢ Status.Refused
         → Tells (E.taken err.old) (E.taken err.new) (E.faults err.old) (E.faults err.new) (line_of result) }
     ensures source_most { S.most source.new ≡ S.most source.old }
 {
     let _ = gate;
-    if !words::is_sim(words) {
-        tell(err, Status::Usage);
-        return Status::Usage;
+    match read_command(words) {
+        None => {
+            tell_status(err, Status::Usage);
+            Status::Usage
+        }
+        Some(Command::Gen { number }) => {
+            let status = generated(rt.alloc(), number, out);
+            tell_status(err, status);
+            status
+        }
+        Some(command) => match described(rt.alloc(), command, source, out) {
+            End::Refused(line) => {
+                tell(err, line.as_str());
+                Status::Refused
+            }
+            End::With(status) => {
+                tell_status(err, status);
+                status
+            }
+        },
     }
-    let status = sim(rt.alloc(), source, out);
-    if status != Status::Done {
-        tell(err, status);
-    }
-    status
 }

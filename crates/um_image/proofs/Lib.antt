@@ -1,5 +1,2 @@
-pub mod Views
-pub mod Script
-pub mod LineLemmas
-pub mod LawfulLemmas
-pub mod FormLemmas
+mod FaultLemmas
+pub mod TextLemmas

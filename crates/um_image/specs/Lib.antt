@@ -1,4 +1,1 @@
-pub mod Lines
-pub mod FirstImage
-pub mod Form
-pub mod Reading
+pub mod Meaning

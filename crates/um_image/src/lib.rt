@@ -1,15 +1,12 @@
-//! Reading descriptions: a TOML document gives an image, laid out in memory.
+//! Reading descriptions: a text gives an image, laid out in memory, or the first of its faults.
 //!
-//! One form is read, the first: a partition `p` of 32 bytes, a domain `d` with it, a thread `a` on its stack `sa` of
-//! 64 bytes, and a script `m` of 1 to 100 lines, each a load or a store, whose address is a number or
-//! names `p`, `a` or `sa`, with an offset or without.
+//! The form of the text stands in `um_document`, and the meaning of what it describes in `um_description`.
 #![tactic(auto)]
 
-mod build;
-mod fault;
-mod form;
-mod lines;
+mod laws;
 mod read;
 
-pub use fault::ImageFault;
+pub use laws::every_text;
 pub use read::read_image;
+pub use um_description::weight;
+pub use um_document::{ImageFault, Spot, fault_text};

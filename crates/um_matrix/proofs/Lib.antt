@@ -1,3 +1,4 @@
+mod AdvanceLemmas
 mod BootLemmas
 mod ByteLemmas
 mod OfferLemmas

@@ -99,11 +99,11 @@ below-next P n below here x h = elim (le-or-lt x n) [ inl less ↦ below x less 
 -- Offers.
 
 -- a list with a first element
-cons : (steps : Steps) (p : Pending) → slice_get steps 0 ≡ Some p → steps ≡ p ∷ drop 1 steps
+pub cons : (steps : Steps) (p : Pending) → slice_get steps 0 ≡ Some p → steps ≡ p ∷ drop 1 steps
 cons [] p h = cc
 cons (q ∷ rest) p h = cc
 
-empty : (steps : Steps) → slice_get steps 0 ≡ None → steps ≡ []
+pub empty : (steps : Steps) → slice_get steps 0 ≡ None → steps ≡ []
 empty [] h = refl
 empty (q ∷ rest) h = cc
 
@@ -118,7 +118,7 @@ pub data Skips (steps : Steps) (p : Pending) : Type 0 where
   past_inherit : {who : ThreadIx} → steps ≡ Pending.Inherit who ∷ p ∷ drop 2 steps → Skips steps p
   past_drops : {from : ℕ} → steps ≡ Pending.Drops from ∷ p ∷ drop 2 steps → Skips steps p
 
-skips-of : (steps : Steps) (due : Bool) (p : Pending) → (if is_skipped (slice_get steps 0) && due then slice_get steps 1 else None) ≡ Some p → Skips steps p × IsTrue due
+pub skips-of : (steps : Steps) (due : Bool) (p : Pending) → (if is_skipped (slice_get steps 0) && due then slice_get steps 1 else None) ≡ Some p → Skips steps p × IsTrue due
 skips-of [] due p h = cc
 skips-of (Pending.Inherit who ∷ []) true p h = cc
 skips-of (Pending.Inherit who ∷ []) false p h = cc
@@ -130,7 +130,7 @@ skips-of (Pending.Drops from ∷ q ∷ rest) true p h = (past_drops {from = from
 skips-of (Pending.Drops from ∷ q ∷ rest) false p h = cc
 skips-of (_ ∷ rest) due p h = cc
 
-skips-offer : (s : State) (t : ℕ) (p : Pending) → Skips (thread_at s t).pending p → IsTrue (none_due (thread_at s t)) → Offers s t p (drop 2 (thread_at s t).pending)
+pub skips-offer : (s : State) (t : ℕ) (p : Pending) → Skips (thread_at s t).pending p → IsTrue (none_due (thread_at s t)) → Offers s t p (drop 2 (thread_at s t).pending)
 skips-offer s t p (past_inherit e) due = skips_inherit e due
 skips-offer s t p (past_drops e) due = skips_drops e due
 
@@ -160,14 +160,14 @@ not-true : (b : Bool) → IsTrue (not b) → b ≡ false
 not-true true h = cc
 not-true false h = refl
 
-rest-conditions : (s : State) (t : ℕ) (act : Act) → rest_act s t ≡ Some act
+pub rest-conditions : (s : State) (t : ℕ) (act : Act) → rest_act s t ≡ Some act
     → IsTrue (is_living (thread_at s t).life) × ((thread_at s t).doomed ≡ false) × (line_act (thread_at s t).place (instruction_at s.image (thread_at s t).place) ≡ act)
 rest-conditions s t act h =
     let me = thread_at s t in
     let both = chosen-some (is_living me.life && not me.doomed) (line_act me.place (instruction_at s.image me.place)) act h in
     (and-left (is_living me.life) (not me.doomed) both.0, not-true me.doomed (and-right (is_living me.life) (not me.doomed) both.0), both.1)
 
-line-begins : (place : Place) (o : Option Instr) → IsTrue (is_some o) → line_act place o ≡ Act.Begin place.script (place.line + 1)
+pub line-begins : (place : Place) (o : Option Instr) → IsTrue (is_some o) → line_act place o ≡ Act.Begin place.script (place.line + 1)
 line-begins place None h = cc
 line-begins place (Some instr) h = refl
 

@@ -1,5 +1,5 @@
 -- Which steps a thread is offered, and what may be made of an act.
-use Rattle.std.specs.Prelude.{◌≡◌, ℕ, ◌+◌, ◌<◌, Bool, true, false, ◌&&◌, not, if◌then◌else◌, List, [], take, drop, slice_get, Option, Some, None}
+use Rattle.std.specs.Prelude.{◌≡◌, ℕ, ◌+◌, ◌<◌, Bool, true, false, ◌&&◌, not, if◌then◌else◌, List, [], take, drop, slice_get, Option, Some, None, IsTrue, slice_index_or}
 use Rattle.um_base.specs.declared.names.ThreadIx.{ThreadIx}
 use Rattle.um_base.specs.declared.act.Act.{Act}
 use Rattle.um_base.specs.declared.act.Event.{Event}
@@ -9,7 +9,8 @@ use Rattle.um_base.specs.declared.instr.Instr.{Instr}
 use Rattle.um_machine.specs.declared.pending.Pending.{Pending}
 use Rattle.um_machine.specs.declared.thread.Place.{Place}
 use Rattle.um_machine.specs.Limits.{IsSound}
-use Rattle.um_machine.specs.State.{State, thread_at, is_living, instruction_at}
+use Rattle.um_machine.specs.State.{State, thread_at, object_at, is_living, instruction_at}
+use Rattle.um_machine.specs.Objects.{is_gone, is_held}
 use Rattle.um_machine.specs.Table.{act_of, after}
 use Rattle.um_machine.specs.Run.{Step, Runs, MayChoose, none_due}
 use Rattle.um_matrix.specs.declared.matrix.choice.Choice.{Choice}
@@ -122,3 +123,42 @@ pair_of _ = None
 abbrev pub IsShort : Found → Type 0
 IsShort (Found.Length n) = n < 32
 IsShort _ = Unit {0}
+
+-- an inheritance passes on a pair that is due; any other step may choose as it likes
+abbrev pub ChoosesDue : State → ℕ → Pending → ℕ → Type 0
+ChoosesDue s t (Pending.Inherit who) x = IsTrue (slice_index_or (thread_at s t).due x false)
+ChoosesDue s t p x = Unit {0}
+
+-- An event is a step from s to s2, and inherits nothing that isn't due.
+pub record Advances (s : State) (event : Event) (s2 : State) : Type 0 where
+  pub made : Step s event s2
+  pub due : ChoosesDue s event.thread.0 made.step made.row
+
+-- what is made of the act of a thread at rest
+abbrev pub rest_choice : Act → Choice
+rest_choice Act.Exit = Choice.Exits
+rest_choice _ = Choice.Begins
+
+-- the state after a choice
+abbrev pub after_choice : State → ℕ → Choice → State
+after_choice s t Choice.Begins = after s t 0 Pending.Begin []
+after_choice s t Choice.Exits = after s t 0 Pending.Exit []
+after_choice s t (Choice.Makes step row taken) = after s t row step (drop taken (thread_at s t).pending)
+after_choice s t (Choice.CleansPair who row) = after s t row (Pending.CleanPair who) []
+after_choice s t (Choice.Recycles row) = after s t row Pending.Recycle []
+
+-- a choice can be carried out
+abbrev pub IsInside : Choice → Type 0
+IsInside Choice.Begins = Unit {0}
+IsInside Choice.Exits = Unit {0}
+IsInside (Choice.Makes step row taken) = IsSound step × (row < ROWS) × (0 < taken)
+IsInside (Choice.CleansPair who row) = row < ROWS
+IsInside (Choice.Recycles row) = row < ROWS
+
+-- what a thread does next, and the act that it says thereby
+abbrev pub IsMove : State → ℕ → Choice × Act → Type 0
+IsMove s t move = IsInside move.0 × Advances s (event_of t move.1) (after_choice s t move.0)
+
+-- whether an object is gone, and nobody holds it
+abbrev pub is_forsaken : State → ℕ → Bool
+is_forsaken s x = is_gone (object_at s x).status && not (is_held s x)

@@ -1,5 +1,6 @@
 //! A state of the machine, and its steps.
 
+mod advance;
 mod apply;
 mod boot;
 mod checks;

@@ -1,8 +1,10 @@
 -- Lines for the numbers below a bound, one after another.
-use Rattle.std.proofs.Common.{◌≡◌, ℕ, zero, suc, ◌+◌, ◌*◌, List, [], ◌∷◌, ◌++◌, refl, sym, ap, ◌∙◌, arith, append_assoc}
+use Rattle.std.proofs.Common.{◌≡◌, ℕ, zero, suc, ◌+◌, ◌*◌, Bool, true, false, if◌then◌else◌, List, [], ◌∷◌, ◌++◌, refl, sym, ap, ◌∙◌, arith, append_assoc}
 use Rattle.std.proofs.Math.Nat.{mul-add}
 use Rattle.std.specs.Global.{Vec}
 use Rattle.std.specs.List.{flat_map, range_with_len}
+use Rattle.std.specs.Prelude.{count_by}
+use Rattle.std.proofs.lemmas.List.Sums.{sum_by-append}
 use Rattle.std.proofs.lemmas.Grind.{flat_map-append}
 use Rattle.std.proofs.lemmas.List.{append-nil}
 use Rattle.um_trace.specs.Dump.{numbers}
@@ -39,3 +41,17 @@ puts_more f most k a b c before line = record {
   len = omega (arith, mul-add most k 1);
   capacity = omega arith;
 }
+
+-- how many of the numbers pass a test
+one_more : (p : ℕ → Bool) (n : ℕ) (here : Bool) → p n ≡ here → count_by p (n ∷ []) ≡ (if here then 1 else 0)
+one_more p n true h = rw h refl
+one_more p n false h = rw h refl
+
+pub count_more : (p : ℕ → Bool) (n count : ℕ) (here : Bool) → count ≡ count_by p (numbers n) → here ≡ p n → count + (if here then 1 else 0) ≡ count_by p (numbers (n + 1))
+count_more p n count here before h =
+    let weight : ℕ → ℕ = λ x. if p x then 1 else 0 in
+    let more : count_by p (numbers n ++ n ∷ []) ≡ count_by p (numbers n) + count_by p (n ∷ []) = sum_by-append weight (numbers n) (n ∷ []) in
+    rw (numbers_more, more, before) (ap (λ k. count_by p (numbers n) + k) (sym (one_more p n here (sym h))))
+
+pub count_none : (p : ℕ → Bool) → 0 ≡ count_by p (numbers 0)
+count_none p = rw numbers_none refl

@@ -18,7 +18,9 @@ use Rattle.um_machine.specs.declared.thread.Life.{Life}
 use Rattle.um_machine.specs.declared.thread.Thread.{Thread}
 use Rattle.um_machine.specs.State.{State, thread_at, object_at, pair_at, is_started}
 use Rattle.um_machine.specs.Objects.{is_free, is_gone}
+use Rattle.um_machine.specs.Order.{to_row}
 use Rattle.um_trace.specs.declared.dump.memory.TheConstants.{BLOCKS}
+use Rattle.um_trace.specs.declared.dump.standing.Standing.{Standing}
 use Rattle.um_trace.specs.Digits.{address, hex2}
 use Rattle.um_trace.specs.Words.{kind_word, mode_word}
 use Rattle.um_trace.specs.Names.{row_text, thread_text, domain_text, part_text}
@@ -58,26 +60,36 @@ is_waiter t waiter = waiter.thread.0 == t
 abbrev pub awaited : List Object → ℕ → Option ℕ
 awaited objects t = position (λ (o : Object). list_any (is_waiter t) o.waiters) objects
 
-abbrev pub waits_text : Image → Option ℕ → List ℕ
-waits_text image (Some x) = codes "waits:" ++ row_text image x
-waits_text image None = codes "ready"
+abbrev pub waits : Option ℕ → Standing
+waits (Some x) = Standing.Waits (to_row x)
+waits None = Standing.Ready
 
 abbrev pub is_ended : Life → Bool
 is_ended Life.Ended = true
 is_ended _ = false
 
--- how a thread is that was started: the first of these that holds
-unfoldable pub status_text : Image → State → ℕ → Thread → List ℕ
-status_text image s t me =
-    if me.doomed then codes "doomed" else if is_ended me.life then codes "ended" else waits_text image (awaited s.objects t)
+-- how a thread is: the first of these that holds
+unfoldable pub standing_of : State → ℕ → Thread → Standing
+standing_of s t me =
+    if not (is_started me.life) then Standing.Unborn else if me.doomed then Standing.Doomed
+    else if is_ended me.life then Standing.Ended else waits (awaited s.objects t)
+
+unfoldable pub standing_text : Image → Standing → List ℕ
+standing_text image Standing.Unborn = codes "unborn"
+standing_text image Standing.Doomed = codes "doomed"
+standing_text image Standing.Ended = codes "ended"
+standing_text image (Standing.Waits row) = codes "waits:" ++ row_text image row.0
+standing_text image Standing.Ready = codes "ready"
+
+-- the mode, the priority and the domain of a thread that was started
+unfoldable pub rights_text : Image → Thread → List ℕ
+rights_text image me =
+    if is_started me.life then codes " " ++ mode_word me.mode ++ codes " " ++ signed_decimal me.priority ++ codes " " ++ domain_text image me.domain
+    else []
 
 -- what follows the object of a thread
 unfoldable pub life_text : Image → State → ℕ → Thread → List ℕ
-life_text image s t me =
-    if is_started me.life
-    then
-    status_text image s t me ++ codes " " ++ mode_word me.mode ++ codes " " ++ signed_decimal me.priority ++ codes " " ++ domain_text image me.domain
-    else codes "unborn"
+life_text image s t me = standing_text image (standing_of s t me) ++ rights_text image me
 
 unfoldable pub thread_line : Image → State → ℕ → ℕ → List ℕ
 thread_line image s x t = codes "thread " ++ row_text image x ++ codes " " ++ life_text image s t (thread_at s t) ++ codes "\n"
@@ -86,9 +98,13 @@ abbrev pub thread_line_in : Image → State → ℕ → Option ℕ → List ℕ
 thread_line_in image s x (Some t) = thread_line image s x t
 thread_line_in image s x None = []
 
--- the line of a row, where a thread object stands there
+-- the thread that is shown for a row: the one whose object stands there
+unfoldable pub shown_thread : Image → State → ℕ → Option ℕ
+shown_thread image s x = if is_shown image s x then thread_of_row image x else None
+
+-- its line
 unfoldable pub thread_line_of : Image → State → ℕ → List ℕ
-thread_line_of image s x = if is_shown image s x then thread_line_in image s x (thread_of_row image x) else []
+thread_line_of image s x = thread_line_in image s x (shown_thread image s x)
 
 -- Objects.
 

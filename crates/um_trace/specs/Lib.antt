@@ -5,3 +5,5 @@ pub mod Names
 pub mod Acts
 pub mod Dump
 pub mod Text
+pub mod Layout
+pub mod Summary

@@ -8,6 +8,7 @@ mod domains;
 mod lists;
 mod memory;
 mod objects;
+pub mod standing;
 mod state;
 mod threads;
 

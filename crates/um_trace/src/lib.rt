@@ -1,17 +1,24 @@
-//! What a run of the machine did, as text: a line for each event, and then the dump of the last state.
+//! Texts of an image and of a run of the machine: the addresses of the image, a line for each event with the dump of the last state, and
+//! how much the run did.
 #![tactic(auto)]
 
 mod domains;
 mod dump;
 mod heap;
+mod layout;
 mod memory;
 mod names;
 mod objects;
 mod pairs;
 mod places;
 mod room;
+#[cfg(test)]
+mod small_image;
+mod summary;
 mod threads;
 mod trace;
 mod words;
 
+pub use layout::{layout_room, layout_text};
+pub use summary::{SUMMARY_ROOM, summary_text};
 pub use trace::{text_room, trace_text};

@@ -15,7 +15,7 @@ use um_base::{Act, Addr, Found, Image};
 
 /// Bytes of memory.
 #[tactic(auto, unfolding(crate::specs::Acts::range_text))]
-fn put_range(room: &mut Vec<u8>, addr: Addr, size: u32)
+pub fn put_range(room: &mut Vec<u8>, addr: Addr, size: u32)
     requires { vec_len room.old + 21 ≤ vec_capacity room.old }
     ensures { Puts room.old room.new (range_text addr.0 size) 21 }
 {

@@ -34,6 +34,15 @@ pub fn put_decimal(room: &mut Vec<u8>, n: u32)
     put_text(room, buffer.format(n))
 }
 
+/// A count.
+pub fn put_count(room: &mut Vec<u8>, count: usize)
+    requires { vec_len room.old + 20 ≤ vec_capacity room.old }
+    ensures { Puts room.old room.new (decimal count) 20 }
+{
+    let mut buffer = Buffer::new();
+    put_text(room, buffer.format(count))
+}
+
 /// A priority.
 pub fn put_signed(room: &mut Vec<u8>, priority: i8)
     requires { vec_len room.old + 4 ≤ vec_capacity room.old }

@@ -1,11 +1,14 @@
 //! Tests of reading descriptions.
 
 use super::*;
+use std::fmt::Write;
 use std::test::Fail;
-use um_base::Term;
+use um_base::{Addr, Attr, Instr, Mode, Mpu, Name, Range, Row, Setup, Term, ThreadIx};
+use um_description::weight;
+use um_document::fault_text;
 
-/// A description of the first form, up to the lines of its script.
-const HEAD: &str = "version = 1
+/// A thread that writes the last byte of its partition, and reads past it.
+const LAST_BYTE: &str = "version = 1
 mpu = \"pmsav7\"
 regions = 8
 oops = \"abort\"
@@ -13,210 +16,228 @@ partition = [{name = \"p\", size = 32, attr = \"P_RW_U_RW\"}]
 domain = [{name = \"d\", partitions = [\"p\"]}]
 object = [{name = \"a\", kind = \"thread\"}, {name = \"sa\", kind = \"thread_stack\", size = 64}]
 boot = [{thread = \"a\", stack = \"sa\", script = \"m\", priority = 0, domain = \"d\"}]
+script = [{name = \"m\", lines = [\"store @p+31 1 0xab\", \"load r0 @p+32 1\"]}]
 ";
 
-/// The script of the worked example that writes the last byte of its partition, and reads past it.
-const LAST_BYTE: &str =
-    "script = [{name = \"m\", lines = [\"store @p+31 1 0xab\", \"load r0 @p+32 1\"]}]\n";
+/// The lines of its script.
+const LINES: &str = "\"store @p+31 1 0xab\", \"load r0 @p+32 1\"";
 
-/// Changes to that description, each of one part, that leave the first form.
-const OTHERS: [(&str, &str); 30] = [
-    ("version = 1", "version = 2"),
-    ("version = 1", "version = \"1\""),
-    ("version = 1\n", ""),
-    ("mpu = \"pmsav7\"", "mpu = \"pmsav8\""),
-    ("regions = 8", "regions = 16"),
-    ("regions = 8", "regions = 8.0"),
-    ("oops = \"abort\"", "oops = \"halt\""),
-    ("oops = \"abort\"", "oops = \"abort\"\nrodata = \"00\""),
-    ("oops = \"abort\"", "oops = \"abort\"\npool = []"),
-    ("oops = \"abort\"", "oops = \"abort\"\noops = \"abort\""),
-    ("size = 32", "size = 64"),
-    ("P_RW_U_RW", "P_RW_U_RO"),
-    ("P_RW_U_RW\"", "P_RW_U_RW\", data = \"00\""),
+/// Changes to that description, and what is told of each.
+const REFUSED: [(&str, &str, &str); 15] = [
+    (LAST_BYTE, "", "Version"),
+    (LAST_BYTE, "version = \"1", "NotToml"),
+    ("version = 1", "version = 1.0", "Version"),
+    ("mpu = \"pmsav7\"\n", "", "MissingKey mpu"),
+    ("size = 64", "size = \"64\"", "WrongType object[1].size"),
+    ("oops", "zed = 1\noops", "UnknownKey zed"),
+    ("abort", "stop", "BadName oops"),
+    ("name = \"d\"", "name = \"p\"", "Duplicate domain[0].name"),
     (
-        "\"P_RW_U_RW\"}",
-        "\"P_RW_U_RW\"}, {name = \"q\", size = 32, attr = \"P_RW_U_RW\"}",
+        "stack = \"sa\"",
+        "stack = \"a\"",
+        "UnknownName boot[0].stack",
     ),
-    ("partitions = [\"p\"]", "partitions = []"),
-    ("partitions = [\"p\"]", "partitions = [\"p\", \"p\"]"),
-    (", partitions = [\"p\"]", ""),
-    ("[{name = \"d\", partitions = [\"p\"]}]", "[]"),
-    ("size = 64}]", "size = 64}, {name = \"s\", kind = \"sem\"}]"),
-    ("size = 64", "size = 65"),
-    ("kind = \"thread\"", "kind = \"sem\""),
-    ("kind = \"thread\"", "kind = \"thread\", public = false"),
-    ("priority = 0", "priority = 1"),
-    ("priority = 0", "priority = 0, mode = \"user\""),
-    ("priority = 0", "priority = 0, grants = []"),
-    ("domain = \"d\"}", "domain = \"e\"}"),
-    ("script = \"m\"", "script = \"n\""),
-    ("{name = \"m\", lines", "{name = \"n\", lines"),
-    ("\"load r0 @p+32 1\"", "7"),
+    ("size = 32", "size = 0", "Limit size 1 partition[0].size"),
     (
-        "0xab\", \"load r0 @p+32 1\"]}",
-        "0xab\"]}, {name = \"n\", lines = []}",
+        "load r0 @p+32 1",
+        "load r0 @p 1 1",
+        "Line Extra script[0].lines[1]:14",
+    ),
+    (LINES, "\"repeat 2\"", "Block script[0].lines[0]"),
+    (
+        "load r0 @p+32 1",
+        "load r0 @z 1",
+        "LineName script[0].lines[1]:9",
+    ),
+    (
+        "load r0 @p+32 1",
+        "k_thread_create @a @sa 64 m 0 K_USER",
+        "ScriptOrder script[0].lines[1]",
+    ),
+    (
+        "priority = 0",
+        "priority = 15",
+        "Limit priority 14 boot[0].priority",
     ),
 ];
 
-/// Lines that no script of the first form has.
-const OTHER_LINES: [&str; 42] = [
-    "",
-    "load",
-    "load r0",
-    "load r0 @p",
-    "load r0 @p 1 1",
-    "load  r0 @p 1",
-    "load r0  @p 1",
-    " load r0 @p 1",
-    "load r0 @p 1 ",
-    "Load r0 @p 1",
-    "exec @p",
-    "set r0 1",
-    "load r8 @p 1",
-    "load r00 @p 1",
-    "load r @p 1",
-    "load 0 @p 1",
-    "load r0 @p 0",
-    "load r0 @p 3",
-    "load r0 @p 8",
-    "load r0 @p 01",
-    "load r0 @p+ 1",
-    "load r0 @p+65537 1",
-    "load r0 @p+00000000001 1",
-    "load r0 @p+0x1 1",
-    "load r0 @p-1 1",
-    "load r0 @q 1",
-    "load r0 @b 1",
-    "load r0 @rodata 1",
-    "load r0 @a+ 1",
-    "load r0 @sa+65537 1",
-    "load r0 @p+1+1 1",
-    "load r0 @ 1",
-    "load r0 @+1 1",
-    "load r0 r1 1",
-    "load r0 0xAB 1",
-    "load r0 0x 1",
-    "load r0 0x123456789 1",
-    "load r0 4294967296 1",
-    "load r0 00000000001 1",
-    "store @p 1 @p",
-    "store @p 1 r8",
-    "store r0 1 1",
-];
+/// A supervisor that makes a domain and two threads, of which one sends the other a message.
+const TWO_THREADS: &str = "version = 1
+mpu = \"pmsav7\"
+regions = 8
+oops = \"abort\"
+rodata = \"73656e736f7200\"
+partition = [{name = \"p_app\", size = 256, attr = \"P_RW_U_RW\"}]
+domain = [{name = \"boot_d\", partitions = []}, {name = \"app\"}]
+object = [
+ {name = \"main\", kind = \"thread\"}, {name = \"main_s\", kind = \"thread_stack\", size = 1024},
+ {name = \"sensor\", kind = \"thread\"}, {name = \"sensor_s\", kind = \"thread_stack\", size = 512},
+ {name = \"logger\", kind = \"thread\"}, {name = \"logger_s\", kind = \"thread_stack\", size = 512},
+ {name = \"q\", kind = \"msgq\", msg_size = 4, max_msgs = 8}]
+boot = [{thread = \"main\", stack = \"main_s\", script = \"go\", mode = \"supervisor\", priority = 0, domain = \"boot_d\"}]
+[[script]]
+name = \"go\"
+lines = [\"k_mem_domain_init app p_app\", \"k_mem_domain_add_thread app @main\",
+ \"k_object_access_grant @q @sensor\", \"k_object_access_grant @q @logger\",
+ \"k_thread_create @logger @logger_s 512 log 5 K_USER\",
+ \"k_thread_create @sensor @sensor_s 512 sense 5 K_USER\", \"k_thread_user_mode_enter idle\"]
+[[script]]
+name = \"log\"
+lines = [\"k_msgq_get @q @p_app K_FOREVER\"]
+[[script]]
+name = \"sense\"
+lines = [\"k_thread_name_set @sensor @rodata\", \"store @p_app+16 4 0x2a\", \"k_msgq_put @q @p_app+16 K_FOREVER\"]
+[[script]]
+name = \"idle\"
+lines = [\"set r0 1\"]
+";
 
-/// The lines of the first script.
-fn first_lines(image: &Image) -> &[Instr] {
-    match image.scripts.as_slice().first() {
+/// The fault of a text as it is told, or `image`.
+fn answer(alloc: Global, text: &str) -> Result<String, Fail> {
+    match read_image(alloc, text.as_bytes()) {
+        Ok(_) => Ok(String::from_str(alloc, "image")?),
+        Err(fault) => Ok(fault_text(alloc, &fault)?),
+    }
+}
+
+/// What is told of the first description with one part changed.
+fn answer_with(alloc: Global, part: &str, other: &str) -> Result<String, Fail> {
+    let changed = LAST_BYTE.replacen(alloc, part, other, 1)?;
+    answer(alloc, changed.as_str())
+}
+
+/// So many entries with names of their own, and this behind the name of each.
+fn entries(alloc: Global, count: usize, rest: &str) -> Result<String, Fail> {
+    let mut text = String::new(alloc);
+    for i in 0..count {
+        write!(text, "{{name = \"x{i}\", {rest}}}, ")?;
+    }
+    Ok(text)
+}
+
+#[test]
+fn first_faults_are_told(rt: HostRuntime) -> Result<(), Fail> {
+    for (part, other, told) in REFUSED {
+        let found = answer_with(rt.alloc(), part, other)?;
+        assert_eq!(rt; found.as_str(), told, "{other}");
+    }
+    Ok(())
+}
+
+#[test]
+fn sums_are_told(rt: HostRuntime) -> Result<(), Fail> {
+    let alloc = rt.alloc();
+    let threads = entries(alloc, 20, "kind = \"thread\"")?;
+    let objects = format!(in alloc; "object = [{threads}")?;
+    let found = answer_with(alloc, "object = [", objects.as_str())?;
+    assert_eq!(rt; found.as_str(), "Limit threads 20 object[20]");
+    let eight = entries(alloc, 8, "size = 65536, attr = \"P_RW_U_RW\"")?;
+    let nine = format!(in alloc; "{eight}{{name = \"p\", size = 65536")?;
+    let found = answer_with(alloc, "{name = \"p\", size = 32", nine.as_str())?;
+    assert_eq!(rt; found.as_str(), "Layout partitions 589824 524288");
+    Ok(())
+}
+
+#[test]
+fn greatest_weight_is_read(rt: HostRuntime) -> Result<(), Fail> {
+    let alloc = rt.alloc();
+    let sets = "\"set r0 0\", ".repeat(alloc, 99)?;
+    for (more, told) in [("", "image"), (", \"set r0 0\"", "Weight")] {
+        let lines = format!(in alloc;
+            "\"repeat 1000\", {sets}\"end\", \"repeat 940\", \"set r0 0\", \"end\"{more}"
+        )?;
+        let found = answer_with(alloc, LINES, lines.as_str())?;
+        assert_eq!(rt; found.as_str(), told);
+    }
+    Ok(())
+}
+
+/// The lines of a script.
+fn lines_of(image: &Image, script: usize) -> &[Instr] {
+    match image.scripts.as_slice().get(script) {
         Some(script) => script.lines.as_slice(),
         None => &[],
     }
 }
 
-#[test]
-fn the_lines_are_read(rt: HostRuntime) -> Result<(), Fail> {
-    let alloc = rt.alloc();
-    let text = format!(in alloc; "{HEAD}{LAST_BYTE}")?;
-    let store = Instr::Store {
-        addr: Term::Num(0x2000_001f),
-        size: 1,
-        value: Term::Num(0xab),
-    };
-    let load = Instr::Load {
-        to: 0,
-        addr: Term::Num(0x2000_0020),
-        size: 1,
-    };
-    match read_image(alloc, text.as_bytes()) {
-        Ok(image) => assert!(rt; first_lines(&image) == &[store, load][..]),
-        Err(fault) => assert!(rt; false, "{fault:?}"),
+/// So many bytes from an address on.
+fn range(start: u32, size: u32) -> Range {
+    Range {
+        start: Addr(start),
+        size,
     }
-    Ok(())
 }
 
 #[test]
-fn operands_are_read(rt: HostRuntime) -> Result<(), Fail> {
-    let alloc = rt.alloc();
-    let text = format!(in alloc; "{HEAD}{LAST_BYTE}")?;
-    for (line, addr, size, value) in [
-        ("store 0x08000000 1 r1", 0x0800_0000, 1, Term::Reg(1)),
-        ("store 536870943 2 r7", 0x2000_001f, 2, Term::Reg(7)),
-        ("store @p 4 4294967295", 0x2000_0000, 4, Term::Num(u32::MAX)),
-        (
-            "store @p+0000065536 4 0xffffffff",
-            0x2001_0000,
-            4,
-            Term::Num(u32::MAX),
-        ),
-        ("store @a 4 r0", 0x4000_0000, 4, Term::Reg(0)),
-        ("store @a+65536 2 r0", 0x4001_0000, 2, Term::Reg(0)),
-        ("store @sa 1 7", 0x2008_0000, 1, Term::Num(7)),
-        ("store @sa+63 1 7", 0x2008_003f, 1, Term::Num(7)),
-    ] {
-        let changed = text.as_str().replacen(alloc, "load r0 @p+32 1", line, 1)?;
-        let store = Instr::Store {
-            addr: Term::Num(addr),
-            size,
-            value,
-        };
-        match read_image(alloc, changed.as_bytes()) {
-            Ok(image) => assert!(rt; first_lines(&image).last() == Some(&store), "{line}"),
-            Err(fault) => assert!(rt; false, "{line}: {fault:?}"),
+fn a_description_is_read(rt: HostRuntime) -> Result<(), Fail> {
+    let image = match read_image(rt.alloc(), TWO_THREADS.as_bytes()) {
+        Ok(image) => image,
+        Err(_) => {
+            assert!(rt; false);
+            return Ok(());
         }
+    };
+    assert!(rt; image.mpu == Mpu::V7);
+    assert!(rt; image.rodata == Some(range(0x0800_0000, 32)));
+    assert!(rt; image.rodata_bytes.as_slice() == &b"sensor\0"[..]);
+    match image.partitions.as_slice() {
+        [partition] => {
+            assert!(rt; partition.name == Name::from_bytes(b"p_app"));
+            assert!(rt; partition.range == range(0x2000_0000, 256));
+            assert!(rt; partition.attr == Attr::P_RW_U_RW);
+        }
+        _ => assert!(rt; false),
     }
+    match image.domains.as_slice() {
+        [first, second] => assert!(rt; first.parts.is_some() && second.parts.is_none()),
+        _ => assert!(rt; false),
+    }
+    match image.objects.as_slice() {
+        [_, main_stack, _, _, logger, logger_stack, queue] => {
+            assert!(rt; main_stack.addr == Addr(0x2008_0000));
+            assert!(rt; logger.addr == Addr(0x4000_0100));
+            assert!(rt; logger.setup == Setup::Thread { index: ThreadIx(2) });
+            let behind = Setup::ThreadStack {
+                range: range(0x2008_0600, 512),
+                declared: 512,
+            };
+            assert!(rt; logger_stack.setup == behind);
+            assert!(rt; queue.addr == Addr(0x4000_0180));
+            assert!(rt;
+                queue.setup
+                    == Setup::Msgq {
+                        msg_size: 4,
+                        max_msgs: 8
+                    }
+            );
+        }
+        _ => assert!(rt; false),
+    }
+    match image.boots.as_slice() {
+        [boot] => {
+            assert!(rt; boot.thread == Row(0) && boot.stack == Row(1));
+            assert!(rt; boot.mode == Mode::Supervisor && boot.pool.is_none());
+        }
+        _ => assert!(rt; false),
+    }
+    assert_eq!(rt; lines_of(&image, 0).len(), 7);
+    let store = Instr::Store {
+        addr: Term::Num(0x2000_0010),
+        size: 4,
+        value: Term::Num(0x2a),
+    };
+    assert!(rt; lines_of(&image, 2).get(1) == Some(&store));
+    assert_eq!(rt; weight(&image), 1_776);
     Ok(())
 }
 
 #[test]
-fn other_descriptions_are_refused(rt: HostRuntime) -> Result<(), Fail> {
-    let alloc = rt.alloc();
-    let text = format!(in alloc; "{HEAD}{LAST_BYTE}")?;
-    for (part, other) in OTHERS {
-        let changed = text.as_str().replacen(alloc, part, other, 1)?;
-        let fault = read_image(alloc, changed.as_bytes()).err();
-        assert_eq!(rt; fault, Some(ImageFault::NotYet), "{other} for {part}");
-    }
-    Ok(())
-}
-
-#[test]
-fn other_lines_are_refused(rt: HostRuntime) -> Result<(), Fail> {
-    let alloc = rt.alloc();
-    let text = format!(in alloc; "{HEAD}{LAST_BYTE}")?;
-    for line in OTHER_LINES {
-        let changed = text.as_str().replacen(alloc, "load r0 @p+32 1", line, 1)?;
-        let fault = read_image(alloc, changed.as_bytes()).err();
-        assert_eq!(rt; fault, Some(ImageFault::NotYet), "{line}");
-    }
-    Ok(())
-}
-
-#[test]
-fn a_script_has_one_to_a_hundred_lines(rt: HostRuntime) -> Result<(), Fail> {
-    let alloc = rt.alloc();
-    for (count, fault) in [
-        (0, Some(ImageFault::NotYet)),
-        (1, None),
-        (100, None),
-        (101, Some(ImageFault::NotYet)),
-    ] {
-        let lines = "\"load r1 @p 4\", ".repeat(alloc, count)?;
-        let text = format!(in alloc; "{HEAD}script = [{{name = \"m\", lines = [{lines}]}}]\n")?;
-        assert_eq!(rt;
-            read_image(alloc, text.as_bytes()).err(),
-            fault,
-            "{count} lines"
-        );
-    }
-    Ok(())
-}
-
-#[test]
-fn other_bytes_are_refused(rt: HostRuntime) -> Result<(), Fail> {
-    let alloc = rt.alloc();
-    for bytes in [&b""[..], b"version = \"1", b"\xff", b"version = 1\n"] {
-        let fault = read_image(alloc, bytes).err();
-        assert_eq!(rt; fault, Some(ImageFault::NotYet), "{bytes:?}");
+fn each_prefix_is_an_image_or_a_fault(rt: HostRuntime) -> Result<(), Fail> {
+    let text = TWO_THREADS.as_bytes();
+    for end in 0..text.len() {
+        if let Err(ImageFault::Memory) = read_image(rt.alloc(), &text[..end]) {
+            assert!(rt; false, "{end}");
+        }
     }
     Ok(())
 }

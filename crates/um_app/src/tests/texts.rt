@@ -1,0 +1,145 @@
+//! What the commands write.
+
+use super::{Ended, LAST_BYTE, call, last_byte, smooth};
+use crate::Status;
+use std::alloc::Global;
+use std::test::Fail;
+
+/// The top of a description.
+const TOP: &str = "version = 1
+mpu = \"pmsav7\"
+regions = 8
+oops = \"abort\"
+";
+
+const USAGE: &str =
+    "zumode: usage: sim [--cpus N] [--pick N] | run [--cpus N] | layout | gen N | summary [--cpus N] [--pick N]\n";
+
+/// The addresses of a partition, a thread and its stack.
+const ADDRESSES: &str = "partition p 0x20000000 32 P_RW_U_RW
+object a thread 0x40000000
+object sa thread_stack 0x20080000 64
+";
+
+/// The counts of a store to the last byte of a partition, and a load past it.
+const COUNTS: &str = "events 8
+begins 2
+checks 0
+refused 0
+fatals 1
+waits 0
+recycles 0
+ended 1
+waiting 0
+";
+
+#[test]
+fn a_run_in_pieces(rt: HostRuntime) -> Result<(), Fail> {
+    let alloc = rt.alloc();
+    for piece in [1, 7, 4096] {
+        let ended = call(&rt, "sim", last_byte(alloc)?, smooth(alloc, piece))?;
+        assert_eq!(rt; ended.status, Status::Done);
+        assert_eq!(rt; ended.out.bytes(), LAST_BYTE.as_bytes());
+        assert_eq!(rt; ended.err.bytes().len(), 0);
+    }
+    Ok(())
+}
+
+#[test]
+fn what_each_command_writes(rt: HostRuntime) -> Result<(), Fail> {
+    let alloc = rt.alloc();
+    let cases = [
+        ("sim --pick 7 --cpus 08", LAST_BYTE),
+        ("layout", ADDRESSES),
+        ("summary", COUNTS),
+        ("summary --cpus 3", COUNTS),
+    ];
+    for (words, text) in cases {
+        let ended = call(&rt, words, last_byte(alloc)?, smooth(alloc, 64))?;
+        assert_eq!(rt; ended.status, Status::Done);
+        assert_eq!(rt; ended.out.bytes(), text.as_bytes());
+        assert_eq!(rt; ended.err.bytes().len(), 0);
+    }
+    Ok(())
+}
+
+#[test]
+fn words_that_are_no_command(rt: HostRuntime) -> Result<(), Fail> {
+    let alloc = rt.alloc();
+    for words in [
+        "Sim",
+        "sim --cpus 9",
+        "gen",
+        "gen 18446744073709551616",
+        "layout layout",
+        "run",
+    ] {
+        let ended = call(&rt, words, last_byte(alloc)?, smooth(alloc, 64))?;
+        assert_eq!(rt; ended.status, Status::Usage);
+        assert_eq!(rt; ended.out.bytes().len(), 0);
+        assert_eq!(rt; ended.err.bytes(), USAGE.as_bytes());
+    }
+    Ok(())
+}
+
+#[test]
+fn a_description_without_a_thread(rt: HostRuntime) -> Result<(), Fail> {
+    let alloc = rt.alloc();
+    let ended = call(
+        &rt,
+        "sim --cpus 8",
+        TOP.as_bytes().to_vec(alloc)?,
+        smooth(alloc, 64),
+    )?;
+    assert_eq!(rt; ended.status, Status::Done);
+    assert_eq!(rt; ended.out.bytes(), b"dump\n".as_slice());
+    Ok(())
+}
+
+/// The counts of the run of a generated description.
+fn counts_of(rt: &HostRuntime, alloc: Global, words: &str) -> Result<Ended, Fail> {
+    let made = call(rt, words, Vec::new(alloc), smooth(alloc, 4096))?;
+    let input = made.out.bytes().to_vec(alloc)?;
+    call(rt, "summary --cpus 2 --pick 3", input, smooth(alloc, 4096))
+}
+
+#[test]
+fn a_generated_description_runs_the_same_again(rt: HostRuntime) -> Result<(), Fail> {
+    let alloc = rt.alloc();
+    let first = counts_of(&rt, alloc, "gen 1")?;
+    let second = counts_of(&rt, alloc, "gen 1")?;
+    assert_eq!(rt; first.status, Status::Done);
+    assert_eq!(rt; first.out.bytes(), second.out.bytes());
+    Ok(())
+}
+
+#[test]
+fn what_is_refused(rt: HostRuntime) -> Result<(), Fail> {
+    let alloc = rt.alloc();
+    let cases = [
+        ("", "zumode: refused: Version\n"),
+        ("version = \"1", "zumode: refused: NotToml\n"),
+        (
+            "version = 1\nregions = 8\noops = \"abort\"\n",
+            "zumode: refused: MissingKey mpu\n",
+        ),
+        (
+            "version = 1\nmpu = \"pmsav7\"\nregions = 3\noops = \"abort\"\n",
+            "zumode: refused: Limit regions 4 regions\n",
+        ),
+    ];
+    for (input, line) in cases {
+        for words in ["sim", "layout", "summary --pick 1"] {
+            let ended = call(
+                &rt,
+                words,
+                input.as_bytes().to_vec(alloc)?,
+                smooth(alloc, 64),
+            )?;
+            assert_eq!(rt; ended.status, Status::Refused);
+            assert_eq!(rt; ended.out.bytes().len(), 0);
+            assert_eq!(rt; ended.err.bytes(), line.as_bytes());
+        }
+    }
+    Ok(())
+}

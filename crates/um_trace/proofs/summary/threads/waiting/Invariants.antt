@@ -1,0 +1,11 @@
+use Rattle.std.proofs.Common.{◌≡◌, ℕ, ◌≤◌}
+use Rattle.std.specs.Prelude.{count_by}
+use Rattle.um_trace.specs.Dump.{numbers, shown_thread}
+use Rattle.um_trace.specs.Summary.{is_waiting, stands_so}
+use Rattle.um_trace.proofs.summary.threads.waiting.Given as goal
+
+abbrev pub invariant-loop-row : goal.invariant-loop-row
+invariant-loop-row l = record {
+  value : l.count ≡ count_by (λ (x : ℕ). stands_so is_waiting l.last (shown_thread l.image l.last x)) (numbers l.row);
+  few : l.count ≤ l.row;
+}

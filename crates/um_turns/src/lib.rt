@@ -1,0 +1,14 @@
+//! Processors that take turns over the machine: each makes one event after another of the threads that are ready.
+#![tactic(auto)]
+
+mod order;
+mod processor;
+mod ready;
+mod running;
+mod turns;
+
+pub use running::{Ran, run};
+pub use turns::Processors;
+
+#[cfg(test)]
+mod tests;
