@@ -1,2 +1,2 @@
 mod Ends
-mod EndLemmas
+mod CommandLemmas

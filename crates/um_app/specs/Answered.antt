@@ -1,10 +1,9 @@
 -- What is answered to an input.
-use Rattle.std.specs.Prelude.{◌≡◌, ℕ, List, Option, string_bytes}
+use Rattle.std.specs.Prelude.{◌≡◌, ℕ, List, string_bytes}
 use Rattle.um_document.specs.declared.fault.ImageFault.{ImageFault}
 use Rattle.um_app.specs.declared.answer.Answer.{Answer}
 use Rattle.um_app.specs.Messages.{refused_line}
-use Rattle.um_app.specs.declared.top.End.{End}
-use Rattle.um_app.specs.Top.{IsOutput, ReadsAll}
+use Rattle.um_app.specs.Top.{IsOutput}
 use Rattle.um_command.specs.declared.command.Command.{Command}
 use Rattle.um_image.specs.Meaning.{Refuses}
 
@@ -19,12 +18,3 @@ abbrev pub Answered : Command → Answer → List ℕ → Type 0
 Answered command (Answer.Text bytes) input = IsOutput command input bytes.items
 Answered command (Answer.Refused line) input = IsRefusal input (string_bytes line)
 Answered command Answer.NoMemory input = Unit {0}
-
--- a command that was refused has read the whole input, and tells its fault
-abbrev pub TellsFault : End → Option (List ℕ) → Option (List ℕ) → Type 0
-TellsFault (End.Refused line) before now = (input : List ℕ) × ReadsAll before now input × IsRefusal input (string_bytes line)
-TellsFault (End.With status) before now = Unit {0}
-
-abbrev pub WasRefused : End → Type 0
-WasRefused (End.Refused line) = Unit {0}
-WasRefused (End.With status) = ⊥

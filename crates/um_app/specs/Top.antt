@@ -3,9 +3,11 @@ use Rattle.std.specs.Prelude.{◌≡◌, ℕ, ◌+◌, ◌≤◌, ◌⊎◌, Boo
 use Rattle.std.specs.Io.KnownBytes.{Appends, Consumes, IsAtEnd}
 use Rattle.um_base.specs.declared.act.Event.{Event}
 use Rattle.um_base.specs.declared.image.Image.{Image}
+use Rattle.um_base.specs.Weight.{weight}
 use Rattle.um_io.specs.Bytes.{AppendsFront}
 use Rattle.um_io.specs.Causes.{Rose}
 use Rattle.um_command.specs.declared.command.Command.{Command}
+use Rattle.um_command.specs.declared.command.Options.{Options}
 use Rattle.um_gen.specs.Description.{description}
 use Rattle.um_image.specs.Meaning.{Describes}
 use Rattle.um_machine.specs.State.{State}
@@ -13,31 +15,33 @@ use Rattle.um_machine.specs.Run.{IsRun, IsComplete}
 use Rattle.um_trace.specs.Layout.{layout_text}
 use Rattle.um_trace.specs.Summary.{summary_text}
 use Rattle.um_trace.specs.Text.{text}
+use Rattle.um_turns.specs.Scheduled.{IsScheduled}
 
 -- how many bytes an input has at most
 abbrev pub most_input : ℕ
 most_input = 0x100000
 
--- The bytes are the text of one complete run of the access-matrix machine from an image.
-pub record IsRunText (image : Image) (written : List ℕ) : Type 0 where
-  pub run : List Event
-  pub last : State
+-- One complete run of the access-matrix machine from an image, in the order of its processors: each event is that of the first
+-- processor that can make one, from the one that is preferred at that turn on. It has at most as many events as the image's weight.
+-- The image and the options name just one such run (`one_run` of um_turns).
+pub record IsRunOf (image : Image) (options : Options) (run : List Event) (last : State) : Type 0 where
   pub is_run : IsRun image run last
   pub complete : IsComplete last
-  pub text_is : written ≡ text image run last
+  pub scheduled : IsScheduled image options.cpus options.pick run last
+  pub few : length run ≤ weight image
 
--- The bytes are the counts of one complete run.
-pub record IsRunSummary (image : Image) (written : List ℕ) : Type 0 where
-  pub run : List Event
-  pub last : State
-  pub is_run : IsRun image run last
-  pub complete : IsComplete last
-  pub text_is : written ≡ summary_text image run last
+-- the bytes are the text of that run
+abbrev pub IsRunText : Image → Options → List ℕ → Type 0
+IsRunText image options written = (run : List Event) × (last : State) × IsRunOf image options run last × (written ≡ text image run last)
+
+-- the bytes are the counts of the run that `sim` writes of the same image with the same options
+abbrev pub IsRunSummary : Image → Options → List ℕ → Type 0
+IsRunSummary image options written = (run : List Event) × (last : State) × IsRunOf image options run last × (written ≡ summary_text image run last)
 
 -- what a command writes of the image that it reads
 abbrev pub Writes : Command → Image → List ℕ → Type 0
-Writes (Command.Sim options) image written = IsRunText image written
-Writes (Command.Summary options) image written = IsRunSummary image written
+Writes (Command.Sim options) image written = IsRunText image options written
+Writes (Command.Summary options) image written = IsRunSummary image options written
 Writes Command.Layout image written = written ≡ layout_text image
 Writes (Command.Gen number) image written = written ≡ description number
 

@@ -32,7 +32,7 @@ pub enum Answer {
 fn run_text(alloc: Global, image: &Image, options: Options) -> Result<Vec<u8>, Memory>
     requires lawful { IsLawful image.now }
     requires cpus { IsFew options }
-    ensures { IfOk result (λ text. IsRunText image.now text.items) }
+    ensures { IfOk result (λ text. IsRunText image.now options text.items) }
 {
     let ran = ran(alloc, image, options)?;
     let mut text = Vec::with_capacity(alloc, um_trace::text_room(&ran.events))?;
@@ -44,7 +44,7 @@ fn run_text(alloc: Global, image: &Image, options: Options) -> Result<Vec<u8>, M
 fn run_summary(alloc: Global, image: &Image, options: Options) -> Result<Vec<u8>, Memory>
     requires lawful { IsLawful image.now }
     requires cpus { IsFew options }
-    ensures { IfOk result (λ text. IsRunSummary image.now text.items) }
+    ensures { IfOk result (λ text. IsRunSummary image.now options text.items) }
 {
     let ran = ran(alloc, image, options)?;
     let mut text = Vec::with_capacity(alloc, SUMMARY_ROOM)?;

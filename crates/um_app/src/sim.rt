@@ -4,8 +4,11 @@ ghost use Rattle.std.specs.Prelude.{◌≡◌, ◌≤◌, IfOk, List, length};
 ghost use Rattle.um_base.specs.Lawful.{IsLawful};
 ghost use Rattle.um_base.specs.Weight.{weight};
 ghost use Rattle.um_command.specs.Words.{IsFew};
-ghost use Rattle.um_machine.specs.Run.{IsRun, IsComplete};
+ghost use Rattle.um_laws.specs.Obeys.{ObeysLaws};
 ghost use Rattle.um_machine.specs.State.{State};
+ghost use Rattle.um_turns.specs.Schedule.{opening_turn};
+ghost use Rattle.um_turns.specs.Scheduled.{FollowsAlone};
+ghost use Rattle.um_app.specs.Top.{IsRunOf};
 
 use std::alloc::Global;
 use um_base::{Event, Image, Memory};
@@ -17,10 +20,11 @@ use um_turns::{Ran, run};
 pub fn ran<'a>(alloc: Global, image: &'a Image, options: Options) -> Result<Ran<'a>, Memory>
     requires lawful { IsLawful image.now }
     requires cpus { IsFew options }
-    ensures run { IfOk result (λ ran. IsRun image.now ran.events.items ran.last) }
-    ensures complete { IfOk result (λ ran. IsComplete ran.last) }
-    ensures few { IfOk result (λ ran. length ran.events.items ≤ weight image.now) }
+    ensures run { IfOk result (λ ran. IsRunOf image.now options ran.events.items ran.last) }
+    ensures alone { options.cpus ≡ 1 → IfOk result (λ ran. FollowsAlone (opening_turn image.now 1) ran.events.items) }
+    ensures laws { IfOk result (λ ran. ObeysLaws image.now ran.events.items) }
 {
+    let _objects = image.objects.len();
     run(
         alloc,
         image,
@@ -41,8 +45,9 @@ pub fn sim_events(
     requires lawful { IsLawful image.now }
     requires some { 1 ≤ cpus }
     requires few { cpus ≤ 8 }
-    ensures complete { IfOk result (λ events. (last : State) × IsRun image.now events.items last × IsComplete last) }
-    ensures few { IfOk result (λ events. length events.items ≤ weight image.now) }
+    ensures run { IfOk result (λ events. (last : State) × IsRunOf image.now (record { cpus = cpus; pick = pick }) events.items last) }
+    ensures alone { cpus ≡ 1 → IfOk result (λ events. FollowsAlone (opening_turn image.now 1) events.items) }
+    ensures laws { IfOk result (λ events. ObeysLaws image.now events.items) }
 {
     let ran = ran(alloc, image, Options { cpus, pick })?;
     Ok(ran.events)

@@ -10,7 +10,7 @@ ghost use Rattle.um_gen.specs.Description.{description};
 ghost use Rattle.um_image.specs.Meaning.{Describes, Refuses};
 ghost use Rattle.um_io.specs.Bytes.{AppendsFront};
 ghost use Rattle.um_io.specs.Causes.{Rose};
-ghost use Rattle.um_app.specs.Answered.{IsRefusal, TellsFault, WasRefused};
+ghost use Rattle.um_app.specs.Answered.{IsRefusal};
 ghost use Rattle.um_app.specs.Messages.{line_of, refused_line};
 ghost use Rattle.um_app.specs.Top.{most_input, Answers, IsRunText, IsRead, ReadsAll, ReadsWithin, ReadsPast, Tells, is_reading};
 
@@ -23,13 +23,6 @@ use um_io::{Gate, ReadAll, Sink, Source, read_all, write_all};
 /// How many bytes an input has at most.
 const LIMIT: u32 = 0x10_0000;
 
-/// How a command ended: with a status, or refused with a line of its own.
-#[derive(Drop)]
-pub enum End {
-    With(Status),
-    Refused(String),
-}
-
 /// Writes a text whose memory is taken.
 fn write_text<O: Sink>(out: &mut O, text: &[u8]) -> Status
     ensures either { (result ≡ Status.Done) ⊎ (result ≡ Status.WriteFault) }
@@ -40,67 +33,6 @@ fn write_text<O: Sink>(out: &mut O, text: &[u8]) -> Status
     match write_all(out, text) {
         Ok(()) => Status::Done,
         Err(_) => Status::WriteFault,
-    }
-}
-
-/// A command that reads a description.
-fn described<S: Source, O: Sink>(
-    alloc: Global,
-    command: Command,
-    source: &mut S,
-    out: &mut O,
-) -> End
-    requires few { HasFew command }
-    requires reading { IsTrue (is_reading command) }
-    ensures done { result ≡ End.With Status.Done → (written : List ℕ)
-        × IsRead command (S.left source.old) (S.left source.new) written
-        × Appends (O.taken out.old) (O.taken out.new) written }
-    ensures complete { (input : List ℕ) → S.left source.old ≡ Some input → length input ≤ most_input
-        → (image : Image) → Describes input image
-        → ¬ Rose (S.faults source.old) (S.faults source.new) → ¬ Rose (O.faults out.old) (O.faults out.new)
-        → (result ≡ End.With Status.Done) ⊎ (result ≡ End.With Status.NoMemory) }
-    ensures no_usage { result ≢ End.With Status.Usage }
-    ensures no_plain_refusal { result ≢ End.With Status.Refused }
-    ensures read_fault { result ≡ End.With Status.ReadFault → Rose (S.faults source.old) (S.faults source.new) }
-    ensures too_long { result ≡ End.With Status.TooLong → ReadsPast (S.left source.old) (S.left source.new) }
-    ensures within { result ≢ End.With Status.TooLong → result ≢ End.With Status.NoMemory
-        → ReadsWithin (S.left source.old) (S.left source.new) }
-    ensures refused { TellsFault result (S.left source.old) (S.left source.new) }
-    ensures refuses { (input : List ℕ) → S.left source.old ≡ Some input → length input ≤ most_input → (fault : ImageFault) → Refuses input fault
-        → ¬ Rose (S.faults source.old) (S.faults source.new) → WasRefused result ⊎ (result ≡ End.With Status.NoMemory) }
-    ensures exceeds { (input : List ℕ) → S.left source.old ≡ Some input → most_input < length input
-        → ¬ Rose (S.faults source.old) (S.faults source.new) → (result ≡ End.With Status.TooLong) ⊎ (result ≡ End.With Status.NoMemory) }
-    ensures write_fault { result ≡ End.With Status.WriteFault → Rose (O.faults out.old) (O.faults out.new) }
-    ensures front { result ≡ End.With Status.WriteFault → (written : List ℕ)
-        × IsRead command (S.left source.old) (S.left source.new) written
-        × AppendsFront (O.taken out.old) (O.taken out.new) written × (O.room out.old < length written) }
-    ensures nothing_written { result ≢ End.With Status.Done → result ≢ End.With Status.WriteFault → out.new ≡ out.old }
-    ensures source_most { S.most source.new ≡ S.most source.old }
-{
-    let input = match read_all(alloc, source, LIMIT) {
-        Ok(input) => input,
-        Err(ReadAll::Fault) => return End::With(Status::ReadFault),
-        Err(ReadAll::TooLong) => return End::With(Status::TooLong),
-        Err(ReadAll::Memory) => return End::With(Status::NoMemory),
-    };
-    match answer_to(alloc, command, &input) {
-        Answer::Text(text) => End::With(write_text(out, &text)),
-        Answer::Refused(line) => End::Refused(line),
-        Answer::NoMemory => End::With(Status::NoMemory),
-    }
-}
-
-/// The generated description of a number: nothing is read.
-fn generated<O: Sink>(alloc: Global, number: u64, out: &mut O) -> Status
-    ensures some { (result ≡ Status.Done) ⊎ ((result ≡ Status.WriteFault) ⊎ (result ≡ Status.NoMemory)) }
-    ensures done { result ≡ Status.Done → Appends (O.taken out.old) (O.taken out.new) (description number) }
-    ensures write_fault { result ≡ Status.WriteFault → Rose (O.faults out.old) (O.faults out.new) }
-    ensures front { result ≡ Status.WriteFault → AppendsFront (O.taken out.old) (O.taken out.new) (description number) × (O.room out.old < length (description number)) }
-    ensures nothing_written { result ≡ Status.NoMemory → out.new ≡ out.old }
-{
-    match um_gen::generate(alloc, number) {
-        Ok(text) => write_text(out, &text),
-        Err(_) => Status::NoMemory,
     }
 }
 
@@ -119,6 +51,88 @@ fn tell_status<E: Sink>(err: &mut E, status: Status)
 {
     if status != Status::Done {
         tell(err, status.line());
+    }
+}
+
+/// A status that is told on standard error.
+fn told<E: Sink>(err: &mut E, status: Status) -> Status
+    ensures status { result ≡ status }
+    ensures quiet { result ≡ Status.Done → err.new ≡ err.old }
+    ensures told { result ≢ Status.Done
+        → Tells (E.taken err.old) (E.taken err.new) (E.faults err.old) (E.faults err.new) (line_of result) }
+{
+    tell_status(err, status);
+    status
+}
+
+/// A command that reads a description.
+fn described<S: Source, O: Sink, E: Sink>(
+    alloc: Global,
+    command: Command,
+    source: &mut S,
+    out: &mut O,
+    err: &mut E,
+) -> Status
+    requires few { HasFew command }
+    requires reading { IsTrue (is_reading command) }
+    ensures done { result ≡ Status.Done → (written : List ℕ)
+        × IsRead command (S.left source.old) (S.left source.new) written
+        × Appends (O.taken out.old) (O.taken out.new) written }
+    ensures done_quiet { result ≡ Status.Done → err.new ≡ err.old }
+    ensures complete { (input : List ℕ) → S.left source.old ≡ Some input → length input ≤ most_input
+        → (image : Image) → Describes input image
+        → ¬ Rose (S.faults source.old) (S.faults source.new) → ¬ Rose (O.faults out.old) (O.faults out.new)
+        → (result ≡ Status.Done) ⊎ (result ≡ Status.NoMemory) }
+    ensures no_usage { result ≢ Status.Usage }
+    ensures read_fault { result ≡ Status.ReadFault → Rose (S.faults source.old) (S.faults source.new) }
+    ensures too_long { result ≡ Status.TooLong → ReadsPast (S.left source.old) (S.left source.new) }
+    ensures exceeds { (input : List ℕ) → S.left source.old ≡ Some input → most_input < length input
+        → ¬ Rose (S.faults source.old) (S.faults source.new) → (result ≡ Status.TooLong) ⊎ (result ≡ Status.NoMemory) }
+    ensures within { result ≢ Status.TooLong → result ≢ Status.NoMemory → ReadsWithin (S.left source.old) (S.left source.new) }
+    ensures refused { result ≡ Status.Refused → (input line : List ℕ) × ReadsAll (S.left source.old) (S.left source.new) input
+        × IsRefusal input line × Tells (E.taken err.old) (E.taken err.new) (E.faults err.old) (E.faults err.new) line }
+    ensures refuses { (input : List ℕ) → S.left source.old ≡ Some input → length input ≤ most_input → (fault : ImageFault) → Refuses input fault
+        → ¬ Rose (S.faults source.old) (S.faults source.new) → (result ≡ Status.Refused) ⊎ (result ≡ Status.NoMemory) }
+    ensures write_fault { result ≡ Status.WriteFault → Rose (O.faults out.old) (O.faults out.new) }
+    ensures front { result ≡ Status.WriteFault → (written : List ℕ)
+        × IsRead command (S.left source.old) (S.left source.new) written
+        × AppendsFront (O.taken out.old) (O.taken out.new) written × (O.room out.old < length written) }
+    ensures nothing_written { result ≢ Status.Done → result ≢ Status.WriteFault → out.new ≡ out.old }
+    ensures told { result ≢ Status.Done → result ≢ Status.Refused
+        → Tells (E.taken err.old) (E.taken err.new) (E.faults err.old) (E.faults err.new) (line_of result) }
+    ensures source_most { S.most source.new ≡ S.most source.old }
+{
+    let input = match read_all(alloc, source, LIMIT) {
+        Ok(input) => input,
+        Err(ReadAll::Fault) => return told(err, Status::ReadFault),
+        Err(ReadAll::TooLong) => return told(err, Status::TooLong),
+        Err(ReadAll::Memory) => return told(err, Status::NoMemory),
+    };
+    match answer_to(alloc, command, &input) {
+        Answer::Text(text) => {
+            let status = write_text(out, &text);
+            tell_status(err, status);
+            status
+        }
+        Answer::Refused(line) => {
+            tell(err, line.as_str());
+            Status::Refused
+        }
+        Answer::NoMemory => told(err, Status::NoMemory),
+    }
+}
+
+/// The generated description of a number: nothing is read.
+fn generated<O: Sink>(alloc: Global, number: u64, out: &mut O) -> Status
+    ensures some { (result ≡ Status.Done) ⊎ ((result ≡ Status.WriteFault) ⊎ (result ≡ Status.NoMemory)) }
+    ensures done { result ≡ Status.Done → Appends (O.taken out.old) (O.taken out.new) (description number) }
+    ensures write_fault { result ≡ Status.WriteFault → Rose (O.faults out.old) (O.faults out.new) }
+    ensures front { result ≡ Status.WriteFault → AppendsFront (O.taken out.old) (O.taken out.new) (description number) × (O.room out.old < length (description number)) }
+    ensures nothing_written { result ≡ Status.NoMemory → out.new ≡ out.old }
+{
+    match um_gen::generate(alloc, number) {
+        Ok(text) => write_text(out, &text),
+        Err(_) => Status::NoMemory,
     }
 }
 
@@ -157,8 +171,8 @@ pub fn zumode<R: AllocGlobal, S: Source, O: Sink, E: Sink, G: Gate>(
     ensures exceeds { (command : Command) → command_of (map string_bytes words.now) ≡ Some command → IsTrue (is_reading command)
         → (input : List ℕ) → S.left source.old ≡ Some input → most_input < length input → ¬ Rose (S.faults source.old) (S.faults source.new)
         → (result ≡ Status.TooLong) ⊎ (result ≡ Status.NoMemory) }
-    ensures within { result ≢ Status.TooLong → result ≢ Status.NoMemory
-        → (source.new ≡ source.old) ⊎ ReadsWithin (S.left source.old) (S.left source.new) }
+    ensures within { (command : Command) → command_of (map string_bytes words.now) ≡ Some command → IsTrue (is_reading command)
+        → result ≢ Status.TooLong → result ≢ Status.NoMemory → ReadsWithin (S.left source.old) (S.left source.new) }
     ensures refused { result ≡ Status.Refused → (input line : List ℕ) × ReadsAll (S.left source.old) (S.left source.new) input
         × IsRefusal input line × Tells (E.taken err.old) (E.taken err.new) (E.faults err.old) (E.faults err.new) line }
     ensures refuses { (command : Command) → command_of (map string_bytes words.now) ≡ Some command → IsTrue (is_reading command)
@@ -177,24 +191,12 @@ pub fn zumode<R: AllocGlobal, S: Source, O: Sink, E: Sink, G: Gate>(
 {
     let _ = gate;
     match read_command(words) {
-        None => {
-            tell_status(err, Status::Usage);
-            Status::Usage
-        }
+        None => told(err, Status::Usage),
         Some(Command::Gen { number }) => {
             let status = generated(rt.alloc(), number, out);
             tell_status(err, status);
             status
         }
-        Some(command) => match described(rt.alloc(), command, source, out) {
-            End::Refused(line) => {
-                tell(err, line.as_str());
-                Status::Refused
-            }
-            End::With(status) => {
-                tell_status(err, status);
-                status
-            }
-        },
+        Some(command) => described(rt.alloc(), command, source, out, err),
     }
 }

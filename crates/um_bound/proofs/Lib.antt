@@ -14,6 +14,6 @@ mod PassLemmas
 mod LifeLemmas
 mod StartLemmas
 mod CleanLemmas
-mod StepLemmas
-mod OpenLemmas
-mod RunLemmas
+pub mod StepLemmas
+pub mod OpenLemmas
+pub mod RunLemmas

@@ -17,7 +17,8 @@ use Rattle.um_machine.specs.Order.{Steps}
 use Rattle.um_machine.specs.State.{State, nobody, thread_at, object_at, with_object, pair_at}
 use Rattle.um_machine.specs.Table.{goes_on, row_of, stays_due, with_dues, paired, rows_to_pass, after_drop, after_given, moved, move_reply, domain_at, after}
 use Rattle.um_bound.specs.Measure.{one_if, flags_set, due_cost}
-use Rattle.um_bound.specs.Reached.{may_wait, passes_on, is_child, IsSound, IsReached, ChoosesDue}
+use Rattle.um_machine.specs.Run.{ChoosesDue}
+use Rattle.um_bound.specs.Reached.{may_wait, passes_on, is_child, IsSound, IsReached}
 use Rattle.um_bound.proofs.TotalLemmas.{total-set}
 use Rattle.um_bound.proofs.EasedLemmas.{AreEased, all-same, at-eased, sound-eased, eased-paired, eased-given, eased-drop, eased-moved}
 use Rattle.um_bound.proofs.MadeLemmas.{IsMade, IsReady, begun_cost, cost-pending, writes, goes, moves_in, ready-rest, alike}

@@ -5,18 +5,18 @@ use Rattle.um_base.specs.Weight.{weight}
 use Rattle.um_base.specs.declared.act.Event.{Event}
 use Rattle.um_base.specs.declared.image.Image.{Image}
 use Rattle.um_base.specs.declared.limits.TheConstants.{STATIC_ROWS}
-use Rattle.um_machine.specs.Run.{opening}
+use Rattle.um_machine.specs.Run.{opening, RunsDue}
 use Rattle.um_machine.specs.State.{State}
 use Rattle.um_bound.specs.Measure.{measure}
-use Rattle.um_bound.specs.Reached.{IsReached, RunsDue}
+use Rattle.um_bound.specs.Reached.{IsReached}
 use Rattle.um_bound.proofs.OpenLemmas.{opens}
 use Rattle.um_bound.proofs.StepLemmas.{keeps, falls}
 
 bounded : (s s2 : State) (events : List Event) → IsReached s → RunsDue s events s2 → length events + measure s2 ≤ measure s
 bounded s s2 [] reached run = let same = ap measure run in omega (arith, same)
 bounded s s2 (event ∷ events) reached run =
-    let less = falls s run.0 event reached run.1 run.2 in
-    let rest = bounded run.0 s2 events (keeps s run.0 event reached run.1) run.3 in omega (arith, less, rest)
+    let less = falls s run.0 event reached run.1.made run.1.due in
+    let rest = bounded run.0 s2 events (keeps s run.0 event reached run.1.made) run.2 in omega (arith, less, rest)
 
 pub within_weight : (image : Image) (events : List Event) (s : State) → IsLawful image → length image.objects ≤ STATIC_ROWS → RunsDue (opening image) events s → length events + measure s ≤ weight image
 within_weight image events s lawful few run =

@@ -8,11 +8,11 @@ use Rattle.um_machine.specs.declared.pending.Pending.{Pending}
 use Rattle.um_machine.specs.declared.thread.Life.{Life}
 use Rattle.um_machine.specs.Domains.{initialised, added, removed, reply_to, domain_after, part_named}
 use Rattle.um_machine.specs.Order.{Steps}
-use Rattle.um_machine.specs.Run.{Offers, MayChoose, Step}
+use Rattle.um_machine.specs.Run.{Offers, MayChoose, Step, ChoosesDue}
 use Rattle.um_machine.specs.State.{State, thread_at}
 use Rattle.um_machine.specs.Table.{domain_at, after}
 use Rattle.um_bound.specs.Measure.{measure}
-use Rattle.um_bound.specs.Reached.{may_wait, passes_on, is_child, IsReached, ChoosesDue}
+use Rattle.um_bound.specs.Reached.{may_wait, passes_on, is_child, IsReached}
 use Rattle.um_bound.proofs.AccessLemmas.{check, load, store, fetch, probe, copy_in, copy_out, copy_string, erase, answer, publish, set_init, clear_init, named, reserve, buffer, unbuffer, domain}
 use Rattle.um_bound.proofs.WorkLemmas.{work, resume}
 use Rattle.um_bound.proofs.PassLemmas.{grant, drop_pair, born, own, inherit, move_domain}

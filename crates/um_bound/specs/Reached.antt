@@ -85,13 +85,3 @@ pub record IsReached (s : State) : Type 0 where
   pub lawful : IsLawful s.image
   pub sized : AreSized s.pairs
   pub sound : (t : ℕ) → IsSound s.image (thread_at s t)
-
--- an inheritance is of a row that is due
-abbrev pub ChoosesDue : State → ℕ → Pending → ℕ → Type 0
-ChoosesDue s t (Pending.Inherit who) x = slice_index_or (thread_at s t).due x false ≡ true
-ChoosesDue s t _ x = Unit {0}
-
--- a run in which each inheritance is of a row that is due
-abbrev pub RunsDue : State → List Event → State → Type 0
-RunsDue s [] s2 = s2 ≡ s
-RunsDue s (event ∷ events) s2 = (mid : State) × (made : Step s event mid) × ChoosesDue s event.thread.0 made.step made.row × RunsDue mid events s2

@@ -4,3 +4,4 @@ mod OriginLemmas
 mod LifeLemmas
 mod HoldLemmas
 mod Theorems
+pub mod ObeyLemmas

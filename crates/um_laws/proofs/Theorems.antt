@@ -21,7 +21,8 @@ use Rattle.um_machine.specs.declared.object.Status.{Status}
 use Rattle.um_laws.specs.Lives.{born, gone, recycled, marks, InTurns, IsWithoutBirth, WasBornAndGone}
 use Rattle.um_reach.proofs.Cores.{core_of, status_at}
 use Rattle.um_laws.proofs.LifeLemmas.{turns_run, turns_first, between_births, before_recycling}
-use Rattle.um_reach.proofs.RunMoves.{runs-push, runs-parts, known_run, known_step}
+use Rattle.um_machine.proofs.RunLemmas.{runs-push, runs-parts}
+use Rattle.um_reach.proofs.RunMoves.{known_run, known_step}
 
 owned_first : (image : Image) → IsOpening image → AreOwned [] (core_of (opening image))
 owned_first image o u x h = subst (λ (i : Image). HasOrigin i u x []) (sym o.image_is) (booted (o.owned u x h) tt)

@@ -2,3 +2,4 @@ pub mod Laws
 pub mod Origins
 pub mod Lives
 pub mod Holds
+pub mod Obeys

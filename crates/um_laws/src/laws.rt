@@ -7,6 +7,7 @@ ghost use Rattle.um_base.specs.declared.image.Image.{Image};
 ghost use Rattle.std.specs.Prelude.{◌≡◌, ℕ, List, [], ◌∷◌, ◌++◌, Option, None};
 ghost use Rattle.um_laws.specs.Laws.{WasAllowed, IsVerdict, IsUnheld};
 ghost use Rattle.um_reach.specs.Described.{IsDescribed};
+ghost use Rattle.um_laws.specs.Obeys.{ObeysLaws};
 ghost use Rattle.um_laws.specs.Origins.{IsOwned};
 ghost use Rattle.um_laws.specs.Holds.{IsInCall};
 ghost use Rattle.um_base.specs.declared.names.Kind.{Kind};
@@ -29,6 +30,8 @@ ghost use Rattle.um_base.specs.declared.names.Addr.{Addr};
 ///   born and lost its last pair before.
 /// - Between a check that is passed and the thread's reply, fatal error or end the object isn't recycled.
 /// - An object that is recycled is gone there, and no thread holds it.
+///
+/// So each run of an image that a description gives obeys all of them (`obeys`).
 pub fn every_run()
     ensures accesses { (image : Image) (before : List Event) (event : Event) (s s2 : State) → IsRun image before s → Step s event s2 → WasAllowed s event }
     ensures verdicts { (image : Image) (before : List Event) (event : Event) (s s2 : State) → IsRun image before s → Step s event s2 → IsVerdict s event }
@@ -38,4 +41,5 @@ pub fn every_run()
     ensures ends { (image : Image) (before : List Event) (event : Event) (a : Addr) (s s2 : State) → IsDescribed image → IsRun image before s → Step s event s2 → event.act ≡ Act.Recycle a → WasBornAndGone (marks a.0 before) }
     ensures holds { (image : Image) (before middle : List Event) (check recycle : Event) (a : Addr) (kind : Option Kind) (want : Want) (s s2 : State) → IsDescribed image → IsRun image (before ++ check ∷ middle) s → Step s recycle s2 → check.act ≡ Act.Check a kind want None → IsInCall check.thread.0 middle → ¬ (recycle.act ≡ Act.Recycle a) }
     ensures recycles { (image : Image) (before : List Event) (event : Event) (s s2 : State) → IsRun image before s → Step s event s2 → IsUnheld s event }
+    ensures obeys { (image : Image) (events : List Event) (s : State) → IsDescribed image → IsRun image events s → ObeysLaws image events }
 {}

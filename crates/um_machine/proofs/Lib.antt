@@ -1,5 +1,6 @@
 mod PlaceLemmas
 mod RingLemmas
 mod StepLemmas
+pub mod RunLemmas
 pub mod ServingLemmas
 pub mod WaiterLemmas

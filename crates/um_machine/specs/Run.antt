@@ -1,5 +1,5 @@
 -- Which step a thread may make, and runs of steps.
-use Rattle.std.specs.Prelude.{◌≡◌, ◌≢◌, ◌⊎◌, ℕ, ◌+◌, ◌-◌, ◌≤◌, Bool, true, false, ◌==◌, ◌&&◌, ◌||◌, not, nat_lt, nat_le, IsTrue, List, [], ◌∷◌, map, take, replicate, Option, Some, None, is_some, slice_get}
+use Rattle.std.specs.Prelude.{◌≡◌, ◌≢◌, ◌⊎◌, ℕ, ◌+◌, ◌-◌, ◌≤◌, Bool, true, false, ◌==◌, ◌&&◌, ◌||◌, not, nat_lt, nat_le, IsTrue, List, [], ◌∷◌, map, take, replicate, Option, Some, None, is_some, slice_get, slice_index_or}
 use Rattle.std.specs.List.{list_all, list_any}
 use Rattle.um_base.specs.declared.names.Kind.{Kind}
 use Rattle.um_base.specs.declared.names.Row.{Row}
@@ -92,6 +92,21 @@ pub record Step (s : State) (event : Event) (s2 : State) : Type 0 where
 abbrev pub Runs : State → List Event → State → Type 0
 Runs s [] s2 = s2 ≡ s
 Runs s (event ∷ events) s2 = (mid : State) × Step s event mid × Runs mid events s2
+
+-- an inheritance passes on a pair that is due; any other step may choose as it likes
+abbrev pub ChoosesDue : State → ℕ → Pending → ℕ → Type 0
+ChoosesDue s t (Pending.Inherit who) x = IsTrue (slice_index_or (thread_at s t).due x false)
+ChoosesDue s t step x = Unit {0}
+
+-- An event is a step from s to s2, and inherits nothing that isn't due.
+pub record Advances (s : State) (event : Event) (s2 : State) : Type 0 where
+  pub made : Step s event s2
+  pub due : ChoosesDue s event.thread.0 made.step made.row
+
+-- a run of such events
+abbrev pub RunsDue : State → List Event → State → Type 0
+RunsDue s [] s2 = s2 ≡ s
+RunsDue s (event ∷ events) s2 = (mid : State) × Advances s event mid × RunsDue mid events s2
 
 -- no event is a step
 abbrev pub IsComplete : State → Type 0

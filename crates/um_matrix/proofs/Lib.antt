@@ -1,7 +1,7 @@
 mod AdvanceLemmas
 mod BootLemmas
 mod ByteLemmas
-mod OfferLemmas
+pub mod OfferLemmas
 mod PairLemmas
 mod RunLemmas
 mod SizeLemmas

@@ -31,7 +31,7 @@ plain-says s t x (Pending.CleanPair who) h = cc
 plain-says s t x Pending.Recycle h = cc
 plain-says s t x _ h = refl
 
-plain-chosen : (s : State) (t x : ℕ) (p : Pending) → chooses p ≡ false → MayChoose s t x p → MayChoose s t 0 p
+pub plain-chosen : (s : State) (t x : ℕ) (p : Pending) → chooses p ≡ false → MayChoose s t x p → MayChoose s t 0 p
 plain-chosen s t x (Pending.Inherit who) h m = cc
 plain-chosen s t x (Pending.Drops from) h m = cc
 plain-chosen s t x (Pending.Reserve kind) h m = cc
@@ -43,7 +43,7 @@ plain-chosen s t x _ h m = m
 no-pair-past : (s : State) (t x : ℕ) → length s.pairs ≡ ROWS → ROWS ≤ x → IsTrue (pair_at s t x) → ⊥
 no-pair-past s t x whole past h = let none : pair_at s t x ≡ false = rw (get_or-eq_default s.pairs [] {n = x} (omega arith)) refl in cc
 
-not-gone-past : (s : State) (x : ℕ) → length s.objects ≡ ROWS → ROWS ≤ x → IsTrue (is_gone (object_at s x).status) → ⊥
+pub not-gone-past : (s : State) (x : ℕ) → length s.objects ≡ ROWS → ROWS ≤ x → IsTrue (is_gone (object_at s x).status) → ⊥
 not-gone-past s x whole past h =
     let none : is_gone (object_at s x).status ≡ false = rw (get_or-eq_default s.objects vacant {n = x} (omega arith)) refl in cc
 
@@ -62,7 +62,7 @@ reserve-past : (s : State) (t x : ℕ) (kind : Kind) → ROWS ≤ x → MayChoos
 reserve-past s t x kind past (inl m) = let within : IsTrue (nat_lt x ROWS) = inside-of _ _ _ _ m.1 in let outside : nat_lt x ROWS ≡ false = le-ltb x ROWS past in cc
 reserve-past s t x kind past (inr m) = omega arith
 
-chosen-past : (s : State) (t x : ℕ) (p : Pending) → length s.objects ≡ ROWS → length s.pairs ≡ ROWS → chooses p ≡ true → ROWS ≤ x → MayChoose s t x p → ⊥
+pub chosen-past : (s : State) (t x : ℕ) (p : Pending) → length s.objects ≡ ROWS → length s.pairs ≡ ROWS → chooses p ≡ true → ROWS ≤ x → MayChoose s t x p → ⊥
 chosen-past s t x (Pending.Inherit who) o w h past m = no-pair-past s t x w past m.0
 chosen-past s t x (Pending.Drops from) o w h past m = no-pair-past s t x w past m.1
 chosen-past s t x (Pending.Reserve kind) o w h past m = reserve-past s t x kind past m
@@ -372,16 +372,16 @@ pub ruleset cleanings = (pair-refused-pairs, pair-refused-objects, object-refuse
 pub ruleset steps_made = (step-first, step-second, step-cleans, step-recycles)
 
 -- no thread stands past the tables
-nobody-past : (s : State) (t : ℕ) → length s.threads ≡ THREADS → THREADS ≤ t → thread_at s t ≡ nobody
+pub nobody-past : (s : State) (t : ℕ) → length s.threads ≡ THREADS → THREADS ≤ t → thread_at s t ≡ nobody
 nobody-past s t whole past = get_or-eq_default s.threads nobody {n = t} (omega arith)
 
-first-past : (s : State) (t : ℕ) → thread_at s t ≡ nobody → first_step s t ≡ None
+pub first-past : (s : State) (t : ℕ) → thread_at s t ≡ nobody → first_step s t ≡ None
 first-past s t e = rw e refl
 
-second-past : (s : State) (t : ℕ) → thread_at s t ≡ nobody → second_step s t ≡ None
+pub second-past : (s : State) (t : ℕ) → thread_at s t ≡ nobody → second_step s t ≡ None
 second-past s t e = rw e refl
 
-started-past : (s : State) (t : ℕ) → thread_at s t ≡ nobody → is_started (thread_at s t).life ≡ false
+pub started-past : (s : State) (t : ℕ) → thread_at s t ≡ nobody → is_started (thread_at s t).life ≡ false
 started-past s t e = rw e refl
 
 still-past : (s : State) (t : ℕ) → length s.threads ≡ THREADS → THREADS ≤ t → IsStill s t

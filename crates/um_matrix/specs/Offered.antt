@@ -1,5 +1,5 @@
 -- Which steps a thread is offered, and what may be made of an act.
-use Rattle.std.specs.Prelude.{◌≡◌, ℕ, ◌+◌, ◌<◌, Bool, true, false, ◌&&◌, not, if◌then◌else◌, List, [], take, drop, slice_get, Option, Some, None, IsTrue, slice_index_or}
+use Rattle.std.specs.Prelude.{◌≡◌, ℕ, ◌+◌, ◌<◌, Bool, true, false, ◌&&◌, not, if◌then◌else◌, List, [], take, drop, slice_get, Option, Some, None, is_some, IsTrue, slice_index_or}
 use Rattle.um_base.specs.declared.names.ThreadIx.{ThreadIx}
 use Rattle.um_base.specs.declared.act.Act.{Act}
 use Rattle.um_base.specs.declared.act.Event.{Event}
@@ -12,7 +12,7 @@ use Rattle.um_machine.specs.Limits.{IsSound}
 use Rattle.um_machine.specs.State.{State, thread_at, object_at, is_living, instruction_at}
 use Rattle.um_machine.specs.Objects.{is_gone, is_held}
 use Rattle.um_machine.specs.Table.{act_of, after}
-use Rattle.um_machine.specs.Run.{Step, Runs, MayChoose, none_due}
+use Rattle.um_machine.specs.Run.{Step, Runs, MayChoose, none_due, Advances}
 use Rattle.um_matrix.specs.declared.matrix.choice.Choice.{Choice}
 
 -- an event is a step of a state
@@ -124,16 +124,6 @@ abbrev pub IsShort : Found → Type 0
 IsShort (Found.Length n) = n < 32
 IsShort _ = Unit {0}
 
--- an inheritance passes on a pair that is due; any other step may choose as it likes
-abbrev pub ChoosesDue : State → ℕ → Pending → ℕ → Type 0
-ChoosesDue s t (Pending.Inherit who) x = IsTrue (slice_index_or (thread_at s t).due x false)
-ChoosesDue s t p x = Unit {0}
-
--- An event is a step from s to s2, and inherits nothing that isn't due.
-pub record Advances (s : State) (event : Event) (s2 : State) : Type 0 where
-  pub made : Step s event s2
-  pub due : ChoosesDue s event.thread.0 made.step made.row
-
 -- what is made of the act of a thread at rest
 abbrev pub rest_choice : Act → Choice
 rest_choice Act.Exit = Choice.Exits
@@ -147,17 +137,25 @@ after_choice s t (Choice.Makes step row taken) = after s t row step (drop taken 
 after_choice s t (Choice.CleansPair who row) = after s t row (Pending.CleanPair who) []
 after_choice s t (Choice.Recycles row) = after s t row Pending.Recycle []
 
--- a choice can be carried out
-abbrev pub IsInside : Choice → Type 0
-IsInside Choice.Begins = Unit {0}
-IsInside Choice.Exits = Unit {0}
-IsInside (Choice.Makes step row taken) = IsSound step × (row < ROWS) × (0 < taken)
-IsInside (Choice.CleansPair who row) = row < ROWS
-IsInside (Choice.Recycles row) = row < ROWS
+-- what a thread says by a choice
+abbrev pub said : State → ℕ → Choice → Act
+said s t Choice.Begins = act_of s t 0 Pending.Begin
+said s t Choice.Exits = act_of s t 0 Pending.Exit
+said s t (Choice.Makes step row taken) = act_of s t row step
+said s t (Choice.CleansPair who row) = act_of s t row (Pending.CleanPair who)
+said s t (Choice.Recycles row) = act_of s t row Pending.Recycle
 
--- what a thread does next, and the act that it says thereby
-abbrev pub IsMove : State → ℕ → Choice × Act → Type 0
-IsMove s t move = IsInside move.0 × Advances s (event_of t move.1) (after_choice s t move.0)
+-- a choice can be carried out
+abbrev pub IsInside : State → ℕ → Choice → Type 0
+IsInside s t Choice.Begins = IsTrue (is_some (instruction_at s.image (thread_at s t).place))
+IsInside s t Choice.Exits = Unit {0}
+IsInside s t (Choice.Makes step row taken) = IsSound step × (row < ROWS) × (0 < taken)
+IsInside s t (Choice.CleansPair who row) = row < ROWS
+IsInside s t (Choice.Recycles row) = row < ROWS
+
+-- a choice of what a thread does next, by which it says this act
+abbrev pub IsMove : State → ℕ → Choice → Act → Type 0
+IsMove s t choice act = IsInside s t choice × Advances s (event_of t act) (after_choice s t choice)
 
 -- whether an object is gone, and nobody holds it
 abbrev pub is_forsaken : State → ℕ → Bool

@@ -1,4 +1,4 @@
--- The steps that are left of an instruction name only objects that were checked before.
+-- The steps that are left of an instruction name only objects that were checked before, and none of them cleans.
 use Rattle.std.proofs.Common.{◌≡◌, ◌⊎◌, ℕ, ◌<◌, ◌≤◌, Bool, true, false, List, [], ◌∷◌, length, refl, Option, Some, None, slice_index_or, slice_set, slice_get, if◌then◌else◌}
 use Rattle.um_base.specs.declared.image.Image.{Image}
 use Rattle.um_base.specs.declared.limits.TheConstants.{STATIC_ROWS, ROWS}
@@ -54,6 +54,8 @@ Guarded image checked (Pending.DropPair who a ∷ rest) = Names image checked a.
 Guarded image checked (Pending.Own who ∷ rest) = IsStatic image checked (own_row image who.0) × Guarded image checked rest
 Guarded image checked (Pending.Start who script stack priority mode ∷ rest) = (other : List Bool) → Guarded image other rest
 Guarded image checked (Pending.Born a ∷ rest) = ⊥
+Guarded image checked (Pending.CleanPair who ∷ rest) = ⊥
+Guarded image checked (Pending.Recycle ∷ rest) = ⊥
 Guarded image checked (p ∷ rest) = Guarded image checked rest
 
 -- the address of an object that is to be born, and the steps behind that

@@ -157,13 +157,13 @@ is_stack_kind Kind.Stack h = cc
 is_stack_kind Kind.Pipe h = cc
 
 -- the thread of a boot entry: its index, and its stack
-record IsBoot (image : Image) (boot : Boot) : Type 0 where
-  inside : boot.thread.0 < length image.objects
-  real : IsReal image (index_or (thread_of_row image boot.thread.0))
-  own : own_row image (index_or (thread_of_row image boot.thread.0)) ≡ boot.thread.0
-  stack : IsStackRow image boot.stack.0
+pub record IsBoot (image : Image) (boot : Boot) : Type 0 where
+  pub inside : boot.thread.0 < length image.objects
+  pub real : IsReal image (index_or (thread_of_row image boot.thread.0))
+  pub own : own_row image (index_or (thread_of_row image boot.thread.0)) ≡ boot.thread.0
+  pub stack : IsStackRow image boot.stack.0
 
-is_boot : (image : Image) → IsSited image → (boot : Boot) → object_passes (λ o. is_thread o.kind) (slice_get image.objects boot.thread.0) ≡ true → object_passes (λ o. is_stack o.kind) (slice_get image.objects boot.stack.0) ≡ true
+pub is_boot : (image : Image) → IsSited image → (boot : Boot) → object_passes (λ o. is_thread o.kind) (slice_get image.objects boot.thread.0) ≡ true → object_passes (λ o. is_stack o.kind) (slice_get image.objects boot.stack.0) ≡ true
     → IsBoot image boot
 is_boot image sited boot one two =
     let x = boot.thread.0 in

@@ -195,7 +195,7 @@ reached_reserves c t x steps inv dynamic inside free g =
           ];
     }
 
-not_live : (status : Status) → is_gone status ≡ true → is_live status ≡ true → ⊥
+pub not_live : (status : Status) → is_gone status ≡ true → is_live status ≡ true → ⊥
 not_live Status.Gone g h = cc
 not_live Status.Live g h = cc
 not_live Status.Free g h = cc

@@ -51,7 +51,7 @@ shaped_now s t steps inv e = subst (λ (left : Steps). Shaped s.image t (call_at
 claims_now : (s : State) (t : ℕ) (steps : Steps) → (thread_at s t).pending ≡ steps → (w : ℕ) → claims s.image w steps ≡ true → claims s.image w (call_at (core_of s) t).pending ≡ true
 claims_now s t steps e w h = subst (λ (left : Steps). claims s.image w left ≡ true) (sym (pending_is s t steps e)) h
 
-keeps_now : (s : State) (t : ℕ) (p : Pending) (rest : Steps) → IsKnown (core_of s) → (thread_at s t).pending ≡ p ∷ rest → (call_at (core_of s) t).keeps ≡ true
+pub keeps_now : (s : State) (t : ℕ) (p : Pending) (rest : Steps) → IsKnown (core_of s) → (thread_at s t).pending ≡ p ∷ rest → (call_at (core_of s) t).keeps ≡ true
 keeps_now s t p rest inv e = keeps_or (core_of s) t inv.claimed (call_at (core_of s) t).keeps refl p rest (pending_is s t (p ∷ rest) e)
 
 lives_now : (s : State) (t : ℕ) → IsKnown (core_of s) → IsTrue (is_living (thread_at s t).life) → (call_at (core_of s) t).keeps ≡ true
@@ -97,12 +97,3 @@ known_step s s2 event inv step = known_move (core_of s) event.thread.0 event.act
 pub known_run : (s : State) (events : List Event) (s2 : State) → IsKnown (core_of s) → Runs s events s2 → IsKnown (core_of s2)
 known_run s [] s2 inv run = subst (λ (now : State). IsKnown (core_of now)) (sym run) inv
 known_run s (event ∷ events) s2 inv (mid, step, rest) = known_run mid events s2 (known_step s mid event inv step) rest
-
--- a run grows by an event at its end, and falls into two
-pub runs-push : (s : State) (events : List Event) (mid : State) (event : Event) (s2 : State) → Runs s events mid → Step mid event s2 → Runs s (events ++ event ∷ []) s2
-runs-push s [] mid event s2 here step = (s2, subst (λ (now : State). Step now event s2) here step, refl)
-runs-push s (e ∷ events) mid event s2 (next, first, rest) step = (next, first, runs-push next events mid event s2 rest step)
-
-pub runs-parts : (s : State) (before events : List Event) (s2 : State) → Runs s (before ++ events) s2 → (mid : State) × Runs s before mid × Runs mid events s2
-runs-parts s [] events s2 run = (s, refl, run)
-runs-parts s (e ∷ before) events s2 (next, first, rest) = let (mid, one, two) = runs-parts next before events s2 rest in (mid, (next, first, one), two)

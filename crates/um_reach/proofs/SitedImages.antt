@@ -112,7 +112,7 @@ index_first (Setup.Msgq size most) t k h e = cc
 index_first (Setup.Stack most) t k h e = cc
 index_first (Setup.Pipe size) t k h e = cc
 
-index_small : (os : List ObjectDef) (t x k : ℕ) → has_indices os t ≡ true → setup_thread (slice_index_or (map (λ (o : ObjectDef). o.setup) os) x Setup.Bare) ≡ Some k → k < STATIC_THREADS
+pub index_small : (os : List ObjectDef) (t x k : ℕ) → has_indices os t ≡ true → setup_thread (slice_index_or (map (λ (o : ObjectDef). o.setup) os) x Setup.Bare) ≡ Some k → k < STATIC_THREADS
 index_small [] t x k h e = cc
 index_small (o ∷ os) t zero k h e =
     let (first, later) = both_of (has_index o.setup t) _ h in

@@ -20,6 +20,7 @@ use Rattle.um_reach.specs.Described.{IsDescribed}
 use Rattle.um_reach.proofs.Opening.{IsOpening, is_opening, boot_parts, passes_within}
 use Rattle.um_reach.proofs.BootClaims.{replicate_at}
 use Rattle.um_reach.proofs.SitedImages.{is_sited}
+use Rattle.um_reach.proofs.Turns.{IsKnown}
 
 no_boot : (image : Image) (bs : List Boot) → length image.objects ≡ 0 → IsTrue (list_all (is_lawful_boot image) bs) → bs ≡ []
 no_boot image [] none lawful = refl
@@ -68,6 +69,14 @@ begun image event s2 given step (inr some) = is_opening image (is_sited image gi
 none_or_some : (n : ℕ) → (n ≡ 0) ⊎ (0 < n)
 none_or_some zero = inl refl
 none_or_some (suc n) = inr (omega arith)
+
+-- the opening state is known, or it has no event
+pub known_or_none : (image : Image) → IsDescribed image → IsKnown (core_of (opening image)) ⊎ ((event : Event) (s2 : State) → Step (opening image) event s2 → ⊥)
+known_or_none image given =
+    elim (none_or_some (length image.objects)) as (λ _. IsKnown (core_of (opening image)) ⊎ ((event : Event) (s2 : State) → Step (opening image) event s2 → ⊥)) [
+      | inl none ↦ inr (λ event s2 step. no_step image event s2 (no_boot image image.boots none given.lawful.boots) step)
+      | inr some ↦ inl ((is_opening image (is_sited image given.lawful given.few some) given.lawful).known)
+    ]
 
 -- where a run goes on with an event, its opening state is reached
 pub starts : (image : Image) (before : List Event) (event : Event) (s s2 : State) → IsDescribed image → IsRun image before s → Step s event s2 → IsOpening image

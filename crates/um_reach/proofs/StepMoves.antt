@@ -37,13 +37,13 @@ use Rattle.um_reach.proofs.Turns.{IsKnown, IsReady, newest, mine, turn, turn_on,
 use Rattle.um_reach.proofs.MarkMoves.{set_moves, clear_moves}
 use Rattle.um_reach.proofs.PairMoves.{core-paired, give_moves, core_dropped, core-drop, was_last, drop_move, drop_moves, paired_row}
 
-unchecked : (image : Image) (x t : ℕ) (threads : List Thread) → any_holds image x t threads ≡ false → (u : ℕ) → slice_index_or (slice_index_or (map call_of threads) u idle).checked x false ≡ false
+pub unchecked : (image : Image) (x t : ℕ) (threads : List Thread) → any_holds image x t threads ≡ false → (u : ℕ) → slice_index_or (slice_index_or (map call_of threads) u idle).checked x false ≡ false
 unchecked image x t [] h u = none_checked x ROWS
 unchecked image x t (me ∷ threads) h zero =
     left_of (slice_index_or me.checked x false) _ (left_of (thread_holds image x t me) (any_holds image x (t + 1) threads) h)
 unchecked image x t (me ∷ threads) h (suc u) = unchecked image x (t + 1) threads (right_of (thread_holds image x t me) (any_holds image x (t + 1) threads) h) u
 
-unkept : (image : Image) (x t : ℕ) (threads : List Thread) → any_holds image x t threads ≡ false → (u : ℕ) → (slice_index_or (map call_of threads) u idle).keeps ≡ true → own_row image (t + u) ≢ x
+pub unkept : (image : Image) (x t : ℕ) (threads : List Thread) → any_holds image x t threads ≡ false → (u : ℕ) → (slice_index_or (map call_of threads) u idle).keeps ≡ true → own_row image (t + u) ≢ x
 unkept image x t [] h u k e = cc
 unkept image x t (me ∷ threads) h zero k e =
     let none = right_of (slice_index_or me.checked x false) (me.keeps_own && (own_row image t == x)) (left_of (thread_holds image x t me) (any_holds image x (t + 1) threads) h) in

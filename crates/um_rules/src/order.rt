@@ -7,7 +7,6 @@ mod instructions;
 mod steps;
 
 pub use ends::{end_steps, fatal_steps, next_doom};
-pub use follow::{
-    after_check, after_error, answer_error, cleared_first, copy_fails, refuses, without_copy,
-};
+pub use follow::{after_error, answer_error, copy_fails, refused, refuses};
 pub use instructions::{begins, value_of};
+pub use steps::rounded;

@@ -100,7 +100,8 @@ pub fn own_row(image: &Image, t: usize) -> usize
 /// The thread index of a row, if it is that of a thread object.
 pub fn thread_of_row(image: &Image, x: usize) -> Option<usize>
     requires { x < 256 }
-    ensures { result ≡ thread_of_row image.now x }
+    ensures value { result ≡ thread_of_row image.now x }
+    ensures small { IfSome result (λ t. t < 256) }
 {
     if x < STATIC_ROWS {
         match setup_at(image, x) {

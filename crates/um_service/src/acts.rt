@@ -1,9 +1,10 @@
 //! What an act does with an object's contents.
 
-ghost use Rattle.std.specs.Prelude.{◌≡◌, ◌<◌, IsTrue, List};
+ghost use Rattle.std.specs.Prelude.{◌≡◌, ◌<◌, ◌≤◌, IsTrue, List, [], None, false};
 ghost use Rattle.um_base.specs.declared.ask.Waiter.{Waiter};
+ghost use Rattle.um_machine.specs.declared.contents.Contents.TheVariants as Contents;
 ghost use Rattle.um_machine.specs.Limits.{is_sound_ask};
-ghost use Rattle.um_machine.specs.Services.{renews, fills, uses, acted};
+ghost use Rattle.um_machine.specs.Services.{renews, fills, uses, acted, queue, stack, pipe};
 ghost use Rattle.um_service.specs.Left.{left};
 
 use crate::outcome::Outcome;
@@ -13,73 +14,126 @@ use um_base::{Ask, Errno, Reply, THREADS, Waiter};
 use um_machine::{BytePipe, Contents, MessageQueue, ValueStack, Waiters};
 
 /// New contents from any state, where nobody waits.
-fn renews(contents: &mut Contents, new: Contents, waiters: &Waiters) -> Outcome
-    ensures { renews new contents.old waiters.now ≡ left contents.new waiters.now result }
+#[inline(never)]
+fn renews(contents: &mut Contents, new: Contents, waiters: &Waiters, outcome: &mut Outcome)
+    ensures { renews new contents.old waiters.now ≡ left contents.new waiters.now outcome.new }
 {
     if !waiters.is_empty() {
-        return answers(Reply::Fail(Errno::EBUSY));
+        return answers(Reply::Fail(Errno::EBUSY), outcome);
     }
     *contents = new;
-    answers(Reply::Num(0))
+    answers(Reply::Num(0), outcome);
 }
 
 /// New contents where none are in use.
-fn fills(contents: &mut Contents, new: Contents) -> Outcome
-    ensures { (waiters : List Waiter) → fills new contents.old waiters ≡ left contents.new waiters result }
+#[inline(never)]
+fn fills(contents: &mut Contents, new: Contents, outcome: &mut Outcome)
+    ensures { (waiters : List Waiter) → fills new contents.old waiters ≡ left contents.new waiters outcome.new }
 {
     match contents {
         Contents::Nothing => {
             *contents = new;
-            answers(Reply::Num(0))
+            answers(Reply::Num(0), outcome);
         }
-        _ => answers(Reply::Fail(Errno::EADDRINUSE)),
+        _ => answers(Reply::Fail(Errno::EADDRINUSE), outcome),
     }
 }
 
 /// An act on contents that are in use.
-fn uses(contents: &mut Contents, waiters: &mut Waiters, who: &Waiter) -> Outcome
+fn uses(contents: &mut Contents, waiters: &mut Waiters, who: &Waiter, outcome: &mut Outcome)
     requires { who.now.thread.0 < THREADS }
-    ensures { uses contents.old waiters.old who.now who.now.ask ≡ left contents.new waiters.new result }
+    ensures { uses contents.old waiters.old who.now who.now.ask ≡ left contents.new waiters.new outcome.new }
 {
     match contents {
-        Contents::Sem { count, limit } => semaphore::act(count, *limit, waiters, who),
-        Contents::Mutex { owner, depth } => mutex::act(owner, depth, waiters, who),
-        Contents::Msgq(queue) => message_queue::act(queue, waiters, who),
-        Contents::Stack(stack) => stack::act(stack, waiters, who),
-        Contents::Pipe(pipe) => pipe::act(pipe, waiters, who),
-        Contents::Nothing | Contents::Named(_) => answers(Reply::Void),
+        Contents::Sem { count, limit } => semaphore::act(count, *limit, waiters, who, outcome),
+        Contents::Mutex { owner, depth } => mutex::act(owner, depth, waiters, who, outcome),
+        Contents::Msgq(queue) => message_queue::act(queue, waiters, who, outcome),
+        Contents::Stack(stack) => stack::act(stack, waiters, who, outcome),
+        Contents::Pipe(pipe) => pipe::act(pipe, waiters, who, outcome),
+        Contents::Nothing | Contents::Named(_) => answers(Reply::Void, outcome),
     }
 }
 
+/// A semaphore with this count and limit, from any state where nobody waits.
+#[inline(never)]
+fn renews_semaphore(
+    contents: &mut Contents,
+    count: u32,
+    limit: u32,
+    waiters: &Waiters,
+    outcome: &mut Outcome,
+)
+    ensures { renews (Contents.Sem count limit) contents.old waiters.now ≡ left contents.new waiters.now outcome.new }
+{
+    renews(contents, Contents::Sem { count, limit }, waiters, outcome);
+}
+
+/// A mutex without owner, from any state where nobody waits.
+#[inline(never)]
+fn renews_mutex(contents: &mut Contents, waiters: &Waiters, outcome: &mut Outcome)
+    ensures { renews (Contents.Mutex None 0) contents.old waiters.now ≡ left contents.new waiters.now outcome.new }
+{
+    renews(
+        contents,
+        Contents::Mutex {
+            owner: None,
+            depth: 0,
+        },
+        waiters,
+        outcome,
+    );
+}
+
+/// An empty message queue where no contents are in use.
+#[inline(never)]
+fn fills_queue(contents: &mut Contents, size: u32, most: u32, outcome: &mut Outcome)
+    requires { most ≤ 64 }
+    ensures { (waiters : List Waiter) → fills (queue size most []) contents.old waiters ≡ left contents.new waiters outcome.new }
+{
+    fills(
+        contents,
+        Contents::Msgq(MessageQueue::new(size, most)),
+        outcome,
+    );
+}
+
+/// An empty stack where no contents are in use.
+#[inline(never)]
+fn fills_stack(contents: &mut Contents, most: u32, outcome: &mut Outcome)
+    requires { most ≤ 64 }
+    ensures { (waiters : List Waiter) → fills (stack most []) contents.old waiters ≡ left contents.new waiters outcome.new }
+{
+    fills(contents, Contents::Stack(ValueStack::new(most)), outcome);
+}
+
+/// An empty, open pipe where no contents are in use.
+#[inline(never)]
+fn fills_pipe(contents: &mut Contents, size: u32, outcome: &mut Outcome)
+    requires { size ≤ 256 }
+    ensures { (waiters : List Waiter) → fills (pipe size [] false) contents.old waiters ≡ left contents.new waiters outcome.new }
+{
+    fills(contents, Contents::Pipe(BytePipe::new(size)), outcome);
+}
+
 /// What a thread's act does with an object's contents and with those who wait on it.
-pub fn act(contents: &mut Contents, waiters: &mut Waiters, who: &Waiter) -> Outcome
+#[inline(never)]
+pub fn act(contents: &mut Contents, waiters: &mut Waiters, who: &Waiter, outcome: &mut Outcome)
     requires thread { who.now.thread.0 < THREADS }
     requires sound { IsTrue (is_sound_ask who.now.ask) }
-    ensures { acted contents.old waiters.old who.now ≡ left contents.new waiters.new result }
+    ensures { acted contents.old waiters.old who.now ≡ left contents.new waiters.new outcome.new }
 {
-    match who.ask {
-        Ask::SemInit { count, limit } => renews(contents, Contents::Sem { count, limit }, waiters),
-        Ask::MutexInit => renews(
-            contents,
-            Contents::Mutex {
-                owner: None,
-                depth: 0,
-            },
-            waiters,
+    match &who.ask {
+        Ask::SemInit { count, limit } => renews_semaphore(
+            contents, *count, *limit, waiters, outcome,
         ),
+        Ask::MutexInit => renews_mutex(contents, waiters, outcome),
         Ask::MsgqInit {
             msg_size,
             max_msgs,
             ..
-        } => fills(
-            contents,
-            Contents::Msgq(MessageQueue::new(msg_size, max_msgs)),
-        ),
-        Ask::StackInit { entries, .. } => fills(
-            contents,
-            Contents::Stack(ValueStack::new(entries)),
-        ),
-        Ask::PipeInit { size, .. } => fills(contents, Contents::Pipe(BytePipe::new(size))),
-        _ => uses(contents, waiters, who),
+        } => fills_queue(contents, *msg_size, *max_msgs, outcome),
+        Ask::StackInit { entries, .. } => fills_stack(contents, *entries, outcome),
+        Ask::PipeInit { size, .. } => fills_pipe(contents, *size, outcome),
+        _ => uses(contents, waiters, who, outcome),
     }
 }

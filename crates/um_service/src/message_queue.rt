@@ -10,7 +10,7 @@ ghost use Rattle.um_service.specs.Left.{left};
 
 use crate::outcome::Outcome;
 use crate::waking::{answers, blocks, gives, wake_all, wakes};
-use um_base::{Answer, Ask, Errno, Piece, Reply, THREADS, Timeout, Waiter};
+use um_base::{Ask, Errno, Piece, Reply, THREADS, Timeout, Waiter};
 use um_machine::{MessageQueue, Served, Waiters};
 
 /// Hands a message to the getter that is served first, or puts it behind the others, or waits for room.
@@ -20,19 +20,20 @@ fn put(
     who: &Waiter,
     message: &Piece,
     timeout: Timeout,
-) -> Outcome
+    outcome: &mut Outcome,
+)
     requires { who.now.thread.0 < THREADS }
     ensures { msgq_put queue.old.size queue.old.most queue.old.messages waiters.old who.now message.now timeout (in_order (served Served.Getters waiters.old))
-        ≡ left (Contents.Msgq queue.new) waiters.new result }
+        ≡ left (Contents.Msgq queue.new) waiters.new outcome.new }
 {
     match waiters.take_first(Served::Getters) {
-        Some(first) => wakes(Reply::Num(0), &first, message),
+        Some(first) => wakes(Reply::Num(0), &first, message, outcome),
         None => {
             if queue.len() >= queue.most() as usize {
-                return blocks(waiters, who, timeout, Errno::ENOMSG);
+                return blocks(waiters, who, timeout, Errno::ENOMSG, outcome);
             }
             queue.push(message);
-            answers(Reply::Num(0))
+            answers(Reply::Num(0), outcome);
         }
     }
 }
@@ -48,66 +49,68 @@ fn message_of(ask: &Ask) -> Piece
 }
 
 /// Gives the caller a message that was taken, and puts that of the putter that is served first.
-fn pass(queue: &mut MessageQueue, waiters: &mut Waiters, message: &Piece) -> Outcome
+fn pass(queue: &mut MessageQueue, waiters: &mut Waiters, message: &Piece, outcome: &mut Outcome)
     requires { length queue.old.messages < 64 }
     ensures { msgq_take queue.old.size queue.old.most message.now queue.old.messages waiters.old (in_order (served Served.Putters waiters.old))
-        ≡ left (Contents.Msgq queue.new) waiters.new result }
+        ≡ left (Contents.Msgq queue.new) waiters.new outcome.new }
 {
     match waiters.take_first(Served::Putters) {
         Some(first) => {
             queue.push(&message_of(&first.ask));
-            let mut outcome = wakes(Reply::Num(0), &first, &Piece::new());
+            wakes(Reply::Num(0), &first, &Piece::new(), outcome);
             outcome.taken = *message;
-            outcome
         }
-        None => gives(Reply::Num(0), message),
+        None => gives(Reply::Num(0), message, outcome),
     }
 }
 
 /// Takes the oldest message, or waits for one.
-fn get(queue: &mut MessageQueue, waiters: &mut Waiters, who: &Waiter, timeout: Timeout) -> Outcome
+fn get(
+    queue: &mut MessageQueue,
+    waiters: &mut Waiters,
+    who: &Waiter,
+    timeout: Timeout,
+    outcome: &mut Outcome,
+)
     requires { who.now.thread.0 < THREADS }
-    ensures { msgq_get queue.old.size queue.old.most queue.old.messages waiters.old who.now timeout ≡ left (Contents.Msgq queue.new) waiters.new result }
+    ensures { msgq_get queue.old.size queue.old.most queue.old.messages waiters.old who.now timeout ≡ left (Contents.Msgq queue.new) waiters.new outcome.new }
 {
     match queue.pop() {
-        Some(message) => pass(queue, waiters, &message),
-        None => blocks(waiters, who, timeout, Errno::ENOMSG),
+        Some(message) => pass(queue, waiters, &message, outcome),
+        None => blocks(waiters, who, timeout, Errno::ENOMSG, outcome),
     }
 }
 
 /// Copies the oldest message, which stays.
-fn peek(queue: &MessageQueue) -> Outcome
-    ensures { (waiters : List Waiter) → msgq_peek queue.now.size queue.now.most queue.now.messages waiters ≡ left (Contents.Msgq queue.now) waiters result }
+fn peek(queue: &MessageQueue, outcome: &mut Outcome)
+    ensures { (waiters : List Waiter) → msgq_peek queue.now.size queue.now.most queue.now.messages waiters ≡ left (Contents.Msgq queue.now) waiters outcome.new }
 {
     match queue.first() {
-        Some(message) => gives(Reply::Num(0), &message),
-        None => answers(Reply::Fail(Errno::ENOMSG)),
+        Some(message) => gives(Reply::Num(0), &message, outcome),
+        None => answers(Reply::Fail(Errno::ENOMSG), outcome),
     }
 }
 
 /// Takes all messages out, and wakes those who wait for room.
-fn purge(queue: &mut MessageQueue, waiters: &mut Waiters) -> Outcome
-    ensures { msgq_purge queue.old.size queue.old.most waiters.old ≡ left (Contents.Msgq queue.new) waiters.new result }
+fn purge(queue: &mut MessageQueue, waiters: &mut Waiters, outcome: &mut Outcome)
+    ensures { msgq_purge queue.old.size queue.old.most waiters.old ≡ left (Contents.Msgq queue.new) waiters.new outcome.new }
 {
     queue.clear();
-    Outcome {
-        answer: Answer::Now(Reply::Void),
-        taken: Piece::new(),
-        woken: wake_all(waiters, Served::Putters, Errno::ENOMSG),
-    }
+    answers(Reply::Void, outcome);
+    wake_all(waiters, Served::Putters, Errno::ENOMSG, &mut outcome.woken);
 }
 
 /// What a call asks of a queue.
-pub fn act(queue: &mut MessageQueue, waiters: &mut Waiters, who: &Waiter) -> Outcome
+pub fn act(queue: &mut MessageQueue, waiters: &mut Waiters, who: &Waiter, outcome: &mut Outcome)
     requires { who.now.thread.0 < THREADS }
-    ensures { msgq_act queue.old.size queue.old.most queue.old.messages waiters.old who.now who.now.ask ≡ left (Contents.Msgq queue.new) waiters.new result }
+    ensures { msgq_act queue.old.size queue.old.most queue.old.messages waiters.old who.now who.now.ask ≡ left (Contents.Msgq queue.new) waiters.new outcome.new }
 {
     match &who.ask {
-        Ask::MsgqPut { message, timeout } => put(queue, waiters, who, message, *timeout),
-        Ask::MsgqGet { timeout } => get(queue, waiters, who, *timeout),
-        Ask::MsgqPeek => peek(queue),
-        Ask::MsgqPurge => purge(queue, waiters),
-        Ask::MsgqUsed => answers(Reply::Num(queue.len() as u32)),
-        _ => answers(Reply::Void),
+        Ask::MsgqPut { message, timeout } => put(queue, waiters, who, message, *timeout, outcome),
+        Ask::MsgqGet { timeout } => get(queue, waiters, who, *timeout, outcome),
+        Ask::MsgqPeek => peek(queue, outcome),
+        Ask::MsgqPurge => purge(queue, waiters, outcome),
+        Ask::MsgqUsed => answers(Reply::Num(queue.len() as u32), outcome),
+        _ => answers(Reply::Void, outcome),
     }
 }

@@ -17,40 +17,41 @@ fn lock(
     waiters: &mut Waiters,
     who: &Waiter,
     timeout: Timeout,
-) -> Outcome
+    outcome: &mut Outcome,
+)
     requires { who.now.thread.0 < THREADS }
-    ensures { mutex_lock owner.old depth.old waiters.old who.now timeout ≡ left (Contents.Mutex owner.new depth.new) waiters.new result }
+    ensures { mutex_lock owner.old depth.old waiters.old who.now timeout ≡ left (Contents.Mutex owner.new depth.new) waiters.new outcome.new }
 {
     match *owner {
         None => {
             *owner = Some(who.thread);
             *depth = 1;
-            answers(Reply::Num(0))
+            answers(Reply::Num(0), outcome);
         }
         Some(thread) => {
             if thread.0 != who.thread.0 {
-                return blocks(waiters, who, timeout, Errno::EBUSY);
+                return blocks(waiters, who, timeout, Errno::EBUSY, outcome);
             }
             *depth = depth.saturating_add(1);
-            answers(Reply::Num(0))
+            answers(Reply::Num(0), outcome);
         }
     }
 }
 
 /// Passes a mutex on to the waiter that is served first, or frees it.
-fn pass(owner: &mut Option<ThreadIx>, depth: &mut u32, waiters: &mut Waiters) -> Outcome
-    ensures { mutex_passes waiters.old (in_order waiters.old) ≡ left (Contents.Mutex owner.new depth.new) waiters.new result }
+fn pass(owner: &mut Option<ThreadIx>, depth: &mut u32, waiters: &mut Waiters, outcome: &mut Outcome)
+    ensures { mutex_passes waiters.old (in_order waiters.old) ≡ left (Contents.Mutex owner.new depth.new) waiters.new outcome.new }
 {
     match waiters.take_first(Served::All) {
         Some(first) => {
             *owner = Some(first.thread);
             *depth = 1;
-            wakes(Reply::Num(0), &first, &Piece::new())
+            wakes(Reply::Num(0), &first, &Piece::new(), outcome);
         }
         None => {
             *owner = None;
             *depth = 0;
-            answers(Reply::Num(0))
+            answers(Reply::Num(0), outcome);
         }
     }
 }
@@ -61,20 +62,21 @@ fn unlock(
     depth: &mut u32,
     waiters: &mut Waiters,
     who: &Waiter,
-) -> Outcome
-    ensures { mutex_unlock owner.old depth.old waiters.old who.now ≡ left (Contents.Mutex owner.new depth.new) waiters.new result }
+    outcome: &mut Outcome,
+)
+    ensures { mutex_unlock owner.old depth.old waiters.old who.now ≡ left (Contents.Mutex owner.new depth.new) waiters.new outcome.new }
 {
     match *owner {
-        None => answers(Reply::Fail(Errno::EINVAL)),
+        None => answers(Reply::Fail(Errno::EINVAL), outcome),
         Some(thread) => {
             if thread.0 != who.thread.0 {
-                return answers(Reply::Fail(Errno::EPERM));
+                return answers(Reply::Fail(Errno::EPERM), outcome);
             }
             if *depth > 1 {
                 *depth -= 1;
-                return answers(Reply::Num(0));
+                return answers(Reply::Num(0), outcome);
             }
-            pass(owner, depth, waiters)
+            pass(owner, depth, waiters, outcome);
         }
     }
 }
@@ -85,13 +87,14 @@ pub fn act(
     depth: &mut u32,
     waiters: &mut Waiters,
     who: &Waiter,
-) -> Outcome
+    outcome: &mut Outcome,
+)
     requires { who.now.thread.0 < THREADS }
-    ensures { mutex_act owner.old depth.old waiters.old who.now who.now.ask ≡ left (Contents.Mutex owner.new depth.new) waiters.new result }
+    ensures { mutex_act owner.old depth.old waiters.old who.now who.now.ask ≡ left (Contents.Mutex owner.new depth.new) waiters.new outcome.new }
 {
     match who.ask {
-        Ask::MutexLock { timeout } => lock(owner, depth, waiters, who, timeout),
-        Ask::MutexUnlock => unlock(owner, depth, waiters, who),
-        _ => answers(Reply::Void),
+        Ask::MutexLock { timeout } => lock(owner, depth, waiters, who, timeout, outcome),
+        Ask::MutexUnlock => unlock(owner, depth, waiters, who, outcome),
+        _ => answers(Reply::Void, outcome),
     }
 }

@@ -1,6 +1,8 @@
 //! What an act answers, and whom it wakes.
 
 ghost use Rattle.std.specs.Prelude.{◌≡◌, ◌<◌, ◌≤◌, [], ◌∷◌, ◌++◌, length};
+ghost use Rattle.um_base.specs.declared.act.Answer.TheVariants as Answer;
+ghost use Rattle.um_base.specs.declared.names.Reply.TheVariants as Reply;
 
 use std::marker::Model;
 use um_base::{Answer, Piece, Reply, THREADS, ThreadIx, Told};
@@ -59,6 +61,13 @@ impl Woken {
         self.len
     }
 
+    /// Nobody, once more.
+    pub fn clear(&mut self)
+        ensures { self.new ≡ [] }
+    {
+        self.len = 0;
+    }
+
     /// One more is woken, and told this.
     pub fn push(&mut self, thread: ThreadIx, told: &Told)
         requires { length self.old < THREADS }
@@ -75,4 +84,26 @@ pub struct Outcome {
     pub answer: Answer,
     pub taken: Piece,
     pub woken: Woken,
+}
+
+impl Outcome {
+    /// One that has nothing to say, for an act to write over.
+    pub fn new() -> Outcome
+        ensures { result ≡ record { answer = Answer.Now Reply.Void; taken = []; woken = [] } }
+    {
+        Outcome {
+            answer: Answer::Now(Reply::Void),
+            taken: Piece::new(),
+            woken: Woken::new(),
+        }
+    }
+
+    /// This answer, these bytes, and nobody woken, in place of what was there.
+    pub fn becomes(&mut self, answer: Answer, taken: &Piece)
+        ensures { self.new ≡ record { answer = answer; taken = taken.now; woken = [] } }
+    {
+        self.answer = answer;
+        self.taken = *taken;
+        self.woken.clear();
+    }
 }

@@ -7,8 +7,8 @@ ghost use Rattle.um_machine.specs.Services.{in_order, told, is_empty, is_reader,
 ghost use Rattle.um_service.specs.Left.{left};
 
 use crate::outcome::{Outcome, Woken};
-use crate::waking::{answers, blocks, wakes_all};
-use um_base::{Answer, Ask, Errno, Piece, Reply, THREADS, Timeout, Told, Waiter};
+use crate::waking::{answers, blocks, gives, wakes_all};
+use um_base::{Ask, Errno, Piece, Reply, THREADS, Timeout, Told, Waiter};
 use um_machine::{BytePipe, Served, Waiters};
 
 /// At most so many of the first bytes.
@@ -45,21 +45,21 @@ fn serve_reader(pipe: &mut BytePipe, first: &Waiter, woken: &mut Woken)
 }
 
 /// Readers are served in the order of service while a byte is there.
-fn serve_readers(pipe: &mut BytePipe, waiters: &mut Waiters) -> Woken
+fn serve_readers(pipe: &mut BytePipe, waiters: &mut Waiters, woken: &mut Woken)
     ensures bytes { pipe.new ≡ record pipe.old { bytes = (readers_served (in_order (filter is_reader waiters.old)) pipe.old.bytes).0 } }
-    ensures woken { result ≡ (readers_served (in_order (filter is_reader waiters.old)) pipe.old.bytes).1 }
-    ensures waiters { waiters.new ≡ still_waiting result waiters.old }
+    ensures woken { woken.new ≡ (readers_served (in_order (filter is_reader waiters.old)) pipe.old.bytes).1 }
+    ensures waiters { waiters.new ≡ still_waiting woken.new waiters.old }
 {
     let waiting = waiters.len();
     prove!(waiting <= THREADS);
-    let mut woken = Woken::new();
+    woken.clear();
     'serving: loop {
         if pipe.len() == 0 {
-            return woken;
+            return;
         }
         match waiters.take_first(Served::Readers) {
-            Some(first) => serve_reader(pipe, &first, &mut woken),
-            None => return woken,
+            Some(first) => serve_reader(pipe, &first, woken),
+            None => return,
         }
     }
 }
@@ -94,21 +94,21 @@ fn written_bytes(ask: &Ask) -> &[u8]
 }
 
 /// Writers are served in the order of service while there is room.
-fn serve_writers(pipe: &mut BytePipe, waiters: &mut Waiters) -> Woken
+fn serve_writers(pipe: &mut BytePipe, waiters: &mut Waiters, woken: &mut Woken)
     ensures bytes { pipe.new ≡ record pipe.old { bytes = (writers_served pipe.old.size (in_order (filter is_writer waiters.old)) pipe.old.bytes).0 } }
-    ensures woken { result ≡ (writers_served pipe.old.size (in_order (filter is_writer waiters.old)) pipe.old.bytes).1 }
-    ensures waiters { waiters.new ≡ still_waiting result waiters.old }
+    ensures woken { woken.new ≡ (writers_served pipe.old.size (in_order (filter is_writer waiters.old)) pipe.old.bytes).1 }
+    ensures waiters { waiters.new ≡ still_waiting woken.new waiters.old }
 {
     let waiting = waiters.len();
     prove!(waiting <= THREADS);
-    let mut woken = Woken::new();
+    woken.clear();
     'serving: loop {
         if pipe.len() >= pipe.size() as usize {
-            return woken;
+            return;
         }
         match waiters.take_first(Served::Writers) {
-            Some(first) => serve_writer(pipe, &first, &mut woken),
-            None => return woken,
+            Some(first) => serve_writer(pipe, &first, woken),
+            None => return,
         }
     }
 }
@@ -121,41 +121,34 @@ fn write(
     n: u32,
     given: &Piece,
     timeout: Timeout,
-) -> Outcome
+    outcome: &mut Outcome,
+)
     requires { who.now.thread.0 < THREADS }
-    ensures { pipe_write pipe.old.size pipe.old.bytes pipe.old.closed waiters.old who.now n given.now timeout ≡ left (Contents.Pipe pipe.new) waiters.new result }
+    ensures { pipe_write pipe.old.size pipe.old.bytes pipe.old.closed waiters.old who.now n given.now timeout ≡ left (Contents.Pipe pipe.new) waiters.new outcome.new }
 {
     if n == 0 {
-        return answers(Reply::Num(0));
+        return answers(Reply::Num(0), outcome);
     }
     let closed = pipe.closed();
     if closed {
-        return answers(Reply::Fail(Errno::EPIPE));
+        return answers(Reply::Fail(Errno::EPIPE), outcome);
     }
     if pipe.len() >= pipe.size() as usize {
-        return blocks(waiters, who, timeout, Errno::EAGAIN);
+        return blocks(waiters, who, timeout, Errno::EAGAIN, outcome);
     }
     let put = first_bytes(given.as_slice(), pipe.size() as usize - pipe.len());
     pipe.append(put);
-    let woken = serve_readers(pipe, waiters);
-    Outcome {
-        answer: Answer::Now(Reply::Num(put.len() as u32)),
-        taken: Piece::new(),
-        woken,
-    }
+    answers(Reply::Num(put.len() as u32), outcome);
+    serve_readers(pipe, waiters, &mut outcome.woken);
 }
 
 /// Takes bytes that are there, and serves writers.
-fn take(pipe: &mut BytePipe, waiters: &mut Waiters, n: u32) -> Outcome
-    ensures { pipe_take pipe.old.size pipe.old.bytes pipe.old.closed waiters.old n ≡ left (Contents.Pipe pipe.new) waiters.new result }
+fn take(pipe: &mut BytePipe, waiters: &mut Waiters, n: u32, outcome: &mut Outcome)
+    ensures { pipe_take pipe.old.size pipe.old.bytes pipe.old.closed waiters.old n ≡ left (Contents.Pipe pipe.new) waiters.new outcome.new }
 {
     let taken = pipe.take(n as usize);
-    let woken = serve_writers(pipe, waiters);
-    Outcome {
-        answer: Answer::Now(Reply::Num(taken.len() as u32)),
-        taken,
-        woken,
-    }
+    gives(Reply::Num(taken.len() as u32), &taken, outcome);
+    serve_writers(pipe, waiters, &mut outcome.woken);
 }
 
 /// Whether a pipe has no byte.
@@ -172,42 +165,43 @@ fn read(
     who: &Waiter,
     n: u32,
     timeout: Timeout,
-) -> Outcome
+    outcome: &mut Outcome,
+)
     requires { who.now.thread.0 < THREADS }
-    ensures { pipe_read pipe.old.size pipe.old.bytes pipe.old.closed waiters.old who.now n timeout ≡ left (Contents.Pipe pipe.new) waiters.new result }
+    ensures { pipe_read pipe.old.size pipe.old.bytes pipe.old.closed waiters.old who.now n timeout ≡ left (Contents.Pipe pipe.new) waiters.new outcome.new }
 {
     if n == 0 {
-        return answers(Reply::Num(0));
+        return answers(Reply::Num(0), outcome);
     }
     if !is_empty(pipe) {
-        return take(pipe, waiters, n);
+        return take(pipe, waiters, n, outcome);
     }
     if pipe.closed() {
-        return answers(Reply::Fail(Errno::EPIPE));
+        return answers(Reply::Fail(Errno::EPIPE), outcome);
     }
-    blocks(waiters, who, timeout, Errno::EAGAIN)
+    blocks(waiters, who, timeout, Errno::EAGAIN, outcome);
 }
 
 /// What a call asks of a pipe.
-pub fn act(pipe: &mut BytePipe, waiters: &mut Waiters, who: &Waiter) -> Outcome
+pub fn act(pipe: &mut BytePipe, waiters: &mut Waiters, who: &Waiter, outcome: &mut Outcome)
     requires { who.now.thread.0 < THREADS }
-    ensures { pipe_act pipe.old.size pipe.old.bytes pipe.old.closed waiters.old who.now who.now.ask ≡ left (Contents.Pipe pipe.new) waiters.new result }
+    ensures { pipe_act pipe.old.size pipe.old.bytes pipe.old.closed waiters.old who.now who.now.ask ≡ left (Contents.Pipe pipe.new) waiters.new outcome.new }
 {
     match &who.ask {
         Ask::PipeWrite {
             length,
             bytes,
             timeout,
-        } => write(pipe, waiters, who, *length, bytes, *timeout),
-        Ask::PipeRead { length, timeout } => read(pipe, waiters, who, *length, *timeout),
+        } => write(pipe, waiters, who, *length, bytes, *timeout, outcome),
+        Ask::PipeRead { length, timeout } => read(pipe, waiters, who, *length, *timeout, outcome),
         Ask::PipeReset => {
             pipe.clear();
-            wakes_all(waiters, Reply::Void, Errno::ECANCELED)
+            wakes_all(waiters, Reply::Void, Errno::ECANCELED, outcome);
         }
         Ask::PipeClose => {
             pipe.close();
-            wakes_all(waiters, Reply::Void, Errno::EPIPE)
+            wakes_all(waiters, Reply::Void, Errno::EPIPE, outcome);
         }
-        _ => answers(Reply::Void),
+        _ => answers(Reply::Void, outcome),
     }
 }

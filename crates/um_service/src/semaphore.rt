@@ -17,43 +17,44 @@ fn take(
     waiters: &mut Waiters,
     who: &Waiter,
     timeout: Timeout,
-) -> Outcome
+    outcome: &mut Outcome,
+)
     requires { who.now.thread.0 < THREADS }
-    ensures { sem_take count.old limit waiters.old who.now timeout ≡ left (Contents.Sem count.new limit) waiters.new result }
+    ensures { sem_take count.old limit waiters.old who.now timeout ≡ left (Contents.Sem count.new limit) waiters.new outcome.new }
 {
     if *count == 0 {
-        return blocks(waiters, who, timeout, Errno::EBUSY);
+        return blocks(waiters, who, timeout, Errno::EBUSY, outcome);
     }
     *count -= 1;
-    answers(Reply::Num(0))
+    answers(Reply::Num(0), outcome);
 }
 
 /// Wakes the waiter that is served first, or raises the count up to its limit.
-fn give(count: &mut u32, limit: u32, waiters: &mut Waiters) -> Outcome
-    ensures { sem_give count.old limit waiters.old (in_order waiters.old) ≡ left (Contents.Sem count.new limit) waiters.new result }
+fn give(count: &mut u32, limit: u32, waiters: &mut Waiters, outcome: &mut Outcome)
+    ensures { sem_give count.old limit waiters.old (in_order waiters.old) ≡ left (Contents.Sem count.new limit) waiters.new outcome.new }
 {
     match waiters.take_first(Served::All) {
-        Some(first) => wakes(Reply::Void, &first, &Piece::new()),
+        Some(first) => wakes(Reply::Void, &first, &Piece::new(), outcome),
         None => {
             *count = if *count < limit { *count + 1 } else { limit };
-            answers(Reply::Void)
+            answers(Reply::Void, outcome);
         }
     }
 }
 
 /// What a call asks of a semaphore.
-pub fn act(count: &mut u32, limit: u32, waiters: &mut Waiters, who: &Waiter) -> Outcome
+pub fn act(count: &mut u32, limit: u32, waiters: &mut Waiters, who: &Waiter, outcome: &mut Outcome)
     requires { who.now.thread.0 < THREADS }
-    ensures { sem_act count.old limit waiters.old who.now who.now.ask ≡ left (Contents.Sem count.new limit) waiters.new result }
+    ensures { sem_act count.old limit waiters.old who.now who.now.ask ≡ left (Contents.Sem count.new limit) waiters.new outcome.new }
 {
     match who.ask {
-        Ask::SemTake { timeout } => take(count, limit, waiters, who, timeout),
-        Ask::SemGive => give(count, limit, waiters),
+        Ask::SemTake { timeout } => take(count, limit, waiters, who, timeout, outcome),
+        Ask::SemGive => give(count, limit, waiters, outcome),
         Ask::SemReset => {
             *count = 0;
-            wakes_all(waiters, Reply::Void, Errno::EAGAIN)
+            wakes_all(waiters, Reply::Void, Errno::EAGAIN, outcome);
         }
-        Ask::SemCount => answers(Reply::Num(*count)),
-        _ => answers(Reply::Void),
+        Ask::SemCount => answers(Reply::Num(*count), outcome),
+        _ => answers(Reply::Void, outcome),
     }
 }

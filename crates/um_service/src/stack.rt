@@ -20,41 +20,47 @@ fn value_bytes(value: u32) -> Piece
 }
 
 /// Hands a value to the waiter that is served first, or puts it on top.
-fn push(stack: &mut ValueStack, waiters: &mut Waiters, value: u32) -> Outcome
-    ensures { stack_push stack.old.most stack.old.values waiters.old value (in_order waiters.old) ≡ left (Contents.Stack stack.new) waiters.new result }
+fn push(stack: &mut ValueStack, waiters: &mut Waiters, value: u32, outcome: &mut Outcome)
+    ensures { stack_push stack.old.most stack.old.values waiters.old value (in_order waiters.old) ≡ left (Contents.Stack stack.new) waiters.new outcome.new }
 {
     match waiters.take_first(Served::All) {
-        Some(first) => wakes(Reply::Num(0), &first, &value_bytes(value)),
+        Some(first) => wakes(Reply::Num(0), &first, &value_bytes(value), outcome),
         None => {
             if stack.len() >= stack.most() as usize {
-                return answers(Reply::Fail(Errno::ENOMEM));
+                return answers(Reply::Fail(Errno::ENOMEM), outcome);
             }
             stack.push(value);
-            answers(Reply::Num(0))
+            answers(Reply::Num(0), outcome);
         }
     }
 }
 
 /// Takes the value on top, or waits for one.
 #[tactic(auto, using(crate::proofs::StackLemmas::from_the_last))]
-fn pop(stack: &mut ValueStack, waiters: &mut Waiters, who: &Waiter, timeout: Timeout) -> Outcome
+fn pop(
+    stack: &mut ValueStack,
+    waiters: &mut Waiters,
+    who: &Waiter,
+    timeout: Timeout,
+    outcome: &mut Outcome,
+)
     requires { who.now.thread.0 < THREADS }
-    ensures { stack_pop stack.old.most (reverse stack.old.values) waiters.old who.now timeout ≡ left (Contents.Stack stack.new) waiters.new result }
+    ensures { stack_pop stack.old.most (reverse stack.old.values) waiters.old who.now timeout ≡ left (Contents.Stack stack.new) waiters.new outcome.new }
 {
     match stack.pop() {
-        Some(value) => gives(Reply::Num(0), &value_bytes(value)),
-        None => blocks(waiters, who, timeout, Errno::EBUSY),
+        Some(value) => gives(Reply::Num(0), &value_bytes(value), outcome),
+        None => blocks(waiters, who, timeout, Errno::EBUSY, outcome),
     }
 }
 
 /// What a call asks of a stack.
-pub fn act(stack: &mut ValueStack, waiters: &mut Waiters, who: &Waiter) -> Outcome
+pub fn act(stack: &mut ValueStack, waiters: &mut Waiters, who: &Waiter, outcome: &mut Outcome)
     requires { who.now.thread.0 < THREADS }
-    ensures { stack_act stack.old.most stack.old.values waiters.old who.now who.now.ask ≡ left (Contents.Stack stack.new) waiters.new result }
+    ensures { stack_act stack.old.most stack.old.values waiters.old who.now who.now.ask ≡ left (Contents.Stack stack.new) waiters.new outcome.new }
 {
     match who.ask {
-        Ask::StackPush { value } => push(stack, waiters, value),
-        Ask::StackPop { timeout } => pop(stack, waiters, who, timeout),
-        _ => answers(Reply::Void),
+        Ask::StackPush { value } => push(stack, waiters, value, outcome),
+        Ask::StackPop { timeout } => pop(stack, waiters, who, timeout, outcome),
+        _ => answers(Reply::Void, outcome),
     }
 }

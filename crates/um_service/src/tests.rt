@@ -29,7 +29,9 @@ fn acts(contents: &mut Contents, waiters: &mut Waiters, who: (u8, i8), ask: &Ask
         priority: who.1,
         ask: *ask,
     };
-    act(contents, waiters, &waiter)
+    let mut outcome = Outcome::new();
+    act(contents, waiters, &waiter, &mut outcome);
+    outcome
 }
 
 /// An outcome answers this, gives these bytes, and wakes these threads.

@@ -13,46 +13,44 @@ use um_base::{Answer, Errno, Piece, Reply, THREADS, Timeout, Told, Waiter};
 use um_machine::{Served, Waiters};
 
 /// An answer at once that wakes nobody.
-pub fn answers(reply: Reply) -> Outcome
-    ensures { result ≡ record { answer = Answer.Now reply; taken = []; woken = [] } }
+pub fn answers(reply: Reply, outcome: &mut Outcome)
+    ensures { outcome.new ≡ record { answer = Answer.Now reply; taken = []; woken = [] } }
 {
-    gives(reply, &Piece::new())
+    gives(reply, &Piece::new(), outcome);
 }
 
 /// The same, where the caller takes bytes.
-pub fn gives(reply: Reply, taken: &Piece) -> Outcome
-    ensures { result ≡ record { answer = Answer.Now reply; taken = taken.now; woken = [] } }
+pub fn gives(reply: Reply, taken: &Piece, outcome: &mut Outcome)
+    ensures { outcome.new ≡ record { answer = Answer.Now reply; taken = taken.now; woken = [] } }
 {
-    Outcome {
-        answer: Answer::Now(reply),
-        taken: *taken,
-        woken: Woken::new(),
-    }
+    outcome.becomes(Answer::Now(reply), taken);
 }
 
 /// The caller waits behind all others, or has an error where it doesn't wait.
-pub fn blocks(waiters: &mut Waiters, who: &Waiter, timeout: Timeout, error: Errno) -> Outcome
+pub fn blocks(
+    waiters: &mut Waiters,
+    who: &Waiter,
+    timeout: Timeout,
+    error: Errno,
+    outcome: &mut Outcome,
+)
     requires { who.now.thread.0 < THREADS }
-    ensures { (contents : Contents) → blocks contents waiters.old who.now timeout error ≡ left contents waiters.new result }
+    ensures { (contents : Contents) → blocks contents waiters.old who.now timeout error ≡ left contents waiters.new outcome.new }
 {
     match timeout {
-        Timeout::NoWait => answers(Reply::Fail(error)),
+        Timeout::NoWait => answers(Reply::Fail(error), outcome),
         Timeout::Forever => {
             waiters.wait(who);
-            Outcome {
-                answer: Answer::Wait,
-                taken: Piece::new(),
-                woken: Woken::new(),
-            }
+            outcome.becomes(Answer::Wait, &Piece::new());
         }
     }
 }
 
 /// An answer at once that wakes a waiter, which is told a number and takes bytes.
-pub fn wakes(reply: Reply, first: &Waiter, taken: &Piece) -> Outcome
-    ensures { result ≡ record { answer = Answer.Now reply; taken = []; woken = told first.now (Reply.Num 0) taken.now ∷ [] } }
+pub fn wakes(reply: Reply, first: &Waiter, taken: &Piece, outcome: &mut Outcome)
+    ensures { outcome.new ≡ record { answer = Answer.Now reply; taken = []; woken = told first.now (Reply.Num 0) taken.now ∷ [] } }
 {
-    let mut outcome = answers(reply);
+    answers(reply, outcome);
     outcome.woken.push(
         first.thread,
         &Told {
@@ -60,12 +58,11 @@ pub fn wakes(reply: Reply, first: &Waiter, taken: &Piece) -> Outcome
             taken: *taken,
         },
     );
-    outcome
 }
 
 /// Those whom an act serves are told an error, in the order of service.
-pub fn wake_all(waiters: &mut Waiters, which: Served, error: Errno) -> Woken
-    ensures woken { result ≡ all_told error (served which waiters.old) }
+pub fn wake_all(waiters: &mut Waiters, which: Served, error: Errno, woken: &mut Woken)
+    ensures woken { woken.new ≡ all_told error (served which waiters.old) }
     ensures others { waiters.new ≡ unserved which waiters.old }
 {
     let waiting = waiters.len();
@@ -74,23 +71,20 @@ pub fn wake_all(waiters: &mut Waiters, which: Served, error: Errno) -> Woken
         reply: Reply::Fail(error),
         taken: Piece::new(),
     };
-    let mut woken = Woken::new();
+    woken.clear();
     'waiting: loop {
         match waiters.take_first(which) {
             Some(first) => woken.push(first.thread, &told),
-            None => return woken,
+            None => return,
         }
     }
 }
 
 /// An answer at once that empties the list of waiters.
-pub fn wakes_all(waiters: &mut Waiters, reply: Reply, error: Errno) -> Outcome
-    ensures outcome { result ≡ record { answer = Answer.Now reply; taken = []; woken = all_told error waiters.old } }
+pub fn wakes_all(waiters: &mut Waiters, reply: Reply, error: Errno, outcome: &mut Outcome)
+    ensures outcome { outcome.new ≡ record { answer = Answer.Now reply; taken = []; woken = all_told error waiters.old } }
     ensures nobody { waiters.new ≡ [] }
 {
-    Outcome {
-        answer: Answer::Now(reply),
-        taken: Piece::new(),
-        woken: wake_all(waiters, Served::All, error),
-    }
+    answers(reply, outcome);
+    wake_all(waiters, Served::All, error, &mut outcome.woken);
 }

@@ -1,6 +1,7 @@
 //! Which processor is preferred at each turn.
 
-ghost use Rattle.std.specs.Prelude.{◌<◌, ◌≤◌};
+ghost use Rattle.std.specs.Prelude.{◌≡◌, ◌<◌, ◌≤◌, ◌∷◌, ℕ, suc};
+ghost use Rattle.um_turns.specs.Order.{coming, preferred};
 
 use rand_core::SeedableRng;
 use rand_core::utils::NextWord;
@@ -17,7 +18,10 @@ pub enum Order {
 
 impl Order {
     /// Round and round from the first on, or drawn by a seed.
-    pub fn new(pick: Option<u64>) -> Order {
+    #[tactic(auto, unfolding(crate::specs::Order::seeded))]
+    pub fn new(pick: Option<u64>) -> Order
+        ensures { (cpus n : ℕ) → coming cpus result n ≡ preferred cpus pick n }
+    {
         match pick {
             None => Order::Round(0),
             Some(seed) => Order::Drawn(Lcg64Xsh32::seed_from_u64(seed)),
@@ -27,7 +31,8 @@ impl Order {
     /// The processor that is preferred next, of so many.
     pub fn next(&mut self, cpus: u8) -> u8
         requires some { 1 ≤ cpus }
-        ensures { result < cpus }
+        ensures within { result < cpus }
+        ensures first { (n : ℕ) → coming cpus self.old (suc n) ≡ result ∷ coming cpus self.new n }
     {
         match self {
             Order::Round(next) => {

@@ -2,7 +2,10 @@
 
 ghost use Rattle.std.specs.Prelude.{◌≡◌, ◌+◌, ◌<◌, ◌≤◌, ◌++◌, ◌∷◌, [], IfOk, length, vec_len, vec_capacity};
 ghost use Rattle.um_base.specs.Lawful.{IsLawful};
-ghost use Rattle.um_machine.specs.Run.{IsRun, IsComplete};
+ghost use Rattle.um_base.specs.Weight.{weight};
+ghost use Rattle.um_machine.specs.Run.{opening, IsRun, RunsDue, IsComplete};
+ghost use Rattle.um_turns.specs.Schedule.{opening_turn};
+ghost use Rattle.um_turns.specs.Scheduled.{FollowsAlone, IsScheduled};
 
 use crate::order::Order;
 use crate::turns::Processors;
@@ -28,7 +31,7 @@ fn note(events: &mut Vec<Event>, event: &Event)
 }
 
 /// A complete run of an image by so many processors, which are preferred one after another, or as numbers are drawn by a
-/// seed. All memory is taken before its first event: room for `most` of them. A run of more wants memory.
+/// seed. All memory is taken before its first event: room for `most` of them, which is no less than the image's weight.
 pub fn run<'a>(
     alloc: Global,
     image: &'a Image,
@@ -38,10 +41,15 @@ pub fn run<'a>(
 ) -> Result<Ran<'a>, Memory>
     requires lawful { IsLawful image.now }
     requires cpus { 1 ≤ cpus }
+    requires room { weight image.now ≤ most }
     ensures run { IfOk result (λ ran. IsRun image.now ran.events.items ran.last) }
+    ensures due { IfOk result (λ ran. RunsDue (opening image.now) ran.events.items ran.last) }
     ensures complete { IfOk result (λ ran. IsComplete ran.last) }
-    ensures few { IfOk result (λ ran. length ran.events.items ≤ most) }
+    ensures rule { IfOk result (λ ran. IsScheduled image.now cpus pick ran.events.items ran.last) }
+    ensures alone { cpus ≡ 1 → IfOk result (λ ran. FollowsAlone (opening_turn image.now 1) ran.events.items) }
+    ensures few { IfOk result (λ ran. length ran.events.items ≤ weight image.now) }
 {
+    let _objects = image.objects.len();
     let mut processors = Processors::boot(alloc, image, cpus)?;
     let mut events = Vec::with_capacity(alloc, most)?;
     let mut order = Order::new(pick);
@@ -57,12 +65,11 @@ pub fn run<'a>(
             Some(event) => note(&mut events, &event),
         }
     }
-    if processors.is_final() {
-        Ok(Ran {
+    match processors.next(order.next(cpus)) {
+        None => Ok(Ran {
             events,
             last: processors.into_matrix(),
-        })
-    } else {
-        Err(Memory)
+        }),
+        Some(_) => unreachable!(),
     }
 }

@@ -1,9 +1,8 @@
 //! The orders of threads and processors.
 
+use crate::line::Line;
 use crate::order::Order;
-use crate::ready::Ready;
 use std::test::Fail;
-use um_base::ThreadIx;
 
 #[test]
 fn processors_go_round(rt: HostRuntime) -> Result<(), Fail> {
@@ -15,13 +14,27 @@ fn processors_go_round(rt: HostRuntime) -> Result<(), Fail> {
 }
 
 #[test]
-fn a_thread_stands_once_among_those_that_are_ready(rt: HostRuntime) -> Result<(), Fail> {
-    let mut ready = Ready::new();
-    for t in [3, 1, 3] {
-        ready.add(ThreadIx(t));
+fn processors_fall_as_the_words_of_a_seed(rt: HostRuntime) -> Result<(), Fail> {
+    // The words of PCG XSH RR 64/32 from seed 7 begin with 2442223337, 414063806, 2743600285, 3524868804, 2371632060 and 1368306093.
+    let mut of_three = Order::new(Some(7));
+    for preferred in [2, 2, 1, 0, 0, 0] {
+        assert_eq!(rt; of_three.next(3), preferred);
     }
-    assert!(rt; ready.take() == Some(ThreadIx(3)));
-    assert!(rt; ready.take() == Some(ThreadIx(1)));
-    assert!(rt; ready.take() == None);
+    let mut of_eight = Order::new(Some(7));
+    for preferred in [1, 6, 5, 4, 4, 5] {
+        assert_eq!(rt; of_eight.next(8), preferred);
+    }
+    Ok(())
+}
+
+#[test]
+fn a_number_stands_once_in_a_line(rt: HostRuntime) -> Result<(), Fail> {
+    let mut line = Line::new();
+    for number in [3, 1, 3] {
+        line.add(number);
+    }
+    assert!(rt; line.take() == Some(3));
+    assert!(rt; line.take() == Some(1));
+    assert!(rt; line.take() == None);
     Ok(())
 }

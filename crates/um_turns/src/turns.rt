@@ -1,40 +1,44 @@
 //! The processors, the threads that are ready, and the machine.
 
-ghost use Rattle.std.specs.Prelude.{◌≡◌, ◌<◌, ◌≤◌, IfOk, IfSome, IfNone, IsTrue};
+ghost use Rattle.std.specs.Prelude.{◌≡◌, ◌<◌, ◌≤◌, ℕ, map, Some, None, if◌then◌else◌, [], replicate, slice_get, slice_set, slice_index_or, IfOk, IfSome, IfNone};
 ghost use Rattle.um_base.specs.Lawful.{IsLawful};
-ghost use Rattle.um_machine.specs.Run.{opening};
+ghost use Rattle.um_machine.specs.Run.{opening, Advances};
+ghost use Rattle.um_turns.specs.Lines.{joins, all_join};
+ghost use Rattle.um_turns.specs.Schedule.{boots_ready, idle, is_still, is_at_rest, goes_on, next_ready, behind_next, readied, ready_after, is_listed, comes_up, came_up, left_to_clean, opening_turn};
 
+use crate::line::Line;
 use crate::processor::Processor;
-use crate::ready::Ready;
 use std::alloc::Global;
 use std::marker::Model;
-use um_base::{Act, Event, Image, Memory, ROWS, Row, STATIC_ROWS, THREADS, ThreadIx};
+use um_base::{Act, Event, Image, Memory, ROWS, Reply, STATIC_ROWS, THREADS, ThreadIx};
 use um_machine::{Life, Pending};
 use um_matrix::Matrix;
 use um_rules::rows::thread_of_row;
 
-/// Logical processors over one machine. Contracts see the machine's state alone.
+/// Logical processors over one machine.
 #[derive(Drop)]
 pub struct Processors<'a> {
     matrix: Matrix<'a>,
-    ready: Ready,
+    ready: Line,
     processors: Vec<Processor>,
 }
 
 impl<'a> Model for Processors<'a> {
-    ghost use Rattle.um_machine.specs.State.{State};
+    ghost use Rattle.um_turns.specs.Schedule.{Turn};
 
-    ghost Value = { State };
+    ghost Value = { Turn };
 
-    ghost view = { λ p. p.matrix };
+    ghost view = { λ p. record { state = p.matrix; ready = p.ready; processors = p.processors.items } };
 }
 
 /// The threads of the boot entries, ready in the order of the description.
-fn boot_ready(image: &Image) -> Ready {
-    let mut ready = Ready::new();
+fn boot_ready(image: &Image) -> Line
+    ensures { result ≡ boots_ready image.now [] image.now.boots }
+{
+    let mut ready = Line::new();
     for boot in image.boots.as_slice() {
         match thread_of_row(image, boot.thread.0 as usize) {
-            Some(t) if t < THREADS => ready.add(ThreadIx(t as u8)),
+            Some(t) if t < THREADS => ready.add(t as u8),
             _ => {}
         }
     }
@@ -42,7 +46,9 @@ fn boot_ready(image: &Image) -> Ready {
 }
 
 /// So many processors that run no thread.
-fn idle_processors(alloc: Global, cpus: u8) -> Result<Vec<Processor>, Memory> {
+fn idle_processors(alloc: Global, cpus: u8) -> Result<Vec<Processor>, Memory>
+    ensures { IfOk result (λ processors. processors.items ≡ replicate cpus idle) }
+{
     let mut processors = Vec::with_capacity(alloc, cpus as usize)?;
     for _ in 0..cpus {
         processors.push(Processor::new())?;
@@ -51,15 +57,19 @@ fn idle_processors(alloc: Global, cpus: u8) -> Result<Vec<Processor>, Memory> {
 }
 
 /// Whether a thread stands still: it is doomed and at rest.
-fn is_still(matrix: &Matrix, thread: ThreadIx) -> bool {
-    match matrix.threads().get(thread.0 as usize) {
+fn is_still(matrix: &Matrix, thread: u8) -> bool
+    ensures { result ≡ is_still matrix.now thread }
+{
+    match matrix.threads().get(thread as usize) {
         Some(me) => me.doomed && me.pending.is_empty(),
-        None => true,
+        None => false,
     }
 }
 
 /// Whether a thread goes on with its instruction: it has a step left, and isn't one that waits.
-fn goes_on(matrix: &Matrix, thread: ThreadIx) -> bool {
+fn goes_on(matrix: &Matrix, thread: ThreadIx) -> bool
+    ensures { result ≡ goes_on matrix.now thread.0 }
+{
     match matrix.threads().get(thread.0 as usize) {
         None => false,
         Some(me) => match me.pending.first() {
@@ -71,7 +81,9 @@ fn goes_on(matrix: &Matrix, thread: ThreadIx) -> bool {
 }
 
 /// Whether a thread is living and at rest.
-fn is_at_rest(matrix: &Matrix, thread: ThreadIx) -> bool {
+fn is_at_rest(matrix: &Matrix, thread: ThreadIx) -> bool
+    ensures { result ≡ is_at_rest matrix.now thread.0 }
+{
     match matrix.threads().get(thread.0 as usize) {
         None => false,
         Some(me) => me.life == Life::Living && me.pending.is_empty(),
@@ -79,13 +91,16 @@ fn is_at_rest(matrix: &Matrix, thread: ThreadIx) -> bool {
 }
 
 /// Takes the first thread that is ready and doesn't stand still. Those that do leave the list.
-fn take(matrix: &Matrix, ready: &mut Ready) -> Option<ThreadIx> {
-    for _ in 0..THREADS {
+fn take(matrix: &Matrix, ready: &mut Line) -> Option<ThreadIx>
+    ensures thread { result ≡ next_ready matrix.now ready.old }
+    ensures rest { ready.new ≡ behind_next matrix.now ready.old }
+{
+    for _ in 0..ready.as_slice().len() {
         match ready.take() {
             None => return None,
             Some(thread) => {
                 if !is_still(matrix, thread) {
-                    return Some(thread);
+                    return Some(ThreadIx(thread));
                 }
             }
         }
@@ -93,79 +108,102 @@ fn take(matrix: &Matrix, ready: &mut Ready) -> Option<ThreadIx> {
     None
 }
 
+/// The woken threads are ready.
+fn add_woken(ready: &mut Line, woken: &[(ThreadIx, Reply)])
+    ensures { ready.new ≡ all_join ready.old (map (λ (w : ThreadIx × Reply). w.0.0) woken.now) }
+{
+    for (who, _) in woken {
+        ready.add(who.0);
+    }
+}
+
 /// The threads that an act starts or wakes are ready.
-fn add_ready(ready: &mut Ready, act: &Act) {
+fn add_ready(ready: &mut Line, act: &Act)
+    ensures { ready.new ≡ all_join ready.old (readied act.now) }
+{
     match act {
-        Act::Start { who } => ready.add(*who),
-        Act::Work { woken, .. } => {
-            for (who, _) in woken.as_slice() {
-                ready.add(*who);
-            }
-        }
+        Act::Start { who } => ready.add(who.0),
+        Act::Work { woken, .. } => add_woken(ready, woken.as_slice()),
         _ => {}
     }
 }
 
+/// Puts those that are ready after an event of a thread into the list.
+fn put_ready(matrix: &Matrix, ready: &mut Line, thread: ThreadIx, act: &Act)
+    ensures { ready.new ≡ ready_after ready.old thread.0 act.now matrix.now }
+{
+    add_ready(ready, act);
+    if is_at_rest(matrix, thread) {
+        ready.add(thread.0);
+    }
+}
+
 /// Whether a processor has an object to clean.
-fn is_listed(processors: &[Processor], row: Row) -> bool {
+fn is_listed(processors: &[Processor], row: u8) -> bool
+    ensures { result ≡ is_listed processors.now row }
+{
     for processor in processors {
-        if processor.has(row) {
+        if processor.to_clean.has(row) {
             return true;
         }
     }
     false
 }
 
-/// A processor gets the objects to clean that came up: those that are gone, and that nobody holds.
-fn add_forsaken(matrix: &Matrix, processors: &mut [Processor], cpu: usize) {
+/// Whether an object came up: it is gone, nobody holds it, and no processor has it to clean.
+fn comes_up(matrix: &Matrix, processors: &[Processor], row: u8) -> bool
+    ensures { result ≡ comes_up matrix.now processors.now row }
+{
+    matrix.is_forsaken(row as usize) && !is_listed(processors, row)
+}
+
+/// Notes the row of an object that came up.
+fn note_row(matrix: &Matrix, processors: &[Processor], rows: &mut Line, row: u8)
+    ensures { rows.new ≡ if comes_up matrix.now processors.now row then joins rows.old row else rows.old }
+{
+    if comes_up(matrix, processors, row) {
+        rows.add(row);
+    }
+}
+
+/// The rows of the objects that came up.
+fn came_up(matrix: &Matrix, processors: &[Processor]) -> Line
+    ensures { result ≡ came_up matrix.now processors.now }
+{
+    let mut rows = Line::new();
     for x in STATIC_ROWS..ROWS {
-        let row = Row(x as u8);
-        if matrix.is_forsaken(x) && !is_listed(processors, row) {
-            if let Some(processor) = processors.get_mut(cpu) {
-                processor.add(row);
-            }
-        }
+        note_row(matrix, processors, &mut rows, x as u8);
+    }
+    rows
+}
+
+/// The thread that goes on, or none.
+fn going(matrix: &Matrix, thread: ThreadIx) -> Option<ThreadIx>
+    ensures { result ≡ if goes_on matrix.now thread.0 then Some thread else None }
+{
+    if goes_on(matrix, thread) {
+        Some(thread)
+    } else {
+        None
     }
 }
 
-/// A processor goes on with a thread or puts it away, at the back of the list where it is at rest.
-fn put_away(
-    matrix: &Matrix,
-    ready: &mut Ready,
-    processors: &mut [Processor],
-    cpu: usize,
-    thread: ThreadIx,
-) {
-    if let Some(processor) = processors.get_mut(cpu) {
-        processor.running = if goes_on(matrix, thread) {
-            Some(thread)
-        } else {
-            None
-        };
-        processor.last = thread;
-    }
-    if is_at_rest(matrix, thread) {
-        ready.add(thread);
-    }
-}
-
-/// A processor is done with the object that it cleans first, where that was recycled.
-fn put_off(processors: &mut [Processor], cpu: usize, act: &Act) {
+/// The rows that are left to clean after an act: an object that was recycled is done with.
+fn put_off(rows: &mut Line, act: &Act)
+    ensures { rows.new ≡ left_to_clean act.now rows.old }
+{
     if let Act::Recycle { .. } = act {
-        if let Some(processor) = processors.get_mut(cpu) {
-            processor.done();
-        }
+        let _ = rows.take();
     }
 }
 
 impl<'a> Processors<'a> {
-    ghost use Rattle.um_machine.specs.Run.{Step, IsComplete};
-    ghost use Rattle.um_matrix.specs.Offered.{Advances};
+    ghost use Rattle.um_turns.specs.Schedule.{Turn, IsOnly, CleansFirst, CleansNothing, NextGoes, NoneGoes, RunsOn, RunsNothing, Goes, Rests, passed, runs, left_ready, settled, processor_at, with_processor};
 
     /// The opening of an image: the boot threads are ready in the order of the description. It takes all memory that its steps need.
     pub fn boot(alloc: Global, image: &'a Image, cpus: u8) -> Result<Processors<'a>, Memory>
         requires { IsLawful image.now }
-        ensures { IfOk result (λ processors. processors ≡ opening image.now) }
+        ensures { IfOk result (λ processors. processors ≡ opening_turn image.now cpus) }
     {
         let matrix = Matrix::boot(alloc, image)?;
         let ready = boot_ready(image);
@@ -179,14 +217,15 @@ impl<'a> Processors<'a> {
 
     /// The machine.
     pub fn into_matrix(self) -> Matrix<'a>
-        ensures { result ≡ self.entry }
+        ensures { result ≡ self.entry.state }
     {
         self.matrix
     }
 
     /// The thread that a processor runs: the first of those that are ready, where it runs none.
     fn running(&mut self, cpu: usize) -> Option<ThreadIx>
-        ensures { self.new ≡ self.old }
+        ensures thread { result ≡ runs self.old cpu }
+        ensures left { self.new ≡ passed self.old cpu }
     {
         if let Some(processor) = self.processors.get(cpu) {
             if let Some(thread) = processor.running {
@@ -197,44 +236,84 @@ impl<'a> Processors<'a> {
     }
 
     /// The thread with which a processor cleans, and the object that it cleans first.
-    fn to_clean(&self, cpu: usize) -> Option<(ThreadIx, Row)> {
+    fn to_clean(&self, cpu: usize) -> Option<(ThreadIx, u8)>
+        ensures some { IfSome result (λ next. (next.0 ≡ (processor_at self.now cpu).last) × (slice_get (processor_at self.now cpu).to_clean 0 ≡ Some next.1)) }
+        ensures none { IfNone result (slice_get (processor_at self.now cpu).to_clean 0 ≡ None) }
+    {
         match self.processors.get(cpu) {
             None => None,
-            Some(processor) => match processor.first() {
+            Some(processor) => match processor.to_clean.first() {
                 None => None,
                 Some(row) => Some((processor.last, row)),
             },
         }
     }
 
+    /// A processor gets more objects to clean.
+    fn add_to_clean(&mut self, cpu: usize, rows: &Line)
+        ensures { self.new ≡ let p = processor_at self.old cpu in with_processor self.old cpu (record p { to_clean = all_join p.to_clean rows.now }) }
+    {
+        if let Some(processor) = self.processors.get_mut(cpu) {
+            processor.to_clean.add_all(rows.as_slice());
+        }
+    }
+
+    /// A processor gets the objects to clean that came up.
+    fn settle(&mut self, cpu: usize)
+        ensures { self.new ≡ settled self.old cpu }
+    {
+        let rows = came_up(&self.matrix, self.processors.as_slice());
+        self.add_to_clean(cpu, &rows);
+    }
+
+    /// A processor is done with the object that it cleans first, where that was recycled.
+    fn put_off(&mut self, cpu: usize, act: &Act)
+        ensures { self.new ≡ let p = processor_at self.old cpu in with_processor self.old cpu (record p { to_clean = left_to_clean act.now p.to_clean }) }
+    {
+        if let Some(processor) = self.processors.get_mut(cpu) {
+            put_off(&mut processor.to_clean, act);
+        }
+    }
+
+    /// A processor goes on with a thread or puts it away, after an event of it.
+    fn put_away(&mut self, cpu: usize, thread: ThreadIx)
+        ensures { self.new ≡ with_processor self.old cpu (record (processor_at self.old cpu) { running = if goes_on self.old.state thread.0 then Some thread else None; last = thread }) }
+    {
+        let running = going(&self.matrix, thread);
+        if let Some(processor) = self.processors.get_mut(cpu) {
+            processor.running = running;
+            processor.last = thread;
+        }
+    }
+
     /// The next event of a processor that has an object to clean.
     fn cleans(&mut self, cpu: usize) -> Option<Event>
-        ensures some { IfSome result (λ event. Advances self.old event self.new) }
+        ensures some { IfSome result (λ event. Advances self.old.state event self.new.state) }
+        ensures rule { IfSome result (λ event. CleansFirst self.old cpu event self.new) }
         ensures none { IfNone result (self.new ≡ self.old) }
+        ensures not { IfNone result (CleansNothing self.old cpu) }
     {
         let (thread, row) = match self.to_clean(cpu) {
             None => return None,
             Some(next) => next,
         };
-        match self.matrix.clean(thread, row.0 as usize) {
-            None => {
-                if let Some(processor) = self.processors.get_mut(cpu) {
-                    processor.done();
-                }
-                None
-            }
+        match self.matrix.clean(thread, row as usize) {
+            None => None,
             Some(act) => {
-                put_off(&mut self.processors, cpu, &act);
-                add_forsaken(&self.matrix, &mut self.processors, cpu);
+                self.put_off(cpu, &act);
+                self.settle(cpu);
                 Some(Event { thread, act })
             }
         }
     }
 
-    /// The next event of the thread that a processor runs.
+    /// The next event of the thread that a processor runs, which has nothing to clean.
     fn runs(&mut self, cpu: usize) -> Option<Event>
-        ensures some { IfSome result (λ event. Advances self.old event self.new) }
-        ensures none { IfNone result (self.new ≡ self.old) }
+        requires { CleansNothing self.old cpu }
+        ensures some { IfSome result (λ event. Advances self.old.state event self.new.state) }
+        ensures rule { IfSome result (λ event. RunsOn self.old cpu event self.new) }
+        ensures none { IfNone result (self.new ≡ passed self.old cpu) }
+        ensures not { IfNone result (RunsNothing self.old cpu) }
     {
         let thread = match self.running(cpu) {
             None => return None,
@@ -243,15 +322,9 @@ impl<'a> Processors<'a> {
         match self.matrix.advance(thread) {
             None => None,
             Some(act) => {
-                add_ready(&mut self.ready, &act);
-                put_away(
-                    &self.matrix,
-                    &mut self.ready,
-                    &mut self.processors,
-                    cpu,
-                    thread,
-                );
-                add_forsaken(&self.matrix, &mut self.processors, cpu);
+                put_ready(&self.matrix, &mut self.ready, thread, &act);
+                self.put_away(cpu, thread);
+                self.settle(cpu);
                 Some(Event { thread, act })
             }
         }
@@ -259,52 +332,35 @@ impl<'a> Processors<'a> {
 
     /// The next event of a processor, if it can make one now: it cleans first, and else it runs its thread.
     pub fn step(&mut self, cpu: usize) -> Option<Event>
-        ensures some { IfSome result (λ event. Advances self.old event self.new) }
-        ensures none { IfNone result (self.new ≡ self.old) }
+        ensures some { IfSome result (λ event. Advances self.old.state event self.new.state) }
+        ensures rule { IfSome result (λ event. Goes self.old cpu event self.new) }
+        ensures only { IfSome result (λ event. IsOnly self.old cpu event self.new) }
+        ensures none { IfNone result (self.new ≡ passed self.old cpu) }
+        ensures rests { IfNone result (Rests self.old cpu) }
     {
         match self.cleans(cpu) {
             Some(event) => Some(event),
-            None => self.runs(cpu),
+            None => match self.runs(cpu) {
+                Some(event) => Some(event),
+                None => None,
+            },
         }
     }
 
-    /// An event that the machine still allows where no processor can make one.
-    fn left_over(&mut self) -> Option<Event>
-        ensures some { IfSome result (λ event. Step self.old event self.new) }
-        ensures none { IfNone result (IsComplete self.new) }
-        ensures same { IfNone result (self.new ≡ self.old) }
-    {
-        let event = match self.matrix.next_event() {
-            None => return None,
-            Some(event) => event,
-        };
-        match self.matrix.apply(&event) {
-            Ok(()) => Some(event),
-            Err(_) => unreachable!(),
-        }
-    }
-
-    /// The event of the first processor at or after this one, going round, that can make one. None comes only where the
-    /// run is complete.
+    /// The event of the first processor at or after this one, going round, that can make one.
     pub fn next(&mut self, first: u8) -> Option<Event>
-        ensures some { IfSome result (λ event. Step self.old event self.new) }
-        ensures none { IfNone result (IsComplete self.new) }
-        ensures same { IfNone result (self.new ≡ self.old) }
+        ensures some { IfSome result (λ event. Advances self.old.state event self.new.state) }
+        ensures rule { IfSome result (λ event. NextGoes self.old first event self.new) }
+        ensures none { IfNone result (NoneGoes self.old first) }
+        ensures same { IfNone result (self.new.state ≡ self.old.state) }
     {
-        let cpus = self.processors.len();
+        let cpus = self.processors.as_slice().len();
         for i in 0..cpus {
             match self.step((first as usize + i) % cpus) {
                 Some(event) => return Some(event),
                 None => {}
             }
         }
-        self.left_over()
-    }
-
-    /// Whether no event is a step.
-    pub fn is_final(&self) -> bool
-        ensures { IsTrue result → IsComplete self.now }
-    {
-        self.matrix.is_final()
+        None
     }
 }

@@ -1,9 +1,11 @@
 //! Runs on several processors, by what holds of every order.
 
 use super::{Ended, call, smooth};
-use crate::Status;
+use crate::{Status, sim_events};
 use std::alloc::Global;
 use std::test::Fail;
+use um_base::ThreadIx;
+use um_image::read_image;
 
 /// One thread grants a semaphore to another, which takes it.
 const GRANT_RACE: &str = "version = 1
@@ -100,6 +102,27 @@ fn one_drop_is_the_last_one(rt: HostRuntime) -> Result<(), Fail> {
             assert_eq!(rt; count_of(text, " #16 gone\n"), 1);
             assert_eq!(rt; count_of(text, " recycle #16\n"), 1);
         }
+    }
+    Ok(())
+}
+
+#[test]
+fn two_processors_go_one_after_another(rt: HostRuntime) -> Result<(), Fail> {
+    let image = match read_image(rt.alloc(), GRANT_RACE.as_bytes()) {
+        Ok(image) => image,
+        Err(_) => {
+            assert!(rt; false);
+            return Ok(());
+        }
+    };
+    let events = sim_events(rt.alloc(), &image, 2, None)?;
+    match events.as_slice() {
+        [first, second, third, ..] => {
+            assert!(rt; first.thread == ThreadIx(0));
+            assert!(rt; second.thread == ThreadIx(1));
+            assert!(rt; third.thread == ThreadIx(0));
+        }
+        _ => assert!(rt; false),
     }
     Ok(())
 }

@@ -1,6 +1,6 @@
 //! What a thread does next where nobody says it: its next step with the first row that it may choose, and what cleans.
 
-ghost use Rattle.std.specs.Prelude.{◌≡◌, ◌<◌, ◌&&◌, not, IfSome, IfNone, IsTrue, None, slice_get};
+ghost use Rattle.std.specs.Prelude.{◌≡◌, ◌<◌, ◌↔◌, ℕ, Some, ◌&&◌, not, drop, IfSome, IfNone, IsTrue, None, slice_get, is_some};
 ghost use Rattle.um_machine.specs.Limits.{IsSound};
 ghost use Rattle.um_machine.specs.declared.pending.Pending.{Pending};
 ghost use Rattle.um_machine.specs.Objects.{is_gone, is_held};
@@ -10,6 +10,7 @@ ghost use Rattle.um_matrix.specs.Offered.{rest_choice};
 use crate::matrix::Matrix;
 use crate::matrix::choice::Choice;
 use um_base::{Act, ROWS, THREADS, ThreadIx};
+use um_machine::places::instruction_at;
 use um_machine::{Pending, Status};
 use um_rules::rows::thread_of_row;
 
@@ -24,14 +25,17 @@ fn rest_choice(act: &Act) -> Choice
 }
 
 impl<'a> Matrix<'a> {
-    ghost use Rattle.um_machine.specs.Run.{MayChoose};
-    ghost use Rattle.um_machine.specs.State.{thread_at, is_started};
-    ghost use Rattle.um_matrix.specs.Offered.{Advances, ChoosesDue, IsInside, IsMove, after_choice, event_of, is_forsaken};
+    ghost use Rattle.um_machine.specs.Run.{MayChoose, Advances, ChoosesDue};
+    ghost use Rattle.um_machine.specs.State.{thread_at, is_started, instruction_at};
+    ghost use Rattle.um_machine.specs.Table.{act_of, after};
+    ghost use Rattle.um_matrix.specs.Offered.{ChoosesNone, IsInside, IsMove, after_choice, said, event_of, is_forsaken};
+    ghost use Rattle.um_matrix.specs.Alone.{MayTake, TakesNone, IsLeast, NoFirst, NoSecond, IsNext, Stays, Cleans, CleansNot};
+    ghost use Rattle.um_base.specs.Places.{thread_of_row};
 
     /// Whether a row is due where a step is an inheritance.
     fn chooses_due(&self, t: usize, x: usize, step: &Pending) -> bool
         requires thread { t < THREADS }
-        ensures { IsTrue result → ChoosesDue self.now t step.now x }
+        ensures { IsTrue result ↔ ChoosesDue self.now t step.now x }
     {
         match step {
             Pending::Inherit { .. } => match self.threads[t].due.get(x) {
@@ -42,16 +46,25 @@ impl<'a> Matrix<'a> {
         }
     }
 
-    /// The first row that a step chooses, of those that are due where it is an inheritance.
+    /// Whether a step may take a row.
+    fn may_take(&self, t: usize, x: usize, step: &Pending) -> bool
+        requires thread { t < THREADS }
+        requires row { x < ROWS }
+        ensures { IsTrue result ↔ MayTake self.now t step.now x }
+    {
+        self.chooses_due(t, x, step) && self.may_choose(t, x, step)
+    }
+
+    /// The first row that a step may take.
     fn next_row(&self, t: usize, step: &Pending) -> Option<usize>
         requires thread { t < THREADS }
         requires sound { IsSound step.now }
         ensures inside { IfSome result (λ x. x < ROWS) }
-        ensures may { IfSome result (λ x. MayChoose self.now t x step.now) }
-        ensures due { IfSome result (λ x. ChoosesDue self.now t step.now x) }
+        ensures least { IfSome result (λ x. IsLeast self.now t step.now x) }
+        ensures none { IfNone result (TakesNone self.now t step.now) }
     {
         for x in 0..self.row_count(step) {
-            if self.chooses_due(t, x, step) && self.may_choose(t, x, step) {
+            if self.may_take(t, x, step) {
                 return Some(x);
             }
         }
@@ -60,22 +73,27 @@ impl<'a> Matrix<'a> {
 
     /// What a thread at rest does next: it begins its line, or exits after the last one.
     #[tactic(auto, using(crate::proofs::AdvanceLemmas::moves))]
-    fn rest_move(&self, t: usize) -> Option<(Choice, Act)>
+    fn rest_move(&self, t: usize) -> Option<Choice>
         requires thread { t < THREADS }
         requires rest { slice_get (thread_at self.now t).pending 0 ≡ None }
-        ensures { IfSome result (λ move. IsMove self.now t move) }
+        ensures some { IfSome result (λ choice. IsMove self.now t choice (said self.now t choice)) }
+        ensures next { IfSome result (λ choice. IsNext self.now t (said self.now t choice) (after_choice self.now t choice)) }
+        ensures none { IfNone result (Stays self.now t) }
     {
         match self.rest_act(t) {
             None => None,
-            Some(act) => Some((rest_choice(&act), act)),
+            Some(act) => Some(rest_choice(&act)),
         }
     }
 
     /// The step after one that is left out.
     #[tactic(auto, using(crate::proofs::AdvanceLemmas::moves))]
-    fn second_move(&self, t: usize) -> Option<(Choice, Act)>
-        requires { t < THREADS }
-        ensures { IfSome result (λ move. IsMove self.now t move) }
+    fn second_move(&self, t: usize) -> Option<Choice>
+        requires thread { t < THREADS }
+        requires first { NoFirst self.now t }
+        ensures some { IfSome result (λ choice. IsMove self.now t choice (said self.now t choice)) }
+        ensures next { IfSome result (λ choice. IsNext self.now t (said self.now t choice) (after_choice self.now t choice)) }
+        ensures none { IfNone result (NoSecond self.now t) }
     {
         let step = match self.second_step(t) {
             None => return None,
@@ -83,22 +101,21 @@ impl<'a> Matrix<'a> {
         };
         match self.next_row(t, &step) {
             None => None,
-            Some(row) => Some((
-                Choice::Makes {
-                    step,
-                    row,
-                    taken: 2,
-                },
-                self.says(t, row, &step),
-            )),
+            Some(row) => Some(Choice::Makes {
+                step,
+                row,
+                taken: 2,
+            }),
         }
     }
 
     /// A thread's next step.
     #[tactic(auto, using(crate::proofs::AdvanceLemmas::moves))]
-    fn next_move(&self, t: usize) -> Option<(Choice, Act)>
+    fn next_move(&self, t: usize) -> Option<Choice>
         requires { t < THREADS }
-        ensures { IfSome result (λ move. IsMove self.now t move) }
+        ensures some { IfSome result (λ choice. IsMove self.now t choice (said self.now t choice)) }
+        ensures next { IfSome result (λ choice. IsNext self.now t (said self.now t choice) (after_choice self.now t choice)) }
+        ensures none { IfNone result (Stays self.now t) }
     {
         let step = match self.next_step(t) {
             None => return self.rest_move(t),
@@ -106,14 +123,11 @@ impl<'a> Matrix<'a> {
         };
         match self.next_row(t, &step) {
             None => self.second_move(t),
-            Some(row) => Some((
-                Choice::Makes {
-                    step,
-                    row,
-                    taken: 1,
-                },
-                self.says(t, row, &step),
-            )),
+            Some(row) => Some(Choice::Makes {
+                step,
+                row,
+                taken: 1,
+            }),
         }
     }
 
@@ -121,8 +135,10 @@ impl<'a> Matrix<'a> {
     fn first_pair(&self, t: usize, who: ThreadIx) -> Option<usize>
         ensures inside { IfSome result (λ x. x < ROWS) }
         ensures may { IfSome result (λ x. MayChoose self.now t x (Pending.CleanPair who)) }
+        ensures least { IfSome result (λ x. (y : ℕ) → y < x → MayChoose self.now t y (Pending.CleanPair who) → ⊥) }
+        ensures none { IfNone result (ChoosesNone self.now t (Pending.CleanPair who)) }
     {
-        for x in 0..self.objects.len() {
+        for x in 0..self.row_count(&Pending::CleanPair { who }) {
             if self.may_clean_pair(t, x, who) {
                 return Some(x);
             }
@@ -130,54 +146,105 @@ impl<'a> Matrix<'a> {
         None
     }
 
-    /// The drop of the first pair of a thread whose object is gone.
+    /// The drop of the first pair of a thread whose object is that of a row, and gone.
     #[tactic(auto, using(crate::proofs::AdvanceLemmas::moves))]
-    fn pair_move(&self, t: usize, who: ThreadIx) -> Option<(Choice, Act)>
+    fn pair_move(&self, t: usize, x: usize, who: ThreadIx) -> Option<Choice>
         requires thread { t < THREADS }
         requires started { IsTrue (is_started (thread_at self.now t).life) }
-        ensures { IfSome result (λ move. IsMove self.now t move) }
+        requires object { thread_of_row self.now.image x ≡ Some who.0 }
+        requires below { who.0 < THREADS }
+        ensures some { IfSome result (λ choice. IsMove self.now t choice (said self.now t choice)) }
+        ensures next { IfSome result (λ choice. Cleans self.now t x (said self.now t choice) (after_choice self.now t choice)) }
+        ensures none { IfNone result (ChoosesNone self.now t (Pending.CleanPair who)) }
     {
         match self.first_pair(t, who) {
             None => None,
-            Some(row) => Some((
-                Choice::CleansPair { who, row },
-                self.says(t, row, &Pending::CleanPair { who }),
-            )),
+            Some(row) => Some(Choice::CleansPair { who, row }),
         }
     }
 
     /// What cleans the object of a row next.
     #[tactic(auto, using(crate::proofs::AdvanceLemmas::moves))]
-    fn cleaning_move(&self, t: usize, row: usize) -> Option<(Choice, Act)>
+    fn cleaning_move(&self, t: usize, row: usize) -> Option<Choice>
         requires thread { t < THREADS }
         requires row { row < ROWS }
         requires started { IsTrue (is_started (thread_at self.now t).life) }
-        ensures { IfSome result (λ move. IsMove self.now t move) }
+        ensures some { IfSome result (λ choice. IsMove self.now t choice (said self.now t choice)) }
+        ensures next { IfSome result (λ choice. Cleans self.now t row (said self.now t choice) (after_choice self.now t choice)) }
+        ensures none { IfNone result (CleansNot self.now t row) }
     {
         if self.may_recycle(t, row) {
-            return Some((
-                Choice::Recycles { row },
-                self.says(t, row, &Pending::Recycle),
-            ));
+            return Some(Choice::Recycles { row });
         }
         match thread_of_row(self.image, row) {
-            Some(who) if who < THREADS => self.pair_move(t, ThreadIx(who as u8)),
+            Some(who) if who < THREADS => self.pair_move(t, row, ThreadIx(who as u8)),
             _ => None,
         }
     }
 
-    /// Makes what was chosen for a thread.
-    pub fn carry_out(&mut self, t: usize, choice: Choice)
+    /// What a thread says as it begins the line of its place.
+    fn says_begin(&self, t: usize) -> Act
         requires thread { t < THREADS }
-        requires inside { IsInside choice }
-        ensures { self.new ≡ after_choice self.old t choice }
+        requires line { IsTrue (is_some (instruction_at self.now.image (thread_at self.now t).place)) }
+        ensures { result ≡ act_of self.now t 0 Pending.Begin }
+    {
+        let place = self.threads[t].place;
+        match instruction_at(self.image, place) {
+            None => unreachable!(),
+            Some(_) => Act::Begin {
+                script: place.script,
+                line: place.line + 1,
+            },
+        }
+    }
+
+    /// Makes a step as `make` does, and gives what it says. The work on an object is done once for both.
+    fn does(&mut self, t: usize, x: usize, step: &Pending, taken: usize) -> Act
+        requires thread { t < THREADS }
+        requires row { x < ROWS }
+        requires sound { IsSound step.now }
+        requires taken { 0 < taken }
+        ensures says { result ≡ act_of self.old t x step.now }
+        ensures leaves { self.new ≡ after self.old t x step.now (drop taken (thread_at self.old t).pending) }
+    {
+        match step {
+            Pending::Work { addr, ask } => self.work(t, *addr, ask, taken),
+            _ => {
+                let act = self.says(t, x, step);
+                self.make(t, x, step, taken);
+                act
+            }
+        }
+    }
+
+    /// Makes what was chosen for a thread, and gives what it says.
+    fn carry_out(&mut self, t: usize, choice: &Choice) -> Act
+        requires thread { t < THREADS }
+        requires inside { IsInside self.old t choice.now }
+        ensures says { result ≡ said self.old t choice.now }
+        ensures leaves { self.new ≡ after_choice self.old t choice.now }
     {
         match choice {
-            Choice::Begins => self.begin(t),
-            Choice::Exits => self.exit(t),
-            Choice::Makes { step, row, taken } => self.make(t, row, &step, taken),
-            Choice::CleansPair { who, row } => self.clean_pair(t, row, who),
-            Choice::Recycles { row } => self.recycle(row),
+            Choice::Begins => {
+                let act = self.says_begin(t);
+                self.begin(t);
+                act
+            }
+            Choice::Exits => {
+                self.exit(t);
+                Act::Exit
+            }
+            Choice::Makes { step, row, taken } => self.does(t, *row, step, *taken),
+            Choice::CleansPair { who, row } => {
+                let act = self.says(t, *row, &Pending::CleanPair { who: *who });
+                self.clean_pair(t, *row, *who);
+                act
+            }
+            Choice::Recycles { row } => {
+                let act = self.says(t, *row, &Pending::Recycle);
+                self.recycle(*row);
+                act
+            }
         }
     }
 
@@ -185,7 +252,9 @@ impl<'a> Matrix<'a> {
     /// no step of its own. It takes no memory.
     pub fn advance(&mut self, thread: ThreadIx) -> Option<Act>
         ensures some { IfSome result (λ act. Advances self.old (event_of thread.0 act) self.new) }
+        ensures next { IfSome result (λ act. IsNext self.old thread.0 act self.new) }
         ensures none { IfNone result (self.new ≡ self.old) }
+        ensures stays { IfNone result (Stays self.old thread.0) }
     {
         let t = thread.0 as usize;
         if t >= self.threads.len() {
@@ -193,29 +262,29 @@ impl<'a> Matrix<'a> {
         }
         match self.next_move(t) {
             None => None,
-            Some((choice, act)) => {
-                self.carry_out(t, choice);
-                Some(act)
-            }
+            Some(choice) => Some(self.carry_out(t, &choice)),
         }
     }
 
     /// Makes the next step with which a thread cleans the object of a row, and gives its act: none where it may not clean it.
     /// The pairs of a gone thread object are dropped first, in ascending rows. It takes no memory.
+    #[tactic(auto, using(crate::proofs::AdvanceLemmas::nothing_cleaned))]
     pub fn clean(&mut self, thread: ThreadIx, x: usize) -> Option<Act>
         ensures some { IfSome result (λ act. Advances self.old (event_of thread.0 act) self.new) }
+        ensures next { IfSome result (λ act. Cleans self.old thread.0 x act self.new) }
         ensures none { IfNone result (self.new ≡ self.old) }
+        ensures not { IfNone result (IsTrue (is_started (thread_at self.old thread.0).life) → CleansNot self.old thread.0 x) }
     {
         let t = thread.0 as usize;
-        if t >= self.threads.len() || x >= self.objects.len() || !self.is_started(t) {
+        if t >= self.threads.len() || !self.is_started(t) {
+            return None;
+        }
+        if x >= self.objects.len() {
             return None;
         }
         match self.cleaning_move(t, x) {
             None => None,
-            Some((choice, act)) => {
-                self.carry_out(t, choice);
-                Some(act)
-            }
+            Some(choice) => Some(self.carry_out(t, &choice)),
         }
     }
 

@@ -4,10 +4,10 @@ ghost use Rattle.std.specs.Prelude.{◌≡◌, ◌<◌, drop};
 
 use crate::matrix::Matrix;
 use crate::matrix::moves::{cost_of, pay_back, pay_from};
-use crate::matrix::transfer::answer_error;
 use um_base::{Addr, Errno, Kind, ROWS, Reply, THREADS};
 use um_machine::{Pending, Status};
 use um_rules::blank::vacant;
+use um_rules::order::answer_error;
 use um_rules::rows::addr_of;
 
 /// What a dynamic object costs.

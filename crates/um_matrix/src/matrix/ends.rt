@@ -1,26 +1,12 @@
 //! The steps that end a thread, and that doom the others.
 
 ghost use Rattle.std.specs.Prelude.{◌≡◌, ◌<◌, [], drop};
-ghost use Rattle.um_machine.specs.Order.{fatal_steps};
 
 use crate::matrix::Matrix;
 use crate::matrix::moves::rows_held;
-use um_base::{Cause, Image, Policy, ROWS, THREADS};
-use um_machine::{Pending, Thread};
+use um_base::{Cause, ROWS, THREADS};
+use um_machine::Pending;
 use um_rules::order;
-
-/// What follows a fatal error: the end of the thread, or the dooms of all.
-fn fatal_steps(image: &Image, t: usize, reason: u8, me: &mut Thread)
-    requires { t < THREADS }
-    ensures { me.new ≡ record me.old { pending = fatal_steps image.now t me.old reason image.now.policy } }
-{
-    if image.policy == Policy::Abort && reason != 4 {
-        order::end_steps(image, t, me);
-    } else {
-        me.pending.clear();
-        me.pending.push(&Pending::Dooms { from: 0 });
-    }
-}
 
 impl<'a> Matrix<'a> {
     ghost use Rattle.um_machine.specs.State.{thread_at};
@@ -45,7 +31,7 @@ impl<'a> Matrix<'a> {
         let due = rows_held(self.pairs.as_slice(), t);
         let thread = &mut self.threads[t];
         thread.ends(due);
-        fatal_steps(self.image, t, reason, thread);
+        order::fatal_steps(self.image, t, thread, reason);
     }
 
     /// One drop of an end.
@@ -69,10 +55,6 @@ impl<'a> Matrix<'a> {
         if (from as usize) < THREADS {
             self.threads[from as usize].doomed = true;
         }
-        let thread = &mut self.threads[t];
-        thread.pending.clear();
-        if from as usize + 1 < THREADS {
-            thread.pending.push(&Pending::Dooms { from: from + 1 });
-        }
+        order::next_doom(&mut self.threads[t].pending, from);
     }
 }

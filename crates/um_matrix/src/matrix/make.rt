@@ -36,7 +36,9 @@ impl<'a> Matrix<'a> {
             Pending::CopyOut { addr } => self.copy_out(t, *addr, taken),
             Pending::CopyStr { addr } => self.copy_string(t, *addr, taken),
             Pending::Erase { stack } => self.erase(t, *stack, taken),
-            Pending::Work { addr, ask } => self.work(t, *addr, ask, taken),
+            Pending::Work { addr, ask } => {
+                let _ = self.work(t, *addr, ask, taken);
+            }
             Pending::Resume => self.resume(t, taken),
             Pending::Answer { reply, to } => self.answer(t, *reply, *to, taken),
             Pending::Grant { who, addr } => self.grant(t, *who, *addr, taken),

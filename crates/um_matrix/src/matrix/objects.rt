@@ -1,51 +1,17 @@
 //! Checks and answers, and the steps that mark an object.
 
-ghost use Rattle.std.specs.Prelude.{◌≡◌, ◌<◌, ◌∷◌, [], drop, Some};
-ghost use Rattle.um_machine.specs.Limits.{IsSound};
+ghost use Rattle.std.specs.Prelude.{◌≡◌, ◌<◌, drop};
 ghost use Rattle.um_machine.specs.Order.{refuses};
-ghost use Rattle.um_machine.specs.Table.{after_check, with_answer, at_steps, cleared_first};
+ghost use Rattle.um_machine.specs.Table.{with_answer, at_steps, cleared_first};
 ghost use Rattle.um_base.specs.declared.image.Image.{Image};
 
 use crate::matrix::Matrix;
 use crate::matrix::checks::set_said;
 use crate::matrix::transfer::put_register;
-use um_base::{
-    Addr, Cause, Errno, Given, Kind, Mode, ROWS, Reply, SetSaid, THREADS, ThreadIx, Want,
-};
+use um_base::{Addr, Cause, Errno, Given, Kind, ROWS, Reply, SetSaid, THREADS, ThreadIx, Want};
 use um_machine::{Contents, Pending, Refusal, Thread};
+use um_rules::order::{refused, refuses};
 use um_rules::rows::own_row;
-
-/// The end of a call that is refused.
-pub fn refuses(mode: Mode, cause: Cause) -> Pending
-    ensures value { refuses mode cause ≡ result ∷ [] }
-    ensures sound { IsSound result }
-{
-    match mode {
-        Mode::User => Pending::Fatal { reason: 3, cause },
-        Mode::Supervisor => Pending::Fatal { reason: 4, cause },
-    }
-}
-
-/// What follows a check that isn't ok.
-fn refused(mode: Mode, refusal: Refusal, e: Errno) -> Pending
-    ensures value { after_check mode [] refusal (Some e) ≡ result ∷ [] }
-    ensures sound { IsSound result }
-{
-    match refusal {
-        Refusal::Fails => refuses(mode, Cause::Refused(e)),
-        Refusal::FailsUser => match mode {
-            Mode::User => refuses(mode, Cause::Refused(e)),
-            Mode::Supervisor => Pending::Answer {
-                reply: Some(Reply::Void),
-                to: None,
-            },
-        },
-        Refusal::Answers(reply) => Pending::Answer {
-            reply: Some(reply),
-            to: None,
-        },
-    }
-}
 
 /// Writes an answer to its register, where it has one and is a number, an address or NULL.
 fn put_answer(registers: &mut [u32], to: Option<u8>, reply: Reply)

@@ -1,49 +1,21 @@
 //! Accesses and copies: the steps that read and write memory.
 
-ghost use Rattle.std.specs.Prelude.{◌≡◌, ◌<◌, ◌≤◌, ◌∷◌, [], drop, take, slice_set};
+ghost use Rattle.std.specs.Prelude.{◌≡◌, ◌<◌, ◌≤◌, drop, take, slice_set};
 ghost use Rattle.um_base.specs.Regions.{stack_range};
-ghost use Rattle.um_machine.specs.Limits.{IsSound};
-ghost use Rattle.um_machine.specs.Order.{copy_fails, answer_error};
 ghost use Rattle.um_machine.specs.Table.{message_size};
 ghost use Rattle.um_matrix.specs.Offered.{IsShort};
 
 use crate::matrix::Matrix;
-use um_base::{
-    Access, Addr, Cause, Errno, Found, Mode, PIECE, Piece, Range, Reply, Row, Setup, THREADS,
-};
+use um_base::{Access, Addr, Cause, Errno, Found, PIECE, Piece, Range, Row, Setup, THREADS};
 use um_machine::{Amount, Contents, Pending};
 use um_rules::bytes::{le_value, part};
+use um_rules::order::{answer_error, copy_fails};
 
 /// What follows an access that isn't allowed.
 const FAULT: Pending = Pending::Fatal {
     reason: 0,
     cause: Cause::Access,
 };
-
-/// What follows a copy that isn't allowed.
-fn copy_fails(mode: Mode) -> Pending
-    ensures value { copy_fails mode ≡ result ∷ [] }
-    ensures sound { IsSound result }
-{
-    match mode {
-        Mode::User => Pending::Fatal {
-            reason: 3,
-            cause: Cause::Refused(Errno::EFAULT),
-        },
-        Mode::Supervisor => FAULT,
-    }
-}
-
-/// The answer of an error.
-pub fn answer_error(e: Errno) -> Pending
-    ensures value { answer_error e ≡ result ∷ [] }
-    ensures sound { IsSound result }
-{
-    Pending::Answer {
-        reply: Some(Reply::Fail(e)),
-        to: None,
-    }
-}
 
 /// The bytes of a message, where a queue keeps them.
 fn message_size(contents: &Contents) -> u32

@@ -1,20 +1,18 @@
 //! The steps of a call that works on an object, or waits on it.
 
-ghost use Rattle.std.specs.Prelude.{◌≡◌, ◌<◌, ◌≤◌, ◌∷◌, drop, length, Some, ℕ, IsTrue};
+ghost use Rattle.std.specs.Prelude.{◌≡◌, ◌<◌, ◌≤◌, drop, length, Some, ℕ, IsTrue};
 ghost use Rattle.um_machine.specs.Limits.{is_sound_ask};
-ghost use Rattle.um_machine.specs.Order.{refuses, rounded, to_thread};
-ghost use Rattle.um_machine.specs.Table.{at_steps, full_ask, replies_of, buffer_cost, after_error};
+ghost use Rattle.um_machine.specs.Order.{to_thread};
+ghost use Rattle.um_machine.specs.Table.{full_ask, replies_of, buffer_cost};
 
 use crate::matrix::Matrix;
-use crate::matrix::objects::refuses;
-use um_base::{
-    Act, Addr, Answer, Ask, Cause, Errno, Image, Piece, Replies, Reply, THREADS, ThreadIx, Told,
-    Waiter,
-};
-use um_machine::{Cost, Pending, Thread};
-use um_service::act;
+use um_base::{Act, Addr, Answer, Ask, Piece, Replies, Reply, THREADS, ThreadIx, Told, Waiter};
+use um_machine::{Cost, Pending};
+use um_rules::order::{after_error, rounded};
+use um_service::{Outcome, act};
 
 /// What a call asks, with the bytes of the caller's buffer.
+#[inline(never)]
 fn full_ask(buffer: &Piece, ask: &Ask) -> Ask
     ensures value { result ≡ full_ask buffer.now ask.now }
     ensures sound { IsTrue (is_sound_ask ask.now) → IsTrue (is_sound_ask result) }
@@ -38,6 +36,7 @@ fn full_ask(buffer: &Piece, ask: &Ask) -> Ask
 }
 
 /// The replies of the woken.
+#[inline(never)]
 fn replies_of(woken: &[(ThreadIx, Told)]) -> Replies
     requires { length woken.now ≤ THREADS }
     ensures { result ≡ replies_of woken.now }
@@ -48,14 +47,6 @@ fn replies_of(woken: &[(ThreadIx, Told)]) -> Replies
         replies.push(thread, told.reply);
     }
     replies
-}
-
-/// Bytes of a buffer as a pool counts them.
-fn rounded(n: u32) -> u32
-    requires { n ≤ 0x10000 }
-    ensures { result ≡ rounded n }
-{
-    (n + 7) / 8 * 8
 }
 
 /// What an object's buffer costs after an act.
@@ -87,39 +78,12 @@ fn buffer_cost(ask: &Ask, answer: Answer, before: Option<Cost>) -> Option<Cost>
     }
 }
 
-/// A thread gives a buffer back, and fails.
-fn gives_back(me: &mut Thread, size: u32, e: Errno)
-    ensures { me.new ≡ record me.old { pending = Pending.Unbuffer size ∷ refuses me.old.mode (Cause.Refused e) } }
-{
-    me.turns_to(&refuses(me.mode, Cause::Refused(e)));
-    me.pending.push(&Pending::Unbuffer { size });
-}
-
-/// What follows an act that answered an error.
-fn after_error(me: &mut Thread, image: &Image, ask: &Ask, e: Errno, taken: usize)
-    requires { IsTrue (is_sound_ask ask.now) }
-    ensures { me.new ≡ at_steps image.now me.old (after_error me.old.mode ask.now e (drop taken me.old.pending)) }
-{
-    match ask {
-        Ask::SemInit { .. } | Ask::MutexInit => {
-            me.turns_to(&refuses(me.mode, Cause::Refused(e)));
-        }
-        Ask::MsgqInit {
-            msg_size,
-            max_msgs,
-            ..
-        } => gives_back(me, rounded(*msg_size * *max_msgs), e),
-        Ask::StackInit { entries, .. } => gives_back(me, rounded(4 * *entries), e),
-        Ask::PipeInit { size, .. } => gives_back(me, rounded(*size), e),
-        _ => me.skips_copy(image, taken),
-    }
-}
-
 impl<'a> Matrix<'a> {
     ghost use Rattle.um_machine.specs.State.{thread_at, with_thread};
     ghost use Rattle.um_machine.specs.Table.{act_of, after, after_answer, all_woken};
 
     /// A thread as it works on an object.
+    #[inline(never)]
     fn worker(&self, t: usize, ask: &Ask) -> Waiter
         requires { t < THREADS }
         ensures value { result ≡ record { thread = to_thread t; priority = (thread_at self.now t).priority; ask = full_ask (thread_at self.now t).buffer ask.now } }
@@ -134,6 +98,7 @@ impl<'a> Matrix<'a> {
     }
 
     /// What the work on an object says.
+    #[inline(never)]
     pub fn says_work(&self, t: usize, a: Addr, ask: &Ask) -> Act
         requires thread { t < THREADS }
         requires sound { IsTrue (is_sound_ask ask.now) }
@@ -142,7 +107,9 @@ impl<'a> Matrix<'a> {
         let object = &self.objects[self.row_of(a)];
         let mut contents = object.contents.copied();
         let mut waiters = object.waiters.copied();
-        let outcome = act(&mut contents, &mut waiters, &self.worker(t, ask));
+        let who = self.worker(t, ask);
+        let mut outcome = Outcome::new();
+        act(&mut contents, &mut waiters, &who, &mut outcome);
         Act::Work {
             addr: a,
             answer: outcome.answer,
@@ -151,6 +118,7 @@ impl<'a> Matrix<'a> {
     }
 
     /// A thread is told something.
+    #[inline(never)]
     fn tell(&mut self, who: ThreadIx, told: &Told)
         ensures { self.new ≡ with_thread self.old who.0 (record (thread_at self.old who.0) { told = Some told.now }) }
     {
@@ -160,6 +128,7 @@ impl<'a> Matrix<'a> {
     }
 
     /// The woken threads are told.
+    #[inline(never)]
     fn wake(&mut self, woken: &[(ThreadIx, Told)])
         ensures { self.new ≡ all_woken woken.now self.old }
     {
@@ -170,6 +139,7 @@ impl<'a> Matrix<'a> {
     }
 
     /// What an answer leaves to its caller.
+    #[inline(never)]
     fn after_answer(&mut self, t: usize, ask: &Ask, answer: Answer, bytes: &Piece, taken: usize)
         requires thread { t < THREADS }
         requires sound { IsTrue (is_sound_ask ask.now) }
@@ -183,31 +153,45 @@ impl<'a> Matrix<'a> {
                 thread.reply = reply;
                 thread.buffer = *bytes;
                 match reply {
-                    Reply::Fail(e) => after_error(thread, self.image, ask, e, taken),
+                    Reply::Fail(e) => after_error(self.image, thread, ask, e, taken),
                     _ => thread.goes_on(self.image, taken),
                 }
             }
         }
     }
 
-    /// The work of a call on an object.
+    /// The work of a call on an object, and what it says.
+    #[inline(never)]
     #[tactic(auto, using(crate::proofs::PairLemmas::pendings_kept))]
-    pub fn work(&mut self, t: usize, a: Addr, ask: &Ask, taken: usize)
+    pub fn work(&mut self, t: usize, a: Addr, ask: &Ask, taken: usize) -> Act
         requires thread { t < THREADS }
         requires sound { IsTrue (is_sound_ask ask.now) }
         requires taken { 0 < taken }
-        ensures { self.new ≡ after self.old t 0 (Pending.Work a ask.now) (drop taken (thread_at self.old t).pending) }
+        ensures says { (x : ℕ) → result ≡ act_of self.old t x (Pending.Work a ask.now) }
+        ensures leaves { self.new ≡ after self.old t 0 (Pending.Work a ask.now) (drop taken (thread_at self.old t).pending) }
     {
         let x = self.row_of(a);
         let who = self.worker(t, ask);
         let object = &mut self.objects[x];
-        let outcome = act(&mut object.contents, &mut object.waiters, &who);
+        let mut outcome = Outcome::new();
+        act(
+            &mut object.contents,
+            &mut object.waiters,
+            &who,
+            &mut outcome,
+        );
         object.buffer = buffer_cost(ask, outcome.answer, object.buffer);
         self.wake(outcome.woken.as_slice());
         self.after_answer(t, ask, outcome.answer, &outcome.taken, taken);
+        Act::Work {
+            addr: a,
+            answer: outcome.answer,
+            woken: replies_of(outcome.woken.as_slice()),
+        }
     }
 
     /// A waiter goes on with what it was told.
+    #[inline(never)]
     pub fn resume(&mut self, t: usize, taken: usize)
         requires { t < THREADS }
         ensures { self.new ≡ after self.old t 0 Pending.Resume (drop taken (thread_at self.old t).pending) }

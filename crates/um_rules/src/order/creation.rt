@@ -1,36 +1,16 @@
 //! The steps of a thread's creation.
 
 ghost use Rattle.std.specs.Prelude.{◌≡◌, ◌∷◌, ◌<◌, unwrap_or};
-ghost use Rattle.um_base.specs.Places.{thread_of_addr, thread_of_row, row_at, setup_at};
+ghost use Rattle.um_base.specs.Places.{thread_of_addr, row_at, setup_at};
 ghost use Rattle.um_base.specs.Lawful.{is_priority};
 ghost use Rattle.um_base.specs.declared.names.Kind.TheVariants as Kind;
 ghost use Rattle.um_base.specs.declared.names.Want.TheVariants as Want;
 ghost use Rattle.um_machine.specs.Order.{needs, creates, creation_refusal, new_mode, stack_declared, number_of};
 
 use crate::order::steps::{needs, refusal_reason, turn};
-use crate::rows::{row_at, setup_at};
-use um_base::{
-    Addr, Cause, Image, Kind, Mode, Options, Ref, Reply, Row, STATIC_ROWS, STATIC_THREADS, Setup,
-    THREADS, ThreadIx, Want,
-};
+use crate::rows::{row_at, setup_at, thread_of_row};
+use um_base::{Addr, Cause, Image, Kind, Mode, Options, Ref, Reply, Row, Setup, ThreadIx, Want};
 use um_machine::{Pending, Thread};
-
-/// The thread index of a row.
-fn thread_of_row(image: &Image, x: usize) -> Option<u8>
-    requires { x < 256 }
-    ensures { result ≡ thread_of_row image.now x }
-{
-    if x < STATIC_ROWS {
-        match setup_at(image, x) {
-            Setup::Thread { index } => Some(index.0),
-            _ => None,
-        }
-    } else if STATIC_THREADS + (x - STATIC_ROWS) < THREADS {
-        Some((STATIC_THREADS + (x - STATIC_ROWS)) as u8)
-    } else {
-        None
-    }
-}
 
 /// The thread whose object is at an address.
 pub fn thread_of_addr(image: &Image, a: u32) -> ThreadIx
@@ -38,7 +18,7 @@ pub fn thread_of_addr(image: &Image, a: u32) -> ThreadIx
 {
     match row_at(image, a) {
         Some(x) => match thread_of_row(image, x) {
-            Some(t) => ThreadIx(t),
+            Some(t) => ThreadIx(t as u8),
             None => ThreadIx(0),
         },
         None => ThreadIx(0),

@@ -36,7 +36,6 @@ pub fn fatal_steps(image: &Image, t: usize, me: &mut Thread, reason: u8)
 
 /// The doom of the next thread, if there is one.
 pub fn next_doom(pending: &mut Pendings, from: u8)
-    requires { from < THREADS }
     ensures { pending.new ≡ next_doom from }
 {
     pending.clear();

@@ -289,7 +289,7 @@ pub fn begins(image: &Image, t: usize, me: &mut Thread, instr: &Instr)
                 cause: Cause::KOops,
             }],
         ),
-        Instr::Panic => refuses(&mut me.pending, me.mode, Cause::KPanic),
+        Instr::Panic => me.turns_to(&refuses(me.mode, Cause::KPanic)),
         Instr::DomainInit { domain, parts } => privileged(
             me,
             &[

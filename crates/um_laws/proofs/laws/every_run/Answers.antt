@@ -1,6 +1,7 @@
 use Rattle.um_laws.proofs.AccessLemmas.{was_allowed, is_verdict}
 use Rattle.um_laws.proofs.RecycleLemmas.{is_unheld}
 use Rattle.um_laws.proofs.Theorems.{owned_event, marks_turn, lives_between, was_alive, holds_until}
+use Rattle.um_laws.proofs.ObeyLemmas.{obeys}
 use Rattle.um_laws.proofs.laws.every_run.Goals as goal
 
 pub returns-clause-accesses : goal.returns-clause-accesses
@@ -26,3 +27,6 @@ returns-clause-ends c = λ image before event a s s2 given run step e. was_alive
 
 pub returns-clause-holds : goal.returns-clause-holds
 returns-clause-holds c = λ image before middle check recycle a kind want s s2 given run step e calls. holds_until image before middle check recycle a kind want s s2 given run step e calls
+
+pub returns-clause-obeys : goal.returns-clause-obeys
+returns-clause-obeys c = λ image events s given run. obeys image events s given run

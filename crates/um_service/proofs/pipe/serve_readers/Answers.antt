@@ -13,10 +13,10 @@ serving-init c =
     let few : length ws ≤ THREADS = omega arith in
     let fits : length (in_order (filter is_reader ws)) ≤ THREADS = served-few Served.Readers ws THREADS few in
     record {
-      so_far = rw c.new-woken.ensures (SoFar-start (readers_served (in_order (filter is_reader c.args.waiters.now)) c.args.pipe.now.bytes));
+      so_far = rw c.clear.ensures (SoFar-start (readers_served (in_order (filter is_reader c.args.waiters.now)) c.args.pipe.now.bytes));
       pipe = refl;
-      waiting = rw c.new-woken.ensures (sym (still_waiting-none ws));
-      room = rw c.new-woken.ensures (omega arith);
+      waiting = rw c.clear.ensures (sym (still_waiting-none ws));
+      room = rw c.clear.ensures (omega arith);
     }
 
 pub serving-preserved : goal.serving-preserved

@@ -9,7 +9,7 @@ use Rattle.um_service.proofs.waking.wake_all.Goals as goal
 pub waiting-init : goal.waiting-init
 waiting-init c =
     let few : length c.args.waiters.now ≤ THREADS = omega arith in
-    record { woken = rw c.new-woken.ensures refl; room = rw c.new-woken.ensures (omega (arith, served-few c.args.which c.args.waiters.now THREADS few)); others = refl }
+    record { woken = rw c.clear.ensures refl; room = rw c.clear.ensures (omega (arith, served-few c.args.which c.args.waiters.now THREADS few)); others = refl }
 
 pub push-requires : goal.push-requires
 push-requires c =

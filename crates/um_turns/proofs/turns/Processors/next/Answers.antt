@@ -1,7 +1,31 @@
-use Rattle.std.proofs.Common.{subst}
+use Rattle.std.proofs.Common.{◌≡◌, ◌+◌, ◌-◌, subst, sym, ◌∙◌, ap, length, List}
 use Rattle.um_machine.specs.State.{State}
-use Rattle.um_machine.specs.Run.{Step}
+use Rattle.um_machine.specs.Run.{Advances}
+use Rattle.um_turns.proofs.ScheduleLemmas.{goes-here, goes-later, rests-later}
+use Rattle.um_turns.specs.declared.processor.Processor.{Processor}
+use Rattle.um_turns.specs.Schedule.{Turn, FirstGoes, AllRest}
 use Rattle.um_turns.proofs.turns.Processors.next.Goals as goal
 
 pub returns-in-Some-clause-some : goal.returns-in-Some-clause-some
-returns-in-Some-clause-some c = subst (λ (s : State). Step s c.in-Some.event c.step.new.self) c.loop-i.invariant c.in-Some.ensures.some.made
+returns-in-Some-clause-some c = subst (λ (s : State). Advances s c.in-Some.event c.step.new.self.state) c.loop-i.invariant.state c.in-Some.ensures.some
+
+pub returns-in-Some-clause-rule : goal.returns-in-Some-clause-rule
+returns-in-Some-clause-rule c =
+    let all : (length c.as_slice-cpus.result.now) ≡ length c.loop-i.self.processors =
+    ap (λ (ps : List Processor). length ps) c.as_slice-cpus.ensures.value ∙ ap (λ (turn : Turn). length turn.processors) c.self.view_is ∙ ap (λ (ps : List Processor). length ps) (sym c.loop-i.invariant.processors) in
+    c.loop-i.invariant.goes c.in-Some.event c.step.new.self (goes-here c.loop-i.self c.step.new.self c.args.first c.loop-i.i (length c.as_slice-cpus.result.now) c.in-Some.event all c.loop-i-test.true c.in-Some.ensures.rule)
+
+pub loop-i-preserved : goal.loop-i-preserved
+loop-i-preserved c =
+    let all : (length c.as_slice-cpus.result.now) ≡ length c.loop-i.self.processors =
+    ap (λ (ps : List Processor). length ps) c.as_slice-cpus.ensures.value ∙ ap (λ (turn : Turn). length turn.processors) c.self.view_is ∙ ap (λ (ps : List Processor). length ps) (sym c.loop-i.invariant.processors) in
+    record {
+      state = rw c.in-None.ensures.none c.loop-i.invariant.state;
+      processors = rw c.in-None.ensures.none c.loop-i.invariant.processors;
+      goes = λ event turn2 later. c.loop-i.invariant.goes event turn2
+          (goes-later c.loop-i.self turn2 c.args.first c.loop-i.i (length c.as_slice-cpus.result.now) event all c.loop-i-test.true c.in-None.ensures.rests
+          (subst (λ (turn : Turn). FirstGoes turn c.args.first (c.loop-i.i + 1) ((length c.as_slice-cpus.result.now) - (c.loop-i.i + 1)) event turn2) c.in-None.ensures.none later));
+      rests = λ later. c.loop-i.invariant.rests
+          (rests-later c.loop-i.self c.args.first c.loop-i.i (length c.as_slice-cpus.result.now) all c.loop-i-test.true c.in-None.ensures.rests
+          (subst (λ (turn : Turn). AllRest turn c.args.first (c.loop-i.i + 1) ((length c.as_slice-cpus.result.now) - (c.loop-i.i + 1))) c.in-None.ensures.none later));
+    }

@@ -1,8 +1,17 @@
-use Rattle.std.proofs.Common.{subst, ◌∙◌}
-use Rattle.um_matrix.specs.Offered.{Advances, event_of}
-use Rattle.um_machine.specs.State.{State}
+use Rattle.std.proofs.Common.{sym, subst, ◌∙◌}
+use Rattle.um_machine.specs.Run.{Advances}
+use Rattle.um_matrix.specs.Offered.{event_of}
+use Rattle.um_turns.specs.Schedule.{Turn}
+use Rattle.um_turns.proofs.ScheduleLemmas.{ran}
 use Rattle.um_turns.proofs.turns.Processors.runs.Goals as goal
 
 pub returns-in-Some-advance-clause-some : goal.returns-in-Some-advance-clause-some
 returns-in-Some-advance-clause-some c =
-    subst (λ (s : State). Advances s (event_of c.in-Some.thread.0 c.in-Some-advance.act) c.advance.new.self) (c.self.view_is ∙ c.running.ensures) c.in-Some-advance.ensures.some
+    rw (c.settle.ensures, c.put_away.ensures)
+    (subst (λ (turn : Turn). Advances turn.state (event_of c.in-Some.thread.0 c.in-Some-advance.act) c.advance.new.self) (c.self.view_is ∙ c.running.ensures.left) c.in-Some-advance.ensures.some)
+
+pub returns-in-Some-advance-clause-rule : goal.returns-in-Some-advance-clause-rule
+returns-in-Some-advance-clause-rule c =
+    let mid : Turn = record { state = c.self.inside.matrix; ready = c.self.inside.ready; processors = c.self.inside.processors.items } in
+    ran c.args.self.now mid c.put_away.new.self c.settle.new.self c.args.cpu c.in-Some.thread c.in-Some-advance.act c.advance.new.self c.put_ready.new.ready c.requires (sym c.running.ensures.thread ∙ c.in-Some.is)
+    (c.self.view_is ∙ c.running.ensures.left) c.in-Some-advance.ensures.next c.put_ready.ensures c.put_away.ensures c.settle.ensures

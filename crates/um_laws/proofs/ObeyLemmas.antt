@@ -1,0 +1,40 @@
+-- Each run of an image that a description gives obeys the laws.
+use Rattle.std.proofs.Common.{◌≡◌, List, ◌∷◌, ◌++◌, append_assoc, subst, sym, ◌∙◌}
+use Rattle.um_base.specs.declared.act.Event.{Event}
+use Rattle.um_base.specs.declared.image.Image.{Image}
+use Rattle.um_machine.proofs.RunLemmas.{runs-parts}
+use Rattle.um_machine.specs.Run.{IsRun, Step, opening}
+use Rattle.um_machine.specs.State.{State}
+use Rattle.um_reach.specs.Described.{IsDescribed}
+use Rattle.um_laws.specs.Obeys.{ObeysLaws}
+use Rattle.um_laws.proofs.AccessLemmas.{was_allowed, is_verdict}
+use Rattle.um_laws.proofs.RecycleLemmas.{is_unheld}
+use Rattle.um_laws.proofs.Theorems.{owned_event, marks_turn, lives_between, was_alive, holds_until}
+
+-- a run up to one of its events, and the step that it is
+stops_at : (image : Image) (events before after : List Event) (event : Event) (s : State) → IsRun image events s → events ≡ before ++ event ∷ after → (mid mid2 : State) × IsRun image before mid × Step mid event mid2
+stops_at image events before after event s run parts =
+    let (mid, first, later) = runs-parts (opening image) before (event ∷ after) s (subst (λ (all : List Event). IsRun image all s) parts run) in
+    let (mid2, step, rest) = later in (mid, mid2, first, step)
+
+-- two events of a run, with events between them
+two_parts : (events before middle after : List Event) (event event2 : Event) → events ≡ before ++ event ∷ (middle ++ event2 ∷ after) → events ≡ (before ++ event ∷ middle) ++ event2 ∷ after
+two_parts events before middle after event event2 parts = parts ∙ sym (append_assoc before (event ∷ middle) (event2 ∷ after))
+
+pub obeys : (image : Image) (events : List Event) (s : State) → IsDescribed image → IsRun image events s → ObeysLaws image events
+obeys image events s given run = record {
+  accesses = λ before event from to stands. was_allowed from to event stands.step;
+  verdicts = λ before event from to stands. is_verdict from to event stands.step;
+  origins = λ before event from to stands. owned_event image before event from to given stands.run stands.step;
+  recycles = λ before event from to stands. is_unheld from to event stands.step;
+  turns = λ a. marks_turn image events s given run a;
+  lives = λ before middle after birth rebirth a parts e f none.
+      let (from, to, first, step) = stops_at image events (before ++ birth ∷ middle) after rebirth s run (two_parts events before middle after birth rebirth parts) in
+      lives_between image before middle birth rebirth a from to given first step e f none;
+  ends = λ before after event a parts e.
+      let (from, to, first, step) = stops_at image events before after event s run parts in
+      was_alive image before event a from to given first step e;
+  holds = λ before middle after check recycle a kind want parts e calls.
+      let (from, to, first, step) = stops_at image events (before ++ check ∷ middle) after recycle s run (two_parts events before middle after check recycle parts) in
+      holds_until image before middle check recycle a kind want from to given first step e calls;
+}
