@@ -1,0 +1,135 @@
+//! Each kind of event as the machine makes it, and the same event with one field wrong.
+
+mod changed;
+mod described;
+mod values;
+
+use changed::changed;
+use described::{DOMAINS, HALT, OBJECTS, RACE};
+use std::alloc::Global;
+use std::process::Abort;
+use std::test::Fail;
+use um_base::{Act, Event, ROWS, ThreadIx};
+use um_image::read_image;
+use um_matrix::Matrix;
+
+/// How many kinds of events there are.
+const KINDS: usize = 36;
+
+/// More fields than any event has.
+const FIELDS: usize = 5;
+
+/// The number of an event's kind.
+fn kind_of(act: &Act) -> usize {
+    match act {
+        Act::Begin { .. } => 0,
+        Act::Check { .. } => 1,
+        Act::Load { .. } => 2,
+        Act::Store { .. } => 3,
+        Act::Fetch { .. } => 4,
+        Act::Fault { .. } => 5,
+        Act::Probe { .. } => 6,
+        Act::CopyIn { .. } => 7,
+        Act::CopyOut { .. } => 8,
+        Act::CopyStr { .. } => 9,
+        Act::Erase { .. } => 10,
+        Act::Work { .. } => 11,
+        Act::Resume => 12,
+        Act::Answered { .. } => 13,
+        Act::Grant { .. } => 14,
+        Act::Own { .. } => 15,
+        Act::Inherit { .. } => 16,
+        Act::DropPair { .. } => 17,
+        Act::Publish { .. } => 18,
+        Act::SetInit { .. } => 19,
+        Act::ClearInit { .. } => 20,
+        Act::Named { .. } => 21,
+        Act::Reserve { .. } => 22,
+        Act::Born { .. } => 23,
+        Act::Buffer { .. } => 24,
+        Act::Unbuffer { .. } => 25,
+        Act::Recycle { .. } => 26,
+        Act::DomInit { .. } => 27,
+        Act::DomAdd { .. } => 28,
+        Act::DomRemove { .. } => 29,
+        Act::DomMove { .. } => 30,
+        Act::Start { .. } => 31,
+        Act::EnterUser => 32,
+        Act::Fatal { .. } => 33,
+        Act::Doom { .. } => 34,
+        Act::Exit => 35,
+    }
+}
+
+/// The next event, made by a machine that runs ahead: the next step of one of the threads from this one on, or what cleans.
+fn next(ahead: &mut Matrix<'_>, first: u8) -> Option<Event> {
+    for k in 0..3 {
+        let thread = ThreadIx((first % 3 + k) % 3);
+        if let Some(act) = ahead.advance(thread) {
+            return Some(Event { thread, act });
+        }
+    }
+    for x in 0..ROWS {
+        let thread = ThreadIx(0);
+        if let Some(act) = ahead.clean(thread, x) {
+            return Some(Event { thread, act });
+        }
+    }
+    None
+}
+
+/// The judge refuses an event with any of its fields wrong, and takes it as it is.
+fn is_judged(rt: &impl Abort, judge: &mut Matrix<'_>, event: &Event) {
+    let kind = kind_of(&event.act);
+    for field in 0..FIELDS {
+        if let Some(act) = changed(&event.act, field) {
+            let wrong = Event {
+                thread: event.thread,
+                act,
+            };
+            assert!(rt; judge.apply(&wrong).is_err(), "kind {kind} field {field}");
+        }
+    }
+    let stranger = Event {
+        thread: ThreadIx(23),
+        act: event.act,
+    };
+    assert!(rt; judge.apply(&stranger).is_err(), "kind {kind} thread");
+    assert!(rt; judge.apply(event).is_ok(), "kind {kind}");
+}
+
+/// Judges a run of three threads that take turns by one event. The kinds of its events are marked.
+fn judged(rt: &impl Abort, alloc: Global, text: &str, seen: &mut [bool]) -> Result<(), Fail> {
+    let image = match read_image(alloc, text.as_bytes()) {
+        Ok(image) => image,
+        Err(_) => return Err(Fail::new("refused")),
+    };
+    let mut ahead = Matrix::boot(alloc, &image)?;
+    let mut judge = Matrix::boot(alloc, &image)?;
+    for turn in 0..200 {
+        match next(&mut ahead, turn) {
+            Some(event) => {
+                assert!(rt; !judge.is_final(), "event {turn}");
+                is_judged(rt, &mut judge, &event);
+                if let Some(mark) = seen.get_mut(kind_of(&event.act)) {
+                    *mark = true;
+                }
+            }
+            None => {}
+        }
+    }
+    assert!(rt; judge.is_final());
+    Ok(())
+}
+
+#[test]
+fn each_kind_of_event_is_judged(rt: HostRuntime) -> Result<(), Fail> {
+    let mut seen = [false; KINDS];
+    for text in [DOMAINS, OBJECTS, RACE, HALT] {
+        judged(&rt, rt.alloc(), text, &mut seen)?;
+    }
+    for (kind, mark) in seen.iter().enumerate() {
+        assert!(rt; *mark, "kind {kind}");
+    }
+    Ok(())
+}
