@@ -1,12 +1,26 @@
 //! The order of an instruction: the steps that follow its begin, and what follows a refusal or an error.
 
+mod accesses;
+mod buffers;
+mod calls;
 mod creation;
+mod domains;
 mod ends;
 mod follow;
 mod instructions;
+mod mutexes;
+mod objects;
+mod operands;
+mod pipes;
+mod queues;
+mod semaphores;
+mod services;
+mod stacks;
 mod steps;
+mod threads;
 
 pub use ends::{end_steps, fatal_steps, next_doom};
 pub use follow::{after_error, answer_error, copy_fails, refused, refuses};
-pub use instructions::{begins, value_of};
+pub use instructions::begins;
+pub use operands::value_of;
 pub use steps::rounded;

@@ -1,38 +1,30 @@
 //! The steps of a thread's creation.
 
-ghost use Rattle.std.specs.Prelude.{◌≡◌, ◌∷◌, ◌<◌, unwrap_or};
+ghost use Rattle.std.specs.Prelude.{◌≡◌, ◌∷◌, ◌++◌, ◌<◌, ◌≤◌, [], Some, None, true, if◌then◌else◌, length, unwrap_or};
 ghost use Rattle.um_base.specs.Places.{thread_of_addr, row_at, setup_at};
 ghost use Rattle.um_base.specs.Lawful.{is_priority};
 ghost use Rattle.um_base.specs.declared.names.Kind.TheVariants as Kind;
+ghost use Rattle.um_base.specs.declared.names.Reply.TheVariants as Reply;
 ghost use Rattle.um_base.specs.declared.names.Want.TheVariants as Want;
-ghost use Rattle.um_machine.specs.Order.{needs, creates, creation_refusal, new_mode, stack_declared, number_of};
+ghost use Rattle.um_machine.specs.declared.pending.Pending.TheVariants as Pending;
+ghost use Rattle.um_machine.specs.Order.{needs, creates, creation_refusal, new_mode, stack_declared, to_addr};
 
-use crate::order::steps::{needs, refusal_reason, turn};
-use crate::rows::{row_at, setup_at, thread_of_row};
-use um_base::{Addr, Cause, Image, Kind, Mode, Options, Ref, Reply, Row, Setup, ThreadIx, Want};
-use um_machine::{Pending, Thread};
+use crate::order::follow::refuses;
+use crate::order::operands::thread_of_addr;
+use crate::order::steps::{needs, turn};
+use crate::rows::{row_at, setup_at};
+use um_base::{Addr, Cause, Image, Kind, Mode, Options, Reply, Row, Setup, ThreadIx, Want};
+use um_machine::{Pending, Pendings, Thread};
 
-/// The thread whose object is at an address.
-pub fn thread_of_addr(image: &Image, a: u32) -> ThreadIx
-    ensures { result.0 ≡ thread_of_addr image.now a }
-{
-    match row_at(image, a) {
-        Some(x) => match thread_of_row(image, x) {
-            Some(t) => ThreadIx(t as u8),
-            None => ThreadIx(0),
-        },
-        None => ThreadIx(0),
-    }
-}
-
-/// The number of a domain or a script.
-pub fn number_of(name: &Ref) -> u8
-    ensures { result ≡ number_of name.now }
-{
-    match name {
-        Ref::At(i) => *i,
-        Ref::Named(_) => 0,
-    }
+/// What a thread asks for where it creates another: `thread` and `stack` are the addresses of its two objects.
+#[derive(Clone, Copy)]
+pub struct Creation {
+    pub thread: u32,
+    pub stack: u32,
+    pub size: u32,
+    pub script: u8,
+    pub priority: i8,
+    pub options: Options,
 }
 
 /// The declared size of a stack.
@@ -100,97 +92,89 @@ fn new_mode(options: Options) -> Mode
     }
 }
 
-/// The steps of a creation: the checks of its two objects, and then what its numbers and options allow.
-pub fn create(
-    image: &Image,
-    me: &mut Thread,
-    thread: u32,
-    stack: u32,
-    size: u32,
-    script: &Ref,
-    priority: &i8,
-    options: &Options,
-)
-    ensures { let row = unwrap_or (row_at image.now stack) 0 in
-        me.new ≡ record me.old {
-          pending = needs thread Kind.Thread Want.Uninit ∷ needs stack Kind.ThreadStack Want.Uninit
-              ∷ creates me.old.mode (thread_of_addr image.now thread) row thread stack (number_of script.now) priority.now options.now
-              (creation_refusal me.old.mode me.old.priority (stack_declared (setup_at image.now row)) size priority.now options.now);
-        } }
+/// The strict mark of an object of a creation, which clears the other one where it fails.
+fn strict_mark(a: u32, undo: Option<Addr>) -> Pending
+    ensures { result ≡ Pending.SetInit (to_addr a) true undo }
 {
-    let row = row_of(image, stack);
-    let declared = stack_declared(setup_at(image, row.0 as usize));
-    let check_thread = needs(thread, Kind::Thread, Want::Uninit);
-    let check_stack = needs(stack, Kind::ThreadStack, Want::Uninit);
-    if let Some(cause) = creation_refusal(
-        me.mode,
-        me.priority,
-        declared,
-        size,
-        *priority,
-        *options,
-    ) {
-        let fatal = Pending::Fatal {
-            reason: refusal_reason(me.mode),
-            cause,
-        };
-        turn(&mut me.pending, &[check_thread, check_stack, fatal]);
-        return;
+    Pending::SetInit {
+        addr: Addr(a),
+        strict: true,
+        undo,
     }
-    let who = thread_of_addr(image, thread);
-    let undo = Addr(thread);
-    let mark_thread = Pending::SetInit {
-        addr: undo,
-        strict: true,
-        undo: None,
-    };
-    let mark_stack = Pending::SetInit {
-        addr: Addr(stack),
-        strict: true,
-        undo: Some(undo),
-    };
-    let erase = Pending::Erase { stack: row };
+}
+
+/// The new thread is given its pairs and starts, and its address is the answer.
+fn hands_over(pending: &mut Pendings, who: ThreadIx, stack: Row, asked: &Creation)
+    ensures steps { pending.new ≡ Pending.Own who
+        ∷ ((if asked.now.options.inherit then Pending.Inherit who ∷ [] else [])
+        ++ Pending.Start who asked.now.script stack asked.now.priority (new_mode asked.now.options)
+        ∷ Pending.Answer (Some (Reply.At (to_addr asked.now.thread))) None ∷ []) }
+    ensures few { length pending.new ≤ 4 }
+{
     let own = Pending::Own { who };
     let start = Pending::Start {
         who,
-        script: number_of(script),
-        stack: row,
-        priority: *priority,
-        mode: new_mode(*options),
+        script: asked.script,
+        stack,
+        priority: asked.priority,
+        mode: new_mode(asked.options),
     };
     let answer = Pending::Answer {
-        reply: Some(Reply::At(undo)),
+        reply: Some(Reply::At(Addr(asked.thread))),
         to: None,
     };
-    if options.inherit {
+    if asked.options.inherit {
         let inherit = Pending::Inherit { who };
-        turn(
-            &mut me.pending,
-            &[
-                check_thread,
-                check_stack,
-                mark_thread,
-                mark_stack,
-                erase,
-                own,
-                inherit,
-                start,
-                answer,
-            ],
-        );
+        turn(pending, &[own, inherit, start, answer]);
     } else {
-        turn(
-            &mut me.pending,
-            &[
-                check_thread,
-                check_stack,
-                mark_thread,
-                mark_stack,
-                erase,
-                own,
-                start,
-                answer,
-            ],
-        );
+        turn(pending, &[own, start, answer]);
     }
+}
+
+/// What follows the checks of a creation.
+fn follows(image: &Image, me: &mut Thread, asked: &Creation, refusal: Option<Cause>)
+    ensures steps { me.new ≡ record me.old {
+      pending = creates me.old.mode (thread_of_addr image.now asked.now.thread) (unwrap_or (row_at image.now asked.now.stack) 0)
+          asked.now.thread asked.now.stack asked.now.script asked.now.priority asked.now.options refusal;
+    } }
+    ensures few { length me.new.pending ≤ 7 }
+{
+    match refusal {
+        Some(cause) => me.turns_to(&refuses(me.mode, cause)),
+        None => {
+            let who = thread_of_addr(image, asked.thread);
+            let stack = row_of(image, asked.stack);
+            hands_over(&mut me.pending, who, stack, asked);
+            me.pending.push(&Pending::Erase { stack });
+            let undo = Some(Addr(asked.thread));
+            me.pending.push(&strict_mark(asked.stack, undo));
+            me.pending.push(&strict_mark(asked.thread, None));
+        }
+    }
+}
+
+/// The steps of a creation: the checks of its two objects, and then what its numbers and options allow.
+pub fn create(image: &Image, me: &mut Thread, asked: &Creation)
+    ensures { let row = unwrap_or (row_at image.now asked.now.stack) 0 in
+        me.new ≡ record me.old {
+          pending = needs asked.now.thread Kind.Thread Want.Uninit ∷ needs asked.now.stack Kind.ThreadStack Want.Uninit
+              ∷ creates me.old.mode (thread_of_addr image.now asked.now.thread) row asked.now.thread asked.now.stack asked.now.script asked.now.priority asked.now.options
+              (creation_refusal me.old.mode me.old.priority (stack_declared (setup_at image.now row)) asked.now.size asked.now.priority asked.now.options);
+        } }
+{
+    let row = row_of(image, asked.stack);
+    let declared = stack_declared(setup_at(image, row.0 as usize));
+    let refusal = creation_refusal(
+        me.mode,
+        me.priority,
+        declared,
+        asked.size,
+        asked.priority,
+        asked.options,
+    );
+    follows(image, me, asked, refusal);
+    let check_stack = needs(asked.stack, Kind::ThreadStack, Want::Uninit);
+    me.pending.push(&check_stack);
+    let check_thread = needs(asked.thread, Kind::Thread, Want::Uninit);
+    me.pending.push(&check_thread);
 }

@@ -1,9 +1,9 @@
 //! Single steps, and lists of them.
 
-ghost use Rattle.std.specs.Prelude.{◌≡◌, ◌≤◌, ◌+◌, ◌<◌, ◌^◌, length, IsTrue, None, Some};
+ghost use Rattle.std.specs.Prelude.{◌≡◌, ◌≤◌, ◌+◌, ◌<◌, ◌^◌, length, false, IsTrue, None, Some};
 ghost use Rattle.std.specs.List.{list_all};
 ghost use Rattle.um_machine.specs.Limits.{is_sound};
-ghost use Rattle.um_machine.specs.Order.{needs, needs_any, work, rounded, refusal_reason};
+ghost use Rattle.um_machine.specs.Order.{needs, needs_any, work, rounded, refusal_reason, to_addr};
 
 use um_base::{Addr, Ask, Errno, Kind, Mode, Reply, Want};
 use um_machine::{Pending, Pendings, Refusal};
@@ -78,6 +78,17 @@ pub fn work(a: u32, ask: &Ask) -> Pending
     Pending::Work {
         addr: Addr(a),
         ask: *ask,
+    }
+}
+
+/// The mark of an object that a call has initialised.
+pub fn mark(a: u32) -> Pending
+    ensures { result ≡ Pending.SetInit (to_addr a) false None }
+{
+    Pending::SetInit {
+        addr: Addr(a),
+        strict: false,
+        undo: None,
     }
 }
 

@@ -1,5 +1,5 @@
 use Rattle.std.proofs.Common.{◌≡◌, take}
-use Rattle.um_rules.proofs.same.same_replies.Given as goal
+use Rattle.um_rules.proofs.same.calls.same_replies.Given as goal
 
 abbrev pub invariant-loop-i : goal.invariant-loop-i
 invariant-loop-i l = take l.i l.xs ≡ take l.i l.ys

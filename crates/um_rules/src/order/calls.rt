@@ -1,0 +1,91 @@
+//! The forms that the calls of several subjects share.
+
+ghost use Rattle.std.specs.Prelude.{◌≡◌, ◌≤◌, ◌∷◌, length, IsTrue};
+ghost use Rattle.std.specs.List.{list_all};
+ghost use Rattle.um_base.specs.declared.names.Want.TheVariants as Want;
+ghost use Rattle.um_machine.specs.declared.pending.Pending.TheVariants as Pending;
+ghost use Rattle.um_machine.specs.State.{value_of};
+ghost use Rattle.um_machine.specs.Limits.{is_sound, is_sound_ask};
+ghost use Rattle.um_machine.specs.Order.{privileged, needs, work, simple, answer, answer_to, to_addr};
+
+use crate::order::operands::value_of;
+use crate::order::steps::{ANSWER, answer_to, needs, turn, work};
+use um_base::{Addr, Ask, Cause, Kind, Mode, Term, Want};
+use um_machine::{Amount, Pending, Pendings, Thread};
+
+/// What only a supervisor may do.
+pub fn privileged(me: &mut Thread, steps: &[Pending])
+    requires few { length steps.now ≤ 12 }
+    requires sound { IsTrue (list_all is_sound steps.now) }
+    ensures { me.new ≡ record me.old { pending = privileged me.old.mode steps.now } }
+{
+    match me.mode {
+        Mode::User => me.turns_to(&Pending::Fatal {
+            reason: 0,
+            cause: Cause::Privileged,
+        }),
+        Mode::Supervisor => turn(&mut me.pending, steps),
+    }
+}
+
+/// A check of an initialised object, and work on it.
+pub fn simple(me: &mut Thread, object: &Term, kind: Kind, ask: &Ask)
+    requires { IsTrue (is_sound_ask ask.now) }
+    ensures { me.new ≡ record me.old { pending = simple (value_of me.old.registers object.now) kind ask.now } }
+{
+    let x = value_of(&me.registers, object);
+    turn(
+        &mut me.pending,
+        &[needs(x, kind, Want::Init), work(x, ask), ANSWER],
+    );
+}
+
+/// The same, with a register that the answer is written to.
+pub fn counts(me: &mut Thread, object: &Term, kind: Kind, ask: &Ask, to: u8)
+    requires { IsTrue (is_sound_ask ask.now) }
+    ensures { let x = value_of me.old.registers object.now in
+        me.new ≡ record me.old { pending = needs x kind Want.Init ∷ work x ask.now ∷ answer_to to } }
+{
+    let x = value_of(&me.registers, object);
+    turn(
+        &mut me.pending,
+        &[needs(x, kind, Want::Init), work(x, ask), answer_to(to)],
+    );
+}
+
+/// Work that gives bytes, which are copied in before it.
+pub fn gives(pending: &mut Pendings, x: u32, kind: Kind, a: u32, amount: Amount, ask: &Ask)
+    requires { IsTrue (is_sound_ask ask.now) }
+    ensures { pending.new ≡ needs x kind Want.Init ∷ Pending.CopyIn (to_addr a) amount ∷ work x ask.now ∷ answer }
+{
+    let copy = Pending::CopyIn {
+        addr: Addr(a),
+        amount,
+    };
+    turn(
+        pending,
+        &[needs(x, kind, Want::Init), copy, work(x, ask), ANSWER],
+    );
+}
+
+/// Work that takes bytes, which are copied out to a buffer.
+pub fn takes(pending: &mut Pendings, x: u32, kind: Kind, a: u32, amount: Amount, ask: &Ask)
+    requires { IsTrue (is_sound_ask ask.now) }
+    ensures { pending.new ≡ needs x kind Want.Init ∷ Pending.Probe (to_addr a) amount ∷ work x ask.now ∷ Pending.CopyOut (to_addr a) ∷ answer }
+{
+    let probe = Pending::Probe {
+        addr: Addr(a),
+        amount,
+    };
+    let copy = Pending::CopyOut { addr: Addr(a) };
+    turn(
+        pending,
+        &[
+            needs(x, kind, Want::Init),
+            probe,
+            work(x, ask),
+            copy,
+            ANSWER,
+        ],
+    );
+}
