@@ -27,17 +27,6 @@ impl Model for BytePipe {
 }
 
 impl BytePipe {
-    /// The same pipe once more.
-    pub fn copied(&self) -> BytePipe
-        ensures { result ≡ self.now }
-    {
-        BytePipe {
-            size: self.size,
-            bytes: self.bytes,
-            closed: self.closed,
-        }
-    }
-
     /// An empty, open pipe for at most so many bytes.
     pub fn new(size: u32) -> BytePipe
         requires { size ≤ 256 }

@@ -1,7 +1,5 @@
 //! What an object keeps.
 
-ghost use Rattle.std.specs.Prelude.{◌≡◌};
-
 use crate::byte_pipe::BytePipe;
 use crate::message_queue::MessageQueue;
 use crate::value_stack::ValueStack;
@@ -17,27 +15,4 @@ pub enum Contents {
     Msgq(MessageQueue),
     Stack(ValueStack),
     Pipe(BytePipe),
-}
-
-impl Contents {
-    /// The same contents once more.
-    pub fn copied(&self) -> Contents
-        ensures { result ≡ self.now }
-    {
-        match self {
-            Contents::Nothing => Contents::Nothing,
-            Contents::Named(name) => Contents::Named(*name),
-            Contents::Sem { count, limit } => Contents::Sem {
-                count: *count,
-                limit: *limit,
-            },
-            Contents::Mutex { owner, depth } => Contents::Mutex {
-                owner: *owner,
-                depth: *depth,
-            },
-            Contents::Msgq(queue) => Contents::Msgq(queue.copied()),
-            Contents::Stack(stack) => Contents::Stack(stack.copied()),
-            Contents::Pipe(pipe) => Contents::Pipe(pipe.copied()),
-        }
-    }
 }

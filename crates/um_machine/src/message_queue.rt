@@ -47,19 +47,6 @@ impl MessageQueue {
         }
     }
 
-    /// The same queue once more.
-    pub fn copied(&self) -> MessageQueue
-        ensures { result ≡ self.now }
-    {
-        MessageQueue {
-            size: self.size,
-            most: self.most,
-            items: self.items,
-            oldest: self.oldest,
-            len: self.len,
-        }
-    }
-
     /// The bytes of a message.
     pub fn size(&self) -> u32
         ensures { result ≡ self.now.size }

@@ -41,17 +41,6 @@ impl ValueStack {
         }
     }
 
-    /// The same stack once more.
-    pub fn copied(&self) -> ValueStack
-        ensures { result ≡ self.now }
-    {
-        ValueStack {
-            most: self.most,
-            items: self.items,
-            len: self.len,
-        }
-    }
-
     /// How many values it holds at most.
     pub fn most(&self) -> u32
         ensures value { result ≡ self.now.most }

@@ -96,29 +96,7 @@ fn leave_out(items: &mut [Waiter], len: usize, thread: ThreadIx) -> usize
     kept
 }
 
-/// The same places once more.
-fn items_of(all: &[Waiter]) -> [Waiter; THREADS]
-    requires { length all.now ≡ THREADS }
-    ensures { result ≡ all.now }
-{
-    let mut items = [NO_WAITER; THREADS];
-    for i in 0..all.len() {
-        items[i] = all[i];
-    }
-    items
-}
-
 impl Waiters {
-    /// The same waiters once more.
-    pub fn copied(&self) -> Waiters
-        ensures { result ≡ self.now }
-    {
-        Waiters {
-            items: items_of(&self.items),
-            len: self.len,
-        }
-    }
-
     /// None.
     pub fn new() -> Waiters
         ensures { result ≡ [] }

@@ -7,3 +7,4 @@ mod RunLemmas
 mod SizeLemmas
 mod StartLemmas
 mod StringLemmas
+mod WorkLemmas

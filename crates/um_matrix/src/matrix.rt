@@ -29,6 +29,7 @@ ghost use Rattle.std.specs.Prelude.{◌≡◌, ◌≤◌, length};
 use std::marker::Model;
 use um_base::{AREA_SIZE, DOMAINS, Image, POOLS, Parts, ROWS, THREADS};
 use um_machine::{Object, Thread};
+use um_service::Outcome;
 
 /// The event is no step of the machine from its present state.
 #[derive(Clone, Copy, PartialEq, Eq)]
@@ -47,6 +48,8 @@ pub struct Matrix<'a> {
     memory: Vec<u8>,
     stacks: Vec<u8>,
     pools: Vec<u32>,
+    /// Room for what an act on an object answers and whom it wakes.
+    outcome: Outcome,
 }
 
 impl<'a> Model for Matrix<'a> {

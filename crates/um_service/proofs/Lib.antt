@@ -1,3 +1,5 @@
+mod OrderLemmas
 pub mod PipeLemmas
+mod PreviewLemmas
 mod StackLemmas
 pub mod WakingLemmas

@@ -5,9 +5,12 @@ ghost use Rattle.um_base.specs.declared.ask.Waiter.{Waiter};
 ghost use Rattle.um_machine.specs.declared.contents.Contents.TheVariants as Contents;
 ghost use Rattle.um_machine.specs.Limits.{is_sound_ask};
 ghost use Rattle.um_machine.specs.Services.{renews, fills, uses, acted, queue, stack, pipe};
+ghost use Rattle.um_machine.specs.Table.{replies_of};
 ghost use Rattle.um_service.specs.Left.{left};
+ghost use Rattle.um_service.specs.Preview.{said};
 
 use crate::outcome::Outcome;
+use crate::preview::{Said, at_once};
 use crate::waking::answers;
 use crate::{message_queue, mutex, pipe, semaphore, stack};
 use um_base::{Ask, Errno, Reply, THREADS, Waiter};
@@ -135,5 +138,52 @@ pub fn act(contents: &mut Contents, waiters: &mut Waiters, who: &Waiter, outcome
         Ask::StackInit { entries, .. } => fills_stack(contents, *entries, outcome),
         Ask::PipeInit { size, .. } => fills_pipe(contents, *size, outcome),
         _ => uses(contents, waiters, who, outcome),
+    }
+}
+
+/// What new contents say, where nobody may wait.
+fn says_renews(waiters: &Waiters) -> Said
+    ensures { (new : Contents) (old : Contents) → said (renews new old waiters.now) ≡ result }
+{
+    if waiters.is_empty() {
+        return at_once(Reply::Num(0));
+    }
+    at_once(Reply::Fail(Errno::EBUSY))
+}
+
+/// What new contents say, where none may be in use.
+fn says_fills(contents: &Contents) -> Said
+    ensures { (new : Contents) (waiters : List Waiter) → said (fills new contents.now waiters) ≡ result }
+{
+    match contents {
+        Contents::Nothing => at_once(Reply::Num(0)),
+        _ => at_once(Reply::Fail(Errno::EADDRINUSE)),
+    }
+}
+
+/// What an act on contents that are in use says.
+fn says_uses(contents: &Contents, waiters: &Waiters, who: &Waiter) -> Said
+    ensures { said (uses contents.now waiters.now who.now who.now.ask) ≡ result }
+{
+    match contents {
+        Contents::Sem { count, limit } => semaphore::says(*count, *limit, waiters, who),
+        Contents::Mutex { owner, depth } => mutex::says(*owner, *depth, waiters, who),
+        Contents::Msgq(queue) => message_queue::says(queue, waiters, who),
+        Contents::Stack(stack) => stack::says(stack, waiters, who),
+        Contents::Pipe(pipe) => pipe::says(pipe, waiters, who),
+        Contents::Nothing | Contents::Named(_) => at_once(Reply::Void),
+    }
+}
+
+/// What a thread's act on an object's contents says, where it only looks.
+#[inline(never)]
+pub fn says(contents: &Contents, waiters: &Waiters, who: &Waiter) -> Said
+    ensures answer { result.answer ≡ (acted contents.now waiters.now who.now).answer }
+    ensures woken { result.woken ≡ replies_of (acted contents.now waiters.now who.now).woken }
+{
+    match &who.ask {
+        Ask::SemInit { .. } | Ask::MutexInit => says_renews(waiters),
+        Ask::MsgqInit { .. } | Ask::StackInit { .. } | Ask::PipeInit { .. } => says_fills(contents),
+        _ => says_uses(contents, waiters, who),
     }
 }

@@ -4,14 +4,17 @@
 mod acts;
 mod message_queue;
 mod mutex;
+mod order;
 mod outcome;
 mod pipe;
+mod preview;
 mod semaphore;
 mod stack;
 mod waking;
 
-pub use acts::act;
+pub use acts::{act, says};
 pub use outcome::{Outcome, Woken};
+pub use preview::Said;
 
 #[cfg(test)]
 mod tests;

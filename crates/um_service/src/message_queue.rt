@@ -1,16 +1,18 @@
 //! Message queues (Zephyr: Kernel Services, Message Queues).
 
-ghost use Rattle.std.specs.Prelude.{◌≡◌, ◌<◌, length, List};
+ghost use Rattle.std.specs.Prelude.{◌≡◌, ◌<◌, ℕ, length, List};
 ghost use Rattle.um_base.specs.declared.ask.Waiter.{Waiter};
 ghost use Rattle.um_machine.specs.declared.contents.Contents.TheVariants as Contents;
 ghost use Rattle.um_machine.specs.Serving.{served};
 ghost use Rattle.um_machine.specs.declared.served.Served.TheVariants as Served;
 ghost use Rattle.um_machine.specs.Services.{in_order, message_of, msgq_put, msgq_take, msgq_get, msgq_peek, msgq_purge, msgq_act};
 ghost use Rattle.um_service.specs.Left.{left};
+ghost use Rattle.um_service.specs.Preview.{said};
 
 use crate::outcome::Outcome;
+use crate::preview::{Said, all_told, at_once, blocked, first_told};
 use crate::waking::{answers, blocks, gives, wake_all, wakes};
-use um_base::{Ask, Errno, Piece, Reply, THREADS, Timeout, Waiter};
+use um_base::{Answer, Ask, Errno, Piece, Reply, THREADS, Timeout, Waiter};
 use um_machine::{MessageQueue, Served, Waiters};
 
 /// Hands a message to the getter that is served first, or puts it behind the others, or waits for room.
@@ -112,5 +114,59 @@ pub fn act(queue: &mut MessageQueue, waiters: &mut Waiters, who: &Waiter, outcom
         Ask::MsgqPurge => purge(queue, waiters, outcome),
         Ask::MsgqUsed => answers(Reply::Num(queue.len() as u32), outcome),
         _ => answers(Reply::Void, outcome),
+    }
+}
+
+/// What a put says.
+fn says_put(queue: &MessageQueue, waiters: &Waiters, timeout: Timeout) -> Said
+    ensures { (who : Waiter) (message : List ℕ) → said (msgq_put queue.now.size queue.now.most queue.now.messages waiters.now who message timeout (in_order (served Served.Getters waiters.now))) ≡ result }
+{
+    let woken = first_told(waiters, Served::Getters);
+    if woken.len() == 0 && queue.len() >= queue.most() as usize {
+        return blocked(timeout, Errno::ENOMSG);
+    }
+    Said {
+        answer: Answer::Now(Reply::Num(0)),
+        woken,
+    }
+}
+
+/// What a get says.
+fn says_get(queue: &MessageQueue, waiters: &Waiters, timeout: Timeout) -> Said
+    ensures { (who : Waiter) → said (msgq_get queue.now.size queue.now.most queue.now.messages waiters.now who timeout) ≡ result }
+{
+    if queue.len() == 0 {
+        return blocked(timeout, Errno::ENOMSG);
+    }
+    Said {
+        answer: Answer::Now(Reply::Num(0)),
+        woken: first_told(waiters, Served::Putters),
+    }
+}
+
+/// What a peek says.
+fn says_peek(queue: &MessageQueue) -> Said
+    ensures { (waiters : List Waiter) → said (msgq_peek queue.now.size queue.now.most queue.now.messages waiters) ≡ result }
+{
+    if queue.len() == 0 {
+        return at_once(Reply::Fail(Errno::ENOMSG));
+    }
+    at_once(Reply::Num(0))
+}
+
+/// What a call on a queue says.
+pub fn says(queue: &MessageQueue, waiters: &Waiters, who: &Waiter) -> Said
+    ensures { said (msgq_act queue.now.size queue.now.most queue.now.messages waiters.now who.now who.now.ask) ≡ result }
+{
+    match &who.ask {
+        Ask::MsgqPut { timeout, .. } => says_put(queue, waiters, *timeout),
+        Ask::MsgqGet { timeout } => says_get(queue, waiters, *timeout),
+        Ask::MsgqPeek => says_peek(queue),
+        Ask::MsgqPurge => Said {
+            answer: Answer::Now(Reply::Void),
+            woken: all_told(waiters, Served::Putters, Errno::ENOMSG),
+        },
+        Ask::MsgqUsed => at_once(Reply::Num(queue.len() as u32)),
+        _ => at_once(Reply::Void),
     }
 }

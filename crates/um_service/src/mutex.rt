@@ -1,13 +1,16 @@
 //! Mutexes (Zephyr: Kernel Services, Mutexes). A waiter's priority isn't lent to the owner.
 
-ghost use Rattle.std.specs.Prelude.{◌≡◌, ◌<◌};
+ghost use Rattle.std.specs.Prelude.{◌≡◌, ◌<◌, ℕ, List};
+ghost use Rattle.um_base.specs.declared.ask.Waiter.{Waiter};
 ghost use Rattle.um_machine.specs.declared.contents.Contents.TheVariants as Contents;
 ghost use Rattle.um_machine.specs.Services.{in_order, mutex_lock, mutex_passes, mutex_unlock, mutex_act};
 ghost use Rattle.um_service.specs.Left.{left};
+ghost use Rattle.um_service.specs.Preview.{said};
 
 use crate::outcome::Outcome;
+use crate::preview::{Said, at_once, blocked, first_told};
 use crate::waking::{answers, blocks, wakes};
-use um_base::{Ask, Errno, Piece, Reply, THREADS, ThreadIx, Timeout, Waiter};
+use um_base::{Answer, Ask, Errno, Piece, Reply, THREADS, ThreadIx, Timeout, Waiter};
 use um_machine::{Served, Waiters};
 
 /// Locks a free mutex, or one of the caller's once more, or waits for it.
@@ -96,5 +99,41 @@ pub fn act(
         Ask::MutexLock { timeout } => lock(owner, depth, waiters, who, timeout, outcome),
         Ask::MutexUnlock => unlock(owner, depth, waiters, who, outcome),
         _ => answers(Reply::Void, outcome),
+    }
+}
+
+/// What locking a mutex says.
+fn says_lock(owner: Option<ThreadIx>, who: &Waiter, timeout: Timeout) -> Said
+    ensures { (depth : ℕ) (waiters : List Waiter) → said (mutex_lock owner depth waiters who.now timeout) ≡ result }
+{
+    match owner {
+        Some(thread) if thread.0 != who.thread.0 => blocked(timeout, Errno::EBUSY),
+        _ => at_once(Reply::Num(0)),
+    }
+}
+
+/// What unlocking a mutex says.
+fn says_unlock(owner: Option<ThreadIx>, depth: u32, waiters: &Waiters, who: &Waiter) -> Said
+    ensures { said (mutex_unlock owner depth waiters.now who.now) ≡ result }
+{
+    match owner {
+        None => at_once(Reply::Fail(Errno::EINVAL)),
+        Some(thread) if thread.0 != who.thread.0 => at_once(Reply::Fail(Errno::EPERM)),
+        Some(_) if depth > 1 => at_once(Reply::Num(0)),
+        Some(_) => Said {
+            answer: Answer::Now(Reply::Num(0)),
+            woken: first_told(waiters, Served::All),
+        },
+    }
+}
+
+/// What a call on a mutex says.
+pub fn says(owner: Option<ThreadIx>, depth: u32, waiters: &Waiters, who: &Waiter) -> Said
+    ensures { said (mutex_act owner depth waiters.now who.now who.now.ask) ≡ result }
+{
+    match who.ask {
+        Ask::MutexLock { timeout } => says_lock(owner, who, timeout),
+        Ask::MutexUnlock => says_unlock(owner, depth, waiters, who),
+        _ => at_once(Reply::Void),
     }
 }

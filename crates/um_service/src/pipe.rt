@@ -1,14 +1,17 @@
 //! Pipes.
 
 ghost use Rattle.std.specs.Prelude.{◌≡◌, ◌-◌, ◌<◌, ◌≤◌, ◌++◌, ◌∷◌, [], length, take, drop, filter};
+ghost use Rattle.um_base.specs.declared.ask.Waiter.{Waiter};
 ghost use Rattle.um_base.specs.declared.names.Reply.TheVariants as Reply;
 ghost use Rattle.um_machine.specs.declared.contents.Contents.TheVariants as Contents;
 ghost use Rattle.um_machine.specs.Services.{in_order, told, is_empty, is_reader, is_writer, read_length, written_bytes, readers_served, writers_served, still_waiting, pipe_write, pipe_take, pipe_read, pipe_act};
 ghost use Rattle.um_service.specs.Left.{left};
+ghost use Rattle.um_service.specs.Preview.{said};
 
 use crate::outcome::{Outcome, Woken};
+use crate::preview::{Said, all_go, at_once, blocked, shares};
 use crate::waking::{answers, blocks, gives, wakes_all};
-use um_base::{Ask, Errno, Piece, Reply, THREADS, Timeout, Told, Waiter};
+use um_base::{Answer, Ask, Errno, Piece, Reply, THREADS, Timeout, Told, Waiter};
 use um_machine::{BytePipe, Served, Waiters};
 
 /// At most so many of the first bytes.
@@ -203,5 +206,68 @@ pub fn act(pipe: &mut BytePipe, waiters: &mut Waiters, who: &Waiter, outcome: &m
             wakes_all(waiters, Reply::Void, Errno::EPIPE, outcome);
         }
         _ => answers(Reply::Void, outcome),
+    }
+}
+
+/// What a write says: readers share the bytes that are then there.
+fn says_write(pipe: &BytePipe, waiters: &Waiters, n: u32, given: &Piece, timeout: Timeout) -> Said
+    ensures { (who : Waiter) → said (pipe_write pipe.now.size pipe.now.bytes pipe.now.closed waiters.now who n given.now timeout) ≡ result }
+{
+    if n == 0 {
+        return at_once(Reply::Num(0));
+    }
+    if pipe.closed() {
+        return at_once(Reply::Fail(Errno::EPIPE));
+    }
+    let there = pipe.len() as u32;
+    if there >= pipe.size() {
+        return blocked(timeout, Errno::EAGAIN);
+    }
+    let put = (given.len() as u32).min(pipe.size() - there);
+    Said {
+        answer: Answer::Now(Reply::Num(put)),
+        woken: shares(waiters, Served::Readers, there + put),
+    }
+}
+
+/// What a read says: writers share the room that is then there.
+fn says_read(pipe: &BytePipe, waiters: &Waiters, n: u32, timeout: Timeout) -> Said
+    ensures { (who : Waiter) → said (pipe_read pipe.now.size pipe.now.bytes pipe.now.closed waiters.now who n timeout) ≡ result }
+{
+    if n == 0 {
+        return at_once(Reply::Num(0));
+    }
+    let there = pipe.len() as u32;
+    if there > 0 {
+        let taken = n.min(there);
+        return Said {
+            answer: Answer::Now(Reply::Num(taken)),
+            woken: shares(
+                waiters,
+                Served::Writers,
+                pipe.size().saturating_sub(there - taken),
+            ),
+        };
+    }
+    if pipe.closed() {
+        return at_once(Reply::Fail(Errno::EPIPE));
+    }
+    blocked(timeout, Errno::EAGAIN)
+}
+
+/// What a call on a pipe says.
+pub fn says(pipe: &BytePipe, waiters: &Waiters, who: &Waiter) -> Said
+    ensures { said (pipe_act pipe.now.size pipe.now.bytes pipe.now.closed waiters.now who.now who.now.ask) ≡ result }
+{
+    match &who.ask {
+        Ask::PipeWrite {
+            length,
+            bytes,
+            timeout,
+        } => says_write(pipe, waiters, *length, bytes, *timeout),
+        Ask::PipeRead { length, timeout } => says_read(pipe, waiters, *length, *timeout),
+        Ask::PipeReset => all_go(waiters, Reply::Void, Errno::ECANCELED),
+        Ask::PipeClose => all_go(waiters, Reply::Void, Errno::EPIPE),
+        _ => at_once(Reply::Void),
     }
 }

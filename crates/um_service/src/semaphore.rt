@@ -4,10 +4,12 @@ ghost use Rattle.std.specs.Prelude.{◌≡◌, ◌<◌};
 ghost use Rattle.um_machine.specs.declared.contents.Contents.TheVariants as Contents;
 ghost use Rattle.um_machine.specs.Services.{in_order, sem_take, sem_give, sem_act};
 ghost use Rattle.um_service.specs.Left.{left};
+ghost use Rattle.um_service.specs.Preview.{said};
 
 use crate::outcome::Outcome;
+use crate::preview::{Said, all_go, at_once, blocked, first_told};
 use crate::waking::{answers, blocks, wakes, wakes_all};
-use um_base::{Ask, Errno, Piece, Reply, THREADS, Timeout, Waiter};
+use um_base::{Answer, Ask, Errno, Piece, Reply, THREADS, Timeout, Waiter};
 use um_machine::{Served, Waiters};
 
 /// Takes one of the count, or waits for it.
@@ -56,5 +58,22 @@ pub fn act(count: &mut u32, limit: u32, waiters: &mut Waiters, who: &Waiter, out
         }
         Ask::SemCount => answers(Reply::Num(*count), outcome),
         _ => answers(Reply::Void, outcome),
+    }
+}
+
+/// What a call on a semaphore says.
+pub fn says(count: u32, limit: u32, waiters: &Waiters, who: &Waiter) -> Said
+    ensures { said (sem_act count limit waiters.now who.now who.now.ask) ≡ result }
+{
+    match who.ask {
+        Ask::SemTake { timeout } if count == 0 => blocked(timeout, Errno::EBUSY),
+        Ask::SemTake { .. } => at_once(Reply::Num(0)),
+        Ask::SemGive => Said {
+            answer: Answer::Now(Reply::Void),
+            woken: first_told(waiters, Served::All),
+        },
+        Ask::SemReset => all_go(waiters, Reply::Void, Errno::EAGAIN),
+        Ask::SemCount => at_once(Reply::Num(count)),
+        _ => at_once(Reply::Void),
     }
 }

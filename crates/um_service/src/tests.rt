@@ -19,8 +19,8 @@ fn fails(error: Errno) -> Answer {
     Answer::Now(Reply::Fail(error))
 }
 
-/// An act of a thread, by its index and priority.
-fn acts(contents: &mut Contents, waiters: &mut Waiters, who: (u8, i8), ask: &Ask) -> Outcome
+/// What an act of a thread, by its index and priority, says beforehand and comes to.
+fn acts(contents: &mut Contents, waiters: &mut Waiters, who: (u8, i8), ask: &Ask) -> (Said, Outcome)
     requires thread { who.0 < 24 }
     requires sound { IsTrue (is_sound_ask ask.now) }
 {
@@ -29,19 +29,32 @@ fn acts(contents: &mut Contents, waiters: &mut Waiters, who: (u8, i8), ask: &Ask
         priority: who.1,
         ask: *ask,
     };
+    let said = says(contents, waiters, &waiter);
     let mut outcome = Outcome::new();
     act(contents, waiters, &waiter, &mut outcome);
-    outcome
+    (said, outcome)
 }
 
-/// An outcome answers this, gives these bytes, and wakes these threads.
+/// What was said is what the outcome answers and tells the woken.
+fn agree<R: Abort>(rt: &R, said: &Said, outcome: &Outcome) {
+    assert!(rt; said.answer == outcome.answer);
+    let replies = said.woken.as_slice();
+    assert!(rt; replies.len() == outcome.woken.len());
+    for (i, pair) in outcome.woken.as_slice().iter().enumerate() {
+        assert!(rt; replies[i] == (pair.0, pair.1.reply));
+    }
+}
+
+/// An act says what it comes to: it answers this, gives these bytes, and wakes these threads.
 fn is<R: Abort>(
     rt: &R,
-    outcome: &Outcome,
+    acted: &(Said, Outcome),
     answer: Answer,
     taken: &[u8],
     woken: &[(u8, Reply, &[u8])],
 ) {
+    let (said, outcome) = acted;
+    agree(rt, said, outcome);
     assert!(rt; outcome.answer == answer);
     assert!(rt; outcome.taken.as_slice() == taken);
     let pairs = outcome.woken.as_slice();
@@ -394,5 +407,85 @@ fn pipes(rt: HostRuntime) {
         fails(Errno::EPIPE),
         &[],
         &[],
+    );
+}
+
+/// A reset lets all go who wait, the least priority number first.
+#[test]
+fn resets(rt: HostRuntime) {
+    let mut sem = Contents::Sem { count: 0, limit: 1 };
+    let mut ws = Waiters::new();
+    let take = Ask::SemTake { timeout: WAITS };
+    let _ = acts(&mut sem, &mut ws, (1, 5), &take);
+    let _ = acts(&mut sem, &mut ws, (2, 3), &take);
+    let _ = acts(&mut sem, &mut ws, (3, 5), &take);
+    let gone = Reply::Fail(Errno::EAGAIN);
+    is(
+        &rt,
+        &acts(&mut sem, &mut ws, (4, 0), &Ask::SemReset),
+        VOID,
+        &[],
+        &[(2, gone, &[]), (1, gone, &[]), (3, gone, &[])],
+    );
+}
+
+/// Readers of a pipe share the bytes that are written, the least priority number first.
+#[test]
+fn readers_share(rt: HostRuntime) {
+    let mut pipe = Contents::Pipe(BytePipe::new(4));
+    let mut ws = Waiters::new();
+    let three = Ask::PipeRead {
+        length: 3,
+        timeout: WAITS,
+    };
+    let two = Ask::PipeRead {
+        length: 2,
+        timeout: WAITS,
+    };
+    let _ = acts(&mut pipe, &mut ws, (1, 5), &three);
+    let _ = acts(&mut pipe, &mut ws, (2, 3), &two);
+    let _ = acts(&mut pipe, &mut ws, (3, 5), &two);
+    let write = Ask::PipeWrite {
+        length: 4,
+        bytes: piece(&[1, 2, 3, 4]),
+        timeout: WAITS,
+    };
+    is(
+        &rt,
+        &acts(&mut pipe, &mut ws, (4, 0), &write),
+        Answer::Now(Reply::Num(4)),
+        &[],
+        &[(2, Reply::Num(2), &[1, 2]), (1, Reply::Num(2), &[3, 4])],
+    );
+}
+
+/// Writers to a pipe share the room that a read leaves.
+#[test]
+fn writers_share(rt: HostRuntime) {
+    let mut pipe = Contents::Pipe(BytePipe::new(4));
+    let mut ws = Waiters::new();
+    let four = Ask::PipeWrite {
+        length: 4,
+        bytes: piece(&[1, 2, 3, 4]),
+        timeout: WAITS,
+    };
+    let two = Ask::PipeWrite {
+        length: 2,
+        bytes: piece(&[5, 6]),
+        timeout: WAITS,
+    };
+    let _ = acts(&mut pipe, &mut ws, (0, 5), &four);
+    let _ = acts(&mut pipe, &mut ws, (1, 5), &four);
+    let _ = acts(&mut pipe, &mut ws, (2, 3), &two);
+    let read = Ask::PipeRead {
+        length: 3,
+        timeout: WAITS,
+    };
+    is(
+        &rt,
+        &acts(&mut pipe, &mut ws, (4, 0), &read),
+        Answer::Now(Reply::Num(3)),
+        &[1, 2, 3],
+        &[(2, Reply::Num(2), &[]), (1, Reply::Num(1), &[])],
     );
 }

@@ -19,6 +19,7 @@ use um_base::{
 use um_machine::{Object, Thread};
 use um_rules::blank::{boot_thread, nobody, opening_object, vacant};
 use um_rules::rows::thread_of_row;
+use um_service::Outcome;
 
 /// The bytes of the read-only data, filled up with zeros.
 fn rodata(alloc: Global, image: &Image) -> Result<Vec<u8>, Memory>
@@ -243,6 +244,7 @@ impl<'a> Matrix<'a> {
             memory,
             stacks,
             pools,
+            outcome: Outcome::new(),
         })
     }
 

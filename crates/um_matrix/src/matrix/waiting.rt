@@ -1,15 +1,19 @@
 //! The steps of a call that works on an object, or waits on it.
 
-ghost use Rattle.std.specs.Prelude.{◌≡◌, ◌<◌, ◌≤◌, drop, length, Some, ℕ, IsTrue};
+ghost use Rattle.std.specs.Prelude.{◌≡◌, ◌<◌, ◌≤◌, drop, length, Some, ℕ, IsTrue, slice_index_or, slice_set};
 ghost use Rattle.um_machine.specs.Limits.{is_sound_ask};
 ghost use Rattle.um_machine.specs.Order.{to_thread};
+ghost use Rattle.um_machine.specs.State.{nobody};
 ghost use Rattle.um_machine.specs.Table.{full_ask, replies_of, buffer_cost};
+ghost use Rattle.um_matrix.specs.Worked.{threads_woken, answered};
 
 use crate::matrix::Matrix;
-use um_base::{Act, Addr, Answer, Ask, Piece, Replies, Reply, THREADS, ThreadIx, Told, Waiter};
-use um_machine::{Cost, Pending};
+use um_base::{
+    Act, Addr, Answer, Ask, Image, Piece, Replies, Reply, THREADS, ThreadIx, Told, Waiter,
+};
+use um_machine::{Cost, Pending, Thread};
 use um_rules::order::{after_error, rounded};
-use um_service::{Outcome, act};
+use um_service::{act, says};
 
 /// What a call asks, with the bytes of the caller's buffer.
 #[inline(never)]
@@ -43,8 +47,8 @@ fn replies_of(woken: &[(ThreadIx, Told)]) -> Replies
 {
     let mut replies = Replies::new();
     for i in 0..woken.len() {
-        let (thread, told) = woken[i];
-        replies.push(thread, told.reply);
+        let (thread, told) = &woken[i];
+        replies.push(*thread, told.reply);
     }
     replies
 }
@@ -78,9 +82,57 @@ fn buffer_cost(ask: &Ask, answer: Answer, before: Option<Cost>) -> Option<Cost>
     }
 }
 
+/// A thread is told something.
+#[inline(never)]
+fn tell(threads: &mut [Thread], who: ThreadIx, told: &Told)
+    ensures { threads.new ≡ slice_set threads.old who.0 (record (slice_index_or threads.old who.0 nobody) { told = Some told.now }) }
+{
+    if (who.0 as usize) < threads.len() {
+        threads[who.0 as usize].told = Some(*told);
+    }
+}
+
+/// The woken threads are told.
+#[inline(never)]
+fn wake(threads: &mut [Thread], woken: &[(ThreadIx, Told)])
+    ensures { threads.new ≡ threads_woken woken.now threads.old }
+{
+    for i in 0..woken.len() {
+        let (who, told) = &woken[i];
+        tell(threads, *who, told);
+    }
+}
+
+/// What an answer leaves to its caller.
+#[inline(never)]
+fn after_answer(
+    image: &Image,
+    thread: &mut Thread,
+    ask: &Ask,
+    answer: Answer,
+    bytes: &Piece,
+    taken: usize,
+)
+    requires sound { IsTrue (is_sound_ask ask.now) }
+    requires taken { 0 < taken }
+    ensures { thread.new ≡ answered image.now thread.old ask.now bytes.now (drop taken thread.old.pending) answer }
+{
+    match answer {
+        Answer::Wait => thread.goes_to(&Pending::Resume, taken),
+        Answer::Now(reply) => {
+            thread.reply = reply;
+            thread.buffer = *bytes;
+            match reply {
+                Reply::Fail(e) => after_error(image, thread, ask, e, taken),
+                _ => thread.goes_on(image, taken),
+            }
+        }
+    }
+}
+
 impl<'a> Matrix<'a> {
-    ghost use Rattle.um_machine.specs.State.{thread_at, with_thread};
-    ghost use Rattle.um_machine.specs.Table.{act_of, after, after_answer, all_woken};
+    ghost use Rattle.um_machine.specs.State.{thread_at};
+    ghost use Rattle.um_machine.specs.Table.{act_of, after};
 
     /// A thread as it works on an object.
     #[inline(never)]
@@ -105,64 +157,17 @@ impl<'a> Matrix<'a> {
         ensures { (x : ℕ) → result ≡ act_of self.now t x (Pending.Work a ask.now) }
     {
         let object = &self.objects[self.row_of(a)];
-        let mut contents = object.contents.copied();
-        let mut waiters = object.waiters.copied();
         let who = self.worker(t, ask);
-        let mut outcome = Outcome::new();
-        act(&mut contents, &mut waiters, &who, &mut outcome);
+        let said = says(&object.contents, &object.waiters, &who);
         Act::Work {
             addr: a,
-            answer: outcome.answer,
-            woken: replies_of(outcome.woken.as_slice()),
-        }
-    }
-
-    /// A thread is told something.
-    #[inline(never)]
-    fn tell(&mut self, who: ThreadIx, told: &Told)
-        ensures { self.new ≡ with_thread self.old who.0 (record (thread_at self.old who.0) { told = Some told.now }) }
-    {
-        if (who.0 as usize) < THREADS {
-            self.threads[who.0 as usize].told = Some(*told);
-        }
-    }
-
-    /// The woken threads are told.
-    #[inline(never)]
-    fn wake(&mut self, woken: &[(ThreadIx, Told)])
-        ensures { self.new ≡ all_woken woken.now self.old }
-    {
-        for i in 0..woken.len() {
-            let (who, told) = woken[i];
-            self.tell(who, &told);
-        }
-    }
-
-    /// What an answer leaves to its caller.
-    #[inline(never)]
-    fn after_answer(&mut self, t: usize, ask: &Ask, answer: Answer, bytes: &Piece, taken: usize)
-        requires thread { t < THREADS }
-        requires sound { IsTrue (is_sound_ask ask.now) }
-        requires taken { 0 < taken }
-        ensures { self.new ≡ after_answer self.old t (thread_at self.old t) ask.now bytes.now (drop taken (thread_at self.old t).pending) answer }
-    {
-        let thread = &mut self.threads[t];
-        match answer {
-            Answer::Wait => thread.goes_to(&Pending::Resume, taken),
-            Answer::Now(reply) => {
-                thread.reply = reply;
-                thread.buffer = *bytes;
-                match reply {
-                    Reply::Fail(e) => after_error(self.image, thread, ask, e, taken),
-                    _ => thread.goes_on(self.image, taken),
-                }
-            }
+            answer: said.answer,
+            woken: said.woken,
         }
     }
 
     /// The work of a call on an object, and what it says.
     #[inline(never)]
-    #[tactic(auto, using(crate::proofs::PairLemmas::pendings_kept))]
     pub fn work(&mut self, t: usize, a: Addr, ask: &Ask, taken: usize) -> Act
         requires thread { t < THREADS }
         requires sound { IsTrue (is_sound_ask ask.now) }
@@ -173,16 +178,18 @@ impl<'a> Matrix<'a> {
         let x = self.row_of(a);
         let who = self.worker(t, ask);
         let object = &mut self.objects[x];
-        let mut outcome = Outcome::new();
-        act(
-            &mut object.contents,
-            &mut object.waiters,
-            &who,
-            &mut outcome,
-        );
+        let outcome = &mut self.outcome;
+        act(&mut object.contents, &mut object.waiters, &who, outcome);
         object.buffer = buffer_cost(ask, outcome.answer, object.buffer);
-        self.wake(outcome.woken.as_slice());
-        self.after_answer(t, ask, outcome.answer, &outcome.taken, taken);
+        wake(&mut self.threads, outcome.woken.as_slice());
+        after_answer(
+            self.image,
+            &mut self.threads[t],
+            ask,
+            outcome.answer,
+            &outcome.taken,
+            taken,
+        );
         Act::Work {
             addr: a,
             answer: outcome.answer,
