@@ -1,6 +1,6 @@
 //! What a thread does next where nobody says it: its next step with the first row that it may choose, and what cleans.
 
-ghost use Rattle.std.specs.Prelude.{◌≡◌, ◌<◌, ◌↔◌, ℕ, Some, ◌&&◌, not, drop, IfSome, IfNone, IsTrue, None, slice_get, is_some};
+ghost use Rattle.std.specs.Prelude.{◌≡◌, ◌<◌, ◌↔◌, ℕ, [], Some, ◌&&◌, not, drop, IfSome, IfNone, IsTrue, None, slice_get, is_some};
 ghost use Rattle.um_machine.specs.Limits.{IsSound};
 ghost use Rattle.um_machine.specs.declared.pending.Pending.{Pending};
 ghost use Rattle.um_machine.specs.Objects.{is_gone, is_held};
@@ -199,6 +199,7 @@ impl<'a> Matrix<'a> {
     }
 
     /// Makes a step as `make` does, and gives what it says. The work on an object is done once for both.
+    #[inline(never)]
     fn does(&mut self, t: usize, x: usize, step: &Pending, taken: usize) -> Act
         requires thread { t < THREADS }
         requires row { x < ROWS }
@@ -217,6 +218,45 @@ impl<'a> Matrix<'a> {
         }
     }
 
+    /// Begins the line of a thread's place, and gives what the thread says.
+    #[inline(never)]
+    fn begins(&mut self, t: usize) -> Act
+        requires thread { t < THREADS }
+        requires line { IsTrue (is_some (instruction_at self.old.image (thread_at self.old t).place)) }
+        ensures says { result ≡ act_of self.old t 0 Pending.Begin }
+        ensures leaves { self.new ≡ after self.old t 0 Pending.Begin [] }
+    {
+        let act = self.says_begin(t);
+        self.begin(t);
+        act
+    }
+
+    /// Drops a pair whose object is gone, and gives what the cleaning thread says.
+    #[inline(never)]
+    fn cleans_pair(&mut self, t: usize, x: usize, who: ThreadIx) -> Act
+        requires thread { t < THREADS }
+        requires row { x < ROWS }
+        ensures says { result ≡ act_of self.old t x (Pending.CleanPair who) }
+        ensures leaves { self.new ≡ after self.old t x (Pending.CleanPair who) [] }
+    {
+        let act = self.says(t, x, &Pending::CleanPair { who });
+        self.clean_pair(t, x, who);
+        act
+    }
+
+    /// Recycles the object of a row, and gives what the cleaning thread says.
+    #[inline(never)]
+    fn recycles(&mut self, t: usize, x: usize) -> Act
+        requires thread { t < THREADS }
+        requires row { x < ROWS }
+        ensures says { result ≡ act_of self.old t x Pending.Recycle }
+        ensures leaves { self.new ≡ after self.old t x Pending.Recycle [] }
+    {
+        let act = self.says(t, x, &Pending::Recycle);
+        self.recycle(x);
+        act
+    }
+
     /// Makes what was chosen for a thread, and gives what it says.
     fn carry_out(&mut self, t: usize, choice: &Choice) -> Act
         requires thread { t < THREADS }
@@ -225,26 +265,14 @@ impl<'a> Matrix<'a> {
         ensures leaves { self.new ≡ after_choice self.old t choice.now }
     {
         match choice {
-            Choice::Begins => {
-                let act = self.says_begin(t);
-                self.begin(t);
-                act
-            }
+            Choice::Begins => self.begins(t),
             Choice::Exits => {
                 self.exit(t);
                 Act::Exit
             }
             Choice::Makes { step, row, taken } => self.does(t, *row, step, *taken),
-            Choice::CleansPair { who, row } => {
-                let act = self.says(t, *row, &Pending::CleanPair { who: *who });
-                self.clean_pair(t, *row, *who);
-                act
-            }
-            Choice::Recycles { row } => {
-                let act = self.says(t, *row, &Pending::Recycle);
-                self.recycle(*row);
-                act
-            }
+            Choice::CleansPair { who, row } => self.cleans_pair(t, *row, *who),
+            Choice::Recycles { row } => self.recycles(t, *row),
         }
     }
 
