@@ -1,16 +1,21 @@
 -- A run goes on as long as an event is a step: where no processor makes one, none is.
-use Rattle.std.proofs.Common.{◌≡◌, ◌⊎◌, inl, inr, ◌≤◌, ◌<◌, ℕ, zero, suc, ◌+◌, ◌%◌, true, false, length, drop, refl, sym, subst, arith, mod-lt}
+use Rattle.std.proofs.Common.{◌≡◌, ◌⊎◌, inl, inr, ◌≤◌, ◌<◌, ℕ, zero, suc, ◌+◌, ◌%◌, true, false, List, [], ◌∷◌, ◌++◌, length, length-append, drop, refl, sym, subst, arith, mod-lt}
 use Rattle.std.proofs.lemmas.List.{length-replicate}
 use Rattle.um_base.specs.declared.act.Act.{Act}
 use Rattle.um_base.specs.declared.act.Event.{Event}
 use Rattle.um_base.specs.declared.image.Image.{Image}
+use Rattle.um_base.specs.declared.limits.TheConstants.{STATIC_ROWS}
+use Rattle.um_base.specs.Lawful.{IsLawful}
+use Rattle.um_base.specs.Weight.{weight}
 use Rattle.um_machine.specs.declared.pending.Pending.{Pending}
-use Rattle.um_machine.specs.Run.{MayChoose, Step, IsComplete}
+use Rattle.um_machine.specs.Run.{opening, MayChoose, RunsDue, IsComplete}
 use Rattle.um_machine.specs.State.{State, thread_at}
 use Rattle.um_machine.specs.Table.{after}
 use Rattle.um_matrix.specs.Offered.{is_cleaning}
 use Rattle.um_bound.specs.Reached.{IsReached}
+use Rattle.um_machine.proofs.RunLemmas.{runs-due-push}
 use Rattle.um_bound.proofs.OpenLemmas.{opens}
+use Rattle.um_bound.proofs.RunLemmas.{within_weight}
 use Rattle.um_bound.proofs.StepLemmas.{keeps}
 use Rattle.um_reach.specs.Described.{IsDescribed}
 use Rattle.um_reach.proofs.Cores.{core_of}
@@ -23,7 +28,7 @@ use Rattle.um_turns.proofs.RowGoes.{goes-rows}
 use Rattle.um_turns.proofs.RowKept.{RowsKept, passed-rows}
 use Rattle.um_turns.proofs.RowNext.{next-offers, next-plain}
 use Rattle.um_turns.proofs.RowOpens.{opens-rows}
-use Rattle.um_turns.proofs.RowTurns.{goes-step, none-recycles, none-takes-pairs}
+use Rattle.um_turns.proofs.RowTurns.{goes-advances, going-advances, none-recycles, none-takes-pairs}
 use Rattle.um_turns.proofs.ThreadWords.{IsMade, IsBase}
 use Rattle.um_turns.proofs.ThreadCleans.{cleans-base}
 use Rattle.um_turns.proofs.ThreadOffers.{offered, made}
@@ -60,7 +65,7 @@ goes-threads turn turn2 cpu event inside kept (inr run) =
 
 goes-kept : (turn turn2 : Turn) (cpu : ℕ) (event : Event) → cpu < length turn.processors → IsKept turn → Goes turn cpu event turn2 → IsKept turn2
 goes-kept turn turn2 cpu event inside kept goes =
-    let step = goes-step turn turn2 cpu event goes in
+    let step = (goes-advances turn turn2 cpu event goes).made in
     record {
       known = known_step turn.state turn2.state event kept.known step;
       reached = keeps turn.state turn2.state event kept.reached step;
@@ -83,12 +88,6 @@ first-kept turn turn2 first i zero event kept goes = absurd goes
 first-kept turn turn2 first i (suc left) event kept (inl goes) = goes-kept turn turn2 ((first + i) % length turn.processors) event (mod-lt (first + i) kept.some) kept goes
 first-kept turn turn2 first i (suc left) event kept (inr later) =
     let cpu = (first + i) % length turn.processors in first-kept (passed turn cpu) turn2 first (i + 1) left event (passed-kept turn cpu kept later.0) later.1
-
--- the next event is a step
-first-step : (turn turn2 : Turn) (first i left : ℕ) (event : Event) → FirstGoes turn first i left event turn2 → Step turn.state event turn2.state
-first-step turn turn2 first i zero event goes = absurd goes
-first-step turn turn2 first i (suc left) event (inl goes) = goes-step turn turn2 ((first + i) % length turn.processors) event goes
-first-step turn turn2 first i (suc left) event (inr later) = first-step (passed turn ((first + i) % length turn.processors)) turn2 first (i + 1) left event later.1
 
 -- Ends.
 
@@ -124,8 +123,15 @@ going-opens image cpus given some =
 
 pub going-next : (turn turn2 : Turn) (first : ℕ) (event : Event) → IsGoing turn → NextGoes turn first event turn2 → IsGoing turn2
 going-next turn turn2 first event (inl kept) goes = inl (first-kept turn turn2 first 0 (length turn.processors) event kept goes)
-going-next turn turn2 first event (inr complete) goes = absurd (complete event turn2.state (first-step turn turn2 first 0 (length turn.processors) event goes))
+going-next turn turn2 first event (inr complete) goes = absurd (complete event turn2.state (going-advances turn turn2 first event goes).made)
 
 pub going-ends : (turn : Turn) (first : ℕ) → IsGoing turn → NoneGoes turn first → IsComplete turn.state
 going-ends turn first (inl kept) none = kept-ends turn first kept none
 going-ends turn first (inr complete) none = complete
+
+-- there is room for one more event within the weight
+pub room-left : (image : Image) (events : List Event) (turn turn2 : Turn) (first : ℕ) (event : Event) → IsLawful image → length image.objects ≤ STATIC_ROWS → RunsDue (opening image) events turn.state
+    → NextGoes turn first event turn2 → length events + 1 ≤ weight image
+room-left image events turn turn2 first event lawful few run goes =
+    let more = runs-due-push (opening image) events turn.state event turn2.state run (going-advances turn turn2 first event goes) in
+    let most = within_weight image (events ++ event ∷ []) turn2.state lawful few more in omega (arith, most, length-append {A = Event})

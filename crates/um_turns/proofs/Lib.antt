@@ -1,11 +1,12 @@
 mod FollowLemmas
+mod JoinLemmas
 mod LineLemmas
-mod MadeLemmas
 mod OneLemmas
 mod OrderLemmas
-mod RunLemmas
+pub mod RunLemmas
 mod ScheduleLemmas
 mod ScheduledLemmas
+mod SettleLemmas
 mod ThreadCounts
 mod ThreadWaits
 mod ThreadServes

@@ -1,5 +1,5 @@
 -- Numbers in a line are distinct, so there is room for one more.
-use Rattle.std.proofs.Common.{◌≡◌, ℕ, ◌<◌, Bool, true, false, ◌||◌, List, [], ◌∷◌, ◌++◌, length, drop, refl, sym, ◌∙◌, ap, subst, arith}
+use Rattle.std.proofs.Common.{◌≡◌, ℕ, ◌<◌, Bool, true, false, ◌||◌, List, [], ◌∷◌, ◌++◌, length, refl, sym, ◌∙◌, ap, subst, arith}
 use Rattle.std.specs.Prelude.{◌==◌}
 use Rattle.std.specs.List.{list_any, IsDistinct, AllByRecursion}
 use Rattle.std.proofs.Math.Dec.{eqb}
@@ -7,10 +7,6 @@ use Rattle.std.proofs.lemmas.Bool.{eqb-true}
 use Rattle.std.proofs.lemmas.Bool.Decides.{nat_tests}
 use Rattle.std.proofs.lemmas.Map.Steps.{length-le_from_distinct_below}
 use Rattle.um_turns.specs.Lines.{stands, IsLine}
-
-pub line-drop : (line : List ℕ) → IsLine line → IsLine (drop 1 line)
-line-drop [] h = tt
-line-drop (x ∷ line) h = h.2
 
 or-left : (a b : Bool) → (a || b) ≡ false → a ≡ false
 or-left true b h = cc
@@ -30,7 +26,7 @@ or-three false b c = refl
 pub other-way : (x y : ℕ) → (x == y) ≡ false → (y == x) ≡ false
 other-way x y h = grind (arith, nat_tests)
 
-or-none : (a : Bool) → (a || false) ≡ a
+pub or-none : (a : Bool) → (a || false) ≡ a
 or-none true = refl
 or-none false = refl
 

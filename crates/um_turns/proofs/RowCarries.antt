@@ -16,7 +16,7 @@ use Rattle.um_turns.specs.Schedule.{Turn, processor_at, is_listed}
 use Rattle.um_turns.proofs.RowForsaken.{still-forsaken}
 use Rattle.um_turns.proofs.RowFrames.{Lasts, Eases, is_pair_cleaning}
 use Rattle.um_turns.proofs.RowKept.{has_to_clean, IsCleaner, AreOwn}
-use Rattle.um_turns.proofs.RowLines.{IsOnce}
+use Rattle.um_turns.proofs.JoinLemmas.{IsOnce}
 
 -- What was in the lines is in them, but for what was recycled, and its cleaners are as before.
 pub record Carries (turn mid : Turn) : Type 0 where

@@ -24,8 +24,9 @@ use Rattle.um_turns.specs.Schedule.{Turn, idle, processor_at, with_processor, le
 use Rattle.um_turns.proofs.RowForsaken.{still-forsaken}
 use Rattle.um_turns.proofs.RowFrames.{Frame, frame, frame-pairs}
 use Rattle.um_turns.proofs.RowKept.{has_to_clean, IsCleaner, AreOwn, RowsKept, forsaken-dynamic, row-thread}
-use Rattle.um_turns.proofs.RowLines.{IsOnce, behind-first, in-whole, first-once, once-behind, first-stands, listed-at, unlisted-through}
-use Rattle.um_turns.proofs.RowNext.{cleaning-step}
+use Rattle.um_turns.proofs.JoinLemmas.{IsOnce, once-behind, first-once}
+use Rattle.um_turns.proofs.RowLines.{behind-first, in-whole, first-stands, listed-at, unlisted-through}
+use Rattle.um_turns.proofs.RowNext.{cleaning-advances}
 use Rattle.um_turns.proofs.RowSettled.{settled-rows}
 use Rattle.um_turns.proofs.RowCarries.{Carries, carried, eased, uncleaned, recycles_some, still-there}
 
@@ -175,7 +176,7 @@ cleans-rows turn turn2 cpu event known within kept clean =
     let t = event.thread in
     let mid = clean_mid turn cpu event.act s2 in
     let p = cleaned turn cpu event.act in
-    let step = cleaning-step s s2 event clean.row clean.made in
+    let step = (cleaning-advances s s2 event clean.row clean.made).made in
     let c = clean-carries turn cpu event s2 clean.row known kept.own clean.first clean.last step clean.made.step clean.made.row clean.made.by clean.made.says clean.made.leaves in
     let last : (processor_at mid cpu).last ≡ t = ap (λ (q : Processor). q.last) (get_or-set_same turn.processors cpu p idle within) ∙ sym clean.last in
     let started : IsTrue (is_started (thread_at s2 t.0).life) = (c.threads t.0).0 clean.made.started in

@@ -22,7 +22,8 @@ use Rattle.um_reach.proofs.Reached.{not_live}
 use Rattle.um_reach.proofs.Turns.{IsKnown}
 use Rattle.um_turns.specs.Lines.{stands}
 use Rattle.um_turns.specs.Schedule.{Turn, processor_at, is_listed, passed, CleansNothing}
-use Rattle.um_turns.proofs.RowLines.{IsOnce, listed-where, first-of}
+use Rattle.um_turns.proofs.JoinLemmas.{IsOnce}
+use Rattle.um_turns.proofs.RowLines.{listed-where, first-of}
 
 -- whether a processor has a row to clean
 abbrev pub has_to_clean : Turn → ℕ → ℕ → Bool

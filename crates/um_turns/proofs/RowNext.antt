@@ -6,7 +6,7 @@ use Rattle.um_base.specs.declared.instr.Instr.{Instr}
 use Rattle.um_machine.specs.declared.pending.Pending.{Pending}
 use Rattle.um_machine.specs.declared.thread.Life.{Life}
 use Rattle.um_machine.specs.Order.{Steps}
-use Rattle.um_machine.specs.Run.{Offers, goes, skips_inherit, skips_drops, begins, exits, cleans_pair, recycles, MayChoose, Step, none_due}
+use Rattle.um_machine.specs.Run.{Offers, goes, skips_inherit, skips_drops, begins, exits, cleans_pair, recycles, MayChoose, Advances, none_due}
 use Rattle.um_machine.specs.State.{State, thread_at, instruction_at, is_living, is_started}
 use Rattle.um_machine.specs.Table.{act_of, after}
 use Rattle.um_matrix.specs.Alone.{IsNextStep, IsNext, CleansBy, Cleans}
@@ -49,31 +49,40 @@ next-offers s t p taken (inl first) =
 next-offers s t p taken (inr second) =
     subst (λ (n : ℕ). Offers s t p (drop n (thread_at s t).pending)) (sym second.0) (second-offers s t p (thread_at s t).pending refl (none_due (thread_at s t)) refl second.1)
 
--- an event of a thread that goes on is a step
-pub next-step : (s s2 : State) (event : Event) → IsNext s event.thread.0 event.act s2 → Step s event s2
-next-step s s2 event made =
+-- an event of a thread that goes on is a step, and inherits nothing that isn't due
+pub next-advances : (s s2 : State) (event : Event) → IsNext s event.thread.0 event.act s2 → Advances s event s2
+next-advances s s2 event made =
     let t = event.thread.0 in
     record {
-      step = made.step;
-      rest = drop made.taken (thread_at s t).pending;
-      row = made.row;
-      offered = next-offers s t made.step made.taken made.next;
-      chosen = made.least.0.0;
-      says = made.says;
-      leaves = made.leaves;
+      made = record {
+        step = made.step;
+        rest = drop made.taken (thread_at s t).pending;
+        row = made.row;
+        offered = next-offers s t made.step made.taken made.next;
+        chosen = made.least.0.0;
+        says = made.says;
+        leaves = made.leaves;
+      };
+      due = made.least.0.1;
     }
 
 -- and one that cleans
-step-by : (s s2 : State) (event : Event) (x : ℕ) (p : Pending) (row : ℕ) → IsTrue (is_started (thread_at s event.thread.0).life) → CleansBy s event.thread.0 x p row → MayChoose s event.thread.0 row p
-    → event.act ≡ act_of s event.thread.0 row p → s2 ≡ after s event.thread.0 row p [] → Step s event s2
-step-by s s2 event x (Pending.CleanPair who) row started by may says leaves =
-    record { step = Pending.CleanPair who; rest = (thread_at s event.thread.0).pending; row = row; offered = cleans_pair started; chosen = may; says = says; leaves = leaves }
-step-by s s2 event x Pending.Recycle row started by may says leaves =
-    record { step = Pending.Recycle; rest = (thread_at s event.thread.0).pending; row = row; offered = recycles started; chosen = may; says = says; leaves = leaves }
-step-by s s2 event x _ row started by may says leaves = absurd by
+cleans-by : (s s2 : State) (event : Event) (x : ℕ) (p : Pending) (row : ℕ) → IsTrue (is_started (thread_at s event.thread.0).life) → CleansBy s event.thread.0 x p row → MayChoose s event.thread.0 row p
+    → event.act ≡ act_of s event.thread.0 row p → s2 ≡ after s event.thread.0 row p [] → Advances s event s2
+cleans-by s s2 event x (Pending.CleanPair who) row started by may says leaves =
+    record {
+      made = record { step = Pending.CleanPair who; rest = (thread_at s event.thread.0).pending; row = row; offered = cleans_pair started; chosen = may; says = says; leaves = leaves };
+      due = tt;
+    }
+cleans-by s s2 event x Pending.Recycle row started by may says leaves =
+    record {
+      made = record { step = Pending.Recycle; rest = (thread_at s event.thread.0).pending; row = row; offered = recycles started; chosen = may; says = says; leaves = leaves };
+      due = tt;
+    }
+cleans-by s s2 event x _ row started by may says leaves = absurd by
 
-pub cleaning-step : (s s2 : State) (event : Event) (x : ℕ) → Cleans s event.thread.0 x event.act s2 → Step s event s2
-cleaning-step s s2 event x made = step-by s s2 event x made.step made.row made.started made.by made.chosen made.says made.leaves
+pub cleaning-advances : (s s2 : State) (event : Event) (x : ℕ) → Cleans s event.thread.0 x event.act s2 → Advances s event s2
+cleaning-advances s s2 event x made = cleans-by s s2 event x made.step made.row made.started made.by made.chosen made.says made.leaves
 
 -- no step that is left of an instruction cleans
 guards-none : (image : Image) (checked : List Bool) (p : Pending) (rest : Steps) → Guarded image checked (p ∷ rest) → is_cleaning p ≡ false

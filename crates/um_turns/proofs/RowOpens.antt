@@ -1,5 +1,5 @@
 -- At the opening no object is gone, and no processor has anything to clean.
-use Rattle.std.proofs.Common.{◌≡◌, ℕ, zero, suc, ◌+◌, ◌-◌, Bool, true, false, not, ◌&&◌, nat_lt, List, [], ◌∷◌, refl, sym, ap, subst, None, slice_index_or, if◌then◌else◌}
+use Rattle.std.proofs.Common.{◌≡◌, ℕ, zero, suc, ◌+◌, ◌-◌, Bool, true, false, not, ◌&&◌, nat_lt, List, [], ◌∷◌, refl, sym, ap, subst, arith, None, slice_index_or, if◌then◌else◌}
 use Rattle.um_base.specs.declared.image.Boot.{Boot}
 use Rattle.um_base.specs.declared.image.Image.{Image}
 use Rattle.um_base.specs.declared.image.ObjectDef.{ObjectDef}
@@ -20,7 +20,7 @@ use Rattle.um_turns.specs.declared.processor.Processor.{Processor}
 use Rattle.um_turns.specs.Lines.{stands}
 use Rattle.um_turns.specs.Schedule.{idle, opening_turn}
 use Rattle.um_turns.proofs.RowKept.{has_to_clean, IsAlive, RowsKept}
-use Rattle.um_turns.proofs.RowLines.{IsOnce}
+use Rattle.um_turns.proofs.JoinLemmas.{IsOnce}
 
 -- an object that isn't gone, and that nobody has begun to clean
 abbrev IsFresh : Object → Type 0
@@ -88,7 +88,7 @@ opens-rows image cpus =
       own = record {
         forsaken = λ cpu x h. let none = idle_line image cpus cpu x in cc;
         alone = λ cpu cpu2 x h k. let none = idle_line image cpus cpu x in cc;
-        once = λ cpu. subst (λ (p : Processor). IsOnce p.to_clean) (sym (replicate_at cpus cpu idle)) tt;
+        once = λ cpu. subst (λ (p : Processor). IsOnce p.to_clean) (sym (replicate_at cpus cpu idle)) (λ u. omega arith);
         started = λ cpu x h. let none = idle_line image cpus cpu x in cc;
         cleaner = λ cpu x h. let none = idle_line image cpus cpu x in cc;
         unlisted = λ x h. (opens.fresh x).1;

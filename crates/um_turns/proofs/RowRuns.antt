@@ -15,8 +15,9 @@ use Rattle.um_turns.specs.Lines.{stands}
 use Rattle.um_turns.specs.Schedule.{Turn, idle, processor_at, with_processor, goes_on, ready_after, left_ready, RunsOn}
 use Rattle.um_turns.proofs.RowFrames.{Frame, frame}
 use Rattle.um_turns.proofs.RowKept.{has_to_clean, AreOwn, RowsKept, cleans-some}
-use Rattle.um_turns.proofs.RowLines.{IsOnce, unlisted-through}
-use Rattle.um_turns.proofs.RowNext.{next-step, next-plain, offers-started}
+use Rattle.um_turns.proofs.JoinLemmas.{IsOnce}
+use Rattle.um_turns.proofs.RowLines.{unlisted-through}
+use Rattle.um_turns.proofs.RowNext.{next-advances, next-plain, offers-started}
 use Rattle.um_turns.proofs.RowSettled.{settled-rows}
 use Rattle.um_turns.proofs.RowCarries.{Carries, carried, eased, uncleaned, recycles_some, recycles-none, plain-pairs, still-there}
 
@@ -44,7 +45,7 @@ ran-carries turn cpu event s2 known own nothing made =
     record {
       lines = lines;
       once = λ n. at_set (λ m (q : Processor). IsOnce q.to_clean) turn.processors cpu n p idle (own.once cpu) (own.once n);
-      forsaken = λ n x h. still-there s s2 event known (next-step s s2 event made) none x (own.forsaken n x (lines n x h).0);
+      forsaken = λ n x h. still-there s s2 event known (next-advances s s2 event made).made none x (own.forsaken n x (lines n x h).0);
       threads = f.threads;
       cleaner = λ n x h c. eased s s2 x (processor_at turn n).last (f.objects x) c;
       unlisted = λ x h. uncleaned s s2 x (f.objects x) (own.unlisted x (unlisted-through turn.processors mid.processors x (λ n k. to n x k) h));
@@ -56,7 +57,7 @@ runs-rows turn turn2 cpu event known within kept run =
     let s2 = turn2.state in
     let t = event.thread in
     let mid = ran_mid turn cpu t event.act s2 in
-    let step = next-step s s2 event run.made in
+    let step = (next-advances s s2 event run.made).made in
     let nothing : (x : ℕ) → has_to_clean turn cpu x ≡ false = λ x. is_not (has_to_clean turn cpu x) (λ h. cleans-some turn cpu x known kept.own h run.clean) in
     let c = ran-carries turn cpu event s2 known kept.own nothing run.made in
     let last : (processor_at mid cpu).last ≡ t = ap (λ (p : Processor). p.last) (get_or-set_same turn.processors cpu (ran turn cpu t s2) idle within) in

@@ -12,7 +12,8 @@ use Rattle.um_turns.specs.declared.processor.Processor.{Processor}
 use Rattle.um_turns.specs.Lines.{stands, all_join}
 use Rattle.um_turns.specs.Schedule.{Turn, idle, processor_at, is_listed, comes_up, came_up, rows_from, settled}
 use Rattle.um_turns.proofs.RowKept.{has_to_clean, IsCleaner, AreOwn, RowsKept, forsaken-dynamic}
-use Rattle.um_turns.proofs.RowLines.{IsOnce, all-old, all-new, all-from, once-all, passes, stays-in, in-rows, listed-at, listed-through, unlisted-through}
+use Rattle.um_turns.proofs.JoinLemmas.{IsOnce, all-old, all-new, all-from, all-once}
+use Rattle.um_turns.proofs.RowLines.{passes, stays-in, in-rows, listed-at, listed-through, unlisted-through}
 use Rattle.um_turns.proofs.ScheduleLemmas.{came-first}
 
 -- which rows came up
@@ -79,7 +80,7 @@ settled-own turn cpu own started =
             | inr new ↦ elim (from turn cpu m x k) as (λ _. n ≡ m) [ inl old ↦ not-new turn m x old new.1 | inr too ↦ new.0 ∙ sym too.0 ]
           ];
       once = λ n.
-          at_set (λ m (p : Processor). IsOnce p.to_clean) turn.processors cpu n (more turn cpu) idle (once-all (processor_at turn cpu).to_clean (came_up turn.state turn.processors) (own.once cpu)) (own.once n);
+          at_set (λ m (p : Processor). IsOnce p.to_clean) turn.processors cpu n (more turn cpu) idle (λ u. all-once u (processor_at turn cpu).to_clean (came_up turn.state turn.processors) (own.once cpu u)) (own.once n);
       started = λ n x h.
           subst (λ (t : ThreadIx). IsTrue (is_started (thread_at turn.state t.0).life)) (sym (last-still turn cpu n))
           (elim (from turn cpu n x h) as (λ _. IsTrue (is_started (thread_at turn.state (processor_at turn n).last.0).life)) [

@@ -1,45 +1,33 @@
--- The turns that processors come to: their states are known, and what is left to clean is in a line of one of them. Where none makes an event, nothing is left to clean.
-use Rattle.std.proofs.Common.{◌≡◌, inl, inr, ℕ, zero, suc, ◌+◌, ◌-◌, ◌*◌, ◌/◌, ◌%◌, ◌<◌, ◌≤◌, length, refl, ap, subst, ◌∙◌, arith, mod-lt, div-add-mod', suc-mul}
+-- What processors make are steps of the machine. Where what is left to clean is in a line of one of them, and none makes an event, nothing is left to clean.
+use Rattle.std.proofs.Common.{◌≡◌, inl, inr, ℕ, zero, suc, ◌+◌, ◌-◌, ◌*◌, ◌/◌, ◌%◌, ◌<◌, ◌≤◌, length, ap, subst, ◌∙◌, arith, mod-lt, div-add-mod', suc-mul}
 use Rattle.std.proofs.lemmas.Bool.{cases_lt}
 use Rattle.std.proofs.lemmas.Nat.{mod-mul-add}
 use Rattle.um_base.specs.declared.act.Event.{Event}
 use Rattle.um_base.specs.declared.names.ThreadIx.{ThreadIx}
 use Rattle.um_machine.specs.declared.pending.Pending.{Pending}
-use Rattle.um_machine.specs.Run.{MayChoose, Step}
+use Rattle.um_machine.specs.Run.{MayChoose, Advances}
 use Rattle.um_reach.proofs.Cores.{core_of}
-use Rattle.um_reach.proofs.RunMoves.{known_step}
 use Rattle.um_reach.proofs.Turns.{IsKnown}
 use Rattle.um_turns.specs.Schedule.{Turn, Goes, FirstGoes, AllRest, NextGoes, NoneGoes, CleansNothing, passed}
-use Rattle.um_turns.proofs.RowGoes.{goes-rows}
-use Rattle.um_turns.proofs.RowKept.{RowsKept, passed-rows, rests-recycles, rests-pairs}
-use Rattle.um_turns.proofs.RowNext.{next-step, cleaning-step}
+use Rattle.um_turns.proofs.RowKept.{RowsKept, rests-recycles, rests-pairs}
+use Rattle.um_turns.proofs.RowNext.{next-advances, cleaning-advances}
 
--- an event of a processor is a step of the machine
-pub goes-step : (turn turn2 : Turn) (cpu : ℕ) (event : Event) → Goes turn cpu event turn2 → Step turn.state event turn2.state
-goes-step turn turn2 cpu event (inl clean) = cleaning-step turn.state turn2.state event clean.row clean.made
-goes-step turn turn2 cpu event (inr run) = next-step turn.state turn2.state event run.made
+-- an event of a processor is a step of the machine, and inherits nothing that isn't due
+pub goes-advances : (turn turn2 : Turn) (cpu : ℕ) (event : Event) → Goes turn cpu event turn2 → Advances turn.state event turn2.state
+goes-advances turn turn2 cpu event (inl clean) = cleaning-advances turn.state turn2.state event clean.row clean.made
+goes-advances turn turn2 cpu event (inr run) = next-advances turn.state turn2.state event run.made
+
+first-advances : (turn turn2 : Turn) (first i left : ℕ) (event : Event) → FirstGoes turn first i left event turn2 → Advances turn.state event turn2.state
+first-advances turn turn2 first i zero event goes = absurd goes
+first-advances turn turn2 first i (suc left) event (inl goes) = goes-advances turn turn2 ((first + i) % length turn.processors) event goes
+first-advances turn turn2 first i (suc left) event (inr later) = first-advances (passed turn ((first + i) % length turn.processors)) turn2 first (i + 1) left event later.1
+
+-- and so is the next one
+pub going-advances : (turn turn2 : Turn) (first : ℕ) (event : Event) → NextGoes turn first event turn2 → Advances turn.state event turn2.state
+going-advances turn turn2 first event goes = first-advances turn turn2 first 0 (length turn.processors) event goes
 
 abbrev pub IsRowTurn : Turn → Type 0
 IsRowTurn turn = IsKnown (core_of turn.state) × RowsKept turn
-
-pub goes-turn : (turn turn2 : Turn) (cpu : ℕ) (event : Event) → cpu < length turn.processors → IsRowTurn turn → Goes turn cpu event turn2 → IsRowTurn turn2
-goes-turn turn turn2 cpu event within was goes =
-    (known_step turn.state turn2.state event was.0 (goes-step turn turn2 cpu event goes), goes-rows turn turn2 cpu event was.0 within was.1 goes)
-
-pub first-turn : (turn turn2 : Turn) (first i left : ℕ) (event : Event) → 0 < length turn.processors → IsRowTurn turn → FirstGoes turn first i left event turn2 → IsRowTurn turn2
-first-turn turn turn2 first i zero event some was goes = absurd goes
-first-turn turn turn2 first i (suc left) event some was (inl goes) =
-    goes-turn turn turn2 ((first + i) % length turn.processors) event (mod-lt (first + i) some) was goes
-first-turn turn turn2 first i (suc left) event some was (inr later) =
-    let cpu = (first + i) % length turn.processors in first-turn (passed turn cpu) turn2 first (i + 1) left event some (was.0, passed-rows turn cpu was.1) later.1
-
--- the next event leads to such a turn again
-pub next-turn : (turn turn2 : Turn) (first : ℕ) (event : Event) → IsRowTurn turn → NextGoes turn first event turn2 → IsRowTurn turn2
-next-turn turn turn2 first event was goes = by (length turn.processors) refl
-  where
-    by : (n : ℕ) → length turn.processors ≡ n → IsRowTurn turn2
-    by zero e = absurd (subst (λ (n : ℕ). FirstGoes turn first 0 n event turn2) e goes)
-    by (suc n) e = first-turn turn turn2 first 0 (length turn.processors) event (omega (arith, e)) was goes
 
 -- of the processors that are tried each is the one at some place
 pub around : (n first cpu : ℕ) → cpu < n → (j : ℕ) × (j < n) × ((first + j) % n ≡ cpu)

@@ -3,7 +3,7 @@ use Rattle.std.proofs.Common.{◌≡◌, inl, inr, ℕ, zero, suc, ◌+◌, ◌%
 use Rattle.um_base.specs.declared.act.Event.{Event}
 use Rattle.um_base.specs.declared.image.Image.{Image}
 use Rattle.um_base.specs.declared.names.ThreadIx.{ThreadIx}
-use Rattle.um_machine.specs.Run.{Step, IsComplete}
+use Rattle.um_machine.specs.Run.{IsComplete}
 use Rattle.um_machine.specs.State.{State}
 use Rattle.rand_pcg.specs.Lcg.{Lcg}
 use Rattle.rand_pcg.specs.Pcg.{pcg32}
@@ -11,8 +11,8 @@ use Rattle.um_matrix.specs.Alone.{Cleans}
 use Rattle.um_turns.specs.Order.{round_from, drawn_from, seeded, preferred}
 use Rattle.um_turns.specs.Schedule.{Turn, Goes, Rests, FirstGoes, NextGoes, passed, processor_at, opening_turn}
 use Rattle.um_turns.specs.Scheduled.{Leads, IsScheduled}
-use Rattle.um_turns.proofs.MadeLemmas.{goes-made}
 use Rattle.um_turns.proofs.OneLemmas.{goes-only, some-step}
+use Rattle.um_turns.proofs.RowTurns.{going-advances}
 
 -- a processor that makes an event doesn't rest
 goes-or-rests : (turn turn2 : Turn) (cpu : ℕ) (event : Event) → Goes turn cpu event turn2 → Rests turn cpu → ⊥
@@ -36,11 +36,6 @@ first-one turn first i (suc left) event event2 turn2 turn3 (inr a) (inl b) = abs
 first-one turn first i (suc left) event event2 turn2 turn3 (inr a) (inr b) =
     first-one (passed turn ((first + i) % length turn.processors)) first (i + 1) left event event2 turn2 turn3 a.1 b.1
 
-first-made : (turn : Turn) (first i left : ℕ) (event : Event) (turn2 : Turn) → FirstGoes turn first i left event turn2 → Step turn.state event turn2.state
-first-made turn first i zero event turn2 a = absurd a
-first-made turn first i (suc left) event turn2 (inl a) = goes-made turn turn2 ((first + i) % length turn.processors) event a
-first-made turn first i (suc left) event turn2 (inr a) = first-made (passed turn ((first + i) % length turn.processors)) first (i + 1) left event turn2 a.1
-
 -- the order may go on behind the events
 abbrev pub LeadsWithin : Turn → List ℕ → List Event → Turn → Type 0
 LeadsWithin turn firsts [] turn2 = turn2 ≡ turn
@@ -58,7 +53,7 @@ ends-there turn turn2 [] event events last same complete leads = leads
 ends-there turn turn2 (f ∷ fs) event events last same complete leads =
     let (mid, next, rest) = leads in
     let complete2 = subst (λ (to : Turn). IsComplete to.state) same complete in
-    complete2 event mid.state (first-made turn f 0 (length turn.processors) event mid next)
+    complete2 event mid.state (going-advances turn mid f event next).made
 
 one-way : (turn : Turn) (firsts : List ℕ) (events events2 : List Event) (last last2 : Turn) → LeadsWithin turn firsts events last → LeadsWithin turn firsts events2 last2 → IsComplete last.state → IsComplete last2.state
     → (events ≡ events2) × (last ≡ last2)

@@ -1,5 +1,5 @@
--- Rows are noted one after another, and processors are tried one after another.
-use Rattle.std.proofs.Common.{◌≡◌, inl, inr, ℕ, suc, ◌+◌, ◌-◌, ◌%◌, ◌<◌, ◌≤◌, Bool, true, false, List, [], ◌∷◌, length, filter, refl, sym, subst, arith, if◌then◌else◌, Some, None}
+-- What came up, unfolded, and processors that are tried one after another.
+use Rattle.std.proofs.Common.{◌≡◌, inl, inr, ℕ, suc, ◌+◌, ◌-◌, ◌%◌, ◌<◌, List, [], length, filter, refl, sym, subst, arith, if◌then◌else◌, Some, None}
 use Rattle.um_base.specs.declared.act.Act.{Act}
 use Rattle.um_base.specs.declared.act.Event.{Event}
 use Rattle.um_base.specs.declared.names.ThreadIx.{ThreadIx}
@@ -7,17 +7,8 @@ use Rattle.um_matrix.specs.Alone.{IsNext}
 use Rattle.um_base.specs.declared.limits.TheConstants.{ROWS, STATIC_ROWS}
 use Rattle.um_machine.specs.State.{State}
 use Rattle.um_turns.specs.declared.processor.Processor.{Processor}
-use Rattle.um_turns.specs.Lines.{joins, all_join}
+use Rattle.um_turns.specs.Lines.{all_join}
 use Rattle.um_turns.specs.Schedule.{Turn, RunsOn, CleansNothing, runs, goes_on, ready_after, processor_at, with_processor, settled, after_running, came_up, comes_up, rows_from, Goes, Rests, passed, FirstGoes, AllRest}
-
-noted : (b : Bool) (line : List ℕ) (x : ℕ) (xs : List ℕ) → all_join line (if b then x ∷ xs else xs) ≡ all_join (if b then joins line x else line) xs
-noted true line x xs = refl
-noted false line x xs = refl
-
-pub row-noted : (f : ℕ → Bool) (line : List ℕ) (x : ℕ) → x < ROWS
-    → all_join line (filter f (rows_from x (ROWS - x))) ≡ all_join (if f x then joins line x else line) (filter f (rows_from (x + 1) (ROWS - (x + 1))))
-row-noted f line x within =
-    let one : ROWS - x ≡ suc (ROWS - (x + 1)) = omega arith in rw one (noted (f x) line x (filter f (rows_from (x + 1) (ROWS - (x + 1)))))
 
 pub came-first : (s : State) (processors : List Processor) → all_join [] (filter (comes_up s processors) (rows_from STATIC_ROWS (ROWS - STATIC_ROWS))) ≡ came_up s processors
 unfolding came_up
@@ -57,7 +48,3 @@ rests-later turn first i n all within rests later =
     let one : n - i ≡ suc (n - (i + 1)) = omega arith in
     let both = subst (λ (m : ℕ). Rests turn ((first + i) % m) × AllRest (passed turn ((first + i) % m)) first (i + 1) (n - (i + 1))) all (rests, later) in
     subst (λ (left : ℕ). AllRest turn first i left) (sym one) both
-
-pub rests-past : (turn : Turn) (first i n : ℕ) → n ≤ i → AllRest turn first i (n - i)
-rests-past turn first i n past =
-    let none : n - i ≡ 0 = omega arith in subst (λ (left : ℕ). AllRest turn first i left) (sym none) tt

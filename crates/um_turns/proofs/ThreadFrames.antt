@@ -147,8 +147,3 @@ module _ (s : State) (kept : AreKept s) (t : ℕ) (p : Pending) (rest : Steps) (
 -- nothing changes
 pub stays-made : (s : State) → AreKept s → (t : ℕ) → IsMade s t [] s
 stays-made s kept t = record { kept = kept; others = λ u other. alike-framed (thread_at s u) (thread_at s u) (alike-self (thread_at s u)); apart = refl }
-
--- no thread is written
-pub base-made : (s s1 : State) (t : ℕ) → AreKept s → IsBase s s1 → IsMade s t [] s1
-base-made s s1 t kept base =
-    record { kept = base-kept s s1 kept base; others = λ u other. alike-framed (thread_at s u) (thread_at s1 u) (base.alike u); apart = refl }

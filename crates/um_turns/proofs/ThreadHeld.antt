@@ -10,7 +10,7 @@ use Rattle.um_turns.specs.Schedule.{Turn, idle, processor_at, came_up, settled}
 use Rattle.um_reach.proofs.Facts.{differs}
 use Rattle.um_turns.proofs.ThreadCounts.{count, count-set}
 use Rattle.um_turns.proofs.ThreadWords.{is_on, is_resting, stands_still, may_step, may_stand, AreKept}
-use Rattle.um_turns.proofs.ThreadLines.{often}
+use Rattle.um_turns.proofs.JoinLemmas.{often}
 
 -- whether a processor runs a thread, how many do, and how often it is there: among those that are ready, or run
 abbrev pub is_running : ℕ → Option ThreadIx → Bool

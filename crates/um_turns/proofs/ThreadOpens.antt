@@ -27,7 +27,7 @@ use Rattle.um_turns.specs.Schedule.{idle, joins_some, boots_ready, opening_turn}
 use Rattle.um_turns.proofs.ThreadCounts.{equal_or_not}
 use Rattle.um_turns.proofs.ThreadWaits.{times}
 use Rattle.um_turns.proofs.ThreadWords.{is_on, is_resting, AreKept}
-use Rattle.um_turns.proofs.ThreadLines.{often, joins-other, joins-in, joins-once, joins-more}
+use Rattle.um_turns.proofs.JoinLemmas.{often, IsOnce, joins-other, joins-in, joins-once, joins-more}
 use Rattle.um_turns.proofs.ThreadStarts.{real-below, idle-off}
 use Rattle.um_turns.proofs.ThreadHeld.{runners, ThreadsKept, resting-stands}
 
@@ -43,7 +43,7 @@ record IsOpened (image : Image) (s : State) (line : List ℕ) : Type 0 where
   many : length s.threads ≡ THREADS
   bare : (u : ℕ) → IsBare (thread_at s u)
   waiters : (x u : ℕ) → times u (object_at s x).waiters ≡ 0
-  once : (u : ℕ) → often u line ≤ 1
+  once : IsOnce line
   all : (u : ℕ) → is_living (thread_at s u).life ≡ true → 1 ≤ often u line
   stand : (u : ℕ) → 1 ≤ often u line → is_living (thread_at s u).life ≡ true
 

@@ -15,7 +15,8 @@ use Rattle.um_turns.specs.Schedule.{Turn, idle, processor_at, next_ready, runnin
 use Rattle.um_reach.proofs.Facts.{itself}
 use Rattle.um_turns.proofs.RowTurns.{around}
 use Rattle.um_turns.proofs.ThreadWords.{is_on, may_step, is_resume}
-use Rattle.um_turns.proofs.ThreadLines.{often, next-not_still, none-next, next-in}
+use Rattle.um_turns.proofs.JoinLemmas.{often}
+use Rattle.um_turns.proofs.ThreadLines.{next-not_still, none-next, next-in}
 use Rattle.um_turns.proofs.ThreadStays.{never-stays}
 use Rattle.um_turns.proofs.ThreadHeld.{is_running, is_run, runners, ThreadsKept, on-steps, stand-step, step-not_still, runners-at}
 use Rattle.um_turns.proofs.ThreadTurns.{passed-threads}

@@ -14,7 +14,8 @@ use Rattle.um_reach.proofs.Facts.{itself, differs}
 use Rattle.um_turns.proofs.ThreadCounts.{count-set, yes_or_no, equal_or_not}
 use Rattle.um_turns.proofs.ThreadWords.{is_on, is_resting, stands_still, may_step, may_stand, IsFramed, IsMade, IsBase}
 use Rattle.um_turns.proofs.ThreadFrames.{alike-framed, base-kept}
-use Rattle.um_turns.proofs.ThreadLines.{often, joins-other, joins-in, joins-once, all-other, all-more, all-in, all-once, behind-other, behind-next}
+use Rattle.um_turns.proofs.JoinLemmas.{often, joins-other, joins-in, joins-once, all-other, all-more, all-in, all-once}
+use Rattle.um_turns.proofs.ThreadLines.{behind-other, behind-next}
 use Rattle.um_turns.proofs.ThreadHeld.{is_running, is_run, runners, held, ThreadsKept, on-busy, step-not_still, resting-stands, on-stands, steps-by, runners-at, runners-kept, runners-settled}
 
 -- Events that clean.

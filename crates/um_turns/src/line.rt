@@ -1,7 +1,7 @@
 //! Numbers in a line.
 
 ghost use Rattle.std.specs.Prelude.{◌≡◌, [], slice_get, drop, length};
-ghost use Rattle.um_turns.specs.Lines.{stands, joins, all_join};
+ghost use Rattle.um_turns.specs.Lines.{stands, joins};
 
 use arrayvec::ArrayVec;
 use std::marker::Model;
@@ -58,15 +58,6 @@ impl Line {
     {
         if !self.has(number) {
             self.numbers.push(number);
-        }
-    }
-
-    /// Numbers go to the back one after another.
-    pub fn add_all(&mut self, numbers: &[u8])
-        ensures { self.new ≡ all_join self.old numbers.now }
-    {
-        for number in numbers {
-            self.add(*number);
         }
     }
 

@@ -10,6 +10,7 @@ ghost use Rattle.um_turns.specs.Scheduled.{FollowsAlone, IsScheduled};
 use crate::order::Order;
 use crate::turns::Processors;
 use std::alloc::Global;
+use std::slice::from_ref;
 use um_base::{Event, Image, Memory};
 use um_matrix::Matrix;
 
@@ -27,7 +28,7 @@ fn note(events: &mut Vec<Event>, event: &Event)
     ensures len { vec_len events.new ≡ vec_len events.old + 1 }
     ensures capacity { vec_capacity events.old ≤ vec_capacity events.new }
 {
-    events.extend_from_slice(&[*event]).unwrap()
+    events.extend_from_slice(from_ref(event)).unwrap()
 }
 
 /// A complete run of an image by so many processors, which are preferred one after another, or as numbers are drawn by a
@@ -53,23 +54,11 @@ pub fn run<'a>(
     let mut processors = Processors::boot(alloc, image, cpus)?;
     let mut events = Vec::with_capacity(alloc, most)?;
     let mut order = Order::new(pick);
-    for i in 0..most {
-        let _ = i;
-        match processors.next(order.next(cpus)) {
-            None => {
-                return Ok(Ran {
-                    events,
-                    last: processors.into_matrix(),
-                });
-            }
-            Some(event) => note(&mut events, &event),
-        }
+    while let Some(event) = processors.next(order.next(cpus)) {
+        note(&mut events, &event);
     }
-    match processors.next(order.next(cpus)) {
-        None => Ok(Ran {
-            events,
-            last: processors.into_matrix(),
-        }),
-        Some(_) => unreachable!(),
-    }
+    Ok(Ran {
+        events,
+        last: processors.into_matrix(),
+    })
 }

@@ -2,16 +2,18 @@
 
 ghost use Rattle.std.specs.Prelude.{◌≡◌, ◌<◌, ◌≤◌, ℕ, map, Some, None, if◌then◌else◌, [], replicate, slice_get, slice_set, slice_index_or, IfOk, IfSome, IfNone};
 ghost use Rattle.um_base.specs.Lawful.{IsLawful};
-ghost use Rattle.um_machine.specs.Run.{opening, Advances};
+ghost use Rattle.std.specs.List.{list_any};
+ghost use Rattle.um_machine.specs.Objects.{is_gone};
+ghost use Rattle.um_machine.specs.Run.{opening};
 ghost use Rattle.um_turns.specs.Lines.{joins, all_join};
-ghost use Rattle.um_turns.specs.Schedule.{boots_ready, idle, is_still, is_at_rest, goes_on, next_ready, behind_next, readied, ready_after, is_listed, comes_up, came_up, left_to_clean, opening_turn};
+ghost use Rattle.um_turns.specs.Schedule.{boots_ready, idle, is_still, is_at_rest, goes_on, next_ready, behind_next, readied, ready_after, is_listed, comes_up, left_to_clean, opening_turn};
 
 use crate::line::Line;
 use crate::processor::Processor;
 use std::alloc::Global;
 use std::marker::Model;
 use um_base::{Act, Event, Image, Memory, ROWS, Reply, STATIC_ROWS, THREADS, ThreadIx};
-use um_machine::{Life, Pending};
+use um_machine::{Life, Object, Pending, Status};
 use um_matrix::Matrix;
 use um_rules::rows::thread_of_row;
 
@@ -138,6 +140,18 @@ fn put_ready(matrix: &Matrix, ready: &mut Line, thread: ThreadIx, act: &Act)
     }
 }
 
+/// Whether one of these objects is gone.
+fn some_gone(objects: &[Object]) -> bool
+    ensures { result ≡ list_any (λ (object : Object). is_gone object.status) objects.now }
+{
+    for object in objects {
+        if object.status == Status::Gone {
+            return true;
+        }
+    }
+    false
+}
+
 /// Whether a processor has an object to clean.
 fn is_listed(processors: &[Processor], row: u8) -> bool
     ensures { result ≡ is_listed processors.now row }
@@ -157,26 +171,6 @@ fn comes_up(matrix: &Matrix, processors: &[Processor], row: u8) -> bool
     matrix.is_forsaken(row as usize) && !is_listed(processors, row)
 }
 
-/// Notes the row of an object that came up.
-fn note_row(matrix: &Matrix, processors: &[Processor], rows: &mut Line, row: u8)
-    ensures { rows.new ≡ if comes_up matrix.now processors.now row then joins rows.old row else rows.old }
-{
-    if comes_up(matrix, processors, row) {
-        rows.add(row);
-    }
-}
-
-/// The rows of the objects that came up.
-fn came_up(matrix: &Matrix, processors: &[Processor]) -> Line
-    ensures { result ≡ came_up matrix.now processors.now }
-{
-    let mut rows = Line::new();
-    for x in STATIC_ROWS..ROWS {
-        note_row(matrix, processors, &mut rows, x as u8);
-    }
-    rows
-}
-
 /// The thread that goes on, or none.
 fn going(matrix: &Matrix, thread: ThreadIx) -> Option<ThreadIx>
     ensures { result ≡ if goes_on matrix.now thread.0 then Some thread else None }
@@ -185,15 +179,6 @@ fn going(matrix: &Matrix, thread: ThreadIx) -> Option<ThreadIx>
         Some(thread)
     } else {
         None
-    }
-}
-
-/// The rows that are left to clean after an act: an object that was recycled is done with.
-fn put_off(rows: &mut Line, act: &Act)
-    ensures { rows.new ≡ left_to_clean act.now rows.old }
-{
-    if let Act::Recycle { .. } = act {
-        let _ = rows.take();
     }
 }
 
@@ -249,29 +234,43 @@ impl<'a> Processors<'a> {
         }
     }
 
-    /// A processor gets more objects to clean.
-    fn add_to_clean(&mut self, cpu: usize, rows: &Line)
-        ensures { self.new ≡ let p = processor_at self.old cpu in with_processor self.old cpu (record p { to_clean = all_join p.to_clean rows.now }) }
+    /// A processor gets the object of a row to clean, if it came up.
+    fn note_row(&mut self, cpu: usize, row: u8)
+        ensures { self.new ≡ let p = processor_at self.old cpu in if comes_up self.old.state self.old.processors row then with_processor self.old cpu (record p { to_clean = joins p.to_clean row }) else self.old }
     {
-        if let Some(processor) = self.processors.get_mut(cpu) {
-            processor.to_clean.add_all(rows.as_slice());
+        if comes_up(&self.matrix, self.processors.as_slice(), row) {
+            if let Some(processor) = self.processors.get_mut(cpu) {
+                processor.to_clean.add(row);
+            }
         }
     }
 
-    /// A processor gets the objects to clean that came up.
+    /// A processor gets the objects to clean that came up, row by row.
+    fn note_rows(&mut self, cpu: usize)
+        ensures { self.new ≡ settled self.old cpu }
+    {
+        for x in STATIC_ROWS..ROWS {
+            self.note_row(cpu, x as u8);
+        }
+    }
+
+    /// A processor gets the objects to clean that came up: none did where none is gone.
     fn settle(&mut self, cpu: usize)
         ensures { self.new ≡ settled self.old cpu }
     {
-        let rows = came_up(&self.matrix, self.processors.as_slice());
-        self.add_to_clean(cpu, &rows);
+        if some_gone(&self.matrix.objects()[STATIC_ROWS..]) {
+            self.note_rows(cpu);
+        }
     }
 
     /// A processor is done with the object that it cleans first, where that was recycled.
     fn put_off(&mut self, cpu: usize, act: &Act)
         ensures { self.new ≡ let p = processor_at self.old cpu in with_processor self.old cpu (record p { to_clean = left_to_clean act.now p.to_clean }) }
     {
-        if let Some(processor) = self.processors.get_mut(cpu) {
-            put_off(&mut processor.to_clean, act);
+        if let Act::Recycle { .. } = act {
+            if let Some(processor) = self.processors.get_mut(cpu) {
+                let _ = processor.to_clean.take();
+            }
         }
     }
 
@@ -288,7 +287,6 @@ impl<'a> Processors<'a> {
 
     /// The next event of a processor that has an object to clean.
     fn cleans(&mut self, cpu: usize) -> Option<Event>
-        ensures some { IfSome result (λ event. Advances self.old.state event self.new.state) }
         ensures rule { IfSome result (λ event. CleansFirst self.old cpu event self.new) }
         ensures none { IfNone result (self.new ≡ self.old) }
         ensures not { IfNone result (CleansNothing self.old cpu) }
@@ -310,7 +308,6 @@ impl<'a> Processors<'a> {
     /// The next event of the thread that a processor runs, which has nothing to clean.
     fn runs(&mut self, cpu: usize) -> Option<Event>
         requires { CleansNothing self.old cpu }
-        ensures some { IfSome result (λ event. Advances self.old.state event self.new.state) }
         ensures rule { IfSome result (λ event. RunsOn self.old cpu event self.new) }
         ensures none { IfNone result (self.new ≡ passed self.old cpu) }
         ensures not { IfNone result (RunsNothing self.old cpu) }
@@ -332,7 +329,6 @@ impl<'a> Processors<'a> {
 
     /// The next event of a processor, if it can make one now: it cleans first, and else it runs its thread.
     pub fn step(&mut self, cpu: usize) -> Option<Event>
-        ensures some { IfSome result (λ event. Advances self.old.state event self.new.state) }
         ensures rule { IfSome result (λ event. Goes self.old cpu event self.new) }
         ensures only { IfSome result (λ event. IsOnly self.old cpu event self.new) }
         ensures none { IfNone result (self.new ≡ passed self.old cpu) }
@@ -340,16 +336,12 @@ impl<'a> Processors<'a> {
     {
         match self.cleans(cpu) {
             Some(event) => Some(event),
-            None => match self.runs(cpu) {
-                Some(event) => Some(event),
-                None => None,
-            },
+            None => self.runs(cpu),
         }
     }
 
     /// The event of the first processor at or after this one, going round, that can make one.
     pub fn next(&mut self, first: u8) -> Option<Event>
-        ensures some { IfSome result (λ event. Advances self.old.state event self.new.state) }
         ensures rule { IfSome result (λ event. NextGoes self.old first event self.new) }
         ensures none { IfNone result (NoneGoes self.old first) }
         ensures same { IfNone result (self.new.state ≡ self.old.state) }

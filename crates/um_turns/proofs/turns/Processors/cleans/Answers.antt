@@ -1,9 +1,6 @@
 use Rattle.std.proofs.Common.{refl}
 use Rattle.um_turns.proofs.turns.Processors.cleans.Goals as goal
 
-pub returns-in-Some-clean-clause-some : goal.returns-in-Some-clean-clause-some
-returns-in-Some-clean-clause-some c = rw (c.settle.ensures, c.put_off.ensures, ← c.self.view_is) c.in-Some-clean.ensures.some
-
 pub returns-in-Some-clean-clause-rule : goal.returns-in-Some-clean-clause-rule
 returns-in-Some-clean-clause-rule c = record {
   row = c.in-Some.next.1;

@@ -1,13 +1,8 @@
 use Rattle.std.proofs.Common.{◌≡◌, ◌+◌, ◌-◌, subst, sym, ◌∙◌, ap, length, List}
-use Rattle.um_machine.specs.State.{State}
-use Rattle.um_machine.specs.Run.{Advances}
 use Rattle.um_turns.proofs.ScheduleLemmas.{goes-here, goes-later, rests-later}
 use Rattle.um_turns.specs.declared.processor.Processor.{Processor}
 use Rattle.um_turns.specs.Schedule.{Turn, FirstGoes, AllRest}
 use Rattle.um_turns.proofs.turns.Processors.next.Goals as goal
-
-pub returns-in-Some-clause-some : goal.returns-in-Some-clause-some
-returns-in-Some-clause-some c = subst (λ (s : State). Advances s c.in-Some.event c.step.new.self.state) c.loop-i.invariant.state c.in-Some.ensures.some
 
 pub returns-in-Some-clause-rule : goal.returns-in-Some-clause-rule
 returns-in-Some-clause-rule c =

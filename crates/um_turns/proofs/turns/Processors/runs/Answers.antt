@@ -1,14 +1,7 @@
-use Rattle.std.proofs.Common.{sym, subst, ◌∙◌}
-use Rattle.um_machine.specs.Run.{Advances}
-use Rattle.um_matrix.specs.Offered.{event_of}
+use Rattle.std.proofs.Common.{sym, ◌∙◌}
 use Rattle.um_turns.specs.Schedule.{Turn}
 use Rattle.um_turns.proofs.ScheduleLemmas.{ran}
 use Rattle.um_turns.proofs.turns.Processors.runs.Goals as goal
-
-pub returns-in-Some-advance-clause-some : goal.returns-in-Some-advance-clause-some
-returns-in-Some-advance-clause-some c =
-    rw (c.settle.ensures, c.put_away.ensures)
-    (subst (λ (turn : Turn). Advances turn.state (event_of c.in-Some.thread.0 c.in-Some-advance.act) c.advance.new.self) (c.self.view_is ∙ c.running.ensures.left) c.in-Some-advance.ensures.some)
 
 pub returns-in-Some-advance-clause-rule : goal.returns-in-Some-advance-clause-rule
 returns-in-Some-advance-clause-rule c =
