@@ -1,2 +1,3 @@
-mod Ends
 mod CommandLemmas
+mod Ends
+mod OneAnswer

@@ -30,9 +30,14 @@ pub record IsRunOf (image : Image) (options : Options) (run : List Event) (last 
   pub scheduled : IsScheduled image options.cpus options.pick run last
   pub few : length run ≤ weight image
 
--- the bytes are the text of that run
+-- No other run of the image has this text, in whatever order of processors.
+abbrev pub NamesRun : Image → List ℕ → List Event → Type 0
+NamesRun image written run = (other : List Event) (last : State) → IsRun image other last → written ≡ text image other last → other ≡ run
+
+-- the bytes are the text of that run, and of no other run of the image
 abbrev pub IsRunText : Image → Options → List ℕ → Type 0
-IsRunText image options written = (run : List Event) × (last : State) × IsRunOf image options run last × (written ≡ text image run last)
+IsRunText image options written =
+    (run : List Event) × (last : State) × IsRunOf image options run last × (written ≡ text image run last) × NamesRun image written run
 
 -- the bytes are the counts of the run that `sim` writes of the same image with the same options
 abbrev pub IsRunSummary : Image → Options → List ℕ → Type 0

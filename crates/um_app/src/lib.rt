@@ -2,12 +2,14 @@
 #![tactic(auto)]
 
 mod answer;
+mod laws;
 mod sim;
 mod status;
 #[cfg(test)]
 mod tests;
 mod top;
 
+pub use laws::one_answer;
 pub use sim::sim_events;
 pub use status::Status;
 pub use top::zumode;

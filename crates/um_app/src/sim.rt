@@ -6,9 +6,10 @@ ghost use Rattle.um_base.specs.Weight.{weight};
 ghost use Rattle.um_command.specs.Words.{IsFew};
 ghost use Rattle.um_laws.specs.Obeys.{ObeysLaws};
 ghost use Rattle.um_machine.specs.State.{State};
+ghost use Rattle.um_trace.specs.Text.{text};
 ghost use Rattle.um_turns.specs.Schedule.{opening_turn};
 ghost use Rattle.um_turns.specs.Scheduled.{FollowsAlone};
-ghost use Rattle.um_app.specs.Top.{IsRunOf};
+ghost use Rattle.um_app.specs.Top.{IsRunOf, NamesRun};
 
 use std::alloc::Global;
 use um_base::{Event, Image, Memory};
@@ -23,6 +24,7 @@ pub fn ran<'a>(alloc: Global, image: &'a Image, options: Options) -> Result<Ran<
     ensures run { IfOk result (λ ran. IsRunOf image.now options ran.events.items ran.last) }
     ensures alone { options.cpus ≡ 1 → IfOk result (λ ran. FollowsAlone (opening_turn image.now 1) ran.events.items) }
     ensures laws { IfOk result (λ ran. ObeysLaws image.now ran.events.items) }
+    ensures names { IfOk result (λ ran. NamesRun image.now (text image.now ran.events.items ran.last) ran.events.items) }
 {
     let _objects = image.objects.len();
     run(

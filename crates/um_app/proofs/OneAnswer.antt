@@ -1,0 +1,47 @@
+-- A command writes one text of an input.
+use Rattle.std.proofs.Common.{◌≡◌, ◌∙◌, ℕ, List, refl, sym, ap, subst}
+use Rattle.std.specs.Prelude.{Option, Some}
+use Rattle.um_base.specs.declared.act.Event.{Event}
+use Rattle.um_base.specs.declared.image.Image.{Image}
+use Rattle.um_command.specs.declared.command.Command.{Command}
+use Rattle.um_command.specs.declared.command.Options.{Options}
+use Rattle.um_image.proofs.TextLemmas.{one_image}
+use Rattle.um_machine.specs.State.{State}
+use Rattle.um_trace.specs.Summary.{summary_text}
+use Rattle.um_trace.specs.Text.{text}
+use Rattle.um_turns.proofs.RunLemmas.{one-run}
+use Rattle.um_app.proofs.Ends.{all_of_it}
+use Rattle.um_app.specs.Top.{Answers, IsOutput, IsRead, IsRunOf, Writes}
+
+-- the run of an image with these options, and its last state, are one
+same_run : (image : Image) (options : Options) (run run2 : List Event) (last last2 : State) → IsRunOf image options run last → IsRunOf image options run2 last2 → (run ≡ run2) × (last ≡ last2)
+same_run image options run run2 last last2 a b = one-run image options.cpus options.pick run run2 last last2 a.scheduled a.complete b.scheduled b.complete
+
+-- what is told of runs that are the same is the same
+same_told : (told : List Event → State → List ℕ) (run run2 : List Event) (last last2 : State) → (run ≡ run2) × (last ≡ last2) → told run last ≡ told run2 last2
+same_told told run run2 last last2 same = ap (λ (es : List Event). told es last) same.0 ∙ ap (told run2) same.1
+
+one_writing : (command : Command) (image : Image) (written other : List ℕ) → Writes command image written → Writes command image other → written ≡ other
+one_writing (Command.Sim options) image written other a b =
+    a.3 ∙ same_told (text image) a.0 b.0 a.1 b.1 (same_run image options a.0 b.0 a.1 b.1 a.2 b.2) ∙ sym b.3
+one_writing (Command.Summary options) image written other a b =
+    a.3 ∙ same_told (summary_text image) a.0 b.0 a.1 b.1 (same_run image options a.0 b.0 a.1 b.1 a.2 b.2) ∙ sym b.3
+one_writing Command.Layout image written other a b = a ∙ sym b
+one_writing (Command.Gen number) image written other a b = a ∙ sym b
+
+one_output : (command : Command) (input written other : List ℕ) → IsOutput command input written → IsOutput command input other → written ≡ other
+one_output command input written other a b =
+    let same = one_image input b.image a.image b.described a.described in
+    one_writing command a.image written other a.writes (subst (λ (image : Image). Writes command image other) same b.writes)
+
+one_reading : (command : Command) (source written other : List ℕ) (left left2 : Option (List ℕ)) → IsRead command (Some source) left written → IsRead command (Some source) left2 other → written ≡ other
+one_reading command source written other left left2 a b =
+    let first = all_of_it _ left source a.input refl a.read.taken a.read.at_end in
+    let second = all_of_it _ left2 source b.input refl b.read.taken b.read.at_end in
+    one_output command a.input written other a.output (subst (λ (input : List ℕ). IsOutput command input other) (second ∙ sym first) b.output)
+
+pub one_answer : (command : Command) (source written other : List ℕ) (left left2 : Option (List ℕ)) → Answers command (Some source) left written → Answers command (Some source) left2 other → written ≡ other
+one_answer (Command.Sim options) source written other left left2 a b = one_reading (Command.Sim options) source written other left left2 a b
+one_answer (Command.Summary options) source written other left left2 a b = one_reading (Command.Summary options) source written other left left2 a b
+one_answer Command.Layout source written other left left2 a b = one_reading Command.Layout source written other left left2 a b
+one_answer (Command.Gen number) source written other left left2 a b = a ∙ sym b

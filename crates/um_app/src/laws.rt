@@ -1,0 +1,11 @@
+//! What is written is given by the words and the input.
+
+ghost use Rattle.std.specs.Prelude.{◌≡◌, ℕ, List, Option, Some};
+ghost use Rattle.um_command.specs.declared.command.Command.{Command};
+ghost use Rattle.um_app.specs.Top.{Answers};
+
+/// A command writes one text of what its source holds: whoever runs it again has the same bytes.
+pub fn one_answer()
+    ensures { (command : Command) (source written other : List ℕ) (left left2 : Option (List ℕ))
+        → Answers command (Some source) left written → Answers command (Some source) left2 other → written ≡ other }
+{}
