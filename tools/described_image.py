@@ -5,7 +5,7 @@ from antt_words import ATTRS, KINDS, MODES, address, call, flat, in_hex, integer
 
 OBJECTS, DYNAMIC_OBJECTS, OBJECT_STEP = 0x40000000, 0x48000000, 64
 RODATA, PARTITION_AREA, STACK_AREA = 0x08000000, 0x20000000, 0x20080000
-STATIC_ROWS, STATIC_THREADS = 96, 20
+STATIC_ROWS, STATIC_THREADS = 96, 28
 TIMEOUTS = {"K_NO_WAIT": "Timeout.NoWait", "K_FOREVER": "Timeout.Forever"}
 
 # The operands of each instruction, in the order of its line and of its variant's fields.

@@ -1,10 +1,10 @@
 //! How many of each thing there may be, and where they stand in memory.
 
 /// Thread indices: those of static thread objects, and then those of dynamic ones.
-pub const THREADS: usize = 24;
+pub const THREADS: usize = 32;
 
 /// Thread indices of static thread objects.
-pub const STATIC_THREADS: usize = 20;
+pub const STATIC_THREADS: usize = 28;
 
 /// Rows: those of static objects, and then those of dynamic addresses.
 pub const ROWS: usize = 128;
@@ -22,7 +22,7 @@ pub const PARTITIONS: usize = 32;
 pub const DOMAINS: usize = 8;
 
 /// Threads that are ready from the beginning.
-pub const BOOTS: usize = 20;
+pub const BOOTS: usize = 28;
 
 /// Scripts.
 pub const SCRIPTS: usize = 32;

@@ -17,7 +17,7 @@ use Rattle.um_machine.specs.declared.thread.Thread.{Thread}
 use Rattle.um_machine.specs.Order.{Steps, end_steps, fatal_steps, steps_of}
 use Rattle.um_machine.specs.State.{State, pair_at, no_rows, thread_at, with_thread, is_living, first_place, instruction_at, next_place}
 use Rattle.um_machine.specs.Table.{at_steps, rows_held, ended, next_doom, with_begin, after_begin, after_drop, after}
-use Rattle.um_bound.specs.Measure.{total, step_cost, lines_left, life_cost, due_cost, thread_cost}
+use Rattle.um_bound.specs.Measure.{total, end_cost, step_cost, lines_left, life_cost, due_cost, thread_cost}
 use Rattle.um_bound.specs.Reached.{makes_steps, is_of_end, may_wait, passes_on, IsSound, IsReached}
 use Rattle.um_bound.proofs.EasedLemmas.{AreEased, all-same, all-set, at-eased, sound-eased, due-le, eased-drop}
 use Rattle.um_bound.proofs.LineLemmas.{line-plan}
@@ -32,11 +32,11 @@ life-living Life.Living h = refl
 life-living Life.Ended h = absurd (false≢true h)
 
 -- what a living thread at rest costs
-pub cost-rests : (image : Image) (me : Thread) → me.pending ≡ [] → me.life ≡ Life.Living → thread_cost image me ≡ 26 + lines_left image me.place + due_cost me.child me.due
+pub cost-rests : (image : Image) (me : Thread) → me.pending ≡ [] → me.life ≡ Life.Living → thread_cost image me ≡ end_cost + lines_left image me.place + due_cost me.child me.due
 unfolding thread_cost
 cost-rests image me h e = rw (h, e) (omega arith)
 
-pub begun-living : (image : Image) (life : Life) (place : Place) → life ≡ Life.Living → begun_cost image life place ≡ 26 + lines_left image (next_place image place)
+pub begun-living : (image : Image) (life : Life) (place : Place) → life ≡ Life.Living → begun_cost image life place ≡ end_cost + lines_left image (next_place image place)
 begun-living image life place e = rw e refl
 
 -- what an ended one costs
@@ -48,7 +48,7 @@ cost-ended image me steps due checked = omega arith
 
 -- the steps of an end
 pub record IsLast (image : Image) (steps : Steps) : Type 0 where
-  pub cost : total (step_cost image) steps ≤ 25
+  pub cost : total (step_cost image) steps < end_cost
   pub waits : list_all is_of_end steps ≡ true
   pub passes : passes_on None steps ≡ true
 
@@ -67,7 +67,7 @@ fatal-last image t me reason Policy.Halt = dooms-last image
 fatal-last image t me reason Policy.Abort = abort-last image t me (reason == 4)
 
 -- a living thread ends
-ends : (s : State) → IsReached s → (t : ℕ) (steps : Steps) → IsLast s.image steps → 26 ≤ thread_cost s.image (thread_at s t) → IsMade s (ended s t (thread_at s t) steps) (Unit {0})
+ends : (s : State) → IsReached s → (t : ℕ) (steps : Steps) → IsLast s.image steps → end_cost ≤ thread_cost s.image (thread_at s t) → IsMade s (ended s t (thread_at s t) steps) (Unit {0})
 ends s reached t steps last cost =
     let after-it = cost-ended s.image (thread_at s t) steps (rows_held s t) no_rows in
     let few = last.cost in
@@ -114,7 +114,7 @@ begin s reached t x rest none living some = begin-made s reached t none living (
 
 -- Another script.
 
-cost-enters : (image : Image) (me : Thread) (place : Place) (mode : Mode) → me.life ≡ Life.Living → thread_cost image (record me { mode = mode; place = place; pending = [] }) ≡ 26 + lines_left image place + due_cost me.child me.due
+cost-enters : (image : Image) (me : Thread) (place : Place) (mode : Mode) → me.life ≡ Life.Living → thread_cost image (record me { mode = mode; place = place; pending = [] }) ≡ end_cost + lines_left image place + due_cost me.child me.due
 unfolding thread_cost
 cost-enters image me place mode e = rw e (omega arith)
 

@@ -12,7 +12,7 @@ use Rattle.um_machine.specs.declared.thread.Thread.{Thread}
 use Rattle.um_machine.specs.Order.{Steps}
 use Rattle.um_machine.specs.State.{State, nobody, thread_at, with_thread, first_place, next_place}
 use Rattle.um_machine.specs.Table.{at_steps, newborn, after}
-use Rattle.um_bound.specs.Measure.{total, lines_left, thread_cost, measure}
+use Rattle.um_bound.specs.Measure.{total, end_cost, lines_left, thread_cost, measure}
 use Rattle.um_bound.specs.Reached.{may_wait, IsSound, IsReached}
 use Rattle.um_bound.proofs.TotalLemmas.{total-set}
 use Rattle.um_bound.proofs.EasedLemmas.{cost-nobody, sound-set}
@@ -38,7 +38,7 @@ module _ (s : State) (reached : IsReached s) (t x : ℕ) (rest : Steps) (who : T
   abbrev Started : State
   Started = with_thread s who.0 New
 
-  new-cost : thread_cost s.image New ≡ 26 + lines_left s.image (first_place s.image script)
+  new-cost : thread_cost s.image New ≡ end_cost + lines_left s.image (first_place s.image script)
   new-cost = let cost = cost-rests s.image New refl refl in omega (arith, cost)
 
   new-sound : IsSound s.image New

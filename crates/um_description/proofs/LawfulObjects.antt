@@ -141,7 +141,7 @@ objects_lawful mpu threads i (o ∷ os) h places x t same =
 
 -- ---- threads count up
 
-one_more_thread : (t : ℕ) → t ≤ 20 → (t == 20) ≡ false → t + 1 ≤ 20
+one_more_thread : (t : ℕ) → t ≤ STATIC_THREADS → (t == STATIC_THREADS) ≡ false → t + 1 ≤ STATIC_THREADS
 one_more_thread t h k = grind (arith, nat_tests)
 
 indices_by : (t x : ℕ) (range : Range) (name : Text) (public : Bool) (details : Details) (os : List ObjectDef) → IsTrue (has_indices os (threads_after t (entry name public details)))
@@ -159,11 +159,11 @@ indices_by t x range name public (Details.Stack (Some entries)) os later = later
 indices_by t x range name public (Details.Pipe None) os later = later
 indices_by t x range name public (Details.Pipe (Some size)) os later = later
 
-few_threads : (t : ℕ) (thread : Bool) → t ≤ 20 → (thread && t == STATIC_THREADS) ≡ false → (if thread then t + 1 else t) ≤ 20
+few_threads : (t : ℕ) (thread : Bool) → t ≤ STATIC_THREADS → (thread && t == STATIC_THREADS) ≡ false → (if thread then t + 1 else t) ≤ STATIC_THREADS
 few_threads t true h k = one_more_thread t h k
 few_threads t false h k = h
 
-pub indices_lawful : (ranges : List Range) (t i x : ℕ) (os : List ObjectEntry) → t ≤ 20 → objects_limits t i os ≡ [] → IsTrue (has_indices (objects_from ranges x t os) t)
+pub indices_lawful : (ranges : List Range) (t i x : ℕ) (os : List ObjectEntry) → t ≤ STATIC_THREADS → objects_limits t i os ≡ [] → IsTrue (has_indices (objects_from ranges x t os) t)
 indices_lawful ranges t i x [] few h = grind (arith, nat_tests)
 indices_lawful ranges t i x (o ∷ os) few h =
     indices_by t x (first_range ranges) o.name o.public o.details (objects_from (drop (ranges_taken o) ranges) (x + 1) (threads_after t o) os)

@@ -91,7 +91,7 @@ fn is_judged(rt: &impl Abort, judge: &mut Matrix<'_>, event: &Event) {
         }
     }
     let stranger = Event {
-        thread: ThreadIx(23),
+        thread: ThreadIx(31),
         act: event.act,
     };
     assert!(rt; judge.apply(&stranger).is_err(), "kind {kind} thread");

@@ -21,15 +21,15 @@ use Rattle.um_rows.proofs.Sound.{any-numbers}
 
 -- A state that keeps the limits.
 record Small (s : State) : Type 0 where
-  threads : length s.threads ≤ 24
-  objects : length s.objects ≤ 128
-  pairs : length s.pairs ≤ 128
+  threads : length s.threads ≤ THREADS
+  objects : length s.objects ≤ ROWS
+  pairs : length s.pairs ≤ ROWS
 
 small-of : (s : State) → IsTrue (keeps_limits s) → Small s
 small-of s h =
     let all = and_parts _ _ h in
     let both = and_parts _ _ all.0 in
-    record { threads = leb-true _ 24 both.0; objects = leb-true _ 128 both.1; pairs = leb-true _ 128 all.1 }
+    record { threads = leb-true _ THREADS both.0; objects = leb-true _ ROWS both.1; pairs = leb-true _ ROWS all.1 }
 
 lt-or-le : (a b : ℕ) → (a < b) ⊎ (b ≤ a)
 lt-or-le a b = by-test (nat_lt a b) refl where
@@ -44,28 +44,28 @@ below a b h = by-order (lt-or-le a b) where
   by-order (inl l) = l
   by-order (inr l) = absurd (h l)
 
-beyond : (s : State) → Small s → (t : ℕ) → 24 ≤ t → thread_at s t ≡ nobody
+beyond : (s : State) → Small s → (t : ℕ) → THREADS ≤ t → thread_at s t ≡ nobody
 beyond s small t l = get_or_past s.threads t nobody (le_trans small.threads l)
 
-pair-row : (s : State) → Small s → (t x : ℕ) → IsTrue (pair_at s t x) → x < 128
-pair-row s small t x h = below x 128 λ l.
+pair-row : (s : State) → Small s → (t x : ℕ) → IsTrue (pair_at s t x) → x < ROWS
+pair-row s small t x h = below x ROWS λ l.
     true≢false (sym h ∙ ap (λ (flags : List Bool). slice_index_or flags t false) (get_or_past s.pairs x [] (le_trans small.pairs l)))
 
-gone-row : (s : State) → Small s → (x : ℕ) → IsTrue (is_gone (object_at s x).status) → x < 128
-gone-row s small x h = below x 128 λ l. true≢false (sym h ∙ ap (λ o. is_gone o.status) (get_or_past s.objects x vacant (le_trans small.objects l)))
+gone-row : (s : State) → Small s → (x : ℕ) → IsTrue (is_gone (object_at s x).status) → x < ROWS
+gone-row s small x h = below x ROWS λ l. true≢false (sym h ∙ ap (λ o. is_gone o.status) (get_or_past s.objects x vacant (le_trans small.objects l)))
 
-started-index : (s : State) → Small s → (t : ℕ) → IsTrue (is_started (thread_at s t).life) → t < 24
-started-index s small t h = below t 24 λ l. true≢false (sym h ∙ ap (λ (me : Thread). is_started me.life) (beyond s small t l))
+started-index : (s : State) → Small s → (t : ℕ) → IsTrue (is_started (thread_at s t).life) → t < THREADS
+started-index s small t h = below t THREADS λ l. true≢false (sym h ∙ ap (λ (me : Thread). is_started me.life) (beyond s small t l))
 
-living-index : (s : State) → Small s → (t : ℕ) → IsTrue (is_living (thread_at s t).life) → t < 24
-living-index s small t h = below t 24 λ l. true≢false (sym h ∙ ap (λ (me : Thread). is_living me.life) (beyond s small t l))
+living-index : (s : State) → Small s → (t : ℕ) → IsTrue (is_living (thread_at s t).life) → t < THREADS
+living-index s small t h = below t THREADS λ l. true≢false (sym h ∙ ap (λ (me : Thread). is_living me.life) (beyond s small t l))
 
 abbrev some-pending : Steps → Bool
 some-pending [] = false
 some-pending (p ∷ rest) = true
 
-pending-index : (s : State) → Small s → (t : ℕ) {p : Pending} {rest : Steps} → (thread_at s t).pending ≡ p ∷ rest → t < 24
-pending-index s small t e = below t 24 λ l. true≢false (sym (ap some-pending e) ∙ ap (λ (me : Thread). some-pending me.pending) (beyond s small t l))
+pending-index : (s : State) → Small s → (t : ℕ) {p : Pending} {rest : Steps} → (thread_at s t).pending ≡ p ∷ rest → t < THREADS
+pending-index s small t e = below t THREADS λ l. true≢false (sym (ap some-pending e) ∙ ap (λ (me : Thread). some-pending me.pending) (beyond s small t l))
 
 all-numbers : (p : ℕ → Bool) (i n : ℕ) → list_all p (numbers i n) ≡ true → (k : ℕ) → i ≤ k → k < i + n → p k ≡ true
 all-numbers p i zero h k low high = absurd (omega arith)
@@ -88,15 +88,15 @@ clean-passes s t x h = and_from _ _ (and_from _ _ h.0 h.1) (cleaner-passes t _ h
 
 -- a row that a step may choose, and that passes the test
 abbrev Passes : State → ℕ → Pending → Type 0
-Passes s t p = (y : ℕ) × (y < 128) × IsTrue (may_choose s t y p)
+Passes s t p = (y : ℕ) × (y < ROWS) × IsTrue (may_choose s t y p)
 
 -- numbers of which each fails a test
 no-number : (p : ℕ → Bool) (i n : ℕ) → ((k : ℕ) → p k ≡ false) → list_any p (numbers i n) ≡ false
 no-number p i zero h = refl
 no-number p i (suc n) h = ap (λ b. b || list_any p (numbers (i + 1) n)) (h i) ∙ no-number p (i + 1) n h
 
-free-row : (s : State) (kind : Kind) (x : ℕ) → IsTrue (is_free_for s kind x) → x < 128
-free-row s kind x free = ltb-true x 128 (and_parts (nat_le STATIC_ROWS x) (nat_lt x ROWS) (and_parts _ _ (and_parts _ _ free).0).0).1
+free-row : (s : State) (kind : Kind) (x : ℕ) → IsTrue (is_free_for s kind x) → x < ROWS
+free-row s kind x free = ltb-true x ROWS (and_parts (nat_le STATIC_ROWS x) (nat_lt x ROWS) (and_parts _ _ (and_parts _ _ free).0).0).1
 
 reserve-passes : (s : State) (t x : ℕ) (kind : Kind) → MayChoose s t x (Pending.Reserve kind) → Passes s t (Pending.Reserve kind)
 reserve-passes s t x kind (inl h) =
@@ -153,7 +153,7 @@ no-cleaning s small t x h started may =
 at-rest : (s : State) (t : ℕ) → (thread_at s t).pending ≡ [] → IsTrue (is_living (thread_at s t).life) → (thread_at s t).doomed ≡ false → IsTrue (is_at_rest (thread_at s t))
 at-rest s t e l d = ap (λ steps. rests steps (is_living (thread_at s t).life && not (thread_at s t).doomed)) e ∙ and_from _ _ l (not_from_false _ d)
 
-no-offer : (s : State) → Small s → ((t : ℕ) → t < 24 → Stuck s t) → IsTrue (not (list_any (λ y. is_cleanable s (is_gone (object_at s y).status) y) all_rows)) → (t x : ℕ) {p : Pending} {rest : Steps} → Offers s t p rest → MayChoose s t x p → ⊥
+no-offer : (s : State) → Small s → ((t : ℕ) → t < THREADS → Stuck s t) → IsTrue (not (list_any (λ y. is_cleanable s (is_gone (object_at s y).status) y) all_rows)) → (t x : ℕ) {p : Pending} {rest : Steps} → Offers s t p rest → MayChoose s t x p → ⊥
 no-offer s small stuck clean t x {p} {rest} (Offers.goes e) may =
     no-way s small t x goes p rest (stuck t (pending-index s small t e)).goes (ap next_offer e) may
 no-offer s small stuck clean t x {p} {rest} (Offers.skips_inherit e d) may =

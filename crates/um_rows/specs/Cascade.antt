@@ -76,7 +76,7 @@ choices =
     ∷ on 0
     ∷ on 0
     ∷ on 0
-    ∷ choose 0 100 (cleans 20)
+    ∷ choose 0 100 (cleans 28)
     ∷ choose 0 96 recycles
     ∷ choose 0 100 recycles
     ∷ choose 0 0 exits
@@ -98,7 +98,7 @@ events =
     ∷ by 0 (Act.Begin 0 3)
     ∷ by 0 (Act.Check (at 0x48000000) (Some Kind.Thread) Want.Any None)
     ∷ by 0 (Act.Check (at 0x48000100) None Want.Any None)
-    ∷ by 0 (Act.Grant (thread 20) (at 0x48000100) Given.Done)
+    ∷ by 0 (Act.Grant (thread 28) (at 0x48000100) Given.Done)
     ∷ by 0 (Act.Answered Reply.Void)
     ∷ by 0 (Act.Begin 0 4)
     ∷ by 0 (Act.Check (at 0x48000100) None Want.Any None)
@@ -108,7 +108,7 @@ events =
     ∷ by 0 (Act.Check (at 0x48000000) None Want.Any None)
     ∷ by 0 (Act.DropPair (thread 0) (at 0x48000000) Leftover.Gone)
     ∷ by 0 (Act.Answered Reply.Void)
-    ∷ by 0 (Act.DropPair (thread 20) (at 0x48000100) Leftover.Gone)
+    ∷ by 0 (Act.DropPair (thread 28) (at 0x48000100) Leftover.Gone)
     ∷ by 0 (Act.Recycle (at 0x48000000))
     ∷ by 0 (Act.Recycle (at 0x48000100))
     ∷ by 0 Act.Exit

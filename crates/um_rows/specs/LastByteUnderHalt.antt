@@ -78,6 +78,14 @@ choices =
     ∷ on 0
     ∷ on 0
     ∷ on 0
+    ∷ on 0
+    ∷ on 0
+    ∷ on 0
+    ∷ on 0
+    ∷ on 0
+    ∷ on 0
+    ∷ on 0
+    ∷ on 0
     ∷ on 0 ∷ []
 
 -- what the trace shows
@@ -111,7 +119,15 @@ events =
     ∷ by 0 (Act.Doom (thread 20))
     ∷ by 0 (Act.Doom (thread 21))
     ∷ by 0 (Act.Doom (thread 22))
-    ∷ by 0 (Act.Doom (thread 23)) ∷ []
+    ∷ by 0 (Act.Doom (thread 23))
+    ∷ by 0 (Act.Doom (thread 24))
+    ∷ by 0 (Act.Doom (thread 25))
+    ∷ by 0 (Act.Doom (thread 26))
+    ∷ by 0 (Act.Doom (thread 27))
+    ∷ by 0 (Act.Doom (thread 28))
+    ∷ by 0 (Act.Doom (thread 29))
+    ∷ by 0 (Act.Doom (thread 30))
+    ∷ by 0 (Act.Doom (thread 31)) ∷ []
 
 abbrev pub dump : Dump
 dump =

@@ -1,6 +1,7 @@
 //! Acts on the contents of each kind, one after another.
 
 ghost use Rattle.std.specs.Prelude.{◌<◌, IsTrue};
+ghost use Rattle.um_base.specs.declared.limits.TheConstants.{THREADS};
 ghost use Rattle.um_machine.specs.Limits.{is_sound_ask};
 
 use super::*;
@@ -21,7 +22,7 @@ fn fails(error: Errno) -> Answer {
 
 /// What an act of a thread, by its index and priority, says beforehand and comes to.
 fn acts(contents: &mut Contents, waiters: &mut Waiters, who: (u8, i8), ask: &Ask) -> (Said, Outcome)
-    requires thread { who.0 < 24 }
+    requires thread { who.0 < THREADS }
     requires sound { IsTrue (is_sound_ask ask.now) }
 {
     let waiter = Waiter {

@@ -2,6 +2,7 @@
 
 ghost use Rattle.std.specs.Prelude.{◌≡◌, ◌+◌, ◌*◌, ◌≤◌, ◌^◌, ◌++◌, length, vec_len, vec_capacity};
 ghost use Rattle.std.specs.List.{flat_map, sum_by};
+ghost use Rattle.um_base.specs.declared.limits.TheConstants.{THREADS};
 ghost use Rattle.um_trace.specs.Acts.{event_line};
 ghost use Rattle.um_trace.specs.Room.{Puts};
 ghost use Rattle.um_trace.specs.Text.{woken_by, line_room, room_for, text};
@@ -16,7 +17,7 @@ use um_matrix::Matrix;
 /// How many threads an act wakes.
 fn woken_by(act: &Act) -> usize
     ensures value { result ≡ woken_by act.now }
-    ensures few { result ≤ 24 }
+    ensures few { result ≤ THREADS }
 {
     match act {
         Act::Work {

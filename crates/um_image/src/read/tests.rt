@@ -127,10 +127,10 @@ fn first_faults_are_told(rt: HostRuntime) -> Result<(), Fail> {
 #[test]
 fn sums_are_told(rt: HostRuntime) -> Result<(), Fail> {
     let alloc = rt.alloc();
-    let threads = entries(alloc, 20, "kind = \"thread\"")?;
+    let threads = entries(alloc, 28, "kind = \"thread\"")?;
     let objects = format!(in alloc; "object = [{threads}")?;
     let found = answer_with(alloc, "object = [", objects.as_str())?;
-    assert_eq!(rt; found.as_str(), "Limit threads 20 object[20]");
+    assert_eq!(rt; found.as_str(), "Limit threads 28 object[28]");
     let eight = entries(alloc, 8, "size = 65536, attr = \"P_RW_U_RW\"")?;
     let nine = format!(in alloc; "{eight}{{name = \"p\", size = 65536")?;
     let found = answer_with(alloc, "{name = \"p\", size = 32", nine.as_str())?;

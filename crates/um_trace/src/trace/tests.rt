@@ -31,7 +31,7 @@ fn acts_of_threads(rt: HostRuntime) -> Result<(), Fail> {
         Act::Resume,
         Act::Answered { reply: Reply::Null },
         Act::Named { who: ThreadIx(1) },
-        Act::Start { who: ThreadIx(20) },
+        Act::Start { who: ThreadIx(28) },
         Act::EnterUser,
         Act::Fatal {
             reason: 3,
@@ -41,12 +41,12 @@ fn acts_of_threads(rt: HostRuntime) -> Result<(), Fail> {
             reason: 0,
             cause: Cause::Access,
         },
-        Act::Doom { who: ThreadIx(23) },
+        Act::Doom { who: ThreadIx(31) },
         Act::Exit,
     ];
     assert_eq!(rt;
         lines_of(&rt, &acts)?.as_slice(),
-        "a begin m 1\na resume\na reply NULL\na name b\na start #0\na user\na fatal 3 EPERM\na fatal 0 access\na doom 23\na exit\n".as_bytes()
+        "a begin m 1\na resume\na reply NULL\na name b\na start #0\na user\na fatal 3 EPERM\na fatal 0 access\na doom 31\na exit\n".as_bytes()
     );
     Ok(())
 }

@@ -50,7 +50,7 @@ fn shown(
 
 #[test]
 fn contents(rt: HostRuntime) -> Result<(), Fail> {
-    let owner = Some(ThreadIx(20));
+    let owner = Some(ThreadIx(28));
     let mut bytes = Piece::new();
     bytes.push(0x7a);
     bytes.push(0x61);
