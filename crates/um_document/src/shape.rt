@@ -9,46 +9,82 @@ use um_base::Kind;
 /// The lists of entries.
 #[derive(Clone, Copy, PartialEq, Eq)]
 pub enum Section {
+    /// `pool`: resource pools, at most 4.
     Pool,
+    /// `partition`: memory partitions, at most 32.
     Partition,
+    /// `domain`: memory domains, at most 8.
     Domain,
+    /// `object`: kernel objects, at most 96.
     Object,
+    /// `boot`: threads that are ready from the beginning, at most 28.
     Boot,
+    /// `script`: scripts, at most 32.
     Script,
 }
 
-/// The keys of all tables.
+/// The keys of all tables, each written as its name in lower case with `_` between words.
 #[derive(Clone, Copy, PartialEq, Eq)]
 pub enum Key {
+    /// Of the whole: the version of the form, 1.
     Version,
+    /// Of the whole: the profile of the memory protection unit.
     Mpu,
+    /// Of the whole: how many regions that unit has, 4 to 32.
     Regions,
+    /// Of the whole: what a fatal error does.
     Oops,
+    /// Of the whole: the bytes of the read-only data, at most 65,536.
     Rodata,
+    /// Of the whole the section, of a boot entry the name of its resource pool (`k_thread_heap_assign`).
     Pool,
+    /// Of the whole: the section (`K_APPMEM_PARTITION_DEFINE`).
     Partition,
+    /// Of the whole the section, of a boot entry the name of its memory domain (`k_mem_domain`).
     Domain,
+    /// Of the whole: the section.
     Object,
+    /// Of the whole: the section.
     Boot,
+    /// Of the whole the section, of a boot entry the name of its script.
     Script,
+    /// Of an entry: its name, of 1 to 24 letters, digits or `_`.
     Name,
+    /// Bytes: of a pool 0 to 65,536, of a partition and a thread stack 1 to 65,536, of a pipe 1 to 256.
     Size,
+    /// Of a partition: its attribute, in Zephyr `k_mem_partition_attr_t`.
     Attr,
+    /// Of a partition: the bytes at its start, at most its size.
     Data,
+    /// Of a domain: the names of its partitions.
     Partitions,
+    /// Of an object: its kind, in Zephyr `k_objects`.
     Kind,
+    /// Of an object: whether all threads have the permission.
     Public,
+    /// Of a semaphore: its count, 0 to its limit.
     Count,
+    /// Of a semaphore: its limit, 1 to 4,294,967,295.
     Limit,
+    /// Of a mutex: whether it is initialised.
     Init,
+    /// Of a message queue: bytes of a message, 1 to 256.
     MsgSize,
+    /// Of a message queue: how many messages it holds, 1 to 64.
     MaxMsgs,
+    /// Of a stack: how many values of 4 bytes it holds, 1 to 64.
     Entries,
+    /// Of a boot entry: the name of its thread object.
     Thread,
+    /// Of a boot entry: the name of its thread stack.
     Stack,
+    /// Of a boot entry: -16 to 14; a lower number is a higher priority.
     Priority,
+    /// Of a boot entry: user or supervisor.
     Mode,
+    /// Of a boot entry: the names of the objects that it has the permission for.
     Grants,
+    /// Of a script: its lines, 1 to 1,000.
     Lines,
 }
 

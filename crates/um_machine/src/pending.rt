@@ -21,55 +21,66 @@ pub enum Refusal {
 /// How many bytes are copied in or probed.
 #[derive(Clone, Copy, PartialEq, Eq)]
 pub enum Amount {
+    /// So many bytes.
     Bytes(u32),
     /// One message of the queue at this address.
     MessageOf(Addr),
 }
 
-/// A step that a thread has still to make in its present instruction.
+/// A step that a thread has still to make in its present instruction. Registers are 0 to 7, sizes bytes,
+/// and numbers of domains, scripts and rows those of the image.
 #[derive(Clone, Copy, PartialEq, Eq)]
 pub enum Pending {
     /// Begins the line of its place.
     Begin,
     /// Ends after the last line.
     Exit,
+    /// Looks for an object of this kind, or of any, in the wanted state (Zephyr: the verification of system call arguments).
     Check {
         addr: Addr,
         kind: Option<Kind>,
         want: Want,
         refusal: Refusal,
     },
+    /// Reads a number of 1, 2 or 4 bytes into a register.
     Load {
         to: u8,
         addr: Addr,
         size: u32,
     },
+    /// Writes the lowest 1, 2 or 4 bytes of a number.
     Store {
         addr: Addr,
         size: u32,
         value: u32,
     },
+    /// Executes the 4 bytes at an address.
     Fetch {
         addr: Addr,
     },
+    /// Asks whether the thread may write there.
     Probe {
         addr: Addr,
         amount: Amount,
     },
+    /// Copies bytes of the thread into the buffer (Zephyr: `k_usermode_from_copy`).
     CopyIn {
         addr: Addr,
         amount: Amount,
     },
-    /// Copies the buffer out.
+    /// Copies the buffer out (Zephyr: `k_usermode_to_copy`).
     CopyOut {
         addr: Addr,
     },
+    /// Copies a text in that a zero ends, of at most 32 bytes with it (Zephyr: `k_usermode_string_copy`).
     CopyStr {
         addr: Addr,
     },
+    /// Sets the bytes of a thread stack to zero.
     Erase {
         stack: Row,
     },
+    /// Does what the call asks of the contents of the object at an address.
     Work {
         addr: Addr,
         ask: Ask,
@@ -81,10 +92,12 @@ pub enum Pending {
         reply: Option<Reply>,
         to: Option<u8>,
     },
+    /// Gives a thread the permission for the object at an address.
     Grant {
         who: ThreadIx,
         addr: Addr,
     },
+    /// Gives a new thread the permission for its own thread object.
     Own {
         who: ThreadIx,
     },
@@ -92,10 +105,12 @@ pub enum Pending {
     Inherit {
         who: ThreadIx,
     },
+    /// Takes the permission of a thread away for the object at an address.
     DropPair {
         who: ThreadIx,
         addr: Addr,
     },
+    /// Makes the object at an address public.
     Publish {
         addr: Addr,
     },
@@ -105,42 +120,53 @@ pub enum Pending {
         strict: bool,
         undo: Option<Addr>,
     },
+    /// Marks the object at an address as uninitialised.
     ClearInit {
         addr: Addr,
     },
+    /// Gives a thread the name in the buffer.
     Named {
         who: ThreadIx,
     },
+    /// Takes a free address for a new object of a kind.
     Reserve {
         kind: Kind,
     },
+    /// Lets the new object at an address stand.
     Born {
         addr: Addr,
     },
+    /// Takes bytes of the thread's resource pool, a multiple of 8.
     Buffer {
         size: u32,
     },
+    /// Gives bytes back to the thread's resource pool, a multiple of 8.
     Unbuffer {
         size: u32,
     },
+    /// Initialises a domain, with at most 4 partitions.
     DomInit {
         domain: u8,
         parts: PartRefs,
     },
+    /// Adds a partition to a domain.
     DomAdd {
         domain: u8,
         range: Range,
         attr: Attr,
     },
+    /// Removes the partition of this start and size from a domain.
     DomRemove {
         domain: u8,
         range: Range,
         attr: Attr,
     },
+    /// Moves a thread to a domain.
     DomMove {
         domain: u8,
         who: ThreadIx,
     },
+    /// Starts a thread at the first line of a script, on the thread stack of a row; priority -16 to 14.
     Start {
         who: ThreadIx,
         script: u8,
@@ -148,9 +174,11 @@ pub enum Pending {
         priority: i8,
         mode: Mode,
     },
+    /// Goes to user mode for good, and to the first line of a script.
     EnterUser {
         script: u8,
     },
+    /// Fails, with the reason 0 (CPU exception), 3 (oops) or 4 (panic).
     Fatal {
         reason: u8,
         cause: Cause,
@@ -159,7 +187,7 @@ pub enum Pending {
     Drops {
         from: u8,
     },
-    /// Dooms the threads from this one on.
+    /// Dooms the thread indices from this one on, 0 to 31.
     Dooms {
         from: u8,
     },

@@ -10,35 +10,51 @@ use um_base::{Image, Mode, Piece, ROWS, Reply, Row, ThreadIx, Told};
 /// How far a thread has come.
 #[derive(Clone, Copy, PartialEq, Eq)]
 pub enum Life {
+    /// None was ever started on this index.
     Unborn,
+    /// It was started and goes on.
     Living,
+    /// It has exited or failed; the steps of its end may be left.
     Ended,
 }
 
 /// A line of a script, counted from 0, and the turns that are left of the repeat round it.
 #[derive(Clone, Copy, PartialEq, Eq)]
 pub struct Place {
+    /// The number of the script, 0 to 31.
     pub script: u8,
+    /// 0 to 1,000; the number of lines where none is left.
     pub line: u16,
+    /// Turns of the `repeat` round the line that are left, 0 to 1,000.
     pub left: u16,
 }
 
-/// A thread.
+/// A thread (`k_thread`), as the machine has it for its index.
 #[derive(Drop)]
 pub struct Thread {
+    /// How far it has come.
     pub life: Life,
+    /// Whether it may begin no line and not exit.
     pub doomed: bool,
+    /// User or supervisor.
     pub mode: Mode,
+    /// The number of the memory domain that it is a member of, 0 to 7.
     pub domain: u8,
+    /// The row of its thread stack.
     pub stack: Row,
+    /// -16 to 14; a lower number is a higher priority.
     pub priority: i8,
+    /// The number of its resource pool, 0 to 3.
     pub pool: Option<u8>,
+    /// r0 to r7.
     pub registers: [u32; 8],
+    /// The line that it makes, or makes next where it is at rest.
     pub place: Place,
+    /// The steps that are left of its instruction. None: it is at rest.
     pub pending: Pendings,
     /// What its call has worked out as the answer.
     pub reply: Reply,
-    /// The bytes that its call copies.
+    /// The bytes that its call copies, at most 256.
     pub buffer: Piece,
     /// What it was told when it was woken.
     pub told: Option<Told>,
