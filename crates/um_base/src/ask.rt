@@ -36,9 +36,8 @@ pub enum Ask {
         max_msgs: u32,
         pool: u8,
     },
-    /// `k_msgq_put`, with the bytes of the message.
+    /// `k_msgq_put`, of the message that the call gives.
     MsgqPut {
-        message: Piece,
         timeout: Timeout,
     },
     /// `k_msgq_get`.
@@ -69,10 +68,9 @@ pub enum Ask {
         size: u32,
         pool: u8,
     },
-    /// `k_pipe_write`: the length that the call gives, and the bytes up to it, of which at most 256 are kept.
+    /// `k_pipe_write`: so many of the bytes that the call gives, of which at most 256 are kept.
     PipeWrite {
         length: u32,
-        bytes: Piece,
         timeout: Timeout,
     },
     /// `k_pipe_read`: at most so many bytes.
@@ -104,4 +102,6 @@ pub struct Waiter {
     pub priority: i8,
     /// Its own ask, with `K_FOREVER`.
     pub ask: Ask,
+    /// The bytes that its call gives: a message, or what it writes to a pipe. Other calls give none.
+    pub bytes: Piece,
 }

@@ -1,10 +1,31 @@
 //! A sink over a writer of std.
+ghost use Rattle.std.specs.Io.{WritesAtMost};
+ghost use Rattle.um_io.specs.Bytes.{TakesFront};
 
 use crate::{Failed, Sink};
-use std::io::Write;
+use std::io::{ErrorKind, Write};
+
+/// One write, which is tried again where a signal interrupts it.
+fn write_again<W: Write>(writer: &mut W, piece: &[u8]) -> Result<usize, Failed>
+    ensures bound { WritesAtMost result piece.now }
+    ensures bytes { TakesFront (W.contents writer.old) (W.contents writer.new) result piece.now }
+{
+    for _ in 0..u64::MAX {
+        match writer.write(piece) {
+            Ok(count) => return Ok(count),
+            Err(e) => {
+                if e.kind() != ErrorKind::Interrupted {
+                    return Err(Failed);
+                }
+            }
+        }
+    }
+    Err(Failed)
+}
 
 /// A writer, with a count of its errors. It tells the bytes taken where the writer does, and
-/// promises no room. A writer that takes nothing of a piece that isn't empty has failed.
+/// promises no room. A writer that takes nothing of a piece that isn't empty has failed. A write
+/// that a signal interrupts is no error: it is tried again.
 #[derive(Drop)]
 pub struct StdSink<W: Write + Drop> {
     inner: W,
@@ -50,7 +71,7 @@ impl<W: Write + Drop> Sink for StdSink<W> {
         ensures faults { CountsErrors (⟦<Self as Sink>⟧.faults self.old)
             (⟦<Self as Sink>⟧.faults self.new) result }
     {
-        match self.inner.write(piece) {
+        match write_again(&mut self.inner, piece) {
             Ok(count) if count > 0 || piece.is_empty() => Ok(count),
             _ => {
                 self.faults = self.faults.saturating_add(1);

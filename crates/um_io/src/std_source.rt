@@ -1,10 +1,31 @@
 //! A source over a reader of std.
+ghost use Rattle.std.specs.Io.{ReadsAtMost};
+ghost use Rattle.std.specs.Io.KnownBytes.{ReadConsumes};
 ghost use Rattle.std.specs.Prelude.{◌≤◌, ◌-◌, ◌^◌};
 
 use crate::{Failed, Source};
-use std::io::Read;
+use std::io::{ErrorKind, Read};
+
+/// One read, which is tried again where a signal interrupts it.
+fn read_again<R: Read>(reader: &mut R, into: &mut [u8]) -> Result<usize, Failed>
+    ensures bound { ReadsAtMost result into.new }
+    ensures bytes { ReadConsumes (R.remaining reader.old) (R.remaining reader.new) result into.new }
+{
+    for _ in 0..u64::MAX {
+        match reader.read(into) {
+            Ok(count) => return Ok(count),
+            Err(e) => {
+                if e.kind() != ErrorKind::Interrupted {
+                    return Err(Failed);
+                }
+            }
+        }
+    }
+    Err(Failed)
+}
 
 /// A reader, with a count of its errors. It tells the bytes that are left where the reader does.
+/// A read that a signal interrupts is no error: it is tried again.
 #[derive(Drop)]
 pub struct StdSource<R: Read + Drop> {
     inner: R,
@@ -50,9 +71,9 @@ impl<R: Read + Drop> Source for StdSource<R> {
         ensures faults { CountsErrors (⟦<Self as Source>⟧.faults self.old)
             (⟦<Self as Source>⟧.faults self.new) result }
     {
-        match self.inner.read(into) {
+        match read_again(&mut self.inner, into) {
             Ok(count) => Ok(count),
-            Err(_) => {
+            Err(Failed) => {
                 self.faults = self.faults.saturating_add(1);
                 Err(Failed)
             }

@@ -63,15 +63,16 @@ fn kind_of(act: &Act) -> usize {
 
 /// The next event, made by a machine that runs ahead: the next step of one of the threads from this one on, or what cleans.
 fn next(ahead: &mut Matrix<'_>, first: u8) -> Option<Event> {
+    let mut act = Act::Resume;
     for k in 0..3 {
         let thread = ThreadIx((first % 3 + k) % 3);
-        if let Some(act) = ahead.advance(thread) {
+        if ahead.advance(thread, &mut act) {
             return Some(Event { thread, act });
         }
     }
     for x in 0..ROWS {
         let thread = ThreadIx(0);
-        if let Some(act) = ahead.clean(thread, x) {
+        if ahead.clean(thread, x, &mut act) {
             return Some(Event { thread, act });
         }
     }

@@ -200,7 +200,7 @@ steps_of image t me (Instr.MsgqInit object msg_size max_msgs) =
 steps_of image t me (Instr.MsgqPut object addr timeout) =
     let x = value_of me.registers object in
     needs x Kind.Msgq Want.Init ∷ Pending.CopyIn (to_addr (value_of me.registers addr)) (Amount.MessageOf (to_addr x))
-    ∷ work x (Ask.MsgqPut [] timeout) ∷ answer
+    ∷ work x (Ask.MsgqPut timeout) ∷ answer
 steps_of image t me (Instr.MsgqGet object addr timeout) =
     let x = value_of me.registers object in
     let a = to_addr (value_of me.registers addr) in
@@ -228,7 +228,7 @@ steps_of image t me (Instr.PipeWrite object addr length timeout) =
     let x = value_of me.registers object in
     let n = value_of me.registers length in
     needs x Kind.Pipe Want.Init ∷ Pending.CopyIn (to_addr (value_of me.registers addr)) (Amount.Bytes n)
-    ∷ work x (Ask.PipeWrite n [] timeout) ∷ answer
+    ∷ work x (Ask.PipeWrite n timeout) ∷ answer
 steps_of image t me (Instr.PipeRead object addr length timeout) =
     let x = value_of me.registers object in
     let a = to_addr (value_of me.registers addr) in

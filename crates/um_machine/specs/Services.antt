@@ -140,10 +140,6 @@ mutex_act owner depth ws who _ = answers (Contents.Mutex owner depth) ws Reply.V
 abbrev pub is_getter : Waiter → Bool
 is_getter w = elim w.ask as (λ _. Bool) [ Ask.MsgqGet timeout ↦ true | _ ↦ false ]
 
-abbrev pub message_of : Ask → List ℕ
-message_of (Ask.MsgqPut message timeout) = message
-message_of _ = []
-
 -- a put, with the waiting getters in the order of service
 abbrev pub msgq_put : ℕ → ℕ → List (List ℕ) → List Waiter → Waiter → List ℕ → Timeout → List Waiter → Acted
 msgq_put size most messages ws who message timeout [] =
@@ -159,14 +155,14 @@ msgq_put size most messages ws who message timeout (first ∷ _) =
     }
 
 abbrev pub is_putter : Waiter → Bool
-is_putter w = elim w.ask as (λ _. Bool) [ Ask.MsgqPut message timeout ↦ true | _ ↦ false ]
+is_putter w = elim w.ask as (λ _. Bool) [ Ask.MsgqPut timeout ↦ true | _ ↦ false ]
 
 -- a get of the first message, with the waiting putters in the order of service
 abbrev pub msgq_take : ℕ → ℕ → List ℕ → List (List ℕ) → List Waiter → List Waiter → Acted
 msgq_take size most message rest ws [] = gives (queue size most rest) ws (Reply.Num 0) message
 msgq_take size most message rest ws (first ∷ _) =
     record {
-      contents = queue size most (rest ++ message_of first.ask ∷ []);
+      contents = queue size most (rest ++ first.bytes ∷ []);
       waiters = without first.thread.0 ws;
       answer = Answer.Now (Reply.Num 0);
       taken = message;
@@ -192,8 +188,8 @@ msgq_purge size most ws =
     }
 
 abbrev pub msgq_act : ℕ → ℕ → List (List ℕ) → List Waiter → Waiter → Ask → Acted
-msgq_act size most messages ws who (Ask.MsgqPut message timeout) =
-    msgq_put size most messages ws who message timeout (in_order (filter is_getter ws))
+msgq_act size most messages ws who (Ask.MsgqPut timeout) =
+    msgq_put size most messages ws who who.bytes timeout (in_order (filter is_getter ws))
 msgq_act size most messages ws who (Ask.MsgqGet timeout) = msgq_get size most messages ws who timeout
 msgq_act size most messages ws who Ask.MsgqPeek = msgq_peek size most messages ws
 msgq_act size most messages ws who Ask.MsgqPurge = msgq_purge size most ws
@@ -229,15 +225,11 @@ abbrev pub read_length : Ask → ℕ
 read_length (Ask.PipeRead length timeout) = length
 read_length _ = 0
 
-abbrev pub written_bytes : Ask → List ℕ
-written_bytes (Ask.PipeWrite length bytes timeout) = bytes
-written_bytes _ = []
-
 abbrev pub is_reader : Waiter → Bool
 is_reader w = elim w.ask as (λ _. Bool) [ Ask.PipeRead length timeout ↦ true | _ ↦ false ]
 
 abbrev pub is_writer : Waiter → Bool
-is_writer w = elim w.ask as (λ _. Bool) [ Ask.PipeWrite length bytes timeout ↦ true | _ ↦ false ]
+is_writer w = elim w.ask as (λ _. Bool) [ Ask.PipeWrite length timeout ↦ true | _ ↦ false ]
 
 -- readers, in the order of service, are served while a byte is there: the bytes that are left, and what they are told
 abbrev pub readers_served : List Waiter → List ℕ → List ℕ × List (ThreadIx × Told)
@@ -253,7 +245,7 @@ writers_served size [] bytes = (bytes, [])
 writers_served size (w ∷ ws) bytes =
     if nat_le size (length bytes) then (bytes, [])
     else
-    (let put = take (size - length bytes) (written_bytes w.ask) in
+    (let put = take (size - length bytes) w.bytes in
     let rest = writers_served size ws (bytes ++ put) in (rest.0, told w (Reply.Num (length put)) [] ∷ rest.1))
 
 -- the waiters that weren't woken
@@ -296,7 +288,7 @@ pipe_read size bytes closed ws who n timeout =
     else blocks (pipe size bytes closed) ws who timeout Errno.EAGAIN
 
 abbrev pub pipe_act : ℕ → List ℕ → Bool → List Waiter → Waiter → Ask → Acted
-pipe_act size bytes closed ws who (Ask.PipeWrite n given timeout) = pipe_write size bytes closed ws who n given timeout
+pipe_act size bytes closed ws who (Ask.PipeWrite n timeout) = pipe_write size bytes closed ws who n who.bytes timeout
 pipe_act size bytes closed ws who (Ask.PipeRead n timeout) = pipe_read size bytes closed ws who n timeout
 pipe_act size bytes closed ws who Ask.PipeReset = wakes_all (pipe size [] closed) ws Reply.Void Errno.ECANCELED
 pipe_act size bytes closed ws who Ask.PipeClose = wakes_all (pipe size bytes true) ws Reply.Void Errno.EPIPE

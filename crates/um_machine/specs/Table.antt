@@ -53,18 +53,18 @@ abbrev pub amount_of : State → Amount → ℕ
 amount_of s (Amount.Bytes n) = n
 amount_of s (Amount.MessageOf a) = message_size (object_at s (row_of s a)).contents
 
--- what a call asks, with the bytes of the caller's buffer
-abbrev pub full_ask : List ℕ → Ask → Ask
-full_ask buffer (Ask.MsgqPut message timeout) = Ask.MsgqPut buffer timeout
-full_ask buffer (Ask.PipeWrite length bytes timeout) = Ask.PipeWrite length buffer timeout
-full_ask buffer ask = ask
+-- the bytes that a call gives of its buffer
+abbrev pub bytes_given : List ℕ → Ask → List ℕ
+bytes_given buffer (Ask.MsgqPut timeout) = buffer
+bytes_given buffer (Ask.PipeWrite length timeout) = buffer
+bytes_given buffer ask = []
 
 -- what the work of a call does with the object
 abbrev pub work_of : State → ℕ → Addr → Ask → Acted
 work_of s t a ask =
     let me = thread_at s t in
     let o = object_at s (row_of s a) in
-    acted o.contents o.waiters (record { thread = to_thread t; priority = me.priority; ask = full_ask me.buffer ask })
+    acted o.contents o.waiters (record { thread = to_thread t; priority = me.priority; ask = ask; bytes = bytes_given me.buffer ask })
 
 -- the replies of the woken
 abbrev pub replies_of : List (ThreadIx × Told) → List (ThreadIx × Reply)

@@ -7,14 +7,17 @@ ghost use Rattle.um_machine.specs.Waiting.{AreWaiters};
 
 use crate::served::Served;
 use std::marker::Model;
-use um_base::{Ask, THREADS, ThreadIx, Waiter};
+use um_base::{Ask, Piece, THREADS, ThreadIx, Waiter};
 
 /// A blank.
-const NO_WAITER: Waiter = Waiter {
-    thread: ThreadIx(0),
-    priority: 0,
-    ask: Ask::SemGive,
-};
+fn no_waiter() -> Waiter {
+    Waiter {
+        thread: ThreadIx(0),
+        priority: 0,
+        ask: Ask::SemGive,
+        bytes: Piece::new(),
+    }
+}
 
 /// Those who wait on an object, in the order in which they began to. Each is a thread of its own.
 #[derive(Drop)]
@@ -102,7 +105,7 @@ impl Waiters {
         ensures { result ≡ [] }
     {
         Waiters {
-            items: [NO_WAITER; THREADS],
+            items: [no_waiter(); THREADS],
             len: 0,
         }
     }

@@ -8,7 +8,7 @@ use Rattle.um_base.specs.declared.ask.Waiter.{Waiter}
 use Rattle.um_base.specs.declared.names.Reply.TheVariants as Reply
 use Rattle.um_base.specs.declared.names.ThreadIx.{ThreadIx}
 use Rattle.um_machine.specs.Contents.{Pipe}
-use Rattle.um_machine.specs.Services.{told, without, still_waiting, read_length, written_bytes, readers_served, writers_served, is_empty}
+use Rattle.um_machine.specs.Services.{told, without, still_waiting, read_length, readers_served, writers_served, is_empty}
 
 -- of those who are served some were: these are woken, and with the others it comes to the whole
 pub record SoFar (whole rest : List ℕ × List (ThreadIx × Told)) (woken : List (ThreadIx × Told)) : Type 0 where
@@ -50,9 +50,9 @@ writers-no_room size (w ∷ ws) bytes e = rw e refl
 -- one writer is served
 pub writer-served : (whole : List ℕ × List (ThreadIx × Told)) (size : ℕ) (before after : List Waiter) (w : Waiter) (bytes : List ℕ) (woken : List (ThreadIx × Told)) → before ≡ w ∷ after → nat_le size (length bytes) ≡ false
     → SoFar whole (writers_served size before bytes) woken
-    → SoFar whole (writers_served size after (bytes ++ take (size - length bytes) (written_bytes w.ask))) (woken ++ told w (Reply.Num (length (take (size - length bytes) (written_bytes w.ask)))) [] ∷ [])
+    → SoFar whole (writers_served size after (bytes ++ take (size - length bytes) w.bytes)) (woken ++ told w (Reply.Num (length (take (size - length bytes) w.bytes))) [] ∷ [])
 writer-served whole size before after w bytes woken e room h =
-    let put = take (size - length bytes) (written_bytes w.ask) in
+    let put = take (size - length bytes) w.bytes in
     SoFar-more whole (writers_served size (w ∷ after) bytes) (writers_served size after (bytes ++ put)) woken (told w (Reply.Num (length put)) []) (rw room refl) (rw room refl) (rw e at h)
 
 -- all wait where none is woken

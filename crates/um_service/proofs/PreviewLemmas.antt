@@ -12,7 +12,7 @@ use Rattle.um_base.specs.declared.names.ThreadIx.{ThreadIx}
 use Rattle.um_base.specs.declared.names.Timeout.{Timeout}
 use Rattle.um_machine.specs.declared.served.Served.{Served}
 use Rattle.um_machine.specs.declared.served.Served.TheVariants as Kinds
-use Rattle.um_machine.specs.Services.{in_order, all_told, is_empty, is_reader, is_writer, read_length, written_bytes, readers_served, writers_served, pipe_write, pipe_read}
+use Rattle.um_machine.specs.Services.{in_order, all_told, is_empty, is_reader, is_writer, read_length, readers_served, writers_served, pipe_write, pipe_read}
 use Rattle.um_machine.specs.Table.{replies_of}
 use Rattle.um_service.specs.declared.order.Queued.{Queued}
 use Rattle.um_service.specs.Preview.{said, queued, queue_of, shares}
@@ -65,13 +65,13 @@ pub writers-share : (size : ℕ) (ws : List Waiter) (bytes : List ℕ) → repli
 writers-share size [] bytes = refl
 writers-share size (w ∷ ws) bytes =
     let room = size - length bytes in
-    let put = take room (written_bytes w.ask) in
+    let put = take room w.bytes in
     let rest = writers-share size ws (bytes ++ put) in
     elim (nat_le size (length bytes)) as (λ b. nat_le size (length bytes) ≡ b → replies_of (writers_served size (w ∷ ws) bytes).1 ≡ shares (map (queued Kinds.Writers) (w ∷ ws)) room) [
       | true ↦ λ e. (let none : room ≡ 0 = grind (arith, nat_tests) in rw (e, none) refl)
       | false ↦ λ e. (
           let some : (room == 0) ≡ false = grind (arith, nat_tests) in
-          let taken = length-take room (written_bytes w.ask) in
+          let taken = length-take room w.bytes in
           rw e
           (one_shares (queued Kinds.Writers w) (map (queued Kinds.Writers) ws) room (length put) (size - length (bytes ++ put)) (replies_of (writers_served size ws (bytes ++ put)).1) some
           (omega arith) (omega (arith, length-append bytes put)) rest)

@@ -1,11 +1,10 @@
 -- What an act says, seen from who waits: each waiter as far as that depends on it, in the order of service.
 use Rattle.std.specs.Prelude.{ℕ, ◌-◌, ◌==◌, min, if◌then◌else◌, List, [], ◌∷◌, length, map, int_lt}
-use Rattle.um_base.specs.declared.ask.Ask.{Ask}
 use Rattle.um_base.specs.declared.ask.Waiter.{Waiter}
 use Rattle.um_base.specs.declared.names.Reply.{Reply}
 use Rattle.um_base.specs.declared.names.ThreadIx.{ThreadIx}
 use Rattle.um_machine.specs.declared.served.Served.{Served}
-use Rattle.um_machine.specs.Services.{Acted, in_order, read_length, written_bytes}
+use Rattle.um_machine.specs.Services.{Acted, in_order, read_length}
 use Rattle.um_machine.specs.Serving.{served}
 use Rattle.um_machine.specs.Table.{replies_of}
 use Rattle.um_service.specs.declared.order.Queued.{Queued}
@@ -16,15 +15,15 @@ abbrev pub said : Acted → Said
 said acted = record { answer = acted.answer; woken = replies_of acted.woken }
 
 -- how many bytes a waiter reads, or has to write, among those who do so
-abbrev pub amount : Served → Ask → ℕ
-amount Served.Readers ask = read_length ask
-amount Served.Writers ask = length (written_bytes ask)
-amount Served.All ask = 0
-amount Served.Getters ask = 0
-amount Served.Putters ask = 0
+abbrev pub amount : Served → Waiter → ℕ
+amount Served.Readers w = read_length w.ask
+amount Served.Writers w = length w.bytes
+amount Served.All w = 0
+amount Served.Getters w = 0
+amount Served.Putters w = 0
 
 abbrev pub queued : Served → Waiter → Queued
-queued which w = record { thread = w.thread; priority = w.priority; amount = amount which w.ask }
+queued which w = record { thread = w.thread; priority = w.priority; amount = amount which w }
 
 -- one goes before those that are served after it
 abbrev pub with_queued : Queued → List Queued → List Queued

@@ -5,7 +5,7 @@ ghost use Rattle.um_base.specs.declared.ask.Waiter.{Waiter};
 ghost use Rattle.um_machine.specs.declared.contents.Contents.TheVariants as Contents;
 ghost use Rattle.um_machine.specs.Serving.{served};
 ghost use Rattle.um_machine.specs.declared.served.Served.TheVariants as Served;
-ghost use Rattle.um_machine.specs.Services.{in_order, message_of, msgq_put, msgq_take, msgq_get, msgq_peek, msgq_purge, msgq_act};
+ghost use Rattle.um_machine.specs.Services.{in_order, msgq_put, msgq_take, msgq_get, msgq_peek, msgq_purge, msgq_act};
 ghost use Rattle.um_service.specs.Left.{left};
 ghost use Rattle.um_service.specs.Preview.{said};
 
@@ -15,38 +15,27 @@ use crate::waking::{answers, blocks, gives, wake_all, wakes};
 use um_base::{Answer, Ask, Errno, Piece, Reply, THREADS, Timeout, Waiter};
 use um_machine::{MessageQueue, Served, Waiters};
 
-/// Hands a message to the getter that is served first, or puts it behind the others, or waits for room.
+/// Hands the caller's message to the getter that is served first, or puts it behind the others, or waits for room.
 fn put(
     queue: &mut MessageQueue,
     waiters: &mut Waiters,
     who: &Waiter,
-    message: &Piece,
     timeout: Timeout,
     outcome: &mut Outcome,
 )
     requires { who.now.thread.0 < THREADS }
-    ensures { msgq_put queue.old.size queue.old.most queue.old.messages waiters.old who.now message.now timeout (in_order (served Served.Getters waiters.old))
+    ensures { msgq_put queue.old.size queue.old.most queue.old.messages waiters.old who.now who.now.bytes timeout (in_order (served Served.Getters waiters.old))
         ≡ left (Contents.Msgq queue.new) waiters.new outcome.new }
 {
     match waiters.take_first(Served::Getters) {
-        Some(first) => wakes(Reply::Num(0), &first, message, outcome),
+        Some(first) => wakes(Reply::Num(0), &first, &who.bytes, outcome),
         None => {
             if queue.len() >= queue.most() as usize {
                 return blocks(waiters, who, timeout, Errno::ENOMSG, outcome);
             }
-            queue.push(message);
+            queue.push(&who.bytes);
             answers(Reply::Num(0), outcome);
         }
-    }
-}
-
-/// The message that a waiting putter puts.
-fn message_of(ask: &Ask) -> Piece
-    ensures { result ≡ message_of ask.now }
-{
-    match ask {
-        Ask::MsgqPut { message, .. } => *message,
-        _ => Piece::new(),
     }
 }
 
@@ -58,7 +47,7 @@ fn pass(queue: &mut MessageQueue, waiters: &mut Waiters, message: &Piece, outcom
 {
     match waiters.take_first(Served::Putters) {
         Some(first) => {
-            queue.push(&message_of(&first.ask));
+            queue.push(&first.bytes);
             wakes(Reply::Num(0), &first, &Piece::new(), outcome);
             outcome.taken = *message;
         }
@@ -107,9 +96,9 @@ pub fn act(queue: &mut MessageQueue, waiters: &mut Waiters, who: &Waiter, outcom
     requires { who.now.thread.0 < THREADS }
     ensures { msgq_act queue.old.size queue.old.most queue.old.messages waiters.old who.now who.now.ask ≡ left (Contents.Msgq queue.new) waiters.new outcome.new }
 {
-    match &who.ask {
-        Ask::MsgqPut { message, timeout } => put(queue, waiters, who, message, *timeout, outcome),
-        Ask::MsgqGet { timeout } => get(queue, waiters, who, *timeout, outcome),
+    match who.ask {
+        Ask::MsgqPut { timeout } => put(queue, waiters, who, timeout, outcome),
+        Ask::MsgqGet { timeout } => get(queue, waiters, who, timeout, outcome),
         Ask::MsgqPeek => peek(queue, outcome),
         Ask::MsgqPurge => purge(queue, waiters, outcome),
         Ask::MsgqUsed => answers(Reply::Num(queue.len() as u32), outcome),
@@ -158,9 +147,9 @@ fn says_peek(queue: &MessageQueue) -> Said
 pub fn says(queue: &MessageQueue, waiters: &Waiters, who: &Waiter) -> Said
     ensures { said (msgq_act queue.now.size queue.now.most queue.now.messages waiters.now who.now who.now.ask) ≡ result }
 {
-    match &who.ask {
-        Ask::MsgqPut { timeout, .. } => says_put(queue, waiters, *timeout),
-        Ask::MsgqGet { timeout } => says_get(queue, waiters, *timeout),
+    match who.ask {
+        Ask::MsgqPut { timeout } => says_put(queue, waiters, timeout),
+        Ask::MsgqGet { timeout } => says_get(queue, waiters, timeout),
         Ask::MsgqPeek => says_peek(queue),
         Ask::MsgqPurge => Said {
             answer: Answer::Now(Reply::Void),

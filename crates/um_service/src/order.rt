@@ -31,18 +31,15 @@ impl Default for Queued {
 }
 
 /// How many bytes a waiter reads, or has to write, among those who do so.
-fn amount(which: Served, ask: &Ask) -> u32
-    ensures { result ≡ amount which ask.now }
+fn amount(which: Served, waiter: &Waiter) -> u32
+    ensures { result ≡ amount which waiter.now }
 {
     match which {
-        Served::Readers => match ask {
-            Ask::PipeRead { length, .. } => *length,
+        Served::Readers => match waiter.ask {
+            Ask::PipeRead { length, .. } => length,
             _ => 0,
         },
-        Served::Writers => match ask {
-            Ask::PipeWrite { bytes, .. } => bytes.len() as u32,
-            _ => 0,
-        },
+        Served::Writers => waiter.bytes.len() as u32,
         Served::All | Served::Getters | Served::Putters => 0,
     }
 }
@@ -54,7 +51,7 @@ fn to_queued(which: Served, waiter: &Waiter) -> Queued
     Queued {
         thread: waiter.thread,
         priority: waiter.priority,
-        amount: amount(which, &waiter.ask),
+        amount: amount(which, waiter),
     }
 }
 

@@ -4,7 +4,7 @@ ghost use Rattle.std.specs.Prelude.{◌≡◌, ◌-◌, ◌<◌, ◌≤◌, ◌+
 ghost use Rattle.um_base.specs.declared.ask.Waiter.{Waiter};
 ghost use Rattle.um_base.specs.declared.names.Reply.TheVariants as Reply;
 ghost use Rattle.um_machine.specs.declared.contents.Contents.TheVariants as Contents;
-ghost use Rattle.um_machine.specs.Services.{in_order, told, is_empty, is_reader, is_writer, read_length, written_bytes, readers_served, writers_served, still_waiting, pipe_write, pipe_take, pipe_read, pipe_act};
+ghost use Rattle.um_machine.specs.Services.{in_order, told, is_empty, is_reader, is_writer, read_length, readers_served, writers_served, still_waiting, pipe_write, pipe_take, pipe_read, pipe_act};
 ghost use Rattle.um_service.specs.Left.{left};
 ghost use Rattle.um_service.specs.Preview.{said};
 
@@ -70,30 +70,18 @@ fn serve_readers(pipe: &mut BytePipe, waiters: &mut Waiters, woken: &mut Woken)
 /// A writer puts its bytes as far as there is room, and is told how many.
 fn serve_writer(pipe: &mut BytePipe, first: &Waiter, woken: &mut Woken)
     requires room { length woken.old < THREADS }
-    ensures left { pipe.new ≡ record pipe.old { bytes = pipe.old.bytes ++ take (pipe.old.size - length pipe.old.bytes) (written_bytes first.now.ask) } }
-    ensures woken { let put = take (pipe.old.size - length pipe.old.bytes) (written_bytes first.now.ask) in
+    ensures left { pipe.new ≡ record pipe.old { bytes = pipe.old.bytes ++ take (pipe.old.size - length pipe.old.bytes) first.now.bytes } }
+    ensures woken { let put = take (pipe.old.size - length pipe.old.bytes) first.now.bytes in
         woken.new ≡ woken.old ++ told first.now (Reply.Num (length put)) [] ∷ [] }
 {
     let room = (pipe.size() as usize).saturating_sub(pipe.len());
-    let bytes = written_bytes(&first.ask);
-    let put = first_bytes(bytes, room);
+    let put = first_bytes(first.bytes.as_slice(), room);
     pipe.append(put);
     let told = Told {
         reply: Reply::Num(put.len() as u32),
         taken: Piece::new(),
     };
     woken.push(first.thread, &told);
-}
-
-/// The bytes that a writer writes.
-fn written_bytes(ask: &Ask) -> &[u8]
-    ensures value { result.now ≡ written_bytes ask.now }
-    ensures few { length result.now ≤ 256 }
-{
-    match ask {
-        Ask::PipeWrite { bytes, .. } => bytes.as_slice(),
-        _ => &[],
-    }
 }
 
 /// Writers are served in the order of service while there is room.
@@ -122,12 +110,11 @@ fn write(
     waiters: &mut Waiters,
     who: &Waiter,
     n: u32,
-    given: &Piece,
     timeout: Timeout,
     outcome: &mut Outcome,
 )
     requires { who.now.thread.0 < THREADS }
-    ensures { pipe_write pipe.old.size pipe.old.bytes pipe.old.closed waiters.old who.now n given.now timeout ≡ left (Contents.Pipe pipe.new) waiters.new outcome.new }
+    ensures { pipe_write pipe.old.size pipe.old.bytes pipe.old.closed waiters.old who.now n who.now.bytes timeout ≡ left (Contents.Pipe pipe.new) waiters.new outcome.new }
 {
     if n == 0 {
         return answers(Reply::Num(0), outcome);
@@ -139,7 +126,7 @@ fn write(
     if pipe.len() >= pipe.size() as usize {
         return blocks(waiters, who, timeout, Errno::EAGAIN, outcome);
     }
-    let put = first_bytes(given.as_slice(), pipe.size() as usize - pipe.len());
+    let put = first_bytes(who.bytes.as_slice(), pipe.size() as usize - pipe.len());
     pipe.append(put);
     answers(Reply::Num(put.len() as u32), outcome);
     serve_readers(pipe, waiters, &mut outcome.woken);
@@ -190,13 +177,11 @@ pub fn act(pipe: &mut BytePipe, waiters: &mut Waiters, who: &Waiter, outcome: &m
     requires { who.now.thread.0 < THREADS }
     ensures { pipe_act pipe.old.size pipe.old.bytes pipe.old.closed waiters.old who.now who.now.ask ≡ left (Contents.Pipe pipe.new) waiters.new outcome.new }
 {
-    match &who.ask {
-        Ask::PipeWrite {
-            length,
-            bytes,
-            timeout,
-        } => write(pipe, waiters, who, *length, bytes, *timeout, outcome),
-        Ask::PipeRead { length, timeout } => read(pipe, waiters, who, *length, *timeout, outcome),
+    match who.ask {
+        Ask::PipeWrite { length, timeout } => {
+            write(pipe, waiters, who, length, timeout, outcome);
+        }
+        Ask::PipeRead { length, timeout } => read(pipe, waiters, who, length, timeout, outcome),
         Ask::PipeReset => {
             pipe.clear();
             wakes_all(waiters, Reply::Void, Errno::ECANCELED, outcome);
@@ -259,13 +244,11 @@ fn says_read(pipe: &BytePipe, waiters: &Waiters, n: u32, timeout: Timeout) -> Sa
 pub fn says(pipe: &BytePipe, waiters: &Waiters, who: &Waiter) -> Said
     ensures { said (pipe_act pipe.now.size pipe.now.bytes pipe.now.closed waiters.now who.now who.now.ask) ≡ result }
 {
-    match &who.ask {
-        Ask::PipeWrite {
-            length,
-            bytes,
-            timeout,
-        } => says_write(pipe, waiters, *length, bytes, *timeout),
-        Ask::PipeRead { length, timeout } => says_read(pipe, waiters, *length, *timeout),
+    match who.ask {
+        Ask::PipeWrite { length, timeout } => {
+            says_write(pipe, waiters, length, &who.bytes, timeout)
+        }
+        Ask::PipeRead { length, timeout } => says_read(pipe, waiters, length, timeout),
         Ask::PipeReset => all_go(waiters, Reply::Void, Errno::ECANCELED),
         Ask::PipeClose => all_go(waiters, Reply::Void, Errno::EPIPE),
         _ => at_once(Reply::Void),

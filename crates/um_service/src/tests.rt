@@ -25,10 +25,25 @@ fn acts(contents: &mut Contents, waiters: &mut Waiters, who: (u8, i8), ask: &Ask
     requires thread { who.0 < THREADS }
     requires sound { IsTrue (is_sound_ask ask.now) }
 {
+    acts_with(contents, waiters, who, ask, &Piece::new())
+}
+
+/// The same of a call that gives bytes.
+fn acts_with(
+    contents: &mut Contents,
+    waiters: &mut Waiters,
+    who: (u8, i8),
+    ask: &Ask,
+    bytes: &Piece,
+) -> (Said, Outcome)
+    requires thread { who.0 < THREADS }
+    requires sound { IsTrue (is_sound_ask ask.now) }
+{
     let waiter = Waiter {
         thread: ThreadIx(who.0),
         priority: who.1,
         ask: *ask,
+        bytes: *bytes,
     };
     let said = says(contents, waiters, &waiter);
     let mut outcome = Outcome::new();
@@ -210,16 +225,9 @@ fn mutexes(rt: HostRuntime) {
 fn queue_of_one() -> (Contents, Waiters) {
     let mut queue = Contents::Msgq(MessageQueue::new(1, 1));
     let mut ws = Waiters::new();
-    let first = Ask::MsgqPut {
-        message: piece(&[1]),
-        timeout: WAITS,
-    };
-    let second = Ask::MsgqPut {
-        message: piece(&[2]),
-        timeout: WAITS,
-    };
-    let _ = acts(&mut queue, &mut ws, (0, 5), &first);
-    let _ = acts(&mut queue, &mut ws, (0, 5), &second);
+    let put = Ask::MsgqPut { timeout: WAITS };
+    let _ = acts_with(&mut queue, &mut ws, (0, 5), &put, &piece(&[1]));
+    let _ = acts_with(&mut queue, &mut ws, (0, 5), &put, &piece(&[2]));
     (queue, ws)
 }
 
@@ -360,18 +368,15 @@ fn pipes(rt: HostRuntime) {
         ),
         (1, &[9], Timeout::NoWait, fails(Errno::EAGAIN)),
     ] {
-        let write = Ask::PipeWrite {
-            length,
-            bytes: if bytes.len() <= 256 {
-                piece(bytes)
-            } else {
-                Piece::new()
-            },
-            timeout,
+        let write = Ask::PipeWrite { length, timeout };
+        let given = if bytes.len() <= 256 {
+            piece(bytes)
+        } else {
+            Piece::new()
         };
         is(
             &rt,
-            &acts(&mut pipe, &mut ws, (0, 5), &write),
+            &acts_with(&mut pipe, &mut ws, (0, 5), &write, &given),
             answer,
             &[],
             &[],
@@ -448,12 +453,11 @@ fn readers_share(rt: HostRuntime) {
     let _ = acts(&mut pipe, &mut ws, (3, 5), &two);
     let write = Ask::PipeWrite {
         length: 4,
-        bytes: piece(&[1, 2, 3, 4]),
         timeout: WAITS,
     };
     is(
         &rt,
-        &acts(&mut pipe, &mut ws, (4, 0), &write),
+        &acts_with(&mut pipe, &mut ws, (4, 0), &write, &piece(&[1, 2, 3, 4])),
         Answer::Now(Reply::Num(4)),
         &[],
         &[(2, Reply::Num(2), &[1, 2]), (1, Reply::Num(2), &[3, 4])],
@@ -467,17 +471,15 @@ fn writers_share(rt: HostRuntime) {
     let mut ws = Waiters::new();
     let four = Ask::PipeWrite {
         length: 4,
-        bytes: piece(&[1, 2, 3, 4]),
         timeout: WAITS,
     };
     let two = Ask::PipeWrite {
         length: 2,
-        bytes: piece(&[5, 6]),
         timeout: WAITS,
     };
-    let _ = acts(&mut pipe, &mut ws, (0, 5), &four);
-    let _ = acts(&mut pipe, &mut ws, (1, 5), &four);
-    let _ = acts(&mut pipe, &mut ws, (2, 3), &two);
+    let _ = acts_with(&mut pipe, &mut ws, (0, 5), &four, &piece(&[1, 2, 3, 4]));
+    let _ = acts_with(&mut pipe, &mut ws, (1, 5), &four, &piece(&[1, 2, 3, 4]));
+    let _ = acts_with(&mut pipe, &mut ws, (2, 3), &two, &piece(&[5, 6]));
     let read = Ask::PipeRead {
         length: 3,
         timeout: WAITS,

@@ -23,7 +23,7 @@ use Rattle.um_machine.specs.Memory.{allowed, bytes_at, le_value, string_from, st
 use Rattle.um_machine.specs.Objects.{verdict, verdict_at, is_live, has_kind, init_verdict, is_gone}
 use Rattle.um_machine.specs.Order.{to_thread}
 use Rattle.um_machine.specs.Services.{Acted, acted}
-use Rattle.um_machine.specs.Table.{act_of, row_of, amount_of, message_size, full_ask, work_of, replies_of, given, set_said, pays, reply_of}
+use Rattle.um_machine.specs.Table.{act_of, row_of, amount_of, message_size, bytes_given, work_of, replies_of, given, set_said, pays, reply_of}
 use Rattle.um_texts.proofs.CoreLemmas.{core, core_thread, core_thread_at, core_object_at}
 
 -- what depends on the core alone is the same of states with one core
@@ -65,7 +65,7 @@ core_amount s (Amount.MessageOf a) = ap (λ (o : Object). message_size o.content
 
 pub core_work : (s : State) (t : ℕ) (a : Addr) (ask : Ask) → work_of (core s) t a ask ≡ work_of s t a ask
 core_work s t a ask =
-    let made : Object → Thread → Acted = λ o m. acted o.contents o.waiters (record { thread = to_thread t; priority = m.priority; ask = full_ask m.buffer ask }) in
+    let made : Object → Thread → Acted = λ o m. acted o.contents o.waiters (record { thread = to_thread t; priority = m.priority; ask = ask; bytes = bytes_given m.buffer ask }) in
     ap (λ (o : Object). made o (thread_at (core s) t)) (core_object_at s (row_of s a)) ∙ ap (λ (m : Thread). made (object_at s (row_of s a)) m) (core_thread_at s t)
 
 pub core_given : (s : State) (x : ℕ) → given (core s) x ≡ given s x

@@ -83,7 +83,7 @@ module _ (ws : List Waiter) (who : Waiter) (apart : AreApart ws) where
   peeks size most (message ∷ rest) = none _ refl refl
 
   queues : (size most : ℕ) (messages : List (List ℕ)) (ask : Ask) → Serves (msgq_act size most messages ws who ask)
-  queues size most messages (Ask.MsgqPut message timeout) = puts size most messages message timeout (in_order (filter is_getter ws)) (some-order is_getter ws)
+  queues size most messages (Ask.MsgqPut timeout) = puts size most messages who.bytes timeout (in_order (filter is_getter ws)) (some-order is_getter ws)
   queues size most messages (Ask.MsgqGet timeout) = gets size most messages timeout
   queues size most messages Ask.MsgqPeek = peeks size most messages
   queues size most messages Ask.MsgqPurge = served-some ws who.thread.0 Errno.ENOMSG is_putter _ apart refl refl
@@ -124,7 +124,7 @@ module _ (ws : List Waiter) (who : Waiter) (apart : AreApart ws) where
       either (n == 0) _ _ (none _ refl refl) (either (not (is_empty bytes)) _ _ (takes_bytes size bytes closed n) (either closed _ _ (none _ refl refl) (wait (pipe size bytes closed) timeout Errno.EAGAIN)))
 
   pipes : (size : ℕ) (bytes : List ℕ) (closed : Bool) (ask : Ask) → Serves (pipe_act size bytes closed ws who ask)
-  pipes size bytes closed (Ask.PipeWrite n given timeout) = writes size bytes closed n given timeout
+  pipes size bytes closed (Ask.PipeWrite n timeout) = writes size bytes closed n who.bytes timeout
   pipes size bytes closed (Ask.PipeRead n timeout) = reads size bytes closed n timeout
   pipes size bytes closed Ask.PipeReset = served-all ws who.thread.0 Errno.ECANCELED _ apart refl refl
   pipes size bytes closed Ask.PipeClose = served-all ws who.thread.0 Errno.EPIPE _ apart refl refl

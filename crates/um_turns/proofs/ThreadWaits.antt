@@ -10,7 +10,7 @@ use Rattle.um_base.specs.declared.names.Reply.{Reply}
 use Rattle.um_base.specs.declared.names.ThreadIx.{ThreadIx}
 use Rattle.um_base.specs.declared.names.Timeout.{Timeout}
 use Rattle.um_machine.specs.declared.contents.Contents.{Contents}
-use Rattle.um_machine.specs.Services.{Acted, with_waiter, in_order, without, told, all_told, blocks, read_length, written_bytes, readers_served, writers_served, still_waiting}
+use Rattle.um_machine.specs.Services.{Acted, with_waiter, in_order, without, told, all_told, blocks, read_length, readers_served, writers_served, still_waiting}
 use Rattle.um_turns.specs.Lines.{stands}
 use Rattle.um_bound.specs.Measure.{one_if}
 use Rattle.um_reach.proofs.Facts.{is_equal, differs, itself, is_not}
@@ -191,7 +191,7 @@ readers-times (v ∷ vs) (b ∷ bytes) u h =
 pub writers-times : (size : ℕ) (vs : List Waiter) (bytes : List ℕ) (u : ℕ) → stands (numbers (writers_served size vs bytes).1) u ≡ true → 1 ≤ times u vs
 writers-times size [] bytes u h = cc
 writers-times size (v ∷ vs) bytes u h =
-    let put = take (size - length bytes) (written_bytes v.ask) in
+    let put = take (size - length bytes) v.bytes in
     let rest = writers_served size vs (bytes ++ put) in
     let found : List (ThreadIx × Told) = told v (Reply.Num (length put)) [] ∷ rest.1 in
     elim (nat_le size (length bytes)) as (λ b. stands (numbers (let both : List ℕ × List (ThreadIx × Told) = if b then (bytes, []) else (rest.0, found) in both.1)) u ≡ true → 1 ≤ times u (v ∷ vs)) [

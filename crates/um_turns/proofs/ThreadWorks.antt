@@ -13,7 +13,7 @@ use Rattle.um_machine.specs.declared.pending.Pending.{Pending}
 use Rattle.um_machine.specs.declared.thread.Thread.{Thread}
 use Rattle.um_machine.specs.Order.{Steps, to_thread}
 use Rattle.um_machine.specs.State.{State, nobody, vacant, thread_at, object_at, with_thread, with_object}
-use Rattle.um_machine.specs.Table.{row_of, full_ask, work_of, replies_of, all_woken, buffer_cost, after_error, after_answer, after_work, at_steps, goes_on}
+use Rattle.um_machine.specs.Table.{row_of, bytes_given, work_of, replies_of, all_woken, buffer_cost, after_error, after_answer, after_work, at_steps, goes_on}
 use Rattle.um_turns.specs.Lines.{stands}
 use Rattle.um_reach.proofs.Cores.{at_set}
 use Rattle.um_reach.proofs.Facts.{is_equal, is_not, left_of, right_of}
@@ -200,7 +200,7 @@ work-made s t a ask rest kept offered =
     let s2 = with_object s x o2 in
     let s3 = all_woken w.woken s2 in
     let me = thread_at s t in
-    let done : IsServed o.waiters t w = served o.waiters (record { thread = to_thread t; priority = me.priority; ask = full_ask me.buffer ask }) (kept.once x) o.contents (full_ask me.buffer ask) in
+    let done : IsServed o.waiters t w = served o.waiters (record { thread = to_thread t; priority = me.priority; ask = ask; bytes = bytes_given me.buffer ask }) (kept.once x) o.contents ask in
     let rest_is = woken-rest w.woken s2 in
     let objects : (y : ℕ) → object_at s3 y ≡ object_at s2 y = λ y. ap (λ (st : State). object_at st y) rest_is in
     let worked : IsWorked s s3 t x (numbers w.woken) w.answer = record {

@@ -11,7 +11,7 @@ use crate::order::Order;
 use crate::turns::Processors;
 use std::alloc::Global;
 use std::slice::from_ref;
-use um_base::{Event, Image, Memory};
+use um_base::{Act, Event, Image, Memory, ThreadIx};
 use um_matrix::Matrix;
 
 /// The events of a run, and the state that they lead to.
@@ -54,7 +54,11 @@ pub fn run<'a>(
     let mut processors = Processors::boot(alloc, image, cpus)?;
     let mut events = Vec::with_capacity(alloc, most)?;
     let mut order = Order::new(pick);
-    while let Some(event) = processors.next(order.next(cpus)) {
+    let mut event = Event {
+        thread: ThreadIx(0),
+        act: Act::Resume,
+    };
+    while processors.next(order.next(cpus), &mut event) {
         note(&mut events, &event);
     }
     Ok(Ran {

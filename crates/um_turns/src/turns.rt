@@ -1,6 +1,6 @@
 //! The processors, the threads that are ready, and the machine.
 
-ghost use Rattle.std.specs.Prelude.{◌≡◌, ◌<◌, ◌≤◌, ℕ, map, Some, None, if◌then◌else◌, [], replicate, slice_get, slice_set, slice_index_or, IfOk, IfSome, IfNone};
+ghost use Rattle.std.specs.Prelude.{◌≡◌, ◌<◌, ◌≤◌, ℕ, map, Some, None, true, false, if◌then◌else◌, [], replicate, slice_get, slice_set, slice_index_or, IfOk, IfSome, IfNone};
 ghost use Rattle.um_base.specs.Lawful.{IsLawful};
 ghost use Rattle.std.specs.List.{list_any};
 ghost use Rattle.um_machine.specs.Objects.{is_gone};
@@ -285,74 +285,71 @@ impl<'a> Processors<'a> {
         }
     }
 
-    /// The next event of a processor that has an object to clean.
-    fn cleans(&mut self, cpu: usize) -> Option<Event>
-        ensures rule { IfSome result (λ event. CleansFirst self.old cpu event self.new) }
-        ensures none { IfNone result (self.new ≡ self.old) }
-        ensures not { IfNone result (CleansNothing self.old cpu) }
+    /// Writes the next event of a processor that has an object to clean, if it can make one now.
+    fn cleans(&mut self, cpu: usize, event: &mut Event) -> bool
+        ensures rule { result ≡ true → CleansFirst self.old cpu event.new self.new }
+        ensures none { result ≡ false → self.new ≡ self.old }
+        ensures not { result ≡ false → CleansNothing self.old cpu }
     {
         let (thread, row) = match self.to_clean(cpu) {
-            None => return None,
+            None => return false,
             Some(next) => next,
         };
-        match self.matrix.clean(thread, row as usize) {
-            None => None,
-            Some(act) => {
-                self.put_off(cpu, &act);
-                self.settle(cpu);
-                Some(Event { thread, act })
-            }
+        if !self.matrix.clean(thread, row as usize, &mut event.act) {
+            return false;
         }
+        event.thread = thread;
+        self.put_off(cpu, &event.act);
+        self.settle(cpu);
+        true
     }
 
-    /// The next event of the thread that a processor runs, which has nothing to clean.
-    fn runs(&mut self, cpu: usize) -> Option<Event>
+    /// Writes the next event of the thread that a processor runs, which has nothing to clean, if it can make one now.
+    fn runs(&mut self, cpu: usize, event: &mut Event) -> bool
         requires { CleansNothing self.old cpu }
-        ensures rule { IfSome result (λ event. RunsOn self.old cpu event self.new) }
-        ensures none { IfNone result (self.new ≡ passed self.old cpu) }
-        ensures not { IfNone result (RunsNothing self.old cpu) }
+        ensures rule { result ≡ true → RunsOn self.old cpu event.new self.new }
+        ensures none { result ≡ false → self.new ≡ passed self.old cpu }
+        ensures not { result ≡ false → RunsNothing self.old cpu }
     {
         let thread = match self.running(cpu) {
-            None => return None,
+            None => return false,
             Some(thread) => thread,
         };
-        match self.matrix.advance(thread) {
-            None => None,
-            Some(act) => {
-                put_ready(&self.matrix, &mut self.ready, thread, &act);
-                self.put_away(cpu, thread);
-                self.settle(cpu);
-                Some(Event { thread, act })
-            }
+        if !self.matrix.advance(thread, &mut event.act) {
+            return false;
         }
+        event.thread = thread;
+        put_ready(&self.matrix, &mut self.ready, thread, &event.act);
+        self.put_away(cpu, thread);
+        self.settle(cpu);
+        true
     }
 
-    /// The next event of a processor, if it can make one now: it cleans first, and else it runs its thread.
-    pub fn step(&mut self, cpu: usize) -> Option<Event>
-        ensures rule { IfSome result (λ event. Goes self.old cpu event self.new) }
-        ensures only { IfSome result (λ event. IsOnly self.old cpu event self.new) }
-        ensures none { IfNone result (self.new ≡ passed self.old cpu) }
-        ensures rests { IfNone result (Rests self.old cpu) }
+    /// Writes the next event of a processor, if it can make one now: it cleans first, and else it runs its thread.
+    pub fn step(&mut self, cpu: usize, event: &mut Event) -> bool
+        ensures rule { result ≡ true → Goes self.old cpu event.new self.new }
+        ensures only { result ≡ true → IsOnly self.old cpu event.new self.new }
+        ensures none { result ≡ false → self.new ≡ passed self.old cpu }
+        ensures rests { result ≡ false → Rests self.old cpu }
     {
-        match self.cleans(cpu) {
-            Some(event) => Some(event),
-            None => self.runs(cpu),
+        if self.cleans(cpu, event) {
+            return true;
         }
+        self.runs(cpu, event)
     }
 
-    /// The event of the first processor at or after this one, going round, that can make one.
-    pub fn next(&mut self, first: u8) -> Option<Event>
-        ensures rule { IfSome result (λ event. NextGoes self.old first event self.new) }
-        ensures none { IfNone result (NoneGoes self.old first) }
-        ensures same { IfNone result (self.new.state ≡ self.old.state) }
+    /// Writes the event of the first processor at or after this one, going round, that can make one.
+    pub fn next(&mut self, first: u8, event: &mut Event) -> bool
+        ensures rule { result ≡ true → NextGoes self.old first event.new self.new }
+        ensures none { result ≡ false → NoneGoes self.old first }
+        ensures same { result ≡ false → self.new.state ≡ self.old.state }
     {
         let cpus = self.processors.as_slice().len();
         for i in 0..cpus {
-            match self.step((first as usize + i) % cpus) {
-                Some(event) => return Some(event),
-                None => {}
+            if self.step((first as usize + i) % cpus, event) {
+                return true;
             }
         }
-        None
+        false
     }
 }

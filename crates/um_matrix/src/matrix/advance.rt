@@ -1,6 +1,6 @@
 //! What a thread does next where nobody says it: its next step with the first row that it may choose, and what cleans.
 
-ghost use Rattle.std.specs.Prelude.{◌≡◌, ◌<◌, ◌↔◌, ℕ, [], Some, ◌&&◌, not, drop, IfSome, IfNone, IsTrue, None, slice_get, is_some};
+ghost use Rattle.std.specs.Prelude.{◌≡◌, ◌<◌, ◌↔◌, ℕ, [], Some, ◌&&◌, not, true, false, drop, IfSome, IfNone, IsTrue, None, slice_get, is_some};
 ghost use Rattle.um_machine.specs.Limits.{IsSound};
 ghost use Rattle.um_machine.specs.declared.pending.Pending.{Pending};
 ghost use Rattle.um_machine.specs.Objects.{is_gone, is_held};
@@ -198,121 +198,124 @@ impl<'a> Matrix<'a> {
         }
     }
 
-    /// Makes a step as `make` does, and gives what it says. The work on an object is done once for both.
+    /// Makes a step as `make` does, and writes what it says. The work on an object is done once for both.
     #[inline(never)]
-    fn does(&mut self, t: usize, x: usize, step: &Pending, taken: usize) -> Act
+    fn does(&mut self, t: usize, x: usize, step: &Pending, taken: usize, act: &mut Act)
         requires thread { t < THREADS }
         requires row { x < ROWS }
         requires sound { IsSound step.now }
         requires taken { 0 < taken }
-        ensures says { result ≡ act_of self.old t x step.now }
+        ensures says { act.new ≡ act_of self.old t x step.now }
         ensures leaves { self.new ≡ after self.old t x step.now (drop taken (thread_at self.old t).pending) }
     {
         match step {
-            Pending::Work { addr, ask } => self.work(t, *addr, ask, taken),
+            Pending::Work { addr, ask } => *act = self.work(t, *addr, ask, taken),
             _ => {
-                let act = self.says(t, x, step);
+                *act = self.says(t, x, step);
                 self.make(t, x, step, taken);
-                act
             }
         }
     }
 
-    /// Begins the line of a thread's place, and gives what the thread says.
+    /// Begins the line of a thread's place, and writes what the thread says.
     #[inline(never)]
-    fn begins(&mut self, t: usize) -> Act
+    fn begins(&mut self, t: usize, act: &mut Act)
         requires thread { t < THREADS }
         requires line { IsTrue (is_some (instruction_at self.old.image (thread_at self.old t).place)) }
-        ensures says { result ≡ act_of self.old t 0 Pending.Begin }
+        ensures says { act.new ≡ act_of self.old t 0 Pending.Begin }
         ensures leaves { self.new ≡ after self.old t 0 Pending.Begin [] }
     {
-        let act = self.says_begin(t);
+        *act = self.says_begin(t);
         self.begin(t);
-        act
     }
 
-    /// Drops a pair whose object is gone, and gives what the cleaning thread says.
+    /// Drops a pair whose object is gone, and writes what the cleaning thread says.
     #[inline(never)]
-    fn cleans_pair(&mut self, t: usize, x: usize, who: ThreadIx) -> Act
+    fn cleans_pair(&mut self, t: usize, x: usize, who: ThreadIx, act: &mut Act)
         requires thread { t < THREADS }
         requires row { x < ROWS }
-        ensures says { result ≡ act_of self.old t x (Pending.CleanPair who) }
+        ensures says { act.new ≡ act_of self.old t x (Pending.CleanPair who) }
         ensures leaves { self.new ≡ after self.old t x (Pending.CleanPair who) [] }
     {
-        let act = self.says(t, x, &Pending::CleanPair { who });
+        *act = self.says(t, x, &Pending::CleanPair { who });
         self.clean_pair(t, x, who);
-        act
     }
 
-    /// Recycles the object of a row, and gives what the cleaning thread says.
+    /// Recycles the object of a row, and writes what the cleaning thread says.
     #[inline(never)]
-    fn recycles(&mut self, t: usize, x: usize) -> Act
+    fn recycles(&mut self, t: usize, x: usize, act: &mut Act)
         requires thread { t < THREADS }
         requires row { x < ROWS }
-        ensures says { result ≡ act_of self.old t x Pending.Recycle }
+        ensures says { act.new ≡ act_of self.old t x Pending.Recycle }
         ensures leaves { self.new ≡ after self.old t x Pending.Recycle [] }
     {
-        let act = self.says(t, x, &Pending::Recycle);
+        *act = self.says(t, x, &Pending::Recycle);
         self.recycle(x);
-        act
     }
 
-    /// Makes what was chosen for a thread, and gives what it says.
-    fn carry_out(&mut self, t: usize, choice: &Choice) -> Act
+    /// Makes what was chosen for a thread, and writes what it says.
+    fn carry_out(&mut self, t: usize, choice: &Choice, act: &mut Act)
         requires thread { t < THREADS }
         requires inside { IsInside self.old t choice.now }
-        ensures says { result ≡ said self.old t choice.now }
+        ensures says { act.new ≡ said self.old t choice.now }
         ensures leaves { self.new ≡ after_choice self.old t choice.now }
     {
         match choice {
-            Choice::Begins => self.begins(t),
+            Choice::Begins => self.begins(t, act),
             Choice::Exits => {
                 self.exit(t);
-                Act::Exit
+                *act = Act::Exit;
             }
-            Choice::Makes { step, row, taken } => self.does(t, *row, step, *taken),
-            Choice::CleansPair { who, row } => self.cleans_pair(t, *row, *who),
-            Choice::Recycles { row } => self.recycles(t, *row),
+            Choice::Makes { step, row, taken } => self.does(t, *row, step, *taken, act),
+            Choice::CleansPair { who, row } => self.cleans_pair(t, *row, *who, act),
+            Choice::Recycles { row } => self.recycles(t, *row, act),
         }
     }
 
-    /// Makes a thread's next step, with the first row that it may choose, and gives its act: none where the thread can make
-    /// no step of its own. It takes no memory.
-    pub fn advance(&mut self, thread: ThreadIx) -> Option<Act>
-        ensures some { IfSome result (λ act. Advances self.old (event_of thread.0 act) self.new) }
-        ensures next { IfSome result (λ act. IsNext self.old thread.0 act self.new) }
-        ensures none { IfNone result (self.new ≡ self.old) }
-        ensures stays { IfNone result (Stays self.old thread.0) }
+    /// Makes a thread's next step, with the first row that it may choose, and writes its act. `false` where the thread can
+    /// make no step of its own: then nothing has changed. It takes no memory.
+    pub fn advance(&mut self, thread: ThreadIx, act: &mut Act) -> bool
+        ensures some { result ≡ true → Advances self.old (event_of thread.0 act.new) self.new }
+        ensures next { result ≡ true → IsNext self.old thread.0 act.new self.new }
+        ensures none { result ≡ false → self.new ≡ self.old }
+        ensures stays { result ≡ false → Stays self.old thread.0 }
     {
         let t = thread.0 as usize;
         if t >= self.threads.len() {
-            return None;
+            return false;
         }
         match self.next_move(t) {
-            None => None,
-            Some(choice) => Some(self.carry_out(t, &choice)),
+            None => false,
+            Some(choice) => {
+                self.carry_out(t, &choice, act);
+                true
+            }
         }
     }
 
-    /// Makes the next step with which a thread cleans the object of a row, and gives its act: none where it may not clean it.
-    /// The pairs of a gone thread object are dropped first, in ascending rows. It takes no memory.
+    /// Makes the next step with which a thread cleans the object of a row, and writes its act. `false` where it may not clean
+    /// it: then nothing has changed. The pairs of a gone thread object are dropped first, in ascending rows. It takes no
+    /// memory.
     #[tactic(auto, using(crate::proofs::AdvanceLemmas::nothing_cleaned))]
-    pub fn clean(&mut self, thread: ThreadIx, x: usize) -> Option<Act>
-        ensures some { IfSome result (λ act. Advances self.old (event_of thread.0 act) self.new) }
-        ensures next { IfSome result (λ act. Cleans self.old thread.0 x act self.new) }
-        ensures none { IfNone result (self.new ≡ self.old) }
-        ensures not { IfNone result (IsTrue (is_started (thread_at self.old thread.0).life) → CleansNot self.old thread.0 x) }
+    pub fn clean(&mut self, thread: ThreadIx, x: usize, act: &mut Act) -> bool
+        ensures some { result ≡ true → Advances self.old (event_of thread.0 act.new) self.new }
+        ensures next { result ≡ true → Cleans self.old thread.0 x act.new self.new }
+        ensures none { result ≡ false → self.new ≡ self.old }
+        ensures not { result ≡ false → IsTrue (is_started (thread_at self.old thread.0).life) → CleansNot self.old thread.0 x }
     {
         let t = thread.0 as usize;
         if t >= self.threads.len() || !self.is_started(t) {
-            return None;
+            return false;
         }
         if x >= self.objects.len() {
-            return None;
+            return false;
         }
         match self.cleaning_move(t, x) {
-            None => None,
-            Some(choice) => Some(self.carry_out(t, &choice)),
+            None => false,
+            Some(choice) => {
+                self.carry_out(t, &choice, act);
+                true
+            }
         }
     }
 

@@ -4,7 +4,7 @@ ghost use Rattle.std.specs.Prelude.{◌≡◌, ◌<◌, ◌≤◌, drop, length,
 ghost use Rattle.um_machine.specs.Limits.{is_sound_ask};
 ghost use Rattle.um_machine.specs.Order.{to_thread};
 ghost use Rattle.um_machine.specs.State.{nobody};
-ghost use Rattle.um_machine.specs.Table.{full_ask, replies_of, buffer_cost};
+ghost use Rattle.um_machine.specs.Table.{bytes_given, replies_of, buffer_cost};
 ghost use Rattle.um_matrix.specs.Worked.{threads_woken, answered};
 
 use crate::matrix::Matrix;
@@ -15,27 +15,13 @@ use um_machine::{Cost, Pending, Thread};
 use um_rules::order::{after_error, rounded};
 use um_service::{act, says};
 
-/// What a call asks, with the bytes of the caller's buffer.
-#[inline(never)]
-fn full_ask(buffer: &Piece, ask: &Ask) -> Ask
-    ensures value { result ≡ full_ask buffer.now ask.now }
-    ensures sound { IsTrue (is_sound_ask ask.now) → IsTrue (is_sound_ask result) }
+/// The bytes that a call gives of its buffer.
+fn bytes_given(buffer: &Piece, ask: &Ask) -> Piece
+    ensures { result ≡ bytes_given buffer.now ask.now }
 {
     match ask {
-        Ask::MsgqPut { timeout, .. } => Ask::MsgqPut {
-            message: *buffer,
-            timeout: *timeout,
-        },
-        Ask::PipeWrite {
-            length,
-            timeout,
-            ..
-        } => Ask::PipeWrite {
-            length: *length,
-            bytes: *buffer,
-            timeout: *timeout,
-        },
-        _ => *ask,
+        Ask::MsgqPut { .. } | Ask::PipeWrite { .. } => *buffer,
+        _ => Piece::new(),
     }
 }
 
@@ -138,14 +124,15 @@ impl<'a> Matrix<'a> {
     #[inline(never)]
     fn worker(&self, t: usize, ask: &Ask) -> Waiter
         requires { t < THREADS }
-        ensures value { result ≡ record { thread = to_thread t; priority = (thread_at self.now t).priority; ask = full_ask (thread_at self.now t).buffer ask.now } }
+        ensures value { result ≡ record { thread = to_thread t; priority = (thread_at self.now t).priority; ask = ask.now; bytes = bytes_given (thread_at self.now t).buffer ask.now } }
         ensures sound { IsTrue (is_sound_ask ask.now) → IsTrue (is_sound_ask result.ask) }
     {
         let thread = &self.threads[t];
         Waiter {
             thread: ThreadIx(t as u8),
             priority: thread.priority,
-            ask: full_ask(&thread.buffer, ask),
+            ask: *ask,
+            bytes: bytes_given(&thread.buffer, ask),
         }
     }
 

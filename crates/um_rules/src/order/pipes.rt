@@ -15,7 +15,7 @@ ghost use Rattle.um_rules.specs.Subjects.{is_on_pipe};
 use crate::order::buffers::{buffered, is_within, pool_of, unbuffered};
 use crate::order::calls::{gives, simple, takes};
 use crate::order::operands::value_of;
-use um_base::{Ask, Instr, Kind, Piece, Term, Timeout};
+use um_base::{Ask, Instr, Kind, Term, Timeout};
 use um_machine::{Amount, Pendings, Thread};
 
 /// An initialisation of a pipe.
@@ -36,18 +36,14 @@ fn writes(me: &mut Thread, object: &Term, addr: &Term, length: &Term, timeout: T
         let n = value_of me.old.registers length.now in
         me.new ≡ record me.old {
           pending = needs x Kind.Pipe Want.Init ∷ Pending.CopyIn (to_addr (value_of me.old.registers addr.now)) (Amount.Bytes n)
-              ∷ work x (AskOf.PipeWrite n [] timeout) ∷ answer;
+              ∷ work x (AskOf.PipeWrite n timeout) ∷ answer;
         } }
 {
     let x = value_of(&me.registers, object);
     let a = value_of(&me.registers, addr);
     let length = value_of(&me.registers, length);
     let amount = Amount::Bytes(length);
-    let ask = Ask::PipeWrite {
-        length,
-        bytes: Piece::new(),
-        timeout,
-    };
+    let ask = Ask::PipeWrite { length, timeout };
     gives(&mut me.pending, x, Kind::Pipe, a, amount, &ask);
 }
 

@@ -16,7 +16,7 @@ ghost use Rattle.um_rules.specs.Subjects.{is_on_queue};
 use crate::order::buffers::{buffered, is_within, pool_of, unbuffered};
 use crate::order::calls::{counts, gives, simple, takes};
 use crate::order::operands::value_of;
-use um_base::{Addr, Ask, Instr, Kind, Piece, Term, Timeout};
+use um_base::{Addr, Ask, Instr, Kind, Term, Timeout};
 use um_machine::{Amount, Pendings, Thread};
 
 /// An initialisation of a queue.
@@ -42,16 +42,13 @@ fn puts(me: &mut Thread, object: &Term, addr: &Term, timeout: Timeout)
     ensures { let x = value_of me.old.registers object.now in
         me.new ≡ record me.old {
           pending = needs x Kind.Msgq Want.Init ∷ Pending.CopyIn (to_addr (value_of me.old.registers addr.now)) (Amount.MessageOf (to_addr x))
-              ∷ work x (AskOf.MsgqPut [] timeout) ∷ answer;
+              ∷ work x (AskOf.MsgqPut timeout) ∷ answer;
         } }
 {
     let x = value_of(&me.registers, object);
     let a = value_of(&me.registers, addr);
     let amount = Amount::MessageOf(Addr(x));
-    let ask = Ask::MsgqPut {
-        message: Piece::new(),
-        timeout,
-    };
+    let ask = Ask::MsgqPut { timeout };
     gives(&mut me.pending, x, Kind::Msgq, a, amount, &ask);
 }
 

@@ -5,7 +5,7 @@ use Rattle.um_base.specs.declared.limits.TheConstants.{THREADS}
 use Rattle.um_base.specs.declared.names.Reply.TheVariants as Reply
 use Rattle.um_machine.specs.Contents.{Pipe}
 use Rattle.um_machine.specs.declared.served.Served.TheVariants as Served
-use Rattle.um_machine.specs.Services.{in_order, told, is_writer, written_bytes, writers_served}
+use Rattle.um_machine.specs.Services.{in_order, told, is_writer, writers_served}
 use Rattle.um_machine.proofs.ServingLemmas.{served-few}
 use Rattle.um_service.proofs.PipeLemmas.{SoFar-start, SoFar-done, writer-served, writers-no_room, still_waiting-none, other_bytes, same_bytes, left_out}
 use Rattle.um_service.proofs.pipe.serve_writers.Goals as goal
@@ -30,12 +30,12 @@ serving-preserved c =
     let before = in_order (filter is_writer c.serving.waiters) in
     let after = in_order (filter is_writer c.take_first.new.self) in
     let size : c.serving.pipe.size ≡ c.args.pipe.now.size = ap (λ (p : Pipe). p.size) c.serving.invariant.pipe in
-    let put = take (c.args.pipe.now.size - length c.serving.pipe.bytes) (written_bytes c.in-Some.first.ask) in
+    let put = take (c.args.pipe.now.size - length c.serving.pipe.bytes) c.in-Some.first.bytes in
     let one = told c.in-Some.first (Reply.Num (length put)) [] in
     let has_room : nat_le c.args.pipe.now.size (length c.serving.pipe.bytes) ≡ false = grind (arith, nat_tests) in
     record {
       so_far = rw (c.serve_writer.ensures.left, c.serve_writer.ensures.woken, size) (writer-served whole c.args.pipe.now.size before after c.in-Some.first c.serving.pipe.bytes c.serving.woken first.0 has_room c.serving.invariant.so_far);
-      pipe = rw c.serve_writer.ensures.left (other_bytes c.serving.pipe c.args.pipe.now (c.serving.pipe.bytes ++ take (c.serving.pipe.size - length c.serving.pipe.bytes) (written_bytes c.in-Some.first.ask)) c.serving.invariant.pipe);
+      pipe = rw c.serve_writer.ensures.left (other_bytes c.serving.pipe c.args.pipe.now (c.serving.pipe.bytes ++ take (c.serving.pipe.size - length c.serving.pipe.bytes) c.in-Some.first.bytes) c.serving.invariant.pipe);
       waiting = left_out c.serving.woken c.serve_writer.new.woken one c.args.waiters.now c.serving.waiters c.take_first.new.self first.2 c.serving.invariant.waiting (rw (c.serve_writer.ensures.woken, size) refl);
       room = rw (c.serve_writer.ensures.woken, length-append) (omega (arith, c.serving.invariant.room));
     }

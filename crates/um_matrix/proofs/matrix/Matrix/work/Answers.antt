@@ -12,7 +12,7 @@ use Rattle.um_machine.specs.declared.thread.Thread.{Thread}
 use Rattle.um_machine.specs.Order.{Steps, to_thread}
 use Rattle.um_machine.specs.Services.{Acted, acted}
 use Rattle.um_machine.specs.State.{State, nobody, thread_at, object_at}
-use Rattle.um_machine.specs.Table.{row_of, full_ask, work_of, buffer_cost}
+use Rattle.um_machine.specs.Table.{row_of, bytes_given, work_of, buffer_cost}
 use Rattle.um_service.specs.Left.{left}
 use Rattle.um_matrix.specs.Worked.{threads_woken, answered}
 use Rattle.um_matrix.proofs.WorkLemmas.{worked, pending-threads_woken}
@@ -29,7 +29,7 @@ returns-clause-leaves c =
     let me : Thread = c.index_mut.result.now in
     let threads = (with_items c.self.inside.threads c.wake.new.threads).items in
     let rest : Steps = drop c.args.taken (thread_at s t).pending in
-    let who : Waiter = record { thread = to_thread t; priority = (thread_at s t).priority; ask = full_ask (thread_at s t).buffer ask } in
+    let who : Waiter = record { thread = to_thread t; priority = (thread_at s t).priority; ask = ask; bytes = bytes_given (thread_at s t).buffer ask } in
     let same_length : length c.wake.new.threads ≡ c.self.inside.threads.len = grind (arith, common_steps) in
     let all : threads ≡ c.wake.new.threads = with_items_is c.self.inside.threads c.wake.new.threads same_length in
     let first : c.deref_mut.result.now ≡ s.threads = grind (arith, common_steps) in
