@@ -1,7 +1,7 @@
 //! A place where processors may be held, for tests.
 
-/// Is called by each processor of a run before each of its steps, whose number counts from 0. It can be shared between threads,
-/// and means nothing to a run but that the step comes after it.
+/// Where a test may hold a processor before one of its steps, whose number counts from 0. No run calls it yet. It can be shared
+/// between threads, and means nothing to a run but that the step comes after it.
 pub trait Gate {
     fn pause(&self, cpu: u32, step: u64);
 }
