@@ -139,7 +139,3 @@ goes-only turn turn2 cpu event (inl a) other turn3 (inl b) = both-clean turn tur
 goes-only turn turn2 cpu event (inl a) other turn3 (inr b) = absurd (cleans-or-runs turn turn2 turn3 cpu event other a b)
 goes-only turn turn2 cpu event (inr a) other turn3 (inl b) = absurd (cleans-or-runs turn turn3 turn2 cpu other event b a)
 goes-only turn turn2 cpu event (inr a) other turn3 (inr b) = both-run turn turn2 turn3 cpu event other a b
-
-pub runs-only : (turn turn2 : Turn) (cpu : ℕ) (made : Option Event) → IfSome made (λ event. RunsOn turn cpu event turn2) → IfSome made (λ event. IsOnly turn cpu event turn2)
-runs-only turn turn2 cpu None runs = runs
-runs-only turn turn2 cpu (Some event) runs = goes-only turn turn2 cpu event (inr runs)

@@ -58,7 +58,7 @@ pub fn run<'a>(
         thread: ThreadIx(0),
         act: Act::Resume,
     };
-    while processors.next(order.next(cpus), &mut event) {
+    'turns: while processors.next(order.next(cpus), &mut event) {
         note(&mut events, &event);
     }
     Ok(Ran {

@@ -295,13 +295,13 @@ impl<'a> Processors<'a> {
             None => return false,
             Some(next) => next,
         };
-        if !self.matrix.clean(thread, row as usize, &mut event.act) {
-            return false;
+        if self.matrix.clean(thread, row as usize, &mut event.act) {
+            event.thread = thread;
+            self.put_off(cpu, &event.act);
+            self.settle(cpu);
+            return true;
         }
-        event.thread = thread;
-        self.put_off(cpu, &event.act);
-        self.settle(cpu);
-        true
+        false
     }
 
     /// Writes the next event of the thread that a processor runs, which has nothing to clean, if it can make one now.
@@ -315,14 +315,14 @@ impl<'a> Processors<'a> {
             None => return false,
             Some(thread) => thread,
         };
-        if !self.matrix.advance(thread, &mut event.act) {
-            return false;
+        if self.matrix.advance(thread, &mut event.act) {
+            event.thread = thread;
+            put_ready(&self.matrix, &mut self.ready, thread, &event.act);
+            self.put_away(cpu, thread);
+            self.settle(cpu);
+            return true;
         }
-        event.thread = thread;
-        put_ready(&self.matrix, &mut self.ready, thread, &event.act);
-        self.put_away(cpu, thread);
-        self.settle(cpu);
-        true
+        false
     }
 
     /// Writes the next event of a processor, if it can make one now: it cleans first, and else it runs its thread.

@@ -13,8 +13,8 @@ use Rattle.um_machine.proofs.RunLemmas.{runs-due-push, runs-of}
 use Rattle.um_bound.proofs.RunLemmas.{within_weight}
 use Rattle.um_turns.proofs.running.run.Goals as goal
 
-pub loop-event-init : goal.loop-event-init
-loop-event-init c = record {
+pub turns-init : goal.turns-init
+turns-init c = record {
   so_far = rw (c.in_ok-events.ensures.items, c.in_ok-processors.ensures) refl;
   going = rw c.in_ok-processors.ensures (going-opens c.args.image.now c.args.cpus (record { lawful = c.requires.lawful; few = omega (arith, c.len-objects.ensures.value, c.len-objects.ensures.few) }) c.requires.cpus);
   rule = rw (c.in_ok-events.ensures.items, c.in_ok-processors.ensures, none-preferred c.args.cpus c.args.pick) refl;
@@ -25,51 +25,51 @@ loop-event-init c = record {
 
 pub note-requires : goal.note-requires
 note-requires c =
-    let more = room-left c.args.image.now c.loop-event.events.items c.loop-event.processors c.next-in-loop-event.new.self c.next.result c.in-Some.event c.requires.lawful (omega (arith, c.len-objects.ensures.value, c.len-objects.ensures.few)) c.loop-event.invariant.so_far c.in-Some.ensures.rule in
-    omega (arith, more, c.loop-event.invariant.len, c.loop-event.invariant.room, c.requires.room)
+    let more = room-left c.args.image.now c.turns.events.items c.turns.processors c.next-in-turns.new.self c.next.result c.next-in-turns.new.event c.requires.lawful (omega (arith, c.len-objects.ensures.value, c.len-objects.ensures.few)) c.turns.invariant.so_far (c.next-in-turns.ensures.rule c.turns-test.true) in
+    omega (arith, more, c.turns.invariant.len, c.turns.invariant.room, c.requires.room)
 
-pub loop-event-smaller : goal.loop-event-smaller
-loop-event-smaller c =
-    let more = room-left c.args.image.now c.loop-event.events.items c.loop-event.processors c.next-in-loop-event.new.self c.next.result c.in-Some.event c.requires.lawful (omega (arith, c.len-objects.ensures.value, c.len-objects.ensures.few)) c.loop-event.invariant.so_far c.in-Some.ensures.rule in
+pub turns-smaller : goal.turns-smaller
+turns-smaller c =
+    let more = room-left c.args.image.now c.turns.events.items c.turns.processors c.next-in-turns.new.self c.next.result c.next-in-turns.new.event c.requires.lawful (omega (arith, c.len-objects.ensures.value, c.len-objects.ensures.few)) c.turns.invariant.so_far (c.next-in-turns.ensures.rule c.turns-test.true) in
     rw c.note.ensures.items (omega (arith, more, length-append {A = Event}, c.requires.room))
 
-pub loop-event-preserved : goal.loop-event-preserved
-loop-event-preserved c = record {
+pub turns-preserved : goal.turns-preserved
+turns-preserved c = record {
   so_far =
       rw c.note.ensures.items
-      (runs-due-push (opening c.args.image.now) c.loop-event.events.items c.loop-event.processors.state c.in-Some.event c.next-in-loop-event.new.self.state c.loop-event.invariant.so_far
-      (going-advances c.loop-event.processors c.next-in-loop-event.new.self c.next.result c.in-Some.event c.in-Some.ensures.rule));
-  going = going-next c.loop-event.processors c.next-in-loop-event.new.self c.next.result c.in-Some.event c.loop-event.invariant.going c.in-Some.ensures.rule;
+      (runs-due-push (opening c.args.image.now) c.turns.events.items c.turns.processors.state c.next-in-turns.new.event c.next-in-turns.new.self.state c.turns.invariant.so_far
+      (going-advances c.turns.processors c.next-in-turns.new.self c.next.result c.next-in-turns.new.event (c.next-in-turns.ensures.rule c.turns-test.true)));
+  going = going-next c.turns.processors c.next-in-turns.new.self c.next.result c.next-in-turns.new.event c.turns.invariant.going (c.next-in-turns.ensures.rule c.turns-test.true);
   rule =
       rw c.note.ensures.items
-      (leads-on c.args.cpus c.args.pick (opening_turn c.args.image.now c.args.cpus) c.loop-event.events.items c.loop-event.processors c.next-in-loop-event.new.self c.next.result c.in-Some.event c.loop-event.order c.next.new.self c.loop-event.invariant.left c.next.ensures.first c.loop-event.invariant.rule c.in-Some.ensures.rule);
+      (leads-on c.args.cpus c.args.pick (opening_turn c.args.image.now c.args.cpus) c.turns.events.items c.turns.processors c.next-in-turns.new.self c.next.result c.next-in-turns.new.event c.turns.order c.next.new.self c.turns.invariant.left c.next.ensures.first c.turns.invariant.rule (c.next-in-turns.ensures.rule c.turns-test.true));
   left =
       rw c.note.ensures.items
-      (left-on c.args.cpus c.args.pick c.loop-event.events.items c.next.result c.in-Some.event c.loop-event.order c.next.new.self c.loop-event.invariant.left c.next.ensures.first);
-  len = rw c.note.ensures.items (omega (arith, c.note.ensures.len, c.loop-event.invariant.len, length-append {A = Event}));
-  room = omega (arith, c.note.ensures.capacity, c.loop-event.invariant.room);
+      (left-on c.args.cpus c.args.pick c.turns.events.items c.next.result c.next-in-turns.new.event c.turns.order c.next.new.self c.turns.invariant.left c.next.ensures.first);
+  len = rw c.note.ensures.items (omega (arith, c.note.ensures.len, c.turns.invariant.len, length-append {A = Event}));
+  room = omega (arith, c.note.ensures.capacity, c.turns.invariant.room);
 }
 
 pub returns-clause-run : goal.returns-clause-run
 returns-clause-run c =
-    subst (λ (s : State). IsRun c.args.image.now c.loop-event.events.items s) (sym (c.into_matrix.ensures ∙ c.in_default.ensures.same))
-    (runs-of (opening c.args.image.now) c.loop-event.events.items c.loop-event.processors.state c.loop-event.invariant.so_far)
+    subst (λ (s : State). IsRun c.args.image.now c.turns.events.items s) (sym (c.into_matrix.ensures ∙ c.next-in-turns.ensures.same c.turns-test.false))
+    (runs-of (opening c.args.image.now) c.turns.events.items c.turns.processors.state c.turns.invariant.so_far)
 
 pub returns-clause-complete : goal.returns-clause-complete
 returns-clause-complete c =
-    subst (λ (s : State). IsComplete s) (sym (c.into_matrix.ensures ∙ c.in_default.ensures.same))
-    (going-ends c.loop-event.processors c.next.result c.loop-event.invariant.going c.in_default.ensures.none)
+    subst (λ (s : State). IsComplete s) (sym (c.into_matrix.ensures ∙ c.next-in-turns.ensures.same c.turns-test.false))
+    (going-ends c.turns.processors c.next.result c.turns.invariant.going (c.next-in-turns.ensures.none c.turns-test.false))
 
 pub returns-clause-rule : goal.returns-clause-rule
-returns-clause-rule c = (c.loop-event.processors, sym (c.into_matrix.ensures ∙ c.in_default.ensures.same), c.loop-event.invariant.rule)
+returns-clause-rule c = (c.turns.processors, sym (c.into_matrix.ensures ∙ c.next-in-turns.ensures.same c.turns-test.false), c.turns.invariant.rule)
 
 pub returns-clause-alone : goal.returns-clause-alone
 returns-clause-alone c = λ one.
-    let firsts = preferred c.args.cpus c.args.pick (length c.loop-event.events.items) in
-    leads-alone (opening_turn c.args.image.now 1) firsts c.loop-event.events.items c.loop-event.processors refl
-    (subst (λ (cpus : ℕ). Leads (opening_turn c.args.image.now cpus) firsts c.loop-event.events.items c.loop-event.processors) one c.loop-event.invariant.rule)
+    let firsts = preferred c.args.cpus c.args.pick (length c.turns.events.items) in
+    leads-alone (opening_turn c.args.image.now 1) firsts c.turns.events.items c.turns.processors refl
+    (subst (λ (cpus : ℕ). Leads (opening_turn c.args.image.now cpus) firsts c.turns.events.items c.turns.processors) one c.turns.invariant.rule)
 
 pub returns-clause-few : goal.returns-clause-few
 returns-clause-few c =
-    let most = within_weight c.args.image.now c.loop-event.events.items c.loop-event.processors.state c.requires.lawful (omega (arith, c.len-objects.ensures.value, c.len-objects.ensures.few)) c.loop-event.invariant.so_far in
+    let most = within_weight c.args.image.now c.turns.events.items c.turns.processors.state c.requires.lawful (omega (arith, c.len-objects.ensures.value, c.len-objects.ensures.few)) c.turns.invariant.so_far in
     omega (arith, most)

@@ -8,8 +8,8 @@ use Rattle.um_turns.proofs.EndLemmas.{IsGoing}
 use Rattle.um_turns.proofs.ScheduledLemmas.{Left}
 use Rattle.um_turns.proofs.running.run.Given as goal
 
-abbrev pub invariant-loop-event : goal.invariant-loop-event
-invariant-loop-event l = record {
+abbrev pub invariant-turns : goal.invariant-turns
+invariant-turns l = record {
   so_far : RunsDue (opening l.image) l.events.items l.processors.state;
   going : IsGoing l.processors;
   rule : Leads (opening_turn l.image l.cpus) (preferred l.cpus l.fn.pick (length l.events.items)) l.events.items l.processors;
@@ -18,5 +18,5 @@ invariant-loop-event l = record {
   room : l.most ≤ vec_capacity l.events;
 }
 
-abbrev pub decreases-loop-event : goal.decreases-loop-event
-decreases-loop-event l = l.most - length l.events.items
+abbrev pub decreases-turns : goal.decreases-turns
+decreases-turns l = l.most - length l.events.items

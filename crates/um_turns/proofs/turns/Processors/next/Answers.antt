@@ -4,23 +4,25 @@ use Rattle.um_turns.specs.declared.processor.Processor.{Processor}
 use Rattle.um_turns.specs.Schedule.{Turn, FirstGoes, AllRest}
 use Rattle.um_turns.proofs.turns.Processors.next.Goals as goal
 
-pub returns-in-Some-clause-rule : goal.returns-in-Some-clause-rule
-returns-in-Some-clause-rule c =
+pub returns-then-step-clause-rule : goal.returns-then-step-clause-rule
+returns-then-step-clause-rule c = λ _.
     let all : (length c.as_slice-cpus.result.now) ≡ length c.loop-i.self.processors =
     ap (λ (ps : List Processor). length ps) c.as_slice-cpus.ensures.value ∙ ap (λ (turn : Turn). length turn.processors) c.self.view_is ∙ ap (λ (ps : List Processor). length ps) (sym c.loop-i.invariant.processors) in
-    c.loop-i.invariant.goes c.in-Some.event c.step.new.self (goes-here c.loop-i.self c.step.new.self c.args.first c.loop-i.i (length c.as_slice-cpus.result.now) c.in-Some.event all c.loop-i-test.true c.in-Some.ensures.rule)
+    c.loop-i.invariant.goes c.step.new.event c.step.new.self (goes-here c.loop-i.self c.step.new.self c.args.first c.loop-i.i (length c.as_slice-cpus.result.now) c.step.new.event all c.loop-i-test.true (c.step.ensures.rule c.if-step.true))
 
 pub loop-i-preserved : goal.loop-i-preserved
 loop-i-preserved c =
     let all : (length c.as_slice-cpus.result.now) ≡ length c.loop-i.self.processors =
     ap (λ (ps : List Processor). length ps) c.as_slice-cpus.ensures.value ∙ ap (λ (turn : Turn). length turn.processors) c.self.view_is ∙ ap (λ (ps : List Processor). length ps) (sym c.loop-i.invariant.processors) in
+    let none = c.step.ensures.none c.if-step.false in
+    let rests = c.step.ensures.rests c.if-step.false in
     record {
-      state = rw c.in-None.ensures.none c.loop-i.invariant.state;
-      processors = rw c.in-None.ensures.none c.loop-i.invariant.processors;
+      state = rw none c.loop-i.invariant.state;
+      processors = rw none c.loop-i.invariant.processors;
       goes = λ event turn2 later. c.loop-i.invariant.goes event turn2
-          (goes-later c.loop-i.self turn2 c.args.first c.loop-i.i (length c.as_slice-cpus.result.now) event all c.loop-i-test.true c.in-None.ensures.rests
-          (subst (λ (turn : Turn). FirstGoes turn c.args.first (c.loop-i.i + 1) ((length c.as_slice-cpus.result.now) - (c.loop-i.i + 1)) event turn2) c.in-None.ensures.none later));
+          (goes-later c.loop-i.self turn2 c.args.first c.loop-i.i (length c.as_slice-cpus.result.now) event all c.loop-i-test.true rests
+          (subst (λ (turn : Turn). FirstGoes turn c.args.first (c.loop-i.i + 1) ((length c.as_slice-cpus.result.now) - (c.loop-i.i + 1)) event turn2) none later));
       rests = λ later. c.loop-i.invariant.rests
-          (rests-later c.loop-i.self c.args.first c.loop-i.i (length c.as_slice-cpus.result.now) all c.loop-i-test.true c.in-None.ensures.rests
-          (subst (λ (turn : Turn). AllRest turn c.args.first (c.loop-i.i + 1) ((length c.as_slice-cpus.result.now) - (c.loop-i.i + 1))) c.in-None.ensures.none later));
+          (rests-later c.loop-i.self c.args.first c.loop-i.i (length c.as_slice-cpus.result.now) all c.loop-i-test.true rests
+          (subst (λ (turn : Turn). AllRest turn c.args.first (c.loop-i.i + 1) ((length c.as_slice-cpus.result.now) - (c.loop-i.i + 1))) none later));
     }

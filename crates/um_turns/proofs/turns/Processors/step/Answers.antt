@@ -1,13 +1,16 @@
-use Rattle.std.proofs.Common.{inl, subst}
-use Rattle.std.specs.Prelude.{IfSome}
-use Rattle.um_turns.specs.Schedule.{Turn, RunsOn}
-use Rattle.um_turns.proofs.OneLemmas.{goes-only, runs-only}
+use Rattle.std.proofs.Common.{inl, inr, subst}
+use Rattle.um_turns.specs.Schedule.{Turn, RunsOn, RunsNothing}
+use Rattle.um_turns.proofs.OneLemmas.{goes-only}
 use Rattle.um_turns.proofs.turns.Processors.step.Goals as goal
 
-pub returns-in-Some-clause-only : goal.returns-in-Some-clause-only
-returns-in-Some-clause-only c = goes-only c.args.self.now _ c.args.cpu c.in-Some.event (inl c.in-Some.ensures.rule)
+pub returns-then-cleans-clause-only : goal.returns-then-cleans-clause-only
+returns-then-cleans-clause-only c = λ _. goes-only c.args.self.now c.cleans.new.self c.args.cpu c.cleans.new.event (inl (c.cleans.ensures.rule c.if-cleans.true))
 
-pub returns-in-None-clause-only : goal.returns-in-None-clause-only
-returns-in-None-clause-only c =
-    runs-only c.args.self.now c.runs.new.self c.args.cpu c.runs.result
-    (subst (λ (turn : Turn). IfSome c.runs.result (λ event. RunsOn turn c.args.cpu event c.runs.new.self)) c.in-None.ensures.none c.runs.ensures.rule)
+pub returns-clause-only : goal.returns-clause-only
+returns-clause-only c = λ made.
+    goes-only c.args.self.now c.runs.new.self c.args.cpu c.runs.new.event
+    (inr (subst (λ (turn : Turn). RunsOn turn c.args.cpu c.runs.new.event c.runs.new.self) (c.cleans.ensures.none c.if-cleans.false) (c.runs.ensures.rule made)))
+
+pub returns-clause-rests : goal.returns-clause-rests
+returns-clause-rests c = λ none.
+    (c.cleans.ensures.not c.if-cleans.false, subst (λ (turn : Turn). RunsNothing turn c.args.cpu) (c.cleans.ensures.none c.if-cleans.false) (c.runs.ensures.not none))
