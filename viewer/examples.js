@@ -1,0 +1,220 @@
+"use strict";
+// Examples that the page shows by itself, each a description, a line =====, and its output.
+// tests/page/examples.py writes this file from the folder examples.
+
+const EXAMPLES = {
+  "sensor-and-logger":
+    "# A supervisor sets up a domain, grants a queue, creates two user threads and leaves supervisor mode for good.\n" +
+    "# One thread stores a value in the shared partition and sends it; the other waits for it and copies it out.\n" +
+    "version = 1\n" +
+    "mpu = \"pmsav7\"\n" +
+    "regions = 8\n" +
+    "oops = \"abort\"\n" +
+    "rodata = \"73656e736f7200\"\n" +
+    "partition = [{name = \"p_app\", size = 256, attr = \"P_RW_U_RW\"}]\n" +
+    "domain = [{name = \"boot_d\", partitions = []}, {name = \"app\"}]\n" +
+    "object = [\n" +
+    " {name = \"main\", kind = \"thread\"}, {name = \"main_s\", kind = \"thread_stack\", size = 1024},\n" +
+    " {name = \"sensor\", kind = \"thread\"}, {name = \"sensor_s\", kind = \"thread_stack\", size = 512},\n" +
+    " {name = \"logger\", kind = \"thread\"}, {name = \"logger_s\", kind = \"thread_stack\", size = 512},\n" +
+    " {name = \"q\", kind = \"msgq\", msg_size = 4, max_msgs = 8}]\n" +
+    "boot = [{thread = \"main\", stack = \"main_s\", script = \"go\", mode = \"supervisor\", priority = 0, domain = \"boot_d\"}]\n" +
+    "[[script]]\n" +
+    "name = \"go\"\n" +
+    "lines = [\"k_mem_domain_init app p_app\", \"k_mem_domain_add_thread app @main\",\n" +
+    " \"k_object_access_grant @q @sensor\", \"k_object_access_grant @q @logger\",\n" +
+    " \"k_thread_create @logger @logger_s 512 log 5 K_USER\",\n" +
+    " \"k_thread_create @sensor @sensor_s 512 sense 5 K_USER\", \"k_thread_user_mode_enter idle\"]\n" +
+    "[[script]]\n" +
+    "name = \"log\"\n" +
+    "lines = [\"k_msgq_get @q @p_app K_FOREVER\"]\n" +
+    "[[script]]\n" +
+    "name = \"sense\"\n" +
+    "lines = [\"k_thread_name_set @sensor @rodata\", \"store @p_app+16 4 0x2a\", \"k_msgq_put @q @p_app+16 K_FOREVER\"]\n" +
+    "[[script]]\n" +
+    "name = \"idle\"\n" +
+    "lines = [\"set r0 1\"]\n" +
+    "=====\n" +
+    "main begin go 1\n" +
+    "main domain init app 0\n" +
+    "main reply 0\n" +
+    "main begin go 2\n" +
+    "main check main thread init ok\n" +
+    "main domain move app main 0\n" +
+    "main reply 0\n" +
+    "main begin go 3\n" +
+    "main check sensor thread any ok\n" +
+    "main check q any any ok\n" +
+    "main grant sensor q ok\n" +
+    "main reply void\n" +
+    "main begin go 4\n" +
+    "main check logger thread any ok\n" +
+    "main check q any any ok\n" +
+    "main grant logger q ok\n" +
+    "main reply void\n" +
+    "main begin go 5\n" +
+    "main check logger thread uninit ok\n" +
+    "main check logger_s thread_stack uninit ok\n" +
+    "main setinit logger ok\n" +
+    "main setinit logger_s ok\n" +
+    "main erase logger_s\n" +
+    "main own logger ok\n" +
+    "main start logger\n" +
+    "main reply logger\n" +
+    "logger begin log 1\n" +
+    "logger check q msgq init ok\n" +
+    "logger probe 0x20000000 4 ok\n" +
+    "logger act q wait\n" +
+    "main begin go 6\n" +
+    "main check sensor thread uninit ok\n" +
+    "main check sensor_s thread_stack uninit ok\n" +
+    "main setinit sensor ok\n" +
+    "main setinit sensor_s ok\n" +
+    "main erase sensor_s\n" +
+    "main own sensor ok\n" +
+    "main start sensor\n" +
+    "main reply sensor\n" +
+    "sensor begin sense 1\n" +
+    "sensor check sensor thread init ok\n" +
+    "sensor copystr 0x08000000 6\n" +
+    "sensor name sensor\n" +
+    "sensor reply 0\n" +
+    "main begin go 7\n" +
+    "main erase main_s\n" +
+    "main user\n" +
+    "sensor begin sense 2\n" +
+    "sensor store 0x20000010 4 0x2a\n" +
+    "main begin idle 1\n" +
+    "sensor begin sense 3\n" +
+    "sensor check q msgq init ok\n" +
+    "sensor copyin 0x20000010 4 ok\n" +
+    "sensor act q 0 wake logger 0\n" +
+    "sensor reply 0\n" +
+    "main exit\n" +
+    "main drop main main kept\n" +
+    "main uninit main_s\n" +
+    "main uninit main\n" +
+    "logger resume\n" +
+    "logger copyout 0x20000000 4 ok\n" +
+    "logger reply 0\n" +
+    "sensor exit\n" +
+    "sensor drop sensor sensor kept\n" +
+    "sensor drop sensor q kept\n" +
+    "sensor uninit sensor_s\n" +
+    "sensor uninit sensor\n" +
+    "logger exit\n" +
+    "logger drop logger logger kept\n" +
+    "logger drop logger q kept\n" +
+    "logger uninit logger_s\n" +
+    "logger uninit logger\n" +
+    "dump\n" +
+    "thread main ended user 0 app\n" +
+    "thread sensor ended user 5 app\n" +
+    "thread logger ended user 5 app\n" +
+    "object main thread uninit private - -\n" +
+    "object main_s thread_stack uninit private - -\n" +
+    "object sensor thread uninit private - 73656e736f72\n" +
+    "object sensor_s thread_stack uninit private - -\n" +
+    "object logger thread uninit private - -\n" +
+    "object logger_s thread_stack uninit private - -\n" +
+    "object q msgq init private - 0/8\n" +
+    "domain boot_d -\n" +
+    "domain app 0x20000000/256/P_RW_U_RW\n" +
+    "memory 0x20000000 2a0000000000000000000000000000002a000000000000000000000000000000\n",
+  "copy-after-a-cut":
+    "# A partition leaves its domain while a thread waits to copy a message into it.\n" +
+    "# The copy is checked again when the thread resumes, and fails.\n" +
+    "version = 1\n" +
+    "mpu = \"pmsav7\"\n" +
+    "regions = 8\n" +
+    "oops = \"abort\"\n" +
+    "partition = [{name = \"p\", size = 32, attr = \"P_RW_U_RW\"}]\n" +
+    "domain = [{name = \"d\", partitions = [\"p\"]}]\n" +
+    "object = [{name = \"a\", kind = \"thread\"}, {name = \"sa\", kind = \"thread_stack\", size = 64}, {name = \"b\", kind = \"thread\"}, {name = \"sb\", kind = \"thread_stack\", size = 64}, {name = \"q\", kind = \"msgq\", msg_size = 4, max_msgs = 2}]\n" +
+    "boot = [{thread = \"b\", stack = \"sb\", script = \"c\", priority = 0, domain = \"d\", grants = [\"q\"]}, {thread = \"a\", stack = \"sa\", script = \"m\", priority = 0, domain = \"d\", mode = \"supervisor\"}]\n" +
+    "script = [{name = \"m\", lines = [\"k_mem_domain_remove_partition d p\", \"k_msgq_put @q @sa K_NO_WAIT\"]}, {name = \"c\", lines = [\"k_msgq_get @q @p K_FOREVER\"]}]\n" +
+    "=====\n" +
+    "b begin c 1\n" +
+    "b check q msgq init ok\n" +
+    "b probe 0x20000000 4 ok\n" +
+    "b act q wait\n" +
+    "a begin m 1\n" +
+    "a domain remove d 0x20000000/32/P_RW_U_RW 0\n" +
+    "a reply 0\n" +
+    "a begin m 2\n" +
+    "a check q msgq init ok\n" +
+    "a copyin 0x20080000 4 ok\n" +
+    "a act q 0 wake b 0\n" +
+    "a reply 0\n" +
+    "b resume\n" +
+    "b copyout 0x20000000 4 EFAULT\n" +
+    "b fatal 3 EFAULT\n" +
+    "b drop b b kept\n" +
+    "b drop b q kept\n" +
+    "b uninit sb\n" +
+    "b uninit b\n" +
+    "a exit\n" +
+    "a drop a a kept\n" +
+    "a uninit sa\n" +
+    "a uninit a\n" +
+    "dump\n" +
+    "thread a ended supervisor 0 d\n" +
+    "thread b ended user 0 d\n" +
+    "object a thread uninit private - -\n" +
+    "object sa thread_stack uninit private - -\n" +
+    "object b thread uninit private - -\n" +
+    "object sb thread_stack uninit private - -\n" +
+    "object q msgq init private - 0/2\n" +
+    "domain d -\n",
+  "last-release":
+    "# Two threads hold a dynamic message queue. The release of the last permission makes it gone at that step,\n" +
+    "# and it is recycled: its bytes are back in the pool.\n" +
+    "version = 1\n" +
+    "mpu = \"pmsav7\"\n" +
+    "regions = 8\n" +
+    "oops = \"abort\"\n" +
+    "pool = [{name = \"h\", size = 64}]\n" +
+    "domain = [{name = \"d\", partitions = []}]\n" +
+    "object = [{name = \"a\", kind = \"thread\"}, {name = \"sa\", kind = \"thread_stack\", size = 64}, {name = \"b\", kind = \"thread\"}, {name = \"sb\", kind = \"thread_stack\", size = 64}]\n" +
+    "boot = [{thread = \"a\", stack = \"sa\", script = \"m\", priority = 0, domain = \"d\", pool = \"h\", grants = [\"b\"]}, {thread = \"b\", stack = \"sb\", script = \"c\", priority = 0, domain = \"d\"}]\n" +
+    "script = [{name = \"m\", lines = [\"k_object_alloc msgq r0\", \"k_object_access_grant r0 @b\", \"k_object_release r0\"]}, {name = \"c\", lines = [\"set r0 0\", \"set r0 0\", \"k_object_release 0x48000400\"]}]\n" +
+    "=====\n" +
+    "a begin m 1\n" +
+    "a reserve msgq #16\n" +
+    "a born #16\n" +
+    "a reply #16\n" +
+    "b begin c 1\n" +
+    "a begin m 2\n" +
+    "a check b thread any ok\n" +
+    "a check #16 any any ok\n" +
+    "a grant b #16 ok\n" +
+    "a reply void\n" +
+    "b begin c 2\n" +
+    "a begin m 3\n" +
+    "a check #16 any any ok\n" +
+    "a drop a #16 kept\n" +
+    "a reply void\n" +
+    "b begin c 3\n" +
+    "b check #16 any any ok\n" +
+    "b drop b #16 gone\n" +
+    "b reply void\n" +
+    "b recycle #16\n" +
+    "a exit\n" +
+    "a drop a a kept\n" +
+    "a drop a b kept\n" +
+    "a uninit sa\n" +
+    "a uninit a\n" +
+    "b exit\n" +
+    "b drop b b kept\n" +
+    "b uninit sb\n" +
+    "b uninit b\n" +
+    "dump\n" +
+    "thread a ended user 0 d\n" +
+    "thread b ended user 0 d\n" +
+    "object a thread uninit private - -\n" +
+    "object sa thread_stack uninit private - -\n" +
+    "object b thread uninit private - -\n" +
+    "object sb thread_stack uninit private - -\n" +
+    "domain d -\n" +
+    "pool h 64/64\n",
+};

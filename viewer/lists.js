@@ -1,0 +1,221 @@
+"use strict";
+// Lists of events: the story of one object or thread, and what a search finds. Each line of a list leads to its event.
+
+const LIST_WINDOW = 120;
+
+// A list of events in their order, of which a window is shown.
+class EventList {
+  constructor(holder, choose) {
+    this.holder = holder;
+    this.choose = choose;
+    this.events = [];
+    this.chosen = 0;
+  }
+
+  setEvents(run, events) {
+    this.run = run;
+    this.events = events;
+    this.centre(this.chosen);
+  }
+
+  // Marks event k, and shows the part of the list round it.
+  show(k) {
+    this.chosen = k;
+    const place = firstEventAtLeast(this.events, k);
+    const isSeen = place >= this.from && place < this.from + LIST_WINDOW;
+    if (!isSeen && this.events[place] === k) this.centre(k);
+    for (const button of this.holder.querySelectorAll("button[data-event]")) {
+      const isChosen = Number(button.dataset.event) === k;
+      button.ariaCurrent = isChosen ? "true" : null;
+      if (isChosen) scrollInside(this.holder, button);
+    }
+  }
+
+  centre(k) {
+    const place = firstEventAtLeast(this.events, k);
+    this.from = Math.max(0, Math.min(place - LIST_WINDOW / 2, this.events.length - LIST_WINDOW));
+    this.render();
+  }
+
+  move(by) {
+    this.from = Math.max(0, Math.min(this.from + by, this.events.length - LIST_WINDOW));
+    this.render();
+  }
+
+  render() {
+    const { events, from } = this;
+    const colours = pageColours();
+    const shown = events.slice(from, from + LIST_WINDOW).map((k) => this.entry(k, colours));
+    if (from > 0) shown.unshift(this.mover(`${from} earlier ones`, -LIST_WINDOW));
+    const left = events.length - from - LIST_WINDOW;
+    if (left > 0) shown.push(this.mover(`${left} later ones`, LIST_WINDOW));
+    this.holder.replaceChildren(...shown);
+  }
+
+  entry(k, colours) {
+    const button = textElement("button", "");
+    button.type = "button";
+    button.dataset.event = k;
+    button.append(textElement("span", String(k), "number"), groupIcon(this.run.groups[k], colours), textElement("code", this.run.trace.line(k)));
+    button.addEventListener("click", () => this.choose(k));
+    button.ariaCurrent = k === this.chosen ? "true" : null;
+    return wrapped("li", button);
+  }
+
+  mover(text, by) {
+    const button = textElement("button", text, "mover");
+    button.type = "button";
+    button.addEventListener("click", () => this.move(by));
+    return wrapped("li", button);
+  }
+}
+
+function firstEventAtLeast(events, k) {
+  let [low, high] = [0, events.length];
+  while (low < high) {
+    const middle = (low + high) >> 1;
+    if (events[middle] < k) low = middle + 1;
+    else high = middle;
+  }
+  return low;
+}
+
+function scrollInside(holder, element) {
+  const [outer, inner] = [holder.getBoundingClientRect(), element.getBoundingClientRect()];
+  if (inner.top < outer.top || inner.bottom > outer.bottom) holder.scrollTop += inner.top - outer.top - outer.height / 3;
+}
+
+function textElement(name, text, className = "") {
+  const element = document.createElement(name);
+  element.textContent = text;
+  if (className) element.className = className;
+  return element;
+}
+
+function wrapped(name, ...children) {
+  const element = document.createElement(name);
+  element.append(...children);
+  return element;
+}
+
+// The mark of a group, as it stands in the timeline.
+function groupIcon(group, colours) {
+  const icon = document.createElement("canvas");
+  const ratio = devicePixelRatio || 1;
+  icon.width = icon.height = Math.round(18 * ratio);
+  icon.className = "mark";
+  const context = icon.getContext("2d");
+  context.scale(ratio, ratio);
+  drawGroup(context, colours, group, 9, 9, 6);
+  return icon;
+}
+
+// The story of one object or thread.
+class Story {
+  constructor({ subject, list, summary }, choose) {
+    this.subject = subject;
+    this.summary = summary;
+    this.list = new EventList(list, choose);
+    subject.addEventListener("change", () => this.tell());
+  }
+
+  setRun(run) {
+    this.run = run;
+    const threads = [...run.used.threads].sort((one, other) => one - other);
+    const rows = [...run.used.rows].sort((one, other) => one - other);
+    this.subject.replaceChildren(
+      optionGroup("Threads", threads.map((thread) => [`thread ${thread}`, run.description.nameOfThread(thread)])),
+      optionGroup("Objects", rows.map((row) => [`object ${row}`, `${run.description.nameOfRow(row)} (${run.description.kindOfRow(row)})`])),
+    );
+    this.tell();
+  }
+
+  // Tells of a thread or of an object, by its index or its row.
+  about(what, number) {
+    this.subject.value = `${what} ${number}`;
+    this.tell();
+  }
+
+  tell() {
+    const [what, number] = this.subject.value.split(" ");
+    const { run } = this;
+    const events = [];
+    for (let k = 1; k <= run.count; k += 1) {
+      if (what === "thread" ? isOfThread(run, k, Number(number)) : run.trace.objectRow(k) === Number(number)) events.push(k);
+    }
+    this.summary.textContent = `${events.length} ${events.length === 1 ? "event" : "events"}`;
+    this.list.setEvents(run, events);
+  }
+
+  show(k) {
+    this.list.show(k);
+  }
+}
+
+// Whether event k is made by a thread, names it, or wakes it.
+function isOfThread({ trace, description }, k, thread) {
+  return trace.who[k] === thread || trace.peer[k] === thread || trace.objectRow(k) === description.rowOfThread(thread)
+    || (trace.woken.get(k)?.some((woken) => woken.thread === thread) ?? false);
+}
+
+function optionGroup(label, options) {
+  const group = document.createElement("optgroup");
+  group.label = label;
+  group.append(...options.map(([value, text]) => new Option(text, value)));
+  return group;
+}
+
+// The search: by thread, object, kind of event, verdict, and a part of the line.
+class Search {
+  constructor(parts, choose, onFound) {
+    Object.assign(this, parts);
+    this.choose = choose;
+    this.onFound = onFound;
+    this.list = new EventList(parts.list, choose);
+    this.found = [];
+    for (const field of [this.thread, this.object, this.kind, this.verdict]) field.addEventListener("change", () => this.search());
+    this.words.addEventListener("input", () => this.search());
+  }
+
+  setRun(run) {
+    this.run = run;
+    const { description, trace } = run;
+    const sorted = (set) => [...set].sort((one, other) => one - other);
+    this.thread.replaceChildren(new Option("any", ""), ...sorted(run.used.threads).map((thread) => new Option(description.nameOfThread(thread), thread)));
+    this.object.replaceChildren(new Option("any", ""), ...sorted(run.used.rows).map((row) => new Option(description.nameOfRow(row), row)));
+    const kinds = EVENT_KINDS.map((kind, number) => [kind, number, run.kindCounts[number]]).filter(([, , count]) => count > 0);
+    this.kind.replaceChildren(new Option("any", ""), ...kinds.map(([kind, number, count]) => new Option(`${kind} (${count})`, number)));
+    const verdicts = sorted(new Set(trace.verdict.subarray(1, run.count + 1))).filter((verdict) => verdict > 0);
+    this.verdict.replaceChildren(new Option("any", ""), ...verdicts.map((verdict) => new Option(VERDICTS[verdict], verdict)));
+    this.words.value = "";
+    this.search();
+  }
+
+  search() {
+    const { run } = this;
+    const [thread, object, kind, verdict] = [this.thread, this.object, this.kind, this.verdict].map((field) => (field.value === "" ? -1 : Number(field.value)));
+    const words = this.words.value.trim();
+    const isAsked = words !== "" || Math.max(thread, object, kind, verdict) >= 0;
+    this.found = [];
+    for (let k = 1; isAsked && k <= run.count; k += 1) {
+      const fits = (kind < 0 || run.trace.kind[k] === kind) && (verdict < 0 || run.trace.verdict[k] === verdict)
+        && (thread < 0 || run.trace.who[k] === thread) && (object < 0 || run.trace.objectRow(k) === object)
+        && (words === "" || run.trace.line(k).includes(words));
+      if (fits) this.found.push(k);
+    }
+    this.summary.textContent = isAsked ? `${this.found.length} found; n and Shift+n go through them` : "Nothing is asked for yet.";
+    this.list.setEvents(run, this.found);
+    this.onFound(this.found);
+  }
+
+  // The next one found behind event k, or before it; round and round.
+  step(k, way) {
+    if (this.found.length === 0) return;
+    const place = firstEventAtLeast(this.found, way > 0 ? k + 1 : k) - (way > 0 ? 0 : 1);
+    this.choose(this.found.at(place % this.found.length));
+  }
+
+  show(k) {
+    this.list.show(k);
+  }
+}

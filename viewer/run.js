@@ -1,0 +1,216 @@
+"use strict";
+// A run to look at: its description, its trace, the state after each event, and where the replay and the dump differ.
+
+const CHECKPOINT_EVERY = 1024;
+const DIFFERENCES_KEPT = 20;
+
+class Run {
+  constructor(description, trace) {
+    this.description = description;
+    this.trace = trace;
+    this.count = trace.count;
+    this.checkpoints = [];
+    this.nearby = null;
+    this.pairChanges = new Map();
+    this.regionChanges = [];
+    this.waits = Array.from({ length: THREADS }, () => []);
+    this.wakes = [];
+    this.lives = Array.from({ length: THREADS }, () => []);
+    this.kindCounts = new Array(EVENT_KINDS.length).fill(0);
+    this.used = { rows: new Set(description.objects.map((object) => object.row)), threads: new Set(), extra: [] };
+    this.differences = null;
+  }
+
+  // Reads and replays both texts. `progress` is called with a share from 0 to 1, and may throw to stop.
+  static async load(descriptionText, outputText, progress) {
+    const description = inFile("description", () => new Description(descriptionText));
+    const opening = inFile("description", () => State.opening(description));
+    const trace = new Trace(description, outputText);
+    const pause = async (share) => {
+      progress(share);
+      await new Promise((resolve) => { setTimeout(resolve, 0); });
+    };
+    try {
+      await trace.read((share) => pause(share / 2));
+    } catch (fault) {
+      throw atFile("output", fault);
+    }
+    const run = new Run(description, trace);
+    await run.replay(opening, (share) => pause(0.5 + share / 2));
+    return run;
+  }
+
+  async replay(state, pause) {
+    const memory = new Memory(this.description);
+    for (const row of this.description.threadRows) this.used.threads.add(this.description.threadOfRow(row));
+    this.noteRegions(state);
+    this.lives.forEach((lives, thread) => {
+      if (state.life[thread] === LIFE.started) lives.push({ start: 0, end: -1, failed: false });
+    });
+    this.groups = new Uint8Array(this.count + 1);
+    this.checkpoints.push(state.clone());
+    for (let k = 1; k <= this.count; k += 1) {
+      memory.apply(state, this.trace, k);
+      state.apply(this.trace, k);
+      this.note(state, k);
+      if (k % CHECKPOINT_EVERY === 0) this.checkpoints.push(state.clone());
+      if (k % 8192 === 0) await pause(k / this.count);
+    }
+    if (this.trace.dumpAt >= 0) this.compare(dumpText(state, memory));
+  }
+
+  // Keeps what the picture looks up later: waits, wakes, changes of rights, and who and what takes part.
+  note(state, k) {
+    const { trace } = this;
+    const who = trace.who[k];
+    const kind = trace.kindWord(k);
+    this.kindCounts[trace.kind[k]] += 1;
+    this.groups[k] = groupOf(trace, k);
+    this.used.threads.add(who);
+    this.noteLife(kind, k);
+    const row = trace.objectRow(k);
+    if (row >= 0) this.used.rows.add(row);
+    if (kind === "act" && trace.verdictWord(k) === "wait") this.waits[who].push({ start: k, end: -1, row, woken: -1 });
+    if (kind === "resume" && this.waits[who].length) this.waits[who].at(-1).end = k;
+    for (const { thread } of trace.woken.get(k) ?? []) {
+      this.wakes.push({ event: k, from: who, to: thread });
+      if (this.waits[thread].length) this.waits[thread].at(-1).woken = k;
+    }
+    if (trace.changesPair(k)) this.notePair(k, trace.pairOf(k));
+    if (kind === "domain" || kind === "start" || kind === "user" || kind === "exit" || kind === "fatal") {
+      this.regionChanges.push(k);
+      if (kind === "domain") this.noteRegions(state);
+    }
+  }
+
+  noteLife(kind, k) {
+    const lives = this.lives[kind === "start" ? this.trace.peer[k] : this.trace.who[k]];
+    if (kind === "start") lives.push({ start: k, end: -1, failed: false });
+    if ((kind === "exit" || kind === "fatal") && lives.length) {
+      lives.at(-1).end = k;
+      lives.at(-1).failed = kind === "fatal";
+    }
+  }
+
+  notePair(k, { thread, row }) {
+    const key = row * THREADS + thread;
+    if (!this.pairChanges.has(key)) this.pairChanges.set(key, []);
+    this.pairChanges.get(key).push(k);
+  }
+
+  // Partitions that a script names by numbers stand in the matrix behind the description's own.
+  noteRegions(state) {
+    for (const part of state.parts.flatMap((parts) => parts ?? [])) {
+      const known = [...this.description.regions, ...this.used.extra];
+      if (known.some(({ what, start, size }) => what === "partition" && start === part.start && size === part.size)) continue;
+      this.used.extra.push({ what: "partition", name: addressText(part.start), start: part.start, size: part.size, attr: part.attr });
+    }
+  }
+
+  compare(expected) {
+    const told = this.trace.dumpLines();
+    this.differences = [];
+    for (let place = 0; place < Math.max(told.length, expected.length); place += 1) {
+      if (told[place] === expected[place]) continue;
+      if (this.differences.length === DIFFERENCES_KEPT) return;
+      this.differences.push({
+        line: this.trace.dumpAt + place, told: told[place] ?? "nothing", expected: expected[place] ?? "nothing",
+      });
+    }
+    if (!this.trace.text.endsWith("\n")) {
+      this.differences.push({ line: this.trace.lineCount, told: "no end of the line", expected: "an end of the line" });
+    }
+  }
+
+  // The state after event k; after event 0 it is the opening. It must not be changed.
+  stateAfter(k) {
+    if (this.nearby?.k === k) return this.nearby.state;
+    const place = Math.min(Math.floor(k / CHECKPOINT_EVERY), this.checkpoints.length - 1);
+    const isNear = this.nearby && this.nearby.k < k && this.nearby.k >= place * CHECKPOINT_EVERY;
+    let at = isNear ? this.nearby.k : place * CHECKPOINT_EVERY;
+    const state = (isNear ? this.nearby.state : this.checkpoints[place]).clone();
+    while (at < k) state.apply(this.trace, ++at);
+    this.nearby = { k, state };
+    return state;
+  }
+
+  // The events around k that gave or took a permission: the last one up to k, and the next one.
+  pairEvents(thread, row, k) {
+    const list = this.pairChanges.get(row * THREADS + thread) ?? [];
+    const next = list.findIndex((event) => event > k);
+    const before = next < 0 ? list.length : next;
+    return { last: before > 0 ? list[before - 1] : 0, next: next < 0 ? 0 : list[next] };
+  }
+
+  // The same of what a thread may do in a region.
+  regionEvents(thread, region, k) {
+    const changes = (event) =>
+      this.stateAfter(event - 1).access(thread, region) !== this.stateAfter(event).access(thread, region);
+    return {
+      last: this.regionChanges.findLast((event) => event <= k && changes(event)) ?? 0,
+      next: this.regionChanges.find((event) => event > k && changes(event)) ?? 0,
+    };
+  }
+}
+
+// Makes a fault say which of the two texts it was found in.
+function atFile(file, fault) {
+  if (fault instanceof Unreadable) fault.file = file;
+  return fault;
+}
+
+function inFile(file, read) {
+  try {
+    return read();
+  } catch (fault) {
+    throw atFile(file, fault);
+  }
+}
+
+// The dump that the replay expects, line by line.
+function dumpText(state, memory) {
+  const { description } = state;
+  const rows = Array.from({ length: ROWS }, (_, row) => row).filter((row) => state.isThere(row));
+  const threads = Array.from({ length: THREADS }, (_, thread) => thread)
+    .filter((thread) => state.isThere(description.rowOfThread(thread) ?? -1));
+  return [
+    "dump",
+    ...threads.map((thread) => `thread ${description.nameOfThread(thread)} ${threadText(state, thread)}`),
+    ...rows.map((row) => `object ${description.nameOfRow(row)} ${objectText(state, memory, row)}`),
+    ...description.domains.map((name, number) => `domain ${name} ${partsText(state.parts[number])}`),
+    ...description.pools.map(({ name, size }, number) => `pool ${name} ${state.poolLeft[number]}/${size}`),
+    ...memory.memoryLines(),
+  ];
+}
+
+function threadText(state, thread) {
+  const status = state.status(thread);
+  if (status === "unborn") return status;
+  const mode = state.supervisor[thread] ? "supervisor" : "user";
+  return `${status} ${mode} ${state.priority[thread]} ${state.description.domains[state.domain[thread]]}`;
+}
+
+function objectText(state, memory, row) {
+  const kind = state.description.kindOfRow(row);
+  const isGone = state.stage[row] === STAGE.gone;
+  const content = kind === "thread" && !isGone ? memory.nameOf(row) : state.content(row);
+  return `${kind} ${stageText(state, row)} ${state.isPublic[row] ? "public" : "private"} ${holdersText(state, row)} ${content}`;
+}
+
+function stageText(state, row) {
+  if (state.stage[row] === STAGE.gone) return "gone";
+  return state.initialised[row] ? "init" : "uninit";
+}
+
+function holdersText(state, row) {
+  const holders = [];
+  for (let thread = 0; thread < THREADS; thread += 1) {
+    if (state.hasPair(thread, row)) holders.push(state.description.nameOfThread(thread));
+  }
+  return holders.join(",") || "-";
+}
+
+function partsText(parts) {
+  if (!parts) return "uninit";
+  return parts.map(({ start, size, attr }) => `${addressText(start)}/${size}/${attr}`).join(",") || "-";
+}

@@ -1,0 +1,374 @@
+"use strict";
+// The timeline: a lane for each thread, and a mark for each event in the order of the run. Only what is seen is drawn,
+// and where many events share a few pixels the one that weighs most.
+
+const LABEL_WIDTH = 116;
+const AXIS_HEIGHT = 26;
+const MOST_SCALE = 48;
+const SEPARATE_MARKS = 7;
+const CELL = 4;
+const MOST_ARROWS = 600;
+const FEW_ARROWS = 60;
+
+class Timeline {
+  constructor(canvas, choose) {
+    this.canvas = canvas;
+    this.choose = choose;
+    this.context = canvas.getContext("2d");
+    this.run = null;
+    this.chosen = 0;
+    this.matches = [];
+    this.hidden = new Set();
+    this.drawn = { marks: 0, arrows: [], waits: [], fatals: [] };
+    new ResizeObserver(() => this.resize()).observe(canvas.parentElement);
+    matchMedia("(prefers-color-scheme: dark)").addEventListener("change", () => this.draw());
+    this.listen();
+  }
+
+  setRun(run) {
+    this.run = run;
+    this.threads = [...run.used.threads].sort((one, other) => one - other);
+    this.laneOf = new Int8Array(THREADS).fill(-1);
+    this.threads.forEach((thread, lane) => { this.laneOf[thread] = lane; });
+    this.chosen = 0;
+    this.matches = [];
+    this.resize();
+    this.showWhole();
+  }
+
+  resize() {
+    if (!this.run) return;
+    this.laneHeight = Math.max(20, Math.min(34, Math.floor(420 / this.threads.length)));
+    this.width = this.canvas.parentElement.clientWidth;
+    this.height = AXIS_HEIGHT + this.laneHeight * this.threads.length + 6;
+    const ratio = devicePixelRatio || 1;
+    this.canvas.width = Math.round(this.width * ratio);
+    this.canvas.height = Math.round(this.height * ratio);
+    this.canvas.style.height = `${this.height}px`;
+    this.context.setTransform(ratio, 0, 0, ratio, 0, 0);
+    this.clampView();
+    this.drawNow();
+  }
+
+  // The view: the place in the run at the left edge, and how many pixels an event takes.
+  showWhole() {
+    this.start = 0;
+    this.scale = Math.min(MOST_SCALE, this.span() / (this.run.count + 1));
+    this.draw();
+  }
+
+  span() {
+    return Math.max(50, this.width - LABEL_WIDTH - 8);
+  }
+
+  clampView() {
+    const least = this.span() / (this.run.count + 1);
+    this.scale = Math.max(Math.min(least, MOST_SCALE), Math.min(MOST_SCALE, this.scale || least));
+    const most = Math.max(0, this.run.count + 1 - this.span() / this.scale);
+    this.start = Math.max(0, Math.min(most, this.start || 0));
+  }
+
+  zoom(factor, x = this.x(this.chosen)) {
+    const inside = x >= LABEL_WIDTH && x <= this.width ? x : LABEL_WIDTH + this.span() / 2;
+    const event = this.eventAt(inside);
+    this.scale *= factor;
+    this.clampView();
+    this.start = event - (inside - LABEL_WIDTH) / this.scale;
+    this.clampView();
+    this.draw();
+  }
+
+  pan(pixels) {
+    this.start += pixels / this.scale;
+    this.clampView();
+    this.draw();
+  }
+
+  // Chooses event k, and moves the view where it isn't seen.
+  show(k) {
+    this.chosen = k;
+    const x = this.x(k);
+    if (x < LABEL_WIDTH + 8 || x > this.width - 16) this.start = k - this.span() / this.scale / 2;
+    this.clampView();
+    this.draw();
+  }
+
+  // The middle of event k's place, and the place at x.
+  x(k) {
+    return LABEL_WIDTH + (k + 0.5 - this.start) * this.scale;
+  }
+
+  eventAt(x) {
+    return this.start + (x - LABEL_WIDTH) / this.scale;
+  }
+
+  laneY(thread) {
+    return AXIS_HEIGHT + (this.laneOf[thread] + 0.5) * this.laneHeight;
+  }
+
+  draw() {
+    if (this.frame) return;
+    this.frame = requestAnimationFrame(() => this.drawNow());
+  }
+
+  drawNow() {
+    cancelAnimationFrame(this.frame);
+    this.frame = 0;
+    if (!this.run) return;
+    const { context } = this;
+    this.colours = pageColours();
+    this.drawn = { marks: 0, arrows: [], waits: [], fatals: [] };
+    context.clearRect(0, 0, this.width, this.height);
+    context.font = "13px system-ui, sans-serif";
+    context.textBaseline = "middle";
+    this.first = Math.max(1, Math.floor(this.eventAt(LABEL_WIDTH)));
+    this.last = Math.min(this.run.count, Math.ceil(this.eventAt(this.width)));
+    this.drawLanes();
+    context.save();
+    context.beginPath();
+    context.rect(LABEL_WIDTH, 0, this.width - LABEL_WIDTH, this.height);
+    context.clip();
+    this.drawAxis();
+    this.drawLives();
+    this.drawWaits();
+    this.drawArrows();
+    if (this.scale >= SEPARATE_MARKS) this.drawMarks();
+    else this.drawCells();
+    this.drawMatches();
+    this.drawChosen();
+    context.restore();
+  }
+
+  drawLanes() {
+    const { context, colours } = this;
+    for (const thread of this.threads) {
+      const y = this.laneY(thread);
+      context.fillStyle = colours.colour(this.laneOf[thread] % 2 ? "panel" : "stripe");
+      context.fillRect(0, y - this.laneHeight / 2, this.width, this.laneHeight);
+      context.fillStyle = colours.colour("text");
+      context.fillText(this.shortened(this.run.description.nameOfThread(thread)), 10, y);
+    }
+  }
+
+  shortened(name) {
+    while (this.context.measureText(name).width > LABEL_WIDTH - 18) name = `${name.replace(/…$/, "").slice(0, -1)}…`;
+    return name;
+  }
+
+  drawAxis() {
+    const { context, colours } = this;
+    const wanted = 90 / this.scale;
+    const power = 10 ** Math.floor(Math.log10(Math.max(1, wanted)));
+    const step = Math.max(1, [1, 2, 5, 10].find((times) => times * power >= wanted) * power);
+    context.textAlign = "center";
+    for (let k = Math.ceil(this.first / step) * step || step; k <= this.last; k += step) {
+      context.fillStyle = colours.colour("line");
+      context.fillRect(this.x(k), AXIS_HEIGHT - 5, 1, this.height);
+      context.fillStyle = colours.colour("faint");
+      context.fillText(String(k), this.x(k), AXIS_HEIGHT / 2);
+    }
+    context.textAlign = "left";
+  }
+
+  // A band from a thread's start to its end.
+  drawLives() {
+    const { context, colours } = this;
+    for (const thread of this.threads) {
+      const y = this.laneY(thread);
+      for (const { start, end, failed } of this.run.lives[thread]) {
+        const from = Math.max(LABEL_WIDTH, this.x(start));
+        const to = Math.min(this.width, end < 0 ? this.x(this.run.count) : this.x(end));
+        if (to <= from) continue;
+        context.fillStyle = colours.colour("life");
+        context.fillRect(from, y - 2, to - from, 4);
+        if (failed) {
+          context.fillStyle = colours.colour("failed");
+          context.fillRect(to, y - this.laneHeight / 2, this.x(this.run.count + 0.5) - to, this.laneHeight);
+        }
+      }
+    }
+  }
+
+  // A bar from the wait to the resume, or to the end of the run.
+  drawWaits() {
+    const { context, colours } = this;
+    if (this.hidden.has(GROUP_NUMBER.get("wait"))) return;
+    const height = Math.min(14, this.laneHeight - 8);
+    for (const thread of this.threads) {
+      for (const wait of seenWaits(this.run.waits[thread], this.first, this.last)) {
+        const from = Math.max(LABEL_WIDTH - 4, this.x(wait.start));
+        const to = Math.min(this.width + 4, wait.end < 0 ? this.x(this.run.count + 0.5) : this.x(wait.end));
+        const y = this.laneY(thread) - height / 2;
+        context.fillStyle = colours.colour("waiting");
+        context.fillRect(from, y, Math.max(1, to - from), height);
+        context.lineWidth = 1;
+        context.strokeStyle = colours.groups[GROUP_NUMBER.get("wait")];
+        if (to - from > 3) context.strokeRect(from + 0.5, y + 0.5, to - from - 1, height - 1);
+        if (this.drawn.waits.length < MOST_ARROWS) this.drawn.waits.push({ thread, ...wait });
+      }
+    }
+  }
+
+  drawArrows() {
+    const { wakes } = this.run;
+    if (this.hidden.has(GROUP_NUMBER.get("wait"))) return;
+    const from = firstAtLeast(wakes, this.first);
+    const to = firstAtLeast(wakes, this.last + 1);
+    if (to - from > (this.scale < SEPARATE_MARKS ? FEW_ARROWS : MOST_ARROWS)) return;
+    for (const wake of wakes.slice(from, to)) this.drawArrow(wake);
+  }
+
+  // From the waker's mark to the lane of the thread that it wakes.
+  drawArrow({ event, from, to }) {
+    const { context, colours } = this;
+    const [x, y, end] = [this.x(event), this.laneY(from), this.laneY(to)];
+    const way = end > y ? 1 : -1;
+    const bow = x + 10;
+    context.strokeStyle = colours.colour("mark-wake");
+    context.fillStyle = context.strokeStyle;
+    context.lineWidth = this.scale < SEPARATE_MARKS ? 1 : 2;
+    context.beginPath();
+    context.moveTo(x, y);
+    context.bezierCurveTo(bow, y + way * 10, bow, end - way * 16, x + 3, end - way * 8);
+    context.stroke();
+    filled(context, [[x, end - way], [x - 2.5, end - way * 10], [x + 7.5, end - way * 8]]);
+    this.drawn.arrows.push({ event, from, to, x, y, end });
+  }
+
+  drawMarks() {
+    const { trace } = this.run;
+    const r = Math.min(6.5, this.scale * 0.42, this.laneHeight * 0.3);
+    for (let k = this.first; k <= this.last; k += 1) {
+      const group = this.run.groups[k];
+      if (this.hidden.has(group)) continue;
+      this.mark(group, k, this.x(k), this.laneY(trace.who[k]), r);
+    }
+  }
+
+  mark(group, k, x, y, r) {
+    drawGroup(this.context, this.colours, group, x, y, r);
+    this.drawn.marks += 1;
+    if (GROUPS[group].name === "fatal" && this.drawn.fatals.length < MOST_ARROWS) this.drawn.fatals.push({ event: k, x, y });
+  }
+
+  // The heaviest event of each cell of a few pixels, with a bar for how many there are.
+  drawCells() {
+    const cells = Math.ceil(this.span() / CELL) + 4;
+    const heaviest = new Int32Array(cells * this.threads.length);
+    const counts = new Int32Array(cells * this.threads.length);
+    const { groups, trace: { who } } = this.run;
+    const isHidden = GROUPS.map((_, group) => this.hidden.has(group));
+    const { laneOf, start, last } = this;
+    const perCell = this.scale / CELL;
+    for (let k = this.first; k <= last; k += 1) {
+      if (isHidden[groups[k]]) continue;
+      const place = laneOf[who[k]] * cells + Math.max(0, Math.floor((k - start) * perCell));
+      counts[place] += 1;
+      if (!heaviest[place] || groups[k] > groups[heaviest[place]]) heaviest[place] = k;
+    }
+    for (const standsOut of [false, true]) {
+      heaviest.forEach((k, place) => {
+        if (k && (groups[k] >= FIRST_STANDING_OUT) === standsOut) this.drawCell(k, place % cells, counts[place]);
+      });
+    }
+  }
+
+  drawCell(k, cell, count) {
+    const { context, colours } = this;
+    const [x, y, group] = [LABEL_WIDTH + cell * CELL, this.laneY(this.run.trace.who[k]), this.run.groups[k]];
+    if (group >= FIRST_STANDING_OUT) {
+      this.mark(group, k, x + CELL / 2, y, 5);
+      return;
+    }
+    const height = Math.min(this.laneHeight - 6, 4 + 3 * Math.log2(1 + count));
+    context.fillStyle = colours.groups[group];
+    context.fillRect(x, y - height / 2, CELL - 1, height);
+    this.drawn.marks += 1;
+  }
+
+  drawMatches() {
+    const { context } = this;
+    context.fillStyle = this.colours.colour("match");
+    let lastX = -10;
+    for (const k of this.matches) {
+      const x = this.x(k);
+      if (x < LABEL_WIDTH || x - lastX < 2 || x > this.width) continue;
+      filled(context, [[x - 4, 1], [x + 4, 1], [x, 7]]);
+      lastX = x;
+    }
+  }
+
+  drawChosen() {
+    if (this.chosen === 0) return;
+    const { context, colours } = this;
+    const x = this.x(this.chosen);
+    context.strokeStyle = colours.colour("chosen");
+    context.lineWidth = 1.5;
+    path(context, [[x, AXIS_HEIGHT - 2], [x, this.height]]);
+    context.stroke();
+    circle(context, x, this.laneY(this.run.trace.who[this.chosen]), 10);
+    context.lineWidth = 2;
+    context.stroke();
+  }
+
+  // The event that a click at a point means: that of the place, or the one that weighs most where many share it.
+  eventAtPoint(x, y) {
+    const lane = Math.floor((y - AXIS_HEIGHT) / this.laneHeight);
+    const near = Math.max(CELL, 6) / this.scale;
+    const middle = this.eventAt(x);
+    if (this.scale >= SEPARATE_MARKS) return Math.max(0, Math.min(this.run.count, Math.floor(middle)));
+    const { groups, trace, count } = this.run;
+    let found = Math.max(0, Math.min(count, Math.round(middle)));
+    let weight = -1;
+    for (let k = Math.max(1, Math.floor(middle - near)); k <= Math.min(count, Math.ceil(middle + near)); k += 1) {
+      if (this.laneOf[trace.who[k]] !== lane || groups[k] <= weight || this.hidden.has(groups[k])) continue;
+      [found, weight] = [k, groups[k]];
+    }
+    return found;
+  }
+
+  listen() {
+    const { canvas } = this;
+    let drag = null;
+    canvas.addEventListener("pointerdown", (event) => {
+      drag = { x: event.offsetX, moved: 0 };
+      canvas.setPointerCapture(event.pointerId);
+    });
+    canvas.addEventListener("pointermove", (event) => {
+      if (!drag || !this.run) return;
+      drag.moved += Math.abs(event.offsetX - drag.x);
+      if (drag.moved > 4) this.pan(drag.x - event.offsetX);
+      drag.x = event.offsetX;
+    });
+    canvas.addEventListener("pointerup", (event) => {
+      const isClick = drag && drag.moved <= 4 && this.run && event.offsetX > LABEL_WIDTH;
+      drag = null;
+      if (isClick) this.choose(this.eventAtPoint(event.offsetX, event.offsetY));
+    });
+    canvas.addEventListener("pointercancel", () => { drag = null; });
+    canvas.addEventListener("wheel", (event) => {
+      if (!this.run) return;
+      event.preventDefault();
+      const isPan = event.shiftKey || Math.abs(event.deltaX) > Math.abs(event.deltaY);
+      if (isPan) this.pan(event.deltaX || event.deltaY);
+      else this.zoom(Math.exp(-event.deltaY / 400), event.offsetX);
+    }, { passive: false });
+  }
+}
+
+// The place of the first entry of a list in the order of its events whose event is at least k.
+function firstAtLeast(list, k, key = "event") {
+  let [low, high] = [0, list.length];
+  while (low < high) {
+    const middle = (low + high) >> 1;
+    if (list[middle][key] < k) low = middle + 1;
+    else high = middle;
+  }
+  return low;
+}
+
+// The waits of a thread that reach into the events from first to last. Waits of one thread follow one another.
+function seenWaits(waits, first, last) {
+  const from = Math.max(0, firstAtLeast(waits, first, "start") - 1);
+  return waits.slice(from, firstAtLeast(waits, last + 1, "start")).filter(({ end }) => end < 0 || end >= first);
+}
