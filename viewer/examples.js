@@ -4,6 +4,7 @@
 
 const EXAMPLES = {
   "sensor-and-logger":
+    "#:schema ../schema/zumode.schema.json\n" +
     "# A supervisor sets up a domain, grants a queue, creates two user threads and leaves supervisor mode for good.\n" +
     "# One thread stores a value in the shared partition and sends it; the other waits for it and copies it out.\n" +
     "version = 1\n" +
@@ -122,6 +123,7 @@ const EXAMPLES = {
     "domain app 0x20000000/256/P_RW_U_RW\n" +
     "memory 0x20000000 2a0000000000000000000000000000002a000000000000000000000000000000\n",
   "copy-after-a-cut":
+    "#:schema ../schema/zumode.schema.json\n" +
     "# A partition leaves its domain while a thread waits to copy a message into it.\n" +
     "# The copy is checked again when the thread resumes, and fails.\n" +
     "version = 1\n" +
@@ -167,6 +169,7 @@ const EXAMPLES = {
     "object q msgq init private - 0/2\n" +
     "domain d -\n",
   "last-release":
+    "#:schema ../schema/zumode.schema.json\n" +
     "# Two threads hold a dynamic message queue. The release of the last permission makes it gone at that step,\n" +
     "# and it is recycled: its bytes are back in the pool.\n" +
     "version = 1\n" +
