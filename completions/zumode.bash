@@ -1,0 +1,31 @@
+# Completion of zumode for bash. Load it by: source completions/zumode.bash
+#
+# A command is one line of `_zumode_options`: its word, and the words that may follow it.
+
+declare -gA _zumode_options=(
+  [sim]="--cpus --pick"
+  [summary]="--cpus --pick"
+  [layout]=""
+  [gen]=""
+)
+
+_zumode() {
+  local word=${COMP_WORDS[COMP_CWORD]} before=${COMP_WORDS[COMP_CWORD - 1]} given option
+  COMPREPLY=()
+  if [ "$COMP_CWORD" -eq 1 ]; then
+    mapfile -t COMPREPLY < <(compgen -W "${!_zumode_options[*]}" -- "$word" | sort)
+    return
+  fi
+  case $before in
+    --cpus) mapfile -t COMPREPLY < <(compgen -W "1 2 3 4 5 6 7 8" -- "$word"); return ;;
+    --pick) return ;;
+  esac
+  given=" ${COMP_WORDS[*]:2} "
+  for option in ${_zumode_options[${COMP_WORDS[1]}]-}; do
+    # An option stands at most once.
+    [[ $given == *" $option "* ]] && [ "$option" != "$word" ] && continue
+    [[ $option == "$word"* ]] && COMPREPLY+=("$option")
+  done
+}
+
+complete -F _zumode zumode ./zumode
