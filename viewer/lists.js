@@ -70,16 +70,6 @@ class EventList {
   }
 }
 
-function firstEventAtLeast(events, k) {
-  let [low, high] = [0, events.length];
-  while (low < high) {
-    const middle = (low + high) >> 1;
-    if (events[middle] < k) low = middle + 1;
-    else high = middle;
-  }
-  return low;
-}
-
 function scrollInside(holder, element) {
   const [outer, inner] = [holder.getBoundingClientRect(), element.getBoundingClientRect()];
   if (inner.top < outer.top || inner.bottom > outer.bottom) holder.scrollTop += inner.top - outer.top - outer.height / 3;

@@ -186,7 +186,7 @@ class Page {
     }
     this.cell = cell;
     const name = region ? region.name : this.run.description.nameOfRow(row);
-    const events = region ? this.run.regionEvents(thread, region, this.k) : this.run.pairEvents(thread, row, this.k);
+    const events = region ? this.run.rights.regionEvents(thread, region, this.k) : this.run.rights.pairEvents(thread, row, this.k);
     const label = region ? rightsText(this.run.stateAfter(this.k).access(thread, region)) || "nothing" : pairLabel(this.run.stateAfter(this.k), thread, row);
     const text = wrapped("p", textElement("strong", `${this.run.description.nameOfThread(thread)} on ${name}: `), label, ". ");
     text.append(...this.eventLink("Last changed by", events.last, "It has been so from the opening. "), ...this.eventLink("Next changed by", events.next, "It stays so."));

@@ -13,12 +13,11 @@ function matrixModel(run, k) {
   const columns = threads.map((thread) => changedWhere(k, (of) => threadNote(of, thread), before, state, {
     thread, name: run.description.nameOfThread(thread), mode: modeWord(state, thread),
   }));
-  const regions = [...run.description.regions, ...run.used.extra];
   const rows = [...run.used.rows].sort((one, other) => one - other);
   return {
     k, columns,
     sections: [
-      { title: "Memory", what: "region", rows: regions.map((region) => regionRow(run, k, threads, region, before, state)) },
+      { title: "Memory", what: "region", rows: run.rights.regions.map((region) => regionRow(run, k, threads, region, before, state)) },
       { title: "Objects", what: "object", rows: rows.map((row) => objectRow(run, k, threads, row, before, state)) },
     ],
   };

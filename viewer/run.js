@@ -11,13 +11,12 @@ class Run {
     this.count = trace.count;
     this.checkpoints = [];
     this.nearby = null;
-    this.pairChanges = new Map();
-    this.regionChanges = [];
+    this.rights = new Rights(description);
     this.waits = Array.from({ length: THREADS }, () => []);
     this.wakes = [];
     this.lives = Array.from({ length: THREADS }, () => []);
     this.kindCounts = new Array(EVENT_KINDS.length).fill(0);
-    this.used = { rows: new Set(description.objects.map((object) => object.row)), threads: new Set(), extra: [] };
+    this.used = { rows: new Set(description.objects.map((object) => object.row)), threads: new Set() };
     this.differences = null;
   }
 
@@ -43,7 +42,7 @@ class Run {
   async replay(state, pause) {
     const memory = new Memory(this.description);
     for (const row of this.description.threadRows) this.used.threads.add(this.description.threadOfRow(row));
-    this.noteRegions(state);
+    this.rights.open(state);
     this.lives.forEach((lives, thread) => {
       if (state.life[thread] === LIFE.started) lives.push({ start: 0, end: -1, failed: false });
     });
@@ -76,11 +75,7 @@ class Run {
       this.wakes.push({ event: k, from: who, to: thread });
       if (this.waits[thread].length) this.waits[thread].at(-1).woken = k;
     }
-    if (trace.changesPair(k)) this.notePair(k, trace.pairOf(k));
-    if (kind === "domain" || kind === "start" || kind === "user" || kind === "exit" || kind === "fatal") {
-      this.regionChanges.push(k);
-      if (kind === "domain") this.noteRegions(state);
-    }
+    this.rights.note(state, trace, k);
   }
 
   noteLife(kind, k) {
@@ -89,21 +84,6 @@ class Run {
     if ((kind === "exit" || kind === "fatal") && lives.length) {
       lives.at(-1).end = k;
       lives.at(-1).failed = kind === "fatal";
-    }
-  }
-
-  notePair(k, { thread, row }) {
-    const key = row * THREADS + thread;
-    if (!this.pairChanges.has(key)) this.pairChanges.set(key, []);
-    this.pairChanges.get(key).push(k);
-  }
-
-  // Partitions that a script names by numbers stand in the matrix behind the description's own.
-  noteRegions(state) {
-    for (const part of state.parts.flatMap((parts) => parts ?? [])) {
-      const known = [...this.description.regions, ...this.used.extra];
-      if (known.some(({ what, start, size }) => what === "partition" && start === part.start && size === part.size)) continue;
-      this.used.extra.push({ what: "partition", name: addressText(part.start), start: part.start, size: part.size, attr: part.attr });
     }
   }
 
@@ -132,24 +112,6 @@ class Run {
     while (at < k) state.apply(this.trace, ++at);
     this.nearby = { k, state };
     return state;
-  }
-
-  // The events around k that gave or took a permission: the last one up to k, and the next one.
-  pairEvents(thread, row, k) {
-    const list = this.pairChanges.get(row * THREADS + thread) ?? [];
-    const next = list.findIndex((event) => event > k);
-    const before = next < 0 ? list.length : next;
-    return { last: before > 0 ? list[before - 1] : 0, next: next < 0 ? 0 : list[next] };
-  }
-
-  // The same of what a thread may do in a region.
-  regionEvents(thread, region, k) {
-    const changes = (event) =>
-      this.stateAfter(event - 1).access(thread, region) !== this.stateAfter(event).access(thread, region);
-    return {
-      last: this.regionChanges.findLast((event) => event <= k && changes(event)) ?? 0,
-      next: this.regionChanges.find((event) => event > k && changes(event)) ?? 0,
-    };
   }
 }
 

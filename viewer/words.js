@@ -39,20 +39,30 @@ class Telling {
     return `${this.size} ${this.size === 1 ? "byte" : "bytes"}`;
   }
 
-  // What the thread may reach, for one that reached too far.
+  // What the thread may reach, for one that reached too far, and since when it is so.
   reach() {
-    const { before, thread } = this;
-    const regions = [...this.run.description.regions, ...this.run.used.extra]
+    const { before, thread, run, k } = this;
+    const regions = run.rights.regions
       .map((region) => ({ ...region, rights: before.access(thread, region) }))
       .filter(({ rights }) => rights !== "")
       .map(({ name, start, size, rights }) => `${name} (${addressText(start)} to ${addressText(start + size - 1)}, ${rightsText(rights)})`);
-    return regions.length ? `It may reach ${regions.join("; ")}.` : "It may reach no memory at all.";
+    const sentences = [regions.length ? `It may reach ${regions.join("; ")}.` : "It may reach no memory at all."];
+    const there = run.rights.regionAt(run.trace.addr[k]);
+    const { last } = there ? run.rights.regionEvents(thread, there, k) : { last: 0 };
+    if (last) sentences.push(`What it may do in ${there.name} was last changed by event ${last}: ${run.trace.line(last)}`);
+    return sentences;
+  }
+
+  // Since when a permission is missing, where it was there once.
+  loss() {
+    const { last } = this.row < 0 ? { last: 0 } : this.run.rights.pairEvents(this.thread, this.row, this.k);
+    return last ? ` Its permission was taken by event ${last}: ${this.run.trace.line(last)}` : "";
   }
 }
 
 const REFUSALS = {
   EBADF: (told) => `No live object of that kind stands at ${told.object}.`,
-  EPERM: (told) => `${told.who} is a user thread, has no permission on ${told.object}, and ${told.object} isn't public.`,
+  EPERM: (told) => `${told.who} is a user thread, has no permission on ${told.object}, and ${told.object} isn't public.${told.loss()}`,
   EINVAL: (told) => `${told.object} should be initialised, and isn't.`,
   EADDRINUSE: (told) => `${told.object} should not be initialised, and is.`,
 };
@@ -72,7 +82,7 @@ const REASONS = { 0: "CPU exception", 3: "kernel oops", 4: "kernel panic" };
 function copied(way) {
   return (told) => (told.verdict === "ok"
     ? `${way} ${told.bytes} at ${told.address}, as ${told.who} may.`
-    : [`The copy of ${told.bytes} at ${told.address} is refused.`, told.reach()]);
+    : [`The copy of ${told.bytes} at ${told.address} is refused.`, ...told.reach()]);
 }
 
 function served(told) {
@@ -104,10 +114,10 @@ const EXPLAINED = {
   store: (told) => `${told.who} stores ${told.bytes} at ${told.address}: ${told.words[4]}.`,
   exec: (told) => `${told.who} fetches an instruction at ${told.address}.`,
   fault: (told) => [`${told.who} may not ${told.words[2] === "exec" ? "execute" : told.words[2]} ${told.bytes} at ${told.address}: `
-    + "no single region that allows it has all of them.", told.reach()],
+    + "no single region that allows it has all of them.", ...told.reach()],
   probe: (told) => (told.verdict === "ok"
     ? `${told.who} may have ${told.bytes} written at ${told.address}.`
-    : [`${told.who} may not have ${told.bytes} written at ${told.address}.`, told.reach()]),
+    : [`${told.who} may not have ${told.bytes} written at ${told.address}.`, ...told.reach()]),
   copyin: copied("The kernel copies in"),
   copyout: copied("The kernel copies out"),
   copystr: (told) => ({ unreadable: `The string at ${told.address} can't be read.`, toolong: `The string at ${told.address} is too long.` })[told.verdict]
