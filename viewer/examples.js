@@ -1,6 +1,6 @@
 "use strict";
 // Examples that the page shows by itself, each a description, a line =====, and its output.
-// tests/page/examples.py writes this file from the folder examples.
+// tools/page_examples writes this file from the folder examples.
 
 const EXAMPLES = {
   "sensor-and-logger":
@@ -12,29 +12,49 @@ const EXAMPLES = {
     "regions = 8\n" +
     "oops = \"abort\"\n" +
     "rodata = \"73656e736f7200\"\n" +
-    "partition = [{name = \"p_app\", size = 256, attr = \"P_RW_U_RW\"}]\n" +
-    "domain = [{name = \"boot_d\", partitions = []}, {name = \"app\"}]\n" +
+    "partition = [\n" +
+    " {name = \"p_app\", size = 256, attr = \"P_RW_U_RW\"}]\n" +
+    "domain = [\n" +
+    " {name = \"boot_d\", partitions = []},\n" +
+    " {name = \"app\"}]\n" +
     "object = [\n" +
-    " {name = \"main\", kind = \"thread\"}, {name = \"main_s\", kind = \"thread_stack\", size = 1024},\n" +
-    " {name = \"sensor\", kind = \"thread\"}, {name = \"sensor_s\", kind = \"thread_stack\", size = 512},\n" +
-    " {name = \"logger\", kind = \"thread\"}, {name = \"logger_s\", kind = \"thread_stack\", size = 512},\n" +
+    " {name = \"main\", kind = \"thread\"},\n" +
+    " {name = \"main_s\", kind = \"thread_stack\", size = 1024},\n" +
+    " {name = \"sensor\", kind = \"thread\"},\n" +
+    " {name = \"sensor_s\", kind = \"thread_stack\", size = 512},\n" +
+    " {name = \"logger\", kind = \"thread\"},\n" +
+    " {name = \"logger_s\", kind = \"thread_stack\", size = 512},\n" +
     " {name = \"q\", kind = \"msgq\", msg_size = 4, max_msgs = 8}]\n" +
-    "boot = [{thread = \"main\", stack = \"main_s\", script = \"go\", mode = \"supervisor\", priority = 0, domain = \"boot_d\"}]\n" +
+    "boot = [\n" +
+    " {thread = \"main\", stack = \"main_s\", script = \"go\", mode = \"supervisor\", priority = 0, domain = \"boot_d\"}]\n" +
+    "\n" +
     "[[script]]\n" +
     "name = \"go\"\n" +
-    "lines = [\"k_mem_domain_init app p_app\", \"k_mem_domain_add_thread app @main\",\n" +
-    " \"k_object_access_grant @q @sensor\", \"k_object_access_grant @q @logger\",\n" +
+    "lines = [\n" +
+    " \"k_mem_domain_init app p_app\",\n" +
+    " \"k_mem_domain_add_thread app @main\",\n" +
+    " \"k_object_access_grant @q @sensor\",\n" +
+    " \"k_object_access_grant @q @logger\",\n" +
     " \"k_thread_create @logger @logger_s 512 log 5 K_USER\",\n" +
-    " \"k_thread_create @sensor @sensor_s 512 sense 5 K_USER\", \"k_thread_user_mode_enter idle\"]\n" +
+    " \"k_thread_create @sensor @sensor_s 512 sense 5 K_USER\",\n" +
+    " \"k_thread_user_mode_enter idle\"]\n" +
+    "\n" +
     "[[script]]\n" +
     "name = \"log\"\n" +
-    "lines = [\"k_msgq_get @q @p_app K_FOREVER\"]\n" +
+    "lines = [\n" +
+    " \"k_msgq_get @q @p_app K_FOREVER\"]\n" +
+    "\n" +
     "[[script]]\n" +
     "name = \"sense\"\n" +
-    "lines = [\"k_thread_name_set @sensor @rodata\", \"store @p_app+16 4 0x2a\", \"k_msgq_put @q @p_app+16 K_FOREVER\"]\n" +
+    "lines = [\n" +
+    " \"k_thread_name_set @sensor @rodata\",\n" +
+    " \"store @p_app+16 4 0x2a\",\n" +
+    " \"k_msgq_put @q @p_app+16 K_FOREVER\"]\n" +
+    "\n" +
     "[[script]]\n" +
     "name = \"idle\"\n" +
-    "lines = [\"set r0 1\"]\n" +
+    "lines = [\n" +
+    " \"set r0 1\"]\n" +
     "=====\n" +
     "main begin go 1\n" +
     "main domain init app 0\n" +

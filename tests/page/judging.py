@@ -57,3 +57,9 @@ def runs() -> list:
     """The examples whose output is that of sim."""
     return [source for source in sorted(EXAMPLES.glob("*.toml"))
             if words_of(source) == ["sim"] and source.with_suffix(".out").stat().st_size > 0]
+
+
+def together(name: str) -> str:
+    """An example's description and output as one text."""
+    source = EXAMPLES / name
+    return source.with_suffix(".toml").read_text() + "=====\n" + source.with_suffix(".out").read_text()

@@ -5,8 +5,7 @@ import time
 import xml.etree.ElementTree
 from pathlib import Path
 
-import examples
-from judging import BUILD, EXAMPLES, TOP, VIEWER, NotRun, holds, runs, same
+from judging import BUILD, EXAMPLES, TOP, VIEWER, NotRun, holds, runs, same, together
 from synthetic import many_events
 
 PAGE = VIEWER / "index.html"
@@ -163,7 +162,7 @@ def unreadable_lines_are_named(browser) -> None:
 def one_file_and_one_after_another(browser) -> None:
     with tempfile.TemporaryDirectory() as folder:
         file = Path(folder) / "both.run"
-        file.write_text(examples.together("last-release"))
+        file.write_text(together("last-release"))
         show(browser, file)
         same("events of one file", browser.run("return page.run.count"), 29)
     message = told(browser, EXAMPLES / "last-byte.toml")
@@ -284,10 +283,6 @@ def generated_run(browser, program) -> None:
     browser.screenshot(BUILD / "page-generated.png")
 
 
-def own_examples_are_current(_browser) -> None:
-    holds("viewer/examples.js isn't what tests/page/examples.py writes", examples.TARGET.read_text() == examples.written())
-
-
 def page_needs_no_network(browser) -> None:
     for file in VIEWER.iterdir():
         text = file.read_text().replace("http://www.w3.org/2000/svg", "")
@@ -305,6 +300,6 @@ def picture_is_small(_browser) -> None:
 TESTS = [
     matrix_of_the_last_release, jumps_to_what_gave_and_took, fatal_error_stands_out, wait_and_wake, changed_dump_is_told,
     unreadable_lines_are_named, one_file_and_one_after_another, keys_alone, story_and_search, matrix_as_svg,
-    every_example_ends_as_it_dumps, very_many_events, light_and_dark, own_examples_are_current, page_needs_no_network,
+    every_example_ends_as_it_dumps, very_many_events, light_and_dark, page_needs_no_network,
     picture_is_small,
 ]
