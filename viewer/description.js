@@ -103,8 +103,8 @@ class Description {
 
   // The thread index of a thread object's row, or -1.
   threadOfRow(row) {
-    if (row >= FIRST_DYNAMIC_ROW) return row < FIRST_DYNAMIC_ROW + 4 ? FIRST_DYNAMIC_THREAD + row - FIRST_DYNAMIC_ROW : -1;
-    return this.threadRows.indexOf(row);
+    if (row < FIRST_DYNAMIC_ROW) return this.threadRows.indexOf(row);
+    return row < FIRST_DYNAMIC_ROW + 4 ? FIRST_DYNAMIC_THREAD + row - FIRST_DYNAMIC_ROW : -1;
   }
 
   rowOfThread(thread) {

@@ -32,7 +32,9 @@ class Sources {
 
   // What is still wanted, for one who has given only one of the two.
   wanted() {
-    if (this.output === null) return `${this.description.name} is a description. Now its output: the text that zumode sim writes.`;
+    if (this.output === null) {
+      return `${this.description.name} is a description. Now its output: the text that zumode sim writes.`;
+    }
     return `${this.output.name} is taken for an output. Now its description: the file that zumode sim read.`;
   }
 

@@ -56,7 +56,8 @@ class EventList {
     const button = textElement("button", "");
     button.type = "button";
     button.dataset.event = k;
-    button.append(textElement("span", String(k), "number"), groupIcon(this.run.groups[k], colours), textElement("code", this.run.trace.line(k)));
+    const icon = groupIcon(this.run.groups[k], colours);
+    button.append(textElement("span", String(k), "number"), icon, textElement("code", this.run.trace.line(k)));
     button.addEventListener("click", () => this.choose(k));
     button.ariaCurrent = k === this.chosen ? "true" : null;
     return wrapped("li", button);
@@ -72,7 +73,8 @@ class EventList {
 
 function scrollInside(holder, element) {
   const [outer, inner] = [holder.getBoundingClientRect(), element.getBoundingClientRect()];
-  if (inner.top < outer.top || inner.bottom > outer.bottom) holder.scrollTop += inner.top - outer.top - outer.height / 3;
+  const isSeen = inner.top >= outer.top && inner.bottom <= outer.bottom;
+  if (!isSeen) holder.scrollTop += inner.top - outer.top - outer.height / 3;
 }
 
 function textElement(name, text, className = "") {
@@ -111,12 +113,11 @@ class Story {
 
   setRun(run) {
     this.run = run;
-    const threads = [...run.used.threads].sort((one, other) => one - other);
-    const rows = [...run.used.rows].sort((one, other) => one - other);
-    this.subject.replaceChildren(
-      optionGroup("Threads", threads.map((thread) => [`thread ${thread}`, run.description.nameOfThread(thread)])),
-      optionGroup("Objects", rows.map((row) => [`object ${row}`, `${run.description.nameOfRow(row)} (${run.description.kindOfRow(row)})`])),
-    );
+    const { description } = run;
+    const threads = sorted(run.used.threads).map((thread) => [`thread ${thread}`, description.nameOfThread(thread)]);
+    const rows = sorted(run.used.rows)
+      .map((row) => [`object ${row}`, `${description.nameOfRow(row)} (${description.kindOfRow(row)})`]);
+    this.subject.replaceChildren(optionGroup("Threads", threads), optionGroup("Objects", rows));
     this.tell();
   }
 
@@ -131,7 +132,8 @@ class Story {
     const { run } = this;
     const events = [];
     for (let k = 1; k <= run.count; k += 1) {
-      if (what === "thread" ? isOfThread(run, k, Number(number)) : run.trace.objectRow(k) === Number(number)) events.push(k);
+      const isTold = what === "thread" ? isOfThread(run, k, Number(number)) : run.trace.objectRow(k) === Number(number);
+      if (isTold) events.push(k);
     }
     this.summary.textContent = `${events.length} ${events.length === 1 ? "event" : "events"}`;
     this.list.setEvents(run, events);
@@ -146,6 +148,15 @@ class Story {
 function isOfThread({ trace, description }, k, thread) {
   return trace.who[k] === thread || trace.peer[k] === thread || trace.objectRow(k) === description.rowOfThread(thread)
     || (trace.woken.get(k)?.some((woken) => woken.thread === thread) ?? false);
+}
+
+function sorted(numbers) {
+  return [...numbers].sort((one, other) => one - other);
+}
+
+// Fills a choice with numbers, each shown by its name, and with any.
+function offer(choice, numbers, nameOf) {
+  choice.replaceChildren(new Option("any", ""), ...numbers.map((number) => new Option(nameOf(number), number)));
 }
 
 function optionGroup(label, options) {
@@ -163,27 +174,27 @@ class Search {
     this.onFound = onFound;
     this.list = new EventList(parts.list, choose);
     this.found = [];
-    for (const field of [this.thread, this.object, this.kind, this.verdict]) field.addEventListener("change", () => this.search());
+    this.choices = [parts.thread, parts.object, parts.kind, parts.verdict];
+    for (const choice of this.choices) choice.addEventListener("change", () => this.search());
     this.words.addEventListener("input", () => this.search());
   }
 
   setRun(run) {
     this.run = run;
     const { description, trace } = run;
-    const sorted = (set) => [...set].sort((one, other) => one - other);
-    this.thread.replaceChildren(new Option("any", ""), ...sorted(run.used.threads).map((thread) => new Option(description.nameOfThread(thread), thread)));
-    this.object.replaceChildren(new Option("any", ""), ...sorted(run.used.rows).map((row) => new Option(description.nameOfRow(row), row)));
-    const kinds = EVENT_KINDS.map((kind, number) => [kind, number, run.kindCounts[number]]).filter(([, , count]) => count > 0);
-    this.kind.replaceChildren(new Option("any", ""), ...kinds.map(([kind, number, count]) => new Option(`${kind} (${count})`, number)));
+    offer(this.thread, sorted(run.used.threads), (thread) => description.nameOfThread(thread));
+    offer(this.object, sorted(run.used.rows), (row) => description.nameOfRow(row));
+    const kinds = [...EVENT_KINDS.keys()].filter((kind) => run.kindCounts[kind] > 0);
+    offer(this.kind, kinds, (kind) => `${EVENT_KINDS[kind]} (${run.kindCounts[kind]})`);
     const verdicts = sorted(new Set(trace.verdict.subarray(1, run.count + 1))).filter((verdict) => verdict > 0);
-    this.verdict.replaceChildren(new Option("any", ""), ...verdicts.map((verdict) => new Option(VERDICTS[verdict], verdict)));
+    offer(this.verdict, verdicts, (verdict) => VERDICTS[verdict]);
     this.words.value = "";
     this.search();
   }
 
   search() {
     const { run } = this;
-    const [thread, object, kind, verdict] = [this.thread, this.object, this.kind, this.verdict].map((field) => (field.value === "" ? -1 : Number(field.value)));
+    const [thread, object, kind, verdict] = this.choices.map(({ value }) => (value === "" ? -1 : Number(value)));
     const words = this.words.value.trim();
     const isAsked = words !== "" || Math.max(thread, object, kind, verdict) >= 0;
     this.found = [];
@@ -193,7 +204,8 @@ class Search {
         && (words === "" || run.trace.line(k).includes(words));
       if (fits) this.found.push(k);
     }
-    this.summary.textContent = isAsked ? `${this.found.length} found; n and Shift+n go through them` : "Nothing is asked for yet.";
+    const told = `${this.found.length} found; n and Shift+n go through them`;
+    this.summary.textContent = isAsked ? told : "Nothing is asked for yet.";
     this.list.setEvents(run, this.found);
     this.onFound(this.found);
   }

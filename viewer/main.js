@@ -95,7 +95,8 @@ class Page {
     } catch (fault) {
       if (fault instanceof Superseded) return;
       this.clear();
-      this.tell(fault instanceof Unreadable ? sources.told(fault) : `The page failed over ${sources.output.name}: ${fault.message}`);
+      const isUnreadable = fault instanceof Unreadable;
+      this.tell(isUnreadable ? sources.told(fault) : `The page failed over ${sources.output.name}: ${fault.message}`);
     }
   }
 
@@ -143,15 +144,19 @@ class Page {
     const { differences } = this.run;
     const warning = byId("warning");
     warning.hidden = differences !== null && differences.length === 0;
-    if (differences === null) warning.replaceChildren(textElement("p", "The output has no dump, so the end of the replay is compared with nothing."));
+    if (differences === null) {
+      const why = "The output has no dump: the end of the replay is compared with nothing.";
+      warning.replaceChildren(textElement("p", why));
+    }
     if (!differences?.length) return;
-    const firstLine = this.sources.output.firstLine - 1;
-    const items = differences.map(({ line, told, expected }) => wrapped("li",
-      `Line ${line + firstLine}: the output says `, textElement("code", told), ", the replay has ", textElement("code", expected)));
+    const items = differences.map(({ line, told, expected }) => {
+      const place = `Line ${line + this.sources.output.firstLine - 1}: the output says `;
+      return wrapped("li", place, textElement("code", told), ", the replay has ", textElement("code", expected));
+    });
     const most = differences.length >= DIFFERENCES_KEPT ? " These are the first differences." : "";
+    const why = "Either the output isn't one of this description, or it was changed.";
     warning.replaceChildren(
-      textElement("p", `The replay and the dump differ. Either the output isn't one of this description, or it was changed.${most}`),
-      wrapped("ul", ...items));
+      textElement("p", `The replay and the dump differ. ${why}${most}`), wrapped("ul", ...items));
   }
 
   choose(k) {
@@ -164,15 +169,19 @@ class Page {
     this.search.show(this.k);
     this.showEvent();
     if (!byId("cell").hidden && this.cell) this.showCell(this.cell);
-    byId("matrix-title").textContent = this.k === 0 ? "Who may touch what, at the opening" : `Who may touch what, after event ${this.k}`;
+    const moment = this.k === 0 ? "at the opening" : `after event ${this.k}`;
+    byId("matrix-title").textContent = `Who may touch what, ${moment}`;
   }
 
   showEvent() {
     const { run, k } = this;
     byId("event-title").textContent = k === 0 ? "Opening" : `Event ${k}`;
     const [first, ...rest] = explain(run, k);
-    const line = k === 0 ? [] : [wrapped("p", groupIcon(run.groups[k], pageColours()), textElement("code", run.trace.line(k)))];
-    byId("event-text").replaceChildren(...line, textElement("p", first, "first"), ...rest.map((sentence) => textElement("p", sentence)));
+    const paragraphs = [textElement("p", first, "first"), ...rest.map((sentence) => textElement("p", sentence))];
+    if (k > 0) {
+      paragraphs.unshift(wrapped("p", groupIcon(run.groups[k], pageColours()), textElement("code", run.trace.line(k))));
+    }
+    byId("event-text").replaceChildren(...paragraphs);
     byId("event-panel").classList.toggle("failing", k > 0 && ["fault", "fatal"].includes(run.trace.kindWord(k)));
   }
 
@@ -185,12 +194,15 @@ class Page {
       return;
     }
     this.cell = cell;
-    const name = region ? region.name : this.run.description.nameOfRow(row);
-    const events = region ? this.run.rights.regionEvents(thread, region, this.k) : this.run.rights.pairEvents(thread, row, this.k);
-    const label = region ? rightsText(this.run.stateAfter(this.k).access(thread, region)) || "nothing" : pairLabel(this.run.stateAfter(this.k), thread, row);
-    const text = wrapped("p", textElement("strong", `${this.run.description.nameOfThread(thread)} on ${name}: `), label, ". ");
-    text.append(...this.eventLink("Last changed by", events.last, "It has been so from the opening. "), ...this.eventLink("Next changed by", events.next, "It stays so."));
-    byId("cell").replaceChildren(text);
+    const { rights, description } = this.run;
+    const state = this.run.stateAfter(this.k);
+    const name = region ? region.name : description.nameOfRow(row);
+    const label = region ? accessLabel(state, thread, region) : pairLabel(state, thread, row);
+    const events = region ? rights.regionEvents(thread, region, this.k) : rights.pairEvents(thread, row, this.k);
+    const heading = textElement("strong", `${description.nameOfThread(thread)} on ${name}: `);
+    const last = this.eventLink("Last changed by", events.last, "It has been so from the opening. ");
+    const next = this.eventLink("Next changed by", events.next, "It stays so.");
+    byId("cell").replaceChildren(wrapped("p", heading, `${label}. `, ...last, ...next));
     byId("cell").hidden = false;
   }
 
@@ -218,7 +230,8 @@ class Page {
     for (let k = 1; k <= this.run.count; k += 1) counts[this.run.groups[k]] += 1;
     const colours = pageColours();
     byId("legend").replaceChildren(...GROUPS.map(({ label, title }, group) => {
-      const button = wrapped("button", groupIcon(group, colours), label, textElement("span", String(counts[group]), "count"));
+      const count = textElement("span", String(counts[group]), "count");
+      const button = wrapped("button", groupIcon(group, colours), label, count);
       button.title = title;
       button.type = "button";
       button.disabled = counts[group] === 0;
@@ -236,8 +249,9 @@ class Page {
   }
 
   showCounts() {
-    const counts = this.run.kindCounts.map((count, kind) => [EVENT_KINDS[kind], count]).filter(([, count]) => count > 0);
-    const rows = counts.map(([kind, count]) => wrapped("tr", textElement("th", kind), textElement("td", String(count))));
+    const counts = this.run.kindCounts.map((count, kind) => ({ kind: EVENT_KINDS[kind], count }));
+    const rows = counts.filter(({ count }) => count > 0)
+      .map(({ kind, count }) => wrapped("tr", textElement("th", kind), textElement("td", String(count))));
     byId("counts").replaceChildren(...rows);
   }
 
@@ -254,9 +268,9 @@ class Page {
   listenToButtons() {
     const actions = {
       first: () => this.choose(0), back: () => this.choose(this.k - 1), forward: () => this.choose(this.k + 1),
-      last: () => this.choose(this.run.count), failure: () => this.stepFailure(1), out: () => this.timeline.zoom(1 / 1.6),
-      in: () => this.timeline.zoom(1.6), whole: () => this.timeline.showWhole(), save: () => this.saveMatrix(),
-      "help-button": () => byId("help").showModal(),
+      last: () => this.choose(this.run.count), failure: () => this.stepFailure(1),
+      out: () => this.timeline.zoom(1 / 1.6), in: () => this.timeline.zoom(1.6), whole: () => this.timeline.showWhole(),
+      save: () => this.saveMatrix(), "help-button": () => byId("help").showModal(),
     };
     for (const [id, act] of Object.entries(actions)) byId(id).addEventListener("click", act);
     byId("event").addEventListener("change", () => this.choose(Number(byId("event").value)));
@@ -264,10 +278,11 @@ class Page {
       tab.addEventListener("click", () => this.openTab(tab.id.replace("-tab", "")));
       tab.addEventListener("keydown", (event) => this.onTabKey(event, tab));
     }
-    matchMedia("(prefers-color-scheme: dark)").addEventListener("change", () => { if (this.run) this.repaint(); });
+    matchMedia("(prefers-color-scheme: dark)").addEventListener("change", () => this.repaint());
   }
 
   repaint() {
+    if (!this.run) return;
     this.showLegend();
     this.showEvent();
     this.story.list.render();
@@ -333,7 +348,8 @@ class Page {
       Home: () => this.choose(0), End: () => this.choose(this.run.count),
       PageDown: () => this.timeline.pan(pan), PageUp: () => this.timeline.pan(-pan),
       "+": () => this.timeline.zoom(1.6), "=": () => this.timeline.zoom(1.6),
-      "-": () => this.timeline.zoom(1 / 1.6), "−": () => this.timeline.zoom(1 / 1.6), 0: () => this.timeline.showWhole(),
+      "-": () => this.timeline.zoom(1 / 1.6), "−": () => this.timeline.zoom(1 / 1.6),
+      0: () => this.timeline.showWhole(),
       f: () => this.stepFailure(way), n: () => this.search.step(this.k, way),
       "/": () => { this.openTab("search"); byId("find-words").focus(); },
       s: () => { this.openTab("story"); byId("subject").focus(); },

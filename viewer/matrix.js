@@ -9,18 +9,13 @@ const HELD_SIGN = "◆";
 function matrixModel(run, k) {
   const before = run.stateAfter(Math.max(0, k - 1));
   const state = run.stateAfter(k);
-  const threads = [...run.used.threads].sort((one, other) => one - other);
+  const threads = sorted(run.used.threads);
   const columns = threads.map((thread) => changedWhere(k, (of) => threadNote(of, thread), before, state, {
     thread, name: run.description.nameOfThread(thread), mode: modeWord(state, thread),
   }));
-  const rows = [...run.used.rows].sort((one, other) => one - other);
-  return {
-    k, columns,
-    sections: [
-      { title: "Memory", what: "region", rows: run.rights.regions.map((region) => regionRow(run, k, threads, region, before, state)) },
-      { title: "Objects", what: "object", rows: rows.map((row) => objectRow(run, k, threads, row, before, state)) },
-    ],
-  };
+  const regions = run.rights.regions.map((region) => regionRow(k, threads, region, before, state));
+  const objects = sorted(run.used.rows).map((row) => objectRow(k, threads, row, before, state));
+  return { k, columns, sections: [{ title: "Memory", rows: regions }, { title: "Objects", rows: objects }] };
 }
 
 // An entry with its text after the event, and whether the event changed it.
@@ -40,16 +35,20 @@ function threadNote(state, thread) {
   return status === "unborn" ? status : `${modeWord(state, thread)} in ${domain}, ${status.replace(":", " for ")}`;
 }
 
-function regionRow(run, k, threads, region, before, state) {
+function regionRow(k, threads, region, before, state) {
   const end = addressText(region.start + region.size - 1);
   const note = `${addressText(region.start)} to ${end}${region.attr ? `, ${region.attr}` : ""}`;
   return {
     name: region.name, region, kind: region.what, text: note, changed: false, isAbsent: false,
     cells: threads.map((thread) => {
       const cell = changedWhere(k, (of) => of.access(thread, region), before, state, { thread });
-      return { ...cell, label: cell.text === "" ? "nothing" : rightsText(cell.text) };
+      return { ...cell, label: accessLabel(state, thread, region) };
     }),
   };
+}
+
+function accessLabel(state, thread, region) {
+  return rightsText(state.access(thread, region)) || "nothing";
 }
 
 function rightsText(rights) {
@@ -57,10 +56,11 @@ function rightsText(rights) {
   return [...rights].filter((right) => right !== "-").map((right) => words[right]).join(", ");
 }
 
-function objectRow(run, k, threads, row, before, state) {
+function objectRow(k, threads, row, before, state) {
   const note = changedWhere(k, (of) => objectNote(of, row), before, state);
+  const { description } = state;
   return {
-    ...note, name: run.description.nameOfRow(row), row, kind: run.description.kindOfRow(row), isAbsent: !state.isThere(row),
+    ...note, name: description.nameOfRow(row), row, kind: description.kindOfRow(row), isAbsent: !state.isThere(row),
     cells: threads.map((thread) => {
       const cell = changedWhere(k, (of) => pairSigns(of, thread, row), before, state, { thread });
       return { ...cell, label: pairLabel(state, thread, row) };
@@ -104,6 +104,7 @@ class MatrixTable {
     this.run = run;
     this.places = [];
     this.table = document.createElement("table");
+    this.table.classList.toggle("narrow", run.used.threads.size > 6);
     const model = matrixModel(run, 0);
     const head = this.table.createTHead();
     this.addLine(head, -1, "th", { name: "" }, model.columns.map((column) => ({ ...column, label: column.name })));
@@ -215,11 +216,14 @@ function fillCell(cell, text, label, changed) {
   cell.classList.toggle("changed", changed);
 }
 
+const SVG_SIGNS = "● permission  ○ public  ◆ held  r w x: read, write, execute  boxed: changed by this event";
+
 // The matrix as the text of an SVG file, in colours for light paper.
 function matrixSvg(run, k) {
   const model = matrixModel(run, k);
   const [left, top, width, height] = [330, 76, Math.max(110, 700 / model.columns.length), 24];
-  const parts = [svgText(12, 22, k === 0 ? "Before the first event" : `After event ${k}: ${run.trace.line(k)}`, "16", "600")];
+  const moment = k === 0 ? "Before the first event" : `After event ${k}: ${run.trace.line(k)}`;
+  const parts = [svgText(12, 22, moment, "16", "600")];
   model.columns.forEach(({ name, text, changed }, column) => {
     const x = left + (column + 0.5) * width;
     if (changed) parts.push(svgBox(left + column * width + 1, top - 34, width - 2, 32));
@@ -234,10 +238,11 @@ function matrixSvg(run, k) {
       y += height;
     }
   }
-  parts.push(svgText(12, y + 22, "● permission  ○ public  ◆ held  r w x: read, write, execute  boxed: changed by this event", "11"));
-  const size = [left + width * model.columns.length + 12, y + 36].map(Math.ceil);
-  return `<svg xmlns="http://www.w3.org/2000/svg" width="${size[0]}" height="${size[1]}" viewBox="0 0 ${size.join(" ")}" `
-    + `font-family="system-ui, sans-serif"><rect width="100%" height="100%" fill="#ffffff"/>\n${parts.join("\n")}\n</svg>\n`;
+  parts.push(svgText(12, y + 22, SVG_SIGNS, "11"));
+  const [right, bottom] = [left + width * model.columns.length + 12, y + 36].map(Math.ceil);
+  return `<svg xmlns="http://www.w3.org/2000/svg" width="${right}" height="${bottom}" viewBox="0 0 ${right} ${bottom}" `
+    + 'font-family="system-ui, sans-serif"><rect width="100%" height="100%" fill="#ffffff"/>\n'
+    + `${parts.join("\n")}\n</svg>\n`;
 }
 
 function svgRow(line, left, y, width, height) {
@@ -257,5 +262,6 @@ function svgBox(x, y, width, height) {
 
 function svgText(x, y, text, size, weight = "400", anchor = "start") {
   const safe = text.replace(/[&<>"]/g, (sign) => ({ "&": "&amp;", "<": "&lt;", ">": "&gt;", '"': "&quot;" })[sign]);
-  return `<text x="${x}" y="${y}" font-size="${size}" font-weight="${weight}" text-anchor="${anchor}" fill="#1b2330">${safe}</text>`;
+  const style = `font-size="${size}" font-weight="${weight}" text-anchor="${anchor}" fill="#1b2330"`;
+  return `<text x="${x}" y="${y}" ${style}>${safe}</text>`;
 }

@@ -84,7 +84,8 @@ const MEMORY_CHANGES = {
     memory.carried[trace.who[k]] = memory.bytes(trace.addr[k], Math.min(trace.size[k], 256));
   },
   copyout(memory, trace, k) {
-    if (trace.verdictWord(k) === "ok") memory.write(trace.addr[k], memory.carried[trace.who[k]].slice(0, trace.size[k]));
+    const bytes = memory.carried[trace.who[k]].slice(0, trace.size[k]);
+    if (trace.verdictWord(k) === "ok") memory.write(trace.addr[k], bytes);
   },
   copystr(memory, trace, k) {
     memory.carried[trace.who[k]] = memory.bytes(trace.addr[k], trace.size[k]);

@@ -41,7 +41,8 @@ class Rights {
 
   noteRegions(state) {
     for (const { start, size, attr } of state.parts.flatMap((parts) => parts ?? [])) {
-      const isKnown = this.regions.some((region) => region.what === "partition" && region.start === start && region.size === size);
+      const partitions = this.regions.filter((region) => region.what === "partition");
+      const isKnown = partitions.some((region) => region.start === start && region.size === size);
       if (!isKnown) this.regions.push({ what: "partition", name: addressText(start), start, size, attr });
     }
   }

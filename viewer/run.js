@@ -156,7 +156,8 @@ function objectText(state, memory, row) {
   const kind = state.description.kindOfRow(row);
   const isGone = state.stage[row] === STAGE.gone;
   const content = kind === "thread" && !isGone ? memory.nameOf(row) : state.content(row);
-  return `${kind} ${stageText(state, row)} ${state.isPublic[row] ? "public" : "private"} ${holdersText(state, row)} ${content}`;
+  const flag = state.isPublic[row] ? "public" : "private";
+  return `${kind} ${stageText(state, row)} ${flag} ${holdersText(state, row)} ${content}`;
 }
 
 function stageText(state, row) {

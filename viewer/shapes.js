@@ -17,7 +17,7 @@ const GROUPS = [
   { name: "wait", label: "wait", title: "A thread begins to wait", shape: hourglass },
   { name: "recycle", label: "gone, recycled", title: "An object is gone, or recycled", shape: crossedRing },
   { name: "refused", label: "refused", title: "A check or a copy that is refused", shape: downTriangle },
-  { name: "doom", label: "doom", title: "A thread index is doomed", shape: cross },
+  { name: "doom", label: "doom", title: "A thread index is doomed", shape: hollowOctagon },
   { name: "fault", label: "fault", title: "A fault", shape: cross },
   { name: "fatal", label: "fatal error", title: "A fatal error", shape: octagon },
 ];
@@ -39,8 +39,9 @@ function groupOf(trace, k) {
   let group = GROUP_OF_KIND[kind];
   if (kind === "act" && verdict === "wait") group = "wait";
   if (kind === "drop" && verdict === "gone") group = "recycle";
-  const isRefusal = trace.verdict[k] >= FIRST_ERROR || verdict === "unreadable" || verdict === "toolong";
-  if (isRefusal && (group === "check" || group === "memory" || kind === "setinit" || kind === "buffer")) group = "refused";
+  const isError = trace.verdict[k] >= FIRST_ERROR || verdict === "unreadable" || verdict === "toolong";
+  const mayRefuse = group === "check" || group === "memory" || kind === "setinit" || kind === "buffer";
+  if (isError && mayRefuse) group = "refused";
   return GROUP_NUMBER.get(group);
 }
 
@@ -118,7 +119,8 @@ function minus(context, x, y, r) {
 }
 
 function house(context, x, y, r) {
-  filled(context, [[x - r * 0.8, y + r], [x - r * 0.8, y - r * 0.1], [x, y - r], [x + r * 0.8, y - r * 0.1], [x + r * 0.8, y + r]]);
+  const [left, right, eaves] = [x - r * 0.8, x + r * 0.8, y - r * 0.1];
+  filled(context, [[left, y + r], [left, eaves], [x, y - r], [right, eaves], [right, y + r]]);
 }
 
 function flag(context, x, y, r) {
@@ -147,6 +149,13 @@ function cross(context, x, y, r) {
   }
 }
 
+function hollowOctagon(context, x, y, r) {
+  path(context, polygon(x, y, r, 8, Math.PI / 8));
+  context.closePath();
+  context.lineWidth = 2;
+  context.stroke();
+}
+
 // With an exclamation mark in the colour behind it.
 function octagon(context, x, y, r) {
   const mark = context.fillStyle;
@@ -166,19 +175,20 @@ function pageColours() {
   return coloursFound.get(isDark);
 }
 
+const COLOUR_NAMES = [
+  "panel", "stripe", "text", "line", "faint", "life", "failed", "waiting", "mark-wake", "match", "chosen",
+  ...GROUPS.map(({ name }) => `mark-${name}`),
+];
+
 class PageColours {
   constructor() {
-    this.style = getComputedStyle(document.documentElement);
-    this.found = new Map();
+    const style = getComputedStyle(document.documentElement);
+    this.found = new Map(COLOUR_NAMES.map((name) => [name, style.getPropertyValue(`--${name}`).trim()]));
     this.groups = GROUPS.map(({ name }) => this.colour(`mark-${name}`));
-    for (const name of ["panel", "stripe", "text", "line", "faint", "life", "failed", "waiting", "mark-wake", "match", "chosen"]) {
-      this.colour(name);
-    }
   }
 
-  // The value of a variable of the style sheet.
+  // The value of a variable of the style sheet, as it was for this appearance.
   colour(name) {
-    if (!this.found.has(name)) this.found.set(name, this.style.getPropertyValue(`--${name}`).trim());
     return this.found.get(name);
   }
 }

@@ -169,7 +169,8 @@ class State {
     const supervisor = this.supervisor[thread] === 1;
     if (region.what === "rodata") return "r--";
     if (region.what === "stack") return supervisor || this.stackRow[thread] === region.row ? "rw-" : "";
-    const part = (this.parts[this.domain[thread]] ?? []).find((one) => one.start === region.start && one.size === region.size);
+    const parts = this.parts[this.domain[thread]] ?? [];
+    const part = parts.find(({ start, size }) => start === region.start && size === region.size);
     return part ? attributeRights(part.attr, supervisor) : "";
   }
 
@@ -293,12 +294,14 @@ function pay(state, pool, bytes) {
   if (pool >= 0) state.poolLeft[pool] -= bytes;
 }
 
+const CLEARED_TO_ZERO = [
+  "pairs", "held", "stage", "initialised", "isPublic", "count", "limit", "closed", "bufferSize",
+];
+
 function clearRow(state, row) {
   pay(state, state.costPool[row], -OBJECT_COST);
   pay(state, state.bufferPool[row], -state.bufferSize[row]);
-  for (const column of ["pairs", "held", "stage", "initialised", "isPublic", "count", "limit", "closed", "bufferSize"]) {
-    state[column][row] = 0;
-  }
+  for (const column of CLEARED_TO_ZERO) state[column][row] = 0;
   for (const column of ["owner", "costPool", "bufferPool"]) state[column][row] = -1;
   const thread = state.description.threadOfRow(row);
   if (thread >= 0) state.life[thread] = LIFE.unborn;

@@ -27,7 +27,7 @@ class Timeline {
 
   setRun(run) {
     this.run = run;
-    this.threads = [...run.used.threads].sort((one, other) => one - other);
+    this.threads = sorted(run.used.threads);
     this.laneOf = new Int8Array(THREADS).fill(-1);
     this.threads.forEach((thread, lane) => { this.laneOf[thread] = lane; });
     this.chosen = 0;
@@ -151,8 +151,11 @@ class Timeline {
   }
 
   shortened(name) {
-    while (this.context.measureText(name).width > LABEL_WIDTH - 18) name = `${name.replace(/…$/, "").slice(0, -1)}…`;
-    return name;
+    let shown = name;
+    for (let length = name.length - 1; this.context.measureText(shown).width > LABEL_WIDTH - 18; length -= 1) {
+      shown = `${name.slice(0, length)}…`;
+    }
+    return shown;
   }
 
   drawAxis() {
@@ -177,16 +180,20 @@ class Timeline {
       const y = this.laneY(thread);
       for (const { start, end, failed } of this.run.lives[thread]) {
         const from = Math.max(LABEL_WIDTH, this.x(start));
-        const to = Math.min(this.width, end < 0 ? this.x(this.run.count) : this.x(end));
-        if (to <= from) continue;
+        const to = Math.min(this.width, this.x(end < 0 ? this.run.count : end));
         context.fillStyle = colours.colour("life");
-        context.fillRect(from, y - 2, to - from, 4);
-        if (failed) {
-          context.fillStyle = colours.colour("failed");
-          context.fillRect(to, y - this.laneHeight / 2, this.x(this.run.count + 0.5) - to, this.laneHeight);
-        }
+        if (to > from) context.fillRect(from, y - 2, to - from, 4);
+        if (failed) this.drawFailed(end, y);
       }
     }
+  }
+
+  // The lane of a thread behind its fatal error.
+  drawFailed(end, y) {
+    const from = Math.max(LABEL_WIDTH, this.x(end));
+    const to = Math.min(this.width, this.x(this.run.count + 0.5));
+    this.context.fillStyle = this.colours.colour("failed");
+    if (to > from) this.context.fillRect(from, y - this.laneHeight / 2, to - from, this.laneHeight);
   }
 
   // A bar from the wait to the resume, or to the end of the run.
@@ -248,7 +255,8 @@ class Timeline {
   mark(group, k, x, y, r) {
     drawGroup(this.context, this.colours, group, x, y, r);
     this.drawn.marks += 1;
-    if (GROUPS[group].name === "fatal" && this.drawn.fatals.length < MOST_ARROWS) this.drawn.fatals.push({ event: k, x, y });
+    const isFatal = GROUPS[group].name === "fatal";
+    if (isFatal && this.drawn.fatals.length < MOST_ARROWS) this.drawn.fatals.push({ event: k, x, y });
   }
 
   // The heaviest event of each cell of a few pixels, with a bar for how many there are.

@@ -28,7 +28,8 @@ class Telling {
     this.who = this.words[0];
     this.peer = trace.peer[k] < 0 ? "" : description.nameOfThread(trace.peer[k]);
     this.row = trace.objectRow(k);
-    this.object = this.row < 0 ? this.words.find((word) => MEMORY_WORD.test(word)) ?? "" : description.nameOfRow(this.row);
+    const address = this.words.find((word) => MEMORY_WORD.test(word)) ?? "";
+    this.object = this.row < 0 ? address : description.nameOfRow(this.row);
     this.size = trace.size[k];
     this.address = addressText(trace.addr[k]);
     this.before = run.stateAfter(k - 1);
@@ -42,15 +43,15 @@ class Telling {
   // What the thread may reach, for one that reached too far, and since when it is so.
   reach() {
     const { before, thread, run, k } = this;
-    const regions = run.rights.regions
-      .map((region) => ({ ...region, rights: before.access(thread, region) }))
-      .filter(({ rights }) => rights !== "")
-      .map(({ name, start, size, rights }) => `${name} (${addressText(start)} to ${addressText(start + size - 1)}, ${rightsText(rights)})`);
+    const regions = run.rights.regions.filter((region) => before.access(thread, region) !== "").map((region) => {
+      const end = addressText(region.start + region.size - 1);
+      return `${region.name} (${addressText(region.start)} to ${end}, ${accessLabel(before, thread, region)})`;
+    });
     const sentences = [regions.length ? `It may reach ${regions.join("; ")}.` : "It may reach no memory at all."];
     const there = run.rights.regionAt(run.trace.addr[k]);
     const { last } = there ? run.rights.regionEvents(thread, there, k) : { last: 0 };
-    if (last) sentences.push(`What it may do in ${there.name} was last changed by event ${last}: ${run.trace.line(last)}`);
-    return sentences;
+    const what = last && `What it may do in ${there.name} was last changed by event ${last}: ${run.trace.line(last)}`;
+    return last ? [...sentences, what] : sentences;
   }
 
   // Since when a permission is missing, where it was there once.
@@ -62,7 +63,8 @@ class Telling {
 
 const REFUSALS = {
   EBADF: (told) => `No live object of that kind stands at ${told.object}.`,
-  EPERM: (told) => `${told.who} is a user thread, has no permission on ${told.object}, and ${told.object} isn't public.${told.loss()}`,
+  EPERM: (told) => `${told.who} is a user thread, and has no permission on ${told.object}, which isn't public.`
+    + told.loss(),
   EINVAL: (told) => `${told.object} should be initialised, and isn't.`,
   EADDRINUSE: (told) => `${told.object} should not be initialised, and is.`,
 };
@@ -86,7 +88,9 @@ function copied(way) {
 }
 
 function served(told) {
-  const sentences = [told.verdict === "wait" ? `${told.who} begins to wait on ${told.object}.` : `A service acts on ${told.object}, and answers ${told.words[3]}.`];
+  const sentences = [told.verdict === "wait"
+    ? `${told.who} begins to wait on ${told.object}.`
+    : `A service acts on ${told.object}, and answers ${told.words[3]}.`];
   for (const { thread, reply } of told.woken) {
     sentences.push(`It wakes ${told.run.description.nameOfThread(thread)}, which is answered ${reply}.`);
   }
@@ -96,12 +100,13 @@ function served(told) {
 function fatal(told) {
   const why = CAUSES_TOLD[told.verdict] ?? CAUSES_TOLD[told.words[3]] ?? told.words[3];
   const dooms = told.size === 4 || told.run.description.halts;
-  const last = told.run.trace;
+  const { trace } = told.run;
   const sentences = [`Fatal error of ${told.who}: reason ${told.size}, ${REASONS[told.size]}, since ${why}.`];
-  const isBefore = told.k > 1 && last.who[told.k - 1] === told.thread;
-  if (isBefore && last.kindWord(told.k - 1) === "check") sentences.push(REFUSALS[last.verdictWord(told.k - 1)]?.(new Telling(told.run, told.k - 1)) ?? "");
+  const isCheck = trace.who[told.k - 1] === told.thread && trace.kindWord(told.k - 1) === "check";
+  const refusal = isCheck && REFUSALS[trace.verdictWord(told.k - 1)];
+  if (told.k > 1 && refusal) sentences.push(refusal(new Telling(told.run, told.k - 1)));
   sentences.push(dooms ? "All threads are doomed by it." : "The thread ends by it.");
-  return sentences.filter((sentence) => sentence !== "");
+  return sentences;
 }
 
 const EXPLAINED = {
@@ -113,31 +118,46 @@ const EXPLAINED = {
   load: (told) => `${told.who} loads ${told.bytes} at ${told.address}: ${told.words[4]}.`,
   store: (told) => `${told.who} stores ${told.bytes} at ${told.address}: ${told.words[4]}.`,
   exec: (told) => `${told.who} fetches an instruction at ${told.address}.`,
-  fault: (told) => [`${told.who} may not ${told.words[2] === "exec" ? "execute" : told.words[2]} ${told.bytes} at ${told.address}: `
-    + "no single region that allows it has all of them.", ...told.reach()],
+  fault(told) {
+    const access = told.words[2] === "exec" ? "execute" : told.words[2];
+    const why = "no single region that allows it has all of them.";
+    return [`${told.who} may not ${access} ${told.bytes} at ${told.address}: ${why}`, ...told.reach()];
+  },
   probe: (told) => (told.verdict === "ok"
     ? `${told.who} may have ${told.bytes} written at ${told.address}.`
     : [`${told.who} may not have ${told.bytes} written at ${told.address}.`, ...told.reach()]),
   copyin: copied("The kernel copies in"),
   copyout: copied("The kernel copies out"),
-  copystr: (told) => ({ unreadable: `The string at ${told.address} can't be read.`, toolong: `The string at ${told.address} is too long.` })[told.verdict]
-    ?? `The kernel reads a string of ${told.bytes} at ${told.address}.`,
+  copystr: (told) => ({
+    unreadable: `The string at ${told.address} can't be read.`, toolong: `The string at ${told.address} is too long.`,
+  })[told.verdict] ?? `The kernel reads a string of ${told.bytes} at ${told.address}.`,
   erase: (told) => `The thread stack ${told.object} is filled with zeros.`,
   act: served,
   resume: (told) => `${told.who} was woken, and goes on.`,
   reply: (told) => `The call of ${told.who} answers ${told.words[2]}, and holds nothing any more.`,
-  grant: (told) => (told.verdict === "ok" ? `${told.peer} has a permission on ${told.object} from now on.` : `${told.object} is gone by now, so ${told.peer} gets nothing.`),
-  own: (told) => `${told.peer} ${told.verdict === "ok" ? "gets" : "would get"} the permission on its own thread object.`,
+  grant: (told) => (told.verdict === "ok"
+    ? `${told.peer} has a permission on ${told.object} from now on.`
+    : `${told.object} is gone by now, so ${told.peer} gets nothing.`),
+  own: (told) => (told.verdict === "ok"
+    ? `${told.peer} gets the permission on its own thread object.`
+    : `The thread object ${told.peer} is gone by now, so ${told.peer} gets nothing.`),
   inherit: (told) => `${told.peer} gets its parent's permission on ${told.object}.`,
   drop: (told) => ({
-    kept: `${told.peer} has no permission on ${told.object} any more.`, none: `${told.peer} had no permission on ${told.object} anyway.`,
-    gone: `${told.peer} had the last permission on ${told.object}: the object is gone, and is recycled once no call holds it.`,
+    kept: `${told.peer} has no permission on ${told.object} any more.`,
+    none: `${told.peer} had no permission on ${told.object} anyway.`,
+    gone: `${told.peer} had the last permission on ${told.object}: it is gone, and is recycled once no call holds it.`,
   })[told.verdict],
-  public: (told) => `${told.object} is public from now on: every thread may name it.`,
-  setinit: (told) => (told.verdict === "ok" ? `${told.object} is initialised from now on.` : `${told.object} can't be marked as initialised: ${told.verdict}.`),
+  public: (told) => (told.verdict === "ok"
+    ? `${told.object} is public from now on: every thread may name it.`
+    : `${told.object} is gone by now, and doesn't become public.`),
+  setinit: (told) => (told.verdict === "ok"
+    ? `${told.object} is initialised from now on.`
+    : `${told.object} can't be marked as initialised: ${told.verdict}.`),
   uninit: (told) => `${told.object} isn't initialised any more.`,
   name: (told) => `The thread ${told.peer} has a new name.`,
-  reserve: (told) => (told.verdict === "NULL" ? `The heap gives no address for a ${told.words[2]}.` : `The heap gives the address ${told.object} for a ${told.words[2]}.`),
+  reserve: (told) => (told.verdict === "NULL"
+    ? `The heap gives no address for a ${told.words[2]}.`
+    : `The heap gives the address ${told.object} for a ${told.words[2]}.`),
   born: (told) => `${told.object} is there from now on, and ${told.who} has a permission on it.`,
   buffer: (told) => `${told.verdict === "ok" ? "The pool gives" : "The pool hasn't got"} ${told.bytes} for a buffer.`,
   unbuffer: (told) => `The pool gets ${told.bytes} back.`,

@@ -13,8 +13,18 @@ from pathlib import Path
 
 SECONDS = 60
 ELEMENT = "element-6066-11e4-a52e-4f735466cecf"
-KEYS = {"Right": "\ue014", "Left": "\ue012", "Down": "\ue015", "Up": "\ue013", "Home": "\ue011", "End": "\ue010",
-        "Enter": "\ue007", "Tab": "\ue004", "Escape": "\ue00c", "Shift": "\ue008"}
+KEYS = {
+    "Right": "\ue014",
+    "Left": "\ue012",
+    "Down": "\ue015",
+    "Up": "\ue013",
+    "Home": "\ue011",
+    "End": "\ue010",
+    "Enter": "\ue007",
+    "Tab": "\ue004",
+    "Escape": "\ue00c",
+    "Shift": "\ue008",
+}
 
 
 class BrowserFault(Exception):
@@ -39,7 +49,8 @@ class Browser:
         self.folder = tempfile.mkdtemp(prefix="page-")
         port = free_port()
         self.driver = subprocess.Popen(
-            [shutil.which("chromedriver"), f"--port={port}"], stdout=subprocess.DEVNULL, stderr=subprocess.DEVNULL)
+            [shutil.which("chromedriver"), f"--port={port}"], stdout=subprocess.DEVNULL, stderr=subprocess.DEVNULL
+        )
         self.base = f"http://127.0.0.1:{port}"
         try:
             self.session = self.open_session(width, height)
@@ -48,14 +59,33 @@ class Browser:
             raise
 
     def open_session(self, width: int, height: int) -> str:
-        arguments = ["--headless=new", "--no-first-run", "--disable-extensions", "--disable-background-networking",
-                     "--hide-scrollbars", "--force-device-scale-factor=1", f"--window-size={width},{height}",
-                     f"--user-data-dir={self.folder}/profile", "--disable-dev-shm-usage"]
+        arguments = [
+            "--headless=new",
+            "--no-first-run",
+            "--disable-extensions",
+            "--disable-background-networking",
+            "--hide-scrollbars",
+            "--force-device-scale-factor=1",
+            f"--window-size={width},{height}",
+            f"--user-data-dir={self.folder}/profile",
+            "--disable-dev-shm-usage",
+        ]
         if os.geteuid() == 0:
             arguments.append("--no-sandbox")
-        options = {"binary": shutil.which("chromium"), "args": arguments, "prefs": {"download.default_directory": self.folder}}
-        wanted = {"capabilities": {"alwaysMatch": {
-            "browserName": "chrome", "goog:chromeOptions": options, "goog:loggingPrefs": {"browser": "ALL"}}}}
+        options = {
+            "binary": shutil.which("chromium"),
+            "args": arguments,
+            "prefs": {"download.default_directory": self.folder},
+        }
+        wanted = {
+            "capabilities": {
+                "alwaysMatch": {
+                    "browserName": "chrome",
+                    "goog:chromeOptions": options,
+                    "goog:loggingPrefs": {"browser": "ALL"},
+                }
+            }
+        }
         until = time.monotonic() + SECONDS
         while True:
             try:
@@ -105,8 +135,21 @@ class Browser:
         self.call("actions", {"actions": [{"type": "key", "id": "keyboard", "actions": actions}]})
 
     def click(self, x: int, y: int) -> None:
-        moves = [{"type": "pointerMove", "duration": 0, "x": x, "y": y}, {"type": "pointerDown", "button": 0}, {"type": "pointerUp", "button": 0}]
-        self.call("actions", {"actions": [{"type": "pointer", "id": "mouse", "actions": moves}]})
+        self.drag((x, y))
+
+    def drag(self, start: tuple, *ways: tuple) -> None:
+        """Presses the mouse at a point of the window, moves it on to further ones, and lets it go."""
+
+        def move(point: tuple) -> dict:
+            return {"type": "pointerMove", "duration": 0, "x": round(point[0]), "y": round(point[1])}
+
+        actions = [move(start), {"type": "pointerDown", "button": 0}]
+        actions += [move(point) for point in ways] + [{"type": "pointerUp", "button": 0}]
+        self.call("actions", {"actions": [{"type": "pointer", "id": "mouse", "actions": actions}]})
+
+    def wheel(self, x: float, y: float, by: int) -> None:
+        turn = {"type": "scroll", "x": round(x), "y": round(y), "deltaX": 0, "deltaY": by, "duration": 0}
+        self.call("actions", {"actions": [{"type": "wheel", "id": "wheel", "actions": [turn]}]})
 
     def prefer(self, scheme: str) -> None:
         """Asks pages for their light or dark appearance."""

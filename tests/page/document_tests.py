@@ -27,7 +27,10 @@ def accepted_examples_are_valid() -> None:
     for source in sorted(EXAMPLES.glob("*.toml")):
         if fault_of(source):
             continue
-        faults = [f"{list(fault.absolute_path)}: {fault.message}" for fault in schema.iter_errors(tomllib.loads(source.read_text()))]
+        faults = [
+            f"{list(fault.absolute_path)}: {fault.message}"
+            for fault in schema.iter_errors(tomllib.loads(source.read_text()))
+        ]
         same(f"faults of {source.name} by the schema", faults, [])
 
 
@@ -47,15 +50,20 @@ def each_key_is_described() -> None:
             return [found for number, item in enumerate(part) for found in undescribed(item, f"{place}[{number}]")]
         if not isinstance(part, dict):
             return []
-        here = [f"{place}.{key}" for key, value in part.get("properties", {}).items()
-                if "description" not in value and place.split(".")[-1] != "contains"]
+        here = [
+            f"{place}.{key}"
+            for key, value in part.get("properties", {}).items()
+            if "description" not in value and place.split(".")[-1] != "contains"
+        ]
         return here + [found for key, value in part.items() for found in undescribed(value, f"{place}.{key}")]
 
     same("keys of the schema without a description", undescribed(json.loads(SCHEMA.read_text()), ""), [])
 
 
 def examples_point_to_the_schema() -> None:
-    pointing = [source.name for source in sorted(EXAMPLES.glob("*.toml")) if source.read_text().split("\n", 1)[0] != POINTER]
+    pointing = [
+        source.name for source in sorted(EXAMPLES.glob("*.toml")) if source.read_text().split("\n", 1)[0] != POINTER
+    ]
     same("examples whose first line isn't the schema's", pointing, [])
 
 
@@ -69,16 +77,18 @@ def manual_page_is_clean() -> None:
 def manual_page_names_commands_and_statuses() -> None:
     page = subprocess.run(["mandoc", "-T", "ascii", "docs/zumode.1"], cwd=TOP, capture_output=True, text=True).stdout
     plain = re.sub(r".\x08", "", page)
-    synopsis = plain[plain.index("SYNOPSIS"):plain.index("DESCRIPTION")]
+    synopsis = plain[plain.index("SYNOPSIS") : plain.index("DESCRIPTION")]
     same("commands in the synopsis", sorted(set(re.findall(r"zumode (\w+)", synopsis))), COMMANDS)
-    statuses = plain[plain.index("EXIT STATUS"):plain.index("EXAMPLES")]
+    statuses = plain[plain.index("EXIT STATUS") : plain.index("EXAMPLES")]
     same("statuses", re.findall(r"^ {5}(\d) ", statuses, re.M), list("01234567"))
 
 
 def completed_by_bash(*words: str) -> list:
     """What bash completes the last of some words to."""
-    script = ('source completions/zumode.bash; COMP_WORDS=("$@"); COMP_CWORD=$(($# - 1)); _zumode; printf "%s\\n" "${COMPREPLY[@]}"')
-    ran = subprocess.run(["bash", "-c", script, "bash", "zumode", *words], cwd=TOP, capture_output=True, text=True, check=True)
+    script = 'source completions/zumode.bash; COMP_WORDS=("$@"); COMP_CWORD=$(($# - 1)); _zumode; printf "%s\\n" "${COMPREPLY[@]}"'
+    ran = subprocess.run(
+        ["bash", "-c", script, "bash", "zumode", *words], cwd=TOP, capture_output=True, text=True, check=True
+    )
     return ran.stdout.split()
 
 
@@ -127,6 +137,13 @@ def zsh_completes() -> None:
 
 
 TESTS = [
-    accepted_examples_are_valid, refused_examples_are_not, each_key_is_described, examples_point_to_the_schema,
-    manual_page_is_clean, manual_page_names_commands_and_statuses, bash_completes, fish_completes, zsh_completes,
+    accepted_examples_are_valid,
+    refused_examples_are_not,
+    each_key_is_described,
+    examples_point_to_the_schema,
+    manual_page_is_clean,
+    manual_page_names_commands_and_statuses,
+    bash_completes,
+    fish_completes,
+    zsh_completes,
 ]

@@ -29,6 +29,7 @@ def holds(what: str, truth: bool) -> None:
 
 def needs(*programs: str):
     """Marks a test that needs these programs."""
+
     def mark(test):
         @functools.wraps(test)
         def guarded(*arguments):
@@ -36,7 +37,9 @@ def needs(*programs: str):
             if lacking:
                 raise NotRun(f"{' and '.join(lacking)} can't be found; tests/pages --install installs it")
             return test(*arguments)
+
         return guarded
+
     return mark
 
 
@@ -55,8 +58,11 @@ def fault_of(source: Path) -> str:
 
 def runs() -> list:
     """The examples whose output is that of sim."""
-    return [source for source in sorted(EXAMPLES.glob("*.toml"))
-            if words_of(source) == ["sim"] and source.with_suffix(".out").stat().st_size > 0]
+    return [
+        source
+        for source in sorted(EXAMPLES.glob("*.toml"))
+        if words_of(source) == ["sim"] and source.with_suffix(".out").stat().st_size > 0
+    ]
 
 
 def together(name: str) -> str:

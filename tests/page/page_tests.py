@@ -39,12 +39,16 @@ def choose(browser, k: int) -> None:
 
 def cell(browser, thread: str, row: str) -> str:
     """What stands in a cell of the matrix, with a ! behind it where it stands out as changed."""
-    return browser.run("""const cell = document.querySelector(`td[data-thread="${arguments[0]}"][data-row="${arguments[1]}"]`);
-        return cell.textContent + (cell.classList.contains("changed") ? "!" : "")""", thread, row)
+    return browser.run(
+        """const cell = document.querySelector(`td[data-thread="${arguments[0]}"][data-row="${arguments[1]}"]`);
+        return cell.textContent + (cell.classList.contains("changed") ? "!" : "")""",
+        thread,
+        row,
+    )
 
 
 def note(browser, row: str) -> str:
-    return browser.run("return document.querySelector(`th[data-name=\"${arguments[0]}\"] small`).textContent", row)
+    return browser.run('return document.querySelector(`th[data-name="${arguments[0]}"] small`).textContent', row)
 
 
 def text_of(browser, selector: str) -> str:
@@ -56,25 +60,36 @@ def chosen(browser) -> int:
 
 
 def colour_at(browser, x: float, y: float) -> list:
-    return browser.run("""const ratio = devicePixelRatio || 1;
-        return [...page.timeline.context.getImageData(arguments[0] * ratio, arguments[1] * ratio, 1, 1).data].slice(0, 3)""", x, y)
+    return browser.run(
+        """const ratio = devicePixelRatio || 1;
+        return [...page.timeline.context.getImageData(arguments[0] * ratio, arguments[1] * ratio, 1, 1).data].slice(0, 3)""",
+        x,
+        y,
+    )
 
 
 def colour_named(browser, name: str) -> list:
     """A colour of the style sheet as three numbers."""
     digits = browser.run("return pageColours().colour(arguments[0])", name).lstrip("#")
-    return [int(digits[at:at + 2], 16) for at in (0, 2, 4)]
+    return [int(digits[at : at + 2], 16) for at in (0, 2, 4)]
 
 
 def matrix_of_the_last_release(browser) -> None:
     show_example(browser, "last-release")
     wanted = {
-        3: ("●!", "", "msgq · uninitialised"), 9: ("●◆", "●!", "msgq · uninitialised"), 14: ("◆!", "●", "msgq · uninitialised"),
-        18: ("", "◆!", "msgq · gone"), 20: ("", "", "msgq · free"),
+        3: ("●!", "", "msgq · uninitialised"),
+        9: ("●◆", "●!", "msgq · uninitialised"),
+        14: ("◆!", "●", "msgq · uninitialised"),
+        18: ("", "◆!", "msgq · gone"),
+        20: ("", "", "msgq · free"),
     }
     for k, (first, second, state) in wanted.items():
         choose(browser, k)
-        same(f"cells of #16 after event {k}", (cell(browser, "a", "#16"), cell(browser, "b", "#16"), note(browser, "#16")), (first, second, state))
+        same(
+            f"cells of #16 after event {k}",
+            (cell(browser, "a", "#16"), cell(browser, "b", "#16"), note(browser, "#16")),
+            (first, second, state),
+        )
     same("the title", text_of(browser, "#matrix-title"), "Who may touch what, after event 20")
     same("a on its own stack, b on a's", (cell(browser, "a", "sa"), cell(browser, "b", "sa")), ("rw-", ""))
 
@@ -82,16 +97,22 @@ def matrix_of_the_last_release(browser) -> None:
 def jumps_to_what_gave_and_took(browser) -> None:
     show_example(browser, "last-release")
     choose(browser, 15)
-    browser.run("document.querySelector('td[data-thread=\"b\"][data-row=\"#16\"]').click()")
-    same("links", browser.run("return [...document.querySelectorAll('#cell button')].map((link) => link.innerText)"),
-         ["event 9: a grant b #16 ok", "event 18: b drop b #16 gone"])
+    browser.run('document.querySelector(\'td[data-thread="b"][data-row="#16"]\').click()')
+    same(
+        "links",
+        browser.run("return [...document.querySelectorAll('#cell button')].map((link) => link.innerText)"),
+        ["event 9: a grant b #16 ok", "event 18: b drop b #16 gone"],
+    )
     browser.run("document.querySelectorAll('#cell button')[1].click()")
     same("the event behind the link", chosen(browser), 18)
     show_example(browser, "copy-after-a-cut")
     choose(browser, 3)
-    browser.run("document.querySelector('td[data-thread=\"b\"][data-row=\"p\"]').click()")
-    same("link of a region", browser.run("return document.querySelector('#cell button').innerText"),
-         "event 6: a domain remove d 0x20000000/32/P_RW_U_RW 0")
+    browser.run('document.querySelector(\'td[data-thread="b"][data-row="p"]\').click()')
+    same(
+        "link of a region",
+        browser.run("return document.querySelector('#cell button').innerText"),
+        "event 6: a domain remove d 0x20000000/32/P_RW_U_RW 0",
+    )
 
 
 def fatal_error_stands_out(browser) -> None:
@@ -101,11 +122,18 @@ def fatal_error_stands_out(browser) -> None:
     browser.press("f")
     same("the second failure", (chosen(browser), text_of(browser, "#event-text code")), (5, "a fatal 0 access"))
     holds("the story of the fatal error isn't told", "reason 0, CPU exception" in text_of(browser, "#event-text"))
-    holds("the panel of the event doesn't stand out", browser.run("return document.querySelector('#event-panel').classList.contains('failing')"))
+    holds(
+        "the panel of the event doesn't stand out",
+        browser.run("return document.querySelector('#event-panel').classList.contains('failing')"),
+    )
     choose(browser, 0)
     drawn = browser.run("return page.timeline.drawn.fatals")
     same("fatal errors that are drawn", [mark["event"] for mark in drawn], [5])
-    same("the colour of the mark", colour_at(browser, drawn[0]["x"] - 5, drawn[0]["y"]), colour_named(browser, "mark-fatal"))
+    same(
+        "the colour of the mark",
+        colour_at(browser, drawn[0]["x"] - 5, drawn[0]["y"]),
+        colour_named(browser, "mark-fatal"),
+    )
 
 
 def wait_and_wake(browser) -> None:
@@ -118,24 +146,37 @@ def wait_and_wake(browser) -> None:
     waits = [(names[wait["thread"]], wait["start"], wait["end"]) for wait in drawn["waits"]]
     same("bars of waits", waits, [("logger", 30, 60)])
     arrow = drawn["arrows"][0]
-    same("the colour of the arrow's head", colour_at(browser, arrow["x"] + 1.5, arrow["end"] - 6), colour_named(browser, "mark-wake"))
+    same(
+        "the colour of the arrow's head",
+        colour_at(browser, arrow["x"] + 1.5, arrow["end"] - 6),
+        colour_named(browser, "mark-wake"),
+    )
 
 
 def changed_dump_is_told(browser) -> None:
     show_example(browser, "last-release")
     holds("a warning about an output that is right", browser.run("return document.querySelector('#warning').hidden"))
     output = (EXAMPLES / "last-release.out").read_text()
-    changes = [("object b thread uninit private -", "object b thread uninit private a"), ("pool h 64/64", "pool h 0/64"),
-               ("thread a ended", "thread a ready"), ("domain d -\n", "domain d -\nmemory 0x20080000 01" + "0" * 62 + "\n")]
+    changes = [
+        ("object b thread uninit private -", "object b thread uninit private a"),
+        ("pool h 64/64", "pool h 0/64"),
+        ("thread a ended", "thread a ready"),
+        ("domain d -\n", "domain d -\nmemory 0x20080000 01" + "0" * 62 + "\n"),
+    ]
     for old, new in changes:
         changed = output.replace(old, new)
-        place = next(number for number, pair in enumerate(zip(output.split("\n"), changed.split("\n")), 1) if pair[0] != pair[1])
+        place = next(
+            number for number, pair in enumerate(zip(output.split("\n"), changed.split("\n")), 1) if pair[0] != pair[1]
+        )
         with tempfile.TemporaryDirectory() as folder:
             file = Path(folder) / "changed.out"
             file.write_text(changed)
             show(browser, EXAMPLES / "last-release.toml", file)
         warning = text_of(browser, "#warning")
-        holds(f"no warning about {new!r} in line {place}: {warning!r}", f"Line {place}:" in warning and new.split("\n")[-2 if "\n" in new else 0] in warning)
+        holds(
+            f"no warning about {new!r} in line {place}: {warning!r}",
+            f"Line {place}:" in warning and new.split("\n")[-2 if "\n" in new else 0] in warning,
+        )
 
 
 def unreadable_lines_are_named(browser) -> None:
@@ -143,8 +184,10 @@ def unreadable_lines_are_named(browser) -> None:
     lines = output.split("\n")
     broken = "\n".join(lines[:2] + ["a begun m 2"] + lines[3:])
     cases = [
-        ("a.out", broken, "Can't read line 3 of a.out"), ("b.out", "events 8\nbegins 2\n", "Can't read line 1 of b.out"),
-        ("c.out", "\0\1\2" * 1000, "Can't read line 1 of c.out"), ("d.out", "", "Can't read line 1 of d.out"),
+        ("a.out", broken, "Can't read line 3 of a.out"),
+        ("b.out", "events 8\nbegins 2\n", "Can't read line 1 of b.out"),
+        ("c.out", "\0\1\2" * 1000, "Can't read line 1 of c.out"),
+        ("d.out", "", "Can't read line 1 of d.out"),
         ("e.out", output.replace("object sa", "subject sa"), "Can't read line 12 of e.out"),
         ("f.run", f"{description}=====\n{broken}", f"Can't read line {description.count(chr(10)) + 4} of f.run"),
         ("g.toml", description.replace("regions = 8", "regions ="), "Can't read line 6 of g.toml"),
@@ -153,10 +196,15 @@ def unreadable_lines_are_named(browser) -> None:
         for name, text, wanted in cases:
             file = Path(folder) / name
             file.write_text(text)
-            files = {"run": [file], "toml": [file, EXAMPLES / "last-byte.out"]}.get(name[2:], [EXAMPLES / "last-byte.toml", file])
+            files = {"run": [file], "toml": [file, EXAMPLES / "last-byte.out"]}.get(
+                name[2:], [EXAMPLES / "last-byte.toml", file]
+            )
             message = told(browser, *files)
             holds(f"the message about {name}: {message!r}, wanted {wanted!r}", message.startswith(wanted))
-    holds("the output of another description", "no thread" in told(browser, EXAMPLES / "last-byte.toml", EXAMPLES / "last-release.out"))
+    holds(
+        "the output of another description",
+        "no thread" in told(browser, EXAMPLES / "last-byte.toml", EXAMPLES / "last-release.out"),
+    )
 
 
 def one_file_and_one_after_another(browser) -> None:
@@ -189,27 +237,75 @@ def keys_alone(browser) -> None:
     browser.press("/", "g", "o", "n", "e", "Escape", "n")
     same("the event that is found", chosen(browser), 18)
     browser.press("m", "Down", "Down", "Down", "Right", "Enter")
-    holds("Enter in the matrix tells nothing", "changed by" in text_of(browser, "#cell") or "opening" in text_of(browser, "#cell"))
+    holds(
+        "Enter in the matrix tells nothing",
+        "changed by" in text_of(browser, "#cell") or "opening" in text_of(browser, "#cell"),
+    )
     browser.press("?")
     holds("the help says who the judge is", "not a judge" in text_of(browser, "#help"))
     browser.press("Escape", "t", "Right")
     same("a step behind it", chosen(browser), 19)
 
 
+def mouse(browser) -> None:
+    show_example(browser, "last-release")
+    view = "const { scale, start } = page.timeline; return [scale, start]"
+    x, y = browser.run("const box = page.timeline.canvas.getBoundingClientRect(); return [box.left, box.top]")
+    place = browser.run("return [page.timeline.x(18), page.timeline.laneY(page.run.trace.who[18])]")
+    browser.click(x + place[0], y + place[1])
+    same("the event that is clicked", chosen(browser), 18)
+    scale, start = browser.run(view)
+    browser.wheel(x + 700, y + 40, -600)
+    zoomed, moved = browser.run(view)
+    holds("the wheel doesn't zoom in", zoomed > scale and moved > start)
+    browser.drag((x + 500, y + 40), (x + 600, y + 40), (x + 700, y + 40))
+    panned = browser.run(view)
+    holds("dragging doesn't pan", panned[0] == zoomed and panned[1] < moved)
+    same("the event chosen after dragging", chosen(browser), 18)
+
+
+def dropped_files(browser) -> None:
+    browser.open(PAGE)
+    texts = [(EXAMPLES / f"last-byte.{ending}").read_text() for ending in ("out", "toml")]
+    browser.run(
+        """const data = new DataTransfer();
+        data.items.add(new File([arguments[0]], "last-byte.out"));
+        data.items.add(new File([arguments[1]], "last-byte.toml"));
+        document.body.dispatchEvent(new DragEvent("drop", { dataTransfer: data, bubbles: true, cancelable: true }))""",
+        *texts,
+    )
+    browser.wait_for("page.run", "the run of dropped files")
+    same("events of dropped files", browser.run("return page.run.count"), 8)
+
+
 def story_and_search(browser) -> None:
     show_example(browser, "last-release")
     browser.run("page.tellStory('object', 96 + 16)")
     lines = browser.run("return [...document.querySelectorAll('#story code')].map((line) => line.textContent)")
-    same("the story of #16", lines, [
-        "a reserve msgq #16", "a born #16", "a check #16 any any ok", "a grant b #16 ok", "a check #16 any any ok",
-        "a drop a #16 kept", "b check #16 any any ok", "b drop b #16 gone", "b recycle #16"])
+    same(
+        "the story of #16",
+        lines,
+        [
+            "a reserve msgq #16",
+            "a born #16",
+            "a check #16 any any ok",
+            "a grant b #16 ok",
+            "a check #16 any any ok",
+            "a drop a #16 kept",
+            "b check #16 any any ok",
+            "b drop b #16 gone",
+            "b recycle #16",
+        ],
+    )
     browser.run("document.querySelectorAll('#story button')[3].click()")
     same("the event behind a line of the story", chosen(browser), 9)
     found = """page.search.kind.value = EVENT_KINDS.indexOf("check"); page.search.thread.value = arguments[0];
         page.search.search(); return page.search.found"""
     same("checks of a", browser.run(found, 0), [7, 8, 13])
     same("checks of b", browser.run(found, 1), [17])
-    counts = browser.run("return [...document.querySelectorAll('#counts tr')].map((row) => [...row.cells].map((cell) => cell.textContent))")
+    counts = browser.run(
+        "return [...document.querySelectorAll('#counts tr')].map((row) => [...row.cells].map((cell) => cell.textContent))"
+    )
     output = (EXAMPLES / "last-release.out").read_text().split("\ndump\n")[0].split("\n")
     kinds = [line.split(" ")[1] for line in output]
     same("counts", {kind: int(count) for kind, count in counts}, {kind: kinds.count(kind) for kind in kinds})
@@ -226,10 +322,13 @@ def matrix_as_svg(browser) -> None:
 def every_example_ends_as_it_dumps(browser) -> None:
     browser.open(PAGE)
     for source in runs():
-        browser.run("""window.seen = null;
+        browser.run(
+            """window.seen = null;
             Run.load(arguments[0], arguments[1], () => {}).then((run) => { seen = { differences: run.differences }; },
                 (fault) => { seen = { fault: `${fault.file} ${fault.line} ${fault.message}` }; })""",
-                    source.read_text(), source.with_suffix(".out").read_text())
+            source.read_text(),
+            source.with_suffix(".out").read_text(),
+        )
         browser.wait_for("seen", source.name)
         same(source.name, browser.run("return seen"), {"differences": []})
 
@@ -243,8 +342,14 @@ def very_many_events(browser) -> None:
         show(browser, description, output)
         holds(f"reading took {time.monotonic() - started:.1f} seconds", time.monotonic() - started < 30)
     same("events", browser.run("return page.run.count"), 400_000)
-    for step in ["page.timeline.drawNow()", "page.choose(200000)", "page.choose(page.k - 1)", "page.timeline.zoom(40); page.timeline.drawNow()",
-                 "page.timeline.pan(300); page.timeline.drawNow()", "page.timeline.zoom(400); page.timeline.drawNow()"]:
+    for step in [
+        "page.timeline.drawNow()",
+        "page.choose(200000)",
+        "page.choose(page.k - 1)",
+        "page.timeline.zoom(40); page.timeline.drawNow()",
+        "page.timeline.pan(300); page.timeline.drawNow()",
+        "page.timeline.zoom(400); page.timeline.drawNow()",
+    ]:
         browser.run(step)
         spent = browser.run(f"const from = performance.now(); {step}; return performance.now() - from")
         holds(f"{step} took {spent:.0f} milliseconds", spent < SMOOTH_MILLISECONDS)
@@ -268,17 +373,24 @@ def generated_run(browser, program) -> None:
     if program is None:
         raise NotRun("the program isn't built here")
     made = subprocess.run([program, "gen", "2"], capture_output=True, check=True).stdout
-    output, summary = (subprocess.run([program, word, "--cpus", "4"], input=made, capture_output=True, check=True).stdout
-                       for word in ("sim", "summary"))
+    output, summary = (
+        subprocess.run([program, word, "--cpus", "4"], input=made, capture_output=True, check=True).stdout
+        for word in ("sim", "summary")
+    )
     with tempfile.TemporaryDirectory() as folder:
         file = Path(folder) / "generated.run"
         file.write_bytes(made + b"=====\n" + output)
         show(browser, file)
     same("differences", browser.run("return page.run.differences"), [])
     counts = dict(line.split() for line in summary.decode().splitlines())
-    kinds = browser.run("return Object.fromEntries(EVENT_KINDS.map((kind, number) => [kind, page.run.kindCounts[number]]))")
-    same("events, begins, checks", [browser.run("return page.run.count"), kinds["begin"], kinds["check"]],
-         [int(counts[word]) for word in ("events", "begins", "checks")])
+    kinds = browser.run(
+        "return Object.fromEntries(EVENT_KINDS.map((kind, number) => [kind, page.run.kindCounts[number]]))"
+    )
+    same(
+        "events, begins, checks",
+        [browser.run("return page.run.count"), kinds["begin"], kinds["check"]],
+        [int(counts[word]) for word in ("events", "begins", "checks")],
+    )
     choose(browser, browser.run("return Math.round(page.run.count / 2)"))
     browser.screenshot(BUILD / "page-generated.png")
 
@@ -286,7 +398,10 @@ def generated_run(browser, program) -> None:
 def page_needs_no_network(browser) -> None:
     for file in VIEWER.iterdir():
         text = file.read_text().replace("http://www.w3.org/2000/svg", "")
-        holds(f"{file.name} names an address of the network", "http:" not in text and "https:" not in text and "@import" not in text)
+        holds(
+            f"{file.name} names an address of the network",
+            "http:" not in text and "https:" not in text and "@import" not in text,
+        )
     show_example(browser, "last-byte")
     loaded = browser.run("return performance.getEntriesByType('resource').map((entry) => entry.name)")
     same("what is loaded from elsewhere", [name for name in loaded if not name.startswith("file:")], [])
@@ -294,12 +409,27 @@ def page_needs_no_network(browser) -> None:
 
 def picture_is_small(_browser) -> None:
     picture = TOP / "docs" / "viewer.png"
-    holds("docs/viewer.png isn't there, or is too large", picture.exists() and picture.stat().st_size < MOST_PICTURE_BYTES)
+    holds(
+        "docs/viewer.png isn't there, or is too large", picture.exists() and picture.stat().st_size < MOST_PICTURE_BYTES
+    )
 
 
 TESTS = [
-    matrix_of_the_last_release, jumps_to_what_gave_and_took, fatal_error_stands_out, wait_and_wake, changed_dump_is_told,
-    unreadable_lines_are_named, one_file_and_one_after_another, keys_alone, story_and_search, matrix_as_svg,
-    every_example_ends_as_it_dumps, very_many_events, light_and_dark, page_needs_no_network,
+    matrix_of_the_last_release,
+    jumps_to_what_gave_and_took,
+    fatal_error_stands_out,
+    wait_and_wake,
+    changed_dump_is_told,
+    unreadable_lines_are_named,
+    one_file_and_one_after_another,
+    keys_alone,
+    mouse,
+    dropped_files,
+    story_and_search,
+    matrix_as_svg,
+    every_example_ends_as_it_dumps,
+    very_many_events,
+    light_and_dark,
+    page_needs_no_network,
     picture_is_small,
 ]

@@ -10,7 +10,9 @@ def main() -> None:
         browser.open(PAGE)
         browser.run("page.openExample('copy-after-a-cut')")
         browser.wait_for("page.run", "the run")
-        browser.run("page.tellStory('thread', 0); page.tellStory('thread', 1); page.choose(14); page.timeline.drawNow()")
+        browser.run(
+            "page.tellStory('thread', 0); page.tellStory('thread', 1); page.choose(14); page.timeline.drawNow()"
+        )
         browser.screenshot(TOP / "docs" / "viewer.png")
 
 
