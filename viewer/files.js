@@ -11,8 +11,12 @@ class Sources {
     this.output = null;
   }
 
-  // Takes a text in. A new description is looked at with a new output, so the old one of the other kind stays only
-  // until then.
+  // Makes room for further files: another output may be one of the same description.
+  renew() {
+    if (this.isWhole) this.output = null;
+  }
+
+  // Takes a text in.
   take(name, text) {
     const at = `\n${text}`.indexOf(`\n${BETWEEN}\n`);
     if (at >= 0) {

@@ -69,7 +69,7 @@ class Page {
 
   async openFiles(files) {
     if (files.length === 0) return;
-    if (this.sources.isWhole) this.sources = new Sources();
+    this.sources.renew();
     for (const file of files) {
       try {
         this.sources.take(file.name, await readText(file));
@@ -94,9 +94,11 @@ class Page {
       this.tell("");
     } catch (fault) {
       if (fault instanceof Superseded) return;
-      this.clear();
       const isUnreadable = fault instanceof Unreadable;
       this.tell(isUnreadable ? sources.told(fault) : `The page failed over ${sources.output.name}: ${fault.message}`);
+      this.clear();
+      if (fault.file === "output") sources.renew();
+      else this.sources = new Sources();
     }
   }
 
@@ -107,7 +109,6 @@ class Page {
     byId("empty").hidden = false;
     byId("warning").hidden = true;
     byId("source").textContent = "";
-    this.sources = new Sources();
   }
 
   tell(text, className = "") {
@@ -127,6 +128,7 @@ class Page {
     const { description, output } = this.sources;
     const names = description.name === output.name ? description.name : `${description.name} and ${output.name}`;
     byId("source").textContent = `${names}: ${run.count} ${run.count === 1 ? "event" : "events"}`;
+    document.title = `${names} - a run of zumode`;
     byId("of").textContent = `of ${run.count}`;
     byId("event").max = run.count;
     byId("cell").hidden = true;

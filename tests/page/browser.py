@@ -102,7 +102,7 @@ class Browser:
             with urllib.request.urlopen(request, timeout=SECONDS * 2) as answer:
                 return json.load(answer)["value"]
         except urllib.error.HTTPError as fault:
-            raise BrowserFault(json.load(fault)["value"]["message"].split("\n")[0]) from None
+            raise BrowserFault(" ".join(json.load(fault)["value"]["message"].split("\n")[:2])) from None
 
     def call(self, path: str, body=None):
         return self.ask("POST", f"/session/{self.session}/{path}", body or {})

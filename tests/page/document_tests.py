@@ -9,6 +9,7 @@ from judging import EXAMPLES, TOP, NotRun, fault_of, holds, needs, same
 SCHEMA = TOP / "schema" / "zumode.schema.json"
 POINTER = "#:schema ../schema/zumode.schema.json"
 FORM_FAULTS = {"MissingKey", "WrongType", "UnknownKey", "BadName"}
+MOST_PICTURE_BYTES = 200_000
 COMMANDS = ["gen", "layout", "sim", "summary"]
 
 
@@ -136,11 +137,19 @@ def zsh_completes() -> None:
     same("zumode layout", offered("layout", ""), [])
 
 
+def picture_is_small() -> None:
+    picture = TOP / "docs" / "viewer.png"
+    holds(
+        "docs/viewer.png isn't there, or is too large", picture.exists() and picture.stat().st_size < MOST_PICTURE_BYTES
+    )
+
+
 TESTS = [
     accepted_examples_are_valid,
     refused_examples_are_not,
     each_key_is_described,
     examples_point_to_the_schema,
+    picture_is_small,
     manual_page_is_clean,
     manual_page_names_commands_and_statuses,
     bash_completes,
