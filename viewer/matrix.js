@@ -216,12 +216,14 @@ function fillCell(cell, text, label, changed) {
   cell.classList.toggle("changed", changed);
 }
 
-const SVG_SIGNS = "● permission  ○ public  ◆ held  r w x: read, write, execute  boxed: changed by this event";
+const SVG_SIGNS = "● permission · ○ public · ◆ held · r w x: read, write, execute · framed: changed by this event";
 
 // The matrix as the text of an SVG file, in colours for light paper.
 function matrixSvg(run, k) {
   const model = matrixModel(run, k);
-  const [left, top, width, height] = [330, 76, Math.max(110, 700 / model.columns.length), 24];
+  const lines = model.sections.flatMap(({ rows }) => rows);
+  const longest = Math.max(0, ...lines.map(({ name, text }) => name.length * 8.4 + text.length * 6.2));
+  const [left, top, width, height] = [longest + 50, 76, Math.max(110, 700 / model.columns.length), 24];
   const moment = k === 0 ? "Before the first event" : `After event ${k}: ${run.trace.line(k)}`;
   const parts = [svgText(12, 22, moment, "16", "600")];
   model.columns.forEach(({ name, text, changed }, column) => {

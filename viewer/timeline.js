@@ -15,6 +15,7 @@ class Timeline {
     this.canvas = canvas;
     this.choose = choose;
     this.context = canvas.getContext("2d");
+    this.layer = document.createElement("canvas");
     this.run = null;
     this.chosen = 0;
     this.matches = [];
@@ -27,6 +28,7 @@ class Timeline {
 
   setRun(run) {
     this.run = run;
+    this.paintedView = "";
     this.threads = sorted(run.used.threads);
     this.laneOf = new Int8Array(THREADS).fill(-1);
     this.threads.forEach((thread, lane) => { this.laneOf[thread] = lane; });
@@ -115,27 +117,51 @@ class Timeline {
     cancelAnimationFrame(this.frame);
     this.frame = 0;
     if (!this.run) return;
-    const { context } = this;
     this.colours = pageColours();
-    this.drawn = { marks: 0, arrows: [], waits: [], fatals: [] };
+    const view = [this.start, this.scale, this.width, this.height, ...this.hidden, this.colours.colour("panel")].join(" ");
+    if (view !== this.paintedView) this.paint();
+    this.paintedView = view;
+    const { context } = this;
     context.clearRect(0, 0, this.width, this.height);
+    context.drawImage(this.layer, 0, 0, this.width, this.height);
+    this.clipped(context, () => {
+      this.drawMatches();
+      this.drawChosen();
+    });
+  }
+
+  // Paints what stays while another event is chosen into a layer of its own.
+  paint() {
+    const front = this.context;
+    this.layer.width = this.canvas.width;
+    this.layer.height = this.canvas.height;
+    const context = this.layer.getContext("2d");
+    context.setTransform(front.getTransform());
     context.font = "13px system-ui, sans-serif";
     context.textBaseline = "middle";
+    this.context = context;
+    this.drawn = { marks: 0, arrows: [], waits: [], fatals: [] };
     this.first = Math.max(1, Math.floor(this.eventAt(LABEL_WIDTH)));
     this.last = Math.min(this.run.count, Math.ceil(this.eventAt(this.width)));
     this.drawLanes();
+    this.clipped(context, () => {
+      this.drawAxis();
+      this.drawLives();
+      this.drawWaits();
+      this.drawArrows();
+      if (this.scale >= SEPARATE_MARKS) this.drawMarks();
+      else this.drawCells();
+    });
+    this.context = front;
+  }
+
+  // Draws to the right of the labels alone.
+  clipped(context, draw) {
     context.save();
     context.beginPath();
     context.rect(LABEL_WIDTH, 0, this.width - LABEL_WIDTH, this.height);
     context.clip();
-    this.drawAxis();
-    this.drawLives();
-    this.drawWaits();
-    this.drawArrows();
-    if (this.scale >= SEPARATE_MARKS) this.drawMarks();
-    else this.drawCells();
-    this.drawMatches();
-    this.drawChosen();
+    draw();
     context.restore();
   }
 
@@ -259,39 +285,57 @@ class Timeline {
     if (isFatal && this.drawn.fatals.length < MOST_ARROWS) this.drawn.fatals.push({ event: k, x, y });
   }
 
-  // The heaviest event of each cell of a few pixels, with a bar for how many there are.
+  // Where events share pixels: a bar for each cell of a few pixels, as high as the events are many, with a part for each
+  // group; and on it the mark of an event that is to stand out.
   drawCells() {
+    const { cells, counts, heaviest } = this.countCells();
+    this.drawBars(cells, counts);
+    heaviest.forEach((k, place) => {
+      if (k === 0) return;
+      const x = LABEL_WIDTH + (place % cells) * CELL + CELL / 2;
+      this.mark(this.run.groups[k], k, x, this.laneY(this.run.trace.who[k]), 5);
+    });
+  }
+
+  // How many events of each group each cell of each lane has, and the heaviest event there that is to stand out.
+  countCells() {
     const cells = Math.ceil(this.span() / CELL) + 4;
-    const heaviest = new Int32Array(cells * this.threads.length);
-    const counts = new Int32Array(cells * this.threads.length);
+    const counts = new Uint32Array(cells * this.threads.length * GROUPS.length);
+    const heaviest = new Uint32Array(cells * this.threads.length);
     const { groups, trace: { who } } = this.run;
     const isHidden = GROUPS.map((_, group) => this.hidden.has(group));
     const { laneOf, start, last } = this;
     const perCell = this.scale / CELL;
     for (let k = this.first; k <= last; k += 1) {
-      if (isHidden[groups[k]]) continue;
+      const group = groups[k];
+      if (isHidden[group]) continue;
       const place = laneOf[who[k]] * cells + Math.max(0, Math.floor((k - start) * perCell));
-      counts[place] += 1;
-      if (!heaviest[place] || groups[k] > groups[heaviest[place]]) heaviest[place] = k;
+      counts[place * GROUPS.length + group] += 1;
+      if (group >= FIRST_STANDING_OUT && group > (groups[heaviest[place]] || 0)) heaviest[place] = k;
     }
-    for (const standsOut of [false, true]) {
-      heaviest.forEach((k, place) => {
-        if (k && (groups[k] >= FIRST_STANDING_OUT) === standsOut) this.drawCell(k, place % cells, counts[place]);
-      });
-    }
+    return { cells, counts, heaviest };
   }
 
-  drawCell(k, cell, count) {
-    const { context, colours } = this;
-    const [x, y, group] = [LABEL_WIDTH + cell * CELL, this.laneY(this.run.trace.who[k]), this.run.groups[k]];
-    if (group >= FIRST_STANDING_OUT) {
-      this.mark(group, k, x + CELL / 2, y, 5);
-      return;
+  drawBars(cells, counts) {
+    const places = cells * this.threads.length;
+    const totals = new Uint32Array(places);
+    for (let at = 0; at < FIRST_STANDING_OUT; at += 1) {
+      for (let place = 0; place < places; place += 1) totals[place] += counts[place * GROUPS.length + at];
     }
-    const height = Math.min(this.laneHeight - 6, 4 + 3 * Math.log2(1 + count));
-    context.fillStyle = colours.groups[group];
-    context.fillRect(x, y - height / 2, CELL - 1, height);
-    this.drawn.marks += 1;
+    const heights = Float32Array.from(totals, (total) => Math.min(this.laneHeight - 6, 4 + 3 * Math.log2(1 + total)));
+    const drawn = new Float32Array(places);
+    for (let group = 0; group < FIRST_STANDING_OUT; group += 1) {
+      this.context.fillStyle = this.colours.groups[group];
+      for (let place = 0; place < places; place += 1) {
+        const count = counts[place * GROUPS.length + group];
+        if (count === 0) continue;
+        const height = (heights[place] * count) / totals[place];
+        const top = AXIS_HEIGHT + (Math.floor(place / cells) + 0.5) * this.laneHeight - heights[place] / 2;
+        this.context.fillRect(LABEL_WIDTH + (place % cells) * CELL, top + drawn[place], CELL - 1, height);
+        drawn[place] += height;
+        this.drawn.marks += 1;
+      }
+    }
   }
 
   drawMatches() {

@@ -331,6 +331,13 @@ def matrix_as_svg(browser) -> None:
     texts = [part.text for part in svg.iter("{http://www.w3.org/2000/svg}text")]
     holds("the title of the picture", texts[0] == "After event 9: a grant b #16 ok")
     holds("the permissions in the picture", "●◆" in texts and "●" in texts)
+    choose(browser, 9)
+    browser.run("document.querySelector('#save').click()")
+    saved = Path(browser.folder) / "matrix-9.svg"
+    until = time.monotonic() + 20
+    while not saved.exists() and time.monotonic() < until:
+        time.sleep(0.05)
+    holds("the picture isn't saved", saved.exists() and "grant b #16" in saved.read_text())
 
 
 def every_example_ends_as_it_dumps(browser) -> None:
