@@ -172,6 +172,7 @@ def changed_dump_is_told(browser) -> None:
             file = Path(folder) / "changed.out"
             file.write_text(changed)
             show(browser, EXAMPLES / "last-release.toml", file)
+        holds("the warning is hidden", browser.run("return !document.querySelector('#warning').hidden"))
         warning = text_of(browser, "#warning")
         holds(
             f"no warning about {new!r} in line {place}: {warning!r}",
