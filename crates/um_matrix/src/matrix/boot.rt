@@ -83,13 +83,19 @@ fn no_pairs(alloc: Global) -> Result<Vec<[bool; THREADS]>, Memory>
     Ok(pairs)
 }
 
-/// So many bytes, all zero.
-fn zeros(alloc: Global, size: usize) -> Result<Vec<u8>, Memory>
-    ensures items { IfOk result (λ bytes. bytes.items ≡ replicate {A = ℕ} size 0) }
-    ensures all { IfOk result (λ bytes. length bytes.items ≡ size) }
+/// How many bytes of an area are cleared at once.
+const PAGE: usize = 1024;
+
+/// The bytes of an area, all zero.
+fn zeros(alloc: Global) -> Result<Vec<u8>, Memory>
+    ensures items { IfOk result (λ bytes. bytes.items ≡ replicate {A = ℕ} AREA_SIZE 0) }
+    ensures all { IfOk result (λ bytes. length bytes.items ≡ AREA_SIZE) }
 {
-    let mut bytes = Vec::new(alloc);
-    bytes.resize(size, 0)?;
+    let page = [0; PAGE];
+    let mut bytes = Vec::with_capacity(alloc, AREA_SIZE as usize)?;
+    for _ in 0..AREA_SIZE as usize / PAGE {
+        bytes.extend_from_slice(&page)?;
+    }
     Ok(bytes)
 }
 
@@ -232,8 +238,8 @@ impl<'a> Matrix<'a> {
         let domains = domains(alloc, image)?;
         let pools = pools(alloc, image)?;
         let rodata = rodata(alloc, image)?;
-        let memory = zeros(alloc, AREA_SIZE as usize)?;
-        let stacks = zeros(alloc, AREA_SIZE as usize)?;
+        let memory = zeros(alloc)?;
+        let stacks = zeros(alloc)?;
         Ok(Matrix {
             image,
             rodata,

@@ -1,7 +1,7 @@
 //! The memory of a dump: the blocks of 32 bytes that aren't all zero.
 
 ghost use Rattle.std.specs.Prelude.{◌≡◌, ◌==◌, ◌+◌, ◌*◌, ◌≤◌, ◌<◌, ◌^◌, length, vec_len, vec_capacity};
-ghost use Rattle.std.specs.List.{list_all};
+ghost use Rattle.std.specs.List.{flat_map, list_all, range_with_len};
 ghost use Rattle.um_trace.specs.Dump.{block_line, area_lines};
 ghost use Rattle.um_trace.specs.Room.{Puts};
 
@@ -14,11 +14,18 @@ const BLOCK: usize = 32;
 /// The blocks of an area.
 const BLOCKS: usize = 0x4000;
 
-/// Whether all bytes are zero.
+/// The blocks of a page.
+const PAGE: usize = 32;
+
+/// Whether all bytes are zero. It looks at each, also behind one that isn't, so that many are compared at once.
 fn are_zero(bytes: &[u8]) -> bool
     ensures { result ≡ list_all (λ b. b == 0) bytes.now }
 {
-    bytes.iter().all(|b| *b == 0)
+    let mut zero = true;
+    for byte in bytes {
+        zero = zero && *byte == 0;
+    }
+    zero
 }
 
 /// The line of the k-th block of an area, unless it is all zero.
@@ -39,6 +46,22 @@ fn put_block(room: &mut Vec<u8>, area: u32, bytes: &[u8], k: usize)
     }
 }
 
+/// The lines of the blocks of a page, which is passed over where all of it is zero.
+fn put_page(room: &mut Vec<u8>, area: u32, bytes: &[u8], page: usize)
+    requires room { vec_len room.old + 83 * PAGE ≤ vec_capacity room.old }
+    requires within { BLOCK * (PAGE * page) + BLOCK * PAGE ≤ length bytes.now }
+    requires fits { area + length bytes.now < 2 ^ 32 }
+    ensures { Puts room.old room.new (flat_map (block_line area bytes.now) (range_with_len (PAGE * page) PAGE)) (83 * PAGE) }
+{
+    let first = PAGE * page;
+    if are_zero(&bytes[BLOCK * first..BLOCK * first + BLOCK * PAGE]) {
+        return;
+    }
+    for k in 0..PAGE {
+        put_block(room, area, bytes, first + k);
+    }
+}
+
 /// The lines of an area.
 #[tactic(auto, unfolding(crate::specs::Dump::area_lines))]
 pub fn put_area(room: &mut Vec<u8>, area: u32, bytes: &[u8])
@@ -47,8 +70,8 @@ pub fn put_area(room: &mut Vec<u8>, area: u32, bytes: &[u8])
     requires place { area ≤ STACK_AREA }
     ensures { Puts room.old room.new (area_lines area bytes.now) (83 * BLOCKS) }
 {
-    for k in 0..BLOCKS {
-        put_block(room, area, bytes, k);
+    for page in 0..BLOCKS / PAGE {
+        put_page(room, area, bytes, page);
     }
 }
 

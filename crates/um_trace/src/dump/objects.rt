@@ -16,6 +16,12 @@ use um_base::{Image, Kind, PIECE, ROWS, THREADS, ThreadIx};
 use um_machine::{Contents, Object, Status};
 use um_matrix::Matrix;
 
+/// How many bytes the holders of an object take at most: each a name and a comma.
+const HOLDERS_ROOM: usize = 25 * THREADS + 1;
+
+/// How many bytes the line of an object takes at most.
+const LINE_ROOM: usize = HOLDERS_ROOM + 600;
+
 /// Whether an object is initialised, or gone.
 #[tactic(auto, unfolding(crate::specs::Dump::state_word))]
 fn state_word(object: &Object) -> &'static str
@@ -69,9 +75,9 @@ fn put_holder(room: &mut Vec<u8>, image: &Image, holds: bool, thread: u8, first:
 /// The threads that have a pair with an object, by index.
 #[tactic(auto, unfolding(crate::specs::Dump::holders_text))]
 fn put_holders(room: &mut Vec<u8>, image: &Image, last: &Matrix, row: usize)
-    requires room { vec_len room.old + 601 ≤ vec_capacity room.old }
+    requires room { vec_len room.old + HOLDERS_ROOM ≤ vec_capacity room.old }
     requires row { row < ROWS }
-    ensures { Puts room.old room.new (holders_text image.now last.now row) 601 }
+    ensures { Puts room.old room.new (holders_text image.now last.now row) HOLDERS_ROOM }
 {
     let mut first = true;
     for thread in 0..THREADS {
@@ -167,9 +173,9 @@ fn put_content(room: &mut Vec<u8>, image: &Image, object: &Object)
 /// The line of an object.
 #[tactic(auto, unfolding(crate::specs::Dump::object_line))]
 fn put_object_line(room: &mut Vec<u8>, image: &Image, last: &Matrix, row: usize)
-    requires room { vec_len room.old + 1280 ≤ vec_capacity room.old }
+    requires room { vec_len room.old + LINE_ROOM ≤ vec_capacity room.old }
     requires row { row < ROWS }
-    ensures { Puts room.old room.new (object_line image.now last.now row) 1280 }
+    ensures { Puts room.old room.new (object_line image.now last.now row) LINE_ROOM }
 {
     let object = object_at(last, row);
     put_text(room, "object ");
@@ -186,9 +192,9 @@ fn put_object_line(room: &mut Vec<u8>, image: &Image, last: &Matrix, row: usize)
 /// The line of a row, where an object stands there.
 #[tactic(auto, unfolding(crate::specs::Dump::object_line_of))]
 fn put_line_of(room: &mut Vec<u8>, image: &Image, last: &Matrix, row: usize)
-    requires room { vec_len room.old + 1280 ≤ vec_capacity room.old }
+    requires room { vec_len room.old + LINE_ROOM ≤ vec_capacity room.old }
     requires row { row < ROWS }
-    ensures { Puts room.old room.new (object_line_of image.now last.now row) 1280 }
+    ensures { Puts room.old room.new (object_line_of image.now last.now row) LINE_ROOM }
 {
     if is_shown(image, last, row) {
         put_object_line(room, image, last, row);
@@ -197,8 +203,8 @@ fn put_line_of(room: &mut Vec<u8>, image: &Image, last: &Matrix, row: usize)
 
 /// The lines of objects, by row.
 pub fn put_objects(room: &mut Vec<u8>, image: &Image, last: &Matrix)
-    requires { vec_len room.old + 1280 * ROWS ≤ vec_capacity room.old }
-    ensures { Puts room.old room.new (flat_map (object_line_of image.now last.now) (numbers ROWS)) (1280 * ROWS) }
+    requires { vec_len room.old + LINE_ROOM * ROWS ≤ vec_capacity room.old }
+    ensures { Puts room.old room.new (flat_map (object_line_of image.now last.now) (numbers ROWS)) (LINE_ROOM * ROWS) }
 {
     for row in 0..ROWS {
         put_line_of(room, image, last, row);

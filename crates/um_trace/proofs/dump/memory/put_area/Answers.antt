@@ -1,9 +1,10 @@
 use Rattle.um_trace.specs.Dump.{block_line}
-use Rattle.um_trace.proofs.LineLemmas.{puts_none, puts_more}
+use Rattle.um_trace.proofs.LineLemmas.{puts_none}
+use Rattle.um_trace.proofs.PageLemmas.{puts_page}
 use Rattle.um_trace.proofs.dump.memory.put_area.Goals as goal
 
-pub loop-k-init : goal.loop-k-init
-loop-k-init c = puts_none (block_line c.args.area c.args.bytes.now) 83 c.args.room.now
+pub loop-page-init : goal.loop-page-init
+loop-page-init c = puts_none (block_line c.args.area c.args.bytes.now) 83 c.args.room.now
 
-pub loop-k-preserved : goal.loop-k-preserved
-loop-k-preserved c = puts_more (block_line c.args.area c.args.bytes.now) 83 c.loop-k.k _ _ _ c.loop-k.invariant c.put_block.ensures
+pub loop-page-preserved : goal.loop-page-preserved
+loop-page-preserved c = puts_page (block_line c.args.area c.args.bytes.now) 83 32 c.loop-page.page _ _ _ c.loop-page.invariant c.put_page.ensures

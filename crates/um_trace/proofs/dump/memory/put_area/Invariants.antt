@@ -4,5 +4,5 @@ use Rattle.um_trace.specs.Dump.{numbers, block_line}
 use Rattle.um_trace.specs.Room.{Puts}
 use Rattle.um_trace.proofs.dump.memory.put_area.Given as goal
 
-abbrev pub invariant-loop-k : goal.invariant-loop-k
-invariant-loop-k l = Puts l.fn.room l.room (flat_map (block_line l.area l.bytes) (numbers l.k)) (83 * l.k)
+abbrev pub invariant-loop-page : goal.invariant-loop-page
+invariant-loop-page l = Puts l.fn.room l.room (flat_map (block_line l.area l.bytes) (numbers (32 * l.page))) (83 * (32 * l.page))

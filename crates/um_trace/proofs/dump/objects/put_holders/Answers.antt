@@ -3,6 +3,7 @@ use Rattle.um_base.specs.declared.limits.TheConstants.{THREADS}
 use Rattle.std.proofs.lemmas.List.{append-nil}
 use Rattle.um_machine.specs.State.{pair_at}
 use Rattle.um_trace.specs.Names.{thread_text}
+use Rattle.um_trace.specs.declared.dump.objects.TheConstants.{HOLDERS_ROOM}
 use Rattle.um_trace.specs.Dump.{holders_text, holders_below}
 use Rattle.um_trace.proofs.LineLemmas.{numbers_none}
 use Rattle.um_trace.proofs.ListLemmas.{puts_choice, is_none_choice, puts_listed, puts_dash}
@@ -31,7 +32,7 @@ unfolding holders_text
 returns-else-first c =
     let all : c.loop-thread.thread ≡ THREADS = omega arith in
     let before = c.loop-thread.invariant in
-    puts_listed (thread_text c.args.image.now) (holders_below c.args.last.now c.args.row THREADS) 600 601 _ _ (rw all at before.text)
+    puts_listed (thread_text c.args.image.now) (holders_below c.args.last.now c.args.row THREADS) (25 * THREADS) HOLDERS_ROOM _ _ (rw all at before.text)
     (sym (rw all at before.first) ∙ c.if-first.false) (omega arith)
 
 pub returns-then-first : goal.returns-then-first
@@ -39,5 +40,5 @@ unfolding holders_text
 returns-then-first c =
     let all : c.loop-thread.thread ≡ THREADS = omega arith in
     let before = c.loop-thread.invariant in
-    puts_dash (thread_text c.args.image.now) (holders_below c.args.last.now c.args.row THREADS) 600 1 601 _ _ _ (rw all at before.text)
+    puts_dash (thread_text c.args.image.now) (holders_below c.args.last.now c.args.row THREADS) (25 * THREADS) 1 HOLDERS_ROOM _ _ _ (rw all at before.text)
     (sym (rw all at before.first) ∙ c.if-first.true) c.put_text.ensures (omega arith)
