@@ -10,6 +10,7 @@ use Rattle.um_command.specs.declared.command.Command.{Command}
 use Rattle.um_command.specs.declared.command.Options.{Options}
 use Rattle.um_gen.specs.Description.{description}
 use Rattle.um_image.specs.Meaning.{Describes}
+use Rattle.um_laws.specs.Obeys.{ObeysLaws}
 use Rattle.um_machine.specs.State.{State}
 use Rattle.um_machine.specs.Run.{IsRun, IsComplete}
 use Rattle.um_trace.specs.Layout.{layout_text}
@@ -22,13 +23,15 @@ abbrev pub most_input : ℕ
 most_input = 0x100000
 
 -- One complete run of the access-matrix machine from an image, in the order of its processors: each event is that of the first
--- processor that can make one, from the one that is preferred at that turn on. It has at most as many events as the image's weight.
+-- processor that can make one, from the one that is preferred at that turn on. It has at most as many events as the image's weight,
+-- and obeys the laws of accesses, verdicts, origins, lives and holds.
 -- The image and the options name just one such run (`one_run` of um_turns).
 pub record IsRunOf (image : Image) (options : Options) (run : List Event) (last : State) : Type 0 where
   pub is_run : IsRun image run last
   pub complete : IsComplete last
   pub scheduled : IsScheduled image options.cpus options.pick run last
   pub few : length run ≤ weight image
+  pub laws : ObeysLaws image run
 
 -- No other run of the image has this text, in whatever order of processors.
 abbrev pub NamesRun : Image → List ℕ → List Event → Type 0

