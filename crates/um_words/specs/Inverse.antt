@@ -1,0 +1,163 @@
+-- Packing and unpacking are inverse.
+use Rattle.std.proofs.Common.{◌≡◌, ℕ, ◌+◌, ◌*◌, ◌<◌, ◌/◌, ◌%◌, Bool, true, false, not, Some, None, refl, sym, ap, ◌∙◌, arith, subst}
+use Rattle.std.specs.Prelude.{◌==◌, nat_lt, ◌&&◌, if◌then◌else◌}
+use Rattle.std.proofs.lemmas.Bool.Decides.{nat_tests}
+use Rattle.um_base.specs.declared.names.Mode.{Mode}
+use Rattle.um_machine.specs.declared.thread.Life.{Life}
+use Rattle.um_machine.specs.State.{is_user}
+use Rattle.um_words.specs.declared.row_word.RowWord.{RowWord}
+use Rattle.um_words.specs.declared.row_word.Stage.{Stage}
+use Rattle.um_words.specs.declared.thread_word.ThreadWord.{ThreadWord}
+use Rattle.um_words.specs.declared.dom_word.DomWord.{DomWord}
+use Rattle.um_words.specs.declared.cell_word.CellWord.{CellWord}
+use Rattle.um_words.specs.Bits.{bit, bits_of, number_of}
+use Rattle.um_words.specs.BitLists.{number_of-bits}
+use Rattle.um_words.specs.Packed.{stage_code, stage_of, packed_row, row_of, FitsRow, life_code, life_of, mode_of, packed_thread, thread_in, is_thread, thread_of, FitsThread, packed_domain, domain_in, is_domain, domain_of, FitsDomain, packed_cell, cell_of, FitsCell}
+
+pub bit-small : (b : Bool) → bit b < 2
+bit-small true = omega arith
+bit-small false = omega arith
+
+bit-back : (b : Bool) → (bit b == 1) ≡ b
+bit-back true = refl
+bit-back false = refl
+
+bit-test : (n : ℕ) → n < 2 → bit (n == 1) ≡ n
+bit-test n h = elim (n == 1) as (λ b. ((n == 1) ≡ b) → bit b ≡ n) [ true ↦ λ e. grind (arith, nat_tests) | false ↦ λ e. grind (arith, nat_tests) ] refl
+
+pub stage-small : (s : Stage) → stage_code s < 4
+stage-small Stage.Free = omega arith
+stage-small Stage.Live = omega arith
+stage-small Stage.Dying = omega arith
+stage-small Stage.Cleaning = omega arith
+
+stage-back : (s : Stage) → stage_of (stage_code s) ≡ s
+stage-back Stage.Free = refl
+stage-back Stage.Live = refl
+stage-back Stage.Dying = refl
+stage-back Stage.Cleaning = refl
+
+stage-test : (n : ℕ) → n < 4 → stage_code (stage_of n) ≡ n
+stage-test n h = grind (arith, nat_tests)
+
+-- the digits of a row's word
+pub row-digits : (p a b c s k n w : ℕ) → p < 4294967296 → a < 2 → b < 2 → c < 2 → s < 4 → k < 128
+    → w ≡ p + 4294967296 * a + 8589934592 * b + 17179869184 * c + 34359738368 * s + 137438953472 * k + 17592186044416 * n
+    → (w % 4294967296 ≡ p) × (w / 4294967296 % 2 ≡ a) × (w / 8589934592 % 2 ≡ b) × (w / 17179869184 % 2 ≡ c) × (w / 34359738368 % 4 ≡ s) × (w / 137438953472 % 128 ≡ k) × (w / 17592186044416 ≡ n)
+row-digits p a b c s k n w hp ha hb hc hs hk e = (omega arith, omega arith, omega arith, omega arith, omega arith, omega arith, omega arith)
+
+pub row-back : (r : RowWord) (p : ℕ) → p ≡ number_of r.permissions → bits_of 32 p ≡ r.permissions → p < 4294967296 → FitsRow r → row_of (packed_row r) ≡ r
+row-back r p is back small f =
+    let d = row-digits (number_of r.permissions) (bit r.init) (bit r.public) (bit r.dynamic) (stage_code r.stage) r.claims r.number (packed_row r) (subst (λ n. n < 4294967296) is small) (bit-small r.init) (bit-small r.public) (bit-small r.dynamic) (stage-small r.stage) f.claims refl in
+    λ i. record {
+      permissions = (ap (bits_of 32) (d.0 ∙ sym is) ∙ back) i;
+      init = (ap (λ n. n == 1) d.1 ∙ bit-back r.init) i;
+      public = (ap (λ n. n == 1) d.2 ∙ bit-back r.public) i;
+      dynamic = (ap (λ n. n == 1) d.3 ∙ bit-back r.dynamic) i;
+      stage = (ap stage_of d.4 ∙ stage-back r.stage) i;
+      claims = d.5 i;
+      number = d.6 i;
+    }
+
+pub row-whole : (w : ℕ) → packed_row (row_of w) ≡ w
+row-whole w =
+    let p = number_of-bits 32 (w % 4294967296) (omega arith) in
+    let a = bit-test (w / 4294967296 % 2) (omega arith) in
+    let b = bit-test (w / 8589934592 % 2) (omega arith) in
+    let c = bit-test (w / 17179869184 % 2) (omega arith) in
+    let s = stage-test (w / 34359738368 % 4) (omega arith) in
+    omega arith
+
+life-small : (l : Life) → life_code l < 3
+life-small Life.Unborn = omega arith
+life-small Life.Living = omega arith
+life-small Life.Ended = omega arith
+
+life-back : (l : Life) → life_of (life_code l) ≡ l
+life-back Life.Unborn = refl
+life-back Life.Living = refl
+life-back Life.Ended = refl
+
+life-test : (n : ℕ) → n < 3 → life_code (life_of n) ≡ n
+life-test n h = grind (arith, nat_tests)
+
+mode-back : (m : Mode) → mode_of (bit (not (is_user m)) == 1) ≡ m
+mode-back Mode.User = refl
+mode-back Mode.Supervisor = refl
+
+mode-test : (n : ℕ) → n < 2 → bit (not (is_user (mode_of (n == 1)))) ≡ n
+mode-test n h = elim (n == 1) as (λ b. ((n == 1) ≡ b) → bit (not (is_user (mode_of b))) ≡ n) [ true ↦ λ e. grind (arith, nat_tests) | false ↦ λ e. grind (arith, nat_tests) ] refl
+
+pub thread-digits : (l a b m d n w : ℕ) → l < 3 → a < 2 → b < 2 → m < 2 → d < 8
+    → w ≡ l + 4 * a + 8 * b + 16 * m + 32 * d + 68719476736 * n
+    → (w % 4 ≡ l) × (w / 4 % 2 ≡ a) × (w / 8 % 2 ≡ b) × (w / 16 % 2 ≡ m) × (w / 32 % 8 ≡ d) × (w / 256 % 268435456 ≡ 0) × (w / 68719476736 ≡ n)
+thread-digits l a b m d n w hl ha hb hm hd e = (omega arith, omega arith, omega arith, omega arith, omega arith, omega arith, omega arith)
+
+pub thread-back : (t : ThreadWord) → FitsThread t → thread_of (packed_thread t) ≡ Some t
+thread-back t f =
+    let d = thread-digits (life_code t.life) (bit t.doomed) (bit t.held) (bit (not (is_user t.mode))) t.domain t.number (packed_thread t) (life-small t.life) (bit-small t.doomed) (bit-small t.held) (bit-small (not (is_user t.mode))) f.domain refl in
+    let w = packed_thread t in
+    let small : nat_lt (w % 4) 3 ≡ true = let l = life-small t.life in let e = d.0 in grind (arith, nat_tests) in
+    let zeros : (w / 256 % 268435456 == 0) ≡ true = ap (λ n. n == 0) d.5 in
+    let whole : is_thread w ≡ true = λ i. small i && zeros i in
+    ap (λ b. if b then Some (thread_in w) else None) whole
+    ∙ ap Some (λ i. record {
+      life = (ap life_of d.0 ∙ life-back t.life) i;
+      doomed = (ap (λ n. n == 1) d.1 ∙ bit-back t.doomed) i;
+      held = (ap (λ n. n == 1) d.2 ∙ bit-back t.held) i;
+      mode = (ap (λ n. mode_of (n == 1)) d.3 ∙ mode-back t.mode) i;
+      domain = d.4 i;
+      number = d.6 i;
+    })
+
+pub thread-whole : (w : ℕ) → w % 4 < 3 → w / 256 % 268435456 ≡ 0 → packed_thread (thread_in w) ≡ w
+thread-whole w h z =
+    let l = life-test (w % 4) h in
+    let a = bit-test (w / 4 % 2) (omega arith) in
+    let b = bit-test (w / 8 % 2) (omega arith) in
+    let m = mode-test (w / 16 % 2) (omega arith) in
+    omega arith
+
+pub domain-digits : (a b r v n w : ℕ) → a < 2 → b < 2 → r < 128 → v < 1048576
+    → w ≡ a + 2 * b + 4 * r + 512 * v + 68719476736 * n
+    → (w % 2 ≡ a) × (w / 2 % 2 ≡ b) × (w / 4 % 128 ≡ r) × (w / 512 % 1048576 ≡ v) × (w / 536870912 % 128 ≡ 0) × (w / 68719476736 ≡ n)
+domain-digits a b r v n w ha hb hr hv e = (omega arith, omega arith, omega arith, omega arith, omega arith, omega arith)
+
+pub domain-back : (d : DomWord) → FitsDomain d → domain_of (packed_domain d) ≡ Some d
+domain-back d f =
+    let g = domain-digits (bit d.init) (bit d.writer) d.readers d.version d.number (packed_domain d) (bit-small d.init) (bit-small d.writer) f.readers f.version refl in
+    let w = packed_domain d in
+    let whole : is_domain w ≡ true = ap (λ n. n == 0) g.4 in
+    ap (λ b. if b then Some (domain_in w) else None) whole
+    ∙ ap Some (λ i. record {
+      init = (ap (λ n. n == 1) g.0 ∙ bit-back d.init) i;
+      writer = (ap (λ n. n == 1) g.1 ∙ bit-back d.writer) i;
+      readers = g.2 i;
+      version = g.3 i;
+      number = g.5 i;
+    })
+
+pub domain-whole : (w : ℕ) → w / 536870912 % 128 ≡ 0 → packed_domain (domain_in w) ≡ w
+domain-whole w z =
+    let a = bit-test (w % 2) (omega arith) in
+    let b = bit-test (w / 2 % 2) (omega arith) in
+    omega arith
+
+pub cell-digits : (t r u o n w : ℕ) → t < 2 → r < 256 → u < 256 → o < 524288
+    → w ≡ t + 2 * r + 512 * u + 131072 * o + 68719476736 * n
+    → (w % 2 ≡ t) × (w / 2 % 256 ≡ r) × (w / 512 % 256 ≡ u) × (w / 131072 % 524288 ≡ o) × (w / 68719476736 ≡ n)
+cell-digits t r u o n w ht hr hu ho e = (omega arith, omega arith, omega arith, omega arith, omega arith)
+
+pub cell-back : (c : CellWord) → c.ready < 256 → c.running < 256 → FitsCell c → cell_of (packed_cell c) ≡ c
+cell-back c hr hu f =
+    let g = cell-digits (bit c.turn) c.ready c.running c.owed c.number (packed_cell c) (bit-small c.turn) hr hu f.owed refl in
+    λ i. record { turn = (ap (λ n. n == 1) g.0 ∙ bit-back c.turn) i; ready = g.1 i; running = g.2 i; owed = g.3 i; number = g.4 i }
+
+pub cell-whole : (w : ℕ) → packed_cell (cell_of w) ≡ w
+cell-whole w = let a = bit-test (w % 2) (omega arith) in omega arith
+
+pub thread-number : (t : ThreadWord) → t.domain < 8 → packed_thread t / 68719476736 ≡ t.number
+thread-number t h = (thread-digits (life_code t.life) (bit t.doomed) (bit t.held) (bit (not (is_user t.mode))) t.domain t.number (packed_thread t) (life-small t.life) (bit-small t.doomed) (bit-small t.held) (bit-small (not (is_user t.mode))) h refl).6
+
+pub domain-number : (d : DomWord) → d.readers < 128 → d.version < 1048576 → packed_domain d / 68719476736 ≡ d.number
+domain-number d hr hv = (domain-digits (bit d.init) (bit d.writer) d.readers d.version d.number (packed_domain d) (bit-small d.init) (bit-small d.writer) hr hv refl).5

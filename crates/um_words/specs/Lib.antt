@@ -1,0 +1,11 @@
+pub mod Bits
+pub mod BitLists
+pub mod Packed
+pub mod Inverse
+pub mod Extra
+pub mod Rows
+pub mod Threads
+pub mod Domains
+pub mod Steps
+pub mod RowFacts
+pub mod WordFacts

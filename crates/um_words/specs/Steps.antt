@@ -1,0 +1,57 @@
+-- The step of a site's word: where the word of each kind stands, and from which word to which a step goes.
+use Rattle.std.specs.Prelude.{◌≡◌, ℕ, ◌/◌, nat_lt, if◌then◌else◌, Some}
+use Rattle.um_words.specs.declared.fine.FineAct.{FineAct}
+use Rattle.um_words.specs.declared.kind.WordKind.{WordKind}
+use Rattle.um_words.specs.declared.row_word.RowWord.{RowWord}
+use Rattle.um_words.specs.declared.thread_word.ThreadWord.{ThreadWord}
+use Rattle.um_words.specs.declared.dom_word.DomWord.{DomWord}
+use Rattle.um_words.specs.Packed.{packed_row, row_of, packed_thread, thread_of, packed_domain, domain_of}
+use Rattle.um_words.specs.Rows.{RowMay}
+use Rattle.um_words.specs.Threads.{ThreadMay}
+use Rattle.um_words.specs.Domains.{DomainMay}
+
+-- sites 0 to 127 are the rows, 128 to 159 the threads by index, 160 to 167 the domains, and then come the cells
+abbrev pub kind_at : ℕ → WordKind
+kind_at site =
+    if nat_lt site 128 then WordKind.Row
+    else if nat_lt site 160 then WordKind.Thread
+    else if nat_lt site 168 then WordKind.Domain
+    else WordKind.Cell
+
+-- the step number in a word of a kind
+abbrev pub number_in : WordKind → ℕ → ℕ
+number_in WordKind.Row w = w / 17592186044416
+number_in _ w = w / 68719476736
+
+unfoldable pub number : ℕ → ℕ → ℕ
+number site w = number_in (kind_at site) w
+
+pub record RowStep (w : ℕ) (act : FineAct) (next : ℕ) : Type 0 where
+  pub left : RowWord
+  pub may : RowMay (row_of w) act left
+  pub is : next ≡ packed_row left
+
+pub record ThreadStep (w : ℕ) (act : FineAct) (next : ℕ) : Type 0 where
+  pub found : ThreadWord
+  pub reads : thread_of w ≡ Some found
+  pub left : ThreadWord
+  pub may : ThreadMay found act left
+  pub is : next ≡ packed_thread left
+
+pub record DomainStep (w : ℕ) (act : FineAct) (next : ℕ) : Type 0 where
+  pub found : DomWord
+  pub reads : domain_of w ≡ Some found
+  pub left : DomWord
+  pub may : DomainMay found act left
+  pub is : next ≡ packed_domain left
+
+-- a cell's word is changed by those who have its turn alone
+abbrev pub StepIn : WordKind → ℕ → FineAct → ℕ → Type 0
+StepIn WordKind.Row w act next = RowStep w act next
+StepIn WordKind.Thread w act next = ThreadStep w act next
+StepIn WordKind.Domain w act next = DomainStep w act next
+StepIn WordKind.Cell w act next = ⊥
+
+-- the step is lawful at the site with this word, and leaves that one
+pub record WordMay (site w : ℕ) (act : FineAct) (next : ℕ) : Type 0 where
+  pub step : StepIn (kind_at site) w act next

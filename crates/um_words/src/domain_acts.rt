@@ -1,0 +1,137 @@
+//! The steps of the word of a domain.
+
+ghost use Rattle.std.specs.Prelude.{◌≡◌, ◌<◌, ℕ, IsTrue, MatchOption};
+ghost use Rattle.um_words.specs.Packed.{FitsDomain, packed_domain};
+ghost use Rattle.um_words.specs.Domains.{is_zero, writes, written, left_by_reader, domain_takes, domain_takes_act, domain_takes_unseen, domain_after, domain_after_act, domain_after_unseen, counted_domain};
+ghost use Rattle.um_words.specs.Steps.{DomainStep};
+
+use crate::dom_word::DomWord;
+use crate::fine::{FineAct, Unseen};
+use um_base::{Act, Reply};
+
+/// The greatest step number: there the word takes no step.
+const LAST: u32 = 0xfff_ffff;
+
+fn is_zero(reply: &Reply) -> bool
+    ensures { result ≡ is_zero reply.now }
+{
+    match reply {
+        Reply::Num(number) => *number == 0,
+        _ => false,
+    }
+}
+
+impl DomWord {
+    fn writes(&self) -> bool
+        ensures { result ≡ writes self.now }
+    {
+        self.writer && self.version < 0xf_ffff
+    }
+
+    /// The claim to write ends. Init: the domain is initialised by it.
+    fn write_done(&mut self, init: bool)
+        requires { IsTrue (writes self.old) }
+        ensures { self.new ≡ written self.old init }
+    {
+        self.init = self.init || init;
+        self.writer = false;
+        self.version += 1;
+    }
+
+    /// A claim to read ends.
+    fn read_done(&mut self)
+        requires { 0 < self.old.readers }
+        ensures { self.new ≡ left_by_reader self.old }
+    {
+        self.readers -= 1;
+    }
+
+    fn takes_act(&self, act: &Act) -> bool
+        ensures { result ≡ domain_takes_act self.now act.now }
+    {
+        match act {
+            Act::DomInit { .. } | Act::DomAdd { .. } | Act::DomRemove { .. } => self.writes(),
+            Act::DomMove { .. } => 0 < self.readers && !self.init,
+            _ => false,
+        }
+    }
+
+    fn takes_unseen(&self, unseen: &Unseen) -> bool
+        ensures { result ≡ domain_takes_unseen self.now unseen.now }
+    {
+        match unseen {
+            Unseen::ReadClaim => !self.writer && self.readers < 127,
+            Unseen::ReadDone => 0 < self.readers,
+            Unseen::WriteClaim => !self.writer && self.readers == 0,
+            _ => false,
+        }
+    }
+
+    fn takes(&self, act: &FineAct) -> bool
+        ensures { result ≡ domain_takes self.now act.now }
+    {
+        match act {
+            FineAct::Shown { event, .. } => self.takes_act(&event.act),
+            FineAct::Unseen(unseen) => self.takes_unseen(unseen),
+        }
+    }
+
+    fn take_act(&mut self, act: &Act)
+        requires { IsTrue (domain_takes_act self.old act.now) }
+        ensures { self.new ≡ domain_after_act self.old act.now }
+    {
+        match act {
+            Act::DomInit { reply, .. } => self.write_done(is_zero(reply)),
+            Act::DomAdd { .. } | Act::DomRemove { .. } => self.write_done(false),
+            Act::DomMove { .. } => self.read_done(),
+            _ => {}
+        }
+    }
+
+    fn take_unseen(&mut self, unseen: &Unseen)
+        requires { IsTrue (domain_takes_unseen self.old unseen.now) }
+        ensures { self.new ≡ domain_after_unseen self.old unseen.now }
+    {
+        match unseen {
+            Unseen::ReadClaim => self.readers += 1,
+            Unseen::ReadDone => self.read_done(),
+            Unseen::WriteClaim => self.writer = true,
+            _ => {}
+        }
+    }
+
+    fn take(&mut self, act: &FineAct)
+        requires { IsTrue (domain_takes self.old act.now) }
+        ensures { self.new ≡ domain_after self.old act.now }
+    {
+        match act {
+            FineAct::Shown { event, .. } => self.take_act(&event.act),
+            FineAct::Unseen(unseen) => self.take_unseen(unseen),
+        }
+    }
+
+    /// The word with this said and one step more.
+    pub fn counted(&self) -> u64
+        requires { FitsDomain (counted_domain self.now) }
+        ensures { result ≡ packed_domain (counted_domain self.now) }
+    {
+        let next = DomWord {
+            number: self.number + 1,
+            ..*self
+        };
+        next.pack()
+    }
+}
+
+/// The word that a lawful step leaves, and nothing where the step isn't lawful.
+pub fn domain_step(word: u64, act: &FineAct) -> Option<u64>
+    ensures { MatchOption result ((next : ℕ) → DomainStep word act.now next → ⊥) (λ next. DomainStep word act.now next) }
+{
+    let domain = DomWord::unpack(word)?;
+    if domain.number >= LAST || !domain.takes(act) {
+        return None;
+    }
+    let mut next = domain;
+    next.take(act);
+    Some(next.counted())
+}

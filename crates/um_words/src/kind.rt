@@ -1,0 +1,30 @@
+//! The kinds of words, and which sites have them.
+
+ghost use Rattle.std.specs.Prelude.{◌≡◌};
+ghost use Rattle.um_words.specs.Steps.{kind_at};
+
+/// What a site's word is of.
+#[derive(Clone, Copy, PartialEq, Eq)]
+pub enum WordKind {
+    Row,
+    Thread,
+    Domain,
+    Cell,
+}
+
+impl WordKind {
+    /// That of a site by its number.
+    pub fn at(site: u16) -> WordKind
+        ensures { result ≡ kind_at site }
+    {
+        if site < 128 {
+            WordKind::Row
+        } else if site < 160 {
+            WordKind::Thread
+        } else if site < 168 {
+            WordKind::Domain
+        } else {
+            WordKind::Cell
+        }
+    }
+}

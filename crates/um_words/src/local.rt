@@ -1,0 +1,48 @@
+//! The local machines: what each site's word does at each step.
+
+ghost use Rattle.std.specs.Prelude.{◌≡◌, ◌+◌, ℕ, MatchOption, IfSome};
+ghost use Rattle.um_words.specs.Steps.{WordMay, number};
+
+use crate::domain_acts::domain_step;
+use crate::fine::FineAct;
+use crate::kind::WordKind;
+use crate::row_acts::row_step;
+use crate::thread_acts::thread_step;
+
+/// Words that change by lawful steps alone, and processors of which each makes the steps that it may make next.
+pub trait Local {
+    ghost use Rattle.std.specs.Prelude.{ℕ, List};
+    ghost use Rattle.um_base.specs.declared.image.Image.{Image};
+    ghost use Rattle.um_words.specs.declared.made.Made.{Made};
+
+    /// In a run from this image the processor of that name, which has made this list, may make that step next.
+    ghost goes: { Image → List ℕ → List Made → Made → Type 0 };
+
+    /// The word that a lawful step leaves at the site, and nothing where the step isn't lawful there.
+    fn step(site: u16, word: u64, act: &FineAct) -> Option<u64>
+        ensures { MatchOption result ((next : ℕ) → WordMay site word act.now next → ⊥) (λ next. WordMay site word act.now next) };
+}
+
+/// The word that a lawful step leaves at the site, and nothing where the step isn't lawful there.
+pub fn word_step(site: u16, word: u64, act: &FineAct) -> Option<u64>
+    ensures counts { IfSome result (λ next. number site next ≡ number site word + 1) }
+    ensures step { MatchOption result ((next : ℕ) → WordMay site word act.now next → ⊥) (λ next. WordMay site word act.now next) }
+{
+    match WordKind::at(site) {
+        WordKind::Row => row_step(word, act),
+        WordKind::Thread => thread_step(word, act),
+        WordKind::Domain => domain_step(word, act),
+        WordKind::Cell => None,
+    }
+}
+
+/// The local machines of which each processor may make every lawful step, whatever it has made.
+pub struct AnyStep;
+
+impl Local for AnyStep {
+    ghost goes = { λ image name list made. Unit {0} };
+
+    fn step(site: u16, word: u64, act: &FineAct) -> Option<u64> {
+        word_step(site, word, act)
+    }
+}

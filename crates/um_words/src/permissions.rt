@@ -1,0 +1,97 @@
+//! The threads that have a permission on an object.
+
+ghost use Rattle.std.specs.Prelude.{◌≡◌, ◌<◌, ◌≤◌, false, true, slice_index_or, slice_set, length, not, replicate};
+ghost use Rattle.std.specs.List.{list_all};
+ghost use Rattle.um_base.specs.declared.limits.TheConstants.{THREADS};
+ghost use Rattle.um_words.specs.Bits.{bits_of, number_of};
+
+use std::marker::Model;
+use um_base::THREADS;
+
+/// A set of thread indices, a bit for each. Contracts see a list with a Bool for each index.
+#[derive(Clone, Copy)]
+pub struct Permissions {
+    bits: u32,
+}
+
+impl Model for Permissions {
+    ghost use Rattle.std.specs.Prelude.{List, Bool, ◌<◌};
+    ghost use Rattle.std.proofs.Common.{ap};
+    ghost use Rattle.um_words.specs.Bits.{bits_of, number_of};
+    ghost use Rattle.um_words.specs.BitLists.{number_of-bits};
+
+    ghost Value = { List Bool };
+
+    ghost view = { λ p. bits_of 32 p.bits };
+
+    ghost invariant = { λ p. p.bits < 4294967296 };
+
+    ghost inverse = { λ l. record { bits = number_of l } };
+
+    ghost inverse_ok = { λ a h. ap (λ n. record { bits = n }) (number_of-bits 32 a.bits h) };
+}
+
+impl Permissions {
+    /// Of nobody.
+    pub fn none() -> Permissions
+        ensures { result ≡ replicate THREADS false }
+    {
+        Permissions { bits: 0 }
+    }
+
+    /// Those of the indices whose bit is set, index 0's being the lowest.
+    pub fn from_bits(bits: u32) -> Permissions
+        ensures { result ≡ bits_of 32 bits }
+    {
+        Permissions { bits }
+    }
+
+    pub fn bits(&self) -> u32
+        ensures value { result ≡ number_of self.now }
+        ensures back { bits_of 32 result ≡ self.now }
+    {
+        self.bits
+    }
+
+    /// Whether nobody has one.
+    pub fn is_empty(&self) -> bool
+        ensures { result ≡ list_all not self.now }
+    {
+        self.bits == 0
+    }
+
+    /// Whether the thread has one.
+    pub fn has(&self, thread: u8) -> bool
+        ensures { result ≡ slice_index_or self.now thread false }
+    {
+        (thread as usize) < THREADS && self.bits >> thread & 1 == 1
+    }
+
+    /// Gives the thread one, where there is such an index.
+    pub fn add(&mut self, thread: u8)
+        ensures { self.new ≡ slice_set self.old thread true }
+    {
+        let bits = self.bits;
+        if (thread as usize) >= THREADS {
+            return;
+        }
+        if bits >> thread & 1 == 1 {
+            return;
+        }
+        self.bits = bits + (1 << thread);
+    }
+
+    /// Takes the thread's away.
+    pub fn remove(&mut self, thread: u8)
+        ensures { self.new ≡ slice_set self.old thread false }
+    {
+        let bits = self.bits;
+        if (thread as usize) >= THREADS {
+            return;
+        }
+        if bits >> thread & 1 == 0 {
+            return;
+        }
+        self.bits = bits - (1 << thread);
+    }
+}

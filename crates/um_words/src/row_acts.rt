@@ -1,0 +1,146 @@
+//! A step of a row's word by what it does.
+
+ghost use Rattle.std.specs.Prelude.{◌≡◌, ◌↔◌, ◌<◌, ℕ, IsTrue, MatchOption};
+ghost use Rattle.um_words.specs.Packed.{FitsRow, row_of};
+ghost use Rattle.um_words.specs.Rows.{row_takes, row_takes_act, row_takes_unseen, row_says, row_says_act, row_after, row_after_act, row_after_unseen};
+ghost use Rattle.um_words.specs.Steps.{RowStep};
+
+use crate::extra::{has_kind, is_strict, mode};
+use crate::fine::{FineAct, More, Unseen};
+use crate::row_word::RowWord;
+use um_base::{Act, SetSaid};
+
+/// The greatest step number: there the word takes no step.
+const LAST: u32 = 0xf_ffff;
+
+impl RowWord {
+    fn takes_act(&self, thread: u8, act: &Act) -> bool
+        ensures { result ≡ row_takes_act self.now thread act.now }
+    {
+        match act {
+            Act::Check { .. } => self.claims < 127,
+            Act::Own { .. } => self.claims < 127 && !self.is_free() && !self.is_cleaning(),
+            Act::Inherit { who, .. } => self.has(thread) && !self.has(who.0),
+            Act::DropPair { .. } => true,
+            Act::Grant { .. } | Act::Publish { .. } | Act::SetInit { .. } | Act::ClearInit { .. } =>
+                { !self.is_free() }
+            Act::Born { .. } => self.is_free(),
+            _ => false,
+        }
+    }
+
+    fn takes_unseen(&self, unseen: &Unseen) -> bool
+        ensures { result ≡ row_takes_unseen self.now unseen.now }
+    {
+        match unseen {
+            Unseen::EndCall => 0 < self.claims,
+            Unseen::Visit => true,
+            Unseen::Vacate => self.is_cleaning() && self.claims == 0,
+            _ => false,
+        }
+    }
+
+    /// Whether it takes the step.
+    fn takes(&self, act: &FineAct) -> bool
+        ensures { result ≡ row_takes self.now act.now }
+    {
+        match act {
+            FineAct::Shown { event, .. } => self.takes_act(event.thread.0, &event.act),
+            FineAct::Unseen(unseen) => self.takes_unseen(unseen),
+        }
+    }
+
+    /// Whether the answers in the act are those that the word gives.
+    fn agrees_act(&self, thread: u8, more: &More, act: &Act) -> bool
+        ensures { IsTrue result ↔ (row_says_act self.now thread more.now act.now ≡ act.now) }
+    {
+        match act {
+            Act::Check { want, verdict, .. } => {
+                self.verdict(thread, mode(more), has_kind(more), *want) == *verdict
+            }
+            Act::Grant { given, .. } | Act::Own { given, .. } | Act::Publish { given, .. } => {
+                self.given() == *given
+            }
+            Act::DropPair { who, left, .. } => self.left(who.0) == *left,
+            Act::SetInit { set, .. } => self.set(is_strict(more)) == *set,
+            _ => true,
+        }
+    }
+
+    fn agrees(&self, act: &FineAct) -> bool
+        ensures { IsTrue result ↔ (row_says self.now act.now ≡ act.now) }
+    {
+        match act {
+            FineAct::Shown { event, more } => self.agrees_act(event.thread.0, more, &event.act),
+            FineAct::Unseen(_) => true,
+        }
+    }
+
+    fn take_act(&mut self, thread: u8, act: &Act)
+        requires { IsTrue (row_takes_act self.old thread act.now) }
+        ensures { self.new ≡ row_after_act self.old thread act.now }
+    {
+        match act {
+            Act::Check { verdict, .. } => {
+                if verdict.is_none() {
+                    self.claims += 1;
+                }
+            }
+            Act::Grant { who, .. } => {
+                self.grant(who.0);
+            }
+            Act::Own { who, .. } => {
+                self.own(who.0);
+            }
+            Act::Inherit { who, .. } => self.inherit(who.0),
+            Act::DropPair { who, .. } => {
+                self.drop_one(who.0);
+            }
+            Act::Publish { .. } => {
+                self.publish();
+            }
+            Act::SetInit { set, .. } => {
+                if let SetSaid::Done = set {
+                    self.init = true;
+                }
+            }
+            Act::ClearInit { .. } => self.init = false,
+            Act::Born { .. } => self.born(thread),
+            _ => {}
+        }
+    }
+
+    fn take_unseen(&mut self, unseen: &Unseen)
+        requires { IsTrue (row_takes_unseen self.old unseen.now) }
+        ensures { self.new ≡ row_after_unseen self.old unseen.now }
+    {
+        match unseen {
+            Unseen::EndCall => self.end_call(),
+            Unseen::Vacate => self.vacate(),
+            _ => {}
+        }
+    }
+
+    fn take(&mut self, act: &FineAct)
+        requires { IsTrue (row_takes self.old act.now) }
+        ensures { self.new ≡ row_after self.old act.now }
+    {
+        match act {
+            FineAct::Shown { event, .. } => self.take_act(event.thread.0, &event.act),
+            FineAct::Unseen(unseen) => self.take_unseen(unseen),
+        }
+    }
+}
+
+/// The word that a lawful step leaves, and nothing where the step isn't lawful.
+pub fn row_step(word: u64, act: &FineAct) -> Option<u64>
+    ensures { MatchOption result ((next : ℕ) → RowStep word act.now next → ⊥) (λ next. RowStep word act.now next) }
+{
+    let row = RowWord::read(word);
+    if row.number >= LAST || !row.takes(act) || !row.agrees(act) {
+        return None;
+    }
+    let mut next = row;
+    next.take(act);
+    Some(next.counted())
+}
