@@ -20,7 +20,7 @@ pub use cell_word::CellWord;
 pub use dom_word::DomWord;
 pub use domain_acts::domain_step;
 pub use fine::{FineAct, More, Unseen};
-pub use kind::WordKind;
+pub use kind::{WordKind, step_number};
 pub use local::{AnyStep, Local, word_step};
 pub use made::{Made, Moved};
 pub use permissions::Permissions;

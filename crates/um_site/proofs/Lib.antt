@@ -1,0 +1,3 @@
+pub mod Sublists
+pub mod Keeps
+pub mod Joining

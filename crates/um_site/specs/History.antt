@@ -1,0 +1,180 @@
+-- The history of a board.
+use Rattle.std.specs.Prelude.{◌≡◌, ℕ, ◌+◌, ◌<◌, ◌≤◌, ◌⊎◌, Bool, true, false, cond, eqb, List, [], ◌∷◌, ◌++◌, map, length, slice_index, None}
+use mathlib.Core.Option.{some}
+use lib.ListN.{get_elem?}
+use Rattle.um_site.specs.Sublists.{RunsBy, sub, same_name}
+use Rattle.um_words.specs.Steps.{WordMay, number}
+use Rattle.um_words.specs.declared.made.Made.{Made}
+use Rattle.um_base.specs.declared.image.Image.{Image}
+use Rattle.um_base.specs.declared.names.Mpu.{Mpu}
+use Rattle.um_base.specs.declared.names.Policy.{Policy}
+use Rattle.um_site.specs.declared.view.View.{View}
+
+-- a step with the name of the seat that made it
+abbrev pub Entry : Type 0
+Entry = List ℕ × Made
+
+abbrev pub made_of : Entry → Made
+made_of e = e.1
+
+abbrev pub is_by : List ℕ → Entry → Bool
+is_by n e = same_name e.0 n
+
+abbrev pub is_at : ℕ → Entry → Bool
+is_at i e = eqb e.1.site i
+
+abbrev pub by_seat : List ℕ → List Entry → List Made
+by_seat n h = map made_of (sub (is_by n) h)
+
+abbrev pub by_site : ℕ → List Entry → List Made
+by_site i h = map made_of (sub (is_at i) h)
+
+-- the word goes from w by these steps, each lawful, to z
+abbrev pub Words : ℕ → ℕ → List Made → ℕ → Type 0
+Words i w [] z = w ≡ z
+Words i w (m ∷ ms) z = (WordMay i w m.act m.word) × Words i m.word ms z
+
+-- the names under which lists stand in a view
+abbrev pub Among : List (List ℕ × List Made) → List ℕ → Type 0
+Among [] n = ⊥
+Among (e ∷ es) n = (e.0 ≡ n) ⊎ Among es n
+
+abbrev pub Distinct : List (List ℕ × List Made) → Type 0
+Distinct [] = Unit {0}
+Distinct (e ∷ es) = (Among es e.0 → ⊥) × Distinct es
+
+abbrev pub Has : View → List ℕ → Type 0
+Has v n = (v.name ≡ n) ⊎ Among v.joined n
+
+-- a name that the seat of this name gives from its k-th split on, or one below such a name
+abbrev pub Later : List ℕ → ℕ → List ℕ → Type 0
+Later p k n = (j : ℕ) × (r : List ℕ) × (k ≤ j) × (n ≡ p ++ j ∷ r)
+
+abbrev pub AmongNames : List (List ℕ) → List ℕ → Type 0
+AmongNames [] n = ⊥
+AmongNames (k ∷ ks) n = (k ≡ n) ⊎ AmongNames ks n
+
+abbrev pub Owns : View → List ℕ → Type 0
+Owns v n = Has v n ⊎ Later v.name v.splits n
+
+abbrev pub Apart : View → View → Type 0
+Apart v w = (n : List ℕ) → Owns v n → Owns w n → ⊥
+
+-- a list of the view is what the history has under that name
+abbrev pub Told : List Entry → List (List ℕ × List Made) → Type 0
+Told h [] = Unit {0}
+Told h (e ∷ es) = (by_seat e.0 h ≡ e.1) × Told h es
+
+-- each word that was got is no newer than the word that stands
+abbrev pub Fresh : List ℕ → List (ℕ × ℕ) → Type 0
+Fresh words [] = Unit {0}
+Fresh words (e ∷ es) = (number e.0 e.1 ≤ number e.0 (slice_index words e.0)) × Fresh words es
+
+-- the step numbers of a site's steps go on from n without a gap
+abbrev pub Numbers : ℕ → ℕ → List Made → Type 0
+Numbers i n [] = Unit {0}
+Numbers i n (m ∷ ms) = (number i m.word ≡ n + 1) × Numbers i (n + 1) ms
+
+-- The history of a board from these opening words, as a fact of its sublists alone: each site's words go by lawful steps to the word that stands, its steps are numbered from 1 without a gap, and each seat's steps go
+pub record IsHistory (goes : List ℕ → List Made → Made → Type 0) (opening words : List ℕ) (h : List Entry) : Type 0 where
+  pub wide : length words ≡ length opening
+  pub opened : (i : ℕ) → i < length opening → number i (slice_index opening i) ≡ 0
+  pub inside : (i : ℕ) → length words ≤ i → by_site i h ≡ []
+  pub sites : (i : ℕ) → i < length words → Words i (slice_index opening i) (by_site i h) (slice_index words i)
+  pub numbers : (i : ℕ) → i < length words → Numbers i 0 (by_site i h)
+  pub seats : (n : List ℕ) → RunsBy (goes n) [] (by_seat n h)
+
+-- what a view that isn't spent has to do with the history
+pub record Knows (image : Image) (opening words : List ℕ) (h : List Entry) (v : View) : Type 0 where
+  pub image_is : v.image ≡ image
+  pub opening_is : v.opening ≡ opening
+  pub mine : by_seat v.name h ≡ v.made
+  pub theirs : Told h v.joined
+  pub fresh : Fresh words v.got
+
+-- no name stands twice in a view, and none that its seat may still give
+pub record Tidy (v : View) : Type 0 where
+  pub own : Among v.joined v.name → ⊥
+  pub distinct : Distinct v.joined
+  pub later : (n : List ℕ) → Has v n → Later v.name v.splits n → ⊥
+  pub below : (n : List ℕ) → AmongNames v.children n → length v.name < length n
+
+abbrev pub AllKnow : Image → List ℕ → List ℕ → List Entry → List View → Type 0
+AllKnow image opening words h views = (id : ℕ) (v : View) → get_elem? views id ≡ some v → v.live ≡ true → Knows image opening words h v
+
+abbrev pub AllTidy : List View → Type 0
+AllTidy views = (id : ℕ) (v : View) → get_elem? views id ≡ some v → v.live ≡ true → Tidy v
+
+-- no two seats own one name
+abbrev pub AllApart : List View → Type 0
+AllApart views = (i j : ℕ) (v w : View) → get_elem? views i ≡ some v → get_elem? views j ≡ some w → v.live ≡ true → w.live ≡ true → ¬ (i ≡ j) → Apart v w
+
+-- some seat has the list of this name
+abbrev pub Somewhere : List View → List ℕ → Type 0
+Somewhere views n = (id : ℕ) × (v : View) × (get_elem? views id ≡ some v) × (v.live ≡ true) × Has v n
+
+-- each step stands in the list of a seat
+abbrev pub AllTold : List Entry → List View → Type 0
+AllTold h views = (n : List ℕ) → (by_seat n h ≡ []) ⊎ Somewhere views n
+
+-- each seat but the first is still to be joined in by another
+abbrev pub AllOwned : List View → Type 0
+AllOwned views = (id : ℕ) (v : View) → get_elem? views id ≡ some v → v.live ≡ true → (v.name ≡ []) ⊎ ((j : ℕ) × (w : View) × (get_elem? views j ≡ some w) × (w.live ≡ true) × AmongNames w.children v.name)
+
+-- one history for the words and the seats
+pub record Kept (goes : List ℕ → List Made → Made → Type 0) (image : Image) (opening words : List ℕ) (views : List View) : Type 0 where
+  pub history : List Entry
+  pub stands : IsHistory goes opening words history
+  pub know : AllKnow image opening words history views
+  pub tidy : AllTidy views
+  pub apart : AllApart views
+  pub told : AllTold history views
+  pub owned : AllOwned views
+
+abbrev pub opening_view : Image → List ℕ → View
+opening_view image opening = record { live = true; image = image; opening = opening; name = []; splits = 0; made = []; joined = []; got = []; children = [] }
+
+-- the name of the next seat that is split off
+abbrev pub child : View → List ℕ
+child v = v.name ++ v.splits ∷ []
+
+abbrev pub splitter : View → View
+splitter v = record v { splits = v.splits + 1; children = child v ∷ v.children }
+
+abbrev pub newborn : View → View
+newborn v = record { live = true; image = v.image; opening = v.opening; name = child v; splits = 0; made = []; joined = []; got = []; children = [] }
+
+-- the names without the first that is n
+abbrev pub without : List ℕ → List (List ℕ) → List (List ℕ)
+without n [] = []
+without n (k ∷ ks) = cond (same_name k n) ks (k ∷ without n ks)
+
+abbrev pub joiner : View → View → View
+joiner v w = record v { joined = v.joined ++ (w.name, w.made) ∷ w.joined; got = v.got ++ w.got; children = without w.name v.children ++ w.children }
+
+abbrev pub no_image : Image
+no_image =
+    record {
+      mpu = Mpu.V7;
+      regions = 0;
+      policy = Policy.Abort;
+      rodata = None;
+      rodata_bytes = [];
+      pools = [];
+      partitions = [];
+      domains = [];
+      objects = [];
+      boots = [];
+      scripts = [];
+    }
+
+-- a seat that was joined in
+abbrev pub spent : View
+spent = record { live = false; image = no_image; opening = []; name = []; splits = 0; made = []; joined = []; got = []; children = [] }
+
+abbrev pub shadow_of : View → View
+shadow_of v = record v { live = false }
+
+-- the words of a board that was closed, and what the first seat has: one history, whose steps stand in the seat's lists and nowhere else
+abbrev pub IsClosed : (Image → List ℕ → List Made → Made → Type 0) → View → List ℕ → Type 0
+IsClosed goes v words = (h : List Entry) × IsHistory (goes v.image) v.opening words h × Knows v.image v.opening words h v × Tidy v × ((n : List ℕ) → (by_seat n h ≡ []) ⊎ Has v n)

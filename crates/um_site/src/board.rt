@@ -1,0 +1,222 @@
+//! The board.
+
+ghost use Rattle.std.specs.Prelude.{◌≡◌, ◌≢◌, ℕ, ◌+◌, ◌<◌, ◌^◌, true, false, [], length, slice_index, IfOk, IfErr, ◌⊎◌, MatchResult, Option, Some};
+ghost use Rattle.um_words.specs.Steps.{number, WordMay};
+ghost use Rattle.um_site.specs.Tells.{made, last_got, Looked, Steps, stepped_by};
+ghost use Rattle.um_site.specs.History.{opening_view, splitter, newborn, joiner, AmongNames, IsClosed, shadow_of};
+ghost use Rattle.std.specs.Mem.Slots.{slots_items, slots_len, IsFull};
+ghost use Rattle.atomic_table.specs.Table.{step};
+ghost use mathlib.Core.Option.{none};
+
+use crate::closed::Closed;
+use crate::plays::{Exchange, Fork, Look, Shadow, Step};
+use crate::rule::{Opening, Ruled};
+use crate::seat::Seat;
+use crate::view::View;
+use atomic_table::Table;
+use std::alloc::Global;
+use std::marker::Brand;
+use std::snapshot::Snapshot;
+use um_base::{Image, Memory};
+use um_words::{FineAct, Local, step_number};
+
+/// A word for each site, which many threads may change at once.
+#[derive(Drop)]
+pub struct Board<S, L: Local> {
+    pub table: Table<S, View, Opening, Ruled<L>, Global>,
+    pub ghost sized: { table.shared.table_id.words ≡ length table.shared.key.1.value.items },
+    pub ghost no_slots: { table.shared.table_id.slots ≡ 0 },
+}
+
+/// Another word stood at the site than the one handed in. Nothing was recorded.
+#[derive(Clone, Copy, PartialEq, Eq)]
+pub struct Changed {
+    /// The word that stood there.
+    pub seen: u64,
+}
+
+/// A board that can't be closed: a seat isn't joined in.
+#[derive(Drop)]
+pub struct StillOut<S, L: Local> {
+    pub board: Board<S, L>,
+    pub seat: Seat<S>,
+    /// How many seats aren't joined in, or 1 where the seat isn't the first.
+    pub seats: u32,
+}
+
+impl<S, L: Local> Board<S, L> {
+    /// A board of these words, and its first seat. The words and the image stay in the clauses.
+    pub fn make(
+        alloc: Global,
+        words: &Vec<u64>,
+        image: &Image,
+    ) -> Result<(Board<S, L>, Seat<S>), Memory>
+        requires unstepped { (i : ℕ) → i < length words.now.items → number i (slice_index words.now.items i) ≡ 0 }
+        ensures same { IfOk result (λ r. r.1.token.table_id ≡ r.0.table.shared.table_id) }
+        ensures sites { IfOk result (λ r. r.0.table.shared.table_id.words ≡ length words.now.items) }
+        ensures opens { IfOk result (λ r. r.1.token.me.0 ≡ opening_view image.now words.now.items) }
+        ensures slots { IfOk result (λ r. r.1.token.me.1 ≡ []) }
+        ensures first { IfOk result (λ r. (r.1.first ≡ true) × (r.1.split ≡ 0) × (r.1.joined ≡ 0)) }
+    {
+        let about = (Snapshot::of(image), Snapshot::of(words));
+        let (table, token) = Table::of_words(alloc, words.as_slice(), &about)?;
+        Ok((
+            Board { table },
+            Seat {
+                token,
+                split: 0,
+                joined: 0,
+                first: true,
+            },
+        ))
+    }
+
+    /// The word of a site.
+    pub fn look(&self, seat: &mut Seat<S>, site: u16) -> u64
+        requires here { seat.old.token.table_id ≡ self.now.table.shared.table_id }
+        requires site { site < self.now.table.shared.table_id.words }
+        ensures same { (seat.new.token.table_id ≡ seat.old.token.table_id) × (seat.new.token.id ≡ seat.old.token.id) }
+        ensures told { Looked L.goes seat.old.token.me.0 site result seat.new.token.me.0 }
+        ensures counts { (seat.new.split ≡ seat.old.split) × (seat.new.joined ≡ seat.old.joined) × (seat.new.first ≡ seat.old.first) }
+        ensures slots { seat.new.token.me.1 ≡ seat.old.token.me.1 }
+        ensures kin { (seat.new.token.me.0.name ≡ seat.old.token.me.0.name) × (seat.new.token.me.0.children ≡ seat.old.token.me.0.children) }
+        ensures last { last_got seat.new.token.me.0.got site ≡ Some result }
+    {
+        self.table
+            .shared
+            .load::<Look<L>>(&mut seat.token, site as usize)
+    }
+
+    /// Where `seen` still stands at the site, `word` takes its place. The word that stood there is given.
+    fn exchange<D: Step>(
+        &self,
+        seat: &mut Seat<S>,
+        site: u16,
+        seen: u64,
+        word: u64,
+        act: &FineAct,
+    ) -> u64
+        requires here { seat.old.token.table_id ≡ self.now.table.shared.table_id }
+        requires site { site < self.now.table.shared.table_id.words }
+        requires step { D.made ≡ made site act.now word }
+        requires lawful { WordMay site seen act.now word }
+        requires goes { L.goes seat.old.token.me.0.image seat.old.token.me.0.name seat.old.token.me.0.made (made site act.now word) }
+        ensures same { (seat.new.token.table_id ≡ seat.old.token.table_id) × (seat.new.token.id ≡ seat.old.token.id) }
+        ensures counts { (seat.new.split ≡ seat.old.split) × (seat.new.joined ≡ seat.old.joined) × (seat.new.first ≡ seat.old.first) }
+        ensures told { stepped_by L.goes (made site act.now word) (step 0 site seen word none) seat.old.token.me result seat.new.token.me }
+    {
+        let _ = act;
+        self.table
+            .shared
+            .compare_exchange::<Exchange<L, D>>(&mut seat.token, site as usize, seen, word)
+    }
+
+    /// One recorded step. It gives its number, or the word that stands where that isn't `seen`.
+    pub fn step(
+        &self,
+        seat: &mut Seat<S>,
+        site: u16,
+        seen: u64,
+        act: &FineAct,
+    ) -> Result<u32, Changed>
+        requires here { seat.old.token.table_id ≡ self.now.table.shared.table_id }
+        requires site { site < self.now.table.shared.table_id.words }
+        requires seen { last_got seat.old.token.me.0.got site ≡ Some seen }
+        requires lawful { (next : ℕ) × WordMay site seen act.now next }
+        requires goes { (next : ℕ) → WordMay site seen act.now next → L.goes seat.old.token.me.0.image seat.old.token.me.0.name seat.old.token.me.0.made (made site act.now next) }
+        ensures same { (seat.new.token.table_id ≡ seat.old.token.table_id) × (seat.new.token.id ≡ seat.old.token.id) }
+        ensures told { MatchResult result (λ n. Steps L.goes seat.old.token.me.0 site act.now seen n seat.new.token.me.0) (λ e. (e.seen ≢ seen) × Looked L.goes seat.old.token.me.0 site e.seen seat.new.token.me.0) }
+        ensures counts { (seat.new.split ≡ seat.old.split) × (seat.new.joined ≡ seat.old.joined) × (seat.new.first ≡ seat.old.first) }
+        ensures slots { seat.new.token.me.1 ≡ seat.old.token.me.1 }
+        ensures kin { (seat.new.token.me.0.name ≡ seat.old.token.me.0.name) × (seat.new.token.me.0.children ≡ seat.old.token.me.0.children) }
+        ensures last { IfErr result (λ e. last_got seat.new.token.me.0.got site ≡ Some (e.seen)) }
+    {
+        let Some(word) = L::step(site, seen, act) else {
+            unreachable!();
+        };
+        let found = self.exchange::<Brand>(seat, site, seen, word, act);
+        if found == seen {
+            Ok(step_number(site, word))
+        } else {
+            Err(Changed { seen: found })
+        }
+    }
+
+    /// Splits a new seat off.
+    pub fn split(&self, seat: &mut Seat<S>) -> Seat<S>
+        requires here { seat.old.token.table_id ≡ self.now.table.shared.table_id }
+        requires words { 0 < self.now.table.shared.table_id.words }
+        requires room { seat.old.split + 1 < 2 ^ 32 }
+        ensures same { (seat.new.token.table_id ≡ seat.old.token.table_id) × (seat.new.token.id ≡ seat.old.token.id) }
+        ensures counts { (seat.new.split ≡ seat.old.split + 1) × (seat.new.joined ≡ seat.old.joined) × (seat.new.first ≡ seat.old.first) }
+        ensures kept { seat.new.token.me.0 ≡ splitter seat.old.token.me.0 }
+        ensures slots { seat.new.token.me.1 ≡ seat.old.token.me.1 }
+        ensures new { (result.token.table_id ≡ seat.old.token.table_id) × (result.token.me.0 ≡ newborn seat.old.token.me.0) × (result.token.me.1 ≡ []) }
+        ensures nothing { (result.split ≡ 0) × (result.joined ≡ 0) × (result.first ≡ false) }
+    {
+        let token = self.table.shared.split_seat::<Fork>(&mut seat.token);
+        seat.split += 1;
+        Seat {
+            token,
+            split: 0,
+            joined: 0,
+            first: false,
+        }
+    }
+
+    /// Takes in a seat that this one, or one joined into it, split off.
+    pub fn join(&self, seat: &mut Seat<S>, other: Seat<S>)
+        requires here { (seat.old.token.table_id ≡ self.now.table.shared.table_id) × (other.token.table_id ≡ self.now.table.shared.table_id) }
+        requires words { 0 < self.now.table.shared.table_id.words }
+        requires room { (seat.old.split + other.split < 2 ^ 32) × (seat.old.joined + other.joined + 1 < 2 ^ 32) }
+        requires out { AmongNames seat.old.token.me.0.children other.token.me.0.name }
+        requires empty { other.token.me.1 ≡ [] }
+        ensures same { (seat.new.token.table_id ≡ seat.old.token.table_id) × (seat.new.token.id ≡ seat.old.token.id) × (seat.new.first ≡ seat.old.first) }
+        ensures counts { (seat.new.split ≡ seat.old.split + other.split) × (seat.new.joined ≡ seat.old.joined + other.joined + 1) }
+        ensures both { seat.new.token.me.0 ≡ joiner seat.old.token.me.0 other.token.me.0 }
+    {
+        let Seat {
+            token,
+            split,
+            joined,
+            first: _,
+        } = other;
+        self.table.shared.join_seat::<Fork>(&mut seat.token, token);
+        seat.split += split;
+        seat.joined += joined + 1;
+    }
+
+    /// Ends the board, where each seat is joined in.
+    pub fn close(self, seat: Seat<S>) -> Result<Closed<S>, StillOut<S, L>>
+        requires here { seat.token.table_id ≡ self.table.shared.table_id }
+        requires words { 0 < self.table.shared.table_id.words }
+        ensures closed { IfOk result (λ c. (c.token.me.0 ≡ shadow_of seat.token.me.0) × IsFull c.table.words × IsClosed L.goes seat.token.me.0 (slots_items c.table.words)) }
+        ensures sites { IfOk result (λ c. slots_len c.table.words ≡ self.table.shared.table_id.words) }
+        ensures back { IfErr result (λ e. (e.board ≡ self) × (e.seat ≡ seat)) }
+        ensures out { IfErr result (λ e. (0 < e.seats) × ((seat.first ≡ false) ⊎ (seat.split ≢ seat.joined))) }
+        ensures all_in { IfOk result (λ c. (seat.first ≡ true) × (seat.split ≡ seat.joined)) }
+    {
+        if !seat.first || seat.split != seat.joined {
+            let out = seat.split - seat.joined;
+            let seats = if out == 0 { 1 } else { out };
+            return Err(StillOut {
+                board: self,
+                seat,
+                seats,
+            });
+        }
+        let Board { table } = self;
+        let Seat {
+            mut token,
+            split: _,
+            joined: _,
+            first: _,
+        } = seat;
+        let shadow = table.shared.split_seat::<Shadow>(&mut token);
+        let table = table.close_with(token);
+        Ok(Closed {
+            table,
+            token: shadow,
+        })
+    }
+}

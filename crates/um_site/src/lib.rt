@@ -1,0 +1,21 @@
+//! A board: a word for each site, which seats change by lawful steps, and one history of all steps that were made.
+#![tactic(auto)]
+
+mod board;
+mod closed;
+mod opening;
+mod plays;
+mod rule;
+mod seat;
+mod view;
+
+pub use board::{Board, Changed, StillOut};
+pub use closed::Closed;
+pub use opening::are_unstepped;
+pub use plays::Step;
+pub use rule::{Opening, Ruled};
+pub use seat::Seat;
+pub use view::{Name, View};
+
+#[cfg(test)]
+mod tests;

@@ -1,0 +1,21 @@
+//! The words with which a board may open.
+
+ghost use Rattle.std.specs.Prelude.{◌≡◌, ℕ, ◌<◌, ◌≤◌, true, length, slice_index};
+ghost use Rattle.um_words.specs.Steps.{number};
+
+use um_words::step_number;
+
+/// Whether none of these words has taken a step.
+pub fn are_unstepped(words: &[u64]) -> bool
+    requires { length words.now ≤ 65536 }
+    ensures { result ≡ true → (i : ℕ) → i < length words.now → number i (slice_index words.now i) ≡ 0 }
+{
+    let mut site = 0;
+    while site < words.len() {
+        if step_number(site as u16, words[site]) != 0 {
+            return false;
+        }
+        site += 1;
+    }
+    true
+}

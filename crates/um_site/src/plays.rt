@@ -1,0 +1,74 @@
+//! What each move tells its seat.
+
+use crate::view::View;
+use atomic_table::{Join, Play, Split};
+use std::marker::{Brand, PhantomData};
+use um_words::Local;
+
+/// The step that an exchange records, for the proof alone. A call at `Brand` picks it.
+pub trait Step {
+    ghost use Rattle.um_words.specs.declared.made.Made.{Made};
+
+    ghost made: { Made };
+}
+
+impl Step for Brand {
+    ghost use Rattle.um_words.specs.declared.fine.FineAct.{FineAct};
+    ghost use Rattle.um_words.specs.declared.fine.Unseen.{Unseen};
+    ghost use Rattle.um_words.specs.declared.made.Moved.{Moved};
+
+    ghost made = { record { site = 0; act = FineAct.Unseen Unseen.Done; word = 0; moved = Moved.Nothing } };
+}
+
+/// A look at a word.
+pub struct Look<L> {
+    local: PhantomData<L>,
+}
+
+impl<S, L: Local> Play<S, View> for Look<L> {
+    ghost use Rattle.um_site.specs.Tells.{looked};
+
+    ghost then = { looked L.goes };
+}
+
+/// An exchange of a word, by which the step is made or the word that stands is seen.
+pub struct Exchange<L, D> {
+    local: PhantomData<L>,
+    step: PhantomData<D>,
+}
+
+impl<S, L: Local, D: Step> Play<S, View> for Exchange<L, D> {
+    ghost use Rattle.um_site.specs.Tells.{stepped_by};
+
+    ghost then = { stepped_by L.goes D.made };
+}
+
+/// A seat splits another off, or takes it in.
+pub struct Fork;
+
+impl Split<View> for Fork {
+    ghost use Rattle.um_site.specs.History.{splitter, newborn};
+
+    ghost left = { splitter };
+
+    ghost right = { newborn };
+}
+
+impl Join<View> for Fork {
+    ghost use Rattle.um_site.specs.History.{joiner, spent};
+
+    ghost both = { joiner };
+
+    ghost spent = { spent };
+}
+
+/// A seat leaves what it knows to a seat that doesn't count, which is kept when the board is closed.
+pub struct Shadow;
+
+impl Split<View> for Shadow {
+    ghost use Rattle.um_site.specs.History.{shadow_of};
+
+    ghost left = { λ v. v };
+
+    ghost right = { shadow_of };
+}
