@@ -1,5 +1,5 @@
 -- Who claims a thread object: the thread that it is of, or a thread that creates that one.
-use Rattle.std.proofs.Common.{◌≡◌, ℕ, Bool, true, false, ◌==◌, List, [], ◌∷◌, Some, None, slice_index_or, slice_set}
+use Rattle.std.proofs.Common.{◌≡◌, ◌⊎◌, ℕ, Bool, true, false, ◌==◌, List, [], ◌∷◌, Some, None, slice_index_or, slice_set}
 use Rattle.um_base.specs.declared.image.Image.{Image}
 use Rattle.um_base.specs.declared.names.Addr.{Addr}
 use Rattle.um_base.specs.Places.{row_at, own_row, thread_of_row, thread_of_addr}
@@ -7,7 +7,7 @@ use Rattle.um_machine.specs.declared.pending.Pending.{Pending}
 use Rattle.um_machine.specs.Objects.{has_kind}
 use Rattle.um_machine.specs.Order.{Steps}
 use Rattle.um_reach.proofs.Cores.{Core, call_at}
-use Rattle.um_reach.proofs.Guards.{IsRow, Guarded, row_kind}
+use Rattle.um_reach.proofs.Guards.{IsRow, IsStatic, Guarded, row_kind}
 
 -- a thread index with a row of its own, and a row that is no thread's
 abbrev pub IsReal : Image → ℕ → Type 0
@@ -47,6 +47,10 @@ IsClearing image t living checked a rest = ⊥
 abbrev pub IsClaim : Image → List Bool → Addr → Bool → ℕ → Type 0
 IsClaim image checked a strict w = (strict ≡ true) × IsReal image w × (row_at image a.0 ≡ Some (own_row image w)) × (slice_index_or checked (own_row image w) false ≡ true)
 
+-- a pair is dropped of the thread itself, or of one whose object is a static one, or is checked
+abbrev pub IsDropper : Image → ℕ → List Bool → ℕ → Type 0
+IsDropper image t checked w = (w ≡ t) ⊎ IsStatic image checked (own_row image w)
+
 abbrev pub Shaped : Image → ℕ → Bool → List Bool → Steps → Type 0
 Shaped image t living checked [] = Unit {0}
 Shaped image t living checked (Pending.Check a kind want refusal ∷ rest) =
@@ -59,6 +63,7 @@ Shaped image t living checked (Pending.Start who script stack priority mode ∷ 
 Shaped image t living checked (Pending.SetInit a strict None ∷ rest) = ((w : ℕ) → claims image w rest ≡ true → IsClaim image checked a strict w) × Shaped image t living checked rest
 Shaped image t living checked (Pending.SetInit b strict (Some a) ∷ rest) =
     (row_at image a.0 ≡ Some (own_row image (thread_of_addr image a.0))) × (claims image (thread_of_addr image a.0) rest ≡ true) × Shaped image t living checked rest
+Shaped image t living checked (Pending.DropPair who a ∷ rest) = IsDropper image t checked who.0 × Shaped image t living checked rest
 Shaped image t living checked (Pending.ClearInit a ∷ rest) = IsClearing image t living checked a rest
 Shaped image t living checked (p ∷ rest) = Shaped image t living checked rest
 

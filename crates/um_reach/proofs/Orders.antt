@@ -182,7 +182,10 @@ shaped_steps image sited t living me (Instr.UserMode script) = shaped_privileged
 shaped_steps image sited t living me (Instr.DomainMove domain thread) = shaped_privileged image t living me.checked me.mode _ (λ x e k h. refl)
 shaped_steps image sited t living me (Instr.AllGrant object) = shaped_privileged image t living me.checked me.mode _ (λ x e k h. refl)
 shaped_steps image sited t living me (Instr.Grant object thread) = λ y f l g x e k h. refl
-shaped_steps image sited t living me (Instr.Revoke object thread) = shaped_privileged image t living me.checked me.mode _ (λ y f l g x e k h. refl)
+shaped_steps image sited t living me (Instr.Revoke object thread) =
+    shaped_privileged image t living me.checked me.mode _
+    (λ y f l g x e k h. (inr (own_static image sited (slice_set (slice_set me.checked y true) x true) (value_of me.registers thread) y f (keeps (slice_set me.checked y true) y x g)), refl))
+shaped_steps image sited t living me (Instr.Release object) = λ x e k h. (inl refl, refl)
 shaped_steps image sited t living me (Instr.Create thread stack size script priority options) =
     λ y e k h z f l g. shaped_create image sited t living (slice_set (slice_set me.checked y true) z true) me.mode (value_of me.registers thread) (value_of me.registers stack) _ _ options _
     y z e (thread_kind (row_kind image y) k) (keeps (slice_set me.checked y true) y z h) f (stack_kind (row_kind image z) l)

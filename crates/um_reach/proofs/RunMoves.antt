@@ -1,7 +1,7 @@
 -- Each event of a run is a move, and what is reached from a state that is reached is reached.
 use Rattle.um_reach.proofs.Claimed.{known_move}
 use Rattle.um_reach.proofs.Claims.{Shaped, claims}
-use Rattle.std.proofs.Common.{◌≡◌, ℕ, List, [], ◌∷◌, ◌++◌, refl, sym, ap, subst, ◌∙◌, IsTrue, Bool, true, false}
+use Rattle.std.proofs.Common.{◌≡◌, ℕ, List, [], ◌∷◌, refl, sym, ap, subst, ◌∙◌, IsTrue, Bool, true, false}
 use Rattle.um_base.specs.declared.act.Act.{Act}
 use Rattle.um_base.specs.declared.act.Event.{Event}
 use Rattle.um_machine.specs.declared.pending.Pending.{Pending}
@@ -45,7 +45,7 @@ ready_later c t p rest g n = (n.guarded, (n.shaped, n.no_more, n.keeps))
 guarded_now : (s : State) (t : ℕ) (steps : Steps) → IsKnown (core_of s) → (thread_at s t).pending ≡ steps → Guarded s.image (call_at (core_of s) t).checked (behind_birth steps)
 guarded_now s t steps inv e = subst (λ (left : Steps). Guarded s.image (call_at (core_of s) t).checked (behind_birth left)) (pending_is s t steps e) (inv.reached.guarded t)
 
-shaped_now : (s : State) (t : ℕ) (steps : Steps) → IsKnown (core_of s) → (thread_at s t).pending ≡ steps → Shaped s.image t (call_at (core_of s) t).living (call_at (core_of s) t).checked steps
+pub shaped_now : (s : State) (t : ℕ) (steps : Steps) → IsKnown (core_of s) → (thread_at s t).pending ≡ steps → Shaped s.image t (call_at (core_of s) t).living (call_at (core_of s) t).checked steps
 shaped_now s t steps inv e = subst (λ (left : Steps). Shaped s.image t (call_at (core_of s) t).living (call_at (core_of s) t).checked left) (pending_is s t steps e) (inv.claimed.shaped t)
 
 claims_now : (s : State) (t : ℕ) (steps : Steps) → (thread_at s t).pending ≡ steps → (w : ℕ) → claims s.image w steps ≡ true → claims s.image w (call_at (core_of s) t).pending ≡ true

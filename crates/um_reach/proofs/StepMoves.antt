@@ -229,7 +229,7 @@ moves s t x (Pending.DropPair who a) rest inv ready chosen =
     let found = inv.reached.sited.found a.0 y e in
     let s2 = after_drop s who.0 (row_of s a) in
     drop_moves s t who a (row_of s a) (at_steps s2.image (thread_at s2 t) rest) rest (subst (λ (n : ℕ). IsRow s.image n) (sym same_row) found.0)
-    (sym found.1 ∙ ap (addr_of s.image) (sym same_row)) refl refl (ready.0.1, ready.1)
+    (sym found.1 ∙ ap (addr_of s.image) (sym same_row)) refl refl (ready.0.1, (ready.1.0.1, ready.1.1, ready.1.2))
 moves s t x (Pending.Publish a) rest inv ready chosen =
     let y = row_of s a in
     let s1 = if is_gone (object_at s y).status then s else with_object s y (record (object_at s y) { public = true }) in

@@ -136,12 +136,12 @@ pub behind_drops : (image : Image) (s : State) → IsKept image s → (t from : 
 behind_drops image s kept t from rest e =
     let fit : are_fit image (Pending.Drops from ∷ rest) ≡ true = rw e at (kept.fit t) in and_left (begins_with_clear rest) (are_fit image rest) fit
 
-drop_next : (image : Image) (s : State) → IsKept image s → (t : ℕ) (who : ThreadIx) (a : Addr) (rest : Steps) → Offers s t (Pending.DropPair who a) rest → (thread_at s t).pending ≡ Pending.DropPair who a ∷ rest
+pub drop_next : (image : Image) (s : State) → IsKept image s → (t : ℕ) (who : ThreadIx) (a : Addr) (rest : Steps) → Offers s t (Pending.DropPair who a) rest → (thread_at s t).pending ≡ Pending.DropPair who a ∷ rest
 drop_next image s kept t who a rest (goes e) = e
 drop_next image s kept t who a rest (skips_inherit e h) = absurd (start_no_drop who a rest (behind_inherit image s kept t _ _ e))
 drop_next image s kept t who a rest (skips_drops e h) = absurd (clear_no_drop who a rest (behind_drops image s kept t _ _ e))
 
-drops_next : (image : Image) (s : State) → IsKept image s → (t from : ℕ) (rest : Steps) → Offers s t (Pending.Drops from) rest → (thread_at s t).pending ≡ Pending.Drops from ∷ rest
+pub drops_next : (image : Image) (s : State) → IsKept image s → (t from : ℕ) (rest : Steps) → Offers s t (Pending.Drops from) rest → (thread_at s t).pending ≡ Pending.Drops from ∷ rest
 drops_next image s kept t from rest (goes e) = e
 drops_next image s kept t from rest (skips_inherit e h) = absurd (start_no_drops from rest (behind_inherit image s kept t _ _ e))
 drops_next image s kept t from rest (skips_drops e h) = absurd (clear_no_drops from rest (behind_drops image s kept t _ _ e))

@@ -20,11 +20,11 @@ use Rattle.um_texts.proofs.OpeningLemmas.{kept_opening, sound_booted, idle_openi
 use Rattle.um_texts.proofs.CoreLemmas.{core}
 use Rattle.um_texts.proofs.StepLemmas.{AreBoth, IsMade, made_by, one_made, kept_made}
 
-event_same : (e f : Event) → e.thread.0 ≡ f.thread.0 → e.act ≡ f.act → e ≡ f
+pub event_same : (e f : Event) → e.thread.0 ≡ f.thread.0 → e.act ≡ f.act → e ≡ f
 event_same e f h k =
     ap (λ (n : ℕ). record { thread = record { 0 = n }; act = e.act }) h ∙ ap (λ (a : Act). record { thread = record { 0 = f.thread.0 }; act = a }) k
 
-acting : (image : Image) (s : State) → IsKept image s → (e : Event) (m : State) → Step s e m → has_own image e.thread.0 ≡ true
+pub acting : (image : Image) (s : State) → IsKept image s → (e : Event) (m : State) → Step s e m → has_own image e.thread.0 ≡ true
 acting image s kept e m step = kept.own e.thread.0 (offered_acting s e.thread.0 step.step step.rest step.offered)
 
 -- from two states with one core
@@ -46,7 +46,7 @@ same_runs image sound named (e ∷ es) (f ∷ fs) s s2 last last2 kept kept2 sam
     ap (λ (x : Event). x ∷ es) (event_same e f thread is.act) ∙ ap (λ (xs : List Event). f ∷ xs) rest
 
 -- where no thread is booted there is no event
-no_event : (image : Image) (e : Event) (es : List Event) (last : State) → image.boots ≡ [] → IsRun image (e ∷ es) last → ⊥
+pub no_event : (image : Image) (e : Event) (es : List Event) (last : State) → image.boots ≡ [] → IsRun image (e ∷ es) last → ⊥
 no_event image e es last none run = idle_opening image e.thread.0 none (offered_acting (opening image) e.thread.0 run.1.step run.1.rest run.1.offered)
 
 by_boots : (image : Image) → IsLawful image → length image.objects ≤ STATIC_ROWS → (boots : List Boot) → image.boots ≡ boots → (es fs : List Event) (last last2 : State) → IsRun image es last → IsRun image fs last2

@@ -98,7 +98,7 @@ pub record AreBoth (image : Image) (s s2 : State) : Type 0 where
 left_same : (image : Image) (s s2 : State) → AreBoth image s s2 → (t : ℕ) → IsLeft s s2 t
 left_same image s s2 both t = ap (λ (m : Thread). m.pending) (same_thread s s2 both.same t)
 
-same_step : (image : Image) (s s2 : State) → AreBoth image s s2 → (t : ℕ) (p q : Pending) (rest more : Steps) → Offers s t p rest → Offers s2 t q more → mark_step p ≡ mark_step q
+pub same_step : (image : Image) (s s2 : State) → AreBoth image s s2 → (t : ℕ) (p q : Pending) (rest more : Steps) → Offers s t p rest → Offers s2 t q more → mark_step p ≡ mark_step q
     → (mark_step p ≡ drops → ⊥) → (mark_step q ≡ drops → ⊥) → (mark_step p ≡ frees → ⊥) → (mark_step q ≡ frees → ⊥) → AreSame p q rest more
 same_step image s s2 both t p q rest more (goes e) (goes f) marks np nq fp fq =
     cons_same p q rest more (sym (settled_goes s t p rest np e) ∙ left_same image s s2 both t ∙ settled_goes s2 t q more nq f)

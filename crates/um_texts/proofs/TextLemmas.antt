@@ -25,22 +25,22 @@ SameLines image (e ∷ es) (f ∷ fs) =
     (thread_text image e.thread.0 ≡ thread_text image f.thread.0) × (act_text image e.act ≡ act_text image f.act) × SameLines image es fs
 
 -- a line without its end
-abbrev line : Image → Event → List ℕ
+abbrev pub line : Image → Event → List ℕ
 line image e = thread_text image e.thread.0 ++ codes " " ++ act_text image e.act
 
-line_plain : (image : Image) → AreNamed image → (e : Event) → plain (line image e) ≡ true
+pub line_plain : (image : Image) → AreNamed image → (e : Event) → plain (line image e) ≡ true
 line_plain image named e =
     plain_append (thread_text image e.thread.0 ++ codes " ") (act_text image e.act)
     (plain_append (thread_text image e.thread.0) (codes " ") (plain_solid (thread_text image e.thread.0) (thread_solid image named e.thread.0)) refl)
     (act_plain image named e.act)
 
-first_line : (image : Image) (e : Event) (es : List Event) (s : State) → text image (e ∷ es) s ≡ line image e ++ 10 ∷ text image es s
+pub first_line : (image : Image) (e : Event) (es : List Event) (s : State) → text image (e ∷ es) s ≡ line image e ++ 10 ∷ text image es s
 unfolding text event_line
 first_line image e es s =
     append_assoc (line image e ++ codes "\n") (flat_map (event_line image) es) (dump image s) ∙ append_assoc (line image e) (codes "\n") (flat_map (event_line image) es ++ dump image s)
 
 -- what follows the first line of a dump
-dump_line : (image : Image) (s : State) → (rest : List ℕ) × (text image [] s ≡ codes "dump" ++ 10 ∷ rest)
+pub dump_line : (image : Image) (s : State) → (rest : List ℕ) × (text image [] s ≡ codes "dump" ++ 10 ∷ rest)
 unfolding text dump
 dump_line image s = (
   flat_map (thread_line_of image s) (numbers ROWS) ++ flat_map (object_line_of image s) (numbers ROWS) ++ flat_map (domain_line image s) (numbers (length image.domains))
@@ -49,7 +49,7 @@ dump_line image s = (
 )
 
 -- a line has a space, and `dump` has none
-no_dump : (image : Image) (e : Event) → line image e ≡ codes "dump" → ⊥
+pub no_dump : (image : Image) (e : Event) → line image e ≡ codes "dump" → ⊥
 no_dump image e h =
     let front = thread_text image e.thread.0 in
     let behind = act_text image e.act in
@@ -64,7 +64,7 @@ no_end image named e es s last h =
     no_dump image e (split 10 (line image e) (codes "dump") (text image es s) end.0 (newline_less (line image e) (line_plain image named e)) refl both).0
 
 -- the parts of equal lines
-same_line : (image : Image) → AreNamed image → (e f : Event) → line image e ≡ line image f → (thread_text image e.thread.0 ≡ thread_text image f.thread.0) × (act_text image e.act ≡ act_text image f.act)
+pub same_line : (image : Image) → AreNamed image → (e f : Event) → line image e ≡ line image f → (thread_text image e.thread.0 ≡ thread_text image f.thread.0) × (act_text image e.act ≡ act_text image f.act)
 same_line image named e f h =
     let a = thread_text image e.thread.0 in
     let b = thread_text image f.thread.0 in

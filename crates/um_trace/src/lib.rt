@@ -6,6 +6,7 @@ mod domains;
 mod dump;
 mod heap;
 mod layout;
+mod lines;
 mod memory;
 mod names;
 mod objects;
@@ -19,6 +20,8 @@ mod threads;
 mod trace;
 mod words;
 
+pub use dump::DUMP_ROOM;
 pub use layout::{layout_room, layout_text};
+pub use lines::{LINE_ROOM, dump_text, line_text, thread_beginning};
 pub use summary::{SUMMARY_ROOM, summary_text};
 pub use trace::{text_room, trace_text};

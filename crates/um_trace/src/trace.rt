@@ -15,7 +15,7 @@ use um_base::{Act, Event, Image};
 use um_matrix::Matrix;
 
 /// How many threads an act wakes.
-fn woken_by(act: &Act) -> usize
+pub fn woken_by(act: &Act) -> usize
     ensures value { result ≡ woken_by act.now }
     ensures few { result ≤ THREADS }
 {
@@ -44,7 +44,7 @@ pub fn text_room(events: &[Event]) -> usize
 
 /// The line of an event.
 #[tactic(auto, unfolding(crate::specs::Acts::event_line))]
-fn put_event(room: &mut Vec<u8>, image: &Image, event: &Event)
+pub fn put_event(room: &mut Vec<u8>, image: &Image, event: &Event)
     requires { vec_len room.old + line_room event.now ≤ vec_capacity room.old }
     ensures { Puts room.old room.new (event_line image.now event.now) (line_room event.now) }
 {

@@ -20,7 +20,7 @@ use um_matrix::Matrix;
 const HOLDERS_ROOM: usize = 25 * THREADS + 1;
 
 /// How many bytes the line of an object takes at most.
-const LINE_ROOM: usize = HOLDERS_ROOM + 600;
+const OBJECT_ROOM: usize = HOLDERS_ROOM + 600;
 
 /// Whether an object is initialised, or gone.
 #[tactic(auto, unfolding(crate::specs::Dump::state_word))]
@@ -173,9 +173,9 @@ fn put_content(room: &mut Vec<u8>, image: &Image, object: &Object)
 /// The line of an object.
 #[tactic(auto, unfolding(crate::specs::Dump::object_line))]
 fn put_object_line(room: &mut Vec<u8>, image: &Image, last: &Matrix, row: usize)
-    requires room { vec_len room.old + LINE_ROOM ≤ vec_capacity room.old }
+    requires room { vec_len room.old + OBJECT_ROOM ≤ vec_capacity room.old }
     requires row { row < ROWS }
-    ensures { Puts room.old room.new (object_line image.now last.now row) LINE_ROOM }
+    ensures { Puts room.old room.new (object_line image.now last.now row) OBJECT_ROOM }
 {
     let object = object_at(last, row);
     put_text(room, "object ");
@@ -192,9 +192,9 @@ fn put_object_line(room: &mut Vec<u8>, image: &Image, last: &Matrix, row: usize)
 /// The line of a row, where an object stands there.
 #[tactic(auto, unfolding(crate::specs::Dump::object_line_of))]
 fn put_line_of(room: &mut Vec<u8>, image: &Image, last: &Matrix, row: usize)
-    requires room { vec_len room.old + LINE_ROOM ≤ vec_capacity room.old }
+    requires room { vec_len room.old + OBJECT_ROOM ≤ vec_capacity room.old }
     requires row { row < ROWS }
-    ensures { Puts room.old room.new (object_line_of image.now last.now row) LINE_ROOM }
+    ensures { Puts room.old room.new (object_line_of image.now last.now row) OBJECT_ROOM }
 {
     if is_shown(image, last, row) {
         put_object_line(room, image, last, row);
@@ -203,8 +203,8 @@ fn put_line_of(room: &mut Vec<u8>, image: &Image, last: &Matrix, row: usize)
 
 /// The lines of objects, by row.
 pub fn put_objects(room: &mut Vec<u8>, image: &Image, last: &Matrix)
-    requires { vec_len room.old + LINE_ROOM * ROWS ≤ vec_capacity room.old }
-    ensures { Puts room.old room.new (flat_map (object_line_of image.now last.now) (numbers ROWS)) (LINE_ROOM * ROWS) }
+    requires { vec_len room.old + OBJECT_ROOM * ROWS ≤ vec_capacity room.old }
+    ensures { Puts room.old room.new (flat_map (object_line_of image.now last.now) (numbers ROWS)) (OBJECT_ROOM * ROWS) }
 {
     for row in 0..ROWS {
         put_line_of(room, image, last, row);

@@ -1,10 +1,10 @@
 use Rattle.um_trace.specs.Dump.{object_line_of}
-use Rattle.um_trace.specs.declared.dump.objects.TheConstants.{LINE_ROOM}
+use Rattle.um_trace.specs.declared.dump.objects.TheConstants.{OBJECT_ROOM}
 use Rattle.um_trace.proofs.LineLemmas.{puts_none, puts_more}
 use Rattle.um_trace.proofs.dump.objects.put_objects.Goals as goal
 
 pub loop-row-init : goal.loop-row-init
-loop-row-init c = puts_none (object_line_of c.args.image.now c.args.last.now) LINE_ROOM c.args.room.now
+loop-row-init c = puts_none (object_line_of c.args.image.now c.args.last.now) OBJECT_ROOM c.args.room.now
 
 pub loop-row-preserved : goal.loop-row-preserved
-loop-row-preserved c = puts_more (object_line_of c.args.image.now c.args.last.now) LINE_ROOM c.loop-row.row _ _ _ c.loop-row.invariant c.put_line_of.ensures
+loop-row-preserved c = puts_more (object_line_of c.args.image.now c.args.last.now) OBJECT_ROOM c.loop-row.row _ _ _ c.loop-row.invariant c.put_line_of.ensures

@@ -1,9 +1,9 @@
 use Rattle.std.proofs.Common.{◌*◌}
 use Rattle.std.specs.List.{flat_map}
-use Rattle.um_trace.specs.declared.dump.objects.TheConstants.{LINE_ROOM}
+use Rattle.um_trace.specs.declared.dump.objects.TheConstants.{OBJECT_ROOM}
 use Rattle.um_trace.specs.Dump.{numbers, object_line_of}
 use Rattle.um_trace.specs.Room.{Puts}
 use Rattle.um_trace.proofs.dump.objects.put_objects.Given as goal
 
 abbrev pub invariant-loop-row : goal.invariant-loop-row
-invariant-loop-row l = Puts l.fn.room l.room (flat_map (object_line_of l.image l.last) (numbers l.row)) (LINE_ROOM * l.row)
+invariant-loop-row l = Puts l.fn.room l.room (flat_map (object_line_of l.image l.last) (numbers l.row)) (OBJECT_ROOM * l.row)

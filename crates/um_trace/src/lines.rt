@@ -1,0 +1,47 @@
+//! Parts of a text by themselves: the line of one event, what the lines of a thread begin with, and a dump.
+
+ghost use Rattle.std.specs.Prelude.{◌≡◌, ◌≤◌, ◌++◌, codes, vec_capacity};
+ghost use Rattle.um_trace.specs.Acts.{event_line};
+ghost use Rattle.um_trace.specs.Dump.{dump};
+ghost use Rattle.um_trace.specs.Names.{thread_text};
+
+use crate::dump::{DUMP_ROOM, put_dump};
+use crate::names::put_thread;
+use crate::room::put_text;
+use crate::trace::{put_event, woken_by};
+use um_base::{Event, Image, THREADS};
+use um_matrix::Matrix;
+
+/// How many bytes a line takes at most.
+pub const LINE_ROOM: usize = 128 + 64 * THREADS;
+
+/// Writes the line of an event in place of what stands in a room. The room is reserved, so it takes no memory.
+pub fn line_text(image: &Image, event: &Event, room: &mut Vec<u8>)
+    requires { LINE_ROOM ≤ vec_capacity room.old }
+    ensures text { room.new.items ≡ event_line image.now event.now }
+    ensures capacity { vec_capacity room.old ≤ vec_capacity room.new }
+{
+    room.clear();
+    let _few = woken_by(&event.act);
+    put_event(room, image, event);
+}
+
+/// Writes what the lines of a thread begin with, in place of what stands in a room: the thread, and a space.
+pub fn thread_beginning(image: &Image, thread: u8, room: &mut Vec<u8>)
+    requires { LINE_ROOM ≤ vec_capacity room.old }
+    ensures text { room.new.items ≡ thread_text image.now thread ++ codes " " }
+    ensures capacity { vec_capacity room.old ≤ vec_capacity room.new }
+{
+    room.clear();
+    put_thread(room, image, thread);
+    put_text(room, " ");
+}
+
+/// Writes the dump of a state in place of what stands in a room. The room is reserved, so it takes no memory.
+pub fn dump_text(image: &Image, last: &Matrix, room: &mut Vec<u8>)
+    requires { DUMP_ROOM ≤ vec_capacity room.old }
+    ensures { room.new.items ≡ dump image.now last.now }
+{
+    room.clear();
+    put_dump(room, image, last);
+}
