@@ -1,0 +1,16 @@
+//! The audit of a trace: whether a text is that of a complete run of an image, and else the first line that isn't.
+#![tactic(auto)]
+
+mod auditing;
+mod dump;
+mod lines;
+mod names;
+mod pieces;
+mod steps;
+mod verdict;
+
+pub use auditing::audit;
+pub use verdict::{Verdict, verdict_text};
+
+#[cfg(test)]
+mod tests;

@@ -1,0 +1,341 @@
+//! Which line is that of a step: the line is compared with those of the steps that a thread may make, and the one that is like it is
+//! made.
+
+ghost use Rattle.std.specs.Prelude.{◌≡◌, ◌<◌, ◌≤◌, ◌∷◌, ◌++◌, ◌↔◌, [], IfSome, IfNone, IsTrue, Some, None, false, true, if◌then◌else◌, length, slice_get, slice_index_or, vec_capacity, codes};
+ghost use Rattle.um_trace.specs.Names.{thread_text};
+ghost use Rattle.um_base.specs.declared.names.ThreadIx.{ThreadIx};
+ghost use Rattle.um_machine.specs.Limits.{IsSound};
+ghost use Rattle.um_machine.specs.State.{thread_at, is_started};
+ghost use Rattle.um_machine.specs.declared.pending.Pending.{Pending};
+ghost use Rattle.um_matrix.specs.Offered.{first_step, second_step, rest_step, rest_choice, event_of};
+ghost use Rattle.um_matrix.specs.declared.matrix.choice.Choice.TheVariants as Choice;
+ghost use Rattle.um_audit.specs.Beginnings.{AreBeginnings};
+ghost use Rattle.um_audit.specs.Steps.{IsLine, IsStepLine, IsNoStepLine, IsThreadsLine, IsNoThreadsLine, MakesLine, SaysLine, SaysNotLine};
+
+use crate::lines::holds_line;
+use um_base::{Act, Event, Image, ROWS, THREADS, ThreadIx};
+use um_machine::Pending;
+use um_matrix::Matrix;
+use um_trace::{LINE_ROOM, line_text};
+
+/// Whether a line is that of an event.
+fn is_line(image: &Image, event: &Event, line: &[u8], room: &mut Vec<u8>) -> bool
+    requires { LINE_ROOM ≤ vec_capacity room.old }
+    ensures is { IsTrue result ↔ IsLine image.now line.now event.now }
+    ensures capacity { vec_capacity room.old ≤ vec_capacity room.new }
+{
+    line_text(image, event, room);
+    holds_line(room, line)
+}
+
+/// Whether a step of a thread says a line, with a row that it may choose.
+fn says_line(
+    matrix: &Matrix,
+    image: &Image,
+    t: usize,
+    x: usize,
+    step: &Pending,
+    line: &[u8],
+    room: &mut Vec<u8>,
+) -> bool
+    requires thread { t < THREADS }
+    requires row { x < ROWS }
+    requires sound { IsSound step.now }
+    requires room { LINE_ROOM ≤ vec_capacity room.old }
+    ensures says { IsTrue result ↔ SaysLine image.now line.now matrix.now t step.now x }
+    ensures capacity { vec_capacity room.old ≤ vec_capacity room.new }
+{
+    if !matrix.may_choose(t, x, step) {
+        return false;
+    }
+    let event = Event {
+        thread: ThreadIx(t as u8),
+        act: matrix.says(t, x, step),
+    };
+    is_line(image, &event, line, room)
+}
+
+/// The row with which a step says a line.
+fn row_for(
+    matrix: &Matrix,
+    image: &Image,
+    t: usize,
+    step: &Pending,
+    line: &[u8],
+    room: &mut Vec<u8>,
+) -> Option<usize>
+    requires thread { t < THREADS }
+    requires sound { IsSound step.now }
+    requires room { LINE_ROOM ≤ vec_capacity room.old }
+    ensures inside { IfSome result (λ x. x < ROWS) }
+    ensures found { IfSome result (λ x. SaysLine image.now line.now matrix.now t step.now x) }
+    ensures none { IfNone result (SaysNotLine image.now line.now matrix.now t step.now) }
+    ensures capacity { vec_capacity room.old ≤ vec_capacity room.new }
+{
+    for x in 0..matrix.row_count(step) {
+        if says_line(matrix, image, t, x, step, line, room) {
+            return Some(x);
+        }
+    }
+    None
+}
+
+/// Whether an act is a thread's exit.
+fn is_exit(act: &Act) -> bool
+    ensures { rest_choice act.now ≡ (if result then Choice.Exits else Choice.Begins) }
+{
+    match act {
+        Act::Exit => true,
+        _ => false,
+    }
+}
+
+/// Makes what a thread at rest does next, where the line is that.
+fn at_rest(matrix: &mut Matrix, image: &Image, t: usize, line: &[u8], room: &mut Vec<u8>) -> bool
+    requires thread { t < THREADS }
+    requires rest { slice_get (thread_at matrix.old t).pending 0 ≡ None }
+    requires room { LINE_ROOM ≤ vec_capacity room.old }
+    ensures yes { result ≡ true → IsThreadsLine image.now line.now t matrix.old matrix.new }
+    ensures none { result ≡ false → (step : Pending) → rest_step matrix.old t ≡ Some step → SaysNotLine image.now line.now matrix.old t step }
+    ensures same { result ≡ false → matrix.new ≡ matrix.old }
+    ensures capacity { vec_capacity room.old ≤ vec_capacity room.new }
+{
+    let act = match matrix.rest_act(t) {
+        None => return false,
+        Some(act) => act,
+    };
+    let event = Event {
+        thread: ThreadIx(t as u8),
+        act,
+    };
+    if !is_line(image, &event, line, room) {
+        return false;
+    }
+    if is_exit(&event.act) {
+        matrix.exit(t);
+    } else {
+        matrix.begin(t);
+    }
+    true
+}
+
+/// Makes a step of a thread behind which so many of its steps are left out, where the line is what it says.
+fn by_step(
+    matrix: &mut Matrix,
+    image: &Image,
+    t: usize,
+    step: &Pending,
+    taken: usize,
+    line: &[u8],
+    room: &mut Vec<u8>,
+) -> bool
+    requires thread { t < THREADS }
+    requires sound { IsSound step.now }
+    requires taken { 0 < taken }
+    requires room { LINE_ROOM ≤ vec_capacity room.old }
+    ensures yes { result ≡ true → MakesLine image.now line.now matrix.old t step.now taken matrix.new }
+    ensures none { result ≡ false → SaysNotLine image.now line.now matrix.old t step.now }
+    ensures same { result ≡ false → matrix.new ≡ matrix.old }
+    ensures capacity { vec_capacity room.old ≤ vec_capacity room.new }
+{
+    match row_for(matrix, image, t, step, line, room) {
+        Some(x) => {
+            matrix.make(t, x, step, taken);
+            true
+        }
+        None => false,
+    }
+}
+
+/// Makes a thread's next step, where the line is that.
+fn by_first(matrix: &mut Matrix, image: &Image, t: usize, line: &[u8], room: &mut Vec<u8>) -> bool
+    requires thread { t < THREADS }
+    requires room { LINE_ROOM ≤ vec_capacity room.old }
+    ensures yes { result ≡ true → IsThreadsLine image.now line.now t matrix.old matrix.new }
+    ensures none { result ≡ false → (step : Pending) → first_step matrix.old t ≡ Some step → SaysNotLine image.now line.now matrix.old t step }
+    ensures same { result ≡ false → matrix.new ≡ matrix.old }
+    ensures capacity { vec_capacity room.old ≤ vec_capacity room.new }
+{
+    match matrix.next_step(t) {
+        None => at_rest(matrix, image, t, line, room),
+        Some(step) => by_step(matrix, image, t, &step, 1, line, room),
+    }
+}
+
+/// Makes the step behind one that may be left out, where the line is that.
+fn by_second(matrix: &mut Matrix, image: &Image, t: usize, line: &[u8], room: &mut Vec<u8>) -> bool
+    requires thread { t < THREADS }
+    requires room { LINE_ROOM ≤ vec_capacity room.old }
+    ensures yes { result ≡ true → IsThreadsLine image.now line.now t matrix.old matrix.new }
+    ensures none { result ≡ false → (step : Pending) → second_step matrix.old t ≡ Some step → SaysNotLine image.now line.now matrix.old t step }
+    ensures same { result ≡ false → matrix.new ≡ matrix.old }
+    ensures capacity { vec_capacity room.old ≤ vec_capacity room.new }
+{
+    match matrix.second_step(t) {
+        None => false,
+        Some(step) => by_step(matrix, image, t, &step, 2, line, room),
+    }
+}
+
+/// Recycles an object, where the line says that.
+fn by_object(matrix: &mut Matrix, image: &Image, t: usize, line: &[u8], room: &mut Vec<u8>) -> bool
+    requires thread { t < THREADS }
+    requires started { IsTrue (is_started (thread_at matrix.old t).life) }
+    requires room { LINE_ROOM ≤ vec_capacity room.old }
+    ensures yes { result ≡ true → IsThreadsLine image.now line.now t matrix.old matrix.new }
+    ensures none { result ≡ false → SaysNotLine image.now line.now matrix.old t Pending.Recycle }
+    ensures same { result ≡ false → matrix.new ≡ matrix.old }
+    ensures capacity { vec_capacity room.old ≤ vec_capacity room.new }
+{
+    match row_for(matrix, image, t, &Pending::Recycle, line, room) {
+        Some(x) => {
+            matrix.recycle(x);
+            true
+        }
+        None => false,
+    }
+}
+
+/// Who has a pair with the object of a row.
+fn holders_of(pairs: &[[bool; THREADS]], x: usize) -> &[bool]
+    ensures value { result.now ≡ slice_index_or pairs.now x [] }
+    ensures few { length result.now ≤ THREADS }
+{
+    match pairs.get(x) {
+        Some(holders) => holders,
+        None => &[],
+    }
+}
+
+/// Drops the pair of a thread whose object is gone with the object of one row, where the line says that.
+fn by_pair_at(
+    matrix: &mut Matrix,
+    image: &Image,
+    t: usize,
+    x: usize,
+    line: &[u8],
+    room: &mut Vec<u8>,
+) -> bool
+    requires thread { t < THREADS }
+    requires row { x < ROWS }
+    requires started { IsTrue (is_started (thread_at matrix.old t).life) }
+    requires room { LINE_ROOM ≤ vec_capacity room.old }
+    ensures yes { result ≡ true → IsThreadsLine image.now line.now t matrix.old matrix.new }
+    ensures none { result ≡ false → (who : ThreadIx) → SaysLine image.now line.now matrix.old t (Pending.CleanPair who) x → ⊥ }
+    ensures same { result ≡ false → matrix.new ≡ matrix.old }
+    ensures capacity { vec_capacity room.old ≤ vec_capacity room.new }
+{
+    for who in 0..holders_of(matrix.pairs(), x).len() {
+        let who = ThreadIx(who as u8);
+        if says_line(matrix, image, t, x, &Pending::CleanPair { who }, line, room) {
+            matrix.clean_pair(t, x, who);
+            return true;
+        }
+    }
+    false
+}
+
+/// Drops a pair of a thread whose object is gone, where the line says that.
+fn by_pair(matrix: &mut Matrix, image: &Image, t: usize, line: &[u8], room: &mut Vec<u8>) -> bool
+    requires thread { t < THREADS }
+    requires started { IsTrue (is_started (thread_at matrix.old t).life) }
+    requires room { LINE_ROOM ≤ vec_capacity room.old }
+    ensures yes { result ≡ true → IsThreadsLine image.now line.now t matrix.old matrix.new }
+    ensures none { result ≡ false → (who : ThreadIx) → SaysNotLine image.now line.now matrix.old t (Pending.CleanPair who) }
+    ensures same { result ≡ false → matrix.new ≡ matrix.old }
+    ensures capacity { vec_capacity room.old ≤ vec_capacity room.new }
+{
+    for x in 0..matrix.pairs().len() {
+        if by_pair_at(matrix, image, t, x, line, room) {
+            return true;
+        }
+    }
+    false
+}
+
+/// Makes a step that cleans, where the line is that of one.
+fn by_cleaning(
+    matrix: &mut Matrix,
+    image: &Image,
+    t: usize,
+    line: &[u8],
+    room: &mut Vec<u8>,
+) -> bool
+    requires thread { t < THREADS }
+    requires room { LINE_ROOM ≤ vec_capacity room.old }
+    ensures yes { result ≡ true → IsThreadsLine image.now line.now t matrix.old matrix.new }
+    ensures pairs { result ≡ false → IsTrue (is_started (thread_at matrix.old t).life) → (who : ThreadIx) → SaysNotLine image.now line.now matrix.old t (Pending.CleanPair who) }
+    ensures objects { result ≡ false → IsTrue (is_started (thread_at matrix.old t).life) → SaysNotLine image.now line.now matrix.old t Pending.Recycle }
+    ensures same { result ≡ false → matrix.new ≡ matrix.old }
+    ensures capacity { vec_capacity room.old ≤ vec_capacity room.new }
+{
+    if !matrix.is_started(t) {
+        return false;
+    }
+    by_object(matrix, image, t, line, room) || by_pair(matrix, image, t, line, room)
+}
+
+/// Makes a step of a thread, where the line is that of one.
+fn by_thread(matrix: &mut Matrix, image: &Image, t: usize, line: &[u8], room: &mut Vec<u8>) -> bool
+    requires thread { t < THREADS }
+    requires room { LINE_ROOM ≤ vec_capacity room.old }
+    ensures yes { result ≡ true → IsThreadsLine image.now line.now t matrix.old matrix.new }
+    ensures no { result ≡ false → IsNoThreadsLine image.now line.now t matrix.old }
+    ensures same { result ≡ false → matrix.new ≡ matrix.old }
+    ensures capacity { vec_capacity room.old ≤ vec_capacity room.new }
+{
+    if by_first(matrix, image, t, line, room) {
+        return true;
+    }
+    if by_second(matrix, image, t, line, room) {
+        return true;
+    }
+    by_cleaning(matrix, image, t, line, room)
+}
+
+/// Makes a step of a thread, where the line begins as the lines of that thread do and is that of one.
+fn by_named(
+    matrix: &mut Matrix,
+    image: &Image,
+    t: usize,
+    beginning: &[u8],
+    line: &[u8],
+    room: &mut Vec<u8>,
+) -> bool
+    requires thread { t < THREADS }
+    requires beginning { beginning.now ≡ thread_text image.now t ++ codes " " }
+    requires room { LINE_ROOM ≤ vec_capacity room.old }
+    ensures yes { result ≡ true → IsThreadsLine image.now line.now t matrix.old matrix.new }
+    ensures no { result ≡ false → IsNoThreadsLine image.now line.now t matrix.old }
+    ensures same { result ≡ false → matrix.new ≡ matrix.old }
+    ensures capacity { vec_capacity room.old ≤ vec_capacity room.new }
+{
+    if !line.starts_with(beginning) {
+        return false;
+    }
+    by_thread(matrix, image, t, line, room)
+}
+
+/// Makes a step, where the line is that of one: by a thread with whose object the line begins. Another line changes nothing.
+pub fn takes_line(
+    matrix: &mut Matrix,
+    image: &Image,
+    names: &[Vec<u8>],
+    line: &[u8],
+    room: &mut Vec<u8>,
+) -> bool
+    requires names { AreBeginnings image.now names.now }
+    requires room { LINE_ROOM ≤ vec_capacity room.old }
+    ensures yes { result ≡ true → IsStepLine image.now line.now matrix.old matrix.new }
+    ensures no { result ≡ false → IsNoStepLine image.now line.now matrix.old }
+    ensures same { result ≡ false → matrix.new ≡ matrix.old }
+    ensures capacity { vec_capacity room.old ≤ vec_capacity room.new }
+{
+    let _threads = matrix.threads().len();
+    for (t, name) in names.iter().enumerate() {
+        if by_named(matrix, image, t, name.as_slice(), line, room) {
+            return true;
+        }
+    }
+    false
+}
