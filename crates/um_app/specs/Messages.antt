@@ -16,7 +16,7 @@ code_of Status.TooLong = 7
 -- the line of a status that has one line for all causes
 unfoldable pub line_of : Status → List ℕ
 line_of Status.Done = []
-line_of Status.Usage = codes "zumode: usage: sim [--cpus N] [--pick N] | run [--cpus N] | layout | gen N | summary [--cpus N] [--pick N]\n"
+line_of Status.Usage = codes "zumode: usage: sim [--cpus N] [--pick N] | run [--cpus N] | layout | gen N | summary [--cpus N] [--pick N] | upgrade | audit\n"
 line_of Status.Refused = []
 line_of Status.ReadFault = codes "zumode: read fault\n"
 line_of Status.WriteFault = codes "zumode: write fault\n"

@@ -46,7 +46,7 @@ impl Status {
         match self {
             Status::Done => "",
             Status::Usage => {
-                "zumode: usage: sim [--cpus N] [--pick N] | run [--cpus N] | layout | gen N | summary [--cpus N] [--pick N]\n"
+                "zumode: usage: sim [--cpus N] [--pick N] | run [--cpus N] | layout | gen N | summary [--cpus N] [--pick N] | upgrade | audit\n"
             }
             Status::Refused => "",
             Status::ReadFault => "zumode: read fault\n",

@@ -13,7 +13,7 @@ oops = \"abort\"
 ";
 
 const USAGE: &str =
-    "zumode: usage: sim [--cpus N] [--pick N] | run [--cpus N] | layout | gen N | summary [--cpus N] [--pick N]\n";
+    "zumode: usage: sim [--cpus N] [--pick N] | run [--cpus N] | layout | gen N | summary [--cpus N] [--pick N] | upgrade | audit\n";
 
 /// The addresses of a partition, a thread and its stack.
 const ADDRESSES: &str = "partition p 0x20000000 32 P_RW_U_RW
