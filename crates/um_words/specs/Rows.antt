@@ -83,7 +83,7 @@ abbrev pub row_says : RowWord → FineAct → FineAct
 row_says w (FineAct.Shown event more) = FineAct.Shown (record event { act = row_says_act w event.thread.0 more event.act }) more
 row_says w (FineAct.Unseen unseen) = FineAct.Unseen unseen
 
--- Which steps it takes. The bounds on claims are those of the word: no run comes there.
+-- Which steps it takes. The bounds on claims are those of the word.
 
 abbrev pub row_takes_act : RowWord → ℕ → Act → Bool
 row_takes_act w t (Act.Check a kind want verdict) = nat_lt w.claims 127
