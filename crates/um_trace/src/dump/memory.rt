@@ -17,15 +17,11 @@ const BLOCKS: usize = 0x4000;
 /// The blocks of a page.
 const PAGE: usize = 32;
 
-/// Whether all bytes are zero. It looks at each, also behind one that isn't, so that many are compared at once.
+/// Whether all bytes are zero.
 fn are_zero(bytes: &[u8]) -> bool
     ensures { result ≡ list_all (λ b. b == 0) bytes.now }
 {
-    let mut zero = true;
-    for byte in bytes {
-        zero = zero && *byte == 0;
-    }
-    zero
+    bytes.iter().all(|b| *b == 0)
 }
 
 /// The line of the k-th block of an area, unless it is all zero.
