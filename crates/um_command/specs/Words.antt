@@ -63,9 +63,10 @@ both None pick = None
 abbrev pub options_of : List (List ℕ) → Option Options
 options_of words = if are_options words then both (cpus_of (behind (codes "--cpus") words)) (pick_of (behind (codes "--pick") words)) else None
 
-abbrev pub layout_of : List (List ℕ) → Option Command
-layout_of [] = Some Command.Layout
-layout_of (word ∷ words) = None
+-- a command with no words behind it
+abbrev pub alone : Command → List (List ℕ) → Option Command
+alone command [] = Some command
+alone command (word ∷ words) = None
 
 abbrev pub generation_of : List (List ℕ) → Option Command
 generation_of [] = None
@@ -77,9 +78,10 @@ abbrev pub command_of : List (List ℕ) → Option Command
 command_of [] = None
 command_of (name ∷ words) =
     if bytes_eq name (codes "sim") then option_map Command.Sim (options_of words)
-    else if bytes_eq name (codes "layout") then layout_of words
+    else if bytes_eq name (codes "layout") then alone Command.Layout words
     else if bytes_eq name (codes "gen") then generation_of words
     else if bytes_eq name (codes "summary") then option_map Command.Summary (options_of words)
+    else if bytes_eq name (codes "audit") then alone Command.Audit words
     else None
 
 -- 1 to 8 processors
@@ -92,3 +94,4 @@ HasFew (Command.Sim options) = IsFew options
 HasFew Command.Layout = Unit {0}
 HasFew (Command.Gen number) = Unit {0}
 HasFew (Command.Summary options) = IsFew options
+HasFew Command.Audit = Unit {0}

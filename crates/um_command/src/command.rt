@@ -20,4 +20,6 @@ pub enum Command {
     Gen { number: u64 },
     /// Run a description, and tell counts.
     Summary(Options),
+    /// Say whether a trace is that of a complete run of a description.
+    Audit,
 }

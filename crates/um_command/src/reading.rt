@@ -79,12 +79,12 @@ fn options(words: &[String]) -> Option<Options>
     options_behind(none, words)
 }
 
-/// `layout`, with nothing behind it.
-fn layout(words: &[String]) -> Option<Command>
-    ensures { result ≡ spec.layout_of (map string_bytes words.now) }
+/// A command with nothing behind it.
+fn alone(command: Command, words: &[String]) -> Option<Command>
+    ensures { result ≡ spec.alone command (map string_bytes words.now) }
 {
     match words {
-        [] => Some(Command::Layout),
+        [] => Some(command),
         _ => None,
     }
 }
@@ -111,9 +111,10 @@ pub fn read_command(words: &[String]) -> Option<Command>
         [] => None,
         [name, rest @ ..] => match name.as_str() {
             "sim" => Some(Command::Sim(options(rest)?)),
-            "layout" => layout(rest),
+            "layout" => alone(Command::Layout, rest),
             "gen" => generation(rest),
             "summary" => Some(Command::Summary(options(rest)?)),
+            "audit" => alone(Command::Audit, rest),
             _ => None,
         },
     }

@@ -27,13 +27,14 @@ fn commands(rt: HostRuntime) -> Result<(), Fail> {
         cpus: 4,
         pick: Some(18_446_744_073_709_551_615),
     };
-    let cases: [(&[&str], Option<Command>); 9] = [
+    let cases: [(&[&str], Option<Command>); 10] = [
         (&["sim"], sim(1, None)),
         (&["sim", "--cpus", "8"], sim(8, None)),
         (&["sim", "--pick", "7", "--cpus", "08"], sim(8, Some(7))),
         (&["sim", "--pick", "0", "--cpus", "1"], sim(1, Some(0))),
         (all_options, Some(Command::Summary(summary))),
         (&["layout"], Some(Command::Layout)),
+        (&["audit"], Some(Command::Audit)),
         (&["gen", "5"], generated(5)),
         (&["gen", "00000000000000000007"], generated(7)),
         (
@@ -49,7 +50,7 @@ fn commands(rt: HostRuntime) -> Result<(), Fail> {
 
 #[test]
 fn no_commands(rt: HostRuntime) -> Result<(), Fail> {
-    let cases: [&[&str]; 24] = [
+    let cases: [&[&str]; 26] = [
         &[],
         &["sim", "--cpus", "9"],
         &["sim", "--cpus", "0"],
@@ -67,6 +68,8 @@ fn no_commands(rt: HostRuntime) -> Result<(), Fail> {
         &["gen", "000000000000000000001"],
         &["gen", ""],
         &["layout", "x"],
+        &["audit", "x"],
+        &["audit", "--cpus", "1"],
         &["layout", "--cpus", "1"],
         &["run"],
         &["run", "--pick", "1"],
