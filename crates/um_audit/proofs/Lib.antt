@@ -6,3 +6,4 @@ pub mod OneLemmas
 pub mod PartLemmas
 pub mod WholeLemmas
 pub mod LawLemmas
+pub mod DivisionLemmas

@@ -5,11 +5,13 @@ mod auditing;
 mod dump;
 mod lines;
 mod names;
+mod parts;
 mod pieces;
 mod steps;
 mod verdict;
 
 pub use auditing::audit;
+pub use parts::{Parts, parts_of};
 pub use verdict::{Verdict, verdict_text};
 
 #[cfg(test)]
