@@ -1,3 +1,4 @@
 mod CommandLemmas
 mod Ends
+mod InputLemmas
 mod OneAnswer

@@ -11,6 +11,10 @@ use Rattle.um_trace.specs.Summary.{summary_text}
 use Rattle.um_trace.specs.Text.{text}
 use Rattle.um_turns.proofs.RunLemmas.{one-run}
 use Rattle.um_app.proofs.Ends.{all_of_it}
+use Rattle.um_audit.proofs.LawLemmas.{one-verdict}
+use Rattle.um_audit.specs.Told.{verdict_text}
+use Rattle.um_app.specs.Audited.{IsAudit}
+use Rattle.um_app.specs.Inputs.{description_in, trace_in}
 use Rattle.um_app.specs.Top.{Answers, IsOutput, IsRead, IsRunOf, Writes}
 
 -- the run of an image with these options, and its last state, are one
@@ -21,18 +25,24 @@ same_run image options run run2 last last2 a b = one-run image options.cpus opti
 same_told : (told : List Event → State → List ℕ) (run run2 : List Event) (last last2 : State) → (run ≡ run2) × (last ≡ last2) → told run last ≡ told run2 last2
 same_told told run run2 last last2 same = ap (λ (es : List Event). told es last) same.0 ∙ ap (told run2) same.1
 
-one_writing : (command : Command) (image : Image) (written other : List ℕ) → Writes command image written → Writes command image other → written ≡ other
-one_writing (Command.Sim options) image written other a b =
+one_audit : (image : Image) (trace written other : List ℕ) → IsAudit image trace written → IsAudit image trace other → written ≡ other
+one_audit image trace written other a b = a.told ∙ ap verdict_text (one-verdict image a.lawful trace a.verdict b.verdict a.is_verdict b.is_verdict) ∙ sym b.told
+
+one_writing : (command : Command) (image : Image) (trace written other : List ℕ) → Writes command image trace written → Writes command image trace other → written ≡ other
+one_writing (Command.Sim options) image trace written other a b =
     a.3 ∙ same_told (text image) a.0 b.0 a.1 b.1 (same_run image options a.0 b.0 a.1 b.1 a.2 b.2) ∙ sym b.3
-one_writing (Command.Summary options) image written other a b =
+one_writing (Command.Summary options) image trace written other a b =
     a.3 ∙ same_told (summary_text image) a.0 b.0 a.1 b.1 (same_run image options a.0 b.0 a.1 b.1 a.2 b.2) ∙ sym b.3
-one_writing Command.Layout image written other a b = a ∙ sym b
-one_writing (Command.Gen number) image written other a b = a ∙ sym b
+one_writing Command.Layout image trace written other a b = a ∙ sym b
+one_writing (Command.Gen number) image trace written other a b = a ∙ sym b
+one_writing Command.Audit image trace written other a b = one_audit image trace written other a b
 
 one_output : (command : Command) (input written other : List ℕ) → IsOutput command input written → IsOutput command input other → written ≡ other
 one_output command input written other a b =
-    let same = one_image input b.image a.image b.described a.described in
-    one_writing command a.image written other a.writes (subst (λ (image : Image). Writes command image other) same b.writes)
+    let image : b.image ≡ a.image = one_image (description_in command input) b.image a.image b.is_of.described a.is_of.described in
+    let trace : b.trace ≡ a.trace = (let here = a.is_of.traced in let there = b.is_of.traced in cc) in
+    one_writing command a.image a.trace written other a.writes
+    (subst (λ (t : List ℕ). Writes command a.image t other) trace (subst (λ (i : Image). Writes command i b.trace other) image b.writes))
 
 one_reading : (command : Command) (source written other : List ℕ) (left left2 : Option (List ℕ)) → IsRead command (Some source) left written → IsRead command (Some source) left2 other → written ≡ other
 one_reading command source written other left left2 a b =
@@ -44,4 +54,5 @@ pub one_answer : (command : Command) (source written other : List ℕ) (left lef
 one_answer (Command.Sim options) source written other left left2 a b = one_reading (Command.Sim options) source written other left left2 a b
 one_answer (Command.Summary options) source written other left left2 a b = one_reading (Command.Summary options) source written other left left2 a b
 one_answer Command.Layout source written other left left2 a b = one_reading Command.Layout source written other left left2 a b
+one_answer Command.Audit source written other left left2 a b = one_reading Command.Audit source written other left left2 a b
 one_answer (Command.Gen number) source written other left left2 a b = a ∙ sym b

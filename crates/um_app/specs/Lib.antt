@@ -1,3 +1,5 @@
 pub mod Answered
+pub mod Audited
+pub mod Inputs
 pub mod Messages
 pub mod Top

@@ -23,6 +23,10 @@ line_of Status.WriteFault = codes "zumode: write fault\n"
 line_of Status.NoMemory = codes "zumode: no memory\n"
 line_of Status.TooLong = codes "zumode: input too long\n"
 
+-- the line of an input that has no trace behind its description
+unfoldable pub no_trace_line : List ℕ
+no_trace_line = codes "zumode: refused: NoTrace\n"
+
 -- the line of a refused description, which names its fault and the fault's place
 unfoldable pub refused_line : ImageFault → List ℕ
 refused_line fault = codes "zumode: refused: " ++ fault_text fault ++ codes "\n"

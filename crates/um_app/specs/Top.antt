@@ -1,6 +1,6 @@
--- What the top call reads and writes.
-use Rattle.std.specs.Prelude.{◌≡◌, ℕ, ◌+◌, ◌≤◌, ◌⊎◌, Bool, true, false, List, length, Option}
-use Rattle.std.specs.Io.KnownBytes.{Appends, Consumes, IsAtEnd}
+-- What the top call writes.
+use Rattle.std.specs.Prelude.{◌≡◌, ℕ, ◌≤◌, ◌⊎◌, List, length, Option}
+use Rattle.std.specs.Io.KnownBytes.{Appends}
 use Rattle.um_base.specs.declared.act.Event.{Event}
 use Rattle.um_base.specs.declared.image.Image.{Image}
 use Rattle.um_base.specs.Weight.{weight}
@@ -9,7 +9,6 @@ use Rattle.um_io.specs.Causes.{Rose}
 use Rattle.um_command.specs.declared.command.Command.{Command}
 use Rattle.um_command.specs.declared.command.Options.{Options}
 use Rattle.um_gen.specs.Description.{description}
-use Rattle.um_image.specs.Meaning.{Describes}
 use Rattle.um_laws.specs.Obeys.{ObeysLaws}
 use Rattle.um_machine.specs.State.{State}
 use Rattle.um_machine.specs.Run.{IsRun, IsComplete}
@@ -17,10 +16,8 @@ use Rattle.um_trace.specs.Layout.{layout_text}
 use Rattle.um_trace.specs.Summary.{summary_text}
 use Rattle.um_trace.specs.Text.{text}
 use Rattle.um_turns.specs.Scheduled.{IsScheduled}
-
--- how many bytes an input has at most
-abbrev pub most_input : ℕ
-most_input = 0x100000
+use Rattle.um_app.specs.Audited.{IsAudit}
+use Rattle.um_app.specs.Inputs.{IsOf, ReadsAll}
 
 -- One complete run of the access-matrix machine from an image, in the order of its processors: each event is that of the first
 -- processor that can make one, from the one that is preferred at that turn on. It has at most as many events as the image's weight,
@@ -46,47 +43,31 @@ IsRunText image options written =
 abbrev pub IsRunSummary : Image → Options → List ℕ → Type 0
 IsRunSummary image options written = (run : List Event) × (last : State) × IsRunOf image options run last × (written ≡ summary_text image run last)
 
--- what a command writes of the image that it reads
-abbrev pub Writes : Command → Image → List ℕ → Type 0
-Writes (Command.Sim options) image written = IsRunText image options written
-Writes (Command.Summary options) image written = IsRunSummary image options written
-Writes Command.Layout image written = written ≡ layout_text image
-Writes (Command.Gen number) image written = written ≡ description number
+-- what a command writes of the image that it reads, and of the trace behind it
+abbrev pub Writes : Command → Image → List ℕ → List ℕ → Type 0
+Writes (Command.Sim options) image trace written = IsRunText image options written
+Writes (Command.Summary options) image trace written = IsRunSummary image options written
+Writes Command.Layout image trace written = written ≡ layout_text image
+Writes (Command.Gen number) image trace written = written ≡ description number
+Writes Command.Audit image trace written = IsAudit image trace written
 
 -- The input describes an image, of which a command writes these bytes.
 pub record IsOutput (command : Command) (input written : List ℕ) : Type 0 where
   pub image : Image
-  pub described : Describes input image
-  pub writes : Writes command image written
-
--- whether a command reads a description
-abbrev pub is_reading : Command → Bool
-is_reading (Command.Gen number) = false
-is_reading _ = true
-
--- The source was read to its end, and gave these bytes.
-pub record ReadsAll (before now : Option (List ℕ)) (input : List ℕ) : Type 0 where
-  pub taken : Consumes before now input
-  pub at_end : IsAtEnd now
-  pub short : length input ≤ most_input
+  pub trace : List ℕ
+  pub is_of : IsOf command input image trace
+  pub writes : Writes command image trace written
 
 -- Of a source that was read to its end, a command writes these bytes.
 pub record IsRead (command : Command) (before now : Option (List ℕ)) (written : List ℕ) : Type 0 where
   pub input : List ℕ
-  pub read : ReadsAll before now input
+  pub read : ReadsAll command before now input
   pub output : IsOutput command input written
 
 -- what a command writes: of a source that was read to its end, or the generated description, for which nothing is read
 abbrev pub Answers : Command → Option (List ℕ) → Option (List ℕ) → List ℕ → Type 0
 Answers (Command.Gen number) before now written = written ≡ description number
 Answers command before now written = IsRead command before now written
-
--- at most as many bytes were read as an input may have, or one more
-abbrev pub ReadsWithin : Option (List ℕ) → Option (List ℕ) → Type 0
-ReadsWithin before now = (taken : List ℕ) × (length taken ≤ most_input) × Consumes before now taken
-
-abbrev pub ReadsPast : Option (List ℕ) → Option (List ℕ) → Type 0
-ReadsPast before now = (taken : List ℕ) × (length taken ≡ most_input + 1) × Consumes before now taken
 
 -- A line went out whole, or a front of it where the sink failed.
 abbrev pub Tells : Option (List ℕ) → Option (List ℕ) → ℕ → ℕ → List ℕ → Type 0

@@ -1,6 +1,6 @@
 //! What a command answers to an input.
 
-ghost use Rattle.std.specs.Prelude.{◌≡◌, ◌≤◌, IfOk, List, ℕ, false, string_bytes};
+ghost use Rattle.std.specs.Prelude.{◌≡◌, ◌≤◌, ◌<◌, ◌-◌, ◌^◌, IfOk, IfSome, IfNone, Some, None, List, ℕ, false, length, string_bytes};
 ghost use Rattle.um_base.specs.Lawful.{IsLawful};
 ghost use Rattle.um_command.specs.declared.command.Command.{Command};
 ghost use Rattle.um_command.specs.Words.{IsFew, HasFew};
@@ -8,23 +8,31 @@ ghost use Rattle.um_document.specs.declared.fault.ImageFault.TheVariants as Imag
 ghost use Rattle.um_image.specs.Meaning.{Refuses};
 ghost use Rattle.um_trace.specs.Layout.{layout_text};
 ghost use Rattle.um_app.specs.Answered.{Answered};
-ghost use Rattle.um_app.specs.Messages.{refused_line};
+ghost use Rattle.um_app.specs.Audited.{IsAudit};
+ghost use Rattle.um_app.specs.Inputs.{description_in, most_described, most_read, trace_in};
+ghost use Rattle.um_app.specs.Messages.{no_trace_line, refused_line};
 ghost use Rattle.um_app.specs.Top.{IsRunText, IsRunSummary, Writes};
 
 use crate::sim::ran;
 use std::alloc::Global;
+use um_audit::Parts;
 use um_base::{Image, Memory};
 use um_command::{Command, Options};
 use um_image::{ImageFault, fault_text, read_image};
 use um_trace::SUMMARY_ROOM;
+
+/// How many bytes a description has at most.
+const MOST_DESCRIBED: usize = 0x10_0000;
 
 /// What a command answers to an input, before a byte is written.
 #[derive(Drop)]
 pub enum Answer {
     /// What it writes.
     Text(Vec<u8>),
-    /// The line of the fault that the input is refused with.
+    /// The line that tells why the input is refused.
     Refused(String),
+    /// The description is too long.
+    TooLong,
     NoMemory,
 }
 
@@ -61,17 +69,30 @@ fn addresses(alloc: Global, image: &Image) -> Result<Vec<u8>, Memory>
     Ok(text)
 }
 
-/// What a command writes of an image.
-fn written(alloc: Global, command: Command, image: &Image) -> Result<Vec<u8>, Memory>
+/// The verdict on a trace.
+fn verdict(alloc: Global, image: &Image, trace: &[u8]) -> Result<Vec<u8>, Memory>
+    requires lawful { IsLawful image.now }
+    requires short { length trace.now < 2 ^ 32 - 1 }
+    ensures { IfOk result (λ text. IsAudit image.now trace.now text.items) }
+{
+    let _objects = image.objects.len();
+    let verdict = um_audit::audit(alloc, image, trace)?;
+    um_audit::verdict_text(alloc, verdict)
+}
+
+/// What a command writes of an image, and of the trace behind it.
+fn written(alloc: Global, command: Command, image: &Image, trace: &[u8]) -> Result<Vec<u8>, Memory>
     requires lawful { IsLawful image.now }
     requires cpus { HasFew command }
-    ensures { IfOk result (λ text. Writes command image.now text.items) }
+    requires short { length trace.now < 2 ^ 32 - 1 }
+    ensures { IfOk result (λ text. Writes command image.now trace.now text.items) }
 {
     match command {
         Command::Sim(options) => run_text(alloc, image, options),
         Command::Summary(options) => run_summary(alloc, image, options),
         Command::Layout => addresses(alloc, image),
         Command::Gen { number } => um_gen::generate(alloc, number),
+        Command::Audit => verdict(alloc, image, trace),
     }
 }
 
@@ -84,16 +105,6 @@ fn line_of_fault(alloc: Global, fault: &ImageFault) -> Result<String, Memory>
     Ok(format!(in alloc; "zumode: refused: {}\n", text.as_str())?)
 }
 
-/// The answer to an input that is refused with this fault.
-fn refused(alloc: Global, fault: &ImageFault) -> Answer
-    ensures { (command : Command) (input : List ℕ) → Refuses input fault.now → Answered command result input }
-{
-    match line_of_fault(alloc, fault) {
-        Ok(line) => Answer::Refused(line),
-        Err(Memory) => Answer::NoMemory,
-    }
-}
-
 /// Whether a reading failed for want of memory.
 fn is_memory(fault: &ImageFault) -> bool
     ensures { result ≡ false → ¬ (fault.now ≡ ImageFault.Memory) }
@@ -104,13 +115,45 @@ fn is_memory(fault: &ImageFault) -> bool
     }
 }
 
-/// The answer to an input. All memory of a command is taken here.
-pub fn answer_to(alloc: Global, command: Command, input: &[u8]) -> Answer
-    requires { HasFew command }
-    ensures { Answered command result input.now }
+/// The answer to an input whose description is refused with this fault.
+fn refused(alloc: Global, fault: &ImageFault) -> Answer
+    ensures { (command : Command) (input trace : List ℕ) → length (description_in command input) ≤ most_described
+        → trace_in command input ≡ Some trace → Refuses (description_in command input) fault.now → Answered command result input }
 {
-    match read_image(alloc, input) {
-        Ok(image) => match written(alloc, command, &image) {
+    match line_of_fault(alloc, fault) {
+        Ok(line) => Answer::Refused(line),
+        Err(Memory) => Answer::NoMemory,
+    }
+}
+
+/// The line on standard error that tells that there is no trace.
+#[tactic(auto, unfolding(crate::specs::Messages::no_trace_line))]
+fn line_of_no_trace(alloc: Global) -> Result<String, Memory>
+    ensures { IfOk result (λ line. string_bytes line ≡ no_trace_line) }
+{
+    Ok(String::from_str(alloc, "zumode: refused: NoTrace\n")?)
+}
+
+/// The answer to an input that has no trace.
+fn without_trace(alloc: Global) -> Answer
+    ensures { (command : Command) (input : List ℕ) → length (description_in command input) ≤ most_described
+        → trace_in command input ≡ None → Answered command result input }
+{
+    match line_of_no_trace(alloc) {
+        Ok(line) => Answer::Refused(line),
+        Err(Memory) => Answer::NoMemory,
+    }
+}
+
+/// The answer to a description and the trace behind it.
+fn answer_of(alloc: Global, command: Command, description: &[u8], trace: &[u8]) -> Answer
+    requires few { HasFew command }
+    requires short { length trace.now < 2 ^ 32 - 1 }
+    ensures { (input : List ℕ) → description.now ≡ description_in command input → trace_in command input ≡ Some trace.now
+        → length description.now ≤ most_described → Answered command result input }
+{
+    match read_image(alloc, description) {
+        Ok(image) => match written(alloc, command, &image, trace) {
             Ok(text) => Answer::Text(text),
             Err(Memory) => Answer::NoMemory,
         },
@@ -121,5 +164,37 @@ pub fn answer_to(alloc: Global, command: Command, input: &[u8]) -> Answer
                 refused(alloc, &fault)
             }
         }
+    }
+}
+
+/// The parts of an input that a command reads: a description, and for `audit` a trace.
+fn parts(command: Command, input: &[u8]) -> Parts<'_>
+    ensures description { result.description.now ≡ description_in command input.now }
+    ensures trace { IfSome result.trace (λ trace. trace_in command input.now ≡ Some trace.now) }
+    ensures short { IfSome result.trace (λ trace. length trace.now ≤ length input.now) }
+    ensures none { IfNone result.trace (trace_in command input.now ≡ None) }
+{
+    match command {
+        Command::Audit => um_audit::parts_of(input),
+        _ => Parts {
+            description: input,
+            trace: Some(&[]),
+        },
+    }
+}
+
+/// The answer to an input. All memory of a command is taken here.
+pub fn answer_to(alloc: Global, command: Command, input: &[u8]) -> Answer
+    requires few { HasFew command }
+    requires short { length input.now ≤ most_read command }
+    ensures { Answered command result input.now }
+{
+    let parts = parts(command, input);
+    if parts.description.len() > MOST_DESCRIBED {
+        return Answer::TooLong;
+    }
+    match parts.trace {
+        Some(trace) => answer_of(alloc, command, parts.description, trace),
+        None => without_trace(alloc),
     }
 }

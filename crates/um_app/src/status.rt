@@ -10,7 +10,7 @@ pub enum Status {
     Done,
     /// The words are no command.
     Usage,
-    /// The input is no description.
+    /// The input is no description, or for `audit` none with a trace behind it.
     Refused,
     /// The input couldn't be read.
     ReadFault,
@@ -18,7 +18,7 @@ pub enum Status {
     WriteFault,
     /// Memory ran out before the first byte was written.
     NoMemory,
-    /// The input has more than 1,048,576 bytes.
+    /// The input has too many bytes: the description more than 1,048,576, or all that `audit` reads more than 67,108,864.
     TooLong,
 }
 

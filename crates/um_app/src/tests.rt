@@ -1,5 +1,6 @@
 //! The top call over memory.
 
+mod audits;
 mod outside;
 mod processors;
 mod texts;
@@ -12,7 +13,7 @@ use std::test::Fail;
 use um_io::{MemSink, MemSource, NoGate};
 
 /// A description up to the lines of its script.
-const HEAD: &str = "version = 1
+pub const HEAD: &str = "version = 1
 mpu = \"pmsav7\"
 regions = 8
 oops = \"abort\"

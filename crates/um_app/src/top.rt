@@ -5,14 +5,13 @@ ghost use Rattle.std.specs.Io.KnownBytes.{Appends};
 ghost use Rattle.um_base.specs.declared.image.Image.{Image};
 ghost use Rattle.um_command.specs.declared.command.Command.{Command};
 ghost use Rattle.um_command.specs.Words.{HasFew, command_of};
-ghost use Rattle.um_document.specs.declared.fault.ImageFault.{ImageFault};
 ghost use Rattle.um_gen.specs.Description.{description};
-ghost use Rattle.um_image.specs.Meaning.{Describes, Refuses};
 ghost use Rattle.um_io.specs.Bytes.{AppendsFront};
 ghost use Rattle.um_io.specs.Causes.{Rose};
 ghost use Rattle.um_app.specs.Answered.{IsRefusal};
+ghost use Rattle.um_app.specs.Inputs.{IsOf, IsTooLong, ReadsAll, ReadsTooLong, ReadsWithin, is_reading, most_read};
 ghost use Rattle.um_app.specs.Messages.{line_of, refused_line};
-ghost use Rattle.um_app.specs.Top.{most_input, Answers, IsRunText, IsRead, ReadsAll, ReadsWithin, ReadsPast, Tells, is_reading};
+ghost use Rattle.um_app.specs.Top.{Answers, IsRead, Tells};
 
 use crate::answer::{Answer, answer_to};
 use crate::status::Status;
@@ -20,8 +19,19 @@ use std::alloc::Global;
 use um_command::{Command, read_command};
 use um_io::{Gate, ReadAll, Sink, Source, read_all, write_all};
 
-/// How many bytes an input has at most.
-const LIMIT: u32 = 0x10_0000;
+/// How many bytes a description has at most, and all that `audit` reads.
+const MOST_DESCRIBED: u32 = 0x10_0000;
+const MOST_AUDITED: u32 = 0x400_0000;
+
+/// How many bytes a command reads at most.
+fn limit(command: Command) -> u32
+    ensures { result ≡ most_read command }
+{
+    match command {
+        Command::Audit => MOST_AUDITED,
+        _ => MOST_DESCRIBED,
+    }
+}
 
 /// Writes a text whose memory is taken.
 fn write_text<O: Sink>(out: &mut O, text: &[u8]) -> Status
@@ -65,7 +75,7 @@ fn told<E: Sink>(err: &mut E, status: Status) -> Status
     status
 }
 
-/// A command that reads a description.
+/// A command that reads its input.
 fn described<S: Source, O: Sink, E: Sink>(
     alloc: Global,
     command: Command,
@@ -79,19 +89,19 @@ fn described<S: Source, O: Sink, E: Sink>(
         × IsRead command (S.left source.old) (S.left source.new) written
         × Appends (O.taken out.old) (O.taken out.new) written }
     ensures done_quiet { result ≡ Status.Done → err.new ≡ err.old }
-    ensures complete { (input : List ℕ) → S.left source.old ≡ Some input → length input ≤ most_input
-        → (image : Image) → Describes input image
+    ensures complete { (input : List ℕ) → S.left source.old ≡ Some input → length input ≤ most_read command
+        → (image : Image) (trace : List ℕ) → IsOf command input image trace
         → ¬ Rose (S.faults source.old) (S.faults source.new) → ¬ Rose (O.faults out.old) (O.faults out.new)
         → (result ≡ Status.Done) ⊎ (result ≡ Status.NoMemory) }
     ensures no_usage { result ≢ Status.Usage }
     ensures read_fault { result ≡ Status.ReadFault → Rose (S.faults source.old) (S.faults source.new) }
-    ensures too_long { result ≡ Status.TooLong → ReadsPast (S.left source.old) (S.left source.new) }
-    ensures exceeds { (input : List ℕ) → S.left source.old ≡ Some input → most_input < length input
+    ensures too_long { result ≡ Status.TooLong → ReadsTooLong command (S.left source.old) (S.left source.new) }
+    ensures exceeds { (input : List ℕ) → S.left source.old ≡ Some input → IsTooLong command input
         → ¬ Rose (S.faults source.old) (S.faults source.new) → (result ≡ Status.TooLong) ⊎ (result ≡ Status.NoMemory) }
-    ensures within { result ≢ Status.TooLong → result ≢ Status.NoMemory → ReadsWithin (S.left source.old) (S.left source.new) }
-    ensures refused { result ≡ Status.Refused → (input line : List ℕ) × ReadsAll (S.left source.old) (S.left source.new) input
-        × IsRefusal input line × Tells (E.taken err.old) (E.taken err.new) (E.faults err.old) (E.faults err.new) line }
-    ensures refuses { (input : List ℕ) → S.left source.old ≡ Some input → length input ≤ most_input → (fault : ImageFault) → Refuses input fault
+    ensures within { result ≢ Status.TooLong → result ≢ Status.NoMemory → ReadsWithin command (S.left source.old) (S.left source.new) }
+    ensures refused { result ≡ Status.Refused → (input line : List ℕ) × ReadsAll command (S.left source.old) (S.left source.new) input
+        × IsRefusal command input line × Tells (E.taken err.old) (E.taken err.new) (E.faults err.old) (E.faults err.new) line }
+    ensures refuses { (input line : List ℕ) → S.left source.old ≡ Some input → length input ≤ most_read command → IsRefusal command input line
         → ¬ Rose (S.faults source.old) (S.faults source.new) → (result ≡ Status.Refused) ⊎ (result ≡ Status.NoMemory) }
     ensures write_fault { result ≡ Status.WriteFault → Rose (O.faults out.old) (O.faults out.new) }
     ensures front { result ≡ Status.WriteFault → (written : List ℕ)
@@ -102,7 +112,7 @@ fn described<S: Source, O: Sink, E: Sink>(
         → Tells (E.taken err.old) (E.taken err.new) (E.faults err.old) (E.faults err.new) (line_of result) }
     ensures source_most { S.most source.new ≡ S.most source.old }
 {
-    let input = match read_all(alloc, source, LIMIT) {
+    let input = match read_all(alloc, source, limit(command)) {
         Ok(input) => input,
         Err(ReadAll::Fault) => return told(err, Status::ReadFault),
         Err(ReadAll::TooLong) => return told(err, Status::TooLong),
@@ -118,6 +128,7 @@ fn described<S: Source, O: Sink, E: Sink>(
             tell(err, line.as_str());
             Status::Refused
         }
+        Answer::TooLong => told(err, Status::TooLong),
         Answer::NoMemory => told(err, Status::NoMemory),
     }
 }
@@ -137,7 +148,8 @@ fn generated<O: Sink>(alloc: Global, number: u64, out: &mut O) -> Status
 }
 
 /// Runs a command: `sim`, `summary` and `layout` read a description from `source`, and write of it to `out` the text of a run,
-/// its counts, or the addresses; `gen` writes a generated description. A status other than `Done` has its line on `err`. All
+/// its counts, or the addresses; `audit` reads a description, a line `=====` and a trace, and writes its verdict on the trace; `gen`
+/// writes a generated description. A status other than `Done` has its line on `err`. All
 /// memory is taken before the first byte is written. The gate has no part in it yet.
 pub fn zumode<R: AllocGlobal, S: Source, O: Sink, E: Sink, G: Gate>(
     rt: &R,
@@ -147,8 +159,8 @@ pub fn zumode<R: AllocGlobal, S: Source, O: Sink, E: Sink, G: Gate>(
     err: &mut E,
     gate: &G,
 ) -> Status
-    // The headline: the words are a command, all that was read describes an image, and all that was written is, for `sim`, the
-    // text of one complete run of it; for the other commands, what they write.
+    // The headline: the words are a command, what was read describes an image, and all that was written is, for `sim`, the text of
+    // one complete run of it; for the other commands, what they write.
     ensures done { result ≡ Status.Done → (command : Command) × (command_of (map string_bytes words.now) ≡ Some command)
         × (written : List ℕ) × Answers command (S.left source.old) (S.left source.new) written
         × Appends (O.taken out.old) (O.taken out.new) written }
@@ -156,7 +168,8 @@ pub fn zumode<R: AllocGlobal, S: Source, O: Sink, E: Sink, G: Gate>(
 
     // A described image is answered, and a number, or memory ran out, unless the source or the sink failed.
     ensures complete { (command : Command) → command_of (map string_bytes words.now) ≡ Some command → IsTrue (is_reading command)
-        → (input : List ℕ) → S.left source.old ≡ Some input → length input ≤ most_input → (image : Image) → Describes input image
+        → (input : List ℕ) → S.left source.old ≡ Some input → length input ≤ most_read command
+        → (image : Image) (trace : List ℕ) → IsOf command input image trace
         → ¬ Rose (S.faults source.old) (S.faults source.new) → ¬ Rose (O.faults out.old) (O.faults out.new)
         → (result ≡ Status.Done) ⊎ (result ≡ Status.NoMemory) }
     ensures generates { (number : ℕ) → command_of (map string_bytes words.now) ≡ Some (Command.Gen number)
@@ -167,16 +180,18 @@ pub fn zumode<R: AllocGlobal, S: Source, O: Sink, E: Sink, G: Gate>(
     ensures nothing_read { result ≡ Status.Usage → source.new ≡ source.old }
     ensures reads_none { (number : ℕ) → command_of (map string_bytes words.now) ≡ Some (Command.Gen number) → source.new ≡ source.old }
     ensures read_fault { result ≡ Status.ReadFault → Rose (S.faults source.old) (S.faults source.new) }
-    ensures too_long { result ≡ Status.TooLong → ReadsPast (S.left source.old) (S.left source.new) }
+    ensures too_long { result ≡ Status.TooLong → (command : Command) × (command_of (map string_bytes words.now) ≡ Some command)
+        × ReadsTooLong command (S.left source.old) (S.left source.new) }
     ensures exceeds { (command : Command) → command_of (map string_bytes words.now) ≡ Some command → IsTrue (is_reading command)
-        → (input : List ℕ) → S.left source.old ≡ Some input → most_input < length input → ¬ Rose (S.faults source.old) (S.faults source.new)
+        → (input : List ℕ) → S.left source.old ≡ Some input → IsTooLong command input → ¬ Rose (S.faults source.old) (S.faults source.new)
         → (result ≡ Status.TooLong) ⊎ (result ≡ Status.NoMemory) }
     ensures within { (command : Command) → command_of (map string_bytes words.now) ≡ Some command → IsTrue (is_reading command)
-        → result ≢ Status.TooLong → result ≢ Status.NoMemory → ReadsWithin (S.left source.old) (S.left source.new) }
-    ensures refused { result ≡ Status.Refused → (input line : List ℕ) × ReadsAll (S.left source.old) (S.left source.new) input
-        × IsRefusal input line × Tells (E.taken err.old) (E.taken err.new) (E.faults err.old) (E.faults err.new) line }
+        → result ≢ Status.TooLong → result ≢ Status.NoMemory → ReadsWithin command (S.left source.old) (S.left source.new) }
+    ensures refused { result ≡ Status.Refused → (command : Command) × (command_of (map string_bytes words.now) ≡ Some command)
+        × (input line : List ℕ) × ReadsAll command (S.left source.old) (S.left source.new) input
+        × IsRefusal command input line × Tells (E.taken err.old) (E.taken err.new) (E.faults err.old) (E.faults err.new) line }
     ensures refuses { (command : Command) → command_of (map string_bytes words.now) ≡ Some command → IsTrue (is_reading command)
-        → (input : List ℕ) → S.left source.old ≡ Some input → length input ≤ most_input → (fault : ImageFault) → Refuses input fault
+        → (input line : List ℕ) → S.left source.old ≡ Some input → length input ≤ most_read command → IsRefusal command input line
         → ¬ Rose (S.faults source.old) (S.faults source.new) → (result ≡ Status.Refused) ⊎ (result ≡ Status.NoMemory) }
     ensures write_fault { result ≡ Status.WriteFault → Rose (O.faults out.old) (O.faults out.new) }
     ensures front { result ≡ Status.WriteFault → (command : Command) × (command_of (map string_bytes words.now) ≡ Some command)
