@@ -1,0 +1,185 @@
+-- The answers that are in acts, in words, and in what goes between a processor and a site.
+use Rattle.std.specs.Prelude.{ℕ, Bool, true, false, List, [], Option, None, pos}
+use Rattle.um_base.specs.declared.names.Addr.{Addr}
+use Rattle.um_base.specs.declared.names.Errno.{Errno}
+use Rattle.um_base.specs.declared.names.Mode.{Mode}
+use Rattle.um_base.specs.declared.names.Reply.{Reply}
+use Rattle.um_base.specs.declared.names.ThreadIx.{ThreadIx}
+use Rattle.um_base.specs.declared.act.Act.{Act}
+use Rattle.um_base.specs.declared.act.Answer.{Answer}
+use Rattle.um_base.specs.declared.act.Event.{Event}
+use Rattle.um_base.specs.declared.act.Found.{Found}
+use Rattle.um_base.specs.declared.act.Given.{Given}
+use Rattle.um_base.specs.declared.act.Leftover.{Leftover}
+use Rattle.um_base.specs.declared.act.SetSaid.{SetSaid}
+use Rattle.um_base.specs.declared.ask.Ask.{Ask}
+use Rattle.um_base.specs.declared.ask.Told.{Told}
+use Rattle.um_base.specs.declared.ask.Waiter.{Waiter}
+use Rattle.um_base.specs.Regions.{Partitions}
+use Rattle.um_machine.specs.declared.object.Cost.{Cost}
+use Rattle.um_machine.specs.declared.thread.Life.{Life}
+use Rattle.um_words.specs.declared.fine.FineAct.{FineAct}
+use Rattle.um_words.specs.declared.fine.Unseen.{Unseen}
+use Rattle.um_words.specs.declared.row_word.RowWord.{RowWord}
+use Rattle.um_words.specs.declared.row_word.Stage.{Stage}
+use Rattle.um_words.specs.declared.thread_word.ThreadWord.{ThreadWord}
+use Rattle.um_words.specs.declared.dom_word.DomWord.{DomWord}
+use Rattle.um_fine.specs.Context.{Context, no_context}
+use Rattle.um_fine.specs.Steps.{Exchange, Outcome, Word}
+
+-- In acts.
+
+-- the event of a step that is shown: of any other, an exit of the first thread
+abbrev pub no_event : Event
+no_event = record { thread = record { 0 = 0 }; act = Act.Exit }
+
+abbrev pub event_in : FineAct → Event
+event_in (FineAct.Shown event more) = event
+event_in (FineAct.Unseen unseen) = no_event
+
+abbrev pub act_in : FineAct → Act
+act_in act = (event_in act).act
+
+abbrev pub verdict_in : Act → Option Errno
+verdict_in (Act.Check addr kind want verdict) = verdict
+verdict_in _ = None
+
+abbrev pub value_in : Act → ℕ
+value_in (Act.Load addr n value) = value
+value_in _ = 0
+
+abbrev pub fits_in : Act → Bool
+fits_in (Act.Probe addr n fits) = fits
+fits_in (Act.CopyIn addr n fits) = fits
+fits_in (Act.CopyOut addr n fits) = fits
+fits_in (Act.Buffer n fits) = fits
+fits_in _ = false
+
+abbrev pub is_fault : Act → Bool
+is_fault (Act.Fault access addr n) = true
+is_fault _ = false
+
+abbrev pub found_in : Act → Found
+found_in (Act.CopyStr addr found) = found
+found_in _ = Found.Unreadable
+
+abbrev pub answer_in : Act → Answer
+answer_in (Act.Work addr answer woken) = answer
+answer_in _ = Answer.Wait
+
+abbrev pub woken_in : Act → List (ThreadIx × Reply)
+woken_in (Act.Work addr answer woken) = woken
+woken_in _ = []
+
+abbrev pub given_in : Act → Given
+given_in (Act.Grant who addr given) = given
+given_in (Act.Own who given) = given
+given_in (Act.Publish addr given) = given
+given_in _ = Given.Done
+
+abbrev pub left_in : Act → Leftover
+left_in (Act.DropPair who addr left) = left
+left_in _ = Leftover.NoPair
+
+abbrev pub set_in : Act → SetSaid
+set_in (Act.SetInit addr set) = set
+set_in _ = SetSaid.Done
+
+abbrev pub reserved_in : Act → Option Addr
+reserved_in (Act.Reserve kind addr) = addr
+reserved_in _ = None
+
+abbrev pub domain_reply_in : Act → Reply
+domain_reply_in (Act.DomInit d reply) = reply
+domain_reply_in (Act.DomAdd d range attr reply) = reply
+domain_reply_in (Act.DomRemove d range attr reply) = reply
+domain_reply_in (Act.DomMove d who reply) = reply
+domain_reply_in _ = Reply.Void
+
+abbrev pub is_visit : FineAct → Bool
+is_visit (FineAct.Unseen Unseen.Visit) = true
+is_visit _ = false
+
+abbrev pub is_word_read : FineAct → Bool
+is_word_read (FineAct.Unseen Unseen.WordRead) = true
+is_word_read _ = false
+
+abbrev pub ready_in : FineAct → Bool
+ready_in (FineAct.Unseen (Unseen.Wake who ready)) = ready
+ready_in (FineAct.Unseen (Unseen.Park who ready)) = ready
+ready_in _ = false
+
+-- In what goes between.
+
+abbrev pub bytes_in : Exchange → List ℕ
+bytes_in (Exchange.bytes bs) = bs
+bytes_in (Exchange.text n bs) = bs
+bytes_in _ = []
+
+abbrev pub no_outcome : Outcome
+no_outcome = record { answer = Answer.Wait; taken = []; woken = [] }
+
+abbrev pub outcome_in : Exchange → Outcome
+outcome_in (Exchange.asked caller outcome) = outcome
+outcome_in _ = no_outcome
+
+abbrev pub no_caller : Waiter
+no_caller = record { thread = record { 0 = 0 }; priority = pos 0; ask = Ask.SemGive; bytes = [] }
+
+abbrev pub caller_in : Exchange → Waiter
+caller_in (Exchange.asked caller outcome) = caller
+caller_in _ = no_caller
+
+abbrev pub charge_in : Exchange → Option Cost
+charge_in (Exchange.charge cost) = cost
+charge_in _ = None
+
+abbrev pub parts_in : Exchange → Partitions
+parts_in (Exchange.parts ps) = ps
+parts_in _ = []
+
+abbrev pub before_in : Exchange → Option Partitions
+before_in (Exchange.edited before after) = before
+before_in _ = None
+
+abbrev pub limit_in : Exchange → ℕ
+limit_in (Exchange.text n bs) = n
+limit_in _ = 0
+
+abbrev pub told_nothing : Told
+told_nothing = record { reply = Reply.Void; taken = [] }
+
+abbrev pub wake_in : Exchange → Told
+wake_in (Exchange.told told) = told
+wake_in _ = told_nothing
+
+abbrev pub size_in : Exchange → ℕ
+size_in (Exchange.size n) = n
+size_in _ = 0
+
+abbrev pub context_in : Exchange → Context
+context_in (Exchange.thread c told) = c
+context_in _ = no_context
+
+-- In words: that of a row, of a thread, of a domain.
+
+abbrev pub no_row : RowWord
+no_row = record { permissions = []; init = false; public = false; dynamic = false; stage = Stage.Free; claims = 0; number = 0 }
+
+abbrev pub no_thread : ThreadWord
+no_thread = record { life = Life.Unborn; doomed = false; held = false; mode = Mode.User; domain = 0; number = 0 }
+
+abbrev pub no_domain : DomWord
+no_domain = record { init = false; writer = false; readers = 0; version = 0; number = 0 }
+
+abbrev pub row_in : Word → RowWord
+row_in (Word.row w) = w
+row_in _ = no_row
+
+abbrev pub thread_in : Word → ThreadWord
+thread_in (Word.thread w) = w
+thread_in _ = no_thread
+
+abbrev pub domain_in : Word → DomWord
+domain_in (Word.domain w) = w
+domain_in _ = no_domain

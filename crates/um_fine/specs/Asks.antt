@@ -1,0 +1,270 @@
+-- The step that a processor makes next: where, what it says, and what goes with it.
+use Rattle.std.specs.Prelude.{◌≡◌, ℕ, zero, suc, ◌+◌, Bool, true, false, ◌&&◌, ◌||◌, not, nat_lt, nat_le, IsTrue, if◌then◌else◌, [], ◌∷◌, length, Option, Some, None, is_some}
+use Rattle.um_base.specs.declared.names.Access.{Access}
+use Rattle.um_base.specs.declared.names.Addr.{Addr}
+use Rattle.um_base.specs.declared.names.Kind.{Kind}
+use Rattle.um_base.specs.declared.names.ThreadIx.{ThreadIx}
+use Rattle.um_base.specs.declared.act.Act.{Act}
+use Rattle.um_base.specs.declared.act.Leftover.{Leftover}
+use Rattle.um_base.specs.declared.ask.Ask.{Ask}
+use Rattle.um_base.specs.declared.ask.Waiter.{Waiter}
+use Rattle.um_base.specs.declared.image.Image.{Image}
+use Rattle.um_base.specs.Places.{row_at, own_row}
+use Rattle.um_base.specs.Regions.{regions_allow}
+use Rattle.um_machine.specs.declared.pending.Amount.{Amount}
+use Rattle.um_machine.specs.declared.pending.Pending.{Pending}
+use Rattle.um_machine.specs.State.{instruction_at}
+use Rattle.um_machine.specs.Domains.{domain_after}
+use Rattle.um_machine.specs.Objects.{has_kind}
+use Rattle.um_machine.specs.Order.{to_thread}
+use Rattle.um_machine.specs.Table.{bytes_given, cost_of}
+use Rattle.um_words.specs.declared.fine.FineAct.{FineAct}
+use Rattle.um_words.specs.declared.fine.More.{More}
+use Rattle.um_words.specs.declared.fine.Unseen.{Unseen}
+use Rattle.um_words.specs.Rows.{has}
+use Rattle.um_fine.specs.Steps.{Site, Exchange, FineStep}
+use Rattle.um_fine.specs.Addresses.{row_named, address_of}
+use Rattle.um_fine.specs.Answers.{act_in, answer_in, before_in, bytes_in, charge_in, fits_in, found_in, given_in, is_visit, is_word_read, left_in, outcome_in, parts_in, ready_in, reserved_in, row_in, set_in, size_in, thread_in, value_in, verdict_in, woken_in}
+use Rattle.um_fine.specs.Scheduler.{takes_turn}
+use Rattle.um_fine.specs.Continues.{reply_of}
+use Rattle.um_fine.specs.Places.{Todo, Todos}
+use Rattle.um_fine.specs.Processor.{Processor, edit_of, fails, kind_of, loaded}
+
+module _ (image : Image) (p : Processor) where
+  abbrev pub me : ThreadIx
+  me = to_thread p.context.thread
+
+  -- whether its region table allows this
+  abbrev pub allows : Access → ℕ → ℕ → Bool
+  allows access a n = regions_allow (loaded image p.table) access a n
+
+  -- how many bytes from an address on it may read one by one, of n
+  abbrev pub readable : ℕ → ℕ → ℕ
+  readable a zero = 0
+  readable a (suc n) = if allows Access.Read a 1 then readable (a + 1) n + 1 else 0
+
+  abbrev pub amount : Amount → ℕ
+  amount (Amount.Bytes n) = n
+  amount (Amount.MessageOf a) = p.size
+
+  abbrev pub claimed_domain : Option ℕ → ℕ
+  claimed_domain None = p.domain
+  claimed_domain (Some d) = d
+
+  -- Where its next step is made.
+
+  abbrev pub check_site : Option ℕ → Site
+  check_site None = Site.thread p.context.thread
+  check_site (Some x) = Site.row x
+
+  abbrev pub at_addr : Addr → Site
+  at_addr a = Site.row ((row_named image a))
+
+  -- A resume, visits and cleaning have places of their own. Shown here they would be an exit at the cell of memory, which takes none.
+  abbrev pub site_of_step : Pending → Site
+  site_of_step Pending.Begin = Site.thread p.context.thread
+  site_of_step Pending.Exit = Site.thread p.context.thread
+  site_of_step (Pending.Check a kind want refusal) = check_site (row_at image a.0)
+  site_of_step (Pending.Work a ask) = Site.object ((row_named image a))
+  site_of_step (Pending.Answer reply to) = Site.thread p.context.thread
+  site_of_step (Pending.Grant who a) = at_addr a
+  site_of_step (Pending.Own who) = Site.row ((own_row image who.0))
+  site_of_step (Pending.DropPair who a) = at_addr a
+  site_of_step (Pending.Publish a) = at_addr a
+  site_of_step (Pending.SetInit a strict undo) = at_addr a
+  site_of_step (Pending.ClearInit a) = at_addr a
+  site_of_step (Pending.Named who) = Site.object ((own_row image who.0))
+  site_of_step (Pending.Reserve kind) = Site.heap
+  site_of_step (Pending.Born a) = at_addr a
+  site_of_step (Pending.Buffer size) = Site.heap
+  site_of_step (Pending.Unbuffer size) = Site.heap
+  site_of_step (Pending.DomInit d parts) = Site.domain d
+  site_of_step (Pending.DomAdd d range attr) = Site.domain d
+  site_of_step (Pending.DomRemove d range attr) = Site.domain d
+  site_of_step (Pending.DomMove d who) = if fails p.reply then Site.domain d else Site.thread who.0
+  site_of_step (Pending.Start who script stack priority mode) = Site.thread who.0
+  site_of_step (Pending.EnterUser script) = Site.thread p.context.thread
+  site_of_step (Pending.Fatal reason cause) = Site.thread p.context.thread
+  site_of_step (Pending.Dooms from) = Site.thread from
+  site_of_step q = Site.memory
+
+  abbrev pub site_at : Todos → Site
+  site_at [] = Site.scheduler
+  site_at (Todo.show q rest ∷ todo) = site_of_step q
+  site_at (Todo.hold ∷ todo) = Site.thread p.context.thread
+  site_at (Todo.let_go ∷ todo) = Site.thread p.context.thread
+  site_at (Todo.read_claim d ∷ todo) = Site.domain (claimed_domain d)
+  site_at (Todo.read_done d ∷ todo) = Site.domain (claimed_domain d)
+  site_at (Todo.region_load ∷ todo) = Site.parts p.domain
+  site_at (Todo.write_claim d ∷ todo) = Site.domain d
+  site_at (Todo.edit d q ∷ todo) = Site.parts d
+  site_at (Todo.size_look x ∷ todo) = Site.object x
+  site_at (Todo.end_call x ∷ todo) = Site.row x
+  site_at (Todo.wake who told ∷ todo) = Site.scheduler
+  site_at (Todo.add c ∷ todo) = Site.scheduler
+  site_at (Todo.pass who x ∷ todo) = Site.row x
+  site_at (Todo.drop x ∷ todo) = Site.row x
+  site_at (Todo.clean_pair who x ∷ todo) = Site.row x
+  site_at (Todo.wipe x ∷ todo) = Site.object x
+  site_at (Todo.vacate x ∷ todo) = Site.row x
+  site_at (Todo.recycle x ∷ todo) = Site.heap
+  site_at (Todo.park ∷ todo) = Site.scheduler
+  site_at (Todo.done ∷ todo) = Site.scheduler
+
+  abbrev pub next_site : Site
+  next_site = site_at p.todo
+
+  -- What it says, with the answer that an act has from its site.
+
+  abbrev pub says_step : Pending → Act → Act
+  says_step Pending.Begin act = Act.Begin p.context.place.script (p.context.place.line + 1)
+  says_step Pending.Exit act = Act.Exit
+  says_step (Pending.Check a kind want refusal) act = Act.Check a kind want (verdict_in act)
+  says_step (Pending.Load to a n) act = if allows Access.Read a.0 n then Act.Load a n (value_in act) else Act.Fault Access.Read a n
+  says_step (Pending.Store a n value) act = if allows Access.Write a.0 n then Act.Store a n value else Act.Fault Access.Write a n
+  says_step (Pending.Fetch a) act = if allows Access.Exec a.0 4 then Act.Fetch a else Act.Fault Access.Exec a 4
+  says_step (Pending.Probe a m) act = Act.Probe a (amount m) (allows Access.Write a.0 (amount m))
+  says_step (Pending.CopyIn a m) act = Act.CopyIn a (amount m) (allows Access.Read a.0 (amount m))
+  says_step (Pending.CopyOut a) act = let n = length p.context.buffer in Act.CopyOut a n (allows Access.Write a.0 n)
+  says_step (Pending.CopyStr a) act = Act.CopyStr a (found_in act)
+  says_step (Pending.Erase stack) act = Act.Erase stack
+  says_step (Pending.Work a ask) act = Act.Work a (answer_in act) (woken_in act)
+  says_step (Pending.Answer reply to) act = Act.Answered (reply_of image p.context reply)
+  says_step (Pending.Grant who a) act = Act.Grant who a (given_in act)
+  says_step (Pending.Own who) act = Act.Own who (given_in act)
+  says_step (Pending.DropPair who a) act = Act.DropPair who a (left_in act)
+  says_step (Pending.Publish a) act = Act.Publish a (given_in act)
+  says_step (Pending.SetInit a strict undo) act = Act.SetInit a (set_in act)
+  says_step (Pending.ClearInit a) act = Act.ClearInit a
+  says_step (Pending.Named who) act = Act.Named who
+  says_step (Pending.Reserve kind) act = Act.Reserve kind (reserved_in act)
+  says_step (Pending.Born a) act = Act.Born a
+  says_step (Pending.Buffer size) act = Act.Buffer size (fits_in act)
+  says_step (Pending.Unbuffer size) act = Act.Unbuffer size
+  says_step (Pending.DomInit d parts) act = Act.DomInit d p.reply
+  says_step (Pending.DomAdd d range attr) act = Act.DomAdd d range attr p.reply
+  says_step (Pending.DomRemove d range attr) act = Act.DomRemove d range attr p.reply
+  says_step (Pending.DomMove d who) act = Act.DomMove d who p.reply
+  says_step (Pending.Start who script stack priority mode) act = Act.Start who
+  says_step (Pending.EnterUser script) act = Act.EnterUser
+  says_step (Pending.Fatal reason cause) act = Act.Fatal reason cause
+  says_step (Pending.Dooms from) act = Act.Doom (to_thread from)
+  says_step q act = Act.Exit
+
+  -- what the site needs beside the event
+  abbrev pub fits_kind : Option Kind → Option ℕ → Bool
+  fits_kind kind None = false
+  fits_kind kind (Some x) = has_kind kind (kind_of image x)
+
+  abbrev pub more_of : Pending → More
+  more_of (Pending.Check a kind want refusal) = More.By p.context.mode (fits_kind kind (row_at image a.0))
+  more_of (Pending.SetInit a strict undo) = More.Strict strict
+  more_of (Pending.Start who script stack priority mode) = More.Starts mode p.domain
+  more_of q = More.Nothing
+
+  abbrev pub by_me : Act → FineAct
+  by_me act = FineAct.Shown (record { thread = me; act = act }) More.Nothing
+
+  -- a visit, or what is done there
+  abbrev pub visits : FineAct → Act → FineAct
+  visits e act = if is_visit e then FineAct.Unseen Unseen.Visit else by_me act
+
+  abbrev pub shows : Pending → FineAct → FineAct
+  shows q e = FineAct.Shown (record { thread = me; act = says_step q (act_in e) }) (more_of q)
+
+  -- the event, unless the thread's word shows it doomed
+  abbrev pub begins : Pending → FineAct → FineAct
+  begins q e = if is_word_read e then FineAct.Unseen Unseen.WordRead else shows q e
+
+  abbrev pub says_show : Pending → FineAct → FineAct
+  says_show Pending.Begin e = begins Pending.Begin e
+  says_show Pending.Exit e = begins Pending.Exit e
+  says_show q e = shows q e
+
+  abbrev pub says_idle : Exchange → FineAct
+  says_idle (Exchange.thread c told) = takes_turn c told
+  says_idle moved = FineAct.Unseen (Unseen.Next me)
+
+  abbrev pub says : Todos → FineAct → Exchange → FineAct
+  says [] e moved = says_idle moved
+  says (Todo.show q rest ∷ todo) e moved = says_show q e
+  says (Todo.hold ∷ todo) e moved = FineAct.Unseen Unseen.Hold
+  says (Todo.let_go ∷ todo) e moved = FineAct.Unseen Unseen.LetGo
+  says (Todo.read_claim d ∷ todo) e moved = FineAct.Unseen Unseen.ReadClaim
+  says (Todo.read_done d ∷ todo) e moved = FineAct.Unseen Unseen.ReadDone
+  says (Todo.region_load ∷ todo) e moved = FineAct.Unseen Unseen.RegionLoad
+  says (Todo.write_claim d ∷ todo) e moved = FineAct.Unseen Unseen.WriteClaim
+  says (Todo.edit d q ∷ todo) e moved = FineAct.Unseen Unseen.Edit
+  says (Todo.size_look x ∷ todo) e moved = FineAct.Unseen Unseen.SizeLook
+  says (Todo.end_call x ∷ todo) e moved = FineAct.Unseen Unseen.EndCall
+  says (Todo.wake who told ∷ todo) e moved = FineAct.Unseen (Unseen.Wake (to_thread who) (ready_in e))
+  says (Todo.add c ∷ todo) e moved = FineAct.Unseen (Unseen.Add (to_thread c.thread))
+  says (Todo.pass who x ∷ todo) e moved = visits e (Act.Inherit (to_thread who) (address_of image x))
+  says (Todo.drop x ∷ todo) e moved = visits e (Act.DropPair me (address_of image x) (left_in (act_in e)))
+  says (Todo.clean_pair who x ∷ todo) e moved = visits e (Act.DropPair (to_thread who) (address_of image x) (left_in (act_in e)))
+  says (Todo.wipe x ∷ todo) e moved = FineAct.Unseen Unseen.Wipe
+  says (Todo.vacate x ∷ todo) e moved = FineAct.Unseen Unseen.Vacate
+  says (Todo.recycle x ∷ todo) e moved = by_me (Act.Recycle (address_of image x))
+  says (Todo.park ∷ todo) e moved = FineAct.Unseen (Unseen.Park me (ready_in e))
+  says (Todo.done ∷ todo) e moved = FineAct.Unseen Unseen.Done
+
+  -- What goes with it, with what the site gives.
+
+  abbrev pub caller : Ask → Waiter
+  caller ask = record { thread = me; priority = p.context.priority; ask = ask; bytes = bytes_given p.context.buffer ask }
+
+  abbrev pub moves_step : Pending → Exchange → Exchange
+  moves_step (Pending.CopyIn a m) moved = if allows Access.Read a.0 (amount m) then Exchange.bytes (bytes_in moved) else Exchange.nothing
+  moves_step (Pending.CopyOut a) moved = Exchange.bytes p.context.buffer
+  moves_step (Pending.CopyStr a) moved = Exchange.text (readable a.0 32) (bytes_in moved)
+  moves_step (Pending.Work a ask) moved = Exchange.asked (caller ask) (outcome_in moved)
+  moves_step (Pending.Named who) moved = Exchange.bytes p.context.buffer
+  moves_step (Pending.Reserve kind) moved = Exchange.charge (cost_of p.context.pool 64)
+  moves_step (Pending.Buffer size) moved = Exchange.charge (cost_of p.context.pool size)
+  moves_step (Pending.Unbuffer size) moved = Exchange.charge (cost_of p.context.pool size)
+  moves_step q moved = Exchange.nothing
+
+  abbrev pub moves : Todos → Exchange → Exchange
+  moves [] moved = moved
+  moves (Todo.show q rest ∷ todo) moved = moves_step q moved
+  moves (Todo.region_load ∷ todo) moved = Exchange.parts (parts_in moved)
+  moves (Todo.edit d q ∷ todo) moved =
+      Exchange.edited (before_in moved) (domain_after (before_in moved) (edit_of image q (before_in moved)))
+  moves (Todo.size_look x ∷ todo) moved = Exchange.size (size_in moved)
+  moves (Todo.wake who told ∷ todo) moved = Exchange.told told
+  moves (Todo.add c ∷ todo) moved = Exchange.thread c None
+  moves (Todo.wipe x ∷ todo) moved = Exchange.charge (charge_in moved)
+  moves (Todo.recycle x ∷ todo) moved = Exchange.charge p.charge
+  moves (Todo.park ∷ todo) moved = Exchange.thread p.context None
+  moves (q ∷ todo) moved = Exchange.nothing
+
+  -- a step as this processor makes it where the site answers so
+  abbrev pub made_by : FineStep → FineStep
+  made_by e = record e { site = next_site; act = says p.todo e.act e.moved; moved = moves p.todo e.moved }
+
+  -- whether the word that is left shows that a step was the one to make
+  abbrev pub is_dropped : Leftover → Bool
+  is_dropped Leftover.NoPair = false
+  is_dropped left = true
+
+  abbrev pub fits_visit : FineStep → Bool → Bool
+  fits_visit e there = if is_visit e.act then not there else is_dropped (left_in (act_in e.act))
+
+  -- what never bites: a call holds at most two objects, an access has at most four bytes, a line that begins stands
+  abbrev pub has_room : Pending → Bool
+  has_room (Pending.Check a kind want refusal) = nat_lt (length p.context.claims) 2
+  has_room (Pending.Load to a n) = nat_le n 4
+  has_room Pending.Begin = is_some (instruction_at image p.context.place)
+  has_room q = true
+
+  abbrev pub fits : Todos → FineStep → Bool
+  fits (Todo.show q rest ∷ todo) e = (not (is_word_read e.act) || (thread_in e.word).doomed) && has_room q
+  fits (Todo.pass who x ∷ todo) e = not (is_visit e.act) || not (has (row_in e.word) p.context.thread && not (has (row_in e.word) who))
+  fits (Todo.drop x ∷ todo) e = fits_visit e (has (row_in e.word) p.context.thread)
+  fits (Todo.clean_pair who x ∷ todo) e = fits_visit e (has (row_in e.word) who)
+  fits todo e = true
+
+  -- it is the step that this processor makes next
+  pub record CpuMay (e : FineStep) : Type 0 where
+    pub makes : made_by e ≡ e
+    pub fit : IsTrue (fits p.todo e)

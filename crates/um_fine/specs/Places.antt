@@ -1,0 +1,138 @@
+-- Where the unseen steps stand: the fine steps that a thread's next pending step takes.
+use Rattle.std.specs.Prelude.{ℕ, ◌+◌, Bool, true, false, ◌==◌, nat_lt, if◌then◌else◌, List, [], ◌∷◌, ◌++◌, Option, Some, None}
+use Rattle.um_base.specs.declared.ask.Told.{Told}
+use Rattle.um_base.specs.declared.image.Image.{Image}
+use Rattle.um_base.specs.declared.instr.Instr.{Instr}
+use Rattle.um_base.specs.declared.limits.TheConstants.{ROWS}
+use Rattle.um_base.specs.Places.{own_row, thread_of_row}
+use Rattle.um_machine.specs.declared.pending.Amount.{Amount}
+use Rattle.um_machine.specs.declared.pending.Pending.{Pending}
+use Rattle.um_machine.specs.State.{instruction_at}
+use Rattle.um_machine.specs.Order.{Steps}
+use Rattle.um_fine.specs.Context.{Context}
+use Rattle.um_fine.specs.Addresses.{row_named}
+use Rattle.um_fine.specs.Continues.{newborn}
+
+-- A fine step that a processor has still to make.
+pub data Todo : Type 0 where
+  -- the event of a pending step, behind which these steps are left
+  show : Pending → Steps → Todo
+  -- round an access to memory, and a start
+  hold : Todo
+  let_go : Todo
+  -- of the domain that is held, or of this one
+  read_claim : Option ℕ → Todo
+  read_done : Option ℕ → Todo
+  region_load : Todo
+  -- before the event of a domain's edit
+  write_claim : ℕ → Todo
+  edit : ℕ → Pending → Todo
+  -- before a message is copied
+  size_look : ℕ → Todo
+  -- behind a reply or a fatal error
+  end_call : ℕ → Todo
+  -- behind an act that wakes
+  wake : ℕ → Told → Todo
+  -- behind a start
+  add : Context → Todo
+  -- a visit of this row: a permission on its object is passed on to a child, is dropped at the thread's end, or is dropped of a thread that is gone
+  pass : ℕ → ℕ → Todo
+  drop : ℕ → Todo
+  clean_pair : ℕ → ℕ → Todo
+  -- the cleaning of an object
+  wipe : ℕ → Todo
+  vacate : ℕ → Todo
+  recycle : ℕ → Todo
+  -- the end of a turn
+  park : Todo
+  done : Todo
+
+abbrev pub Todos : Type 0
+Todos = List Todo
+
+-- the visits from a row on, one of which stands for all that are left
+abbrev pub passes : ℕ → ℕ → Todos → Todos
+passes who x todo = if nat_lt x ROWS then Todo.pass who x ∷ todo else todo
+
+abbrev pub drops : ℕ → Todos → Todos
+drops x todo = if nat_lt x ROWS then Todo.drop x ∷ todo else todo
+
+abbrev pub clean_pairs : ℕ → ℕ → Todos → Todos
+clean_pairs who x todo = if nat_lt x ROWS then Todo.clean_pair who x ∷ todo else todo
+
+-- a row, unless it is the own one, and then the next
+abbrev pub but : ℕ → ℕ → ℕ
+but own x = if x == own then x + 1 else x
+
+-- the cleaning of an object that is gone: of a thread object, first the pairs of its thread
+abbrev pub emptying : ℕ → Todos
+emptying x = Todo.wipe x ∷ Todo.vacate x ∷ Todo.recycle x ∷ []
+
+abbrev pub cleaning_of : ℕ → Option ℕ → Todos
+cleaning_of x None = emptying x
+cleaning_of x (Some who) = clean_pairs who 0 (emptying x)
+
+abbrev pub is_cleaning_todo : Todo → Bool
+is_cleaning_todo (Todo.clean_pair who x) = true
+is_cleaning_todo (Todo.wipe x) = true
+is_cleaning_todo (Todo.vacate x) = true
+is_cleaning_todo (Todo.recycle x) = true
+is_cleaning_todo _ = false
+
+-- an object is cleaned before anything else, but behind those whose cleaning has begun
+abbrev pub with_cleaning : Todos → Todos → Todos
+with_cleaning block [] = block
+with_cleaning block (q ∷ todo) = if is_cleaning_todo q then q ∷ with_cleaning block todo else block ++ q ∷ todo
+
+abbrev pub on_memory : Pending → Steps → Todos
+on_memory p rest =
+    Todo.hold ∷ Todo.read_claim None ∷ Todo.region_load ∷ Todo.show p rest ∷ Todo.read_done None ∷ Todo.let_go ∷ []
+
+module _ (image : Image) where
+  abbrev pub cleaning : ℕ → Todos
+  cleaning x = cleaning_of x (thread_of_row image x)
+
+  abbrev pub sized : Amount → Todos → Todos
+  sized (Amount.Bytes n) todo = todo
+  sized (Amount.MessageOf a) todo = Todo.size_look (row_named image a) ∷ todo
+
+  -- the fine steps of a pending step, behind which these are left
+  abbrev pub fine_steps : Context → Pending → Steps → Todos
+  fine_steps c (Pending.Load to a n) rest = on_memory (Pending.Load to a n) rest
+  fine_steps c (Pending.Store a n value) rest = on_memory (Pending.Store a n value) rest
+  fine_steps c (Pending.Fetch a) rest = on_memory (Pending.Fetch a) rest
+  fine_steps c (Pending.Probe a amount) rest = sized amount (on_memory (Pending.Probe a amount) rest)
+  fine_steps c (Pending.CopyIn a amount) rest = sized amount (on_memory (Pending.CopyIn a amount) rest)
+  fine_steps c (Pending.CopyOut a) rest = on_memory (Pending.CopyOut a) rest
+  fine_steps c (Pending.CopyStr a) rest = on_memory (Pending.CopyStr a) rest
+  fine_steps c (Pending.DomInit d parts) rest =
+      let p = Pending.DomInit d parts in Todo.write_claim d ∷ Todo.edit d p ∷ Todo.show p rest ∷ []
+  fine_steps c (Pending.DomAdd d range attr) rest =
+      let p = Pending.DomAdd d range attr in Todo.write_claim d ∷ Todo.edit d p ∷ Todo.show p rest ∷ []
+  fine_steps c (Pending.DomRemove d range attr) rest =
+      let p = Pending.DomRemove d range attr in Todo.write_claim d ∷ Todo.edit d p ∷ Todo.show p rest ∷ []
+  fine_steps c (Pending.DomMove d who) rest = Todo.read_claim (Some d) ∷ Todo.show (Pending.DomMove d who) rest ∷ []
+  fine_steps c (Pending.Start who script stack priority mode) rest =
+      let p = Pending.Start who script stack priority mode in
+      Todo.hold ∷ Todo.show p rest ∷ Todo.let_go ∷ Todo.add (newborn image c p) ∷ []
+  fine_steps c p rest = Todo.show p rest ∷ []
+
+  abbrev pub end_of_turn : Bool → Todos
+  end_of_turn true = Todo.done ∷ []
+  end_of_turn false = Todo.park ∷ []
+
+  -- the next fine steps of a thread that has these steps to make
+  abbrev pub next_steps : Context → Steps → Todos
+  next_steps c [] = end_of_turn c.ended
+  next_steps c (Pending.Resume ∷ rest) = end_of_turn false
+  next_steps c (Pending.Inherit who ∷ p ∷ rest) = passes who.0 (but (own_row image c.thread) 0) (fine_steps c p rest)
+  next_steps c (Pending.Drops from ∷ p ∷ rest) = drops from (fine_steps c p rest)
+  next_steps c (p ∷ rest) = fine_steps c p rest
+
+  -- the first fine step of a turn
+  abbrev pub turn_of : Option Instr → Todos
+  turn_of (Some instr) = Todo.show Pending.Begin [] ∷ []
+  turn_of None = Todo.show Pending.Exit [] ∷ []
+
+  abbrev pub turn : Context → Todos
+  turn c = turn_of (instruction_at image c.place)

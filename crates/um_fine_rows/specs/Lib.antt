@@ -1,0 +1,14 @@
+pub mod Evaluate
+pub mod Left
+pub mod Brief
+pub mod Whole
+pub mod AllocationsRefused
+pub mod CopyOfASupervisorAfterACut
+pub mod DoomedAtRest
+pub mod ExecutionAtTheEnd
+pub mod GrantBeforeTake
+pub mod OwnSaysGone
+pub mod PublicationOfAGoneObject
+pub mod RealisticImage
+pub mod StoreBetweenRemoveAndAdd
+pub mod TwoInitsOfOneQueue

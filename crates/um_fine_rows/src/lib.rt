@@ -1,0 +1,2 @@
+//! Worked runs of the fine machine, evaluated by its definitions.
+#![tactic(auto)]
