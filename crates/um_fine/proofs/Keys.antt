@@ -1,9 +1,9 @@
--- A site is known by its sort and its number.
-use Rattle.std.specs.Prelude.{◌≡◌, ℕ, true, refl}
-use Rattle.std.proofs.Common.{eq-eqb, ap, sym, ◌∙◌, zero, suc}
-use Rattle.std.proofs.lemmas.Bool.{and_parts, and_from, eqb-true}
+-- A site is known by its sort and its number there, and by its number among all sites.
+use Rattle.std.specs.Prelude.{◌≡◌, ℕ, ◌<◌, true, IsTrue, refl}
+use Rattle.std.proofs.Common.{arith, eq-eqb, ap, sym, ◌∙◌, zero, suc}
+use Rattle.std.proofs.lemmas.Bool.{and_parts, and_from, eqb-true, ltb-true}
 use Rattle.um_fine.specs.Steps.{Site}
-use Rattle.um_fine.specs.Sites.{site_code, same_site}
+use Rattle.um_fine.specs.Sites.{is_site, same_site, site_code, site_number, site_numbered}
 
 -- the site of a code
 from : ℕ × ℕ → Site
@@ -36,3 +36,27 @@ same-sound a b h =
 
 pub same-itself : (a : Site) → same_site a a ≡ true
 same-itself a = and_from _ _ (eq-eqb (site_code a).0 (site_code a).0 refl) (eq-eqb (site_code a).1 (site_code a).1 refl)
+
+pub number-back : (i : Site) → IsTrue (is_site i) → site_numbered (site_number i) ≡ i
+number-back (Site.row x) h = grind arith
+number-back (Site.thread t) h = grind arith
+number-back (Site.domain d) h = grind arith
+number-back (Site.object x) h = grind arith
+number-back (Site.parts d) h = grind arith
+number-back Site.memory h = refl
+number-back Site.heap h = refl
+number-back Site.scheduler h = refl
+
+-- sites with one number are the same
+pub number-sound : (i j : Site) → IsTrue (is_site i) → IsTrue (is_site j) → site_number i ≡ site_number j → i ≡ j
+number-sound i j h k e = sym (number-back i h) ∙ (ap site_numbered e ∙ number-back j k)
+
+pub number-bound : (i : Site) → IsTrue (is_site i) → site_number i < 307
+number-bound (Site.row x) h = omega (arith, ltb-true x 128 h)
+number-bound (Site.thread t) h = omega (arith, ltb-true t 32 h)
+number-bound (Site.domain d) h = omega (arith, ltb-true d 8 h)
+number-bound (Site.object x) h = omega (arith, ltb-true x 128 h)
+number-bound (Site.parts d) h = omega (arith, ltb-true d 8 h)
+number-bound Site.memory h = omega arith
+number-bound Site.heap h = omega arith
+number-bound Site.scheduler h = omega arith

@@ -1,5 +1,5 @@
 -- The step that a processor makes next: where, what it says, and what goes with it.
-use Rattle.std.specs.Prelude.{◌≡◌, ℕ, zero, suc, ◌+◌, Bool, true, false, ◌&&◌, ◌||◌, not, nat_lt, nat_le, IsTrue, if◌then◌else◌, [], ◌∷◌, length, Option, Some, None, is_some}
+use Rattle.std.specs.Prelude.{◌≡◌, ℕ, zero, suc, ◌+◌, ◌-◌, Bool, true, false, ◌&&◌, ◌||◌, not, nat_lt, nat_le, IsTrue, if◌then◌else◌, [], ◌∷◌, length, Option, Some, None, is_some}
 use Rattle.um_base.specs.declared.names.Access.{Access}
 use Rattle.um_base.specs.declared.names.Addr.{Addr}
 use Rattle.um_base.specs.declared.names.Kind.{Kind}
@@ -9,6 +9,7 @@ use Rattle.um_base.specs.declared.act.Leftover.{Leftover}
 use Rattle.um_base.specs.declared.ask.Ask.{Ask}
 use Rattle.um_base.specs.declared.ask.Waiter.{Waiter}
 use Rattle.um_base.specs.declared.image.Image.{Image}
+use Rattle.um_base.specs.declared.limits.TheConstants.{ROWS, STATIC_ROWS}
 use Rattle.um_base.specs.Places.{row_at, own_row}
 use Rattle.um_base.specs.Regions.{regions_allow}
 use Rattle.um_machine.specs.declared.pending.Amount.{Amount}
@@ -21,14 +22,31 @@ use Rattle.um_machine.specs.Table.{bytes_given, cost_of}
 use Rattle.um_words.specs.declared.fine.FineAct.{FineAct}
 use Rattle.um_words.specs.declared.fine.More.{More}
 use Rattle.um_words.specs.declared.fine.Unseen.{Unseen}
-use Rattle.um_words.specs.Rows.{has}
+use Rattle.um_words.specs.Rows.{has, is_cleaning}
 use Rattle.um_fine.specs.Steps.{Site, Exchange, FineStep}
 use Rattle.um_fine.specs.Addresses.{row_named, address_of}
 use Rattle.um_fine.specs.Answers.{act_in, answer_in, before_in, bytes_in, charge_in, fits_in, found_in, given_in, is_visit, is_word_read, left_in, outcome_in, parts_in, ready_in, reserved_in, row_in, set_in, size_in, thread_in, value_in, verdict_in, woken_in}
 use Rattle.um_fine.specs.Scheduler.{takes_turn}
 use Rattle.um_fine.specs.Continues.{reply_of}
-use Rattle.um_fine.specs.Places.{Todo, Todos}
+use Rattle.um_fine.specs.Places.{Todo, Todos, cleanings}
 use Rattle.um_fine.specs.Processor.{Processor, edit_of, fails, kind_of, loaded}
+
+-- whether a visit is the one to make, by whether there is a permission to drop
+abbrev pub is_dropped : Leftover → Bool
+is_dropped Leftover.NoPair = false
+is_dropped left = true
+
+abbrev pub fits_visit : FineStep → Bool → Bool
+fits_visit e there = if is_visit e.act then not there else is_dropped (left_in (act_in e.act))
+
+-- whether a step moved its row to cleaning
+abbrev pub begins_cleaning : FineStep → Bool
+begins_cleaning e =
+    elim e.act as (λ _. Bool) [
+      | FineAct.Unseen Unseen.EndCall ↦ is_cleaning (row_in e.word).stage
+      | FineAct.Unseen _ ↦ false
+      | FineAct.Shown event more ↦ elim (left_in event.act) as (λ _. Bool) [ Leftover.Gone ↦ is_cleaning (row_in e.word).stage | _ ↦ false ]
+    ]
 
 module _ (image : Image) (p : Processor) where
   abbrev pub me : ThreadIx
@@ -242,14 +260,6 @@ module _ (image : Image) (p : Processor) where
   abbrev pub made_by : FineStep → FineStep
   made_by e = record e { site = next_site; act = says p.todo e.act e.moved; moved = moves p.todo e.moved }
 
-  -- whether the word that is left shows that a step was the one to make
-  abbrev pub is_dropped : Leftover → Bool
-  is_dropped Leftover.NoPair = false
-  is_dropped left = true
-
-  abbrev pub fits_visit : FineStep → Bool → Bool
-  fits_visit e there = if is_visit e.act then not there else is_dropped (left_in (act_in e.act))
-
   -- what never bites: a call holds at most two objects, an access has at most four bytes, a line that begins stands
   abbrev pub has_room : Pending → Bool
   has_room (Pending.Check a kind want refusal) = nat_lt (length p.context.claims) 2
@@ -257,12 +267,17 @@ module _ (image : Image) (p : Processor) where
   has_room Pending.Begin = is_some (instruction_at image p.context.place)
   has_room q = true
 
+  -- whether the word that is left shows that a step was the one to make
+  abbrev pub fits_step : Todos → FineStep → Bool
+  fits_step (Todo.show q rest ∷ todo) e = (not (is_word_read e.act) || (thread_in e.word).doomed) && has_room q
+  fits_step (Todo.pass who x ∷ todo) e = not (is_visit e.act) || not (has (row_in e.word) p.context.thread && not (has (row_in e.word) who))
+  fits_step (Todo.drop x ∷ todo) e = fits_visit e (has (row_in e.word) p.context.thread)
+  fits_step (Todo.clean_pair who x ∷ todo) e = fits_visit e (has (row_in e.word) who)
+  fits_step todo e = true
+
+  -- and where it begins the cleaning of an object, what also never bites: no more objects are to be cleaned than there are dynamic rows
   abbrev pub fits : Todos → FineStep → Bool
-  fits (Todo.show q rest ∷ todo) e = (not (is_word_read e.act) || (thread_in e.word).doomed) && has_room q
-  fits (Todo.pass who x ∷ todo) e = not (is_visit e.act) || not (has (row_in e.word) p.context.thread && not (has (row_in e.word) who))
-  fits (Todo.drop x ∷ todo) e = fits_visit e (has (row_in e.word) p.context.thread)
-  fits (Todo.clean_pair who x ∷ todo) e = fits_visit e (has (row_in e.word) who)
-  fits todo e = true
+  fits todo e = fits_step todo e && (not (begins_cleaning e) || nat_lt (cleanings todo) (ROWS - STATIC_ROWS))
 
   -- it is the step that this processor makes next
   pub record CpuMay (e : FineStep) : Type 0 where

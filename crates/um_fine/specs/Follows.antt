@@ -3,32 +3,20 @@ use Rattle.std.specs.Prelude.{ℕ, ◌+◌, Bool, true, false, ◌==◌, if◌th
 use Rattle.um_base.specs.declared.names.Errno.{Errno}
 use Rattle.um_base.specs.declared.names.Reply.{Reply}
 use Rattle.um_base.specs.declared.names.ThreadIx.{ThreadIx}
-use Rattle.um_base.specs.declared.act.Leftover.{Leftover}
 use Rattle.um_base.specs.declared.ask.Told.{Told}
 use Rattle.um_base.specs.declared.image.Image.{Image}
 use Rattle.um_base.specs.Places.{own_row}
 use Rattle.um_machine.specs.declared.pending.Pending.{Pending}
 use Rattle.um_machine.specs.Domains.{reply_to}
 use Rattle.um_machine.specs.Order.{Steps}
-use Rattle.um_words.specs.declared.fine.FineAct.{FineAct}
-use Rattle.um_words.specs.declared.fine.Unseen.{Unseen}
-use Rattle.um_words.specs.Rows.{is_cleaning}
 use Rattle.um_fine.specs.Context.{Context, no_context}
 use Rattle.um_fine.specs.Steps.{Site, Exchange, FineStep}
 use Rattle.um_fine.specs.Addresses.{row_named}
-use Rattle.um_fine.specs.Answers.{act_in, before_in, charge_in, domain_in, is_visit, is_word_read, left_in, outcome_in, parts_in, row_in, size_in, thread_in}
+use Rattle.um_fine.specs.Answers.{act_in, before_in, charge_in, domain_in, is_visit, is_word_read, outcome_in, parts_in, size_in, thread_in}
 use Rattle.um_fine.specs.Continues.{continues, resumed}
 use Rattle.um_fine.specs.Places.{Todo, Todos, but, clean_pairs, cleaning, drops, next_steps, passes, turn, with_cleaning}
 use Rattle.um_fine.specs.Processor.{Processor, edit_of, is_of, key_of}
-
--- whether a step moved its row to cleaning
-abbrev pub begins_cleaning : FineStep → Bool
-begins_cleaning e =
-    elim e.act as (λ _. Bool) [
-      | FineAct.Unseen Unseen.EndCall ↦ is_cleaning (row_in e.word).stage
-      | FineAct.Unseen _ ↦ false
-      | FineAct.Shown event more ↦ elim (left_in event.act) as (λ _. Bool) [ Leftover.Gone ↦ is_cleaning (row_in e.word).stage | _ ↦ false ]
-    ]
+use Rattle.um_fine.specs.Asks.{begins_cleaning}
 
 abbrev pub row_number : Site → ℕ
 row_number (Site.row x) = x

@@ -39,7 +39,7 @@ abbrev pub new_cell : Cell → SiteState
 new_cell c = SiteState.cell 0 c
 
 module _ (s : State) where
-  -- a thread holds its own object, and a claim stands for it
+  -- a thread holds its own object, and a claim stands for it; dynamic objects come later
   abbrev pub row_state : ℕ → SiteState
   row_state x =
       let o = object_at s x in
@@ -48,7 +48,7 @@ module _ (s : State) where
         permissions = slice_index_or s.pairs x [];
         init = o.init;
         public = o.public;
-        dynamic = nat_le STATIC_ROWS x;
+        dynamic = false;
         stage = stage_of o;
         claims = count (indexed (thread_holds s.image x) 0 s.threads);
         number = 0;

@@ -72,6 +72,12 @@ abbrev pub cleaning_of : ℕ → Option ℕ → Todos
 cleaning_of x None = emptying x
 cleaning_of x (Some who) = clean_pairs who 0 (emptying x)
 
+-- how many objects are to be cleaned
+abbrev pub cleanings : Todos → ℕ
+cleanings [] = 0
+cleanings (Todo.recycle x ∷ todo) = cleanings todo + 1
+cleanings (q ∷ todo) = cleanings todo
+
 abbrev pub is_cleaning_todo : Todo → Bool
 is_cleaning_todo (Todo.clean_pair who x) = true
 is_cleaning_todo (Todo.wipe x) = true

@@ -1,6 +1,7 @@
 -- The sites: the state of each, what it fills in of a step, and when a step is lawful there.
-use Rattle.std.specs.Prelude.{◌≡◌, ℕ, ◌+◌, Bool, true, false, ◌==◌, ◌&&◌, nat_lt, IsTrue}
+use Rattle.std.specs.Prelude.{◌≡◌, ℕ, ◌+◌, ◌-◌, Bool, true, false, ◌==◌, ◌&&◌, nat_lt, IsTrue, if◌then◌else◌}
 use Rattle.um_base.specs.declared.image.Image.{Image}
+use Rattle.um_base.specs.declared.limits.TheConstants.{DOMAINS, ROWS, THREADS}
 use Rattle.um_words.specs.declared.fine.FineAct.{FineAct}
 use Rattle.um_words.specs.declared.row_word.RowWord.{RowWord}
 use Rattle.um_words.specs.declared.thread_word.ThreadWord.{ThreadWord}
@@ -22,6 +23,27 @@ site_number (Site.parts d) = 296 + d
 site_number Site.memory = 304
 site_number Site.heap = 305
 site_number Site.scheduler = 306
+
+-- the site of a number
+abbrev pub site_numbered : ℕ → Site
+site_numbered n =
+    if nat_lt n 128 then Site.row n
+    else if nat_lt n 160 then Site.thread (n - 128)
+    else if nat_lt n 168 then Site.domain (n - 160)
+    else if nat_lt n 296 then Site.object (n - 168)
+    else if nat_lt n 304 then Site.parts (n - 296)
+    else if n == 304 then Site.memory
+    else if n == 305 then Site.heap
+    else Site.scheduler
+
+-- whether there is such a site
+abbrev pub is_site : Site → Bool
+is_site (Site.row x) = nat_lt x ROWS
+is_site (Site.thread t) = nat_lt t THREADS
+is_site (Site.domain d) = nat_lt d DOMAINS
+is_site (Site.object x) = nat_lt x ROWS
+is_site (Site.parts d) = nat_lt d DOMAINS
+is_site _ = true
 
 -- its sort, and which one of these
 abbrev pub site_code : Site → ℕ × ℕ

@@ -1,20 +1,18 @@
 -- The fine machine by evaluation: a run from a list of processors, with tests for what its relations say.
-use Rattle.std.specs.Prelude.{ℕ, zero, suc, Bool, true, false, ◌&&◌, not, List, [], ◌∷◌, ◌++◌, map, replicate, Option, Some, None, slice_index_or, slice_set, is_some}
-use Rattle.std.specs.List.{list_any}
+use Rattle.std.specs.Prelude.{ℕ, zero, suc, Bool, true, false, ◌&&◌, not, nat_lt, List, [], ◌∷◌, length, map, replicate, Option, Some, None, slice_index_or, slice_set, is_some}
+use Rattle.std.specs.List.{list_any, range_with_len}
 use Rattle.um_base.specs.declared.image.Image.{Image}
-use Rattle.um_base.specs.declared.limits.TheConstants.{ROWS, THREADS, DOMAINS}
-use Rattle.um_machine.specs.Run.{opening}
 use Rattle.um_words.specs.declared.fine.FineAct.{FineAct}
 use Rattle.um_words.specs.declared.fine.More.{More}
 use Rattle.um_words.specs.declared.fine.Unseen.{Unseen}
 use Rattle.um_fine.specs.Steps.{Site, Word, Exchange, FineStep}
 use Rattle.um_fine.specs.Answers.{no_event}
 use Rattle.um_fine.specs.Cells.{Cell, quiet_word}
-use Rattle.um_fine.specs.Sites.{SiteState, filled, site_number, s_next, site_takes}
+use Rattle.um_fine.specs.Sites.{SiteState, filled, is_site, is_sort, site_number, site_numbered, s_next, site_takes}
 use Rattle.um_fine.specs.Processor.{Processor, idle}
 use Rattle.um_fine.specs.Asks.{fits, made_by, next_site}
 use Rattle.um_fine.specs.Follows.{p_next}
-use Rattle.um_fine.specs.Opening.{new_cell, site_state}
+use Rattle.um_fine.specs.Opening.{new_cell, s_start}
 use Rattle.um_rows.specs.Evaluate.{numbers}
 
 -- all processors by number, and all sites by number
@@ -31,10 +29,9 @@ site_in b i = slice_index_or b.sites (site_number i) no_site
 abbrev pub processor_in : Board → ℕ → Processor
 processor_in b k = slice_index_or b.processors k idle
 
-abbrev pub all_sites : List Site
-all_sites =
-    map Site.row (numbers 0 ROWS) ++ map Site.thread (numbers 0 THREADS) ++ map Site.domain (numbers 0 DOMAINS)
-    ++ map Site.object (numbers 0 ROWS) ++ map Site.parts (numbers 0 DOMAINS) ++ Site.memory ∷ Site.heap ∷ Site.scheduler ∷ []
+-- how many sites there are
+abbrev pub SITES : ℕ
+SITES = 307
 
 -- a step without answers, of which comes a read of a word, a visit or an event
 abbrev pub seed : ℕ → FineAct → FineStep
@@ -50,16 +47,24 @@ module _ (image : Image) where
   asked p s e = filled image s (made_by image p e)
 
   abbrev pub may : Processor → SiteState → FineStep → Bool
-  may p s e = site_takes s e.act && fits image p p.todo e
+  may p s e = is_sort (next_site image p) s && (site_takes s e.act && fits image p p.todo e)
 
   abbrev pub first_of : Processor → SiteState → List FineStep → Option FineStep
   first_of p s [] = None
   first_of p s (e ∷ es) =
       let made = asked p s (asked p s e) in elim (may p s made) as (λ _. Option FineStep) [ true ↦ Some made | false ↦ first_of p s es ]
 
+  -- where a processor is, and a site
+  abbrev pub only_there : Bool → Option FineStep → Option FineStep
+  only_there true made = made
+  only_there false made = None
+
   -- the next step of a processor, where its site takes it now
   abbrev pub next_made : Board → ℕ → Option FineStep
-  next_made b k = let p = processor_in b k in first_of p (site_in b (next_site image p)) (seeds k)
+  next_made b k =
+      let p = processor_in b k in
+      let i = next_site image p in
+      only_there (nat_lt k (length b.processors) && is_site i) (first_of p (site_in b i) (seeds k))
 
   -- what comes of a list of processors
   pub record FineCourse : Type 0 where
@@ -101,4 +106,5 @@ module _ (image : Image) where
 
   -- so many processors, and the sites of the image
   abbrev pub opening_board : ℕ → Board
-  opening_board cpus = record { processors = replicate cpus idle; sites = map (site_state (opening image)) all_sites }
+  opening_board cpus =
+      record { processors = replicate cpus idle; sites = map (λ n. s_start image (site_numbered n)) (range_with_len 0 SITES) }

@@ -2,6 +2,7 @@ pub mod Evaluate
 pub mod Left
 pub mod Brief
 pub mod Whole
+pub mod Related
 pub mod AllocationsRefused
 pub mod CopyOfASupervisorAfterACut
 pub mod DoomedAtRest

@@ -20,6 +20,7 @@ use Rattle.um_base.specs.declared.image.Script.{Script}
 use Rattle.um_fine_rows.specs.Left.{without_priorities}
 use Rattle.um_fine_rows.specs.Brief.{Brief}
 use Rattle.um_fine_rows.specs.Whole.{whole_fine_run}
+use Rattle.um_fine_rows.specs.Related.{related_steps}
 use Rattle.um_machine.specs.Run.{blank}
 use Rattle.um_rows.specs.Evaluate.{Choice, skips, begins, exits, goes}
 use Rattle.um_rows.specs.Dump.{Dump, started, ended, uninitialised, nothing}
@@ -184,3 +185,8 @@ steps =
 pub makes : whole_fine_run image 3 processors ≡ record { steps = steps; events = events; is_lawful = true; is_complete = true; dump = without_priorities dump }
 unfolding blank
 makes = refl
+
+-- before each step and after the last one the relation holds
+pub is_related : related_steps image (record { cpus = 3; threads = 0 ∷ 1 ∷ []; rows = 0 ∷ 1 ∷ 2 ∷ 3 ∷ []; domains = 0 ∷ [] }) processors choices ≡ 299
+unfolding blank
+is_related = refl

@@ -1,0 +1,43 @@
+-- A processor's event of a domain's edit is that step of the machine, where the relation holds: what it replies was worked out by the
+-- edit of the domain's cell.
+use Rattle.std.proofs.Common.{◌≡◌, ℕ, ◌<◌, true, List, length, Some, None, refl, sym, ap, ◌∙◌, eq-eqb}
+use Rattle.std.specs.Prelude.{if◌then◌else◌}
+use Rattle.um_base.specs.declared.act.Act.{Act}
+use Rattle.um_base.specs.declared.attr.Attr.{Attr}
+use Rattle.um_base.specs.declared.image.Image.{Image}
+use Rattle.um_base.specs.declared.names.PartRef.{PartRef}
+use Rattle.um_base.specs.declared.names.Range.{Range}
+use Rattle.um_machine.specs.declared.pending.Pending.{Pending}
+use Rattle.um_machine.specs.Domains.{reply_to}
+use Rattle.um_machine.specs.Order.{Steps}
+use Rattle.um_machine.specs.State.{State}
+use Rattle.um_machine.specs.Table as T
+use Rattle.um_fine.specs.Steps.{FineStep}
+use Rattle.um_fine.specs.Places.{Todos}
+use Rattle.um_fine.specs.Processor.{edit_of}
+use Rattle.um_erasure.specs.Fine.{Fine}
+use Rattle.um_erasure.specs.Lists.{edited, edits_step}
+use Rattle.um_erasure.proofs.Erased.{Goes}
+use Rattle.um_erasure.proofs.Offered.{Shows, act-is, machine-step}
+
+module _ {f : Fine} {m : State} {k : ℕ} {e : FineStep} {rest : Steps} {todo : Todos} where
+  -- the reply of an edit that the processor has made
+  replies : (d : ℕ) (q : Pending) → d < length f.image.domains → edits_step d q ≡ true → Shows f m k e q rest todo
+      → (f.processors k).reply ≡ reply_to (edit_of m.image q (T.domain_at m d))
+  replies d q few it h =
+      let at : edited d (f.processors k).todo ≡ Some q = ap (edited d) h.at ∙ ap (λ b. if b then Some q else None) it in
+      ((h.rel.domains d few).changed k q h.there at).1 ∙ ap (λ (i : Image). reply_to (edit_of i q (T.domain_at m d))) (sym h.rel.image)
+
+  pub init-step : (d : ℕ) (parts : List PartRef) → d < length f.image.domains → Shows f m k e (Pending.DomInit d parts) rest todo
+      → Goes m e (T.after m (f.processors k).context.thread 0 (Pending.DomInit d parts) rest)
+  init-step d parts few h = machine-step h 0 (act-is h) tt (ap (Act.DomInit d) (replies d (Pending.DomInit d parts) few (eq-eqb d d refl) h))
+
+  pub add-step : (d : ℕ) (range : Range) (attr : Attr) → d < length f.image.domains → Shows f m k e (Pending.DomAdd d range attr) rest todo
+      → Goes m e (T.after m (f.processors k).context.thread 0 (Pending.DomAdd d range attr) rest)
+  add-step d range attr few h =
+      machine-step h 0 (act-is h) tt (ap (Act.DomAdd d range attr) (replies d (Pending.DomAdd d range attr) few (eq-eqb d d refl) h))
+
+  pub remove-step : (d : ℕ) (range : Range) (attr : Attr) → d < length f.image.domains → Shows f m k e (Pending.DomRemove d range attr) rest todo
+      → Goes m e (T.after m (f.processors k).context.thread 0 (Pending.DomRemove d range attr) rest)
+  remove-step d range attr few h =
+      machine-step h 0 (act-is h) tt (ap (Act.DomRemove d range attr) (replies d (Pending.DomRemove d range attr) few (eq-eqb d d refl) h))

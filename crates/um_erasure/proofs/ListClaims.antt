@@ -1,0 +1,306 @@
+-- What each fine step changes of the claims that its processor has still to end.
+use Rattle.std.proofs.Common.{◌≡◌, ℕ, ◌+◌, Bool, true, false, List, [], ◌∷◌, ◌++◌, Option, Some, None, refl, ap, ◌∙◌, arith}
+use Rattle.std.proofs.lemmas.Bool.{eqb-true}
+use Rattle.std.proofs.Common.{eq-eqb}
+use Rattle.std.specs.Prelude.{◌==◌, if◌then◌else◌, nat_lt}
+use Rattle.um_base.specs.declared.act.Act.{Act}
+use Rattle.um_base.specs.declared.act.Answer.{Answer}
+use Rattle.um_base.specs.declared.act.Found.{Found}
+use Rattle.um_base.specs.declared.act.SetSaid.{SetSaid}
+use Rattle.um_base.specs.declared.ask.Ask.{Ask}
+use Rattle.um_base.specs.declared.ask.Told.{Told}
+use Rattle.um_base.specs.declared.image.Image.{Image}
+use Rattle.um_base.specs.declared.instr.Instr.{Instr}
+use Rattle.um_base.specs.declared.limits.TheConstants.{ROWS}
+use Rattle.um_base.specs.declared.names.Addr.{Addr}
+use Rattle.um_base.specs.declared.names.Errno.{Errno}
+use Rattle.um_base.specs.declared.names.Reply.{Reply}
+use Rattle.um_base.specs.declared.names.ThreadIx.{ThreadIx}
+use Rattle.um_base.specs.Places.{own_row, thread_of_row}
+use Rattle.um_machine.specs.declared.pending.Amount.{Amount}
+use Rattle.um_machine.specs.declared.pending.Pending.{Pending}
+use Rattle.um_machine.specs.Order.{Steps}
+use Rattle.um_machine.specs.State.{instruction_at}
+use Rattle.um_fine.specs.Addresses.{row_named}
+use Rattle.um_fine.specs.Answers.{act_in, context_in, domain_in, fits_in, found_in, is_fault, is_visit, is_word_read, outcome_in, reserved_in, set_in, verdict_in}
+use Rattle.um_fine.specs.Context.{Context}
+use Rattle.um_fine.specs.Steps.{Exchange, FineStep}
+use Rattle.um_fine.specs.Continues.{after_access, after_reserve, after_set, after_text, after_work, begun, continues, resumed, resumed_at, with_claim}
+use Rattle.um_fine.specs.Places.{Todo, Todos, but, clean_pairs, cleaning, cleaning_of, drops, emptying, end_of_turn, fine_steps, is_cleaning_todo, next_steps, passes, sized, turn_of, with_cleaning}
+use Rattle.um_fine.specs.Processor.{Processor}
+use Rattle.um_fine.specs.Follows.{after_claim, after_show, after_take, behind_step, dropped_at, end_calls, filled_up, goes_on_by, p_next, row_number, unless_loaded, wakes, with_cleaned}
+use Rattle.um_fine.specs.Asks.{begins_cleaning}
+use Rattle.um_fine.specs.FineRun.{cpu_of, same_cpu}
+use Rattle.um_fine.specs.Runs.{changed}
+use Rattle.um_fine.proofs.Balance.{AllDifferent, In, total, total_changed}
+use Rattle.um_erasure.specs.Lists.{counted, is_end_call}
+use Rattle.um_erasure.specs.Threads.{occurs}
+use Rattle.um_erasure.specs.Claims.{call_claims}
+
+-- an expansion ends no call
+module _ (image : Image) (x : ℕ) where
+  sized-none : (amount : Amount) (todo : Todos) → counted (is_end_call x) (sized image amount todo) ≡ counted (is_end_call x) todo
+  sized-none (Amount.Bytes n) todo = refl
+  sized-none (Amount.MessageOf a) todo = refl
+
+  fine-none : (c : Context) (p : Pending) (rest : Steps) → counted (is_end_call x) (fine_steps image c p rest) ≡ 0
+  fine-none c (Pending.Probe a amount) rest = sized-none amount _
+  fine-none c (Pending.CopyIn a amount) rest = sized-none amount _
+  fine-none c p rest = refl
+
+  passes-none : (who y : ℕ) (todo : Todos) → counted (is_end_call x) (passes who y todo) ≡ counted (is_end_call x) todo
+  passes-none who y todo = elim (nat_lt y ROWS) as (λ b. counted (is_end_call x) (if b then Todo.pass who y ∷ todo else todo) ≡ counted (is_end_call x) todo) [ true ↦ refl | false ↦ refl ]
+
+  drops-none : (y : ℕ) (todo : Todos) → counted (is_end_call x) (drops y todo) ≡ counted (is_end_call x) todo
+  drops-none y todo = elim (nat_lt y ROWS) as (λ b. counted (is_end_call x) (if b then Todo.drop y ∷ todo else todo) ≡ counted (is_end_call x) todo) [ true ↦ refl | false ↦ refl ]
+
+  turn-none : (b : Bool) → counted (is_end_call x) (end_of_turn image b) ≡ 0
+  turn-none true = refl
+  turn-none false = refl
+
+  next-none : (c : Context) (steps : Steps) → counted (is_end_call x) (next_steps image c steps) ≡ 0
+  next-none c [] = turn-none c.ended
+  next-none c (Pending.Resume ∷ rest) = refl
+  next-none c (Pending.Inherit who ∷ p ∷ rest) = passes-none who.0 (but (own_row image c.thread) 0) (fine_steps image c p rest) ∙ fine-none c p rest
+  next-none c (Pending.Drops from ∷ p ∷ rest) = drops-none from (fine_steps image c p rest) ∙ fine-none c p rest
+  next-none c (Pending.Inherit who ∷ []) = refl
+  next-none c (Pending.Drops from ∷ []) = refl
+  next-none c (Pending.Probe a amount ∷ rest) = sized-none amount _
+  next-none c (Pending.CopyIn a amount ∷ rest) = sized-none amount _
+  next-none c (p ∷ rest) = refl
+
+  pub filled-same : (c : Context) (todo : Todos) → counted (is_end_call x) (filled_up image c todo) ≡ counted (is_end_call x) todo
+  filled-same c [] = next-none c c.pending
+  filled-same c (q ∷ todo) = refl
+
+  pub wakes-same : (ws : List (ThreadIx × Told)) (todo : Todos) → counted (is_end_call x) (wakes ws todo) ≡ counted (is_end_call x) todo
+  wakes-same [] todo = refl
+  wakes-same (w ∷ ws) todo = wakes-same ws todo
+
+  pub end_calls-count : (xs : List ℕ) (todo : Todos) → counted (is_end_call x) (end_calls xs todo) ≡ occurs x xs + counted (is_end_call x) todo
+  end_calls-count [] todo = omega arith
+  end_calls-count (y ∷ ys) todo =
+      let h = end_calls-count ys todo in
+      elim (x == y) as (λ b. (if b then counted (is_end_call x) (end_calls ys todo) + 1 else counted (is_end_call x) (end_calls ys todo)) ≡ (if b then occurs x ys + 1 else occurs x ys) + counted (is_end_call x) todo) [ true ↦ omega arith | false ↦ h ]
+
+  claims-more : (xs : List ℕ) (y : ℕ) → occurs x (xs ++ y ∷ []) ≡ occurs x xs + occurs x (y ∷ [])
+  claims-more [] y = omega arith
+  claims-more (z ∷ zs) y =
+      let h = claims-more zs y in
+      elim (x == z) as (λ b. (if b then occurs x (zs ++ y ∷ []) + 1 else occurs x (zs ++ y ∷ [])) ≡ (if b then occurs x zs + 1 else occurs x zs) + occurs x (y ∷ [])) [ true ↦ omega arith | false ↦ h ]
+
+  -- the cleaning of an object ends no call
+  emptying-none : (y : ℕ) (todo : Todos) → counted (is_end_call x) (emptying y ++ todo) ≡ counted (is_end_call x) todo
+  emptying-none y todo = refl
+
+  cleaning-none : (y : ℕ) (who : Option ℕ) (todo : Todos) → counted (is_end_call x) (cleaning_of y who ++ todo) ≡ counted (is_end_call x) todo
+  cleaning-none y None todo = refl
+  cleaning-none y (Some who) todo = refl
+
+-- what an event takes: a claim of a check that is passed, and at the end that of the thread's life
+abbrev pub come : Image → ℕ → Context → Pending → Act → ℕ
+come image x c (Pending.Check a kind want refusal) act =
+    elim (verdict_in act) as (λ _. ℕ) [ None ↦ occurs x (row_named image a ∷ []) | Some e ↦ 0 ]
+come image x c (Pending.ClearInit a) act =
+    let own = own_row image c.thread in if row_named image a == own then occurs x (own ∷ []) else 0
+come image x c q act = 0
+
+-- what is handed over is a thread
+abbrev pub IsThread : Exchange → Type 0
+IsThread (Exchange.thread c told) = Unit {0}
+IsThread _ = ⊥
+
+same-form : (a a' b b' : ℕ) → a' ≡ a → b' ≡ b → a' + b' ≡ a + b + 0
+same-form a a' b b' e h = omega arith
+
+if-claims : (b : Bool) (c d : Context) (xs : List ℕ) → c.claims ≡ xs → d.claims ≡ xs → (if b then c else d).claims ≡ xs
+if-claims true c d xs e h = e
+if-claims false c d xs e h = h
+
+module _ (image : Image) (x : ℕ) where
+  -- an event that is no check and ends no call leaves the claims of its thread
+  begun-claims : (c : Context) (instr : Option Instr) → (begun image c instr).claims ≡ c.claims
+  begun-claims c None = refl
+  begun-claims c (Some instr) = refl
+
+  access-claims : (c : Context) (b : Bool) (rest otherwise : Steps) → (after_access image c b rest otherwise).claims ≡ c.claims
+  access-claims c true rest otherwise = refl
+  access-claims c false rest otherwise = refl
+
+  text-claims : (c : Context) (bs : List ℕ) (rest : Steps) (found : Found) → (after_text image c bs rest found).claims ≡ c.claims
+  text-claims c bs rest (Found.Length n) = refl
+  text-claims c bs rest Found.Unreadable = refl
+  text-claims c bs rest Found.TooLong = refl
+
+  work-claims : (c : Context) (ask : Ask) (taken : List ℕ) (rest : Steps) (answer : Answer) → (after_work image c ask taken rest answer).claims ≡ c.claims
+  work-claims c ask taken rest Answer.Wait = refl
+  work-claims c ask taken rest (Answer.Now Reply.Void) = refl
+  work-claims c ask taken rest (Answer.Now (Reply.Num n)) = refl
+  work-claims c ask taken rest (Answer.Now (Reply.At a)) = refl
+  work-claims c ask taken rest (Answer.Now Reply.Null) = refl
+  work-claims c ask taken rest (Answer.Now (Reply.Fail e)) = refl
+
+  set-claims : (c : Context) (undo : Option Addr) (rest : Steps) (said : SetSaid) → (after_set image c undo rest said).claims ≡ c.claims
+  set-claims c undo rest SetSaid.Done = refl
+  set-claims c undo rest SetSaid.Gone = refl
+  set-claims c undo rest (SetSaid.Fail e) = refl
+
+  reserve-claims : (c : Context) (rest : Steps) (addr : Option Addr) → (after_reserve image c rest addr).claims ≡ c.claims
+  reserve-claims c rest None = refl
+  reserve-claims c rest (Some a) = refl
+
+  check-claims : (c : Context) (a : Addr) (v : Option Errno) (todo : Todos)
+      → occurs x (with_claim image c a v).claims + counted (is_end_call x) todo
+      ≡ occurs x c.claims + counted (is_end_call x) todo + elim v as (λ _. ℕ) [ None ↦ occurs x (row_named image a ∷ []) | Some e ↦ 0 ]
+  check-claims c a None todo = let h = claims-more image x c.claims (row_named image a) in omega arith
+  check-claims c a (Some e) todo = omega arith
+
+  life-claim : (b : Bool) (own : ℕ) (n : ℕ) (todo : Todos)
+      → n + counted (is_end_call x) (if b then Todo.end_call own ∷ todo else todo) ≡ n + counted (is_end_call x) todo + (if b then occurs x (own ∷ []) else 0)
+  life-claim true own n todo =
+      elim (x == own) as (λ b. n + (if b then counted (is_end_call x) todo + 1 else counted (is_end_call x) todo) ≡ n + counted (is_end_call x) todo + (if b then 0 + 1 else 0)) [ true ↦ omega arith | false ↦ omega arith ]
+  life-claim false own n todo = omega arith
+
+  ended-claims : (xs : List ℕ) (todo : Todos) → 0 + counted (is_end_call x) (end_calls xs todo) ≡ occurs x xs + counted (is_end_call x) todo + 0
+  ended-claims xs todo = let h = end_calls-count image x xs todo in omega arith
+
+  -- of the claims that a processor has still to end, an event takes or leaves just these
+  pub shown-claims : (c : Context) (q : Pending) (rest : Steps) (act : Act) (moved : Exchange) (todo : Todos)
+      → occurs x (continues image c 0 q rest act moved).claims + counted (is_end_call x) (behind_step image c q moved todo)
+      ≡ occurs x c.claims + counted (is_end_call x) todo + come image x c q act
+  shown-claims c Pending.Begin rest act moved todo = same-form _ _ _ _ (ap (occurs x) (begun-claims c (instruction_at image c.place))) refl
+  shown-claims c Pending.Exit rest act moved todo = ended-claims c.claims todo
+  shown-claims c (Pending.Check a kind want refusal) rest act moved todo = check-claims c a (verdict_in act) todo
+  shown-claims c (Pending.Load to a n) rest act moved todo = same-form _ _ _ _ (ap (occurs x) (if-claims (is_fault act) _ _ c.claims refl refl)) refl
+  shown-claims c (Pending.Store a n value) rest act moved todo = same-form _ _ _ _ (ap (occurs x) (if-claims (is_fault act) _ _ c.claims refl refl)) refl
+  shown-claims c (Pending.Fetch a) rest act moved todo = same-form _ _ _ _ (ap (occurs x) (if-claims (is_fault act) _ _ c.claims refl refl)) refl
+  shown-claims c (Pending.Probe a amount) rest act moved todo = same-form _ _ _ _ (ap (occurs x) (access-claims c (fits_in act) _ _)) refl
+  shown-claims c (Pending.CopyIn a amount) rest act moved todo = same-form _ _ _ _ (ap (occurs x) (if-claims (fits_in act) _ _ c.claims refl refl)) refl
+  shown-claims c (Pending.CopyOut a) rest act moved todo = same-form _ _ _ _ (ap (occurs x) (access-claims c (fits_in act) _ _)) refl
+  shown-claims c (Pending.CopyStr a) rest act moved todo = same-form _ _ _ _ (ap (occurs x) (text-claims c _ _ (found_in act))) refl
+  shown-claims c (Pending.Work a ask) rest act moved todo = same-form _ _ _ _ (ap (occurs x) (work-claims c ask _ rest _)) (wakes-same image x (outcome_in moved).woken todo)
+  shown-claims c (Pending.Answer reply to) rest act moved todo = ended-claims c.claims todo
+  shown-claims c (Pending.SetInit a strict undo) rest act moved todo = same-form _ _ _ _ (ap (occurs x) (set-claims c undo rest (set_in act))) refl
+  shown-claims c (Pending.ClearInit a) rest act moved todo =
+      life-claim (row_named image a == own_row image c.thread) (own_row image c.thread) (occurs x c.claims) todo
+  shown-claims c (Pending.Reserve kind) rest act moved todo = same-form _ _ _ _ (ap (occurs x) (reserve-claims c rest (reserved_in act))) refl
+  shown-claims c (Pending.Buffer size) rest act moved todo = same-form _ _ _ _ (ap (occurs x) (access-claims c (fits_in act) _ _)) refl
+  shown-claims c (Pending.Fatal reason cause) rest act moved todo = ended-claims c.claims todo
+  shown-claims c q rest act moved todo = same-form _ _ _ _ refl refl
+
+  cleaned-same : (y : ℕ) (todo : Todos) → counted (is_end_call x) (with_cleaning (cleaning image y) todo) ≡ counted (is_end_call x) todo
+  cleaned-same y [] = cleaning-none-here (thread_of_row image y)
+    where
+      cleaning-none-here : (who : Option ℕ) → counted (is_end_call x) (cleaning_of y who) ≡ 0
+      cleaning-none-here None = refl
+      cleaning-none-here (Some who) = refl
+  cleaned-same y (q ∷ todo) =
+      let h = cleaned-same y todo in
+      elim (is_cleaning_todo q) as (λ b. counted (is_end_call x) (if b then q ∷ with_cleaning (cleaning image y) todo else cleaning image y ++ q ∷ todo) ≡ counted (is_end_call x) (q ∷ todo)) [
+        | true ↦ ap (λ (n : ℕ). if is_end_call x q then n + 1 else n) h
+        | false ↦ cleaning-none image x y (thread_of_row image y) (q ∷ todo)
+      ]
+
+  -- what a step takes of claims, and what it gives back
+  abbrev pub come_to : Processor → FineStep → Todos → ℕ
+  come_to p e [] = occurs x (context_in e.moved).claims
+  come_to p e (Todo.show q rest ∷ todo) = if is_word_read e.act then 0 else come image x p.context q (act_in e.act)
+  come_to p e _ = 0
+
+  abbrev pub gone : Processor → FineStep → Todos → ℕ
+  gone p e (Todo.end_call y ∷ todo) = if x == y then 1 else 0
+  gone p e (Todo.park ∷ todo) = occurs x p.context.claims + counted (is_end_call x) todo
+  gone p e (Todo.done ∷ todo) = occurs x p.context.claims + counted (is_end_call x) todo
+  gone p e (Todo.show q rest ∷ todo) = if is_word_read e.act then counted (is_end_call x) todo else 0
+  gone p e _ = 0
+
+  unless-same : (b : Bool) (todo : Todos) → counted (is_end_call x) (unless_loaded b todo) ≡ counted (is_end_call x) todo
+  unless-same true (Todo.region_load ∷ todo) = refl
+  unless-same b todo = refl
+
+  claim-same : (p : Processor) (d : ℕ) (init : Bool) (todo : Todos) → call_claims x (after_claim p d init 0 todo) ≡ occurs x p.context.claims + counted (is_end_call x) todo
+  claim-same p d true todo = refl
+  claim-same p d false todo = refl
+
+  dropped-same : (c : Context) (y : ℕ) (b : Bool) → (dropped_at image c y b).claims ≡ c.claims
+  dropped-same c y true = refl
+  dropped-same c y false = refl
+
+  -- a step that only shortens the list
+  short-form : (a b b' : ℕ) → b' ≡ b → a + b' + 0 ≡ a + b + 0
+  short-form a b b' h = omega arith
+
+  show-form : (p : Processor) (e : FineStep) (q : Pending) (rest : Steps) (todo : Todos) (b : Bool)
+      → call_claims x (if b then record p { todo = Todo.done ∷ [] } else after_show image p e q rest todo) + (if b then counted (is_end_call x) todo else 0)
+      ≡ occurs x p.context.claims + counted (is_end_call x) todo + (if b then 0 else come image x p.context q (act_in e.act))
+  show-form p e q rest todo true = omega arith
+  show-form p e q rest todo false =
+      let c = continues image p.context 0 q rest (act_in e.act) e.moved in
+      let h = shown-claims p.context q rest (act_in e.act) e.moved (filled_up image c todo) in
+      let k = filled-same image x c todo in omega arith
+
+  taken-form : (p : Processor) (moved : Exchange) → p.context.claims ≡ [] → IsThread moved → call_claims x (after_take image p moved) + 0 ≡ occurs x p.context.claims + 0 + occurs x (context_in moved).claims
+  taken-form p (Exchange.thread c None) h m = let e = ap (occurs x) h in let k = turn-count (instruction_at image c.place) in omega arith
+    where
+      turn-count : (instr : Option Instr) → counted (is_end_call x) (turn_of image instr) ≡ 0
+      turn-count None = refl
+      turn-count (Some instr) = refl
+  taken-form p (Exchange.thread c (Some told)) h m =
+      let e = ap (occurs x) h in
+      let k = filled-same image x (resumed image c told) [] in
+      let l = ap (occurs x) (resumed-claims c told c.pending) in omega arith
+    where
+      resumed-claims : (c : Context) (told : Told) (steps : Steps) → (resumed_at image c told steps).claims ≡ c.claims
+      resumed-claims c told (Pending.Resume ∷ rest) = refl
+      resumed-claims c told steps = refl
+  taken-form p _ h m = absurd m
+
+  goes-claims : (p : Processor) (e : FineStep) (todo : Todos) → ((todo ≡ []) → (p.context.claims ≡ []) × IsThread e.moved)
+      → call_claims x (goes_on_by image p e todo) + gone p e todo ≡ occurs x p.context.claims + counted (is_end_call x) todo + come_to p e todo
+  goes-claims p e [] idle = taken-form p e.moved (idle refl).0 (idle refl).1
+  goes-claims p e (Todo.show q rest ∷ todo) idle = show-form p e q rest todo (is_word_read e.act)
+  goes-claims p e (Todo.let_go ∷ todo) idle = short-form _ _ _ (filled-same image x p.context todo)
+  goes-claims p e (Todo.read_claim None ∷ todo) idle = short-form _ _ _ (unless-same _ todo)
+  goes-claims p e (Todo.read_claim (Some d) ∷ todo) idle = let h = claim-same p d (domain_in e.word).init todo in omega arith
+  goes-claims p e (Todo.read_done d ∷ todo) idle = short-form _ _ _ (filled-same image x p.context todo)
+  goes-claims p e (Todo.end_call y ∷ todo) idle =
+      let h = filled-same image x p.context todo in
+      elim (x == y) as (λ b. occurs x p.context.claims + counted (is_end_call x) (filled_up image p.context todo) + (if b then 1 else 0) ≡ occurs x p.context.claims + (if b then counted (is_end_call x) todo + 1 else counted (is_end_call x) todo) + 0) [ true ↦ omega arith | false ↦ omega arith ]
+  goes-claims p e (Todo.wake who told ∷ todo) idle = short-form _ _ _ (filled-same image x p.context todo)
+  goes-claims p e (Todo.add c ∷ todo) idle = short-form _ _ _ (filled-same image x p.context todo)
+  goes-claims p e (Todo.pass who y ∷ todo) idle =
+      let next = but (own_row image p.context.thread) (y + 1) in
+      short-form _ _ _ (filled-same image x p.context (passes who next todo) ∙ passes-none image x who next todo)
+  goes-claims p e (Todo.drop y ∷ todo) idle =
+      let c = dropped_at image p.context y (is_visit e.act) in
+      let h = ap (occurs x) (dropped-same p.context y (is_visit e.act)) in
+      let k = filled-same image x c (drops (y + 1) todo) ∙ drops-none image x (y + 1) todo in omega arith
+  goes-claims p e (Todo.clean_pair who y ∷ todo) idle = short-form _ _ _ (clean-same who (y + 1) todo)
+    where
+      clean-same : (who y : ℕ) (todo : Todos) → counted (is_end_call x) (clean_pairs who y todo) ≡ counted (is_end_call x) todo
+      clean-same who y todo = elim (nat_lt y ROWS) as (λ b. counted (is_end_call x) (if b then Todo.clean_pair who y ∷ todo else todo) ≡ counted (is_end_call x) todo) [ true ↦ refl | false ↦ refl ]
+  goes-claims p e (Todo.recycle y ∷ todo) idle = short-form _ _ _ (filled-same image x p.context todo)
+  goes-claims p e (Todo.park ∷ todo) idle = omega arith
+  goes-claims p e (Todo.done ∷ todo) idle = omega arith
+  goes-claims p e (q ∷ todo) idle = short-form _ _ _ refl
+
+  with-cleaned : (p : Processor) (e : FineStep) (b : Bool) → call_claims x (with_cleaned image p e b) ≡ call_claims x p
+  with-cleaned p e false = refl
+  with-cleaned p e true = ap (λ n. occurs x p.context.claims + n) (cleaned-same (row_number e.site) p.todo)
+
+  -- The claims that a processor has still to end change with a step by what it takes and gives back.
+  pub processor-claims : (p : Processor) (e : FineStep) → ((p.todo ≡ []) → (p.context.claims ≡ []) × IsThread e.moved)
+      → call_claims x (p_next image p e) + gone p e p.todo ≡ call_claims x p + come_to p e p.todo
+  processor-claims p e idle =
+      let h = goes-claims p e p.todo idle in
+      let k = with-cleaned (goes_on_by image p e p.todo) e (begins_cleaning e) in omega arith
+
+  -- the same of all processors: a step changes the sum by what its processor takes and gives back
+  pub all-claims : (ps : ℕ → Processor) (e : FineStep) (all : List ℕ) → AllDifferent all → In (cpu_of e) all
+      → (((ps (cpu_of e)).todo ≡ []) → ((ps (cpu_of e)).context.claims ≡ []) × IsThread e.moved)
+      → total (call_claims x) (changed same_cpu cpu_of (p_next image) ps e) all + gone (ps (cpu_of e)) e (ps (cpu_of e)).todo
+      ≡ total (call_claims x) ps all + come_to (ps (cpu_of e)) e (ps (cpu_of e)).todo
+  all-claims ps e all different there idle =
+      let p = ps (cpu_of e) in
+      let sums = total_changed same_cpu (λ k. eq-eqb k k refl) (λ j k h. eqb-true j k h) cpu_of (p_next image) (call_claims x) ps e all different there in
+      let law = processor-claims p e idle in omega arith

@@ -1,0 +1,205 @@
+-- A step that a processor shows is one that the machine offers its thread, where the relation holds.
+use Rattle.std.proofs.Common.{◌≡◌, ℕ, suc, ◌<◌, Bool, true, false, List, [], ◌∷◌, length, Option, refl, sym, ap, ◌∙◌, subst, arith}
+use Rattle.std.specs.Prelude.{◌&&◌, not, if◌then◌else◌, IsTrue, is_some, slice_index_or}
+use Rattle.std.specs.List.{list_all}
+use Rattle.std.proofs.lemmas.Bool.{and_from, and_parts, false≢true, not-true, not_from_false}
+use Rattle.um_base.specs.declared.act.Act.{Act}
+use Rattle.um_base.specs.declared.image.Image.{Image}
+use Rattle.um_base.specs.declared.limits.TheConstants.{ROWS}
+use Rattle.um_base.specs.declared.names.ThreadIx.{ThreadIx}
+use Rattle.um_machine.specs.declared.pending.Pending.{Pending}
+use Rattle.um_machine.specs.declared.thread.Thread.{Thread}
+use Rattle.um_machine.specs.Order.{Steps}
+use Rattle.um_machine.specs.Table as T
+use Rattle.um_machine.specs.Run.{MayChoose, Offers, begins, exits, goes, none_due, skips_drops, skips_inherit}
+use Rattle.um_machine.specs.State.{State, instruction_at, is_living, thread_at}
+use Rattle.um_words.specs.declared.fine.FineAct.{FineAct}
+use Rattle.um_words.specs.declared.fine.More.{More}
+use Rattle.um_words.specs.declared.fine.Unseen.{Unseen}
+use Rattle.um_fine.specs.Answers.{act_in, is_word_read}
+use Rattle.um_fine.specs.Context.{Context}
+use Rattle.um_fine.specs.Steps.{FineStep, Site}
+use Rattle.um_fine.specs.Cells.{Cell}
+use Rattle.um_fine.specs.Sites.{SiteMay, SiteState, site_answers, site_takes}
+use Rattle.um_fine.specs.Places.{Todo, Todos}
+use Rattle.um_fine.specs.Asks.{CpuMay, says, says_show, says_step, shows, site_at}
+use Rattle.um_erasure.specs.Fine.{Fine, thread_state}
+use Rattle.um_erasure.specs.Lists.{has_steps, visited}
+use Rattle.um_erasure.specs.Offers as O
+use Rattle.um_erasure.specs.Offers.{Bare, Fits, IsOffered, behind_shown}
+use Rattle.um_erasure.specs.Threads.{IsOf}
+use Rattle.um_erasure.specs.Dues.{is_visiting}
+use Rattle.um_erasure.specs.Relation.{Rel}
+use Rattle.um_erasure.proofs.Erased.{Goes, GoesBy}
+use Rattle.um_erasure.proofs.ListFits.{behind-bare}
+
+-- Where no visit is left, nothing is due.
+
+visited-bare : (image : Image) (todo : Todos) → Bare image todo → visited todo ≡ ROWS
+visited-bare image [] h = refl
+visited-bare image (Todo.show q rest ∷ todo) h = absurd h
+visited-bare image (Todo.pass who x ∷ todo) h = absurd h
+visited-bare image (Todo.drop x ∷ todo) h = absurd h
+visited-bare image (Todo.park ∷ todo) h = absurd h
+visited-bare image (Todo.add d ∷ todo) h = visited-bare image todo h.1
+visited-bare image (Todo.hold ∷ todo) h = visited-bare image todo h
+visited-bare image (Todo.let_go ∷ todo) h = visited-bare image todo h
+visited-bare image (Todo.read_claim d ∷ todo) h = visited-bare image todo h
+visited-bare image (Todo.read_done d ∷ todo) h = visited-bare image todo h
+visited-bare image (Todo.region_load ∷ todo) h = visited-bare image todo h
+visited-bare image (Todo.write_claim d ∷ todo) h = visited-bare image todo h
+visited-bare image (Todo.edit d q ∷ todo) h = visited-bare image todo h
+visited-bare image (Todo.size_look x ∷ todo) h = visited-bare image todo h
+visited-bare image (Todo.end_call x ∷ todo) h = visited-bare image todo h
+visited-bare image (Todo.wake who told ∷ todo) h = visited-bare image todo h
+visited-bare image (Todo.clean_pair who x ∷ todo) h = visited-bare image todo h
+visited-bare image (Todo.wipe x ∷ todo) h = visited-bare image todo h
+visited-bare image (Todo.vacate x ∷ todo) h = visited-bare image todo h
+visited-bare image (Todo.recycle x ∷ todo) h = visited-bare image todo h
+visited-bare image (Todo.done ∷ todo) h = visited-bare image todo h
+
+all-clear : (xs : List Bool) → ((x : ℕ) → x < length xs → slice_index_or xs x false ≡ false) → list_all not xs ≡ true
+all-clear [] h = refl
+all-clear (b ∷ bs) h = and_from _ _ (not_from_false b (h 0 (omega arith))) (all-clear bs (λ x l. h (suc x) (omega arith)))
+
+-- A thread word that takes a begin or an exit is that of a living thread, which isn't doomed.
+
+abbrev IsAlive : SiteState → Type 0
+IsAlive s = IsTrue (is_living (thread_state s).life) × ((thread_state s).doomed ≡ false)
+
+alive : (a b : Bool) → (a && not b) ≡ true → (a ≡ true) × (b ≡ false)
+alive a b h = let parts = and_parts a (not b) h in (parts.0, not-true b parts.1)
+
+begin-alive : (s : SiteState) (t : ThreadIx) (more : More) (script line : ℕ)
+    → IsTrue (site_takes s (FineAct.Shown (record { thread = t; act = Act.Begin script line }) more)) → IsAlive s
+begin-alive (SiteState.row w) t more script line h = absurd (false≢true (and_parts _ _ h).1)
+begin-alive (SiteState.thread w) t more script line h = alive _ _ (and_parts _ _ h).1
+begin-alive (SiteState.domain w) t more script line h = absurd (false≢true (and_parts _ _ h).1)
+begin-alive (SiteState.cell n (Cell.object o)) t more script line h = absurd (false≢true (and_parts _ _ h).1)
+begin-alive (SiteState.cell n (Cell.parts d)) t more script line h = absurd (false≢true (and_parts _ _ h).1)
+begin-alive (SiteState.cell n (Cell.memory m)) t more script line h = absurd (false≢true (and_parts _ _ h).1)
+begin-alive (SiteState.cell n (Cell.heap k)) t more script line h = absurd (false≢true (and_parts _ _ h).1)
+begin-alive (SiteState.cell n (Cell.scheduler k)) t more script line h = absurd (false≢true (and_parts _ _ h).1)
+
+exit-alive : (s : SiteState) (t : ThreadIx) (more : More) → IsTrue (site_takes s (FineAct.Shown (record { thread = t; act = Act.Exit }) more)) → IsAlive s
+exit-alive (SiteState.row w) t more h = absurd (false≢true (and_parts _ _ h).1)
+exit-alive (SiteState.thread w) t more h = alive _ _ (and_parts _ _ h).1
+exit-alive (SiteState.domain w) t more h = absurd (false≢true (and_parts _ _ h).1)
+exit-alive (SiteState.cell n (Cell.object o)) t more h = absurd (false≢true (and_parts _ _ h).1)
+exit-alive (SiteState.cell n (Cell.parts d)) t more h = absurd (false≢true (and_parts _ _ h).1)
+exit-alive (SiteState.cell n (Cell.memory m)) t more h = absurd (false≢true (and_parts _ _ h).1)
+exit-alive (SiteState.cell n (Cell.heap k)) t more h = absurd (false≢true (and_parts _ _ h).1)
+exit-alive (SiteState.cell n (Cell.scheduler k)) t more h = absurd (false≢true (and_parts _ _ h).1)
+
+-- what the machine asks of a thread that leaves its rest
+abbrev pub LeavesRest : Thread → Pending → Type 0
+LeavesRest me Pending.Begin = IsTrue (is_living me.life) × (me.doomed ≡ false)
+LeavesRest me Pending.Exit = IsTrue (is_living me.life) × (me.doomed ≡ false)
+LeavesRest me q = Unit {0}
+
+module _ (image : Image) (m : State) (c : Context) (same : m.image ≡ image) (of : IsOf m c) where
+  me : Thread
+  me = thread_at m c.thread
+
+  pending-same : c.pending ≡ (thread_at m c.thread).pending
+  pending-same = ap (λ (z : Thread). z.pending) of.own
+
+  place-same : instruction_at image c.place ≡ instruction_at m.image (thread_at m c.thread).place
+  place-same = λ i. instruction_at (sym same i) (of.own i).place
+
+  -- what is on the list of a processor is offered to the machine's thread
+  pub offers : (q : Pending) (rest : Steps) → IsOffered image c q rest → (is_visiting c.pending ≡ true → IsTrue (none_due (thread_at m c.thread)))
+      → LeavesRest (thread_at m c.thread) q → Offers m c.thread q rest
+  offers q rest (O.goes e) due life = goes (sym pending-same ∙ e)
+  offers q rest (O.passed e) due life = skips_inherit (sym pending-same ∙ e) (due (ap is_visiting e))
+  offers q rest (O.dropped e) due life = skips_drops (sym pending-same ∙ e) (due (ap is_visiting e))
+  offers _ _ (O.begins e i) due life = begins (sym pending-same ∙ e) life.0 life.1 (subst (λ (o : Option _). IsTrue (is_some o)) place-same i)
+  offers _ _ (O.exits e i) due life = exits (sym pending-same ∙ e) life.0 life.1 (sym place-same ∙ i)
+
+module _ (f : Fine) (m : State) (rel : Rel f m) (k : ℕ) (l : k < f.cpus) where
+  -- nothing is due of a thread whose visits are over
+  clear : has_steps (f.processors k).todo ≡ true → is_visiting (f.processors k).context.pending ≡ true → visited (f.processors k).todo ≡ ROWS
+      → IsTrue (none_due (thread_at m (f.processors k).context.thread))
+  clear running visiting over =
+      all-clear (thread_at m (f.processors k).context.thread).due
+      (λ x few. by x few (slice_index_or (thread_at m (f.processors k).context.thread).due x false) refl)
+    where
+      by : (x : ℕ) → x < length (thread_at m (f.processors k).context.thread).due → (b : Bool)
+          → slice_index_or (thread_at m (f.processors k).context.thread).due x false ≡ b → b ≡ false
+      by x few true h =
+          let least = (rel.processors k l).dues.passes running visiting x h in
+          let most = (rel.processors k l).dues.few in absurd (omega (arith, over, least, most, few))
+      by x few false h = refl
+
+-- A processor's event of a pending step: what is known of it, where the relation holds.
+pub record Shows (f : Fine) (m : State) (k : ℕ) (e : FineStep) (q : Pending) (rest : Steps) (todo : Todos) : Type 0 where
+  pub rel : Rel f m
+  pub there : k < f.cpus
+  pub at : (f.processors k).todo ≡ Todo.show q rest ∷ todo
+  pub may : CpuMay f.image (f.processors k) e
+  pub taken : SiteMay f.image (f.sites e.site) e
+  pub shown : is_word_read e.act ≡ false
+
+module _ {f : Fine} {m : State} {k : ℕ} {e : FineStep} {q : Pending} {rest : Steps} {todo : Todos} (h : Shows f m k e q rest todo) where
+  pub site-is : e.site ≡ site_at f.image (f.processors k) (Todo.show q rest ∷ todo)
+  site-is = sym (ap (λ (s : FineStep). s.site) h.may.makes) ∙ ap (site_at f.image (f.processors k)) h.at
+
+  pub act-is : e.act ≡ says_show f.image (f.processors k) q e.act
+  act-is = sym (ap (λ (s : FineStep). s.act) h.may.makes) ∙ ap (λ (z : Todos). says f.image (f.processors k) z e.act e.moved) h.at
+
+  -- of a step at rest too, which might have been a read of its thread's word
+  pub shows-rest : e.act ≡ (if is_word_read e.act then FineAct.Unseen Unseen.WordRead else shows f.image (f.processors k) q e.act)
+      → e.act ≡ shows f.image (f.processors k) q e.act
+  shows-rest said = said ∙ ap (λ b. if b then FineAct.Unseen Unseen.WordRead else shows f.image (f.processors k) q e.act) h.shown
+
+  -- what the site of the step says of its act, and that it takes it
+  pub says-at : (i : Site) (act : FineAct) → e.site ≡ i → e.act ≡ act → site_answers f.image (f.sites i) e.moved act ≡ act
+  says-at i act site said =
+      subst (λ (z : Site × FineAct). site_answers f.image (f.sites z.0) e.moved z.1 ≡ z.1) (λ j. (site j, said j)) (ap (λ (s : FineStep). s.act) h.taken.filled_in)
+
+  pub takes-at : (i : Site) (act : FineAct) → e.site ≡ i → e.act ≡ act → IsTrue (site_takes (f.sites i) act)
+  takes-at i act site said = subst (λ (z : Site × FineAct). IsTrue (site_takes (f.sites z.0) z.1)) (λ j. (site j, said j)) h.taken.takes
+
+  -- what stands on the list behind it
+  pub behind-is : todo ≡ behind_shown f.image (f.processors k).context q
+  behind-is = (subst (Fits f.image (f.processors k).context) h.at (h.rel.processors k h.there).list.fits).1
+
+  pub own-part : IsOf m (f.processors k).context
+  own-part = h.rel.contexts.running k h.there (ap has_steps h.at)
+
+  -- the word that takes a begin or an exit says that of the machine's thread
+  is-alive : IsAlive (f.sites (Site.thread (f.processors k).context.thread))
+      → IsTrue (is_living (thread_at m (f.processors k).context.thread).life) × ((thread_at m (f.processors k).context.thread).doomed ≡ false)
+  is-alive a =
+      let w = (h.rel.threads (f.processors k).context.thread own-part.index).word in
+      (subst (λ x. IsTrue (is_living x)) w.life a.0, sym w.doomed ∙ a.1)
+
+leaves-rest : {f : Fine} {m : State} {k : ℕ} {e : FineStep} {rest : Steps} {todo : Todos} (q : Pending) → Shows f m k e q rest todo
+    → LeavesRest (thread_at m (f.processors k).context.thread) q
+leaves-rest {f} {m} {k} Pending.Begin h =
+    let t = (f.processors k).context.thread in
+    is-alive h (begin-alive (f.sites (Site.thread t)) _ _ _ _ (takes-at h (Site.thread t) _ (site-is h) (shows-rest h (act-is h))))
+leaves-rest {f} {m} {k} Pending.Exit h =
+    let t = (f.processors k).context.thread in
+    is-alive h (exit-alive (f.sites (Site.thread t)) _ _ (takes-at h (Site.thread t) _ (site-is h) (shows-rest h (act-is h))))
+leaves-rest q h = tt
+
+-- the pending step that a processor shows is offered to its thread
+pub shown-offers : {f : Fine} {m : State} {k : ℕ} {e : FineStep} {q : Pending} {rest : Steps} {todo : Todos} → Shows f m k e q rest todo
+    → Offers m (f.processors k).context.thread q rest
+shown-offers {f} {m} {k} {e} {q} {rest} {todo} h =
+    let running = ap has_steps h.at in
+    let fits = subst (Fits f.image (f.processors k).context) h.at (h.rel.processors k h.there).list.fits in
+    offers f.image m (f.processors k).context h.rel.image (own-part h) q rest fits.0
+    (λ visiting. clear f m h.rel k h.there running visiting
+    (ap visited h.at ∙ visited-bare f.image todo (subst (Bare f.image) (sym fits.1) (behind-bare f.image (f.processors k).context q))))
+    (leaves-rest q h)
+
+-- so the event is a step of the machine, where it says what that step says
+pub machine-step : {f : Fine} {m : State} {k : ℕ} {e : FineStep} {q : Pending} {rest : Steps} {todo : Todos} → Shows f m k e q rest todo
+    → (x : ℕ) → e.act ≡ shows f.image (f.processors k) q e.act → MayChoose m (f.processors k).context.thread x q
+    → says_step f.image (f.processors k) q (act_in e.act) ≡ T.act_of m (f.processors k).context.thread x q
+    → Goes m e (T.after m (f.processors k).context.thread x q rest)
+machine-step {f} {m} {k} {e} {q} {rest} h x said chosen says =
+    subst (λ act. GoesBy m act (T.after m (f.processors k).context.thread x q rest)) (sym said)
+    (record { step = q; rest = rest; row = x; offered = shown-offers h; chosen = chosen; says = says; leaves = refl })

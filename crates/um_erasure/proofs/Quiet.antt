@@ -1,0 +1,110 @@
+-- A step that no trace shows leaves the machine's state, and these parts of the relation: what the words of threads say, memory, heap.
+use Rattle.std.proofs.Common.{◌≡◌, ℕ, ◌<◌, true, false, cond, refl, sym, ap, ◌∙◌, subst}
+use Rattle.std.specs.Prelude.{◌+◌, slice_index_or}
+use Rattle.um_base.specs.declared.image.Image.{Image}
+use Rattle.um_base.specs.declared.limits.TheConstants.{THREADS}
+use Rattle.um_machine.specs.State.{State}
+use Rattle.um_words.specs.declared.fine.FineAct.{FineAct}
+use Rattle.um_words.specs.declared.fine.Unseen.{Unseen}
+use Rattle.um_words.specs.declared.thread_word.ThreadWord.{ThreadWord}
+use Rattle.um_words.specs.Threads.{thread_after_unseen}
+use Rattle.um_fine.specs.Steps.{Exchange, FineStep, Site}
+use Rattle.um_fine.specs.Heap.{Heap, cost_at}
+use Rattle.um_fine.specs.Memory.{Bytes}
+use Rattle.um_fine.specs.Cells.{Cell}
+use Rattle.um_fine.specs.Sites.{SiteState, s_next, same_site, site_after}
+use Rattle.um_fine.specs.Runs.{changed}
+use Rattle.um_fine.specs.FineRun.{site_of}
+use Rattle.um_erasure.specs.Fine.{Fine, bytes, bytes_state, heap, heap_state, thread_state}
+use Rattle.um_erasure.specs.Threads.{WordIs}
+use Rattle.um_erasure.specs.Resources.{HeapIs, MemoryIs}
+use Rattle.um_erasure.specs.Relation.{Rel}
+use Rattle.um_erasure.proofs.Erased.{Goes, GoesBy, stepped}
+
+-- two words of threads say the same, but for whether the thread is held
+record SaysSame (v w : ThreadWord) : Type 0 where
+  life : v.life ≡ w.life
+  doomed : v.doomed ≡ w.doomed
+  mode : v.mode ≡ w.mode
+  domain : v.domain ≡ w.domain
+
+same-word : (w : ThreadWord) → SaysSame w w
+same-word w = record { life = refl; doomed = refl; mode = refl; domain = refl }
+
+word-after : (w : ThreadWord) (u : Unseen) → SaysSame (thread_after_unseen w u) w
+word-after w Unseen.Hold = record { life = refl; doomed = refl; mode = refl; domain = refl }
+word-after w Unseen.LetGo = record { life = refl; doomed = refl; mode = refl; domain = refl }
+word-after w u = same-word w
+
+counted-same : (v w : ThreadWord) → SaysSame v w → SaysSame (record v { number = v.number + 1 }) w
+counted-same v w h = record { life = h.life; doomed = h.doomed; mode = h.mode; domain = h.domain }
+
+module _ (image : Image) where
+  thread-after : (s : SiteState) (u : Unseen) (moved : Exchange) → SaysSame (thread_state (site_after image s (FineAct.Unseen u) moved)) (thread_state s)
+  thread-after (SiteState.row w) u moved = same-word _
+  thread-after (SiteState.thread w) u moved = counted-same (thread_after_unseen w u) w (word-after w u)
+  thread-after (SiteState.domain w) u moved = same-word _
+  thread-after (SiteState.cell n c) u moved = same-word _
+
+  bytes-after : (s : SiteState) (u : Unseen) (moved : Exchange) → bytes_state (site_after image s (FineAct.Unseen u) moved) ≡ bytes_state s
+  bytes-after (SiteState.row w) u moved = refl
+  bytes-after (SiteState.thread w) u moved = refl
+  bytes-after (SiteState.domain w) u moved = refl
+  bytes-after (SiteState.cell n (Cell.object o)) u moved = refl
+  bytes-after (SiteState.cell n (Cell.parts d)) u moved = refl
+  bytes-after (SiteState.cell n (Cell.memory m)) u moved = refl
+  bytes-after (SiteState.cell n (Cell.heap h)) u moved = refl
+  bytes-after (SiteState.cell n (Cell.scheduler s)) u moved = refl
+
+  heap-after : (s : SiteState) (u : Unseen) (moved : Exchange) → heap_state (site_after image s (FineAct.Unseen u) moved) ≡ heap_state s
+  heap-after (SiteState.row w) u moved = refl
+  heap-after (SiteState.thread w) u moved = refl
+  heap-after (SiteState.domain w) u moved = refl
+  heap-after (SiteState.cell n (Cell.object o)) u moved = refl
+  heap-after (SiteState.cell n (Cell.parts d)) u moved = refl
+  heap-after (SiteState.cell n (Cell.memory m)) u moved = refl
+  heap-after (SiteState.cell n (Cell.heap h)) u moved = refl
+  heap-after (SiteState.cell n (Cell.scheduler s)) u moved = refl
+
+module _ (f : Fine) (m : State) (rel : Rel f m) (e : FineStep) (u : Unseen) (unseen : e.act ≡ FineAct.Unseen u) where
+  -- it is no step of the machine
+  pub goes-nowhere : Goes m e m
+  goes-nowhere = subst (λ act. GoesBy m act m) (sym unseen) refl
+
+  thread-next : (i : Site) → SaysSame (thread_state (changed same_site site_of (s_next f.image) f.sites e i)) (thread_state (f.sites i))
+  thread-next i =
+      elim (same_site e.site i) as (λ b. SaysSame (thread_state (cond b (s_next f.image (f.sites i) e) (f.sites i))) (thread_state (f.sites i))) [
+        | true ↦ subst (λ act. SaysSame (thread_state (site_after f.image (f.sites i) act e.moved)) (thread_state (f.sites i))) (sym unseen) (thread-after f.image (f.sites i) u e.moved)
+        | false ↦ same-word (thread_state (f.sites i))
+      ]
+
+  pub words-quiet : (t : ℕ) → t < THREADS → WordIs (stepped f.image f.cpus f.processors f.sites e) m t
+  words-quiet t few =
+      let was = (rel.threads t few).word in
+      let now = thread-next (Site.thread t) in
+      record { life = now.life ∙ was.life; doomed = now.doomed ∙ was.doomed; mode = now.mode ∙ was.mode; domain = now.domain ∙ was.domain }
+
+  bytes-next : bytes (stepped f.image f.cpus f.processors f.sites e) ≡ bytes f
+  bytes-next =
+      elim (same_site e.site Site.memory) as (λ b. bytes_state (cond b (s_next f.image (f.sites Site.memory) e) (f.sites Site.memory)) ≡ bytes f) [
+        | true ↦ ap (λ act. bytes_state (site_after f.image (f.sites Site.memory) act e.moved)) unseen ∙ bytes-after f.image (f.sites Site.memory) u e.moved
+        | false ↦ refl
+      ]
+
+  pub memory-quiet : MemoryIs (stepped f.image f.cpus f.processors f.sites e) m
+  memory-quiet = record { memory = ap (λ (b : Bytes). b.memory) bytes-next ∙ rel.memory.memory; stacks = ap (λ (b : Bytes). b.stacks) bytes-next ∙ rel.memory.stacks }
+
+  heap-next : heap (stepped f.image f.cpus f.processors f.sites e) ≡ heap f
+  heap-next =
+      elim (same_site e.site Site.heap) as (λ b. heap_state (cond b (s_next f.image (f.sites Site.heap) e) (f.sites Site.heap)) ≡ heap f) [
+        | true ↦ ap (λ act. heap_state (site_after f.image (f.sites Site.heap) act e.moved)) unseen ∙ heap-after f.image (f.sites Site.heap) u e.moved
+        | false ↦ refl
+      ]
+
+  pub heap-quiet : HeapIs (stepped f.image f.cpus f.processors f.sites e) m
+  heap-quiet =
+      record {
+        pools = ap (λ (h : Heap). h.pools) heap-next ∙ rel.heap.pools;
+        cost = λ x few. ap (λ (h : Heap). cost_at h x) heap-next ∙ rel.heap.cost x few;
+        free = λ x few. ap (λ (h : Heap). slice_index_or h.free x false) heap-next ∙ rel.heap.free x few;
+      }

@@ -1,0 +1,11 @@
+pub mod Fine
+pub mod Lists
+pub mod Offers
+pub mod Threads
+pub mod Claims
+pub mod Objects
+pub mod Cleaning
+pub mod Dues
+pub mod Domains
+pub mod Resources
+pub mod Relation

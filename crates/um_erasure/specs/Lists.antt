@@ -1,0 +1,118 @@
+-- What a processor has on its list of steps to make.
+use Rattle.std.specs.Prelude.{ℕ, ◌+◌, Bool, true, false, ◌==◌, ◌&&◌, not, if◌then◌else◌, [], ◌∷◌, Option, Some, None}
+use Rattle.std.specs.List.{list_any}
+use Rattle.um_base.specs.declared.ask.Told.{Told}
+use Rattle.um_base.specs.declared.limits.TheConstants.{ROWS}
+use Rattle.um_base.specs.declared.names.Reply.{Reply}
+use Rattle.um_machine.specs.declared.pending.Pending.{Pending}
+use Rattle.um_fine.specs.Places.{Todo, Todos}
+use Rattle.um_fine.specs.Processor.{Processor, fails}
+
+-- it runs a thread
+abbrev pub has_steps : Todos → Bool
+has_steps [] = false
+has_steps (q ∷ todo) = true
+
+abbrev pub runs : Processor → Bool
+runs p = has_steps p.todo
+
+abbrev pub runs_thread : ℕ → Processor → Bool
+runs_thread t p = runs p && (p.context.thread == t)
+
+-- how many steps on a list pass a test
+abbrev pub counted : (Todo → Bool) → Todos → ℕ
+counted f [] = 0
+counted f (q ∷ todo) = if f q then counted f todo + 1 else counted f todo
+
+abbrev pub is_end_call : ℕ → Todo → Bool
+is_end_call x (Todo.end_call y) = x == y
+is_end_call x _ = false
+
+abbrev pub is_recycle : ℕ → Todo → Bool
+is_recycle x (Todo.recycle y) = x == y
+is_recycle x _ = false
+
+abbrev pub is_vacate : ℕ → Todo → Bool
+is_vacate x (Todo.vacate y) = x == y
+is_vacate x _ = false
+
+abbrev pub is_wipe : ℕ → Todo → Bool
+is_wipe x (Todo.wipe y) = x == y
+is_wipe x _ = false
+
+abbrev pub is_add : ℕ → Todo → Bool
+is_add t (Todo.add c) = c.thread == t
+is_add t _ = false
+
+abbrev pub is_hold : Todo → Bool
+is_hold Todo.hold = true
+is_hold _ = false
+
+abbrev pub is_let_go : Todo → Bool
+is_let_go Todo.let_go = true
+is_let_go _ = false
+
+-- a claim of the thread's own domain, and its end
+abbrev pub is_own_claim : Todo → Bool
+is_own_claim (Todo.read_claim None) = true
+is_own_claim _ = false
+
+abbrev pub is_own_done : Todo → Bool
+is_own_done (Todo.read_done None) = true
+is_own_done _ = false
+
+abbrev pub is_region_load : Todo → Bool
+is_region_load Todo.region_load = true
+is_region_load _ = false
+
+-- its thread is held; it has a claim on that one's domain; its table is loaded
+abbrev pub has_held : Processor → Bool
+has_held p = list_any is_let_go p.todo && not (list_any is_hold p.todo)
+
+abbrev pub has_claimed : Processor → Bool
+has_claimed p = list_any is_own_done p.todo && not (list_any is_own_claim p.todo)
+
+abbrev pub has_loaded : Processor → Bool
+has_loaded p = has_claimed p && not (list_any is_region_load p.todo)
+
+-- it has a claim to read a domain that a thread moves to: a move that fails ends it by its event
+abbrev pub moves_to : ℕ → Reply → Todos → Bool
+moves_to d reply (Todo.read_done (Some e) ∷ todo) = d == e
+moves_to d reply (Todo.show (Pending.DomMove e who) rest ∷ todo) = fails reply && (d == e)
+moves_to d reply _ = false
+
+-- it has the claim to write a domain
+abbrev pub edits_step : ℕ → Pending → Bool
+edits_step d (Pending.DomInit e parts) = d == e
+edits_step d (Pending.DomAdd e range attr) = d == e
+edits_step d (Pending.DomRemove e range attr) = d == e
+edits_step d _ = false
+
+abbrev pub edits : ℕ → Todos → Bool
+edits d (Todo.edit e q ∷ todo) = d == e
+edits d (Todo.show q rest ∷ todo) = edits_step d q
+edits d _ = false
+
+-- it has edited the domain's cell: the edit whose event is next
+abbrev pub edited : ℕ → Todos → Option Pending
+edited d (Todo.show q rest ∷ todo) = if edits_step d q then Some q else None
+edited d _ = None
+
+-- what a thread is told by a wake that is still to make
+abbrev pub wake_of : ℕ → Todos → Option Told
+wake_of t [] = None
+wake_of t (Todo.wake who told ∷ todo) = if who == t then Some told else wake_of t todo
+wake_of t (q ∷ todo) = wake_of t todo
+
+-- the row that it visits next for its thread: all are behind it where none is left
+abbrev pub visited : Todos → ℕ
+visited [] = ROWS
+visited (Todo.pass who x ∷ todo) = x
+visited (Todo.drop x ∷ todo) = x
+visited (q ∷ todo) = visited todo
+
+-- the same for a thread whose object it cleans
+abbrev pub cleaned_pairs : ℕ → Todos → ℕ
+cleaned_pairs who [] = ROWS
+cleaned_pairs who (Todo.clean_pair u x ∷ todo) = if u == who then x else cleaned_pairs who todo
+cleaned_pairs who (q ∷ todo) = cleaned_pairs who todo

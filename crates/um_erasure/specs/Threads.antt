@@ -1,0 +1,103 @@
+-- Threads: their words, where their own parts lie, what they are told, and who is ready.
+use Rattle.std.specs.Prelude.{◌≡◌, ◌≢◌, ◌⊎◌, ℕ, zero, suc, ◌+◌, ◌<◌, ◌≤◌, Bool, true, false, ◌==◌, ◌&&◌, ◌||◌, not, IsTrue, if◌then◌else◌, List, [], ◌∷◌, Option, Some, None, is_some, slice_set}
+use Rattle.std.specs.List.{list_any}
+use Rattle.um_base.specs.declared.ask.Told.{Told}
+use Rattle.um_base.specs.declared.limits.TheConstants.{THREADS}
+use Rattle.um_machine.specs.declared.thread.Life.{Life}
+use Rattle.um_machine.specs.declared.thread.Thread.{Thread}
+use Rattle.um_machine.specs.State.{State, nobody, no_rows, thread_at}
+use Rattle.um_fine.specs.Context.{Context, as_thread}
+use Rattle.um_fine.specs.Scheduler.{parked_at, told_at, waits}
+use Rattle.um_erasure.specs.Offers.{IsPutBack}
+use Rattle.um_erasure.specs.Fine.{Fine, one_if, over_processors, scheduler, word}
+use Rattle.um_erasure.specs.Lists.{counted, has_held, is_add, runs, runs_thread, wake_of}
+
+-- The word of a thread index says what the machine's thread is.
+pub record WordIs (f : Fine) (m : State) (t : ℕ) : Type 0 where
+  pub life : (word f t).life ≡ (thread_at m t).life
+  pub doomed : (word f t).doomed ≡ (thread_at m t).doomed
+  pub mode : (word f t).mode ≡ (thread_at m t).mode
+  pub domain : (word f t).domain ≡ (thread_at m t).domain
+
+-- a thread without what sites keep of it
+abbrev pub own_part : Thread → Thread
+own_part me =
+    record nobody {
+      mode = me.mode;
+      stack = me.stack;
+      priority = me.priority;
+      pool = me.pool;
+      registers = me.registers;
+      place = me.place;
+      pending = me.pending;
+      reply = me.reply;
+      buffer = me.buffer;
+    }
+
+-- rows as flags
+abbrev pub flags_of : List ℕ → List Bool
+flags_of [] = no_rows
+flags_of (x ∷ xs) = slice_set (flags_of xs) x true
+
+abbrev pub is_ended : Life → Bool
+is_ended Life.Ended = true
+is_ended _ = false
+
+-- An own part is that of the machine's thread, and holds what that thread's call holds.
+pub record IsOf (m : State) (c : Context) : Type 0 where
+  pub index : c.thread < THREADS
+  pub own : as_thread c ≡ own_part (thread_at m c.thread)
+  pub claims : (thread_at m c.thread).checked ≡ flags_of c.claims
+  pub ended : c.ended ≡ is_ended (thread_at m c.thread).life
+
+-- in how many places an own part lies: with processors that run the thread, on the way to the ready list, and parked
+abbrev pub places : Fine → ℕ → ℕ
+places f t = over_processors f (λ p. one_if (runs_thread t p) + counted (is_add t) p.todo) + one_if (is_some (parked_at (scheduler f) t))
+
+-- Own parts lie with processors, parked, or with a new thread that isn't added yet.
+pub record ContextsAre (f : Fine) (m : State) : Type 0 where
+  pub running : (k : ℕ) → k < f.cpus → runs (f.processors k) ≡ true → IsOf m (f.processors k).context
+  pub parked : (t : ℕ) (c : Context) → parked_at (scheduler f) t ≡ Some c → IsOf m c × (c.thread ≡ t) × (c.ended ≡ false) × IsPutBack c
+  pub added : (k t : ℕ) → k < f.cpus → IsTrue (list_any (is_add t) (f.processors k).todo) → (c : Context) × IsOf m c × (c.thread ≡ t)
+  pub once : (t : ℕ) → t < THREADS → places f t ≤ 1
+
+-- A thread that lies nowhere was never started, has ended, or is doomed at rest.
+pub record AwayIs (f : Fine) (m : State) (t : ℕ) : Type 0 where
+  pub away : places f t ≡ 0 → ((thread_at m t).life ≢ Life.Living) ⊎ (((thread_at m t).doomed ≡ true) × ((thread_at m t).pending ≡ []))
+
+abbrev pub first_told : Option Told → Option Told → Option Told
+first_told None told = told
+first_told (Some w) told = Some w
+
+-- what it is told by the wakes that processors have still to make, and else by the scheduler
+abbrev pub told_by : Fine → ℕ → ℕ → Option Told
+told_by f t zero = told_at (scheduler f) t
+told_by f t (suc k) = first_told (wake_of t (f.processors k).todo) (told_by f t k)
+
+-- What a woken thread is told stands with the scheduler, or on the list of the processor that wakes it.
+pub record ToldIs (f : Fine) (m : State) (t : ℕ) : Type 0 where
+  pub told : (thread_at m t).told ≡ told_by f t f.cpus
+
+-- A thread is held by the processor that runs it, which then has its domain.
+pub record HeldIs (f : Fine) (t : ℕ) : Type 0 where
+  pub held : one_if (word f t).held ≡ over_processors f (λ p. one_if (runs_thread t p && has_held p))
+
+pub record DomainKept (f : Fine) (k : ℕ) : Type 0 where
+  pub kept : has_held (f.processors k) ≡ true → (f.processors k).domain ≡ (word f (f.processors k).context.thread).domain
+
+-- how often a number stands in a list
+abbrev pub occurs : ℕ → List ℕ → ℕ
+occurs x [] = 0
+occurs x (y ∷ ys) = if x == y then occurs x ys + 1 else occurs x ys
+
+abbrev pub is_ready_there : Option Context → Option Told → Bool
+is_ready_there None told = false
+is_ready_there (Some c) told = not (waits c.pending) || is_some told
+
+-- Who is ready is parked, stands in the ready list once, and waits for nothing.
+pub record ReadyIs (f : Fine) (t : ℕ) : Type 0 where
+  pub ready : occurs t (scheduler f).ready ≡ one_if (is_ready_there (parked_at (scheduler f) t) (told_at (scheduler f) t))
+
+-- The scheduler counts the processors that run a thread.
+pub record RunningIs (f : Fine) : Type 0 where
+  pub running : (scheduler f).running ≡ over_processors f (λ p. one_if (runs p))
