@@ -1,6 +1,6 @@
 -- What fine steps do to both machines. Erased is the theorem, under the premise that each step keeps the relation. Of that premise: the
--- own parts of threads (Own, Others), claims (ListClaims, RowClaims), lists and sorts, which are kept (ListFits, Kept), what unseen steps leave (Quiet), and that events
--- are steps of the machine where the relation holds (Says, Offered, and then Shown and the files of steps).
+-- own parts of threads (Own, Others), claims (ListClaims, RowClaims), what is kept (ListFits, Kept, Quiet), what holds at the opening
+-- (First), and that events are steps of the machine where the relation holds (Says, Offered, and then Shown and the files of steps).
 pub mod Erased
 pub mod ThreadLists
 pub mod Own
@@ -13,9 +13,11 @@ pub mod Offered
 pub mod Shown
 pub mod RowSteps
 pub mod MemorySteps
+pub mod TextSteps
 pub mod DomainSteps
 pub mod HeapSteps
 pub mod VisitSteps
 pub mod DropSteps
 pub mod Kept
 pub mod Quiet
+pub mod First

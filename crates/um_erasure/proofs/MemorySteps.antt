@@ -116,7 +116,7 @@ module _ {f : Fine} {m : State} {k : ℕ} {e : FineStep} {q : Pending} {rest : S
       ∙ allowed-agrees m (f.processors k) (f.processors k).context.thread access a n
       (ap (λ (i : Image). loaded i (f.processors k).table) h.rel.image ∙ regions-loaded few)
 
-memory-sort : (s : SiteState) → IsTrue (is_sort Site.memory s) → (n : ℕ) × (s ≡ SiteState.cell n (Cell.memory (bytes_state s)))
+pub memory-sort : (s : SiteState) → IsTrue (is_sort Site.memory s) → (n : ℕ) × (s ≡ SiteState.cell n (Cell.memory (bytes_state s)))
 memory-sort (SiteState.cell n (Cell.memory m)) h = (n, refl)
 memory-sort s h = absurd (false≢true h)
 
