@@ -1,3 +1,4 @@
 pub mod LineLemmas
 pub mod ListLemmas
 pub mod PageLemmas
+pub mod ZeroLemmas

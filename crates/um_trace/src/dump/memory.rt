@@ -1,6 +1,6 @@
 //! The memory of a dump: the blocks of 32 bytes that aren't all zero.
 
-ghost use Rattle.std.specs.Prelude.{◌≡◌, ◌==◌, ◌+◌, ◌*◌, ◌≤◌, ◌<◌, ◌^◌, length, vec_len, vec_capacity};
+ghost use Rattle.std.specs.Prelude.{◌≡◌, ◌==◌, ◌+◌, ◌*◌, ◌≤◌, ◌<◌, ◌^◌, IfSome, length, vec_len, vec_capacity};
 ghost use Rattle.std.specs.List.{flat_map, list_all, range_with_len};
 ghost use Rattle.um_trace.specs.Dump.{block_line, area_lines};
 ghost use Rattle.um_trace.specs.Room.{Puts};
@@ -17,11 +17,39 @@ const BLOCKS: usize = 0x4000;
 /// The blocks of a page.
 const PAGE: usize = 32;
 
-/// Whether all bytes are zero.
-fn are_zero(bytes: &[u8]) -> bool
+/// The bytes behind the first eight, where there are so many and those are zero.
+fn behind_zeros(bytes: &[u8]) -> Option<&[u8]>
+    ensures same { IfSome result (λ rest. list_all (λ b. b == 0) bytes.now ≡ list_all (λ b. b == 0) rest.now) }
+    ensures fewer { IfSome result (λ rest. length rest.now < length bytes.now) }
+{
+    match bytes {
+        [a, b, c, d, e, f, g, h, rest @ ..] => {
+            if *a | *b | *c | *d | *e | *f | *g | *h == 0 {
+                Some(rest)
+            } else {
+                None
+            }
+        }
+        _ => None,
+    }
+}
+
+/// Whether all bytes are zero, one after another.
+fn each_is_zero(bytes: &[u8]) -> bool
     ensures { result ≡ list_all (λ b. b == 0) bytes.now }
 {
     bytes.iter().all(|b| *b == 0)
+}
+
+/// Whether all bytes are zero, eight at a time.
+fn are_zero(bytes: &[u8]) -> bool
+    ensures { result ≡ list_all (λ b. b == 0) bytes.now }
+{
+    let mut left = bytes;
+    'eights: while let Some(rest) = behind_zeros(left) {
+        left = rest;
+    }
+    each_is_zero(left)
 }
 
 /// The line of the k-th block of an area, unless it is all zero.
