@@ -8,3 +8,4 @@ mod SizeLemmas
 mod StartLemmas
 mod StringLemmas
 mod WorkLemmas
+pub mod PaddedLemmas

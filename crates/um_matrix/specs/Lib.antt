@@ -2,3 +2,5 @@ pub mod Alone
 pub mod Given
 pub mod Offered
 pub mod Worked
+pub mod Lending
+pub mod Padded

@@ -2,5 +2,6 @@
 #![tactic(auto)]
 
 mod matrix;
+mod object_table;
 
 pub use matrix::{Matrix, NotAStep};

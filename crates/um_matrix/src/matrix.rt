@@ -24,10 +24,14 @@ mod tests;
 mod transfer;
 mod waiting;
 
-ghost use Rattle.std.specs.Prelude.{◌≡◌, ◌≤◌, length};
+ghost use Rattle.std.specs.Prelude.{◌≡◌, ◌<◌, ◌≤◌, drop, length};
+ghost use Rattle.std.specs.List.{list_any};
+ghost use Rattle.um_machine.specs.declared.object.Object.{Object};
+ghost use Rattle.um_machine.specs.Objects.{is_gone};
 
+use crate::object_table::ObjectTable;
 use std::marker::Model;
-use um_base::{AREA_SIZE, DOMAINS, Image, POOLS, Parts, ROWS, THREADS};
+use um_base::{AREA_SIZE, DOMAINS, Image, POOLS, Parts, ROWS, STATIC_ROWS, THREADS};
 use um_machine::{Object, Thread};
 use um_service::Outcome;
 
@@ -42,7 +46,7 @@ pub struct Matrix<'a> {
     image: &'a Image,
     rodata: Vec<u8>,
     threads: Vec<Thread>,
-    objects: Vec<Object>,
+    objects: ObjectTable,
     pairs: Vec<[bool; THREADS]>,
     domains: Vec<Option<Parts>>,
     memory: Vec<u8>,
@@ -64,7 +68,7 @@ impl<'a> Model for Matrix<'a> {
     ghost view = { λ m. record {
       image = m.image.now;
       threads = m.threads.items;
-      objects = m.objects.items;
+      objects = m.objects;
       pairs = m.pairs.items;
       domains = m.domains.items;
       memory = m.memory.items;
@@ -73,12 +77,14 @@ impl<'a> Model for Matrix<'a> {
     } };
 
     ghost invariant = { λ m.
-        (length m.threads.items ≡ THREADS) × (length m.objects.items ≡ ROWS) × (length m.pairs.items ≡ ROWS) × (length m.domains.items ≤ DOMAINS)
+        (length m.threads.items ≡ THREADS) × (length m.objects ≡ ROWS) × (length m.pairs.items ≡ ROWS) × (length m.domains.items ≤ DOMAINS)
         × (length m.memory.items ≡ AREA_SIZE) × (length m.stacks.items ≡ AREA_SIZE) × (length m.pools.items ≤ POOLS) × (m.rodata.items ≡ rodata_of m.image.now)
         × IsGiven m.image.now };
 }
 
 impl<'a> Matrix<'a> {
+    ghost use Rattle.um_machine.specs.State.{object_at};
+
     /// The image that runs.
     pub fn image(&self) -> &'a Image
         ensures { result.now ≡ self.now.image }
@@ -94,12 +100,20 @@ impl<'a> Matrix<'a> {
         self.threads.as_slice()
     }
 
-    /// The objects, by row.
-    pub fn objects(&self) -> &[Object]
-        ensures value { result.now ≡ self.now.objects }
-        ensures all { length result.now ≡ ROWS }
+    /// The object of a row.
+    pub fn object(&self, x: usize) -> &Object
+        requires { x < ROWS }
+        ensures value { result.now ≡ object_at self.now x }
+        ensures all { length self.now.objects ≡ ROWS }
     {
-        self.objects.as_slice()
+        self.objects.row(x)
+    }
+
+    /// Whether a dynamic object is gone.
+    pub fn some_gone(&self) -> bool
+        ensures { result ≡ list_any (λ (object : Object). is_gone object.status) (drop STATIC_ROWS self.now.objects) }
+    {
+        self.objects.some_gone()
     }
 
     /// Which threads have a pair with an object, by row and then by thread index.

@@ -1,7 +1,7 @@
 -- Rows that came up are put into a processor's line one after another.
-use Rattle.std.proofs.Common.{◌≡◌, ◌≢◌, ℕ, zero, suc, ◌+◌, ◌-◌, ◌≤◌, ◌<◌, Bool, true, false, not, ◌&&◌, ◌||◌, List, [], ◌∷◌, ◌++◌, filter, refl, sym, ap, ◌∙◌, arith, if◌then◌else◌, slice_index_or, slice_set, drop, subst, length}
-use Rattle.std.specs.List.{list_any, slice_range}
-use Rattle.std.proofs.lemmas.List.{set-get_or, take_all, length-drop}
+use Rattle.std.proofs.Common.{◌≡◌, ◌≢◌, ℕ, zero, suc, ◌+◌, ◌-◌, ◌≤◌, ◌<◌, Bool, true, false, not, ◌&&◌, ◌||◌, List, [], ◌∷◌, ◌++◌, filter, refl, sym, ap, ◌∙◌, arith, if◌then◌else◌, slice_index_or, slice_set, drop}
+use Rattle.std.specs.List.{list_any}
+use Rattle.std.proofs.lemmas.List.{set-get_or}
 use Rattle.um_base.specs.declared.limits.TheConstants.{ROWS, STATIC_ROWS}
 use Rattle.um_machine.specs.declared.object.Object.{Object}
 use Rattle.um_machine.specs.Objects.{is_gone}
@@ -108,7 +108,7 @@ filter-none : (f : ℕ → Bool) (x n : ℕ) → ((y : ℕ) → x ≤ y → f y 
 filter-none f x zero none = refl
 filter-none f x (suc n) none = rw (none x (omega arith)) (filter-none f (x + 1) n (λ y low. none y (omega (arith, low))))
 
-pub none-gone : (turn : Turn) (cpu : ℕ) → list_any (λ (object : Object). is_gone object.status) (slice_range turn.state.objects STATIC_ROWS (length turn.state.objects)) ≡ false → settled turn cpu ≡ turn
+pub none-gone : (turn : Turn) (cpu : ℕ) → list_any (λ (object : Object). is_gone object.status) (drop STATIC_ROWS turn.state.objects) ≡ false → settled turn cpu ≡ turn
 none-gone turn cpu none =
     sym (noted-first turn cpu)
     ∙ ap (λ (rows : List ℕ). record turn { processors = added turn.processors cpu rows }) (filter-none (comes_up turn.state turn.processors) STATIC_ROWS (ROWS - STATIC_ROWS) quiet)
@@ -117,11 +117,5 @@ none-gone turn cpu none =
     objects : List Object
     objects = turn.state.objects
 
-    whole : slice_range objects STATIC_ROWS (length objects) ≡ drop STATIC_ROWS objects
-    whole = take_all (length objects - STATIC_ROWS) (drop STATIC_ROWS objects) (omega (arith, length-drop STATIC_ROWS objects))
-
-    rest : list_any (λ (object : Object). is_gone object.status) (drop STATIC_ROWS objects) ≡ false
-    rest = subst (λ (some : List Object). list_any (λ (object : Object). is_gone object.status) some ≡ false) whole none
-
     quiet : (y : ℕ) → STATIC_ROWS ≤ y → comes_up turn.state turn.processors y ≡ false
-    quiet y low = rw (none-from (λ (object : Object). is_gone object.status) objects vacant STATIC_ROWS y refl rest low) refl
+    quiet y low = rw (none-from (λ (object : Object). is_gone object.status) objects vacant STATIC_ROWS y refl none low) refl

@@ -2,8 +2,6 @@
 
 ghost use Rattle.std.specs.Prelude.{◌≡◌, ◌<◌, ◌≤◌, ℕ, map, Some, None, true, false, if◌then◌else◌, [], replicate, slice_get, slice_set, slice_index_or, IfOk, IfSome, IfNone};
 ghost use Rattle.um_base.specs.Lawful.{IsLawful};
-ghost use Rattle.std.specs.List.{list_any};
-ghost use Rattle.um_machine.specs.Objects.{is_gone};
 ghost use Rattle.um_machine.specs.Run.{opening};
 ghost use Rattle.um_turns.specs.Lines.{joins, all_join};
 ghost use Rattle.um_turns.specs.Schedule.{boots_ready, idle, is_still, is_at_rest, goes_on, next_ready, behind_next, readied, ready_after, is_listed, comes_up, left_to_clean, opening_turn};
@@ -13,7 +11,7 @@ use crate::processor::Processor;
 use std::alloc::Global;
 use std::marker::Model;
 use um_base::{Act, Event, Image, Memory, ROWS, Reply, STATIC_ROWS, THREADS, ThreadIx};
-use um_machine::{Life, Object, Pending, Status};
+use um_machine::{Life, Pending};
 use um_matrix::Matrix;
 use um_rules::rows::thread_of_row;
 
@@ -140,18 +138,6 @@ fn put_ready(matrix: &Matrix, ready: &mut Line, thread: ThreadIx, act: &Act)
     }
 }
 
-/// Whether one of these objects is gone.
-fn some_gone(objects: &[Object]) -> bool
-    ensures { result ≡ list_any (λ (object : Object). is_gone object.status) objects.now }
-{
-    for object in objects {
-        if object.status == Status::Gone {
-            return true;
-        }
-    }
-    false
-}
-
 /// Whether a processor has an object to clean.
 fn is_listed(processors: &[Processor], row: u8) -> bool
     ensures { result ≡ is_listed processors.now row }
@@ -258,7 +244,7 @@ impl<'a> Processors<'a> {
     fn settle(&mut self, cpu: usize)
         ensures { self.new ≡ settled self.old cpu }
     {
-        if some_gone(&self.matrix.objects()[STATIC_ROWS..]) {
+        if self.matrix.some_gone() {
             self.note_rows(cpu);
         }
     }

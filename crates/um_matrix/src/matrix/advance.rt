@@ -307,7 +307,7 @@ impl<'a> Matrix<'a> {
         if t >= self.threads.len() || !self.is_started(t) {
             return false;
         }
-        if x >= self.objects.len() {
+        if x >= ROWS {
             return false;
         }
         match self.cleaning_move(t, x) {
@@ -323,9 +323,7 @@ impl<'a> Matrix<'a> {
     pub fn is_forsaken(&self, x: usize) -> bool
         ensures { result ≡ is_forsaken self.now x }
     {
-        match self.objects.get(x) {
-            Some(object) => object.status == Status::Gone && !self.is_held(x),
-            None => false,
-        }
+        let objects = &self.objects;
+        x < ROWS && objects.row(x).status == Status::Gone && !self.is_held(x)
     }
 }

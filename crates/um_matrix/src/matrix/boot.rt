@@ -11,13 +11,14 @@ ghost use Rattle.um_machine.specs.Run.{boot_thread, objects_from, parts_of};
 
 use crate::matrix::Matrix;
 use crate::matrix::moves::put;
+use crate::object_table::ObjectTable;
 use std::alloc::Global;
 use um_base::{
     AREA_SIZE, Addr, Attr, Boot, DOMAIN_PARTITIONS, DOMAINS, DomainDef, Image, Memory, POOLS,
     Partition, Parts, ROWS, Range, Row, THREADS,
 };
-use um_machine::{Object, Thread};
-use um_rules::blank::{boot_thread, nobody, opening_object, vacant};
+use um_machine::Thread;
+use um_rules::blank::{boot_thread, nobody};
 use um_rules::rows::thread_of_row;
 use um_service::Outcome;
 
@@ -44,32 +45,6 @@ fn threads(alloc: Global) -> Result<Vec<Thread>, Memory>
     for _ in 0..THREADS {
         all.push(nobody())?;
     }
-    Ok(all)
-}
-
-/// Fills a list of objects up to all rows.
-fn fill(all: &mut Vec<Object>) -> Result<(), Memory>
-    ensures { OnOk result (all.new.items ≡ all.old.items ++ replicate (ROWS - length all.old.items) vacant) }
-{
-    let missing = ROWS.saturating_sub(all.len());
-    for _ in 0..missing {
-        all.push(vacant())?;
-    }
-    Ok(())
-}
-
-/// The objects of a description, and after them none.
-#[tactic(auto, using(crate::proofs::BootLemmas::in_limits))]
-fn objects(alloc: Global, image: &Image) -> Result<Vec<Object>, Memory>
-    requires { IsLawful image.now }
-    ensures items { IfOk result (λ all. all.items ≡ objects_from image.now.boots 0 image.now.objects) }
-    ensures all { IfOk result (λ all. length all.items ≡ ROWS) }
-{
-    let mut all = Vec::with_capacity(alloc, ROWS)?;
-    for (x, object) in image.objects.as_slice().iter().enumerate() {
-        all.push(opening_object(image.boots.as_slice(), x, object))?;
-    }
-    fill(&mut all)?;
     Ok(all)
 }
 
@@ -233,7 +208,7 @@ impl<'a> Matrix<'a> {
         ensures { IfOk result (λ matrix. matrix ≡ blank image.now) }
     {
         let threads = threads(alloc)?;
-        let objects = objects(alloc, image)?;
+        let objects = ObjectTable::boot(alloc, image)?;
         let pairs = no_pairs(alloc)?;
         let domains = domains(alloc, image)?;
         let pools = pools(alloc, image)?;

@@ -49,7 +49,7 @@ impl<'a> Matrix<'a> {
         requires row { x < ROWS }
         ensures { result ≡ row_verdict self.now t kind want x }
     {
-        let object = &self.objects[x];
+        let object = self.objects.row(x);
         if object.status != Status::Live || !has_kind(kind, object.kind) {
             return Some(Errno::EBADF);
         }
@@ -89,15 +89,11 @@ impl<'a> Matrix<'a> {
     pub fn given(&self, x: usize) -> Given
         ensures { result ≡ given self.now x }
     {
-        match self.objects.get(x) {
-            Some(object) => {
-                if object.status == Status::Gone {
-                    Given::Gone
-                } else {
-                    Given::Done
-                }
-            }
-            None => Given::Done,
+        let objects = &self.objects;
+        if x < ROWS && objects.row(x).status == Status::Gone {
+            Given::Gone
+        } else {
+            Given::Done
         }
     }
 

@@ -106,7 +106,8 @@ impl<'a> Matrix<'a> {
         ensures objects { length self.now.objects ≡ ROWS }
         ensures pairs { length self.now.pairs ≡ ROWS }
     {
-        if chooses(step) { self.objects.len() } else { 1 }
+        let rows = self.pairs.len();
+        if chooses(step) { rows } else { 1 }
     }
 
     /// What a thread at rest says next.

@@ -17,7 +17,7 @@ impl<'a> Matrix<'a> {
         ensures { self.new ≡ cleaned_by self.old t x }
     {
         if x < ROWS {
-            self.objects[x].cleaner = Some(ThreadIx(t as u8));
+            self.objects.row_mut(x).cleaner = Some(ThreadIx(t as u8));
         }
     }
 
@@ -36,10 +36,11 @@ impl<'a> Matrix<'a> {
         requires { x < ROWS }
         ensures { self.new ≡ after self.old 0 x Pending.Recycle [] }
     {
-        let cost = self.objects[x].cost;
-        let buffer = self.objects[x].buffer;
+        let object = self.objects.row(x);
+        let cost = object.cost;
+        let buffer = object.buffer;
         pay_back(&mut self.pools, cost);
         pay_back(&mut self.pools, buffer);
-        self.objects[x] = vacant();
+        *self.objects.row_mut(x) = vacant();
     }
 }

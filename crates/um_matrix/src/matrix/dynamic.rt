@@ -38,7 +38,7 @@ impl<'a> Matrix<'a> {
         object.kind = Some(kind);
         object.status = Status::Reserved;
         object.cost = cost_of(thread.pool, OBJECT_COST);
-        self.objects[x] = object;
+        *self.objects.row_mut(x) = object;
     }
 
     /// The birth of a reserved object, which its creator holds.
@@ -48,7 +48,7 @@ impl<'a> Matrix<'a> {
         ensures { self.new ≡ after self.old t 0 (Pending.Born a) (drop taken (thread_at self.old t).pending) }
     {
         let x = self.row_of(a);
-        self.objects[x].status = Status::Live;
+        self.objects.row_mut(x).status = Status::Live;
         self.paired(t, x, true);
         self.threads[t].goes_on(self.image, taken);
     }

@@ -30,7 +30,7 @@ impl<'a> Matrix<'a> {
             Leftover::Kept => self.paired(t, x, false),
             Leftover::Gone => {
                 self.paired(t, x, false);
-                self.objects[x].status = Status::Gone;
+                self.objects.row_mut(x).status = Status::Gone;
             }
         }
     }

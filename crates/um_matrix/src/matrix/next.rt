@@ -120,7 +120,7 @@ impl<'a> Matrix<'a> {
         if !self.is_started(t) {
             return None;
         }
-        for x in 0..self.objects.len() {
+        for x in 0..self.pairs.len() {
             match self.cleaning_of(t, x) {
                 Some(step) => return Some(self.says(t, x, &step)),
                 None => {}

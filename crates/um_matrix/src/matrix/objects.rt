@@ -87,7 +87,7 @@ impl<'a> Matrix<'a> {
         let x = self.row_of(a);
         match self.given(x) {
             Given::Gone => {}
-            Given::Done => self.objects[x].public = true,
+            Given::Done => self.objects.row_mut(x).public = true,
         }
         self.threads[t].goes_on(self.image, taken);
     }
@@ -98,9 +98,9 @@ impl<'a> Matrix<'a> {
         ensures { self.new ≡ after self.old t 0 (Pending.SetInit a strict undo) (drop taken (thread_at self.old t).pending) }
     {
         let x = self.row_of(a);
-        match set_said(&self.objects[x], strict) {
+        match set_said(self.objects.row(x), strict) {
             SetSaid::Done => {
-                self.objects[x].init = true;
+                self.objects.row_mut(x).init = true;
                 self.threads[t].goes_on(self.image, taken);
             }
             SetSaid::Gone => self.threads[t].goes_on(self.image, taken),
@@ -115,7 +115,7 @@ impl<'a> Matrix<'a> {
     {
         let x = self.row_of(a);
         let own = own_row(self.image, t);
-        self.objects[x].init = false;
+        self.objects.row_mut(x).init = false;
         let thread = &mut self.threads[t];
         thread.keeps_own = thread.keeps_own && x != own;
         thread.goes_on(self.image, taken);
@@ -129,7 +129,7 @@ impl<'a> Matrix<'a> {
         let x = self.own_row(who);
         let name = self.threads[t].buffer;
         if x < ROWS {
-            self.objects[x].contents = Contents::Named(name);
+            self.objects.row_mut(x).contents = Contents::Named(name);
         }
         self.threads[t].goes_on(self.image, taken);
     }

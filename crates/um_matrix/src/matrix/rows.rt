@@ -65,7 +65,7 @@ impl<'a> Matrix<'a> {
     {
         x >= STATIC_ROWS
             && kind_number(dynamic_kind(x)) == kind_number(kind)
-            && self.objects[x].status == Status::Free
+            && self.objects.row(x).status == Status::Free
     }
 
     /// Whether no row is free for an object of this kind.
@@ -99,12 +99,12 @@ impl<'a> Matrix<'a> {
     fn may_clean(&self, t: usize, x: usize) -> bool
         ensures { IsTrue result ↔ MayClean self.now t x }
     {
-        match self.objects.get(x) {
-            Some(object) => {
-                object.status == Status::Gone && !self.is_held(x) && no_other(object.cleaner, t)
-            }
-            None => false,
+        let objects = &self.objects;
+        if x >= ROWS {
+            return false;
         }
+        let object = objects.row(x);
+        object.status == Status::Gone && !self.is_held(x) && no_other(object.cleaner, t)
     }
 
     /// Whether the pair of a thread with a row may be cleaned.

@@ -174,7 +174,7 @@ impl<'a> Matrix<'a> {
             },
             Pending::SetInit { addr, strict, .. } => Act::SetInit {
                 addr: *addr,
-                set: set_said(&self.objects[self.row_of(*addr)], *strict),
+                set: set_said(self.objects.row(self.row_of(*addr)), *strict),
             },
             Pending::ClearInit { addr } => Act::ClearInit { addr: *addr },
             Pending::Named { who } => Act::Named { who: *who },

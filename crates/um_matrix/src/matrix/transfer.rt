@@ -38,7 +38,7 @@ impl<'a> Matrix<'a> {
     {
         match amount {
             Amount::Bytes(n) => n,
-            Amount::MessageOf(a) => message_size(&self.objects[self.row_of(a)].contents),
+            Amount::MessageOf(a) => message_size(&self.objects.row(self.row_of(a)).contents),
         }
     }
 

@@ -143,7 +143,7 @@ impl<'a> Matrix<'a> {
         requires sound { IsTrue (is_sound_ask ask.now) }
         ensures { (x : ℕ) → result ≡ act_of self.now t x (Pending.Work a ask.now) }
     {
-        let object = &self.objects[self.row_of(a)];
+        let object = self.objects.row(self.row_of(a));
         let who = self.worker(t, ask);
         let said = says(&object.contents, &object.waiters, &who);
         Act::Work {
@@ -164,7 +164,7 @@ impl<'a> Matrix<'a> {
     {
         let x = self.row_of(a);
         let who = self.worker(t, ask);
-        let object = &mut self.objects[x];
+        let object = self.objects.row_mut(x);
         let outcome = &mut self.outcome;
         act(&mut object.contents, &mut object.waiters, &who, outcome);
         object.buffer = buffer_cost(ask, outcome.answer, object.buffer);

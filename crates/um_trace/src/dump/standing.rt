@@ -33,12 +33,17 @@ fn is_awaited(object: &Object, thread: u8) -> bool
 }
 
 /// The row of the object in whose list of waiters a thread stands.
-fn awaited(objects: &[Object], thread: u8) -> Option<usize>
-    requires { length objects.now ≤ ROWS }
-    ensures value { result ≡ awaited objects.now thread }
+fn awaited(last: &Matrix, thread: u8) -> Option<usize>
+    ensures value { result ≡ awaited last.now.objects thread }
     ensures few { IfSome result (λ x. x < ROWS) }
 {
-    objects.iter().position(|o| is_awaited(o, thread))
+    let _first = last.object(0);
+    for x in 0..ROWS {
+        if is_awaited(last.object(x), thread) {
+            return Some(x);
+        }
+    }
+    None
 }
 
 /// A living thread, by the row on which it waits.
@@ -64,7 +69,7 @@ pub fn standing_of(last: &Matrix, thread: u8, me: &Thread) -> Standing
     } else if me.life == Life::Ended {
         Standing::Ended
     } else {
-        waits(awaited(last.objects(), thread))
+        waits(awaited(last, thread))
     }
 }
 

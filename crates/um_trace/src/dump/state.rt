@@ -15,7 +15,7 @@ pub fn object_at<'a>(last: &'a Matrix, row: usize) -> &'a Object
     requires { row < ROWS }
     ensures { result.now ≡ object_at last.now row }
 {
-    &last.objects()[row]
+    last.object(row)
 }
 
 /// Whether a thread has a pair with the object of a row.

@@ -1,0 +1,138 @@
+//! The objects of all rows.
+
+ghost use Rattle.std.specs.Prelude.{◌≡◌, ◌<◌, ◌≤◌, ◌-◌, ◌++◌, IfOk, length, replicate, drop, slice_index_or, vec_len, vec_capacity};
+ghost use Rattle.std.specs.Borrow.{sem};
+ghost use Rattle.std.specs.List.{list_any};
+ghost use Rattle.um_base.specs.Lawful.{IsLawful};
+ghost use Rattle.um_machine.specs.declared.object.Object.{Object};
+ghost use Rattle.um_machine.specs.Objects.{is_gone};
+ghost use Rattle.um_machine.specs.Run.{objects_from};
+ghost use Rattle.um_machine.specs.State.{vacant};
+
+use std::alloc::Global;
+use std::marker::Model;
+use um_base::{Image, Memory, ROWS, STATIC_ROWS};
+use um_machine::{Object, Status};
+use um_rules::blank::{opening_object, vacant};
+
+/// The objects of all rows. Of the static rows, and of the dynamic ones, it has those up to the last that was ever written;
+/// the others are vacant. Room for all rows is reserved from the beginning.
+#[derive(Drop)]
+pub struct ObjectTable {
+    statics: Vec<Object>,
+    dynamics: Vec<Object>,
+    blank: Object,
+}
+
+impl Model for ObjectTable {
+    ghost use Rattle.std.specs.Prelude.{List, ◌≡◌, ◌≤◌, ◌-◌, ◌++◌, length, vec_capacity};
+    ghost use Rattle.um_base.specs.declared.limits.TheConstants.{ROWS, STATIC_ROWS};
+    ghost use Rattle.um_machine.specs.declared.object.Object.{Object};
+    ghost use Rattle.um_machine.specs.State.{vacant};
+    ghost use Rattle.um_matrix.specs.Padded.{padded};
+
+    ghost Value = { List Object };
+
+    ghost view = { λ t. padded STATIC_ROWS t.statics.items ++ padded (ROWS - STATIC_ROWS) t.dynamics.items };
+
+    ghost invariant = { λ t.
+        (length t.statics.items ≤ STATIC_ROWS) × (STATIC_ROWS ≤ vec_capacity t.statics)
+        × (length t.dynamics.items ≤ ROWS - STATIC_ROWS) × (ROWS - STATIC_ROWS ≤ vec_capacity t.dynamics)
+        × (t.blank ≡ vacant) };
+}
+
+/// The objects of a description.
+#[tactic(auto, using(crate::proofs::BootLemmas::in_limits))]
+fn statics(alloc: Global, image: &Image) -> Result<Vec<Object>, Memory>
+    requires { IsLawful image.now }
+    ensures items { IfOk result (λ all. all.items ++ replicate (ROWS - length all.items) vacant ≡ objects_from image.now.boots 0 image.now.objects) }
+    ensures few { IfOk result (λ all. length all.items ≤ STATIC_ROWS) }
+    ensures room { IfOk result (λ all. STATIC_ROWS ≤ vec_capacity all) }
+{
+    let mut all = Vec::with_capacity(alloc, STATIC_ROWS)?;
+    for (x, object) in image.objects.as_slice().iter().enumerate() {
+        all.push_reserved(opening_object(image.boots.as_slice(), x, object));
+    }
+    Ok(all)
+}
+
+/// Vacant rows up to so many, where there are fewer. The room is reserved.
+fn fill(rows: &mut Vec<Object>, n: usize)
+    requires { n ≤ vec_capacity rows.old }
+    ensures items { rows.new.items ≡ rows.old.items ++ replicate (n - length rows.old.items) vacant }
+    ensures room { vec_capacity rows.new ≡ vec_capacity rows.old }
+{
+    let missing = n.saturating_sub(rows.len());
+    'rows: for _ in 0..missing {
+        rows.push_reserved(vacant());
+    }
+}
+
+/// Whether one of these objects is gone.
+fn some_gone(objects: &[Object]) -> bool
+    ensures { result ≡ list_any (λ (object : Object). is_gone object.status) objects.now }
+{
+    for object in objects {
+        if object.status == Status::Gone {
+            return true;
+        }
+    }
+    false
+}
+
+impl ObjectTable {
+    ghost use Rattle.um_matrix.specs.Lending.{LendsRow};
+
+    /// The objects of a description, and after them none.
+    pub fn boot(alloc: Global, image: &Image) -> Result<ObjectTable, Memory>
+        requires { IsLawful image.now }
+        ensures items { IfOk result (λ table. table ≡ objects_from image.now.boots 0 image.now.objects) }
+        ensures all { IfOk result (λ table. length table ≡ ROWS) }
+    {
+        let statics = statics(alloc, image)?;
+        let dynamics = Vec::with_capacity(alloc, ROWS - STATIC_ROWS)?;
+        Ok(ObjectTable {
+            statics,
+            dynamics,
+            blank: vacant(),
+        })
+    }
+
+    /// The object of a row.
+    pub fn row(&self, x: usize) -> &Object
+        requires { x < ROWS }
+        ensures { result.now ≡ slice_index_or self.now x vacant }
+    {
+        let kept = if x < STATIC_ROWS {
+            self.statics.get(x)
+        } else {
+            self.dynamics.get(x - STATIC_ROWS)
+        };
+        match kept {
+            Some(object) => object,
+            None => &self.blank,
+        }
+    }
+
+    /// The object of a row, to change it. It takes no memory.
+    pub fn row_mut(&mut self, x: usize) -> &mut Object
+        requires { x < ROWS }
+        ensures* lends { sem 𝓛 (LendsRow self.entry x result) }
+        ensures value { result.now ≡ slice_index_or self.old x vacant }
+    {
+        if x < STATIC_ROWS {
+            fill(&mut self.statics, x + 1);
+            &mut self.statics[x]
+        } else {
+            fill(&mut self.dynamics, x - STATIC_ROWS + 1);
+            &mut self.dynamics[x - STATIC_ROWS]
+        }
+    }
+
+    /// Whether a dynamic object is gone.
+    pub fn some_gone(&self) -> bool
+        ensures { result ≡ list_any (λ (object : Object). is_gone object.status) (drop STATIC_ROWS self.now) }
+    {
+        some_gone(self.dynamics.as_slice())
+    }
+}
