@@ -209,9 +209,9 @@ impl<'a> Matrix<'a> {
         ensures leaves { self.new ≡ after self.old t x step.now (drop taken (thread_at self.old t).pending) }
     {
         match step {
-            Pending::Work { addr, ask } => *act = self.work(t, *addr, ask, taken),
+            Pending::Work { addr, ask } => self.work(t, *addr, ask, taken, act),
             _ => {
-                *act = self.says(t, x, step);
+                self.puts_said(t, x, step, act);
                 self.make(t, x, step, taken);
             }
         }
@@ -237,7 +237,7 @@ impl<'a> Matrix<'a> {
         ensures says { act.new ≡ act_of self.old t x (Pending.CleanPair who) }
         ensures leaves { self.new ≡ after self.old t x (Pending.CleanPair who) [] }
     {
-        *act = self.says(t, x, &Pending::CleanPair { who });
+        self.puts_said(t, x, &Pending::CleanPair { who }, act);
         self.clean_pair(t, x, who);
     }
 
@@ -249,7 +249,7 @@ impl<'a> Matrix<'a> {
         ensures says { act.new ≡ act_of self.old t x Pending.Recycle }
         ensures leaves { self.new ≡ after self.old t x Pending.Recycle [] }
     {
-        *act = self.says(t, x, &Pending::Recycle);
+        self.puts_said(t, x, &Pending::Recycle, act);
         self.recycle(x);
     }
 

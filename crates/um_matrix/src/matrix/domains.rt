@@ -44,40 +44,40 @@ impl<'a> Matrix<'a> {
     }
 
     /// What the initialisation of a domain says.
-    pub fn says_domain_init(&self, domain: u8, parts: &PartRefs) -> Act
-        ensures { (t x : ℕ) → result ≡ act_of self.now t x (Pending.DomInit domain parts.now) }
+    pub fn says_domain_init(&self, domain: u8, parts: &PartRefs, act: &mut Act)
+        ensures { (t x : ℕ) → act.new ≡ act_of self.now t x (Pending.DomInit domain parts.now) }
     {
         let made = self.initialised(domain, parts);
-        Act::DomInit {
+        *act = Act::DomInit {
             domain,
             reply: reply_to(&made),
-        }
+        };
     }
 
     /// What the addition of a partition to a domain says.
-    pub fn says_domain_add(&self, domain: u8, range: Range, attr: Attr) -> Act
-        ensures { (t x : ℕ) → result ≡ act_of self.now t x (Pending.DomAdd domain range attr) }
+    pub fn says_domain_add(&self, domain: u8, range: Range, attr: Attr, act: &mut Act)
+        ensures { (t x : ℕ) → act.new ≡ act_of self.now t x (Pending.DomAdd domain range attr) }
     {
         let made = added(self.image, &self.domain_at(domain), range, attr);
-        Act::DomAdd {
+        *act = Act::DomAdd {
             domain,
             range,
             attr,
             reply: reply_to(&made),
-        }
+        };
     }
 
     /// What the removal of a partition from a domain says.
-    pub fn says_domain_remove(&self, domain: u8, range: Range, attr: Attr) -> Act
-        ensures { (t x : ℕ) → result ≡ act_of self.now t x (Pending.DomRemove domain range attr) }
+    pub fn says_domain_remove(&self, domain: u8, range: Range, attr: Attr, act: &mut Act)
+        ensures { (t x : ℕ) → act.new ≡ act_of self.now t x (Pending.DomRemove domain range attr) }
     {
         let made = removed(&self.domain_at(domain), range);
-        Act::DomRemove {
+        *act = Act::DomRemove {
             domain,
             range,
             attr,
             reply: reply_to(&made),
-        }
+        };
     }
 
     /// The initialisation of a domain.

@@ -5,7 +5,7 @@ ghost use Rattle.um_machine.specs.Limits.{IsSound};
 
 use crate::matrix::Matrix;
 use crate::matrix::creation::Beginning;
-use um_base::{ROWS, THREADS};
+use um_base::{Act, ROWS, THREADS};
 use um_machine::Pending;
 
 impl<'a> Matrix<'a> {
@@ -37,7 +37,8 @@ impl<'a> Matrix<'a> {
             Pending::CopyStr { addr } => self.copy_string(t, *addr, taken),
             Pending::Erase { stack } => self.erase(t, *stack, taken),
             Pending::Work { addr, ask } => {
-                let _ = self.work(t, *addr, ask, taken);
+                let mut said = Act::Resume;
+                self.work(t, *addr, ask, taken, &mut said);
             }
             Pending::Resume => self.resume(t, taken),
             Pending::Answer { reply, to } => self.answer(t, *reply, *to, taken),

@@ -138,28 +138,28 @@ impl<'a> Matrix<'a> {
 
     /// What the work on an object says.
     #[inline(never)]
-    pub fn says_work(&self, t: usize, a: Addr, ask: &Ask) -> Act
+    pub fn says_work(&self, t: usize, a: Addr, ask: &Ask, act: &mut Act)
         requires thread { t < THREADS }
         requires sound { IsTrue (is_sound_ask ask.now) }
-        ensures { (x : ℕ) → result ≡ act_of self.now t x (Pending.Work a ask.now) }
+        ensures { (x : ℕ) → act.new ≡ act_of self.now t x (Pending.Work a ask.now) }
     {
         let object = self.objects.row(self.row_of(a));
         let who = self.worker(t, ask);
         let said = says(&object.contents, &object.waiters, &who);
-        Act::Work {
+        *act = Act::Work {
             addr: a,
             answer: said.answer,
             woken: said.woken,
-        }
+        };
     }
 
     /// The work of a call on an object, and what it says.
     #[inline(never)]
-    pub fn work(&mut self, t: usize, a: Addr, ask: &Ask, taken: usize) -> Act
+    pub fn work(&mut self, t: usize, a: Addr, ask: &Ask, taken: usize, said: &mut Act)
         requires thread { t < THREADS }
         requires sound { IsTrue (is_sound_ask ask.now) }
         requires taken { 0 < taken }
-        ensures says { (x : ℕ) → result ≡ act_of self.old t x (Pending.Work a ask.now) }
+        ensures says { (x : ℕ) → said.new ≡ act_of self.old t x (Pending.Work a ask.now) }
         ensures leaves { self.new ≡ after self.old t 0 (Pending.Work a ask.now) (drop taken (thread_at self.old t).pending) }
     {
         let x = self.row_of(a);
@@ -177,11 +177,11 @@ impl<'a> Matrix<'a> {
             &outcome.taken,
             taken,
         );
-        Act::Work {
+        *said = Act::Work {
             addr: a,
             answer: outcome.answer,
             woken: replies_of(outcome.woken.as_slice()),
-        }
+        };
     }
 
     /// A waiter goes on with what it was told.

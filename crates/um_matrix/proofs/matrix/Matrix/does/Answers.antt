@@ -5,4 +5,4 @@ use Rattle.um_matrix.proofs.matrix.Matrix.does.Goals as goal
 
 pub returns-in-Work-clause-says : goal.returns-in-Work-clause-says
 returns-in-Work-clause-says c =
-    subst (λ (step : Pending). c.work.result ≡ act_of c.args.self.now c.args.t c.args.x step) (sym c.in-Work.is) (c.work.ensures.says c.args.x)
+    subst (λ (step : Pending). c.work.new.said ≡ act_of c.args.self.now c.args.t c.args.x step) (sym c.in-Work.is) (c.work.ensures.says c.args.x)

@@ -1,4 +1,4 @@
-use Rattle.um_matrix.proofs.matrix.Matrix.says.Goals as goal
+use Rattle.um_matrix.proofs.matrix.Matrix.puts_said.Goals as goal
 
 pub returns-in-Load : goal.returns-in-Load
 returns-in-Load c = rw c.in-Load.is (c.says_load.ensures c.args.x c.in-Load.to)
