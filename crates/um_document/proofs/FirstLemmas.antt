@@ -1,13 +1,13 @@
 -- The first broken part of two lists, one behind the other.
 use Rattle.std.proofs.Common.{◌≡◌, ℕ, ◌+◌, ◌<◌, suc, true, false, List, [], ◌∷◌, ◌++◌, length, get_or, drop, Option, Some, None, is_some, refl, sym, ap, ◌∙◌, add-one, drop-cons, flat_map}
+use Rattle.toml.specs.Data.{Data}
 use Rattle.toml.specs.View.{view, items_view}
 use Rattle.toml.specs.declared.value.Value.{Value}
 use Rattle.um_document.specs.declared.check.Check.{Check}
 use Rattle.um_document.specs.declared.place.Place.{Place}
-use Rattle.um_document.specs.declared.shape.Section.{Section}
 use Rattle.um_document.specs.Broken.{is_broken}
 use Rattle.um_document.specs.First.{first_place}
-use Rattle.um_document.specs.Parts.{Part, entry_parts, entries_parts}
+use Rattle.um_document.specs.Parts.{Part, each_item}
 
 abbrev pub or_else : Option Place → Option Place → Option Place
 or_else None other = other
@@ -53,22 +53,22 @@ pub flat_before : {A : Type 0} (check : Check) (f : A → List Part) (xs : List 
 flat_before check f xs k d found total lt first there so_far =
     sym (before check (f (get_or xs k d)) (flat_map f (drop (k + 1) xs)) found first there) ∙ ap (first_place check) (sym (flat_cut f xs k d lt)) ∙ so_far
 
--- the parts of entries, of which one is next
-entries_cut : (s : Section) (vs : List Value) (i k : ℕ) (v : Value) → k < length vs → v ≡ get_or vs k v
-    → entries_parts s i (items_view (drop k vs)) ≡ entry_parts s i (view v) ++ entries_parts s (i + 1) (items_view (drop (k + 1) vs))
-entries_cut s vs i k v lt is =
+-- the parts of items, of which one is next
+items_cut : (f : ℕ → Data → List Part) (vs : List Value) (i k : ℕ) (v : Value) → k < length vs → v ≡ get_or vs k v
+    → each_item f i (items_view (drop k vs)) ≡ f i (view v) ++ each_item f (i + 1) (items_view (drop (k + 1) vs))
+items_cut f vs i k v lt is =
     let cut : drop k vs ≡ v ∷ drop (k + 1) vs = rw add-one (drop-cons vs k v lt ∙ ap (λ w. w ∷ drop (suc k) vs) (sym is)) in
-    ap (λ ws. entries_parts s i (items_view ws)) cut
+    ap (λ ws. each_item f i (items_view ws)) cut
 
-pub entries_behind : (check : Check) (s : Section) (vs : List Value) (i k : ℕ) (v : Value) (found total : Option Place) → k < length vs → v ≡ get_or vs k v
-    → found ≡ first_place check (entry_parts s i (view v)) → is_some found ≡ false → first_place check (entries_parts s i (items_view (drop k vs))) ≡ total
-    → first_place check (entries_parts s (i + 1) (items_view (drop (k + 1) vs))) ≡ total
-entries_behind check s vs i k v found total lt is first gone so_far =
-    sym (behind check (entry_parts s i (view v)) (entries_parts s (i + 1) (items_view (drop (k + 1) vs))) found first gone)
-    ∙ ap (first_place check) (sym (entries_cut s vs i k v lt is)) ∙ so_far
+pub items_behind : (check : Check) (f : ℕ → Data → List Part) (vs : List Value) (i k : ℕ) (v : Value) (found total : Option Place) → k < length vs → v ≡ get_or vs k v
+    → found ≡ first_place check (f i (view v)) → is_some found ≡ false → first_place check (each_item f i (items_view (drop k vs))) ≡ total
+    → first_place check (each_item f (i + 1) (items_view (drop (k + 1) vs))) ≡ total
+items_behind check f vs i k v found total lt is first gone so_far =
+    sym (behind check (f i (view v)) (each_item f (i + 1) (items_view (drop (k + 1) vs))) found first gone)
+    ∙ ap (first_place check) (sym (items_cut f vs i k v lt is)) ∙ so_far
 
-pub entries_before : (check : Check) (s : Section) (vs : List Value) (i k : ℕ) (v : Value) (found total : Option Place) → k < length vs → v ≡ get_or vs k v
-    → found ≡ first_place check (entry_parts s i (view v)) → is_some found ≡ true → first_place check (entries_parts s i (items_view (drop k vs))) ≡ total → found ≡ total
-entries_before check s vs i k v found total lt is first there so_far =
-    sym (before check (entry_parts s i (view v)) (entries_parts s (i + 1) (items_view (drop (k + 1) vs))) found first there)
-    ∙ ap (first_place check) (sym (entries_cut s vs i k v lt is)) ∙ so_far
+pub items_before : (check : Check) (f : ℕ → Data → List Part) (vs : List Value) (i k : ℕ) (v : Value) (found total : Option Place) → k < length vs → v ≡ get_or vs k v
+    → found ≡ first_place check (f i (view v)) → is_some found ≡ true → first_place check (each_item f i (items_view (drop k vs))) ≡ total → found ≡ total
+items_before check f vs i k v found total lt is first there so_far =
+    sym (before check (f i (view v)) (each_item f (i + 1) (items_view (drop (k + 1) vs))) found first there)
+    ∙ ap (first_place check) (sym (items_cut f vs i k v lt is)) ∙ so_far

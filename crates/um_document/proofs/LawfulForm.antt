@@ -1,5 +1,5 @@
 -- What a document without faults of its form describes has lawful names, and attributes that may be given.
-use Rattle.std.proofs.Common.{◌≡◌, ℕ, ◌+◌, Bool, true, false, not, ◌&&◌, nat_le, List, [], ◌∷◌, ◌++◌, length, map, drop, IsTrue, Option, Some, None, Ok, is_some, filter, find, cond, codes, bytes_eq, refl, ap, sym, ◌∙◌, subst}
+use Rattle.std.proofs.Common.{◌≡◌, ℕ, pos, ◌+◌, Bool, true, false, not, ◌&&◌, nat_le, List, [], ◌∷◌, ◌++◌, length, map, drop, IsTrue, Option, Some, None, Ok, is_some, filter, find, cond, codes, bytes_eq, refl, ap, sym, ◌∙◌, subst}
 use Rattle.std.specs.Prelude.{unwrap_or}
 use Rattle.std.specs.List.{list_all, flat_map}
 use Rattle.std.proofs.lemmas.Bool.{false≢true}
@@ -20,7 +20,7 @@ use Rattle.um_document.specs.declared.shape.Section.{Section}
 use Rattle.um_document.specs.Broken.{is_broken, broken}
 use Rattle.um_document.specs.Faults.{version_faults, broken_parts, unknown_key_faults, form_faults, fault_of, ReadsDocument}
 use Rattle.um_document.specs.Forms.{is_some_and}
-use Rattle.um_document.specs.Parts.{◌>>=◌, Part, value_at, items_in, field_parts, further_fields, key_parts, table_parts, entry_parts, entries_parts, section_parts, top_parts, entry_sections, parts}
+use Rattle.um_document.specs.Parts.{◌>>=◌, Part, value_at, items_in, field_parts, further_fields, key_parts, table_parts, entry_parts, entries_parts, section_parts, top_parts, entry_sections, parts, has_version, partitions_by}
 use Rattle.um_document.specs.Places.{place_text}
 use Rattle.um_document.specs.Reading.{short, name_at, text_given, with_table, entries_of, attr_at, pool_of, partition_of, domain_of, object_of, script_of, description_of}
 use Rattle.um_document.specs.Shape.{section_key, section_fields}
@@ -131,6 +131,10 @@ partitions_begin : BeginsWithName Section.Partition
 unfolding key_parts
 partitions_begin i t h = name_first Section.Partition i t (behind_name Section.Partition i t) h
 
+packed_begin : BeginsWithName Section.PackedPartition
+unfolding key_parts
+packed_begin i t h = name_first Section.PackedPartition i t (behind_name Section.PackedPartition i t) h
+
 domains_begin : BeginsWithName Section.Domain
 unfolding key_parts
 domains_begin i t h = name_first Section.Domain i t (behind_name Section.Domain i t) h
@@ -185,11 +189,18 @@ attrs_in (item d ds) = attrs_by (as_table d) (entries_of partition_of ds) (attrs
 abbrev listed : Section → Members → Items
 listed s t = items_in (value_at (section_key s) t)
 
+-- the names of partitions of either form
+partition_names : (packed : Bool) (t : Members) → IsTrue (list_all is_sound (section_parts t (partitions_by packed)))
+    → IsTrue (list_all is_name (map (λ (p : PartitionEntry). p.name) (entries_of partition_of (listed Section.Partition t))))
+partition_names true t h = names_in Section.PackedPartition partition_of (λ (p : PartitionEntry). p.name) (λ u. refl) packed_begin 0 (listed Section.PackedPartition t) h
+partition_names false t h = names_in Section.Partition partition_of (λ (p : PartitionEntry). p.name) (λ u. refl) partitions_begin 0 (listed Section.Partition t) h
+
 pub lawful_names : (t : Members) → form_faults t ≡ [] → AreLawfulNames (description_of t)
 unfolding entry_sections
 lawful_names t h =
     let a = section_parts t Section.Pool in
-    let b = section_parts t Section.Partition in
+    let packed = has_version (pos 2) t in
+    let b = section_parts t (partitions_by packed) in
     let c = section_parts t Section.Domain in
     let e = section_parts t Section.Object in
     let f = section_parts t Section.Boot in
@@ -202,7 +213,7 @@ lawful_names t h =
     let r5 = back_all f (g ++ []) r4 in
     record {
       pools = names_in Section.Pool pool_of (λ (p : PoolEntry). p.name) (λ u. refl) pools_begin 0 (listed Section.Pool t) (front_all a (b ++ (c ++ (e ++ (f ++ (g ++ []))))) r0);
-      partitions = names_in Section.Partition partition_of (λ (p : PartitionEntry). p.name) (λ u. refl) partitions_begin 0 (listed Section.Partition t) (front_all b (c ++ (e ++ (f ++ (g ++ [])))) r1);
+      partitions = partition_names packed t (front_all b (c ++ (e ++ (f ++ (g ++ [])))) r1);
       domains = names_in Section.Domain domain_of (λ (m : DomainEntry). m.name) (λ u. refl) domains_begin 0 (listed Section.Domain t) (front_all c (e ++ (f ++ (g ++ []))) r2);
       objects = names_in Section.Object object_of (λ (o : ObjectEntry). o.name) (λ u. refl) objects_begin 0 (listed Section.Object t) (front_all e (f ++ (g ++ [])) r3);
       scripts = names_in Section.Script script_of (λ (s : ScriptEntry). s.name) (λ u. refl) scripts_begin 0 (listed Section.Script t) (front_all g [] r5);

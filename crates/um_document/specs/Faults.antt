@@ -1,25 +1,22 @@
 -- The faults of a document's form: all of each kind in the order of their places, and the kinds in their order. The first of them all is the one that is told.
-use Rattle.std.specs.Prelude.{◌≡◌, ◌⊎◌, ℕ, pos, List, [], ◌∷◌, ◌++◌, map, Bool, if◌then◌else◌, Some, Result, Ok, Err, IsUtf8}
-use Rattle.std.specs.Ordering.{int_eq}
-use Rattle.toml.specs.Data.{as_integer, Members}
+use Rattle.std.specs.Prelude.{◌≡◌, ◌⊎◌, ℕ, pos, List, [], ◌∷◌, ◌++◌, map, Bool, ◌||◌, if◌then◌else◌, Some, Result, Ok, Err, IsUtf8}
+use Rattle.toml.specs.Data.{Members}
 use Rattle.toml.specs.Parse.{parse_document}
 use Rattle.um_document.specs.declared.check.Check.{Check}
 use Rattle.um_document.specs.declared.description.Description.{Description}
 use Rattle.um_document.specs.declared.fault.ImageFault.{ImageFault}
 use Rattle.um_document.specs.declared.fault.ImageFault.TheVariants as fault
-use Rattle.um_document.specs.declared.shape.Key.{Key}
 use Rattle.um_document.specs.Broken.{broken}
 use Rattle.um_document.specs.First.{first_of}
-use Rattle.um_document.specs.Forms.{is_some_and}
-use Rattle.um_document.specs.Parts.{◌>>=◌, value_at}
+use Rattle.um_document.specs.Parts.{has_version}
 use Rattle.um_document.specs.Reading.{description_of}
 use Rattle.um_document.specs.Unknown.{unknown_keys}
 
-abbrev pub is_first_version : Members → Bool
-is_first_version t = is_some_and (λ z. int_eq z (pos 1)) (value_at Key.Version t >>= as_integer)
+abbrev pub is_known_version : Members → Bool
+is_known_version t = has_version (pos 1) t || has_version (pos 2) t
 
 unfoldable pub version_faults : Members → List ImageFault
-version_faults t = if is_first_version t then [] else fault.Version ∷ []
+version_faults t = if is_known_version t then [] else fault.Version ∷ []
 
 abbrev pub fault_of : Check → List ℕ → ImageFault
 fault_of Check.Missing = fault.MissingKey

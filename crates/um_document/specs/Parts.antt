@@ -1,13 +1,15 @@
 -- All parts of a document, in the order of the shape: what stands at each place, and what has to stand there.
-use Rattle.std.specs.Prelude.{ℕ, ◌+◌, List, [], ◌∷◌, ◌++◌, map, flat_map, Bool, true, false, if◌then◌else◌, is_some, Option, Some, None}
-use Rattle.toml.specs.Data.{Data, as_str, as_array, as_table, Items, no_items, item, Members, get_member}
+use Rattle.std.specs.Prelude.{ℕ, ℤ, pos, ◌+◌, List, [], ◌∷◌, ◌++◌, map, flat_map, Bool, true, false, if◌then◌else◌, is_some, Option, Some, None}
+use Rattle.std.specs.Ordering.{int_eq}
+use Rattle.toml.specs.Data.{Data, as_str, as_integer, as_array, as_table, Items, no_items, item, Members, get_member}
 use Rattle.um_base.specs.declared.names.Kind.{Kind}
 use Rattle.um_document.specs.declared.place.Place.{Place}
 use Rattle.um_document.specs.declared.shape.Form.{Form}
 use Rattle.um_document.specs.declared.shape.Key.{Key}
 use Rattle.um_document.specs.declared.shape.Need.{Need}
 use Rattle.um_document.specs.declared.shape.Section.{Section}
-use Rattle.um_document.specs.Shape.{Field, word, top_fields, sections, section_key, section_fields, kind_fields}
+use Rattle.um_document.specs.Forms.{is_some_and}
+use Rattle.um_document.specs.Shape.{Field, word, top_fields, sections_with, section_key, section_fields, variable_fields, kind_fields}
 use Rattle.um_document.specs.Words.{kind_named}
 
 infixl 10 ◌>>=◌
@@ -48,15 +50,39 @@ items_of_array (Some ds) = ds
 abbrev pub items_in : Option Data → Items
 items_in v = items_of_array (v >>= as_array)
 
-abbrev pub is_texts : Form → Bool
-is_texts Form.Texts = true
-is_texts _ = false
+-- what each of some items gives, with its number, counted from i on
+abbrev pub each_item : {A : Type 0} → (ℕ → Data → List A) → ℕ → Items → List A
+each_item f i no_items = []
+each_item f i (item d ds) = f i d ++ each_item f (i + 1) ds
+
+-- a key of the j-th variable of the i-th partition
+abbrev pub variable_part : ℕ → ℕ → Members → Field → Part
+variable_part i j t f = record { place = Place.Variable i j f.0; form = f.1; needed = is_needed f.2 t; value = value_at f.0 t }
+
+unfoldable pub variable_keys : ℕ → ℕ → Members → List Part
+variable_keys i j t = map (variable_part i j t) variable_fields
+
+abbrev pub variable_table : ℕ → ℕ → Option Members → List Part
+variable_table i j None = []
+variable_table i j (Some t) = variable_keys i j t
+
+-- a variable, and its keys where it is a table
+abbrev pub variable_parts : ℕ → ℕ → Data → List Part
+variable_parts i j d =
+    record { place = Place.Item Section.PackedPartition i Key.Vars j; form = Form.Table; needed = true; value = Some d }
+    ∷ variable_table i j (as_table d)
+
+-- the items of the list at a key of the i-th entry of a section: texts, or a partition's variables
+abbrev pub parts_below : Section → ℕ → Key → Form → Items → List Part
+parts_below s i key Form.Texts ds = item_parts s i key 0 ds
+parts_below s i key Form.Variables ds = each_item (variable_parts i) 0 ds
+parts_below s i key _ ds = []
 
 -- a key of the i-th entry of a section, and the items of its list
 abbrev pub field_parts : Section → ℕ → Members → Field → List Part
 field_parts s i t f =
     record { place = Place.Field s i f.0; form = f.1; needed = is_needed f.2 t; value = value_at f.0 t }
-    ∷ (if is_texts f.1 then item_parts s i f.0 0 (items_in (value_at f.0 t)) else [])
+    ∷ parts_below s i f.0 f.1 (items_in (value_at f.0 t))
 
 -- the kind of an object, where its `kind` is a kind's word
 abbrev pub kind_of : Members → Option Kind
@@ -84,8 +110,7 @@ entry_parts s i d = record { place = Place.Entry s i; form = Form.Table; needed 
 
 -- the entries of a section, from the i-th on
 abbrev pub entries_parts : Section → ℕ → Items → List Part
-entries_parts s i no_items = []
-entries_parts s i (item d ds) = entry_parts s i d ++ entries_parts s (i + 1) ds
+entries_parts s i ds = each_item (entry_parts s) i ds
 
 abbrev pub section_parts : Members → Section → List Part
 section_parts t s = entries_parts s 0 (items_in (value_at (section_key s) t))
@@ -94,9 +119,21 @@ section_parts t s = entries_parts s 0 (items_in (value_at (section_key s) t))
 unfoldable pub top_parts : Members → List Part
 top_parts t = map (top_part t) top_fields
 
+-- the document's `version` is this integer
+abbrev pub has_version : ℤ → Members → Bool
+has_version n t = is_some_and (λ z. int_eq z n) (value_at Key.Version t >>= as_integer)
+
+-- what partitions are: packed of variables, or not
+abbrev pub partitions_by : Bool → Section
+partitions_by packed = if packed then Section.PackedPartition else Section.Partition
+
+-- the sections of a document: those of its version
+abbrev pub sections : Members → List Section
+sections t = sections_with (partitions_by (has_version (pos 2) t))
+
 -- the sections, one after the other
 unfoldable pub entry_sections : Members → List Part
-entry_sections t = flat_map (section_parts t) sections
+entry_sections t = flat_map (section_parts t) (sections t)
 
 -- the keys at the top, and then the sections
 abbrev pub parts : Members → List Part

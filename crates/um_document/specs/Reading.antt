@@ -6,22 +6,25 @@ use Rattle.um_base.specs.declared.names.Kind.{Kind}
 use Rattle.um_base.specs.declared.names.Mode.{Mode}
 use Rattle.um_base.specs.declared.names.Mpu.{Mpu}
 use Rattle.um_base.specs.declared.names.Policy.{Policy}
+use Rattle.um_document.specs.declared.description.Alignment.{Alignment}
 use Rattle.um_document.specs.declared.description.BootEntry.{BootEntry}
 use Rattle.um_document.specs.declared.description.Description.{Description}
 use Rattle.um_document.specs.declared.description.Details.{Details}
 use Rattle.um_document.specs.declared.description.DomainEntry.{DomainEntry}
 use Rattle.um_document.specs.declared.description.MsgqNumbers.{MsgqNumbers}
 use Rattle.um_document.specs.declared.description.ObjectEntry.{ObjectEntry}
+use Rattle.um_document.specs.declared.description.PartitionContents.{PartitionContents}
 use Rattle.um_document.specs.declared.description.PartitionEntry.{PartitionEntry}
 use Rattle.um_document.specs.declared.description.PoolEntry.{PoolEntry}
 use Rattle.um_document.specs.declared.description.ScriptEntry.{ScriptEntry}
 use Rattle.um_document.specs.declared.description.SemNumbers.{SemNumbers}
+use Rattle.um_document.specs.declared.description.VariableEntry.{VariableEntry}
 use Rattle.um_document.specs.declared.shape.Key.{Key}
 use Rattle.um_document.specs.declared.shape.Section.{Section}
 use Rattle.um_document.specs.Forms.{decoded}
 use Rattle.um_document.specs.Parts.{◌>>=◌, value_at, items_in, kind_of}
 use Rattle.um_document.specs.Shape.{section_key}
-use Rattle.um_document.specs.Words.{mpu_named, policy_named, mode_named, attr_named}
+use Rattle.um_document.specs.Words.{mpu_named, policy_named, mode_named, attr_named, alignment_of}
 
 -- what stands at a key, where it has the type, and else a blank
 abbrev pub number_given : Key → Members → Option ℤ
@@ -41,6 +44,9 @@ truth_at key t = unwrap_or (value_at key t >>= as_bool) false
 
 abbrev pub bytes_at : Key → Members → List ℕ
 bytes_at key t = decoded (text_at key t)
+
+abbrev pub bytes_given : Key → Members → Option (List ℕ)
+bytes_given key t = option_map decoded (text_given key t)
 
 -- a lawful name has at most 24 bytes
 abbrev pub short : List ℕ → List ℕ
@@ -82,14 +88,23 @@ pool_of t = record { name = name_at t; size = number_at Key.Size t }
 abbrev pub attr_at : Members → Attr
 attr_at t = unwrap_or (text_given Key.Attr t >>= attr_named) (record { 0 = 27 })
 
+-- at each byte where nothing is said
+abbrev pub alignment_at : Members → Alignment
+alignment_at t = unwrap_or (number_given Key.Align t >>= alignment_of) Alignment.One
+
+abbrev pub variable_of : Members → VariableEntry
+variable_of t = record { name = name_at t; size = number_at Key.Size t; align = alignment_at t; «data» = bytes_given Key.Data t }
+
+-- what a partition consists of: its variables, where it lists them
+abbrev pub contents_by : Option Items → Members → PartitionContents
+contents_by None t = PartitionContents.Whole (number_at Key.Size t) (bytes_at Key.Data t)
+contents_by (Some ds) t = PartitionContents.Variables (entries_of variable_of ds)
+
+abbrev pub contents_of : Members → PartitionContents
+contents_of t = contents_by (value_at Key.Vars t >>= as_array) t
+
 abbrev pub partition_of : Members → PartitionEntry
-partition_of t =
-    record {
-      name = name_at t;
-      size = number_at Key.Size t;
-      attr = attr_at t;
-      «data» = bytes_at Key.Data t;
-    }
+partition_of t = record { name = name_at t; attr = attr_at t; contents = contents_of t }
 
 abbrev pub domain_of : Members → DomainEntry
 domain_of t = record { name = name_at t; partitions = texts_given Key.Partitions t }

@@ -29,6 +29,8 @@ word key.Name = codes "name"
 word key.Size = codes "size"
 word key.Attr = codes "attr"
 word key.Data = codes "data"
+word key.Vars = codes "vars"
+word key.Align = codes "align"
 word key.Partitions = codes "partitions"
 word key.Kind = codes "kind"
 word key.Public = codes "public"
@@ -70,13 +72,14 @@ top_fields =
     ∷ optional key.Script Form.Tables
     ∷ []
 
--- the sections, in their order, each at its key
-abbrev pub sections : List Section
-sections = Section.Pool ∷ Section.Partition ∷ Section.Domain ∷ Section.Object ∷ Section.Boot ∷ Section.Script ∷ []
+-- the sections, in their order, where partitions have this form, each at its key
+abbrev pub sections_with : Section → List Section
+sections_with partitions = Section.Pool ∷ partitions ∷ Section.Domain ∷ Section.Object ∷ Section.Boot ∷ Section.Script ∷ []
 
 abbrev pub section_key : Section → Key
 section_key Section.Pool = key.Pool
 section_key Section.Partition = key.Partition
+section_key Section.PackedPartition = key.Partition
 section_key Section.Domain = key.Domain
 section_key Section.Object = key.Object
 section_key Section.Boot = key.Boot
@@ -87,6 +90,8 @@ abbrev pub section_fields : Section → List Field
 section_fields Section.Pool = required key.Name Form.Name ∷ required key.Size Form.Number ∷ []
 section_fields Section.Partition =
     required key.Name Form.Name ∷ required key.Size Form.Number ∷ required key.Attr (Form.Word Choice.Attr) ∷ optional key.Data Form.Digits ∷ []
+section_fields Section.PackedPartition =
+    required key.Name Form.Name ∷ required key.Attr (Form.Word Choice.Attr) ∷ required key.Vars Form.Variables ∷ []
 section_fields Section.Domain = required key.Name Form.Name ∷ optional key.Partitions Form.Texts ∷ []
 section_fields Section.Object =
     required key.Name Form.Name ∷ required key.Kind (Form.Word Choice.Kind) ∷ optional key.Public Form.Truth ∷ []
@@ -101,6 +106,11 @@ section_fields Section.Boot =
     ∷ optional key.Grants Form.Texts
     ∷ []
 section_fields Section.Script = required key.Name Form.Name ∷ required key.Lines Form.Texts ∷ []
+
+-- the keys of a variable
+abbrev pub variable_fields : List Field
+variable_fields =
+    required key.Name Form.Name ∷ required key.Size Form.Number ∷ optional key.Align Form.Alignment ∷ optional key.Data Form.Digits ∷ []
 
 -- the further keys of an object of a kind
 abbrev pub kind_fields : Kind → List Field

@@ -1,12 +1,13 @@
 -- The keys of a document that mean nothing at their places.
-use Rattle.std.specs.Prelude.{ℕ, ◌+◌, List, [], ◌∷◌, ◌++◌, map, flat_map, filter, bytes_eq, Bool, not, ◌&&◌, Option, Some, None}
+use Rattle.std.specs.Prelude.{ℕ, List, [], ◌∷◌, ◌++◌, map, flat_map, filter, bytes_eq, Bool, not, ◌&&◌, Option, Some, None}
 use Rattle.std.specs.List.{list_any}
-use Rattle.toml.specs.Data.{as_table, Items, no_items, item, Members, no_members, member}
+use Rattle.toml.specs.Data.{Data, as_table, Items, Members, no_members, member}
 use Rattle.um_base.specs.declared.names.Kind.{Kind}
+use Rattle.um_document.specs.declared.shape.Key.{Key}
 use Rattle.um_document.specs.declared.shape.Section.{Section}
-use Rattle.um_document.specs.Parts.{value_at, items_in, kind_of}
-use Rattle.um_document.specs.Places.{key_text}
-use Rattle.um_document.specs.Shape.{Field, word, top_fields, sections, section_key, section_fields, kind_fields}
+use Rattle.um_document.specs.Parts.{value_at, items_in, each_item, kind_of, sections}
+use Rattle.um_document.specs.Places.{key_text, variable_text}
+use Rattle.um_document.specs.Shape.{Field, word, top_fields, section_key, section_fields, variable_fields, kind_fields}
 use Rattle.um_document.specs.Words.{kinds}
 
 -- one of the keys is written so
@@ -32,8 +33,25 @@ keys_of (member text d ms) = text ∷ keys_of ms
 abbrev pub strays : List Field → List Field → Members → List (List ℕ)
 strays fields further t = filter (λ text. not (is_key fields text) && not (is_key further text)) (keys_of t)
 
+-- those of the j-th variable of the i-th partition
+abbrev pub strays_of_variable_table : ℕ → ℕ → Option Members → List (List ℕ)
+strays_of_variable_table i j None = []
+strays_of_variable_table i j (Some t) = map (variable_text i j) (strays variable_fields [] t)
+
+abbrev pub strays_of_variable : ℕ → ℕ → Data → List (List ℕ)
+strays_of_variable i j d = strays_of_variable_table i j (as_table d)
+
+-- those below an entry: of a partition those of its variables
+unfoldable pub strays_below : Section → ℕ → Members → List (List ℕ)
+strays_below Section.PackedPartition i t = each_item (strays_of_variable i) 0 (items_in (value_at Key.Vars t))
+strays_below _ i t = []
+
+-- an entry's own
+unfoldable pub own_strays : Section → ℕ → Members → List (List ℕ)
+own_strays s i t = map (key_text s i) (strays (section_fields s) (known_further s t) t)
+
 abbrev pub strays_of_entry : Section → ℕ → Members → List (List ℕ)
-strays_of_entry s i t = map (key_text s i) (strays (section_fields s) (known_further s t) t)
+strays_of_entry s i t = own_strays s i t ++ strays_below s i t
 
 abbrev pub strays_of_table : Section → ℕ → Option Members → List (List ℕ)
 strays_of_table s i None = []
@@ -41,8 +59,7 @@ strays_of_table s i (Some t) = strays_of_entry s i t
 
 -- those of the entries of a section, from the i-th on
 abbrev pub strays_of_entries : Section → ℕ → Items → List (List ℕ)
-strays_of_entries s i no_items = []
-strays_of_entries s i (item d ds) = strays_of_table s i (as_table d) ++ strays_of_entries s (i + 1) ds
+strays_of_entries s i ds = each_item (λ j d. strays_of_table s j (as_table d)) i ds
 
 abbrev pub strays_of_section : Members → Section → List (List ℕ)
 strays_of_section t s = strays_of_entries s 0 (items_in (value_at (section_key s) t))
@@ -51,7 +68,7 @@ unfoldable pub strays_at_top : Members → List (List ℕ)
 strays_at_top t = strays top_fields [] t
 
 unfoldable pub strays_of_sections : Members → List (List ℕ)
-strays_of_sections t = flat_map (strays_of_section t) sections
+strays_of_sections t = flat_map (strays_of_section t) (sections t)
 
 -- the places of all keys that mean nothing: those at the top, and then those of the sections
 abbrev pub unknown_keys : Members → List (List ℕ)

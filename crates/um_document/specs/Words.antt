@@ -1,10 +1,12 @@
 -- The words that a description may say.
-use Rattle.std.specs.Prelude.{ℕ, List, [], ◌∷◌, codes, bytes_eq, find, Bool, ◌==◌, is_some, if◌then◌else◌, Option}
+use Rattle.std.specs.Prelude.{ℕ, List, [], ◌∷◌, codes, bytes_eq, find, Bool, ◌==◌, is_some, if◌then◌else◌, Option, ℤ, pos}
+use Rattle.std.specs.Ordering.{int_eq}
 use Rattle.um_base.specs.declared.attr.Attr.{Attr}
 use Rattle.um_base.specs.declared.names.Kind.{Kind}
 use Rattle.um_base.specs.declared.names.Mode.{Mode}
 use Rattle.um_base.specs.declared.names.Mpu.{Mpu}
 use Rattle.um_base.specs.declared.names.Policy.{Policy}
+use Rattle.um_document.specs.declared.description.Alignment.{Alignment}
 use Rattle.um_document.specs.declared.shape.Choice.{Choice}
 
 -- the one of these that a text spells
@@ -61,6 +63,22 @@ kinds = Kind.Thread ∷ Kind.ThreadStack ∷ Kind.Sem ∷ Kind.Mutex ∷ Kind.Ms
 
 abbrev pub kind_named : List ℕ → Option Kind
 kind_named s = spelled kind_word kinds s
+
+-- the bytes of which an aligned variable's offset is a multiple
+abbrev pub alignment_bytes : Alignment → ℕ
+alignment_bytes Alignment.One = 1
+alignment_bytes Alignment.Two = 2
+alignment_bytes Alignment.Four = 4
+alignment_bytes Alignment.Eight = 8
+alignment_bytes Alignment.Sixteen = 16
+alignment_bytes Alignment.ThirtyTwo = 32
+
+abbrev pub alignments : List Alignment
+alignments = Alignment.One ∷ Alignment.Two ∷ Alignment.Four ∷ Alignment.Eight ∷ Alignment.Sixteen ∷ Alignment.ThirtyTwo ∷ []
+
+-- the alignment of this number
+abbrev pub alignment_of : ℤ → Option Alignment
+alignment_of z = find (λ a. int_eq z (pos (alignment_bytes a))) alignments
 
 -- whether it is one of the words that may stand there
 abbrev pub is_word : Choice → List ℕ → Bool

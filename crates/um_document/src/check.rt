@@ -9,8 +9,8 @@ ghost use Rattle.um_document.specs.Shape as shape;
 
 use crate::forms::{has_form, is_bad_name};
 use crate::place::Place;
-use crate::shape::{Field, Form, Key, SECTIONS, Section, kind_fields, top_fields};
-use crate::tables::{is_needed, items_at, kind_of, value_at};
+use crate::shape::{Field, Form, Key, Section, kind_fields, top_fields, variable_fields};
+use crate::tables::{is_needed, items_at, kind_of, sections, value_at};
 use toml::value::Array;
 use toml::{Table, Value};
 
@@ -21,7 +21,7 @@ pub enum Check {
     Missing,
     /// What hasn't its form.
     WrongType,
-    /// A text that is no lawful name, or none of the words that may stand there.
+    /// A text that is no lawful name, or none of the words that may stand there, or a number that is no alignment's.
     BadName,
 }
 
@@ -82,6 +82,47 @@ fn broken_item(
     None
 }
 
+/// The first key of a variable that fails.
+#[tactic(auto, unfolding(crate::specs::Parts::variable_keys))]
+fn broken_variable_key(check: Check, partition: usize, index: usize, table: &Table) -> Option<Place>
+    ensures { result ≡ first_place check (parts.variable_keys partition index (table_view table.now)) }
+{
+    for field in variable_fields() {
+        if breaks_at(check, table, *field) {
+            return Some(Place::Variable(partition, index, field.0));
+        }
+    }
+    None
+}
+
+/// A variable, or the first of its keys, that fails.
+fn broken_variable(check: Check, partition: usize, index: usize, value: &Value) -> Option<Place>
+    ensures { result ≡ first_place check (parts.variable_parts partition index (view value.now)) }
+{
+    if breaks(check, Form::Table, true, Some(value)) {
+        return Some(Place::Item(Section::PackedPartition, partition, Key::Vars, index));
+    }
+    match value.as_table() {
+        Some(table) => broken_variable_key(check, partition, index, table),
+        None => None,
+    }
+}
+
+/// The first of a partition's variables that fails.
+fn broken_variables(check: Check, partition: usize, items: &Array) -> Option<Place>
+    ensures { result ≡ first_place check (parts.each_item (parts.variable_parts partition) 0 (array_view items.now)) }
+{
+    let mut index = 0usize;
+    for item in items {
+        let found = broken_variable(check, partition, index, item);
+        if found.is_some() {
+            return found;
+        }
+        index += 1;
+    }
+    None
+}
+
 /// A key of an entry, or the first item of its list, that fails.
 fn broken_field(
     check: Check,
@@ -95,12 +136,16 @@ fn broken_field(
     if breaks_at(check, table, field) {
         return Some(Place::Field(section, entry, field.0));
     }
-    if field.1 != Form::Texts {
-        return None;
-    }
-    match items_at(table, field.0) {
-        Some(items) => broken_item(check, section, entry, field.0, items),
-        None => None,
+    match field.1 {
+        Form::Texts => match items_at(table, field.0) {
+            Some(items) => broken_item(check, section, entry, field.0, items),
+            None => None,
+        },
+        Form::Variables => match items_at(table, field.0) {
+            Some(items) => broken_variables(check, entry, items),
+            None => None,
+        },
+        _ => None,
     }
 }
 
@@ -206,5 +251,5 @@ pub fn broken(check: Check, table: &Table) -> Option<Place>
     if found.is_some() {
         return found;
     }
-    broken_sections(check, table, SECTIONS)
+    broken_sections(check, table, sections(table))
 }

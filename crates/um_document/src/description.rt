@@ -10,13 +10,41 @@ pub struct PoolEntry {
     pub size: i64,
 }
 
-/// A partition of so many bytes, with those at its start.
+/// How a variable is aligned: its offset is a multiple of so many bytes.
+#[derive(Clone, Copy, PartialEq, Eq)]
+pub enum Alignment {
+    One,
+    Two,
+    Four,
+    Eight,
+    Sixteen,
+    ThirtyTwo,
+}
+
+/// A variable of so many bytes, with those at its start where they are given.
+#[derive(Drop)]
+pub struct VariableEntry {
+    pub name: Name,
+    pub size: i64,
+    pub align: Alignment,
+    pub data: Option<Text>,
+}
+
+/// What a partition consists of.
+#[derive(Drop)]
+pub enum PartitionContents {
+    /// So many bytes, with those at its start.
+    Whole { size: i64, data: Text },
+    /// The variables that lie in it, in their order.
+    Variables(Sequence<VariableEntry>),
+}
+
+/// A partition.
 #[derive(Drop)]
 pub struct PartitionEntry {
     pub name: Name,
-    pub size: i64,
     pub attr: Attr,
-    pub data: Text,
+    pub contents: PartitionContents,
 }
 
 /// A domain, with the names of its partitions where it is initialised.

@@ -6,17 +6,17 @@ ghost use Rattle.toml.specs.View.{view, array_view, table_view};
 ghost use Rattle.um_document.specs.Reading as reading;
 
 use crate::description::{
-    BootEntry, Details, DomainEntry, MsgqNumbers, ObjectEntry, PartitionEntry, PoolEntry,
-    ScriptEntry, SemNumbers,
+    Alignment, BootEntry, Details, DomainEntry, MsgqNumbers, ObjectEntry, PartitionContents,
+    PartitionEntry, PoolEntry, ScriptEntry, SemNumbers, VariableEntry,
 };
 use crate::sequence::Sequence;
 use crate::shape::{Key, Section};
 use crate::tables::{items_at, kind_of};
 use crate::texts::{
-    bytes_at, copies_at, copies_given, copy_at, copy_given, name_at, number_at, number_given,
-    text_given, truth_at,
+    bytes_at, bytes_given, copies_at, copies_given, copy_at, copy_given, name_at, number_at,
+    number_given, text_given, truth_at,
 };
-use crate::words::{attr_named, mode_named};
+use crate::words::{alignment_of, attr_named, mode_named};
 use std::alloc::Global;
 use toml::Table;
 use toml::value::Array;
@@ -80,15 +80,50 @@ fn attr_at(table: &Table) -> Attr
     }
 }
 
+/// How a variable is aligned, at each byte where nothing is said.
+fn alignment_at(table: &Table) -> Alignment
+    ensures { result ≡ reading.alignment_at (table_view table.now) }
+{
+    match number_given(table, Key::Align) {
+        Some(number) => alignment_of(number).unwrap_or(Alignment::One),
+        None => Alignment::One,
+    }
+}
+
+impl Entry for VariableEntry {
+    ghost of = { reading.variable_of };
+
+    fn read(alloc: Global, table: &Table) -> Result<VariableEntry, Memory> {
+        Ok(VariableEntry {
+            name: name_at(table),
+            size: number_at(table, Key::Size),
+            align: alignment_at(table),
+            data: bytes_given(alloc, table, Key::Data)?,
+        })
+    }
+}
+
+/// What a partition consists of: its variables, where it lists them.
+fn contents_of(alloc: Global, table: &Table) -> Result<PartitionContents, Memory>
+    ensures { IfOk result (λ contents. contents ≡ reading.contents_of (table_view table.now)) }
+{
+    match items_at(table, Key::Vars) {
+        Some(items) => Ok(PartitionContents::Variables(entries_of(alloc, items)?)),
+        None => Ok(PartitionContents::Whole {
+            size: number_at(table, Key::Size),
+            data: bytes_at(alloc, table, Key::Data)?,
+        }),
+    }
+}
+
 impl Entry for PartitionEntry {
     ghost of = { reading.partition_of };
 
     fn read(alloc: Global, table: &Table) -> Result<PartitionEntry, Memory> {
         Ok(PartitionEntry {
             name: name_at(table),
-            size: number_at(table, Key::Size),
             attr: attr_at(table),
-            data: bytes_at(alloc, table, Key::Data)?,
+            contents: contents_of(alloc, table)?,
         })
     }
 }

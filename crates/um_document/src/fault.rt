@@ -12,7 +12,7 @@ use um_script::LineKind;
 pub enum ImageFault {
     /// The bytes are no TOML document.
     NotToml,
-    /// `version` isn't the integer 1.
+    /// `version` isn't the integer 1 or 2.
     Version,
     /// A required key, or one of two that go together, is absent.
     MissingKey(Spot),
@@ -20,7 +20,7 @@ pub enum ImageFault {
     WrongType(Spot),
     /// A key has no meaning at its place.
     UnknownKey(Spot),
-    /// A name isn't lawful, or a word isn't one of those that may stand there.
+    /// A name isn't lawful, a word isn't one of those that may stand there, or `align` isn't one of its six numbers.
     BadName(Spot),
     /// A name was given before, a partition stands twice in a domain, or a thread or a stack in two boot entries.
     Duplicate(Spot),

@@ -7,28 +7,24 @@ ghost use Rattle.um_document.specs.Faults as faults;
 
 use crate::check::{Check, broken};
 use crate::fault::ImageFault;
-use crate::shape::Key;
 use crate::spot::Spot;
-use crate::tables::value_at;
+use crate::tables::has_version;
 use crate::unknown::first_unknown;
 use std::alloc::Global;
-use toml::{Table, Value};
+use toml::Table;
 
-/// Whether `version` is the integer 1.
-fn is_first_version(table: &Table) -> bool
-    ensures { result ≡ faults.is_first_version (table_view table.now) }
+/// Whether `version` is the integer 1 or 2.
+fn is_known_version(table: &Table) -> bool
+    ensures { result ≡ faults.is_known_version (table_view table.now) }
 {
-    match value_at(table, Key::Version) {
-        Some(Value::Integer(number)) => *number == 1,
-        _ => false,
-    }
+    has_version(table, 1) || has_version(table, 2)
 }
 
 #[tactic(auto, unfolding(crate::specs::Faults::version_faults))]
 fn check_version(table: &Table) -> Result<(), ImageFault>
     ensures { faults.Passes result (faults.version_faults (table_view table.now)) }
 {
-    if is_first_version(table) {
+    if is_known_version(table) {
         Ok(())
     } else {
         Err(ImageFault::Version)

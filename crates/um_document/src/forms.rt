@@ -1,14 +1,15 @@
 //! What a value is, and whether it is what its key asks for.
 
-ghost use Rattle.std.specs.Prelude.{◌≡◌, option_map};
+ghost use Rattle.std.specs.Prelude.{◌≡◌, option_map, is_none};
 ghost use Rattle.std.specs.List.{list_all};
-ghost use Rattle.toml.specs.Data.{as_str};
+ghost use Rattle.toml.specs.Data.{as_str, as_integer};
 ghost use Rattle.toml.specs.View.{view};
 ghost use Rattle.um_document.specs.Forms as forms;
+ghost use Rattle.um_document.specs.Words.{alignment_of};
 
 use crate::names::is_name;
 use crate::shape::Form;
-use crate::words::is_word;
+use crate::words::{alignment_of, is_word};
 use toml::Value;
 
 /// The bytes of a text.
@@ -54,22 +55,34 @@ pub fn has_form(form: Form, value: &Value) -> bool
     ensures { result ≡ forms.has_form form (view value.now) }
 {
     match form {
-        Form::Number => value.is_integer(),
+        Form::Number | Form::Alignment => value.is_integer(),
         Form::Truth => value.is_bool(),
         Form::Name | Form::Word(_) | Form::Text => value.is_str(),
         Form::Digits => has_digits(value),
-        Form::Texts | Form::Tables => value.is_array(),
+        Form::Texts | Form::Tables | Form::Variables => value.is_array(),
         Form::Table => value.is_table(),
     }
 }
 
-/// Whether the value is a text that is no lawful name, or none of the words that may stand there.
+/// Whether the value is a number that is no alignment's.
+fn is_no_alignment(value: &Value) -> bool
+    ensures { result ≡ forms.is_some_and (λ z. is_none (alignment_of z)) (as_integer (view value.now)) }
+{
+    match value.as_integer() {
+        Some(number) => alignment_of(number).is_none(),
+        None => false,
+    }
+}
+
+/// Whether the value is a text that is no lawful name, or none of the words that may stand there, or a number that is
+/// no alignment's.
 pub fn is_bad_name(form: Form, value: &Value) -> bool
     ensures { result ≡ forms.is_bad_name form (view value.now) }
 {
     match (form, text_of(value)) {
         (Form::Name, Some(text)) => !is_name(text),
         (Form::Word(choice), Some(text)) => !is_word(choice, text),
+        (Form::Alignment, _) => is_no_alignment(value),
         _ => false,
     }
 }

@@ -21,8 +21,8 @@ mod unknown;
 mod words;
 
 pub use description::{
-    BootEntry, Description, Details, DomainEntry, MsgqNumbers, ObjectEntry, PartitionEntry,
-    PoolEntry, ScriptEntry, SemNumbers,
+    Alignment, BootEntry, Description, Details, DomainEntry, MsgqNumbers, ObjectEntry,
+    PartitionContents, PartitionEntry, PoolEntry, ScriptEntry, SemNumbers, VariableEntry,
 };
 pub use fault::ImageFault;
 pub use place::Place;

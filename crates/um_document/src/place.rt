@@ -1,7 +1,7 @@
 //! Where something stands in a description.
 
 ghost use Rattle.std.specs.Prelude.{◌≡◌, IfOk};
-ghost use Rattle.um_document.specs.Places.{place_text, key_text};
+ghost use Rattle.um_document.specs.Places.{place_text, key_text, variable_text};
 
 use crate::shape::{Key, Section};
 use crate::spot::Spot;
@@ -9,13 +9,14 @@ use std::alloc::Global;
 use std::fmt::Write;
 use um_base::Memory;
 
-/// A key at the top, an entry, a key of an entry, or an item of the list at such a key.
+/// A key at the top, an entry, a key of an entry, an item of the list at such a key, or a key of a partition's variable.
 #[derive(Clone, Copy, PartialEq, Eq)]
 pub enum Place {
     Top(Key),
     Entry(Section, usize),
     Field(Section, usize, Key),
     Item(Section, usize, Key, usize),
+    Variable(usize, usize, Key),
 }
 
 impl Place {
@@ -38,6 +39,15 @@ impl Place {
                 key.word(),
                 j
             ),
+            Place::Variable(i, j, key) => write!(
+                text,
+                "{}[{}].{}[{}].{}",
+                Key::Partition.word(),
+                i,
+                Key::Vars.word(),
+                j,
+                key.word()
+            ),
         };
         match written {
             Ok(()) => Ok(Spot::new(text)),
@@ -52,6 +62,25 @@ pub fn key_spot(alloc: Global, section: Section, i: usize, key: &str) -> Result<
 {
     let mut text = String::new(alloc);
     match write!(text, "{}[{}].{}", section.key().word(), i, key) {
+        Ok(()) => Ok(Spot::new(text)),
+        Err(_) => Err(Memory),
+    }
+}
+
+/// A key of a variable, as its place is written.
+pub fn variable_spot(alloc: Global, i: usize, j: usize, key: &str) -> Result<Spot, Memory>
+    ensures { IfOk result (λ spot. spot ≡ variable_text i j key.now) }
+{
+    let mut text = String::new(alloc);
+    match write!(
+        text,
+        "{}[{}].{}[{}].{}",
+        Key::Partition.word(),
+        i,
+        Key::Vars.word(),
+        j,
+        key
+    ) {
         Ok(()) => Ok(Spot::new(text)),
         Err(_) => Err(Memory),
     }

@@ -11,8 +11,10 @@ use um_base::Kind;
 pub enum Section {
     /// `pool`: resource pools, at most 4.
     Pool,
-    /// `partition`: memory partitions, at most 32.
+    /// `partition` in version 1: memory partitions, each with its size, at most 32.
     Partition,
+    /// `partition` in version 2: memory partitions, each with the variables that lie in it, at most 32.
+    PackedPartition,
     /// `domain`: memory domains, at most 8.
     Domain,
     /// `object`: kernel objects, at most 96.
@@ -26,7 +28,7 @@ pub enum Section {
 /// The keys of all tables, each written as its name in lower case with `_` between words.
 #[derive(Clone, Copy, PartialEq, Eq)]
 pub enum Key {
-    /// Of the whole: the version of the form, 1.
+    /// Of the whole: the version of the form, 1 or 2.
     Version,
     /// Of the whole: the profile of the memory protection unit.
     Mpu,
@@ -50,12 +52,16 @@ pub enum Key {
     Script,
     /// Of an entry: its name, of 1 to 24 letters, digits or `_`.
     Name,
-    /// Bytes: of a pool 0 to 65,536, of a partition and a thread stack 1 to 65,536, of a pipe 1 to 256.
+    /// Bytes: of a pool 0 to 65,536, of a partition, a variable and a thread stack 1 to 65,536, of a pipe 1 to 256.
     Size,
     /// Of a partition: its attribute, in Zephyr `k_mem_partition_attr_t`.
     Attr,
-    /// Of a partition: the bytes at its start, at most its size.
+    /// Of a partition or a variable: the bytes at its start, at most its size.
     Data,
+    /// Of a partition in version 2: the variables that lie in it, 1 to 32.
+    Vars,
+    /// Of a variable: 1, 2, 4, 8, 16 or 32, of which its offset is a multiple.
+    Align,
     /// Of a domain: the names of its partitions.
     Partitions,
     /// Of an object: its kind, in Zephyr `k_objects`.
@@ -115,7 +121,11 @@ pub enum Form {
     Texts,
     /// A list of tables.
     Tables,
-    /// An entry.
+    /// The list of a partition's variables.
+    Variables,
+    /// The number of an alignment.
+    Alignment,
+    /// An entry, or a variable.
     Table,
 }
 
@@ -151,6 +161,8 @@ impl Key {
             Key::Size => "size",
             Key::Attr => "attr",
             Key::Data => "data",
+            Key::Vars => "vars",
+            Key::Align => "align",
             Key::Partitions => "partitions",
             Key::Kind => "kind",
             Key::Public => "public",
@@ -170,10 +182,20 @@ impl Key {
     }
 }
 
-/// The sections, in their order.
-pub const SECTIONS: &[Section] = &[
+/// The sections of version 1, in their order.
+pub const FIRST_SECTIONS: &[Section] = &[
     Section::Pool,
     Section::Partition,
+    Section::Domain,
+    Section::Object,
+    Section::Boot,
+    Section::Script,
+];
+
+/// The sections of version 2, in their order.
+pub const SECOND_SECTIONS: &[Section] = &[
+    Section::Pool,
+    Section::PackedPartition,
     Section::Domain,
     Section::Object,
     Section::Boot,
@@ -204,6 +226,19 @@ const PARTITION: &[Field] = &[
     (Key::Name, Form::Name, Need::Required),
     (Key::Size, Form::Number, Need::Required),
     (Key::Attr, Form::Word(Choice::Attr), Need::Required),
+    (Key::Data, Form::Digits, Need::Optional),
+];
+
+const PACKED_PARTITION: &[Field] = &[
+    (Key::Name, Form::Name, Need::Required),
+    (Key::Attr, Form::Word(Choice::Attr), Need::Required),
+    (Key::Vars, Form::Variables, Need::Required),
+];
+
+const VARIABLE: &[Field] = &[
+    (Key::Name, Form::Name, Need::Required),
+    (Key::Size, Form::Number, Need::Required),
+    (Key::Align, Form::Alignment, Need::Optional),
     (Key::Data, Form::Digits, Need::Optional),
 ];
 
@@ -260,6 +295,13 @@ pub fn top_fields() -> &'static [Field]
     TOP
 }
 
+/// The keys of a variable.
+pub fn variable_fields() -> &'static [Field]
+    ensures { result.now ≡ shape.variable_fields }
+{
+    VARIABLE
+}
+
 impl Section {
     /// The key at which its entries stand.
     pub fn key(self) -> Key
@@ -267,7 +309,7 @@ impl Section {
     {
         match self {
             Section::Pool => Key::Pool,
-            Section::Partition => Key::Partition,
+            Section::Partition | Section::PackedPartition => Key::Partition,
             Section::Domain => Key::Domain,
             Section::Object => Key::Object,
             Section::Boot => Key::Boot,
@@ -282,6 +324,7 @@ impl Section {
         match self {
             Section::Pool => POOL,
             Section::Partition => PARTITION,
+            Section::PackedPartition => PACKED_PARTITION,
             Section::Domain => DOMAIN,
             Section::Object => OBJECT,
             Section::Boot => BOOT,

@@ -6,7 +6,7 @@ ghost use Rattle.toml.specs.View.{view, array_view, table_view};
 ghost use Rattle.um_document.specs.Parts as parts;
 
 use crate::forms::text_of;
-use crate::shape::{Key, Need};
+use crate::shape::{FIRST_SECTIONS, Key, Need, SECOND_SECTIONS, Section};
 use crate::words::kind_named;
 use toml::value::Array;
 use toml::{Table, Value};
@@ -26,6 +26,27 @@ pub fn items_at(table: &Table, key: Key) -> Option<&Array>
     match value_at(table, key) {
         Some(value) => value.as_array(),
         None => None,
+    }
+}
+
+/// Whether the document's `version` is this integer.
+pub fn has_version(table: &Table, version: i64) -> bool
+    ensures { result ≡ parts.has_version version (table_view table.now) }
+{
+    match value_at(table, Key::Version) {
+        Some(Value::Integer(number)) => *number == version,
+        _ => false,
+    }
+}
+
+/// The sections of a document, in their order: those of its version.
+pub fn sections(table: &Table) -> &'static [Section]
+    ensures { result.now ≡ parts.sections (table_view table.now) }
+{
+    if has_version(table, 2) {
+        SECOND_SECTIONS
+    } else {
+        FIRST_SECTIONS
     }
 }
 

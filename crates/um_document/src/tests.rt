@@ -61,6 +61,70 @@ fn tells_the_first_fault(rt: HostRuntime) -> Result<(), Fail> {
     Ok(())
 }
 
+/// Partitions by their variables: each fault with its place, and what isn't of this version.
+#[test]
+fn tells_the_first_fault_of_variables(rt: HostRuntime) -> Result<(), Fail> {
+    for (partition, told) in [
+        ("vars = []", "read"),
+        (
+            "vars = [{name = \"x\", size = 1, align = 32, data = \"\"}]",
+            "read",
+        ),
+        ("data = 4", "MissingKey partition[0].vars"),
+        (
+            "vars = [{name = \"x\"}]",
+            "MissingKey partition[0].vars[0].size",
+        ),
+        ("vars = {name = \"x\"}", "WrongType partition[0].vars"),
+        (
+            "vars = [{name = \"x\", size = 1}, 4]",
+            "WrongType partition[0].vars[1]",
+        ),
+        (
+            "vars = [{name = \"x\", size = 1, align = \"4\"}]",
+            "WrongType partition[0].vars[0].align",
+        ),
+        (
+            "vars = [{name = \"x\", size = 1, data = \"0\"}]",
+            "WrongType partition[0].vars[0].data",
+        ),
+        (
+            "size = 32, vars = [{zed = 1, name = \"x\", size = 1}]",
+            "UnknownKey partition[0].size",
+        ),
+        (
+            "vars = [{name = \"x\", size = 1}, {name = \"y\", size = 1, attr = 1}]",
+            "UnknownKey partition[0].vars[1].attr",
+        ),
+        (
+            "vars = [{name = \"x\", size = 1}, {name = \"y\", size = 4, align = 3}]",
+            "BadName partition[0].vars[1].align",
+        ),
+        (
+            "vars = [{name = \"1x\", size = 1}]",
+            "BadName partition[0].vars[0].name",
+        ),
+    ] {
+        let whole = format!(in rt.alloc();
+            "{}, {}{}",
+            "version = 2\nmpu = \"pmsav7\"\nregions = 8\noops = \"abort\"\npartition = [{name = \"p\", attr = \"P_RW_U_RW\"",
+            partition,
+            "}]"
+        )?;
+        let found = answer(rt.alloc(), whole.as_str())?;
+        assert_eq!(rt; found.as_str(), told);
+    }
+    let first = format!(in rt.alloc();
+        "{}{}",
+        HEAD, "partition = [{name = \"p\", size = 32, attr = \"P_RW_U_RW\", vars = []}]"
+    )?;
+    let found = answer(rt.alloc(), first.as_str())?;
+    assert_eq!(rt; found.as_str(), "UnknownKey partition[0].vars");
+    let third = answer(rt.alloc(), "version = 3")?;
+    assert_eq!(rt; third.as_str(), "Version");
+    Ok(())
+}
+
 /// The entries of a document, with the bytes of its data.
 #[test]
 fn reads_entries(rt: HostRuntime) -> Result<(), Fail> {

@@ -169,3 +169,13 @@ pub fn bytes_at(alloc: Global, table: &Table, key: Key) -> Result<Text, Memory>
 {
     decoded(alloc, text_at(table, key))
 }
+
+/// The bytes that the digits at a key spell, where it is there.
+pub fn bytes_given(alloc: Global, table: &Table, key: Key) -> Result<Option<Text>, Memory>
+    ensures { IfOk result (λ bytes. bytes ≡ reading.bytes_given key (table_view table.now)) }
+{
+    match text_given(table, key) {
+        Some(digits) => Ok(Some(decoded(alloc, digits)?)),
+        None => Ok(None),
+    }
+}

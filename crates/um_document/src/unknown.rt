@@ -4,12 +4,15 @@ ghost use Rattle.std.specs.Prelude.{◌≡◌, flat_map, option_map, IfOk};
 ghost use Rattle.toml.specs.Data.{as_table};
 ghost use Rattle.toml.specs.View.{view, array_view, table_view};
 ghost use Rattle.um_document.specs.First.{first_of};
+ghost use Rattle.um_document.specs.Parts.{each_item};
 ghost use Rattle.um_document.specs.Unknown as unknown;
 
-use crate::place::key_spot;
-use crate::shape::{Field, SECTIONS, Section, any_kind_fields, kind_fields, top_fields};
+use crate::place::{key_spot, variable_spot};
+use crate::shape::{
+    Field, Key, Section, any_kind_fields, kind_fields, top_fields, variable_fields,
+};
 use crate::spot::Spot;
-use crate::tables::{items_at, kind_of};
+use crate::tables::{items_at, kind_of, sections};
 use std::alloc::Global;
 use toml::value::Array;
 use toml::{Table, Value};
@@ -48,7 +51,79 @@ fn known_further(section: Section, table: &Table) -> &'static [Field]
     }
 }
 
-/// The first key of a table that means nothing there.
+/// The first key of a variable that means nothing there.
+fn stray_of_variable(
+    alloc: Global,
+    partition: usize,
+    index: usize,
+    value: &Value,
+) -> Result<Option<Spot>, Memory>
+    ensures { IfOk result (λ found. found ≡ first_of (unknown.strays_of_variable partition index (view value.now))) }
+{
+    match value.as_table() {
+        Some(table) => match stray(table, variable_fields(), &[]) {
+            Some(key) => Ok(Some(variable_spot(alloc, partition, index, key)?)),
+            None => Ok(None),
+        },
+        None => Ok(None),
+    }
+}
+
+/// The first such key of a partition's variables.
+fn stray_of_variables(
+    alloc: Global,
+    partition: usize,
+    items: &Array,
+) -> Result<Option<Spot>, Memory>
+    ensures { IfOk result (λ found. found ≡ first_of (each_item (unknown.strays_of_variable partition) 0 (array_view items.now))) }
+{
+    let mut index = 0usize;
+    for item in items {
+        let found = stray_of_variable(alloc, partition, index, item)?;
+        if found.is_some() {
+            return Ok(found);
+        }
+        index += 1;
+    }
+    Ok(None)
+}
+
+/// The first such key below an entry, in its variables.
+#[tactic(auto, unfolding(crate::specs::Unknown::strays_below))]
+fn stray_below(
+    alloc: Global,
+    section: Section,
+    entry: usize,
+    table: &Table,
+) -> Result<Option<Spot>, Memory>
+    ensures { IfOk result (λ found. found ≡ first_of (unknown.strays_below section entry (table_view table.now))) }
+{
+    if section != Section::PackedPartition {
+        return Ok(None);
+    }
+    match items_at(table, Key::Vars) {
+        Some(items) => stray_of_variables(alloc, entry, items),
+        None => Ok(None),
+    }
+}
+
+/// The first such key of an entry's own.
+#[tactic(auto, unfolding(crate::specs::Unknown::own_strays))]
+fn own_stray(
+    alloc: Global,
+    section: Section,
+    entry: usize,
+    table: &Table,
+) -> Result<Option<Spot>, Memory>
+    ensures { IfOk result (λ found. found ≡ first_of (unknown.own_strays section entry (table_view table.now))) }
+{
+    match stray(table, section.fields(), known_further(section, table)) {
+        Some(key) => Ok(Some(key_spot(alloc, section, entry, key)?)),
+        None => Ok(None),
+    }
+}
+
+/// The first key of an entry, or of its variables, that means nothing there.
 fn stray_of_table(
     alloc: Global,
     section: Section,
@@ -57,10 +132,11 @@ fn stray_of_table(
 ) -> Result<Option<Spot>, Memory>
     ensures { IfOk result (λ found. found ≡ first_of (unknown.strays_of_entry section entry (table_view table.now))) }
 {
-    match stray(table, section.fields(), known_further(section, table)) {
-        Some(key) => Ok(Some(key_spot(alloc, section, entry, key)?)),
-        None => Ok(None),
+    let found = own_stray(alloc, section, entry, table)?;
+    if found.is_some() {
+        return Ok(found);
     }
+    stray_below(alloc, section, entry, table)
 }
 
 /// The first such key of an entry.
@@ -140,5 +216,5 @@ pub fn first_unknown(alloc: Global, table: &Table) -> Result<Option<Spot>, Memor
     if found.is_some() {
         return Ok(found);
     }
-    stray_of_sections(alloc, table, SECTIONS)
+    stray_of_sections(alloc, table, sections(table))
 }

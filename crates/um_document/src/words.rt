@@ -3,6 +3,7 @@
 ghost use Rattle.std.specs.Prelude.{◌≡◌};
 ghost use Rattle.um_document.specs.Words as words;
 
+use crate::description::Alignment;
 use crate::shape::Choice;
 use um_base::{Attr, Kind, Mode, Mpu, Policy};
 
@@ -133,4 +134,39 @@ pub fn is_word(choice: Choice, word: &[u8]) -> bool
         Choice::Kind => kind_named(word).is_some(),
         Choice::Mode => mode_named(word).is_some(),
     }
+}
+
+const ALIGNMENTS: [Alignment; 6] = [
+    Alignment::One,
+    Alignment::Two,
+    Alignment::Four,
+    Alignment::Eight,
+    Alignment::Sixteen,
+    Alignment::ThirtyTwo,
+];
+
+impl Alignment {
+    /// The number of bytes of which an offset is to be a multiple.
+    pub fn bytes(self) -> u32
+        ensures { result ≡ words.alignment_bytes self }
+    {
+        match self {
+            Alignment::One => 1,
+            Alignment::Two => 2,
+            Alignment::Four => 4,
+            Alignment::Eight => 8,
+            Alignment::Sixteen => 16,
+            Alignment::ThirtyTwo => 32,
+        }
+    }
+}
+
+/// The alignment of so many bytes.
+pub fn alignment_of(number: i64) -> Option<Alignment>
+    ensures { result ≡ words.alignment_of number }
+{
+    ALIGNMENTS
+        .iter()
+        .copied()
+        .find(|alignment| number == alignment.bytes() as i64)
 }
