@@ -2,12 +2,14 @@
 use Rattle.std.proofs.Common.{◌≡◌, ℕ, ◌+◌, ◌<◌, suc, length, get_or, drop, add-one, drop-cons, true, false, List, [], ◌∷◌, ◌++◌, Bool, Option, Some, None, is_some, map, refl, sym, ap, ◌∙◌}
 use Rattle.um_document.specs.declared.description.BootEntry.{BootEntry}
 use Rattle.um_document.specs.declared.description.DomainEntry.{DomainEntry}
+use Rattle.um_document.specs.declared.description.PartitionEntry.{PartitionEntry}
+use Rattle.um_document.specs.declared.description.VariableEntry.{VariableEntry}
 use Rattle.um_document.specs.declared.place.Place.{Place}
 use Rattle.um_document.specs.declared.shape.Key.{Key}
 use Rattle.um_document.specs.declared.shape.Section.{Section}
 use Rattle.um_document.specs.First.{first_of}
-use Rattle.um_description.specs.Names.{Text, is_among}
-use Rattle.um_description.specs.Duplicates.{SameTexts, names_again, parts_again, domain_again, domains_again, boot_again, boots_again, added}
+use Rattle.um_description.specs.Names.{Text, is_among, variables_of, variable_names, names_within}
+use Rattle.um_description.specs.Duplicates.{SameTexts, names_again, variables_again, partition_again, partitions_again, parts_again, domain_again, domains_again, boot_again, boots_again, added}
 
 pub same_one_more : (text : Text) (a b : List Text) → SameTexts a b → SameTexts (text ∷ a) (text ∷ b)
 same_one_more text a b h q = rw (h q) refl
@@ -120,6 +122,95 @@ pub domain_added_step : (before after whole : List Text) (ms : List DomainEntry)
 domain_added_step before after whole ms k m lt at put so_far q =
     same_added after (m.name ∷ before) put (map domain_name (drop (k + 1) ms)) q
     ∙ ap (λ xs. is_among q (added before (map domain_name xs))) (sym (cut_at ms k m lt at)) ∙ so_far q
+
+abbrev pub variable_name : VariableEntry → Text
+variable_name v = v.name
+
+pub same_variables : (a b : List Text) → SameTexts a b → (i j : ℕ) (vs : List VariableEntry) → variables_again a i j vs ≡ variables_again b i j vs
+same_variables a b h i j [] = refl
+same_variables a b h i j (v ∷ vs) = rw (h v.name, same_variables (v.name ∷ a) (v.name ∷ b) (same_one_more v.name a b h) i (j + 1) vs) refl
+
+pub variable_step : (before after : List Text) (vs : List VariableEntry) (i j k : ℕ) (v : VariableEntry) (slice : Text) (total : Option Place) (again : Bool) → k < length vs → v ≡ get_or vs k v
+    → slice ≡ v.name → again ≡ is_among slice before → again ≡ false → SameTexts after (slice ∷ before) → first_of (variables_again before i j (drop k vs)) ≡ total
+    → first_of (variables_again after i (j + 1) (drop (k + 1) vs)) ≡ total
+variable_step before after vs i j k v slice total again lt at is seen fresh put so_far =
+    let unseen : is_among v.name before ≡ false = ap (λ t. is_among t before) (sym is) ∙ sym seen ∙ fresh in
+    let one : variables_again before i j (v ∷ drop (k + 1) vs) ≡ variables_again (v.name ∷ before) i (j + 1) (drop (k + 1) vs) = rw unseen refl in
+    ap first_of (same_variables after (v.name ∷ before) (λ q. put q ∙ ap (λ t. is_among q (t ∷ before)) is) i (j + 1) (drop (k + 1) vs) ∙ sym one)
+    ∙ ap (λ xs. first_of (variables_again before i j xs)) (sym (cut_at vs k v lt at)) ∙ so_far
+
+pub variable_here : (before : List Text) (vs : List VariableEntry) (i j k : ℕ) (v : VariableEntry) (slice : Text) (total : Option Place) (again : Bool) → k < length vs → v ≡ get_or vs k v
+    → slice ≡ v.name → again ≡ is_among slice before → again ≡ true → first_of (variables_again before i j (drop k vs)) ≡ total → Some (Place.Variable i j Key.Name) ≡ total
+variable_here before vs i j k v slice total again lt at is seen old so_far =
+    let there : is_among v.name before ≡ true = ap (λ t. is_among t before) (sym is) ∙ sym seen ∙ old in
+    let one : first_of (variables_again before i j (v ∷ drop (k + 1) vs)) ≡ Some (Place.Variable i j Key.Name) = rw there refl in
+    sym one ∙ ap (λ xs. first_of (variables_again before i j xs)) (sym (cut_at vs k v lt at)) ∙ so_far
+
+pub variable_added_step : (before after whole : List Text) (vs : List VariableEntry) (k : ℕ) (v : VariableEntry) (slice : Text) → k < length vs → v ≡ get_or vs k v → slice ≡ v.name
+    → SameTexts after (slice ∷ before) → SameTexts (added before (map variable_name (drop k vs))) whole → SameTexts (added after (map variable_name (drop (k + 1) vs))) whole
+variable_added_step before after whole vs k v slice lt at is put so_far q =
+    same_added after (v.name ∷ before) (λ t. put t ∙ ap (λ u. is_among t (u ∷ before)) is) (map variable_name (drop (k + 1) vs)) q
+    ∙ ap (λ xs. is_among q (added before (map variable_name xs))) (sym (cut_at vs k v lt at)) ∙ so_far q
+
+same_partition : (a b : List Text) → SameTexts a b → (i : ℕ) (p : PartitionEntry) → partition_again a i p ≡ partition_again b i p
+same_partition a b h i p = rw (h p.name, same_variables (p.name ∷ a) (p.name ∷ b) (same_one_more p.name a b h) i 0 (variables_of p.contents)) refl
+
+pub same_partitions : (a b : List Text) → SameTexts a b → (i : ℕ) (ps : List PartitionEntry) → partitions_again a i ps ≡ partitions_again b i ps
+same_partitions a b h i [] = refl
+same_partitions a b h i (p ∷ ps) =
+    rw (
+      same_partition a b h i p,
+      same_partitions (added (p.name ∷ a) (variable_names p)) (added (p.name ∷ b) (variable_names p))
+          (same_added (p.name ∷ a) (p.name ∷ b) (same_one_more p.name a b h) (variable_names p)) (i + 1) ps,
+    ) refl
+
+-- a partition whose name is new, and then its variables
+pub partition_passed : (before after : List Text) (i : ℕ) (p : PartitionEntry) (slice : Text) (again : Bool) (found : Option Place) → slice ≡ p.name → again ≡ is_among slice before → again ≡ false
+    → SameTexts after (slice ∷ before) → found ≡ first_of (variables_again after i 0 (variables_of p.contents)) → found ≡ first_of (partition_again before i p)
+partition_passed before after i p slice again found is seen fresh put found_is =
+    let unseen : is_among p.name before ≡ false = ap (λ t. is_among t before) (sym is) ∙ sym seen ∙ fresh in
+    let one : partition_again before i p ≡ variables_again (p.name ∷ before) i 0 (variables_of p.contents) = rw unseen refl in
+    found_is ∙ ap first_of (same_variables after (p.name ∷ before) (λ q. put q ∙ ap (λ t. is_among q (t ∷ before)) is) i 0 (variables_of p.contents) ∙ sym one)
+
+pub partition_again_here : (before : List Text) (i : ℕ) (p : PartitionEntry) (slice : Text) (again : Bool) → slice ≡ p.name → again ≡ is_among slice before → again ≡ true
+    → Some (Place.Field Section.Partition i Key.Name) ≡ first_of (partition_again before i p)
+partition_again_here before i p slice again is seen old =
+    let there : is_among p.name before ≡ true = ap (λ t. is_among t before) (sym is) ∙ sym seen ∙ old in rw there refl
+
+pub partition_put : (before after new : List Text) (p : PartitionEntry) (slice : Text) → slice ≡ p.name → SameTexts after (slice ∷ before) → SameTexts new (added after (variable_names p))
+    → SameTexts new (added (p.name ∷ before) (variable_names p))
+partition_put before after new p slice is put more q =
+    more q ∙ same_added after (p.name ∷ before) (λ t. put t ∙ ap (λ u. is_among t (u ∷ before)) is) (variable_names p) q
+
+pub partition_step : (before after : List Text) (ps : List PartitionEntry) (i k : ℕ) (p : PartitionEntry) (found total : Option Place) → k < length ps → p ≡ get_or ps k p
+    → found ≡ first_of (partition_again before i p) → is_some found ≡ false → SameTexts after (added (p.name ∷ before) (variable_names p)) → first_of (partitions_again before i (drop k ps)) ≡ total
+    → first_of (partitions_again after (i + 1) (drop (k + 1) ps)) ≡ total
+partition_step before after ps i k p found total lt at is gone put so_far =
+    let next = added (p.name ∷ before) (variable_names p) in
+    ap first_of (same_partitions after next put (i + 1) (drop (k + 1) ps))
+    ∙ sym (behind (partition_again before i p) (partitions_again next (i + 1) (drop (k + 1) ps)) found is gone)
+    ∙ ap (λ xs. first_of (partitions_again before i xs)) (sym (cut_at ps k p lt at)) ∙ so_far
+
+pub partition_here : (before : List Text) (ps : List PartitionEntry) (i k : ℕ) (p : PartitionEntry) (found total : Option Place) → k < length ps → p ≡ get_or ps k p
+    → found ≡ first_of (partition_again before i p) → is_some found ≡ true → first_of (partitions_again before i (drop k ps)) ≡ total → found ≡ total
+partition_here before ps i k p found total lt at is there so_far =
+    sym (front (partition_again before i p) (partitions_again (added (p.name ∷ before) (variable_names p)) (i + 1) (drop (k + 1) ps)) found is there)
+    ∙ ap (λ xs. first_of (partitions_again before i xs)) (sym (cut_at ps k p lt at)) ∙ so_far
+
+pub added_behind : (before xs ys : List Text) → added before (xs ++ ys) ≡ added (added before xs) ys
+added_behind before [] ys = refl
+added_behind before (x ∷ xs) ys = added_behind (x ∷ before) xs ys
+
+pub partition_added_step : (before after whole : List Text) (ps : List PartitionEntry) (k : ℕ) (p : PartitionEntry) → k < length ps → p ≡ get_or ps k p
+    → SameTexts after (added (p.name ∷ before) (variable_names p)) → SameTexts (added before (names_within (drop k ps))) whole → SameTexts (added after (names_within (drop (k + 1) ps))) whole
+partition_added_step before after whole ps k p lt at put so_far q =
+    same_added after (added (p.name ∷ before) (variable_names p)) put (names_within (drop (k + 1) ps)) q
+    ∙ ap (is_among q) (sym (added_behind (p.name ∷ before) (variable_names p) (names_within (drop (k + 1) ps))))
+    ∙ ap (λ xs. is_among q (added before (names_within xs))) (sym (cut_at ps k p lt at)) ∙ so_far q
+
+-- nothing is found, so there is nothing
+pub nothing_there : (o : Option Place) → is_some o ≡ false → o ≡ None
+nothing_there o gone = none_of o gone
 
 same_boot : (a b c e : List Text) → SameTexts a b → SameTexts c e → (i : ℕ) (x : BootEntry) → boot_again a c i x ≡ boot_again b e i x
 same_boot a b c e h g i x = rw (h x.thread, g x.stack) refl

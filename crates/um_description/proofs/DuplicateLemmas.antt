@@ -5,9 +5,9 @@ use Rattle.um_document.specs.declared.description.Description.{Description}
 use Rattle.um_document.specs.declared.place.Place.{Place}
 use Rattle.um_document.specs.declared.shape.Section.{Section}
 use Rattle.um_document.specs.First.{first_of}
-use Rattle.um_description.specs.Duplicates.{SameTexts, names_again, domains_again, boots_again, added, duplicates}
-use Rattle.um_description.specs.Names.{Text, is_among, pool_names, partition_names, domain_names, object_names, script_names}
-use Rattle.um_description.proofs.AgainLemmas.{same_names, same_domains, same_added}
+use Rattle.um_description.specs.Duplicates.{SameTexts, names_again, partitions_again, domains_again, boots_again, added, duplicates}
+use Rattle.um_description.specs.Names.{Text, is_among, names_within, pool_names, domain_names, object_names, script_names}
+use Rattle.um_description.proofs.AgainLemmas.{same_names, same_partitions, same_domains, same_added}
 
 or_then : (xs ys : List Place) (a b : Option Place) → a ≡ first_of xs → (a ≡ None → b ≡ first_of ys) → option_or a b ≡ first_of (xs ++ ys)
 or_then [] ys a b is next = ap (λ o. option_or o b) is ∙ next is
@@ -27,7 +27,7 @@ after s before names a t same put q = put q ∙ same_added s before same names q
 
 pub duplicates_found : (d : Description) (s0 s1 s2 s3 s4 : List Text) (a b c e f g : Option Place) → s0 ≡ []
     → a ≡ first_of (names_again s0 Section.Pool 0 (pool_names d)) → (a ≡ None → SameTexts s1 (added s0 (pool_names d)))
-    → b ≡ first_of (names_again s1 Section.Partition 0 (partition_names d)) → (b ≡ None → SameTexts s2 (added s1 (partition_names d)))
+    → b ≡ first_of (partitions_again s1 0 d.partitions) → (b ≡ None → SameTexts s2 (added s1 (names_within d.partitions)))
     → c ≡ first_of (domains_again s2 0 d.domains) → (c ≡ None → SameTexts s3 (added s2 (domain_names d)))
     → e ≡ first_of (names_again s3 Section.Object 0 (object_names d)) → (e ≡ None → SameTexts s4 (added s3 (object_names d)))
     → f ≡ first_of (boots_again [] [] 0 d.boots)
@@ -35,11 +35,11 @@ pub duplicates_found : (d : Description) (s0 s1 s2 s3 s4 : List Text) (a b c e f
     → option_or (option_or (option_or (option_or (option_or a b) c) e) f) g ≡ first_of (duplicates d)
 duplicates_found d s0 s1 s2 s3 s4 a b c e f g none a_is ka b_is kb c_is kc e_is ke f_is g_is =
     let p = added [] (pool_names d) in
-    let q = added p (partition_names d) in
+    let q = added p (names_within d.partitions) in
     let r = added q (domain_names d) in
     let t = added r (object_names d) in
     let xs0 = names_again [] Section.Pool 0 (pool_names d) in
-    let xs1 = names_again p Section.Partition 0 (partition_names d) in
+    let xs1 = partitions_again p 0 d.partitions in
     let xs2 = domains_again q 0 d.domains in
     let xs3 = names_again r Section.Object 0 (object_names d) in
     let xs4 = boots_again [] [] 0 d.boots in
@@ -49,11 +49,11 @@ duplicates_found d s0 s1 s2 s3 s4 a b c e f g none a_is ka b_is kb c_is kc e_is 
     let abce = option_or abc e in
     let abcef = option_or abce f in
     let k1 : a ≡ None → SameTexts s1 p = λ n w. ka n w ∙ ap (λ s. is_among w (added s (pool_names d))) none in
-    let k2 : ab ≡ None → SameTexts s2 q = λ n. after s1 p (partition_names d) b s2 (k1 (none_left a b n)) (kb (none_right a b n)) in
+    let k2 : ab ≡ None → SameTexts s2 q = λ n. after s1 p (names_within d.partitions) b s2 (k1 (none_left a b n)) (kb (none_right a b n)) in
     let k3 : abc ≡ None → SameTexts s3 r = λ n. after s2 q (domain_names d) c s3 (k2 (none_left ab c n)) (kc (none_right ab c n)) in
     let k4 : abce ≡ None → SameTexts s4 t = λ n. after s3 r (object_names d) e s4 (k3 (none_left abc e n)) (ke (none_right abc e n)) in
     let h0 : a ≡ first_of xs0 = a_is ∙ ap (λ s. first_of (names_again s Section.Pool 0 (pool_names d))) none in
-    let h1 : ab ≡ first_of (xs0 ++ xs1) = or_then xs0 xs1 a b h0 (λ n. b_is ∙ ap first_of (same_names s1 p (k1 n) Section.Partition 0 (partition_names d))) in
+    let h1 : ab ≡ first_of (xs0 ++ xs1) = or_then xs0 xs1 a b h0 (λ n. b_is ∙ ap first_of (same_partitions s1 p (k1 n) 0 d.partitions)) in
     let h2 : abc ≡ first_of (xs0 ++ xs1 ++ xs2) = or_then (xs0 ++ xs1) xs2 ab c h1 (λ n. c_is ∙ ap first_of (same_domains s2 q (k2 n) 0 d.domains)) in
     let h3 : abce ≡ first_of (xs0 ++ xs1 ++ xs2 ++ xs3) =
     or_then (xs0 ++ xs1 ++ xs2) xs3 abc e h2 (λ n. e_is ∙ ap first_of (same_names s3 r (k3 n) Section.Object 0 (object_names d))) in

@@ -1,5 +1,5 @@
 -- Texts that are all new are distinct, and so are their numbers among names.
-use Rattle.std.proofs.Common.{◌≡◌, ℕ, suc, ◌+◌, ◌<◌, Bool, true, false, not, ◌&&◌, ◌==◌, nat_lt, List, [], ◌∷◌, ◌++◌, length, map, IsTrue, if◌then◌else◌, Option, Some, None, option_map, is_some, bytes_eq, refl, ap, sym, ◌∙◌, subst, arith}
+use Rattle.std.proofs.Common.{◌≡◌, ℕ, suc, ◌+◌, ◌<◌, Bool, true, false, not, ◌&&◌, ◌||◌, ◌==◌, nat_lt, List, [], ◌∷◌, ◌++◌, length, map, IsTrue, if◌then◌else◌, Option, Some, None, option_map, is_some, bytes_eq, refl, ap, sym, ◌∙◌, subst, arith}
 use Rattle.std.specs.Prelude.{unwrap_or}
 use Rattle.std.specs.List.{list_any, list_all}
 use Rattle.std.proofs.lemmas.Bool.{false≢true, true≢false, ne_eqb, or_parts}
@@ -7,11 +7,13 @@ use Rattle.std.proofs.lemmas.Bool.Decides.{nat_tests}
 use Rattle.um_base.specs.Lawful.{are_distinct, are_distinct_names}
 use Rattle.um_document.specs.declared.description.BootEntry.{BootEntry}
 use Rattle.um_document.specs.declared.description.DomainEntry.{DomainEntry}
+use Rattle.um_document.specs.declared.description.PartitionEntry.{PartitionEntry}
+use Rattle.um_document.specs.declared.description.VariableEntry.{VariableEntry}
 use Rattle.um_document.specs.declared.place.Place.{Place}
 use Rattle.um_document.specs.declared.shape.Key.{Key}
 use Rattle.um_document.specs.declared.shape.Section.{Section}
-use Rattle.um_description.specs.Duplicates.{if_again, names_again, parts_again, domain_again, domains_again, boot_again, boots_again, added}
-use Rattle.um_description.specs.Names.{Text, is_among, items, named}
+use Rattle.um_description.specs.Duplicates.{if_again, names_again, variables_again, partition_again, partitions_again, parts_again, domain_again, domains_again, boot_again, boots_again, added}
+use Rattle.um_description.specs.Names.{Text, is_among, items, named, variables_of, variable_names, names_within}
 use Rattle.um_description.specs.Resolve.{number_named}
 use Rattle.um_description.proofs.LawfulLists.{no_front, no_back, and_true, both_true, not_true, none_if, or_more, same_text, text_itself}
 
@@ -83,6 +85,92 @@ new_append before (x ∷ xs) ys h k =
 pub added_append : (before xs ys : List Text) → added before (xs ++ ys) ≡ added (added before xs) ys
 added_append before [] ys = refl
 added_append before (x ∷ xs) ys = added_append (x ∷ before) xs ys
+
+-- ---- the names of partitions among those of their variables
+
+-- each text of the first list stands in the second
+abbrev pub IsIncluded : List Text → List Text → Type 0
+IsIncluded a b = (q : Text) → IsTrue (is_among q a) → IsTrue (is_among q b)
+
+more_by : (here there other : Bool) → (IsTrue there → IsTrue other) → IsTrue (here || there) → IsTrue (here || other)
+more_by true there other h k = refl
+more_by false there other h k = h k
+
+included_more : (a b : List Text) (text : Text) → IsIncluded a b → IsIncluded (text ∷ a) (text ∷ b)
+included_more a b text h q = more_by (bytes_eq q text) (is_among q a) (is_among q b) (h q)
+
+or_later : (here there : Bool) → IsTrue there → IsTrue (here || there)
+or_later true there h = refl
+or_later false there h = h
+
+included_added : (b names : List Text) → IsIncluded b (added b names)
+included_added b [] q h = h
+included_added b (name ∷ names) q h = included_added (name ∷ b) names q (or_later (bytes_eq q name) (is_among q b) h)
+
+pub added_included : (a b names : List Text) → IsIncluded a b → IsIncluded (added a names) (added b names)
+added_included a b [] h = h
+added_included a b (name ∷ names) h = added_included (name ∷ a) (name ∷ b) names (included_more a b name h)
+
+still_not : (a b : Bool) → (IsTrue a → IsTrue b) → IsTrue (not b) → IsTrue (not a)
+still_not true b h k = absurd (both_ways b (h refl) k)
+  where
+    both_ways : (c : Bool) → IsTrue c → IsTrue (not c) → ⊥
+    both_ways true x y = false≢true y
+    both_ways false x y = false≢true x
+still_not false b h k = refl
+
+-- what is new beside more texts is new beside fewer
+pub new_beside_fewer : (a b xs : List Text) → IsIncluded a b → IsTrue (are_new b xs) → IsTrue (are_new a xs)
+new_beside_fewer a b [] h k = refl
+new_beside_fewer a b (x ∷ xs) h k =
+    let both = and_true (not (is_among x b)) (are_new (x ∷ b) xs) k in
+    both_true (not (is_among x a)) (are_new (x ∷ a) xs) (still_not (is_among x a) (is_among x b) (h x) both.0) (new_beside_fewer (x ∷ a) (x ∷ b) xs (included_more a b x h) both.1)
+
+new_behind : (b xs ys : List Text) → IsTrue (are_new b (xs ++ ys)) → IsTrue (are_new b ys)
+new_behind b [] ys h = h
+new_behind b (x ∷ xs) ys h =
+    let both = and_true (not (is_among x b)) (are_new (x ∷ b) (xs ++ ys)) h in
+    new_beside_fewer b (x ∷ b) ys (λ q. or_later (bytes_eq q x) (is_among q b)) (new_behind (x ∷ b) xs ys both.1)
+
+abbrev pub partition_name : PartitionEntry → Text
+partition_name p = p.name
+
+-- the names of partitions alone
+pub new_without_variables : (b : List Text) (ps : List PartitionEntry) → IsTrue (are_new b (names_within ps)) → IsTrue (are_new b (map partition_name ps))
+new_without_variables b [] h = refl
+new_without_variables b (p ∷ ps) h =
+    let both = and_true (not (is_among p.name b)) (are_new (p.name ∷ b) (variable_names p ++ names_within ps)) h in
+    both_true (not (is_among p.name b)) (are_new (p.name ∷ b) (map partition_name ps)) both.0
+    (new_without_variables (p.name ∷ b) ps (new_behind (p.name ∷ b) (variable_names p) (names_within ps) both.1))
+
+pub included_within : (a b : List Text) (ps : List PartitionEntry) → IsIncluded a b → IsIncluded (added a (map partition_name ps)) (added b (names_within ps))
+included_within a b [] h = h
+included_within a b (p ∷ ps) h =
+    let next = added (p.name ∷ b) (variable_names p) in
+    let grown : IsIncluded (p.name ∷ a) next = λ q k. included_added (p.name ∷ b) (variable_names p) q (included_more a b p.name h q k) in
+    subst (λ (c : List Text). IsIncluded (added (p.name ∷ a) (map partition_name ps)) c) (sym (added_append (p.name ∷ b) (variable_names p) (names_within ps)))
+    (included_within (p.name ∷ a) next ps grown)
+
+new_variables : (before : List Text) (i j : ℕ) (vs : List VariableEntry) → variables_again before i j vs ≡ [] → IsTrue (are_new before (map (λ (v : VariableEntry). v.name) vs))
+new_variables before i j [] h = refl
+new_variables before i j (v ∷ vs) h =
+    let front = if_again before (Place.Variable i j Key.Name) v.name in
+    let back = variables_again (v.name ∷ before) i (j + 1) vs in
+    both_true (not (is_among v.name before)) (are_new (v.name ∷ before) (map (λ (v : VariableEntry). v.name) vs))
+    (one_new before (Place.Variable i j Key.Name) v.name (no_front front back h)) (new_variables (v.name ∷ before) i (j + 1) vs (no_back front back h))
+
+pub new_partitions : (before : List Text) (i : ℕ) (ps : List PartitionEntry) → partitions_again before i ps ≡ [] → IsTrue (are_new before (names_within ps))
+new_partitions before i [] h = refl
+new_partitions before i (p ∷ ps) h =
+    let next = added (p.name ∷ before) (variable_names p) in
+    let back = partitions_again next (i + 1) ps in
+    let one = if_again before (Place.Field Section.Partition i Key.Name) p.name in
+    let vars = variables_again (p.name ∷ before) i 0 (variables_of p.contents) in
+    let own : partition_again before i p ≡ [] = no_front (partition_again before i p) back h in
+    both_true (not (is_among p.name before)) (are_new (p.name ∷ before) (variable_names p ++ names_within ps))
+    (one_new before (Place.Field Section.Partition i Key.Name) p.name (no_front one vars own))
+    (new_append (p.name ∷ before) (variable_names p) (names_within ps) (new_variables (p.name ∷ before) i 0 (variables_of p.contents) (no_back one vars own))
+    (new_partitions next (i + 1) ps (no_back (partition_again before i p) back h)))
 
 -- ---- new texts are distinct
 

@@ -13,7 +13,6 @@ use Rattle.um_base.specs.Layout.{rounded, starts}
 use Rattle.um_base.specs.Weight.{weight}
 use Rattle.um_document.specs.declared.description.Description.{Description}
 use Rattle.um_document.specs.declared.description.DomainEntry.{DomainEntry}
-use Rattle.um_document.specs.declared.description.PartitionEntry.{PartitionEntry}
 use Rattle.um_document.specs.declared.description.ScriptEntry.{ScriptEntry}
 use Rattle.um_description.specs.declared.flaw.Flaw.{Flaw}
 use Rattle.um_description.specs.Duplicates.{added, duplicates}
@@ -21,10 +20,13 @@ use Rattle.um_description.specs.Flaws.{too_heavy, too_large, image_flaws, flaws,
 use Rattle.um_document.specs.Faults.{ReadsDocument}
 use Rattle.um_document.specs.LawfulNames.{AreLawfulNames}
 use Rattle.um_document.proofs.LawfulForm.{read_lawful}
-use Rattle.um_description.specs.Limits.{top_limits, pool_limits, partition_limits, domain_limits, objects_limits, boot_limits, script_limits, limits, most_parts, natural}
+use Rattle.um_document.specs.declared.description.PartitionEntry.{PartitionEntry}
+use Rattle.um_description.specs.Limits.{top_limits, pool_limits, partition_limits, domain_limits, objects_limits, boot_limits, script_limits, limits, most_parts}
 use Rattle.um_description.specs.Lines.{unread_lines, blocks_of, unknown_in_script, misordered_script}
-use Rattle.um_description.specs.Names.{each, pool_names, partition_names}
-use Rattle.um_description.specs.Resolve.{clamped, asked_partitions, asked_stacks, partition_sizes, stack_sizes, placed, placed_partitions, domain_of, script_of, without_scripts, image_of}
+use Rattle.um_description.specs.Names.{each, names_within, pool_names, partition_names}
+use Rattle.um_description.specs.Numbers.{natural}
+use Rattle.um_description.specs.Packing.{asked_size}
+use Rattle.um_description.specs.Resolve.{asked_partitions, asked_stacks, partition_sizes, stack_sizes, placed, placed_partitions, domain_of, script_of, without_scripts, image_of}
 use Rattle.um_description.specs.Unknown.{unknown_in_domain, unknown_in_boot, unknown_names}
 use Rattle.um_description.proofs.LawfulBoots.{boots_lawful, threads_once, stacks_once}
 use Rattle.um_description.proofs.LawfulDomains.{domains_lawful}
@@ -118,7 +120,7 @@ thread_stacks d = placed d.mpu STACK_AREA (stack_sizes d)
 as_many_ranges : (d : Description) → length (partition_ranges d) ≡ length d.partitions
 as_many_ranges d =
     length_ranges (starts d.mpu PARTITION_AREA (partition_sizes d)) (partition_sizes d) (length_starting d.mpu PARTITION_AREA (partition_sizes d))
-    ∙ length_mapped (rounded d.mpu) (asked_partitions d) ∙ length_mapped (λ (p : PartitionEntry). clamped p.size) d.partitions
+    ∙ length_mapped (rounded d.mpu) (asked_partitions d) ∙ length_mapped asked_size d.partitions
 
 as_many_places : (d : Description) → length (starts d.mpu STACK_AREA (stack_sizes d)) ≡ length (asked_stacks d)
 as_many_places d = length_starting d.mpu STACK_AREA (stack_sizes d) ∙ length_mapped (rounded d.mpu) (asked_stacks d)
@@ -147,7 +149,7 @@ light_by n h = grind (arith, nat_tests)
 
 domains_within : (d : Description) → AreWithin d → HasNoFlaws d → IsTrue (list_all (λ (m : DomainDef). are_lawful_parts (lawful.most_parts (image_of d)) (length (image_of d).partitions) m.parts) (image_of d).domains)
 domains_within d w h =
-    let before = added (added [] (pool_names d)) (partition_names d) in
+    let before = added (added [] (pool_names d)) (names_within d.partitions) in
     let few = domains_lawful d (most_parts d.regions) (length (image_of d).partitions) 0 before d.domains (as_many d).partitions w.domains
     (no_front (each (unknown_in_domain d) 0 d.domains) (each (unknown_in_boot d) 0 d.boots) h.names_known) (no_duplicates d h.names_new).domains in
     subst (λ (most : ℕ). IsTrue (list_all (λ (m : DomainDef). are_lawful_parts most (length (image_of d).partitions) m.parts) (image_of d).domains)) (most_by (natural d.regions) (regions_in d w.top)) few

@@ -17,11 +17,13 @@ use Rattle.um_description.specs.declared.flaw.Counted.TheVariants as counted
 use Rattle.um_description.specs.declared.flaw.Flaw.{Flaw}
 use Rattle.um_description.specs.Flaws.{too_large}
 use Rattle.um_document.specs.LawfulNames.{has_given_attr}
-use Rattle.um_description.specs.Limits.{outside, longer, one_too_many, partition_limits}
+use Rattle.um_description.specs.Limits.{one_too_many, contents_limits, partition_limits}
 use Rattle.um_description.specs.Names.{each}
-use Rattle.um_description.specs.Resolve.{clamped, ranges_at, range_at, placed, placed_partitions}
+use Rattle.um_description.specs.Resolve.{ranges_at, range_at, placed, placed_partitions}
+use Rattle.um_description.specs.Packing.{asked_size, first_bytes}
 use Rattle.um_description.proofs.LawfulLists.{no_front, no_back, and_true, both_true, none_if}
-use Rattle.um_description.proofs.LawfulRanges.{IsIn, clamped_in, rounded_size}
+use Rattle.um_description.proofs.LawfulRanges.{rounded_size}
+use Rattle.um_description.proofs.WithoutLimits.{contents_right}
 
 -- ---- ranges in their area
 
@@ -70,30 +72,21 @@ ranges_of_partitions [] ps h = refl
 ranges_of_partitions (range ∷ ranges) [] h = absurd (omega (arith, h))
 ranges_of_partitions (range ∷ ranges) (p ∷ ps) h = ap (λ (rs : List Range). range ∷ rs) (ranges_of_partitions ranges ps (omega (arith, h)))
 
-few_bytes : (z : ℤ) (n : ℕ) → IsIn 1 65536 (clamped z) → int_lt z (pos n) ≡ false → n ≤ clamped z
-few_bytes (pos m) n size h = let most = size.most in grind (arith, nat_tests)
-few_bytes (negsuc m) n size h = absurd (true≢false h)
-
 partition_lawful : (mpu : Mpu) (start i : ℕ) (p : PartitionEntry) → partition_limits i p ≡ [] → IsTrue (is_given_attr p.attr)
-    → IsTrue (is_lawful_partition mpu (record { name = p.name; range = range_at start (rounded mpu (clamped p.size)); attr = p.attr; bytes = p.data }))
+    → IsTrue (is_lawful_partition mpu (record { name = p.name; range = range_at start (rounded mpu (asked_size p)); attr = p.attr; bytes = first_bytes p }))
 unfolding partition_limits
 partition_lawful mpu start i p h given =
-    let sizes = outside Key.Size (pos 1) (pos AREA_ENTRY) (Place.Field Section.Partition i Key.Size) p.size in
-    let longs = longer Key.Data p.size (Place.Field Section.Partition i Key.Data) (length p.data) in
-    let front = no_front (one_too_many Section.Partition PARTITIONS i ++ sizes) longs h in
-    let size = clamped_in Key.Size 1 65536 (Place.Field Section.Partition i Key.Size) p.size (omega arith) (no_back (one_too_many Section.Partition PARTITIONS i) sizes front) in
-    let short = none_if (int_lt p.size (pos (length p.data))) (Flaw.Limit (counted.Key Key.Data) p.size (Place.Field Section.Partition i Key.Data))
-    (no_back (one_too_many Section.Partition PARTITIONS i ++ sizes) longs h) in
-    let room = rounded_size mpu (clamped p.size) size in
-    let few = few_bytes p.size (length p.data) size short in
+    let c = contents_right i p.contents (no_back (one_too_many Section.Partition PARTITIONS i) (contents_limits i p.contents) h) in
+    let room = rounded_size mpu (asked_size p) (record { least = c.0; most = c.1 }) in
+    let few : length (first_bytes p) ≤ asked_size p = c.2 in
     let wide = room.room in
-    let fits : length p.data ≤ rounded mpu (clamped p.size) = omega (arith, few, wide) in
-    both_true (is_rounded mpu (rounded mpu (clamped p.size)) && is_given_attr p.attr) (nat_le (length p.data) (rounded mpu (clamped p.size)))
-    (both_true (is_rounded mpu (rounded mpu (clamped p.size))) (is_given_attr p.attr) room.guarded given) (grind (arith, nat_tests, fits))
+    let fits : length (first_bytes p) ≤ rounded mpu (asked_size p) = omega (arith, few, wide) in
+    both_true (is_rounded mpu (rounded mpu (asked_size p)) && is_given_attr p.attr) (nat_le (length (first_bytes p)) (rounded mpu (asked_size p)))
+    (both_true (is_rounded mpu (rounded mpu (asked_size p))) (is_given_attr p.attr) room.guarded given) (grind (arith, nat_tests, fits))
 
 -- the rounded sizes that partitions ask for
 abbrev pub sizes_asked : Mpu → List PartitionEntry → List ℕ
-sizes_asked mpu ps = map (rounded mpu) (map (λ (p : PartitionEntry). clamped p.size) ps)
+sizes_asked mpu ps = map (rounded mpu) (map asked_size ps)
 
 pub partitions_lawful : (mpu : Mpu) (places : List ℕ) (i : ℕ) (ps : List PartitionEntry) → each partition_limits i ps ≡ [] → IsTrue (list_all has_given_attr ps)
     → IsTrue (list_all (is_lawful_partition mpu) (placed_partitions (ranges_at places (sizes_asked mpu ps)) ps))
@@ -101,7 +94,7 @@ partitions_lawful mpu [] i ps h given = refl
 partitions_lawful mpu (place ∷ places) i [] h given = refl
 partitions_lawful mpu (place ∷ places) i (p ∷ ps) h given =
     let both = and_true (has_given_attr p) (list_all has_given_attr ps) given in
-    both_true (is_lawful_partition mpu (record { name = p.name; range = range_at place (rounded mpu (clamped p.size)); attr = p.attr; bytes = p.data }))
+    both_true (is_lawful_partition mpu (record { name = p.name; range = range_at place (rounded mpu (asked_size p)); attr = p.attr; bytes = first_bytes p }))
     (list_all (is_lawful_partition mpu) (placed_partitions (ranges_at places (sizes_asked mpu ps)) ps))
     (partition_lawful mpu place i p (no_front (partition_limits i p) (each partition_limits (i + 1) ps) h) both.0)
     (partitions_lawful mpu places (i + 1) ps (no_back (partition_limits i p) (each partition_limits (i + 1) ps) h) both.1)

@@ -85,10 +85,10 @@ later_number (suc k) (s ∷ scripts) text other known =
 
 -- ---- operands
 
-term_lawful : (image : Image) (t : Term) → IsTrue (is_given_term t) → IsTrue (is_operand (term_of image t))
-term_lawful image (Term.Num n) h = refl
-term_lawful image (Term.Reg r) h = h
-term_lawful image (Term.Place name offset) h = refl
+term_lawful : (image : Image) (d : Description) (t : Term) → IsTrue (is_given_term t) → IsTrue (is_operand (term_of image d t))
+term_lawful image d (Term.Num n) h = refl
+term_lawful image d (Term.Reg r) h = h
+term_lawful image d (Term.Place name offset) h = refl
 
 ref_lawful : (d : Description) (wanted : Wanted) (at : ℕ) (names : List Text) (n : ℕ) (r : Ref) → length names ≡ n → ((text : Text) → IsTrue (mention.is_known d wanted text) → IsTrue (is_among text names))
     → IsTrue (is_given_name r) → IsTrue (list_all (knows d) (in_ref wanted at r)) → IsTrue (is_number_below n (ref_of names r))
@@ -136,56 +136,56 @@ script_lawful d ps ss i at (Ref.Named name) many given h order =
 
 -- ---- what is said of several operands
 
-one : (image : Image) (a : Term) → IsTrue (is_given_term a && true) → IsTrue (is_operand (term_of image a))
-one image a h = term_lawful image a (first_known (is_given_term a) h)
+one : (image : Image) (d : Description) (a : Term) → IsTrue (is_given_term a && true) → IsTrue (is_operand (term_of image d a))
+one image d a h = term_lawful image d a (first_known (is_given_term a) h)
 
-two : (image : Image) (a b : Term) → IsTrue (is_given_term a && (is_given_term b && true)) → IsTrue (is_operand (term_of image a) && is_operand (term_of image b))
-two image a b h =
+two : (image : Image) (d : Description) (a b : Term) → IsTrue (is_given_term a && (is_given_term b && true)) → IsTrue (is_operand (term_of image d a) && is_operand (term_of image d b))
+two image d a b h =
     let x = and_true (is_given_term a) (is_given_term b && true) h in
-    both_true (is_operand (term_of image a)) (is_operand (term_of image b)) (term_lawful image a x.0) (one image b x.1)
+    both_true (is_operand (term_of image d a)) (is_operand (term_of image d b)) (term_lawful image d a x.0) (one image d b x.1)
 
-three : (image : Image) (a b c : Term) → IsTrue (is_given_term a && (is_given_term b && (is_given_term c && true))) → IsTrue (is_operand (term_of image a) && is_operand (term_of image b) && is_operand (term_of image c))
-three image a b c h =
+three : (image : Image) (d : Description) (a b c : Term) → IsTrue (is_given_term a && (is_given_term b && (is_given_term c && true))) → IsTrue (is_operand (term_of image d a) && is_operand (term_of image d b) && is_operand (term_of image d c))
+three image d a b c h =
     let x = and_true (is_given_term a) (is_given_term b && (is_given_term c && true)) h in
     let y = and_true (is_given_term b) (is_given_term c && true) x.1 in
-    both_true (is_operand (term_of image a) && is_operand (term_of image b)) (is_operand (term_of image c))
-    (both_true (is_operand (term_of image a)) (is_operand (term_of image b)) (term_lawful image a x.0) (term_lawful image b y.0)) (one image c y.1)
+    both_true (is_operand (term_of image d a) && is_operand (term_of image d b)) (is_operand (term_of image d c))
+    (both_true (is_operand (term_of image d a)) (is_operand (term_of image d b)) (term_lawful image d a x.0) (term_lawful image d b y.0)) (one image d c y.1)
 
-register_and : (image : Image) (r : ℕ) (a : Term) → IsTrue (is_register r && (is_given_term a && true)) → IsTrue (is_register r && is_operand (term_of image a))
-register_and image r a h =
-    let x = and_true (is_register r) (is_given_term a && true) h in both_true (is_register r) (is_operand (term_of image a)) x.0 (one image a x.1)
+register_and : (image : Image) (d : Description) (r : ℕ) (a : Term) → IsTrue (is_register r && (is_given_term a && true)) → IsTrue (is_register r && is_operand (term_of image d a))
+register_and image d r a h =
+    let x = and_true (is_register r) (is_given_term a && true) h in both_true (is_register r) (is_operand (term_of image d a)) x.0 (one image d a x.1)
 
-and_register : (image : Image) (a : Term) (r : ℕ) → IsTrue (is_given_term a && (is_register r && true)) → IsTrue (is_operand (term_of image a) && is_register r)
-and_register image a r h =
-    let x = and_true (is_given_term a) (is_register r && true) h in both_true (is_operand (term_of image a)) (is_register r) (term_lawful image a x.0) (first_known (is_register r) x.1)
+and_register : (image : Image) (d : Description) (a : Term) (r : ℕ) → IsTrue (is_given_term a && (is_register r && true)) → IsTrue (is_operand (term_of image d a) && is_register r)
+and_register image d a r h =
+    let x = and_true (is_given_term a) (is_register r && true) h in both_true (is_operand (term_of image d a)) (is_register r) (term_lawful image d a x.0) (first_known (is_register r) x.1)
 
-load : (image : Image) (r : ℕ) (a : Term) (n : ℕ) → IsTrue (is_register r && (is_given_term a && (is_size n && true))) → IsTrue (is_register r && is_operand (term_of image a) && is_size n)
-load image r a n h =
+load : (image : Image) (d : Description) (r : ℕ) (a : Term) (n : ℕ) → IsTrue (is_register r && (is_given_term a && (is_size n && true))) → IsTrue (is_register r && is_operand (term_of image d a) && is_size n)
+load image d r a n h =
     let x = and_true (is_register r) (is_given_term a && (is_size n && true)) h in
     let y = and_true (is_given_term a) (is_size n && true) x.1 in
-    both_true (is_register r && is_operand (term_of image a)) (is_size n) (both_true (is_register r) (is_operand (term_of image a)) x.0 (term_lawful image a y.0)) (first_known (is_size n) y.1)
+    both_true (is_register r && is_operand (term_of image d a)) (is_size n) (both_true (is_register r) (is_operand (term_of image d a)) x.0 (term_lawful image d a y.0)) (first_known (is_size n) y.1)
 
-store : (image : Image) (a : Term) (n : ℕ) (b : Term) → IsTrue (is_given_term a && (is_size n && (is_given_term b && true))) → IsTrue (is_operand (term_of image a) && is_size n && is_operand (term_of image b))
-store image a n b h =
+store : (image : Image) (d : Description) (a : Term) (n : ℕ) (b : Term) → IsTrue (is_given_term a && (is_size n && (is_given_term b && true))) → IsTrue (is_operand (term_of image d a) && is_size n && is_operand (term_of image d b))
+store image d a n b h =
     let x = and_true (is_given_term a) (is_size n && (is_given_term b && true)) h in
     let y = and_true (is_size n) (is_given_term b && true) x.1 in
-    both_true (is_operand (term_of image a) && is_size n) (is_operand (term_of image b)) (both_true (is_operand (term_of image a)) (is_size n) (term_lawful image a x.0) y.0) (one image b y.1)
+    both_true (is_operand (term_of image d a) && is_size n) (is_operand (term_of image d b)) (both_true (is_operand (term_of image d a)) (is_size n) (term_lawful image d a x.0) y.0) (one image d b y.1)
 
 -- ---- lines
 
 create_lawful : (d : Description) (ps ss : List Range) (i : ℕ) (thread stack size : Term) (script : Ref) → AreAsMany d ps ss
     → IsTrue (is_given_term thread && (is_given_term stack && (is_given_term size && (is_given_name script && true))))
     → IsTrue (list_all (knows d) (in_ref Wanted.Script 4 script)) → is_misordered d i (name_in script) ≡ false
-    → IsTrue (is_operand (term_of (base d ps ss) thread) && is_operand (term_of (base d ps ss) stack) && is_operand (term_of (base d ps ss) size) && is_later (image_in d ps ss) i (ref_of (script_names d) script))
+    → IsTrue (is_operand (term_of (base d ps ss) d thread) && is_operand (term_of (base d ps ss) d stack) && is_operand (term_of (base d ps ss) d size) && is_later (image_in d ps ss) i (ref_of (script_names d) script))
 create_lawful d ps ss i thread stack size script many h known order =
     let x = and_true (is_given_term thread) (is_given_term stack && (is_given_term size && (is_given_name script && true))) h in
     let y = and_true (is_given_term stack) (is_given_term size && (is_given_name script && true)) x.1 in
     let z = and_true (is_given_term size) (is_given_name script && true) y.1 in
-    let a = is_operand (term_of (base d ps ss) thread) in
-    let b = is_operand (term_of (base d ps ss) stack) in
-    let c = is_operand (term_of (base d ps ss) size) in
+    let a = is_operand (term_of (base d ps ss) d thread) in
+    let b = is_operand (term_of (base d ps ss) d stack) in
+    let c = is_operand (term_of (base d ps ss) d size) in
     both_true (a && b && c) (is_later (image_in d ps ss) i (ref_of (script_names d) script))
-    (both_true (a && b) c (both_true a b (term_lawful (base d ps ss) thread x.0) (term_lawful (base d ps ss) stack y.0)) (term_lawful (base d ps ss) size z.0))
+    (both_true (a && b) c (both_true a b (term_lawful (base d ps ss) d thread x.0) (term_lawful (base d ps ss) d stack y.0)) (term_lawful (base d ps ss) d size z.0))
     (script_lawful d ps ss i 4 script many (first_known (is_given_name script) z.1) known order)
 
 init_lawful : (d : Description) (ps ss : List Range) (m : Ref) (parts : List PartRef) → AreAsMany d ps ss → IsTrue (is_given_name m && (list_all is_given_part parts && true))
@@ -208,11 +208,11 @@ edit_lawful d ps ss m p many h known =
 
 move_lawful : (d : Description) (ps ss : List Range) (m : Ref) (thread : Term) → AreAsMany d ps ss → IsTrue (is_given_name m && (is_given_term thread && true))
     → IsTrue (list_all (knows d) (in_ref Wanted.Domain 1 m ++ mention.in_term 2 thread))
-    → IsTrue (is_number_below (length (image_in d ps ss).domains) (ref_of (domain_names d) m) && is_operand (term_of (base d ps ss) thread))
+    → IsTrue (is_number_below (length (image_in d ps ss).domains) (ref_of (domain_names d) m) && is_operand (term_of (base d ps ss) d thread))
 move_lawful d ps ss m thread many h known =
     let x = and_true (is_given_name m) (is_given_term thread && true) h in
-    both_true (is_number_below (length (image_in d ps ss).domains) (ref_of (domain_names d) m)) (is_operand (term_of (base d ps ss) thread))
-    (domain_lawful d ps ss m many x.0 (front_known d (in_ref Wanted.Domain 1 m) (mention.in_term 2 thread) known)) (one (base d ps ss) thread x.1)
+    both_true (is_number_below (length (image_in d ps ss).domains) (ref_of (domain_names d) m)) (is_operand (term_of (base d ps ss) d thread))
+    (domain_lawful d ps ss m many x.0 (front_known d (in_ref Wanted.Domain 1 m) (mention.in_term 2 thread) known)) (one (base d ps ss) d thread x.1)
 
 alloc_lawful : (a b : Bool) → IsTrue (a && (b && true)) → IsTrue (a && b)
 alloc_lawful a b h = let x = and_true a (b && true) h in both_true a b x.0 (first_known b x.1)
@@ -223,44 +223,44 @@ line_lawful d ps ss i Instr.End many h known order = refl
 line_lawful d ps ss i Instr.Oops many h known order = refl
 line_lawful d ps ss i Instr.Panic many h known order = refl
 line_lawful d ps ss i (Instr.Repeat times) many h known order = first_known (is_within 1 1000 times) h
-line_lawful d ps ss i (Instr.Set to value) many h known order = register_and (base d ps ss) to value h
-line_lawful d ps ss i (Instr.Add to value) many h known order = register_and (base d ps ss) to value h
-line_lawful d ps ss i (Instr.Load to addr size) many h known order = load (base d ps ss) to addr size h
-line_lawful d ps ss i (Instr.Store addr size value) many h known order = store (base d ps ss) addr size value h
-line_lawful d ps ss i (Instr.Exec addr) many h known order = one (base d ps ss) addr h
+line_lawful d ps ss i (Instr.Set to value) many h known order = register_and (base d ps ss) d to value h
+line_lawful d ps ss i (Instr.Add to value) many h known order = register_and (base d ps ss) d to value h
+line_lawful d ps ss i (Instr.Load to addr size) many h known order = load (base d ps ss) d to addr size h
+line_lawful d ps ss i (Instr.Store addr size value) many h known order = store (base d ps ss) d addr size value h
+line_lawful d ps ss i (Instr.Exec addr) many h known order = one (base d ps ss) d addr h
 line_lawful d ps ss i (Instr.DomainInit m parts) many h known order = init_lawful d ps ss m parts many h known
 line_lawful d ps ss i (Instr.DomainAdd m part) many h known order = edit_lawful d ps ss m part many h known
 line_lawful d ps ss i (Instr.DomainRemove m part) many h known order = edit_lawful d ps ss m part many h known
 line_lawful d ps ss i (Instr.DomainMove m thread) many h known order = move_lawful d ps ss m thread many h known
 line_lawful d ps ss i (Instr.ObjectAlloc kind to) many h known order = alloc_lawful (is_dynamic_kind kind) (is_register to) h
-line_lawful d ps ss i (Instr.Grant object thread) many h known order = two (base d ps ss) object thread h
-line_lawful d ps ss i (Instr.Revoke object thread) many h known order = two (base d ps ss) object thread h
-line_lawful d ps ss i (Instr.Release object) many h known order = one (base d ps ss) object h
-line_lawful d ps ss i (Instr.AllGrant object) many h known order = one (base d ps ss) object h
-line_lawful d ps ss i (Instr.SemGive object) many h known order = one (base d ps ss) object h
-line_lawful d ps ss i (Instr.SemReset object) many h known order = one (base d ps ss) object h
-line_lawful d ps ss i (Instr.MutexInit object) many h known order = one (base d ps ss) object h
-line_lawful d ps ss i (Instr.MutexUnlock object) many h known order = one (base d ps ss) object h
-line_lawful d ps ss i (Instr.MsgqPurge object) many h known order = one (base d ps ss) object h
-line_lawful d ps ss i (Instr.PipeReset object) many h known order = one (base d ps ss) object h
-line_lawful d ps ss i (Instr.PipeClose object) many h known order = one (base d ps ss) object h
+line_lawful d ps ss i (Instr.Grant object thread) many h known order = two (base d ps ss) d object thread h
+line_lawful d ps ss i (Instr.Revoke object thread) many h known order = two (base d ps ss) d object thread h
+line_lawful d ps ss i (Instr.Release object) many h known order = one (base d ps ss) d object h
+line_lawful d ps ss i (Instr.AllGrant object) many h known order = one (base d ps ss) d object h
+line_lawful d ps ss i (Instr.SemGive object) many h known order = one (base d ps ss) d object h
+line_lawful d ps ss i (Instr.SemReset object) many h known order = one (base d ps ss) d object h
+line_lawful d ps ss i (Instr.MutexInit object) many h known order = one (base d ps ss) d object h
+line_lawful d ps ss i (Instr.MutexUnlock object) many h known order = one (base d ps ss) d object h
+line_lawful d ps ss i (Instr.MsgqPurge object) many h known order = one (base d ps ss) d object h
+line_lawful d ps ss i (Instr.PipeReset object) many h known order = one (base d ps ss) d object h
+line_lawful d ps ss i (Instr.PipeClose object) many h known order = one (base d ps ss) d object h
 line_lawful d ps ss i (Instr.Create thread stack size script priority options) many h known order =
     create_lawful d ps ss i thread stack size script many h
     (back_known d (mention.in_term 1 thread ++ mention.in_term 2 stack ++ mention.in_term 3 size) (in_ref Wanted.Script 4 script) known) order
 line_lawful d ps ss i (Instr.UserMode script) many h known order = script_lawful d ps ss i 1 script many (first_known (is_given_name script) h) known order
-line_lawful d ps ss i (Instr.NameSet thread addr) many h known order = two (base d ps ss) thread addr h
-line_lawful d ps ss i (Instr.SemInit object count limit) many h known order = three (base d ps ss) object count limit h
-line_lawful d ps ss i (Instr.SemTake object timeout) many h known order = one (base d ps ss) object h
-line_lawful d ps ss i (Instr.MutexLock object timeout) many h known order = one (base d ps ss) object h
-line_lawful d ps ss i (Instr.SemCount object to) many h known order = and_register (base d ps ss) object to h
-line_lawful d ps ss i (Instr.MsgqUsed object to) many h known order = and_register (base d ps ss) object to h
-line_lawful d ps ss i (Instr.MsgqInit object size most) many h known order = three (base d ps ss) object size most h
-line_lawful d ps ss i (Instr.MsgqPut object addr timeout) many h known order = two (base d ps ss) object addr h
-line_lawful d ps ss i (Instr.MsgqGet object addr timeout) many h known order = two (base d ps ss) object addr h
-line_lawful d ps ss i (Instr.StackPop object addr timeout) many h known order = two (base d ps ss) object addr h
-line_lawful d ps ss i (Instr.MsgqPeek object addr) many h known order = two (base d ps ss) object addr h
-line_lawful d ps ss i (Instr.StackInit object entries) many h known order = two (base d ps ss) object entries h
-line_lawful d ps ss i (Instr.StackPush object value) many h known order = two (base d ps ss) object value h
-line_lawful d ps ss i (Instr.PipeInit object size) many h known order = two (base d ps ss) object size h
-line_lawful d ps ss i (Instr.PipeWrite object addr n timeout) many h known order = three (base d ps ss) object addr n h
-line_lawful d ps ss i (Instr.PipeRead object addr n timeout) many h known order = three (base d ps ss) object addr n h
+line_lawful d ps ss i (Instr.NameSet thread addr) many h known order = two (base d ps ss) d thread addr h
+line_lawful d ps ss i (Instr.SemInit object count limit) many h known order = three (base d ps ss) d object count limit h
+line_lawful d ps ss i (Instr.SemTake object timeout) many h known order = one (base d ps ss) d object h
+line_lawful d ps ss i (Instr.MutexLock object timeout) many h known order = one (base d ps ss) d object h
+line_lawful d ps ss i (Instr.SemCount object to) many h known order = and_register (base d ps ss) d object to h
+line_lawful d ps ss i (Instr.MsgqUsed object to) many h known order = and_register (base d ps ss) d object to h
+line_lawful d ps ss i (Instr.MsgqInit object size most) many h known order = three (base d ps ss) d object size most h
+line_lawful d ps ss i (Instr.MsgqPut object addr timeout) many h known order = two (base d ps ss) d object addr h
+line_lawful d ps ss i (Instr.MsgqGet object addr timeout) many h known order = two (base d ps ss) d object addr h
+line_lawful d ps ss i (Instr.StackPop object addr timeout) many h known order = two (base d ps ss) d object addr h
+line_lawful d ps ss i (Instr.MsgqPeek object addr) many h known order = two (base d ps ss) d object addr h
+line_lawful d ps ss i (Instr.StackInit object entries) many h known order = two (base d ps ss) d object entries h
+line_lawful d ps ss i (Instr.StackPush object value) many h known order = two (base d ps ss) d object value h
+line_lawful d ps ss i (Instr.PipeInit object size) many h known order = two (base d ps ss) d object size h
+line_lawful d ps ss i (Instr.PipeWrite object addr n timeout) many h known order = three (base d ps ss) d object addr n h
+line_lawful d ps ss i (Instr.PipeRead object addr n timeout) many h known order = three (base d ps ss) d object addr n h

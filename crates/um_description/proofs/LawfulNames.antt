@@ -14,12 +14,12 @@ use Rattle.um_document.specs.declared.description.Details.{Details}
 use Rattle.um_document.specs.declared.description.ObjectEntry.{ObjectEntry}
 use Rattle.um_document.specs.declared.description.PartitionEntry.{PartitionEntry}
 use Rattle.um_document.specs.declared.shape.Section.{Section}
-use Rattle.um_description.specs.Duplicates.{names_again, domains_again, boots_again, added, duplicates}
+use Rattle.um_description.specs.Duplicates.{names_again, partitions_again, domains_again, boots_again, added, duplicates}
 use Rattle.um_document.specs.LawfulNames.{AreLawfulNames}
 use Rattle.um_description.specs.Limits.{threads_after}
-use Rattle.um_description.specs.Names.{Text, pool_names, partition_names, domain_names, object_names, script_names}
+use Rattle.um_description.specs.Names.{Text, names_within, pool_names, partition_names, domain_names, object_names, script_names}
 use Rattle.um_description.specs.Resolve.{pool_of, domain_of, placed_partitions, first_range, ranges_taken, object_def, objects_from, script_of, without_scripts, image_in}
-use Rattle.um_description.proofs.LawfulDistinct.{are_new, new_names, new_domains, new_append, added_append, distinct_names}
+use Rattle.um_description.proofs.LawfulDistinct.{are_new, new_names, new_partitions, new_domains, new_without_variables, new_beside_fewer, included_within, added_included, IsIncluded, new_append, added_append, distinct_names}
 use Rattle.um_description.proofs.LawfulLists.{no_front, no_back, both_true, map_map}
 use Rattle.um_description.proofs.LawfulObjects.{entry}
 
@@ -77,17 +77,23 @@ names_lawful d h =
 -- what the texts that stood before leave to each section
 pub record HasNoDuplicates (d : Description) : Type 0 where
   pub names : IsTrue (are_new [] (all_names d))
-  pub domains : domains_again (added (added [] (pool_names d)) (partition_names d)) 0 d.domains ≡ []
+  pub domains : domains_again (added (added [] (pool_names d)) (names_within d.partitions)) 0 d.domains ≡ []
   pub boots : boots_again [] [] 0 d.boots ≡ []
 
 pub no_duplicates : (d : Description) → duplicates d ≡ [] → HasNoDuplicates d
 no_duplicates d h =
     let p = added [] (pool_names d) in
-    let q = added p (partition_names d) in
+    let q = added p (names_within d.partitions) in
     let r = added q (domain_names d) in
     let t = added r (object_names d) in
+    let q0 = added p (partition_names d) in
+    let r0 = added q0 (domain_names d) in
+    let t0 = added r0 (object_names d) in
+    let q_in : IsIncluded q0 q = included_within p p d.partitions (λ w k. k) in
+    let r_in : IsIncluded r0 r = added_included q0 q (domain_names d) q_in in
+    let t_in : IsIncluded t0 t = added_included r0 r (object_names d) r_in in
     let xs0 = names_again [] Section.Pool 0 (pool_names d) in
-    let xs1 = names_again p Section.Partition 0 (partition_names d) in
+    let xs1 = partitions_again p 0 d.partitions in
     let xs2 = domains_again q 0 d.domains in
     let xs3 = names_again r Section.Object 0 (object_names d) in
     let xs4 = boots_again [] [] 0 d.boots in
@@ -98,21 +104,21 @@ no_duplicates d h =
     let f1 = no_front (xs0 ++ xs1) xs2 f2 in
     let n1 : IsTrue (are_new [] (pool_names d)) = new_names [] Section.Pool 0 (pool_names d) (no_front xs0 xs1 f1) in
     let n2 : IsTrue (are_new [] (pool_names d ++ partition_names d)) =
-    new_append [] (pool_names d) (partition_names d) n1 (new_names p Section.Partition 0 (partition_names d) (no_back xs0 xs1 f1)) in
-    let e2 : added [] (pool_names d ++ partition_names d) ≡ q = added_append [] (pool_names d) (partition_names d) in
+    new_append [] (pool_names d) (partition_names d) n1 (new_without_variables p d.partitions (new_partitions p 0 d.partitions (no_back xs0 xs1 f1))) in
+    let e2 : added [] (pool_names d ++ partition_names d) ≡ q0 = added_append [] (pool_names d) (partition_names d) in
     let n3 : IsTrue (are_new [] (pool_names d ++ partition_names d ++ domain_names d)) =
     new_append [] (pool_names d ++ partition_names d) (domain_names d) n2
-    (subst (λ (b : List Text). IsTrue (are_new b (domain_names d))) (sym e2) (new_domains q 0 d.domains (no_back (xs0 ++ xs1) xs2 f2))) in
-    let e3 : added [] (pool_names d ++ partition_names d ++ domain_names d) ≡ r =
+    (subst (λ (b : List Text). IsTrue (are_new b (domain_names d))) (sym e2) (new_beside_fewer q0 q (domain_names d) q_in (new_domains q 0 d.domains (no_back (xs0 ++ xs1) xs2 f2)))) in
+    let e3 : added [] (pool_names d ++ partition_names d ++ domain_names d) ≡ r0 =
     added_append [] (pool_names d ++ partition_names d) (domain_names d) ∙ ap (λ (b : List Text). added b (domain_names d)) e2 in
     let n4 : IsTrue (are_new [] (pool_names d ++ partition_names d ++ domain_names d ++ object_names d)) =
     new_append [] (pool_names d ++ partition_names d ++ domain_names d) (object_names d) n3
-    (subst (λ (b : List Text). IsTrue (are_new b (object_names d))) (sym e3) (new_names r Section.Object 0 (object_names d) (no_back (xs0 ++ xs1 ++ xs2) xs3 f3))) in
-    let e4 : added [] (pool_names d ++ partition_names d ++ domain_names d ++ object_names d) ≡ t =
+    (subst (λ (b : List Text). IsTrue (are_new b (object_names d))) (sym e3) (new_beside_fewer r0 r (object_names d) r_in (new_names r Section.Object 0 (object_names d) (no_back (xs0 ++ xs1 ++ xs2) xs3 f3)))) in
+    let e4 : added [] (pool_names d ++ partition_names d ++ domain_names d ++ object_names d) ≡ t0 =
     added_append [] (pool_names d ++ partition_names d ++ domain_names d) (object_names d) ∙ ap (λ (b : List Text). added b (object_names d)) e3 in
     record {
       names = new_append [] (pool_names d ++ partition_names d ++ domain_names d ++ object_names d) (script_names d) n4
-          (subst (λ (b : List Text). IsTrue (are_new b (script_names d))) (sym e4) (new_names t Section.Script 0 (script_names d) (no_back (xs0 ++ xs1 ++ xs2 ++ xs3 ++ xs4) xs5 h)));
+          (subst (λ (b : List Text). IsTrue (are_new b (script_names d))) (sym e4) (new_beside_fewer t0 t (script_names d) t_in (new_names t Section.Script 0 (script_names d) (no_back (xs0 ++ xs1 ++ xs2 ++ xs3 ++ xs4) xs5 h))));
       domains = no_back (xs0 ++ xs1) xs2 f2;
       boots = no_back (xs0 ++ xs1 ++ xs2 ++ xs3) xs4 f4;
     }

@@ -21,7 +21,8 @@ use Rattle.um_description.specs.declared.flaw.Counted.TheVariants as counted
 use Rattle.um_description.specs.declared.flaw.Flaw.{Flaw}
 use Rattle.um_description.specs.Limits.{outside, one_too_many, one_thread_too_many, details_limits, object_limits, objects_limits, threads_after}
 use Rattle.um_description.specs.Names.{Text, is_thread}
-use Rattle.um_description.specs.Resolve.{clamped, ranges_at, row_addr, asked_stack, first_range, object_def, objects_from, ranges_taken, sem_setup, msgq_setup, stack_setup, pipe_setup}
+use Rattle.um_description.specs.Numbers.{clamped}
+use Rattle.um_description.specs.Resolve.{ranges_at, row_addr, asked_stack, first_range, object_def, objects_from, ranges_taken, sem_setup, msgq_setup, stack_setup, pipe_setup}
 use Rattle.um_description.proofs.LawfulLists.{no_front, no_back, both_true, none_if}
 use Rattle.um_description.proofs.LawfulRanges.{inside, clamped_in, is_within-IsIn}
 

@@ -15,9 +15,10 @@ use Rattle.um_document.specs.declared.shape.Key.{Key}
 use Rattle.um_document.specs.declared.shape.Section.{Section}
 use Rattle.um_description.specs.declared.flaw.Counted.TheVariants as counted
 use Rattle.um_description.specs.declared.flaw.Flaw.{Flaw}
-use Rattle.um_description.specs.Limits.{outside, longer, one_too_many, pool_limits, top_limits, natural}
+use Rattle.um_description.specs.Limits.{outside, longer, one_too_many, pool_limits, top_limits}
 use Rattle.um_description.specs.Names.{each}
-use Rattle.um_description.specs.Resolve.{clamped, pool_of, rodata_range, range_at}
+use Rattle.um_description.specs.Numbers.{natural, clamped}
+use Rattle.um_description.specs.Resolve.{pool_of, rodata_range, range_at}
 use Rattle.um_description.proofs.LawfulLists.{no_front, no_back, and_true, both_true, none_if, all_each, any_last}
 
 none_outside : (a b : Bool) (x y : Flaw) → (if a then x ∷ [] else if b then y ∷ [] else []) ≡ [] → (a ≡ false) × (b ≡ false)

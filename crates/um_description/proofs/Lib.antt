@@ -9,7 +9,8 @@ mod RangeLemmas
 mod WeightLemmas
 mod SameWeight
 mod MeaningLemmas
-mod WithoutLimits
+mod PackingLemmas
+pub mod WithoutLimits
 mod KindLemmas
 pub mod LawfulLists
 pub mod LawfulRanges

@@ -1,8 +1,9 @@
 -- A description none of whose counts and numbers is out of its range is in its limits.
-use Rattle.std.proofs.Common.{◌≡◌, ℕ, ◌+◌, ◌-◌, ◌^◌, ◌≤◌, min, Bool, true, false, refl, arith, List, [], ◌∷◌, ◌++◌, length, ℤ, pos, negsuc, if◌then◌else◌}
+use Rattle.std.proofs.Common.{◌≡◌, ℕ, ◌+◌, ◌-◌, ◌^◌, ◌≤◌, min, Bool, true, false, refl, arith, List, [], ◌∷◌, ◌++◌, length, replicate, Option, Some, None, ℤ, pos, negsuc, if◌then◌else◌}
 use Rattle.std.specs.Prelude.{nat_lt, nat_le, int_lt, ◌==◌, All}
 use Rattle.std.proofs.Math.Nat.{min-le_left, min-eq_left}
 use Rattle.std.proofs.lemmas.Bool.Decides.{nat_tests}
+use Rattle.std.proofs.lemmas.List.{length-replicate, length-append}
 use Rattle.std.proofs.lemmas.List.Elements.{All-cons, All-nil}
 use Rattle.um_base.specs.declared.limits.TheConstants.{POOLS, PARTITIONS, DOMAINS, STATIC_ROWS, BOOTS, SCRIPTS, LINES, AREA_ENTRY, DOMAIN_PARTITIONS}
 use Rattle.um_document.specs.declared.description.BootEntry.{BootEntry}
@@ -10,16 +11,22 @@ use Rattle.um_document.specs.declared.description.Description.{Description}
 use Rattle.um_document.specs.declared.description.Details.{Details}
 use Rattle.um_document.specs.declared.description.DomainEntry.{DomainEntry}
 use Rattle.um_document.specs.declared.description.ObjectEntry.{ObjectEntry}
+use Rattle.um_document.specs.declared.description.PartitionContents.{PartitionContents}
 use Rattle.um_document.specs.declared.description.PartitionEntry.{PartitionEntry}
 use Rattle.um_document.specs.declared.description.PoolEntry.{PoolEntry}
 use Rattle.um_document.specs.declared.description.ScriptEntry.{ScriptEntry}
+use Rattle.um_document.specs.declared.description.VariableEntry.{VariableEntry}
 use Rattle.um_document.specs.declared.place.Place.{Place}
 use Rattle.um_document.specs.declared.shape.Key.{Key}
+use Rattle.um_document.specs.declared.shape.Section.{Section}
 use Rattle.um_description.specs.declared.flaw.Flaw.{Flaw}
 use Rattle.um_description.specs.InLimits.{IsSize, IsInLimits}
-use Rattle.um_description.specs.Limits.{outside, longer, pool_limits, partition_limits, natural, most_parts, domain_limits, details_limits, threads_after, object_limits, objects_limits, boot_limits, script_limits, top_limits, limits}
+use Rattle.um_description.specs.Limits.{outside, longer, pool_limits, variable_limits, contents_limits, partition_limits, most_parts, domain_limits, details_limits, threads_after, object_limits, objects_limits, boot_limits, script_limits, top_limits, limits}
 use Rattle.um_description.specs.Names.{each, items}
-use Rattle.um_description.specs.Resolve.{clamped, asked_stack}
+use Rattle.um_description.specs.Numbers.{natural, clamped}
+use Rattle.um_description.specs.Packing.{offset_of, end_of, last_end, size_of, with_data, bytes_from, bytes_of, size_by, asked_size, bytes_by, first_bytes}
+use Rattle.um_description.specs.Resolve.{asked_stack}
+use Rattle.um_description.proofs.PackingLemmas.{ends_grow}
 
 pub none_both : {A : Type 0} (xs ys : List A) → xs ++ ys ≡ [] → (xs ≡ []) × (ys ≡ [])
 none_both [] ys h = (refl, h)
@@ -58,13 +65,6 @@ no_longer key most place n h =
     let few : nat_lt most n ≡ false = not_told (int_lt (pos most) (pos n)) _ h in
     grind (arith, nat_tests)
 
-data_right : (size bytes : Key) (at there : Place) (z : ℤ) (n : ℕ) → outside size (pos 1) (pos AREA_ENTRY) at z ≡ [] → longer bytes z there n ≡ [] → n ≤ AREA_ENTRY
-data_right size bytes at there z n h g =
-    let s = size_is size at z h in
-    let few : n ≤ s.0 = no_longer bytes s.0 there n (rw s.1 at g) in
-    let high : s.0 ≤ AREA_ENTRY = s.3 in
-    omega (arith, few, high)
-
 -- how many entries a list has none of which is one too many
 count_in : {A : Type 0} (most : ℕ) (f : ℕ → A → List Flaw) → ((i : ℕ) (x : A) → f i x ≡ [] → (i == most) ≡ false)
     → (i : ℕ) (xs : List A) → i ≤ most → each f i xs ≡ [] → i + length xs ≤ most
@@ -94,11 +94,80 @@ pool_right : (i : ℕ) (p : PoolEntry) → pool_limits i p ≡ [] → (i == POOL
 unfolding pool_limits
 pool_right i p h = not_told (i == POOLS) _ (none_both _ _ h).0
 
-partition_right : (i : ℕ) (p : PartitionEntry) → partition_limits i p ≡ [] → ((i == PARTITIONS) ≡ false) × IsSize (clamped p.size) × (length p.data ≤ AREA_ENTRY)
+-- a variable's size, and no more data than that
+variable_right : (i j : ℕ) (v : VariableEntry) → variable_limits i j v ≡ [] → (1 ≤ natural v.size) × (length (items v.data) ≤ natural v.size)
+unfolding variable_limits
+variable_right i j v h =
+    let t = none_both _ _ h in
+    let s = size_is Key.Size _ v.size t.0 in
+    let few : length (items v.data) ≤ s.0 = no_longer Key.Data s.0 (Place.Variable i j Key.Data) (length (items v.data)) (rw s.1 at t.1) in
+    rw s.1 (s.2, few)
+
+-- bytes with a variable's data behind them end where the variable ends
+data_ends : (bytes : List ℕ) (e : ℕ) (v : VariableEntry) (given : Option (List ℕ)) → length bytes ≤ e → length (items given) ≤ natural v.size
+    → length (with_data bytes (offset_of e v) given) ≤ end_of e v
+data_ends bytes e v None few short = omega (arith, few)
+data_ends bytes e v (Some xs) few short =
+    let zero : ℕ = 0 in
+    let zeros = length-replicate (offset_of e v - length bytes) zero in
+    let first = length-append bytes (replicate (offset_of e v - length bytes) 0) in
+    let whole = length-append (bytes ++ replicate (offset_of e v - length bytes) 0) xs in
+    omega (arith, few, short, zeros, first, whole)
+
+bytes_end : (i j e : ℕ) (bytes : List ℕ) (vs : List VariableEntry) → each (variable_limits i) j vs ≡ [] → length bytes ≤ e → length (bytes_from bytes e vs) ≤ last_end e vs
+bytes_end i j e bytes [] h few = few
+bytes_end i j e bytes (v ∷ vs) h few =
+    let t = none_both (variable_limits i j v) (each (variable_limits i) (j + 1) vs) h in
+    bytes_end i (j + 1) (end_of e v) (with_data bytes (offset_of e v) v.data) vs t.1 (data_ends bytes e v v.data few (variable_right i j v t.0).1)
+
+-- some variable makes some size
+some_end : (i : ℕ) (vs : List VariableEntry) → nat_lt (length vs) 1 ≡ false → each (variable_limits i) 0 vs ≡ [] → 1 ≤ last_end 0 vs
+some_end i [] some h = cc
+some_end i (v ∷ vs) some h =
+    let t = none_both (variable_limits i 0 v) (each (variable_limits i) 1 vs) h in
+    let low = (variable_right i 0 v t.0).0 in
+    let grows = ends_grow (end_of 0 v) vs in
+    omega (arith, low, grows)
+
+packed_right : (i : ℕ) (vs : List VariableEntry) → contents_limits i (PartitionContents.Variables vs) ≡ [] → (1 ≤ size_of vs) × (size_of vs ≤ AREA_ENTRY) × (length (bytes_of vs) ≤ size_of vs)
+unfolding contents_limits
+packed_right i vs h =
+    let t = none_three _ _ _ h in
+    let some : nat_lt (length vs) 1 ≡ false = (neither_told (int_lt (pos (length vs)) (pos 1)) (int_lt (pos 32) (pos (length vs))) _ _ t.0).0 in
+    let low = some_end i vs some t.1 in
+    let high : size_of vs ≤ AREA_ENTRY = no_longer Key.Size AREA_ENTRY _ (size_of vs) t.2 in
+    let ends = bytes_end i 0 0 [] vs t.1 (omega arith) in
+    (omega (arith, low), high, omega (arith, high, ends))
+
+few_in : (n most : ℕ) → most ≤ AREA_ENTRY → n ≤ most → n ≤ clamped (pos most)
+few_in n most high few = omega (arith, high, few)
+
+-- the size that a partition asks for, and no more bytes than that
+pub contents_right : (i : ℕ) (c : PartitionContents) → contents_limits i c ≡ [] → (1 ≤ size_by c) × (size_by c ≤ AREA_ENTRY) × (length (bytes_by c) ≤ size_by c)
+unfolding contents_limits
+contents_right i (PartitionContents.Variables vs) h = packed_right i vs h
+contents_right i (PartitionContents.Whole size bytes) h =
+    let t = none_both _ _ h in
+    let s = size_is Key.Size _ size t.0 in
+    let low : 1 ≤ s.0 = s.2 in
+    let high : s.0 ≤ AREA_ENTRY = s.3 in
+    let few : length bytes ≤ s.0 = no_longer Key.Data s.0 (Place.Field Section.Partition i Key.Data) (length bytes) (rw s.1 at t.1) in
+    rw s.1 (omega (arith, low, high), omega (arith, low, high), few_in (length bytes) s.0 high few)
+
+size_within : (n : ℕ) → 1 ≤ n → n ≤ AREA_ENTRY → IsSize n
+size_within n low high =
+    let above : nat_le 1 n ≡ true = grind (arith, nat_tests) in
+    let below : nat_le n 65536 ≡ true = grind (arith, nat_tests) in
+    rw (above, below) refl
+
+partition_right : (i : ℕ) (p : PartitionEntry) → partition_limits i p ≡ [] → ((i == PARTITIONS) ≡ false) × IsSize (asked_size p) × (length (first_bytes p) ≤ AREA_ENTRY)
 unfolding partition_limits
 partition_right i p h =
-    let t = none_three _ _ _ h in
-    (not_told (i == PARTITIONS) _ t.0, size_right Key.Size _ p.size t.1, data_right Key.Size Key.Data _ _ p.size (length p.data) t.1 t.2)
+    let t = none_both _ _ h in
+    let c = contents_right i p.contents t.1 in
+    let high : asked_size p ≤ AREA_ENTRY = c.1 in
+    let few : length (first_bytes p) ≤ asked_size p = c.2 in
+    (not_told (i == PARTITIONS) _ t.0, size_within (asked_size p) c.0 high, omega (arith, high, few))
 
 domain_right : (most : ℕ) → most ≤ DOMAIN_PARTITIONS → (i : ℕ) (m : DomainEntry) → domain_limits most i m ≡ [] → ((i == DOMAINS) ≡ false) × (length (items m.partitions) ≤ PARTITIONS)
 unfolding domain_limits
@@ -171,8 +240,8 @@ in_limits d h =
       rodata = rodata_right d t1.0;
       pools = from_zero _ _ (count_in POOLS pool_limits pool_right 0 d.pools (omega arith) t1.1);
       partitions = from_zero _ _ (count_in PARTITIONS partition_limits (λ i p e. (partition_right i p e).0) 0 d.partitions (omega arith) t2.1);
-      sizes = each_right (λ (p : PartitionEntry). IsSize (clamped p.size)) partition_limits (λ i p e. (partition_right i p e).1) 0 d.partitions t2.1;
-      bytes = each_right (λ (p : PartitionEntry). length p.data ≤ AREA_ENTRY) partition_limits (λ i p e. (partition_right i p e).2) 0 d.partitions t2.1;
+      sizes = each_right (λ (p : PartitionEntry). IsSize (asked_size p)) partition_limits (λ i p e. (partition_right i p e).1) 0 d.partitions t2.1;
+      bytes = each_right (λ (p : PartitionEntry). length (first_bytes p) ≤ AREA_ENTRY) partition_limits (λ i p e. (partition_right i p e).2) 0 d.partitions t2.1;
       domains = from_zero _ _ (count_in DOMAINS (domain_limits most) (λ i m e. (domain_right most few i m e).0) 0 d.domains (omega arith) t3.1);
       parts = each_right (λ (m : DomainEntry). length (items m.partitions) ≤ PARTITIONS) (domain_limits most) (λ i m e. (domain_right most few i m e).1) 0 d.domains t3.1;
       objects = from_zero _ _ os.0;

@@ -3,10 +3,17 @@ use Rattle.std.specs.Prelude.{◌≡◌, ℕ, ◌+◌, List, [], ◌∷◌, ◌+
 use Rattle.um_document.specs.declared.description.BootEntry.{BootEntry}
 use Rattle.um_document.specs.declared.description.Description.{Description}
 use Rattle.um_document.specs.declared.description.DomainEntry.{DomainEntry}
+use Rattle.um_document.specs.declared.description.PartitionEntry.{PartitionEntry}
+use Rattle.um_document.specs.declared.description.VariableEntry.{VariableEntry}
 use Rattle.um_document.specs.declared.place.Place.{Place}
 use Rattle.um_document.specs.declared.shape.Key.{Key}
 use Rattle.um_document.specs.declared.shape.Section.{Section}
-use Rattle.um_description.specs.Names.{Text, is_among, items, pool_names, partition_names, domain_names, object_names, script_names}
+use Rattle.um_description.specs.Names.{Text, is_among, items, variables_of, variable_names, names_within, pool_names, domain_names, object_names, script_names}
+
+-- names that stand among these when the names of a list were added to them
+abbrev pub added : List Text → List Text → List Text
+added before [] = before
+added before (name ∷ names) = added (name ∷ before) names
 
 -- a place, where its text stands among those before it
 abbrev pub if_again : List Text → Place → Text → List Place
@@ -17,6 +24,20 @@ abbrev pub names_again : List Text → Section → ℕ → List Text → List Pl
 names_again before section i [] = []
 names_again before section i (name ∷ names) =
     if_again before (Place.Field section i Key.Name) name ++ names_again (name ∷ before) section (i + 1) names
+
+-- the names of the variables of the i-th partition from the j-th on that stood before
+abbrev pub variables_again : List Text → ℕ → ℕ → List VariableEntry → List Place
+variables_again before i j [] = []
+variables_again before i j (v ∷ vs) = if_again before (Place.Variable i j Key.Name) v.name ++ variables_again (v.name ∷ before) i (j + 1) vs
+
+-- the name of a partition, and those of its variables
+abbrev pub partition_again : List Text → ℕ → PartitionEntry → List Place
+partition_again before i p =
+    if_again before (Place.Field Section.Partition i Key.Name) p.name ++ variables_again (p.name ∷ before) i 0 (variables_of p.contents)
+
+abbrev pub partitions_again : List Text → ℕ → List PartitionEntry → List Place
+partitions_again before i [] = []
+partitions_again before i (p ∷ ps) = partition_again before i p ++ partitions_again (added (p.name ∷ before) (variable_names p)) (i + 1) ps
 
 -- the partitions of the i-th domain from the j-th on that stood before
 abbrev pub parts_again : List Text → ℕ → ℕ → List Text → List Place
@@ -41,20 +62,15 @@ abbrev pub boots_again : List Text → List Text → ℕ → List BootEntry → 
 boots_again threads stacks i [] = []
 boots_again threads stacks i (b ∷ bs) = boot_again threads stacks i b ++ boots_again (b.thread ∷ threads) (b.stack ∷ stacks) (i + 1) bs
 
--- names that stand among these when the names of a list were added to them
-abbrev pub added : List Text → List Text → List Text
-added before [] = before
-added before (name ∷ names) = added (name ∷ before) names
-
 -- all places of a description whose text stood before: as a name, in the same domain, or as another boot entry's thread or stack
 abbrev pub duplicates : Description → List Place
 duplicates d =
     let pools = added [] (pool_names d) in
-    let partitions = added pools (partition_names d) in
+    let partitions = added pools (names_within d.partitions) in
     let domains = added partitions (domain_names d) in
     let objects = added domains (object_names d) in
     names_again [] Section.Pool 0 (pool_names d)
-    ++ names_again pools Section.Partition 0 (partition_names d)
+    ++ partitions_again pools 0 d.partitions
     ++ domains_again partitions 0 d.domains
     ++ names_again domains Section.Object 0 (object_names d)
     ++ boots_again [] [] 0 d.boots

@@ -8,7 +8,8 @@ use Rattle.um_document.specs.declared.description.ObjectEntry.{ObjectEntry}
 use Rattle.um_document.specs.declared.description.PartitionEntry.{PartitionEntry}
 use Rattle.um_document.specs.declared.description.ScriptEntry.{ScriptEntry}
 use Rattle.um_description.specs.Names.{items}
-use Rattle.um_description.specs.Resolve.{clamped, asked_stack}
+use Rattle.um_description.specs.Packing.{asked_size, first_bytes}
+use Rattle.um_description.specs.Resolve.{asked_stack}
 
 -- a size that an area has room for
 abbrev pub IsSize : ℕ → Type 0
@@ -18,8 +19,8 @@ pub record IsInLimits (d : Description) : Type 0 where
   pub rodata : length d.rodata ≤ AREA_ENTRY
   pub pools : length d.pools ≤ POOLS
   pub partitions : length d.partitions ≤ PARTITIONS
-  pub sizes : All (λ (p : PartitionEntry). IsSize (clamped p.size)) d.partitions
-  pub bytes : All (λ (p : PartitionEntry). length p.data ≤ AREA_ENTRY) d.partitions
+  pub sizes : All (λ (p : PartitionEntry). IsSize (asked_size p)) d.partitions
+  pub bytes : All (λ (p : PartitionEntry). length (first_bytes p) ≤ AREA_ENTRY) d.partitions
   pub domains : length d.domains ≤ DOMAINS
   pub parts : All (λ (m : DomainEntry). length (items m.partitions) ≤ PARTITIONS) d.domains
   pub objects : length d.objects ≤ STATIC_ROWS

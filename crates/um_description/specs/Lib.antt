@@ -1,4 +1,6 @@
 pub mod Names
+pub mod Numbers
+pub mod Packing
 pub mod Duplicates
 pub mod Unknown
 pub mod Known

@@ -6,9 +6,11 @@ use Rattle.um_document.specs.declared.description.Description.{Description}
 use Rattle.um_document.specs.declared.description.Details.{Details}
 use Rattle.um_document.specs.declared.description.DomainEntry.{DomainEntry}
 use Rattle.um_document.specs.declared.description.ObjectEntry.{ObjectEntry}
+use Rattle.um_document.specs.declared.description.PartitionContents.{PartitionContents}
 use Rattle.um_document.specs.declared.description.PartitionEntry.{PartitionEntry}
 use Rattle.um_document.specs.declared.description.PoolEntry.{PoolEntry}
 use Rattle.um_document.specs.declared.description.ScriptEntry.{ScriptEntry}
+use Rattle.um_document.specs.declared.description.VariableEntry.{VariableEntry}
 use Rattle.um_document.specs.declared.place.Place.{Place}
 use Rattle.um_document.specs.declared.shape.Key.{Key}
 use Rattle.um_document.specs.declared.shape.Section.{Section}
@@ -16,6 +18,8 @@ use Rattle.um_document.specs.Shape.{section_key}
 use Rattle.um_description.specs.declared.flaw.Counted.TheVariants as counted
 use Rattle.um_description.specs.declared.flaw.Flaw.{Flaw}
 use Rattle.um_description.specs.Names.{each, items, is_thread}
+use Rattle.um_description.specs.Numbers.{natural}
+use Rattle.um_description.specs.Packing.{size_of}
 
 -- a number at a key, which is to be from low to high: below, it passes the lower end, and above, the upper one
 abbrev pub outside : Key → ℤ → ℤ → Place → ℤ → List Flaw
@@ -35,15 +39,24 @@ one_too_many section most i = if i == most then Flaw.Limit (counted.Key (section
 unfoldable pub pool_limits : ℕ → PoolEntry → List Flaw
 pool_limits i p = one_too_many Section.Pool POOLS i ++ outside Key.Size (pos 0) (pos AREA_ENTRY) (Place.Field Section.Pool i Key.Size) p.size
 
--- a partition has at most as many bytes at its start as its size
-unfoldable pub partition_limits : ℕ → PartitionEntry → List Flaw
-partition_limits i p =
-    one_too_many Section.Partition PARTITIONS i ++ outside Key.Size (pos 1) (pos AREA_ENTRY) (Place.Field Section.Partition i Key.Size) p.size
-    ++ longer Key.Data p.size (Place.Field Section.Partition i Key.Data) (length p.data)
+-- a variable has at most as many bytes at its start as its size
+unfoldable pub variable_limits : ℕ → ℕ → VariableEntry → List Flaw
+variable_limits i j v =
+    outside Key.Size (pos 1) (pos AREA_ENTRY) (Place.Variable i j Key.Size) v.size
+    ++ longer Key.Data v.size (Place.Variable i j Key.Data) (length (items v.data))
 
-abbrev pub natural : ℤ → ℕ
-natural (pos n) = n
-natural (negsuc n) = 0
+-- so has a partition; one that is packed has 1 to 32 variables, and they end within the greatest size
+unfoldable pub contents_limits : ℕ → PartitionContents → List Flaw
+contents_limits i (PartitionContents.Whole size bytes) =
+    outside Key.Size (pos 1) (pos AREA_ENTRY) (Place.Field Section.Partition i Key.Size) size
+    ++ longer Key.Data size (Place.Field Section.Partition i Key.Data) (length bytes)
+contents_limits i (PartitionContents.Variables vs) =
+    outside Key.Vars (pos 1) (pos 32) (Place.Field Section.PackedPartition i Key.Vars) (pos (length vs))
+    ++ each (variable_limits i) 0 vs
+    ++ longer Key.Size (pos AREA_ENTRY) (Place.Field Section.PackedPartition i Key.Vars) (size_of vs)
+
+unfoldable pub partition_limits : ℕ → PartitionEntry → List Flaw
+partition_limits i p = one_too_many Section.Partition PARTITIONS i ++ contents_limits i p.contents
 
 -- how many partitions a domain holds: stack, read-only data and program text need regions of their own
 abbrev pub most_parts : ℤ → ℕ

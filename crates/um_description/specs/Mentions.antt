@@ -4,10 +4,12 @@ use Rattle.um_base.specs.declared.instr.Instr.{Instr}
 use Rattle.um_base.specs.declared.names.PartRef.{PartRef}
 use Rattle.um_base.specs.declared.names.Ref.{Ref}
 use Rattle.um_base.specs.declared.names.Term.{Term}
+use Rattle.std.specs.List.{list_any}
 use Rattle.um_document.specs.declared.description.Description.{Description}
+use Rattle.um_document.specs.declared.description.PartitionEntry.{PartitionEntry}
 use Rattle.um_script.specs.Words.{Words, ends, word, words_of_line}
 use Rattle.um_description.specs.declared.mentions.Wanted.{Wanted}
-use Rattle.um_description.specs.Names.{Text, is_among, partition_names, domain_names, object_names, script_names}
+use Rattle.um_description.specs.Names.{Text, is_among, variable_names, partition_names, domain_names, object_names, script_names}
 
 -- a name, the number of its word in the line, counted from 0, and what it is to name
 pub record Mention : Type 0 where
@@ -86,8 +88,12 @@ column_of line n = column_at (words_of_line line) n
 abbrev pub names_rodata : Description → Text → Bool
 names_rodata d name = bytes_eq name (codes "rodata") && not (length d.rodata == 0)
 
+-- a partition lists a variable of this name
+abbrev pub names_variable : List PartitionEntry → Text → Bool
+names_variable ps name = list_any (λ (p : PartitionEntry). is_among name (variable_names p)) ps
+
 abbrev pub is_known : Description → Wanted → Text → Bool
-is_known d Wanted.Place name = is_among name (object_names d) || is_among name (partition_names d) || names_rodata d name
+is_known d Wanted.Place name = is_among name (object_names d) || is_among name (partition_names d) || names_variable d.partitions name || names_rodata d name
 is_known d Wanted.Domain name = is_among name (domain_names d)
 is_known d Wanted.Partition name = is_among name (partition_names d)
 is_known d Wanted.Script name = is_among name (script_names d)

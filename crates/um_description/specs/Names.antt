@@ -1,13 +1,15 @@
 -- Names: which entries a description has, and what a text names.
 use Rattle.std.specs.Prelude.{ℕ, ◌+◌, List, [], ◌∷◌, ◌++◌, map, Bool, true, false, is_some, if◌then◌else◌, Option, Some, None, option_map, bytes_eq, slice_get}
-use Rattle.std.specs.List.{list_any}
+use Rattle.std.specs.List.{list_any, flat_map}
 use Rattle.um_document.specs.declared.description.Description.{Description}
 use Rattle.um_document.specs.declared.description.Details.{Details}
 use Rattle.um_document.specs.declared.description.DomainEntry.{DomainEntry}
 use Rattle.um_document.specs.declared.description.ObjectEntry.{ObjectEntry}
+use Rattle.um_document.specs.declared.description.PartitionContents.{PartitionContents}
 use Rattle.um_document.specs.declared.description.PartitionEntry.{PartitionEntry}
 use Rattle.um_document.specs.declared.description.PoolEntry.{PoolEntry}
 use Rattle.um_document.specs.declared.description.ScriptEntry.{ScriptEntry}
+use Rattle.um_document.specs.declared.description.VariableEntry.{VariableEntry}
 
 abbrev pub Text : Type 0
 Text = List ℕ
@@ -25,6 +27,18 @@ pool_names d = map (λ (p : PoolEntry). p.name) d.pools
 
 abbrev pub partition_names : Description → List Text
 partition_names d = map (λ (p : PartitionEntry). p.name) d.partitions
+
+-- the variables of a partition that lists them, and their names
+abbrev pub variables_of : PartitionContents → List VariableEntry
+variables_of (PartitionContents.Whole size bytes) = []
+variables_of (PartitionContents.Variables vs) = vs
+
+abbrev pub variable_names : PartitionEntry → List Text
+variable_names p = map (λ (v : VariableEntry). v.name) (variables_of p.contents)
+
+-- the names of partitions, and behind each those of its variables
+abbrev pub names_within : List PartitionEntry → List Text
+names_within ps = flat_map (λ (p : PartitionEntry). p.name ∷ variable_names p) ps
 
 abbrev pub domain_names : Description → List Text
 domain_names d = map (λ (m : DomainEntry). m.name) d.domains

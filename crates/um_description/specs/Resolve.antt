@@ -29,13 +29,11 @@ use Rattle.um_document.specs.declared.description.PoolEntry.{PoolEntry}
 use Rattle.um_document.specs.declared.description.MsgqNumbers.{MsgqNumbers}
 use Rattle.um_document.specs.declared.description.ScriptEntry.{ScriptEntry}
 use Rattle.um_document.specs.declared.description.SemNumbers.{SemNumbers}
-use Rattle.um_description.specs.Limits.{natural, threads_after}
+use Rattle.um_description.specs.Limits.{threads_after}
 use Rattle.um_description.specs.Lines.{instruction}
-use Rattle.um_description.specs.Names.{Text, is_among, named, is_thread_stack, pool_names, partition_names, domain_names, object_names, script_names}
-
--- a number as an image has it: in its limits it is itself
-abbrev pub clamped : ℤ → ℕ
-clamped z = min (natural z) (2 ^ 32 - 1)
+use Rattle.um_description.specs.Numbers.{natural, clamped}
+use Rattle.um_description.specs.Packing.{asked_size, first_bytes, offset_named}
+use Rattle.um_description.specs.Names.{Text, is_among, named, is_thread_stack, variables_of, pool_names, partition_names, domain_names, object_names, script_names}
 
 -- a priority as an image has it: in its limits it is itself
 abbrev pub lowered : ℤ → ℤ
@@ -48,7 +46,7 @@ range_at start size = record { start = record { 0 = start }; size = size }
 
 -- the sizes that the partitions, and the stacks, ask for
 abbrev pub asked_partitions : Description → List ℕ
-asked_partitions d = map (λ (p : PartitionEntry). clamped p.size) d.partitions
+asked_partitions d = map asked_size d.partitions
 
 abbrev pub asked_stack : ObjectEntry → List ℕ
 asked_stack o = elim o.details as (λ _. List ℕ) [ Details.ThreadStack size ↦ clamped size ∷ [] | _ ↦ [] ]
@@ -77,7 +75,7 @@ placed mpu area sizes = ranges_at (starts mpu area sizes) sizes
 abbrev pub placed_partitions : List Range → List PartitionEntry → List Partition
 placed_partitions [] ps = []
 placed_partitions (range ∷ ranges) [] = []
-placed_partitions (range ∷ ranges) (p ∷ ps) = record { name = p.name; range = range; attr = p.attr; bytes = p.data } ∷ placed_partitions ranges ps
+placed_partitions (range ∷ ranges) (p ∷ ps) = record { name = p.name; range = range; attr = p.attr; bytes = first_bytes p } ∷ placed_partitions ranges ps
 
 -- the read-only data: a range where there is any
 abbrev pub rodata_range : Description → Option Range
@@ -187,24 +185,35 @@ without_scripts d partitions stacks =
 
 -- Lines.
 
--- the start of the partition with this name, or of the read-only data
-abbrev pub start_named : Text → List Partition → ℕ
-start_named name [] = RODATA
-start_named name (p ∷ ps) = if bytes_eq name p.name then p.range.start.0 else start_named name ps
+-- the address at an offset, if there is one, or another one. Addresses have 32 bits
+abbrev pub addr_at : ℕ → Option ℕ → ℕ → ℕ
+addr_at start None other = other
+addr_at start (Some offset) other = (start + offset) % 2 ^ 32
+
+-- the address of the variable with this name, in the partition that lists it, or of the read-only data
+abbrev pub variable_addr : Text → List Partition → List PartitionEntry → ℕ
+variable_addr name [] ps = RODATA
+variable_addr name (q ∷ qs) [] = RODATA
+variable_addr name (q ∷ qs) (p ∷ ps) = addr_at q.range.start.0 (offset_named name 0 (variables_of p.contents)) (variable_addr name qs ps)
+
+-- the start of the partition with this name, or another address
+abbrev pub start_named : Text → ℕ → List Partition → ℕ
+start_named name other [] = other
+start_named name other (p ∷ ps) = if bytes_eq name p.name then p.range.start.0 else start_named name other ps
 
 -- the address of the object with this name, or another one
 abbrev pub object_addr : Text → ℕ → List ObjectDef → ℕ
 object_addr name other [] = other
 object_addr name other (o ∷ os) = if bytes_eq name o.name then o.addr.0 else object_addr name other os
 
--- the address of what a place names: an object, a partition, or the read-only data. Addresses have 32 bits
-abbrev pub addr_named : Image → Text → ℕ
-addr_named image name = object_addr name (start_named name image.partitions) image.objects
+-- the address of what a place names: an object, a partition, a variable, or the read-only data
+abbrev pub addr_named : Image → Description → Text → ℕ
+addr_named image d name = object_addr name (start_named name (variable_addr name image.partitions d.partitions) image.partitions) image.objects
 
-abbrev pub term_of : Image → Term → Term
-term_of image (Term.Place name offset) = Term.Num ((addr_named image name + offset) % 2 ^ 32)
-term_of image (Term.Num n) = Term.Num n
-term_of image (Term.Reg r) = Term.Reg r
+abbrev pub term_of : Image → Description → Term → Term
+term_of image d (Term.Place name offset) = Term.Num ((addr_named image d name + offset) % 2 ^ 32)
+term_of image d (Term.Num n) = Term.Num n
+term_of image d (Term.Reg r) = Term.Reg r
 
 abbrev pub ref_of : List Text → Ref → Ref
 ref_of names (Ref.Named name) = Ref.At (number_named names name)
@@ -217,45 +226,45 @@ part_of names (PartRef.Given range attr) = PartRef.Given range attr
 
 -- an instruction whose names are resolved: places by an image, and numbers by the description
 abbrev pub resolved : Image → Description → Instr → Instr
-resolved image d (Instr.Set to value) = Instr.Set to (term_of image value)
-resolved image d (Instr.Add to value) = Instr.Add to (term_of image value)
-resolved image d (Instr.Load to addr size) = Instr.Load to (term_of image addr) size
-resolved image d (Instr.Store addr size value) = Instr.Store (term_of image addr) size (term_of image value)
-resolved image d (Instr.Exec addr) = Instr.Exec (term_of image addr)
+resolved image d (Instr.Set to value) = Instr.Set to (term_of image d value)
+resolved image d (Instr.Add to value) = Instr.Add to (term_of image d value)
+resolved image d (Instr.Load to addr size) = Instr.Load to (term_of image d addr) size
+resolved image d (Instr.Store addr size value) = Instr.Store (term_of image d addr) size (term_of image d value)
+resolved image d (Instr.Exec addr) = Instr.Exec (term_of image d addr)
 resolved image d (Instr.DomainInit m parts) = Instr.DomainInit (ref_of (domain_names d) m) (map (part_of (partition_names d)) parts)
 resolved image d (Instr.DomainAdd m part) = Instr.DomainAdd (ref_of (domain_names d) m) (part_of (partition_names d) part)
 resolved image d (Instr.DomainRemove m part) = Instr.DomainRemove (ref_of (domain_names d) m) (part_of (partition_names d) part)
-resolved image d (Instr.DomainMove m thread) = Instr.DomainMove (ref_of (domain_names d) m) (term_of image thread)
-resolved image d (Instr.Grant object thread) = Instr.Grant (term_of image object) (term_of image thread)
-resolved image d (Instr.Revoke object thread) = Instr.Revoke (term_of image object) (term_of image thread)
-resolved image d (Instr.Release object) = Instr.Release (term_of image object)
-resolved image d (Instr.AllGrant object) = Instr.AllGrant (term_of image object)
-resolved image d (Instr.SemGive object) = Instr.SemGive (term_of image object)
-resolved image d (Instr.SemReset object) = Instr.SemReset (term_of image object)
-resolved image d (Instr.MutexInit object) = Instr.MutexInit (term_of image object)
-resolved image d (Instr.MutexUnlock object) = Instr.MutexUnlock (term_of image object)
-resolved image d (Instr.MsgqPurge object) = Instr.MsgqPurge (term_of image object)
-resolved image d (Instr.PipeReset object) = Instr.PipeReset (term_of image object)
-resolved image d (Instr.PipeClose object) = Instr.PipeClose (term_of image object)
+resolved image d (Instr.DomainMove m thread) = Instr.DomainMove (ref_of (domain_names d) m) (term_of image d thread)
+resolved image d (Instr.Grant object thread) = Instr.Grant (term_of image d object) (term_of image d thread)
+resolved image d (Instr.Revoke object thread) = Instr.Revoke (term_of image d object) (term_of image d thread)
+resolved image d (Instr.Release object) = Instr.Release (term_of image d object)
+resolved image d (Instr.AllGrant object) = Instr.AllGrant (term_of image d object)
+resolved image d (Instr.SemGive object) = Instr.SemGive (term_of image d object)
+resolved image d (Instr.SemReset object) = Instr.SemReset (term_of image d object)
+resolved image d (Instr.MutexInit object) = Instr.MutexInit (term_of image d object)
+resolved image d (Instr.MutexUnlock object) = Instr.MutexUnlock (term_of image d object)
+resolved image d (Instr.MsgqPurge object) = Instr.MsgqPurge (term_of image d object)
+resolved image d (Instr.PipeReset object) = Instr.PipeReset (term_of image d object)
+resolved image d (Instr.PipeClose object) = Instr.PipeClose (term_of image d object)
 resolved image d (Instr.Create thread stack size script priority options) =
-    Instr.Create (term_of image thread) (term_of image stack) (term_of image size) (ref_of (script_names d) script) priority options
+    Instr.Create (term_of image d thread) (term_of image d stack) (term_of image d size) (ref_of (script_names d) script) priority options
 resolved image d (Instr.UserMode script) = Instr.UserMode (ref_of (script_names d) script)
-resolved image d (Instr.NameSet thread addr) = Instr.NameSet (term_of image thread) (term_of image addr)
-resolved image d (Instr.SemInit object count limit) = Instr.SemInit (term_of image object) (term_of image count) (term_of image limit)
-resolved image d (Instr.SemTake object timeout) = Instr.SemTake (term_of image object) timeout
-resolved image d (Instr.MutexLock object timeout) = Instr.MutexLock (term_of image object) timeout
-resolved image d (Instr.SemCount object to) = Instr.SemCount (term_of image object) to
-resolved image d (Instr.MsgqUsed object to) = Instr.MsgqUsed (term_of image object) to
-resolved image d (Instr.MsgqInit object size most) = Instr.MsgqInit (term_of image object) (term_of image size) (term_of image most)
-resolved image d (Instr.MsgqPut object addr timeout) = Instr.MsgqPut (term_of image object) (term_of image addr) timeout
-resolved image d (Instr.MsgqGet object addr timeout) = Instr.MsgqGet (term_of image object) (term_of image addr) timeout
-resolved image d (Instr.StackPop object addr timeout) = Instr.StackPop (term_of image object) (term_of image addr) timeout
-resolved image d (Instr.MsgqPeek object addr) = Instr.MsgqPeek (term_of image object) (term_of image addr)
-resolved image d (Instr.StackInit object entries) = Instr.StackInit (term_of image object) (term_of image entries)
-resolved image d (Instr.StackPush object value) = Instr.StackPush (term_of image object) (term_of image value)
-resolved image d (Instr.PipeInit object size) = Instr.PipeInit (term_of image object) (term_of image size)
-resolved image d (Instr.PipeWrite object addr n timeout) = Instr.PipeWrite (term_of image object) (term_of image addr) (term_of image n) timeout
-resolved image d (Instr.PipeRead object addr n timeout) = Instr.PipeRead (term_of image object) (term_of image addr) (term_of image n) timeout
+resolved image d (Instr.NameSet thread addr) = Instr.NameSet (term_of image d thread) (term_of image d addr)
+resolved image d (Instr.SemInit object count limit) = Instr.SemInit (term_of image d object) (term_of image d count) (term_of image d limit)
+resolved image d (Instr.SemTake object timeout) = Instr.SemTake (term_of image d object) timeout
+resolved image d (Instr.MutexLock object timeout) = Instr.MutexLock (term_of image d object) timeout
+resolved image d (Instr.SemCount object to) = Instr.SemCount (term_of image d object) to
+resolved image d (Instr.MsgqUsed object to) = Instr.MsgqUsed (term_of image d object) to
+resolved image d (Instr.MsgqInit object size most) = Instr.MsgqInit (term_of image d object) (term_of image d size) (term_of image d most)
+resolved image d (Instr.MsgqPut object addr timeout) = Instr.MsgqPut (term_of image d object) (term_of image d addr) timeout
+resolved image d (Instr.MsgqGet object addr timeout) = Instr.MsgqGet (term_of image d object) (term_of image d addr) timeout
+resolved image d (Instr.StackPop object addr timeout) = Instr.StackPop (term_of image d object) (term_of image d addr) timeout
+resolved image d (Instr.MsgqPeek object addr) = Instr.MsgqPeek (term_of image d object) (term_of image d addr)
+resolved image d (Instr.StackInit object entries) = Instr.StackInit (term_of image d object) (term_of image d entries)
+resolved image d (Instr.StackPush object value) = Instr.StackPush (term_of image d object) (term_of image d value)
+resolved image d (Instr.PipeInit object size) = Instr.PipeInit (term_of image d object) (term_of image d size)
+resolved image d (Instr.PipeWrite object addr n timeout) = Instr.PipeWrite (term_of image d object) (term_of image d addr) (term_of image d n) timeout
+resolved image d (Instr.PipeRead object addr n timeout) = Instr.PipeRead (term_of image d object) (term_of image d addr) (term_of image d n) timeout
 resolved image d Instr.End = Instr.End
 resolved image d Instr.Oops = Instr.Oops
 resolved image d Instr.Panic = Instr.Panic

@@ -6,16 +6,18 @@ ghost use Rattle.um_document.specs.declared.description.ObjectEntry.{ObjectEntry
 ghost use Rattle.um_document.specs.declared.description.PartitionEntry.{PartitionEntry};
 ghost use Rattle.um_document.specs.declared.description.PoolEntry.{PoolEntry};
 ghost use Rattle.um_document.specs.declared.description.ScriptEntry.{ScriptEntry};
+ghost use Rattle.um_document.specs.declared.description.VariableEntry.{VariableEntry};
 ghost use Rattle.um_document.specs.declared.shape.Section.{Section};
 ghost use Rattle.um_document.specs.First.{first_of};
 ghost use Rattle.um_description.specs.Duplicates as spec;
+ghost use Rattle.um_description.specs.Names.{variables_of, variable_names, names_within};
 
 use crate::seen::Seen;
 use std::alloc::Global;
 use um_base::{Memory, Name};
 use um_document::{
-    BootEntry, Description, DomainEntry, Key, ObjectEntry, PartitionEntry, Place, PoolEntry,
-    ScriptEntry, Section, Text,
+    BootEntry, Description, DomainEntry, Key, ObjectEntry, PartitionContents, PartitionEntry,
+    Place, PoolEntry, ScriptEntry, Section, Text, VariableEntry,
 };
 
 /// The first of some names of a section that stood before.
@@ -182,16 +184,78 @@ fn pools_again(alloc: Global, seen: &mut Seen, pools: &[PoolEntry]) -> Result<Op
     name_again(alloc, seen, Section::Pool, &names)
 }
 
+/// The first of the names of a partition's variables that stood before.
+fn variable_again(
+    alloc: Global,
+    seen: &mut Seen,
+    partition: usize,
+    variables: &[VariableEntry],
+) -> Result<Option<Place>, Memory>
+    ensures found { IfOk result (λ found. found ≡ first_of (spec.variables_again seen.old partition 0 variables.now)) }
+    ensures added { result ≡ Ok None → spec.SameTexts seen.new (spec.added seen.old (map (λ (v : VariableEntry). v.name) variables.now)) }
+{
+    let mut index = 0usize;
+    for variable in variables {
+        if seen.add(alloc, variable.name.as_slice())? {
+            return Ok(Some(Place::Variable(partition, index, Key::Name)));
+        }
+        index += 1;
+    }
+    Ok(None)
+}
+
+/// The first of the names of what a partition consists of that stood before.
+fn contents_again(
+    alloc: Global,
+    seen: &mut Seen,
+    partition: usize,
+    contents: &PartitionContents,
+) -> Result<Option<Place>, Memory>
+    ensures found { IfOk result (λ found. found ≡ first_of (spec.variables_again seen.old partition 0 (variables_of contents.now))) }
+    ensures added { result ≡ Ok None → spec.SameTexts seen.new (spec.added seen.old (map (λ (v : VariableEntry). v.name) (variables_of contents.now))) }
+{
+    match contents {
+        PartitionContents::Whole { .. } => Ok(None),
+        PartitionContents::Variables(variables) => {
+            variable_again(alloc, seen, partition, variables.as_slice())
+        }
+    }
+}
+
+/// A partition whose name stood before, or the first of its variables whose name did.
+fn partition_found(
+    alloc: Global,
+    seen: &mut Seen,
+    index: usize,
+    partition: &PartitionEntry,
+) -> Result<Option<Place>, Memory>
+    ensures found { IfOk result (λ found. found ≡ first_of (spec.partition_again seen.old index partition.now)) }
+    ensures added { result ≡ Ok None → spec.SameTexts seen.new (spec.added (partition.now.name ∷ seen.old) (variable_names partition.now)) }
+{
+    if seen.add(alloc, partition.name.as_slice())? {
+        return Ok(Some(Place::Field(Section::Partition, index, Key::Name)));
+    }
+    contents_again(alloc, seen, index, &partition.contents)
+}
+
+/// The first of the names of partitions and of their variables that stood before.
 fn partitions_again(
     alloc: Global,
     seen: &mut Seen,
     partitions: &[PartitionEntry],
 ) -> Result<Option<Place>, Memory>
-    ensures found { IfOk result (λ found. found ≡ first_of (spec.names_again seen.old Section.Partition 0 (map (λ (p : PartitionEntry). p.name) partitions.now))) }
-    ensures added { result ≡ Ok None → spec.SameTexts seen.new (spec.added seen.old (map (λ (p : PartitionEntry). p.name) partitions.now)) }
+    ensures found { IfOk result (λ found. found ≡ first_of (spec.partitions_again seen.old 0 partitions.now)) }
+    ensures added { result ≡ Ok None → spec.SameTexts seen.new (spec.added seen.old (names_within partitions.now)) }
 {
-    let names = partition_names(alloc, partitions)?;
-    name_again(alloc, seen, Section::Partition, &names)
+    let mut index = 0usize;
+    for partition in partitions {
+        let found = partition_found(alloc, seen, index, partition)?;
+        if found.is_some() {
+            return Ok(found);
+        }
+        index += 1;
+    }
+    Ok(None)
 }
 
 fn objects_again(

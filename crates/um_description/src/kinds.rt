@@ -1,9 +1,11 @@
 //! The kinds of flaws in their order, and what a description means.
 
-ghost use Rattle.std.specs.Prelude.{◌≡◌, IfOk};
+ghost use Rattle.std.specs.Prelude.{◌≡◌, IfOk, List};
+ghost use Rattle.um_document.specs.declared.description.VariableEntry.{VariableEntry};
 ghost use Rattle.um_document.specs.First.{first_of};
 ghost use Rattle.um_description.specs.Flaws as spec;
 ghost use Rattle.um_description.specs.Kinds as kinds;
+ghost use Rattle.um_description.specs.Packing.{ArePacked, offsets};
 
 use crate::blocks::first_block;
 use crate::duplicates::first_duplicate;
@@ -50,9 +52,12 @@ fn first_in_lines(alloc: Global, d: &Description) -> Result<Option<Flaw>, Memory
     Ok(None)
 }
 
-/// The image that a description gives, or the first of its flaws.
+/// The image that a description gives, or the first of its flaws. Variables are packed into their partition: apart, in
+/// their order, each at a multiple of its alignment, and none could stand lower.
+#[tactic(auto, using(crate::proofs::PackingLemmas::packed_law))]
 pub fn meaning(alloc: Global, d: &Description) -> Result<Result<Image, Flaw>, Memory>
-    ensures { IfOk result (λ r. r ≡ spec.meaning d.now) }
+    ensures value { IfOk result (λ r. r ≡ spec.meaning d.now) }
+    ensures packed { (variables : List VariableEntry) → ArePacked 0 variables (offsets variables) }
 {
     if let Some(flaw) = first_in_entries(alloc, d)? {
         return Ok(Err(flaw));

@@ -1,22 +1,26 @@
 //! Counts and numbers that are out of their ranges.
 
 ghost use Rattle.std.specs.Prelude.{◌≡◌, ◌≤◌, length, pos};
+ghost use Rattle.um_document.specs.declared.description.PartitionContents.{PartitionContents};
 ghost use Rattle.um_document.specs.declared.place.Place.{Place};
-ghost use Rattle.um_document.specs.declared.shape.Key.{Key};
 ghost use Rattle.um_document.specs.declared.shape.Section.{Section};
 ghost use Rattle.um_document.specs.First.{first_of};
 ghost use Rattle.um_description.specs.Limits as limits;
 ghost use Rattle.um_description.specs.Names as names;
 
 use crate::flaw::{Counted, Flaw};
+use crate::packing::packed_size;
 use um_base::{
     AREA_ENTRY, BOOTS, DOMAIN_PARTITIONS, DOMAINS, LINES, PARTITIONS, POOLS, SCRIPTS, STATIC_ROWS,
     STATIC_THREADS,
 };
 use um_document::{
-    BootEntry, Description, Details, DomainEntry, Key, ObjectEntry, PartitionEntry, Place,
-    PoolEntry, ScriptEntry, Section,
+    BootEntry, Description, Details, DomainEntry, Key, ObjectEntry, PartitionContents,
+    PartitionEntry, Place, PoolEntry, ScriptEntry, Section, Text, VariableEntry,
 };
+
+/// How many variables a partition may have.
+const MOST_VARIABLES: i64 = 32;
 
 /// A number at a key that is to be from `low` to `high`.
 fn outside(key: Key, low: i64, high: i64, place: Place, n: i64) -> Option<Flaw>
@@ -51,6 +55,17 @@ fn longer(key: Key, most: i64, place: Place, items: usize) -> Option<Flaw>
     }
 }
 
+/// A list that is to have 1 to so many items.
+fn some_items(key: Key, most: i64, place: Place, items: usize) -> Option<Flaw>
+    ensures { result ≡ first_of (limits.outside key (pos 1) most place (pos items)) }
+{
+    if items < 1 {
+        outside(key, 1, most, place, 0)
+    } else {
+        longer(key, most, place, items)
+    }
+}
+
 /// The first entry too many of a section.
 fn one_too_many(section: Section, most: usize, i: usize) -> Option<Flaw>
     requires { most ≤ 96 }
@@ -80,24 +95,97 @@ fn pool_limit(i: usize, pool: &PoolEntry) -> Option<Flaw>
     ))
 }
 
+/// How many bytes are given for a variable.
+fn data_len(variable: &VariableEntry) -> usize
+    ensures { result ≡ length (names.items variable.now.data) }
+{
+    match &variable.data {
+        Some(data) => data.len(),
+        None => 0,
+    }
+}
+
+#[tactic(auto, using(crate::proofs::Firsts::first_or), unfolding(crate::specs::Limits::variable_limits))]
+fn variable_limit(partition: usize, i: usize, variable: &VariableEntry) -> Option<Flaw>
+    ensures { result ≡ first_of (limits.variable_limits partition i variable.now) }
+{
+    outside(
+        Key::Size,
+        1,
+        AREA_ENTRY as i64,
+        Place::Variable(partition, i, Key::Size),
+        variable.size,
+    )
+    .or(longer(
+        Key::Data,
+        variable.size,
+        Place::Variable(partition, i, Key::Data),
+        data_len(variable),
+    ))
+}
+
+fn variable_limits(partition: usize, variables: &[VariableEntry]) -> Option<Flaw>
+    ensures { result ≡ first_of (names.each (limits.variable_limits partition) 0 variables.now) }
+{
+    let mut index = 0usize;
+    for variable in variables {
+        let found = variable_limit(partition, index, variable);
+        if found.is_some() {
+            return found;
+        }
+        index += 1;
+    }
+    None
+}
+
+#[tactic(auto, using(crate::proofs::Firsts::first_or), unfolding(crate::specs::Limits::contents_limits))]
+fn whole_limit(i: usize, size: i64, data: &Text) -> Option<Flaw>
+    ensures { result ≡ first_of (limits.contents_limits i (PartitionContents.Whole size data.now)) }
+{
+    outside(
+        Key::Size,
+        1,
+        AREA_ENTRY as i64,
+        Place::Field(Section::Partition, i, Key::Size),
+        size,
+    )
+    .or(longer(
+        Key::Data,
+        size,
+        Place::Field(Section::Partition, i, Key::Data),
+        data.len(),
+    ))
+}
+
+#[tactic(auto, using(crate::proofs::Firsts::first_or), unfolding(crate::specs::Limits::contents_limits))]
+fn packed_limit(i: usize, variables: &[VariableEntry]) -> Option<Flaw>
+    ensures { result ≡ first_of (limits.contents_limits i (PartitionContents.Variables variables.now)) }
+{
+    let place = Place::Field(Section::PackedPartition, i, Key::Vars);
+    some_items(Key::Vars, MOST_VARIABLES, place, variables.len())
+        .or(variable_limits(i, variables))
+        .or(longer(
+            Key::Size,
+            AREA_ENTRY as i64,
+            place,
+            packed_size(variables) as usize,
+        ))
+}
+
+fn contents_limit(i: usize, contents: &PartitionContents) -> Option<Flaw>
+    ensures { result ≡ first_of (limits.contents_limits i contents.now) }
+{
+    match contents {
+        PartitionContents::Whole { size, data } => whole_limit(i, *size, data),
+        PartitionContents::Variables(variables) => packed_limit(i, variables.as_slice()),
+    }
+}
+
 #[tactic(auto, using(crate::proofs::Firsts::first_or), unfolding(crate::specs::Limits::partition_limits))]
 fn partition_limit(i: usize, partition: &PartitionEntry) -> Option<Flaw>
     ensures { result ≡ first_of (limits.partition_limits i partition.now) }
 {
-    one_too_many(Section::Partition, PARTITIONS, i)
-        .or(outside(
-            Key::Size,
-            1,
-            AREA_ENTRY as i64,
-            Place::Field(Section::Partition, i, Key::Size),
-            partition.size,
-        ))
-        .or(longer(
-            Key::Data,
-            partition.size,
-            Place::Field(Section::Partition, i, Key::Data),
-            partition.data.len(),
-        ))
+    one_too_many(Section::Partition, PARTITIONS, i).or(contents_limit(i, &partition.contents))
 }
 
 /// How many partitions a domain holds: stack, read-only data and program text need regions of their own.
@@ -221,23 +309,16 @@ fn boot_limit(i: usize, boot: &BootEntry) -> Option<Flaw>
     ))
 }
 
-/// A script that is to have 1 to 1,000 lines.
-fn lines_limit(i: usize, lines: usize) -> Option<Flaw>
-    ensures { result ≡ first_of (limits.outside Key.Lines (pos 1) (pos LINES) (Place.Field Section.Script i Key.Lines) (pos lines)) }
-{
-    let place = Place::Field(Section::Script, i, Key::Lines);
-    if lines < 1 {
-        outside(Key::Lines, 1, LINES as i64, place, 0)
-    } else {
-        longer(Key::Lines, LINES as i64, place, lines)
-    }
-}
-
 #[tactic(auto, using(crate::proofs::Firsts::first_or), unfolding(crate::specs::Limits::script_limits))]
 fn script_limit(i: usize, script: &ScriptEntry) -> Option<Flaw>
     ensures { result ≡ first_of (limits.script_limits i script.now) }
 {
-    one_too_many(Section::Script, SCRIPTS, i).or(lines_limit(i, script.lines.len()))
+    one_too_many(Section::Script, SCRIPTS, i).or(some_items(
+        Key::Lines,
+        LINES as i64,
+        Place::Field(Section::Script, i, Key::Lines),
+        script.lines.len(),
+    ))
 }
 
 fn pool_limits(pools: &[PoolEntry]) -> Option<Flaw>

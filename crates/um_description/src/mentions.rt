@@ -5,17 +5,21 @@ ghost use Rattle.um_document.specs.declared.description.DomainEntry.{DomainEntry
 ghost use Rattle.um_document.specs.declared.description.ObjectEntry.{ObjectEntry};
 ghost use Rattle.um_document.specs.declared.description.PartitionEntry.{PartitionEntry};
 ghost use Rattle.um_document.specs.declared.description.ScriptEntry.{ScriptEntry};
+ghost use Rattle.um_document.specs.declared.description.VariableEntry.{VariableEntry};
 ghost use Rattle.um_document.specs.First.{first_of};
 ghost use Rattle.um_description.specs.Mentions as spec;
 ghost use Rattle.um_description.specs.Names as names;
 
 use um_base::{Instr, Name, PartRef, Ref, Term};
-use um_document::{Description, DomainEntry, ObjectEntry, PartitionEntry, ScriptEntry};
+use um_document::{
+    Description, DomainEntry, ObjectEntry, PartitionContents, PartitionEntry, ScriptEntry,
+    VariableEntry,
+};
 
 /// What a name in a line is to name.
 #[derive(Clone, Copy, PartialEq, Eq)]
 pub enum Wanted {
-    /// An object, a partition, or the read-only data.
+    /// An object, a partition, a variable, or the read-only data.
     Place,
     Domain,
     Partition,
@@ -38,6 +42,37 @@ fn is_partition(partitions: &[PartitionEntry], name: &[u8]) -> bool
 {
     for partition in partitions {
         if name == partition.name.as_slice() {
+            return true;
+        }
+    }
+    false
+}
+
+fn is_variable_of(variables: &[VariableEntry], name: &[u8]) -> bool
+    ensures { result ≡ names.is_among name.now (map (λ (v : VariableEntry). v.name) variables.now) }
+{
+    for variable in variables {
+        if name == variable.name.as_slice() {
+            return true;
+        }
+    }
+    false
+}
+
+fn lists_variable(partition: &PartitionEntry, name: &[u8]) -> bool
+    ensures { result ≡ names.is_among name.now (names.variable_names partition.now) }
+{
+    match &partition.contents {
+        PartitionContents::Whole { .. } => false,
+        PartitionContents::Variables(variables) => is_variable_of(variables.as_slice(), name),
+    }
+}
+
+fn is_variable(partitions: &[PartitionEntry], name: &[u8]) -> bool
+    ensures { result ≡ spec.names_variable partitions.now name.now }
+{
+    for partition in partitions {
+        if lists_variable(partition, name) {
             return true;
         }
     }
@@ -83,6 +118,7 @@ pub fn is_known(d: &Description, wanted: Wanted, name: &[u8]) -> bool
         Wanted::Place => {
             is_object(d.objects.as_slice(), name)
                 || is_partition(d.partitions.as_slice(), name)
+                || is_variable(d.partitions.as_slice(), name)
                 || names_rodata(d, name)
         }
         Wanted::Domain => is_domain(d.domains.as_slice(), name),

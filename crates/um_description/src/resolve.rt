@@ -4,7 +4,6 @@ mod base;
 mod boots;
 mod domains;
 mod lines;
-mod numbers;
 mod objects;
 mod partitions;
 mod ranges;

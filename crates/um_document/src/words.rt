@@ -1,6 +1,6 @@
 //! The words that a description may say.
 
-ghost use Rattle.std.specs.Prelude.{◌≡◌};
+ghost use Rattle.std.specs.Prelude.{◌≡◌, ◌≤◌};
 ghost use Rattle.um_document.specs.Words as words;
 
 use crate::description::Alignment;
@@ -148,7 +148,9 @@ const ALIGNMENTS: [Alignment; 6] = [
 impl Alignment {
     /// The number of bytes of which an offset is to be a multiple.
     pub fn bytes(self) -> u32
-        ensures { result ≡ words.alignment_bytes self }
+        ensures value { result ≡ words.alignment_bytes self }
+        ensures some { 1 ≤ result }
+        ensures few { result ≤ 32 }
     {
         match self {
             Alignment::One => 1,

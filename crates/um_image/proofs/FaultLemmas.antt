@@ -7,7 +7,7 @@ use Rattle.um_document.specs.declared.check.Check.{Check}
 use Rattle.um_document.specs.declared.fault.ImageFault.{ImageFault}
 use Rattle.um_document.specs.declared.fault.ImageFault.TheVariants as fault
 use Rattle.um_document.specs.Broken.{broken}
-use Rattle.um_document.specs.Faults.{is_first_version, version_faults, fault_of, broken_parts, unknown_key_faults, form_faults}
+use Rattle.um_document.specs.Faults.{is_known_version, version_faults, fault_of, broken_parts, unknown_key_faults, form_faults}
 use Rattle.um_document.specs.First.{first_of}
 use Rattle.um_document.specs.Unknown.{unknown_keys}
 use Rattle.um_document.proofs.EmptyLists.{and_true, both_true}
@@ -42,7 +42,7 @@ parts_told check t = all_mapped (fault_of check) (part_told check) (broken check
 
 versions_told : (t : Members) → IsTrue (list_all is_told (version_faults t))
 unfolding version_faults
-versions_told t = version_told (is_first_version t)
+versions_told t = version_told (is_known_version t)
 
 keys_told : (t : Members) → IsTrue (list_all is_told (unknown_key_faults t))
 unfolding unknown_key_faults

@@ -3,12 +3,14 @@
 ghost use Rattle.std.specs.Prelude.{◌≡◌, ◌≤◌, IfOk, length, map, min, All};
 ghost use Rattle.um_base.specs.declared.limits.TheConstants.{AREA_ENTRY, BOOTS, DOMAINS, PARTITIONS, POOLS, SCRIPTS, STATIC_ROWS};
 ghost use Rattle.um_description.specs.Names.{items};
-ghost use Rattle.um_description.specs.Limits.{natural};
+ghost use Rattle.um_description.specs.Numbers.{natural};
+ghost use Rattle.um_description.specs.Packing.{asked_size, first_bytes};
+ghost use Rattle.um_description.specs.InLimits.{IsSize};
 ghost use Rattle.um_description.specs.Resolve.{rodata_range, pool_of, without_scripts};
 
+use crate::numbers::clamped;
 use crate::resolve::boots::boots;
 use crate::resolve::domains::domains;
-use crate::resolve::numbers::clamped;
 use crate::resolve::objects::objects;
 use crate::resolve::partitions::{bytes, partitions};
 use std::alloc::Global;
@@ -70,7 +72,8 @@ pub fn without_scripts(
     requires rodata { length d.now.rodata ≤ AREA_ENTRY }
     requires pools { length d.now.pools ≤ POOLS }
     requires partitions { length d.now.partitions ≤ PARTITIONS }
-    requires data { All (λ p. length p.data ≤ AREA_ENTRY) d.now.partitions }
+    requires data { All (λ p. length (first_bytes p) ≤ AREA_ENTRY) d.now.partitions }
+    requires sizes { All (λ p. IsSize (asked_size p)) d.now.partitions }
     requires ranges { length partition_ranges.now ≡ length d.now.partitions }
     requires domains { length d.now.domains ≤ DOMAINS }
     requires parts { All (λ m. length (items m.partitions) ≤ PARTITIONS) d.now.domains }

@@ -2,23 +2,52 @@
 
 ghost use Rattle.std.specs.Prelude.{◌≡◌, ◌≤◌, length, map};
 ghost use Rattle.um_base.specs.declared.limits.TheConstants.{DOMAINS, PARTITIONS, SCRIPTS};
-ghost use Rattle.um_description.specs.Names.{domain_names, partition_names, script_names};
-ghost use Rattle.um_description.specs.Resolve.{start_named, object_addr, addr_named, term_of, ref_of, part_of, resolved};
+ghost use Rattle.um_description.specs.Names.{domain_names, partition_names, script_names, variables_of};
+ghost use Rattle.um_description.specs.Packing.{offset_named};
+ghost use Rattle.um_description.specs.Resolve.{variable_addr, start_named, object_addr, addr_named, term_of, ref_of, part_of, resolved};
 
 use crate::named::{domain_named, is_named, partition_named, script_named};
+use crate::packing::offset_named;
 use um_base::{Image, Instr, Name, ObjectDef, PartRef, PartRefs, Partition, RODATA, Ref, Term};
-use um_document::Description;
+use um_document::{Description, PartitionContents, PartitionEntry};
 
-/// The start of the partition with this name, or of the read-only data.
-fn start_named(partitions: &[Partition], name: &Name) -> u32
-    ensures { result ≡ start_named name.now partitions.now }
+/// The offset of the variable with this name in a partition that lists it.
+fn offset_in(entry: &PartitionEntry, name: &Name) -> Option<u32>
+    ensures { result ≡ offset_named name.now 0 (variables_of entry.now.contents) }
+{
+    match &entry.contents {
+        PartitionContents::Whole { .. } => None,
+        PartitionContents::Variables(variables) => {
+            offset_named(variables.as_slice(), name.as_slice())
+        }
+    }
+}
+
+/// The address of the variable with this name, in the partition that lists it, or of the read-only data.
+fn variable_addr(partitions: &[Partition], entries: &[PartitionEntry], name: &Name) -> u32
+    ensures { result ≡ variable_addr name.now partitions.now entries.now }
+{
+    for (i, partition) in partitions.iter().enumerate() {
+        if i >= entries.len() {
+            return RODATA;
+        }
+        if let Some(offset) = offset_in(&entries[i], name) {
+            return partition.range.start.0.wrapping_add(offset);
+        }
+    }
+    RODATA
+}
+
+/// The start of the partition with this name, or another address.
+fn start_named(partitions: &[Partition], name: &Name, other: u32) -> u32
+    ensures { result ≡ start_named name.now other partitions.now }
 {
     for p in partitions {
         if is_named(&p.name, name.as_slice()) {
             return p.range.start.0;
         }
     }
-    RODATA
+    other
 }
 
 /// The address of the object with this name, or another one.
@@ -34,20 +63,24 @@ fn object_addr(objects: &[ObjectDef], name: &Name, other: u32) -> u32
 }
 
 /// The address of what a place names.
-fn addr_named(image: &Image, name: &Name) -> u32
-    ensures { result ≡ addr_named image.now name.now }
+fn addr_named(image: &Image, d: &Description, name: &Name) -> u32
+    ensures { result ≡ addr_named image.now d.now name.now }
 {
-    let other = start_named(image.partitions.as_slice(), name);
+    let partitions = image.partitions.as_slice();
+    let variable = variable_addr(partitions, d.partitions.as_slice(), name);
+    let other = start_named(partitions, name, variable);
     object_addr(image.objects.as_slice(), name, other)
 }
 
-fn term_of(image: &Image, term: &Term) -> Term
-    ensures { result ≡ term_of image.now term.now }
+fn term_of(image: &Image, d: &Description, term: &Term) -> Term
+    ensures { result ≡ term_of image.now d.now term.now }
 {
     match term {
         Term::Num(n) => Term::Num(*n),
         Term::Reg(r) => Term::Reg(*r),
-        Term::Place { name, offset } => Term::Num(addr_named(image, name).wrapping_add(*offset)),
+        Term::Place { name, offset } => {
+            Term::Num(addr_named(image, d, name).wrapping_add(*offset))
+        },
     }
 }
 
@@ -123,24 +156,24 @@ pub fn resolved(image: &Image, d: &Description, instr: &Instr) -> Instr
         },
         Instr::Set { to, value } => Instr::Set {
             to: *to,
-            value: term_of(image, value),
+            value: term_of(image, d, value),
         },
         Instr::Add { to, value } => Instr::Add {
             to: *to,
-            value: term_of(image, value),
+            value: term_of(image, d, value),
         },
         Instr::Load { to, addr, size } => Instr::Load {
             to: *to,
-            addr: term_of(image, addr),
+            addr: term_of(image, d, addr),
             size: *size,
         },
         Instr::Store { addr, size, value } => Instr::Store {
-            addr: term_of(image, addr),
+            addr: term_of(image, d, addr),
             size: *size,
-            value: term_of(image, value),
+            value: term_of(image, d, value),
         },
         Instr::Exec { addr } => Instr::Exec {
-            addr: term_of(image, addr),
+            addr: term_of(image, d, addr),
         },
         Instr::DomainInit { domain, parts } => Instr::DomainInit {
             domain: domain_ref(d, domain),
@@ -156,42 +189,42 @@ pub fn resolved(image: &Image, d: &Description, instr: &Instr) -> Instr
         },
         Instr::DomainMove { domain, thread } => Instr::DomainMove {
             domain: domain_ref(d, domain),
-            thread: term_of(image, thread),
+            thread: term_of(image, d, thread),
         },
         Instr::Grant { object, thread } => Instr::Grant {
-            object: term_of(image, object),
-            thread: term_of(image, thread),
+            object: term_of(image, d, object),
+            thread: term_of(image, d, thread),
         },
         Instr::Revoke { object, thread } => Instr::Revoke {
-            object: term_of(image, object),
-            thread: term_of(image, thread),
+            object: term_of(image, d, object),
+            thread: term_of(image, d, thread),
         },
         Instr::Release { object } => Instr::Release {
-            object: term_of(image, object),
+            object: term_of(image, d, object),
         },
         Instr::AllGrant { object } => Instr::AllGrant {
-            object: term_of(image, object),
+            object: term_of(image, d, object),
         },
         Instr::SemGive { object } => Instr::SemGive {
-            object: term_of(image, object),
+            object: term_of(image, d, object),
         },
         Instr::SemReset { object } => Instr::SemReset {
-            object: term_of(image, object),
+            object: term_of(image, d, object),
         },
         Instr::MutexInit { object } => Instr::MutexInit {
-            object: term_of(image, object),
+            object: term_of(image, d, object),
         },
         Instr::MutexUnlock { object } => Instr::MutexUnlock {
-            object: term_of(image, object),
+            object: term_of(image, d, object),
         },
         Instr::MsgqPurge { object } => Instr::MsgqPurge {
-            object: term_of(image, object),
+            object: term_of(image, d, object),
         },
         Instr::PipeReset { object } => Instr::PipeReset {
-            object: term_of(image, object),
+            object: term_of(image, d, object),
         },
         Instr::PipeClose { object } => Instr::PipeClose {
-            object: term_of(image, object),
+            object: term_of(image, d, object),
         },
         Instr::Create {
             thread,
@@ -201,9 +234,9 @@ pub fn resolved(image: &Image, d: &Description, instr: &Instr) -> Instr
             priority,
             options,
         } => Instr::Create {
-            thread: term_of(image, thread),
-            stack: term_of(image, stack),
-            size: term_of(image, size),
+            thread: term_of(image, d, thread),
+            stack: term_of(image, d, stack),
+            size: term_of(image, d, size),
             script: script_ref(d, script),
             priority: *priority,
             options: *options,
@@ -212,32 +245,32 @@ pub fn resolved(image: &Image, d: &Description, instr: &Instr) -> Instr
             script: script_ref(d, script),
         },
         Instr::NameSet { thread, addr } => Instr::NameSet {
-            thread: term_of(image, thread),
-            addr: term_of(image, addr),
+            thread: term_of(image, d, thread),
+            addr: term_of(image, d, addr),
         },
         Instr::SemInit {
             object,
             count,
             limit,
         } => Instr::SemInit {
-            object: term_of(image, object),
-            count: term_of(image, count),
-            limit: term_of(image, limit),
+            object: term_of(image, d, object),
+            count: term_of(image, d, count),
+            limit: term_of(image, d, limit),
         },
         Instr::SemTake { object, timeout } => Instr::SemTake {
-            object: term_of(image, object),
+            object: term_of(image, d, object),
             timeout: *timeout,
         },
         Instr::MutexLock { object, timeout } => Instr::MutexLock {
-            object: term_of(image, object),
+            object: term_of(image, d, object),
             timeout: *timeout,
         },
         Instr::SemCount { object, to } => Instr::SemCount {
-            object: term_of(image, object),
+            object: term_of(image, d, object),
             to: *to,
         },
         Instr::MsgqUsed { object, to } => Instr::MsgqUsed {
-            object: term_of(image, object),
+            object: term_of(image, d, object),
             to: *to,
         },
         Instr::MsgqInit {
@@ -245,17 +278,17 @@ pub fn resolved(image: &Image, d: &Description, instr: &Instr) -> Instr
             msg_size,
             max_msgs,
         } => Instr::MsgqInit {
-            object: term_of(image, object),
-            msg_size: term_of(image, msg_size),
-            max_msgs: term_of(image, max_msgs),
+            object: term_of(image, d, object),
+            msg_size: term_of(image, d, msg_size),
+            max_msgs: term_of(image, d, max_msgs),
         },
         Instr::MsgqPut {
             object,
             addr,
             timeout,
         } => Instr::MsgqPut {
-            object: term_of(image, object),
-            addr: term_of(image, addr),
+            object: term_of(image, d, object),
+            addr: term_of(image, d, addr),
             timeout: *timeout,
         },
         Instr::MsgqGet {
@@ -263,8 +296,8 @@ pub fn resolved(image: &Image, d: &Description, instr: &Instr) -> Instr
             addr,
             timeout,
         } => Instr::MsgqGet {
-            object: term_of(image, object),
-            addr: term_of(image, addr),
+            object: term_of(image, d, object),
+            addr: term_of(image, d, addr),
             timeout: *timeout,
         },
         Instr::StackPop {
@@ -272,25 +305,25 @@ pub fn resolved(image: &Image, d: &Description, instr: &Instr) -> Instr
             addr,
             timeout,
         } => Instr::StackPop {
-            object: term_of(image, object),
-            addr: term_of(image, addr),
+            object: term_of(image, d, object),
+            addr: term_of(image, d, addr),
             timeout: *timeout,
         },
         Instr::MsgqPeek { object, addr } => Instr::MsgqPeek {
-            object: term_of(image, object),
-            addr: term_of(image, addr),
+            object: term_of(image, d, object),
+            addr: term_of(image, d, addr),
         },
         Instr::StackInit { object, entries } => Instr::StackInit {
-            object: term_of(image, object),
-            entries: term_of(image, entries),
+            object: term_of(image, d, object),
+            entries: term_of(image, d, entries),
         },
         Instr::StackPush { object, value } => Instr::StackPush {
-            object: term_of(image, object),
-            value: term_of(image, value),
+            object: term_of(image, d, object),
+            value: term_of(image, d, value),
         },
         Instr::PipeInit { object, size } => Instr::PipeInit {
-            object: term_of(image, object),
-            size: term_of(image, size),
+            object: term_of(image, d, object),
+            size: term_of(image, d, size),
         },
         Instr::PipeWrite {
             object,
@@ -298,9 +331,9 @@ pub fn resolved(image: &Image, d: &Description, instr: &Instr) -> Instr
             length,
             timeout,
         } => Instr::PipeWrite {
-            object: term_of(image, object),
-            addr: term_of(image, addr),
-            length: term_of(image, length),
+            object: term_of(image, d, object),
+            addr: term_of(image, d, addr),
+            length: term_of(image, d, length),
             timeout: *timeout,
         },
         Instr::PipeRead {
@@ -309,9 +342,9 @@ pub fn resolved(image: &Image, d: &Description, instr: &Instr) -> Instr
             length,
             timeout,
         } => Instr::PipeRead {
-            object: term_of(image, object),
-            addr: term_of(image, addr),
-            length: term_of(image, length),
+            object: term_of(image, d, object),
+            addr: term_of(image, d, addr),
+            length: term_of(image, d, length),
             timeout: *timeout,
         },
     }

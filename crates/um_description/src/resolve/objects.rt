@@ -4,7 +4,7 @@ ghost use Rattle.std.specs.Prelude.{◌≡◌, ◌+◌, ◌≤◌, ◌<◌, IfOk
 ghost use Rattle.um_description.specs.Resolve.{object_def, objects_from, first_range, ranges_taken, row_addr, object_of, sem_setup, msgq_setup, stack_setup, pipe_setup};
 ghost use Rattle.um_description.specs.Limits.{threads_after};
 
-use crate::resolve::numbers::clamped;
+use crate::numbers::clamped;
 use std::alloc::Global;
 use um_base::{
     Addr, BoundedVec, Kind, Memory, OBJECT_STEP, OBJECTS, ObjectDef, Range, STATIC_ROWS, Setup,

@@ -1,11 +1,14 @@
 //! Partitions in their ranges.
 
 ghost use Rattle.std.specs.Prelude.{◌≡◌, ◌≤◌, IfOk, length, All};
+ghost use Rattle.um_description.specs.InLimits.{IsSize};
+ghost use Rattle.um_description.specs.Packing.{asked_size, first_bytes};
 ghost use Rattle.um_description.specs.Resolve.{placed_partitions};
 
+use crate::packing::packed_bytes;
 use std::alloc::Global;
 use um_base::{AREA_ENTRY, BoundedVec, Memory, PARTITIONS, Partition, Range};
-use um_document::{PartitionEntry, Text};
+use um_document::{PartitionContents, PartitionEntry, Text};
 
 /// A copy of bytes.
 pub fn bytes(alloc: Global, text: &Text) -> Result<BoundedVec<u8, AREA_ENTRY>, Memory>
@@ -15,16 +18,32 @@ pub fn bytes(alloc: Global, text: &Text) -> Result<BoundedVec<u8, AREA_ENTRY>, M
     Ok(BoundedVec::from_vec(text.as_slice().to_vec(alloc)?))
 }
 
+/// The bytes at the start of a partition.
+fn first_bytes(alloc: Global, entry: &PartitionEntry) -> Result<BoundedVec<u8, AREA_ENTRY>, Memory>
+    requires size { IsSize (asked_size entry.now) }
+    requires few { length (first_bytes entry.now) ≤ AREA_ENTRY }
+    ensures { IfOk result (λ bytes. bytes ≡ first_bytes entry.now) }
+{
+    match &entry.contents {
+        PartitionContents::Whole { data, .. } => bytes(alloc, data),
+        PartitionContents::Variables(variables) => {
+            let packed = packed_bytes(alloc, variables.as_slice())?;
+            Ok(BoundedVec::from_vec(packed))
+        }
+    }
+}
+
 /// A partition in its range.
 fn partition(alloc: Global, range: Range, entry: &PartitionEntry) -> Result<Partition, Memory>
-    requires { length entry.now.data ≤ AREA_ENTRY }
-    ensures { IfOk result (λ p. p ≡ record { name = entry.now.name; range = range; attr = entry.now.attr; bytes = entry.now.data }) }
+    requires size { IsSize (asked_size entry.now) }
+    requires few { length (first_bytes entry.now) ≤ AREA_ENTRY }
+    ensures { IfOk result (λ p. p ≡ record { name = entry.now.name; range = range; attr = entry.now.attr; bytes = first_bytes entry.now }) }
 {
     Ok(Partition {
         name: entry.name,
         range,
         attr: entry.attr,
-        bytes: bytes(alloc, &entry.data)?,
+        bytes: first_bytes(alloc, entry)?,
     })
 }
 
@@ -36,7 +55,8 @@ pub fn partitions(
 ) -> Result<BoundedVec<Partition, PARTITIONS>, Memory>
     requires few { length entries.now ≤ PARTITIONS }
     requires enough { length ranges.now ≡ length entries.now }
-    requires data { All (λ p. length p.data ≤ AREA_ENTRY) entries.now }
+    requires sizes { All (λ p. IsSize (asked_size p)) entries.now }
+    requires data { All (λ p. length (first_bytes p) ≤ AREA_ENTRY) entries.now }
     ensures { IfOk result (λ all. all ≡ placed_partitions ranges.now entries.now) }
 {
     let mut all = BoundedVec::new(alloc);

@@ -6,24 +6,36 @@ ghost use Rattle.um_base.specs.Layout.{rounded};
 ghost use Rattle.um_base.specs.declared.limits.TheConstants.{AREA_SIZE, PARTITION_AREA, STACK_AREA};
 ghost use Rattle.um_layout.specs.declared.placing.NoRoom.TheVariants as no_room;
 ghost use Rattle.um_description.specs.InLimits.{IsSize, IsInLimits};
-ghost use Rattle.um_description.specs.Resolve.{option_list, clamped, asked_partitions, asked_stack, asked_stacks, partition_sizes, stack_sizes, placed};
+ghost use Rattle.um_description.specs.Packing.{asked_size};
+ghost use Rattle.um_description.specs.Resolve.{option_list, asked_partitions, asked_stack, asked_stacks, partition_sizes, stack_sizes, placed};
 
-use crate::resolve::numbers::clamped;
+use crate::numbers::clamped;
+use crate::packing::packed_size;
 use std::alloc::Global;
 use um_base::{AREA_SIZE, Addr, Memory, Mpu, PARTITION_AREA, Range, STACK_AREA};
-use um_document::{Description, Details, ObjectEntry};
+use um_document::{Description, Details, ObjectEntry, PartitionContents, PartitionEntry};
 use um_layout::{NoRoom, place};
+
+/// The size that a partition asks for.
+fn asked_size(entry: &PartitionEntry) -> u32
+    ensures { result ≡ asked_size entry.now }
+{
+    match &entry.contents {
+        PartitionContents::Whole { size, .. } => clamped(*size),
+        PartitionContents::Variables(variables) => packed_size(variables.as_slice()),
+    }
+}
 
 /// The sizes that the partitions ask for.
 fn asked_partitions(alloc: Global, d: &Description) -> Result<Vec<u32>, Memory>
-    requires { All (λ p. IsSize (clamped p.size)) d.now.partitions }
+    requires { All (λ p. IsSize (asked_size p)) d.now.partitions }
     ensures asked { IfOk result (λ sizes. All IsSize sizes.items) }
     ensures few { IfOk result (λ sizes. length sizes.items ≡ length d.now.partitions) }
     ensures items { IfOk result (λ sizes. sizes.items ≡ asked_partitions d.now) }
 {
     let mut sizes = Vec::new(alloc);
     for entry in d.partitions.as_slice() {
-        sizes.push(clamped(entry.size))?;
+        sizes.push(asked_size(entry))?;
     }
     Ok(sizes)
 }

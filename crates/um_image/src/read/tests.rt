@@ -61,6 +61,40 @@ const REFUSED: [(&str, &str, &str); 15] = [
     ),
 ];
 
+/// A thread that reads a variable of a partition.
+const PACKED: &str = "version = 2
+mpu = \"pmsav7\"
+regions = 8
+oops = \"abort\"
+domain = [{name = \"d\", partitions = [\"p\"]}]
+object = [{name = \"a\", kind = \"thread\"}, {name = \"sa\", kind = \"thread_stack\", size = 64}]
+boot = [{thread = \"a\", stack = \"sa\", script = \"m\", priority = 0, domain = \"d\"}]
+script = [{name = \"m\", lines = [\"load r0 @y+2 1\"]}]
+[[partition]]
+name = \"p\"
+attr = \"P_RW_U_RW\"
+vars = [{name = \"x\", size = 1}, {name = \"y\", size = 4, align = 4, data = \"2a000000\"}]
+";
+
+/// Changes to that description, and what is told of each.
+const PACKED_ANSWERS: [(&str, &str, &str); 11] = [
+    ("version = 2", "version = 3", "Version"),
+    ("align = 4", "align = 3", "BadName partition[0].vars[1].align"),
+    ("\"y\"", "\"p\"", "Duplicate partition[0].vars[1].name"),
+    ("name = \"d\"", "name = \"x\"", "Duplicate domain[0].name"),
+    (
+        "vars = [{name = \"x\", size = 1}, {name = \"y\", size = 4, align = 4, data = \"2a000000\"}]",
+        "vars = []",
+        "Limit vars 1 partition[0].vars",
+    ),
+    ("size = 1}", "size = 0}", "Limit size 1 partition[0].vars[0].size"),
+    ("size = 4,", "size = 3,", "Limit data 3 partition[0].vars[1].data"),
+    ("size = 1}", "size = 65533}", "Limit size 65536 partition[0].vars"),
+    ("size = 1}", "size = 65529}", "image"),
+    ("size = 1}", "size = 70000}", "Limit size 65536 partition[0].vars[0].size"),
+    ("@y", "@z", "LineName script[0].lines[0]:9"),
+];
+
 /// A supervisor that makes a domain and two threads, of which one sends the other a message.
 const TWO_THREADS: &str = "version = 1
 mpu = \"pmsav7\"
@@ -120,6 +154,55 @@ fn first_faults_are_told(rt: HostRuntime) -> Result<(), Fail> {
     for (part, other, told) in REFUSED {
         let found = answer_with(rt.alloc(), part, other)?;
         assert_eq!(rt; found.as_str(), told, "{other}");
+    }
+    Ok(())
+}
+
+#[test]
+fn variables_are_told(rt: HostRuntime) -> Result<(), Fail> {
+    for (part, other, told) in PACKED_ANSWERS {
+        let changed = PACKED.replacen(rt.alloc(), part, other, 1)?;
+        let found = answer(rt.alloc(), changed.as_str())?;
+        assert_eq!(rt; found.as_str(), told, "{other}");
+    }
+    Ok(())
+}
+
+/// 33 variables are one too many.
+#[test]
+fn many_variables_are_told(rt: HostRuntime) -> Result<(), Fail> {
+    for (count, told) in [(31, "image"), (32, "Limit vars 32 partition[0].vars")] {
+        let more = entries(rt.alloc(), count, "size = 1, align = 32")?;
+        let vars = format!(in rt.alloc(); "vars = [{more}{{name = \"y\", size = 4")?;
+        let changed = PACKED.replacen(
+            rt.alloc(),
+            "vars = [{name = \"x\", size = 1}, {name = \"y\", size = 4",
+            vars.as_str(),
+            1,
+        )?;
+        let found = answer(rt.alloc(), changed.as_str())?;
+        assert_eq!(rt; found.as_str(), told);
+    }
+    Ok(())
+}
+
+#[test]
+fn variables_are_packed(rt: HostRuntime) -> Result<(), Fail> {
+    match read_image(rt.alloc(), PACKED.as_bytes()) {
+        Ok(image) => {
+            match image.partitions.as_slice() {
+                [partition] => {
+                    assert!(rt; partition.range == range(0x2000_0000, 32));
+                    assert!(rt; partition.bytes.as_slice() == &b"\0\0\0\0*\0\0\0"[..]);
+                }
+                _ => assert!(rt; false),
+            }
+            match lines_of(&image, 0) {
+                [Instr::Load { addr, .. }] => assert!(rt; *addr == Term::Num(0x2000_0006)),
+                _ => assert!(rt; false),
+            }
+        }
+        Err(_) => assert!(rt; false),
     }
     Ok(())
 }

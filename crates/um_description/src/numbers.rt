@@ -1,7 +1,7 @@
 //! Numbers of a description.
 
 ghost use Rattle.std.specs.Prelude.{◌≡◌};
-ghost use Rattle.um_description.specs.Resolve.{clamped};
+ghost use Rattle.um_description.specs.Numbers.{clamped};
 
 /// A number as an image has it.
 pub fn clamped(n: i64) -> u32
