@@ -46,6 +46,20 @@ def placed(mpu, area, sizes):
     return list(zip(starts, sizes))
 
 
+def packed(partition):
+    """The size of a partition, the bytes at its start, and the offsets of its variables by their names."""
+    if "vars" not in partition:
+        return partition["size"], bytes.fromhex(partition.get("data", "")), {}
+    end, data, offsets = 0, b"", {}
+    for variable in partition["vars"]:
+        offset = -(-end // variable.get("align", 1)) * variable.get("align", 1)
+        if "data" in variable:
+            data = data.ljust(offset, b"\0") + bytes.fromhex(variable["data"])
+        offsets[variable["name"]] = offset
+        end = offset + variable["size"]
+    return end, data, offsets
+
+
 class Image:
     """A description, with the places of what it names."""
 
@@ -59,7 +73,8 @@ class Image:
         self.boots = table.get("boot", [])
         self.scripts = table.get("script", [])
         self.rodata = bytes.fromhex(table.get("rodata", ""))
-        self.partition_ranges = placed(self.mpu, PARTITION_AREA, [p["size"] for p in self.partitions])
+        self.packed = [packed(p) for p in self.partitions]
+        self.partition_ranges = placed(self.mpu, PARTITION_AREA, [size for size, _, _ in self.packed])
         stacks = [x for x, o in enumerate(self.objects) if o["kind"] == "thread_stack"]
         self.stack_ranges = dict(zip(stacks, placed(self.mpu, STACK_AREA, [self.objects[x]["size"] for x in stacks])))
         self.addresses = [self.stack_ranges[x][0] if x in self.stack_ranges else OBJECTS + OBJECT_STEP * x for x in range(len(self.objects))]
@@ -89,6 +104,8 @@ class Image:
         for i, p in enumerate(self.partitions):
             if p["name"] == name:
                 return self.partition_ranges[i][0]
+            if name in self.packed[i][2]:
+                return self.partition_ranges[i][0] + self.packed[i][2][name]
         return self.addresses[self.index("objects", name)]
 
     def operand(self, form, word):
@@ -155,7 +172,7 @@ class Image:
     def partition_record(self, i):
         p = self.partitions[i]
         start, size = self.partition_ranges[i]
-        data = bytes.fromhex(p.get("data", ""))
+        data = self.packed[i][1]
         return record(name=name_bytes(p["name"]), range=f"range {in_hex(start)} {size}", attr=f"rights {ATTRS[p['attr']]}", bytes=flat(map(str, data)))
 
     def domain_record(self, d):
