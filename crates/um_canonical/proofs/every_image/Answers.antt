@@ -1,0 +1,9 @@
+use Rattle.um_canonical.proofs.DescribedAgain.{image_described}
+use Rattle.um_canonical.proofs.ReadBack.{read_back}
+use Rattle.um_canonical.proofs.every_image.Goals as goal
+
+pub returns-clause-reads : goal.returns-clause-reads
+returns-clause-reads c = read_back
+
+pub returns-clause-means : goal.returns-clause-means
+returns-clause-means c = image_described

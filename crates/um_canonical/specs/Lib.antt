@@ -1,0 +1,6 @@
+pub mod Fresh
+pub mod Objects
+pub mod Named
+pub mod Entries
+pub mod Sections
+pub mod Text
