@@ -1,3 +1,4 @@
 pub mod Sublists
 pub mod Keeps
 pub mod Joining
+pub mod Lawful

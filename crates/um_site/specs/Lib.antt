@@ -1,3 +1,4 @@
 pub mod Sublists
 pub mod History
 pub mod Tells
+pub mod Calls

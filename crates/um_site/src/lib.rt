@@ -7,6 +7,7 @@ mod opening;
 mod plays;
 mod rule;
 mod seat;
+mod sites;
 mod view;
 
 pub use board::{Board, Changed, StillOut};
@@ -15,6 +16,7 @@ pub use opening::are_unstepped;
 pub use plays::Step;
 pub use rule::{Opening, Ruled};
 pub use seat::Seat;
+pub use sites::{domain_site, thread_site};
 pub use view::{Name, View};
 
 #[cfg(test)]

@@ -1,0 +1,9 @@
+use Rattle.std.proofs.Common.{ℕ, sym, subst}
+use Rattle.um_words.specs.Steps.{WordMay}
+use Rattle.um_site.proofs.Lawful.{thread-lawful}
+use Rattle.um_site.proofs.board.Board.step_thread.Goals as goal
+
+pub step-requires-clause-lawful : goal.step-requires-clause-lawful
+step-requires-clause-lawful g c = let a = c.args in
+    subst (λ (site : ℕ). (next : ℕ) × WordMay site a.seen a.act.now next) (sym c.thread_site.ensures)
+    (thread-lawful a.who.0 a.seen a.act.now c.requires.who c.requires.word c.requires.room c.requires.takes c.requires.says)

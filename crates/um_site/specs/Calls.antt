@@ -1,0 +1,39 @@
+-- What a call on a board asks of its seat, and what it tells.
+use Rattle.std.specs.Prelude.{◌≡◌, ◌≢◌, ℕ, ◌+◌, List, Some}
+use Rattle.um_base.specs.declared.image.Image.{Image}
+use Rattle.um_words.specs.Steps.{WordMay}
+use Rattle.um_words.specs.declared.fine.FineAct.{FineAct}
+use Rattle.um_words.specs.declared.made.Made.{Made}
+use Rattle.um_site.specs.declared.seat.Seat.{Seat}
+use Rattle.um_site.specs.declared.view.View.{View}
+use Rattle.um_site.specs.Tells.{made, Looked, Steps, last_got}
+
+-- the sites of threads and of domains
+abbrev pub thread_site : ℕ → ℕ
+thread_site who = 128 + who
+
+abbrev pub domain_site : ℕ → ℕ
+domain_site domain = 160 + domain
+
+-- what a seat keeps when it looks and steps: its board and its place there, its counts, its slots, its name, and the seats that it has split off
+abbrev pub Stays : {S : Type 0} → Seat S → Seat S → Type 0
+Stays s t =
+    (t.token.table_id ≡ s.token.table_id) × (t.token.id ≡ s.token.id) × (t.split ≡ s.split) × (t.joined ≡ s.joined) × (t.first ≡ s.first)
+    × (t.token.me.1 ≡ s.token.me.1) × (t.token.me.0.name ≡ s.token.me.0.name) × (t.token.me.0.children ≡ s.token.me.0.children)
+
+module _ (goes : Image → List ℕ → List Made → Made → Type 0) where
+  -- the seat may make this act next, where it is lawful
+  abbrev pub MayNext : View → ℕ → ℕ → FineAct → Type 0
+  MayNext v site seen act = (next : ℕ) → WordMay site seen act next → goes v.image v.name v.made (made site act next)
+
+  -- the act was recorded, on the word that was handed in
+  abbrev pub Recorded : View → ℕ → ℕ → FineAct → View → Type 0
+  Recorded v site seen act w = (n : ℕ) × Steps goes v site act seen n w
+
+  -- another word stood there, and nothing was recorded
+  abbrev pub Missed : View → ℕ → ℕ → ℕ → View → Type 0
+  Missed v site seen found w = (found ≢ seen) × Looked goes v site found w × (last_got w.got site ≡ Some found)
+
+  -- the word that was handed in still stood there, and nothing was recorded
+  abbrev pub Stood : View → ℕ → ℕ → View → Type 0
+  Stood v site seen w = Looked goes v site seen w × (last_got w.got site ≡ Some seen)

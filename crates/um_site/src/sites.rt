@@ -1,0 +1,108 @@
+//! Steps of rows, threads and domains, each at its site.
+
+ghost use Rattle.std.specs.Prelude.{◌≡◌, ◌<◌, true, IsTrue, MatchResult, Some};
+ghost use Rattle.um_words.specs.Packed.{row_of, is_thread, thread_in, is_domain, domain_in};
+ghost use Rattle.um_words.specs.Rows.{row_takes, row_says};
+ghost use Rattle.um_words.specs.Threads.{thread_takes, thread_says};
+ghost use Rattle.um_words.specs.Domains.{domain_takes};
+ghost use Rattle.um_site.specs.Tells.{last_got};
+ghost use Rattle.um_site.specs.Calls.{thread_site, domain_site, Stays, MayNext, Recorded, Missed};
+
+use crate::board::{Board, Changed};
+use crate::seat::Seat;
+use um_base::{Row, ThreadIx};
+use um_words::{FineAct, Local};
+
+/// The site of a thread's word.
+pub fn thread_site(who: ThreadIx) -> u16
+    requires { who.0 < 32 }
+    ensures { result ≡ thread_site who.0 }
+{
+    128 + u16::from(who.0)
+}
+
+/// The site of a domain's word.
+pub fn domain_site(domain: u8) -> u16
+    requires { domain < 8 }
+    ensures { result ≡ domain_site domain }
+{
+    160 + u16::from(domain)
+}
+
+impl<S, L: Local> Board<S, L> {
+    /// One recorded step of a row.
+    pub fn step_row(
+        &self,
+        seat: &mut Seat<S>,
+        row: Row,
+        seen: u64,
+        act: &FineAct,
+    ) -> Result<(), Changed>
+        requires here { seat.old.token.table_id ≡ self.now.table.shared.table_id }
+        requires row { row.0 < 128 }
+        requires site { row.0 < self.now.table.shared.table_id.words }
+        requires seen { last_got seat.old.token.me.0.got row.0 ≡ Some seen }
+        requires room { (row_of seen).number < 1048575 }
+        requires takes { IsTrue (row_takes (row_of seen) act.now) }
+        requires says { row_says (row_of seen) act.now ≡ act.now }
+        requires goes { MayNext L.goes seat.old.token.me.0 row.0 seen act.now }
+        ensures stays { Stays seat.old seat.new }
+        ensures told { MatchResult result (λ done. Recorded L.goes seat.old.token.me.0 row.0 seen act.now seat.new.token.me.0) (λ e. Missed L.goes seat.old.token.me.0 row.0 seen e.seen seat.new.token.me.0) }
+    {
+        match self.step(seat, u16::from(row.0), seen, act) {
+            Ok(_) => Ok(()),
+            Err(changed) => Err(changed),
+        }
+    }
+
+    /// One recorded step of a thread.
+    pub fn step_thread(
+        &self,
+        seat: &mut Seat<S>,
+        who: ThreadIx,
+        seen: u64,
+        act: &FineAct,
+    ) -> Result<(), Changed>
+        requires here { seat.old.token.table_id ≡ self.now.table.shared.table_id }
+        requires who { who.0 < 32 }
+        requires site { thread_site who.0 < self.now.table.shared.table_id.words }
+        requires seen { last_got seat.old.token.me.0.got (thread_site who.0) ≡ Some seen }
+        requires word { is_thread seen ≡ true }
+        requires room { (thread_in seen).number < 268435455 }
+        requires takes { IsTrue (thread_takes (thread_in seen) act.now) }
+        requires says { thread_says act.now ≡ act.now }
+        requires goes { MayNext L.goes seat.old.token.me.0 (thread_site who.0) seen act.now }
+        ensures stays { Stays seat.old seat.new }
+        ensures told { MatchResult result (λ done. Recorded L.goes seat.old.token.me.0 (thread_site who.0) seen act.now seat.new.token.me.0) (λ e. Missed L.goes seat.old.token.me.0 (thread_site who.0) seen e.seen seat.new.token.me.0) }
+    {
+        match self.step(seat, thread_site(who), seen, act) {
+            Ok(_) => Ok(()),
+            Err(changed) => Err(changed),
+        }
+    }
+
+    /// One recorded step of a domain.
+    pub fn step_domain(
+        &self,
+        seat: &mut Seat<S>,
+        domain: u8,
+        seen: u64,
+        act: &FineAct,
+    ) -> Result<(), Changed>
+        requires here { seat.old.token.table_id ≡ self.now.table.shared.table_id }
+        requires domain { domain < 8 }
+        requires site { domain_site domain < self.now.table.shared.table_id.words }
+        requires seen { last_got seat.old.token.me.0.got (domain_site domain) ≡ Some seen }
+        requires word { is_domain seen ≡ true }
+        requires room { (domain_in seen).number < 268435455 }
+        requires takes { IsTrue (domain_takes (domain_in seen) act.now) }
+        requires goes { MayNext L.goes seat.old.token.me.0 (domain_site domain) seen act.now }
+        ensures stays { Stays seat.old seat.new }
+        ensures told { MatchResult result (λ done. Recorded L.goes seat.old.token.me.0 (domain_site domain) seen act.now seat.new.token.me.0) (λ e. Missed L.goes seat.old.token.me.0 (domain_site domain) seen e.seen seat.new.token.me.0) }
+    {
+        match self.step(seat, domain_site(domain), seen, act) {
+            Ok(_) => Ok(()),
+            Err(changed) => Err(changed),
+        }
+    }
+}
