@@ -1,0 +1,63 @@
+//! Births of dynamic objects, and the end of their cleaning.
+
+ghost use Rattle.std.specs.Prelude.{◌≡◌, ◌<◌, true, false, MatchResult, Some};
+ghost use Rattle.um_words.specs.Packed.{row_of};
+ghost use Rattle.um_words.specs.Rows.{is_free, is_cleaning};
+ghost use Rattle.um_site.specs.Tells.{last_got};
+ghost use Rattle.um_site.specs.Calls.{Stays, MayNext, Recorded, Missed};
+ghost use Rattle.um_perm.specs.Pairs.{born_act, vacate_act};
+
+use crate::acts::shown;
+use um_base::{Act, Addr, Row, ThreadIx};
+use um_site::{Board, Changed, Seat};
+use um_words::{FineAct, Local, Unseen};
+
+/// A dynamic object comes to stand in a free row, with the permission of the thread that made it.
+pub fn born<S, L: Local>(
+    board: &Board<S, L>,
+    seat: &mut Seat<S>,
+    row: Row,
+    by: ThreadIx,
+    who: ThreadIx,
+    addr: Addr,
+    seen: u64,
+) -> Result<(), Changed>
+    requires here { seat.old.token.table_id ≡ board.now.table.shared.table_id }
+    requires row { row.0 < 128 }
+    requires site { row.0 < board.now.table.shared.table_id.words }
+    requires seen { last_got seat.old.token.me.0.got row.0 ≡ Some seen }
+    requires room { (row_of seen).number < 1048575 }
+    requires free { is_free (row_of seen).stage ≡ true }
+    requires who { who ≡ by }
+    requires goes { MayNext L.goes seat.old.token.me.0 row.0 seen (born_act by addr) }
+    ensures stays { Stays seat.old seat.new }
+    ensures told { MatchResult result (λ done. Recorded L.goes seat.old.token.me.0 row.0 seen (born_act by addr) seat.new.token.me.0) (λ e. Missed L.goes seat.old.token.me.0 row.0 seen e.seen seat.new.token.me.0) }
+{
+    let _ = who;
+    let act = shown(by, Act::Born { addr });
+    board.step_row(seat, row, seen, &act)?;
+    Ok(())
+}
+
+/// An object that this seat cleaned leaves its row.
+pub fn vacate<S, L: Local>(
+    board: &Board<S, L>,
+    seat: &mut Seat<S>,
+    row: Row,
+    by: ThreadIx,
+    seen: u64,
+) -> Result<(), Changed>
+    requires here { seat.old.token.table_id ≡ board.now.table.shared.table_id }
+    requires row { row.0 < 128 }
+    requires site { row.0 < board.now.table.shared.table_id.words }
+    requires seen { last_got seat.old.token.me.0.got row.0 ≡ Some seen }
+    requires room { (row_of seen).number < 1048575 }
+    requires cleaning { is_cleaning (row_of seen).stage ≡ true }
+    requires claims { (row_of seen).claims ≡ 0 }
+    requires goes { MayNext L.goes seat.old.token.me.0 row.0 seen (vacate_act) }
+    ensures stays { Stays seat.old seat.new }
+    ensures told { MatchResult result (λ done. Recorded L.goes seat.old.token.me.0 row.0 seen (vacate_act) seat.new.token.me.0) (λ e. Missed L.goes seat.old.token.me.0 row.0 seen e.seen seat.new.token.me.0) }
+{
+    let _ = by;
+    board.step_row(seat, row, seen, &FineAct::Unseen(Unseen::Vacate))
+}

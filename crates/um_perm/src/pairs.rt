@@ -1,0 +1,129 @@
+//! Giving permissions.
+
+ghost use Rattle.std.specs.Prelude.{◌≡◌, ◌<◌, true, false, MatchResult, Some};
+ghost use Rattle.um_words.specs.Packed.{row_of};
+ghost use Rattle.um_words.specs.Rows.{is_free, is_cleaning, given_of};
+ghost use Rattle.um_site.specs.Tells.{last_got};
+ghost use Rattle.um_site.specs.Calls.{Stays, MayNext, Recorded, Missed};
+ghost use Rattle.um_perm.specs.Pairs.{grant_act, own_act, publish_act, passes, passed_of, inherit_act};
+
+use crate::acts::shown;
+use um_base::{Act, Addr, Given, Row, ThreadIx};
+use um_site::{Board, Changed, Seat};
+use um_words::{FineAct, Local, RowWord, Unseen};
+
+/// Whether a permission was passed on.
+#[derive(Clone, Copy, PartialEq, Eq)]
+pub enum Passed {
+    Pair,
+    Nothing,
+}
+
+/// Gives a thread a permission, where the object stands (Zephyr: User Mode, Kernel Objects).
+pub fn grant<S, L: Local>(
+    board: &Board<S, L>,
+    seat: &mut Seat<S>,
+    row: Row,
+    by: ThreadIx,
+    who: ThreadIx,
+    addr: Addr,
+    seen: u64,
+) -> Result<Given, Changed>
+    requires here { seat.old.token.table_id ≡ board.now.table.shared.table_id }
+    requires row { row.0 < 128 }
+    requires site { row.0 < board.now.table.shared.table_id.words }
+    requires seen { last_got seat.old.token.me.0.got row.0 ≡ Some seen }
+    requires room { (row_of seen).number < 1048575 }
+    requires free { is_free (row_of seen).stage ≡ false }
+    requires goes { MayNext L.goes seat.old.token.me.0 row.0 seen (grant_act by who addr seen) }
+    ensures stays { Stays seat.old seat.new }
+    ensures told { MatchResult result (λ given. (given ≡ given_of (row_of seen)) × Recorded L.goes seat.old.token.me.0 row.0 seen (grant_act by who addr seen) seat.new.token.me.0) (λ e. Missed L.goes seat.old.token.me.0 row.0 seen e.seen seat.new.token.me.0) }
+{
+    let given = RowWord::read(seen).given();
+    let act = shown(by, Act::Grant { who, addr, given });
+    board.step_row(seat, row, seen, &act)?;
+    Ok(given)
+}
+
+/// Passes a permission on to a new thread, where the parent has it and the child hasn't.
+pub fn inherit<S, L: Local>(
+    board: &Board<S, L>,
+    seat: &mut Seat<S>,
+    row: Row,
+    by: ThreadIx,
+    parent: ThreadIx,
+    child: ThreadIx,
+    addr: Addr,
+    seen: u64,
+) -> Result<Passed, Changed>
+    requires here { seat.old.token.table_id ≡ board.now.table.shared.table_id }
+    requires row { row.0 < 128 }
+    requires site { row.0 < board.now.table.shared.table_id.words }
+    requires seen { last_got seat.old.token.me.0.got row.0 ≡ Some seen }
+    requires room { (row_of seen).number < 1048575 }
+    requires parent { parent ≡ by }
+    requires goes { MayNext L.goes seat.old.token.me.0 row.0 seen (inherit_act by child addr seen) }
+    ensures stays { Stays seat.old seat.new }
+    ensures told { MatchResult result (λ passed. (passed ≡ passed_of (passes seen parent.0 child.0)) × Recorded L.goes seat.old.token.me.0 row.0 seen (inherit_act by child addr seen) seat.new.token.me.0) (λ e. Missed L.goes seat.old.token.me.0 row.0 seen e.seen seat.new.token.me.0) }
+{
+    let word = RowWord::read(seen);
+    if word.has(parent.0) && !word.has(child.0) {
+        let act = shown(by, Act::Inherit { who: child, addr });
+        board.step_row(seat, row, seen, &act)?;
+        return Ok(Passed::Pair);
+    }
+    board.step_row(seat, row, seen, &FineAct::Unseen(Unseen::Visit))?;
+    Ok(Passed::Nothing)
+}
+
+/// Gives a new thread the permission on its own object, where that stands, and holds the object for its life, whatever the answer is.
+pub fn own<S, L: Local>(
+    board: &Board<S, L>,
+    seat: &mut Seat<S>,
+    row: Row,
+    by: ThreadIx,
+    who: ThreadIx,
+    seen: u64,
+) -> Result<Given, Changed>
+    requires here { seat.old.token.table_id ≡ board.now.table.shared.table_id }
+    requires row { row.0 < 128 }
+    requires site { row.0 < board.now.table.shared.table_id.words }
+    requires seen { last_got seat.old.token.me.0.got row.0 ≡ Some seen }
+    requires room { (row_of seen).number < 1048575 }
+    requires free { is_free (row_of seen).stage ≡ false }
+    requires cleaning { is_cleaning (row_of seen).stage ≡ false }
+    requires claims { (row_of seen).claims < 127 }
+    requires goes { MayNext L.goes seat.old.token.me.0 row.0 seen (own_act by who seen) }
+    ensures stays { Stays seat.old seat.new }
+    ensures told { MatchResult result (λ given. (given ≡ given_of (row_of seen)) × Recorded L.goes seat.old.token.me.0 row.0 seen (own_act by who seen) seat.new.token.me.0) (λ e. Missed L.goes seat.old.token.me.0 row.0 seen e.seen seat.new.token.me.0) }
+{
+    let given = RowWord::read(seen).given();
+    let act = shown(by, Act::Own { who, given });
+    board.step_row(seat, row, seen, &act)?;
+    Ok(given)
+}
+
+/// Opens an object to all threads, where it stands.
+pub fn publish<S, L: Local>(
+    board: &Board<S, L>,
+    seat: &mut Seat<S>,
+    row: Row,
+    by: ThreadIx,
+    addr: Addr,
+    seen: u64,
+) -> Result<Given, Changed>
+    requires here { seat.old.token.table_id ≡ board.now.table.shared.table_id }
+    requires row { row.0 < 128 }
+    requires site { row.0 < board.now.table.shared.table_id.words }
+    requires seen { last_got seat.old.token.me.0.got row.0 ≡ Some seen }
+    requires room { (row_of seen).number < 1048575 }
+    requires free { is_free (row_of seen).stage ≡ false }
+    requires goes { MayNext L.goes seat.old.token.me.0 row.0 seen (publish_act by addr seen) }
+    ensures stays { Stays seat.old seat.new }
+    ensures told { MatchResult result (λ given. (given ≡ given_of (row_of seen)) × Recorded L.goes seat.old.token.me.0 row.0 seen (publish_act by addr seen) seat.new.token.me.0) (λ e. Missed L.goes seat.old.token.me.0 row.0 seen e.seen seat.new.token.me.0) }
+{
+    let given = RowWord::read(seen).given();
+    let act = shown(by, Act::Publish { addr, given });
+    board.step_row(seat, row, seen, &act)?;
+    Ok(given)
+}
