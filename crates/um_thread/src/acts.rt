@@ -1,0 +1,17 @@
+//! Acts as steps.
+
+ghost use Rattle.std.specs.Prelude.{◌≡◌};
+ghost use Rattle.um_thread.specs.Acts.{shown};
+
+use um_base::{Act, Event, ThreadIx};
+use um_words::{FineAct, More};
+
+/// The step that shows this act of a thread.
+pub fn shown(by: ThreadIx, act: Act) -> FineAct
+    ensures { result ≡ shown by act }
+{
+    FineAct::Shown {
+        event: Event { thread: by, act },
+        more: More::Nothing,
+    }
+}

@@ -1,0 +1,185 @@
+//! The lives of threads.
+
+ghost use Rattle.std.specs.Prelude.{◌≡◌, ◌<◌, true, false, IsTrue, MatchResult, Some};
+ghost use Rattle.um_words.specs.Packed.{is_thread, thread_in};
+ghost use Rattle.um_machine.specs.State.{is_living};
+ghost use Rattle.um_site.specs.Tells.{last_got};
+ghost use Rattle.um_site.specs.Calls.{thread_site, Stays, MayNext, Recorded, Missed, Stood};
+ghost use Rattle.um_thread.specs.Acts.{start_act, begin_act, exit_act, fatal_act, doom_act};
+ghost use Rattle.um_thread.specs.Tells.{Went};
+
+use crate::acts::shown;
+use um_base::{Act, Cause, Event, Mode, ThreadIx};
+use um_site::{Board, Changed, Seat, thread_site};
+use um_words::{FineAct, Local, More, ThreadWord};
+
+/// Whether a thread goes on.
+#[derive(Clone, Copy, PartialEq, Eq)]
+pub enum Going {
+    Begun,
+    /// It was doomed, as the word tells that stood there. Nothing was recorded.
+    Doomed { word: u64 },
+}
+
+/// A thread starts, in a mode and a domain.
+pub fn start<S, L: Local>(
+    board: &Board<S, L>,
+    seat: &mut Seat<S>,
+    who: ThreadIx,
+    by: ThreadIx,
+    mode: Mode,
+    domain: u8,
+    seen: u64,
+) -> Result<(), Changed>
+    requires here { seat.old.token.table_id ≡ board.now.table.shared.table_id }
+    requires who { who.0 < 32 }
+    requires site { thread_site who.0 < board.now.table.shared.table_id.words }
+    requires seen { last_got seat.old.token.me.0.got (thread_site who.0) ≡ Some seen }
+    requires word { is_thread seen ≡ true }
+    requires room { (thread_in seen).number < 268435455 }
+    requires domain { domain < 8 }
+    requires goes { MayNext L.goes seat.old.token.me.0 (thread_site who.0) seen (start_act by who mode domain) }
+    ensures stays { Stays seat.old seat.new }
+    ensures told { MatchResult result (λ done. Recorded L.goes seat.old.token.me.0 (thread_site who.0) seen (start_act by who mode domain) seat.new.token.me.0) (λ e. Missed L.goes seat.old.token.me.0 (thread_site who.0) seen e.seen seat.new.token.me.0) }
+{
+    let act = FineAct::Shown {
+        event: Event {
+            thread: by,
+            act: Act::Start { who },
+        },
+        more: More::Starts { mode, domain },
+    };
+    board.step_thread(seat, who, seen, &act)?;
+    Ok(())
+}
+
+/// Whether a word that shows a doomed thread still stands.
+fn still_doomed<S, L: Local>(
+    board: &Board<S, L>,
+    seat: &mut Seat<S>,
+    who: ThreadIx,
+    seen: u64,
+) -> Result<Going, Changed>
+    requires here { seat.old.token.table_id ≡ board.now.table.shared.table_id }
+    requires who { who.0 < 32 }
+    requires site { thread_site who.0 < board.now.table.shared.table_id.words }
+    ensures stays { Stays seat.old seat.new }
+    ensures told { MatchResult result (λ going. (going ≡ Going.Doomed seen) × Stood L.goes seat.old.token.me.0 (thread_site who.0) seen seat.new.token.me.0) (λ e. Missed L.goes seat.old.token.me.0 (thread_site who.0) seen e.seen seat.new.token.me.0) }
+{
+    let word = board.look(seat, thread_site(who));
+    if word == seen {
+        Ok(Going::Doomed { word })
+    } else {
+        Err(Changed { seen: word })
+    }
+}
+
+/// A thread begins a line of a script, where it isn't doomed.
+pub fn begin<S, L: Local>(
+    board: &Board<S, L>,
+    seat: &mut Seat<S>,
+    who: ThreadIx,
+    by: ThreadIx,
+    script: u8,
+    line: u16,
+    seen: u64,
+) -> Result<Going, Changed>
+    requires here { seat.old.token.table_id ≡ board.now.table.shared.table_id }
+    requires who { who.0 < 32 }
+    requires site { thread_site who.0 < board.now.table.shared.table_id.words }
+    requires seen { last_got seat.old.token.me.0.got (thread_site who.0) ≡ Some seen }
+    requires word { is_thread seen ≡ true }
+    requires room { (thread_in seen).number < 268435455 }
+    requires living { (thread_in seen).doomed ≡ false → IsTrue (is_living (thread_in seen).life) }
+    requires goes { MayNext L.goes seat.old.token.me.0 (thread_site who.0) seen (begin_act by script line) }
+    ensures stays { Stays seat.old seat.new }
+    ensures told { MatchResult result (λ going. Went L.goes seat.old.token.me.0 (thread_site who.0) seen (begin_act by script line) going seat.new.token.me.0) (λ e. Missed L.goes seat.old.token.me.0 (thread_site who.0) seen e.seen seat.new.token.me.0) }
+{
+    let Some(thread) = ThreadWord::unpack(seen) else {
+        unreachable!();
+    };
+    if thread.doomed {
+        return still_doomed(board, seat, who, seen);
+    }
+    let act = shown(by, Act::Begin { script, line });
+    board.step_thread(seat, who, seen, &act)?;
+    Ok(Going::Begun)
+}
+
+/// A thread ends after its last line, where it isn't doomed.
+pub fn exit<S, L: Local>(
+    board: &Board<S, L>,
+    seat: &mut Seat<S>,
+    who: ThreadIx,
+    by: ThreadIx,
+    seen: u64,
+) -> Result<Going, Changed>
+    requires here { seat.old.token.table_id ≡ board.now.table.shared.table_id }
+    requires who { who.0 < 32 }
+    requires site { thread_site who.0 < board.now.table.shared.table_id.words }
+    requires seen { last_got seat.old.token.me.0.got (thread_site who.0) ≡ Some seen }
+    requires word { is_thread seen ≡ true }
+    requires room { (thread_in seen).number < 268435455 }
+    requires living { (thread_in seen).doomed ≡ false → IsTrue (is_living (thread_in seen).life) }
+    requires goes { MayNext L.goes seat.old.token.me.0 (thread_site who.0) seen (exit_act by) }
+    ensures stays { Stays seat.old seat.new }
+    ensures told { MatchResult result (λ going. Went L.goes seat.old.token.me.0 (thread_site who.0) seen (exit_act by) going seat.new.token.me.0) (λ e. Missed L.goes seat.old.token.me.0 (thread_site who.0) seen e.seen seat.new.token.me.0) }
+{
+    let Some(thread) = ThreadWord::unpack(seen) else {
+        unreachable!();
+    };
+    if thread.doomed {
+        return still_doomed(board, seat, who, seen);
+    }
+    let act = shown(by, Act::Exit);
+    board.step_thread(seat, who, seen, &act)?;
+    Ok(Going::Begun)
+}
+
+/// A thread fails, with the number of the reason as Zephyr has it.
+pub fn fatal<S, L: Local>(
+    board: &Board<S, L>,
+    seat: &mut Seat<S>,
+    who: ThreadIx,
+    by: ThreadIx,
+    reason: u8,
+    cause: Cause,
+    seen: u64,
+) -> Result<(), Changed>
+    requires here { seat.old.token.table_id ≡ board.now.table.shared.table_id }
+    requires who { who.0 < 32 }
+    requires site { thread_site who.0 < board.now.table.shared.table_id.words }
+    requires seen { last_got seat.old.token.me.0.got (thread_site who.0) ≡ Some seen }
+    requires word { is_thread seen ≡ true }
+    requires room { (thread_in seen).number < 268435455 }
+    requires goes { MayNext L.goes seat.old.token.me.0 (thread_site who.0) seen (fatal_act by reason cause) }
+    ensures stays { Stays seat.old seat.new }
+    ensures told { MatchResult result (λ done. Recorded L.goes seat.old.token.me.0 (thread_site who.0) seen (fatal_act by reason cause) seat.new.token.me.0) (λ e. Missed L.goes seat.old.token.me.0 (thread_site who.0) seen e.seen seat.new.token.me.0) }
+{
+    let act = shown(by, Act::Fatal { reason, cause });
+    board.step_thread(seat, who, seen, &act)?;
+    Ok(())
+}
+
+/// Lets a thread begin no other line.
+pub fn doom<S, L: Local>(
+    board: &Board<S, L>,
+    seat: &mut Seat<S>,
+    who: ThreadIx,
+    by: ThreadIx,
+    seen: u64,
+) -> Result<(), Changed>
+    requires here { seat.old.token.table_id ≡ board.now.table.shared.table_id }
+    requires who { who.0 < 32 }
+    requires site { thread_site who.0 < board.now.table.shared.table_id.words }
+    requires seen { last_got seat.old.token.me.0.got (thread_site who.0) ≡ Some seen }
+    requires word { is_thread seen ≡ true }
+    requires room { (thread_in seen).number < 268435455 }
+    requires goes { MayNext L.goes seat.old.token.me.0 (thread_site who.0) seen (doom_act by who) }
+    ensures stays { Stays seat.old seat.new }
+    ensures told { MatchResult result (λ done. Recorded L.goes seat.old.token.me.0 (thread_site who.0) seen (doom_act by who) seat.new.token.me.0) (λ e. Missed L.goes seat.old.token.me.0 (thread_site who.0) seen e.seen seat.new.token.me.0) }
+{
+    let act = shown(by, Act::Doom { who });
+    board.step_thread(seat, who, seen, &act)?;
+    Ok(())
+}
