@@ -1,5 +1,5 @@
 -- The acts on permissions and on the state of an object, and what each answers on a row's word.
-use Rattle.std.specs.Prelude.{ℕ, Bool, true, false, ◌==◌, ◌&&◌, ◌||◌, not, if◌then◌else◌}
+use Rattle.std.specs.Prelude.{◌≡◌, ℕ, Bool, true, false, ◌==◌, ◌&&◌, ◌||◌, not, if◌then◌else◌}
 use Rattle.um_base.specs.declared.names.Addr.{Addr}
 use Rattle.um_base.specs.declared.names.Errno.{Errno}
 use Rattle.um_base.specs.declared.names.ThreadIx.{ThreadIx}
@@ -9,8 +9,12 @@ use Rattle.um_base.specs.declared.act.SetSaid.{SetSaid}
 use Rattle.um_words.specs.declared.fine.FineAct.{FineAct}
 use Rattle.um_words.specs.declared.fine.More.{More}
 use Rattle.um_words.specs.declared.fine.Unseen.{Unseen}
+use Rattle.um_words.specs.declared.row_word.Stage.{Stage}
 use Rattle.um_words.specs.Packed.{row_of}
 use Rattle.um_words.specs.Rows.{has, given_of, left_of, set_of}
+use Rattle.um_site.specs.declared.view.View.{View}
+use Rattle.um_site.specs.Tells.{made, with_made}
+use Rattle.um_site.specs.Lives.{stage, begins_cleaning}
 use Rattle.um_perm.specs.declared.pairs.Passed.{Passed}
 use Rattle.um_perm.specs.declared.drops.Dropped.{Dropped}
 use Rattle.um_perm.specs.declared.marks.Set.{Set}
@@ -53,6 +57,21 @@ abbrev pub dropped_of : Leftover → ℕ → Dropped
 dropped_of Leftover.NoPair claims = Dropped.NoPair
 dropped_of Leftover.Kept claims = Dropped.Kept
 dropped_of Leftover.Gone claims = Dropped.Gone (claims == 0)
+
+-- the object is this seat's to clean
+abbrev pub is_to_clean : Dropped → Bool
+is_to_clean (Dropped.Gone clean) = clean
+is_to_clean dropped = false
+
+-- what the drop does to the object's stage
+abbrev pub Leaves : Dropped → Stage → Stage → Type 0
+Leaves (Dropped.Gone clean) before after = (before ≡ Stage.Live) × (after ≡ (if clean then Stage.Cleaning else Stage.Dying))
+Leaves dropped before after = after ≡ before
+
+-- the drop says so exactly where it begins the cleaning
+abbrev pub TellsCleaning : ℕ → ℕ → FineAct → View → Dropped → View → Type 0
+TellsCleaning row seen act v dropped w =
+    (next : ℕ) × (w ≡ with_made v (made row act next)) × Leaves dropped (stage seen) (stage next) × (begins_cleaning (stage seen) (stage next) ≡ is_to_clean dropped)
 
 -- Marking.
 

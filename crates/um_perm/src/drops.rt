@@ -1,11 +1,12 @@
 //! Taking permissions away.
 
-ghost use Rattle.std.specs.Prelude.{◌≡◌, ◌<◌, true, false, MatchResult, Some};
+ghost use Rattle.std.specs.Prelude.{◌≡◌, ◌<◌, true, false, MatchResult, Some, IfOk};
 ghost use Rattle.um_words.specs.Packed.{row_of};
 ghost use Rattle.um_words.specs.Rows.{left_of};
 ghost use Rattle.um_site.specs.Tells.{last_got};
 ghost use Rattle.um_site.specs.Calls.{Stays, MayNext, Recorded, Missed};
-ghost use Rattle.um_perm.specs.Pairs.{dropped_of, drop_act};
+ghost use Rattle.um_site.specs.Lives.{Cleans, CleansOnce};
+ghost use Rattle.um_perm.specs.Pairs.{dropped_of, drop_act, is_to_clean, TellsCleaning};
 
 use crate::acts;
 use um_base::{Act, Addr, Leftover, Row, ThreadIx};
@@ -31,10 +32,8 @@ fn to_dropped(left: Leftover, claims: u8) -> Dropped
     }
 }
 
-/// Takes a thread's permission away. A dynamic object is gone with its last one, in this very step.
-///
-/// Shown: a drop that finds no permission is an event too, and else a visit that no trace shows.
-pub fn drop_one<S, L: Local>(
+/// The drop as one step.
+fn drop_pair<S, L: Local>(
     board: &Board<S, L>,
     seat: &mut Seat<S>,
     row: Row,
@@ -62,4 +61,33 @@ pub fn drop_one<S, L: Local>(
     };
     board.step_row(seat, row, seen, &act)?;
     Ok(to_dropped(left, word.claims))
+}
+
+/// Takes a thread's permission away. A dynamic object is gone with its last one, in this very step.
+///
+/// Shown: a drop that finds no permission is an event too, and else a visit that no trace shows.
+pub fn drop_one<S, L: Local>(
+    board: &Board<S, L>,
+    seat: &mut Seat<S>,
+    row: Row,
+    by: ThreadIx,
+    who: ThreadIx,
+    shown: bool,
+    addr: Addr,
+    seen: u64,
+) -> Result<Dropped, Changed>
+    requires here { seat.old.token.table_id ≡ board.now.table.shared.table_id }
+    requires row { row.0 < 128 }
+    requires site { row.0 < board.now.table.shared.table_id.words }
+    requires seen { last_got seat.old.token.me.0.got row.0 ≡ Some seen }
+    requires room { (row_of seen).number < 1048575 }
+    requires goes { MayNext L.goes seat.old.token.me.0 row.0 seen (drop_act by who shown addr seen) }
+    ensures stays { Stays seat.old seat.new }
+    ensures told { MatchResult result (λ dropped. (dropped ≡ dropped_of (left_of (row_of seen) who.0) (row_of seen).claims) × Recorded L.goes seat.old.token.me.0 row.0 seen (drop_act by who shown addr seen) seat.new.token.me.0) (λ e. Missed L.goes seat.old.token.me.0 row.0 seen e.seen seat.new.token.me.0) }
+    ensures cleaner { IfOk result (λ dropped. TellsCleaning row.0 seen (drop_act by who shown addr seen) seat.old.token.me.0 dropped seat.new.token.me.0) }
+    ensures cleans { IfOk result (λ dropped. is_to_clean dropped ≡ true → Cleans row.0 seat.new.token.me.0) }
+    ensures once { CleansOnce L.goes seat.old.token.me.0 row.0 }
+{
+    let dropped = drop_pair(board, seat, row, by, who, shown, addr, seen)?;
+    Ok(dropped)
 }

@@ -5,6 +5,7 @@ ghost use Rattle.um_words.specs.Packed.{row_of};
 ghost use Rattle.um_words.specs.Rows.{is_free, is_cleaning};
 ghost use Rattle.um_site.specs.Tells.{last_got};
 ghost use Rattle.um_site.specs.Calls.{Stays, MayNext, Recorded, Missed};
+ghost use Rattle.um_site.specs.Lives.{Cleans, CleansOnce};
 ghost use Rattle.um_perm.specs.Pairs.{born_act, vacate_act};
 
 use crate::acts::shown;
@@ -52,10 +53,12 @@ pub fn vacate<S, L: Local>(
     requires site { row.0 < board.now.table.shared.table_id.words }
     requires seen { last_got seat.old.token.me.0.got row.0 ≡ Some seen }
     requires room { (row_of seen).number < 1048575 }
+    requires cleans { Cleans row.0 seat.old.token.me.0 }
     requires cleaning { is_cleaning (row_of seen).stage ≡ true }
     requires claims { (row_of seen).claims ≡ 0 }
     requires goes { MayNext L.goes seat.old.token.me.0 row.0 seen (vacate_act) }
     ensures stays { Stays seat.old seat.new }
+    ensures once { CleansOnce L.goes seat.old.token.me.0 row.0 }
     ensures told { MatchResult result (λ done. Recorded L.goes seat.old.token.me.0 row.0 seen (vacate_act) seat.new.token.me.0) (λ e. Missed L.goes seat.old.token.me.0 row.0 seen e.seen seat.new.token.me.0) }
 {
     let _ = by;

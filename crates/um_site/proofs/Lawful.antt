@@ -15,7 +15,7 @@ use Rattle.um_site.specs.Calls.{thread_site, domain_site}
 abbrev kind_by : Bool → Bool → Bool → WordKind
 kind_by row thread domain = if row then WordKind.Row else if thread then WordKind.Thread else if domain then WordKind.Domain else WordKind.Cell
 
-at-row : (row : ℕ) → row < 128 → kind_at row ≡ WordKind.Row
+pub at-row : (row : ℕ) → row < 128 → kind_at row ≡ WordKind.Row
 at-row row h = let e : nat_lt row 128 ≡ true = grind (arith, nat_tests) in ap (λ b. kind_by b (nat_lt row 160) (nat_lt row 168)) e
 
 at-thread : (who : ℕ) → who < 32 → kind_at (thread_site who) ≡ WordKind.Thread

@@ -2,3 +2,4 @@ pub mod Sublists
 pub mod Keeps
 pub mod Joining
 pub mod Lawful
+pub mod Lives

@@ -2,3 +2,4 @@ pub mod Sublists
 pub mod History
 pub mod Tells
 pub mod Calls
+pub mod Lives

@@ -1,11 +1,12 @@
 //! The calls.
 
-ghost use Rattle.std.specs.Prelude.{◌≡◌, ◌<◌, true, MatchResult, Some, None};
+ghost use Rattle.std.specs.Prelude.{◌≡◌, ◌<◌, true, MatchResult, Some, None, IfOk};
 ghost use Rattle.um_words.specs.Packed.{row_of};
 ghost use Rattle.um_words.specs.Rows.{verdict_of};
 ghost use Rattle.um_site.specs.Tells.{last_got};
 ghost use Rattle.um_site.specs.Calls.{Stays, MayNext, Recorded, Missed};
-ghost use Rattle.um_verify.specs.Checks.{check_act, checked_of, end_act, cleans};
+ghost use Rattle.um_site.specs.Lives.{Cleans, CleansOnce};
+ghost use Rattle.um_verify.specs.Checks.{check_act, checked_of, end_act, cleans, TellsCleaning};
 
 use um_base::{Act, Addr, Errno, Event, Kind, Mode, Row, ThreadIx, Want};
 use um_site::{Board, Changed, Seat};
@@ -69,8 +70,8 @@ pub fn check<S, L: Local>(
     Ok(to_checked(verdict))
 }
 
-/// Ends a claim of an object. True: it was the last one of an object that is gone, which is now this seat's to clean.
-pub fn end_call<S, L: Local>(
+/// The end of a claim as one step.
+fn end_claim<S, L: Local>(
     board: &Board<S, L>,
     seat: &mut Seat<S>,
     row: Row,
@@ -89,5 +90,29 @@ pub fn end_call<S, L: Local>(
     let word = RowWord::read(seen);
     let clean = word.is_dying() && word.claims == 1;
     board.step_row(seat, row, seen, &FineAct::Unseen(Unseen::EndCall))?;
+    Ok(clean)
+}
+
+/// Ends a claim of an object. True: it was the last one of an object that is gone, which is now this seat's to clean.
+pub fn end_call<S, L: Local>(
+    board: &Board<S, L>,
+    seat: &mut Seat<S>,
+    row: Row,
+    seen: u64,
+) -> Result<bool, Changed>
+    requires here { seat.old.token.table_id ≡ board.now.table.shared.table_id }
+    requires row { row.0 < 128 }
+    requires site { row.0 < board.now.table.shared.table_id.words }
+    requires seen { last_got seat.old.token.me.0.got row.0 ≡ Some seen }
+    requires room { (row_of seen).number < 1048575 }
+    requires claim { 0 < (row_of seen).claims }
+    requires goes { MayNext L.goes seat.old.token.me.0 row.0 seen end_act }
+    ensures stays { Stays seat.old seat.new }
+    ensures told { MatchResult result (λ clean. (clean ≡ cleans seen) × Recorded L.goes seat.old.token.me.0 row.0 seen end_act seat.new.token.me.0) (λ e. Missed L.goes seat.old.token.me.0 row.0 seen e.seen seat.new.token.me.0) }
+    ensures cleaner { IfOk result (λ clean. TellsCleaning row.0 seen seat.old.token.me.0 clean seat.new.token.me.0) }
+    ensures cleans { IfOk result (λ clean. clean ≡ true → Cleans row.0 seat.new.token.me.0) }
+    ensures once { CleansOnce L.goes seat.old.token.me.0 row.0 }
+{
+    let clean = end_claim(board, seat, row, seen)?;
     Ok(clean)
 }
