@@ -48,17 +48,17 @@ impl<S, L: Local> Board<S, L> {
     /// A board of these words, and its first seat. The words and the image stay in the clauses.
     pub fn make(
         alloc: Global,
-        words: &Vec<u64>,
+        words: Vec<u64>,
         image: &Image,
     ) -> Result<(Board<S, L>, Seat<S>), Memory>
-        requires unstepped { (i : ℕ) → i < length words.now.items → number i (slice_index words.now.items i) ≡ 0 }
+        requires unstepped { (i : ℕ) → i < length words.items → number i (slice_index words.items i) ≡ 0 }
         ensures same { IfOk result (λ r. r.1.token.table_id ≡ r.0.table.shared.table_id) }
-        ensures sites { IfOk result (λ r. r.0.table.shared.table_id.words ≡ length words.now.items) }
-        ensures opens { IfOk result (λ r. r.1.token.me.0 ≡ opening_view image.now words.now.items) }
+        ensures sites { IfOk result (λ r. r.0.table.shared.table_id.words ≡ length words.items) }
+        ensures opens { IfOk result (λ r. r.1.token.me.0 ≡ opening_view image.now words.items) }
         ensures slots { IfOk result (λ r. r.1.token.me.1 ≡ []) }
         ensures first { IfOk result (λ r. (r.1.first ≡ true) × (r.1.split ≡ 0) × (r.1.joined ≡ 0)) }
     {
-        let about = (Snapshot::of(image), Snapshot::of(words));
+        let about = (Snapshot::of(image), Snapshot::of(&words));
         let (table, token) = Table::of_words(alloc, words.as_slice(), &about)?;
         Ok((
             Board { table },
@@ -174,6 +174,7 @@ impl<S, L: Local> Board<S, L> {
         ensures same { (seat.new.token.table_id ≡ seat.old.token.table_id) × (seat.new.token.id ≡ seat.old.token.id) × (seat.new.first ≡ seat.old.first) }
         ensures counts { (seat.new.split ≡ seat.old.split + other.split) × (seat.new.joined ≡ seat.old.joined + other.joined + 1) }
         ensures both { seat.new.token.me.0 ≡ joiner seat.old.token.me.0 other.token.me.0 }
+        ensures slots { seat.new.token.me.1 ≡ seat.old.token.me.1 }
     {
         let Seat {
             token,

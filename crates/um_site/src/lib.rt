@@ -18,6 +18,3 @@ pub use rule::{Opening, Ruled};
 pub use seat::Seat;
 pub use sites::{domain_site, thread_site};
 pub use view::{Name, View};
-
-#[cfg(test)]
-mod tests;

@@ -4,6 +4,3 @@
 mod verify;
 
 pub use verify::{Checked, check, end_call};
-
-#[cfg(test)]
-mod tests;

@@ -1,0 +1,66 @@
+//! A board of words alone.
+
+ghost use Rattle.std.specs.Prelude.{◌≡◌, ◌<◌, [], true, IfOk, IfSome, length};
+
+use std::alloc::Global;
+use um_base::{BoundedVec, Image, Memory, Mpu, Policy};
+use um_site::{Board, Seat, are_unstepped};
+use um_words::AnyStep;
+
+/// An image with nothing in it.
+fn empty_image(alloc: Global) -> Image {
+    Image {
+        mpu: Mpu::V7,
+        regions: 8,
+        policy: Policy::Abort,
+        rodata: None,
+        rodata_bytes: BoundedVec::new(alloc),
+        pools: BoundedVec::new(alloc),
+        partitions: BoundedVec::new(alloc),
+        domains: BoundedVec::new(alloc),
+        objects: BoundedVec::new(alloc),
+        boots: BoundedVec::new(alloc),
+        scripts: BoundedVec::new(alloc),
+    }
+}
+
+/// A board of these words, where it may open with them.
+pub fn board_of(
+    alloc: Global,
+    words: Vec<u64>,
+) -> Result<Option<(Board<(), AnyStep>, Seat<()>)>, Memory>
+    ensures same { IfOk result (λ r. IfSome r (λ b. b.1.token.table_id ≡ b.0.table.shared.table_id)) }
+    ensures sites { IfOk result (λ r. IfSome r (λ b. b.0.table.shared.table_id.words ≡ length words.items)) }
+    ensures first { IfOk result (λ r. IfSome r (λ b. (b.1.split ≡ 0) × (b.1.joined ≡ 0) × (b.1.first ≡ true) × (b.1.token.me.1 ≡ []))) }
+{
+    if words.len() > 65_536 || !are_unstepped(words.as_slice()) {
+        return Ok(None);
+    }
+    let image = empty_image(alloc);
+    let (board, seat) = Board::<(), AnyStep>::make(alloc, words, &image)?;
+    Ok(Some((board, seat)))
+}
+
+/// So many words that say nothing but this one, at its site.
+pub fn words_with(alloc: Global, count: u16, site: u16, word: u64) -> Result<Vec<u64>, Memory> {
+    let mut words = Vec::new(alloc);
+    for at in 0..count {
+        words.push(if at == site { word } else { 0 })?;
+    }
+    Ok(words)
+}
+
+/// The word of a site of a board that closes.
+pub fn last_word(board: Board<(), AnyStep>, seat: Seat<()>, site: u16) -> Option<u64>
+    requires here { seat.token.table_id ≡ board.table.shared.table_id }
+    requires site { site < board.table.shared.table_id.words }
+{
+    match board.close(seat) {
+        Ok(closed) => {
+            let word = closed.word(site);
+            closed.free();
+            Some(word)
+        }
+        Err(_) => None,
+    }
+}

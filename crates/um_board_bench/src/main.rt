@@ -1,0 +1,158 @@
+//! Makes steps on a board, or the same work on plain atomic words or under locks, in as many threads as it is asked for, and
+//! prints how many steps were made. The measurement of the speed of the board runs it. Its tests are those of the calls on a board.
+#![tactic(auto)]
+
+ghost use Rattle.std.specs.Prelude.{◌≡◌, ◌≤◌, ◌<◌, [], true};
+
+mod blank;
+#[cfg(test)]
+mod calls;
+mod now;
+mod plain;
+mod play;
+mod tally;
+#[cfg(test)]
+mod tests;
+mod work;
+
+use blank::{board_of, last_word, words_with};
+use plain::{atomics, changes_by, exchanges_by, locks};
+use std::alloc::Global;
+use std::env::{self, Env};
+use std::process::ExitCode;
+use std::sync::Wait;
+use std::thread::Threads;
+use tally::Tally;
+use um_base::Memory;
+use um_site::{Board, Seat};
+use um_words::AnyStep;
+use work::{Job, eight, four, one, two};
+
+/// The words of a board without cells.
+const WORDS: u16 = 168;
+
+/// What is measured: the board, plain atomic words, or words under locks.
+#[derive(Clone, Copy)]
+enum Kind {
+    Board,
+    Atomic,
+    Lock,
+}
+
+/// What the words of the command ask for.
+#[derive(Clone, Copy)]
+struct Asked {
+    kind: Kind,
+    threads: u8,
+    /// Whether each thread has a word of its own.
+    own: bool,
+    /// The steps of each thread.
+    times: u32,
+}
+
+fn read_asked<R: Env + AllocGlobal>(rt: &R) -> Option<Asked> {
+    let mut words = env::args(rt).ok()?;
+    let kind = match words.nth(1)?.as_str() {
+        "board" => Kind::Board,
+        "atomic" => Kind::Atomic,
+        "lock" => Kind::Lock,
+        _ => return None,
+    };
+    let threads = words.next()?.parse().ok()?;
+    let own = match words.next()?.as_str() {
+        "own" => true,
+        "one" => false,
+        _ => return None,
+    };
+    let times = words.next()?.parse().ok()?;
+    Some(Asked {
+        kind,
+        threads,
+        own,
+        times,
+    })
+}
+
+/// Does the job in so many threads: 1, 2, 4 or 8.
+fn work_by<R: Threads + Sync>(
+    rt: &R,
+    board: &Board<(), AnyStep>,
+    seat: Seat<()>,
+    job: Job,
+    threads: u8,
+) -> (Seat<()>, Tally)
+    requires here { seat.token.table_id ≡ board.now.table.shared.table_id }
+    requires sites { 160 ≤ board.now.table.shared.table_id.words }
+    requires few { (seat.split < 1000) × (seat.joined < 1000) }
+    requires slots { seat.token.me.1 ≡ [] }
+    ensures here { result.0.token.table_id ≡ seat.token.table_id }
+{
+    match threads {
+        1 => one(board, seat, job, 0),
+        2 => two(rt, board, seat, job, 0),
+        4 => four(rt, board, seat, job, 0),
+        _ => eight(rt, board, seat, job, 0),
+    }
+}
+
+/// What so many threads made on a board of these words, and the word of a site at its end.
+fn worked<R: Threads + Sync>(
+    rt: &R,
+    alloc: Global,
+    words: Vec<u64>,
+    job: Job,
+    threads: u8,
+    site: u16,
+) -> Result<Option<(Tally, u64)>, Memory> {
+    if words.len() < 160 || usize::from(site) >= words.len() {
+        return Ok(None);
+    }
+    let Some((board, seat)) = board_of(alloc, words)? else {
+        return Ok(None);
+    };
+    let (seat, tally) = work_by(rt, &board, seat, job, threads);
+    match last_word(board, seat, site) {
+        Some(word) => Ok(Some((tally, word))),
+        None => Ok(None),
+    }
+}
+
+/// How many steps were made.
+fn made<R: Threads + Wait + Sync>(rt: &R, alloc: Global, asked: Asked) -> Result<u32, Memory> {
+    match asked.kind {
+        Kind::Board => {
+            let words = words_with(alloc, WORDS, 0, 0)?;
+            let job = Job::Read {
+                own: asked.own,
+                times: asked.times,
+            };
+            match worked(rt, alloc, words, job, asked.threads, 128)? {
+                Some((tally, _)) => Ok(tally.steps),
+                None => Ok(0),
+            }
+        }
+        Kind::Atomic => {
+            let words = atomics(alloc)?;
+            let words = words.as_slice();
+            Ok(exchanges_by(rt, words, asked.threads, asked.own, asked.times))
+        }
+        Kind::Lock => {
+            let words = locks(alloc)?;
+            let words = words.as_slice();
+            Ok(changes_by(rt, words, asked.threads, asked.own, asked.times))
+        }
+    }
+}
+
+fn main(rt: HostRuntime) -> ExitCode {
+    let Some(asked) = read_asked(&rt) else {
+        return ExitCode::from(2);
+    };
+    let Ok(steps) = made(&rt, rt.alloc(), asked) else {
+        return ExitCode::from(1);
+    };
+    match println!(rt; "{steps}") {
+        Ok(()) => ExitCode::from(0),
+        Err(_) => ExitCode::from(1),
+    }
+}
