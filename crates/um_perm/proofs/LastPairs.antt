@@ -16,11 +16,11 @@ use Rattle.um_words.specs.Rows.{is_live, is_cleaning, has, permitted, is_last, g
 use Rattle.um_words.specs.Steps.{WordMay}
 use Rattle.um_site.specs.declared.view.View.{View}
 use Rattle.um_site.specs.Tells.{made, with_made}
-use Rattle.um_site.specs.Calls.{Recorded}
+use Rattle.um_site.specs.Calls.{shown, Recorded}
 use Rattle.um_site.specs.Lives.{stage, begins_cleaning, takes_last, begins_at, Cleans}
-use Rattle.um_site.proofs.Lives.{row-step, row-left, to-clean}
+use Rattle.um_site.proofs.Lives.{row-step, row-left, in-cleaning, to-clean}
 use Rattle.um_perm.specs.declared.drops.Dropped.{Dropped}
-use Rattle.um_perm.specs.Pairs.{shown, visit, drop_act, dropped_of, is_to_clean, Leaves, TellsCleaning}
+use Rattle.um_perm.specs.Pairs.{visit, drop_act, dropped_of, is_to_clean, Leaves, TellsCleaning}
 
 abbrev left_by : Bool → Bool → Leftover
 left_by there last = if not there then Leftover.NoPair else if last then Leftover.Gone else Leftover.Kept
@@ -70,10 +70,6 @@ begins Dropped.NoPair before after l = ap (begins_cleaning before) l ∙ never b
 begins Dropped.Kept before after l = ap (begins_cleaning before) l ∙ never before
 begins (Dropped.Gone true) before after l = λ i. begins_cleaning (l.0 i) (l.1 i)
 begins (Dropped.Gone false) before after l = λ i. begins_cleaning (l.0 i) (l.1 i)
-
--- a cleaning that begins leaves the row in cleaning
-in-cleaning : (before after : Stage) → begins_cleaning before after ≡ true → is_cleaning after ≡ true
-in-cleaning before after e = elim (is_cleaning before) as (λ b. (not b && is_cleaning after) ≡ true → is_cleaning after ≡ true) [ true ↦ λ q. absurd (cc) | false ↦ λ q. q ] e
 
 three : (a b c : Bool) → a ≡ true → b ≡ true → c ≡ true → (a && b && c) ≡ true
 three a b c x y z = λ i. x i && y i && z i

@@ -13,14 +13,12 @@ use Rattle.um_words.specs.declared.row_word.Stage.{Stage}
 use Rattle.um_words.specs.Packed.{row_of}
 use Rattle.um_words.specs.Rows.{has, given_of, left_of, set_of}
 use Rattle.um_site.specs.declared.view.View.{View}
+use Rattle.um_site.specs.Calls.{shown}
 use Rattle.um_site.specs.Tells.{made, with_made}
 use Rattle.um_site.specs.Lives.{stage, begins_cleaning}
 use Rattle.um_perm.specs.declared.pairs.Passed.{Passed}
 use Rattle.um_perm.specs.declared.drops.Dropped.{Dropped}
 use Rattle.um_perm.specs.declared.marks.Set.{Set}
-
-abbrev pub shown : ThreadIx → Act → FineAct
-shown by act = FineAct.Shown (record { thread = by; act = act }) More.Nothing
 
 abbrev pub visit : FineAct
 visit = FineAct.Unseen Unseen.Visit

@@ -8,7 +8,6 @@ ghost use Rattle.um_site.specs.Calls.{Stays, MayNext, Recorded, Missed};
 ghost use Rattle.um_site.specs.Lives.{Cleans, CleansOnce};
 ghost use Rattle.um_perm.specs.Pairs.{dropped_of, drop_act, is_to_clean, TellsCleaning};
 
-use crate::acts;
 use um_base::{Act, Addr, Leftover, Row, ThreadIx};
 use um_site::{Board, Changed, Seat};
 use um_words::{FineAct, Local, RowWord, Unseen};
@@ -55,7 +54,7 @@ fn drop_pair<S, L: Local>(
     let word = RowWord::read(seen);
     let left = word.left(who.0);
     let act = if word.has(who.0) || shown {
-        acts::shown(by, Act::DropPair { who, addr, left })
+        um_site::shown(by, Act::DropPair { who, addr, left })
     } else {
         FineAct::Unseen(Unseen::Visit)
     };

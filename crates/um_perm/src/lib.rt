@@ -1,7 +1,6 @@
 //! Permissions on objects, and the state of an object, on a board: each call is one step of a row's word.
 #![tactic(auto)]
 
-mod acts;
 mod drops;
 mod lives;
 mod marks;

@@ -8,9 +8,8 @@ ghost use Rattle.um_site.specs.Calls.{Stays, MayNext, Recorded, Missed};
 ghost use Rattle.um_site.specs.Lives.{Cleans, CleansOnce};
 ghost use Rattle.um_perm.specs.Pairs.{born_act, vacate_act};
 
-use crate::acts::shown;
 use um_base::{Act, Addr, Row, ThreadIx};
-use um_site::{Board, Changed, Seat};
+use um_site::{Board, Changed, Seat, shown};
 use um_words::{FineAct, Local, Unseen};
 
 /// A dynamic object comes to stand in a free row, with the permission of the thread that made it.

@@ -7,9 +7,8 @@ ghost use Rattle.um_site.specs.Tells.{last_got};
 ghost use Rattle.um_site.specs.Calls.{Stays, MayNext, Recorded, Missed};
 ghost use Rattle.um_perm.specs.Pairs.{answer_of, set_act, clear_act};
 
-use crate::acts::shown;
 use um_base::{Act, Addr, Errno, Event, Row, SetSaid, ThreadIx};
-use um_site::{Board, Changed, Seat};
+use um_site::{Board, Changed, Seat, shown};
 use um_words::{FineAct, Local, More, RowWord};
 
 /// What marking an object as initialised found.

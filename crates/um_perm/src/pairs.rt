@@ -7,9 +7,8 @@ ghost use Rattle.um_site.specs.Tells.{last_got};
 ghost use Rattle.um_site.specs.Calls.{Stays, MayNext, Recorded, Missed};
 ghost use Rattle.um_perm.specs.Pairs.{grant_act, own_act, publish_act, passes, passed_of, inherit_act};
 
-use crate::acts::shown;
 use um_base::{Act, Addr, Given, Row, ThreadIx};
-use um_site::{Board, Changed, Seat};
+use um_site::{Board, Changed, Seat, shown};
 use um_words::{FineAct, Local, RowWord, Unseen};
 
 /// Whether a permission was passed on.

@@ -15,7 +15,7 @@ use Rattle.um_words.specs.Bits.{bit, bits_of, number_of}
 use Rattle.um_words.specs.BitLists.{length-bits, bits_of-number, number-small}
 use Rattle.um_words.specs.Inverse.{row-back}
 use Rattle.um_words.specs.Packed.{row_of, packed_row}
-use Rattle.um_words.specs.Rows.{is_live, has, permitted, is_last, gone_stage, dropped, row_takes_act, row_takes_unseen, row_takes, row_says_act, row_says, row_after_act, row_after_unseen, row_after, counted_row}
+use Rattle.um_words.specs.Rows.{is_live, is_cleaning, has, permitted, is_last, gone_stage, dropped, row_takes_act, row_takes_unseen, row_takes, row_says_act, row_says, row_after_act, row_after_unseen, row_after, counted_row}
 use Rattle.um_words.specs.RowFacts.{row-keeps, row-fits}
 use Rattle.um_words.specs.Steps.{StepIn, RowStep, WordMay}
 use Rattle.um_base.specs.declared.image.Image.{Image}
@@ -293,6 +293,10 @@ pub cleans-once : (goes : Image → List ℕ → List Made → Made → Type 0) 
 cleans-once goes v row' here words h is inside sound = cleaned-once row' (slice_index v.opening row') (by_site row' h) (slice_index words row') here (is.sites row' inside) sound
 
 -- What a seat has to clean.
+
+-- a cleaning that begins leaves the row in cleaning
+pub in-cleaning : (before after : Stage) → begins_cleaning before after ≡ true → is_cleaning after ≡ true
+in-cleaning before after e = elim (is_cleaning before) as (λ b. (not b && is_cleaning after) ≡ true → is_cleaning after ≡ true) [ true ↦ λ q. absurd (cc) | false ↦ λ q. q ] e
 
 take-in : (row' : ℕ) (before : Bool) (ms : List Made) (m : Made) → begins_at row' m ≡ true → cleans_after row' before (ms ++ m ∷ []) ≡ true
 take-in row' before [] m e = ap (λ b. if b then true else before && not (ends_at row' m)) e

@@ -1,12 +1,19 @@
 -- What a call on a board asks of its seat, and what it tells.
 use Rattle.std.specs.Prelude.{◌≡◌, ◌≢◌, ℕ, ◌+◌, List, Some}
+use Rattle.um_base.specs.declared.act.Act.{Act}
 use Rattle.um_base.specs.declared.image.Image.{Image}
+use Rattle.um_base.specs.declared.names.ThreadIx.{ThreadIx}
 use Rattle.um_words.specs.Steps.{WordMay}
 use Rattle.um_words.specs.declared.fine.FineAct.{FineAct}
+use Rattle.um_words.specs.declared.fine.More.{More}
 use Rattle.um_words.specs.declared.made.Made.{Made}
 use Rattle.um_site.specs.declared.seat.Seat.{Seat}
 use Rattle.um_site.specs.declared.view.View.{View}
 use Rattle.um_site.specs.Tells.{made, Looked, Steps, last_got}
+
+-- the step that shows this act of a thread
+abbrev pub shown : ThreadIx → Act → FineAct
+shown by act = FineAct.Shown (record { thread = by; act = act }) More.Nothing
 
 -- the sites of threads and of domains
 abbrev pub thread_site : ℕ → ℕ

@@ -1,6 +1,7 @@
 //! A board: a word for each site, which seats change by lawful steps, and one history of all steps that were made.
 #![tactic(auto)]
 
+mod acts;
 mod board;
 mod closed;
 mod opening;
@@ -10,6 +11,7 @@ mod seat;
 mod sites;
 mod view;
 
+pub use acts::shown;
 pub use board::{Board, Changed, StillOut};
 pub use closed::Closed;
 pub use opening::are_unstepped;

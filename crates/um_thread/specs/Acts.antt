@@ -12,9 +12,7 @@ use Rattle.um_base.specs.declared.act.Cause.{Cause}
 use Rattle.um_words.specs.declared.fine.FineAct.{FineAct}
 use Rattle.um_words.specs.declared.fine.More.{More}
 use Rattle.um_words.specs.declared.fine.Unseen.{Unseen}
-
-abbrev pub shown : ThreadIx → Act → FineAct
-shown by act = FineAct.Shown (record { thread = by; act = act }) More.Nothing
+use Rattle.um_site.specs.Calls.{shown}
 
 -- Threads.
 

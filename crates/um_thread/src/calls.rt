@@ -7,9 +7,8 @@ ghost use Rattle.um_site.specs.Calls.{thread_site, Stays, MayNext, Recorded, Mis
 ghost use Rattle.um_words.specs.declared.fine.Unseen.{Unseen};
 ghost use Rattle.um_thread.specs.Acts.{reply_act, miss_act, enter_user_act, unseen};
 
-use crate::acts::shown;
 use um_base::{Act, Addr, Errno, Kind, Reply, ThreadIx, Want};
-use um_site::{Board, Changed, Seat};
+use um_site::{Board, Changed, Seat, shown};
 use um_words::{FineAct, Local, Unseen};
 
 /// The call of a thread replies.

@@ -8,9 +8,8 @@ ghost use Rattle.um_words.specs.declared.fine.Unseen.{Unseen};
 ghost use Rattle.um_thread.specs.Acts.{move_act, unseen};
 ghost use Rattle.um_thread.specs.Tells.{MovedTo};
 
-use crate::acts::shown;
 use um_base::{Act, Reply, ThreadIx};
-use um_site::{Board, Changed, Seat, thread_site};
+use um_site::{Board, Changed, Seat, shown, thread_site};
 use um_words::{FineAct, Local, ThreadWord, Unseen};
 
 /// Whether a thread was moved to a domain.

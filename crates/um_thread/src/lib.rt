@@ -1,7 +1,6 @@
 //! Threads and domains on a board: their lives, holds and claims, each call one step of a word.
 #![tactic(auto)]
 
-mod acts;
 mod calls;
 mod domains;
 mod holds;

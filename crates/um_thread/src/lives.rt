@@ -8,9 +8,8 @@ ghost use Rattle.um_site.specs.Calls.{thread_site, Stays, MayNext, Recorded, Mis
 ghost use Rattle.um_thread.specs.Acts.{start_act, begin_act, exit_act, fatal_act, doom_act};
 ghost use Rattle.um_thread.specs.Tells.{Went};
 
-use crate::acts::shown;
 use um_base::{Act, Cause, Event, Mode, ThreadIx};
-use um_site::{Board, Changed, Seat, thread_site};
+use um_site::{Board, Changed, Seat, shown, thread_site};
 use um_words::{FineAct, Local, More, ThreadWord};
 
 /// Whether a thread goes on.

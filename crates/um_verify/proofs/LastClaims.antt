@@ -11,7 +11,7 @@ use Rattle.um_site.specs.declared.view.View.{View}
 use Rattle.um_site.specs.Tells.{made}
 use Rattle.um_site.specs.Calls.{Recorded}
 use Rattle.um_site.specs.Lives.{stage, begins_cleaning, Cleans}
-use Rattle.um_site.proofs.Lives.{row-step, row-left, to-clean}
+use Rattle.um_site.proofs.Lives.{row-step, row-left, in-cleaning, to-clean}
 use Rattle.um_verify.specs.Checks.{end_act, cleans, TellsCleaning}
 
 begins : (s : Stage) (one : Bool) → begins_cleaning s (if is_dying s && one then Stage.Cleaning else s) ≡ (is_dying s && one)
@@ -20,9 +20,6 @@ begins Stage.Live one = refl
 begins Stage.Dying true = refl
 begins Stage.Dying false = refl
 begins Stage.Cleaning one = refl
-
-in-cleaning : (before after : Stage) → begins_cleaning before after ≡ true → is_cleaning after ≡ true
-in-cleaning before after e = elim (is_cleaning before) as (λ b. (not b && is_cleaning after) ≡ true → is_cleaning after ≡ true) [ true ↦ λ q. absurd (cc) | false ↦ λ q. q ] e
 
 module _ (goes : Image → List ℕ → List Made → Made → Type 0) (v w : View) (row seen : ℕ) (here : row < 128) (told : Recorded goes v row seen end_act w) where
   left : stage told.1.0 ≡ (if cleans seen then Stage.Cleaning else stage seen)

@@ -1,7 +1,7 @@
 //! Acts as steps.
 
 ghost use Rattle.std.specs.Prelude.{◌≡◌};
-ghost use Rattle.um_perm.specs.Pairs.{shown};
+ghost use Rattle.um_site.specs.Calls.{shown};
 
 use um_base::{Act, Event, ThreadIx};
 use um_words::{FineAct, More};
