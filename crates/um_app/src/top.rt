@@ -19,8 +19,10 @@ use std::alloc::Global;
 use um_command::{Command, read_command};
 use um_io::{Gate, ReadAll, Sink, Source, read_all, write_all};
 
-/// How many bytes a description has at most, and all that `audit` reads.
+/// How many bytes a description has at most.
 const MOST_DESCRIBED: u32 = 0x10_0000;
+
+/// How many bytes `audit` reads at most.
 const MOST_AUDITED: u32 = 0x400_0000;
 
 /// How many bytes a command reads at most.

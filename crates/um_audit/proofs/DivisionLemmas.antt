@@ -59,7 +59,7 @@ pub at-line : (input rest behind p : List ℕ) → IsBehind input rest → piece
     → (take (length input - length rest) input ≡ description_part input) × (trace_part input ≡ Some behind)
 at-line input rest behind p is cut there = (
   ap (λ (n : ℕ). take n input) (front_length input is.front rest is.whole) ∙ ap (take (length is.front)) is.whole ∙ take_front is.front rest
-  ∙ sym (append-nil is.front) ∙ ap (λ (bytes : List ℕ). is.front ++ bytes) (sym (before_here p (pieces behind) there) ∙ ap before_line (sym cut)) ∙ sym is.before,
+      ∙ sym (append-nil is.front) ∙ ap (λ (bytes : List ℕ). is.front ++ bytes) (sym (before_here p (pieces behind) there) ∙ ap before_line (sym cut)) ∙ sym is.before,
   is.behind ∙ ap behind_line cut ∙ behind_here p (pieces behind) there ∙ ap Some (pieces-joined behind),
 )
 

@@ -65,10 +65,30 @@ fn ends(rt: &HostRuntime, input: Vec<u8>, status: Status, line: &str) -> Result<
 #[test]
 fn inputs_without_a_verdict(rt: HostRuntime) -> Result<(), Fail> {
     let alloc = rt.alloc();
-    ends(&rt, last_byte(alloc)?, Status::Refused, "zumode: refused: NoTrace\n")?;
-    ends(&rt, HEAD.as_bytes().to_vec(alloc)?, Status::Refused, "zumode: refused: NoTrace\n")?;
+    ends(
+        &rt,
+        last_byte(alloc)?,
+        Status::Refused,
+        "zumode: refused: NoTrace\n",
+    )?;
+    ends(
+        &rt,
+        HEAD.as_bytes().to_vec(alloc)?,
+        Status::Refused,
+        "zumode: refused: NoTrace\n",
+    )?;
     let broken = format!(in alloc; "{HEAD}\n=====\n")?;
-    ends(&rt, broken.as_bytes().to_vec(alloc)?, Status::Refused, "zumode: refused: NotToml\n")?;
-    ends(&rt, vec![in alloc; b'#'; 1_048_577]?, Status::TooLong, "zumode: input too long\n")?;
+    ends(
+        &rt,
+        broken.as_bytes().to_vec(alloc)?,
+        Status::Refused,
+        "zumode: refused: NotToml\n",
+    )?;
+    ends(
+        &rt,
+        vec![in alloc; b'#'; 1_048_577]?,
+        Status::TooLong,
+        "zumode: input too long\n",
+    )?;
     Ok(())
 }

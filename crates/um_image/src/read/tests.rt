@@ -79,7 +79,11 @@ vars = [{name = \"x\", size = 1}, {name = \"y\", size = 4, align = 4, data = \"2
 /// Changes to that description, and what is told of each.
 const PACKED_ANSWERS: [(&str, &str, &str); 11] = [
     ("version = 2", "version = 3", "Version"),
-    ("align = 4", "align = 3", "BadName partition[0].vars[1].align"),
+    (
+        "align = 4",
+        "align = 3",
+        "BadName partition[0].vars[1].align",
+    ),
     ("\"y\"", "\"p\"", "Duplicate partition[0].vars[1].name"),
     ("name = \"d\"", "name = \"x\"", "Duplicate domain[0].name"),
     (
@@ -87,11 +91,27 @@ const PACKED_ANSWERS: [(&str, &str, &str); 11] = [
         "vars = []",
         "Limit vars 1 partition[0].vars",
     ),
-    ("size = 1}", "size = 0}", "Limit size 1 partition[0].vars[0].size"),
-    ("size = 4,", "size = 3,", "Limit data 3 partition[0].vars[1].data"),
-    ("size = 1}", "size = 65533}", "Limit size 65536 partition[0].vars"),
+    (
+        "size = 1}",
+        "size = 0}",
+        "Limit size 1 partition[0].vars[0].size",
+    ),
+    (
+        "size = 4,",
+        "size = 3,",
+        "Limit data 3 partition[0].vars[1].data",
+    ),
+    (
+        "size = 1}",
+        "size = 65533}",
+        "Limit size 65536 partition[0].vars",
+    ),
     ("size = 1}", "size = 65529}", "image"),
-    ("size = 1}", "size = 70000}", "Limit size 65536 partition[0].vars[0].size"),
+    (
+        "size = 1}",
+        "size = 70000}",
+        "Limit size 65536 partition[0].vars[0].size",
+    ),
     ("@y", "@z", "LineName script[0].lines[0]:9"),
 ];
 

@@ -55,7 +55,9 @@ fn common_lines(one: &[u8], other: &[u8]) -> usize {
 fn expected(alloc: Global, image: &Image, events: &[Event], dump: &[u8]) -> Result<Verdict, Fail> {
     let mut judge = Matrix::boot(alloc, image)?;
     if let Err(k) = judge.judge(events) {
-        return Ok(Verdict::NoStep { line: line_behind(k) });
+        return Ok(Verdict::NoStep {
+            line: line_behind(k),
+        });
     }
     if !judge.is_final() {
         return Ok(Verdict::NotComplete);
@@ -69,14 +71,29 @@ fn expected(alloc: Global, image: &Image, events: &[Event], dump: &[u8]) -> Resu
 }
 
 /// The audit of some events and a dump agrees with the judge.
-fn agrees(rt: &impl Abort, alloc: Global, image: &Image, events: &[Event], dump: &[u8]) -> Result<(), Fail> {
+fn agrees(
+    rt: &impl Abort,
+    alloc: Global,
+    image: &Image,
+    events: &[Event],
+    dump: &[u8],
+) -> Result<(), Fail> {
     let text = text_of(alloc, image, events, dump)?;
-    assert_eq!(rt; audit(alloc, image, &text)?, expected(alloc, image, events, dump)?);
+    assert_eq!(rt;
+        audit(alloc, image, &text)?,
+        expected(alloc, image, events, dump)?
+    );
     Ok(())
 }
 
 /// The first events of a list, then others, and then those behind so many that are left out.
-fn replaced(alloc: Global, events: &[Event], at: usize, out: usize, others: &[Event]) -> Result<Vec<Event>, Fail> {
+fn replaced(
+    alloc: Global,
+    events: &[Event],
+    at: usize,
+    out: usize,
+    others: &[Event],
+) -> Result<Vec<Event>, Fail> {
     let mut list = events[..at].to_vec(alloc)?;
     list.extend_from_slice(others)?;
     list.extend_from_slice(&events[at + out..])?;
@@ -91,13 +108,26 @@ fn have_one_line(alloc: Global, image: &Image, one: &Event, other: &Event) -> Re
 }
 
 /// An event with each of its fields wrong in turn, or of another thread, in the place of that event.
-fn changes_agree(rt: &impl Abort, alloc: Global, image: &Image, events: &[Event], dump: &[u8], at: usize) -> Result<(), Fail> {
+fn changes_agree(
+    rt: &impl Abort,
+    alloc: Global,
+    image: &Image,
+    events: &[Event],
+    dump: &[u8],
+    at: usize,
+) -> Result<(), Fail> {
     let event = events[at];
     let stranger = Event {
         thread: ThreadIx(event.thread.0 ^ 1),
         act: event.act,
     };
-    agrees(rt, alloc, image, &replaced(alloc, events, at, 1, &[stranger])?, dump)?;
+    agrees(
+        rt,
+        alloc,
+        image,
+        &replaced(alloc, events, at, 1, &[stranger])?,
+        dump,
+    )?;
     for field in 0..FIELDS {
         if let Some(act) = changed(&event.act, field) {
             let wrong = Event {
@@ -105,7 +135,13 @@ fn changes_agree(rt: &impl Abort, alloc: Global, image: &Image, events: &[Event]
                 act,
             };
             if !have_one_line(alloc, image, &event, &wrong)? {
-                agrees(rt, alloc, image, &replaced(alloc, events, at, 1, &[wrong])?, dump)?;
+                agrees(
+                    rt,
+                    alloc,
+                    image,
+                    &replaced(alloc, events, at, 1, &[wrong])?,
+                    dump,
+                )?;
             }
         }
     }
@@ -137,10 +173,28 @@ fn audits_agree_with_the_judge(rt: HostRuntime) -> Result<(), Fail> {
         let whole = text_of(alloc, &image, &events, &dump)?;
         assert_eq!(rt; audit(alloc, &image, &whole)?, Verdict::Yes);
         for (at, event) in events.iter().enumerate() {
-            agrees(&rt, alloc, &image, &replaced(alloc, &events, at, 1, &[])?, &dump)?;
-            agrees(&rt, alloc, &image, &replaced(alloc, &events, at, 1, &[*event, *event])?, &dump)?;
+            agrees(
+                &rt,
+                alloc,
+                &image,
+                &replaced(alloc, &events, at, 1, &[])?,
+                &dump,
+            )?;
+            agrees(
+                &rt,
+                alloc,
+                &image,
+                &replaced(alloc, &events, at, 1, &[*event, *event])?,
+                &dump,
+            )?;
             if let Some(other) = events.get(at.saturating_add(1)) {
-                agrees(&rt, alloc, &image, &replaced(alloc, &events, at, 2, &[*other, *event])?, &dump)?;
+                agrees(
+                    &rt,
+                    alloc,
+                    &image,
+                    &replaced(alloc, &events, at, 2, &[*other, *event])?,
+                    &dump,
+                )?;
             }
             changes_agree(&rt, alloc, &image, &events, &dump, at)?;
         }
