@@ -57,7 +57,7 @@ and-true false b h = refl
 abbrev left_by : Bool → Bool → Leftover
 left_by there last = if not there then Leftover.NoPair else if last then Leftover.Gone else Leftover.Kept
 
-dropped-has : (there last : Bool) → is_dropped (left_by there last) ≡ true → there ≡ true
+pub dropped-has : (there last : Bool) → is_dropped (left_by there last) ≡ true → there ≡ true
 dropped-has true last h = refl
 dropped-has false last h = absurd (false≢true h)
 
@@ -70,7 +70,7 @@ module _ (f : Fine) (m : State) (rel : Rel f m) where
       by (inl e) = e
       by (inr less) = absurd (true≢false (sym lives ∙ ap Plain.is_live ((rel.rows x few).status.vacated less).1))
 
-  left-here : (x who : ℕ) → x < ROWS → Held m x who → left_of (row f x) who ≡ T.dropped m who x
+  pub left-here : (x who : ℕ) → x < ROWS → Held m x who → left_of (row f x) who ≡ T.dropped m who x
   left-here x who few held = by (pair_at m who x) refl
     where
       same : Plain.has_no_pair (with_pair m who x false) x ≡ list_all not (slice_set (slice_index_or m.pairs x []) who false)

@@ -10,9 +10,10 @@ use Rattle.um_fine.specs.Opening.{s_start}
 use Rattle.um_fine.specs.Runs.{ends, state_at, sublist}
 use Rattle.um_fine.specs.FineRun.{p_start, site_of}
 use Rattle.um_erasure.specs.Fine.{Fine, heap, row, total}
+use Rattle.um_erasure.specs.Looks.{LooksAre}
 use Rattle.um_erasure.specs.Offers.{ListIs}
 use Rattle.um_erasure.specs.Threads.{DomainKept, HeldIs, RunningIs, WordIs}
-use Rattle.um_erasure.specs.Cleaning.{CleaningIs}
+use Rattle.um_erasure.specs.Cleaning.{AreBlocks, CleaningIs}
 use Rattle.um_erasure.specs.Domains.{DomainIs, TableIs}
 use Rattle.um_erasure.specs.Resources.{MemoryIs}
 use Rattle.um_erasure.proofs.Erased.{fine}
@@ -103,3 +104,9 @@ module _ (image : Image) where
           emptied = λ who h cleans. absurd (omega (arith, cleans));
           charged = λ cleans h. absurd (omega (arith, cleans));
         }
+
+    pub looks-first : (k : ℕ) → LooksAre first (opening image) k
+    looks-first k = record { size = λ a h. absurd (none-some h); reply = λ d h. absurd (none-some h) }
+
+    pub blocks-first : (k : ℕ) → AreBlocks image (first.processors k).todo
+    blocks-first k = tt

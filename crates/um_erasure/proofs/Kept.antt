@@ -33,17 +33,17 @@ sorts-kept image ss e was i =
       | false ↦ was i
     ]
 
-scheduler-sort : (s : SiteState) → IsTrue (is_sort Site.scheduler s) → (n : ℕ) × (s ≡ SiteState.cell n (Cell.scheduler (scheduler_state s)))
+pub scheduler-sort : (s : SiteState) → IsTrue (is_sort Site.scheduler s) → (n : ℕ) × (s ≡ SiteState.cell n (Cell.scheduler (scheduler_state s)))
 scheduler-sort (SiteState.cell n (Cell.scheduler s)) is = (n, refl)
 scheduler-sort s is = absurd (false≢true is)
 
 -- an idle processor asks for the first of the ready list
-idle-moves : (image : Image) (p : Processor) (s : Scheduler) (moved : Exchange) → sched_moves s (says_idle image p moved) moved ≡ first_ready s s.ready
+pub idle-moves : (image : Image) (p : Processor) (s : Scheduler) (moved : Exchange) → sched_moves s (says_idle image p moved) moved ≡ first_ready s s.ready
 idle-moves image p s (Exchange.thread c None) = refl
 idle-moves image p s (Exchange.thread c (Some told)) = refl
 idle-moves image p s moved = refl
 
-idle-takes : (image : Image) (p : Processor) (s : Scheduler) (moved : Exchange) → IsTrue (sched_takes s (says_idle image p moved)) → IsTrue (has_ready s s.ready)
+pub idle-takes : (image : Image) (p : Processor) (s : Scheduler) (moved : Exchange) → IsTrue (sched_takes s (says_idle image p moved)) → IsTrue (has_ready s s.ready)
 idle-takes image p s (Exchange.thread c None) h = h
 idle-takes image p s (Exchange.thread c (Some told)) h = h
 idle-takes image p s moved h = h

@@ -1,6 +1,7 @@
 -- What fine steps do to both machines. Erased is the theorem, under the premise that each step keeps the relation. Of that premise: the
 -- own parts of threads (Own, Others), claims (ListClaims, RowClaims), what is kept (ListFits, Kept, Quiet, MemoryKept, MemoryWritten),
--- what holds at the opening (First), and that events are steps of the machine where the relation holds (Says, Offered, and then Shown and the files of steps).
+-- what holds at the opening (First), and that events are steps of the machine where the relation holds (Says, Offered, HeldRows, and then
+-- Shown and the files of steps).
 pub mod Erased
 pub mod ThreadLists
 pub mod Own
@@ -16,9 +17,13 @@ pub mod MemorySteps
 pub mod TextSteps
 pub mod DomainSteps
 pub mod HeapSteps
+pub mod HeldRows
+pub mod WorkSteps
 pub mod VisitSteps
 pub mod DropSteps
 pub mod Kept
+pub mod ResumeSteps
+pub mod CleanSteps
 pub mod Quiet
 pub mod MemoryKept
 pub mod MemoryWritten

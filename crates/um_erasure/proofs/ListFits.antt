@@ -88,11 +88,11 @@ module _ (image : Image) where
 
   turn-ends : (c : Context) (b : Bool) → c.pending ≡ [] → Fits image c (end_of_turn image b)
   turn-ends c true h = tt
-  turn-ends c false h = inl h
+  turn-ends c false h = (inl h, refl)
 
   next-fits : (c : Context) (steps : Steps) → c.pending ≡ steps → Fits image c (next_steps image c steps)
   next-fits c [] h = turn-ends c c.ended h
-  next-fits c (Pending.Resume ∷ rest) h = inr (ap waits h)
+  next-fits c (Pending.Resume ∷ rest) h = (inr (ap waits h), refl)
   next-fits c (Pending.Inherit who ∷ q ∷ rest) h =
       passes-fit c who.0 (but (own_row image c.thread) 0) (fine_steps image c q rest)
       (record { child = who; step = q; rest = rest; pending = h; same = refl; behind = refl })

@@ -41,7 +41,7 @@ lt-else k n l ne = by (eq-or-lt_of_le (omega (arith, l)))
     by (inr less) = less
 
 -- a part of a sum is at most the sum
-part-total : (g : ℕ → ℕ) (n k : ℕ) → k < n → g k ≤ total g n
+pub part-total : (g : ℕ → ℕ) (n k : ℕ) → k < n → g k ≤ total g n
 part-total g zero k l = absurd (omega arith)
 part-total g (suc n) k l = by (k == n) refl (part-total g n k)
   where

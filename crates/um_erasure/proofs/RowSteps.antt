@@ -78,7 +78,7 @@ module _ (f : Fine) (m : State) (rel : Rel f m) where
   row-stands x = row-sort x (f.sites (Site.row x)) (rel.sorts (Site.row x))
 
   -- a row that isn't free isn't between its `vacate` and its `recycle`
-  settled : (x : ℕ) → x < ROWS → is_free (row f x).stage ≡ false → vacaters f x ≡ recyclers f x
+  pub settled : (x : ℕ) → x < ROWS → is_free (row f x).stage ≡ false → vacaters f x ≡ recyclers f x
   settled x few h = by (eq-or-lt_of_le (rel.rows x few).cleaners.order)
     where
       by : (vacaters f x ≡ recyclers f x) ⊎ (vacaters f x < recyclers f x) → vacaters f x ≡ recyclers f x

@@ -34,7 +34,8 @@ claims f m x =
     + total (λ t. one_if ((thread_at m t).keeps_own && (own_row f.image t == x))) THREADS
     + total (λ t. one_if (creates f.image x (thread_at m t).child)) THREADS
 
--- The word of a row counts all claims; an object that is dying has one.
+-- The word of a row counts all claims; an object that is dying has one, and a row without an object has none.
 pub record ClaimsAre (f : Fine) (m : State) (x : ℕ) : Type 0 where
   pub claimed : (row f x).claims ≡ claims f m x
   pub dying : (row f x).stage ≡ Stage.Dying → 0 < (row f x).claims
+  pub free : (row f x).stage ≡ Stage.Free → (row f x).claims ≡ 0

@@ -8,4 +8,5 @@ pub mod Cleaning
 pub mod Dues
 pub mod Domains
 pub mod Resources
+pub mod Looks
 pub mod Relation

@@ -1,10 +1,13 @@
 -- What a processor has on its list of steps to make.
-use Rattle.std.specs.Prelude.{ℕ, ◌+◌, Bool, true, false, ◌==◌, ◌&&◌, not, if◌then◌else◌, [], ◌∷◌, Option, Some, None}
+use Rattle.std.specs.Prelude.{◌≡◌, ◌⊎◌, ℕ, ◌+◌, Bool, true, false, ◌==◌, ◌&&◌, not, if◌then◌else◌, [], ◌∷◌, Option, Some, None}
 use Rattle.std.specs.List.{list_any}
 use Rattle.um_base.specs.declared.ask.Told.{Told}
 use Rattle.um_base.specs.declared.limits.TheConstants.{ROWS}
+use Rattle.um_base.specs.declared.names.Addr.{Addr}
 use Rattle.um_base.specs.declared.names.Reply.{Reply}
+use Rattle.um_machine.specs.declared.pending.Amount.{Amount}
 use Rattle.um_machine.specs.declared.pending.Pending.{Pending}
+use Rattle.um_fine.specs.Context.{Context}
 use Rattle.um_fine.specs.Places.{Todo, Todos}
 use Rattle.um_fine.specs.Processor.{Processor, fails}
 
@@ -43,6 +46,13 @@ is_wipe x _ = false
 abbrev pub is_add : ℕ → Todo → Bool
 is_add t (Todo.add c) = c.thread == t
 is_add t _ = false
+
+-- a thread that was started is added with this own part by a step on a list
+abbrev pub Adds : Context → Todos → Type 0
+Adds c [] = ⊥
+Adds c (Todo.show q rest ∷ todo) = ⊥
+Adds c (Todo.add d ∷ todo) = (c ≡ d) ⊎ Adds c todo
+Adds c (q ∷ todo) = Adds c todo
 
 abbrev pub is_hold : Todo → Bool
 is_hold Todo.hold = true
@@ -116,3 +126,26 @@ abbrev pub cleaned_pairs : ℕ → Todos → ℕ
 cleaned_pairs who [] = ROWS
 cleaned_pairs who (Todo.clean_pair u x ∷ todo) = if u == who then x else cleaned_pairs who todo
 cleaned_pairs who (q ∷ todo) = cleaned_pairs who todo
+
+-- the queue of whose messages the event that comes next copies or probes one, once their size was looked at
+abbrev pub queue_of : Amount → Option Addr
+queue_of (Amount.Bytes n) = None
+queue_of (Amount.MessageOf a) = Some a
+
+abbrev pub queue_in : Pending → Option Addr
+queue_in (Pending.Probe a amount) = queue_of amount
+queue_in (Pending.CopyIn a amount) = queue_of amount
+queue_in _ = None
+
+abbrev pub looked : Todos → Option Addr
+looked (Todo.show q rest ∷ todo) = queue_in q
+looked (Todo.hold ∷ todo) = looked todo
+looked (Todo.read_claim d ∷ todo) = looked todo
+looked (Todo.region_load ∷ todo) = looked todo
+looked _ = None
+
+-- the domain to which a thread moves by the event that comes next, once it was claimed
+abbrev pub moving : Todos → Option ℕ
+moving (Todo.read_done (Some d) ∷ todo) = Some d
+moving (Todo.show (Pending.DomMove d who) rest ∷ todo) = Some d
+moving _ = None

@@ -71,7 +71,7 @@ module _ (image : Image) where
   Fits c (Todo.show q rest ∷ todo) = IsOffered c q rest × (todo ≡ behind_shown c q)
   Fits c (Todo.pass who x ∷ todo) = Passes c who todo
   Fits c (Todo.drop x ∷ todo) = Drops c todo
-  Fits c (Todo.park ∷ todo) = IsPutBack c
+  Fits c (Todo.park ∷ todo) = IsPutBack c × (todo ≡ [])
   Fits c (Todo.add d ∷ todo) = (d.pending ≡ []) × Fits c todo
   Fits c (q ∷ todo) = Fits c todo
 

@@ -9,8 +9,9 @@ use Rattle.um_erasure.specs.Fine.{Fine}
 use Rattle.um_erasure.specs.Threads.{AwayIs, ContextsAre, DomainKept, HeldIs, ReadyIs, RunningIs, ToldIs, WordIs}
 use Rattle.um_erasure.specs.Claims.{ClaimsAre}
 use Rattle.um_erasure.specs.Objects.{ContentsAre, PairsAre, StatusIs}
-use Rattle.um_erasure.specs.Cleaning.{CleanersAre, CleaningIs}
+use Rattle.um_erasure.specs.Cleaning.{AreBlocks, CleanersAre, CleaningIs}
 use Rattle.um_erasure.specs.Dues.{DuesAre}
+use Rattle.um_erasure.specs.Looks.{LooksAre}
 use Rattle.um_erasure.specs.Offers.{ListIs}
 use Rattle.um_erasure.specs.Domains.{DomainIs, TableIs}
 use Rattle.um_erasure.specs.Resources.{HeapIs, MemoryIs}
@@ -37,6 +38,8 @@ pub record ProcessorIs (f : Fine) (m : State) (k : ℕ) : Type 0 where
   pub domain : DomainKept f k
   pub dues : DuesAre f m k
   pub table : TableIs f m k
+  pub looks : LooksAre f m k
+  pub blocks : AreBlocks f.image (f.processors k).todo
   pub cleaning : (x : ℕ) → CleaningIs f m k x
 
 pub record Rel (f : Fine) (m : State) : Type 0 where

@@ -1,16 +1,15 @@
 -- Threads: their words, where their own parts lie, what they are told, and who is ready.
 use Rattle.std.specs.Prelude.{◌≡◌, ◌≢◌, ◌⊎◌, ℕ, zero, suc, ◌+◌, ◌<◌, ◌≤◌, Bool, true, false, ◌==◌, ◌&&◌, ◌||◌, not, IsTrue, if◌then◌else◌, List, [], ◌∷◌, Option, Some, None, is_some, slice_set}
-use Rattle.std.specs.List.{list_any}
 use Rattle.um_base.specs.declared.ask.Told.{Told}
 use Rattle.um_base.specs.declared.limits.TheConstants.{THREADS}
 use Rattle.um_machine.specs.declared.thread.Life.{Life}
 use Rattle.um_machine.specs.declared.thread.Thread.{Thread}
-use Rattle.um_machine.specs.State.{State, nobody, no_rows, thread_at}
+use Rattle.um_machine.specs.State.{State, is_started, nobody, no_rows, thread_at}
 use Rattle.um_fine.specs.Context.{Context, as_thread}
 use Rattle.um_fine.specs.Scheduler.{parked_at, told_at, waits}
 use Rattle.um_erasure.specs.Offers.{IsPutBack}
 use Rattle.um_erasure.specs.Fine.{Fine, one_if, over_processors, scheduler, word}
-use Rattle.um_erasure.specs.Lists.{counted, has_held, is_add, runs, runs_thread, wake_of}
+use Rattle.um_erasure.specs.Lists.{Adds, counted, has_held, is_add, runs, runs_thread, wake_of}
 
 -- The word of a thread index says what the machine's thread is.
 pub record WordIs (f : Fine) (m : State) (t : ℕ) : Type 0 where
@@ -43,22 +42,23 @@ abbrev pub is_ended : Life → Bool
 is_ended Life.Ended = true
 is_ended _ = false
 
--- An own part is that of the machine's thread, and holds what that thread's call holds.
+-- An own part is that of the machine's thread, which was started, and holds what that thread's call holds.
 pub record IsOf (m : State) (c : Context) : Type 0 where
   pub index : c.thread < THREADS
   pub own : as_thread c ≡ own_part (thread_at m c.thread)
   pub claims : (thread_at m c.thread).checked ≡ flags_of c.claims
   pub ended : c.ended ≡ is_ended (thread_at m c.thread).life
+  pub started : IsTrue (is_started (thread_at m c.thread).life)
 
 -- in how many places an own part lies: with processors that run the thread, on the way to the ready list, and parked
 abbrev pub places : Fine → ℕ → ℕ
 places f t = over_processors f (λ p. one_if (runs_thread t p) + counted (is_add t) p.todo) + one_if (is_some (parked_at (scheduler f) t))
 
--- Own parts lie with processors, parked, or with a new thread that isn't added yet.
+-- Own parts lie with processors, parked, or, of a new thread that was started and isn't added yet, on the list of a processor.
 pub record ContextsAre (f : Fine) (m : State) : Type 0 where
   pub running : (k : ℕ) → k < f.cpus → runs (f.processors k) ≡ true → IsOf m (f.processors k).context
   pub parked : (t : ℕ) (c : Context) → parked_at (scheduler f) t ≡ Some c → IsOf m c × (c.thread ≡ t) × (c.ended ≡ false) × IsPutBack c
-  pub added : (k t : ℕ) → k < f.cpus → IsTrue (list_any (is_add t) (f.processors k).todo) → (c : Context) × IsOf m c × (c.thread ≡ t)
+  pub added : (k : ℕ) (c : Context) → k < f.cpus → Adds c (f.processors k).todo → IsOf m c × (c.ended ≡ false) × (c.pending ≡ [])
   pub once : (t : ℕ) → t < THREADS → places f t ≤ 1
 
 -- A thread that lies nowhere was never started, has ended, or is doomed at rest.

@@ -4,6 +4,7 @@ use Rattle.std.specs.Prelude.{ℕ, ◌+◌, Bool, true, false, ◌==◌, ◌&&�
 use Rattle.std.specs.List.{list_all}
 use Rattle.um_base.specs.declared.image.Image.{Image}
 use Rattle.um_base.specs.declared.limits.TheConstants.{STATIC_ROWS}
+use Rattle.um_base.specs.declared.names.Addr.{Addr}
 use Rattle.um_base.specs.Places.{thread_of_row}
 use Rattle.um_base.specs.Regions.{Partitions}
 use Rattle.um_machine.specs.declared.object.Cost.{Cost}
@@ -13,19 +14,21 @@ use Rattle.um_machine.specs.Domains.{domain_after}
 use Rattle.um_machine.specs.Memory.{partitions_of}
 use Rattle.um_machine.specs.Objects.{is_free, is_gone}
 use Rattle.um_machine.specs.Run.{opening}
-use Rattle.um_machine.specs.State.{State, is_user, object_at, pair_at, thread_at}
-use Rattle.um_machine.specs.Table.{after, domain_at}
+use Rattle.um_machine.specs.State.{State, is_started, is_user, object_at, pair_at, thread_at}
+use Rattle.um_machine.specs.Table.{after, domain_at, message_size}
 use Rattle.um_words.specs.declared.fine.FineAct.{FineAct}
 use Rattle.um_words.specs.declared.row_word.Stage.{Stage}
 use Rattle.um_words.specs.Rows.{is_dying}
 use Rattle.um_fine.specs.declared.table.Table.{Table}
+use Rattle.um_fine.specs.Addresses.{row_named}
 use Rattle.um_fine.specs.Context.{Context}
 use Rattle.um_fine.specs.Steps.{FineStep}
 use Rattle.um_fine.specs.Heap.{cost_at}
 use Rattle.um_fine.specs.Scheduler.{parked_at, told_at}
-use Rattle.um_fine.specs.Processor.{Processor, edit_of, key_of, same_key}
+use Rattle.um_fine.specs.Places.{Todo, Todos}
+use Rattle.um_fine.specs.Processor.{Processor, edit_of, fails, key_of, same_key}
 use Rattle.um_erasure.specs.Fine.{Fine, domain, heap, object, one_if, over_processors, parts, row, scheduler, word}
-use Rattle.um_erasure.specs.Lists.{cleaned_pairs, counted, edited, edits, has_claimed, has_held, has_loaded, is_recycle, is_wipe, runs, runs_thread, visited}
+use Rattle.um_erasure.specs.Lists.{cleaned_pairs, counted, edited, edits, has_claimed, has_held, has_loaded, is_recycle, is_wipe, looked, moving, runs, runs_thread, visited}
 use Rattle.um_erasure.specs.Threads.{flags_of, is_ended, is_ready_there, occurs, places, told_by}
 use Rattle.um_erasure.specs.Claims.{claims}
 use Rattle.um_erasure.specs.Objects.{is_being_born, recyclers, status_of, vacaters, wipers}
@@ -100,7 +103,7 @@ module _ (n : Tested) (f : Fine) (m : State) where
       same_numbers c.registers me.registers && length c.pending == length me.pending && same_numbers c.buffer me.buffer
       && c.place.script == me.place.script && c.place.line == me.place.line && c.place.left == me.place.left
       && same_bool (is_user c.mode) (is_user me.mode) && c.stack.0 == me.stack.0
-      && same_bool c.ended (is_ended me.life)
+      && same_bool c.ended (is_ended me.life) && is_started me.life
       && list_all (λ x. same_bool (slice_index_or (flags_of c.claims) x false) (slice_index_or me.checked x false)) n.rows
 
   abbrev pub parked_is : ℕ → Option Context → Bool
@@ -156,8 +159,9 @@ module _ (n : Tested) (f : Fine) (m : State) where
       let v = row f x in
       v.claims == claims f m x
       && implies (stage_number v.stage == 2) (nat_lt 0 v.claims)
+      && implies (stage_number v.stage == 0) (v.claims == 0)
       && implies (stage_number v.stage == 3) (v.claims == 0 && vacaters f x == 1)
-      && nat_le (vacaters f x) (recyclers f x)
+      && nat_le (vacaters f x) (recyclers f x) && nat_le (wipers f x) (vacaters f x)
       && recyclers f x == one_if (is_gone o.status && not (is_dying v.stage))
       && begun_by x
       && list_all (λ k. implies (cleans_it x k && counted (is_wipe x) (f.processors k).todo == 0) (same_cost (f.processors k).charge o.buffer)) cpus
@@ -192,11 +196,27 @@ module _ (n : Tested) (f : Fine) (m : State) where
   table_loaded p None = false
   table_loaded p (Some table) = same_key table.key (key_of p)
 
+  -- what a processor was told for its next event
+  abbrev pub size_is : Processor → Option Addr → Bool
+  size_is p None = true
+  size_is p (Some a) = p.size == message_size (object_at m (row_named f.image a)).contents
+
+  abbrev pub reply_is : Processor → Option ℕ → Bool
+  reply_is p None = true
+  reply_is p (Some d) = same_bool (fails p.reply) (not (is_some (domain_at m d)))
+
+  -- the own parts of new threads that were started and are still to be added
+  abbrev pub added_are : Todos → Bool
+  added_are [] = true
+  added_are (Todo.add c ∷ todo) = is_of c && not c.ended && length c.pending == 0 && added_are todo
+  added_are (Todo.show q rest ∷ todo) = true
+  added_are (q ∷ todo) = added_are todo
+
   abbrev pub processor_is : ℕ → Bool
   processor_is k =
       let p = f.processors k in
       let me = thread_at m p.context.thread in
-      implies (runs p) (is_of p.context)
+      implies (runs p) (is_of p.context) && added_are p.todo && size_is p (looked p.todo) && reply_is p (moving p.todo)
       && implies (has_held p) (p.domain == (word f p.context.thread).domain)
       && implies (has_claimed p) (p.version == (domain f p.domain).version)
       && table_stands p.table

@@ -1,0 +1,101 @@
+-- A processor that takes a thread which was told something makes that thread's resume, where the relation holds and the machine tells
+-- only threads that wait.
+use Rattle.std.proofs.Common.{◌≡◌, ℕ, zero, suc, ◌<◌, true, List, [], ◌∷◌, Option, Some, None, refl, sym, ap, ◌∙◌, subst}
+use Rattle.std.specs.Prelude.{IsTrue, is_some, unwrap_or}
+use Rattle.std.proofs.lemmas.Bool.{and_parts, false≢true}
+use Rattle.um_base.specs.declared.ask.Told.{Told}
+use Rattle.um_base.specs.declared.limits.TheConstants.{THREADS}
+use Rattle.um_machine.specs.declared.pending.Pending.{Pending}
+use Rattle.um_machine.specs.Order.{Steps}
+use Rattle.um_machine.specs.Run.{goes}
+use Rattle.um_machine.specs.State.{State, thread_at}
+use Rattle.um_machine.specs.Table as T
+use Rattle.um_words.specs.declared.fine.FineAct.{FineAct}
+use Rattle.um_fine.specs.Context.{Context, no_context}
+use Rattle.um_fine.specs.Steps.{Exchange, FineStep, Site}
+use Rattle.um_fine.specs.Scheduler.{first_ready, has_ready, parked_at, sched_moves, told_at, waits}
+use Rattle.um_fine.specs.Cells.{Cell}
+use Rattle.um_fine.specs.Sites.{SiteMay, SiteState, site_moves, site_takes}
+use Rattle.um_fine.specs.Places.{Todos}
+use Rattle.um_fine.specs.Asks.{CpuMay, says, says_idle, site_at}
+use Rattle.um_erasure.specs.Fine.{Fine, scheduler}
+use Rattle.um_erasure.specs.Lists.{wake_of}
+use Rattle.um_erasure.specs.Threads.{IsOf, first_told, told_by}
+use Rattle.um_erasure.specs.Relation.{Rel}
+use Rattle.um_erasure.proofs.Erased.{Goes, GoesBy}
+use Rattle.um_erasure.proofs.Kept.{idle-moves, idle-takes, scheduler-sort}
+
+-- what is known of the machine: who was told something waits
+abbrev pub TellsWaiters : State → Type 0
+TellsWaiters m = (t : ℕ) (told : Told) → (thread_at m t).told ≡ Some told → IsTrue (waits (thread_at m t).pending)
+
+waits-form : (steps : Steps) → IsTrue (waits steps) → (rest : Steps) × (steps ≡ Pending.Resume ∷ rest)
+waits-form (Pending.Resume ∷ rest) h = (rest, refl)
+waits-form steps h = absurd (false≢true h)
+
+-- what goes with the thread that is taken
+abbrev told_in : Exchange → Option Told
+told_in (Exchange.thread c told) = told
+told_in moved = None
+
+abbrev thread_in : Exchange → Context
+thread_in (Exchange.thread c told) = c
+thread_in moved = no_context
+
+first-some : (a b : Option Told) → is_some b ≡ true → is_some (first_told a b) ≡ true
+first-some None b h = h
+first-some (Some w) b h = refl
+
+pub some-is : {A : Type 0} (o : Option A) → is_some o ≡ true → (x : A) × (o ≡ Some x)
+some-is None h = absurd (false≢true h)
+some-is (Some x) h = (x, refl)
+
+module _ (f : Fine) (m : State) (rel : Rel f m) where
+  -- whom the scheduler has something to tell, the machine has told something
+  told-some : (t n : ℕ) → is_some (told_at (scheduler f) t) ≡ true → is_some (told_by f t n) ≡ true
+  told-some t zero h = h
+  told-some t (suc n) h = first-some (wake_of t (f.processors n).todo) (told_by f t n) (told-some t n h)
+
+  -- the thread that is taken is parked, and has been told this
+  record Taken (c : Context) (told : Told) : Type 0 where
+    of : IsOf m c
+    tells : (w : Told) × ((thread_at m c.thread).told ≡ Some w)
+
+  first-taken : (ready : List ℕ) (c : Context) (told : Told) → IsTrue (has_ready (scheduler f) ready)
+      → first_ready (scheduler f) ready ≡ Exchange.thread c (Some told) → Taken c told
+  first-taken [] c told has e = absurd (false≢true has)
+  first-taken (t ∷ ready) c told has e =
+      let parked = some-is (parked_at (scheduler f) t) (and_parts _ _ has).0 in
+      let same : parked.0 ≡ c = ap (λ (o : Option Context). unwrap_or o no_context) (sym parked.1) ∙ ap thread_in e in
+      let is = rel.contexts.parked t parked.0 parked.1 in
+      let at : c.thread ≡ t = ap (λ (z : Context). z.thread) (sym same) ∙ is.1 in
+      let few : t < THREADS = subst (λ n. n < THREADS) is.1 is.0.index in
+      let told-there : is_some (told_at (scheduler f) t) ≡ true = ap (λ z. is_some (told_in z)) e in
+      let w = some-is (told_by f t f.cpus) (told-some t f.cpus told-there) in
+      record {
+        of = subst (IsOf m) same is.0;
+        tells = (w.0, ap (λ n. (thread_at m n).told) at ∙ ((rel.threads t few).told.told ∙ w.1));
+      }
+
+  pub resume-step : {k : ℕ} {e : FineStep} (c : Context) (told : Told) → k < f.cpus → (f.processors k).todo ≡ [] → CpuMay f.image (f.processors k) e
+      → SiteMay f.image (f.sites e.site) e → e.moved ≡ Exchange.thread c (Some told) → TellsWaiters m
+      → (rest : Steps) × Goes m e (T.after m c.thread 0 Pending.Resume rest)
+  resume-step {k} {e} c told there idle may taken moved waiters =
+      let p = f.processors k in
+      let site : e.site ≡ Site.scheduler = sym (ap (λ (s : FineStep). s.site) may.makes) ∙ ap (site_at f.image p) idle in
+      let act : e.act ≡ says_idle f.image p e.moved =
+      sym (ap (λ (s : FineStep). s.act) may.makes) ∙ ap (λ (z : Todos). says f.image p z e.act e.moved) idle in
+      let at = scheduler-sort (f.sites Site.scheduler) (rel.sorts Site.scheduler) in
+      let moves : sched_moves (scheduler f) (says_idle f.image p e.moved) e.moved ≡ e.moved =
+      subst (λ (s : SiteState). site_moves f.image s (says_idle f.image p e.moved) e.moved ≡ e.moved) at.1
+      (subst (λ (z : Site × FineAct). site_moves f.image (f.sites z.0) z.1 e.moved ≡ e.moved) (λ i. (site i, act i)) (ap (λ (s : FineStep). s.moved) taken.filled_in)) in
+      let takes : IsTrue (site_takes (SiteState.cell at.0 (Cell.scheduler (scheduler f))) (says_idle f.image p e.moved)) =
+      subst (λ (s : SiteState). IsTrue (site_takes s (says_idle f.image p e.moved))) at.1
+      (subst (λ (z : Site × FineAct). IsTrue (site_takes (f.sites z.0) z.1)) (λ i. (site i, act i)) taken.takes) in
+      let ready = idle-takes f.image p (scheduler f) e.moved (and_parts _ _ takes).1 in
+      let is = first-taken (scheduler f).ready c told ready (sym (idle-moves f.image p (scheduler f) e.moved) ∙ (moves ∙ moved)) in
+      let steps = waits-form (thread_at m c.thread).pending (waiters c.thread is.tells.0 is.tells.1) in (
+        steps.0,
+        subst (λ a. GoesBy m a (T.after m c.thread 0 Pending.Resume steps.0)) (sym (act ∙ ap (says_idle f.image p) moved))
+            (record { step = Pending.Resume; rest = steps.0; row = 0; offered = goes steps.1; chosen = is.tells; says = refl; leaves = refl }),
+      )

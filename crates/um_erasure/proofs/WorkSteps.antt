@@ -1,0 +1,92 @@
+-- A processor's event on the contents of an object that its thread holds is that step of the machine, where the relation holds. So is a
+-- copy or a probe of a queue's message, whose size it has looked at, and a move to a domain, which it has claimed.
+use Rattle.std.proofs.Common.{◌≡◌, ℕ, ◌<◌, true, false, ◌∷◌, Some, refl, sym, ap, ◌∙◌, subst, length}
+use Rattle.std.specs.Prelude.{IsTrue, slice_index_or}
+use Rattle.std.proofs.lemmas.Bool.{false≢true}
+use Rattle.um_base.specs.declared.act.Act.{Act}
+use Rattle.um_base.specs.declared.ask.Ask.{Ask}
+use Rattle.um_base.specs.declared.limits.TheConstants.{ROWS}
+use Rattle.um_base.specs.declared.names.Access.TheVariants as Access
+use Rattle.um_base.specs.declared.names.Addr.{Addr}
+use Rattle.um_base.specs.declared.names.ThreadIx.{ThreadIx}
+use Rattle.um_machine.specs.declared.pending.Amount.TheVariants as Amount
+use Rattle.um_machine.specs.declared.pending.Pending.{Pending}
+use Rattle.um_machine.specs.declared.thread.Thread.{Thread}
+use Rattle.um_machine.specs.Memory.{allowed}
+use Rattle.um_machine.specs.Order.{Steps}
+use Rattle.um_machine.specs.Services.{Acted, acted}
+use Rattle.um_machine.specs.State.{State, object_at, thread_at}
+use Rattle.um_machine.specs.Table as T
+use Rattle.um_fine.specs.Addresses.{row_named}
+use Rattle.um_fine.specs.Answers.{act_in, answer_in, caller_in, outcome_in, woken_in}
+use Rattle.um_fine.specs.Cells.{Cell}
+use Rattle.um_fine.specs.Objects.{work_on}
+use Rattle.um_fine.specs.Steps.{Exchange, FineStep, Site}
+use Rattle.um_fine.specs.Sites.{SiteState, is_sort, site_answers}
+use Rattle.um_fine.specs.Places.{Todo, Todos}
+use Rattle.um_fine.specs.Asks.{caller, moves, shows}
+use Rattle.um_erasure.specs.Fine.{Fine, object, object_state}
+use Rattle.um_erasure.specs.Lists.{has_steps, looked, moving}
+use Rattle.um_erasure.proofs.Erased.{Goes}
+use Rattle.um_erasure.proofs.HeldRows.{checked-claimed, claimed-whole}
+use Rattle.um_erasure.proofs.MemorySteps.{allows-it}
+use Rattle.um_erasure.proofs.Offered.{Shows, act-is, behind-is, machine-step, own-part, says-at, site-is}
+use Rattle.um_erasure.proofs.RowSteps.{named-row}
+use Rattle.um_erasure.proofs.Says.{work-agrees}
+
+object-sort : (x : ℕ) (s : SiteState) → IsTrue (is_sort (Site.object x) s) → (n : ℕ) × (s ≡ SiteState.cell n (Cell.object (object_state s)))
+object-sort x (SiteState.cell n (Cell.object o)) h = (n, refl)
+object-sort x s h = absurd (false≢true h)
+
+-- what an act of work says that has come out so
+abbrev worked : Addr → Acted → Act
+worked a w = Act.Work a w.answer (T.replies_of w.woken)
+
+module _ {f : Fine} {m : State} {k : ℕ} {e : FineStep} {rest : Steps} {todo : Todos} where
+  -- the work of a call whose object its thread holds
+  pub work-step : (a : Addr) (ask : Ask) → row_named f.image a < ROWS
+      → slice_index_or (thread_at m (f.processors k).context.thread).checked (row_named f.image a) false ≡ true → Shows f m k e (Pending.Work a ask) rest todo
+      → Goes m e (T.after m (f.processors k).context.thread 0 (Pending.Work a ask) rest)
+  work-step a ask few held h =
+      let p = f.processors k in
+      let x = row_named f.image a in
+      let act = shows f.image p (Pending.Work a ask) e.act in
+      let cell = object-sort x (f.sites (Site.object x)) (h.rel.sorts (Site.object x)) in
+      let here = subst (λ (s : SiteState). site_answers f.image s e.moved act ≡ act) cell.1 (says-at h (Site.object x) act (site-is h) (act-is h)) in
+      let says : worked a (work_on (object f x) e.moved) ≡ Act.Work a (answer_in (act_in e.act)) (woken_in (act_in e.act)) = ap act_in here in
+      let moved : e.moved ≡ Exchange.asked (caller f.image p ask) (outcome_in e.moved) =
+      sym (ap (λ (s : FineStep). s.moved) h.may.makes) ∙ ap (λ (z : Todos). moves f.image p z e.moved) h.at in
+      let whole = claimed-whole f m h.rel x few (checked-claimed f m h.rel k x h.there few (ap has_steps h.at) held) in
+      let contents = (h.rel.rows x few).contents in
+      let own = (own-part h).own in
+      let same = work-agrees m p.context.thread x a ask (object f x) p.context (sym (named-row f m h.rel a)) (contents.contents whole) (contents.waiters whole)
+      (ap (λ (z : Thread). z.priority) own) (ap (λ (z : Thread). z.buffer) own) in
+      machine-step h 0 (act-is h) tt
+      (sym says ∙ ap (worked a) (ap (λ z. acted (object f x).contents (object f x).waiters (caller_in z)) moved ∙ same))
+
+  -- the size of a message is the machine's
+  size-is : (q : Pending) (b : Addr) → looked (Todo.show q rest ∷ todo) ≡ Some b → Shows f m k e q rest todo → (f.processors k).size ≡ T.amount_of m (Amount.MessageOf b)
+  size-is q b at h =
+      (h.rel.processors k h.there).looks.size b (ap looked h.at ∙ at) ∙ ap (λ x. T.message_size (object_at m x).contents) (sym (named-row f m h.rel b))
+
+  pub put-copy-step : (a b : Addr) → (f.processors k).domain < length f.image.domains → Shows f m k e (Pending.CopyIn a (Amount.MessageOf b)) rest todo
+      → Goes m e (T.after m (f.processors k).context.thread 0 (Pending.CopyIn a (Amount.MessageOf b)) rest)
+  put-copy-step a b few h =
+      let t = (f.processors k).context.thread in
+      let size = size-is (Pending.CopyIn a (Amount.MessageOf b)) b refl h in
+      machine-step h 0 (act-is h) tt
+      (ap (Act.CopyIn a (f.processors k).size) (allows-it h (behind-is h) few Access.Read a.0 (f.processors k).size)
+      ∙ ap (λ n. Act.CopyIn a n (allowed m t Access.Read a.0 n)) size)
+
+  pub get-probe-step : (a b : Addr) → (f.processors k).domain < length f.image.domains → Shows f m k e (Pending.Probe a (Amount.MessageOf b)) rest todo
+      → Goes m e (T.after m (f.processors k).context.thread 0 (Pending.Probe a (Amount.MessageOf b)) rest)
+  get-probe-step a b few h =
+      let t = (f.processors k).context.thread in
+      let size = size-is (Pending.Probe a (Amount.MessageOf b)) b refl h in
+      machine-step h 0 (act-is h) tt
+      (ap (Act.Probe a (f.processors k).size) (allows-it h (behind-is h) few Access.Write a.0 (f.processors k).size)
+      ∙ ap (λ n. Act.Probe a n (allowed m t Access.Write a.0 n)) size)
+
+  pub move-step : (d : ℕ) (who : ThreadIx) → Shows f m k e (Pending.DomMove d who) rest todo
+      → Goes m e (T.after m (f.processors k).context.thread 0 (Pending.DomMove d who) rest)
+  move-step d who h = machine-step h 0 (act-is h) tt (ap (Act.DomMove d who) ((h.rel.processors k h.there).looks.reply d (ap moving h.at)))
