@@ -28,7 +28,7 @@ use Rattle.um_fine.specs.Steps.{FineStep, Site}
 use Rattle.um_fine.specs.Sites.{SiteState, site_answers}
 use Rattle.um_fine.specs.Places.{Todo, Todos, emptying, fine_steps}
 use Rattle.um_fine.specs.Asks.{CpuMay, by_me, fits, is_dropped, says}
-use Rattle.um_erasure.specs.Fine.{Fine, one_if, row, scheduler, total}
+use Rattle.um_erasure.specs.Fine.{Fine, one_if, row, scheduler}
 use Rattle.um_erasure.specs.Lists.{Adds, cleaned_pairs, counted, has_steps, is_add, is_recycle, runs, runs_thread}
 use Rattle.um_erasure.specs.Claims.{call_claims, claims, context_claims}
 use Rattle.um_erasure.specs.Cleaning.{AreBlocks, Cleans}
@@ -39,7 +39,8 @@ use Rattle.um_erasure.specs.Threads.{IsOf, flags_of, occurs, places}
 use Rattle.um_erasure.specs.Relation.{Rel}
 use Rattle.um_erasure.proofs.Erased.{Goes, GoesBy}
 use Rattle.um_erasure.proofs.DropSteps.{Held, dropped-has, left-here}
-use Rattle.um_erasure.proofs.HeldRows.{flagged-occurs}
+use Rattle.um_erasure.proofs.FirstThreads.{one-most}
+use Rattle.um_erasure.proofs.HeldRows.{flagged-occurs, one-some, some-part}
 use Rattle.um_erasure.proofs.MemorySteps.{part-total}
 use Rattle.um_erasure.proofs.ResumeSteps.{some-is}
 use Rattle.um_erasure.proofs.RowSteps.{row-stands, settled}
@@ -63,15 +64,6 @@ pub record Calls (m : State) : Type 0 where
 -- each thread object of an image has a thread of its own
 abbrev pub OwnRows : Image → Type 0
 OwnRows image = (x who : ℕ) → thread_of_row image x ≡ Some who → (own_row image who ≡ x) × (x < ROWS)
-
--- a sum that isn't zero has a part that isn't
-some-part : (g : ℕ → ℕ) (n : ℕ) → 0 < total g n → (k : ℕ) × (k < n) × (0 < g k)
-some-part g zero h = absurd (omega (arith, h))
-some-part g (suc n) h = by (g n) refl (some-part g n)
-  where
-    by : (p : ℕ) → g n ≡ p → (0 < total g n → (k : ℕ) × (k < n) × (0 < g k)) → (k : ℕ) × (k < suc n) × (0 < g k)
-    by zero e more = let r = more (omega (arith, h, e)) in let l = r.1 in (r.0, omega (arith, l), r.2)
-    by (suc p) e more = (n, omega arith, omega (arith, e))
 
 -- A step that adds a thread has its own part, or stands behind the start of that thread, which comes next.
 
@@ -142,10 +134,6 @@ neither a b p q = ap (λ z. z || b) p ∙ q
 not-one : (b : Bool) → one_if b ≡ 0 → b ≡ false
 not-one true h = absurd (omega (arith, h))
 not-one false h = refl
-
-one-some : (b : Bool) → 0 < one_if b → b ≡ true
-one-some true h = refl
-one-some false h = absurd (omega (arith, h))
 
 module _ (f : Fine) (m : State) (rel : Rel f m) (calls : Calls m) where
   module _ (x : ℕ) (few : x < ROWS) (none : (row f x).claims ≡ 0) where
@@ -344,10 +332,6 @@ module _ {f : Fine} {m : State} {k : ℕ} {e : FineStep} {y who : ℕ} {todo : T
       drop-found =
           sym (ap (λ b. if b then not (has (row_in e.word) who) else is_dropped (left_in (act_in e.act))) h.shown)
           ∙ (and_parts _ _ (subst (λ (l : Todos). fits f.image (f.processors k) l e ≡ true) h.at h.may.fit)).0
-
-one-most : (b : Bool) → one_if b ≤ 1
-one-most true = omega arith
-one-most false = omega arith
 
 module _ (f : Fine) (m : State) (rel : Rel f m) (calls : Calls m) (own : OwnRows f.image) where
   -- the object that a processor recycles next has no permission of its thread left

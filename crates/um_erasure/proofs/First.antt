@@ -1,4 +1,4 @@
--- Parts of the relation hold at the opening, where no processor runs a thread.
+-- Parts of the relation hold at the opening, where no processor runs a thread: what is of processors, words, domains and memory.
 use Rattle.std.proofs.Common.{◌≡◌, ℕ, zero, suc, List, [], ◌∷◌, Option, Some, None, refl, sym, subst, arith}
 use Rattle.std.specs.Prelude.{IsTrue, slice_index_or}
 use Rattle.std.proofs.lemmas.Bool.{false≢true}
@@ -19,11 +19,11 @@ use Rattle.um_erasure.specs.Resources.{MemoryIs}
 use Rattle.um_erasure.proofs.Erased.{fine}
 use Rattle.um_erasure.proofs.RowSteps.{sort-next}
 
-total-none : (n : ℕ) → total (λ k. 0) n ≡ 0
+pub total-none : (n : ℕ) → total (λ k. 0) n ≡ 0
 total-none zero = refl
 total-none (suc n) = let h = total-none n in omega (arith, h)
 
-none-some : {A : Type 0} {x : A} → None ≡ Some x → ⊥
+pub none-some : {A : Type 0} {x : A} → None ≡ Some x → ⊥
 none-some {A} h = subst is-none h tt
   where
     is-none : Option A → Type 0

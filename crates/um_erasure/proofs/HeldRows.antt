@@ -21,7 +21,7 @@ use Rattle.um_erasure.proofs.RowSteps.{settled}
 
 -- Flags.
 
-none-flagged : (n x : ℕ) → slice_index_or (replicate n false) x false ≡ false
+pub none-flagged : (n x : ℕ) → slice_index_or (replicate n false) x false ≡ false
 none-flagged zero x = refl
 none-flagged (suc n) zero = refl
 none-flagged (suc n) (suc x) = none-flagged n x
@@ -68,12 +68,25 @@ clears-none image x (Todo.vacate z ∷ todo) h none = clears-none image x todo h
 clears-none image x (Todo.clean_pair who y ∷ todo) h none = clears-none image x todo h.1 none
 clears-none image x (q ∷ todo) h none = clears-none image x todo h none
 
-total-zero : (g : ℕ → ℕ) (n : ℕ) → ((k : ℕ) → k < n → g k ≡ 0) → total g n ≡ 0
+pub total-zero : (g : ℕ → ℕ) (n : ℕ) → ((k : ℕ) → k < n → g k ≡ 0) → total g n ≡ 0
 total-zero g zero h = refl
 total-zero g (suc n) h =
     let before = total-zero g n (λ k l. h k (omega (arith, l))) in
     let last = h n (omega arith) in
     omega (arith, before, last)
+
+-- a sum that isn't zero has a part that isn't
+pub some-part : (g : ℕ → ℕ) (n : ℕ) → 0 < total g n → (k : ℕ) × (k < n) × (0 < g k)
+some-part g zero h = absurd (omega (arith, h))
+some-part g (suc n) h = by (g n) refl (some-part g n)
+  where
+    by : (p : ℕ) → g n ≡ p → (0 < total g n → (k : ℕ) × (k < n) × (0 < g k)) → (k : ℕ) × (k < suc n) × (0 < g k)
+    by zero e more = let r = more (omega (arith, h, e)) in let l = r.1 in (r.0, omega (arith, l), r.2)
+    by (suc p) e more = (n, omega arith, omega (arith, e))
+
+pub one-some : (b : Bool) → 0 < one_if b → b ≡ true
+one-some true h = refl
+one-some false h = absurd (omega (arith, h))
 
 module _ (f : Fine) (m : State) (rel : Rel f m) where
   -- what a processor's call holds, and what it has still to end, is claimed in the word

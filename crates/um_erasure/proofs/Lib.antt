@@ -1,6 +1,6 @@
 -- What fine steps do to both machines. Erased is the theorem, under the premise that each step keeps the relation. Of that premise: the
--- own parts of threads (Own, Others), claims (ListClaims, RowClaims), what is kept (ListFits, Kept, Quiet, MemoryKept, MemoryWritten),
--- what holds at the opening (First), and that events are steps of the machine where the relation holds (Says, Offered, HeldRows, and then
+-- own parts of threads (Own, Others), claims (ListClaims, RowClaims), what is kept (ListFits, Kept, Quiet, MemoryKept, MemoryWritten, Writes,
+-- WordsKept), that it holds at the opening (First and the files of that name, and Opens), and that events are steps of the machine where the relation holds (Says, Offered, HeldRows, and then
 -- Shown and the files of steps).
 pub mod Erased
 pub mod ThreadLists
@@ -24,7 +24,13 @@ pub mod DropSteps
 pub mod Kept
 pub mod ResumeSteps
 pub mod CleanSteps
+pub mod Writes
+pub mod WordsKept
 pub mod Quiet
 pub mod MemoryKept
 pub mod MemoryWritten
 pub mod First
+pub mod FirstThreads
+pub mod FirstObjects
+pub mod FirstReady
+pub mod Opens

@@ -56,7 +56,7 @@ row-sort : (x : ℕ) (s : SiteState) → IsTrue (is_sort (Site.row x) s) → s �
 row-sort x (SiteState.row w) h = refl
 row-sort x s h = absurd (false≢true h)
 
-thread-sort : (t : ℕ) (s : SiteState) → IsTrue (is_sort (Site.thread t) s) → s ≡ SiteState.thread (thread_state s)
+pub thread-sort : (t : ℕ) (s : SiteState) → IsTrue (is_sort (Site.thread t) s) → s ≡ SiteState.thread (thread_state s)
 thread-sort t (SiteState.thread w) h = refl
 thread-sort t s h = absurd (false≢true h)
 
