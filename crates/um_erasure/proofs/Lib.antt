@@ -10,6 +10,7 @@ pub mod ListClaims
 pub mod RowClaims
 pub mod Says
 pub mod ListFits
+pub mod ListBlocks
 pub mod Offered
 pub mod Shown
 pub mod RowSteps
