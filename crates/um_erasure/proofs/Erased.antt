@@ -1,5 +1,5 @@
--- Where each fine step keeps the relation, the events that a fine run shows are a run of the access-matrix machine, whose last state
--- is related to what the fine run leaves.
+-- Where each fine step keeps the relation with a state that a run reaches, the events that a fine run shows are a run of the access-matrix
+-- machine, whose last state is related to what the fine run leaves.
 use Rattle.std.proofs.Common.{◌≡◌, ℕ, List, [], ◌∷◌, ◌++◌, refl, sym, ap, subst, eq-eqb, append-nil}
 use Rattle.std.proofs.lemmas.Bool.{eqb-true}
 use Rattle.um_base.specs.declared.act.Event.{Event}
@@ -61,10 +61,18 @@ module _ (image : Image) (cpus : ℕ) where
   abbrev pub stepped : (ℕ → Processor) → (Site → SiteState) → FineStep → Fine
   stepped ps ss e = fine (changed same_cpu cpu_of (p_next image) ps e) (changed same_site site_of (s_next image) ss e)
 
-  -- each lawful step keeps the relation
+  -- a run of the access-matrix machine reaches this state
+  abbrev pub IsReachable : State → Type 0
+  IsReachable m = (events : List Event) × Runs (opening image) events m
+
+  reach-on : (m m2 : State) (act : FineAct) → IsReachable m → GoesBy m act m2 → IsReachable m2
+  reach-on m m2 (FineAct.Shown event more) r q = (r.0 ++ event ∷ [], runs-append (opening image) m m2 r.0 (event ∷ []) r.1 (m2, q, refl))
+  reach-on m m2 (FineAct.Unseen unseen) r q = subst IsReachable (sym q) r
+
+  -- each lawful step keeps the relation with a state that a run reaches
   abbrev pub Keeps : Type 0
   Keeps =
-      (ps : ℕ → Processor) (ss : Site → SiteState) (m : State) (e : FineStep) → Rel (fine ps ss) m
+      (ps : ℕ → Processor) (ss : Site → SiteState) (m : State) (e : FineStep) → Rel (fine ps ss) m → IsReachable m
       → ByOneOf image cpus (ps (cpu_of e)) e → SiteMay image (ss (site_of e)) e → (m2 : State) × Goes m e m2 × Rel (stepped ps ss e) m2
 
   pub erased : Rel (fine p_start (s_start image)) (opening image) → Keeps → (h : List FineStep) → IsFineRun image cpus h
@@ -73,5 +81,7 @@ module _ (image : Image) (cpus : ℕ) where
   erased opens keeps h run =
       let a = along same_cpu (λ k. eq-eqb k k refl) (λ j k q. eqb-true j k q) same_site same-itself same-sound cpu_of site_of
       (ByOneOf image cpus) (p_next image) p_start (SiteMay image) (s_next image) (s_start image)
-      Goes (opening image) (λ ps ss m. Rel (fine ps ss) m) opens keeps h run.processors run.sites in
-      (a.0, along-runs (opening image) a.0 h a.1, a.2)
+      Goes (opening image) (λ ps ss m. Rel (fine ps ss) m × IsReachable m) (opens, ([], refl))
+      (λ ps ss m e related by may. let next = keeps ps ss m e related.0 related.1 by may in (next.0, next.1, (next.2, reach-on m next.0 e.act related.1 next.1)))
+      h run.processors run.sites in
+      (a.0, along-runs (opening image) a.0 h a.1, a.2.0)

@@ -77,7 +77,7 @@ pub opening-image : (image : Image) → (opening image).image ≡ image
 unfolding blank
 opening-image image = booted-image image.boots (loaded image.partitions (blank image)) ∙ loaded-image image.partitions (blank image)
 
-opening-objects : (image : Image) → (opening image).objects ≡ objects_from image.boots 0 image.objects
+pub opening-objects : (image : Image) → (opening image).objects ≡ objects_from image.boots 0 image.objects
 unfolding blank
 opening-objects image = booted-objects image.boots (loaded image.partitions (blank image)) ∙ loaded-objects image.partitions (blank image)
 
@@ -88,10 +88,10 @@ no-objects zero x = refl
 no-objects (suc n) zero = refl
 no-objects (suc n) (suc x) = no-objects n x
 
-abbrev Stood : List Boot → ℕ → List ObjectDef → ℕ → Type 0
+abbrev pub Stood : List Boot → ℕ → List ObjectDef → ℕ → Type 0
 Stood boots i os x = (o : ObjectDef) × (slice_get os x ≡ Some o) × (slice_index_or (objects_from boots i os) x vacant ≡ opening_object boots (i + x) o)
 
-stood-or-none : (boots : List Boot) (i : ℕ) (os : List ObjectDef) (x : ℕ)
+pub stood-or-none : (boots : List Boot) (i : ℕ) (os : List ObjectDef) (x : ℕ)
     → Stood boots i os x ⊎ ((slice_index_or (objects_from boots i os) x vacant ≡ vacant) × (length os ≤ x))
 stood-or-none boots i [] x = inr (no-objects (ROWS - i) x, omega arith)
 stood-or-none boots i (o ∷ os) zero = let at : i ≡ i + 0 = omega arith in inl (o, refl, ap (λ n. opening_object boots n o) at)

@@ -33,7 +33,7 @@ or-true false = refl
 abbrev pub entry : Image → Boot → ℕ
 entry image boot = index_or (thread_of_row image boot.thread.0)
 
-threads-are : (image : Image) (boot : Boot) (s : State) → (booted_one boot s).threads ≡ slice_set s.threads (entry s.image boot) (boot_thread s.image boot)
+pub threads-are : (image : Image) (boot : Boot) (s : State) → (booted_one boot s).threads ≡ slice_set s.threads (entry s.image boot) (boot_thread s.image boot)
 threads-are image boot s = granted-threads (entry s.image boot) (boot.thread ∷ boot.grants) (with_thread s (entry s.image boot) (boot_thread s.image boot))
 
 -- after these entries a thread lives that is of one of them, or lived before
@@ -80,7 +80,7 @@ blank-long : (image : Image) → length (loaded image.partitions (blank image)).
 unfolding blank
 blank-long image = ap length (loaded-threads image.partitions (blank image)) ∙ copies-long THREADS nobody
 
-blank-image : (image : Image) → (loaded image.partitions (blank image)).image ≡ image
+pub blank-image : (image : Image) → (loaded image.partitions (blank image)).image ≡ image
 unfolding blank
 blank-image image = loaded-image image.partitions (blank image)
 

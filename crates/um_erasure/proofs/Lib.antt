@@ -1,7 +1,7 @@
--- What fine steps do to both machines. Erased is the theorem, under the premise that each step keeps the relation. Of that premise: the
--- own parts of threads (Own, Others), claims (ListClaims, RowClaims), what is kept (ListFits, Kept, Quiet, MemoryKept, MemoryWritten, Writes,
--- WordsKept), that it holds at the opening (First and the files of that name, and Opens), and that events are steps of the machine where the relation holds (Says, Offered, HeldRows, and then
--- Shown and the files of steps).
+-- What fine steps do to both machines. Erased is the theorem, under the premise that each step keeps the relation, and FirstLawful that it
+-- holds at the opening (First and the files of that name, Opens). Of the premise: own parts (Own, Others), claims (ListClaims, RowClaims),
+-- what is kept (ListFits, ListBlocks, Kept, Quiet, Writes and the files named Kept and Written), and that events are steps of the machine
+-- where the relation holds (Says, Offered, HeldRows, Shown and the files of steps).
 pub mod Erased
 pub mod ThreadLists
 pub mod Own
@@ -35,3 +35,4 @@ pub mod FirstThreads
 pub mod FirstObjects
 pub mod FirstReady
 pub mod Opens
+pub mod FirstLawful

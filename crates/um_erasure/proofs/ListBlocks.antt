@@ -1,5 +1,5 @@
 -- Each step leaves a list on which right behind each step of a cleaning stands what is left of it.
-use Rattle.std.proofs.Common.{◌≡◌, ℕ, ◌+◌, Bool, true, false, cond, List, [], ◌∷◌, ◌++◌, Option, Some, None, refl, sym, ap, ◌∙◌, subst, ◌<◌}
+use Rattle.std.proofs.Common.{◌≡◌, ℕ, ◌+◌, Bool, true, false, cond, List, [], ◌∷◌, ◌++◌, Option, Some, None, refl, ap, ◌<◌}
 use Rattle.std.specs.Prelude.{◌==◌, if◌then◌else◌, nat_lt}
 use Rattle.um_base.specs.declared.ask.Told.{Told}
 use Rattle.um_base.specs.declared.image.Image.{Image}
@@ -18,7 +18,7 @@ use Rattle.um_fine.specs.Steps.{Exchange, FineStep}
 use Rattle.um_fine.specs.Continues.{continues, resumed}
 use Rattle.um_fine.specs.Places.{Todo, Todos, but, clean_pairs, cleaning, cleaning_of, drops, emptying, end_of_turn, fine_steps, next_steps, passes, turn, turn_of, with_cleaning}
 use Rattle.um_fine.specs.Processor.{Processor, is_of, key_of}
-use Rattle.um_fine.specs.Follows.{after_claim, after_show, after_take, behind_step, dropped_at, end_calls, filled_up, goes_on_by, p_next, refilled_by, row_number, unless_loaded, wakes, with_cleaned}
+use Rattle.um_fine.specs.Follows.{after_claim, after_show, after_take, behind_step, dropped_at, end_calls, filled_up, goes_on_by, p_next, row_number, unless_loaded, wakes, with_cleaned}
 use Rattle.um_fine.specs.Asks.{begins_cleaning}
 use Rattle.um_fine.specs.Runs.{changed}
 use Rattle.um_fine.specs.FineRun.{cpu_of, same_cpu}
