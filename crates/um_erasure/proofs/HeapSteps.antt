@@ -28,11 +28,11 @@ use Rattle.um_erasure.specs.Relation.{Rel}
 use Rattle.um_erasure.proofs.Erased.{Goes}
 use Rattle.um_erasure.proofs.Offered.{Shows, act-is, machine-step, own-part, says-at, site-is}
 
-heap-sort : (s : SiteState) → IsTrue (is_sort Site.heap s) → (n : ℕ) × (s ≡ SiteState.cell n (Cell.heap (heap_state s)))
+pub heap-sort : (s : SiteState) → IsTrue (is_sort Site.heap s) → (n : ℕ) × (s ≡ SiteState.cell n (Cell.heap (heap_state s)))
 heap-sort (SiteState.cell n (Cell.heap h)) is = (n, refl)
 heap-sort s is = absurd (false≢true is)
 
-pays-here : (m : State) (pool : Option ℕ) (size : ℕ) → can_pay m.pools (T.cost_of pool size) ≡ T.pays m pool size
+pub pays-here : (m : State) (pool : Option ℕ) (size : ℕ) → can_pay m.pools (T.cost_of pool size) ≡ T.pays m pool size
 pays-here m None size = refl
 pays-here m (Some pool) size = refl
 

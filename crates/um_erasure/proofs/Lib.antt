@@ -27,6 +27,8 @@ pub mod ResumeSteps
 pub mod CleanSteps
 pub mod Writes
 pub mod WordsKept
+pub mod PoolsKept
+pub mod PairsKept
 pub mod Quiet
 pub mod MemoryKept
 pub mod MemoryWritten
@@ -36,3 +38,4 @@ pub mod FirstObjects
 pub mod FirstReady
 pub mod Opens
 pub mod FirstLawful
+pub mod Reachable

@@ -1,0 +1,112 @@
+-- What holds of the states that a run of the access-matrix machine reaches: how many threads and rows they have, and that permissions are of
+-- live objects.
+use Rattle.std.proofs.Common.{◌≡◌, ℕ, ◌<◌, Bool, true, false, List, [], ◌∷◌, length, refl, sym, ap, ◌∙◌, subst, arith}
+use Rattle.std.specs.Prelude.{◌-◌, if◌then◌else◌, nat_lt, replicate, slice_index_or}
+use Rattle.std.proofs.lemmas.List.{length-set}
+use Rattle.um_base.specs.declared.act.Event.{Event}
+use Rattle.um_base.specs.declared.image.Boot.{Boot}
+use Rattle.um_base.specs.declared.image.Image.{Image}
+use Rattle.um_base.specs.declared.image.Partition.{Partition}
+use Rattle.um_base.specs.declared.limits.TheConstants.{PARTITION_AREA, ROWS, STACK_AREA, THREADS}
+use Rattle.um_base.specs.declared.names.Row.{Row}
+use Rattle.um_base.specs.Places.{thread_of_row}
+use Rattle.um_machine.specs.declared.pending.Pending.{Pending}
+use Rattle.um_machine.specs.Memory.{put_bytes, with_bytes}
+use Rattle.um_machine.specs.Objects as Plain
+use Rattle.um_machine.specs.Run.{Runs, blank, boot_thread, booted, booted_one, granted, index_or, loaded, opening}
+use Rattle.um_machine.specs.State.{State, with_pair, with_thread}
+use Rattle.um_reach.proofs.Cores.{core_of, status_is}
+use Rattle.um_reach.proofs.RunMoves.{known_run}
+use Rattle.um_reach.proofs.Turns.{IsKnown}
+use Rattle.um_erasure.proofs.DropSteps.{Held}
+use Rattle.um_erasure.proofs.Erased.{IsReachable}
+use Rattle.um_erasure.proofs.FirstThreads.{copies-long, threads-long}
+use Rattle.um_erasure.proofs.ThreadLists.{dues-long, set-long}
+use Rattle.um_erasure.proofs.Writes.{Keeping, Makes, Part, after-kept}
+
+-- any write may be made
+abbrev Any : Part → Type 0
+Any part = Unit {0}
+
+makes-any : (q : Pending) → Makes Any q
+makes-any (Pending.DropPair who a) = (tt, tt)
+makes-any (Pending.Reserve kind) = (tt, tt)
+makes-any (Pending.Born a) = (tt, tt)
+makes-any (Pending.Drops from) = (tt, tt)
+makes-any (Pending.CleanPair who) = (tt, tt)
+makes-any Pending.Recycle = (tt, tt)
+makes-any q = tt
+
+-- as many threads and rows of permissions as there are indices
+pub record IsWide (s : State) : Type 0 where
+  pub threads : length s.threads ≡ THREADS
+  pub rows : length s.pairs ≡ ROWS
+
+wide-keeping : Keeping Any IsWide
+wide-keeping =
+    record {
+      own = λ s u th e k. record { threads = set-long s.threads u th ∙ k.threads; rows = k.rows };
+      word = λ may s u th k. record { threads = set-long s.threads u th ∙ k.threads; rows = k.rows };
+      object = λ may s x o k. record { threads = k.threads; rows = k.rows };
+      pair = λ may s u x there k.
+          record {
+            threads = dues-long x 0 (slice_index_or (with_pair s u x there).pairs x []) s.threads ∙ k.threads;
+            rows = length-set s.pairs x _ ∙ k.rows;
+          };
+      bytes = λ may s a bs k.
+          elim (nat_lt a STACK_AREA) as (λ c. IsWide (if c then record s { memory = put_bytes s.memory (a - PARTITION_AREA) bs } else record s { stacks = put_bytes s.stacks (a - STACK_AREA) bs })) [
+            | true ↦ record { threads = k.threads; rows = k.rows }
+            | false ↦ record { threads = k.threads; rows = k.rows }
+          ];
+      pool = λ may s left k. record { threads = k.threads; rows = k.rows };
+      parts = λ may s all k. record { threads = k.threads; rows = k.rows };
+    }
+
+wide-run : (s : State) (events : List Event) (s2 : State) → IsWide s → Runs s events s2 → IsWide s2
+wide-run s [] s2 k run = subst IsWide (sym run) k
+wide-run s (event ∷ events) s2 k (mid, step, rest) =
+    wide-run mid events s2
+    (subst IsWide (sym step.leaves) (after-kept Any IsWide wide-keeping s event.thread.0 k step.row step.step step.rest (makes-any step.step))) rest
+
+-- The opening.
+
+granted-rows : (t : ℕ) (rows : List Row) (s : State) → length (granted t rows s).pairs ≡ length s.pairs
+granted-rows t [] s = refl
+granted-rows t (x ∷ rows) s = granted-rows t rows (with_pair s t x.0 true) ∙ length-set s.pairs x.0 _
+
+booted-rows : (boots : List Boot) (s : State) → length (booted boots s).pairs ≡ length s.pairs
+booted-rows [] s = refl
+booted-rows (boot ∷ boots) s =
+    let t = index_or (thread_of_row s.image boot.thread.0) in
+    booted-rows boots (booted_one boot s) ∙ granted-rows t (boot.thread ∷ boot.grants) (with_thread s t (boot_thread s.image boot))
+
+bytes-rows : (s : State) (a : ℕ) (bs : List ℕ) → length (with_bytes s a bs).pairs ≡ length s.pairs
+bytes-rows s a bs = by (nat_lt a STACK_AREA)
+  where
+    by : (c : Bool) → length (if c then record s { memory = put_bytes s.memory (a - PARTITION_AREA) bs } else record s { stacks = put_bytes s.stacks (a - STACK_AREA) bs }).pairs ≡ length s.pairs
+    by true = refl
+    by false = refl
+
+loaded-rows : (ps : List Partition) (s : State) → length (loaded ps s).pairs ≡ length s.pairs
+loaded-rows [] s = refl
+loaded-rows (p ∷ ps) s = loaded-rows ps (with_bytes s p.range.start.0 p.bytes) ∙ bytes-rows s p.range.start.0 p.bytes
+
+opening-wide : (image : Image) → IsWide (opening image)
+unfolding blank
+opening-wide image =
+    record {
+      threads = threads-long image;
+      rows = booted-rows image.boots (loaded image.partitions (blank image))
+          ∙ (loaded-rows image.partitions (blank image) ∙ copies-long ROWS (replicate THREADS false));
+    }
+
+module _ (image : Image) (cpus : ℕ) (m : State) (reach : IsReachable image cpus m) where
+  pub reachable-wide : IsWide m
+  reachable-wide = wide-run (opening image) reach.0 m (opening-wide image) reach.1
+
+  -- permissions are of live objects
+  pub reachable-held : IsKnown (core_of (opening image)) → (x who : ℕ) → x < ROWS → Held m x who
+  reachable-held known x who few =
+      let now = known_run (opening image) reach.0 m known reach.1 in
+      let rows = reachable-wide.rows in
+      record { lives = λ h. ap Plain.is_live (sym (status_is m x)) ∙ now.reached.living who x h; listed = omega (arith, rows, few) }
