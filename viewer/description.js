@@ -53,7 +53,7 @@ class Description {
   // Rounds each size to one that the protection unit guards, and places one range behind the other.
   placeMemory(table) {
     this.rodata = bytesOf(table.rodata);
-    this.partitions = entries(table, "partition").map((entry) => ({ ...entry, bytes: bytesOf(entry.data) }));
+    this.partitions = entries(table, "partition").map((entry) => (Array.isArray(entry.vars) ? packed(entry) : { ...entry, bytes: bytesOf(entry.data) }));
     this.stacks = this.objects.filter((object) => object.kind === "thread_stack");
     this.place(this.partitions, PARTITIONS_START);
     this.place(this.stacks, STACKS_START);
@@ -129,9 +129,19 @@ class Description {
     if (name === "rodata") return RODATA_START;
     const partition = this.partitions.find((entry) => entry.name === name);
     if (partition) return partition.start;
+    const variable = this.variableNamed(name);
+    if (variable !== null) return variable;
     const row = this.rowOf.get(name);
     if (row === undefined) return 0;
     return this.objects[row].start ?? STATIC_OBJECTS_START + 64 * row;
+  }
+
+  // The address of the variable with this name, or null.
+  variableNamed(name) {
+    for (const { start, offsets } of this.partitions) {
+      if (offsets?.has(name)) return start + offsets.get(name);
+    }
+    return null;
   }
 
   // The words of a script line, whose number counts from 1.
@@ -142,6 +152,20 @@ class Description {
 
 function entries(table, section) {
   return table[section] ?? [];
+}
+
+// A partition that is written as the variables that lie in it: each stands at the least multiple of its alignment behind the one before.
+function packed(entry) {
+  const offsets = new Map();
+  const bytes = [];
+  let end = 0;
+  for (const { name, size, align = 1, data } of entry.vars) {
+    const offset = Math.ceil(end / align) * align;
+    offsets.set(name, offset);
+    bytesOf(data).forEach((byte, k) => (bytes[offset + k] = byte));
+    end = offset + size;
+  }
+  return { ...entry, size: end, offsets, bytes: Uint8Array.from(bytes, (byte) => byte ?? 0) };
 }
 
 function bytesOf(digits) {
