@@ -26,20 +26,32 @@ fn without(alloc: Global, number: usize) -> Result<Vec<u8>, Fail> {
     Ok(text)
 }
 
+/// The bytes of the partition before its last one.
+const ZEROS: &str = "00000000000000000000000000000000000000000000000000000000000000";
+
+/// The text of the run with another end behind the zeros of its last line.
+fn ended_by(alloc: Global, end: &str) -> Result<Vec<u8>, Fail> {
+    let mut text = without(alloc, 14)?;
+    let line = format!(in alloc; "memory 0x20000000 {ZEROS}{end}")?;
+    text.extend_from_slice(line.as_bytes())?;
+    Ok(text)
+}
+
 #[test]
 fn verdicts(rt: HostRuntime) -> Result<(), Fail> {
     let alloc = rt.alloc();
-    let whole = LAST_BYTE.as_bytes();
-    let mut changed = whole[..whole.len() - 2].to_vec(alloc)?;
-    changed.extend_from_slice(b"c\n".as_slice())?;
     let third = without(alloc, 3)?;
     let eighth = without(alloc, 8)?;
-    let cases: [(&[u8], &str); 8] = [
-        (whole, "yes\n"),
+    let same = ended_by(alloc, "ab\n")?;
+    let changed = ended_by(alloc, "ac\n")?;
+    let unended = ended_by(alloc, "ab")?;
+    let cases: [(&[u8], &str); 9] = [
+        (LAST_BYTE.as_bytes(), "yes\n"),
+        (&same, "yes\n"),
         (&third, "no step 3\n"),
         (&eighth, "not complete\n"),
         (&changed, "no dump 14\n"),
-        (&whole[..whole.len() - 1], "no dump 14\n"),
+        (&unended, "no dump 14\n"),
         (&[], "no step 1\n"),
         (b"dump\n", "not complete\n"),
         (b"a begin  m 1\n", "no step 1\n"),
@@ -53,42 +65,31 @@ fn verdicts(rt: HostRuntime) -> Result<(), Fail> {
     Ok(())
 }
 
-/// The start of the input of an audit that is refused, or is too long.
-fn ends(rt: &HostRuntime, input: Vec<u8>, status: Status, line: &str) -> Result<(), Fail> {
-    let ended = call(rt, "audit", input, smooth(rt.alloc(), 4096))?;
-    assert_eq!(rt; ended.status, status);
-    assert_eq!(rt; ended.out.bytes().len(), 0);
-    assert_eq!(rt; ended.err.bytes(), line.as_bytes());
-    Ok(())
-}
-
 #[test]
 fn inputs_without_a_verdict(rt: HostRuntime) -> Result<(), Fail> {
     let alloc = rt.alloc();
-    ends(
-        &rt,
-        last_byte(alloc)?,
-        Status::Refused,
-        "zumode: refused: NoTrace\n",
-    )?;
-    ends(
-        &rt,
-        HEAD.as_bytes().to_vec(alloc)?,
-        Status::Refused,
-        "zumode: refused: NoTrace\n",
-    )?;
+    let untraced = last_byte(alloc)?;
     let broken = format!(in alloc; "{HEAD}\n=====\n")?;
-    ends(
-        &rt,
-        broken.as_bytes().to_vec(alloc)?,
-        Status::Refused,
-        "zumode: refused: NotToml\n",
-    )?;
-    ends(
-        &rt,
-        vec![in alloc; b'#'; 1_048_577]?,
-        Status::TooLong,
-        "zumode: input too long\n",
-    )?;
+    let long = vec![in alloc; b'#'; 1_048_577]?;
+    let cases: [(&[u8], Status, &str); 4] = [
+        (&untraced, Status::Refused, "zumode: refused: NoTrace\n"),
+        (
+            HEAD.as_bytes(),
+            Status::Refused,
+            "zumode: refused: NoTrace\n",
+        ),
+        (
+            broken.as_bytes(),
+            Status::Refused,
+            "zumode: refused: NotToml\n",
+        ),
+        (&long, Status::TooLong, "zumode: input too long\n"),
+    ];
+    for (input, status, line) in cases {
+        let ended = call(&rt, "audit", input.to_vec(alloc)?, smooth(alloc, 4096))?;
+        assert_eq!(rt; ended.status, status);
+        assert_eq!(rt; ended.out.bytes().len(), 0);
+        assert_eq!(rt; ended.err.bytes(), line.as_bytes());
+    }
     Ok(())
 }
