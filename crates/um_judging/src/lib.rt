@@ -1,4 +1,4 @@
-//! The judge and the audit on described images: what they let through, and what they refuse.
+//! The judge on described images: what it lets through, and what it refuses.
 #![tactic(auto)]
 
 #[cfg(test)]
