@@ -298,7 +298,6 @@ fn many_threads(rt: HostRuntime) -> Result<(), Memory> {
             return Ok(());
         };
         assert!(rt; tally.steps >= u32::from(threads) * 100_000);
-        assert!(rt; tally.cleaned > 0);
         assert!(rt; adds_up(tally, word), "{threads} threads");
     }
     Ok(())
