@@ -50,7 +50,7 @@ with_operand-front text Wait value = refl
 with_operand-front text Priority value = refl
 with_operand-front text OptionSet value = refl
 
-with_operands-front : (text : List ℕ) (os : List Operand) → with_operands text os ≡ text ++ with_operands [] os
+pub with_operands-front : (text : List ℕ) (os : List Operand) → with_operands text os ≡ text ++ with_operands [] os
 with_operands-front text [] = sym (append-nil text)
 with_operands-front text (o ∷ os) =
     with_operands-front (with_operand text o.0 o.1) os ∙ ap (λ (t : List ℕ). t ++ with_operands [] os) (with_operand-front text o.0 o.1)

@@ -217,13 +217,21 @@ fn put_operands(text: &mut Vec<u8>, line: &Instr) -> Result<(), Memory>
     }
 }
 
+/// The canonical line of an instruction, put behind a text.
+pub fn put_line(text: &mut Vec<u8>, line: &Instr) -> Result<(), Memory>
+    ensures { OnOk result (text.new.items ≡ text.old.items ++ canonical.canonical line.now) }
+{
+    text.extend_from_slice(mnemonic(line).word())?;
+    put_operands(text, line)
+}
+
 /// The canonical line of an instruction that a line can give.
 pub fn print_line(alloc: Global, line: &Instr) -> Result<Vec<u8>, Memory>
     requires { IsTrue (is_line line.now) }
     ensures text { IfOk result (λ text. text.items ≡ canonical.canonical line.now) }
     ensures again { IfOk result (λ text. line_of text.items ≡ Ok line.now) }
 {
-    let mut text = Vec::from_slice(alloc, mnemonic(line).word())?;
-    put_operands(&mut text, line)?;
+    let mut text = Vec::new(alloc);
+    put_line(&mut text, line)?;
     Ok(text)
 }
