@@ -4,4 +4,5 @@ mod OriginLemmas
 mod LifeLemmas
 mod HoldLemmas
 mod Theorems
+mod ServiceLemmas
 pub mod ObeyLemmas

@@ -12,6 +12,7 @@ use Rattle.um_laws.specs.Holds.{IsInCall}
 use Rattle.um_laws.specs.Laws.{WasAllowed, IsVerdict, IsUnheld}
 use Rattle.um_laws.specs.Lives.{born, gone, recycled, marks, InTurns, IsWithoutBirth, WasBornAndGone}
 use Rattle.um_laws.specs.Origins.{IsOwned}
+use Rattle.um_laws.specs.Service.{IsInOrderOfService}
 
 -- In a run an event stands behind these events, in this state, and leads to that one.
 pub record Stands (image : Image) (events before : List Event) (s : State) (event : Event) (s2 : State) : Type 0 where
@@ -28,6 +29,8 @@ pub record ObeysLaws (image : Image) (events : List Event) : Type 0 where
   pub verdicts : (before : List Event) (event : Event) (s s2 : State) → Stands image events before s event s2 → IsVerdict s event
   -- where a user's check of an object that isn't public is passed, its pair has its origin in the events before
   pub origins : (before : List Event) (event : Event) (s s2 : State) → Stands image events before s event s2 → IsOwned image before s event
+  -- whom an act on an object wakes is first by priority, and then by time, among those that the act serves
+  pub service : (before : List Event) (event : Event) (s s2 : State) → Stands image events before s event s2 → IsInOrderOfService s event
   -- an object that is recycled is gone, and no thread holds it
   pub recycles : (before : List Event) (event : Event) (s s2 : State) → Stands image events before s event s2 → IsUnheld s event
   -- of each address births, losses of the last pair and recyclings come in turns

@@ -10,6 +10,7 @@ ghost use Rattle.um_reach.specs.Described.{IsDescribed};
 ghost use Rattle.um_laws.specs.Obeys.{ObeysLaws};
 ghost use Rattle.um_laws.specs.Origins.{IsOwned};
 ghost use Rattle.um_laws.specs.Holds.{IsInCall};
+ghost use Rattle.um_laws.specs.Service.{IsInOrderOfService};
 ghost use Rattle.um_base.specs.declared.names.Kind.{Kind};
 ghost use Rattle.um_base.specs.declared.names.Want.{Want};
 ghost use Rattle.um_laws.specs.Lives.{born, gone, recycled, marks, InTurns, IsWithoutBirth, WasBornAndGone};
@@ -30,6 +31,8 @@ ghost use Rattle.um_base.specs.declared.names.Addr.{Addr};
 ///   born and lost its last pair before.
 /// - Between a check that is passed and the thread's reply, fatal error or end the object isn't recycled.
 /// - An object that is recycled is gone there, and no thread holds it.
+/// - Those whom an act on an object wakes are the first of those who wait there and are served by it: by priority, the
+///   least number first, and among equals as they began to wait.
 ///
 /// So each run of an image that a description gives obeys all of them (`obeys`).
 pub fn every_run()
@@ -41,5 +44,6 @@ pub fn every_run()
     ensures ends { (image : Image) (before : List Event) (event : Event) (a : Addr) (s s2 : State) → IsDescribed image → IsRun image before s → Step s event s2 → event.act ≡ Act.Recycle a → WasBornAndGone (marks a.0 before) }
     ensures holds { (image : Image) (before middle : List Event) (check recycle : Event) (a : Addr) (kind : Option Kind) (want : Want) (s s2 : State) → IsDescribed image → IsRun image (before ++ check ∷ middle) s → Step s recycle s2 → check.act ≡ Act.Check a kind want None → IsInCall check.thread.0 middle → ¬ (recycle.act ≡ Act.Recycle a) }
     ensures recycles { (image : Image) (before : List Event) (event : Event) (s s2 : State) → IsRun image before s → Step s event s2 → IsUnheld s event }
+    ensures service { (image : Image) (before : List Event) (event : Event) (s s2 : State) → IsRun image before s → Step s event s2 → IsInOrderOfService s event }
     ensures obeys { (image : Image) (events : List Event) (s : State) → IsDescribed image → IsRun image events s → ObeysLaws image events }
 {}

@@ -1,5 +1,6 @@
 use Rattle.um_laws.proofs.AccessLemmas.{was_allowed, is_verdict}
 use Rattle.um_laws.proofs.RecycleLemmas.{is_unheld}
+use Rattle.um_laws.proofs.ServiceLemmas.{is_in_order_of_service}
 use Rattle.um_laws.proofs.Theorems.{owned_event, marks_turn, lives_between, was_alive, holds_until}
 use Rattle.um_laws.proofs.ObeyLemmas.{obeys}
 use Rattle.um_laws.proofs.laws.every_run.Goals as goal
@@ -30,3 +31,6 @@ returns-clause-holds c = λ image before middle check recycle a kind want s s2 g
 
 pub returns-clause-obeys : goal.returns-clause-obeys
 returns-clause-obeys c = λ image events s given run. obeys image events s given run
+
+pub returns-clause-service : goal.returns-clause-service
+returns-clause-service c = λ image before event s s2 run step. is_in_order_of_service s s2 event step
