@@ -11,6 +11,7 @@ use Rattle.um_machine.specs.State.{State, thread_at}
 use Rattle.um_machine.specs.Memory.{allowed, string_from, string_read, bytes_at, le_value}
 use Rattle.um_machine.specs.Run.{Step}
 use Rattle.um_machine.specs.Table.{act_of, amount_of}
+use Rattle.um_laws.proofs.ActLemmas.{either_act}
 use Rattle.um_laws.specs.Laws.{WasReadable, Allows, WasAllowed, SaysVerdict, IsVerdict}
 
 load_allowed : (s : State) (t : ℕ) (a : Addr) (n value : ℕ) (b : Bool) → allowed s t Access.Read a.0 n ≡ b → Allows s t (if b then Act.Load a n value else Act.Fault Access.Read a n)
@@ -71,98 +72,25 @@ from_none s t a Found.TooLong h = tt
 
 -- what a step says was allowed
 allowed_step : (s : State) (t x : ℕ) (p : Pending) → Allows s t (act_of s t x p)
-allowed_step s t x Pending.Begin = tt
-allowed_step s t x Pending.Exit = tt
-allowed_step s t x (Pending.Check a kind want refusal) = tt
 allowed_step s t x (Pending.Load to a n) = load_allowed s t a n (le_value (bytes_at s a.0 n)) (allowed s t Access.Read a.0 n) refl
 allowed_step s t x (Pending.Store a n value) = store_allowed s t a n value (allowed s t Access.Write a.0 n) refl
 allowed_step s t x (Pending.Fetch a) = fetch_allowed s t a (allowed s t Access.Exec a.0 4) refl
-allowed_step s t x (Pending.Probe a amount) = tt
 allowed_step s t x (Pending.CopyIn a amount) = copy_in_allowed s t a (amount_of s amount) (allowed s t Access.Read a.0 (amount_of s amount)) refl
 allowed_step s t x (Pending.CopyOut a) = copy_out_allowed s t a (length (thread_at s t).buffer) (allowed s t Access.Write a.0 (length (thread_at s t).buffer)) refl
 allowed_step s t x (Pending.CopyStr a) = from_none s t a.0 (string_read s t a.0 32) (readable_from s t 32 a.0 0)
-allowed_step s t x (Pending.Erase stack) = tt
-allowed_step s t x (Pending.Work a ask) = tt
-allowed_step s t x Pending.Resume = tt
-allowed_step s t x (Pending.Answer reply to) = tt
-allowed_step s t x (Pending.Grant who a) = tt
-allowed_step s t x (Pending.Own who) = tt
-allowed_step s t x (Pending.Inherit who) = tt
-allowed_step s t x (Pending.DropPair who a) = tt
-allowed_step s t x (Pending.Publish a) = tt
-allowed_step s t x (Pending.SetInit a strict undo) = tt
-allowed_step s t x (Pending.ClearInit a) = tt
-allowed_step s t x (Pending.Named who) = tt
-allowed_step s t x (Pending.Reserve kind) = tt
-allowed_step s t x (Pending.Born a) = tt
-allowed_step s t x (Pending.Buffer size) = tt
-allowed_step s t x (Pending.Unbuffer size) = tt
-allowed_step s t x (Pending.DomInit d parts) = tt
-allowed_step s t x (Pending.DomAdd d range attr) = tt
-allowed_step s t x (Pending.DomRemove d range attr) = tt
-allowed_step s t x (Pending.DomMove d who) = tt
-allowed_step s t x (Pending.Start who script stack priority mode) = tt
-allowed_step s t x (Pending.EnterUser script) = tt
-allowed_step s t x (Pending.Fatal reason cause) = tt
-allowed_step s t x (Pending.Drops from) = tt
-allowed_step s t x (Pending.Dooms from) = tt
-allowed_step s t x (Pending.CleanPair who) = tt
-allowed_step s t x Pending.Recycle = tt
+allowed_step s t x _ = tt
 
 pub was_allowed : (s s2 : State) (event : Event) → Step s event s2 → WasAllowed s event
 was_allowed s s2 event step = subst (λ (act : Act). Allows s event.thread.0 act) (sym step.says) (allowed_step s event.thread.0 step.row step.step)
 
-load_said : (s : State) (t : ℕ) (a : Addr) (n value : ℕ) (b : Bool) → SaysVerdict s t (if b then Act.Load a n value else Act.Fault Access.Read a n)
-load_said s t a n value true = tt
-load_said s t a n value false = tt
-
-store_said : (s : State) (t : ℕ) (a : Addr) (n value : ℕ) (b : Bool) → SaysVerdict s t (if b then Act.Store a n value else Act.Fault Access.Write a n)
-store_said s t a n value true = tt
-store_said s t a n value false = tt
-
-fetch_said : (s : State) (t : ℕ) (a : Addr) (b : Bool) → SaysVerdict s t (if b then Act.Fetch a else Act.Fault Access.Exec a 4)
-fetch_said s t a true = tt
-fetch_said s t a false = tt
-
 -- what a check says is the verdict
 said : (s : State) (t x : ℕ) (p : Pending) → SaysVerdict s t (act_of s t x p)
 said s t x (Pending.Check a kind want refusal) = refl
-said s t x (Pending.Load to a n) = load_said s t a n (le_value (bytes_at s a.0 n)) (allowed s t Access.Read a.0 n)
-said s t x (Pending.Store a n value) = store_said s t a n value (allowed s t Access.Write a.0 n)
-said s t x (Pending.Fetch a) = fetch_said s t a (allowed s t Access.Exec a.0 4)
-said s t x Pending.Begin = tt
-said s t x Pending.Exit = tt
-said s t x (Pending.Probe a amount) = tt
-said s t x (Pending.CopyIn a amount) = tt
-said s t x (Pending.CopyOut a) = tt
-said s t x (Pending.CopyStr a) = tt
-said s t x (Pending.Erase stack) = tt
-said s t x (Pending.Work a ask) = tt
-said s t x Pending.Resume = tt
-said s t x (Pending.Answer reply to) = tt
-said s t x (Pending.Grant who a) = tt
-said s t x (Pending.Own who) = tt
-said s t x (Pending.Inherit who) = tt
-said s t x (Pending.DropPair who a) = tt
-said s t x (Pending.Publish a) = tt
-said s t x (Pending.SetInit a strict undo) = tt
-said s t x (Pending.ClearInit a) = tt
-said s t x (Pending.Named who) = tt
-said s t x (Pending.Reserve kind) = tt
-said s t x (Pending.Born a) = tt
-said s t x (Pending.Buffer size) = tt
-said s t x (Pending.Unbuffer size) = tt
-said s t x (Pending.DomInit d parts) = tt
-said s t x (Pending.DomAdd d range attr) = tt
-said s t x (Pending.DomRemove d range attr) = tt
-said s t x (Pending.DomMove d who) = tt
-said s t x (Pending.Start who script stack priority mode) = tt
-said s t x (Pending.EnterUser script) = tt
-said s t x (Pending.Fatal reason cause) = tt
-said s t x (Pending.Drops from) = tt
-said s t x (Pending.Dooms from) = tt
-said s t x (Pending.CleanPair who) = tt
-said s t x Pending.Recycle = tt
+said s t x (Pending.Load to a n) =
+    either_act (SaysVerdict s t) (allowed s t Access.Read a.0 n) (Act.Load a n (le_value (bytes_at s a.0 n))) (Act.Fault Access.Read a n) tt tt
+said s t x (Pending.Store a n value) = either_act (SaysVerdict s t) (allowed s t Access.Write a.0 n) (Act.Store a n value) (Act.Fault Access.Write a n) tt tt
+said s t x (Pending.Fetch a) = either_act (SaysVerdict s t) (allowed s t Access.Exec a.0 4) (Act.Fetch a) (Act.Fault Access.Exec a 4) tt tt
+said s t x _ = tt
 
 pub is_verdict : (s s2 : State) (event : Event) → Step s event s2 → IsVerdict s event
 is_verdict s s2 event step = subst (λ (act : Act). SaysVerdict s event.thread.0 act) (sym step.says) (said s event.thread.0 step.row step.step)

@@ -1,3 +1,4 @@
+mod ActLemmas
 mod AccessLemmas
 mod RecycleLemmas
 mod OriginLemmas

@@ -8,7 +8,7 @@ use Rattle.um_machine.specs.State.{State}
 use Rattle.um_reach.specs.Described.{IsDescribed}
 use Rattle.um_laws.specs.Obeys.{ObeysLaws}
 use Rattle.um_laws.proofs.AccessLemmas.{was_allowed, is_verdict}
-use Rattle.um_laws.proofs.RecycleLemmas.{is_unheld}
+use Rattle.um_laws.proofs.RecycleLemmas.{is_unheld, is_of_its_creator}
 use Rattle.um_laws.proofs.ServiceLemmas.{is_in_order_of_service}
 use Rattle.um_laws.proofs.Theorems.{owned_event, marks_turn, lives_between, was_alive, holds_until}
 
@@ -27,6 +27,7 @@ obeys image events s given run = record {
   accesses = λ before event from to stands. was_allowed from to event stands.step;
   verdicts = λ before event from to stands. is_verdict from to event stands.step;
   origins = λ before event from to stands. owned_event image before event from to given stands.run stands.step;
+  inheritances = λ before event from to stands. is_of_its_creator from to event stands.step;
   service = λ before event from to stands. is_in_order_of_service from to event stands.step;
   recycles = λ before event from to stands. is_unheld from to event stands.step;
   turns = λ a. marks_turn image events s given run a;

@@ -27,6 +27,7 @@ use Rattle.um_machine.specs.Run.{Step}
 use Rattle.um_machine.specs.Services.{Acted, with_waiter, in_order, is_getter, is_putter, is_reader, is_writer, is_empty, read_length, told, all_told, answers, blocks, queue, stack, pipe, sem_give, sem_act, mutex_lock, mutex_passes, mutex_unlock, mutex_act, msgq_put, msgq_take, msgq_get, msgq_peek, msgq_act, stack_push, stack_pop, stack_act, readers_served, writers_served, still_waiting, pipe_write, pipe_take, pipe_read, pipe_act, renews, fills, uses, acted_by}
 use Rattle.um_machine.specs.Serving.{served}
 use Rattle.um_machine.specs.Table.{act_of, row_of, work_of, bytes_given}
+use Rattle.um_laws.proofs.ActLemmas.{either_act}
 use Rattle.um_laws.specs.Service.{has_priority, threads_of, AreAscending, AreInOrder, AreServedFirst, WakesFirst, IsInOrderOfService}
 
 -- ---- the order of service is by priority, and then by time
@@ -320,18 +321,6 @@ wakes contents ws who _ = used contents ws who _
 
 -- ---- every step
 
-load-wakes : (s : State) (a : Addr) (n value : ℕ) (b : Bool) → WakesFirst s (if b then Act.Load a n value else Act.Fault Access.Read a n)
-load-wakes s a n value true = tt
-load-wakes s a n value false = tt
-
-store-wakes : (s : State) (a : Addr) (n value : ℕ) (b : Bool) → WakesFirst s (if b then Act.Store a n value else Act.Fault Access.Write a n)
-store-wakes s a n value true = tt
-store-wakes s a n value false = tt
-
-fetch-wakes : (s : State) (a : Addr) (b : Bool) → WakesFirst s (if b then Act.Fetch a else Act.Fault Access.Exec a 4)
-fetch-wakes s a true = tt
-fetch-wakes s a false = tt
-
 work-wakes : (s : State) (t : ℕ) (a : Addr) (ask : Ask) → WakesFirst s (act_of s t 0 (Pending.Work a ask))
 work-wakes s t a ask =
     let o = object_at s (row_of s a) in
@@ -341,9 +330,10 @@ work-wakes s t a ask =
     (wakes o.contents o.waiters who ask)
 
 step-wakes : (s : State) (t x : ℕ) (p : Pending) → WakesFirst s (act_of s t x p)
-step-wakes s t x (Pending.Load to a n) = load-wakes s a n (le_value (bytes_at s a.0 n)) (allowed s t Access.Read a.0 n)
-step-wakes s t x (Pending.Store a n value) = store-wakes s a n value (allowed s t Access.Write a.0 n)
-step-wakes s t x (Pending.Fetch a) = fetch-wakes s a (allowed s t Access.Exec a.0 4)
+step-wakes s t x (Pending.Load to a n) =
+    either_act (WakesFirst s) (allowed s t Access.Read a.0 n) (Act.Load a n (le_value (bytes_at s a.0 n))) (Act.Fault Access.Read a n) tt tt
+step-wakes s t x (Pending.Store a n value) = either_act (WakesFirst s) (allowed s t Access.Write a.0 n) (Act.Store a n value) (Act.Fault Access.Write a n) tt tt
+step-wakes s t x (Pending.Fetch a) = either_act (WakesFirst s) (allowed s t Access.Exec a.0 4) (Act.Fetch a) (Act.Fault Access.Exec a 4) tt tt
 step-wakes s t x (Pending.Work a ask) = work-wakes s t a ask
 step-wakes s t x _ = tt
 

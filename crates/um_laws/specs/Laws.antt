@@ -1,11 +1,11 @@
 -- What is said of an event in the state in which it stands.
-use Rattle.std.specs.Prelude.{◌≡◌, ℕ, ◌+◌, ◌≤◌, true, not, IsTrue}
-use Rattle.um_base.specs.Places.{addr_of}
+use Rattle.std.specs.Prelude.{◌≡◌, ◌≢◌, ℕ, ◌+◌, ◌≤◌, true, not, IsTrue}
+use Rattle.um_base.specs.Places.{addr_of, own_row}
 use Rattle.um_base.specs.declared.act.Act.{Act}
 use Rattle.um_base.specs.declared.act.Event.{Event}
 use Rattle.um_base.specs.declared.act.Found.{Found}
 use Rattle.um_base.specs.declared.names.Access.TheVariants as Access
-use Rattle.um_machine.specs.State.{State, object_at}
+use Rattle.um_machine.specs.State.{State, object_at, pair_at}
 use Rattle.um_machine.specs.Memory.{allowed}
 use Rattle.um_machine.specs.Objects.{verdict, is_gone, is_held}
 use Rattle.um_machine.specs.Order.{to_addr}
@@ -35,6 +35,15 @@ SaysVerdict s t act = Unit {0}
 
 abbrev pub IsVerdict : State → Event → Type 0
 IsVerdict s event = SaysVerdict s event.thread.0 event.act
+
+-- What a new thread inherits is a permission that its creator has there, and not the one on the creator's own object.
+abbrev pub Inherits : State → ℕ → Act → Type 0
+Inherits s t (Act.Inherit who a) =
+    (x : ℕ) × (a ≡ to_addr (addr_of s.image x)) × IsTrue (pair_at s t x) × IsTrue (not (pair_at s who.0 x)) × (x ≢ own_row s.image t)
+Inherits s t act = Unit {0}
+
+abbrev pub IsOfItsCreator : State → Event → Type 0
+IsOfItsCreator s event = Inherits s event.thread.0 event.act
 
 -- an object that is recycled is gone, and no thread holds it
 abbrev pub Recycles : State → Act → Type 0

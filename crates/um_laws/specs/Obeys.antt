@@ -9,7 +9,7 @@ use Rattle.um_base.specs.declared.names.Want.{Want}
 use Rattle.um_machine.specs.Run.{IsRun, Step}
 use Rattle.um_machine.specs.State.{State}
 use Rattle.um_laws.specs.Holds.{IsInCall}
-use Rattle.um_laws.specs.Laws.{WasAllowed, IsVerdict, IsUnheld}
+use Rattle.um_laws.specs.Laws.{WasAllowed, IsVerdict, IsUnheld, IsOfItsCreator}
 use Rattle.um_laws.specs.Lives.{born, gone, recycled, marks, InTurns, IsWithoutBirth, WasBornAndGone}
 use Rattle.um_laws.specs.Origins.{IsOwned}
 use Rattle.um_laws.specs.Service.{IsInOrderOfService}
@@ -29,6 +29,8 @@ pub record ObeysLaws (image : Image) (events : List Event) : Type 0 where
   pub verdicts : (before : List Event) (event : Event) (s s2 : State) → Stands image events before s event s2 → IsVerdict s event
   -- where a user's check of an object that isn't public is passed, its pair has its origin in the events before
   pub origins : (before : List Event) (event : Event) (s s2 : State) → Stands image events before s event s2 → IsOwned image before s event
+  -- what a new thread inherits its creator has, and it isn't the creator's own object
+  pub inheritances : (before : List Event) (event : Event) (s s2 : State) → Stands image events before s event s2 → IsOfItsCreator s event
   -- whom an act on an object wakes is first by priority, and then by time, among those that the act serves
   pub service : (before : List Event) (event : Event) (s s2 : State) → Stands image events before s event s2 → IsInOrderOfService s event
   -- an object that is recycled is gone, and no thread holds it

@@ -5,7 +5,7 @@ ghost use Rattle.um_machine.specs.Run.{IsRun, Step};
 ghost use Rattle.um_base.specs.declared.act.Event.{Event};
 ghost use Rattle.um_base.specs.declared.image.Image.{Image};
 ghost use Rattle.std.specs.Prelude.{◌≡◌, ℕ, List, [], ◌∷◌, ◌++◌, Option, None};
-ghost use Rattle.um_laws.specs.Laws.{WasAllowed, IsVerdict, IsUnheld};
+ghost use Rattle.um_laws.specs.Laws.{WasAllowed, IsVerdict, IsUnheld, IsOfItsCreator};
 ghost use Rattle.um_reach.specs.Described.{IsDescribed};
 ghost use Rattle.um_laws.specs.Obeys.{ObeysLaws};
 ghost use Rattle.um_laws.specs.Origins.{IsOwned};
@@ -31,6 +31,7 @@ ghost use Rattle.um_base.specs.declared.names.Addr.{Addr};
 ///   born and lost its last pair before.
 /// - Between a check that is passed and the thread's reply, fatal error or end the object isn't recycled.
 /// - An object that is recycled is gone there, and no thread holds it.
+/// - What a new thread inherits is a permission that its creator has there, and not the one on the creator's own object.
 /// - Those whom an act on an object wakes are the first of those who wait there and are served by it: by priority, the
 ///   least number first, and among equals as they began to wait.
 ///
@@ -44,6 +45,7 @@ pub fn every_run()
     ensures ends { (image : Image) (before : List Event) (event : Event) (a : Addr) (s s2 : State) → IsDescribed image → IsRun image before s → Step s event s2 → event.act ≡ Act.Recycle a → WasBornAndGone (marks a.0 before) }
     ensures holds { (image : Image) (before middle : List Event) (check recycle : Event) (a : Addr) (kind : Option Kind) (want : Want) (s s2 : State) → IsDescribed image → IsRun image (before ++ check ∷ middle) s → Step s recycle s2 → check.act ≡ Act.Check a kind want None → IsInCall check.thread.0 middle → ¬ (recycle.act ≡ Act.Recycle a) }
     ensures recycles { (image : Image) (before : List Event) (event : Event) (s s2 : State) → IsRun image before s → Step s event s2 → IsUnheld s event }
+    ensures inheritances { (image : Image) (before : List Event) (event : Event) (s s2 : State) → IsRun image before s → Step s event s2 → IsOfItsCreator s event }
     ensures service { (image : Image) (before : List Event) (event : Event) (s s2 : State) → IsRun image before s → Step s event s2 → IsInOrderOfService s event }
     ensures obeys { (image : Image) (events : List Event) (s : State) → IsDescribed image → IsRun image events s → ObeysLaws image events }
 {}

@@ -1,5 +1,5 @@
 use Rattle.um_laws.proofs.AccessLemmas.{was_allowed, is_verdict}
-use Rattle.um_laws.proofs.RecycleLemmas.{is_unheld}
+use Rattle.um_laws.proofs.RecycleLemmas.{is_unheld, is_of_its_creator}
 use Rattle.um_laws.proofs.ServiceLemmas.{is_in_order_of_service}
 use Rattle.um_laws.proofs.Theorems.{owned_event, marks_turn, lives_between, was_alive, holds_until}
 use Rattle.um_laws.proofs.ObeyLemmas.{obeys}
@@ -34,3 +34,6 @@ returns-clause-obeys c = λ image events s given run. obeys image events s given
 
 pub returns-clause-service : goal.returns-clause-service
 returns-clause-service c = λ image before event s s2 run step. is_in_order_of_service s s2 event step
+
+pub returns-clause-inheritances : goal.returns-clause-inheritances
+returns-clause-inheritances c = λ image before event s s2 run step. is_of_its_creator s s2 event step
