@@ -1,0 +1,3 @@
+-- Orders: a step that is first of its processor, and has the next number of its site, may come first. By that each turn of the merge
+-- leaves every order in reach, and where no processor has such a step all is written.
+pub mod Orders

@@ -1,0 +1,10 @@
+//! One list for the logs of several processors.
+#![tactic(auto)]
+
+mod logged;
+mod merging;
+#[cfg(test)]
+mod tests;
+
+pub use logged::{Logged, PROCESSORS, SITES};
+pub use merging::merge;

@@ -1,0 +1,22 @@
+//! Steps as the processors that made them note them.
+
+use um_words::FineAct;
+
+/// How many processors there are at most.
+pub const PROCESSORS: usize = 8;
+
+/// How many sites there are.
+pub const SITES: usize = 309;
+
+/// A step as its processor noted it.
+#[derive(Clone, Copy)]
+pub struct Logged {
+    /// Which processor made it, 0 to 7.
+    pub cpu: u8,
+    /// At which site, 0 to 308.
+    pub site: u16,
+    /// Which of that site's steps it is, from 1 on.
+    pub number: u32,
+    /// What it does.
+    pub act: FineAct,
+}
