@@ -7,7 +7,7 @@ use Rattle.std.specs.List.{range_with_len}
 use Rattle.um_base.specs.Lawful.{are_distinct_names}
 use Rattle.um_description.specs.Names.{Text, is_among}
 use Rattle.um_description.proofs.LawfulDistinct.{are_new}
-use Rattle.um_canonical.specs.Fresh.{variable_name, is_taken, free_numbers, fresh_names}
+use Rattle.um_canonical.specs.Fresh.{variable_name, is_taken, fresh_names}
 
 -- each name, and the variable behind it
 abbrev pub woven : List Text → List Text → List Text

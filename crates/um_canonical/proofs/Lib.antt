@@ -17,3 +17,6 @@ pub mod FormAgain
 pub mod PlainAgain
 pub mod LawAgain
 pub mod ReadBack
+mod PrintedText
+mod FreeNumbers
+mod EntryTexts

@@ -1,14 +1,9 @@
 -- What is printed for a description without flaws means the same image.
-use Rattle.std.proofs.Common.{◌≡◌, ℕ, zero, suc, ◌+◌, ◌^◌, ◌<◌, arith, length-append, drop, Bool, true, false, ◌||◌, if◌then◌else◌, nat_lt, List, [], ◌∷◌, ◌++◌, map, length, take, filter, sum, Option, Some, None, option_map, is_some, bytes_eq, IsTrue, Ok, ℤ, pos, refl, ap, ◌∙◌, subst, append_assoc}
-use Rattle.std.specs.List.{flat_map}
+use Rattle.std.proofs.Common.{◌≡◌, ℕ, zero, suc, ◌+◌, ◌^◌, ◌<◌, arith, length-append, drop, Bool, true, false, ◌||◌, if◌then◌else◌, nat_lt, List, [], ◌∷◌, ◌++◌, map, length, take, sum, Option, Some, None, is_some, bytes_eq, IsTrue, Ok, pos, refl, ap, ◌∙◌, subst, append_assoc}
 use Rattle.um_base.specs.declared.image.Image.{Image}
 use Rattle.um_base.specs.declared.image.Script.{Script}
-use Rattle.um_base.specs.declared.instr.Instr.{Instr}
 use Rattle.um_base.specs.declared.limits.TheConstants.{PARTITION_AREA, STACK_AREA, SCRIPTS, LINES, MOST_WEIGHT}
 use Rattle.um_base.specs.Weight.{weight}
-use Rattle.um_base.specs.declared.names.Ref.{Ref}
-use Rattle.um_base.specs.declared.names.Term.{Term}
-use Rattle.um_base.specs.declared.instr.Options.{Options}
 use Rattle.um_base.specs.declared.names.Mpu.{Mpu}
 use Rattle.um_document.specs.declared.description.BootEntry.{BootEntry}
 use Rattle.um_document.specs.declared.description.Description.{Description}
@@ -22,15 +17,12 @@ use Rattle.um_document.specs.declared.shape.Key.{Key}
 use Rattle.um_document.specs.declared.shape.Section.{Section}
 use Rattle.um_document.proofs.EmptyLists.{no_front, no_back}
 use Rattle.um_description.specs.declared.flaw.Flaw.{Flaw}
-use Rattle.um_description.specs.declared.mentions.Wanted.{Wanted}
 use Rattle.um_description.specs.Duplicates.{boots_again, added, duplicates}
 use Rattle.um_description.specs.Flaws.{too_large, image_flaws, flaws, meaning}
 use Rattle.um_description.specs.Limits.{outside, one_too_many, top_limits, partition_limits, boot_limits, script_limits, limits}
-use Rattle.um_description.specs.Lines.{unread_in, unread_lines, instruction, broken_blocks, blocks_in, blocks_of, mentioned, unknown_at, unknown_in, unknown_in_script, script_named, scripts_up_to, is_misordered, misordered_at, misordered_in, misordered_script, if_bad, line_place}
-use Rattle.um_description.specs.Mentions as mention
-use Rattle.um_description.specs.Mentions.{Mention, mentions, strangers, is_stranger, column_of}
+use Rattle.um_description.specs.Lines.{unread_in, unread_lines, broken_blocks, blocks_in, blocks_of, unknown_in, unknown_in_script, script_named, scripts_up_to, is_misordered, misordered_at, misordered_in, misordered_script, if_bad, line_place}
 use Rattle.um_description.specs.Names.{Text, each, is_among, named, passes, is_thread, is_thread_stack, is_initialised, items, names_within, pool_names, partition_names, domain_names, object_names, script_names}
-use Rattle.um_description.specs.Resolve.{partition_sizes, stack_sizes, placed, rows_among, boot_of, without_scripts, term_of, ref_of, part_of, resolved, option_list, read_line, script_of, image_of}
+use Rattle.um_description.specs.Resolve.{partition_sizes, stack_sizes, placed, rows_among, boot_of, without_scripts, script_of, image_of}
 use Rattle.um_description.specs.Unknown.{unless, unknown_in_domain, unknown_in_boot, unknown_names}
 use Rattle.um_description.proofs.LawfulDistinct.{is_known, are_new}
 use Rattle.um_description.proofs.LawfulImage.{no_flaws, all_within}

@@ -1,12 +1,11 @@
 -- The names of what is printed are distinct, and those of variables well-formed; so nothing printed stands twice.
-use Rattle.std.proofs.Common.{◌≡◌, ℕ, zero, suc, ◌+◌, ◌^◌, ◌<◌, ◌≤◌, Bool, true, false, if◌then◌else◌, not, ◌&&◌, nat_le, nat_lt, List, [], ◌∷◌, ◌++◌, map, take, drop, filter, length, decimal, IsTrue, Option, refl, sym, ap, ◌∙◌, subst, arith, append_assoc, length-append}
-use Rattle.std.proofs.lemmas.Bool.{and_parts, false≢true, not-true}
+use Rattle.std.proofs.Common.{◌≡◌, ℕ, zero, suc, ◌+◌, ◌^◌, ◌<◌, ◌≤◌, Bool, true, false, if◌then◌else◌, not, nat_le, nat_lt, List, [], ◌∷◌, ◌++◌, map, take, filter, length, decimal, IsTrue, refl, ◌∙◌, subst, arith, append_assoc}
+use Rattle.std.proofs.lemmas.Bool.{and_parts, not-true}
 use Rattle.std.proofs.lemmas.Bool.Decides.{nat_tests}
 use Rattle.std.proofs.lemmas.Fmt.{length-decimal-le}
-use Rattle.std.specs.List.{list_all, list_any, range_with_len}
+use Rattle.std.specs.List.{list_all, range_with_len}
 use Rattle.um_base.specs.Lawful.{is_name, is_name_byte, are_distinct_names}
 use Rattle.um_base.specs.declared.names.Mpu.{Mpu}
-use Rattle.um_document.specs.declared.description.BootEntry.{BootEntry}
 use Rattle.um_document.specs.declared.description.Description.{Description}
 use Rattle.um_document.specs.declared.description.DomainEntry.{DomainEntry}
 use Rattle.um_document.specs.declared.description.PartitionEntry.{PartitionEntry}
@@ -17,16 +16,15 @@ use Rattle.um_document.specs.declared.shape.Section.{Section}
 use Rattle.um_document.proofs.EmptyLists.{no_front, no_back}
 use Rattle.um_script.specs.Numbers.{is_digit}
 use Rattle.um_script.proofs.DigitsAgain.{list_all-weaker, decimal-spells}
-use Rattle.um_description.specs.Duplicates.{if_again, names_again, variables_again, partition_again, partitions_again, parts_again, domain_again, domains_again, boots_again, added, duplicates}
+use Rattle.um_description.specs.Duplicates.{if_again, names_again, variables_again, partitions_again, parts_again, domain_again, domains_again, added}
 use Rattle.um_description.specs.Names.{Text, is_among, items, variables_of, variable_names, names_within, pool_names, partition_names, domain_names, object_names, script_names}
 use Rattle.um_description.proofs.LawfulDistinct.{are_new}
 use Rattle.um_description.proofs.LawfulLists.{length_mapped}
 use Rattle.um_description.proofs.LawfulNames.{all_names, HasNoDuplicates, names_distinct}
-use Rattle.um_canonical.specs.Entries.{partition_entry}
-use Rattle.um_canonical.specs.Fresh.{variable_name, is_taken, free_numbers, fresh_names, first_name}
+use Rattle.um_canonical.specs.Fresh.{variable_name, is_taken, free_numbers, fresh_names}
 use Rattle.um_canonical.proofs.Enough.{enough}
-use Rattle.um_canonical.proofs.FreshAgain.{woven, AreFree, woven_distinct, distinct_new, variables_free, variables_distinct}
-use Rattle.um_canonical.proofs.PartsAgain.{repacked_by, entries_by}
+use Rattle.um_canonical.proofs.FreshAgain.{woven, AreFree, woven_distinct, distinct_new}
+use Rattle.um_canonical.proofs.PartsAgain.{entries_by}
 
 -- ---- as many fresh names as are wanted, each well-formed
 

@@ -1,5 +1,5 @@
 -- Partitions come back with their rounded sizes, which are placed alike; boot entries come back with their grants in the order of the objects.
-use Rattle.std.proofs.Common.{◌≡◌, ℕ, ◌+◌, ◌≤◌, Bool, false, ◌==◌, nat_le, nat_lt, List, [], ◌∷◌, ◌++◌, map, drop, length, Option, Some, None, option_map, is_some, IsTrue, ℤ, pos, negsuc, int_lt, refl, ap, ◌∙◌, arith}
+use Rattle.std.proofs.Common.{◌≡◌, ℕ, ◌+◌, ◌≤◌, Bool, false, ◌==◌, nat_le, nat_lt, List, [], ◌∷◌, map, drop, length, Option, Some, None, option_map, is_some, IsTrue, ℤ, pos, negsuc, int_lt, refl, ap, ◌∙◌, arith}
 use Rattle.std.proofs.lemmas.Bool.{false≢true}
 use Rattle.std.proofs.lemmas.Bool.Decides.{nat_tests}
 use Rattle.um_base.specs.declared.limits.TheConstants.{AREA_ENTRY, PARTITIONS, BOOTS}

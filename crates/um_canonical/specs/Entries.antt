@@ -43,14 +43,21 @@ partition_entry p =
       contents = PartitionContents.Variables (record { name = p.variable; size = p.size; align = Alignment.ThirtyTwo; «data» = given p.bytes } ∷ []);
     }
 
+-- a partition with this name for its variable
+abbrev pub packed : List ℕ → Partition → Packed
+packed variable p = record { name = p.name; attr = p.attr; variable = variable; size = pos p.range.size; bytes = p.bytes }
+
 -- partitions with these names for their variables
 abbrev pub packed_by : List (List ℕ) → List Partition → List Packed
 packed_by variables [] = []
-packed_by variables (p ∷ ps) =
-    record { name = p.name; attr = p.attr; variable = first_name variables; size = pos p.range.size; bytes = p.bytes } ∷ packed_by (drop 1 variables) ps
+packed_by variables (p ∷ ps) = packed (first_name variables) p ∷ packed_by (drop 1 variables) ps
+
+-- the names of numbers
+abbrev pub names_at : List (List ℕ) → List ℕ → List (List ℕ)
+names_at names numbers = map (name_at names) numbers
 
 abbrev pub domain_entry : List (List ℕ) → DomainDef → DomainEntry
-domain_entry partitions m = record { name = m.name; partitions = option_map (λ (parts : List ℕ). map (name_at partitions) parts) m.parts }
+domain_entry partitions m = record { name = m.name; partitions = option_map (names_at partitions) m.parts }
 
 abbrev pub details_by : Kind → Setup → Details
 details_by Kind.Thread setup = Details.Thread

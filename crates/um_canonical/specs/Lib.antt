@@ -4,3 +4,5 @@ pub mod Named
 pub mod Entries
 pub mod Sections
 pub mod Text
+pub mod Pieces
+pub mod Tables

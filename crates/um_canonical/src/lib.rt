@@ -1,16 +1,17 @@
-//! The canonical description of an image: its text, and what that text is read back as.
+//! The canonical description of an image: its text, the printer of that text, and what the text is read back as.
 #![tactic(auto)]
 
-ghost use Rattle.std.specs.Prelude.{◌≡◌, [], List, ℕ, Ok};
-ghost use Rattle.um_document.specs.declared.description.Description.{Description};
-ghost use Rattle.um_document.specs.Faults.{ReadsDocument};
-ghost use Rattle.um_description.specs.Flaws.{flaws, meaning};
-ghost use Rattle.um_description.specs.Resolve.{image_of};
-ghost use Rattle.um_canonical.specs.Text.{described, printed_text};
+mod boots;
+mod domains;
+mod laws;
+mod lines;
+mod names;
+mod objects;
+mod pairs;
+mod partitions;
+mod scripts;
+mod text;
+mod variables;
 
-/// The laws over every text: where it describes an image, the text that is printed for that image is read as a
-/// description, and that description means the same image.
-pub fn every_image()
-    ensures reads { (source : List ℕ) (d : Description) → ReadsDocument (Ok d) source → flaws d ≡ [] → ReadsDocument (Ok (described (image_of d))) (printed_text (image_of d)) }
-    ensures means { (d : Description) → flaws d ≡ [] → meaning (described (image_of d)) ≡ Ok (image_of d) }
-{}
+pub use laws::every_image;
+pub use text::put_image;

@@ -31,6 +31,7 @@ pub use sequence::{Sequence, Text};
 pub use shape::{Key, Section};
 pub use spot::Spot;
 pub use told::fault_text;
+pub use words::{attr_word, kind_word, mode_word, mpu_word, policy_word};
 
 #[cfg(test)]
 mod tests;

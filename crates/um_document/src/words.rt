@@ -9,7 +9,7 @@ use um_base::{Attr, Kind, Mode, Mpu, Policy};
 
 const MPUS: [Mpu; 2] = [Mpu::V7, Mpu::V8];
 
-fn mpu_word(mpu: Mpu) -> &'static [u8]
+pub fn mpu_word(mpu: Mpu) -> &'static [u8]
     ensures { result.now ≡ words.mpu_word mpu }
 {
     match mpu {
@@ -27,7 +27,7 @@ pub fn mpu_named(word: &[u8]) -> Option<Mpu>
 
 const POLICIES: [Policy; 2] = [Policy::Abort, Policy::Halt];
 
-fn policy_word(policy: Policy) -> &'static [u8]
+pub fn policy_word(policy: Policy) -> &'static [u8]
     ensures { result.now ≡ words.policy_word policy }
 {
     match policy {
@@ -48,7 +48,7 @@ pub fn policy_named(word: &[u8]) -> Option<Policy>
 
 const MODES: [Mode; 2] = [Mode::User, Mode::Supervisor];
 
-fn mode_word(mode: Mode) -> &'static [u8]
+pub fn mode_word(mode: Mode) -> &'static [u8]
     ensures { result.now ≡ words.mode_word mode }
 {
     match mode {
@@ -72,7 +72,7 @@ const ATTRS: [Attr; 6] = [
     Attr::P_RX_U_RX,
 ];
 
-fn attr_word(attr: Attr) -> &'static [u8]
+pub fn attr_word(attr: Attr) -> &'static [u8]
     ensures { result.now ≡ words.attr_word attr }
 {
     match attr.0 {
@@ -102,7 +102,7 @@ const KINDS: [Kind; 7] = [
     Kind::Pipe,
 ];
 
-fn kind_word(kind: Kind) -> &'static [u8]
+pub fn kind_word(kind: Kind) -> &'static [u8]
     ensures { result.now ≡ words.kind_word kind }
 {
     match kind {

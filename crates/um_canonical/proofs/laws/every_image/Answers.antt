@@ -1,6 +1,6 @@
 use Rattle.um_canonical.proofs.DescribedAgain.{image_described}
 use Rattle.um_canonical.proofs.ReadBack.{read_back}
-use Rattle.um_canonical.proofs.every_image.Goals as goal
+use Rattle.um_canonical.proofs.laws.every_image.Goals as goal
 
 pub returns-clause-reads : goal.returns-clause-reads
 returns-clause-reads c = read_back
