@@ -1,2 +1,3 @@
 mod FaultLemmas
 pub mod TextLemmas
+pub mod PrintLemmas
