@@ -9,6 +9,9 @@ use std::alloc::Global;
 use um_base::{Image, Memory};
 use um_canonical::put_image;
 
+#[cfg(test)]
+mod tests;
+
 /// The canonical description of an image, in version 2. Where a text describes the image, so does this one, and
 /// printing what it describes gives the same bytes.
 ///

@@ -1,28 +1,17 @@
 //! Tests of reading descriptions.
 
 use super::*;
+use crate::samples::LAST_BYTE;
 use std::fmt::Write;
 use std::test::Fail;
 use um_base::{Addr, Attr, Instr, Mode, Mpu, Name, Range, Row, Setup, Term, ThreadIx};
 use um_description::weight;
 use um_document::fault_text;
 
-/// A thread that writes the last byte of its partition, and reads past it.
-const LAST_BYTE: &str = "version = 1
-mpu = \"pmsav7\"
-regions = 8
-oops = \"abort\"
-partition = [{name = \"p\", size = 32, attr = \"P_RW_U_RW\"}]
-domain = [{name = \"d\", partitions = [\"p\"]}]
-object = [{name = \"a\", kind = \"thread\"}, {name = \"sa\", kind = \"thread_stack\", size = 64}]
-boot = [{thread = \"a\", stack = \"sa\", script = \"m\", priority = 0, domain = \"d\"}]
-script = [{name = \"m\", lines = [\"store @p+31 1 0xab\", \"load r0 @p+32 1\"]}]
-";
-
-/// The lines of its script.
+/// The lines of the script of `LAST_BYTE`.
 const LINES: &str = "\"store @p+31 1 0xab\", \"load r0 @p+32 1\"";
 
-/// Changes to that description, and what is told of each.
+/// Changes to `LAST_BYTE`, and what is told of each.
 const REFUSED: [(&str, &str, &str); 15] = [
     (LAST_BYTE, "", "Version"),
     (LAST_BYTE, "version = \"1", "NotToml"),
