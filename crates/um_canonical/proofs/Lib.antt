@@ -1,21 +1,21 @@
-pub mod Enough
-pub mod FreshAgain
-pub mod ObjectsAgain
+pub mod EnoughNames
+pub mod FreshNames
+pub mod PrintedObjects
 pub mod Writable
 pub mod NamedAlike
-pub mod LinesAgain
-pub mod EntriesAgain
+pub mod PrintedLines
+pub mod PrintedEntries
 pub mod PlainLines
-pub mod ScriptsAgain
-pub mod PartsAgain
-pub mod NamesAgain
-pub mod MeaningAgain
-pub mod DescribedAgain
-pub mod SectionsAgain
-pub mod TopAgain
-pub mod FormAgain
-pub mod PlainAgain
-pub mod LawAgain
+pub mod PrintedScripts
+pub mod RoundedPartitions
+pub mod DistinctNames
+pub mod PrintedMeaning
+pub mod PrintedDescription
+pub mod PrintedSections
+pub mod PrintedTop
+pub mod PrintedForm
+pub mod PlainDocument
+pub mod PrintedReading
 pub mod ReadBack
 mod PrintedText
 mod FreeNumbers

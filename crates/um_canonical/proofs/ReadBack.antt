@@ -10,8 +10,8 @@ use Rattle.um_document.proofs.LawfulForm.{read_lawful}
 use Rattle.um_description.specs.Flaws.{flaws}
 use Rattle.um_description.specs.Resolve.{image_of}
 use Rattle.um_canonical.specs.Text.{described, printed_text}
-use Rattle.um_canonical.proofs.LawAgain.{decoded_bytes, has_bytes, entries_bytes, printed_reads}
-use Rattle.um_canonical.proofs.SectionsAgain.{is_byte}
+use Rattle.um_canonical.proofs.PrintedReading.{decoded_bytes, has_bytes, entries_bytes, printed_reads}
+use Rattle.um_canonical.proofs.PrintedSections.{is_byte}
 
 pub read_back : (source : List ℕ) (d : Description) → ReadsDocument (Ok d) source → flaws d ≡ [] → ReadsDocument (Ok (described (image_of d))) (printed_text (image_of d))
 read_back source d read none =

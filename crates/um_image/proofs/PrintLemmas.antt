@@ -5,7 +5,7 @@ use Rattle.um_document.specs.declared.description.Description.{Description}
 use Rattle.um_description.specs.declared.flaw.Flaw.{Flaw}
 use Rattle.um_description.specs.Flaws.{flaws, meaning_by}
 use Rattle.um_description.specs.Resolve.{image_of}
-use Rattle.um_canonical.proofs.DescribedAgain.{image_described}
+use Rattle.um_canonical.proofs.PrintedDescription.{image_described}
 use Rattle.um_canonical.proofs.ReadBack.{read_back}
 use Rattle.um_canonical.specs.Text.{described, printed_text}
 use Rattle.um_image.specs.Meaning.{Describes}

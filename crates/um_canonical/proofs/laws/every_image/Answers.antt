@@ -1,4 +1,4 @@
-use Rattle.um_canonical.proofs.DescribedAgain.{image_described}
+use Rattle.um_canonical.proofs.PrintedDescription.{image_described}
 use Rattle.um_canonical.proofs.ReadBack.{read_back}
 use Rattle.um_canonical.proofs.laws.every_image.Goals as goal
 

@@ -22,9 +22,9 @@ use Rattle.um_description.proofs.LawfulDistinct.{are_new}
 use Rattle.um_description.proofs.LawfulLists.{length_mapped}
 use Rattle.um_description.proofs.LawfulNames.{all_names, HasNoDuplicates, names_distinct}
 use Rattle.um_canonical.specs.Fresh.{variable_name, is_taken, free_numbers, fresh_names}
-use Rattle.um_canonical.proofs.Enough.{enough}
-use Rattle.um_canonical.proofs.FreshAgain.{woven, AreFree, woven_distinct, distinct_new}
-use Rattle.um_canonical.proofs.PartsAgain.{entries_by}
+use Rattle.um_canonical.proofs.EnoughNames.{enough}
+use Rattle.um_canonical.proofs.FreshNames.{woven, AreFree, woven_distinct, distinct_new}
+use Rattle.um_canonical.proofs.RoundedPartitions.{entries_by}
 
 -- ---- as many fresh names as are wanted, each well-formed
 

@@ -23,8 +23,8 @@ use Rattle.um_plain_toml.specs.Printed.{Pairs, value_pairs, section_pairs, table
 use Rattle.um_plain_toml.proofs.Lookups.{found, found-append, at_all, all_keys, keys_pass}
 use Rattle.um_canonical.specs.Sections.{encoded}
 use Rattle.um_canonical.specs.Text.{top_by, sections_by}
-use Rattle.um_canonical.proofs.ObjectsAgain.{passes}
-use Rattle.um_canonical.proofs.SectionsAgain.{is_byte, hexadecimal_again}
+use Rattle.um_canonical.proofs.PrintedObjects.{passes}
+use Rattle.um_canonical.proofs.PrintedSections.{is_byte, hexadecimal_again}
 
 -- ---- values
 

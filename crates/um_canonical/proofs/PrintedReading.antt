@@ -47,16 +47,16 @@ use Rattle.um_plain_toml.proofs.Runs.{document_again}
 use Rattle.um_plain_toml.proofs.Values.{ArePlain}
 use Rattle.um_canonical.specs.Entries.{Packed, partition_entry, row_names}
 use Rattle.um_canonical.specs.Text.{top_of, sections_of, text_for, described, printed_text}
-use Rattle.um_canonical.proofs.DescribedAgain.{known_boot, packed_again, described_again}
-use Rattle.um_canonical.proofs.EntriesAgain.{granted, rows_named}
-use Rattle.um_canonical.proofs.FormAgain.{table_for, partition_is, boot_is, script_is, IsFormed, no_form_faults, description_again}
-use Rattle.um_canonical.proofs.MeaningAgain.{variables_for, repacked, reprinted, named_alike, few_names, base_of, scripts_again}
-use Rattle.um_canonical.proofs.NamesAgain.{as_many, fresh_lawful}
-use Rattle.um_canonical.proofs.PartsAgain.{repacked_by, regranted, sized}
-use Rattle.um_canonical.proofs.PlainAgain.{Fits, Plain, GivenPlain, DetailsFit, PoolPlain, Each, PoolIsPlain, PartitionIsPlain, DomainIsPlain, ObjectIsPlain, BootIsPlain, ScriptIsPlain, IsPlainDescription, pos_fits, negative_fits, document_plain}
+use Rattle.um_canonical.proofs.PrintedDescription.{known_boot, packed_again, described_again}
+use Rattle.um_canonical.proofs.PrintedEntries.{granted, rows_named}
+use Rattle.um_canonical.proofs.PrintedForm.{table_for, partition_is, boot_is, script_is, IsFormed, no_form_faults, description_again}
+use Rattle.um_canonical.proofs.PrintedMeaning.{variables_for, repacked, reprinted, named_alike, few_names, base_of, scripts_again}
+use Rattle.um_canonical.proofs.DistinctNames.{as_many, fresh_lawful}
+use Rattle.um_canonical.proofs.RoundedPartitions.{repacked_by, regranted, sized}
+use Rattle.um_canonical.proofs.PlainDocument.{Fits, Plain, GivenPlain, DetailsFit, PoolPlain, Each, PoolIsPlain, PartitionIsPlain, DomainIsPlain, ObjectIsPlain, BootIsPlain, ScriptIsPlain, IsPlainDescription, pos_fits, negative_fits, document_plain}
 use Rattle.um_canonical.proofs.PlainLines.{name_plain}
-use Rattle.um_canonical.proofs.ScriptsAgain.{lines_back}
-use Rattle.um_canonical.proofs.SectionsAgain.{is_byte}
+use Rattle.um_canonical.proofs.PrintedScripts.{lines_back}
+use Rattle.um_canonical.proofs.PrintedSections.{is_byte}
 
 -- ---- bytes
 

@@ -27,7 +27,7 @@ use Rattle.um_plain_toml.proofs.Values.{is_plain, is_bare_key, ArePlain}
 use Rattle.um_canonical.specs.Entries.{Packed}
 use Rattle.um_canonical.specs.Objects.{pairs_by}
 use Rattle.um_canonical.specs.Sections.{hex_digit, encoded, bytes_pairs, pool_by, partition_by, domain_by, boot_by, script_by}
-use Rattle.um_canonical.proofs.SectionsAgain.{is_byte}
+use Rattle.um_canonical.proofs.PrintedSections.{is_byte}
 use Rattle.um_canonical.specs.Text.{of_pool, of_partition, of_domain, of_object, of_boot, of_script, top_by, sections_by, top_of, sections_of}
 
 abbrev pub Fits : ℤ → Type 0

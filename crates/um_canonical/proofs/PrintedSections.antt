@@ -17,7 +17,7 @@ use Rattle.um_document.specs.Unknown.{own_strays, strays_below, strays_of_entry}
 use Rattle.um_plain_toml.specs.Printed.{table_of, texts_items}
 use Rattle.um_canonical.specs.Entries.{partition_entry}
 use Rattle.um_canonical.specs.Sections.{hex_digit, encoded, pool_by, partition_by, domain_by, boot_by, script_by}
-use Rattle.um_canonical.proofs.ObjectsAgain.{passes, AreSound, short_name}
+use Rattle.um_canonical.proofs.PrintedObjects.{passes, AreSound, short_name}
 
 -- ---- bytes
 

@@ -27,9 +27,9 @@ use Rattle.um_document.specs.Words.{mpu_word, mpu_named, policy_word, policy_nam
 use Rattle.um_plain_toml.specs.Printed.{Pairs, table_of, tables_of, document_table}
 use Rattle.um_canonical.specs.Entries.{Packed, partition_entry}
 use Rattle.um_canonical.specs.Text.{of_pool, of_partition, of_domain, of_object, of_boot, of_script, top_of, sections_of}
-use Rattle.um_canonical.proofs.ObjectsAgain.{passes, AreSound, again_by, sound_by, known_by}
-use Rattle.um_canonical.proofs.SectionsAgain.{is_byte, decoded_again, pool_again, pool_sound, pool_known, partition_again, partition_sound, partition_known, domain_again, domain_sound, domain_known, script_again, script_sound, script_known, boot_again, boot_sound, boot_known}
-use Rattle.um_canonical.proofs.TopAgain.{packed_sections, AreValues, values_by, bytes_value, given_value, items_given, top_pass, entries_pass, no_stray_at_top}
+use Rattle.um_canonical.proofs.PrintedObjects.{passes, AreSound, again_by, sound_by, known_by}
+use Rattle.um_canonical.proofs.PrintedSections.{is_byte, decoded_again, pool_again, pool_sound, pool_known, partition_again, partition_sound, partition_known, domain_again, domain_sound, domain_known, script_again, script_sound, script_known, boot_again, boot_sound, boot_known}
+use Rattle.um_canonical.proofs.PrintedTop.{packed_sections, AreValues, values_by, bytes_value, given_value, items_given, top_pass, entries_pass, no_stray_at_top}
 
 -- the table of a description whose partitions are printed so
 abbrev pub table_for : Description → List Packed → Members

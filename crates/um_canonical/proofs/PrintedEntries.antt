@@ -21,7 +21,7 @@ use Rattle.um_description.proofs.LawfulObjects.{own_limits, later_limits}
 use Rattle.um_description.proofs.LawfulRanges.{inside}
 use Rattle.um_canonical.specs.Entries.{pool_entry, domain_entry, object_entry, row_names}
 use Rattle.um_canonical.specs.Named.{name_at}
-use Rattle.um_canonical.proofs.LinesAgain.{name_back}
+use Rattle.um_canonical.proofs.PrintedLines.{name_back}
 
 -- ---- numbers in their limits are kept
 

@@ -32,12 +32,12 @@ use Rattle.um_description.proofs.LawfulNames.{all_names, no_duplicates}
 use Rattle.um_description.proofs.WithoutLimits.{in_limits}
 use Rattle.um_canonical.specs.Entries.{Packed, partition_entry, row_names}
 use Rattle.um_canonical.specs.Fresh.{fresh_names}
-use Rattle.um_canonical.proofs.EntriesAgain.{granted, rows_named, grants_again}
-use Rattle.um_canonical.proofs.PartsAgain.{repacked_by, entries_by, placed_alike, all_limits_again, sizes_alike, regranted}
-use Rattle.um_canonical.proofs.FreshAgain.{variables_free, variables_distinct}
+use Rattle.um_canonical.proofs.PrintedEntries.{granted, rows_named, grants_again}
+use Rattle.um_canonical.proofs.RoundedPartitions.{repacked_by, entries_by, placed_alike, all_limits_again, sizes_alike, regranted}
+use Rattle.um_canonical.proofs.FreshNames.{variables_free, variables_distinct}
 use Rattle.um_canonical.proofs.NamedAlike.{AreNamedAlike}
-use Rattle.um_canonical.proofs.NamesAgain.{as_many, no_names_again, new_split, no_partitions_again, no_domains_again, within_woven, all_new}
-use Rattle.um_canonical.proofs.ScriptsAgain.{printed_lines, lines_back}
+use Rattle.um_canonical.proofs.DistinctNames.{as_many, no_names_again, new_split, no_partitions_again, no_domains_again, within_woven, all_new}
+use Rattle.um_canonical.proofs.PrintedScripts.{printed_lines, lines_back}
 
 abbrev pub script_again : Image → Description → ScriptEntry → ScriptEntry
 script_again image d s = record { name = s.name; lines = printed_lines image d s.lines }

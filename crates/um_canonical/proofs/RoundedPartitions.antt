@@ -28,7 +28,7 @@ use Rattle.um_description.proofs.WithoutLimits.{contents_right}
 use Rattle.um_canonical.specs.Entries.{Packed, given, partition_entry, packed_by, boot_entry, row_names}
 use Rattle.um_canonical.specs.Fresh.{first_name}
 use Rattle.um_canonical.specs.Named.{name_at}
-use Rattle.um_canonical.proofs.LinesAgain.{name_back}
+use Rattle.um_canonical.proofs.PrintedLines.{name_back}
 
 -- ---- partitions
 

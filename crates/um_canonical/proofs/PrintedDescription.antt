@@ -39,9 +39,9 @@ use Rattle.um_description.proofs.LawfulRanges.{IsIn, inside, natural_in}
 use Rattle.um_canonical.specs.Entries.{Packed, packed_by, domain_entry, boot_entry}
 use Rattle.um_canonical.specs.Fresh.{fresh_names}
 use Rattle.um_canonical.specs.Text.{pools_in, partitions_in, domains_in, objects_in, scripts_in, script_entry, names_by, names_in, packed_in, described_by, described}
-use Rattle.um_canonical.proofs.EntriesAgain.{pools_back, objects_back, domain_back}
-use Rattle.um_canonical.proofs.MeaningAgain.{variables_for, repacked, reprinted, scripts_again, base_of, means_again}
-use Rattle.um_canonical.proofs.PartsAgain.{partitions_back, regranted, boot_back}
+use Rattle.um_canonical.proofs.PrintedEntries.{pools_back, objects_back, domain_back}
+use Rattle.um_canonical.proofs.PrintedMeaning.{variables_for, repacked, reprinted, scripts_again, base_of, means_again}
+use Rattle.um_canonical.proofs.RoundedPartitions.{partitions_back, regranted, boot_back}
 
 -- ---- names
 
