@@ -30,41 +30,25 @@ pub fn name_at(names: &[Name], index: u8) -> Name
 fn of_pools(alloc: Global, pools: &[Pool]) -> Result<Vec<Name>, Memory>
     ensures { IfOk result (λ names. names.items ≡ map (λ pool. pool.name) pools.now) }
 {
-    let mut names = Vec::new(alloc);
-    for pool in pools {
-        names.push(pool.name)?;
-    }
-    Ok(names)
+    Ok(pools.iter().map(|pool| pool.name).collect(alloc)?)
 }
 
 fn of_partitions(alloc: Global, partitions: &[Partition]) -> Result<Vec<Name>, Memory>
     ensures { IfOk result (λ names. names.items ≡ map (λ partition. partition.name) partitions.now) }
 {
-    let mut names = Vec::new(alloc);
-    for partition in partitions {
-        names.push(partition.name)?;
-    }
-    Ok(names)
+    Ok(partitions.iter().map(|part| part.name).collect(alloc)?)
 }
 
 fn of_domains(alloc: Global, domains: &[DomainDef]) -> Result<Vec<Name>, Memory>
     ensures { IfOk result (λ names. names.items ≡ map (λ domain. domain.name) domains.now) }
 {
-    let mut names = Vec::new(alloc);
-    for domain in domains {
-        names.push(domain.name)?;
-    }
-    Ok(names)
+    Ok(domains.iter().map(|domain| domain.name).collect(alloc)?)
 }
 
 fn of_objects(alloc: Global, objects: &[ObjectDef]) -> Result<Vec<Name>, Memory>
     ensures { IfOk result (λ names. names.items ≡ map (λ object. object.name) objects.now) }
 {
-    let mut names = Vec::new(alloc);
-    for object in objects {
-        names.push(object.name)?;
-    }
-    Ok(names)
+    Ok(objects.iter().map(|object| object.name).collect(alloc)?)
 }
 
 fn of_scripts(alloc: Global, scripts: &[Script]) -> Result<Vec<Name>, Memory>
