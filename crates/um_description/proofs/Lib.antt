@@ -10,6 +10,7 @@ mod WeightLemmas
 mod SameWeight
 mod MeaningLemmas
 mod PackingLemmas
+mod SpotLemmas
 pub mod WithoutLimits
 mod KindLemmas
 pub mod LawfulLists

@@ -1,7 +1,7 @@
 -- Offsets that stand still at the greatest number of 32 bits, ends that never fall, and the law of packing.
-use Rattle.std.proofs.Common.{◌≡◌, ℕ, ◌+◌, ◌-◌, ◌%◌, ◌*◌, ◌/◌, ◌^◌, ◌<◌, ◌≤◌, min, Bool, true, false, nat_le, nat_lt, List, [], ◌∷◌, ◌++◌, drop, get_or, length, suc, add-one, drop-cons, if◌then◌else◌, Option, Some, None, bytes_eq, refl, ap, sym, ◌∙◌, arith}
+use Rattle.std.proofs.Common.{◌≡◌, ℕ, ◌+◌, ◌-◌, ◌^◌, ◌<◌, ◌≤◌, Bool, true, false, nat_le, List, [], ◌∷◌, drop, get_or, length, suc, add-one, drop-cons, if◌then◌else◌, Option, Some, bytes_eq, refl, ap, sym, ◌∙◌, arith}
 use Rattle.std.specs.Int.{next_multiple_of}
-use Rattle.std.proofs.Math.Nat.{min-eq_left, le-add_right}
+use Rattle.std.proofs.Math.Nat.{min-eq_left}
 use Rattle.std.proofs.lemmas.Bool.Decides.{nat_tests}
 use Rattle.um_document.specs.declared.description.Alignment.{Alignment}
 use Rattle.um_document.specs.declared.description.VariableEntry.{VariableEntry}
@@ -66,7 +66,7 @@ pub end_fits : (e : ℕ) (v : VariableEntry) (vs : List VariableEntry) → last_
 end_fits e v vs fits =
     let grows = ends_grow (end_of e v) vs in (omega (arith, fits, grows), omega (arith, fits, grows))
 
-cut_at : {A : Type 0} (xs : List A) (k : ℕ) (x : A) → k < length xs → x ≡ get_or xs k x → drop k xs ≡ x ∷ drop (k + 1) xs
+pub cut_at : {A : Type 0} (xs : List A) (k : ℕ) (x : A) → k < length xs → x ≡ get_or xs k x → drop k xs ≡ x ∷ drop (k + 1) xs
 cut_at xs k x lt is = rw add-one (drop-cons xs k x lt ∙ ap (λ w. w ∷ drop (suc k) xs) (sym is))
 
 -- the next variable of some

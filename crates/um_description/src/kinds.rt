@@ -43,7 +43,7 @@ fn first_in_lines(alloc: Global, d: &Description) -> Result<Option<Flaw>, Memory
     if let Some(place) = first_block(alloc, d.scripts.as_slice())? {
         return Ok(Some(Flaw::Block(place)));
     }
-    if let Some(flaw) = first_stranger(d, d.scripts.as_slice())? {
+    if let Some(flaw) = first_stranger(alloc, d, d.scripts.as_slice())? {
         return Ok(Some(flaw));
     }
     if let Some(place) = first_misordered(d)? {

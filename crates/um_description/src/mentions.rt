@@ -5,16 +5,14 @@ ghost use Rattle.um_document.specs.declared.description.DomainEntry.{DomainEntry
 ghost use Rattle.um_document.specs.declared.description.ObjectEntry.{ObjectEntry};
 ghost use Rattle.um_document.specs.declared.description.PartitionEntry.{PartitionEntry};
 ghost use Rattle.um_document.specs.declared.description.ScriptEntry.{ScriptEntry};
-ghost use Rattle.um_document.specs.declared.description.VariableEntry.{VariableEntry};
 ghost use Rattle.um_document.specs.First.{first_of};
+ghost use Rattle.um_description.specs.declared.mentions.Wanted.{Wanted};
 ghost use Rattle.um_description.specs.Mentions as spec;
 ghost use Rattle.um_description.specs.Names as names;
 
+use crate::indexed::Indexed;
 use um_base::{Instr, Name, PartRef, Ref, Term};
-use um_document::{
-    Description, DomainEntry, ObjectEntry, PartitionContents, PartitionEntry, ScriptEntry,
-    VariableEntry,
-};
+use um_document::{Description, DomainEntry, ObjectEntry, PartitionEntry, ScriptEntry};
 
 /// What a name in a line is to name.
 #[derive(Clone, Copy, PartialEq, Eq)]
@@ -42,37 +40,6 @@ fn is_partition(partitions: &[PartitionEntry], name: &[u8]) -> bool
 {
     for partition in partitions {
         if name == partition.name.as_slice() {
-            return true;
-        }
-    }
-    false
-}
-
-fn is_variable_of(variables: &[VariableEntry], name: &[u8]) -> bool
-    ensures { result ≡ names.is_among name.now (map (λ (v : VariableEntry). v.name) variables.now) }
-{
-    for variable in variables {
-        if name == variable.name.as_slice() {
-            return true;
-        }
-    }
-    false
-}
-
-fn lists_variable(partition: &PartitionEntry, name: &[u8]) -> bool
-    ensures { result ≡ names.is_among name.now (names.variable_names partition.now) }
-{
-    match &partition.contents {
-        PartitionContents::Whole { .. } => false,
-        PartitionContents::Variables(variables) => is_variable_of(variables.as_slice(), name),
-    }
-}
-
-fn is_variable(partitions: &[PartitionEntry], name: &[u8]) -> bool
-    ensures { result ≡ spec.names_variable partitions.now name.now }
-{
-    for partition in partitions {
-        if lists_variable(partition, name) {
             return true;
         }
     }
@@ -110,26 +77,31 @@ fn names_rodata(d: &Description, name: &[u8]) -> bool
     name == RODATA && !d.rodata.is_empty()
 }
 
+/// Whether a name is that of an object, a partition, a variable, or of the read-only data.
+fn is_place(d: &Indexed<'_>, name: &[u8]) -> bool
+    ensures { result ≡ spec.is_known d.now Wanted.Place name.now }
+{
+    d.is_variable(name)
+        || is_object(d.description().objects.as_slice(), name)
+        || is_partition(d.description().partitions.as_slice(), name)
+        || names_rodata(d.description(), name)
+}
+
 /// Whether a name names what is wanted.
-pub fn is_known(d: &Description, wanted: Wanted, name: &[u8]) -> bool
+pub fn is_known(d: &Indexed<'_>, wanted: Wanted, name: &[u8]) -> bool
     ensures { result ≡ spec.is_known d.now wanted name.now }
 {
     match wanted {
-        Wanted::Place => {
-            is_object(d.objects.as_slice(), name)
-                || is_partition(d.partitions.as_slice(), name)
-                || is_variable(d.partitions.as_slice(), name)
-                || names_rodata(d, name)
-        }
-        Wanted::Domain => is_domain(d.domains.as_slice(), name),
-        Wanted::Partition => is_partition(d.partitions.as_slice(), name),
-        Wanted::Script => is_script(d.scripts.as_slice(), name),
+        Wanted::Place => is_place(d, name),
+        Wanted::Domain => is_domain(d.description().domains.as_slice(), name),
+        Wanted::Partition => is_partition(d.description().partitions.as_slice(), name),
+        Wanted::Script => is_script(d.description().scripts.as_slice(), name),
     }
 }
 
 /// The number of the word of a term that names nothing.
 #[tactic(auto, unfolding(crate::specs::Mentions::strangers))]
-pub fn in_term(d: &Description, at: usize, term: &Term) -> Option<usize>
+pub fn in_term(d: &Indexed<'_>, at: usize, term: &Term) -> Option<usize>
     ensures { result ≡ first_of (spec.strangers d.now (spec.in_term at term.now)) }
 {
     match term {
@@ -139,7 +111,7 @@ pub fn in_term(d: &Description, at: usize, term: &Term) -> Option<usize>
 }
 
 #[tactic(auto, unfolding(crate::specs::Mentions::strangers))]
-fn stranger(d: &Description, wanted: Wanted, at: usize, name: &Name) -> Option<usize>
+fn stranger(d: &Indexed<'_>, wanted: Wanted, at: usize, name: &Name) -> Option<usize>
     ensures { result ≡ first_of (spec.strangers d.now (record { at = at; wanted = wanted; name = name.now } ∷ [])) }
 {
     if is_known(d, wanted, name.as_slice()) {
@@ -150,7 +122,7 @@ fn stranger(d: &Description, wanted: Wanted, at: usize, name: &Name) -> Option<u
 }
 
 #[tactic(auto, unfolding(crate::specs::Mentions::strangers))]
-pub fn in_ref(d: &Description, wanted: Wanted, at: usize, named: &Ref) -> Option<usize>
+pub fn in_ref(d: &Indexed<'_>, wanted: Wanted, at: usize, named: &Ref) -> Option<usize>
     ensures { result ≡ first_of (spec.strangers d.now (spec.in_ref wanted at named.now)) }
 {
     match named {
@@ -160,7 +132,7 @@ pub fn in_ref(d: &Description, wanted: Wanted, at: usize, named: &Ref) -> Option
 }
 
 #[tactic(auto, unfolding(crate::specs::Mentions::strangers))]
-pub fn in_part(d: &Description, at: usize, part: &PartRef) -> Option<usize>
+pub fn in_part(d: &Indexed<'_>, at: usize, part: &PartRef) -> Option<usize>
     ensures { result ≡ first_of (spec.strangers d.now (spec.in_part at part.now)) }
 {
     match part {
@@ -170,7 +142,7 @@ pub fn in_part(d: &Description, at: usize, part: &PartRef) -> Option<usize>
 }
 
 #[tactic(auto, unfolding(crate::specs::Mentions::strangers))]
-pub fn in_parts(d: &Description, parts: &[PartRef]) -> Option<usize>
+pub fn in_parts(d: &Indexed<'_>, parts: &[PartRef]) -> Option<usize>
     requires { length parts.now ≤ 4 }
     ensures { result ≡ first_of (spec.strangers d.now (spec.in_parts 2 parts.now)) }
 {

@@ -8,14 +8,13 @@ ghost use Rattle.um_document.specs.Words.{alignment_bytes};
 ghost use Rattle.um_description.specs.Numbers.{natural, bounded};
 ghost use Rattle.um_description.specs.Packing as spec;
 
-use crate::named::is_named;
 use crate::numbers::clamped;
 use std::alloc::Global;
 use um_base::Memory;
 use um_document::{Alignment, Text, VariableEntry};
 
 /// Where a variable of this alignment begins behind so many bytes.
-fn offset_behind(end: u32, align: Alignment) -> u32
+pub fn offset_behind(end: u32, align: Alignment) -> u32
     ensures { result ≡ bounded (next_multiple_of end (alignment_bytes align)) }
 {
     let offset = (end as u64).next_multiple_of(align.bytes() as u64);
@@ -27,7 +26,7 @@ fn offset_behind(end: u32, align: Alignment) -> u32
 }
 
 /// Where a variable ends that begins at an offset.
-fn end_behind(offset: u32, variable: &VariableEntry) -> u32
+pub fn end_behind(offset: u32, variable: &VariableEntry) -> u32
     ensures { result ≡ bounded (offset + natural variable.now.size) }
 {
     offset.saturating_add(clamped(variable.size))
@@ -70,19 +69,4 @@ pub fn packed_bytes(alloc: Global, variables: &[VariableEntry]) -> Result<Vec<u8
         end = end_behind(offset, variable);
     }
     Ok(bytes)
-}
-
-/// The offset of the variable with this name.
-pub fn offset_named(variables: &[VariableEntry], name: &[u8]) -> Option<u32>
-    ensures { result ≡ spec.offset_named name.now 0 variables.now }
-{
-    let mut end = 0u32;
-    for variable in variables {
-        let offset = offset_behind(end, variable.align);
-        if is_named(&variable.name, name) {
-            return Some(offset);
-        }
-        end = end_behind(offset, variable);
-    }
-    None
 }

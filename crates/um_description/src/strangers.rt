@@ -8,48 +8,50 @@ ghost use Rattle.um_description.specs.Mentions as mentions;
 ghost use Rattle.um_description.specs.Names as names;
 
 use crate::flaw::Flaw;
+use crate::indexed::Indexed;
 use crate::lines::{line_place, read_line};
 use crate::mentions::{Wanted, in_part, in_parts, in_ref, in_term};
+use std::alloc::Global;
 use um_base::{Instr, Memory, PartRef, PartRefs, Ref, Term};
 use um_document::{Description, ScriptEntry, Text};
 
 /// The names of two terms.
-fn in_two(d: &Description, first: &Term, second: &Term) -> Option<usize>
+fn in_two(d: &Indexed<'_>, first: &Term, second: &Term) -> Option<usize>
     ensures { result ≡ first_of (mentions.strangers d.now (mentions.in_term 1 first.now ++ mentions.in_term 2 second.now)) }
 {
     in_term(d, 1, first).or(in_term(d, 2, second))
 }
 
 /// The names of three terms.
-fn in_three(d: &Description, first: &Term, second: &Term, third: &Term) -> Option<usize>
+fn in_three(d: &Indexed<'_>, first: &Term, second: &Term, third: &Term) -> Option<usize>
     ensures { result ≡ first_of (mentions.strangers d.now (mentions.in_term 1 first.now ++ mentions.in_term 2 second.now ++ mentions.in_term 3 third.now)) }
 {
     in_two(d, first, second).or(in_term(d, 3, third))
 }
 
 /// The names of an address, and of a value behind a size.
-fn in_store(d: &Description, addr: &Term, value: &Term) -> Option<usize>
+fn in_store(d: &Indexed<'_>, addr: &Term, value: &Term) -> Option<usize>
     ensures { result ≡ first_of (mentions.strangers d.now (mentions.in_term 1 addr.now ++ mentions.in_term 3 value.now)) }
 {
     in_term(d, 1, addr).or(in_term(d, 3, value))
 }
 
 /// The names of a domain and some partitions.
-fn in_init(d: &Description, domain: &Ref, parts: &PartRefs) -> Option<usize>
+fn in_init(d: &Indexed<'_>, domain: &Ref, parts: &PartRefs) -> Option<usize>
     ensures { result ≡ first_of (mentions.strangers d.now (mentions.in_ref Wanted.Domain 1 domain.now ++ mentions.in_parts 2 parts.now)) }
 {
     in_ref(d, Wanted::Domain, 1, domain).or(in_parts(d, parts.as_slice()))
 }
 
 /// The names of a domain and a partition.
-fn in_edit(d: &Description, domain: &Ref, part: &PartRef) -> Option<usize>
+fn in_edit(d: &Indexed<'_>, domain: &Ref, part: &PartRef) -> Option<usize>
     ensures { result ≡ first_of (mentions.strangers d.now (mentions.in_ref Wanted.Domain 1 domain.now ++ mentions.in_part 2 part.now)) }
 {
     in_ref(d, Wanted::Domain, 1, domain).or(in_part(d, 2, part))
 }
 
 /// The names of a domain and a thread.
-fn in_move(d: &Description, domain: &Ref, thread: &Term) -> Option<usize>
+fn in_move(d: &Indexed<'_>, domain: &Ref, thread: &Term) -> Option<usize>
     ensures { result ≡ first_of (mentions.strangers d.now (mentions.in_ref Wanted.Domain 1 domain.now ++ mentions.in_term 2 thread.now)) }
 {
     in_ref(d, Wanted::Domain, 1, domain).or(in_term(d, 2, thread))
@@ -57,7 +59,7 @@ fn in_move(d: &Description, domain: &Ref, thread: &Term) -> Option<usize>
 
 /// The names of a new thread, its stack and its size, and of its script.
 fn in_create(
-    d: &Description,
+    d: &Indexed<'_>,
     thread: &Term,
     stack: &Term,
     size: &Term,
@@ -70,7 +72,7 @@ fn in_create(
 
 /// The number of the first word of an instruction that names nothing.
 #[tactic(auto, unfolding(crate::specs::Mentions::strangers))]
-fn stranger_of(d: &Description, instr: &Instr) -> Option<usize>
+fn stranger_of(d: &Indexed<'_>, instr: &Instr) -> Option<usize>
     ensures { result ≡ first_of (mentions.strangers d.now (mentions.mentions instr.now)) }
 {
     match instr {
@@ -167,7 +169,7 @@ fn column_of(line: &[u8], word: usize) -> u32
 /// The first name of a line that names nothing.
 #[tactic(auto, using(crate::proofs::Firsts::strangers_none), unfolding(crate::specs::Lines::unknown_at))]
 fn unknown_in_line(
-    d: &Description,
+    d: &Indexed<'_>,
     script: usize,
     index: usize,
     line: &Text,
@@ -189,7 +191,7 @@ fn unknown_in_line(
 
 /// The first name of a script's lines that names nothing.
 #[tactic(auto, unfolding(crate::specs::Lines::unknown_in))]
-fn unknown_in_script(d: &Description, script: usize, lines: &[Text]) -> Result<Option<Flaw>, Memory>
+fn unknown_in_script(d: &Indexed<'_>, script: usize, lines: &[Text]) -> Result<Option<Flaw>, Memory>
     ensures { IfOk result (λ found. found ≡ first_of (spec.unknown_in d.now script lines.now)) }
 {
     let mut index = 0usize;
@@ -204,12 +206,17 @@ fn unknown_in_script(d: &Description, script: usize, lines: &[Text]) -> Result<O
 }
 
 /// The first name of some scripts' lines that names nothing.
-pub fn first_stranger(d: &Description, scripts: &[ScriptEntry]) -> Result<Option<Flaw>, Memory>
+pub fn first_stranger(
+    alloc: Global,
+    d: &Description,
+    scripts: &[ScriptEntry],
+) -> Result<Option<Flaw>, Memory>
     ensures { IfOk result (λ found. found ≡ first_of (names.each (spec.unknown_in_script d.now) 0 scripts.now)) }
 {
+    let indexed = Indexed::new(alloc, d)?;
     let mut index = 0usize;
     for script in scripts {
-        let found = unknown_in_script(d, index, script.lines.as_slice())?;
+        let found = unknown_in_script(&indexed, index, script.lines.as_slice())?;
         if found.is_some() {
             return Ok(found);
         }

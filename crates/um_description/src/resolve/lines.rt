@@ -2,41 +2,12 @@
 
 ghost use Rattle.std.specs.Prelude.{◌≡◌, ◌≤◌, length, map};
 ghost use Rattle.um_base.specs.declared.limits.TheConstants.{DOMAINS, PARTITIONS, SCRIPTS};
-ghost use Rattle.um_description.specs.Names.{domain_names, partition_names, script_names, variables_of};
-ghost use Rattle.um_description.specs.Packing.{offset_named};
-ghost use Rattle.um_description.specs.Resolve.{variable_addr, start_named, object_addr, addr_named, term_of, ref_of, part_of, resolved};
+ghost use Rattle.um_description.specs.Names.{domain_names, partition_names, script_names};
+ghost use Rattle.um_description.specs.Resolve.{start_named, object_addr, addr_named, term_of, ref_of, part_of, resolved};
 
+use crate::indexed::Indexed;
 use crate::named::{domain_named, is_named, partition_named, script_named};
-use crate::packing::offset_named;
-use um_base::{Image, Instr, Name, ObjectDef, PartRef, PartRefs, Partition, RODATA, Ref, Term};
-use um_document::{Description, PartitionContents, PartitionEntry};
-
-/// The offset of the variable with this name in a partition that lists it.
-fn offset_in(entry: &PartitionEntry, name: &Name) -> Option<u32>
-    ensures { result ≡ offset_named name.now 0 (variables_of entry.now.contents) }
-{
-    match &entry.contents {
-        PartitionContents::Whole { .. } => None,
-        PartitionContents::Variables(variables) => {
-            offset_named(variables.as_slice(), name.as_slice())
-        }
-    }
-}
-
-/// The address of the variable with this name, in the partition that lists it, or of the read-only data.
-fn variable_addr(partitions: &[Partition], entries: &[PartitionEntry], name: &Name) -> u32
-    ensures { result ≡ variable_addr name.now partitions.now entries.now }
-{
-    for (i, partition) in partitions.iter().enumerate() {
-        if i >= entries.len() {
-            return RODATA;
-        }
-        if let Some(offset) = offset_in(&entries[i], name) {
-            return partition.range.start.0.wrapping_add(offset);
-        }
-    }
-    RODATA
-}
+use um_base::{Image, Instr, Name, ObjectDef, PartRef, PartRefs, Partition, Ref, Term};
 
 /// The start of the partition with this name, or another address.
 fn start_named(partitions: &[Partition], name: &Name, other: u32) -> u32
@@ -63,16 +34,16 @@ fn object_addr(objects: &[ObjectDef], name: &Name, other: u32) -> u32
 }
 
 /// The address of what a place names.
-fn addr_named(image: &Image, d: &Description, name: &Name) -> u32
+fn addr_named(image: &Image, d: &Indexed<'_>, name: &Name) -> u32
     ensures { result ≡ addr_named image.now d.now name.now }
 {
     let partitions = image.partitions.as_slice();
-    let variable = variable_addr(partitions, d.partitions.as_slice(), name);
+    let variable = d.variable_addr(partitions, name.as_slice());
     let other = start_named(partitions, name, variable);
     object_addr(image.objects.as_slice(), name, other)
 }
 
-fn term_of(image: &Image, d: &Description, term: &Term) -> Term
+fn term_of(image: &Image, d: &Indexed<'_>, term: &Term) -> Term
     ensures { result ≡ term_of image.now d.now term.now }
 {
     match term {
@@ -84,33 +55,39 @@ fn term_of(image: &Image, d: &Description, term: &Term) -> Term
     }
 }
 
-fn domain_ref(d: &Description, domain: &Ref) -> Ref
+fn domain_ref(d: &Indexed<'_>, domain: &Ref) -> Ref
     requires { length d.now.domains ≤ DOMAINS }
     ensures { result ≡ ref_of (domain_names d.now) domain.now }
 {
     match domain {
         Ref::At(i) => Ref::At(*i),
-        Ref::Named(name) => match domain_named(d.domains.as_slice(), name.as_slice()) {
+        Ref::Named(name) => match domain_named(
+            d.description().domains.as_slice(),
+            name.as_slice(),
+        ) {
             Some(i) => Ref::At(i as u8),
             None => Ref::At(0),
         },
     }
 }
 
-fn script_ref(d: &Description, script: &Ref) -> Ref
+fn script_ref(d: &Indexed<'_>, script: &Ref) -> Ref
     requires { length d.now.scripts ≤ SCRIPTS }
     ensures { result ≡ ref_of (script_names d.now) script.now }
 {
     match script {
         Ref::At(i) => Ref::At(*i),
-        Ref::Named(name) => match script_named(d.scripts.as_slice(), name.as_slice()) {
+        Ref::Named(name) => match script_named(
+            d.description().scripts.as_slice(),
+            name.as_slice(),
+        ) {
             Some(i) => Ref::At(i as u8),
             None => Ref::At(0),
         },
     }
 }
 
-fn part_ref(d: &Description, part: &PartRef) -> PartRef
+fn part_ref(d: &Indexed<'_>, part: &PartRef) -> PartRef
     requires { length d.now.partitions ≤ PARTITIONS }
     ensures { result ≡ part_of (partition_names d.now) part.now }
 {
@@ -120,14 +97,17 @@ fn part_ref(d: &Description, part: &PartRef) -> PartRef
             range: *range,
             attr: *attr,
         },
-        PartRef::Named(name) => match partition_named(d.partitions.as_slice(), name.as_slice()) {
+        PartRef::Named(name) => match partition_named(
+            d.description().partitions.as_slice(),
+            name.as_slice(),
+        ) {
             Some(i) => PartRef::At(i as u8),
             None => PartRef::At(0),
         },
     }
 }
 
-fn part_refs(d: &Description, parts: &PartRefs) -> PartRefs
+fn part_refs(d: &Indexed<'_>, parts: &PartRefs) -> PartRefs
     requires { length d.now.partitions ≤ PARTITIONS }
     ensures { result ≡ map (part_of (partition_names d.now)) parts.now }
 {
@@ -139,7 +119,7 @@ fn part_refs(d: &Description, parts: &PartRefs) -> PartRefs
 }
 
 /// An instruction whose names are resolved: places by an image, and numbers by the description.
-pub fn resolved(image: &Image, d: &Description, instr: &Instr) -> Instr
+pub fn resolved(image: &Image, d: &Indexed<'_>, instr: &Instr) -> Instr
     requires domains { length d.now.domains ≤ DOMAINS }
     requires partitions { length d.now.partitions ≤ PARTITIONS }
     requires scripts { length d.now.scripts ≤ SCRIPTS }

@@ -6,6 +6,7 @@ ghost use Rattle.um_base.specs.declared.limits.TheConstants.{DOMAINS, LINES, PAR
 ghost use Rattle.um_description.specs.Lines.{instruction};
 ghost use Rattle.um_description.specs.Resolve.{option_list, read_line, script_of};
 
+use crate::indexed::Indexed;
 use crate::resolve::lines::resolved;
 use std::alloc::Global;
 use um_base::{BoundedVec, Image, Instr, LINES, Memory, SCRIPTS, Script};
@@ -24,7 +25,7 @@ fn instruction(line: &[u8]) -> Option<Instr>
 }
 
 /// What a line says, with its names resolved, where it can be read.
-fn read_line(image: &Image, d: &Description, line: &[u8]) -> Option<Instr>
+fn read_line(image: &Image, d: &Indexed<'_>, line: &[u8]) -> Option<Instr>
     requires short { length line.now < 2 ^ 32 - 1 }
     requires domains { length d.now.domains ≤ DOMAINS }
     requires partitions { length d.now.partitions ≤ PARTITIONS }
@@ -41,7 +42,7 @@ fn read_line(image: &Image, d: &Description, line: &[u8]) -> Option<Instr>
 fn push_line(
     lines: &mut BoundedVec<Instr, LINES>,
     image: &Image,
-    d: &Description,
+    d: &Indexed<'_>,
     line: &[u8],
 ) -> Result<(), Memory>
     requires room { length lines.old < LINES }
@@ -61,7 +62,7 @@ fn push_line(
 fn lines(
     alloc: Global,
     image: &Image,
-    d: &Description,
+    d: &Indexed<'_>,
     texts: &[Text],
 ) -> Result<BoundedVec<Instr, LINES>, Memory>
     requires few { length texts.now ≤ LINES }
@@ -92,11 +93,12 @@ pub fn scripts(
     requires scripts { length d.now.scripts ≤ SCRIPTS }
     ensures { IfOk result (λ all. all ≡ map (script_of image.now d.now) d.now.scripts) }
 {
+    let indexed = Indexed::new(alloc, d)?;
     let mut all = BoundedVec::new(alloc);
     for entry in d.scripts.as_slice() {
         all.push(Script {
             name: entry.name,
-            lines: lines(alloc, image, d, entry.lines.as_slice())?,
+            lines: lines(alloc, image, &indexed, entry.lines.as_slice())?,
         })?;
     }
     Ok(all)
