@@ -3,12 +3,13 @@ use Rattle.std.specs.Prelude.{ℕ, Bool, Option, length, false}
 use Rattle.um_base.specs.declared.image.Image.{Image}
 use Rattle.um_base.specs.Regions.{Partitions}
 use Rattle.um_words.specs.declared.cell_word.CellWord.{CellWord}
+use Rattle.um_words.specs.CellActs.{object_takes, parts_takes, memory_takes, heap_takes}
 use Rattle.um_words.specs.declared.fine.FineAct.{FineAct}
 use Rattle.um_fine.specs.Steps.{Exchange}
 use Rattle.um_fine.specs.Answers.{act_in}
-use Rattle.um_fine.specs.Objects.{ObjectCell, object_says, object_moves, object_takes, object_after, parts_moves, parts_takes, parts_after}
-use Rattle.um_fine.specs.Memory.{Bytes, memory_says, memory_moves, memory_takes, memory_after}
-use Rattle.um_fine.specs.Heap.{Heap, heap_says, heap_takes, heap_after}
+use Rattle.um_fine.specs.Objects.{ObjectCell, object_says, object_moves, object_after, parts_moves, parts_after}
+use Rattle.um_fine.specs.Memory.{Bytes, memory_says, memory_moves, memory_after}
+use Rattle.um_fine.specs.Heap.{Heap, heap_says, heap_after}
 use Rattle.um_fine.specs.Scheduler.{Scheduler, sched_says, sched_moves, sched_takes, sched_after}
 
 pub data Cell : Type 0 where

@@ -65,19 +65,3 @@ module _ (image : Image) where
   memory_after m (Act.CopyOut a n true) moved = write m a.0 (bytes_in moved)
   memory_after m (Act.Erase stack) moved = bytes_of (erased (with_memory image m) (stack_range (setup_at image stack.0)))
   memory_after m act moved = m
-
-abbrev pub memory_takes_act : Act → Bool
-memory_takes_act (Act.Load a n value) = true
-memory_takes_act (Act.Store a n value) = true
-memory_takes_act (Act.Fetch a) = true
-memory_takes_act (Act.Fault access a n) = true
-memory_takes_act (Act.Probe a n fits) = true
-memory_takes_act (Act.CopyIn a n fits) = true
-memory_takes_act (Act.CopyOut a n fits) = true
-memory_takes_act (Act.CopyStr a found) = true
-memory_takes_act (Act.Erase stack) = true
-memory_takes_act act = false
-
-abbrev pub memory_takes : FineAct → Bool
-memory_takes (FineAct.Shown event more) = memory_takes_act event.act
-memory_takes (FineAct.Unseen unseen) = false

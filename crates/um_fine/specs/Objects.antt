@@ -45,17 +45,6 @@ object_moves o (FineAct.Unseen Unseen.SizeLook) moved = Exchange.size (message_s
 object_moves o (FineAct.Unseen Unseen.Wipe) moved = Exchange.charge o.buffer
 object_moves o (FineAct.Unseen unseen) moved = moved
 
-abbrev pub object_takes_act : Act → Bool
-object_takes_act (Act.Work a answer woken) = true
-object_takes_act (Act.Named who) = true
-object_takes_act act = false
-
-abbrev pub object_takes : FineAct → Bool
-object_takes (FineAct.Shown event more) = object_takes_act event.act
-object_takes (FineAct.Unseen Unseen.SizeLook) = true
-object_takes (FineAct.Unseen Unseen.Wipe) = true
-object_takes (FineAct.Unseen unseen) = false
-
 abbrev pub object_after_act : ObjectCell → Exchange → Act → ObjectCell
 object_after_act o moved (Act.Work a answer woken) =
     let w = work_on o moved in
@@ -74,11 +63,6 @@ abbrev pub parts_moves : Option Partitions → FineAct → Exchange → Exchange
 parts_moves d (FineAct.Unseen Unseen.RegionLoad) moved = Exchange.parts (parts_or_none d)
 parts_moves d (FineAct.Unseen Unseen.Edit) (Exchange.edited before after) = Exchange.edited d after
 parts_moves d act moved = moved
-
-abbrev pub parts_takes : FineAct → Bool
-parts_takes (FineAct.Unseen Unseen.RegionLoad) = true
-parts_takes (FineAct.Unseen Unseen.Edit) = true
-parts_takes act = false
 
 abbrev pub parts_after : Option Partitions → FineAct → Exchange → Option Partitions
 parts_after d (FineAct.Unseen Unseen.Edit) (Exchange.edited before after) = after

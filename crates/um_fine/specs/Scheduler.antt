@@ -5,6 +5,7 @@ use Rattle.um_base.specs.declared.ask.Told.{Told}
 use Rattle.um_base.specs.declared.limits.TheConstants.{THREADS}
 use Rattle.um_machine.specs.declared.pending.Pending.{Pending}
 use Rattle.um_machine.specs.Order.{Steps, to_thread}
+use Rattle.um_words.specs.CellActs.{is_resume}
 use Rattle.um_words.specs.declared.fine.FineAct.{FineAct}
 use Rattle.um_words.specs.declared.fine.More.{More}
 use Rattle.um_words.specs.declared.fine.Unseen.{Unseen}
@@ -87,10 +88,6 @@ sched_takes_unseen s (Unseen.Park who ready) = nat_lt 0 s.running && has_place s
 sched_takes_unseen s (Unseen.Add who) = has_place s
 sched_takes_unseen s Unseen.Done = nat_lt 0 s.running
 sched_takes_unseen s unseen = false
-
-abbrev pub is_resume : Act → Bool
-is_resume Act.Resume = true
-is_resume act = false
 
 abbrev pub sched_takes : Scheduler → FineAct → Bool
 sched_takes s (FineAct.Shown event more) = is_resume event.act && has_ready s s.ready

@@ -8,23 +8,23 @@ use Rattle.um_words.specs.Packed.{row_of, packed_row, is_thread, thread_in, thre
 use Rattle.um_words.specs.Rows.{row_takes, row_says, row_after, counted_row}
 use Rattle.um_words.specs.Threads.{thread_takes, thread_says, thread_after, counted_thread}
 use Rattle.um_words.specs.Domains.{domain_takes, domain_after, counted_domain}
-use Rattle.um_words.specs.Steps.{kind_at, StepIn, WordMay}
+use Rattle.um_words.specs.Steps.{cell_kind_at, kind_at, StepIn, WordMay}
 use Rattle.um_site.specs.Calls.{thread_site, domain_site}
 
 -- the kind of a site by the three tests
-abbrev kind_by : Bool → Bool → Bool → WordKind
-kind_by row thread domain = if row then WordKind.Row else if thread then WordKind.Thread else if domain then WordKind.Domain else WordKind.Cell
+abbrev kind_by : ℕ → Bool → Bool → Bool → WordKind
+kind_by site row thread domain = if row then WordKind.Row else if thread then WordKind.Thread else if domain then WordKind.Domain else WordKind.Cell (cell_kind_at site)
 
 pub at-row : (row : ℕ) → row < 128 → kind_at row ≡ WordKind.Row
-at-row row h = let e : nat_lt row 128 ≡ true = grind (arith, nat_tests) in ap (λ b. kind_by b (nat_lt row 160) (nat_lt row 168)) e
+at-row row h = let e : nat_lt row 128 ≡ true = grind (arith, nat_tests) in ap (λ b. kind_by row b (nat_lt row 160) (nat_lt row 168)) e
 
 at-thread : (who : ℕ) → who < 32 → kind_at (thread_site who) ≡ WordKind.Thread
 at-thread who h = let s = thread_site who in let a : nat_lt s 128 ≡ false = grind (arith, nat_tests) in let b : nat_lt s 160 ≡ true = grind (arith, nat_tests) in
-    (λ i. kind_by (a i) (b i) (nat_lt s 168))
+    (λ i. kind_by s (a i) (b i) (nat_lt s 168))
 
 at-domain : (domain : ℕ) → domain < 8 → kind_at (domain_site domain) ≡ WordKind.Domain
 at-domain domain h = let s = domain_site domain in let a : nat_lt s 128 ≡ false = grind (arith, nat_tests) in let b : nat_lt s 160 ≡ false = grind (arith, nat_tests) in let d : nat_lt s 168 ≡ true = grind (arith, nat_tests) in
-    (λ i. kind_by (a i) (b i) (d i))
+    (λ i. kind_by s (a i) (b i) (d i))
 
 pub row-lawful : (row w : ℕ) (act : FineAct) → row < 128 → (row_of w).number < 1048575 → IsTrue (row_takes (row_of w) act) → row_says (row_of w) act ≡ act → (next : ℕ) × WordMay row w act next
 row-lawful row w act here room takes says =

@@ -161,3 +161,9 @@ thread-number t h = (thread-digits (life_code t.life) (bit t.doomed) (bit t.held
 
 pub domain-number : (d : DomWord) → d.readers < 128 → d.version < 1048576 → packed_domain d / 68719476736 ≡ d.number
 domain-number d hr hv = (domain-digits (bit d.init) (bit d.writer) d.readers d.version d.number (packed_domain d) (bit-small d.init) (bit-small d.writer) hr hv refl).5
+
+pub cell-number : (c : CellWord) → c.ready < 256 → c.running < 256 → c.owed < 524288 → packed_cell c / 68719476736 ≡ c.number
+cell-number c hr hu ho = (cell-digits (bit c.turn) c.ready c.running c.owed c.number (packed_cell c) (bit-small c.turn) hr hu ho refl).4
+
+pub cell-turn : (c : CellWord) → c.ready < 256 → c.running < 256 → c.owed < 524288 → packed_cell c % 2 ≡ bit c.turn
+cell-turn c hr hu ho = (cell-digits (bit c.turn) c.ready c.running c.owed c.number (packed_cell c) (bit-small c.turn) hr hu ho refl).0

@@ -6,6 +6,8 @@ pub mod Extra
 pub mod Rows
 pub mod Threads
 pub mod Domains
+pub mod CellActs
+pub mod Cells
 pub mod Steps
 pub mod RowFacts
 pub mod WordFacts

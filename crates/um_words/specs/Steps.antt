@@ -1,14 +1,27 @@
 -- The step of a site's word: where the word of each kind stands, and from which word to which a step goes.
-use Rattle.std.specs.Prelude.{◌≡◌, ℕ, ◌/◌, nat_lt, if◌then◌else◌, Some}
+use Rattle.std.specs.Prelude.{◌≡◌, ℕ, ◌/◌, nat_lt, ◌==◌, if◌then◌else◌, Some}
 use Rattle.um_words.specs.declared.fine.FineAct.{FineAct}
+use Rattle.um_words.specs.declared.kind.CellKind.{CellKind}
 use Rattle.um_words.specs.declared.kind.WordKind.{WordKind}
 use Rattle.um_words.specs.declared.row_word.RowWord.{RowWord}
 use Rattle.um_words.specs.declared.thread_word.ThreadWord.{ThreadWord}
 use Rattle.um_words.specs.declared.dom_word.DomWord.{DomWord}
-use Rattle.um_words.specs.Packed.{packed_row, row_of, packed_thread, thread_of, packed_domain, domain_of}
+use Rattle.um_words.specs.declared.cell_word.CellWord.{CellWord}
+use Rattle.um_words.specs.Packed.{packed_row, row_of, packed_thread, thread_of, packed_domain, domain_of, packed_cell, cell_of}
 use Rattle.um_words.specs.Rows.{RowMay}
 use Rattle.um_words.specs.Threads.{ThreadMay}
 use Rattle.um_words.specs.Domains.{DomainMay}
+use Rattle.um_words.specs.Cells.{CellMay}
+
+-- the cells: sites 168 to 295 those of the objects by row, 296 to 303 those of the domains, and then those of memory, of the heap and of the scheduler
+abbrev pub cell_kind_at : ℕ → CellKind
+cell_kind_at site =
+    if nat_lt site 296 then CellKind.Object
+    else if nat_lt site 304 then CellKind.Domain
+    else if site == 304 then CellKind.Memory
+    else if site == 305 then CellKind.Heap
+    else if site == 306 then CellKind.Scheduler
+    else CellKind.Unused
 
 -- sites 0 to 127 are the rows, 128 to 159 the threads by index, 160 to 167 the domains, and then come the cells
 abbrev pub kind_at : ℕ → WordKind
@@ -16,7 +29,7 @@ kind_at site =
     if nat_lt site 128 then WordKind.Row
     else if nat_lt site 160 then WordKind.Thread
     else if nat_lt site 168 then WordKind.Domain
-    else WordKind.Cell
+    else WordKind.Cell (cell_kind_at site)
 
 -- the step number in a word of a kind
 abbrev pub number_in : WordKind → ℕ → ℕ
@@ -45,12 +58,16 @@ pub record DomainStep (w : ℕ) (act : FineAct) (next : ℕ) : Type 0 where
   pub may : DomainMay found act left
   pub is : next ≡ packed_domain left
 
--- a cell's word is changed by those who have its turn alone
+pub record CellStep (kind : CellKind) (w : ℕ) (act : FineAct) (next : ℕ) : Type 0 where
+  pub left : CellWord
+  pub may : CellMay kind (cell_of w) act left
+  pub is : next ≡ packed_cell left
+
 abbrev pub StepIn : WordKind → ℕ → FineAct → ℕ → Type 0
 StepIn WordKind.Row w act next = RowStep w act next
 StepIn WordKind.Thread w act next = ThreadStep w act next
 StepIn WordKind.Domain w act next = DomainStep w act next
-StepIn WordKind.Cell w act next = ⊥
+StepIn (WordKind.Cell kind) w act next = CellStep kind w act next
 
 -- the step is lawful at the site with this word, and leaves that one
 pub record WordMay (site w : ℕ) (act : FineAct) (next : ℕ) : Type 0 where

@@ -1,5 +1,5 @@
 -- A step raises the step number of its word by one.
-use Rattle.std.proofs.Common.{◌≡◌, ℕ, ◌+◌, ◌<◌, ◌/◌, Bool, true, false, not, Option, Some, None, refl, sym, ap, ◌∙◌, arith, subst}
+use Rattle.std.proofs.Common.{◌≡◌, ℕ, ◌+◌, ◌<◌, ◌≤◌, ◌/◌, ◌%◌, Bool, true, false, not, Option, Some, None, refl, sym, ap, ◌∙◌, arith, subst}
 use Rattle.std.specs.Prelude.{◌&&◌, nat_lt, if◌then◌else◌, IsTrue, MatchOption, IfSome}
 use Rattle.std.proofs.lemmas.Bool.Decides.{nat_tests}
 use Rattle.um_base.specs.declared.act.Act.{Act}
@@ -9,16 +9,25 @@ use Rattle.um_words.specs.declared.fine.Unseen.{Unseen}
 use Rattle.um_words.specs.declared.kind.WordKind.{WordKind}
 use Rattle.um_words.specs.declared.thread_word.ThreadWord.{ThreadWord}
 use Rattle.um_words.specs.declared.dom_word.DomWord.{DomWord}
-use Rattle.um_words.specs.Packed.{packed_thread, thread_in, is_thread, thread_of, packed_domain, domain_in, is_domain, domain_of}
-use Rattle.um_words.specs.Inverse.{thread-number, domain-number}
+use Rattle.um_words.specs.declared.cell_word.CellWord.{CellWord}
+use Rattle.um_words.specs.declared.kind.CellKind.{CellKind}
+use Rattle.um_words.specs.Bits.{bit}
+use Rattle.um_words.specs.CellActs.{is_resume}
+use Rattle.um_words.specs.Packed.{packed_thread, thread_in, is_thread, thread_of, packed_domain, domain_in, is_domain, domain_of, packed_cell, cell_of}
+use Rattle.um_words.specs.Inverse.{thread-number, domain-number, cell-number, cell-turn}
 use Rattle.um_words.specs.Threads.{thread_takes_act, thread_takes, thread_after_act, thread_after_unseen, thread_after, counted_thread}
 use Rattle.um_words.specs.Domains.{writes, domain_takes_act, domain_takes_unseen, domain_takes, domain_after_act, domain_after_unseen, domain_after, counted_domain}
-use Rattle.um_words.specs.Steps.{kind_at, number_in, number, ThreadStep, DomainStep, StepIn, WordMay}
+use Rattle.um_words.specs.Steps.{cell_kind_at, kind_at, number_in, number, ThreadStep, DomainStep, CellStep, StepIn, WordMay}
 use Rattle.um_words.specs.RowFacts.{row-counts}
+use Rattle.um_words.specs.Cells.{has_ready, has_place, scheduler_takes_unseen, scheduler_takes, word_takes, with_ready, first_taken, one_less, scheduler_after_unseen, scheduler_after, word_after, counted_cell}
 
 -- the second of two tests
 second : (b : Bool) (n m : ℕ) → IsTrue (b && nat_lt n m) → n < m
 second b n m h = grind (arith, nat_tests)
+
+last-of : (a b : Bool) → IsTrue (a && b) → IsTrue b
+last-of true b h = h
+last-of false b h = absurd (cc)
 
 -- Threads.
 
@@ -94,13 +103,74 @@ domain-counts w act next s =
     ap (λ x. x / 68719476736) (s.is ∙ ap packed_domain s.may.leaves) ∙ domain-number z k.readers k.version
     ∙ ap (λ x. x + 1) (k.number ∙ ap (λ (d : DomWord). d.number) (sym is))
 
+-- Cells.
+
+pub record KeepsCell (w z : CellWord) : Type 0 where
+  pub ready : z.ready < 256
+  pub running : z.running < 256
+  pub owed : z.owed < 524288
+  pub turn : z.turn ≡ w.turn
+  pub number : z.number ≡ w.number
+
+module _ (w : CellWord) (ready : w.ready < 256) (running : w.running < 256) (owed : w.owed < 524288) where
+  cell-same : KeepsCell w w
+  cell-same = record { ready = ready; running = running; owed = owed; turn = refl; number = refl }
+
+  cell-first : IsTrue (has_ready w) → KeepsCell w (first_taken w)
+  cell-first h = let l = second (nat_lt 0 w.ready) w.running 255 h in record { ready = omega arith; running = omega arith; owed = owed; turn = refl; number = refl }
+
+  cell-ready : (b : Bool) → w.ready < 32 → KeepsCell w (with_ready w b)
+  cell-ready true h = record { ready = omega arith; running = running; owed = owed; turn = refl; number = refl }
+  cell-ready false h = cell-same
+
+  cell-less : (b : Bool) → w.ready < 32 → KeepsCell w (one_less (with_ready w b))
+  cell-less true h = record { ready = omega arith; running = omega arith; owed = owed; turn = refl; number = refl }
+  cell-less false h = record { ready = ready; running = omega arith; owed = owed; turn = refl; number = refl }
+
+  cell-unseen : (unseen : Unseen) → IsTrue (scheduler_takes_unseen w unseen) → KeepsCell w (scheduler_after_unseen w unseen)
+  cell-unseen (Unseen.Next who) h = cell-first h
+  cell-unseen (Unseen.Wake who b) h = cell-ready b (grind (arith, nat_tests))
+  cell-unseen (Unseen.Park who b) h = cell-less b (second (nat_lt 0 w.running) w.ready 32 h)
+  cell-unseen (Unseen.Add who) h = cell-ready true (grind (arith, nat_tests))
+  cell-unseen Unseen.Done h = record { ready = ready; running = omega arith; owed = owed; turn = refl; number = refl }
+  cell-unseen unseen h = absurd (cc)
+
+  cell-scheduler : (act : FineAct) → IsTrue (scheduler_takes w act) → KeepsCell w (scheduler_after w act)
+  cell-scheduler (FineAct.Shown event more) h = cell-first (last-of (is_resume event.act) (has_ready w) h)
+  cell-scheduler (FineAct.Unseen unseen) h = cell-unseen unseen h
+
+  cell-keeps : (kind : CellKind) (act : FineAct) → IsTrue (word_takes kind w act) → KeepsCell w (word_after kind w act)
+  cell-keeps CellKind.Object act h = cell-same
+  cell-keeps CellKind.Domain act h = cell-same
+  cell-keeps CellKind.Memory act h = cell-same
+  cell-keeps CellKind.Heap act h = cell-same
+  cell-keeps CellKind.Scheduler act h = cell-scheduler act h
+  cell-keeps CellKind.Unused act h = cell-same
+
+-- what a step leaves of the word that it found
+pub cell-left : (kind : CellKind) (w : ℕ) (act : FineAct) (next : ℕ) → CellStep kind w act next → KeepsCell (cell_of w) (word_after kind (cell_of w) act)
+cell-left kind w act next s = cell-keeps (cell_of w) (omega arith) (omega arith) (omega arith) kind act s.may.takes
+
+cell-counts : (kind : CellKind) (w : ℕ) (act : FineAct) (next : ℕ) → CellStep kind w act next → next / 68719476736 ≡ w / 68719476736 + 1
+cell-counts kind w act next s =
+    let k = cell-left kind w act next s in
+    let z = counted_cell (word_after kind (cell_of w) act) in
+    ap (λ x. x / 68719476736) (s.is ∙ ap packed_cell s.may.leaves) ∙ cell-number z k.ready k.running k.owed ∙ ap (λ x. x + 1) k.number
+
+-- no step leaves the turn taken
+pub cell-free : (kind : CellKind) (w : ℕ) (act : FineAct) (next : ℕ) → CellStep kind w act next → (w % 2 ≡ 0) × (next % 2 ≡ 0)
+cell-free kind w act next s =
+    let k = cell-left kind w act next s in
+    let z = counted_cell (word_after kind (cell_of w) act) in
+    (let f = s.may.free in grind (arith, nat_tests), ap (λ x. x % 2) (s.is ∙ ap packed_cell s.may.leaves) ∙ cell-turn z k.ready k.running k.owed ∙ ap bit (k.turn ∙ s.may.free))
+
 -- All kinds.
 
 counts-in : (kind : WordKind) (w : ℕ) (act : FineAct) (next : ℕ) → StepIn kind w act next → number_in kind next ≡ number_in kind w + 1
 counts-in WordKind.Row w act next s = row-counts w act next s
 counts-in WordKind.Thread w act next s = thread-counts w act next s
 counts-in WordKind.Domain w act next s = domain-counts w act next s
-counts-in WordKind.Cell w act next s = absurd s
+counts-in (WordKind.Cell kind) w act next s = cell-counts kind w act next s
 
 pub counts : (site w : ℕ) (act : FineAct) (next : ℕ) → WordMay site w act next → number site next ≡ number site w + 1
 unfolding number
@@ -112,3 +182,26 @@ pub counts-some : (kind : WordKind) (site w : ℕ) (act : FineAct) → kind_at s
 unfolding number
 counts-some kind site w act is None s = tt
 counts-some kind site w act is (Some next) s = subst (λ k. number_in k next ≡ number_in k w + 1) (sym is) (counts-in kind w act next s)
+
+-- The turn of a cell.
+
+abbrev pub is-cell : WordKind → Bool
+is-cell (WordKind.Cell kind) = true
+is-cell kind = false
+
+at-cell : (site : ℕ) → 168 ≤ site → is-cell (kind_at site) ≡ true
+at-cell site far = let a : nat_lt site 128 ≡ false = grind (arith, nat_tests) in let b : nat_lt site 160 ≡ false = grind (arith, nat_tests) in let d : nat_lt site 168 ≡ false = grind (arith, nat_tests) in
+    (λ i. is-cell (if a i then WordKind.Row else if b i then WordKind.Thread else if d i then WordKind.Domain else WordKind.Cell (cell_kind_at site)))
+
+no-cell : (site : ℕ) (kind : WordKind) → kind_at site ≡ kind → 168 ≤ site → is-cell kind ≡ false → ⊥
+no-cell site kind is far off = let on = at-cell site far in cc
+
+turns-in : (kind : WordKind) (site w : ℕ) (act : FineAct) (next : ℕ) → kind_at site ≡ kind → 168 ≤ site → StepIn kind w act next → (w % 2 ≡ 0) × (next % 2 ≡ 0)
+turns-in WordKind.Row site w act next is far s = absurd (no-cell site WordKind.Row is far refl)
+turns-in WordKind.Thread site w act next is far s = absurd (no-cell site WordKind.Thread is far refl)
+turns-in WordKind.Domain site w act next is far s = absurd (no-cell site WordKind.Domain is far refl)
+turns-in (WordKind.Cell kind) site w act next is far s = cell-free kind w act next s
+
+-- a step of a cell finds its turn free in its word, and leaves it so
+pub free-turns : (site w : ℕ) (act : FineAct) (next : ℕ) → 168 ≤ site → WordMay site w act next → (w % 2 ≡ 0) × (next % 2 ≡ 0)
+free-turns site w act next far may = turns-in (kind_at site) site w act next refl far may.step

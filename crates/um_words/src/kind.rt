@@ -1,7 +1,40 @@
 //! The kinds of words, and which sites have them.
 
 ghost use Rattle.std.specs.Prelude.{◌≡◌};
-ghost use Rattle.um_words.specs.Steps.{kind_at, number, number_in};
+ghost use Rattle.um_words.specs.Steps.{cell_kind_at, kind_at, number, number_in};
+
+/// What a cell is of.
+#[derive(Clone, Copy, PartialEq, Eq)]
+pub enum CellKind {
+    Object,
+    Domain,
+    Memory,
+    Heap,
+    Scheduler,
+    /// Of nothing: it takes no step.
+    Unused,
+}
+
+impl CellKind {
+    /// That of a cell by its site.
+    fn at(site: u16) -> CellKind
+        ensures { result ≡ cell_kind_at site }
+    {
+        if site < 296 {
+            CellKind::Object
+        } else if site < 304 {
+            CellKind::Domain
+        } else if site == 304 {
+            CellKind::Memory
+        } else if site == 305 {
+            CellKind::Heap
+        } else if site == 306 {
+            CellKind::Scheduler
+        } else {
+            CellKind::Unused
+        }
+    }
+}
 
 /// What a site's word is of.
 #[derive(Clone, Copy, PartialEq, Eq)]
@@ -9,7 +42,7 @@ pub enum WordKind {
     Row,
     Thread,
     Domain,
-    Cell,
+    Cell(CellKind),
 }
 
 impl WordKind {
@@ -24,7 +57,7 @@ impl WordKind {
         } else if site < 168 {
             WordKind::Domain
         } else {
-            WordKind::Cell
+            WordKind::Cell(CellKind::at(site))
         }
     }
 }
@@ -37,6 +70,6 @@ pub fn step_number(site: u16, word: u64) -> u32
         WordKind::Row => (word / 0x1000_0000_0000) as u32,
         WordKind::Thread => (word / 0x10_0000_0000) as u32,
         WordKind::Domain => (word / 0x10_0000_0000) as u32,
-        WordKind::Cell => (word / 0x10_0000_0000) as u32,
+        WordKind::Cell(_) => (word / 0x10_0000_0000) as u32,
     }
 }

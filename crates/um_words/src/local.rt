@@ -3,6 +3,7 @@
 ghost use Rattle.std.specs.Prelude.{◌≡◌, ◌+◌, ℕ, MatchOption, IfSome};
 ghost use Rattle.um_words.specs.Steps.{WordMay, number};
 
+use crate::cell_acts::cell_step;
 use crate::domain_acts::domain_step;
 use crate::fine::FineAct;
 use crate::kind::WordKind;
@@ -32,7 +33,7 @@ pub fn word_step(site: u16, word: u64, act: &FineAct) -> Option<u64>
         WordKind::Row => row_step(word, act),
         WordKind::Thread => thread_step(word, act),
         WordKind::Domain => domain_step(word, act),
-        WordKind::Cell => None,
+        WordKind::Cell(kind) => cell_step(kind, word, act),
     }
 }
 

@@ -157,6 +157,38 @@ fn threads_and_domains(rt: HostRuntime) {
     assert!(rt; leaves(domain, 0x0000_0030_0000_0003, &added, 0x0000_0040_0000_0201));
 }
 
+/// The steps of cells: a cell takes those of its kind alone while nobody has its turn, and the scheduler's counts threads.
+#[test]
+fn cells(rt: HostRuntime) {
+    let wipe = FineAct::Unseen(Unseen::Wipe);
+    assert!(rt; leaves(295, 0x0, &wipe, 0x10_0000_0000));
+    assert!(rt; is_refused(295, 0x1, &wipe) && is_refused(296, 0x0, &wipe));
+    assert!(rt; is_refused(295, 0xffff_fff0_0000_0000, &wipe));
+    assert!(rt; leaves(296, 0x0, &FineAct::Unseen(Unseen::Edit), 0x10_0000_0000));
+    let fetch = shown(0, Act::Fetch { addr: OBJECT }, More::Nothing);
+    assert!(rt; leaves(304, 0x0, &fetch, 0x10_0000_0000) && is_refused(305, 0x0, &fetch));
+    let paid = shown(0, Act::Unbuffer { size: 64 }, More::Nothing);
+    assert!(rt; leaves(305, 0x0, &paid, 0x10_0000_0000) && is_refused(307, 0x0, &paid));
+    let scheduler = 306;
+    let resume = shown(0, Act::Resume, More::Nothing);
+    assert!(rt; leaves(scheduler, 0x4, &resume, 0x10_0000_0202));
+    let park = FineAct::Unseen(Unseen::Park {
+        who: ThreadIx(0),
+        ready: true,
+    });
+    assert!(rt; leaves(scheduler, 0x10_0000_0202, &park, 0x20_0000_0004));
+    assert!(rt; is_refused(scheduler, 0x4, &park));
+    assert!(rt; is_refused(scheduler, 0x0, &FineAct::Unseen(Unseen::Next(ThreadIx(0)))));
+    assert!(rt;
+        leaves(
+            scheduler,
+            0x200,
+            &FineAct::Unseen(Unseen::Done),
+            0x10_0000_0000
+        )
+    );
+}
+
 /// Each word's fields by bits, and the bits that are always zero.
 #[test]
 fn bits(rt: HostRuntime) {

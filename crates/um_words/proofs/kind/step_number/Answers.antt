@@ -17,4 +17,4 @@ pub returns-in-Domain : goal.returns-in-Domain
 returns-in-Domain c = reads WordKind.Domain c.args.site c.args.word (sym c.at.ensures ∙ c.in-Domain.is)
 
 pub returns-in-Cell : goal.returns-in-Cell
-returns-in-Cell c = reads WordKind.Cell c.args.site c.args.word (sym c.at.ensures ∙ c.in-Cell.is)
+returns-in-Cell c = reads (WordKind.Cell c.in-Cell.field-0) c.args.site c.args.word (sym c.at.ensures ∙ c.in-Cell.is)

@@ -11,3 +11,6 @@ returns-in-Thread-clause-counts c = counts-some WordKind.Thread c.args.site c.ar
 
 pub returns-in-Domain-clause-counts : goal.returns-in-Domain-clause-counts
 returns-in-Domain-clause-counts c = counts-some WordKind.Domain c.args.site c.args.word c.args.act.now (sym c.at.ensures ∙ c.in-Domain.is) c.domain_step.result c.domain_step.ensures
+
+pub returns-in-Cell-clause-counts : goal.returns-in-Cell-clause-counts
+returns-in-Cell-clause-counts c = counts-some _ c.args.site c.args.word c.args.act.now (sym c.at.ensures ∙ c.in-Cell.is) c.cell_step.result c.cell_step.ensures

@@ -1,0 +1,22 @@
+//! Contents of cells.
+
+/// What a cell of a board has in it.
+pub trait Content {
+    ghost use Rattle.std.specs.Prelude.{ℕ};
+    ghost use Rattle.um_base.specs.declared.image.Image.{Image};
+    ghost use Rattle.um_words.specs.declared.fine.FineAct.{FineAct};
+    ghost use Rattle.um_words.specs.declared.made.Moved.{Moved};
+
+    /// These are the contents with which the cell at this site opens.
+    ghost opens: { Image → ℕ → Self → Type 0 };
+
+    /// A step by this act, with what it moves, makes the second contents of the first.
+    ghost follows: { Self → FineAct → Moved → Self → Type 0 };
+}
+
+/// Contents that say nothing, of a board without cells.
+impl Content for () {
+    ghost opens = { λ image site contents. Unit {0} };
+
+    ghost follows = { λ old act moved new. Unit {0} };
+}
