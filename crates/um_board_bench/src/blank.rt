@@ -4,7 +4,7 @@ ghost use Rattle.std.specs.Prelude.{◌≡◌, ◌<◌, [], true, IfOk, IfSome, 
 
 use std::alloc::Global;
 use um_base::{BoundedVec, Image, Memory, Mpu, Policy};
-use um_site::{Board, Seat, are_unstepped};
+use um_site::{Board, Seat, are_unstepped, have_no_turn};
 use um_words::AnyStep;
 
 /// An image with nothing in it.
@@ -33,11 +33,12 @@ pub fn board_of(
     ensures sites { IfOk result (λ r. IfSome r (λ b. b.0.table.shared.table_id.words ≡ length words.items)) }
     ensures first { IfOk result (λ r. IfSome r (λ b. (b.1.split ≡ 0) × (b.1.joined ≡ 0) × (b.1.first ≡ true) × (b.1.token.me.1 ≡ []))) }
 {
-    if words.len() > 65_536 || !are_unstepped(words.as_slice()) {
+    let slice = words.as_slice();
+    if slice.len() > 65_536 || !are_unstepped(slice) || !have_no_turn(slice) {
         return Ok(None);
     }
     let image = empty_image(alloc);
-    let (board, seat) = Board::<(), AnyStep>::make(alloc, words, &image)?;
+    let (board, seat) = Board::<(), AnyStep>::make(alloc, words, 0, &image)?;
     Ok(Some((board, seat)))
 }
 

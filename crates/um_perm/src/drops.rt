@@ -10,7 +10,7 @@ ghost use Rattle.um_perm.specs.Pairs.{dropped_of, drop_act, is_to_clean, TellsCl
 
 use um_base::{Act, Addr, Leftover, Row, ThreadIx};
 use um_site::{Board, Changed, Seat};
-use um_words::{FineAct, Local, RowWord, Unseen};
+use um_words::{Content, FineAct, Local, RowWord, Unseen};
 
 /// What a drop found and left.
 #[derive(Clone, Copy, PartialEq, Eq)]
@@ -32,9 +32,9 @@ fn to_dropped(left: Leftover, claims: u8) -> Dropped
 }
 
 /// The drop as one step.
-fn drop_pair<S, L: Local>(
-    board: &Board<S, L>,
-    seat: &mut Seat<S>,
+fn drop_pair<T: Content, L: Local>(
+    board: &Board<T, L>,
+    seat: &mut Seat<T>,
     row: Row,
     by: ThreadIx,
     who: ThreadIx,
@@ -65,9 +65,9 @@ fn drop_pair<S, L: Local>(
 /// Takes a thread's permission away. A dynamic object is gone with its last one, in this very step.
 ///
 /// Shown: a drop that finds no permission is an event too, and else a visit that no trace shows.
-pub fn drop_one<S, L: Local>(
-    board: &Board<S, L>,
-    seat: &mut Seat<S>,
+pub fn drop_one<T: Content, L: Local>(
+    board: &Board<T, L>,
+    seat: &mut Seat<T>,
     row: Row,
     by: ThreadIx,
     who: ThreadIx,

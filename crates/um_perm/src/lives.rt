@@ -10,12 +10,12 @@ ghost use Rattle.um_perm.specs.Pairs.{born_act, vacate_act};
 
 use um_base::{Act, Addr, Row, ThreadIx};
 use um_site::{Board, Changed, Seat, shown};
-use um_words::{FineAct, Local, Unseen};
+use um_words::{Content, FineAct, Local, Unseen};
 
 /// A dynamic object comes to stand in a free row, with the permission of the thread that made it.
-pub fn born<S, L: Local>(
-    board: &Board<S, L>,
-    seat: &mut Seat<S>,
+pub fn born<T: Content, L: Local>(
+    board: &Board<T, L>,
+    seat: &mut Seat<T>,
     row: Row,
     by: ThreadIx,
     who: ThreadIx,
@@ -40,9 +40,9 @@ pub fn born<S, L: Local>(
 }
 
 /// An object that this seat cleaned leaves its row.
-pub fn vacate<S, L: Local>(
-    board: &Board<S, L>,
-    seat: &mut Seat<S>,
+pub fn vacate<T: Content, L: Local>(
+    board: &Board<T, L>,
+    seat: &mut Seat<T>,
     row: Row,
     by: ThreadIx,
     seen: u64,

@@ -9,7 +9,7 @@ ghost use Rattle.um_perm.specs.Pairs.{answer_of, set_act, clear_act};
 
 use um_base::{Act, Addr, Errno, Event, Row, SetSaid, ThreadIx};
 use um_site::{Board, Changed, Seat, shown};
-use um_words::{FineAct, Local, More, RowWord};
+use um_words::{Content, FineAct, Local, More, RowWord};
 
 /// What marking an object as initialised found.
 #[derive(Clone, Copy, PartialEq, Eq)]
@@ -31,9 +31,9 @@ fn answer(said: SetSaid) -> Set
 }
 
 /// Marks an object as initialised, where it stands. Strict: it must not be so before.
-pub fn set_init<S, L: Local>(
-    board: &Board<S, L>,
-    seat: &mut Seat<S>,
+pub fn set_init<T: Content, L: Local>(
+    board: &Board<T, L>,
+    seat: &mut Seat<T>,
     row: Row,
     by: ThreadIx,
     strict: bool,
@@ -63,9 +63,9 @@ pub fn set_init<S, L: Local>(
 }
 
 /// Marks an object as uninitialised.
-pub fn clear_init<S, L: Local>(
-    board: &Board<S, L>,
-    seat: &mut Seat<S>,
+pub fn clear_init<T: Content, L: Local>(
+    board: &Board<T, L>,
+    seat: &mut Seat<T>,
     row: Row,
     by: ThreadIx,
     addr: Addr,

@@ -9,7 +9,7 @@ ghost use Rattle.um_perm.specs.Pairs.{grant_act, own_act, publish_act, passes, p
 
 use um_base::{Act, Addr, Given, Row, ThreadIx};
 use um_site::{Board, Changed, Seat, shown};
-use um_words::{FineAct, Local, RowWord, Unseen};
+use um_words::{Content, FineAct, Local, RowWord, Unseen};
 
 /// Whether a permission was passed on.
 #[derive(Clone, Copy, PartialEq, Eq)]
@@ -19,9 +19,9 @@ pub enum Passed {
 }
 
 /// Gives a thread a permission, where the object stands (Zephyr: User Mode, Kernel Objects).
-pub fn grant<S, L: Local>(
-    board: &Board<S, L>,
-    seat: &mut Seat<S>,
+pub fn grant<T: Content, L: Local>(
+    board: &Board<T, L>,
+    seat: &mut Seat<T>,
     row: Row,
     by: ThreadIx,
     who: ThreadIx,
@@ -45,9 +45,9 @@ pub fn grant<S, L: Local>(
 }
 
 /// Passes a permission on to a new thread, where the parent has it and the child hasn't.
-pub fn inherit<S, L: Local>(
-    board: &Board<S, L>,
-    seat: &mut Seat<S>,
+pub fn inherit<T: Content, L: Local>(
+    board: &Board<T, L>,
+    seat: &mut Seat<T>,
     row: Row,
     by: ThreadIx,
     parent: ThreadIx,
@@ -76,9 +76,9 @@ pub fn inherit<S, L: Local>(
 }
 
 /// Gives a new thread the permission on its own object, where that stands, and holds the object for its life, whatever the answer is.
-pub fn own<S, L: Local>(
-    board: &Board<S, L>,
-    seat: &mut Seat<S>,
+pub fn own<T: Content, L: Local>(
+    board: &Board<T, L>,
+    seat: &mut Seat<T>,
     row: Row,
     by: ThreadIx,
     who: ThreadIx,
@@ -103,9 +103,9 @@ pub fn own<S, L: Local>(
 }
 
 /// Opens an object to all threads, where it stands.
-pub fn publish<S, L: Local>(
-    board: &Board<S, L>,
-    seat: &mut Seat<S>,
+pub fn publish<T: Content, L: Local>(
+    board: &Board<T, L>,
+    seat: &mut Seat<T>,
     row: Row,
     by: ThreadIx,
     addr: Addr,

@@ -4,7 +4,6 @@ use mathlib.Core.Logic.{dite}
 use mathlib.Core.Option.{some, some-injective, some-ne-none}
 use native.Mathlib.Decide.{ℕ_discrete}
 use lib.ListN.{get_elem?}
-use Rattle.atomic_table.specs.Table.{Splits, Joins, Final, Seen}
 use Rattle.atomic_table.proofs.Lists.{at_set, at_longer, set_again, set_here, set_else}
 use Rattle.um_site.specs.Sublists.{same_name}
 use Rattle.um_site.proofs.Sublists.{same_sound, same_itself}
@@ -67,23 +66,22 @@ longer views n w (j, x, jx, lx, has) = (j, x, at_longer views (w ∷ []) j x jx,
 
 module _ (goes : List ℕ → List Made → Made → Type 0) (image : Image) (opening : List ℕ) where
   -- nobody has a name that a seat may still give
-  unused : (words : List ℕ) (views : List View) (id : ℕ) (v : View) (r : Kept goes image opening words views) → get_elem? views id ≡ some v → v.live ≡ true → (n : List ℕ) → Later v.name v.splits n → by_seat n r.history ≡ []
-  unused words views id v r at lives n l = ⊎_elim (λ e. e)
+  unused : (words : List ℕ) (views : List View) (id : ℕ) (v : View) (h : List Entry) (r : Kept goes image opening words h views) → get_elem? views id ≡ some v → v.live ≡ true → (n : List ℕ) → Later v.name v.splits n → by_seat n h ≡ []
+  unused words views id v h r at lives n l = ⊎_elim (λ e. e)
       (λ (j, x, jx, lx, has). absurd (dite (ℕ_discrete j id)
       (λ q. (r.tidy id v at lives).later n (subst (λ (z : View). Has z n) (some-injective x v (sym jx ∙ (ap (get_elem? views) q ∙ at))) has) l)
       (λ ne. r.apart j id x v jx at lx lives ne n (inl has) (inr l))))
       (r.told n)
 
-  pub split_keeps : (words : List ℕ) (views : List View) (id : ℕ) (v : View) → Kept goes image opening words views → get_elem? views id ≡ some v → v.live ≡ true → Kept goes image opening words (set views id (splitter v) ++ newborn v ∷ [])
-  split_keeps words views id v r at lives = let k = r.know id v at lives in let t = r.tidy id v at lives in let views' : List View = set views id (splitter v) in record {
-    history = r.history;
+  pub split_keeps : (words : List ℕ) (views : List View) (id : ℕ) (v : View) → (h : List Entry) → Kept goes image opening words h views → get_elem? views id ≡ some v → v.live ≡ true → Kept goes image opening words h (set views id (splitter v) ++ newborn v ∷ [])
+  split_keeps words views id v h r at lives = let k = r.know id v at lives in let t = r.tidy id v at lives in let views' : List View = set views id (splitter v) in record {
     stands = r.stands;
     know = λ j x jx lx. ⊎_elim
         (λ old. ⊎_elim
-        (λ p. subst (Knows image opening words r.history) p.1 (record { image_is = k.image_is; opening_is = k.opening_is; mine = k.mine; theirs = k.theirs; fresh = k.fresh }))
+        (λ p. subst (Knows image opening words h) p.1 (record { image_is = k.image_is; opening_is = k.opening_is; mine = k.mine; theirs = k.theirs; fresh = k.fresh }))
         (λ p. r.know j x p.1 lx)
         (at_set views id j (splitter v) x old))
-        (λ p. subst (Knows image opening words r.history) p.1 (record { image_is = k.image_is; opening_is = k.opening_is; mine = unused words views id v r at lives (child v) (v.splits, [], omega arith, refl); theirs = tt; fresh = tt }))
+        (λ p. subst (Knows image opening words h) p.1 (record { image_is = k.image_is; opening_is = k.opening_is; mine = unused words views id v h r at lives (child v) (v.splits, [], omega arith, refl); theirs = tt; fresh = tt }))
         (at_end views' (newborn v) x j jx);
     tidy = λ j x jx lx. ⊎_elim
         (λ old. tidy_set views id v (splitter v) at lives (record { own = t.own; distinct = t.distinct; later = λ n h l. t.later n h (later_more v.name v.splits n l); below = λ n a. ⊎_elim (λ e. longer_child v n e) (λ b. t.below n b) a }) r.tidy j x old lx)
@@ -193,7 +191,7 @@ module _ (goes : List ℕ → List Made → Made → Type 0) (image : Image) (op
   here = set_else (set views id (joiner v w)) other id spent (λ e. ne (sym e)) ∙ set_here views id (joiner v w) (in_range views id v at)
 
   -- who owned a seat still does, or the joiner does
-  keeper : {words : List ℕ} → Kept goes image opening words views → (n : List ℕ) → ¬ (w.name ≡ n) → (i : ℕ) (y : View) → get_elem? views i ≡ some y → y.live ≡ true → AmongNames y.children n
+  keeper : {words : List ℕ} {h : List Entry} → Kept goes image opening words h views → (n : List ℕ) → ¬ (w.name ≡ n) → (i : ℕ) (y : View) → get_elem? views i ≡ some y → y.live ≡ true → AmongNames y.children n
       → (i : ℕ) × (y : View) × (get_elem? (set (set views id (joiner v w)) other spent) i ≡ some y) × (y.live ≡ true) × AmongNames y.children n
   keeper r n nw i y iy ly a = dite (ℕ_discrete i id)
       (λ q. (id, joiner v w, here, v_lives, names_left (without w.name v.children) w.children n (still_among w.name v.children n nw (subst (λ (z : View). AmongNames z.children n) (some-injective y v (sym iy ∙ (ap (get_elem? views) q ∙ at))) a))))
@@ -201,15 +199,14 @@ module _ (goes : List ℕ → List Made → Made → Type 0) (image : Image) (op
       (λ q. (id, joiner v w, here, v_lives, names_right (without w.name v.children) w.children n (subst (λ (z : View). AmongNames z.children n) (some-injective y w (sym iy ∙ (ap (get_elem? views) q ∙ other_at))) a)))
       (λ nother. (i, y, there i y nother nid iy, ly, a)))
 
-  away : {words : List ℕ} (j : ℕ) (y : View) → j ≢ other → j ≢ id → get_elem? views j ≡ some y → y.live ≡ true → Kept goes image opening words views → (n : List ℕ) → Owns (joiner v w) n → Owns y n → ⊥
+  away : {words : List ℕ} {h : List Entry} (j : ℕ) (y : View) → j ≢ other → j ≢ id → get_elem? views j ≡ some y → y.live ≡ true → Kept goes image opening words h views → (n : List ℕ) → Owns (joiner v w) n → Owns y n → ⊥
   away j y a b jy ly r n ox oy = ⊎_elim (λ o. r.apart id j v y at jy v_lives ly (λ e. b (sym e)) n o oy) (λ o. r.apart other j w y other_at jy w_lives ly (λ e. a (sym e)) n o oy) (joiner_owns v w n ox)
 
-  pub join_keeps : (words : List ℕ) → Kept goes image opening words views → Kept goes image opening words (set (set views id (joiner v w)) other spent)
-  join_keeps words r = let k = r.know id v at v_lives in let l = r.know other w other_at w_lives in let both : Apart v w = r.apart id other v w at other_at v_lives w_lives (λ e. ne (sym e)) in record {
-    history = r.history;
+  pub join_keeps : (words : List ℕ) (h : List Entry) → Kept goes image opening words h views → Kept goes image opening words h (set (set views id (joiner v w)) other spent)
+  join_keeps words h r = let k = r.know id v at v_lives in let l = r.know other w other_at w_lives in let both : Apart v w = r.apart id other v w at other_at v_lives w_lives (λ e. ne (sym e)) in record {
     stands = r.stands;
     know = λ j x jx lx. ⊎_elim
-        (λ p. subst (Knows image opening words r.history) p.1 (record { image_is = k.image_is; opening_is = k.opening_is; mine = k.mine; theirs = told_append r.history v.joined ((w.name, w.made) ∷ w.joined) k.theirs (l.mine, l.theirs); fresh = fresh_append words v.got w.got k.fresh l.fresh }))
+        (λ p. subst (Knows image opening words h) p.1 (record { image_is = k.image_is; opening_is = k.opening_is; mine = k.mine; theirs = told_append h v.joined ((w.name, w.made) ∷ w.joined) k.theirs (l.mine, l.theirs); fresh = fresh_append words v.got w.got k.fresh l.fresh }))
         (λ p. r.know j x p.2 lx)
         (which j x jx lx);
     tidy = λ j x jx lx. ⊎_elim
@@ -242,7 +239,7 @@ module _ (goes : List ℕ → List Made → Made → Type 0) (image : Image) (op
   }
 
 -- where the first seat has no seat that is still out, all steps stand in its lists
-module _ (goes : List ℕ → List Made → Made → Type 0) (image : Image) (opening words : List ℕ) (views : List View) (r : Kept goes image opening words views) (id : ℕ) (v : View)
+module _ (goes : List ℕ → List Made → Made → Type 0) (image : Image) (opening words : List ℕ) (views : List View) (h : List Entry) (r : Kept goes image opening words h views) (id : ℕ) (v : View)
     (at : get_elem? views id ≡ some v) (lives : v.live ≡ true) (first : v.name ≡ []) (none_out : v.children ≡ []) where
   is_first : (i : ℕ) (x : View) → get_elem? views i ≡ some x → x.live ≡ true → x.name ≡ [] → x ≡ v
   is_first i x ix lx e = dite (ℕ_discrete i id)
@@ -255,8 +252,12 @@ module _ (goes : List ℕ → List Made → Made → Type 0) (image : Image) (op
       (λ (j, y, jy, ly, a). let b = (r.tidy j y jy ly).below x.name a in let e = rooted fuel j y jy ly (omega arith) in absurd (subst (λ (l : List (List ℕ)). AmongNames l x.name) (ap (λ (z : View). z.children) (is_first j y jy ly e) ∙ none_out) a))
       (r.owned i x ix lx)
 
-  pub all_told : (n : List ℕ) → (by_seat n r.history ≡ []) ⊎ Has v n
-  all_told n = ⊎_elim inl (λ (j, x, jx, lx, has). inr (subst (λ (z : View). Has z n) (is_first j x jx lx (rooted (suc (length x.name)) j x jx lx (omega arith))) has)) (r.told n)
+  -- no other seat lives
+  pub alone : (i : ℕ) (x : View) → get_elem? views i ≡ some x → x.live ≡ true → x ≡ v
+  alone i x ix lx = is_first i x ix lx (rooted (suc (length x.name)) i x ix lx (omega arith))
+
+  pub all_told : (n : List ℕ) → (by_seat n h ≡ []) ⊎ Has v n
+  all_told n = ⊎_elim inl (λ (j, x, jx, lx, has). inr (subst (λ (z : View). Has z n) (alone j x jx lx) has)) (r.told n)
 
 pub length_without : (n : List ℕ) (ks : List (List ℕ)) → AmongNames ks n → length (without n ks) + 1 ≡ length ks
 length_without n [] a = absurd a
@@ -268,7 +269,7 @@ length_without n (x ∷ xs) a = elim (same_name x n) as (λ b. (same_name x n �
 pub joiner_children : (v w : View) → AmongNames v.children w.name → length (joiner v w).children + 1 ≡ length v.children + length w.children
 joiner_children v w a = let l = length_without w.name v.children a in let m = length-append (without w.name v.children) w.children in omega arith
 
-no_items : {A : Type 0} (l : List A) → length l ≡ 0 → l ≡ []
+pub no_items : {A : Type 0} (l : List A) → length l ≡ 0 → l ≡ []
 no_items [] e = refl
 no_items (x ∷ xs) e = absurd (omega arith)
 
@@ -277,9 +278,8 @@ module _ (goes : List ℕ → List Made → Made → Type 0) (image : Image) (op
   was : (views : List View) (v : View) (j : ℕ) (x : View) → get_elem? (views ++ shadow_of v ∷ []) j ≡ some x → x.live ≡ true → get_elem? views j ≡ some x
   was views v j x e l = ⊎_elim (λ a. a) (λ p. let z : false ≡ x.live = ap (λ (y : View). y.live) p.1 in absurd (cc)) (at_end views (shadow_of v) x j e)
 
-  pub shadow_keeps : (words : List ℕ) (views : List View) (v : View) → Kept goes image opening words views → Kept goes image opening words (views ++ shadow_of v ∷ [])
-  shadow_keeps words views v r = record {
-    history = r.history;
+  pub shadow_keeps : (words : List ℕ) (views : List View) (v : View) (h : List Entry) → Kept goes image opening words h views → Kept goes image opening words h (views ++ shadow_of v ∷ [])
+  shadow_keeps words views v h r = record {
     stands = r.stands;
     know = λ j x e l. r.know j x (was views v j x e l) l;
     tidy = λ j x e l. r.tidy j x (was views v j x e l) l;
@@ -287,21 +287,3 @@ module _ (goes : List ℕ → List Made → Made → Type 0) (image : Image) (op
     told = λ n. ⊎_elim inl (λ s. inr (longer views n (shadow_of v) s)) (r.told n);
     owned = λ j x e l. ⊎_elim inl (λ (i, y, iy, ly, a). inr (i, y, at_longer views (shadow_of v ∷ []) i y iy, ly, a)) (r.owned j x (was views v j x e l) l);
   }
-
-module _ (goes : List ℕ → List Made → Made → Type 0) (image : Image) (opening : List ℕ) {S : Type 0} where
-  pub splits : (id : ℕ) (v : View) → v.live ≡ true → Splits {S = S} (λ s. Kept goes image opening s.words s.views) id v (splitter v) (newborn v)
-  splits id v lives s r at = split_keeps goes image opening s.words s.views id v r at lives
-
-  pub joins : (id : ℕ) (v : View) (other : ℕ) (w : View) → v.live ≡ true → w.live ≡ true → AmongNames v.children w.name → Joins {S = S} (λ s. Kept goes image opening s.words s.views) id v other w (joiner v w) spent
-  joins id v other w lv lw kid s r at ne bt = join_keeps goes image opening s.views id v other w at (sym (set_else s.views id other (joiner v w) ne) ∙ bt) ne kid lv lw s.words r
-
-  pub shadows : (id : ℕ) (v : View) → Splits {S = S} (λ s. Kept goes image opening s.words s.views) id v v (shadow_of v)
-  shadows id v s r at = let same = set_again s.views id v at in subst (λ (l : List View). Kept goes image opening s.words (l ++ shadow_of v ∷ [])) (sym same) (shadow_keeps goes image opening s.words s.views v r)
-
-module _ (goes : Image → List ℕ → List Made → Made → Type 0) (image : Image) (opening : List ℕ) {S : Type 0} where
-  pub closes : (id : ℕ) (v : View) (ws : List ℕ) (xs : List S) → v.live ≡ true → v.name ≡ [] → length v.children ≡ 0 → Final (Seen (λ s. Kept (goes image) image opening s.words s.views) id v) ws xs → IsClosed goes v ws
-  closes id v ws xs lives first none_out (s, seen, e, _, _) = let r = seen.0 in let at = seen.1 in let k = r.know id v at lives in
-      let nil : v.children ≡ [] = no_items v.children none_out in
-      subst (λ (l : List ℕ). IsClosed goes v l) e
-      (subst (λ (z : Image × List ℕ). (h : List Entry) × IsHistory (goes z.0) z.1 s.words h × Knows z.0 z.1 s.words h v × Tidy v × ((n : List ℕ) → (by_seat n h ≡ []) ⊎ Has v n)) (λ i. (sym k.image_is i, sym k.opening_is i))
-      (r.history, r.stands, k, r.tidy id v at lives, all_told (goes image) image opening s.words s.views r id v at lives first nil))

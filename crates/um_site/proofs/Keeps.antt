@@ -1,24 +1,22 @@
 -- A step keeps the board's rule.
-use Rattle.std.proofs.Common.{◌≡◌, ℕ, zero, suc, ◌+◌, ◌<◌, ◌≤◌, true, false, eqb, List, [], ◌∷◌, ◌++◌, inl, inr, ⊎_elim, map, length, get_or, set, sym, refl, ap, ◌∙◌, subst, arith, eq-eqb, ne_eqb, length-set, get_or-set_same, get_or-set_other}
+use Rattle.std.proofs.Common.{◌≡◌, ℕ, zero, suc, ◌+◌, ◌%◌, ◌<◌, ◌≤◌, Option, true, false, List, [], ◌∷◌, ◌++◌, inl, inr, ⊎_elim, map, length, get_or, set, sym, refl, ap, ◌∙◌, subst, arith, eq-eqb, ne_eqb, length-set, get_or-set_same, get_or-set_other}
 use Rattle.std.proofs.lemmas.List.{map-append}
 use mathlib.Core.Logic.{dite}
 use mathlib.Core.Option.{some, some-injective, some-ne-none}
 use native.Mathlib.Decide.{ℕ_discrete}
 use lib.ListN.{get_elem?}
-use prog.Atomic.{either}
-use Rattle.std.proofs.lemmas.List.{set-get_or}
-use mathlib.Core.Option.{none}
-use Rattle.atomic_table.specs.Table.{State, Me, step, keeps, stepped, Allows}
 use Rattle.atomic_table.proofs.Lists.{at_set, set_here, set_else}
 use Rattle.um_site.specs.Sublists.{RunsBy, sub, same_name}
 use Rattle.um_words.specs.WordFacts.{counts}
 use Rattle.um_words.specs.Steps.{WordMay, number}
+use Rattle.um_site.proofs.Bare.{bare-number, bare-even, may-bare}
 use Rattle.um_site.proofs.Sublists.{same_itself, same_sound, name_cases, sub_yes, sub_no, RunsBy-push}
 use Rattle.um_words.specs.declared.made.Made.{Made}
 use Rattle.um_base.specs.declared.image.Image.{Image}
+use Rattle.um_site.specs.declared.turn.Turn.{Turn}
 use Rattle.um_site.specs.declared.view.View.{View}
-use Rattle.um_site.specs.History.{Entry, made_of, is_by, is_at, by_seat, by_site, Words, Among, Has, Owns, Told, Fresh, IsHistory, Knows, Tidy, AllTidy, AllApart, Somewhere, AllOwned, AmongNames, Kept, Numbers, opening_view}
-use Rattle.um_site.specs.Tells.{with_got, with_made, NoOlder, GoesOn, Looked, looked, stepped_by}
+use Rattle.um_site.specs.History.{Entry, made_of, is_by, is_at, by_seat, by_site, Words, Among, Has, Owns, Told, Fresh, IsHistory, Knows, Tidy, AllTidy, AllApart, Somewhere, AllOwned, AmongNames, Kept, Numbers, bare, opening_view, with_cells}
+use Rattle.um_site.specs.Tells.{with_got, with_made, NoOlder, GoesOn, Looked}
 
 -- the sublists of a history with one more step
 
@@ -47,26 +45,42 @@ words_numbers i w [] z r = (tt, let e = ap (number i) r in omega arith)
 words_numbers i w (m ∷ ms) z r = let c = counts i w m.act m.word r.0 in let t = words_numbers i m.word ms z r.1 in ((c, subst (λ (n : ℕ). Numbers i n ms) c t.0), let l = t.1 in omega arith)
 
 -- the words of each site go on
-sites_grow : (opening words : List ℕ) (h : List Entry) (n : List ℕ) (m : Made) → ((i : ℕ) → i < length words → Words i (get_or opening i 0) (by_site i h) (get_or words i 0)) → m.site < length words
-    → WordMay m.site (get_or words m.site 0) m.act m.word → (i : ℕ) → i < length (set words m.site m.word) → Words i (get_or opening i 0) (by_site i (h ++ (n, m) ∷ [])) (get_or (set words m.site m.word) i 0)
+sites_grow : (opening words : List ℕ) (h : List Entry) (n : List ℕ) (m : Made) → ((i : ℕ) → i < length words → Words i (get_or opening i 0) (by_site i h) (bare i (get_or words i 0))) → m.site < length words
+    → WordMay m.site (bare m.site (get_or words m.site 0)) m.act m.word → (i : ℕ) → i < length (set words m.site m.word) → Words i (get_or opening i 0) (by_site i (h ++ (n, m) ∷ [])) (bare i (get_or (set words m.site m.word) i 0))
 sites_grow opening words h n m sites in' e i here = dite (ℕ_discrete m.site i)
-    (λ q. subst (λ (j : ℕ). Words j (get_or opening j 0) (by_site j (h ++ (n, m) ∷ [])) (get_or (set words m.site m.word) j 0)) q
-    (rw (by_site_here h n m, get_or-set_same words m.site m.word 0 in') (Words-push m.site (get_or opening m.site 0) (by_site m.site h) (get_or words m.site 0) m (sites m.site in') e)))
+    (λ q. subst (λ (j : ℕ). Words j (get_or opening j 0) (by_site j (h ++ (n, m) ∷ [])) (bare j (get_or (set words m.site m.word) j 0))) q
+    (rw (by_site_here h n m, get_or-set_same words m.site m.word 0 in', may-bare m.site (bare m.site (get_or words m.site 0)) m.act m.word e)
+    (Words-push m.site (get_or opening m.site 0) (by_site m.site h) (bare m.site (get_or words m.site 0)) m (sites m.site in') e)))
     (λ ne. rw (by_site_else h n m i ne, get_or-set_other words m.site i m.word 0 (λ q. ne (sym q))) (sites i (let l = length-set words m.site m.word in omega arith)))
 
 -- a lawful step of a seat after its own list
 pub history_grows : (goes : List ℕ → List Made → Made → Type 0) (opening words : List ℕ) (h : List Entry) (n : List ℕ) (m : Made) → IsHistory goes opening words h → m.site < length words
-    → WordMay m.site (get_or words m.site 0) m.act m.word → goes n (by_seat n h) m → IsHistory goes opening (set words m.site m.word) (h ++ (n, m) ∷ [])
+    → WordMay m.site (bare m.site (get_or words m.site 0)) m.act m.word → goes n (by_seat n h) m → IsHistory goes opening (set words m.site m.word) (h ++ (n, m) ∷ [])
 history_grows goes opening words h n m is in' e may = let sites' = sites_grow opening words h n m is.sites in' e in record {
   wide = length-set words m.site m.word ∙ is.wide;
   opened = is.opened;
-  numbers = λ i here. subst (λ (k : ℕ). Numbers i k (by_site i (h ++ (n, m) ∷ []))) (is.opened i (let l = length-set words m.site m.word in let w = is.wide in omega arith)) (words_numbers i (get_or opening i 0) (by_site i (h ++ (n, m) ∷ [])) (get_or (set words m.site m.word) i 0) (sites' i here)).0;
+  numbers = λ i here. subst (λ (k : ℕ). Numbers i k (by_site i (h ++ (n, m) ∷ []))) (is.opened i (let l = length-set words m.site m.word in let w = is.wide in omega arith))
+      (words_numbers i (get_or opening i 0) (by_site i (h ++ (n, m) ∷ [])) (bare i (get_or (set words m.site m.word) i 0)) (sites' i here)).0;
   inside = λ i past. by_site_else h n m i (λ q. let l = length-set words m.site m.word in omega arith) ∙ is.inside i (let l = length-set words m.site m.word in omega arith);
   sites = sites';
   seats = λ k. ⊎_elim
       (λ q. subst (λ (j : List ℕ). RunsBy (goes j) [] (by_seat j (h ++ (n, m) ∷ []))) (same_sound n k q) (rw (by_seat_own h n m) (RunsBy-push (goes n) [] (by_seat n h) m (is.seats n) may)))
       (λ q. rw (by_seat_else h n k m (λ p. absurd (cc (same_itself n)))) (is.seats k))
       (name_cases n k);
+}
+
+-- a word with another turn is in the same history
+pub history_stays : (goes : List ℕ → List Made → Made → Type 0) (opening words : List ℕ) (h : List Entry) (i z : ℕ) → IsHistory goes opening words h → i < length words
+    → bare i z ≡ bare i (get_or words i 0) → IsHistory goes opening (set words i z) h
+history_stays goes opening words h i z is in' same = let long = length-set words i z in record {
+  wide = long ∙ is.wide;
+  opened = is.opened;
+  numbers = λ j here. is.numbers j (omega arith);
+  inside = λ j past. is.inside j (omega arith);
+  sites = λ j here. dite (ℕ_discrete i j)
+      (λ q. subst (λ (k : ℕ). Words k (get_or opening k 0) (by_site k h) (bare k (get_or (set words i z) k 0))) q (rw (get_or-set_same words i z 0 in', same) (is.sites i in')))
+      (λ ne. rw (get_or-set_other words i j z 0 (λ q. ne (sym q))) (is.sites j (omega arith)));
+  seats = is.seats;
 }
 
 pub in_range : {A : Type 0} (l : List A) (i : ℕ) (a : A) → get_elem? l i ≡ some a → i < length l
@@ -150,91 +164,61 @@ owned_set views id v v' at lives lives' same more all i x ix lx =
 
 -- the rule after a look, and after a step
 module _ (goes : Image → List ℕ → List Made → Made → Type 0) (image : Image) (opening : List ℕ) where
-  Rule : List ℕ → List View → Type 0
-  Rule words views = Kept (goes image) image opening words views
-
   -- what one seat knows of the history, with its own image and opening
-  own_words : (words : List ℕ) (h : List Entry) (v : View) → Knows image opening words h v → IsHistory (goes image) opening words h → IsHistory (goes v.image) v.opening words h × Knows v.image v.opening words h v
+  pub own_words : (words : List ℕ) (h : List Entry) (v : View) → Knows image opening words h v → IsHistory (goes image) opening words h → IsHistory (goes v.image) v.opening words h × Knows v.image v.opening words h v
   own_words words h v k is = subst (λ (z : Image × List ℕ). IsHistory (goes z.0) z.1 words h × Knows z.0 z.1 words h v) (λ i. (sym k.image_is i, sym k.opening_is i)) (is, k)
 
-  pub look_keeps : (words : List ℕ) (views : List View) (id : ℕ) (v : View) (i : ℕ) (r : Kept (goes image) image opening words views) → get_elem? views id ≡ some v → v.live ≡ true → i < length words
-      → (k : Kept (goes image) image opening words (set views id (with_got v i (get_or words i 0)))) × (k.history ≡ r.history) × Looked goes v i (get_or words i 0) (with_got v i (get_or words i 0))
-  look_keeps words views id v i r at lives in' = let k = r.know id v at lives in let v' : View = with_got v i (get_or words i 0) in let o = own_words words r.history v k r.stands in (
-    record {
-      history = r.history;
-      stands = r.stands;
-      know = λ j x jx lx. ⊎_elim
-          (λ p. subst (Knows image opening words r.history) p.1 (record { image_is = k.image_is; opening_is = k.opening_is; mine = k.mine; theirs = k.theirs; fresh = (omega arith, k.fresh) }))
-          (λ p. r.know j x p.1 lx)
-          (at_set views id j v' x jx);
-      tidy = tidy_set views id v v' at lives (let t = r.tidy id v at lives in record { own = t.own; distinct = t.distinct; later = t.later; below = t.below }) r.tidy;
-      apart = apart_set views id v v' at lives (λ n o. o) r.apart;
-      told = λ n. ⊎_elim inl (λ s. inr (somewhere_set views id v v' at lives lives (λ n o. o) n s)) (r.told n);
-      owned = owned_set views id v v' at lives lives refl (λ n a. a) r.owned;
-    },
-    refl,
-    (no_older words i v.got k.fresh, (words, r.history, o.0, o.1, in', refl), refl),
-  )
+  -- what a look at a word tells
+  pub look_tells : (words : List ℕ) (views : List View) (id : ℕ) (v : View) (i : ℕ) (h : List Entry) → Kept (goes image) image opening words h views → get_elem? views id ≡ some v → v.live ≡ true → i < length words
+      → Looked goes v i (get_or words i 0) (with_got v i (get_or words i 0))
+  look_tells words views id v i h r at lives in' = let k = r.know id v at lives in let o = own_words words h v k r.stands in (no_older words i v.got k.fresh, (words, h, o.0, o.1, in', refl), refl)
+
+  -- a seat gets a word, and its turn and its cells may change, and that word's turn
+  pub turn_keeps : (words : List ℕ) (views : List View) (id : ℕ) (v : View) (i z g : ℕ) (t : Option Turn) (f : List ℕ) (h : List Entry) → Kept (goes image) image opening words h views → get_elem? views id ≡ some v → v.live ≡ true → i < length words
+      → bare i z ≡ bare i (get_or words i 0) → number i g ≤ number i (get_or words i 0) → Kept (goes image) image opening (set words i z) h (set views id (with_cells (with_got v i g) t f))
+  turn_keeps words views id v i z g t f h r at lives in' same old = let k = r.know id v at lives in let v' : View = with_cells (with_got v i g) t f in
+      let up : number i (get_or words i 0) ≤ number i z = let a = bare-number i z in let b = bare-number i (get_or words i 0) in let c = ap (number i) same in omega arith in
+      let still : (x : View) → Knows image opening words h x → Knows image opening (set words i z) h x = λ x kx. record { image_is = kx.image_is; opening_is = kx.opening_is; mine = kx.mine; theirs = kx.theirs; fresh = fresh_rises words i z x.got in' up kx.fresh } in
+      record {
+        stands = history_stays (goes image) opening words h i z r.stands in' same;
+        know = λ j x jx lx. ⊎_elim
+            (λ p. subst (Knows image opening (set words i z) h) p.1
+            (record { image_is = k.image_is; opening_is = k.opening_is; mine = k.mine; theirs = k.theirs; fresh = (rw (get_or-set_same words i z 0 in') (omega arith), fresh_rises words i z v.got in' up k.fresh) }))
+            (λ p. still x (r.know j x p.1 lx))
+            (at_set views id j v' x jx);
+        tidy = tidy_set views id v v' at lives (let y = r.tidy id v at lives in record { own = y.own; distinct = y.distinct; later = y.later; below = y.below }) r.tidy;
+        apart = apart_set views id v v' at lives (λ n o. o) r.apart;
+        told = λ n. ⊎_elim inl (λ s. inr (somewhere_set views id v v' at lives lives (λ n o. o) n s)) (r.told n);
+        owned = owned_set views id v v' at lives lives refl (λ n a. a) r.owned;
+      }
 
   -- the words and the history that a lawful step of the seat leaves
-  pub step_keeps : (words : List ℕ) (views : List View) (id : ℕ) (v : View) (m : Made) (r : Kept (goes image) image opening words views) → get_elem? views id ≡ some v → v.live ≡ true → m.site < length words
-      → WordMay m.site (get_or words m.site 0) m.act m.word → number m.site (get_or words m.site 0) ≤ number m.site m.word → goes v.image v.name v.made m
-      → (k : Kept (goes image) image opening (set words m.site m.word) (set views id (with_made v m))) × (k.history ≡ r.history ++ (v.name, m) ∷ []) × GoesOn goes v m (get_or words m.site 0)
-  step_keeps words views id v m r at lives in' e up may = let k = r.know id v at lives in let t = r.tidy id v at lives in let v' : View = with_made v m in let words' : List ℕ = set words m.site m.word in let h' : List Entry = r.history ++ (v.name, m) ∷ [] in
-      let may' : goes image v.name (by_seat v.name r.history) m = subst (λ (z : Image × List Made). goes z.0 v.name z.1 m) (λ i. (k.image_is i, sym k.mine i)) may in
-      let is' = history_grows (goes image) opening words r.history v.name m r.stands in' e may' in let k' = knows_own image opening words r.history v m k t in' up in let o = own_words words r.history v k r.stands in let o' = own_words words' h' v' k' is' in (
+  pub step_keeps : (words : List ℕ) (views : List View) (id : ℕ) (v : View) (m : Made) (t : Option Turn) (f : List ℕ) (h : List Entry) → Kept (goes image) image opening words h views → get_elem? views id ≡ some v → v.live ≡ true → m.site < length words
+      → WordMay m.site (bare m.site (get_or words m.site 0)) m.act m.word → number m.site (get_or words m.site 0) ≤ number m.site m.word → goes v.image v.name v.made m
+      → Kept (goes image) image opening (set words m.site m.word) (h ++ (v.name, m) ∷ []) (set views id (with_cells (with_made v m) t f)) × GoesOn goes v m (get_or words m.site 0)
+  step_keeps words views id v m t f h r at lives in' e up may = let k = r.know id v at lives in let y = r.tidy id v at lives in let v' : View = with_cells (with_made v m) t f in let words' : List ℕ = set words m.site m.word in let h' : List Entry = h ++ (v.name, m) ∷ [] in
+      let may' : goes image v.name (by_seat v.name h) m = subst (λ (z : Image × List Made). goes z.0 v.name z.1 m) (λ i. (k.image_is i, sym k.mine i)) may in
+      let is' = history_grows (goes image) opening words h v.name m r.stands in' e may' in let k' = knows_own image opening words h v m k y in' up in let o = own_words words h v k r.stands in let o' = own_words words' h' (with_made v m) k' is' in (
         record {
-          history = h';
           stands = is';
           know = λ j x jx lx. ⊎_elim
-              (λ p. subst (Knows image opening words' h') p.1 k')
-              (λ p. knows_else image opening words r.history v.name x m (r.know j x p.1 lx) (λ has. r.apart id j v x at p.1 lives lx (λ q. p.0 (sym q)) v.name (inl (inl refl)) (inl has)) in' up)
+              (λ p. subst (Knows image opening words' h') p.1 (record { image_is = k'.image_is; opening_is = k'.opening_is; mine = k'.mine; theirs = k'.theirs; fresh = k'.fresh }))
+              (λ p. knows_else image opening words h v.name x m (r.know j x p.1 lx) (λ has. r.apart id j v x at p.1 lives lx (λ q. p.0 (sym q)) v.name (inl (inl refl)) (inl has)) in' up)
               (at_set views id j v' x jx);
-          tidy = tidy_set views id v v' at lives (record { own = t.own; distinct = t.distinct; later = t.later; below = t.below }) r.tidy;
+          tidy = tidy_set views id v v' at lives (record { own = y.own; distinct = y.distinct; later = y.later; below = y.below }) r.tidy;
           apart = apart_set views id v v' at lives (λ n o. o) r.apart;
           told = λ n. ⊎_elim
               (λ q. inr (id, v', set_here views id v' (in_range views id v at), lives, inl (same_sound v.name n q)))
-              (λ q. ⊎_elim (λ z. inl (by_seat_else r.history v.name n m (λ p. absurd (cc (same_itself n))) ∙ z)) (λ s. inr (somewhere_set views id v v' at lives lives (λ n o. o) n s)) (r.told n))
+              (λ q. ⊎_elim (λ z. inl (by_seat_else h v.name n m (λ p. absurd (cc (same_itself n))) ∙ z)) (λ s. inr (somewhere_set views id v v' at lives lives (λ n o. o) n s)) (r.told n))
               (name_cases v.name n);
           owned = owned_set views id v v' at lives lives refl (λ n a. a) r.owned;
         },
-        refl,
-        (words, r.history, o.0, o.1, in', refl, o'.0, o'.1),
+        (words, h, o.0, o.1, in', refl, o'.0, o'.1),
       )
-
-  module _ {S : Type 0} where
-    abbrev Holds : State S View → Type 0
-    Holds s = Kept (goes image) image opening s.words s.views
-
-    stay : (s : State S View) (i : ℕ) (id : ℕ) (c : List (ℕ × S)) (w : View) → Kept (goes image) image opening s.words (set s.views id w) → Holds (stepped s i (get_or s.words i 0) id c w keeps)
-    stay s i id c w r = subst (λ (l : List ℕ). Kept (goes image) image opening l (set s.views id w)) (sym (set-get_or s.words i 0)) r
-
-    pub looks : (slots id : ℕ) (me : Me S View) (i : ℕ) → me.0.live ≡ true → i < length opening → Allows Holds slots id me i (λ n. n) (looked goes (step slots i 0 0 none) me)
-    looks slots id me i lives in' s r _ at _ = let wide = r.stands.wide in let k = look_keeps s.words s.views id me.0 i r at lives (omega arith) in
-        (with_got me.0 i (get_or s.words i 0), keeps, tt, stay s i id me.1 (with_got me.0 i (get_or s.words i 0)) k.0, (refl, k.2))
-
-    pub exchanges : (slots id : ℕ) (me : Me S View) (m made : Made) (seen : ℕ) → made ≡ m → me.0.live ≡ true → m.site < length opening
-        → WordMay m.site seen m.act m.word → number m.site seen ≤ number m.site m.word → goes me.0.image me.0.name me.0.made m
-        → Allows Holds slots id me m.site (λ n. either (eqb n seen) m.word n) (stepped_by goes made (step slots m.site seen m.word none) me)
-    exchanges slots id me m made seen same lives in' e up may s r _ at _ = let x : ℕ = get_or s.words m.site 0 in let wide = r.stands.wide in dite (ℕ_discrete x seen)
-        (λ hit. let k = step_keeps s.words s.views id me.0 m r at lives (omega arith) (subst (λ (z : ℕ). WordMay m.site z m.act m.word) (sym hit) e) (subst (λ (z : ℕ). number m.site z ≤ number m.site m.word) (sym hit) up) may in (
-          with_made me.0 m,
-          keeps,
-          tt,
-          subst (λ b. Holds (stepped s m.site (either b m.word x) id me.1 (with_made me.0 m) keeps)) (sym (eq-eqb x seen hit)) k.0,
-          (refl, (λ _. (subst (λ (z : ℕ × Made). GoesOn goes me.0 z.1 z.0) (λ i. (hit i, sym same i)) k.2, ap (with_made me.0) (sym same))), λ not. absurd (not hit)),
-        ))
-        (λ miss. let k = look_keeps s.words s.views id me.0 m.site r at lives (omega arith) in (
-          with_got me.0 m.site x,
-          keeps,
-          tt,
-          subst (λ b. Holds (stepped s m.site (either b m.word x) id me.1 (with_got me.0 m.site x) keeps)) (sym (ne_eqb x seen miss)) (stay s m.site id me.1 (with_got me.0 m.site x) k.0),
-          (refl, (λ hit. absurd (miss hit)), λ _. k.2),
-        ))
 
 -- the rule at the start
 module _ (goes : List ℕ → List Made → Made → Type 0) (image : Image) (opening : List ℕ) where
-  only_first : (i : ℕ) (v w : View) → get_elem? (v ∷ []) i ≡ some w → (i ≡ 0) × (v ≡ w)
+  pub only_first : (i : ℕ) (v w : View) → get_elem? (v ∷ []) i ≡ some w → (i ≡ 0) × (v ≡ w)
   only_first zero v w e = (refl, some-injective v w e)
   only_first (suc i) v w e = absurd (some-ne-none w (sym e))
 
@@ -244,10 +228,9 @@ module _ (goes : List ℕ → List Made → Made → Type 0) (image : Image) (op
   tidy_first : Tidy (opening_view image opening)
   tidy_first = record { own = λ a. a; distinct = tt; later = λ n h l. ⊎_elim (λ q. too_long l.0 l.1 (q ∙ l.3)) (λ a. a) h; below = λ n a. absurd a }
 
-  pub opens : ((i : ℕ) → i < length opening → number i (get_or opening i 0) ≡ 0) → Kept goes image opening opening (opening_view image opening ∷ [])
-  opens fresh = record {
-    history = [];
-    stands = record { wide = refl; opened = fresh; inside = λ i p. refl; sites = λ i p. refl; numbers = λ i p. tt; seats = λ n. tt };
+  pub opens : ((i : ℕ) → i < length opening → number i (get_or opening i 0) ≡ 0) → ((i : ℕ) → 168 ≤ i → i < length opening → get_or opening i 0 % 2 ≡ 0) → Kept goes image opening opening [] (opening_view image opening ∷ [])
+  opens fresh free = record {
+    stands = record { wide = refl; opened = fresh; inside = λ i p. refl; sites = λ i p. sym (bare-even i (get_or opening i 0) (λ far. free i far p)); numbers = λ i p. tt; seats = λ n. tt };
     know = λ i v e l. subst (Knows image opening opening []) (only_first i (opening_view image opening) v e).1 (record { image_is = refl; opening_is = refl; mine = refl; theirs = tt; fresh = tt });
     tidy = λ i v e l. subst Tidy (only_first i (opening_view image opening) v e).1 tidy_first;
     apart = λ i j v w ex ey lx ly ne. absurd (ne ((only_first i (opening_view image opening) v ex).0 ∙ sym (only_first j (opening_view image opening) w ey).0));

@@ -1,5 +1,9 @@
 pub mod Sublists
+pub mod Bare
 pub mod Keeps
 pub mod Joining
+pub mod Transfers
+pub mod TurnCells
+pub mod Moves
 pub mod Lawful
 pub mod Lives

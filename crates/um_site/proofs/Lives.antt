@@ -20,7 +20,7 @@ use Rattle.um_words.specs.RowFacts.{row-keeps, row-fits}
 use Rattle.um_words.specs.Steps.{StepIn, RowStep, WordMay}
 use Rattle.um_base.specs.declared.image.Image.{Image}
 use Rattle.um_site.specs.declared.view.View.{View}
-use Rattle.um_site.specs.History.{Words, by_site}
+use Rattle.um_site.specs.History.{Words, by_site, bare}
 use Rattle.um_site.specs.Tells.{with_made}
 use Rattle.um_site.specs.Lives.{IsBare, IsSoundAt, IsSound, stage, begins_cleaning, is_vacate, is_birth_act, is_birth, cleanings, vacates, births, word_after, AreSound, IsCleanedOnce, CleansOnce, begins_at, ends_at, cleans_after, Cleans}
 use Rattle.um_site.proofs.Lawful.{at-row}
@@ -290,7 +290,7 @@ cleaned-once row' w ms z here words h = record {
 
 -- the same of each history of a board
 pub cleans-once : (goes : Image → List ℕ → List Made → Made → Type 0) (v : View) (row' : ℕ) → row' < 128 → CleansOnce goes v row'
-cleans-once goes v row' here words h is inside sound = cleaned-once row' (slice_index v.opening row') (by_site row' h) (slice_index words row') here (is.sites row' inside) sound
+cleans-once goes v row' here words h is inside sound = cleaned-once row' (slice_index v.opening row') (by_site row' h) (bare row' (slice_index words row')) here (is.sites row' inside) sound
 
 -- What a seat has to clean.
 

@@ -22,11 +22,12 @@ thread_site who = 128 + who
 abbrev pub domain_site : ℕ → ℕ
 domain_site domain = 160 + domain
 
--- what a seat keeps when it looks and steps: its board and its place there, its counts, its slots, its name, and the seats that it has split off
-abbrev pub Stays : {S : Type 0} → Seat S → Seat S → Type 0
+-- what a seat keeps when it looks and steps: its board and its place there, its counts, its slots, its name, the seats that it has split off, its turn and the cells that it knows as filled
+abbrev pub Stays : {T : Type 0} → Seat T → Seat T → Type 0
 Stays s t =
     (t.token.table_id ≡ s.token.table_id) × (t.token.id ≡ s.token.id) × (t.split ≡ s.split) × (t.joined ≡ s.joined) × (t.first ≡ s.first)
     × (t.token.me.1 ≡ s.token.me.1) × (t.token.me.0.name ≡ s.token.me.0.name) × (t.token.me.0.children ≡ s.token.me.0.children)
+    × (t.token.me.0.turn ≡ s.token.me.0.turn) × (t.token.me.0.filled ≡ s.token.me.0.filled)
 
 module _ (goes : Image → List ℕ → List Made → Made → Type 0) where
   -- the seat may make this act next, where it is lawful

@@ -1,5 +1,5 @@
 -- The history of a board.
-use Rattle.std.specs.Prelude.{◌≡◌, ℕ, ◌+◌, ◌<◌, ◌≤◌, ◌⊎◌, Bool, true, false, cond, eqb, List, [], ◌∷◌, ◌++◌, map, length, slice_index, None}
+use Rattle.std.specs.Prelude.{◌≡◌, ℕ, ◌+◌, ◌-◌, ◌%◌, ◌<◌, ◌≤◌, ◌⊎◌, Bool, true, false, cond, eqb, nat_lt, if◌then◌else◌, List, [], ◌∷◌, ◌++◌, map, length, slice_index, Option, None}
 use mathlib.Core.Option.{some}
 use lib.ListN.{get_elem?}
 use Rattle.um_site.specs.Sublists.{RunsBy, sub, same_name}
@@ -8,6 +8,7 @@ use Rattle.um_words.specs.declared.made.Made.{Made}
 use Rattle.um_base.specs.declared.image.Image.{Image}
 use Rattle.um_base.specs.declared.names.Mpu.{Mpu}
 use Rattle.um_base.specs.declared.names.Policy.{Policy}
+use Rattle.um_site.specs.declared.turn.Turn.{Turn}
 use Rattle.um_site.specs.declared.view.View.{View}
 
 -- a step with the name of the seat that made it
@@ -28,6 +29,10 @@ by_seat n h = map made_of (sub (is_by n) h)
 
 abbrev pub by_site : ℕ → List Entry → List Made
 by_site i h = map made_of (sub (is_at i) h)
+
+-- a site's word without the turn of a cell, which no step counts
+abbrev pub bare : ℕ → ℕ → ℕ
+bare site w = if nat_lt site 168 then w else w - w % 2
 
 -- the word goes from w by these steps, each lawful, to z
 abbrev pub Words : ℕ → ℕ → List Made → ℕ → Type 0
@@ -75,12 +80,12 @@ abbrev pub Numbers : ℕ → ℕ → List Made → Type 0
 Numbers i n [] = Unit {0}
 Numbers i n (m ∷ ms) = (number i m.word ≡ n + 1) × Numbers i (n + 1) ms
 
--- The history of a board from these opening words, as a fact of its sublists alone: each site's words go by lawful steps to the word that stands, its steps are numbered from 1 without a gap, and each seat's steps go
+-- The history of a board from these opening words, as a fact of its sublists alone: each site's words go by lawful steps to the word that stands, a cell's turn aside, its steps are numbered from 1 without a gap, and each seat's steps go
 pub record IsHistory (goes : List ℕ → List Made → Made → Type 0) (opening words : List ℕ) (h : List Entry) : Type 0 where
   pub wide : length words ≡ length opening
   pub opened : (i : ℕ) → i < length opening → number i (slice_index opening i) ≡ 0
   pub inside : (i : ℕ) → length words ≤ i → by_site i h ≡ []
-  pub sites : (i : ℕ) → i < length words → Words i (slice_index opening i) (by_site i h) (slice_index words i)
+  pub sites : (i : ℕ) → i < length words → Words i (slice_index opening i) (by_site i h) (bare i (slice_index words i))
   pub numbers : (i : ℕ) → i < length words → Numbers i 0 (by_site i h)
   pub seats : (n : List ℕ) → RunsBy (goes n) [] (by_seat n h)
 
@@ -122,17 +127,16 @@ abbrev pub AllOwned : List View → Type 0
 AllOwned views = (id : ℕ) (v : View) → get_elem? views id ≡ some v → v.live ≡ true → (v.name ≡ []) ⊎ ((j : ℕ) × (w : View) × (get_elem? views j ≡ some w) × (w.live ≡ true) × AmongNames w.children v.name)
 
 -- one history for the words and the seats
-pub record Kept (goes : List ℕ → List Made → Made → Type 0) (image : Image) (opening words : List ℕ) (views : List View) : Type 0 where
-  pub history : List Entry
-  pub stands : IsHistory goes opening words history
-  pub know : AllKnow image opening words history views
+pub record Kept (goes : List ℕ → List Made → Made → Type 0) (image : Image) (opening words : List ℕ) (h : List Entry) (views : List View) : Type 0 where
+  pub stands : IsHistory goes opening words h
+  pub know : AllKnow image opening words h views
   pub tidy : AllTidy views
   pub apart : AllApart views
-  pub told : AllTold history views
+  pub told : AllTold h views
   pub owned : AllOwned views
 
 abbrev pub opening_view : Image → List ℕ → View
-opening_view image opening = record { live = true; image = image; opening = opening; name = []; splits = 0; made = []; joined = []; got = []; children = [] }
+opening_view image opening = record { live = true; image = image; opening = opening; name = []; splits = 0; made = []; joined = []; got = []; children = []; turn = None; filled = [] }
 
 -- the name of the next seat that is split off
 abbrev pub child : View → List ℕ
@@ -142,7 +146,11 @@ abbrev pub splitter : View → View
 splitter v = record v { splits = v.splits + 1; children = child v ∷ v.children }
 
 abbrev pub newborn : View → View
-newborn v = record { live = true; image = v.image; opening = v.opening; name = child v; splits = 0; made = []; joined = []; got = []; children = [] }
+newborn v = record { live = true; image = v.image; opening = v.opening; name = child v; splits = 0; made = []; joined = []; got = []; children = []; turn = None; filled = v.filled }
+
+-- the same seat with this turn, where these cells have their contents
+abbrev pub with_cells : View → Option Turn → List ℕ → View
+with_cells v turn filled = record v { turn = turn; filled = filled }
 
 -- the names without the first that is n
 abbrev pub without : List ℕ → List (List ℕ) → List (List ℕ)
@@ -150,7 +158,7 @@ without n [] = []
 without n (k ∷ ks) = cond (same_name k n) ks (k ∷ without n ks)
 
 abbrev pub joiner : View → View → View
-joiner v w = record v { joined = v.joined ++ (w.name, w.made) ∷ w.joined; got = v.got ++ w.got; children = without w.name v.children ++ w.children }
+joiner v w = record v { joined = v.joined ++ (w.name, w.made) ∷ w.joined; got = v.got ++ w.got; children = without w.name v.children ++ w.children; filled = v.filled ++ w.filled }
 
 abbrev pub no_image : Image
 no_image =
@@ -170,7 +178,7 @@ no_image =
 
 -- a seat that was joined in
 abbrev pub spent : View
-spent = record { live = false; image = no_image; opening = []; name = []; splits = 0; made = []; joined = []; got = []; children = [] }
+spent = record { live = false; image = no_image; opening = []; name = []; splits = 0; made = []; joined = []; got = []; children = []; turn = None; filled = [] }
 
 abbrev pub shadow_of : View → View
 shadow_of v = record v { live = false }

@@ -1,5 +1,6 @@
 pub mod Sublists
 pub mod History
+pub mod Cells
 pub mod Tells
 pub mod Calls
 pub mod Lives

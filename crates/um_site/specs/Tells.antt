@@ -1,13 +1,15 @@
 -- What a step on a board tells its caller.
-use Rattle.std.specs.Prelude.{◌≡◌, ◌≢◌, ℕ, ◌≤◌, ◌<◌, List, [], ◌∷◌, ◌++◌, length, slice_index, slice_set, Option, Some, None, if◌then◌else◌, ◌==◌}
-use Rattle.atomic_table.specs.Table.{Me, Step}
+use Rattle.std.specs.Prelude.{◌≡◌, ◌≢◌, ℕ, ◌+◌, ◌-◌, ◌%◌, ◌≤◌, ◌<◌, List, [], ◌∷◌, ◌++◌, length, slice_index, slice_set, Option, Some, None, if◌then◌else◌, ◌==◌}
+use Rattle.atomic_table.specs.Table.{Me, Step, rest}
 use Rattle.um_words.specs.Steps.{WordMay, number}
 use Rattle.um_words.specs.declared.fine.FineAct.{FineAct}
 use Rattle.um_words.specs.declared.made.Made.{Made}
 use Rattle.um_words.specs.declared.made.Moved.{Moved}
 use Rattle.um_base.specs.declared.image.Image.{Image}
+use Rattle.um_site.specs.declared.turn.Turn.{Turn}
 use Rattle.um_site.specs.declared.view.View.{View}
-use Rattle.um_site.specs.History.{Entry, IsHistory, Knows}
+use Rattle.um_site.specs.History.{Entry, by_site, IsHistory, Knows, with_cells}
+use Rattle.um_site.specs.Cells.{ContentsAre}
 
 abbrev pub made : ℕ → FineAct → ℕ → Made
 made i act next = record { site = i; act = act; word = next; moved = Moved.Nothing }
@@ -47,6 +49,52 @@ module _ (goes : Image → List ℕ → List Made → Made → Type 0) where
 
     abbrev pub stepped_by : Made → Step S → Me S View → ℕ → Me S View → Type 0
     stepped_by m st me r me' = (me'.1 ≡ me.1) × (r ≡ st.first → GoesOn me.0 m st.first × (me'.0 ≡ with_made me.0 m)) × (r ≢ st.first → Looked me.0 st.word r me'.0)
+
+-- the seat has the turn of the cell i, whose word was w, after these steps of it
+abbrev pub taking : View → ℕ → ℕ → List Made → View
+taking v i w past = with_cells (with_got v i w) (Some (record { site = i; word = w; past = past })) v.filled
+
+-- the step is recorded, and the turn given back
+abbrev pub recording : View → Made → View
+recording v m = with_cells (with_made v m) None v.filled
+
+-- the turn is given back with the word w, and these cells have their contents
+abbrev pub returning : View → ℕ → ℕ → List ℕ → View
+returning v i w filled = with_cells (with_got v i w) None filled
+
+module _ {T : Type 0} (opens : Image → ℕ → T → Type 0) (follows : T → FineAct → Moved → T → Type 0) (goes : Image → List ℕ → List Made → Made → Type 0) where
+  -- the turn was free at the word r, in one history, and the slot had the contents that the cell's steps in it leave
+  pub record Took (v : View) (i r : ℕ) (y : Option T) (w : View) : Type 0 where
+    pub newer : NoOlder v.got i r
+    pub words : List ℕ
+    pub history : List Entry
+    pub stands : IsHistory (goes v.image) v.opening words history
+    pub knows : Knows v.image v.opening words history v
+    pub inside : i < length words
+    pub word : slice_index words i ≡ r
+    pub contents : ContentsAre opens follows v.image i (by_site i history) y
+    pub now : w ≡ taking v i r (by_site i history)
+
+  abbrev pub took : Step (Option T) → Me (Option T) View → ℕ → Me (Option T) View → Type 0
+  took st me r me' =
+      (r % 2 ≡ 0 → (y : Option T) × (me'.1 ≡ (st.word - 168, y) ∷ me.1) × Took me.0 st.word r y me'.0)
+      × (r % 2 ≢ 0 → (me'.1 ≡ me.1) × Looked goes me.0 st.word r me'.0)
+
+  -- the step went on from the word of the take, which had the turn's bit
+  abbrev pub Records : View → Turn → Made → Type 0
+  Records v t m = GoesOn goes v m (t.word + 1)
+
+  abbrev pub recorded_by : Turn → Made → Step (Option T) → Me (Option T) View → ℕ → Me (Option T) View → Type 0
+  recorded_by t m st me r me' = (me'.1 ≡ rest me.1) × (me'.0 ≡ recording me.0 m) × Records me.0 t m
+
+module _ {T : Type 0} where
+  -- the turn of a cell that has taken no step was free
+  abbrev pub reached : Step (Option T) → Me (Option T) View → ℕ → Me (Option T) View → Type 0
+  reached st me r me' = (r % 2 ≡ 0) × ((y : Option T) × (me'.1 ≡ (st.word - 168, y) ∷ me.1)) × (me'.0 ≡ taking me.0 st.word r [])
+
+  -- the turn was given back, and no step was recorded
+  abbrev pub returned : List ℕ → Step (Option T) → Me (Option T) View → ℕ → Me (Option T) View → Type 0
+  returned filled st me r me' = (me'.1 ≡ rest me.1) × (me'.0 ≡ returning me.0 st.word r filled)
 
 -- the word that was got or left last at the site
 abbrev pub last_got : List (ℕ × ℕ) → ℕ → Option ℕ

@@ -1,6 +1,6 @@
 //! The board.
 
-ghost use Rattle.std.specs.Prelude.{◌≡◌, ◌≢◌, ℕ, ◌+◌, ◌<◌, ◌^◌, true, false, [], length, slice_index, IfOk, IfErr, ◌⊎◌, MatchResult, Option, Some};
+ghost use Rattle.std.specs.Prelude.{◌≡◌, ◌≢◌, ℕ, ◌+◌, ◌%◌, ◌<◌, ◌≤◌, ◌^◌, true, false, [], length, slice_index, IfOk, IfErr, ◌⊎◌, MatchResult, Option, Some, None};
 ghost use Rattle.um_words.specs.Steps.{number, WordMay};
 ghost use Rattle.um_site.specs.Tells.{made, last_got, Looked, Steps, stepped_by};
 ghost use Rattle.um_site.specs.History.{opening_view, splitter, newborn, joiner, AmongNames, IsClosed, shadow_of};
@@ -18,14 +18,13 @@ use std::alloc::Global;
 use std::marker::Brand;
 use std::snapshot::Snapshot;
 use um_base::{Image, Memory};
-use um_words::{FineAct, Local, step_number};
+use um_words::{Content, FineAct, Local, step_number};
 
 /// A word for each site, which many threads may change at once.
 #[derive(Drop)]
-pub struct Board<S, L: Local> {
-    pub table: Table<S, View, Opening, Ruled<L>, Global>,
+pub struct Board<T: Content, L: Local> {
+    pub table: Table<Option<T>, View, Opening, Ruled<L>, Global>,
     pub ghost sized: { table.shared.table_id.words ≡ length table.shared.key.1.value.items },
-    pub ghost no_slots: { table.shared.table_id.slots ≡ 0 },
 }
 
 /// Another word stood at the site than the one handed in. Nothing was recorded.
@@ -37,29 +36,31 @@ pub struct Changed {
 
 /// A board that can't be closed: a seat isn't joined in.
 #[derive(Drop)]
-pub struct StillOut<S, L: Local> {
-    pub board: Board<S, L>,
-    pub seat: Seat<S>,
+pub struct StillOut<T: Content, L: Local> {
+    pub board: Board<T, L>,
+    pub seat: Seat<T>,
     /// How many seats aren't joined in, or 1 where the seat isn't the first.
     pub seats: u32,
 }
 
-impl<S, L: Local> Board<S, L> {
-    /// A board of these words, and its first seat. The words and the image stay in the clauses.
+impl<T: Content, L: Local> Board<T, L> {
+    /// A board of these words, with so many slots for contents of cells, and its first seat. The words and the image stay in the clauses.
     pub fn make(
         alloc: Global,
         words: Vec<u64>,
+        slots: u32,
         image: &Image,
-    ) -> Result<(Board<S, L>, Seat<S>), Memory>
+    ) -> Result<(Board<T, L>, Seat<T>), Memory>
         requires unstepped { (i : ℕ) → i < length words.items → number i (slice_index words.items i) ≡ 0 }
+        requires turns { (i : ℕ) → 168 ≤ i → i < length words.items → slice_index words.items i % 2 ≡ 0 }
         ensures same { IfOk result (λ r. r.1.token.table_id ≡ r.0.table.shared.table_id) }
-        ensures sites { IfOk result (λ r. r.0.table.shared.table_id.words ≡ length words.items) }
+        ensures sites { IfOk result (λ r. (r.0.table.shared.table_id.words ≡ length words.items) × (r.0.table.shared.table_id.slots ≡ slots)) }
         ensures opens { IfOk result (λ r. r.1.token.me.0 ≡ opening_view image.now words.items) }
         ensures slots { IfOk result (λ r. r.1.token.me.1 ≡ []) }
         ensures first { IfOk result (λ r. (r.1.first ≡ true) × (r.1.split ≡ 0) × (r.1.joined ≡ 0)) }
     {
         let about = (Snapshot::of(image), Snapshot::of(&words));
-        let (table, token) = Table::of_words(alloc, words.as_slice(), &about)?;
+        let (table, token) = Table::vacant(alloc, words.as_slice(), slots as usize, &about)?;
         Ok((
             Board { table },
             Seat {
@@ -72,14 +73,14 @@ impl<S, L: Local> Board<S, L> {
     }
 
     /// The word of a site.
-    pub fn look(&self, seat: &mut Seat<S>, site: u16) -> u64
+    pub fn look(&self, seat: &mut Seat<T>, site: u16) -> u64
         requires here { seat.old.token.table_id ≡ self.now.table.shared.table_id }
         requires site { site < self.now.table.shared.table_id.words }
         ensures same { (seat.new.token.table_id ≡ seat.old.token.table_id) × (seat.new.token.id ≡ seat.old.token.id) }
         ensures told { Looked L.goes seat.old.token.me.0 site result seat.new.token.me.0 }
         ensures counts { (seat.new.split ≡ seat.old.split) × (seat.new.joined ≡ seat.old.joined) × (seat.new.first ≡ seat.old.first) }
         ensures slots { seat.new.token.me.1 ≡ seat.old.token.me.1 }
-        ensures kin { (seat.new.token.me.0.name ≡ seat.old.token.me.0.name) × (seat.new.token.me.0.children ≡ seat.old.token.me.0.children) }
+        ensures kin { (seat.new.token.me.0.name ≡ seat.old.token.me.0.name) × (seat.new.token.me.0.children ≡ seat.old.token.me.0.children) × (seat.new.token.me.0.turn ≡ seat.old.token.me.0.turn) × (seat.new.token.me.0.filled ≡ seat.old.token.me.0.filled) }
         ensures last { last_got seat.new.token.me.0.got site ≡ Some result }
     {
         self.table
@@ -90,7 +91,7 @@ impl<S, L: Local> Board<S, L> {
     /// Where `seen` still stands at the site, `word` takes its place. The word that stood there is given.
     fn exchange<D: Step>(
         &self,
-        seat: &mut Seat<S>,
+        seat: &mut Seat<T>,
         site: u16,
         seen: u64,
         word: u64,
@@ -98,6 +99,7 @@ impl<S, L: Local> Board<S, L> {
     ) -> u64
         requires here { seat.old.token.table_id ≡ self.now.table.shared.table_id }
         requires site { site < self.now.table.shared.table_id.words }
+        requires low { site < 168 }
         requires step { D.made ≡ made site act.now word }
         requires lawful { WordMay site seen act.now word }
         requires goes { L.goes seat.old.token.me.0.image seat.old.token.me.0.name seat.old.token.me.0.made (made site act.now word) }
@@ -111,16 +113,17 @@ impl<S, L: Local> Board<S, L> {
             .compare_exchange::<Exchange<L, D>>(&mut seat.token, site as usize, seen, word)
     }
 
-    /// One recorded step. It gives its number, or the word that stands where that isn't `seen`.
+    /// One recorded step of a row, of a thread or of a domain. It gives its number, or the word that stands where that isn't `seen`.
     pub fn step(
         &self,
-        seat: &mut Seat<S>,
+        seat: &mut Seat<T>,
         site: u16,
         seen: u64,
         act: &FineAct,
     ) -> Result<u32, Changed>
         requires here { seat.old.token.table_id ≡ self.now.table.shared.table_id }
         requires site { site < self.now.table.shared.table_id.words }
+        requires no_cell { site < 168 }
         requires seen { last_got seat.old.token.me.0.got site ≡ Some seen }
         requires lawful { (next : ℕ) × WordMay site seen act.now next }
         requires goes { (next : ℕ) → WordMay site seen act.now next → L.goes seat.old.token.me.0.image seat.old.token.me.0.name seat.old.token.me.0.made (made site act.now next) }
@@ -128,7 +131,7 @@ impl<S, L: Local> Board<S, L> {
         ensures told { MatchResult result (λ n. Steps L.goes seat.old.token.me.0 site act.now seen n seat.new.token.me.0) (λ e. (e.seen ≢ seen) × Looked L.goes seat.old.token.me.0 site e.seen seat.new.token.me.0) }
         ensures counts { (seat.new.split ≡ seat.old.split) × (seat.new.joined ≡ seat.old.joined) × (seat.new.first ≡ seat.old.first) }
         ensures slots { seat.new.token.me.1 ≡ seat.old.token.me.1 }
-        ensures kin { (seat.new.token.me.0.name ≡ seat.old.token.me.0.name) × (seat.new.token.me.0.children ≡ seat.old.token.me.0.children) }
+        ensures kin { (seat.new.token.me.0.name ≡ seat.old.token.me.0.name) × (seat.new.token.me.0.children ≡ seat.old.token.me.0.children) × (seat.new.token.me.0.turn ≡ seat.old.token.me.0.turn) × (seat.new.token.me.0.filled ≡ seat.old.token.me.0.filled) }
         ensures last { IfErr result (λ e. last_got seat.new.token.me.0.got site ≡ Some (e.seen)) }
     {
         let Some(word) = L::step(site, seen, act) else {
@@ -143,7 +146,7 @@ impl<S, L: Local> Board<S, L> {
     }
 
     /// Splits a new seat off.
-    pub fn split(&self, seat: &mut Seat<S>) -> Seat<S>
+    pub fn split(&self, seat: &mut Seat<T>) -> Seat<T>
         requires here { seat.old.token.table_id ≡ self.now.table.shared.table_id }
         requires words { 0 < self.now.table.shared.table_id.words }
         requires room { seat.old.split + 1 < 2 ^ 32 }
@@ -165,12 +168,12 @@ impl<S, L: Local> Board<S, L> {
     }
 
     /// Takes in a seat that this one, or one joined into it, split off.
-    pub fn join(&self, seat: &mut Seat<S>, other: Seat<S>)
+    pub fn join(&self, seat: &mut Seat<T>, other: Seat<T>)
         requires here { (seat.old.token.table_id ≡ self.now.table.shared.table_id) × (other.token.table_id ≡ self.now.table.shared.table_id) }
         requires words { 0 < self.now.table.shared.table_id.words }
         requires room { (seat.old.split + other.split < 2 ^ 32) × (seat.old.joined + other.joined + 1 < 2 ^ 32) }
         requires out { AmongNames seat.old.token.me.0.children other.token.me.0.name }
-        requires empty { other.token.me.1 ≡ [] }
+        requires empty { (other.token.me.1 ≡ []) × (other.token.me.0.turn ≡ None) }
         ensures same { (seat.new.token.table_id ≡ seat.old.token.table_id) × (seat.new.token.id ≡ seat.old.token.id) × (seat.new.first ≡ seat.old.first) }
         ensures counts { (seat.new.split ≡ seat.old.split + other.split) × (seat.new.joined ≡ seat.old.joined + other.joined + 1) }
         ensures both { seat.new.token.me.0 ≡ joiner seat.old.token.me.0 other.token.me.0 }
@@ -188,7 +191,7 @@ impl<S, L: Local> Board<S, L> {
     }
 
     /// Ends the board, where each seat is joined in.
-    pub fn close(self, seat: Seat<S>) -> Result<Closed<S>, StillOut<S, L>>
+    pub fn close(self, seat: Seat<T>) -> Result<Closed<T>, StillOut<T, L>>
         requires here { seat.token.table_id ≡ self.table.shared.table_id }
         requires words { 0 < self.table.shared.table_id.words }
         ensures closed { IfOk result (λ c. (c.token.me.0 ≡ shadow_of seat.token.me.0) × IsFull c.table.words × IsClosed L.goes seat.token.me.0 (slots_items c.table.words)) }

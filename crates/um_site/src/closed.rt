@@ -10,14 +10,13 @@ use atomic_table::{Closed as Ended, Seat as Token};
 use std::alloc::Global;
 
 /// A board that nobody uses any more: its words, and in clauses what its first seat had.
-pub struct Closed<S> {
-    pub table: Ended<S, Global>,
-    pub token: Token<S, View>,
-    pub ghost full: { IsFull table.words },
-    pub ghost no_slots: { slots_len table.slots ≡ 0 },
+pub struct Closed<T> {
+    pub table: Ended<Option<T>, Global>,
+    pub token: Token<Option<T>, View>,
+    pub ghost full: { IsFull table.words × IsFull table.slots },
 }
 
-impl<S> Closed<S> {
+impl<T> Closed<T> {
     /// The word of a site.
     pub fn word(&self, site: u16) -> u64
         requires { site < slots_len self.now.table.words }
@@ -25,10 +24,20 @@ impl<S> Closed<S> {
     {
         self.table.word(site as usize)
     }
+}
 
+impl<T: Drop> Closed<T> {
     /// Gives its memory back.
     pub fn free(self) {
-        let Closed { table, token: _ } = self;
+        let Closed {
+            mut table,
+            token: _,
+        } = self;
+        let mut slot = 0;
+        while slot < table.slot_count() {
+            drop(table.take(slot));
+            slot += 1;
+        }
         table.free();
     }
 }

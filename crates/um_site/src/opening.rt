@@ -1,9 +1,27 @@
 //! The words with which a board may open.
 
-ghost use Rattle.std.specs.Prelude.{◌≡◌, ℕ, ◌<◌, ◌≤◌, true, length, slice_index};
+ghost use Rattle.std.specs.Prelude.{◌≡◌, ℕ, ◌%◌, ◌<◌, ◌≤◌, true, length, slice_index};
 ghost use Rattle.um_words.specs.Steps.{number};
 
 use um_words::step_number;
+
+/// The site of the first cell.
+const CELLS: usize = 168;
+
+/// Whether nobody has the turn of a cell in these words.
+pub fn have_no_turn(words: &[u64]) -> bool
+    requires { length words.now ≤ 65536 }
+    ensures { result ≡ true → (i : ℕ) → 168 ≤ i → i < length words.now → slice_index words.now i % 2 ≡ 0 }
+{
+    let mut site = CELLS;
+    while site < words.len() {
+        if words[site] % 2 != 0 {
+            return false;
+        }
+        site += 1;
+    }
+    true
+}
 
 /// Whether none of these words has taken a step.
 pub fn are_unstepped(words: &[u64]) -> bool

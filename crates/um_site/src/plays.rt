@@ -3,7 +3,7 @@
 use crate::view::View;
 use atomic_table::{Join, Play, Split};
 use std::marker::{Brand, PhantomData};
-use um_words::Local;
+use um_words::{Content, Local};
 
 /// The step that an exchange records, for the proof alone. A call at `Brand` picks it.
 pub trait Step {
@@ -25,7 +25,7 @@ pub struct Look<L> {
     local: PhantomData<L>,
 }
 
-impl<S, L: Local> Play<S, View> for Look<L> {
+impl<T, L: Local> Play<Option<T>, View> for Look<L> {
     ghost use Rattle.um_site.specs.Tells.{looked};
 
     ghost then = { looked L.goes };
@@ -37,10 +37,80 @@ pub struct Exchange<L, D> {
     step: PhantomData<D>,
 }
 
-impl<S, L: Local, D: Step> Play<S, View> for Exchange<L, D> {
+impl<T, L: Local, D: Step> Play<Option<T>, View> for Exchange<L, D> {
     ghost use Rattle.um_site.specs.Tells.{stepped_by};
 
     ghost then = { stepped_by L.goes D.made };
+}
+
+/// What is known of a turn that is given back, for the proof alone. A call at `Brand` picks it.
+pub trait Back {
+    ghost use Rattle.std.specs.Prelude.{ℕ, List};
+    ghost use Rattle.um_site.specs.declared.turn.Turn.{Turn};
+    ghost use Rattle.um_words.specs.declared.made.Made.{Made};
+
+    /// The turn.
+    ghost turn: { Turn };
+    /// The step that is recorded.
+    ghost step: { Made };
+    /// The cells that have their contents then.
+    ghost filled: { List ℕ };
+}
+
+impl Back for Brand {
+    ghost use Rattle.std.specs.Prelude.{[]};
+    ghost use Rattle.um_words.specs.declared.fine.FineAct.{FineAct};
+    ghost use Rattle.um_words.specs.declared.fine.Unseen.{Unseen};
+    ghost use Rattle.um_words.specs.declared.made.Moved.{Moved};
+
+    ghost turn = { record { site = 0; word = 0; past = [] } };
+
+    ghost step = { record { site = 0; act = FineAct.Unseen Unseen.Done; word = 0; moved = Moved.Nothing } };
+
+    ghost filled = { [] };
+}
+
+/// The turn of a cell is taken, or is seen to be with another.
+pub struct Take<L> {
+    local: PhantomData<L>,
+}
+
+impl<T: Content, L: Local> Play<Option<T>, View> for Take<L> {
+    ghost use Rattle.um_site.specs.Tells.{took};
+
+    ghost then = { took T.opens T.follows L.goes };
+}
+
+/// The turn of a cell without steps is taken by the only seat.
+pub struct Reach;
+
+impl<T> Play<Option<T>, View> for Reach {
+    ghost use Rattle.um_site.specs.Tells.{reached};
+
+    ghost then = { reached };
+}
+
+/// A step of a cell is recorded, and the turn given back.
+pub struct Record<L, B> {
+    local: PhantomData<L>,
+    back: PhantomData<B>,
+}
+
+impl<T: Content, L: Local, B: Back> Play<Option<T>, View> for Record<L, B> {
+    ghost use Rattle.um_site.specs.Tells.{recorded_by};
+
+    ghost then = { recorded_by T.opens T.follows L.goes B.turn B.step };
+}
+
+/// A turn is given back.
+pub struct Return<B> {
+    back: PhantomData<B>,
+}
+
+impl<T, B: Back> Play<Option<T>, View> for Return<B> {
+    ghost use Rattle.um_site.specs.Tells.{returned};
+
+    ghost then = { returned B.filled };
 }
 
 /// A seat splits another off, or takes it in.

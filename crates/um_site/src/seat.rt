@@ -7,8 +7,8 @@ use atomic_table::Seat as Token;
 
 /// The right to step on a board, with what its holder knows in clauses. In memory it is two counts and a flag.
 #[derive(Drop)]
-pub struct Seat<S> {
-    pub token: Token<S, View>,
+pub struct Seat<T> {
+    pub token: Token<Option<T>, View>,
     /// How many seats it and those joined into it have split off.
     pub split: u32,
     /// How many seats were joined into it, and into those.

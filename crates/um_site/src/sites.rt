@@ -11,7 +11,7 @@ ghost use Rattle.um_site.specs.Calls.{thread_site, domain_site, Stays, MayNext, 
 use crate::board::{Board, Changed};
 use crate::seat::Seat;
 use um_base::{Row, ThreadIx};
-use um_words::{FineAct, Local};
+use um_words::{Content, FineAct, Local};
 
 /// The site of a thread's word.
 pub fn thread_site(who: ThreadIx) -> u16
@@ -29,11 +29,11 @@ pub fn domain_site(domain: u8) -> u16
     160 + u16::from(domain)
 }
 
-impl<S, L: Local> Board<S, L> {
+impl<T: Content, L: Local> Board<T, L> {
     /// One recorded step of a row.
     pub fn step_row(
         &self,
-        seat: &mut Seat<S>,
+        seat: &mut Seat<T>,
         row: Row,
         seen: u64,
         act: &FineAct,
@@ -58,7 +58,7 @@ impl<S, L: Local> Board<S, L> {
     /// One recorded step of a thread.
     pub fn step_thread(
         &self,
-        seat: &mut Seat<S>,
+        seat: &mut Seat<T>,
         who: ThreadIx,
         seen: u64,
         act: &FineAct,
@@ -84,7 +84,7 @@ impl<S, L: Local> Board<S, L> {
     /// One recorded step of a domain.
     pub fn step_domain(
         &self,
-        seat: &mut Seat<S>,
+        seat: &mut Seat<T>,
         domain: u8,
         seen: u64,
         act: &FineAct,

@@ -1,5 +1,6 @@
 //! What a seat knows.
 
+use crate::turn::Turn;
 use std::collections::LinkedList;
 use um_base::Image;
 use um_words::Made;
@@ -26,4 +27,8 @@ pub struct View {
     pub got: LinkedList<(u16, u64)>,
     /// The seats that it and those joined in have split off, and that aren't joined in.
     pub children: LinkedList<Name>,
+    /// The turn that it has, of one cell at most.
+    pub turn: Option<Turn>,
+    /// The cells that it knows to have their contents.
+    pub filled: LinkedList<u16>,
 }

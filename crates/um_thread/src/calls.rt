@@ -9,12 +9,12 @@ ghost use Rattle.um_thread.specs.Acts.{reply_act, miss_act, enter_user_act, unse
 
 use um_base::{Act, Addr, Errno, Kind, Reply, ThreadIx, Want};
 use um_site::{Board, Changed, Seat, shown};
-use um_words::{FineAct, Local, Unseen};
+use um_words::{Content, FineAct, Local, Unseen};
 
 /// The call of a thread replies.
-pub fn reply<S, L: Local>(
-    board: &Board<S, L>,
-    seat: &mut Seat<S>,
+pub fn reply<T: Content, L: Local>(
+    board: &Board<T, L>,
+    seat: &mut Seat<T>,
     who: ThreadIx,
     by: ThreadIx,
     reply: Reply,
@@ -36,9 +36,9 @@ pub fn reply<S, L: Local>(
 }
 
 /// A check of an address where no object stands is refused.
-pub fn miss<S, L: Local>(
-    board: &Board<S, L>,
-    seat: &mut Seat<S>,
+pub fn miss<T: Content, L: Local>(
+    board: &Board<T, L>,
+    seat: &mut Seat<T>,
     who: ThreadIx,
     by: ThreadIx,
     addr: Addr,
@@ -70,9 +70,9 @@ pub fn miss<S, L: Local>(
 }
 
 /// A thread drops the rights of a supervisor for good.
-pub fn enter_user<S, L: Local>(
-    board: &Board<S, L>,
-    seat: &mut Seat<S>,
+pub fn enter_user<T: Content, L: Local>(
+    board: &Board<T, L>,
+    seat: &mut Seat<T>,
     who: ThreadIx,
     by: ThreadIx,
     seen: u64,
@@ -93,9 +93,9 @@ pub fn enter_user<S, L: Local>(
 }
 
 /// A recorded read of a thread's word, which changes its step number alone.
-pub fn read_word<S, L: Local>(
-    board: &Board<S, L>,
-    seat: &mut Seat<S>,
+pub fn read_word<T: Content, L: Local>(
+    board: &Board<T, L>,
+    seat: &mut Seat<T>,
     who: ThreadIx,
     by: ThreadIx,
     seen: u64,

@@ -10,7 +10,7 @@ ghost use Rattle.um_thread.specs.Tells.{Reads, Writes};
 
 use um_base::ThreadIx;
 use um_site::{Board, Changed, Seat, domain_site};
-use um_words::{DomWord, FineAct, Local, Unseen};
+use um_words::{Content, DomWord, FineAct, Local, Unseen};
 
 /// Whether somebody may read a domain's partitions.
 #[derive(Clone, Copy, PartialEq, Eq)]
@@ -30,9 +30,9 @@ pub enum Writing {
 }
 
 /// A claim to read a domain's partitions, where nobody changes them.
-pub fn read_claim<S, L: Local>(
-    board: &Board<S, L>,
-    seat: &mut Seat<S>,
+pub fn read_claim<T: Content, L: Local>(
+    board: &Board<T, L>,
+    seat: &mut Seat<T>,
     domain: u8,
     by: ThreadIx,
     seen: u64,
@@ -67,9 +67,9 @@ pub fn read_claim<S, L: Local>(
 }
 
 /// A claim to read ends: with the step that no trace shows, or with a thread's move that fails since the domain isn't initialised.
-pub fn read_done<S, L: Local>(
-    board: &Board<S, L>,
-    seat: &mut Seat<S>,
+pub fn read_done<T: Content, L: Local>(
+    board: &Board<T, L>,
+    seat: &mut Seat<T>,
     domain: u8,
     by: ThreadIx,
     act: Option<FineAct>,
@@ -97,9 +97,9 @@ pub fn read_done<S, L: Local>(
 }
 
 /// A claim to change a domain's partitions, where nobody reads or changes them.
-pub fn write_claim<S, L: Local>(
-    board: &Board<S, L>,
-    seat: &mut Seat<S>,
+pub fn write_claim<T: Content, L: Local>(
+    board: &Board<T, L>,
+    seat: &mut Seat<T>,
     domain: u8,
     by: ThreadIx,
     seen: u64,
@@ -130,9 +130,9 @@ pub fn write_claim<S, L: Local>(
 }
 
 /// A claim to change a domain's partitions ends, with the edit.
-pub fn write_done<S, L: Local>(
-    board: &Board<S, L>,
-    seat: &mut Seat<S>,
+pub fn write_done<T: Content, L: Local>(
+    board: &Board<T, L>,
+    seat: &mut Seat<T>,
     domain: u8,
     by: ThreadIx,
     act: FineAct,

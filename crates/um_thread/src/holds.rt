@@ -10,7 +10,7 @@ ghost use Rattle.um_thread.specs.Tells.{MovedTo};
 
 use um_base::{Act, Reply, ThreadIx};
 use um_site::{Board, Changed, Seat, shown, thread_site};
-use um_words::{FineAct, Local, ThreadWord, Unseen};
+use um_words::{Content, FineAct, Local, ThreadWord, Unseen};
 
 /// Whether a thread was moved to a domain.
 #[derive(Clone, Copy, PartialEq, Eq)]
@@ -21,9 +21,9 @@ pub enum Move {
 }
 
 /// Keeps a thread's domain, which it gives.
-pub fn hold<S, L: Local>(
-    board: &Board<S, L>,
-    seat: &mut Seat<S>,
+pub fn hold<T: Content, L: Local>(
+    board: &Board<T, L>,
+    seat: &mut Seat<T>,
     who: ThreadIx,
     by: ThreadIx,
     seen: u64,
@@ -48,9 +48,9 @@ pub fn hold<S, L: Local>(
 }
 
 /// Lets a thread's domain change again.
-pub fn let_go<S, L: Local>(
-    board: &Board<S, L>,
-    seat: &mut Seat<S>,
+pub fn let_go<T: Content, L: Local>(
+    board: &Board<T, L>,
+    seat: &mut Seat<T>,
     who: ThreadIx,
     by: ThreadIx,
     seen: u64,
@@ -72,9 +72,9 @@ pub fn let_go<S, L: Local>(
 }
 
 /// Moves a thread to an initialised domain, where its own isn't kept.
-pub fn move_domain<S, L: Local>(
-    board: &Board<S, L>,
-    seat: &mut Seat<S>,
+pub fn move_domain<T: Content, L: Local>(
+    board: &Board<T, L>,
+    seat: &mut Seat<T>,
     who: ThreadIx,
     by: ThreadIx,
     domain: u8,

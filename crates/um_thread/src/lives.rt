@@ -10,7 +10,7 @@ ghost use Rattle.um_thread.specs.Tells.{Went};
 
 use um_base::{Act, Cause, Event, Mode, ThreadIx};
 use um_site::{Board, Changed, Seat, shown, thread_site};
-use um_words::{FineAct, Local, More, ThreadWord};
+use um_words::{Content, FineAct, Local, More, ThreadWord};
 
 /// Whether a thread goes on.
 #[derive(Clone, Copy, PartialEq, Eq)]
@@ -21,9 +21,9 @@ pub enum Going {
 }
 
 /// A thread starts, in a mode and a domain.
-pub fn start<S, L: Local>(
-    board: &Board<S, L>,
-    seat: &mut Seat<S>,
+pub fn start<T: Content, L: Local>(
+    board: &Board<T, L>,
+    seat: &mut Seat<T>,
     who: ThreadIx,
     by: ThreadIx,
     mode: Mode,
@@ -53,9 +53,9 @@ pub fn start<S, L: Local>(
 }
 
 /// Whether a word that shows a doomed thread still stands.
-fn still_doomed<S, L: Local>(
-    board: &Board<S, L>,
-    seat: &mut Seat<S>,
+fn still_doomed<T: Content, L: Local>(
+    board: &Board<T, L>,
+    seat: &mut Seat<T>,
     who: ThreadIx,
     seen: u64,
 ) -> Result<Going, Changed>
@@ -74,9 +74,9 @@ fn still_doomed<S, L: Local>(
 }
 
 /// A thread begins a line of a script, where it isn't doomed.
-pub fn begin<S, L: Local>(
-    board: &Board<S, L>,
-    seat: &mut Seat<S>,
+pub fn begin<T: Content, L: Local>(
+    board: &Board<T, L>,
+    seat: &mut Seat<T>,
     who: ThreadIx,
     by: ThreadIx,
     script: u8,
@@ -106,9 +106,9 @@ pub fn begin<S, L: Local>(
 }
 
 /// A thread ends after its last line, where it isn't doomed.
-pub fn exit<S, L: Local>(
-    board: &Board<S, L>,
-    seat: &mut Seat<S>,
+pub fn exit<T: Content, L: Local>(
+    board: &Board<T, L>,
+    seat: &mut Seat<T>,
     who: ThreadIx,
     by: ThreadIx,
     seen: u64,
@@ -136,9 +136,9 @@ pub fn exit<S, L: Local>(
 }
 
 /// A thread fails, with the number of the reason as Zephyr has it.
-pub fn fatal<S, L: Local>(
-    board: &Board<S, L>,
-    seat: &mut Seat<S>,
+pub fn fatal<T: Content, L: Local>(
+    board: &Board<T, L>,
+    seat: &mut Seat<T>,
     who: ThreadIx,
     by: ThreadIx,
     reason: u8,
@@ -161,9 +161,9 @@ pub fn fatal<S, L: Local>(
 }
 
 /// Lets a thread begin no other line.
-pub fn doom<S, L: Local>(
-    board: &Board<S, L>,
-    seat: &mut Seat<S>,
+pub fn doom<T: Content, L: Local>(
+    board: &Board<T, L>,
+    seat: &mut Seat<T>,
     who: ThreadIx,
     by: ThreadIx,
     seen: u64,

@@ -10,7 +10,7 @@ ghost use Rattle.um_verify.specs.Checks.{check_act, checked_of, end_act, cleans,
 
 use um_base::{Act, Addr, Errno, Event, Kind, Mode, Row, ThreadIx, Want};
 use um_site::{Board, Changed, Seat};
-use um_words::{FineAct, Local, More, RowWord, Unseen};
+use um_words::{Content, FineAct, Local, More, RowWord, Unseen};
 
 /// What a check found.
 #[derive(Clone, Copy, PartialEq, Eq)]
@@ -30,9 +30,9 @@ fn to_checked(verdict: Option<Errno>) -> Checked
 }
 
 /// Checks an object for a thread: it stands and is of the kind, then the thread's permission, then whether it is initialised as wanted. Fits: the row has the wanted kind.
-pub fn check<S, L: Local>(
-    board: &Board<S, L>,
-    seat: &mut Seat<S>,
+pub fn check<T: Content, L: Local>(
+    board: &Board<T, L>,
+    seat: &mut Seat<T>,
     row: Row,
     who: ThreadIx,
     mode: Mode,
@@ -71,9 +71,9 @@ pub fn check<S, L: Local>(
 }
 
 /// The end of a claim as one step.
-fn end_claim<S, L: Local>(
-    board: &Board<S, L>,
-    seat: &mut Seat<S>,
+fn end_claim<T: Content, L: Local>(
+    board: &Board<T, L>,
+    seat: &mut Seat<T>,
     row: Row,
     seen: u64,
 ) -> Result<bool, Changed>
@@ -94,9 +94,9 @@ fn end_claim<S, L: Local>(
 }
 
 /// Ends a claim of an object. True: it was the last one of an object that is gone, which is now this seat's to clean.
-pub fn end_call<S, L: Local>(
-    board: &Board<S, L>,
-    seat: &mut Seat<S>,
+pub fn end_call<T: Content, L: Local>(
+    board: &Board<T, L>,
+    seat: &mut Seat<T>,
     row: Row,
     seen: u64,
 ) -> Result<bool, Changed>

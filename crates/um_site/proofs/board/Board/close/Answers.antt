@@ -1,10 +1,10 @@
 use Rattle.std.proofs.Common.{◌≡◌, true, false, length, not, Bool, refl, ap, sym, arith}
-use Rattle.um_site.proofs.Joining.{shadows, closes}
+use Rattle.um_site.proofs.Moves.{shadows, closes}
 use Rattle.um_site.proofs.board.Board.close.Goals as goal
 
 pub split_seat-shadow-requires : goal.split_seat-shadow-requires
 split_seat-shadow-requires g c = let key = c.args.self.table.shared.key in
-    (c.requires.here, c.requires.words, shadows (g.L.Local.goes key.0.value) key.0.value key.1.value.items _ _)
+    (c.requires.here, c.requires.words, shadows g.T.Content.opens g.T.Content.follows g.L.Local.goes key.0.value key.1.value.items _ _)
 
 not_false : (b : Bool) → not b ≡ false → b ≡ true
 not_false true e = refl
@@ -17,5 +17,5 @@ returns-clause-closed g c = let key = c.args.self.table.shared.key in let v = c.
     let none : length v.children ≡ 0 = let a = c.args.seat.counted in let b = c.if-seat.false in omega arith in (
       ap (λ m. m.0) c.split_seat-shadow.ensures.4,
       c.close_with-table.ensures.values.0,
-      closes g.L.Local.goes key.0.value key.1.value.items _ v _ _ c.args.seat.live (c.args.seat.is_first first) none (rw is at fin),
+      closes g.T.Content.opens g.T.Content.follows g.L.Local.goes key.0.value key.1.value.items _ v _ _ c.args.seat.live (c.args.seat.is_first first) none (rw is at fin),
     )

@@ -1,0 +1,60 @@
+-- The cells of a board: sites from 168 on, of which the site 168 + k has its contents in the slot k while nobody has its turn.
+use Rattle.std.specs.Prelude.{◌≡◌, ◌≢◌, ℕ, ◌+◌, ◌-◌, ◌%◌, ◌<◌, ◌≤◌, ◌⊎◌, true, List, [], ◌∷◌, length, slice_index, Option, Some}
+use mathlib.Core.Option as found
+use mathlib.Core.Option.{some}
+use lib.ListN.{get_elem?}
+use Rattle.um_base.specs.declared.image.Image.{Image}
+use Rattle.um_words.specs.declared.fine.FineAct.{FineAct}
+use Rattle.um_words.specs.declared.made.Made.{Made}
+use Rattle.um_words.specs.declared.made.Moved.{Moved}
+use Rattle.um_site.specs.declared.turn.Turn.{Turn}
+use Rattle.um_site.specs.declared.view.View.{View}
+use Rattle.um_site.specs.History.{Entry, by_site, Kept}
+
+abbrev pub AmongCells : List ℕ → ℕ → Type 0
+AmongCells [] i = ⊥
+AmongCells (c ∷ cs) i = (c ≡ i) ⊎ AmongCells cs i
+
+-- no step of the site i
+abbrev pub NoSteps : ℕ → List Made → Type 0
+NoSteps i [] = Unit {0}
+NoSteps i (m ∷ ms) = (m.site ≢ i) × NoSteps i ms
+
+-- none of it in lists under names
+abbrev pub NoneOfThem : ℕ → List (List ℕ × List Made) → Type 0
+NoneOfThem i [] = Unit {0}
+NoneOfThem i (e ∷ es) = NoSteps i e.1 × NoneOfThem i es
+
+-- a turn that is out: the cell's word has its bit, and is else as it was, and so are the cell's steps
+pub record IsTurn (words : List ℕ) (slots : ℕ) (h : List Entry) (t : Turn) : Type 0 where
+  pub cell : 168 ≤ t.site
+  pub inside : t.site < length words
+  pub slot : t.site < 168 + slots
+  pub free : t.word % 2 ≡ 0
+  pub taken : slice_index words t.site ≡ t.word + 1
+  pub past : by_site t.site h ≡ t.past
+
+module _ {T : Type 0} (opens : Image → ℕ → T → Type 0) (follows : T → FineAct → Moved → T → Type 0) where
+  -- the contents x become z by these steps
+  abbrev pub Follow : T → List Made → T → Type 0
+  Follow x [] z = x ≡ z
+  Follow x (m ∷ ms) z = (y : T) × follows x m.act m.moved y × Follow y ms z
+
+  -- the contents of the cell i after these steps
+  abbrev pub ContentsAre : Image → ℕ → List Made → Option T → Type 0
+  ContentsAre image i ms y = (x : T) × (first : T) × (y ≡ Some x) × opens image i first × Follow first ms x
+
+  -- Where nobody has a cell's turn its slot is at home, and has its contents where a seat knows the cell as filled. Else exactly one seat has the turn.
+  pub record CellsAre (image : Image) (words : List ℕ) (homes : List (found.Option (Option T))) (h : List Entry) (views : List View) : Type 0 where
+    pub home : (k : ℕ) → k < length homes → 168 + k < length words → slice_index words (168 + k) % 2 ≡ 0
+        → (y : Option T) × (get_elem? homes k ≡ some (some y)) × ((id : ℕ) (v : View) → get_elem? views id ≡ some v → v.live ≡ true → AmongCells v.filled (168 + k) → ContentsAre image (168 + k) (by_site (168 + k) h) y)
+    pub held : (i : ℕ) → 168 ≤ i → i < length words → slice_index words i % 2 ≡ 1
+        → (id : ℕ) × (v : View) × (t : Turn) × (get_elem? views id ≡ some v) × (v.live ≡ true) × (v.turn ≡ Some t) × (t.site ≡ i)
+    pub turns : (id : ℕ) (v : View) → get_elem? views id ≡ some v → v.live ≡ true → (t : Turn) → v.turn ≡ Some t → IsTurn words (length homes) h t
+    pub one : (i j : ℕ) (v w : View) → get_elem? views i ≡ some v → get_elem? views j ≡ some w → v.live ≡ true → w.live ≡ true
+        → (t u : Turn) → v.turn ≡ Some t → w.turn ≡ Some u → t.site ≡ u.site → i ≡ j
+    pub filled : (id : ℕ) (v : View) → get_elem? views id ≡ some v → v.live ≡ true → (i : ℕ) → AmongCells v.filled i → (168 ≤ i) × (i < length words) × (i < 168 + length homes)
+
+  -- the rule of a board: one history for the words, the seats and the contents of the cells
+  abbrev pub Rule : (List ℕ → List Made → Made → Type 0) → Image → List ℕ → List ℕ → List (found.Option (Option T)) → List View → Type 0
+  Rule goes image opening words homes views = (h : List Entry) × Kept goes image opening words h views × CellsAre image words homes h views
