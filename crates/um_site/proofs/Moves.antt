@@ -28,7 +28,7 @@ use Rattle.um_site.proofs.Bare.{bare-low, bare-high, bare-even, bare-number}
 use Rattle.um_site.proofs.Keeps.{own_words, look_tells, turn_keeps, step_keeps, no_older, by_site_here, by_site_else, opens as board_opens, only_first}
 use Rattle.um_site.proofs.Joining.{split_keeps, join_keeps, shadow_keeps, all_told, alone, no_items}
 use Rattle.um_site.proofs.Transfers.{IsAlike, alike_same, alike_split, alike_join, alike_shadow, no_turn, cells_alike, cells_elsewhere}
-use Rattle.um_site.proofs.TurnCells.{take_cells, give_cells}
+use Rattle.um_site.proofs.TurnCells.{same_turn, take_cells, give_cells}
 
 -- what the turn bit's fetch_or leaves
 or_one : (n : ℕ) → bit_or n 1 ≡ n / 2 * 2 + bit_or (n % 2) 1
@@ -183,7 +183,7 @@ module _ {T : Type 0} (opens : Image → ℕ → T → Type 0) (follows : T → 
 
     pub record_allowed : (slots id : ℕ) (me : Me (Option T) View) (t : Turn) (m made : Made) (x z : T) (c : List (ℕ × Option T)) → made ≡ m → me.0.live ≡ true → me.0.turn ≡ Some t → t.site ≡ m.site → me.1 ≡ (m.site - 168, Some z) ∷ c
         → ContentsAre opens follows me.0.image m.site t.past (Some x) → follows x m.act m.moved z → WordMay m.site t.word m.act m.word → goes me.0.image me.0.name me.0.made m
-        → Allows Holds slots id me m.site (λ n. m.word) (λ n. recorded_by {T = T} opens follows goes t made (step slots m.site m.word 0 none) me m.word)
+        → Allows Holds slots id me m.site (λ n. m.word) (λ n. recorded_by {T = T} opens follows goes made (step slots m.site m.word 0 none) me m.word)
     record_allowed slots id me t m made x z c same lives has here carried was then' e may s r _ at _ = let v = me.0 in let h = r.0 in let i : ℕ = m.site in
         let u = r.2.turns id v at lives t has in let k = r.1.know id v at lives in
         let cell : 168 ≤ i = subst (λ n. 168 ≤ n) here u.cell in let in' : i < length s.words = subst (λ n. n < length s.words) here u.inside in
@@ -201,7 +201,7 @@ module _ {T : Type 0} (opens : Image → ℕ → T → Type 0) (follows : T → 
           gives,
           tt,
           subst (λ (l : List (ℕ × Option T)). Holds (stepped s i m.word id l (recording v m) gives)) (sym carried) (h', g.0, d'),
-          (refl, ap (recording v) (sym same), subst (λ (q : Made × ℕ). GoesOn goes v q.0 q.1) (λ j. (sym same j, stands j)) g.1),
+          (refl, ap (recording v) (sym same), λ q hq. subst (λ (u : Made × ℕ). GoesOn goes v u.0 u.1) (λ j. (sym same j, (stands ∙ ap (λ (z : Turn). z.word + 1) (same_turn v t q has hq)) j)) g.1),
         )
 
     -- a turn goes back with what the cell's steps so far leave

@@ -20,7 +20,7 @@ use Rattle.um_site.proofs.Keeps.{in_range}
 odd_next : (w : ℕ) → w % 2 ≡ 0 → (w + 1) % 2 ≡ 1
 odd_next w e = omega arith
 
-same_turn : (v : View) (t u : Turn) → v.turn ≡ Some t → v.turn ≡ Some u → t ≡ u
+pub same_turn : (v : View) (t u : Turn) → v.turn ≡ Some t → v.turn ≡ Some u → t ≡ u
 same_turn v t u a b = let e : Some t ≡ Some u = sym a ∙ b in cc
 
 no_turn : (v : View) (t : Turn) → v.turn ≡ None → v.turn ≡ Some t → ⊥

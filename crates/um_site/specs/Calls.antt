@@ -22,6 +22,10 @@ thread_site who = 128 + who
 abbrev pub domain_site : ℕ → ℕ
 domain_site domain = 160 + domain
 
+-- the seat is the same one of its board, with the same counts
+abbrev pub SameSeat : {T : Type 0} → Seat T → Seat T → Type 0
+SameSeat s t = (t.token.table_id ≡ s.token.table_id) × (t.token.id ≡ s.token.id) × (t.split ≡ s.split) × (t.joined ≡ s.joined) × (t.first ≡ s.first)
+
 -- what a seat keeps when it looks and steps: its board and its place there, its counts, its slots, its name, the seats that it has split off, its turn and the cells that it knows as filled
 abbrev pub Stays : {T : Type 0} → Seat T → Seat T → Type 0
 Stays s t =

@@ -81,11 +81,8 @@ module _ {T : Type 0} (opens : Image → ℕ → T → Type 0) (follows : T → 
       × (r % 2 ≢ 0 → (me'.1 ≡ me.1) × Looked goes me.0 st.word r me'.0)
 
   -- the step went on from the word of the take, which had the turn's bit
-  abbrev pub Records : View → Turn → Made → Type 0
-  Records v t m = GoesOn goes v m (t.word + 1)
-
-  abbrev pub recorded_by : Turn → Made → Step (Option T) → Me (Option T) View → ℕ → Me (Option T) View → Type 0
-  recorded_by t m st me r me' = (me'.1 ≡ rest me.1) × (me'.0 ≡ recording me.0 m) × Records me.0 t m
+  abbrev pub recorded_by : Made → Step (Option T) → Me (Option T) View → ℕ → Me (Option T) View → Type 0
+  recorded_by m st me r me' = (me'.1 ≡ rest me.1) × (me'.0 ≡ recording me.0 m) × ((t : Turn) → me.0.turn ≡ Some t → GoesOn goes me.0 m (t.word + 1))
 
 module _ {T : Type 0} where
   -- the turn of a cell that has taken no step was free
@@ -95,6 +92,15 @@ module _ {T : Type 0} where
   -- the turn was given back, and no step was recorded
   abbrev pub returned : List ℕ → Step (Option T) → Me (Option T) View → ℕ → Me (Option T) View → Type 0
   returned filled st me r me' = (me'.1 ≡ rest me.1) × (me'.0 ≡ returning me.0 st.word r filled)
+
+-- The seat has the turn of this cell since it was taken at this word, when its contents were x. Its slot has y now.
+pub record HasTurn {T : Type 0} (opens : Image → ℕ → T → Type 0) (follows : T → FineAct → Moved → T → Type 0) (me : Me (Option T) View) (cell word : ℕ) (y : Option T) (x : T) : Type 0 where
+  pub turn : Turn
+  pub has : me.0.turn ≡ Some turn
+  pub site : turn.site ≡ cell
+  pub at : turn.word ≡ word
+  pub slot : me.1 ≡ (cell - 168, y) ∷ rest me.1
+  pub contents : ContentsAre opens follows me.0.image cell turn.past (Some x)
 
 -- the word that was got or left last at the site
 abbrev pub last_got : List (ℕ × ℕ) → ℕ → Option ℕ

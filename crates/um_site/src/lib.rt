@@ -17,7 +17,7 @@ pub use acts::shown;
 pub use board::{Board, Changed, StillOut};
 pub use closed::Closed;
 pub use opening::{are_unstepped, have_no_turn};
-pub use plays::{Back, Step};
+pub use plays::Step;
 pub use rule::{Opening, Ruled};
 pub use seat::Seat;
 pub use sites::{domain_site, thread_site};

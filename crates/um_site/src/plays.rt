@@ -43,33 +43,6 @@ impl<T, L: Local, D: Step> Play<Option<T>, View> for Exchange<L, D> {
     ghost then = { stepped_by L.goes D.made };
 }
 
-/// What is known of a turn that is given back, for the proof alone. A call at `Brand` picks it.
-pub trait Back {
-    ghost use Rattle.std.specs.Prelude.{ℕ, List};
-    ghost use Rattle.um_site.specs.declared.turn.Turn.{Turn};
-    ghost use Rattle.um_words.specs.declared.made.Made.{Made};
-
-    /// The turn.
-    ghost turn: { Turn };
-    /// The step that is recorded.
-    ghost step: { Made };
-    /// The cells that have their contents then.
-    ghost filled: { List ℕ };
-}
-
-impl Back for Brand {
-    ghost use Rattle.std.specs.Prelude.{[]};
-    ghost use Rattle.um_words.specs.declared.fine.FineAct.{FineAct};
-    ghost use Rattle.um_words.specs.declared.fine.Unseen.{Unseen};
-    ghost use Rattle.um_words.specs.declared.made.Moved.{Moved};
-
-    ghost turn = { record { site = 0; word = 0; past = [] } };
-
-    ghost step = { record { site = 0; act = FineAct.Unseen Unseen.Done; word = 0; moved = Moved.Nothing } };
-
-    ghost filled = { [] };
-}
-
 /// The turn of a cell is taken, or is seen to be with another.
 pub struct Take<L> {
     local: PhantomData<L>,
@@ -91,26 +64,34 @@ impl<T> Play<Option<T>, View> for Reach {
 }
 
 /// A step of a cell is recorded, and the turn given back.
-pub struct Record<L, B> {
+pub struct Record<L, D> {
     local: PhantomData<L>,
-    back: PhantomData<B>,
+    step: PhantomData<D>,
 }
 
-impl<T: Content, L: Local, B: Back> Play<Option<T>, View> for Record<L, B> {
+impl<T: Content, L: Local, D: Step> Play<Option<T>, View> for Record<L, D> {
     ghost use Rattle.um_site.specs.Tells.{recorded_by};
 
-    ghost then = { recorded_by T.opens T.follows L.goes B.turn B.step };
+    ghost then = { recorded_by T.opens T.follows L.goes D.made };
 }
 
 /// A turn is given back.
-pub struct Return<B> {
-    back: PhantomData<B>,
-}
+pub struct Return;
 
-impl<T, B: Back> Play<Option<T>, View> for Return<B> {
+impl<T> Play<Option<T>, View> for Return {
     ghost use Rattle.um_site.specs.Tells.{returned};
 
-    ghost then = { returned B.filled };
+    ghost then = { λ st me. returned me.0.filled st me };
+}
+
+/// The turn of a cell that has its contents now is given back.
+pub struct Fill;
+
+impl<T> Play<Option<T>, View> for Fill {
+    ghost use Rattle.std.specs.Prelude.{◌∷◌};
+    ghost use Rattle.um_site.specs.Tells.{returned};
+
+    ghost then = { λ st me. returned (st.word ∷ me.0.filled) st me };
 }
 
 /// A seat splits another off, or takes it in.

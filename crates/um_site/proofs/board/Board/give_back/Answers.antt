@@ -1,9 +1,10 @@
+use Rattle.std.proofs.Common.{inr}
 use Rattle.um_site.proofs.Moves.{return_allowed}
 use Rattle.um_site.proofs.board.Board.give_back.Goals as goal
 
 pub store-requires : goal.store-requires
-store-requires g c = let key = c.args.self.now.table.shared.key in let has = c.requires.contents in let turn = c.requires.turn in (
+store-requires g c = let key = c.args.self.now.table.shared.key in let turn = c.requires.held.1 in let me = c.args.seat.now.token.me in (
   c.requires.here,
   c.requires.site,
-  return_allowed g.T.Content.opens g.T.Content.follows g.L.Local.goes key.0.value key.1.value.items _ _ _ g.B.Back.turn _ _ has.0 has.1 g.B.Back.filled c.args.seat.now.live turn.0 turn.1 turn.2 has.2 has.3 c.requires.more,
+  return_allowed g.T.Content.opens g.T.Content.follows g.L.Local.goes key.0.value key.1.value.items _ _ me turn.turn _ _ _ _ me.0.filled c.args.seat.now.live turn.has turn.site turn.at turn.slot turn.contents (λ i a. inr a),
 )

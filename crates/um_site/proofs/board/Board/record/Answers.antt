@@ -1,10 +1,12 @@
+use Rattle.std.proofs.Common.{sym, subst}
+use Rattle.um_words.specs.Steps.{WordMay}
 use Rattle.um_site.proofs.Moves.{record_allowed}
 use Rattle.um_site.proofs.board.Board.record.Goals as goal
 
 pub store-requires : goal.store-requires
-store-requires g c = let key = c.args.self.now.table.shared.key in let has = c.requires.contents in (
+store-requires g c = let key = c.args.self.now.table.shared.key in let held = c.requires.held in let turn = held.3 in let m = c.args.made.now in (
   c.requires.here,
   c.requires.site,
-  record_allowed g.T.Content.opens g.T.Content.follows g.L.Local.goes key.0.value key.1.value.items _ _ _ g.B.Back.turn c.args.made.now g.B.Back.step has.0 has.1 has.2 c.requires.step c.args.seat.now.live c.requires.turn.0 c.requires.turn.1
-      has.3 has.4 has.5 c.requires.lawful c.requires.goes,
+  record_allowed g.T.Content.opens g.T.Content.follows g.L.Local.goes key.0.value key.1.value.items _ _ _ turn.turn m g.D.Step.made held.1 held.2 _ c.requires.step c.args.seat.now.live turn.has turn.site
+      turn.slot turn.contents held.5 (subst (λ n. WordMay m.site n m.act m.word) (sym turn.at) held.4) c.requires.goes,
 )

@@ -1,0 +1,13 @@
+use Rattle.std.proofs.Common.{◌≡◌, ◌-◌, ◌%◌, ◌∷◌, ℕ, Some, refl, ap, ◌∙◌, subst, arith}
+use Rattle.atomic_table.specs.Table.{rest}
+use Rattle.um_cell.proofs.Turns.{taken_held}
+use Rattle.um_cell.proofs.cells.Cells.take.Goals as goal
+
+pub returns-clause-held : goal.returns-clause-held
+returns-clause-held g c =
+    let odd = c.if-word-eq1.false in
+    let even : c.take_turn-word.result % 2 ≡ 0 = omega arith in
+    let t = c.take_turn-word.ensures.told.0 even in
+    let me = c.take_turn-word.new.seat.token.me in
+    let at = c.exchange.ensures.2 ∙ ap (λ y. (c.args.cell - 168, y) ∷ rest me.1) c.in-Some.is in
+    (refl, taken_held g.T.Content.opens g.T.Content.follows c.args.seat.now.token.me.0 c.args.cell c.take_turn-word.result me c.exchange.new.seat.me (c.args.cell - 168) g.L.Local.goes t.0 c.in-Some.contents _ t.2 t.1 at c.exchange.ensures.3)

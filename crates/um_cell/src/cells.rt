@@ -1,0 +1,15 @@
+//! Some cells of a board.
+
+ghost use Rattle.std.specs.Prelude.{◌≤◌, ◌+◌};
+
+use std::marker::PhantomData;
+
+/// Cells at sites in a row that have their contents.
+pub struct Cells<T> {
+    /// The site of the first one.
+    pub first: u16,
+    /// How many they are.
+    pub count: u16,
+    pub contents: PhantomData<T>,
+    pub ghost cells: { 168 ≤ first },
+}

@@ -1,0 +1,89 @@
+//! Turns that are given back.
+
+ghost use Rattle.std.specs.Prelude.{◌≡◌, ℕ, ◌<◌, None};
+ghost use Rattle.um_words.specs.Steps.{WordMay};
+ghost use Rattle.um_site.specs.Calls.{SameSeat};
+ghost use Rattle.um_site.specs.Tells.{HasTurn, returning};
+ghost use Rattle.um_cell.specs.Contents.{IsCell, KeepsKin, made, HasPut};
+ghost use Rattle.atomic_table.specs.Table.{rest};
+
+use crate::cells::Cells;
+use crate::held::Held;
+use std::marker::Brand;
+use um_site::{Board, Seat};
+use um_words::{Content, FineAct, Local, Made, Moved, step_number};
+
+impl<T: Content> Cells<T> {
+    /// Records a step of a cell, with what it moves, leaves what was made of the contents, and gives the turn back. It gives the number of the step.
+    pub fn put<L: Local>(
+        &self,
+        board: &Board<T, L>,
+        seat: &mut Seat<T>,
+        held: Held<T>,
+        act: &FineAct,
+        moved: &Moved,
+    ) -> u32
+        requires here { seat.old.token.table_id ≡ board.now.table.shared.table_id }
+        requires site { held.cell < board.now.table.shared.table_id.words }
+        requires cell { IsCell self.now held.cell }
+        requires held { (old : T) × HasTurn T.opens T.follows seat.old.token.me held.cell held.word None old × T.follows old act.now moved.now held.contents }
+        requires lawful { (next : ℕ) × WordMay held.cell held.word act.now next }
+        requires goes { (next : ℕ) → WordMay held.cell held.word act.now next → L.goes seat.old.token.me.0.image seat.old.token.me.0.name seat.old.token.me.0.made (made held.cell act.now next moved.now) }
+        ensures same { SameSeat seat.old seat.new }
+        ensures kin { KeepsKin seat.old.token.me.0 seat.new.token.me.0 }
+        ensures idle { seat.new.token.me.0.turn ≡ None }
+        ensures told { HasPut L.goes seat.old.token.me held.cell held.word act.now moved.now result seat.new.token.me }
+    {
+        let Held {
+            cell,
+            word,
+            contents,
+        } = held;
+        let Some(next) = L::step(cell, word, act) else {
+            unreachable!();
+        };
+        let slot = (cell - 168) as usize;
+        let emptied = board
+            .table
+            .shared
+            .exchange(&mut seat.token, slot, Some(contents));
+        let None = emptied else {
+            unreachable!();
+        };
+        let made = Made {
+            site: cell,
+            act: *act,
+            word: next,
+            moved: *moved,
+        };
+        board.record::<Brand>(seat, &made);
+        step_number(cell, next)
+    }
+
+    /// Gives the turn of a cell back unchanged, and records nothing.
+    pub fn put_quiet<L: Local>(&self, board: &Board<T, L>, seat: &mut Seat<T>, held: Held<T>)
+        requires here { seat.old.token.table_id ≡ board.now.table.shared.table_id }
+        requires site { held.cell < board.now.table.shared.table_id.words }
+        requires cell { IsCell self.now held.cell }
+        requires held { HasTurn T.opens T.follows seat.old.token.me held.cell held.word None held.contents }
+        ensures same { SameSeat seat.old seat.new }
+        ensures kin { KeepsKin seat.old.token.me.0 seat.new.token.me.0 }
+        ensures idle { seat.new.token.me.0.turn ≡ None }
+        ensures told { (seat.new.token.me.1 ≡ rest seat.old.token.me.1) × (seat.new.token.me.0 ≡ returning seat.old.token.me.0 held.cell held.word seat.old.token.me.0.filled) }
+    {
+        let Held {
+            cell,
+            word,
+            contents,
+        } = held;
+        let slot = (cell - 168) as usize;
+        let emptied = board
+            .table
+            .shared
+            .exchange(&mut seat.token, slot, Some(contents));
+        let None = emptied else {
+            unreachable!();
+        };
+        board.give_back(seat, cell, word);
+    }
+}
