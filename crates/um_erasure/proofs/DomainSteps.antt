@@ -17,8 +17,7 @@ use Rattle.um_fine.specs.Places.{Todos}
 use Rattle.um_fine.specs.Processor.{edit_of}
 use Rattle.um_erasure.specs.Fine.{Fine}
 use Rattle.um_erasure.specs.Lists.{edited, edits_step}
-use Rattle.um_erasure.proofs.Erased.{Goes}
-use Rattle.um_erasure.proofs.Offered.{Shows, act-is, machine-step}
+use Rattle.um_erasure.proofs.Offered.{IsStep, Shows, act-is, machine-step}
 
 module _ {f : Fine} {m : State} {k : ℕ} {e : FineStep} {rest : Steps} {todo : Todos} where
   -- the reply of an edit that the processor has made
@@ -29,15 +28,15 @@ module _ {f : Fine} {m : State} {k : ℕ} {e : FineStep} {rest : Steps} {todo : 
       ((h.rel.domains d few).changed k q h.there at).1 ∙ ap (λ (i : Image). reply_to (edit_of i q (T.domain_at m d))) (sym h.rel.image)
 
   pub init-step : (d : ℕ) (parts : List PartRef) → d < length f.image.domains → Shows f m k e (Pending.DomInit d parts) rest todo
-      → Goes m e (T.after m (f.processors k).context.thread 0 (Pending.DomInit d parts) rest)
+      → IsStep f m k e 0 (Pending.DomInit d parts)
   init-step d parts few h = machine-step h 0 (act-is h) tt (ap (Act.DomInit d) (replies d (Pending.DomInit d parts) few (eq-eqb d d refl) h))
 
   pub add-step : (d : ℕ) (range : Range) (attr : Attr) → d < length f.image.domains → Shows f m k e (Pending.DomAdd d range attr) rest todo
-      → Goes m e (T.after m (f.processors k).context.thread 0 (Pending.DomAdd d range attr) rest)
+      → IsStep f m k e 0 (Pending.DomAdd d range attr)
   add-step d range attr few h =
       machine-step h 0 (act-is h) tt (ap (Act.DomAdd d range attr) (replies d (Pending.DomAdd d range attr) few (eq-eqb d d refl) h))
 
   pub remove-step : (d : ℕ) (range : Range) (attr : Attr) → d < length f.image.domains → Shows f m k e (Pending.DomRemove d range attr) rest todo
-      → Goes m e (T.after m (f.processors k).context.thread 0 (Pending.DomRemove d range attr) rest)
+      → IsStep f m k e 0 (Pending.DomRemove d range attr)
   remove-step d range attr few h =
       machine-step h 0 (act-is h) tt (ap (Act.DomRemove d range attr) (replies d (Pending.DomRemove d range attr) few (eq-eqb d d refl) h))

@@ -33,7 +33,7 @@ use Rattle.um_erasure.specs.Dues.{is_visiting}
 use Rattle.um_erasure.specs.Offers.{Drops, Fits}
 use Rattle.um_erasure.specs.Relation.{Rel}
 use Rattle.um_erasure.proofs.Erased.{Goes, GoesBy}
-use Rattle.um_erasure.proofs.Offered.{Shows, act-is, machine-step, site-is}
+use Rattle.um_erasure.proofs.Offered.{IsStep, Shows, act-is, machine-step, site-is}
 use Rattle.um_erasure.proofs.RowSteps.{named-row, row-says, row-stands, stands-at}
 use Rattle.um_erasure.proofs.Says.{left-agrees, live}
 use Rattle.um_erasure.proofs.VisitSteps.{Visits, pair-is, visit-act, visit-part, visit-shows, visit-site}
@@ -87,7 +87,7 @@ module _ (f : Fine) (m : State) (rel : Rel f m) where
 
 pub drop-pair-step : {f : Fine} {m : State} {k : ℕ} {e : FineStep} {rest : Steps} {todo : Todos} (who : ThreadIx) (a : Addr) → row_named f.image a < ROWS
     → Held m (row_named f.image a) who.0 → Shows f m k e (Pending.DropPair who a) rest todo
-    → Goes m e (T.after m (f.processors k).context.thread 0 (Pending.DropPair who a) rest)
+    → IsStep f m k e 0 (Pending.DropPair who a)
 drop-pair-step {f} {m} {k} {e} who a few held h =
     let x = row_named f.image a in
     let says = ap (λ act. left_in (act_in act)) (row-says h x (shows f.image (f.processors k) (Pending.DropPair who a) e.act) (site-is h) (act-is h)) in

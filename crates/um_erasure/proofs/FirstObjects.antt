@@ -216,7 +216,7 @@ numbered f i (o ∷ os) zero l = let at : i ≡ i + 0 = omega arith in ap f at
 numbered f i (o ∷ os) (suc x) l = let at : i + 1 + x ≡ i + suc x = omega arith in numbered f (i + 1) os x (omega (arith, l)) ∙ ap f at
 
 module _ (image : Image) (cpus : ℕ) (few : length image.objects ≤ STATIC_ROWS) where
-  all-objects : length (opening image).objects ≡ ROWS
+  pub all-objects : length (opening image).objects ≡ ROWS
   all-objects =
       let n = objects-long image.boots 0 image.objects (omega (arith, few)) in
       ap length (opening-objects image) ∙ omega (arith, n)

@@ -25,8 +25,7 @@ use Rattle.um_fine.specs.Places.{Todos}
 use Rattle.um_fine.specs.Asks.{moves, shows}
 use Rattle.um_erasure.specs.Fine.{Fine, heap, heap_state}
 use Rattle.um_erasure.specs.Relation.{Rel}
-use Rattle.um_erasure.proofs.Erased.{Goes}
-use Rattle.um_erasure.proofs.Offered.{Shows, act-is, machine-step, own-part, says-at, site-is}
+use Rattle.um_erasure.proofs.Offered.{IsStep, Shows, act-is, machine-step, own-part, says-at, site-is}
 
 pub heap-sort : (s : SiteState) → IsTrue (is_sort Site.heap s) → (n : ℕ) × (s ≡ SiteState.cell n (Cell.heap (heap_state s)))
 heap-sort (SiteState.cell n (Cell.heap h)) is = (n, refl)
@@ -37,7 +36,7 @@ pays-here m None size = refl
 pays-here m (Some pool) size = refl
 
 pub buffer-step : {f : Fine} {m : State} {k : ℕ} {e : FineStep} {rest : Steps} {todo : Todos} (size : ℕ) → Shows f m k e (Pending.Buffer size) rest todo
-    → Goes m e (T.after m (f.processors k).context.thread 0 (Pending.Buffer size) rest)
+    → IsStep f m k e 0 (Pending.Buffer size)
 buffer-step {f} {m} {k} {e} {rest} {todo} size h =
     let c = (f.processors k).context in
     let act = shows f.image (f.processors k) (Pending.Buffer size) e.act in
@@ -132,12 +131,12 @@ module _ {f : Fine} {m : State} {k : ℕ} {e : FineStep} {rest : Steps} {todo : 
 
   -- without an address, where the pool doesn't pay or none is free
   without : reserved_in (act_in e.act) ≡ None → MayChoose m (f.processors k).context.thread 0 (Pending.Reserve kind)
-      → (x : ℕ) × Goes m e (T.after m (f.processors k).context.thread x (Pending.Reserve kind) rest)
+      → (x : ℕ) × IsStep f m k e x (Pending.Reserve kind)
   without said chosen = (0, machine-step h 0 (act-is h) chosen (ap (Act.Reserve kind) said))
 
   within : (y : ℕ) → reserved_in (act_in e.act) ≡ Some (address_of f.image y) → is_free_for m kind y ≡ true
       → T.pays m (thread_at m (f.processors k).context.thread).pool 64 ≡ true
-      → (x : ℕ) × Goes m e (T.after m (f.processors k).context.thread x (Pending.Reserve kind) rest)
+      → (x : ℕ) × IsStep f m k e x (Pending.Reserve kind)
   within y said free pays =
       let static = leb-true STATIC_ROWS y (and_parts _ _ (and_parts _ _ (and_parts _ _ free).0).0).0 in
       let some : (if y == 0 then None else Some (address_of m.image y)) ≡ Some (address_of m.image y) =
@@ -147,11 +146,11 @@ module _ {f : Fine} {m : State} {k : ℕ} {e : FineStep} {rest : Steps} {todo : 
             (ap (Act.Reserve kind) (said ∙ (ap (λ (i : Image). Some (address_of i y)) (sym h.rel.image) ∙ sym some))),
       )
 
-  pub reserve-step : (x : ℕ) × Goes m e (T.after m (f.processors k).context.thread x (Pending.Reserve kind) rest)
+  pub reserve-step : (x : ℕ) × IsStep f m k e x (Pending.Reserve kind)
   reserve-step = by (T.pays m (thread_at m (f.processors k).context.thread).pool 64) refl (least_open (heap f) kind 0 ROWS) refl
     where
       by : (b : Bool) → T.pays m (thread_at m (f.processors k).context.thread).pool 64 ≡ b → (o : Option ℕ) → least_open (heap f) kind 0 ROWS ≡ o
-          → (x : ℕ) × Goes m e (T.after m (f.processors k).context.thread x (Pending.Reserve kind) rest)
+          → (x : ℕ) × IsStep f m k e x (Pending.Reserve kind)
       by false p o l =
           without (reserved ∙ ap (λ b. if b then address_or f.image (least_open (heap f) kind 0 ROWS) else None) p)
           (inr (refl, λ pays. absurd (false≢true (sym p ∙ pays))))

@@ -39,3 +39,6 @@ pub mod FirstReady
 pub mod Opens
 pub mod FirstLawful
 pub mod Reachable
+pub mod Leaves
+pub mod MemoryPart
+pub mod WordsPart

@@ -15,7 +15,6 @@ use Rattle.um_machine.specs.declared.thread.Thread.{Thread}
 use Rattle.um_machine.specs.Memory.{allowed, bytes_at, le_value, partitions_of, regions_of}
 use Rattle.um_machine.specs.Order.{Steps, to_thread}
 use Rattle.um_machine.specs.State.{State, is_user, thread_at}
-use Rattle.um_machine.specs.Table as T
 use Rattle.um_words.specs.declared.fine.FineAct.{FineAct}
 use Rattle.um_words.specs.declared.fine.More.{More}
 use Rattle.um_fine.specs.Answers.{act_in, value_in}
@@ -29,8 +28,7 @@ use Rattle.um_fine.specs.Asks.{allows}
 use Rattle.um_erasure.specs.Fine.{Fine, bytes, bytes_state, domain, one_if, total}
 use Rattle.um_erasure.specs.Lists.{has_claimed, has_held, has_loaded, is_let_go, is_hold, is_own_claim, is_own_done, is_region_load, moves_to}
 use Rattle.um_erasure.specs.Domains.{reads}
-use Rattle.um_erasure.proofs.Erased.{Goes}
-use Rattle.um_erasure.proofs.Offered.{Shows, act-is, behind-is, machine-step, own-part, says-at, site-is}
+use Rattle.um_erasure.proofs.Offered.{IsStep, Shows, act-is, behind-is, machine-step, own-part, says-at, site-is}
 use Rattle.um_erasure.proofs.Says.{allowed-agrees, read-agrees}
 
 lt-else : (k n : ℕ) → k < n + 1 → (k ≡ n → ⊥) → k < n
@@ -129,25 +127,25 @@ by_thread t act = FineAct.Shown (record { thread = to_thread t; act = act }) Mor
 
 module _ {f : Fine} {m : State} {k : ℕ} {e : FineStep} {rest : Steps} {todo : Todos} (few : (f.processors k).domain < length f.image.domains) where
   pub store-step : (a : Addr) (n value : ℕ) → Shows f m k e (Pending.Store a n value) rest todo
-      → Goes m e (T.after m (f.processors k).context.thread 0 (Pending.Store a n value) rest)
+      → IsStep f m k e 0 (Pending.Store a n value)
   store-step a n value h =
       machine-step h 0 (act-is h) tt
       (ap (λ b. if b then Act.Store a n value else Act.Fault Access.Write a n) (allows-it h (behind-is h) few Access.Write a.0 n))
 
-  pub fetch-step : (a : Addr) → Shows f m k e (Pending.Fetch a) rest todo → Goes m e (T.after m (f.processors k).context.thread 0 (Pending.Fetch a) rest)
+  pub fetch-step : (a : Addr) → Shows f m k e (Pending.Fetch a) rest todo → IsStep f m k e 0 (Pending.Fetch a)
   fetch-step a h =
       machine-step h 0 (act-is h) tt
       (ap (λ b. if b then Act.Fetch a else Act.Fault Access.Exec a 4) (allows-it h (behind-is h) few Access.Exec a.0 4))
 
   pub probe-step : (a : Addr) (n : ℕ) → Shows f m k e (Pending.Probe a (Amount.Bytes n)) rest todo
-      → Goes m e (T.after m (f.processors k).context.thread 0 (Pending.Probe a (Amount.Bytes n)) rest)
+      → IsStep f m k e 0 (Pending.Probe a (Amount.Bytes n))
   probe-step a n h = machine-step h 0 (act-is h) tt (ap (Act.Probe a n) (allows-it h (behind-is h) few Access.Write a.0 n))
 
   pub copy-in-step : (a : Addr) (n : ℕ) → Shows f m k e (Pending.CopyIn a (Amount.Bytes n)) rest todo
-      → Goes m e (T.after m (f.processors k).context.thread 0 (Pending.CopyIn a (Amount.Bytes n)) rest)
+      → IsStep f m k e 0 (Pending.CopyIn a (Amount.Bytes n))
   copy-in-step a n h = machine-step h 0 (act-is h) tt (ap (Act.CopyIn a n) (allows-it h (behind-is h) few Access.Read a.0 n))
 
-  pub copy-out-step : (a : Addr) → Shows f m k e (Pending.CopyOut a) rest todo → Goes m e (T.after m (f.processors k).context.thread 0 (Pending.CopyOut a) rest)
+  pub copy-out-step : (a : Addr) → Shows f m k e (Pending.CopyOut a) rest todo → IsStep f m k e 0 (Pending.CopyOut a)
   copy-out-step a h =
       let c = (f.processors k).context in
       let own = (own-part h).own in
@@ -167,7 +165,7 @@ module _ {f : Fine} {m : State} {k : ℕ} {e : FineStep} {rest : Steps} {todo : 
       ∙ ap le_value (ap (λ (i : Image). read i (bytes f) a.0 n) (sym h.rel.image) ∙ read-agrees m (bytes f) a.0 n h.rel.memory.memory h.rel.memory.stacks)
 
   pub load-step : (to : ℕ) (a : Addr) (n : ℕ) → Shows f m k e (Pending.Load to a n) rest todo
-      → Goes m e (T.after m (f.processors k).context.thread 0 (Pending.Load to a n) rest)
+      → IsStep f m k e 0 (Pending.Load to a n)
   load-step to a n h = machine-step h 0 (act-is h) tt (by (allows f.image (f.processors k) Access.Read a.0 n) refl)
     where
       same : allows f.image (f.processors k) Access.Read a.0 n ≡ allowed m (f.processors k).context.thread Access.Read a.0 n

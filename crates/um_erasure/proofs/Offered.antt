@@ -195,11 +195,21 @@ shown-offers {f} {m} {k} {e} {q} {rest} {todo} h =
     (ap visited h.at ∙ visited-bare f.image todo (subst (Bare f.image) (sym fits.1) (behind-bare f.image (f.processors k).context q))))
     (leaves-rest q h)
 
--- so the event is a step of the machine, where it says what that step says
+-- The event of a pending step is that step of the machine, by this row: it says what that step says, and may choose that row.
+pub record IsStep (f : Fine) (m : State) (k : ℕ) (e : FineStep) (x : ℕ) (q : Pending) : Type 0 where
+  pub said : e.act ≡ shows f.image (f.processors k) q e.act
+  pub chosen : MayChoose m (f.processors k).context.thread x q
+  pub says : says_step f.image (f.processors k) q (act_in e.act) ≡ T.act_of m (f.processors k).context.thread x q
+
 pub machine-step : {f : Fine} {m : State} {k : ℕ} {e : FineStep} {q : Pending} {rest : Steps} {todo : Todos} → Shows f m k e q rest todo
     → (x : ℕ) → e.act ≡ shows f.image (f.processors k) q e.act → MayChoose m (f.processors k).context.thread x q
     → says_step f.image (f.processors k) q (act_in e.act) ≡ T.act_of m (f.processors k).context.thread x q
+    → IsStep f m k e x q
+machine-step h x said chosen says = record { said = said; chosen = chosen; says = says }
+
+-- so the machine makes it
+pub step-goes : {f : Fine} {m : State} {k : ℕ} {e : FineStep} {q : Pending} {rest : Steps} {todo : Todos} {x : ℕ} → Shows f m k e q rest todo → IsStep f m k e x q
     → Goes m e (T.after m (f.processors k).context.thread x q rest)
-machine-step {f} {m} {k} {e} {q} {rest} h x said chosen says =
-    subst (λ act. GoesBy m act (T.after m (f.processors k).context.thread x q rest)) (sym said)
-    (record { step = q; rest = rest; row = x; offered = shown-offers h; chosen = chosen; says = says; leaves = refl })
+step-goes {f} {m} {k} {e} {q} {rest} {todo} {x} h is =
+    subst (λ act. GoesBy m act (T.after m (f.processors k).context.thread x q rest)) (sym is.said)
+    (record { step = q; rest = rest; row = x; offered = shown-offers h; chosen = is.chosen; says = is.says; leaves = refl })

@@ -49,7 +49,9 @@ module _ (m : State) where
       record {
         own = λ s v th e k. k;
         word = λ may s v th k. k;
-        object = λ may s x o k. k;
+        object = λ may s x o e q k. k;
+        status = λ may s x o e k. k;
+        birth = λ may s x o k. k;
         pair = λ may s v x there k. k;
         bytes = λ may s a bs k.
             elim (nat_lt a STACK_AREA) as (λ c. SamePools (if c then record s { memory = put_bytes s.memory (a - PARTITION_AREA) bs } else record s { stacks = put_bytes s.stacks (a - STACK_AREA) bs })) [

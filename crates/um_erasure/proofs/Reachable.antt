@@ -1,13 +1,13 @@
--- What holds of the states that a run of the access-matrix machine reaches: how many threads and rows they have, and that permissions are of
--- live objects.
-use Rattle.std.proofs.Common.{◌≡◌, ℕ, ◌<◌, Bool, true, false, List, [], ◌∷◌, length, refl, sym, ap, ◌∙◌, subst, arith}
+-- What holds of the states that a run of the access-matrix machine reaches: how many threads, rows and objects they have, what um_reach knows
+-- of them, and that permissions are of live objects.
+use Rattle.std.proofs.Common.{◌≡◌, ℕ, ◌<◌, ◌≤◌, Bool, true, false, List, [], ◌∷◌, length, refl, sym, ap, ◌∙◌, subst, arith}
 use Rattle.std.specs.Prelude.{◌-◌, if◌then◌else◌, nat_lt, replicate, slice_index_or}
 use Rattle.std.proofs.lemmas.List.{length-set}
 use Rattle.um_base.specs.declared.act.Event.{Event}
 use Rattle.um_base.specs.declared.image.Boot.{Boot}
 use Rattle.um_base.specs.declared.image.Image.{Image}
 use Rattle.um_base.specs.declared.image.Partition.{Partition}
-use Rattle.um_base.specs.declared.limits.TheConstants.{PARTITION_AREA, ROWS, STACK_AREA, THREADS}
+use Rattle.um_base.specs.declared.limits.TheConstants.{PARTITION_AREA, ROWS, STACK_AREA, STATIC_ROWS, THREADS}
 use Rattle.um_base.specs.declared.names.Row.{Row}
 use Rattle.um_base.specs.Places.{thread_of_row}
 use Rattle.um_machine.specs.declared.pending.Pending.{Pending}
@@ -20,6 +20,7 @@ use Rattle.um_reach.proofs.RunMoves.{known_run}
 use Rattle.um_reach.proofs.Turns.{IsKnown}
 use Rattle.um_erasure.proofs.DropSteps.{Held}
 use Rattle.um_erasure.proofs.Erased.{IsReachable}
+use Rattle.um_erasure.proofs.FirstObjects.{all-objects}
 use Rattle.um_erasure.proofs.FirstThreads.{copies-long, threads-long}
 use Rattle.um_erasure.proofs.ThreadLists.{dues-long, set-long}
 use Rattle.um_erasure.proofs.Writes.{Keeping, Makes, Part, after-kept}
@@ -33,33 +34,37 @@ makes-any (Pending.DropPair who a) = (tt, tt)
 makes-any (Pending.Reserve kind) = (tt, tt)
 makes-any (Pending.Born a) = (tt, tt)
 makes-any (Pending.Drops from) = (tt, tt)
-makes-any (Pending.CleanPair who) = (tt, tt)
+makes-any (Pending.CleanPair who) = (tt, tt, tt)
 makes-any Pending.Recycle = (tt, tt)
 makes-any q = tt
 
--- as many threads and rows of permissions as there are indices
+-- as many threads, rows of permissions and objects as there are indices
 pub record IsWide (s : State) : Type 0 where
   pub threads : length s.threads ≡ THREADS
   pub rows : length s.pairs ≡ ROWS
+  pub objects : length s.objects ≡ ROWS
 
 wide-keeping : Keeping Any IsWide
 wide-keeping =
     record {
-      own = λ s u th e k. record { threads = set-long s.threads u th ∙ k.threads; rows = k.rows };
-      word = λ may s u th k. record { threads = set-long s.threads u th ∙ k.threads; rows = k.rows };
-      object = λ may s x o k. record { threads = k.threads; rows = k.rows };
+      own = λ s u th e k. record { threads = set-long s.threads u th ∙ k.threads; rows = k.rows; objects = k.objects };
+      word = λ may s u th k. record { threads = set-long s.threads u th ∙ k.threads; rows = k.rows; objects = k.objects };
+      object = λ may s x o e q k. record { threads = k.threads; rows = k.rows; objects = length-set s.objects x o ∙ k.objects };
+      status = λ may s x o e k. record { threads = k.threads; rows = k.rows; objects = length-set s.objects x o ∙ k.objects };
+      birth = λ may s x o k. record { threads = k.threads; rows = k.rows; objects = length-set s.objects x o ∙ k.objects };
       pair = λ may s u x there k.
           record {
             threads = dues-long x 0 (slice_index_or (with_pair s u x there).pairs x []) s.threads ∙ k.threads;
             rows = length-set s.pairs x _ ∙ k.rows;
+            objects = k.objects;
           };
       bytes = λ may s a bs k.
           elim (nat_lt a STACK_AREA) as (λ c. IsWide (if c then record s { memory = put_bytes s.memory (a - PARTITION_AREA) bs } else record s { stacks = put_bytes s.stacks (a - STACK_AREA) bs })) [
-            | true ↦ record { threads = k.threads; rows = k.rows }
-            | false ↦ record { threads = k.threads; rows = k.rows }
+            | true ↦ record { threads = k.threads; rows = k.rows; objects = k.objects }
+            | false ↦ record { threads = k.threads; rows = k.rows; objects = k.objects }
           ];
-      pool = λ may s left k. record { threads = k.threads; rows = k.rows };
-      parts = λ may s all k. record { threads = k.threads; rows = k.rows };
+      pool = λ may s left k. record { threads = k.threads; rows = k.rows; objects = k.objects };
+      parts = λ may s all k. record { threads = k.threads; rows = k.rows; objects = k.objects };
     }
 
 wide-run : (s : State) (events : List Event) (s2 : State) → IsWide s → Runs s events s2 → IsWide s2
@@ -91,22 +96,32 @@ loaded-rows : (ps : List Partition) (s : State) → length (loaded ps s).pairs �
 loaded-rows [] s = refl
 loaded-rows (p ∷ ps) s = loaded-rows ps (with_bytes s p.range.start.0 p.bytes) ∙ bytes-rows s p.range.start.0 p.bytes
 
-opening-wide : (image : Image) → IsWide (opening image)
+opening-wide : (image : Image) → length image.objects ≤ STATIC_ROWS → IsWide (opening image)
 unfolding blank
-opening-wide image =
+opening-wide image few =
     record {
       threads = threads-long image;
       rows = booted-rows image.boots (loaded image.partitions (blank image))
           ∙ (loaded-rows image.partitions (blank image) ∙ copies-long ROWS (replicate THREADS false));
+      objects = all-objects image 0 few;
     }
 
-module _ (image : Image) (cpus : ℕ) (m : State) (reach : IsReachable image cpus m) where
-  pub reachable-wide : IsWide m
-  reachable-wide = wide-run (opening image) reach.0 m (opening-wide image) reach.1
+-- What is known of a state.
+pub record IsSound (m : State) : Type 0 where
+  pub wide : IsWide m
+  pub known : IsKnown (core_of m)
 
+module _ (image : Image) (cpus : ℕ) (few : length image.objects ≤ STATIC_ROWS) (m : State) (reach : IsReachable image cpus m) where
+  pub reachable-wide : IsWide m
+  reachable-wide = wide-run (opening image) reach.0 m (opening-wide image few) reach.1
+
+  -- it is known of each state that a run reaches
+  pub reachable-sound : IsKnown (core_of (opening image)) → IsSound m
+  reachable-sound known = record { wide = reachable-wide; known = known_run (opening image) reach.0 m known reach.1 }
+
+module _ (m : State) (sound : IsSound m) where
   -- permissions are of live objects
-  pub reachable-held : IsKnown (core_of (opening image)) → (x who : ℕ) → x < ROWS → Held m x who
-  reachable-held known x who few =
-      let now = known_run (opening image) reach.0 m known reach.1 in
-      let rows = reachable-wide.rows in
-      record { lives = λ h. ap Plain.is_live (sym (status_is m x)) ∙ now.reached.living who x h; listed = omega (arith, rows, few) }
+  pub sound-held : (x who : ℕ) → x < ROWS → Held m x who
+  sound-held x who few =
+      let rows = sound.wide.rows in
+      record { lives = λ h. ap Plain.is_live (sym (status_is m x)) ∙ sound.known.reached.living who x h; listed = omega (arith, rows, few) }

@@ -36,8 +36,7 @@ use Rattle.um_fine.specs.Asks.{check_site, fits_kind, shows}
 use Rattle.um_erasure.specs.Fine.{Fine, row, row_state, thread_state}
 use Rattle.um_erasure.specs.Objects.{is_being_born, recyclers, vacaters}
 use Rattle.um_erasure.specs.Relation.{Rel}
-use Rattle.um_erasure.proofs.Erased.{Goes}
-use Rattle.um_erasure.proofs.Offered.{Shows, act-is, machine-step, own-part, says-at, site-is, takes-at}
+use Rattle.um_erasure.proofs.Offered.{IsStep, Shows, act-is, machine-step, own-part, says-at, site-is, takes-at}
 use Rattle.um_erasure.proofs.Says.{Stands, given-agrees, set-agrees, verdict-agrees}
 
 -- each site keeps its sort
@@ -137,7 +136,7 @@ module _ {f : Fine} {m : State} {k : ℕ} {e : FineStep} {q : Pending} {rest : S
 
 module _ {f : Fine} {m : State} {k : ℕ} {e : FineStep} {rest : Steps} {todo : Todos} where
   pub grant-step : (who : ThreadIx) (a : Addr) → row_named f.image a < ROWS → Shows f m k e (Pending.Grant who a) rest todo
-      → Goes m e (T.after m (f.processors k).context.thread 0 (Pending.Grant who a) rest)
+      → IsStep f m k e 0 (Pending.Grant who a)
   grant-step who a few h =
       let x = row_named f.image a in
       let says = ap (λ act. given_in (act_in act)) (row-says h x (shows f.image (f.processors k) (Pending.Grant who a) e.act) (site-is h) (act-is h)) in
@@ -146,7 +145,7 @@ module _ {f : Fine} {m : State} {k : ℕ} {e : FineStep} {rest : Steps} {todo : 
       (ap (Act.Grant who a) (sym says ∙ (given-here f m h.rel x few free ∙ ap (T.given m) (sym (named-row f m h.rel a)))))
 
   pub publish-step : (a : Addr) → row_named f.image a < ROWS → Shows f m k e (Pending.Publish a) rest todo
-      → Goes m e (T.after m (f.processors k).context.thread 0 (Pending.Publish a) rest)
+      → IsStep f m k e 0 (Pending.Publish a)
   publish-step a few h =
       let x = row_named f.image a in
       let says = ap (λ act. given_in (act_in act)) (row-says h x (shows f.image (f.processors k) (Pending.Publish a) e.act) (site-is h) (act-is h)) in
@@ -155,7 +154,7 @@ module _ {f : Fine} {m : State} {k : ℕ} {e : FineStep} {rest : Steps} {todo : 
       (ap (Act.Publish a) (sym says ∙ (given-here f m h.rel x few free ∙ ap (T.given m) (sym (named-row f m h.rel a)))))
 
   pub own-step : (who : ThreadIx) → own_row f.image who.0 < ROWS → Shows f m k e (Pending.Own who) rest todo
-      → Goes m e (T.after m (f.processors k).context.thread 0 (Pending.Own who) rest)
+      → IsStep f m k e 0 (Pending.Own who)
   own-step who few h =
       let x = own_row f.image who.0 in
       let says = ap (λ act. given_in (act_in act)) (row-says h x (shows f.image (f.processors k) (Pending.Own who) e.act) (site-is h) (act-is h)) in
@@ -165,7 +164,7 @@ module _ {f : Fine} {m : State} {k : ℕ} {e : FineStep} {rest : Steps} {todo : 
       (ap (Act.Own who) (sym says ∙ (given-here f m h.rel x few free ∙ ap (λ (i : Image). T.given m (own_row i who.0)) (sym h.rel.image))))
 
   pub set-step : (a : Addr) (strict : Bool) (undo : Option Addr) → row_named f.image a < ROWS → Shows f m k e (Pending.SetInit a strict undo) rest todo
-      → Goes m e (T.after m (f.processors k).context.thread 0 (Pending.SetInit a strict undo) rest)
+      → IsStep f m k e 0 (Pending.SetInit a strict undo)
   set-step a strict undo few h =
       let x = row_named f.image a in
       let says = ap (λ act. set_in (act_in act)) (row-says h x (shows f.image (f.processors k) (Pending.SetInit a strict undo) e.act) (site-is h) (act-is h)) in
@@ -175,7 +174,7 @@ module _ {f : Fine} {m : State} {k : ℕ} {e : FineStep} {rest : Steps} {todo : 
 
   -- a check of an address where no row is says that on the word of its thread
   check-nowhere : (a : Addr) (kind : Option Kind) (want : Want) (refusal : Refusal) → row_at f.image a.0 ≡ None → Shows f m k e (Pending.Check a kind want refusal) rest todo
-      → Goes m e (T.after m (f.processors k).context.thread 0 (Pending.Check a kind want refusal) rest)
+      → IsStep f m k e 0 (Pending.Check a kind want refusal)
   check-nowhere a kind want refusal nowhere h =
       let t = (f.processors k).context.thread in
       let act = shows f.image (f.processors k) (Pending.Check a kind want refusal) e.act in
@@ -186,7 +185,7 @@ module _ {f : Fine} {m : State} {k : ℕ} {e : FineStep} {rest : Steps} {todo : 
       (ap (Act.Check a kind want) (sym says ∙ sym (ap (Plain.verdict_at m t kind want) (ap (λ (i : Image). row_at i a.0) h.rel.image ∙ nowhere))))
 
   check-row : (a : Addr) (kind : Option Kind) (want : Want) (refusal : Refusal) (x : ℕ) → row_at f.image a.0 ≡ Some x → x < ROWS
-      → Shows f m k e (Pending.Check a kind want refusal) rest todo → Goes m e (T.after m (f.processors k).context.thread 0 (Pending.Check a kind want refusal) rest)
+      → Shows f m k e (Pending.Check a kind want refusal) rest todo → IsStep f m k e 0 (Pending.Check a kind want refusal)
   check-row a kind want refusal x there few h =
       let c = (f.processors k).context in
       let act = shows f.image (f.processors k) (Pending.Check a kind want refusal) e.act in
@@ -200,9 +199,9 @@ module _ {f : Fine} {m : State} {k : ℕ} {e : FineStep} {rest : Steps} {todo : 
       ∙ sym (ap (Plain.verdict_at m c.thread kind want) (ap (λ (i : Image). row_at i a.0) h.rel.image ∙ there)))))
 
   pub check-step : (a : Addr) (kind : Option Kind) (want : Want) (refusal : Refusal) → ((x : ℕ) → row_at f.image a.0 ≡ Some x → x < ROWS)
-      → Shows f m k e (Pending.Check a kind want refusal) rest todo → Goes m e (T.after m (f.processors k).context.thread 0 (Pending.Check a kind want refusal) rest)
+      → Shows f m k e (Pending.Check a kind want refusal) rest todo → IsStep f m k e 0 (Pending.Check a kind want refusal)
   check-step a kind want refusal few h = by (row_at f.image a.0) refl
     where
-      by : (o : Option ℕ) → row_at f.image a.0 ≡ o → Goes m e (T.after m (f.processors k).context.thread 0 (Pending.Check a kind want refusal) rest)
+      by : (o : Option ℕ) → row_at f.image a.0 ≡ o → IsStep f m k e 0 (Pending.Check a kind want refusal)
       by None at = check-nowhere a kind want refusal at h
       by (Some x) at = check-row a kind want refusal x at (few x at) h

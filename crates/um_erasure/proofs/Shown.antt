@@ -18,8 +18,7 @@ use Rattle.um_fine.specs.Processor.{Processor}
 use Rattle.um_fine.specs.Asks.{says_step, shows}
 use Rattle.um_erasure.specs.Fine.{Fine}
 use Rattle.um_erasure.specs.Threads.{own_part}
-use Rattle.um_erasure.proofs.Erased.{Goes}
-use Rattle.um_erasure.proofs.Offered.{Shows, act-is, machine-step, own-part, shows-rest}
+use Rattle.um_erasure.proofs.Offered.{IsStep, Shows, act-is, machine-step, own-part, shows-rest}
 
 -- the steps of which no site decides what they say
 abbrev pub Sure : Pending → Type 0
@@ -92,7 +91,7 @@ shown-act q sure h = absurd sure
 
 -- the event is that step of the machine
 pub sure-step : {f : Fine} {m : State} {k : ℕ} {e : FineStep} {rest : Steps} {todo : Todos} (q : Pending) → Sure q → Shows f m k e q rest todo
-    → Goes m e (T.after m (f.processors k).context.thread 0 q rest)
+    → IsStep f m k e 0 q
 sure-step {f} {m} {k} {e} q sure h =
     machine-step h 0 (shown-act q sure h) (chooses-sure m (f.processors k).context.thread q sure)
     (says-sure f.image (f.processors k) m (own-part h).own q (act_in e.act) sure)

@@ -11,7 +11,6 @@ use Rattle.um_machine.specs.declared.pending.Pending.{Pending}
 use Rattle.um_machine.specs.Memory.{allowed, bytes_at, string_from}
 use Rattle.um_machine.specs.Order.{Steps}
 use Rattle.um_machine.specs.State.{State}
-use Rattle.um_machine.specs.Table as T
 use Rattle.um_fine.specs.Answers.{act_in, bytes_in, found_in, limit_in}
 use Rattle.um_fine.specs.Steps.{Exchange, FineStep, Site}
 use Rattle.um_fine.specs.Memory.{Bytes, read, text_found}
@@ -20,9 +19,8 @@ use Rattle.um_fine.specs.Places.{Todos}
 use Rattle.um_fine.specs.Processor.{Processor}
 use Rattle.um_fine.specs.Asks.{allows, moves, readable, shows}
 use Rattle.um_erasure.specs.Fine.{Fine, bytes}
-use Rattle.um_erasure.proofs.Erased.{Goes}
 use Rattle.um_erasure.proofs.MemorySteps.{allows-it, memory-sort}
-use Rattle.um_erasure.proofs.Offered.{Shows, act-is, behind-is, machine-step, says-at, site-is}
+use Rattle.um_erasure.proofs.Offered.{IsStep, Shows, act-is, behind-is, machine-step, says-at, site-is}
 use Rattle.um_erasure.proofs.Says.{read-agrees}
 
 plus-one : (n : ℕ) → n + 1 ≡ suc n
@@ -53,7 +51,7 @@ module _ (image : Image) (p : Processor) (b : Bytes) (m : State) (t : ℕ)
           ∙ sym (ap (λ c. if c then found_by (slice_index (bytes_at m a 1) 0 == 0) before (string_from m t (a + 1) limit (before + 1)) else Found.Unreadable) (sym (may a) ∙ h)))
 
 pub copy-str-step : {f : Fine} {m : State} {k : ℕ} {e : FineStep} {rest : Steps} {todo : Todos} → (f.processors k).domain < length f.image.domains → (a : Addr)
-    → Shows f m k e (Pending.CopyStr a) rest todo → Goes m e (T.after m (f.processors k).context.thread 0 (Pending.CopyStr a) rest)
+    → Shows f m k e (Pending.CopyStr a) rest todo → IsStep f m k e 0 (Pending.CopyStr a)
 copy-str-step {f} {m} {k} {e} few a h =
     let p = f.processors k in
     let act = shows f.image p (Pending.CopyStr a) e.act in

@@ -84,7 +84,9 @@ module _ (m : State) (u : ℕ) where
       record {
         own = λ s v th e k. set-same s.threads v u th e ∙ k;
         word = λ may s v th k. absurd may;
-        object = λ may s x o k. k;
+        object = λ may s x o e q k. k;
+        status = λ may s x o e k. k;
+        birth = λ may s x o k. k;
         pair = λ may s v x there k. dues-said x 0 (slice_index_or (with_pair s v x there).pairs x []) s.threads u ∙ k;
         bytes = λ may s a bs k.
             elim (nat_lt a STACK_AREA) as (λ c. SaysSame (if c then record s { memory = put_bytes s.memory (a - PARTITION_AREA) bs } else record s { stacks = put_bytes s.stacks (a - STACK_AREA) bs })) [

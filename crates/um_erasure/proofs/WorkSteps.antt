@@ -27,10 +27,9 @@ use Rattle.um_fine.specs.Places.{Todo, Todos}
 use Rattle.um_fine.specs.Asks.{caller, moves, shows}
 use Rattle.um_erasure.specs.Fine.{Fine, object, object_state}
 use Rattle.um_erasure.specs.Lists.{has_steps, looked, moving}
-use Rattle.um_erasure.proofs.Erased.{Goes}
 use Rattle.um_erasure.proofs.HeldRows.{checked-claimed, claimed-whole}
 use Rattle.um_erasure.proofs.MemorySteps.{allows-it}
-use Rattle.um_erasure.proofs.Offered.{Shows, act-is, behind-is, machine-step, own-part, says-at, site-is}
+use Rattle.um_erasure.proofs.Offered.{IsStep, Shows, act-is, behind-is, machine-step, own-part, says-at, site-is}
 use Rattle.um_erasure.proofs.RowSteps.{named-row}
 use Rattle.um_erasure.proofs.Says.{work-agrees}
 
@@ -46,7 +45,7 @@ module _ {f : Fine} {m : State} {k : ℕ} {e : FineStep} {rest : Steps} {todo : 
   -- the work of a call whose object its thread holds
   pub work-step : (a : Addr) (ask : Ask) → row_named f.image a < ROWS
       → slice_index_or (thread_at m (f.processors k).context.thread).checked (row_named f.image a) false ≡ true → Shows f m k e (Pending.Work a ask) rest todo
-      → Goes m e (T.after m (f.processors k).context.thread 0 (Pending.Work a ask) rest)
+      → IsStep f m k e 0 (Pending.Work a ask)
   work-step a ask few held h =
       let p = f.processors k in
       let x = row_named f.image a in
@@ -70,7 +69,7 @@ module _ {f : Fine} {m : State} {k : ℕ} {e : FineStep} {rest : Steps} {todo : 
       (h.rel.processors k h.there).looks.size b (ap looked h.at ∙ at) ∙ ap (λ x. T.message_size (object_at m x).contents) (sym (named-row f m h.rel b))
 
   pub put-copy-step : (a b : Addr) → (f.processors k).domain < length f.image.domains → Shows f m k e (Pending.CopyIn a (Amount.MessageOf b)) rest todo
-      → Goes m e (T.after m (f.processors k).context.thread 0 (Pending.CopyIn a (Amount.MessageOf b)) rest)
+      → IsStep f m k e 0 (Pending.CopyIn a (Amount.MessageOf b))
   put-copy-step a b few h =
       let t = (f.processors k).context.thread in
       let size = size-is (Pending.CopyIn a (Amount.MessageOf b)) b refl h in
@@ -79,7 +78,7 @@ module _ {f : Fine} {m : State} {k : ℕ} {e : FineStep} {rest : Steps} {todo : 
       ∙ ap (λ n. Act.CopyIn a n (allowed m t Access.Read a.0 n)) size)
 
   pub get-probe-step : (a b : Addr) → (f.processors k).domain < length f.image.domains → Shows f m k e (Pending.Probe a (Amount.MessageOf b)) rest todo
-      → Goes m e (T.after m (f.processors k).context.thread 0 (Pending.Probe a (Amount.MessageOf b)) rest)
+      → IsStep f m k e 0 (Pending.Probe a (Amount.MessageOf b))
   get-probe-step a b few h =
       let t = (f.processors k).context.thread in
       let size = size-is (Pending.Probe a (Amount.MessageOf b)) b refl h in
@@ -88,5 +87,5 @@ module _ {f : Fine} {m : State} {k : ℕ} {e : FineStep} {rest : Steps} {todo : 
       ∙ ap (λ n. Act.Probe a n (allowed m t Access.Write a.0 n)) size)
 
   pub move-step : (d : ℕ) (who : ThreadIx) → Shows f m k e (Pending.DomMove d who) rest todo
-      → Goes m e (T.after m (f.processors k).context.thread 0 (Pending.DomMove d who) rest)
+      → IsStep f m k e 0 (Pending.DomMove d who)
   move-step d who h = machine-step h 0 (act-is h) tt (ap (Act.DomMove d who) ((h.rel.processors k h.there).looks.reply d (ap moving h.at)))

@@ -22,6 +22,7 @@ use Rattle.um_base.specs.declared.names.ThreadIx.{ThreadIx}
 use Rattle.um_base.specs.Places.{own_row, setup_at}
 use Rattle.um_base.specs.Regions.{Partitions, stack_range}
 use Rattle.um_machine.specs.declared.contents.Contents.TheVariants as Contents
+use Rattle.um_machine.specs.declared.object.Cost.{Cost}
 use Rattle.um_machine.specs.declared.object.Object.{Object}
 use Rattle.um_machine.specs.declared.object.Status.TheVariants as Status
 use Rattle.um_machine.specs.declared.pending.Pending.{Pending}
@@ -43,10 +44,20 @@ pub record Said : Type 0 where
 abbrev pub said_of : Thread → Said
 said_of me = record { life = me.life; doomed = me.doomed; mode = me.mode; domain = me.domain }
 
--- what a step may write beside the own part of its thread
+-- what an object keeps in all its life
+pub record Lasting : Type 0 where
+  pub kind : Option Kind
+  pub cost : Option Cost
+
+abbrev pub lasting_of : Object → Lasting
+lasting_of o = record { kind = o.kind; cost = o.cost }
+
+-- what a step may write beside the own part of its thread: of an object its marks and contents, its status, or all of it
 pub data Part : Type 0 where
   words : Part
   objects : Part
+  statuses : Part
+  births : Part
   pairs : Part
   memory : Part
   pools : Part
@@ -63,13 +74,13 @@ module _ (May : Part → Type 0) where
   Makes (Pending.Grant who a) = May pairs
   Makes (Pending.Own who) = May pairs
   Makes (Pending.Inherit who) = May pairs
-  Makes (Pending.DropPair who a) = May pairs × May objects
+  Makes (Pending.DropPair who a) = May pairs × May statuses
   Makes (Pending.Publish a) = May objects
   Makes (Pending.SetInit a strict undo) = May objects
   Makes (Pending.ClearInit a) = May objects
   Makes (Pending.Named who) = May objects
-  Makes (Pending.Reserve kind) = May objects × May pools
-  Makes (Pending.Born a) = May objects × May pairs
+  Makes (Pending.Reserve kind) = May births × May pools
+  Makes (Pending.Born a) = May statuses × May pairs
   Makes (Pending.Buffer size) = May pools
   Makes (Pending.Unbuffer size) = May pools
   Makes (Pending.DomInit d parts) = May domains
@@ -79,17 +90,19 @@ module _ (May : Part → Type 0) where
   Makes (Pending.Start who script stack priority mode) = May words
   Makes (Pending.EnterUser script) = May words
   Makes (Pending.Fatal reason cause) = May words
-  Makes (Pending.Drops from) = May pairs × May objects
+  Makes (Pending.Drops from) = May pairs × May statuses
   Makes (Pending.Dooms from) = May words
-  Makes (Pending.CleanPair who) = May pairs × May objects
-  Makes Pending.Recycle = May objects × May pools
+  Makes (Pending.CleanPair who) = May pairs × May statuses × May objects
+  Makes Pending.Recycle = May births × May pools
   Makes q = Unit {0}
 
   -- a fact about states that these writes keep
   pub record Keeping (Same : State → Type 0) : Type 0 where
     pub own : (s : State) (u : ℕ) (th : Thread) → said_of th ≡ said_of (thread_at s u) → Same s → Same (with_thread s u th)
     pub word : May words → (s : State) (u : ℕ) (th : Thread) → Same s → Same (with_thread s u th)
-    pub object : May objects → (s : State) (x : ℕ) (o : Object) → Same s → Same (with_object s x o)
+    pub object : May objects → (s : State) (x : ℕ) (o : Object) → lasting_of o ≡ lasting_of (object_at s x) → o.status ≡ (object_at s x).status → Same s → Same (with_object s x o)
+    pub status : May statuses → (s : State) (x : ℕ) (o : Object) → lasting_of o ≡ lasting_of (object_at s x) → Same s → Same (with_object s x o)
+    pub birth : May births → (s : State) (x : ℕ) (o : Object) → Same s → Same (with_object s x o)
     pub pair : May pairs → (s : State) (u x : ℕ) (there : Bool) → Same s → Same (T.paired s u x there)
     pub bytes : May memory → (s : State) (a : ℕ) (bs : List ℕ) → Same s → Same (with_bytes s a bs)
     pub pool : May pools → (s : State) (left : List ℕ) → Same s → Same (record s { pools = left })
@@ -106,12 +119,12 @@ module _ (May : Part → Type 0) (Same : State → Type 0) (kept : Keeping May S
   gives : (who x : ℕ) → May pairs → Same (T.after_given m who x)
   gives who x may = either (is_gone (object_at m x).status) m (T.paired m who x true) first (kept.pair may m who x true first)
 
-  drops : (s : State) (who x : ℕ) → May pairs → May objects → Same s → Same (T.after_drop s who x)
+  drops : (s : State) (who x : ℕ) → May pairs → May statuses → Same s → Same (T.after_drop s who x)
   drops s who x may makes k =
       elim (T.dropped s who x) as (λ l. Same (elim l as (λ _. State) [ Leftover.NoPair ↦ s | Leftover.Kept ↦ T.paired s who x false | Leftover.Gone ↦ with_object (T.paired s who x false) x (record (object_at s x) { status = Status.Gone }) ])) [
         | Leftover.NoPair ↦ k
         | Leftover.Kept ↦ kept.pair may s who x false k
-        | Leftover.Gone ↦ kept.object makes (T.paired s who x false) x (record (object_at s x) { status = Status.Gone }) (kept.pair may s who x false k)
+        | Leftover.Gone ↦ kept.status makes (T.paired s who x false) x (record (object_at s x) { status = Status.Gone }) refl (kept.pair may s who x false k)
       ]
 
   woken : (ws : List (ThreadIx × Told)) (s : State) → Same s → Same (T.all_woken ws s)
@@ -139,7 +152,7 @@ module _ (May : Part → Type 0) (Same : State → Type 0) (kept : Keeping May S
 
   sets : (a : Addr) (undo : Option Addr) (rest : Steps) (said : SetSaid) → May objects → Same (T.after_set m t (thread_at m t) a undo rest said)
   sets a undo rest SetSaid.Done may =
-      let s = with_object m (T.row_of m a) (record (object_at m (T.row_of m a)) { init = true }) in on s (thread_at m t) rest refl (kept.object may m _ _ first)
+      let s = with_object m (T.row_of m a) (record (object_at m (T.row_of m a)) { init = true }) in on s (thread_at m t) rest refl (kept.object may m _ _ refl refl first)
   sets a undo rest SetSaid.Gone may = kept.own m t _ refl first
   sets a undo rest (SetSaid.Fail e) may = kept.own m t _ refl first
 
@@ -178,19 +191,19 @@ module _ (May : Part → Type 0) (Same : State → Type 0) (kept : Keeping May S
       → Same (T.goes_on (if b then m else with_object m y (record (object_at m y) { public = true })) t (thread_at m t) rest)
   publishes true y rest may = on m (thread_at m t) rest refl first
   publishes false y rest may =
-      on (with_object m y (record (object_at m y) { public = true })) (thread_at m t) rest refl (kept.object may m y (record (object_at m y) { public = true }) first)
+      on (with_object m y (record (object_at m y) { public = true })) (thread_at m t) rest refl (kept.object may m y (record (object_at m y) { public = true }) refl refl first)
 
   checks : (a : Addr) (v : Option Errno) (rest : Steps) → Same (T.goes_on m t (T.with_checked m a v (thread_at m t)) rest)
   checks a None rest = on m (T.with_checked m a None (thread_at m t)) rest refl first
   checks a (Some e) rest = on m (thread_at m t) rest refl first
 
-  reserves : (x : ℕ) (kind : Kind) (rest : Steps) → May objects → May pools → Same (T.after_reserve m t (thread_at m t) x kind rest)
+  reserves : (x : ℕ) (kind : Kind) (rest : Steps) → May births → May pools → Same (T.after_reserve m t (thread_at m t) x kind rest)
   reserves zero kind rest may makes = on m (record (thread_at m t) { reply = Reply.Null }) rest refl first
   reserves (suc n) kind rest may makes =
       let me = thread_at m t in
       let s = record m { pools = T.paid_from me.pool 64 m.pools } in
       let o = record vacant { kind = Some kind; status = Status.Reserved; cost = T.cost_of me.pool 64 } in
-      kept.own (with_object s (suc n) o) t _ refl (kept.object may s (suc n) o (kept.pool makes m (T.paid_from me.pool 64 m.pools) first))
+      kept.own (with_object s (suc n) o) t _ refl (kept.birth may s (suc n) o (kept.pool makes m (T.paid_from me.pool 64 m.pools) first))
 
   buffers : (b : Bool) (size : ℕ) (rest : Steps) → May pools
       → Same (if b then T.goes_on (record m { pools = T.paid_from (thread_at m t).pool size m.pools }) t (thread_at m t) rest else T.goes_on m t (thread_at m t) (answer_error Errno.ENOMEM))
@@ -203,7 +216,7 @@ module _ (May : Part → Type 0) (Same : State → Type 0) (kept : Keeping May S
       let w = T.work_of m t a ask in
       let o = record (object_at m (T.row_of m a)) { contents = w.contents; waiters = w.waiters; buffer = T.buffer_cost ask w.answer (object_at m (T.row_of m a)).buffer } in
       let s = T.all_woken w.woken (with_object m (T.row_of m a) o) in
-      answers s (thread_at s t) ask w.taken rest w.answer refl (woken w.woken (with_object m (T.row_of m a) o) (kept.object may m (T.row_of m a) o first))
+      answers s (thread_at s t) ask w.taken rest w.answer refl (woken w.woken (with_object m (T.row_of m a) o) (kept.object may m (T.row_of m a) o refl refl first))
 
   pub after-kept : (x : ℕ) (q : Pending) (rest : Steps) → Makes May q → Same (T.after m t x q rest)
   after-kept x Pending.Begin rest h = begins (instruction_at m.image (thread_at m t).place)
@@ -235,15 +248,15 @@ module _ (May : Part → Type 0) (Same : State → Type 0) (kept : Keeping May S
   after-kept x (Pending.SetInit a strict undo) rest h = sets a undo rest (T.set_said (object_at m (T.row_of m a)) strict) h
   after-kept x (Pending.ClearInit a) rest h =
       let y = T.row_of m a in
-      let o = record (object_at m y) { init = false } in kept.own (with_object m y o) t _ refl (kept.object h m y o first)
+      let o = record (object_at m y) { init = false } in kept.own (with_object m y o) t _ refl (kept.object h m y o refl refl first)
   after-kept x (Pending.Named who) rest h =
       let y = own_row m.image who.0 in
-      let o = record (object_at m y) { contents = Contents.Named (thread_at m t).buffer } in kept.own (with_object m y o) t _ refl (kept.object h m y o first)
+      let o = record (object_at m y) { contents = Contents.Named (thread_at m t).buffer } in kept.own (with_object m y o) t _ refl (kept.object h m y o refl refl first)
   after-kept x (Pending.Reserve kind) rest h = reserves x kind rest h.0 h.1
   after-kept x (Pending.Born a) rest h =
       let y = T.row_of m a in
       let o = record (object_at m y) { status = Status.Live } in
-      let s = T.paired (with_object m y o) t y true in on s (thread_at s t) rest refl (kept.pair h.1 (with_object m y o) t y true (kept.object h.0 m y o first))
+      let s = T.paired (with_object m y o) t y true in on s (thread_at s t) rest refl (kept.pair h.1 (with_object m y o) t y true (kept.status h.0 m y o refl first))
   after-kept x (Pending.Buffer size) rest h = buffers (T.pays m (thread_at m t).pool size) size rest h
   after-kept x (Pending.Unbuffer size) rest h =
       let left = T.paid_back (T.cost_of (thread_at m t).pool size) m.pools in on (record m { pools = left }) (thread_at m t) rest refl (kept.pool h m left first)
@@ -261,6 +274,6 @@ module _ (May : Part → Type 0) (Same : State → Type 0) (kept : Keeping May S
   after-kept x (Pending.Dooms from) rest h =
       let th = record (thread_at m from) { doomed = true } in kept.own (with_thread m from th) t _ refl (kept.word h m from th first)
   after-kept x (Pending.CleanPair who) rest h =
-      let y = own_row m.image who.0 in drops (T.cleaned_by m t y) who.0 x h.0 h.1 (kept.object h.1 m y (record (object_at m y) { cleaner = Some (to_thread t) }) first)
+      let y = own_row m.image who.0 in drops (T.cleaned_by m t y) who.0 x h.0 h.1 (kept.object h.2 m y (record (object_at m y) { cleaner = Some (to_thread t) }) refl refl first)
   after-kept x Pending.Recycle rest h =
-      let o = object_at m x in kept.pool h.1 (with_object m x vacant) (T.paid_back o.buffer (T.paid_back o.cost m.pools)) (kept.object h.0 m x vacant first)
+      let o = object_at m x in kept.pool h.1 (with_object m x vacant) (T.paid_back o.buffer (T.paid_back o.cost m.pools)) (kept.birth h.0 m x vacant first)
