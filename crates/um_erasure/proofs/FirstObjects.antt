@@ -1,6 +1,7 @@
 -- Objects and rows at the opening: each is that of the image, which stands, or none. So their status, contents, claims, costs and free
 -- addresses, and their cleaning, are as the relation says.
 use Rattle.std.proofs.Common.{◌≡◌, ◌≢◌, ◌⊎◌, inl, inr, ℕ, zero, suc, ◌+◌, ◌<◌, ◌≤◌, Bool, true, false, List, [], ◌∷◌, length, replicate, Option, Some, None, refl, sym, ap, ◌∙◌, subst, arith}
+use Rattle.std.proofs.lemmas.List.{length-map}
 use Rattle.std.specs.Prelude.{◌-◌, ◌==◌, ◌&&◌, ◌||◌, not, if◌then◌else◌, is_some, map, nat_le, nat_lt, slice_get, slice_index_or}
 use Rattle.std.proofs.lemmas.Bool.{and_parts, eqb-true, false≢true, leb-true}
 use Rattle.um_base.specs.declared.image.Boot.{Boot}
@@ -215,6 +216,10 @@ numbered f i [] x l = absurd (omega (arith, l))
 numbered f i (o ∷ os) zero l = let at : i ≡ i + 0 = omega arith in ap f at
 numbered f i (o ∷ os) (suc x) l = let at : i + 1 + x ≡ i + suc x = omega arith in numbered f (i + 1) os x (omega (arith, l)) ∙ ap f at
 
+numbered-long : (f : ℕ → Bool) (i : ℕ) (os : List Object) → length (indexed (λ n (o : Object). f n) i os) ≡ length os
+numbered-long f i [] = refl
+numbered-long f i (o ∷ os) = ap suc (numbered-long f (i + 1) os)
+
 module _ (image : Image) (cpus : ℕ) (few : length image.objects ≤ STATIC_ROWS) where
   pub all-objects : length (opening image).objects ≡ ROWS
   all-objects =
@@ -231,6 +236,8 @@ module _ (image : Image) (cpus : ℕ) (few : length image.objects ≤ STATIC_ROW
             let long = all-objects in
             let at : 0 + x ≡ x = omega arith in
             numbered (λ n. nat_le STATIC_ROWS n) 0 (opening image).objects x (omega (arith, l, long)) ∙ (ap (nat_le STATIC_ROWS) at ∙ by x (nat_le STATIC_ROWS x) refl);
+        costs = length-map (opening image).objects (λ (o : Object). o.cost) ∙ all-objects;
+        frees = numbered-long (λ n. nat_le STATIC_ROWS n) 0 (opening image).objects ∙ all-objects;
       }
     where
       by : (x : ℕ) (b : Bool) → nat_le STATIC_ROWS x ≡ b → b ≡ (b && Plain.is_free (object_at (opening image) x).status)

@@ -49,7 +49,7 @@ flagged-occurs x (y ∷ ys) h = by (x == y) refl (flagged-occurs x ys)
 recycled-behind : (x z : ℕ) (todo : Todos) → (x == z) ≡ true → 0 < counted (is_recycle x) (Todo.vacate z ∷ Todo.recycle z ∷ todo)
 recycled-behind x z todo e = subst (λ b. 0 < (if b then counted (is_recycle x) todo + 1 else counted (is_recycle x) todo)) (sym e) (omega arith)
 
-clears-none : (image : Image) (x : ℕ) (todo : Todos) → AreBlocks image todo → counted (is_recycle x) todo ≡ 0 → counted (is_wipe x) todo ≡ 0
+pub clears-none : (image : Image) (x : ℕ) (todo : Todos) → AreBlocks image todo → counted (is_recycle x) todo ≡ 0 → counted (is_wipe x) todo ≡ 0
 clears-none image x [] h none = refl
 clears-none image x (Todo.wipe z ∷ todo) h none = by (x == z) refl (clears-none image x todo h.1 none)
   where

@@ -40,5 +40,7 @@ pub mod Opens
 pub mod FirstLawful
 pub mod Reachable
 pub mod Leaves
+pub mod ObjectsKept
+pub mod HeapPart
 pub mod MemoryPart
 pub mod WordsPart

@@ -72,7 +72,7 @@ either-heap : (image : Image) (h : Heap) (moved : Exchange) (b : Bool) (good bad
 either-heap image h moved true good bad one two = one
 either-heap image h moved false good bad one two = two
 
-heap-untouched : (image : Image) (p : Processor) (h : Heap) (moved : Exchange) (q : Pending) (act : Act) → IsShown q → Makes NoPools q → heap_after image h (says_step image p q act) moved ≡ h
+pub heap-untouched : (image : Image) (p : Processor) (h : Heap) (moved : Exchange) (q : Pending) (act : Act) → IsShown q → Makes NoPools q → heap_after image h (says_step image p q act) moved ≡ h
 heap-untouched image p h moved (Pending.Load to a n) act shown makes = either-heap image h moved (allows image p Access.Read a.0 n) _ _ refl refl
 heap-untouched image p h moved (Pending.Store a n value) act shown makes = either-heap image h moved (allows image p Access.Write a.0 n) _ _ refl refl
 heap-untouched image p h moved (Pending.Fetch a) act shown makes = either-heap image h moved (allows image p Access.Exec a.0 4) _ _ refl refl
@@ -128,7 +128,7 @@ pools-kept {f} {m} {k} {e} {q} {rest} h x said shown makes =
 
 -- Bytes of a pool are taken for a buffer, and given back.
 
-paid-same : (pool : Option ℕ) (size : ℕ) (left : List ℕ) → paid left (T.cost_of pool size) ≡ T.paid_from pool size left
+pub paid-same : (pool : Option ℕ) (size : ℕ) (left : List ℕ) → paid left (T.cost_of pool size) ≡ T.paid_from pool size left
 paid-same None size left = refl
 paid-same (Some n) size left = refl
 

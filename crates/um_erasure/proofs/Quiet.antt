@@ -1,6 +1,6 @@
 -- A step that no trace shows leaves the machine's state, and these parts of the relation: what the words of threads say, memory, heap.
 use Rattle.std.proofs.Common.{◌≡◌, ℕ, ◌<◌, true, false, cond, refl, sym, ap, ◌∙◌, subst}
-use Rattle.std.specs.Prelude.{◌+◌, slice_index_or}
+use Rattle.std.specs.Prelude.{◌+◌, length, slice_index_or}
 use Rattle.um_base.specs.declared.image.Image.{Image}
 use Rattle.um_base.specs.declared.limits.TheConstants.{THREADS}
 use Rattle.um_machine.specs.State.{State}
@@ -107,4 +107,6 @@ module _ (f : Fine) (m : State) (rel : Rel f m) (e : FineStep) (u : Unseen) (uns
         pools = ap (λ (h : Heap). h.pools) heap-next ∙ rel.heap.pools;
         cost = λ x few. ap (λ (h : Heap). cost_at h x) heap-next ∙ rel.heap.cost x few;
         free = λ x few. ap (λ (h : Heap). slice_index_or h.free x false) heap-next ∙ rel.heap.free x few;
+        costs = ap (λ (h : Heap). length h.costs) heap-next ∙ rel.heap.costs;
+        frees = ap (λ (h : Heap). length h.free) heap-next ∙ rel.heap.frees;
       }

@@ -3,7 +3,7 @@
 use Rattle.std.specs.Prelude.{ℕ, ◌+◌, Bool, true, false, ◌==◌, ◌&&◌, ◌||◌, not, nat_le, nat_lt, List, [], ◌∷◌, length, Option, Some, None, is_some, slice_index_or, if◌then◌else◌}
 use Rattle.std.specs.List.{list_all}
 use Rattle.um_base.specs.declared.image.Image.{Image}
-use Rattle.um_base.specs.declared.limits.TheConstants.{STATIC_ROWS}
+use Rattle.um_base.specs.declared.limits.TheConstants.{ROWS, STATIC_ROWS}
 use Rattle.um_base.specs.declared.names.Addr.{Addr}
 use Rattle.um_base.specs.Places.{thread_of_row}
 use Rattle.um_base.specs.Regions.{Partitions}
@@ -228,6 +228,7 @@ module _ (n : Tested) (f : Fine) (m : State) where
       list_all thread_is n.threads && list_all objects_are n.rows && list_all cleaning_is n.rows && list_all domain_is n.domains
       && list_all processor_is cpus
       && same_numbers (heap f).pools m.pools
+      && length (heap f).free == ROWS && length (heap f).costs == ROWS
       && (scheduler f).running == over_processors f (λ p. one_if (runs p))
 
 -- The access-matrix machine along a run: its state, and the choices of the steps to come.

@@ -1,0 +1,179 @@
+-- What a step of the access-matrix machine leaves of objects: kind and cost but at a reservation and a recycling, and the status but there,
+-- at births and where a drop takes the last permission.
+use Rattle.std.proofs.Common.{◌≡◌, inl, inr, ℕ, zero, suc, ◌<◌, ◌≤◌, Bool, true, false, not, List, [], ◌∷◌, Some, refl, sym, ap, ◌∙◌, subst}
+use Rattle.std.specs.Prelude.{◌-◌, if◌then◌else◌, nat_lt, slice_index_or, slice_set}
+use Rattle.std.proofs.lemmas.Bool.{false≢true}
+use Rattle.um_base.specs.declared.act.Leftover.{Leftover}
+use Rattle.um_base.specs.declared.limits.TheConstants.{PARTITION_AREA, ROWS, STACK_AREA, STATIC_ROWS}
+use Rattle.um_base.specs.declared.names.Addr.{Addr}
+use Rattle.um_base.specs.declared.names.ThreadIx.{ThreadIx}
+use Rattle.um_base.specs.Places.{addr_of, row_at}
+use Rattle.um_machine.specs.declared.object.Object.{Object}
+use Rattle.um_machine.specs.declared.object.Status.{Status}
+use Rattle.um_machine.specs.declared.pending.Pending.{Pending}
+use Rattle.um_machine.specs.Memory.{put_bytes}
+use Rattle.um_machine.specs.Objects as Plain
+use Rattle.um_machine.specs.Order.{Steps}
+use Rattle.um_machine.specs.Run.{Offers, goes, skips_drops, skips_inherit}
+use Rattle.um_machine.specs.State.{State, object_at, pair_at, thread_at, vacant, with_object}
+use Rattle.um_machine.specs.Table as T
+use Rattle.um_reach.proofs.Cores.{call_is, status_is}
+use Rattle.um_reach.proofs.Guards.{IsRow, bearing, behind_birth, Guarded}
+use Rattle.um_reach.proofs.Turns.{below_rows}
+use Rattle.um_erasure.proofs.Reachable.{IsSound}
+use Rattle.um_erasure.proofs.Writes.{Keeping, Makes, Part, after-kept, births, lasting_of, statuses}
+
+-- an object that is written with the same of something leaves that of all
+pub set-kept : {A : Type 0} (g : Object → A) (xs : List Object) (x y : ℕ) (o : Object) → g o ≡ g (slice_index_or xs x vacant)
+    → g (slice_index_or (slice_set xs x o) y vacant) ≡ g (slice_index_or xs y vacant)
+set-kept g [] x y o e = refl
+set-kept g (z ∷ zs) zero zero o e = e
+set-kept g (z ∷ zs) zero (suc y) o e = refl
+set-kept g (z ∷ zs) (suc x) zero o e = refl
+set-kept g (z ∷ zs) (suc x) (suc y) o e = set-kept g zs x y o e
+
+-- all that a step may write but whole objects, and but these and their status
+abbrev pub NoBirths : Part → Type 0
+NoBirths births = ⊥
+NoBirths part = Unit {0}
+
+abbrev pub NoStatuses : Part → Type 0
+NoStatuses births = ⊥
+NoStatuses statuses = ⊥
+NoStatuses part = Unit {0}
+
+module _ (m : State) (y : ℕ) where
+  abbrev SameLasting : State → Type 0
+  SameLasting s = lasting_of (object_at s y) ≡ lasting_of (object_at m y)
+
+  abbrev SameStatus : State → Type 0
+  SameStatus s = (object_at s y).status ≡ (object_at m y).status
+
+  lasting-keeping : Keeping NoBirths SameLasting
+  lasting-keeping =
+      record {
+        own = λ s v th e k. k;
+        word = λ may s v th k. k;
+        object = λ may s x o e q k. set-kept lasting_of s.objects x y o e ∙ k;
+        status = λ may s x o e k. set-kept lasting_of s.objects x y o e ∙ k;
+        birth = λ may s x o k. absurd may;
+        pair = λ may s v x there k. k;
+        bytes = λ may s a bs k.
+            elim (nat_lt a STACK_AREA) as (λ c. SameLasting (if c then record s { memory = put_bytes s.memory (a - PARTITION_AREA) bs } else record s { stacks = put_bytes s.stacks (a - STACK_AREA) bs })) [
+              | true ↦ k
+              | false ↦ k
+            ];
+        pool = λ may s left k. k;
+        parts = λ may s all k. k;
+      }
+
+  status-keeping : Keeping NoStatuses SameStatus
+  status-keeping =
+      record {
+        own = λ s v th e k. k;
+        word = λ may s v th k. k;
+        object = λ may s x o e q k. set-kept (λ (z : Object). z.status) s.objects x y o q ∙ k;
+        status = λ may s x o e k. absurd may;
+        birth = λ may s x o k. absurd may;
+        pair = λ may s v x there k. k;
+        bytes = λ may s a bs k.
+            elim (nat_lt a STACK_AREA) as (λ c. SameStatus (if c then record s { memory = put_bytes s.memory (a - PARTITION_AREA) bs } else record s { stacks = put_bytes s.stacks (a - STACK_AREA) bs })) [
+              | true ↦ k
+              | false ↦ k
+            ];
+        pool = λ may s left k. k;
+        parts = λ may s all k. k;
+      }
+
+  pub lasting-kept : (t x : ℕ) (q : Pending) (rest : Steps) → Makes NoBirths q → SameLasting (T.after m t x q rest)
+  lasting-kept t x q rest h = after-kept NoBirths SameLasting lasting-keeping m t refl x q rest h
+
+  pub status-kept : (t x : ℕ) (q : Pending) (rest : Steps) → Makes NoStatuses q → SameStatus (T.after m t x q rest)
+  status-kept t x q rest h = after-kept NoStatuses SameStatus status-keeping m t refl x q rest h
+
+-- Drops and births.
+
+pub live-kept : (a b : Status) → Plain.is_live a ≡ true → Plain.is_free b ≡ false → Plain.is_free b ≡ Plain.is_free a
+live-kept Status.Free b h e = absurd (false≢true h)
+live-kept Status.Reserved b h e = e
+live-kept Status.Live b h e = e
+live-kept Status.Gone b h e = e
+
+drop-found : (there last : Bool) → (if not there then Leftover.NoPair else if last then Leftover.Gone else Leftover.Kept) ≡ Leftover.Gone → there ≡ true
+drop-found true last e = refl
+drop-found false last e = absurd (subst (λ l. elim l as (λ _. Type 0) [ Leftover.NoPair ↦ Unit {0} | Leftover.Kept ↦ ⊥ | Leftover.Gone ↦ ⊥ ]) e tt)
+
+-- a drop leaves which rows are free
+pub drop-free : (s : State) (who x y : ℕ) → (pair_at s who x ≡ true → Plain.is_live (object_at s x).status ≡ true)
+    → Plain.is_free (object_at (T.after_drop s who x) y).status ≡ Plain.is_free (object_at s y).status
+drop-free s who x y lives = by (T.dropped s who x) refl
+  where
+    gone : T.dropped s who x ≡ Leftover.Gone → Plain.is_free Status.Gone ≡ Plain.is_free (object_at s x).status
+    gone e = live-kept (object_at s x).status Status.Gone (lives (drop-found (pair_at s who x) _ e)) refl
+
+    by : (l : Leftover) → T.dropped s who x ≡ l
+        → Plain.is_free (object_at (elim l as (λ _. State) [ Leftover.NoPair ↦ s | Leftover.Kept ↦ T.paired s who x false | Leftover.Gone ↦ with_object (T.paired s who x false) x (record (object_at s x) { status = Status.Gone }) ]) y).status
+        ≡ Plain.is_free (object_at s y).status
+    by Leftover.NoPair e = refl
+    by Leftover.Kept e = refl
+    by Leftover.Gone e = set-kept (λ (z : Object). Plain.is_free z.status) s.objects x y (record (object_at s x) { status = Status.Gone }) (gone e)
+
+-- What is known of rows.
+
+module _ (m : State) (sound : IsSound m) where
+  -- a row with an object has an address of its own
+  pub row-again : (x : ℕ) → IsRow m.image x → row_at m.image (addr_of m.image x) ≡ Some x
+  row-again x row = sound.known.reached.sited.rows x row
+
+  pub row-below : (x : ℕ) → IsRow m.image x → x < ROWS
+  row-below x row = below_rows m.image x sound.known.reached.sited row
+
+  pub found-below : (a x : ℕ) → row_at m.image a ≡ Some x → x < ROWS
+  found-below a x e = row-below x (sound.known.reached.sited.found a x e).0
+
+  pub used-row : (x : ℕ) → Plain.is_free (object_at m x).status ≡ false → IsRow m.image x
+  used-row x h = sound.known.reached.used x (ap Plain.is_free (status_is m x) ∙ h)
+
+  -- permissions are of live objects
+  pub paired-live : (x who : ℕ) → pair_at m who x ≡ true → Plain.is_live (object_at m x).status ≡ true
+  paired-live x who h = ap Plain.is_live (sym (status_is m x)) ∙ sound.known.reached.living who x h
+
+  not-free : (s : Status) → Plain.is_gone s ≡ true → Plain.is_free s ≡ false
+  not-free Status.Free e = absurd (false≢true e)
+  not-free Status.Reserved e = refl
+  not-free Status.Live e = refl
+  not-free Status.Gone e = refl
+
+  pub gone-row : (x : ℕ) → Plain.is_gone (object_at m x).status ≡ true → IsRow m.image x
+  gone-row x gone = used-row x (not-free (object_at m x).status gone)
+
+  -- an object that is gone was a dynamic one
+  pub gone-dynamic : (x : ℕ) → Plain.is_gone (object_at m x).status ≡ true → STATIC_ROWS ≤ x
+  gone-dynamic x gone = by (gone-row x gone)
+    where
+      not-live : (s : Status) → Plain.is_gone s ≡ true → Plain.is_live s ≡ true → ⊥
+      not-live Status.Gone e l = false≢true l
+      not-live Status.Free e l = false≢true e
+      not-live Status.Reserved e l = false≢true e
+      not-live Status.Live e l = false≢true e
+
+      by : IsRow m.image x → STATIC_ROWS ≤ x
+      by (inl static) = absurd (not-live (object_at m x).status gone (sym (ap Plain.is_live (status_is m x)) ∙ sound.known.reached.static x static))
+      by (inr dynamic) = dynamic.0
+
+  -- an object that is to be born is reserved
+  pub born-reserved : (t : ℕ) (a : Addr) (rest : Steps) → Offers m t (Pending.Born a) rest → (y : ℕ) × (row_at m.image a.0 ≡ Some y) × ((object_at m y).status ≡ Status.Reserved)
+  born-reserved t a rest (goes e) =
+      let r = sound.known.reached.reserved t a.0 (ap (λ (c : _). bearing c.pending) (call_is m t) ∙ ap bearing e) in (r.0, r.1, sym (status_is m r.0) ∙ r.2)
+  born-reserved t a rest (skips_inherit e due) = absurd (guard e)
+    where
+      guard : {who : ThreadIx} → (thread_at m t).pending ≡ Pending.Inherit who ∷ Pending.Born a ∷ rest → ⊥
+      guard e =
+          subst (λ (steps : Steps). Guarded m.image (thread_at m t).checked (behind_birth steps)) e
+          (subst (λ (c : _). Guarded m.image c.checked (behind_birth c.pending)) (call_is m t) (sound.known.reached.guarded t))
+  born-reserved t a rest (skips_drops e due) = absurd (guard e)
+    where
+      guard : {from : ℕ} → (thread_at m t).pending ≡ Pending.Drops from ∷ Pending.Born a ∷ rest → ⊥
+      guard e =
+          subst (λ (steps : Steps). Guarded m.image (thread_at m t).checked (behind_birth steps)) e
+          (subst (λ (c : _). Guarded m.image c.checked (behind_birth c.pending)) (call_is m t) (sound.known.reached.guarded t))
