@@ -42,5 +42,6 @@ pub mod Reachable
 pub mod Leaves
 pub mod ObjectsKept
 pub mod HeapPart
+pub mod PairsPart
 pub mod MemoryPart
 pub mod WordsPart

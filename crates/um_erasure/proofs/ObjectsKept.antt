@@ -1,10 +1,10 @@
 -- What a step of the access-matrix machine leaves of objects: kind and cost but at a reservation and a recycling, and the status but there,
 -- at births and where a drop takes the last permission.
-use Rattle.std.proofs.Common.{◌≡◌, inl, inr, ℕ, zero, suc, ◌<◌, ◌≤◌, Bool, true, false, not, List, [], ◌∷◌, Some, refl, sym, ap, ◌∙◌, subst}
+use Rattle.std.proofs.Common.{arith, length, replicate, ◌≡◌, inl, inr, ℕ, zero, suc, ◌<◌, ◌≤◌, Bool, true, false, not, List, [], ◌∷◌, Some, refl, sym, ap, ◌∙◌, subst}
 use Rattle.std.specs.Prelude.{◌-◌, if◌then◌else◌, nat_lt, slice_index_or, slice_set}
 use Rattle.std.proofs.lemmas.Bool.{false≢true}
 use Rattle.um_base.specs.declared.act.Leftover.{Leftover}
-use Rattle.um_base.specs.declared.limits.TheConstants.{PARTITION_AREA, ROWS, STACK_AREA, STATIC_ROWS}
+use Rattle.um_base.specs.declared.limits.TheConstants.{PARTITION_AREA, ROWS, STACK_AREA, STATIC_ROWS, THREADS}
 use Rattle.um_base.specs.declared.names.Addr.{Addr}
 use Rattle.um_base.specs.declared.names.ThreadIx.{ThreadIx}
 use Rattle.um_base.specs.Places.{addr_of, row_at}
@@ -118,6 +118,12 @@ drop-free s who x y lives = by (T.dropped s who x) refl
     by Leftover.Kept e = refl
     by Leftover.Gone e = set-kept (λ (z : Object). Plain.is_free z.status) s.objects x y (record (object_at s x) { status = Status.Gone }) (gone e)
 
+all-none : (flags : List Bool) (n : ℕ) → length flags ≡ n → ((t : ℕ) → slice_index_or flags t false ≡ false) → flags ≡ replicate n false
+all-none [] zero e h = refl
+all-none [] (suc n) e h = absurd (omega (arith, e))
+all-none (b ∷ flags) zero e h = absurd (omega (arith, e))
+all-none (b ∷ flags) (suc n) e h = λ i. h 0 i ∷ all-none flags n (omega (arith, e)) (λ t. h (suc t)) i
+
 -- What is known of rows.
 
 module _ (m : State) (sound : IsSound m) where
@@ -147,19 +153,31 @@ module _ (m : State) (sound : IsSound m) where
   pub gone-row : (x : ℕ) → Plain.is_gone (object_at m x).status ≡ true → IsRow m.image x
   gone-row x gone = used-row x (not-free (object_at m x).status gone)
 
-  -- an object that is gone was a dynamic one
-  pub gone-dynamic : (x : ℕ) → Plain.is_gone (object_at m x).status ≡ true → STATIC_ROWS ≤ x
-  gone-dynamic x gone = by (gone-row x gone)
+  -- an object that stands no longer, or not yet, is a dynamic one
+  pub unlived-dynamic : (x : ℕ) → Plain.is_free (object_at m x).status ≡ false → Plain.is_live (object_at m x).status ≡ false → STATIC_ROWS ≤ x
+  unlived-dynamic x free lives = by (used-row x free)
     where
-      not-live : (s : Status) → Plain.is_gone s ≡ true → Plain.is_live s ≡ true → ⊥
-      not-live Status.Gone e l = false≢true l
-      not-live Status.Free e l = false≢true e
-      not-live Status.Reserved e l = false≢true e
-      not-live Status.Live e l = false≢true e
-
       by : IsRow m.image x → STATIC_ROWS ≤ x
-      by (inl static) = absurd (not-live (object_at m x).status gone (sym (ap Plain.is_live (status_is m x)) ∙ sound.known.reached.static x static))
+      by (inl static) = absurd (false≢true (sym lives ∙ (sym (ap Plain.is_live (status_is m x)) ∙ sound.known.reached.static x static)))
       by (inr dynamic) = dynamic.0
+
+  not-live : (s : Status) → Plain.is_gone s ≡ true → Plain.is_live s ≡ false
+  not-live Status.Gone e = refl
+  not-live Status.Free e = absurd (false≢true e)
+  not-live Status.Reserved e = refl
+  not-live Status.Live e = absurd (false≢true e)
+
+  pub gone-dynamic : (x : ℕ) → Plain.is_gone (object_at m x).status ≡ true → STATIC_ROWS ≤ x
+  gone-dynamic x gone = unlived-dynamic x (not-free (object_at m x).status gone) (not-live (object_at m x).status gone)
+
+  -- nobody has a permission on it
+  pub unlived-none : (x : ℕ) → x < ROWS → Plain.is_live (object_at m x).status ≡ false → slice_index_or m.pairs x [] ≡ replicate THREADS false
+  unlived-none x l lives =
+      all-none (slice_index_or m.pairs x []) THREADS (sound.wide.flags x l) (λ who. by who (pair_at m who x) refl)
+    where
+      by : (who : ℕ) (b : Bool) → pair_at m who x ≡ b → b ≡ false
+      by who true p = absurd (false≢true (sym lives ∙ paired-live x who p))
+      by who false p = refl
 
   -- an object that is to be born is reserved
   pub born-reserved : (t : ℕ) (a : Addr) (rest : Steps) → Offers m t (Pending.Born a) rest → (y : ℕ) × (row_at m.image a.0 ≡ Some y) × ((object_at m y).status ≡ Status.Reserved)

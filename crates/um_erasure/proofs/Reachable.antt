@@ -1,7 +1,7 @@
 -- What holds of the states that a run of the access-matrix machine reaches: how many threads, rows and objects they have, what um_reach knows
 -- of them, and that permissions are of live objects.
-use Rattle.std.proofs.Common.{◌≡◌, ℕ, ◌<◌, ◌≤◌, Bool, true, false, List, [], ◌∷◌, length, refl, sym, ap, ◌∙◌, subst, arith}
-use Rattle.std.specs.Prelude.{◌-◌, if◌then◌else◌, nat_lt, replicate, slice_index_or}
+use Rattle.std.proofs.Common.{◌≡◌, ℕ, zero, suc, ◌<◌, ◌≤◌, Bool, true, false, List, [], ◌∷◌, length, refl, sym, ap, ◌∙◌, subst, arith}
+use Rattle.std.specs.Prelude.{slice_set, ◌-◌, if◌then◌else◌, nat_lt, replicate, slice_index_or}
 use Rattle.std.proofs.lemmas.List.{length-set}
 use Rattle.um_base.specs.declared.act.Event.{Event}
 use Rattle.um_base.specs.declared.image.Boot.{Boot}
@@ -15,7 +15,7 @@ use Rattle.um_machine.specs.Memory.{put_bytes, with_bytes}
 use Rattle.um_machine.specs.Objects as Plain
 use Rattle.um_machine.specs.Run.{Runs, blank, boot_thread, booted, booted_one, granted, index_or, loaded, opening}
 use Rattle.um_machine.specs.State.{State, with_pair, with_thread}
-use Rattle.um_reach.proofs.Cores.{core_of, status_is}
+use Rattle.um_reach.proofs.Cores.{at_set, core_of, status_is}
 use Rattle.um_reach.proofs.RunMoves.{known_run}
 use Rattle.um_reach.proofs.Turns.{IsKnown}
 use Rattle.um_erasure.proofs.DropSteps.{Held}
@@ -38,33 +38,43 @@ makes-any (Pending.CleanPair who) = (tt, tt, tt)
 makes-any Pending.Recycle = (tt, tt)
 makes-any q = tt
 
--- as many threads, rows of permissions and objects as there are indices
+-- as many threads, rows of permissions and objects as there are indices, and in each row one permission a thread
 pub record IsWide (s : State) : Type 0 where
   pub threads : length s.threads ≡ THREADS
   pub rows : length s.pairs ≡ ROWS
   pub objects : length s.objects ≡ ROWS
+  pub flags : (x : ℕ) → x < ROWS → length (slice_index_or s.pairs x []) ≡ THREADS
+
+abbrev Flags : State → Type 0
+Flags s = (x : ℕ) → x < ROWS → length (slice_index_or s.pairs x []) ≡ THREADS
+
+flags-pair : (s : State) (u x : ℕ) (there : Bool) → Flags s → Flags (with_pair s u x there)
+flags-pair s u x there h y =
+    at_set (λ n (flags : List Bool). n < ROWS → length flags ≡ THREADS) s.pairs x y (slice_set (slice_index_or s.pairs x []) u there) []
+    (λ l. length-set (slice_index_or s.pairs x []) u there ∙ h x l) (h y)
 
 wide-keeping : Keeping Any IsWide
 wide-keeping =
     record {
-      own = λ s u th e k. record { threads = set-long s.threads u th ∙ k.threads; rows = k.rows; objects = k.objects };
-      word = λ may s u th k. record { threads = set-long s.threads u th ∙ k.threads; rows = k.rows; objects = k.objects };
-      object = λ may s x o e q k. record { threads = k.threads; rows = k.rows; objects = length-set s.objects x o ∙ k.objects };
-      status = λ may s x o e k. record { threads = k.threads; rows = k.rows; objects = length-set s.objects x o ∙ k.objects };
-      birth = λ may s x o k. record { threads = k.threads; rows = k.rows; objects = length-set s.objects x o ∙ k.objects };
+      own = λ s u th e k. record { threads = set-long s.threads u th ∙ k.threads; rows = k.rows; objects = k.objects; flags = k.flags };
+      word = λ may s u th k. record { threads = set-long s.threads u th ∙ k.threads; rows = k.rows; objects = k.objects; flags = k.flags };
+      object = λ may s x o e q k. record { threads = k.threads; rows = k.rows; objects = length-set s.objects x o ∙ k.objects; flags = k.flags };
+      status = λ may s x o e k. record { threads = k.threads; rows = k.rows; objects = length-set s.objects x o ∙ k.objects; flags = k.flags };
+      birth = λ may s x o k. record { threads = k.threads; rows = k.rows; objects = length-set s.objects x o ∙ k.objects; flags = k.flags };
       pair = λ may s u x there k.
           record {
             threads = dues-long x 0 (slice_index_or (with_pair s u x there).pairs x []) s.threads ∙ k.threads;
             rows = length-set s.pairs x _ ∙ k.rows;
             objects = k.objects;
+            flags = flags-pair s u x there k.flags;
           };
       bytes = λ may s a bs k.
           elim (nat_lt a STACK_AREA) as (λ c. IsWide (if c then record s { memory = put_bytes s.memory (a - PARTITION_AREA) bs } else record s { stacks = put_bytes s.stacks (a - STACK_AREA) bs })) [
-            | true ↦ record { threads = k.threads; rows = k.rows; objects = k.objects }
-            | false ↦ record { threads = k.threads; rows = k.rows; objects = k.objects }
+            | true ↦ record { threads = k.threads; rows = k.rows; objects = k.objects; flags = k.flags }
+            | false ↦ record { threads = k.threads; rows = k.rows; objects = k.objects; flags = k.flags }
           ];
-      pool = λ may s left k. record { threads = k.threads; rows = k.rows; objects = k.objects };
-      parts = λ may s all k. record { threads = k.threads; rows = k.rows; objects = k.objects };
+      pool = λ may s left k. record { threads = k.threads; rows = k.rows; objects = k.objects; flags = k.flags };
+      parts = λ may s all k. record { threads = k.threads; rows = k.rows; objects = k.objects; flags = k.flags };
     }
 
 wide-run : (s : State) (events : List Event) (s2 : State) → IsWide s → Runs s events s2 → IsWide s2
@@ -96,6 +106,32 @@ loaded-rows : (ps : List Partition) (s : State) → length (loaded ps s).pairs �
 loaded-rows [] s = refl
 loaded-rows (p ∷ ps) s = loaded-rows ps (with_bytes s p.range.start.0 p.bytes) ∙ bytes-rows s p.range.start.0 p.bytes
 
+granted-flags : (t : ℕ) (rows : List Row) (s : State) → Flags s → Flags (granted t rows s)
+granted-flags t [] s h = h
+granted-flags t (x ∷ rows) s h = granted-flags t rows (with_pair s t x.0 true) (flags-pair s t x.0 true h)
+
+booted-flags : (boots : List Boot) (s : State) → Flags s → Flags (booted boots s)
+booted-flags [] s h = h
+booted-flags (boot ∷ boots) s h =
+    let t = index_or (thread_of_row s.image boot.thread.0) in
+    booted-flags boots (booted_one boot s) (granted-flags t (boot.thread ∷ boot.grants) (with_thread s t (boot_thread s.image boot)) h)
+
+bytes-flags : (s : State) (a : ℕ) (bs : List ℕ) → Flags s → Flags (with_bytes s a bs)
+bytes-flags s a bs h = by (nat_lt a STACK_AREA)
+  where
+    by : (c : Bool) → Flags (if c then record s { memory = put_bytes s.memory (a - PARTITION_AREA) bs } else record s { stacks = put_bytes s.stacks (a - STACK_AREA) bs })
+    by true = h
+    by false = h
+
+loaded-flags : (ps : List Partition) (s : State) → Flags s → Flags (loaded ps s)
+loaded-flags [] s h = h
+loaded-flags (p ∷ ps) s h = loaded-flags ps (with_bytes s p.range.start.0 p.bytes) (bytes-flags s p.range.start.0 p.bytes h)
+
+copies-at : (n x : ℕ) (flags : List Bool) → x < n → slice_index_or (replicate n flags) x [] ≡ flags
+copies-at zero x flags l = absurd (omega (arith, l))
+copies-at (suc n) zero flags l = refl
+copies-at (suc n) (suc x) flags l = copies-at n x flags (omega (arith, l))
+
 opening-wide : (image : Image) → length image.objects ≤ STATIC_ROWS → IsWide (opening image)
 unfolding blank
 opening-wide image few =
@@ -104,6 +140,8 @@ opening-wide image few =
       rows = booted-rows image.boots (loaded image.partitions (blank image))
           ∙ (loaded-rows image.partitions (blank image) ∙ copies-long ROWS (replicate THREADS false));
       objects = all-objects image 0 few;
+      flags = booted-flags image.boots (loaded image.partitions (blank image))
+          (loaded-flags image.partitions (blank image) (λ x l. ap length (copies-at ROWS x (replicate THREADS false) l) ∙ copies-long THREADS false));
     }
 
 -- What is known of a state.
