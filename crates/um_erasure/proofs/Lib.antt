@@ -11,6 +11,7 @@ pub mod RowClaims
 pub mod Says
 pub mod ListFits
 pub mod ListBlocks
+pub mod ListFrames
 pub mod Offered
 pub mod Shown
 pub mod RowSteps

@@ -36,6 +36,7 @@ opens image cpus few one stands =
             table = tables-first image cpus k;
             looks = looks-first image cpus k;
             blocks = blocks-first image cpus k;
+            frames = tt;
             cleaning = λ x. cleaning-first image cpus k x;
           };
       memory = memory-first image cpus;

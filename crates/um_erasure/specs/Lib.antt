@@ -9,4 +9,5 @@ pub mod Dues
 pub mod Domains
 pub mod Resources
 pub mod Looks
+pub mod Frames
 pub mod Relation

@@ -12,6 +12,7 @@ use Rattle.um_erasure.specs.Objects.{ContentsAre, PairsAre, StatusIs}
 use Rattle.um_erasure.specs.Cleaning.{AreBlocks, CleanersAre, CleaningIs}
 use Rattle.um_erasure.specs.Dues.{DuesAre}
 use Rattle.um_erasure.specs.Looks.{LooksAre}
+use Rattle.um_erasure.specs.Frames.{AreFramed}
 use Rattle.um_erasure.specs.Offers.{ListIs}
 use Rattle.um_erasure.specs.Domains.{DomainIs, TableIs}
 use Rattle.um_erasure.specs.Resources.{HeapIs, MemoryIs}
@@ -40,6 +41,7 @@ pub record ProcessorIs (f : Fine) (m : State) (k : ℕ) : Type 0 where
   pub table : TableIs f m k
   pub looks : LooksAre f m k
   pub blocks : AreBlocks f.image (f.processors k).todo
+  pub frames : AreFramed f.image (f.processors k).todo
   pub cleaning : (x : ℕ) → CleaningIs f m k x
 
 pub record Rel (f : Fine) (m : State) : Type 0 where

@@ -14,6 +14,7 @@ use Rattle.um_machine.specs.Domains.{domain_after}
 use Rattle.um_machine.specs.Memory.{partitions_of}
 use Rattle.um_machine.specs.Objects.{is_free, is_gone}
 use Rattle.um_machine.specs.Run.{opening}
+use Rattle.um_machine.specs.declared.pending.Pending.{Pending}
 use Rattle.um_machine.specs.State.{State, is_started, is_user, object_at, pair_at, thread_at}
 use Rattle.um_machine.specs.Table.{after, domain_at, message_size}
 use Rattle.um_words.specs.declared.fine.FineAct.{FineAct}
@@ -28,7 +29,7 @@ use Rattle.um_fine.specs.Scheduler.{parked_at, told_at}
 use Rattle.um_fine.specs.Places.{Todo, Todos}
 use Rattle.um_fine.specs.Processor.{Processor, edit_of, fails, key_of, same_key}
 use Rattle.um_erasure.specs.Fine.{Fine, domain, heap, object, one_if, over_processors, parts, row, scheduler, word}
-use Rattle.um_erasure.specs.Lists.{cleaned_pairs, counted, edited, edits, has_claimed, has_held, has_loaded, is_recycle, is_wipe, looked, moving, runs, runs_thread, visited}
+use Rattle.um_erasure.specs.Lists.{cleaned_pairs, counted, edited, edits, edits_step, has_claimed, has_held, has_loaded, has_steps, is_recycle, is_wipe, looked, moving, runs, runs_thread, visited}
 use Rattle.um_erasure.specs.Threads.{flags_of, is_ended, is_ready_there, occurs, places, told_by}
 use Rattle.um_erasure.specs.Claims.{claims}
 use Rattle.um_erasure.specs.Objects.{is_being_born, recyclers, status_of, vacaters, wipers}
@@ -212,11 +213,43 @@ module _ (n : Tested) (f : Fine) (m : State) where
   added_are (Todo.show q rest ∷ todo) = true
   added_are (q ∷ todo) = added_are todo
 
+  -- what stands behind a step that belongs to an event
+  abbrev pub is_behind : Todo → Todos → Bool
+  is_behind Todo.hold (Todo.read_claim None ∷ Todo.region_load ∷ Todo.show q rest ∷ Todo.read_done None ∷ Todo.let_go ∷ []) = true
+  is_behind Todo.hold (Todo.show q rest ∷ Todo.let_go ∷ Todo.add c ∷ []) = true
+  is_behind Todo.hold todo = false
+  is_behind Todo.let_go [] = true
+  is_behind Todo.let_go (Todo.add c ∷ []) = true
+  is_behind Todo.let_go todo = false
+  is_behind (Todo.read_claim None) (Todo.region_load ∷ Todo.show q rest ∷ Todo.read_done None ∷ Todo.let_go ∷ []) = true
+  is_behind (Todo.read_claim None) todo = false
+  is_behind (Todo.read_claim (Some d)) (Todo.show (Pending.DomMove e who) rest ∷ []) = d == e
+  is_behind (Todo.read_claim (Some d)) todo = false
+  is_behind (Todo.read_done None) (Todo.let_go ∷ []) = true
+  is_behind (Todo.read_done None) todo = false
+  is_behind (Todo.read_done (Some d)) (Todo.show (Pending.DomMove e who) rest ∷ []) = d == e
+  is_behind (Todo.read_done (Some d)) todo = false
+  is_behind Todo.region_load (Todo.show q rest ∷ Todo.read_done None ∷ Todo.let_go ∷ []) = true
+  is_behind Todo.region_load todo = false
+  is_behind (Todo.write_claim d) (Todo.edit e q ∷ Todo.show r rest ∷ []) = d == e && edits_step d q && edits_step d r
+  is_behind (Todo.write_claim d) todo = false
+  is_behind (Todo.edit d q) (Todo.show r rest ∷ []) = edits_step d q && edits_step d r
+  is_behind (Todo.edit d q) todo = false
+  is_behind (Todo.size_look x) todo = elim (looked todo) as (λ _. Bool) [ None ↦ false | Some a ↦ x == row_named f.image a ]
+  is_behind (Todo.add c) todo = not (has_steps todo)
+  is_behind Todo.park todo = not (has_steps todo)
+  is_behind Todo.done todo = not (has_steps todo)
+  is_behind q todo = true
+
+  abbrev pub is_framed : Todos → Bool
+  is_framed [] = true
+  is_framed (q ∷ todo) = is_behind q todo && is_framed todo
+
   abbrev pub processor_is : ℕ → Bool
   processor_is k =
       let p = f.processors k in
       let me = thread_at m p.context.thread in
-      implies (runs p) (is_of p.context) && added_are p.todo && size_is p (looked p.todo) && reply_is p (moving p.todo)
+      implies (runs p) (is_of p.context) && added_are p.todo && is_framed p.todo && size_is p (looked p.todo) && reply_is p (moving p.todo)
       && implies (has_held p) (p.domain == (word f p.context.thread).domain)
       && implies (has_claimed p) (p.version == (domain f p.domain).version)
       && table_stands p.table
