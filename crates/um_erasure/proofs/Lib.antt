@@ -44,5 +44,9 @@ pub mod Leaves
 pub mod ObjectsKept
 pub mod HeapPart
 pub mod PairsPart
+pub mod Sums
+pub mod SchedulerSteps
+pub mod ListRuns
+pub mod RunningPart
 pub mod MemoryPart
 pub mod WordsPart
