@@ -48,5 +48,7 @@ pub mod Sums
 pub mod SchedulerSteps
 pub mod ListRuns
 pub mod RunningPart
+pub mod ListGrips
+pub mod HeldPart
 pub mod MemoryPart
 pub mod WordsPart
