@@ -20,7 +20,7 @@ use Rattle.um_fine.specs.Opening.{indexed, parked_if}
 use Rattle.um_fine.specs.Scheduler.{parked_at}
 use Rattle.um_erasure.specs.Fine.{one_if, scheduler, total}
 use Rattle.um_erasure.specs.Lists.{counted, is_add, runs_thread}
-use Rattle.um_erasure.specs.Threads.{AwayIs, ContextsAre, IsOf, ToldIs, is_ended, told_by}
+use Rattle.um_erasure.specs.Threads.{AwayIs, ContextsAre, IsOf, SchedulerIs, ToldIs, is_ended, told_by}
 use Rattle.um_erasure.specs.Dues.{DuesAre}
 use Rattle.um_erasure.proofs.First.{first}
 
@@ -167,7 +167,7 @@ module _ (image : Image) (cpus : ℕ) where
   part-first : (t : ℕ) (c : Context) → is_living (thread_at (opening image) t).life ≡ true → t < THREADS → c ≡ context_of t (thread_at (opening image) t) → IsOf (opening image) c
   part-first t c living l e =
       subst (IsOf (opening image)) (sym e)
-      (record { index = l; own = refl; claims = (new-thread image t).checked; ended = ended (thread_at (opening image) t).life living; started = started (thread_at (opening image) t).life living })
+      (record { index = l; own = refl; claims = (new-thread image t).checked; ended = ended (thread_at (opening image) t).life living; started = started (thread_at (opening image) t).life living; below = refl })
     where
       ended : (life : Life) → is_living life ≡ true → false ≡ is_ended life
       ended Life.Unborn h = refl
@@ -219,3 +219,14 @@ module _ (image : Image) (cpus : ℕ) where
 
       not-living : (life : Life) → is_living life ≡ false → life ≢ Life.Living
       not-living life h e = true≢false (sym (ap is_living e) ∙ h)
+
+indexed-long : {A B : Type 0} (g : ℕ → A → B) (i : ℕ) (xs : List A) → length (indexed g i xs) ≡ length xs
+indexed-long g i [] = refl
+indexed-long g i (x ∷ xs) = ap suc (indexed-long g (i + 1) xs)
+
+pub scheduler-first : (image : Image) (cpus : ℕ) → SchedulerIs (first image cpus)
+scheduler-first image cpus =
+    record {
+      parked = indexed-long (λ t (me : Thread). parked_if (is_living me.life) (context_of t me)) 0 (opening image).threads ∙ threads-long image;
+      told = copies-long THREADS untold;
+    }

@@ -48,7 +48,9 @@ pub mod Sums
 pub mod SchedulerSteps
 pub mod ListRuns
 pub mod RunningPart
+pub mod SchedulerPart
 pub mod ListGrips
 pub mod HeldPart
+pub mod RowsPart
 pub mod MemoryPart
 pub mod WordsPart

@@ -51,7 +51,7 @@ module _ (image : Image) where
   fine-framed c (Pending.DomMove d who) rest = ((who, rest, refl), (tt, tt))
   fine-framed c (Pending.Start who script stack priority mode) rest =
       let q = Pending.Start who script stack priority mode in
-      (inr (q, rest, newborn image c q, refl), (tt, (inr (newborn image c q, refl), (refl, tt))))
+      (inr (q, rest, newborn image c q, refl), (tt, (inr (newborn image c q, refl), ((refl, refl), tt))))
   fine-framed c q rest = (tt, tt)
 
   passes-framed : (who x : ℕ) (todo : Todos) → Are todo → Are (passes who x todo)

@@ -1,5 +1,6 @@
 -- The relation holds at the opening of an image whose objects fit the static rows, whose boot entries have a thread each, and in which
 -- the object of each boot thread stands.
+use Rattle.std.proofs.Common.{true}
 use Rattle.std.proofs.Common.{ℕ, ◌≤◌, [], length}
 use Rattle.um_base.specs.declared.image.Image.{Image}
 use Rattle.um_base.specs.declared.limits.TheConstants.{STATIC_ROWS}
@@ -8,7 +9,7 @@ use Rattle.um_erasure.specs.Relation.{Rel}
 use Rattle.um_erasure.proofs.First.{blocks-first, cleaning-first, domains-first, first, held-first, kept-first, lists-first, looks-first, memory-first, running-first, sorts-along, tables-first, words-first}
 use Rattle.um_erasure.proofs.FirstObjects.{OwnStands, claims-first, cleaners-first, contents-first, heap-first, opening-image, pairs-all-first, status-first}
 use Rattle.um_erasure.proofs.FirstReady.{OneEach, ready-first}
-use Rattle.um_erasure.proofs.FirstThreads.{away-first, contexts-first, dues-first, told-first}
+use Rattle.um_erasure.proofs.FirstThreads.{away-first, contexts-first, dues-first, scheduler-first, told-first}
 
 pub opens : (image : Image) (cpus : ℕ) → length image.objects ≤ STATIC_ROWS → OneEach image cpus → OwnStands image cpus → Rel (first image cpus) (opening image)
 opens image cpus few one stands =
@@ -17,6 +18,7 @@ opens image cpus few one stands =
       sorts = sorts-along image [];
       contexts = contexts-first image cpus;
       running = running-first image cpus;
+      scheduler = scheduler-first image cpus;
       threads = λ t l.
           record { word = words-first image cpus t; away = away-first image cpus t; told = told-first image cpus t; held = held-first image cpus t; ready = ready-first image cpus one t l };
       rows = λ x l.
@@ -37,6 +39,7 @@ opens image cpus few one stands =
             looks = looks-first image cpus k;
             blocks = blocks-first image cpus k;
             frames = tt;
+            rows = λ i. true;
             cleaning = λ x. cleaning-first image cpus k x;
           };
       memory = memory-first image cpus;

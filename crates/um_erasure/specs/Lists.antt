@@ -1,5 +1,5 @@
 -- What a processor has on its list of steps to make.
-use Rattle.std.specs.Prelude.{◌≡◌, ◌⊎◌, ℕ, ◌+◌, Bool, true, false, ◌==◌, ◌&&◌, not, if◌then◌else◌, [], ◌∷◌, Option, Some, None}
+use Rattle.std.specs.Prelude.{◌≡◌, ◌⊎◌, ℕ, ◌+◌, Bool, true, false, ◌==◌, ◌&&◌, not, if◌then◌else◌, nat_lt, [], ◌∷◌, Option, Some, None}
 use Rattle.std.specs.List.{list_any}
 use Rattle.um_base.specs.declared.ask.Told.{Told}
 use Rattle.um_base.specs.declared.limits.TheConstants.{ROWS}
@@ -86,10 +86,16 @@ abbrev pub has_loaded : Processor → Bool
 has_loaded p = has_claimed p && not (list_any is_region_load p.todo)
 
 -- it has a claim to read a domain that a thread moves to: a move that fails ends it by its event
+abbrev pub moves_step : ℕ → Reply → Pending → Bool
+moves_step d reply (Pending.DomMove e who) = fails reply && (d == e)
+moves_step d reply _ = false
+
 abbrev pub moves_to : ℕ → Reply → Todos → Bool
+moves_to d reply [] = false
+moves_to d reply (Todo.read_claim (Some e) ∷ todo) = false
 moves_to d reply (Todo.read_done (Some e) ∷ todo) = d == e
-moves_to d reply (Todo.show (Pending.DomMove e who) rest ∷ todo) = fails reply && (d == e)
-moves_to d reply _ = false
+moves_to d reply (Todo.show q rest ∷ todo) = moves_step d reply q
+moves_to d reply (q ∷ todo) = moves_to d reply todo
 
 -- it has the claim to write a domain
 abbrev pub edits_step : ℕ → Pending → Bool
@@ -99,14 +105,19 @@ edits_step d (Pending.DomRemove e range attr) = d == e
 edits_step d _ = false
 
 abbrev pub edits : ℕ → Todos → Bool
+edits d [] = false
+edits d (Todo.write_claim e ∷ todo) = false
 edits d (Todo.edit e q ∷ todo) = d == e
 edits d (Todo.show q rest ∷ todo) = edits_step d q
-edits d _ = false
+edits d (q ∷ todo) = edits d todo
 
 -- it has edited the domain's cell: the edit whose event is next
 abbrev pub edited : ℕ → Todos → Option Pending
+edited d [] = None
+edited d (Todo.write_claim e ∷ todo) = None
+edited d (Todo.edit e q ∷ todo) = None
 edited d (Todo.show q rest ∷ todo) = if edits_step d q then Some q else None
-edited d _ = None
+edited d (q ∷ todo) = edited d todo
 
 -- what a thread is told by a wake that is still to make
 abbrev pub wake_of : ℕ → Todos → Option Told
@@ -138,14 +149,30 @@ queue_in (Pending.CopyIn a amount) = queue_of amount
 queue_in _ = None
 
 abbrev pub looked : Todos → Option Addr
+looked [] = None
+looked (Todo.size_look x ∷ todo) = None
 looked (Todo.show q rest ∷ todo) = queue_in q
-looked (Todo.hold ∷ todo) = looked todo
-looked (Todo.read_claim d ∷ todo) = looked todo
-looked (Todo.region_load ∷ todo) = looked todo
-looked _ = None
+looked (q ∷ todo) = looked todo
 
 -- the domain to which a thread moves by the event that comes next, once it was claimed
+abbrev pub domain_moved : Pending → Option ℕ
+domain_moved (Pending.DomMove d who) = Some d
+domain_moved _ = None
+
 abbrev pub moving : Todos → Option ℕ
+moving [] = None
+moving (Todo.read_claim (Some d) ∷ todo) = None
 moving (Todo.read_done (Some d) ∷ todo) = Some d
-moving (Todo.show (Pending.DomMove d who) rest ∷ todo) = Some d
-moving _ = None
+moving (Todo.show q rest ∷ todo) = domain_moved q
+moving (q ∷ todo) = moving todo
+
+-- a row that a step names is one
+abbrev pub names_row : Todo → Bool
+names_row (Todo.end_call x) = nat_lt x ROWS
+names_row (Todo.pass who x) = nat_lt x ROWS
+names_row (Todo.drop x) = nat_lt x ROWS
+names_row (Todo.clean_pair who x) = nat_lt x ROWS
+names_row (Todo.wipe x) = nat_lt x ROWS
+names_row (Todo.vacate x) = nat_lt x ROWS
+names_row (Todo.recycle x) = nat_lt x ROWS
+names_row _ = true

@@ -1,12 +1,14 @@
 -- The relation between the processors and sites of a fine run, and the state of the access-matrix machine after the events that the
 -- run has shown.
-use Rattle.std.specs.Prelude.{◌≡◌, ℕ, ◌<◌, IsTrue, length}
+use Rattle.std.specs.Prelude.{◌≡◌, ℕ, ◌<◌, IsTrue, length, true}
 use Rattle.um_base.specs.declared.limits.TheConstants.{ROWS, THREADS}
 use Rattle.um_machine.specs.State.{State}
 use Rattle.um_fine.specs.Steps.{Site}
 use Rattle.um_fine.specs.Sites.{is_sort}
+use Rattle.std.specs.List.{list_all}
 use Rattle.um_erasure.specs.Fine.{Fine}
-use Rattle.um_erasure.specs.Threads.{AwayIs, ContextsAre, DomainKept, HeldIs, ReadyIs, RunningIs, ToldIs, WordIs}
+use Rattle.um_erasure.specs.Lists.{names_row}
+use Rattle.um_erasure.specs.Threads.{AwayIs, ContextsAre, DomainKept, HeldIs, ReadyIs, RunningIs, SchedulerIs, ToldIs, WordIs}
 use Rattle.um_erasure.specs.Claims.{ClaimsAre}
 use Rattle.um_erasure.specs.Objects.{ContentsAre, PairsAre, StatusIs}
 use Rattle.um_erasure.specs.Cleaning.{AreBlocks, CleanersAre, CleaningIs}
@@ -42,6 +44,7 @@ pub record ProcessorIs (f : Fine) (m : State) (k : ℕ) : Type 0 where
   pub looks : LooksAre f m k
   pub blocks : AreBlocks f.image (f.processors k).todo
   pub frames : AreFramed f.image (f.processors k).todo
+  pub rows : list_all names_row (f.processors k).todo ≡ true
   pub cleaning : (x : ℕ) → CleaningIs f m k x
 
 pub record Rel (f : Fine) (m : State) : Type 0 where
@@ -49,6 +52,7 @@ pub record Rel (f : Fine) (m : State) : Type 0 where
   pub sorts : (i : Site) → IsTrue (is_sort i (f.sites i))
   pub contexts : ContextsAre f m
   pub running : RunningIs f
+  pub scheduler : SchedulerIs f
   pub threads : (t : ℕ) → t < THREADS → ThreadIs f m t
   pub rows : (x : ℕ) → x < ROWS → RowIs f m x
   pub domains : (d : ℕ) → d < length f.image.domains → DomainIs f m d

@@ -1,7 +1,8 @@
 -- Threads: their words, where their own parts lie, what they are told, and who is ready.
-use Rattle.std.specs.Prelude.{◌≡◌, ◌≢◌, ◌⊎◌, ℕ, zero, suc, ◌+◌, ◌<◌, ◌≤◌, Bool, true, false, ◌==◌, ◌&&◌, ◌||◌, not, IsTrue, if◌then◌else◌, List, [], ◌∷◌, Option, Some, None, is_some, slice_set}
+use Rattle.std.specs.Prelude.{◌≡◌, ◌≢◌, ◌⊎◌, ℕ, zero, suc, ◌+◌, ◌<◌, ◌≤◌, Bool, true, false, ◌==◌, ◌&&◌, ◌||◌, not, IsTrue, if◌then◌else◌, List, [], ◌∷◌, Option, Some, None, is_some, slice_set, length, nat_lt}
+use Rattle.std.specs.List.{list_all}
 use Rattle.um_base.specs.declared.ask.Told.{Told}
-use Rattle.um_base.specs.declared.limits.TheConstants.{THREADS}
+use Rattle.um_base.specs.declared.limits.TheConstants.{ROWS, THREADS}
 use Rattle.um_machine.specs.declared.thread.Life.{Life}
 use Rattle.um_machine.specs.declared.thread.Thread.{Thread}
 use Rattle.um_machine.specs.State.{State, is_started, nobody, no_rows, thread_at}
@@ -42,13 +43,14 @@ abbrev pub is_ended : Life → Bool
 is_ended Life.Ended = true
 is_ended _ = false
 
--- An own part is that of the machine's thread, which was started, and holds what that thread's call holds.
+-- An own part is that of the machine's thread, which was started, and holds what that thread's call holds: rows that there are.
 pub record IsOf (m : State) (c : Context) : Type 0 where
   pub index : c.thread < THREADS
   pub own : as_thread c ≡ own_part (thread_at m c.thread)
   pub claims : (thread_at m c.thread).checked ≡ flags_of c.claims
   pub ended : c.ended ≡ is_ended (thread_at m c.thread).life
   pub started : IsTrue (is_started (thread_at m c.thread).life)
+  pub below : list_all (λ x. nat_lt x ROWS) c.claims ≡ true
 
 -- in how many places an own part lies: with processors that run the thread, on the way to the ready list, and parked
 abbrev pub places : Fine → ℕ → ℕ
@@ -101,3 +103,8 @@ pub record ReadyIs (f : Fine) (t : ℕ) : Type 0 where
 -- The scheduler counts the processors that run a thread.
 pub record RunningIs (f : Fine) : Type 0 where
   pub running : (scheduler f).running ≡ over_processors f (λ p. one_if (runs p))
+
+-- The scheduler has a place for each thread index.
+pub record SchedulerIs (f : Fine) : Type 0 where
+  pub parked : length (scheduler f).parked ≡ THREADS
+  pub told : length (scheduler f).told ≡ THREADS

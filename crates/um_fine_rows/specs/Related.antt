@@ -3,7 +3,7 @@
 use Rattle.std.specs.Prelude.{ℕ, ◌+◌, Bool, true, false, ◌==◌, ◌&&◌, ◌||◌, not, nat_le, nat_lt, List, [], ◌∷◌, length, Option, Some, None, is_some, slice_index_or, if◌then◌else◌}
 use Rattle.std.specs.List.{list_all}
 use Rattle.um_base.specs.declared.image.Image.{Image}
-use Rattle.um_base.specs.declared.limits.TheConstants.{ROWS, STATIC_ROWS}
+use Rattle.um_base.specs.declared.limits.TheConstants.{ROWS, STATIC_ROWS, THREADS}
 use Rattle.um_base.specs.declared.names.Addr.{Addr}
 use Rattle.um_base.specs.Places.{thread_of_row}
 use Rattle.um_base.specs.Regions.{Partitions}
@@ -29,7 +29,7 @@ use Rattle.um_fine.specs.Scheduler.{parked_at, told_at}
 use Rattle.um_fine.specs.Places.{Todo, Todos}
 use Rattle.um_fine.specs.Processor.{Processor, edit_of, fails, key_of, same_key}
 use Rattle.um_erasure.specs.Fine.{Fine, domain, heap, object, one_if, over_processors, parts, row, scheduler, word}
-use Rattle.um_erasure.specs.Lists.{cleaned_pairs, counted, edited, edits, edits_step, has_claimed, has_held, has_loaded, has_steps, is_recycle, is_wipe, looked, moving, runs, runs_thread, visited}
+use Rattle.um_erasure.specs.Lists.{cleaned_pairs, counted, edited, edits, edits_step, has_claimed, has_held, has_loaded, has_steps, is_recycle, is_wipe, looked, moving, names_row, runs, runs_thread, visited}
 use Rattle.um_erasure.specs.Threads.{flags_of, is_ended, is_ready_there, occurs, places, told_by}
 use Rattle.um_erasure.specs.Claims.{claims}
 use Rattle.um_erasure.specs.Objects.{is_being_born, recyclers, status_of, vacaters, wipers}
@@ -106,6 +106,7 @@ module _ (n : Tested) (f : Fine) (m : State) where
       && same_bool (is_user c.mode) (is_user me.mode) && c.stack.0 == me.stack.0
       && same_bool c.ended (is_ended me.life) && is_started me.life
       && list_all (λ x. same_bool (slice_index_or (flags_of c.claims) x false) (slice_index_or me.checked x false)) n.rows
+      && list_all (λ x. nat_lt x ROWS) c.claims
 
   abbrev pub parked_is : ℕ → Option Context → Bool
   parked_is t None = true
@@ -236,7 +237,7 @@ module _ (n : Tested) (f : Fine) (m : State) where
   is_behind (Todo.edit d q) (Todo.show r rest ∷ []) = edits_step d q && edits_step d r
   is_behind (Todo.edit d q) todo = false
   is_behind (Todo.size_look x) todo = elim (looked todo) as (λ _. Bool) [ None ↦ false | Some a ↦ x == row_named f.image a ]
-  is_behind (Todo.add c) todo = not (has_steps todo)
+  is_behind (Todo.add c) todo = not (has_steps todo) && length c.claims == 0
   is_behind Todo.park todo = not (has_steps todo)
   is_behind Todo.done todo = not (has_steps todo)
   is_behind q todo = true
@@ -249,7 +250,7 @@ module _ (n : Tested) (f : Fine) (m : State) where
   processor_is k =
       let p = f.processors k in
       let me = thread_at m p.context.thread in
-      implies (runs p) (is_of p.context) && added_are p.todo && is_framed p.todo && size_is p (looked p.todo) && reply_is p (moving p.todo)
+      implies (runs p) (is_of p.context) && added_are p.todo && is_framed p.todo && list_all names_row p.todo && size_is p (looked p.todo) && reply_is p (moving p.todo)
       && implies (has_held p) (p.domain == (word f p.context.thread).domain)
       && implies (has_claimed p) (p.version == (domain f p.domain).version)
       && table_stands p.table
@@ -262,6 +263,7 @@ module _ (n : Tested) (f : Fine) (m : State) where
       && list_all processor_is cpus
       && same_numbers (heap f).pools m.pools
       && length (heap f).free == ROWS && length (heap f).costs == ROWS
+      && length (scheduler f).parked == THREADS && length (scheduler f).told == THREADS
       && (scheduler f).running == over_processors f (λ p. one_if (runs p))
 
 -- The access-matrix machine along a run: its state, and the choices of the steps to come.
