@@ -52,5 +52,7 @@ pub mod SchedulerPart
 pub mod ListGrips
 pub mod HeldPart
 pub mod RowsPart
+pub mod ListTails
+pub mod DomainCounts
 pub mod MemoryPart
 pub mod WordsPart

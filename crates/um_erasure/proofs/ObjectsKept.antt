@@ -64,7 +64,7 @@ module _ (m : State) (y : ℕ) where
               | false ↦ k
             ];
         pool = λ may s left k. k;
-        parts = λ may s all k. k;
+        parts = λ may s d ps k. k;
       }
 
   status-keeping : Keeping NoStatuses SameStatus
@@ -82,7 +82,7 @@ module _ (m : State) (y : ℕ) where
               | false ↦ k
             ];
         pool = λ may s left k. k;
-        parts = λ may s all k. k;
+        parts = λ may s d ps k. k;
       }
 
   pub lasting-kept : (t x : ℕ) (q : Pending) (rest : Steps) → Makes NoBirths q → SameLasting (T.after m t x q rest)

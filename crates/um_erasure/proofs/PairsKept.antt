@@ -56,7 +56,7 @@ module _ (m : State) where
               | false ↦ k
             ];
         pool = λ may s left k. k;
-        parts = λ may s all k. k;
+        parts = λ may s d ps k. k;
       }
 
   pub pairs-same : (t x : ℕ) (q : Pending) (rest : Steps) → Makes NoPairs q → (T.after m t x q rest).pairs ≡ m.pairs

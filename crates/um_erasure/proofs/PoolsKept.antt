@@ -59,7 +59,7 @@ module _ (m : State) where
               | false ↦ k
             ];
         pool = λ may s left k. absurd may;
-        parts = λ may s all k. k;
+        parts = λ may s d ps k. k;
       }
 
   pub pools-same : (t x : ℕ) (q : Pending) (rest : Steps) → Makes NoPools q → (T.after m t x q rest).pools ≡ m.pools

@@ -74,7 +74,7 @@ wide-keeping =
             | false ↦ record { threads = k.threads; rows = k.rows; objects = k.objects; flags = k.flags }
           ];
       pool = λ may s left k. record { threads = k.threads; rows = k.rows; objects = k.objects; flags = k.flags };
-      parts = λ may s all k. record { threads = k.threads; rows = k.rows; objects = k.objects; flags = k.flags };
+      parts = λ may s d ps k. record { threads = k.threads; rows = k.rows; objects = k.objects; flags = k.flags };
     }
 
 wide-run : (s : State) (events : List Event) (s2 : State) → IsWide s → Runs s events s2 → IsWide s2

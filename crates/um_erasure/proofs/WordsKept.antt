@@ -94,7 +94,7 @@ module _ (m : State) (u : ℕ) where
               | false ↦ k
             ];
         pool = λ may s left k. k;
-        parts = λ may s all k. k;
+        parts = λ may s d ps k. k;
       }
 
   -- what a thread is changes by none of these steps

@@ -106,7 +106,7 @@ module _ (May : Part → Type 0) where
     pub pair : May pairs → (s : State) (u x : ℕ) (there : Bool) → Same s → Same (T.paired s u x there)
     pub bytes : May memory → (s : State) (a : ℕ) (bs : List ℕ) → Same s → Same (with_bytes s a bs)
     pub pool : May pools → (s : State) (left : List ℕ) → Same s → Same (record s { pools = left })
-    pub parts : May domains → (s : State) (all : List (Option Partitions)) → Same s → Same (record s { domains = all })
+    pub parts : May domains → (s : State) (d : ℕ) (ps : Option Partitions) → Same s → Same (record s { domains = slice_set s.domains d ps })
 
 module _ (May : Part → Type 0) (Same : State → Type 0) (kept : Keeping May Same) (m : State) (t : ℕ) (first : Same m) where
   on : (s : State) (th : Thread) (rest : Steps) → said_of th ≡ said_of (thread_at s t) → Same s → Same (T.goes_on s t th rest)
@@ -173,7 +173,7 @@ module _ (May : Part → Type 0) (Same : State → Type 0) (kept : Keeping May S
 
   domain-set : (d : ℕ) (parts : Option Partitions) (reply : Reply) (rest : Steps) → May domains → Same (T.after_domain m t (thread_at m t) d parts reply rest)
   domain-set d parts reply rest may =
-      on (record m { domains = slice_set m.domains d parts }) (record (thread_at m t) { reply = reply }) rest refl (kept.parts may m (slice_set m.domains d parts) first)
+      on (record m { domains = slice_set m.domains d parts }) (record (thread_at m t) { reply = reply }) rest refl (kept.parts may m d parts first)
 
   bytes-said : (a : ℕ) (bs : List ℕ) → said_of (thread_at m t) ≡ said_of (thread_at (with_bytes m a bs) t)
   bytes-said a bs =

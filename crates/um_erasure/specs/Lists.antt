@@ -85,6 +85,11 @@ has_claimed p = list_any is_own_done p.todo && not (list_any is_own_claim p.todo
 abbrev pub has_loaded : Processor → Bool
 has_loaded p = has_claimed p && not (list_any is_region_load p.todo)
 
+-- the end of a claim to a domain that a thread moves to, which doesn't fail
+abbrev pub is_move_done : Todo → Bool
+is_move_done (Todo.read_done (Some d)) = true
+is_move_done _ = false
+
 -- it has a claim to read a domain that a thread moves to: a move that fails ends it by its event
 abbrev pub moves_step : ℕ → Reply → Pending → Bool
 moves_step d reply (Pending.DomMove e who) = fails reply && (d == e)

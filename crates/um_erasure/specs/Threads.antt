@@ -1,6 +1,6 @@
 -- Threads: their words, where their own parts lie, what they are told, and who is ready.
 use Rattle.std.specs.Prelude.{◌≡◌, ◌≢◌, ◌⊎◌, ℕ, zero, suc, ◌+◌, ◌<◌, ◌≤◌, Bool, true, false, ◌==◌, ◌&&◌, ◌||◌, not, IsTrue, if◌then◌else◌, List, [], ◌∷◌, Option, Some, None, is_some, slice_set, length, nat_lt}
-use Rattle.std.specs.List.{list_all}
+use Rattle.std.specs.List.{list_all, list_any}
 use Rattle.um_base.specs.declared.ask.Told.{Told}
 use Rattle.um_base.specs.declared.limits.TheConstants.{ROWS, THREADS}
 use Rattle.um_machine.specs.declared.thread.Life.{Life}
@@ -10,7 +10,8 @@ use Rattle.um_fine.specs.Context.{Context, as_thread}
 use Rattle.um_fine.specs.Scheduler.{parked_at, told_at, waits}
 use Rattle.um_erasure.specs.Offers.{IsPutBack}
 use Rattle.um_erasure.specs.Fine.{Fine, one_if, over_processors, scheduler, word}
-use Rattle.um_erasure.specs.Lists.{Adds, counted, has_held, is_add, runs, runs_thread, wake_of}
+use Rattle.um_fine.specs.Processor.{fails}
+use Rattle.um_erasure.specs.Lists.{Adds, counted, has_held, is_add, is_move_done, runs, runs_thread, wake_of}
 
 -- The word of a thread index says what the machine's thread is.
 pub record WordIs (f : Fine) (m : State) (t : ℕ) : Type 0 where
@@ -80,12 +81,15 @@ told_by f t (suc k) = first_told (wake_of t (f.processors k).todo) (told_by f t 
 pub record ToldIs (f : Fine) (m : State) (t : ℕ) : Type 0 where
   pub told : (thread_at m t).told ≡ told_by f t f.cpus
 
--- A thread is held by the processor that runs it, which then has its domain.
+-- A thread is held by the processor that runs it.
 pub record HeldIs (f : Fine) (t : ℕ) : Type 0 where
   pub held : one_if (word f t).held ≡ over_processors f (λ p. one_if (runs_thread t p && has_held p))
 
+-- A processor that holds its thread has that one's domain; and what it was told of a domain to which its thread moves is no error while it
+-- has still to end the claim.
 pub record DomainKept (f : Fine) (k : ℕ) : Type 0 where
   pub kept : has_held (f.processors k) ≡ true → (f.processors k).domain ≡ (word f (f.processors k).context.thread).domain
+  pub moves : list_any is_move_done (f.processors k).todo ≡ true → fails (f.processors k).reply ≡ false
 
 -- how often a number stands in a list
 abbrev pub occurs : ℕ → List ℕ → ℕ

@@ -1,7 +1,7 @@
 -- The relation of um_erasure, tested after each step of a worked run for some threads, rows and domains. Where a part of it equates
 -- lists of records, their lengths are compared.
 use Rattle.std.specs.Prelude.{ℕ, ◌+◌, Bool, true, false, ◌==◌, ◌&&◌, ◌||◌, not, nat_le, nat_lt, List, [], ◌∷◌, length, Option, Some, None, is_some, slice_index_or, if◌then◌else◌}
-use Rattle.std.specs.List.{list_all}
+use Rattle.std.specs.List.{list_all, list_any}
 use Rattle.um_base.specs.declared.image.Image.{Image}
 use Rattle.um_base.specs.declared.limits.TheConstants.{ROWS, STATIC_ROWS, THREADS}
 use Rattle.um_base.specs.declared.names.Addr.{Addr}
@@ -29,7 +29,7 @@ use Rattle.um_fine.specs.Scheduler.{parked_at, told_at}
 use Rattle.um_fine.specs.Places.{Todo, Todos}
 use Rattle.um_fine.specs.Processor.{Processor, edit_of, fails, key_of, same_key}
 use Rattle.um_erasure.specs.Fine.{Fine, domain, heap, object, one_if, over_processors, parts, row, scheduler, word}
-use Rattle.um_erasure.specs.Lists.{cleaned_pairs, counted, edited, edits, edits_step, has_claimed, has_held, has_loaded, has_steps, is_recycle, is_wipe, looked, moving, names_row, runs, runs_thread, visited}
+use Rattle.um_erasure.specs.Lists.{cleaned_pairs, counted, edited, edits, edits_step, has_claimed, has_held, has_loaded, has_steps, is_move_done, is_recycle, is_wipe, looked, moving, names_row, runs, runs_thread, visited}
 use Rattle.um_erasure.specs.Threads.{flags_of, is_ended, is_ready_there, occurs, places, told_by}
 use Rattle.um_erasure.specs.Claims.{claims}
 use Rattle.um_erasure.specs.Objects.{is_being_born, recyclers, status_of, vacaters, wipers}
@@ -252,6 +252,7 @@ module _ (n : Tested) (f : Fine) (m : State) where
       let me = thread_at m p.context.thread in
       implies (runs p) (is_of p.context) && added_are p.todo && is_framed p.todo && list_all names_row p.todo && size_is p (looked p.todo) && reply_is p (moving p.todo)
       && implies (has_held p) (p.domain == (word f p.context.thread).domain)
+      && implies (list_any is_move_done p.todo) (not (fails p.reply))
       && implies (has_claimed p) (p.version == (domain f p.domain).version)
       && table_stands p.table
       && implies (has_loaded p) (table_loaded p p.table)
