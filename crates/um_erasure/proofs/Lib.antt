@@ -53,6 +53,7 @@ pub mod ListGrips
 pub mod HeldPart
 pub mod RowsPart
 pub mod ListTails
+pub mod DomainReads
 pub mod DomainCounts
 pub mod MemoryPart
 pub mod WordsPart

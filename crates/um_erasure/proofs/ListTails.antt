@@ -9,7 +9,6 @@ use Rattle.um_base.specs.declared.instr.Instr.{Instr}
 use Rattle.um_base.specs.declared.limits.TheConstants.{ROWS}
 use Rattle.um_base.specs.declared.names.ThreadIx.{ThreadIx}
 use Rattle.um_base.specs.Places.{own_row, thread_of_row}
-use Rattle.um_machine.specs.declared.pending.Amount.{Amount}
 use Rattle.um_machine.specs.declared.pending.Pending.{Pending}
 use Rattle.um_machine.specs.Order.{Steps}
 use Rattle.um_machine.specs.State.{instruction_at}
@@ -19,7 +18,7 @@ use Rattle.um_fine.specs.Asks.{begins_cleaning}
 use Rattle.um_fine.specs.Context.{Context}
 use Rattle.um_fine.specs.Continues.{continues, resumed}
 use Rattle.um_fine.specs.Follows.{after_show, after_take, behind_step, dropped_at, end_calls, filled_up, goes_on_by, p_next, row_number, wakes, with_cleaned}
-use Rattle.um_fine.specs.Places.{Todo, Todos, but, clean_pairs, cleaning, cleaning_of, drops, emptying, end_of_turn, fine_steps, next_steps, passes, turn, turn_of, with_cleaning}
+use Rattle.um_fine.specs.Places.{Todo, Todos, but, clean_pairs, cleaning, cleaning_of, drops, emptying, end_of_turn, fine_steps, next_steps, passes, turn_of, with_cleaning}
 use Rattle.um_fine.specs.Processor.{Processor}
 use Rattle.um_fine.specs.Steps.{Exchange, FineStep}
 use Rattle.um_erasure.specs.Frames.{Behind}
