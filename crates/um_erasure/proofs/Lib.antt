@@ -55,5 +55,7 @@ pub mod RowsPart
 pub mod ListTails
 pub mod DomainReads
 pub mod DomainCounts
+pub mod DomainFacts
+pub mod DomainPart
 pub mod MemoryPart
 pub mod WordsPart

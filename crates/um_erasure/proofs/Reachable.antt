@@ -2,9 +2,10 @@
 -- of them, and that permissions are of live objects.
 use Rattle.std.proofs.Common.{◌≡◌, ℕ, zero, suc, ◌<◌, ◌≤◌, Bool, true, false, List, [], ◌∷◌, length, refl, sym, ap, ◌∙◌, subst, arith}
 use Rattle.std.specs.Prelude.{slice_set, ◌-◌, if◌then◌else◌, nat_lt, replicate, slice_index_or}
-use Rattle.std.proofs.lemmas.List.{length-set}
+use Rattle.std.proofs.lemmas.List.{length-map, length-set}
 use Rattle.um_base.specs.declared.act.Event.{Event}
 use Rattle.um_base.specs.declared.image.Boot.{Boot}
+use Rattle.um_base.specs.declared.image.DomainDef.{DomainDef}
 use Rattle.um_base.specs.declared.image.Image.{Image}
 use Rattle.um_base.specs.declared.image.Partition.{Partition}
 use Rattle.um_base.specs.declared.limits.TheConstants.{PARTITION_AREA, ROWS, STACK_AREA, STATIC_ROWS, THREADS}
@@ -13,14 +14,14 @@ use Rattle.um_base.specs.Places.{thread_of_row}
 use Rattle.um_machine.specs.declared.pending.Pending.{Pending}
 use Rattle.um_machine.specs.Memory.{put_bytes, with_bytes}
 use Rattle.um_machine.specs.Objects as Plain
-use Rattle.um_machine.specs.Run.{Runs, blank, boot_thread, booted, booted_one, granted, index_or, loaded, opening}
+use Rattle.um_machine.specs.Run.{Runs, blank, boot_thread, booted, booted_one, granted, index_or, loaded, opening, parts_of}
 use Rattle.um_machine.specs.State.{State, with_pair, with_thread}
 use Rattle.um_reach.proofs.Cores.{at_set, core_of, status_is}
 use Rattle.um_reach.proofs.RunMoves.{known_run}
 use Rattle.um_reach.proofs.Turns.{IsKnown}
 use Rattle.um_erasure.proofs.DropSteps.{Held}
 use Rattle.um_erasure.proofs.Erased.{IsReachable}
-use Rattle.um_erasure.proofs.FirstObjects.{all-objects}
+use Rattle.um_erasure.proofs.FirstObjects.{all-objects, opening-image}
 use Rattle.um_erasure.proofs.FirstThreads.{copies-long, threads-long}
 use Rattle.um_erasure.proofs.ThreadLists.{dues-long, set-long}
 use Rattle.um_erasure.proofs.Writes.{Keeping, Makes, Part, after-kept}
@@ -44,6 +45,7 @@ pub record IsWide (s : State) : Type 0 where
   pub rows : length s.pairs ≡ ROWS
   pub objects : length s.objects ≡ ROWS
   pub flags : (x : ℕ) → x < ROWS → length (slice_index_or s.pairs x []) ≡ THREADS
+  pub domains : length s.domains ≡ length s.image.domains
 
 abbrev Flags : State → Type 0
 Flags s = (x : ℕ) → x < ROWS → length (slice_index_or s.pairs x []) ≡ THREADS
@@ -56,25 +58,26 @@ flags-pair s u x there h y =
 wide-keeping : Keeping Any IsWide
 wide-keeping =
     record {
-      own = λ s u th e k. record { threads = set-long s.threads u th ∙ k.threads; rows = k.rows; objects = k.objects; flags = k.flags };
-      word = λ may s u th k. record { threads = set-long s.threads u th ∙ k.threads; rows = k.rows; objects = k.objects; flags = k.flags };
-      object = λ may s x o e q k. record { threads = k.threads; rows = k.rows; objects = length-set s.objects x o ∙ k.objects; flags = k.flags };
-      status = λ may s x o e k. record { threads = k.threads; rows = k.rows; objects = length-set s.objects x o ∙ k.objects; flags = k.flags };
-      birth = λ may s x o k. record { threads = k.threads; rows = k.rows; objects = length-set s.objects x o ∙ k.objects; flags = k.flags };
+      own = λ s u th e k. record { threads = set-long s.threads u th ∙ k.threads; rows = k.rows; objects = k.objects; flags = k.flags; domains = k.domains };
+      word = λ may s u th k. record { threads = set-long s.threads u th ∙ k.threads; rows = k.rows; objects = k.objects; flags = k.flags; domains = k.domains };
+      object = λ may s x o e q k. record { threads = k.threads; rows = k.rows; objects = length-set s.objects x o ∙ k.objects; flags = k.flags; domains = k.domains };
+      status = λ may s x o e k. record { threads = k.threads; rows = k.rows; objects = length-set s.objects x o ∙ k.objects; flags = k.flags; domains = k.domains };
+      birth = λ may s x o k. record { threads = k.threads; rows = k.rows; objects = length-set s.objects x o ∙ k.objects; flags = k.flags; domains = k.domains };
       pair = λ may s u x there k.
           record {
             threads = dues-long x 0 (slice_index_or (with_pair s u x there).pairs x []) s.threads ∙ k.threads;
             rows = length-set s.pairs x _ ∙ k.rows;
             objects = k.objects;
             flags = flags-pair s u x there k.flags;
+            domains = k.domains;
           };
       bytes = λ may s a bs k.
           elim (nat_lt a STACK_AREA) as (λ c. IsWide (if c then record s { memory = put_bytes s.memory (a - PARTITION_AREA) bs } else record s { stacks = put_bytes s.stacks (a - STACK_AREA) bs })) [
-            | true ↦ record { threads = k.threads; rows = k.rows; objects = k.objects; flags = k.flags }
-            | false ↦ record { threads = k.threads; rows = k.rows; objects = k.objects; flags = k.flags }
+            | true ↦ record { threads = k.threads; rows = k.rows; objects = k.objects; flags = k.flags; domains = k.domains }
+            | false ↦ record { threads = k.threads; rows = k.rows; objects = k.objects; flags = k.flags; domains = k.domains }
           ];
-      pool = λ may s left k. record { threads = k.threads; rows = k.rows; objects = k.objects; flags = k.flags };
-      parts = λ may s d ps k. record { threads = k.threads; rows = k.rows; objects = k.objects; flags = k.flags };
+      pool = λ may s left k. record { threads = k.threads; rows = k.rows; objects = k.objects; flags = k.flags; domains = k.domains };
+      parts = λ may s d ps k. record { threads = k.threads; rows = k.rows; objects = k.objects; flags = k.flags; domains = length-set s.domains d ps ∙ k.domains };
     }
 
 wide-run : (s : State) (events : List Event) (s2 : State) → IsWide s → Runs s events s2 → IsWide s2
@@ -132,6 +135,34 @@ copies-at zero x flags l = absurd (omega (arith, l))
 copies-at (suc n) zero flags l = refl
 copies-at (suc n) (suc x) flags l = copies-at n x flags (omega (arith, l))
 
+granted-domains : (t : ℕ) (rows : List Row) (s : State) → (granted t rows s).domains ≡ s.domains
+granted-domains t [] s = refl
+granted-domains t (x ∷ rows) s = granted-domains t rows (with_pair s t x.0 true)
+
+booted-domains : (boots : List Boot) (s : State) → (booted boots s).domains ≡ s.domains
+booted-domains [] s = refl
+booted-domains (boot ∷ boots) s =
+    let t = index_or (thread_of_row s.image boot.thread.0) in
+    booted-domains boots (booted_one boot s) ∙ granted-domains t (boot.thread ∷ boot.grants) (with_thread s t (boot_thread s.image boot))
+
+bytes-domains : (s : State) (a : ℕ) (bs : List ℕ) → (with_bytes s a bs).domains ≡ s.domains
+bytes-domains s a bs = by (nat_lt a STACK_AREA)
+  where
+    by : (c : Bool) → (if c then record s { memory = put_bytes s.memory (a - PARTITION_AREA) bs } else record s { stacks = put_bytes s.stacks (a - STACK_AREA) bs }).domains ≡ s.domains
+    by true = refl
+    by false = refl
+
+loaded-domains : (ps : List Partition) (s : State) → (loaded ps s).domains ≡ s.domains
+loaded-domains [] s = refl
+loaded-domains (p ∷ ps) s = loaded-domains ps (with_bytes s p.range.start.0 p.bytes) ∙ bytes-domains s p.range.start.0 p.bytes
+
+-- as many domains as the image has
+opening-domains : (image : Image) → length (opening image).domains ≡ length (opening image).image.domains
+unfolding blank
+opening-domains image =
+    ap length (booted-domains image.boots (loaded image.partitions (blank image)) ∙ loaded-domains image.partitions (blank image))
+    ∙ (length-map image.domains (λ (d : DomainDef). parts_of image d.parts) ∙ ap (λ (i : Image). length i.domains) (sym (opening-image image)))
+
 opening-wide : (image : Image) → length image.objects ≤ STATIC_ROWS → IsWide (opening image)
 unfolding blank
 opening-wide image few =
@@ -140,6 +171,7 @@ opening-wide image few =
       rows = booted-rows image.boots (loaded image.partitions (blank image))
           ∙ (loaded-rows image.partitions (blank image) ∙ copies-long ROWS (replicate THREADS false));
       objects = all-objects image 0 few;
+      domains = opening-domains image;
       flags = booted-flags image.boots (loaded image.partitions (blank image))
           (loaded-flags image.partitions (blank image) (λ x l. ap length (copies-at ROWS x (replicate THREADS false) l) ∙ copies-long THREADS false));
     }

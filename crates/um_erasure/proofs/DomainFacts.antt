@@ -1,0 +1,192 @@
+-- What steps do to domains: those of the machine that leave them, what an edit makes of one, and what a processor has edited.
+use Rattle.std.proofs.Common.{true≢false, ◌≡◌, ℕ, zero, suc, ◌+◌, ◌-◌, ◌<◌, ◌≤◌, Bool, true, false, [], ◌∷◌, Option, Some, None, refl, sym, ap, ◌∙◌, arith}
+use Rattle.std.specs.Prelude.{◌==◌, ◌||◌, Result, Ok, Err, if◌then◌else◌, is_some, nat_lt}
+use Rattle.std.proofs.lemmas.Bool.{eqb-false, eqb-true, false≢true}
+use Rattle.um_base.specs.declared.act.Act.{Act}
+use Rattle.um_base.specs.declared.image.Image.{Image}
+use Rattle.um_base.specs.declared.limits.TheConstants.{PARTITION_AREA, STACK_AREA}
+use Rattle.um_base.specs.declared.attr.Attr.{Attr}
+use Rattle.um_base.specs.declared.names.Errno.{Errno}
+use Rattle.um_base.specs.declared.names.Range.{Range}
+use Rattle.um_base.specs.Regions.{Partitions}
+use Rattle.um_machine.specs.declared.pending.Amount.{Amount}
+use Rattle.um_machine.specs.declared.pending.Pending.{Pending}
+use Rattle.um_machine.specs.Domains.{domain_after, reply_to}
+use Rattle.um_machine.specs.Memory.{put_bytes}
+use Rattle.um_machine.specs.Order.{Steps}
+use Rattle.um_machine.specs.State.{State}
+use Rattle.um_machine.specs.Table as T
+use Rattle.um_words.specs.declared.dom_word.DomWord.{DomWord}
+use Rattle.um_words.specs.declared.fine.FineAct.{FineAct}
+use Rattle.um_words.specs.declared.fine.Unseen.{Unseen}
+use Rattle.um_words.specs.Domains as Words
+use Rattle.um_fine.specs.Context.{Context}
+use Rattle.um_fine.specs.Places.{Todo, Todos, fine_steps}
+use Rattle.um_fine.specs.Processor.{edit_of}
+use Rattle.um_erasure.specs.Fine.{one_if, parts, total}
+use Rattle.um_erasure.specs.Lists.{edited, edits, edits_step}
+use Rattle.um_erasure.proofs.ListTails.{Reads, is_passed}
+use Rattle.um_erasure.proofs.DomainReads.{or-false}
+use Rattle.um_erasure.proofs.MemorySteps.{part-total}
+use Rattle.um_erasure.proofs.Writes.{Keeping, Makes, Part, after-kept, domains}
+
+-- The machine: which steps leave its domains.
+
+abbrev pub NoDomains : Part → Type 0
+NoDomains domains = ⊥
+NoDomains part = Unit {0}
+
+module _ (m : State) where
+  abbrev SameDomains : State → Type 0
+  SameDomains s = s.domains ≡ m.domains
+
+  domains-keeping : Keeping NoDomains SameDomains
+  domains-keeping =
+      record {
+        own = λ s v th e k. k;
+        word = λ may s v th k. k;
+        object = λ may s x o e q k. k;
+        status = λ may s x o e k. k;
+        birth = λ may s x o k. k;
+        pair = λ may s v x there k. k;
+        bytes = λ may s a bs k.
+            elim (nat_lt a STACK_AREA) as (λ c. SameDomains (if c then record s { memory = put_bytes s.memory (a - PARTITION_AREA) bs } else record s { stacks = put_bytes s.stacks (a - STACK_AREA) bs })) [
+              | true ↦ k
+              | false ↦ k
+            ];
+        pool = λ may s left k. k;
+        parts = λ may s d ps k. absurd may;
+      }
+
+  pub domains-same : (t x : ℕ) (q : Pending) (rest : Steps) → Makes NoDomains q → (T.after m t x q rest).domains ≡ m.domains
+  domains-same t x q rest h = after-kept NoDomains SameDomains domains-keeping m t refl x q rest h
+
+-- what an edit makes of a domain leaves it initialised, and initialises it where it replies so
+pub some-stays : (ps : Partitions) (made : Result Partitions Errno) → is_some (domain_after (Some ps) made) ≡ true
+some-stays ps (Ok new) = refl
+some-stays ps (Err e) = refl
+
+pub adds-some : (image : Image) (d : ℕ) (range : Range) (attr : Attr) (before : Option Partitions) → is_some (domain_after before (edit_of image (Pending.DomAdd d range attr) before)) ≡ is_some before
+adds-some image d range attr None = refl
+adds-some image d range attr (Some ps) = some-stays ps (edit_of image (Pending.DomAdd d range attr) (Some ps))
+
+pub removes-some : (image : Image) (d : ℕ) (range : Range) (attr : Attr) (before : Option Partitions) → is_some (domain_after before (edit_of image (Pending.DomRemove d range attr) before)) ≡ is_some before
+removes-some image d range attr None = refl
+removes-some image d range attr (Some ps) = some-stays ps (edit_of image (Pending.DomRemove d range attr) (Some ps))
+
+pub inits-some : (before : Option Partitions) (made : Result Partitions Errno) → is_some (domain_after before made) ≡ (is_some before || Words.is_zero (reply_to made))
+inits-some None (Ok new) = refl
+inits-some None (Err e) = refl
+inits-some (Some parts) (Ok new) = refl
+inits-some (Some parts) (Err e) = refl
+
+abbrev pub is_edit : FineAct → Bool
+is_edit (FineAct.Unseen Unseen.Edit) = true
+is_edit act = false
+
+abbrev pub is_init_act : Act → Bool
+is_init_act (Act.DomInit d reply) = true
+is_init_act act = false
+
+abbrev pub is_init : FineAct → Bool
+is_init (FineAct.Shown said more) = is_init_act said.act
+is_init (FineAct.Unseen u) = false
+
+abbrev pub is_unseen : FineAct → Bool
+is_unseen (FineAct.Unseen u) = true
+is_unseen act = false
+
+pub visits-no-edit : (b : Bool) (x y : FineAct) → is_edit x ≡ false → is_edit y ≡ false → is_edit (if b then x else y) ≡ false
+visits-no-edit true x y h k = h
+visits-no-edit false x y h k = k
+
+-- the steps that are no events of instructions, no edits and no claims to read
+abbrev pub is_neither : Todo → Bool
+is_neither (Todo.show q rest) = false
+is_neither (Todo.write_claim u) = false
+is_neither (Todo.edit u q) = false
+is_neither (Todo.read_claim u) = false
+is_neither q = true
+
+-- Lists: a processor that has edited a domain has the claim to write it.
+pub edited-edits : (d : ℕ) (q : Pending) (todo : Todos) → edited d todo ≡ Some q → edits d todo ≡ true
+edited-edits d q [] h = absurd (false≢true (ap is_some h))
+edited-edits d q (Todo.write_claim u ∷ todo) h = absurd (false≢true (ap is_some h))
+edited-edits d q (Todo.edit u r ∷ todo) h = absurd (false≢true (ap is_some h))
+edited-edits d q (Todo.show r rest ∷ todo) h = by (edits_step d r) refl h
+  where
+    by : (b : Bool) → edits_step d r ≡ b → (if b then Some r else None) ≡ Some q → edits_step d r ≡ true
+    by true e k = e
+    by false e k = absurd (false≢true (ap is_some k))
+edited-edits d q (Todo.hold ∷ todo) h = edited-edits d q todo h
+edited-edits d q (Todo.let_go ∷ todo) h = edited-edits d q todo h
+edited-edits d q (Todo.read_claim u ∷ todo) h = edited-edits d q todo h
+edited-edits d q (Todo.read_done u ∷ todo) h = edited-edits d q todo h
+edited-edits d q (Todo.region_load ∷ todo) h = edited-edits d q todo h
+edited-edits d q (Todo.size_look x ∷ todo) h = edited-edits d q todo h
+edited-edits d q (Todo.end_call x ∷ todo) h = edited-edits d q todo h
+edited-edits d q (Todo.wake who told ∷ todo) h = edited-edits d q todo h
+edited-edits d q (Todo.add c ∷ todo) h = edited-edits d q todo h
+edited-edits d q (Todo.pass who x ∷ todo) h = edited-edits d q todo h
+edited-edits d q (Todo.drop x ∷ todo) h = edited-edits d q todo h
+edited-edits d q (Todo.clean_pair who x ∷ todo) h = edited-edits d q todo h
+edited-edits d q (Todo.wipe x ∷ todo) h = edited-edits d q todo h
+edited-edits d q (Todo.vacate x ∷ todo) h = edited-edits d q todo h
+edited-edits d q (Todo.recycle x ∷ todo) h = edited-edits d q todo h
+edited-edits d q (Todo.park ∷ todo) h = edited-edits d q todo h
+edited-edits d q (Todo.done ∷ todo) h = edited-edits d q todo h
+
+-- two of the numbers of a sum
+pub two-parts : (g : ℕ → ℕ) (n a b : ℕ) → a < n → b < n → (a ≡ b → ⊥) → g a + g b ≤ total g n
+two-parts g zero a b l k ne = absurd (omega (arith, l))
+two-parts g (suc n) a b l k ne = by (a == n) refl (b == n) refl (λ less more. two-parts g n a b less more ne)
+  where
+    below : (c : ℕ) → c < suc n → (c ≡ n → ⊥) → c < n
+    below c less other = omega (arith, less, other)
+
+    by : (c : Bool) → (a == n) ≡ c → (z : Bool) → (b == n) ≡ z → (a < n → b < n → g a + g b ≤ total g n) → g a + g b ≤ total g (suc n)
+    by true q true r more = absurd (ne (eqb-true a n q ∙ sym (eqb-true b n r)))
+    by true q false r more =
+        let part = part-total g n b (below b k (eqb-false b n r)) in
+        let same : g a ≡ g n = ap g (eqb-true a n q) in
+        omega (arith, part, same)
+    by false q true r more =
+        let part = part-total g n a (below a l (eqb-false a n q)) in
+        let same : g b ≡ g n = ap g (eqb-true b n r) in
+        omega (arith, part, same)
+    by false q false r more =
+        let both = more (below a l (eqb-false a n q)) (below b k (eqb-false b n r)) in omega (arith, both)
+
+pub one-at-most : (b : Bool) → one_if b ≤ 1
+one-at-most true = omega arith
+one-at-most false = omega arith
+
+pub edited-passed : (d : ℕ) (q : Todo) (todo : Todos) → is_passed q ≡ true → edited d (q ∷ todo) ≡ edited d todo
+edited-passed d (Todo.show q rest) todo h = absurd (false≢true h)
+edited-passed d (Todo.write_claim e) todo h = absurd (false≢true h)
+edited-passed d (Todo.edit e q) todo h = absurd (false≢true h)
+edited-passed d q todo h = refl
+
+pub edited-none : (image : Image) (d : ℕ) (c : Context) (q : Pending) (rest : Steps) → edited d (fine_steps image c q rest) ≡ None
+edited-none image d c (Pending.Probe a (Amount.Bytes n)) rest = refl
+edited-none image d c (Pending.Probe a (Amount.MessageOf b)) rest = refl
+edited-none image d c (Pending.CopyIn a (Amount.Bytes n)) rest = refl
+edited-none image d c (Pending.CopyIn a (Amount.MessageOf b)) rest = refl
+edited-none image d c q rest = refl
+
+pub edited-reads : (image : Image) (d : ℕ) → Reads image (edited d) None
+edited-reads image d = record { empty = refl; passed = edited-passed d; expanded = edited-none image d; begins = refl; exits = refl }
+
+-- whether a domain is initialised changes by an event of an initialisation alone
+pub init-else : (w : DomWord) (act : FineAct) → is_init act ≡ false → (Words.domain_after w act).init ≡ w.init
+init-else w (FineAct.Shown said more) h = by said.act h
+  where
+    by : (act : Act) → is_init_act act ≡ false → (Words.domain_after_act w act).init ≡ w.init
+    by (Act.DomInit u reply) h = absurd (true≢false h)
+    by (Act.DomAdd u range attr reply) h = or-false w.init
+    by (Act.DomRemove u range attr reply) h = or-false w.init
+    by act h = refl
+init-else w (FineAct.Unseen Unseen.ReadClaim) h = refl
+init-else w (FineAct.Unseen Unseen.ReadDone) h = refl
+init-else w (FineAct.Unseen Unseen.WriteClaim) h = refl
+init-else w (FineAct.Unseen u) h = refl
