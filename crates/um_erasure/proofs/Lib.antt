@@ -1,7 +1,8 @@
 -- What fine steps do to both machines. Erased is the theorem, under the premise that each step keeps the relation, and FirstLawful that it
--- holds at the opening (First and the files of that name, Opens). Of the premise: own parts (Own, Others), claims (ListClaims, RowClaims),
--- what is kept (ListFits, ListBlocks, Kept, Quiet, Writes and the files named Kept and Written), and that events are steps of the machine
--- where the relation holds (Says, Offered, HeldRows, Shown and the files of steps).
+-- holds at the opening (First and the files of that name, Opens). Of the premise: Leaves is what a lawful step makes of the machine's state,
+-- and the files named Part have the parts of the relation that are kept whole, with those named List for lists; own parts (Own, Others),
+-- claims (ListClaims, RowClaims), what is kept beside (ListFits, ListBlocks, Kept, Quiet, Writes and the files named Kept and Written), and
+-- that events are steps of the machine where the relation holds (Says, Offered, HeldRows, Shown and the files of steps).
 pub mod Erased
 pub mod ThreadLists
 pub mod Own
