@@ -100,7 +100,7 @@ adds-one : (image : Image) (u : ℕ) (c : Context) (todo : Todos) → Fits image
 adds-one image u c [] fit h = absurd (omega (arith, h))
 adds-one image u c (Todo.show q rest ∷ todo) fit h = inr (adds-behind image u c q rest fit.0 (subst (λ (l : Todos). 0 < counted (is_add u) l) fit.1 h))
 adds-one image u c (Todo.pass who x ∷ todo) fit h =
-    inr (adds-in image u c fit.step fit.rest (O.passed fit.pending) (subst (λ (l : Todos). 0 < counted (is_add u) l) fit.behind h))
+    inr (adds-in image u c fit.0.step fit.0.rest (O.passed fit.0.pending) (subst (λ (l : Todos). 0 < counted (is_add u) l) fit.0.behind h))
 adds-one image u c (Todo.drop x ∷ todo) fit h =
     inr (adds-in image u c fit.step fit.rest (O.dropped fit.pending) (subst (λ (l : Todos). 0 < counted (is_add u) l) fit.behind h))
 adds-one image u c (Todo.add d ∷ todo) fit h = by (d.thread == u) refl (adds-one image u c todo fit.1)

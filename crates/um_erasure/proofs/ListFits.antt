@@ -1,6 +1,7 @@
 -- Each step leaves a list that fits: what is on it of the thread's own steps is what the thread is offered.
-use Rattle.std.proofs.Common.{◌≡◌, inl, inr, ℕ, ◌+◌, Bool, true, false, List, [], ◌∷◌, ◌++◌, Option, Some, None, refl, sym, ap, ◌∙◌, subst}
+use Rattle.std.proofs.Common.{◌≢◌, arith, ◌≡◌, inl, inr, ℕ, ◌+◌, Bool, true, false, List, [], ◌∷◌, ◌++◌, Option, Some, None, refl, sym, ap, ◌∙◌, subst}
 use Rattle.std.specs.Prelude.{◌==◌, if◌then◌else◌, nat_lt, is_some}
+use Rattle.std.proofs.lemmas.Bool.{eqb-false, eqb-true}
 use Rattle.um_base.specs.declared.ask.Told.{Told}
 use Rattle.um_base.specs.declared.image.Image.{Image}
 use Rattle.um_base.specs.declared.instr.Instr.{Instr}
@@ -27,6 +28,14 @@ use Rattle.um_erasure.specs.Offers.{Bare, Drops, behind_shown, Fits, IsOffered, 
 abbrev pub IsAtRest : Exchange → Type 0
 IsAtRest (Exchange.thread c None) = c.pending ≡ []
 IsAtRest moved = Unit {0}
+
+-- a row that isn't the own one
+but-other : (own x : ℕ) → but own x ≢ own
+but-other own x = by (x == own) refl
+  where
+    by : (b : Bool) → (x == own) ≡ b → (if b then x + 1 else x) ≢ own
+    by true e h = let same = eqb-true x own e in omega (arith, h, same)
+    by false e h = eqb-false x own e h
 
 module _ (image : Image) where
   bare-fits : (c : Context) (todo : Todos) → Bare image todo → Fits image c todo
@@ -72,10 +81,10 @@ module _ (image : Image) where
   fine-same c steps (Pending.Probe a amount) rest = refl
   fine-same c steps q rest = refl
 
-  passes-fit : (c : Context) (who x : ℕ) (todo : Todos) → Passes image c who todo → Fits image c (passes who x todo)
-  passes-fit c who x todo h =
+  passes-fit : (c : Context) (who x : ℕ) (todo : Todos) → Passes image c who todo → x ≢ own_row image c.thread → Fits image c (passes who x todo)
+  passes-fit c who x todo h other =
       elim (nat_lt x ROWS) as (λ b. Fits image c (if b then Todo.pass who x ∷ todo else todo)) [
-        | true ↦ h
+        | true ↦ (h, other)
         | false ↦ subst (Fits image c) (sym h.behind) (fine-fits c h.step h.rest (passed h.pending))
       ]
 
@@ -95,7 +104,7 @@ module _ (image : Image) where
   next-fits c (Pending.Resume ∷ rest) h = (inr (ap waits h), refl)
   next-fits c (Pending.Inherit who ∷ q ∷ rest) h =
       passes-fit c who.0 (but (own_row image c.thread) 0) (fine_steps image c q rest)
-      (record { child = who; step = q; rest = rest; pending = h; same = refl; behind = refl })
+      (record { child = who; step = q; rest = rest; pending = h; same = refl; behind = refl }) (but-other (own_row image c.thread) 0)
   next-fits c (Pending.Drops from ∷ q ∷ rest) h =
       drops-fit c from (fine_steps image c q rest) (record { from = from; step = q; rest = rest; pending = h; behind = refl })
   next-fits c (Pending.Probe a amount ∷ rest) h = fine-fits c (Pending.Probe a amount) rest (goes h)
@@ -204,7 +213,7 @@ module _ (image : Image) where
   goes-fits p e (Todo.wake who told ∷ todo) at r h = refilled-fits p todo h
   goes-fits p e (Todo.add c ∷ todo) at r h = refilled-fits p todo h.1
   goes-fits p e (Todo.pass who x ∷ todo) at r h =
-      let next = but (own_row image p.context.thread) (x + 1) in refilled-fits p (passes who next todo) (passes-fit p.context who next todo h)
+      let next = but (own_row image p.context.thread) (x + 1) in refilled-fits p (passes who next todo) (passes-fit p.context who next todo h.0 (but-other (own_row image p.context.thread) (x + 1)))
   goes-fits p e (Todo.drop x ∷ todo) at r h =
       let c = dropped_at image p.context x (is_visit e.act) in
       refilled-fits (record p { context = c }) (drops (x + 1) todo) (drops-fit c (x + 1) todo (dropped-drops p.context x todo (is_visit e.act) h))

@@ -65,15 +65,15 @@ module _ {f : Fine} {m : State} {k : ℕ} {e : FineStep} {x : ℕ} {step : Todo}
   visit-part = h.rel.contexts.running k h.there (ap has_steps h.at)
 
 module _ {f : Fine} {m : State} {k : ℕ} {e : FineStep} {x : ℕ} {todo : Todos} where
-  -- a permission is passed on, unless it is the one on the creator's own object
-  pub pass-step : (who : ℕ) → Visits f m k e x (Todo.pass who x) todo → x ≢ own_row f.image (f.processors k).context.thread
+  -- a permission is passed on
+  pub pass-step : (who : ℕ) → Visits f m k e x (Todo.pass who x) todo
       → (rest : Steps) × Goes m e (T.after m (f.processors k).context.thread x (Pending.Inherit (to_thread who)) rest)
-  pass-step who h other =
+  pass-step who h =
       let t = (f.processors k).context.thread in
       let act = Act.Inherit (to_thread who) (address_of f.image x) in
       let said = visit-shows h act (visit-act h) in
       let takes = and_parts _ _ (and_parts _ _ (visit-takes h (by_me f.image (f.processors k) act) (visit-site h) said)).1 in
-      let fits : Passes f.image (f.processors k).context who todo = subst (Fits f.image (f.processors k).context) h.at (h.rel.processors k h.there).list.fits in
+      let fits : Passes f.image (f.processors k).context who todo = (subst (Fits f.image (f.processors k).context) h.at (h.rel.processors k h.there).list.fits).0 in
       let child : Pending.Inherit fits.child ≡ Pending.Inherit (to_thread who) = ap (λ n. Pending.Inherit (to_thread n)) fits.same in (
         fits.step ∷ fits.rest,
         subst (λ a. GoesBy m a (T.after m t x (Pending.Inherit (to_thread who)) (fits.step ∷ fits.rest))) (sym said)
@@ -85,7 +85,7 @@ module _ {f : Fine} {m : State} {k : ℕ} {e : FineStep} {x : ℕ} {todo : Todos
               chosen = (
                 sym (pair-is f m h.rel x t h.few) ∙ takes.0,
                 subst (λ b. IsTrue (not b)) (pair-is f m h.rel x who h.few) takes.1,
-                λ same. other (same ∙ ap (λ (i : Image). own_row i t) h.rel.image),
+                λ same. (subst (Fits f.image (f.processors k).context) h.at (h.rel.processors k h.there).list.fits).1 (same ∙ ap (λ (i : Image). own_row i t) h.rel.image),
               );
               says = ap (λ (i : Image). Act.Inherit (to_thread who) (address_of i x)) (sym h.rel.image);
               leaves = refl;

@@ -1,7 +1,8 @@
 -- What is on a processor's list of its thread's own steps: they are those that the machine offers that thread.
-use Rattle.std.specs.Prelude.{◌≡◌, ◌⊎◌, ℕ, IsTrue, [], ◌∷◌, None, is_some}
+use Rattle.std.specs.Prelude.{◌≢◌, ◌≡◌, ◌⊎◌, ℕ, IsTrue, [], ◌∷◌, None, is_some}
 use Rattle.um_base.specs.declared.image.Image.{Image}
 use Rattle.um_base.specs.declared.names.ThreadIx.{ThreadIx}
+use Rattle.um_base.specs.Places.{own_row}
 use Rattle.um_machine.specs.declared.pending.Pending.{Pending}
 use Rattle.um_machine.specs.Order.{Steps}
 use Rattle.um_machine.specs.State.{instruction_at}
@@ -64,12 +65,12 @@ module _ (image : Image) where
     pub pending : c.pending ≡ Pending.Drops from ∷ step ∷ rest
     pub behind : todo ≡ fine_steps image c step rest
 
-  -- the list of a processor that runs a thread with this own part: at most one of its steps is shown next, and it is offered; it is
-  -- put back at rest or waiting
+  -- the list of a processor that runs a thread with this own part: at most one of its steps is shown next, and it is offered; the
+  -- permission on its own object isn't passed on; it is put back at rest or waiting
   abbrev pub Fits : Context → Todos → Type 0
   Fits c [] = Unit {0}
   Fits c (Todo.show q rest ∷ todo) = IsOffered c q rest × (todo ≡ behind_shown c q)
-  Fits c (Todo.pass who x ∷ todo) = Passes c who todo
+  Fits c (Todo.pass who x ∷ todo) = Passes c who todo × (x ≢ own_row image c.thread)
   Fits c (Todo.drop x ∷ todo) = Drops c todo
   Fits c (Todo.park ∷ todo) = IsPutBack c × (todo ≡ [])
   Fits c (Todo.add d ∷ todo) = (d.pending ≡ []) × Fits c todo

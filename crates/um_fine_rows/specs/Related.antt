@@ -5,7 +5,7 @@ use Rattle.std.specs.List.{list_all, list_any}
 use Rattle.um_base.specs.declared.image.Image.{Image}
 use Rattle.um_base.specs.declared.limits.TheConstants.{ROWS, STATIC_ROWS, THREADS}
 use Rattle.um_base.specs.declared.names.Addr.{Addr}
-use Rattle.um_base.specs.Places.{thread_of_row}
+use Rattle.um_base.specs.Places.{own_row, thread_of_row}
 use Rattle.um_base.specs.Regions.{Partitions}
 use Rattle.um_machine.specs.declared.object.Cost.{Cost}
 use Rattle.um_machine.specs.declared.object.Status.{Status}
@@ -242,6 +242,11 @@ module _ (n : Tested) (f : Fine) (m : State) where
   is_behind Todo.done todo = not (has_steps todo)
   is_behind q todo = true
 
+  -- the permission on a thread's own object isn't passed on
+  abbrev pub is_others : ℕ → Todo → Bool
+  is_others own (Todo.pass who x) = not (x == own)
+  is_others own q = true
+
   abbrev pub is_framed : Todos → Bool
   is_framed [] = true
   is_framed (q ∷ todo) = is_behind q todo && is_framed todo
@@ -250,7 +255,8 @@ module _ (n : Tested) (f : Fine) (m : State) where
   processor_is k =
       let p = f.processors k in
       let me = thread_at m p.context.thread in
-      implies (runs p) (is_of p.context) && added_are p.todo && is_framed p.todo && list_all names_row p.todo && size_is p (looked p.todo) && reply_is p (moving p.todo)
+      implies (runs p) (is_of p.context) && added_are p.todo && is_framed p.todo && list_all names_row p.todo
+      && list_all (is_others (own_row f.image p.context.thread)) p.todo && size_is p (looked p.todo) && reply_is p (moving p.todo)
       && implies (has_held p) (p.domain == (word f p.context.thread).domain)
       && implies (list_any is_move_done p.todo) (not (fails p.reply))
       && implies (has_claimed p) (p.version == (domain f p.domain).version)
