@@ -14,7 +14,7 @@ use Rattle.um_machine.specs.declared.thread.Thread.{Thread}
 use Rattle.um_machine.specs.Objects as Plain
 use Rattle.um_machine.specs.declared.pending.Amount.TheVariants as Amount
 use Rattle.um_machine.specs.Order.{Steps, to_thread}
-use Rattle.um_machine.specs.Run.{MayClean, NoPairsOf, cleans_pair, recycles}
+use Rattle.um_machine.specs.Run.{MayChoose, MayClean, NoPairsOf, cleans_pair, recycles}
 use Rattle.um_machine.specs.State.{State, nobody, object_at, pair_at, thread_at}
 use Rattle.um_machine.specs.Table as T
 use Rattle.um_words.specs.declared.fine.FineAct.{FineAct}
@@ -360,24 +360,30 @@ module _ (f : Fine) (m : State) (rel : Rel f m) (calls : Calls m) (own : OwnRows
           let here = mine in
           ((rel.processors k there).cleaning x).emptied who (own x who e).0 (omega (arith, here)) y (omega (arith, l, rows, all))
 
+  -- it may recycle it
+  pub recycle-chosen : {k : ℕ} (x : ℕ) (todo : Todos) → k < f.cpus → x < ROWS → (f.processors k).todo ≡ Todo.recycle x ∷ todo
+      → MayChoose m (f.processors k).context.thread x Pending.Recycle
+  recycle-chosen {k} x todo there few at =
+      let cleans : Cleans f k x =
+      (let here : counted (is_recycle x) (f.processors k).todo ≡ counted (is_recycle x) todo + 1 =
+      ap (counted (is_recycle x)) at ∙ ap (λ b. if b then counted (is_recycle x) todo + 1 else counted (is_recycle x) todo) (eq-eqb x x refl) in
+      omega (arith, here)) in
+      let bare = recycled-bare k x todo there few at (thread_of_row f.image x) refl in
+      (cleans-may f m rel calls k x there few cleans, subst (λ (i : Image). NoPairsOf m (thread_of_row i x)) (sym rel.image) bare)
+
   pub recycle-step : {k : ℕ} {e : FineStep} (x : ℕ) (todo : Todos) → k < f.cpus → x < ROWS → (f.processors k).todo ≡ Todo.recycle x ∷ todo → CpuMay f.image (f.processors k) e
       → Goes m e (T.after m (f.processors k).context.thread x Pending.Recycle (thread_at m (f.processors k).context.thread).pending)
   recycle-step {k} {e} x todo there few at may =
       let t = (f.processors k).context.thread in
       let said : e.act ≡ by_me f.image (f.processors k) (Act.Recycle (address_of f.image x)) =
       sym (ap (λ (s : FineStep). s.act) may.makes) ∙ ap (λ (z : Todos). says f.image (f.processors k) z e.act e.moved) at in
-      let cleans : Cleans f k x =
-      (let here : counted (is_recycle x) (f.processors k).todo ≡ counted (is_recycle x) todo + 1 =
-      ap (counted (is_recycle x)) at ∙ ap (λ b. if b then counted (is_recycle x) todo + 1 else counted (is_recycle x) todo) (eq-eqb x x refl) in
-      omega (arith, here)) in
-      let bare = recycled-bare k x todo there few at (thread_of_row f.image x) refl in
       subst (λ a. GoesBy m a (T.after m t x Pending.Recycle (thread_at m t).pending)) (sym said)
       (record {
         step = Pending.Recycle;
         rest = (thread_at m t).pending;
         row = x;
         offered = recycles (rel.contexts.running k there (ap has_steps at)).started;
-        chosen = (cleans-may f m rel calls k x there few cleans, subst (λ (i : Image). NoPairsOf m (thread_of_row i x)) (sym rel.image) bare);
+        chosen = recycle-chosen x todo there few at;
         says = ap (λ (i : Image). Act.Recycle (address_of i x)) (sym rel.image);
         leaves = refl;
       })

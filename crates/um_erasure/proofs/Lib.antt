@@ -58,5 +58,7 @@ pub mod DomainReads
 pub mod DomainCounts
 pub mod DomainFacts
 pub mod DomainPart
+pub mod LawfulSteps
+pub mod Parts
 pub mod MemoryPart
 pub mod WordsPart

@@ -27,10 +27,10 @@ use Rattle.um_erasure.proofs.ThreadLists.{dues-long, set-long}
 use Rattle.um_erasure.proofs.Writes.{Keeping, Makes, Part, after-kept}
 
 -- any write may be made
-abbrev Any : Part → Type 0
+abbrev pub Any : Part → Type 0
 Any part = Unit {0}
 
-makes-any : (q : Pending) → Makes Any q
+pub makes-any : (q : Pending) → Makes Any q
 makes-any (Pending.DropPair who a) = (tt, tt)
 makes-any (Pending.Reserve kind) = (tt, tt)
 makes-any (Pending.Born a) = (tt, tt)

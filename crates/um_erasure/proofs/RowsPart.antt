@@ -179,10 +179,10 @@ module _ (image : Image) (named : (a : Addr) → nat_lt (row_named image a) ROWS
   rows-next p e l b h = cleaned-are (goes_on_by image p e p.todo) e (begins_cleaning e) l (goes-rows p e p.todo h b h)
 
 module _ (f : Fine) (m : State) (e : FineStep) (law : Lawful f m e) where
-  found : (a x : ℕ) → row_at f.image a ≡ Some x → nat_lt x ROWS ≡ true
+  pub found : (a x : ℕ) → row_at f.image a ≡ Some x → nat_lt x ROWS ≡ true
   found a x q = lt-ltb x ROWS (found-below m law.sound a x (ap (λ (i : Image). row_at i a) law.rel.image ∙ q))
 
-  named-below : (a : Addr) → nat_lt (row_named f.image a) ROWS ≡ true
+  pub named-below : (a : Addr) → nat_lt (row_named f.image a) ROWS ≡ true
   named-below a = by (row_at f.image a.0) refl
     where
       by : (o : Option ℕ) → row_at f.image a.0 ≡ o → nat_lt (unwrap_or o 0) ROWS ≡ true

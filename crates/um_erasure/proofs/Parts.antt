@@ -1,0 +1,142 @@
+-- Every lawful step keeps the relation, where it keeps the parts of it that are still to be proved, and the machine's states suit the events:
+-- the other parts are kept.
+use Rattle.std.proofs.Common.{◌≡◌, ℕ, ◌<◌, ◌≤◌, true, false, length, refl, ◌∙◌}
+use Rattle.std.specs.Prelude.{◌-◌, if◌then◌else◌, nat_lt}
+use Rattle.um_base.specs.declared.image.Image.{Image}
+use Rattle.um_base.specs.declared.limits.TheConstants.{PARTITION_AREA, ROWS, STACK_AREA, STATIC_ROWS, THREADS}
+use Rattle.um_machine.specs.declared.pending.Pending.{Pending}
+use Rattle.um_machine.specs.Memory.{put_bytes}
+use Rattle.um_machine.specs.Order.{Steps, to_thread}
+use Rattle.um_machine.specs.Run.{opening}
+use Rattle.um_machine.specs.State.{State}
+use Rattle.um_machine.specs.Table as T
+use Rattle.um_reach.proofs.Cores.{core_of}
+use Rattle.um_reach.proofs.Turns.{IsKnown}
+use Rattle.um_fine.specs.Steps.{FineStep}
+use Rattle.um_erasure.specs.Claims.{ClaimsAre}
+use Rattle.um_erasure.specs.Cleaning.{CleanersAre, CleaningIs}
+use Rattle.um_erasure.specs.Domains.{TableIs}
+use Rattle.um_erasure.specs.Dues.{DuesAre}
+use Rattle.um_erasure.specs.Fine.{Fine}
+use Rattle.um_erasure.specs.Looks.{LooksAre}
+use Rattle.um_erasure.specs.Objects.{ContentsAre, StatusIs}
+use Rattle.um_erasure.specs.Relation.{Rel}
+use Rattle.um_erasure.specs.Threads.{AwayIs, ContextsAre, DomainKept, ReadyIs, ToldIs}
+use Rattle.um_erasure.proofs.DomainPart.{domain-part}
+use Rattle.um_erasure.proofs.Erased.{IsReachable, Keeps, fine, stepped}
+use Rattle.um_erasure.proofs.HeapPart.{heap-part}
+use Rattle.um_erasure.proofs.HeldPart.{held-part}
+use Rattle.um_erasure.proofs.Kept.{lists-kept, sorts-kept}
+use Rattle.um_erasure.proofs.LawfulSteps.{Suits, lawful-next}
+use Rattle.um_erasure.proofs.Leaves.{Lawful, Leaves, cleans, drops, event, mine, nothing, passes, recycles, resumes}
+use Rattle.um_erasure.proofs.ListBlocks.{blocks-kept}
+use Rattle.um_erasure.proofs.ListFrames.{frames-kept}
+use Rattle.um_erasure.proofs.MemoryPart.{InDomains, memory-part}
+use Rattle.um_erasure.proofs.PairsPart.{pairs-part}
+use Rattle.um_erasure.proofs.Reachable.{Any, makes-any, reachable-sound}
+use Rattle.um_erasure.proofs.RowsPart.{rows-part}
+use Rattle.um_erasure.proofs.RunningPart.{running-part}
+use Rattle.um_erasure.proofs.SchedulerPart.{scheduler-part}
+use Rattle.um_erasure.proofs.WordsPart.{words-part}
+use Rattle.um_erasure.proofs.Writes.{Keeping, after-kept}
+
+-- The parts of the relation that are still to be kept.
+pub record IsLeft (g : Fine) (s : State) : Type 0 where
+  pub contexts : ContextsAre g s
+  pub away : (t : ℕ) → t < THREADS → AwayIs g s t
+  pub told : (t : ℕ) → t < THREADS → ToldIs g s t
+  pub ready : (t : ℕ) → t < THREADS → ReadyIs g t
+  pub status : (x : ℕ) → x < ROWS → StatusIs g s x
+  pub contents : (x : ℕ) → x < ROWS → ContentsAre g s x
+  pub claims : (x : ℕ) → x < ROWS → ClaimsAre g s x
+  pub cleaners : (x : ℕ) → x < ROWS → CleanersAre g s x
+  pub domain : (k : ℕ) → k < g.cpus → DomainKept g k
+  pub dues : (k : ℕ) → k < g.cpus → DuesAre g s k
+  pub table : (k : ℕ) → k < g.cpus → TableIs g s k
+  pub looks : (k : ℕ) → k < g.cpus → LooksAre g s k
+  pub cleaning : (k : ℕ) → k < g.cpus → (x : ℕ) → CleaningIs g s k x
+
+-- No step changes the image.
+
+module _ (m : State) where
+  abbrev SameImage : State → Type 0
+  SameImage s = s.image ≡ m.image
+
+  image-keeping : Keeping Any SameImage
+  image-keeping =
+      record {
+        own = λ s v th e k. k;
+        word = λ may s v th k. k;
+        object = λ may s x o e q k. k;
+        status = λ may s x o e k. k;
+        birth = λ may s x o k. k;
+        pair = λ may s v x there k. k;
+        bytes = λ may s a bs k.
+            elim (nat_lt a STACK_AREA) as (λ c. SameImage (if c then record s { memory = put_bytes s.memory (a - PARTITION_AREA) bs } else record s { stacks = put_bytes s.stacks (a - STACK_AREA) bs })) [
+              | true ↦ k
+              | false ↦ k
+            ];
+        pool = λ may s left k. k;
+        parts = λ may s d ps k. k;
+      }
+
+  image-same : (t x : ℕ) (q : Pending) (rest : Steps) → SameImage (T.after m t x q rest)
+  image-same t x q rest = after-kept Any SameImage image-keeping m t refl x q rest (makes-any q)
+
+module _ (f : Fine) (m : State) (e : FineStep) (law : Lawful f m e) where
+  abbrev later : Fine
+  later = stepped f.image f.cpus f.processors f.sites e
+
+  image-part : (s : State) → Leaves f m e s → s.image ≡ f.image
+  image-part _ (nothing u said) = law.rel.image
+  image-part _ (event q rest todo x h shown is) = image-same m (mine f m e) x q rest ∙ law.rel.image
+  image-part _ (resumes c told rest idle moved said) = image-same m c.thread 0 Pending.Resume rest ∙ law.rel.image
+  image-part _ (passes who x rest todo h said) = image-same m (mine f m e) x (Pending.Inherit (to_thread who)) rest ∙ law.rel.image
+  image-part _ (drops from x rest todo h said) = image-same m (mine f m e) x (Pending.Drops from) rest ∙ law.rel.image
+  image-part _ (cleans who x rest todo h said) = image-same m (mine f m e) x (Pending.CleanPair (to_thread who)) rest ∙ law.rel.image
+  image-part _ (recycles x rest todo at l said chosen) = image-same m (mine f m e) x Pending.Recycle rest ∙ law.rel.image
+
+  -- the relation holds after the step where what is left of it does
+  pub related : InDomains f m → (s : State) → Leaves f m e s → IsLeft later s → Rel later s
+  related all s leaves left =
+      record {
+        image = image-part s leaves;
+        sorts = sorts-kept f.image f.sites e law.rel.sorts;
+        contexts = left.contexts;
+        running = running-part f m e law;
+        scheduler = scheduler-part f m e law;
+        threads = λ t l.
+            record { word = words-part f m e law t l s leaves; away = left.away t l; told = left.told t l; held = held-part f m e law t l; ready = left.ready t l };
+        rows = λ x l.
+            record { pairs = pairs-part f m e law x l s leaves; status = left.status x l; contents = left.contents x l; claims = left.claims x l; cleaners = left.cleaners x l };
+        domains = λ d l. domain-part f m e law d l s leaves;
+        processors = λ k l.
+            record {
+              list = lists-kept f m law.rel e law.by.may law.taken k l;
+              domain = left.domain k l;
+              dues = left.dues k l;
+              table = left.table k l;
+              looks = left.looks k l;
+              blocks = blocks-kept f m law.rel e k l;
+              frames = frames-kept f m law.rel e k l;
+              rows = rows-part f m e law k l;
+              cleaning = left.cleaning k l;
+            };
+        memory = memory-part f m e law all s leaves;
+        heap = heap-part f m e law s leaves;
+      }
+
+-- What is left to prove of every lawful step, with a state that a run reaches: that the state suits the events, and that the step keeps the
+-- parts that are left.
+pub record IsLeftOpen (image : Image) (cpus : ℕ) : Type 0 where
+  pub suits : (f : Fine) (m : State) → f.image ≡ image → f.cpus ≡ cpus → Rel f m → IsReachable image cpus m → Suits f m
+  pub parts : (f : Fine) (m : State) (e : FineStep) → f.image ≡ image → f.cpus ≡ cpus → IsReachable image cpus m → Lawful f m e → Suits f m
+      → (s : State) → Leaves f m e s → IsLeft (stepped f.image f.cpus f.processors f.sites e) s
+
+pub keeps-all : (image : Image) (cpus : ℕ) → length image.objects ≤ STATIC_ROWS → IsKnown (core_of (opening image)) → IsLeftOpen image cpus → Keeps image cpus
+keeps-all image cpus few known left ps ss m e rel reach by taken =
+    let f = fine image cpus ps ss in
+    let law : Lawful f m e = record { rel = rel; sound = reachable-sound image cpus few m reach known; by = by; taken = taken } in
+    let suits = left.suits f m refl refl rel reach in
+    let next = lawful-next f m e law suits in
+    (next.state, next.goes, related f m e law suits.domains next.state next.leaves (left.parts f m e refl refl reach law suits next.state next.leaves))
