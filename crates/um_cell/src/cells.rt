@@ -5,6 +5,7 @@ ghost use Rattle.std.specs.Prelude.{◌≤◌, ◌+◌};
 use std::marker::PhantomData;
 
 /// Cells at sites in a row that have their contents.
+#[derive(Drop)]
 pub struct Cells<T> {
     /// The site of the first one.
     pub first: u16,

@@ -25,7 +25,7 @@ use Rattle.um_site.specs.Cells.{AmongCells, IsTurn, Follow, ContentsAre, CellsAr
 use Rattle.um_site.specs.Tells.{with_got, with_made, GoesOn, Looked, looked, stepped_by, taking, recording, returning, Took, took, reached, recorded_by, returned}
 use Rattle.um_site.proofs.Sublists.{same_itself, name_cases}
 use Rattle.um_site.proofs.Bare.{bare-low, bare-high, bare-even, bare-number}
-use Rattle.um_site.proofs.Keeps.{own_words, look_tells, turn_keeps, step_keeps, no_older, by_site_here, by_site_else, opens as board_opens, only_first}
+use Rattle.um_site.proofs.Keeps.{own_words, look_tells, turn_keeps, step_keeps, no_older, words_numbers, by_site_here, by_site_else, opens as board_opens, only_first}
 use Rattle.um_site.proofs.Joining.{split_keeps, join_keeps, shadow_keeps, all_told, alone, no_items}
 use Rattle.um_site.proofs.Transfers.{IsAlike, alike_same, alike_split, alike_join, alike_shadow, no_turn, cells_alike, cells_elsewhere}
 use Rattle.um_site.proofs.TurnCells.{same_turn, take_cells, give_cells}
@@ -147,7 +147,8 @@ module _ {T : Type 0} (opens : Image → ℕ → T → Type 0) (follows : T → 
                 knows = o.1;
                 inside = in';
                 word = refl;
-                contents = subst (λ (im : Image). ContentsAre opens follows im i (by_site i h) b.0) (sym k.image_is) y;
+                counted = let n = (words_numbers i (get_or opening i 0) (by_site i h) (bare i w) (r.1.stands.sites i in')).1 in let z = r.1.stands.opened i (omega arith) in let e = bare-number i w in omega arith;
+            contents = subst (λ (im : Image). ContentsAre opens follows im i (by_site i h) b.0) (sym k.image_is) y;
                 now = refl;
               },
             )),

@@ -63,7 +63,7 @@ abbrev pub returning : View → ℕ → ℕ → List ℕ → View
 returning v i w filled = with_cells (with_got v i w) None filled
 
 module _ {T : Type 0} (opens : Image → ℕ → T → Type 0) (follows : T → FineAct → Moved → T → Type 0) (goes : Image → List ℕ → List Made → Made → Type 0) where
-  -- the turn was free at the word r, in one history, and the slot had the contents that the cell's steps in it leave
+  -- the turn was free at the word r, in one history, and the slot had the contents that the cell's steps in it leave, which are as many as the word says
   pub record Took (v : View) (i r : ℕ) (y : Option T) (w : View) : Type 0 where
     pub newer : NoOlder v.got i r
     pub words : List ℕ
@@ -72,6 +72,7 @@ module _ {T : Type 0} (opens : Image → ℕ → T → Type 0) (follows : T → 
     pub knows : Knows v.image v.opening words history v
     pub inside : i < length words
     pub word : slice_index words i ≡ r
+    pub counted : number i r ≡ length (by_site i history)
     pub contents : ContentsAre opens follows v.image i (by_site i history) y
     pub now : w ≡ taking v i r (by_site i history)
 
