@@ -148,7 +148,7 @@ module _ {T : Type 0} (opens : Image → ℕ → T → Type 0) (follows : T → 
                 inside = in';
                 word = refl;
                 counted = let n = (words_numbers i (get_or opening i 0) (by_site i h) (bare i w) (r.1.stands.sites i in')).1 in let z = r.1.stands.opened i (omega arith) in let e = bare-number i w in omega arith;
-            contents = subst (λ (im : Image). ContentsAre opens follows im i (by_site i h) b.0) (sym k.image_is) y;
+                contents = subst (λ (im : Image). ContentsAre opens follows im i (by_site i h) b.0) (sym k.image_is) y;
                 now = refl;
               },
             )),
