@@ -32,6 +32,7 @@ use Rattle.um_erasure.proofs.ListGrips.{ReadsLast, read-rests}
 use Rattle.um_erasure.proofs.ListTails.{exact-next, is_read_claim, tail-read, takes-read}
 use Rattle.um_erasure.proofs.SchedulerSteps.{made-at, made-says}
 use Rattle.um_erasure.proofs.Sums.{over-changed, over-same}
+use Rattle.um_erasure.proofs.DomainWords.{word-else, word-here, word-takes}
 use Rattle.um_erasure.proofs.DomainReads.{claimed, claimed-reads, edits-behind, edits-no-move, edits-one, edits-reads, either-claimed, either-edits, either-moves, eqb-swap, is_plain, is_told, memory-moves-none, moves-behind, moves-reads, next-domain, next-reply, or-false, plain-claim, plain-last, plain-list, plain-site}
 
 abbrev is_end_call_act : Unseen → Bool
@@ -74,30 +75,6 @@ module _ (f : Fine) (m : State) (e : FineStep) (law : Lawful f m e) (d : ℕ) (f
   reads-still : reads d now ≡ reads d p → over_processors later (λ z. one_if (reads d z)) ≡ over_processors f (λ z. one_if (reads d z))
   reads-still same = over-same f e (λ z. one_if (reads d z)) law.by.named (ap one_if same)
 
-  -- The word.
-
-  is-domain : f.sites (Site.domain d) ≡ SiteState.domain (domain f d)
-  is-domain = by (f.sites (Site.domain d)) (law.rel.sorts (Site.domain d))
-    where
-      by : (s : SiteState) → IsTrue (is_sort (Site.domain d) s) → s ≡ SiteState.domain (domain_state s)
-      by (SiteState.domain w) h = refl
-      by s h = absurd (false≢true h)
-
-  word-else : same_site e.site (Site.domain d) ≡ false → domain later d ≡ domain f d
-  word-else off = ap (λ b. domain_state (cond b (s_next f.image (f.sites (Site.domain d)) e) (f.sites (Site.domain d)))) off
-
-  word-here : (act : FineAct) → e.act ≡ act → e.site ≡ Site.domain d → domain later d ≡ counted_domain (domain_after (domain f d) act)
-  word-here act said site =
-      ap (λ b. domain_state (cond b (s_next f.image (f.sites (Site.domain d)) e) (f.sites (Site.domain d)))) (ap (λ i. same_site i (Site.domain d)) site ∙ same-itself (Site.domain d))
-      ∙ (ap (λ (s : SiteState). domain_state (site_after f.image s e.act e.moved)) is-domain
-      ∙ ap (λ a. counted_domain (domain_after (domain f d) a)) said)
-
-  word-takes : (act : FineAct) → e.act ≡ act → e.site ≡ Site.domain d → domain_takes (domain f d) act ≡ true
-  word-takes act said site =
-      (and_parts (nat_lt (domain f d).number 268435455) (domain_takes (domain f d) act)
-      (subst (λ (s : SiteState). site_takes s act ≡ true) is-domain
-      (subst (λ (z : Site × FineAct). site_takes (f.sites z.0) z.1 ≡ true) (λ j. (site j, said j)) law.taken.takes))).1
-
   was-writers : one_if (domain f d).writer ≡ over_processors f (λ z. one_if (edits d z.todo))
   was-writers = (law.rel.domains d few).writers
 
@@ -115,7 +92,7 @@ module _ (f : Fine) (m : State) (e : FineStep) (law : Lawful f m e) (d : ℕ) (f
 
   -- a step on the word of another domain
   elsewhere : (u : ℕ) → e.site ≡ Site.domain u → (u == d) ≡ false → domain later d ≡ domain f d
-  elsewhere u site off = word-else (ap (λ i. same_site i (Site.domain d)) site ∙ off)
+  elsewhere u site off = word-else f m e law d (ap (λ i. same_site i (Site.domain d)) site ∙ off)
 
   -- a claim to read
   reader-more : (u : ℕ) → e.site ≡ Site.domain u → e.act ≡ FineAct.Unseen Unseen.ReadClaim → edits d now.todo ≡ edits d p.todo → reads d p ≡ false → reads d now ≡ (u == d) → CountsAre later d
@@ -125,8 +102,8 @@ module _ (f : Fine) (m : State) (e : FineStep) (law : Lawful f m e) (d : ℕ) (f
       by false q = still (elsewhere u site q) e-same (after ∙ (q ∙ sym before))
       by true q =
           let here = site ∙ ap Site.domain (eqb-true u d q) in
-          let word = word-here (FineAct.Unseen Unseen.ReadClaim) said here in
-          let takes = and_parts (not (domain f d).writer) _ (word-takes (FineAct.Unseen Unseen.ReadClaim) said here) in
+          let word = word-here f m e law d (FineAct.Unseen Unseen.ReadClaim) said here in
+          let takes = and_parts (not (domain f d).writer) _ (word-takes f m e law d (FineAct.Unseen Unseen.ReadClaim) said here) in
           let sums = read-counts 0 1 (ap one_if before) (ap one_if (after ∙ q)) in
           let first = was-readers in
           let number : (domain later d).readers ≡ (domain f d).readers + 1 = ap (λ (w : DomWord). w.readers) word in
@@ -145,8 +122,8 @@ module _ (f : Fine) (m : State) (e : FineStep) (law : Lawful f m e) (d : ℕ) (f
       by false q = still (elsewhere u site q) e-same (after ∙ (sym q ∙ sym before))
       by true q =
           let here = site ∙ ap Site.domain (eqb-true u d q) in
-          let word = word-here act said here ∙ ap counted_domain (leaves (domain f d)) in
-          let some = takes (domain f d) (word-takes act said here) in
+          let word = word-here f m e law d act said here ∙ ap counted_domain (leaves (domain f d)) in
+          let some = takes (domain f d) (word-takes f m e law d act said here) in
           let sums = read-counts 1 0 (ap one_if (before ∙ q)) (ap one_if after) in
           let first = was-readers in
           let number : (domain later d).readers ≡ (domain f d).readers - 1 = ap (λ (w : DomWord). w.readers) word in
@@ -164,8 +141,8 @@ module _ (f : Fine) (m : State) (e : FineStep) (law : Lawful f m e) (d : ℕ) (f
       by false q = still (elsewhere u site q) (after ∙ (q ∙ sym before)) r-same
       by true q =
           let here = site ∙ ap Site.domain (eqb-true u d q) in
-          let word = word-here (FineAct.Unseen Unseen.WriteClaim) said here in
-          let takes = and_parts (not (domain f d).writer) _ (word-takes (FineAct.Unseen Unseen.WriteClaim) said here) in
+          let word = word-here f m e law d (FineAct.Unseen Unseen.WriteClaim) said here in
+          let takes = and_parts (not (domain f d).writer) _ (word-takes f m e law d (FineAct.Unseen Unseen.WriteClaim) said here) in
           let sums = edit-counts 0 1 (ap one_if before) (ap one_if (after ∙ q)) in
           let first = sym (ap one_if (not-true _ takes.0)) ∙ was-writers in
           let on : one_if (domain later d).writer ≡ 1 = ap (λ (w : DomWord). one_if w.writer) word in
@@ -185,8 +162,8 @@ module _ (f : Fine) (m : State) (e : FineStep) (law : Lawful f m e) (d : ℕ) (f
       by false q = still (elsewhere u site q) (after ∙ (sym q ∙ sym before)) r-same
       by true q =
           let here = site ∙ ap Site.domain (eqb-true u d q) in
-          let word = word-here act said here in
-          let on = takes (domain f d) (word-takes act said here) in
+          let word = word-here f m e law d act said here in
+          let on = takes (domain f d) (word-takes f m e law d act said here) in
           let sums = edit-counts 1 0 (ap one_if (before ∙ q)) (ap one_if after) in
           let first = sym (ap one_if on) ∙ was-writers in
           let none : (domain later d).writer ≡ false = ap (λ (w : DomWord). w.writer) word ∙ off (domain f d) in
@@ -232,7 +209,7 @@ module _ (f : Fine) (m : State) (e : FineStep) (law : Lawful f m e) (d : ℕ) (f
       let list = plain-list d p.reply q todo plain in
       let other = plain-claim q plain in
       let last = plain-last e q todo plain in
-      still (word-else (ap (λ i. same_site i (Site.domain d)) (made-at f m e law (q ∷ todo) at) ∙ plain-site f.image p d q todo plain))
+      still (word-else f m e law d (ap (λ i. same_site i (Site.domain d)) (made-at f m e law (q ∷ todo) at) ∙ plain-site f.image p d q todo plain))
       (edits-after q todo at other last ∙ (sym list.0 ∙ sym (ap (edits d) at)))
       (λ i.
       ((claimed-after q todo at other last ∙ (sym list.1 ∙ sym (ap claimed at))) i && (next-domain f.image p e q todo at (plain-hold q plain) i == d))
@@ -240,14 +217,14 @@ module _ (f : Fine) (m : State) (e : FineStep) (law : Lawful f m e) (d : ℕ) (f
 
   idle-step : p.todo ≡ [] → CountsAre later d
   idle-step at =
-      still (word-else (ap (λ i. same_site i (Site.domain d)) (made-at f m e law [] at)))
+      still (word-else f m e law d (ap (λ i. same_site i (Site.domain d)) (made-at f m e law [] at)))
       (takes-read f.image (edits d) false (edits-reads f.image d) p e at ∙ sym (ap (edits d) at))
       (read-as now false false (takes-read f.image claimed false (claimed-reads f.image) p e at) (takes-read f.image (moves_to d now.reply) false (moves-reads f.image d now.reply) p e at)
       ∙ sym (read-as p false false (ap claimed at) (ap (moves_to d p.reply) at)))
 
   hold-step : (todo : Todos) → p.todo ≡ Todo.hold ∷ todo → CountsAre later d
   hold-step todo at =
-      still (word-else (ap (λ i. same_site i (Site.domain d)) (made-at f m e law (Todo.hold ∷ todo) at)))
+      still (word-else f m e law d (ap (λ i. same_site i (Site.domain d)) (made-at f m e law (Todo.hold ∷ todo) at)))
       (edits-after Todo.hold todo at refl tt ∙ sym (ap (edits d) at))
       (read-as now false (moves_to d p.reply todo) (claimed-after Todo.hold todo at refl tt ∙ free (frame Todo.hold todo at)) (moves-after Todo.hold todo at refl refl tt)
       ∙ sym (read-as p false (moves_to d p.reply todo) (ap claimed at ∙ free (frame Todo.hold todo at)) (ap (moves_to d p.reply) at)))
@@ -280,7 +257,7 @@ module _ (f : Fine) (m : State) (e : FineStep) (law : Lawful f m e) (d : ℕ) (f
 
     beside : edits_step d q ≡ false → moves_step d p.reply q ≡ false → same_site (site_of_step f.image p q) (Site.domain d) ≡ false → CountsAre later d
     beside none still-there off =
-        still (word-else (ap (λ i. same_site i (Site.domain d)) (made-at f m e law (Todo.show q rest ∷ todo) at) ∙ off))
+        still (word-else f m e law d (ap (λ i. same_site i (Site.domain d)) (made-at f m e law (Todo.show q rest ∷ todo) at) ∙ off))
         (no-edit ∙ sym (ap (edits d) at ∙ none)) (reads-same still-there)
 
     edit-ends : (u : ℕ) (act : FineAct) → e.site ≡ Site.domain u → e.act ≡ act → ((w : DomWord) → (domain_after w act).writer ≡ false) → ((w : DomWord) → (domain_after w act).readers ≡ w.readers)
@@ -320,7 +297,7 @@ module _ (f : Fine) (m : State) (e : FineStep) (law : Lawful f m e) (d : ℕ) (f
           (read-as p false (d == u) free (ap (moves_to d p.reply) at ∙ ap (λ c. c && (d == u)) r) ∙ eqb-swap d u)
           (read-as now false false (same-claim (Pending.DomMove u who) rest todo at ∙ free) (no-move (Pending.DomMove u who) rest todo at))
       by false r =
-          still (word-else (ap (λ i. same_site i (Site.domain d)) (site ∙ ap (λ c. if c then Site.domain u else Site.thread who.0) r)))
+          still (word-else f m e law d (ap (λ i. same_site i (Site.domain d)) (site ∙ ap (λ c. if c then Site.domain u else Site.thread who.0) r)))
           (no-edit (Pending.DomMove u who) rest todo at ∙ sym (ap (edits d) at)) (reads-same (Pending.DomMove u who) rest todo at (ap (λ c. c && (d == u)) r))
   show-step (Pending.Check a kind want refusal) rest todo at = beside (Pending.Check a kind want refusal) rest todo at refl refl (by (row_at f.image a.0))
     where
@@ -437,7 +414,7 @@ module _ (f : Fine) (m : State) (e : FineStep) (law : Lawful f m e) (d : ℕ) (f
 
   edit-step : (u : ℕ) (q : Pending) (todo : Todos) → p.todo ≡ Todo.edit u q ∷ todo → CountsAre later d
   edit-step u q todo at =
-      still (word-else (ap (λ i. same_site i (Site.domain d)) (made-at f m e law (Todo.edit u q ∷ todo) at)))
+      still (word-else f m e law d (ap (λ i. same_site i (Site.domain d)) (made-at f m e law (Todo.edit u q ∷ todo) at)))
       (edits-after (Todo.edit u q) todo at refl tt ∙ (ap (edits d) h.1 ∙ (edits-one d u q h.2 ∙ sym (ap (edits d) at))))
       (read-as now false false (claimed-after (Todo.edit u q) todo at refl tt ∙ ap claimed h.1)
       (tail-read f.image (moves_to d now.reply) false (moves-reads f.image d now.reply) p e (Todo.edit u q) todo at refl (frame (Todo.edit u q) todo at) tt

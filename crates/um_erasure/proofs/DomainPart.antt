@@ -35,6 +35,7 @@ use Rattle.um_erasure.specs.Frames.{AreFramed, Behind, OnMemory, access_over}
 use Rattle.um_erasure.specs.Lists.{edited, edits, edits_step}
 use Rattle.um_erasure.specs.Offers.{Fits, behind_shown}
 use Rattle.um_erasure.proofs.DomainCounts.{domain-counts}
+use Rattle.um_erasure.proofs.DomainWords.{word-else, word-here}
 use Rattle.um_erasure.proofs.DomainReads.{edits-one, eqb-swap, is_told, memory-edits-none, next-reply, or-false}
 use Rattle.um_erasure.proofs.Erased.{stepped}
 use Rattle.um_erasure.proofs.Leaves.{Lawful, Leaves, cleans, drops, event, nothing, passes, recycles, resumes}
@@ -134,23 +135,15 @@ module _ (f : Fine) (m : State) (e : FineStep) (law : Lawful f m e) (d : ℕ) (f
       by true q = cell-here (same-sound e.site (Site.parts d) q) e.act refl ∙ edit-else e.act e.moved quiet
       by false q = ap (λ b. parts_state (cond b (s_next f.image (f.sites (Site.parts d)) e) (f.sites (Site.parts d)))) q
 
-  word-here : domain_state (s_next f.image (f.sites (Site.domain d)) e) ≡ Words.counted_domain (Words.domain_after (domain f d) e.act)
-  word-here = ap (λ (s : SiteState). domain_state (site_after f.image s e.act e.moved)) (domain-is (f.sites (Site.domain d)) (law.rel.sorts (Site.domain d)))
+  word-left : domain_state (s_next f.image (f.sites (Site.domain d)) e) ≡ Words.counted_domain (Words.domain_after (domain f d) e.act)
+  word-left = ap (λ (s : SiteState). domain_state (site_after f.image s e.act e.moved)) (domain-is (f.sites (Site.domain d)) (law.rel.sorts (Site.domain d)))
 
   init-same : is_init e.act ≡ false → (domain later d).init ≡ (domain f d).init
   init-same quiet =
       elim (same_site e.site (Site.domain d)) as (λ b. (domain_state (cond b (s_next f.image (f.sites (Site.domain d)) e) (f.sites (Site.domain d)))).init ≡ (domain f d).init) [
-        | true ↦ ap (λ (w : DomWord). w.init) word-here ∙ init-else (domain f d) e.act quiet
+        | true ↦ ap (λ (w : DomWord). w.init) word-left ∙ init-else (domain f d) e.act quiet
         | false ↦ refl
       ]
-
-  word-else : same_site e.site (Site.domain d) ≡ false → domain later d ≡ domain f d
-  word-else off = ap (λ b. domain_state (cond b (s_next f.image (f.sites (Site.domain d)) e) (f.sites (Site.domain d)))) off
-
-  word-on : e.site ≡ Site.domain d → (act : FineAct) → e.act ≡ act → domain later d ≡ Words.counted_domain (Words.domain_after (domain f d) act)
-  word-on site act said =
-      ap (λ b. domain_state (cond b (s_next f.image (f.sites (Site.domain d)) e) (f.sites (Site.domain d)))) (ap (λ i. same_site i (Site.domain d)) site ∙ same-itself (Site.domain d))
-      ∙ (word-here ∙ ap (λ a. Words.counted_domain (Words.domain_after (domain f d) a)) said)
 
   frame : (q : Todo) (todo : Todos) → p.todo ≡ q ∷ todo → Behind f.image q todo
   frame q todo at = (subst (AreFramed f.image) at (law.rel.processors e.cpu law.by.named).frames).0
@@ -428,10 +421,10 @@ module _ (f : Fine) (m : State) (e : FineStep) (law : Lawful f m e) (d : ℕ) (f
       by false other =
           beside q rest todo s at (edits-one d u q is ∙ (eqb-swap d u ∙ other))
           (ap (λ (all : List (Option Partitions)). slice_index_or all d None) makes ∙ get_or-set_other m.domains u d _ None (λ h. eqb-false u d other (sym h)))
-          (ap (λ (w : DomWord). w.init) (word-else (ap (λ i. same_site i (Site.domain d)) site ∙ other))) quiet
+          (ap (λ (w : DomWord). w.init) (word-else f m e law d (ap (λ i. same_site i (Site.domain d)) site ∙ other))) quiet
       by true same =
           let k = eqb-true u d same in
-          let word = word-on (site ∙ ap Site.domain k) e.act refl in
+          let word = word-here f m e law d e.act refl (site ∙ ap Site.domain k) in
           edit-event q rest todo s at (subst (λ n. edits_step n q ≡ true) k is)
           (ap (λ (all : List (Option Partitions)). slice_index_or all d None) (makes ∙ ap (λ n. slice_set m.domains n (domain_after (T.domain_at m n) (edit_of m.image q (T.domain_at m n)))) k)
           ∙ get_or-set_same m.domains d _ None in-domains)

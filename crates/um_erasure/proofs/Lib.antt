@@ -55,8 +55,9 @@ pub mod HeldPart
 pub mod RowsPart
 pub mod ListTails
 pub mod DomainReads
-pub mod DomainCounts
 pub mod DomainFacts
+pub mod DomainWords
+pub mod DomainCounts
 pub mod DomainPart
 pub mod LawfulSteps
 pub mod Parts
