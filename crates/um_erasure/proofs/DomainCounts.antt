@@ -1,6 +1,6 @@
 -- The word of a domain counts the claims of processors to read it, and who edits it, after every lawful step.
-use Rattle.std.proofs.Common.{◌≡◌, inl, inr, ℕ, ◌+◌, ◌-◌, ◌<◌, Bool, true, false, cond, [], ◌∷◌, Option, Some, None, refl, sym, ap, ◌∙◌, subst, arith, eq-eqb}
-use Rattle.std.specs.Prelude.{◌==◌, ◌&&◌, ◌||◌, not, IsTrue, length, if◌then◌else◌, nat_lt}
+use Rattle.std.proofs.Common.{◌≡◌, inl, inr, ℕ, ◌+◌, ◌-◌, ◌<◌, Bool, true, false, [], ◌∷◌, Option, Some, None, refl, sym, ap, ◌∙◌, subst, arith, eq-eqb}
+use Rattle.std.specs.Prelude.{◌==◌, ◌&&◌, ◌||◌, not, length, if◌then◌else◌, nat_lt}
 use Rattle.std.specs.List.{list_any}
 use Rattle.std.proofs.lemmas.Bool.{and_parts, eqb-true, false≢true, ltb-true, not-true, true≢false}
 use Rattle.um_base.specs.Places.{row_at}
@@ -18,11 +18,10 @@ use Rattle.um_fine.specs.Asks.{begins_cleaning, check_site, says, site_of_step}
 use Rattle.um_fine.specs.Follows.{after_claim, goes_on_by, p_next, unless_loaded}
 use Rattle.um_fine.specs.Places.{Todo, Todos}
 use Rattle.um_fine.specs.Processor.{Processor, fails, is_of, key_of}
-use Rattle.um_fine.specs.Sites.{SiteState, is_sort, s_next, same_site, site_after, site_takes}
+use Rattle.um_fine.specs.Sites.{same_site}
 use Rattle.um_fine.specs.Steps.{FineStep, Site}
-use Rattle.um_fine.proofs.Keys.{same-itself}
 use Rattle.um_erasure.specs.Domains.{reads}
-use Rattle.um_erasure.specs.Fine.{Fine, domain, domain_state, one_if, over_processors}
+use Rattle.um_erasure.specs.Fine.{Fine, domain, one_if, over_processors}
 use Rattle.um_erasure.specs.Frames.{AreFramed, Behind, access_over}
 use Rattle.um_erasure.specs.Lists.{edits, edits_step, is_hold, is_move_done, moves_step, moves_to}
 use Rattle.um_erasure.specs.Offers.{Fits, behind_shown}

@@ -1,7 +1,7 @@
 -- The word of a domain after a lawful step: it stays, or is what the step leaves there; and a step leaves version, writer and the machine's
 -- domain, or is the event of an edit.
-use Rattle.std.proofs.Common.{◌≡◌, ◌⊎◌, inl, inr, ℕ, ◌+◌, ◌≤◌, Bool, true, false, cond, length, List, Option, None, refl, sym, ap, ◌∙◌, subst, arith, eq-eqb}
-use Rattle.std.specs.Prelude.{◌==◌, ◌&&◌, IsTrue, if◌then◌else◌, nat_lt, slice_index_or, slice_set}
+use Rattle.std.proofs.Common.{◌≡◌, ◌⊎◌, inl, inr, ℕ, ◌+◌, Bool, true, false, cond, List, Option, None, refl, sym, ap, ◌∙◌, subst}
+use Rattle.std.specs.Prelude.{◌==◌, IsTrue, if◌then◌else◌, nat_lt, slice_index_or, slice_set}
 use Rattle.std.proofs.lemmas.Bool.{and_parts, eqb-false, eqb-true, false≢true, true≢false}
 use Rattle.std.proofs.lemmas.List.{get_or-set_other}
 use Rattle.um_base.specs.declared.act.Act.{Act}
@@ -22,8 +22,6 @@ use Rattle.um_fine.specs.Sites.{SiteState, is_sort, s_next, same_site, site_afte
 use Rattle.um_fine.specs.Steps.{FineStep, Site}
 use Rattle.um_fine.proofs.Keys.{same-itself}
 use Rattle.um_erasure.specs.Fine.{Fine, domain, domain_state}
-use Rattle.um_erasure.specs.Lists.{edits_step}
-use Rattle.um_erasure.specs.Relation.{Rel}
 use Rattle.um_erasure.proofs.DomainFacts.{NoDomains, domains-same}
 use Rattle.um_erasure.proofs.Erased.{stepped}
 use Rattle.um_erasure.proofs.Leaves.{Lawful, Leaves, cleans, drops, event, mine, nothing, passes, recycles, resumes}
@@ -121,8 +119,11 @@ module _ (f : Fine) (m : State) (e : FineStep) (law : Lawful f m e) (d : ℕ) wh
           inr (ap (λ (w : DomWord). w.version) (word-here act said here) ∙ version (domain f d), takes (domain f d) (word-takes act said here))
       by false q =
           let word = word-else (ap (λ i. same_site i (Site.domain d)) site ∙ q) in
-          inl (ap (λ (w : DomWord). w.version) word, λ h. sym (ap (λ (w : DomWord). w.writer) word) ∙ h,
-          ap (λ (all : List (Option Partitions)). slice_index_or all d None) same ∙ get_or-set_other m.domains u d ps None (λ h. eqb-false u d q (sym h)))
+          inl (
+            ap (λ (w : DomWord). w.version) word,
+            λ h. sym (ap (λ (w : DomWord). w.writer) word) ∙ h,
+            ap (λ (all : List (Option Partitions)). slice_index_or all d None) same ∙ get_or-set_other m.domains u d ps None (λ h. eqb-false u d q (sym h)),
+          )
 
   beside : (q : Pending) (rest : Steps) (todo : Todos) (x : ℕ) → IsStep f m e.cpu e x q → Makes NoDomains q → is_dom_act (says_step f.image (f.processors e.cpu) q (act_in e.act)) ≡ false
       → Stays (T.after m (mine f m e) x q rest) ⊎ IsEdited

@@ -59,6 +59,8 @@ pub mod DomainFacts
 pub mod DomainWords
 pub mod DomainCounts
 pub mod DomainPart
+pub mod TableReads
+pub mod TablePart
 pub mod LawfulSteps
 pub mod Parts
 pub mod MemoryPart

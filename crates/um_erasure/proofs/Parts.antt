@@ -15,7 +15,6 @@ use Rattle.um_reach.proofs.Turns.{IsKnown}
 use Rattle.um_fine.specs.Steps.{FineStep}
 use Rattle.um_erasure.specs.Claims.{ClaimsAre}
 use Rattle.um_erasure.specs.Cleaning.{CleanersAre, CleaningIs}
-use Rattle.um_erasure.specs.Domains.{TableIs}
 use Rattle.um_erasure.specs.Dues.{DuesAre}
 use Rattle.um_erasure.specs.Fine.{Fine}
 use Rattle.um_erasure.specs.Looks.{LooksAre}
@@ -37,6 +36,7 @@ use Rattle.um_erasure.proofs.Reachable.{Any, makes-any, reachable-sound}
 use Rattle.um_erasure.proofs.RowsPart.{rows-part}
 use Rattle.um_erasure.proofs.RunningPart.{running-part}
 use Rattle.um_erasure.proofs.SchedulerPart.{scheduler-part}
+use Rattle.um_erasure.proofs.TablePart.{table-part}
 use Rattle.um_erasure.proofs.WordsPart.{words-part}
 use Rattle.um_erasure.proofs.Writes.{Keeping, after-kept}
 
@@ -52,7 +52,6 @@ pub record IsLeft (g : Fine) (s : State) : Type 0 where
   pub cleaners : (x : ℕ) → x < ROWS → CleanersAre g s x
   pub domain : (k : ℕ) → k < g.cpus → DomainKept g k
   pub dues : (k : ℕ) → k < g.cpus → DuesAre g s k
-  pub table : (k : ℕ) → k < g.cpus → TableIs g s k
   pub looks : (k : ℕ) → k < g.cpus → LooksAre g s k
   pub cleaning : (k : ℕ) → k < g.cpus → (x : ℕ) → CleaningIs g s k x
 
@@ -115,7 +114,7 @@ module _ (f : Fine) (m : State) (e : FineStep) (law : Lawful f m e) where
               list = lists-kept f m law.rel e law.by.may law.taken k l;
               domain = left.domain k l;
               dues = left.dues k l;
-              table = left.table k l;
+              table = table-part f m e law all s leaves k l;
               looks = left.looks k l;
               blocks = blocks-kept f m law.rel e k l;
               frames = frames-kept f m law.rel e k l;
