@@ -7,6 +7,7 @@ declare -gA _zumode_options=(
   [summary]="--cpus --pick"
   [layout]=""
   [gen]=""
+  [upgrade]=""
   [audit]=""
 )
 

@@ -7,6 +7,7 @@ complete -c zumode -n __fish_use_subcommand -a sim -d 'Run the description, and 
 complete -c zumode -n __fish_use_subcommand -a summary -d 'Run the description, and print counts'
 complete -c zumode -n __fish_use_subcommand -a layout -d 'Print the addresses of memory and objects'
 complete -c zumode -n __fish_use_subcommand -a gen -d 'Print the generated description of a number'
+complete -c zumode -n __fish_use_subcommand -a upgrade -d 'Print the canonical description of the same image, in version 2'
 complete -c zumode -n __fish_use_subcommand -a audit -d 'Say whether a trace is that of a complete run of the description'
 
 # Whether an option may stand here: behind one of the given commands, at most once, and not as another one's value.

@@ -16,6 +16,7 @@ pub answers-reading : (command : Command) (before now : Option (List ℕ)) (writ
 answers-reading (Command.Sim options) before now written reading read = read
 answers-reading (Command.Summary options) before now written reading read = read
 answers-reading Command.Layout before now written reading read = read
+answers-reading Command.Upgrade before now written reading read = read
 answers-reading Command.Audit before now written reading read = read
 answers-reading (Command.Gen number) before now written reading read = cc
 

@@ -35,6 +35,7 @@ one_writing (Command.Summary options) image trace written other a b =
     a.3 ∙ same_told (summary_text image) a.0 b.0 a.1 b.1 (same_run image options a.0 b.0 a.1 b.1 a.2 b.2) ∙ sym b.3
 one_writing Command.Layout image trace written other a b = a ∙ sym b
 one_writing (Command.Gen number) image trace written other a b = a ∙ sym b
+one_writing Command.Upgrade image trace written other a b = a.canonical ∙ sym b.canonical
 one_writing Command.Audit image trace written other a b = one_audit image trace written other a b
 
 one_output : (command : Command) (input written other : List ℕ) → IsOutput command input written → IsOutput command input other → written ≡ other
@@ -54,5 +55,6 @@ pub one_answer : (command : Command) (source written other : List ℕ) (left lef
 one_answer (Command.Sim options) source written other left left2 a b = one_reading (Command.Sim options) source written other left left2 a b
 one_answer (Command.Summary options) source written other left left2 a b = one_reading (Command.Summary options) source written other left left2 a b
 one_answer Command.Layout source written other left left2 a b = one_reading Command.Layout source written other left left2 a b
+one_answer Command.Upgrade source written other left left2 a b = one_reading Command.Upgrade source written other left left2 a b
 one_answer Command.Audit source written other left left2 a b = one_reading Command.Audit source written other left left2 a b
 one_answer (Command.Gen number) source written other left left2 a b = a ∙ sym b

@@ -3,3 +3,4 @@ pub mod Audited
 pub mod Inputs
 pub mod Messages
 pub mod Top
+pub mod Upgraded

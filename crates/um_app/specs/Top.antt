@@ -18,10 +18,11 @@ use Rattle.um_trace.specs.Text.{text}
 use Rattle.um_turns.specs.Scheduled.{IsScheduled}
 use Rattle.um_app.specs.Audited.{IsAudit}
 use Rattle.um_app.specs.Inputs.{IsOf, ReadsAll}
+use Rattle.um_app.specs.Upgraded.{IsUpgrade}
 
 -- One complete run of the access-matrix machine from an image, in the order of its processors: each event is that of the first
 -- processor that can make one, from the one that is preferred at that turn on. It has at most as many events as the image's weight,
--- and obeys the laws of accesses, verdicts, origins, lives and holds.
+-- and obeys the laws of accesses, verdicts, origins, inheritances, service, lives and holds.
 -- The image and the options name just one such run (`one_run` of um_turns).
 pub record IsRunOf (image : Image) (options : Options) (run : List Event) (last : State) : Type 0 where
   pub is_run : IsRun image run last
@@ -49,6 +50,7 @@ Writes (Command.Sim options) image trace written = IsRunText image options writt
 Writes (Command.Summary options) image trace written = IsRunSummary image options written
 Writes Command.Layout image trace written = written ≡ layout_text image
 Writes (Command.Gen number) image trace written = written ≡ description number
+Writes Command.Upgrade image trace written = IsUpgrade image written
 Writes Command.Audit image trace written = IsAudit image trace written
 
 -- The input describes an image, of which a command writes these bytes.

@@ -5,20 +5,21 @@ ghost use Rattle.um_base.specs.Lawful.{IsLawful};
 ghost use Rattle.um_command.specs.declared.command.Command.{Command};
 ghost use Rattle.um_command.specs.Words.{IsFew, HasFew};
 ghost use Rattle.um_document.specs.declared.fault.ImageFault.TheVariants as ImageFault;
-ghost use Rattle.um_image.specs.Meaning.{Refuses};
+ghost use Rattle.um_image.specs.Meaning.{Describes, Refuses};
 ghost use Rattle.um_trace.specs.Layout.{layout_text};
 ghost use Rattle.um_app.specs.Answered.{Answered};
 ghost use Rattle.um_app.specs.Audited.{IsAudit};
 ghost use Rattle.um_app.specs.Inputs.{description_in, most_described, most_read, trace_in};
 ghost use Rattle.um_app.specs.Messages.{no_trace_line, refused_line};
 ghost use Rattle.um_app.specs.Top.{IsRunText, IsRunSummary, Writes};
+ghost use Rattle.um_app.specs.Upgraded.{IsUpgrade};
 
 use crate::sim::ran;
 use std::alloc::Global;
 use um_audit::Parts;
 use um_base::{Image, Memory};
 use um_command::{Command, Options};
-use um_image::{ImageFault, fault_text, read_image};
+use um_image::{ImageFault, fault_text, print_image, read_image};
 use um_trace::SUMMARY_ROOM;
 
 /// How many bytes a description has at most.
@@ -69,6 +70,14 @@ fn addresses(alloc: Global, image: &Image) -> Result<Vec<u8>, Memory>
     Ok(text)
 }
 
+/// The canonical description of an image.
+fn upgraded(alloc: Global, image: &Image) -> Result<Vec<u8>, Memory>
+    requires described { (source : List ℕ) × Describes source image.now }
+    ensures { IfOk result (λ text. IsUpgrade image.now text.items) }
+{
+    print_image(alloc, image)
+}
+
 /// The verdict on a trace.
 fn verdict(alloc: Global, image: &Image, trace: &[u8]) -> Result<Vec<u8>, Memory>
     requires lawful { IsLawful image.now }
@@ -82,6 +91,7 @@ fn verdict(alloc: Global, image: &Image, trace: &[u8]) -> Result<Vec<u8>, Memory
 
 /// What a command writes of an image, and of the trace behind it.
 fn written(alloc: Global, command: Command, image: &Image, trace: &[u8]) -> Result<Vec<u8>, Memory>
+    requires described { (source : List ℕ) × Describes source image.now }
     requires lawful { IsLawful image.now }
     requires cpus { HasFew command }
     requires short { length trace.now < 2 ^ 32 - 1 }
@@ -92,6 +102,7 @@ fn written(alloc: Global, command: Command, image: &Image, trace: &[u8]) -> Resu
         Command::Summary(options) => run_summary(alloc, image, options),
         Command::Layout => addresses(alloc, image),
         Command::Gen { number } => um_gen::generate(alloc, number),
+        Command::Upgrade => upgraded(alloc, image),
         Command::Audit => verdict(alloc, image, trace),
     }
 }

@@ -149,10 +149,10 @@ fn generated<O: Sink>(alloc: Global, number: u64, out: &mut O) -> Status
     }
 }
 
-/// Runs a command: `sim`, `summary` and `layout` read a description from `source`, and write of it to `out` the text of a run,
-/// its counts, or the addresses; `audit` reads a description, a line `=====` and a trace, and writes its verdict on the trace; `gen`
-/// writes a generated description. A status other than `Done` has its line on `err`. All
-/// memory is taken before the first byte is written. The gate has no part in it yet.
+/// Runs a command: `sim`, `summary`, `layout` and `upgrade` read a description from `source`, and write of it to `out` the text of a
+/// run, its counts, the addresses, or its canonical form; `audit` reads a description, a line `=====` and a trace, and writes its
+/// verdict on the trace; `gen` writes a generated description. A status other than `Done` has its line on `err`. All memory is taken
+/// before the first byte is written. The gate has no part in it yet.
 pub fn zumode<R: AllocGlobal, S: Source, O: Sink, E: Sink, G: Gate>(
     rt: &R,
     words: &[String],

@@ -81,6 +81,7 @@ command_of (name ∷ words) =
     else if bytes_eq name (codes "layout") then alone Command.Layout words
     else if bytes_eq name (codes "gen") then generation_of words
     else if bytes_eq name (codes "summary") then option_map Command.Summary (options_of words)
+    else if bytes_eq name (codes "upgrade") then alone Command.Upgrade words
     else if bytes_eq name (codes "audit") then alone Command.Audit words
     else None
 
@@ -94,4 +95,5 @@ HasFew (Command.Sim options) = IsFew options
 HasFew Command.Layout = Unit {0}
 HasFew (Command.Gen number) = Unit {0}
 HasFew (Command.Summary options) = IsFew options
+HasFew Command.Upgrade = Unit {0}
 HasFew Command.Audit = Unit {0}

@@ -20,6 +20,8 @@ pub enum Command {
     Gen { number: u64 },
     /// Run a description, and tell counts.
     Summary(Options),
+    /// Print a description in version 2.
+    Upgrade,
     /// Say whether a trace is that of a complete run of a description.
     Audit,
 }

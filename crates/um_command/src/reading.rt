@@ -114,6 +114,7 @@ pub fn read_command(words: &[String]) -> Option<Command>
             "layout" => alone(Command::Layout, rest),
             "gen" => generation(rest),
             "summary" => Some(Command::Summary(options(rest)?)),
+            "upgrade" => alone(Command::Upgrade, rest),
             "audit" => alone(Command::Audit, rest),
             _ => None,
         },

@@ -27,13 +27,14 @@ fn commands(rt: HostRuntime) -> Result<(), Fail> {
         cpus: 4,
         pick: Some(18_446_744_073_709_551_615),
     };
-    let cases: [(&[&str], Option<Command>); 10] = [
+    let cases: [(&[&str], Option<Command>); 11] = [
         (&["sim"], sim(1, None)),
         (&["sim", "--cpus", "8"], sim(8, None)),
         (&["sim", "--pick", "7", "--cpus", "08"], sim(8, Some(7))),
         (&["sim", "--pick", "0", "--cpus", "1"], sim(1, Some(0))),
         (all_options, Some(Command::Summary(summary))),
         (&["layout"], Some(Command::Layout)),
+        (&["upgrade"], Some(Command::Upgrade)),
         (&["audit"], Some(Command::Audit)),
         (&["gen", "5"], generated(5)),
         (&["gen", "00000000000000000007"], generated(7)),
@@ -50,7 +51,7 @@ fn commands(rt: HostRuntime) -> Result<(), Fail> {
 
 #[test]
 fn no_commands(rt: HostRuntime) -> Result<(), Fail> {
-    let cases: [&[&str]; 26] = [
+    let cases: [&[&str]; 28] = [
         &[],
         &["sim", "--cpus", "9"],
         &["sim", "--cpus", "0"],
@@ -68,6 +69,8 @@ fn no_commands(rt: HostRuntime) -> Result<(), Fail> {
         &["gen", "000000000000000000001"],
         &["gen", ""],
         &["layout", "x"],
+        &["upgrade", "x"],
+        &["upgrade", "--cpus", "1"],
         &["audit", "x"],
         &["audit", "--cpus", "1"],
         &["layout", "--cpus", "1"],

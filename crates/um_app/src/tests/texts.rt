@@ -33,6 +33,37 @@ ended 1
 waiting 0
 ";
 
+/// The canonical description of the image.
+const CANONICAL: &str = "version = 2
+mpu = \"pmsav7\"
+regions = 8
+oops = \"abort\"
+[[partition]]
+name = \"p\"
+attr = \"P_RW_U_RW\"
+vars = [{name = \"v0\", size = 32, align = 32}]
+[[domain]]
+name = \"d\"
+partitions = [\"p\"]
+[[object]]
+name = \"a\"
+kind = \"thread\"
+[[object]]
+name = \"sa\"
+kind = \"thread_stack\"
+size = 64
+[[boot]]
+thread = \"a\"
+stack = \"sa\"
+script = \"m\"
+priority = 0
+domain = \"d\"
+mode = \"user\"
+[[script]]
+name = \"m\"
+lines = [\"store 536870943 1 171\", \"load r0 536870944 1\"]
+";
+
 #[test]
 fn a_run_in_pieces(rt: HostRuntime) -> Result<(), Fail> {
     let alloc = rt.alloc();
@@ -52,6 +83,7 @@ fn what_each_command_writes(rt: HostRuntime) -> Result<(), Fail> {
         ("sim --pick 7 --cpus 08", LAST_BYTE),
         ("layout", ADDRESSES),
         ("summary", COUNTS),
+        ("upgrade", CANONICAL),
         ("summary --cpus 3", COUNTS),
     ];
     for (words, text) in cases {
