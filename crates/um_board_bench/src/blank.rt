@@ -8,7 +8,7 @@ use um_site::{Board, Seat, are_unstepped, have_no_turn};
 use um_words::AnyStep;
 
 /// An image with nothing in it.
-fn empty_image(alloc: Global) -> Image {
+pub fn empty_image(alloc: Global) -> Image {
     Image {
         mpu: Mpu::V7,
         regions: 8,

@@ -7,6 +7,8 @@ ghost use Rattle.std.specs.Prelude.{◌≡◌, ◌≤◌, ◌<◌, [], true};
 mod blank;
 #[cfg(test)]
 mod calls;
+#[cfg(test)]
+mod cell_tests;
 mod now;
 mod plain;
 mod play;
