@@ -10,7 +10,7 @@ SCHEMA = TOP / "schema" / "zumode.schema.json"
 POINTER = "#:schema ../schema/zumode.schema.json"
 FORM_FAULTS = {"MissingKey", "WrongType", "UnknownKey", "BadName"}
 MOST_PICTURE_BYTES = 200_000
-COMMANDS = ["audit", "gen", "layout", "sim", "summary"]
+COMMANDS = ["audit", "gen", "layout", "sim", "summary", "upgrade"]
 
 
 def validator():
