@@ -61,6 +61,7 @@ pub mod DomainCounts
 pub mod DomainPart
 pub mod TableReads
 pub mod TablePart
+pub mod ListCounts
 pub mod LawfulSteps
 pub mod Parts
 pub mod MemoryPart
