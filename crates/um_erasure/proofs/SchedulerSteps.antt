@@ -11,8 +11,8 @@ use Rattle.um_fine.specs.Cells.{Cell}
 use Rattle.um_fine.specs.Places.{Todos}
 use Rattle.um_fine.specs.Processor.{Processor, fails}
 use Rattle.um_fine.specs.Scheduler.{sched_after, sched_moves, sched_says, sched_takes}
-use Rattle.um_fine.specs.Sites.{SiteState, s_next, same_site, site_after, site_answers, site_moves, site_takes}
-use Rattle.um_fine.specs.Steps.{FineStep, Site}
+use Rattle.um_fine.specs.Sites.{SiteState, s_next, same_site, site_after, site_answers, site_moves, site_takes, word_of}
+use Rattle.um_fine.specs.Steps.{Exchange, FineStep, Site}
 use Rattle.um_fine.proofs.Keys.{same-itself}
 use Rattle.um_erasure.specs.Fine.{Fine, scheduler, scheduler_state}
 use Rattle.um_erasure.proofs.Erased.{stepped}
@@ -41,6 +41,13 @@ module _ (f : Fine) (m : State) (e : FineStep) (law : Lawful f m e) where
 
   pub made-says : (todo : Todos) → (maker f m e).todo ≡ todo → e.act ≡ says f.image (maker f m e) todo e.act e.moved
   made-says todo at = sym (ap (λ (s : FineStep). s.act) law.by.may.makes) ∙ ap (λ (z : Todos). says f.image (maker f m e) z e.act e.moved) at
+
+  -- The word that a step leaves is the one that stands then.
+  pub word-left : e.word ≡ word_of (s_next f.image (f.sites e.site) e)
+  word-left =
+      let filled = law.taken.filled_in in
+      sym (ap (λ (z : FineStep). z.word) filled)
+      ∙ ap (λ (z : FineAct × Exchange). word_of (site_after f.image (f.sites e.site) z.0 z.1)) (λ i. ((filled i).act, (filled i).moved))
 
   is-scheduler : (n : ℕ) × (f.sites Site.scheduler ≡ SiteState.cell n (Cell.scheduler (scheduler f)))
   is-scheduler = scheduler-sort (f.sites Site.scheduler) (law.rel.sorts Site.scheduler)

@@ -19,8 +19,8 @@ use Rattle.um_fine.specs.Context.{Context}
 use Rattle.um_fine.specs.Follows.{after_claim, after_show, dropped_at, goes_on_by, p_next, unless_loaded}
 use Rattle.um_fine.specs.Places.{Todo, Todos}
 use Rattle.um_fine.specs.Processor.{Processor, is_of, key_of}
-use Rattle.um_fine.specs.Sites.{SiteState, is_sort, s_next, same_site, site_after, site_moves, word_of}
-use Rattle.um_fine.specs.Steps.{Exchange, FineStep, Site}
+use Rattle.um_fine.specs.Sites.{SiteState, is_sort, s_next, same_site, site_moves, word_of}
+use Rattle.um_fine.specs.Steps.{FineStep, Site}
 use Rattle.um_fine.proofs.Keys.{same-itself}
 use Rattle.um_erasure.specs.Domains.{TableIs, reads}
 use Rattle.um_erasure.specs.Fine.{Fine, domain, domain_state, one_if, parts, parts_state}
@@ -37,7 +37,7 @@ use Rattle.um_erasure.proofs.ListTails.{exact-next, is_read_claim, tail-read, ta
 use Rattle.um_erasure.proofs.MemoryPart.{InDomains}
 use Rattle.um_erasure.proofs.MemorySteps.{part-total}
 use Rattle.um_erasure.proofs.RowSteps.{sort-next}
-use Rattle.um_erasure.proofs.SchedulerSteps.{made-at, made-says}
+use Rattle.um_erasure.proofs.SchedulerSteps.{made-at, made-says, word-left}
 use Rattle.um_erasure.proofs.TableReads.{SameOwn, claimed-grip, claimed-memory, claimed-steps, is-of-key, is_claim, loads, memory-own, next-table, next-version, ready-reads, ready-table}
 
 module _ (f : Fine) (m : State) (e : FineStep) (law : Lawful f m e) (all : InDomains f m) (s : State) (leaves : Leaves f m e s) where
@@ -251,13 +251,6 @@ module _ (f : Fine) (m : State) (e : FineStep) (law : Lawful f m e) (all : InDom
       free true = ap (λ (z : Todos). claimed (Todo.read_done (Some d) ∷ z)) (frame (Todo.read_claim (Some d)) todo at).2
       free false = ap claimed (frame (Todo.read_claim (Some d)) todo at).2
 
-  -- The word that a step leaves is the one that stands then.
-  word-left : e.word ≡ word_of (s_next f.image (f.sites e.site) e)
-  word-left =
-      let filled = law.taken.filled_in in
-      sym (ap (λ (z : FineStep). z.word) filled)
-      ∙ ap (λ (z : FineAct × Exchange). word_of (site_after f.image (f.sites e.site) z.0 z.1)) (λ i. ((filled i).act, (filled i).moved))
-
   -- Its thread's domain is claimed.
   claim-table : (todo : Todos) → p.todo ≡ Todo.read_claim None ∷ todo → TableIs later s e.cpu
   claim-table todo at = keeps (next-table f.image p e (Todo.read_claim None ∷ todo) at refl) (λ h. present) loaded
@@ -273,7 +266,7 @@ module _ (f : Fine) (m : State) (e : FineStep) (law : Lawful f m e) (all : InDom
 
       left : domain_in e.word ≡ domain later p.domain
       left =
-          ap domain_in (word-left ∙ ap (λ i. word_of (s_next f.image (f.sites i) e)) site)
+          ap domain_in (word-left f m e law ∙ ap (λ i. word_of (s_next f.image (f.sites i) e)) site)
           ∙ (states (s_next f.image (f.sites (Site.domain p.domain)) e) (sort-next f.image (Site.domain p.domain) (f.sites (Site.domain p.domain)) e.act e.moved (law.rel.sorts (Site.domain p.domain)))
           ∙ sym (ap (λ b. domain_state (cond b (s_next f.image (f.sites (Site.domain p.domain)) e) (f.sites (Site.domain p.domain)))) (ap (λ i. same_site i (Site.domain p.domain)) site ∙ same-itself (Site.domain p.domain))))
         where
