@@ -62,6 +62,9 @@ pub mod DomainPart
 pub mod TableReads
 pub mod TablePart
 pub mod ListCounts
+pub mod CleaningFacts
+pub mod CleanersSteps
+pub mod CleanersPart
 pub mod LawfulSteps
 pub mod Parts
 pub mod MemoryPart

@@ -91,7 +91,7 @@ either-row : (w : RowWord) (t : ℕ) (b : Bool) (good bad : Act) → HasSame (ro
 either-row w t true good bad h k = h
 either-row w t false good bad h k = k
 
-row-untouched : (image : Image) (p : Processor) (w : RowWord) (t : ℕ) (q : Pending) (act : Act) → IsShown q → Makes NoPairs q → HasSame (row_after_act w t (says_step image p q act)) w
+pub row-untouched : (image : Image) (p : Processor) (w : RowWord) (t : ℕ) (q : Pending) (act : Act) → IsShown q → Makes NoPairs q → HasSame (row_after_act w t (says_step image p q act)) w
 row-untouched image p w t (Pending.Check a kind want refusal) act shown makes = row-checked w (verdict_in act)
 row-untouched image p w t (Pending.Load to a n) act shown makes = either-row w t (allows image p Access.Read a.0 n) _ _ (same-row w) (same-row w)
 row-untouched image p w t (Pending.Store a n value) act shown makes = either-row w t (allows image p Access.Write a.0 n) _ _ (same-row w) (same-row w)

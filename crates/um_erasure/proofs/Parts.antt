@@ -14,13 +14,14 @@ use Rattle.um_reach.proofs.Cores.{core_of}
 use Rattle.um_reach.proofs.Turns.{IsKnown}
 use Rattle.um_fine.specs.Steps.{FineStep}
 use Rattle.um_erasure.specs.Claims.{ClaimsAre}
-use Rattle.um_erasure.specs.Cleaning.{CleanersAre, CleaningIs}
+use Rattle.um_erasure.specs.Cleaning.{CleaningIs}
 use Rattle.um_erasure.specs.Dues.{DuesAre}
 use Rattle.um_erasure.specs.Fine.{Fine}
 use Rattle.um_erasure.specs.Looks.{LooksAre}
 use Rattle.um_erasure.specs.Objects.{ContentsAre, StatusIs}
 use Rattle.um_erasure.specs.Relation.{Rel}
 use Rattle.um_erasure.specs.Threads.{AwayIs, ContextsAre, DomainKept, ReadyIs, ToldIs}
+use Rattle.um_erasure.proofs.CleanersPart.{cleaners-part}
 use Rattle.um_erasure.proofs.DomainPart.{domain-part}
 use Rattle.um_erasure.proofs.Erased.{IsReachable, Keeps, fine, stepped}
 use Rattle.um_erasure.proofs.HeapPart.{heap-part}
@@ -49,7 +50,6 @@ pub record IsLeft (g : Fine) (s : State) : Type 0 where
   pub status : (x : ℕ) → x < ROWS → StatusIs g s x
   pub contents : (x : ℕ) → x < ROWS → ContentsAre g s x
   pub claims : (x : ℕ) → x < ROWS → ClaimsAre g s x
-  pub cleaners : (x : ℕ) → x < ROWS → CleanersAre g s x
   pub domain : (k : ℕ) → k < g.cpus → DomainKept g k
   pub dues : (k : ℕ) → k < g.cpus → DuesAre g s k
   pub looks : (k : ℕ) → k < g.cpus → LooksAre g s k
@@ -107,7 +107,7 @@ module _ (f : Fine) (m : State) (e : FineStep) (law : Lawful f m e) where
         threads = λ t l.
             record { word = words-part f m e law t l s leaves; away = left.away t l; told = left.told t l; held = held-part f m e law t l; ready = left.ready t l };
         rows = λ x l.
-            record { pairs = pairs-part f m e law x l s leaves; status = left.status x l; contents = left.contents x l; claims = left.claims x l; cleaners = left.cleaners x l };
+            record { pairs = pairs-part f m e law x l s leaves; status = left.status x l; contents = left.contents x l; claims = left.claims x l; cleaners = cleaners-part f m e law x l s leaves };
         domains = λ d l. domain-part f m e law d l s leaves;
         processors = λ k l.
             record {

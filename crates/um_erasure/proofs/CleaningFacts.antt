@@ -1,0 +1,87 @@
+-- Facts of steps that begin a cleaning, and of drops that take the last permission.
+use Rattle.std.proofs.Common.{◌≡◌, ℕ, ◌+◌, ◌<◌, Bool, true, false, ◌∷◌, refl, ap, arith}
+use Rattle.std.specs.Prelude.{◌&&◌, not, IsTrue, if◌then◌else◌, length}
+use Rattle.std.proofs.lemmas.Bool.{false≢true, true≢false}
+use Rattle.std.proofs.lemmas.List.{get_or-set_other, get_or-set_same}
+use Rattle.um_base.specs.declared.act.Leftover.{Leftover}
+use Rattle.um_base.specs.declared.image.Image.{Image}
+use Rattle.um_machine.specs.declared.object.Object.{Object}
+use Rattle.um_machine.specs.declared.object.Status.{Status}
+use Rattle.um_machine.specs.State.{State, object_at, vacant, with_object}
+use Rattle.um_machine.specs.Table as T
+use Rattle.um_words.specs.declared.fine.FineAct.{FineAct}
+use Rattle.um_words.specs.declared.fine.Unseen.{Unseen}
+use Rattle.um_words.specs.Rows.{is_cleaning}
+use Rattle.um_fine.specs.Answers.{left_in, row_in}
+use Rattle.um_fine.specs.Asks.{begins_cleaning}
+use Rattle.um_fine.specs.Follows.{row_number}
+use Rattle.um_fine.specs.Places.{Todo, Todos}
+use Rattle.um_fine.specs.Sites.{SiteState, is_sort, site_after, word_of}
+use Rattle.um_fine.specs.Steps.{Exchange, FineStep, Site}
+use Rattle.um_erasure.specs.Fine.{one_if}
+use Rattle.um_erasure.specs.Lists.{counted}
+
+-- A step that begins a cleaning is made at a row, and leaves it in cleaning.
+
+pub begins-stage : (e : FineStep) (act : FineAct) → begins_cleaning (record e { act = act }) ≡ true → is_cleaning (row_in e.word).stage ≡ true
+begins-stage e (FineAct.Unseen Unseen.EndCall) h = h
+begins-stage e (FineAct.Unseen u) h = absurd (false≢true h)
+begins-stage e (FineAct.Shown said more) h = by (left_in said.act) h
+  where
+    by : (l : Leftover) → (elim l as (λ _. Bool) [ Leftover.Gone ↦ is_cleaning (row_in e.word).stage | _ ↦ false ]) ≡ true → is_cleaning (row_in e.word).stage ≡ true
+    by Leftover.Gone h = h
+    by Leftover.Kept h = absurd (false≢true h)
+    by Leftover.NoPair h = absurd (false≢true h)
+
+pub row-site : (image : Image) (i : Site) (st : SiteState) (act : FineAct) (moved : Exchange) → IsTrue (is_sort i st) → is_cleaning (row_in (word_of (site_after image st act moved))).stage ≡ true
+    → i ≡ Site.row (row_number i)
+row-site image (Site.row x) st act moved h c = refl
+row-site image (Site.thread t) (SiteState.thread w) act moved h c = absurd (false≢true c)
+row-site image (Site.domain d) (SiteState.domain w) act moved h c = absurd (false≢true c)
+row-site image (Site.object x) (SiteState.cell n z) act moved h c = absurd (false≢true c)
+row-site image (Site.parts d) (SiteState.cell n z) act moved h c = absurd (false≢true c)
+row-site image Site.memory (SiteState.cell n z) act moved h c = absurd (false≢true c)
+row-site image Site.heap (SiteState.cell n z) act moved h c = absurd (false≢true c)
+row-site image Site.scheduler (SiteState.cell n z) act moved h c = absurd (false≢true c)
+row-site image i st act moved h c = absurd (false≢true h)
+
+abbrev pub takes_last : Leftover → Bool
+takes_last Leftover.Gone = true
+takes_last left = false
+
+pub left-gone : (there last : Bool) → takes_last (if not there then Leftover.NoPair else if last then Leftover.Gone else Leftover.Kept) ≡ (last && there)
+left-gone true true = refl
+left-gone true false = refl
+left-gone false true = refl
+left-gone false false = refl
+
+pub quiet-left : (l : Leftover) (b : Bool) → takes_last l ≡ false → (elim l as (λ _. Bool) [ Leftover.Gone ↦ b | _ ↦ false ]) ≡ false
+quiet-left Leftover.Gone b h = absurd (true≢false h)
+quiet-left Leftover.Kept b h = refl
+quiet-left Leftover.NoPair b h = refl
+
+pub loud-left : (l : Leftover) (b : Bool) → takes_last l ≡ true → (elim l as (λ _. Bool) [ Leftover.Gone ↦ b | _ ↦ false ]) ≡ b
+loud-left Leftover.Gone b h = refl
+loud-left Leftover.Kept b h = absurd (false≢true h)
+loud-left Leftover.NoPair b h = absurd (false≢true h)
+
+-- what a drop leaves of the status of a row
+pub drop-status : (s : State) (who y x : ℕ) → (takes_last (T.dropped s who y) ≡ false → (object_at (T.after_drop s who y) x).status ≡ (object_at s x).status)
+    × ((x ≡ y → ⊥) → (object_at (T.after_drop s who y) x).status ≡ (object_at s x).status)
+    × (y < length s.objects → takes_last (T.dropped s who y) ≡ true → (object_at (T.after_drop s who y) y).status ≡ Status.Gone)
+drop-status s who y x = by (T.dropped s who y)
+  where
+    by : (l : Leftover) →
+        (takes_last l ≡ false → (object_at (elim l as (λ _. State) [ Leftover.NoPair ↦ s | Leftover.Kept ↦ T.paired s who y false | Leftover.Gone ↦ with_object (T.paired s who y false) y (record (object_at s y) { status = Status.Gone }) ]) x).status ≡ (object_at s x).status)
+        × ((x ≡ y → ⊥) → (object_at (elim l as (λ _. State) [ Leftover.NoPair ↦ s | Leftover.Kept ↦ T.paired s who y false | Leftover.Gone ↦ with_object (T.paired s who y false) y (record (object_at s y) { status = Status.Gone }) ]) x).status ≡ (object_at s x).status)
+        × (y < length s.objects → takes_last l ≡ true → (object_at (elim l as (λ _. State) [ Leftover.NoPair ↦ s | Leftover.Kept ↦ T.paired s who y false | Leftover.Gone ↦ with_object (T.paired s who y false) y (record (object_at s y) { status = Status.Gone }) ]) y).status ≡ Status.Gone)
+    by Leftover.NoPair = (λ h. refl, λ ne. refl, λ l h. absurd (false≢true h))
+    by Leftover.Kept = (λ h. refl, λ ne. refl, λ l h. absurd (false≢true h))
+    by Leftover.Gone = (
+      λ h. absurd (true≢false h),
+      λ ne. ap (λ (o : Object). o.status) (get_or-set_other s.objects y x (record (object_at s y) { status = Status.Gone }) vacant ne),
+      λ l h. ap (λ (o : Object). o.status) (get_or-set_same s.objects y (record (object_at s y) { status = Status.Gone }) vacant l),
+    )
+
+pub count-cons : (test : Todo → Bool) (q : Todo) (todo : Todos) → counted test (q ∷ todo) ≡ one_if (test q) + counted test todo
+count-cons test q todo = elim (test q) as (λ b. (if b then counted test todo + 1 else counted test todo) ≡ one_if b + counted test todo) [ true ↦ omega arith | false ↦ omega arith ]
