@@ -1,4 +1,4 @@
--- Each lawful step is one of the machine, or leaves it: given a few facts of the image and of the machine's state, what it makes of that state
+-- Each lawful step is one of the machine, or leaves it: given a few facts of the machine's state, what it makes of that state
 -- is one of the kinds of `Leaves`.
 use Rattle.std.proofs.Common.{◌≡◌, inl, inr, ℕ, ◌<◌, Bool, true, false, [], ◌∷◌, length, Some, None, refl, sym, ap, ◌∙◌, subst}
 use Rattle.std.specs.Prelude.{◌&&◌, if◌then◌else◌, nat_lt, slice_index_or}
@@ -31,6 +31,7 @@ use Rattle.um_fine.specs.Sites.{SiteState, site_takes}
 use Rattle.um_fine.specs.Steps.{Exchange, FineStep, Site}
 use Rattle.um_erasure.specs.Fine.{Fine, bytes}
 use Rattle.um_erasure.specs.Lists.{names_row}
+use Rattle.um_erasure.proofs.CallsKnown.{RestsHoldNothing, calls-known}
 use Rattle.um_erasure.proofs.CleanSteps.{Calls, OwnRows, clean-pair-step, recycle-chosen, recycle-step}
 use Rattle.um_erasure.proofs.DomainSteps.{add-step, init-step, remove-step}
 use Rattle.um_erasure.proofs.DropSteps.{drop-pair-step, drop-step}
@@ -59,16 +60,14 @@ EditsOne n (Pending.DomAdd d range attr) = d < n
 EditsOne n (Pending.DomRemove d range attr) = d < n
 EditsOne n q = Unit {0}
 
--- What the events ask of the image, and of the machine's state beside what is known of it: threads and edits are in the image's domains, a
--- call works on an object that it holds, only threads that wait are told anything, who is in no call holds nothing by one, and each thread
--- object has a thread of its own.
+-- What the events ask of the machine's state beside what is known of it: threads and edits are in the image's domains, a call works on an
+-- object that it holds, only threads that wait are told anything, and who is in no call holds nothing by one.
 pub record Suits (f : Fine) (m : State) : Type 0 where
   pub domains : InDomains f m
   pub edits : (t : ℕ) (q : Pending) (rest : Steps) → Offers m t q rest → EditsOne (length f.image.domains) q
   pub works : (t : ℕ) (a : Addr) (ask : Ask) (rest : Steps) → Offers m t (Pending.Work a ask) rest → slice_index_or (thread_at m t).checked (T.row_of m a) false ≡ true
   pub tells : TellsWaiters m
-  pub calls : Calls m
-  pub own : OwnRows f.image
+  pub rests : RestsHoldNothing m
 
 -- what a step leaves, and that the machine goes there
 pub record Next (f : Fine) (m : State) (e : FineStep) : Type 0 where
@@ -76,7 +75,10 @@ pub record Next (f : Fine) (m : State) (e : FineStep) : Type 0 where
   pub goes : Goes m e state
   pub leaves : Leaves f m e state
 
-module _ (f : Fine) (m : State) (e : FineStep) (law : Lawful f m e) (suits : Suits f m) where
+module _ (f : Fine) (m : State) (e : FineStep) (law : Lawful f m e) (suits : Suits f m) (own : OwnRows f.image) where
+  calls : Calls m
+  calls = calls-known m law.sound suits.rests
+
   abbrev p : Processor
   p = f.processors e.cpu
 
@@ -219,7 +221,7 @@ module _ (f : Fine) (m : State) (e : FineStep) (law : Lawful f m e) (suits : Sui
       let pending = (thread_at m p.context.thread).pending in
       record {
         state = T.after m p.context.thread x (Pending.CleanPair (to_thread who)) pending;
-        goes = clean-pair-step v suits.calls suits.own (sound-held m law.sound x who v.few);
+        goes = clean-pair-step v calls own (sound-held m law.sound x who v.few);
         leaves = cleans who x pending todo v (does (Act.DropPair (to_thread who) (address_of f.image x) (left_in (act_in e.act))) (made-says f m e law (Todo.clean_pair who x ∷ todo) at) shown);
       }
 
@@ -229,8 +231,8 @@ module _ (f : Fine) (m : State) (e : FineStep) (law : Lawful f m e) (suits : Sui
       let pending = (thread_at m p.context.thread).pending in
       record {
         state = T.after m p.context.thread x Pending.Recycle pending;
-        goes = recycle-step f m law.rel suits.calls suits.own x todo law.by.named few at law.by.may;
-        leaves = recycles x pending todo at few (made-says f m e law (Todo.recycle x ∷ todo) at) (recycle-chosen f m law.rel suits.calls suits.own x todo law.by.named few at);
+        goes = recycle-step f m law.rel calls own x todo law.by.named few at law.by.may;
+        leaves = recycles x pending todo at few (made-says f m e law (Todo.recycle x ∷ todo) at) (recycle-chosen f m law.rel calls own x todo law.by.named few at);
       }
 
   -- A thread is taken.

@@ -65,6 +65,7 @@ pub mod ListCounts
 pub mod CleaningFacts
 pub mod CleanersSteps
 pub mod CleanersPart
+pub mod CallsKnown
 pub mod LawfulSteps
 pub mod Parts
 pub mod MemoryPart

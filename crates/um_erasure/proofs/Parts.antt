@@ -1,9 +1,9 @@
 -- Every lawful step keeps the relation, where it keeps the parts of it that are still to be proved, and the machine's states suit the events:
 -- the other parts are kept.
-use Rattle.std.proofs.Common.{◌≡◌, ℕ, ◌<◌, ◌≤◌, true, false, length, refl, ◌∙◌}
+use Rattle.std.proofs.Common.{subst, ◌≡◌, ℕ, ◌<◌, true, false, refl, ◌∙◌}
 use Rattle.std.specs.Prelude.{◌-◌, if◌then◌else◌, nat_lt}
 use Rattle.um_base.specs.declared.image.Image.{Image}
-use Rattle.um_base.specs.declared.limits.TheConstants.{PARTITION_AREA, ROWS, STACK_AREA, STATIC_ROWS, THREADS}
+use Rattle.um_base.specs.declared.limits.TheConstants.{PARTITION_AREA, ROWS, STACK_AREA, THREADS}
 use Rattle.um_machine.specs.declared.pending.Pending.{Pending}
 use Rattle.um_machine.specs.Memory.{put_bytes}
 use Rattle.um_machine.specs.Order.{Steps, to_thread}
@@ -11,7 +11,9 @@ use Rattle.um_machine.specs.Run.{opening}
 use Rattle.um_machine.specs.State.{State}
 use Rattle.um_machine.specs.Table as T
 use Rattle.um_reach.proofs.Cores.{core_of}
+use Rattle.um_reach.proofs.Guards.{IsSited}
 use Rattle.um_reach.proofs.Turns.{IsKnown}
+use Rattle.um_reach.specs.Described.{IsDescribed}
 use Rattle.um_fine.specs.Steps.{FineStep}
 use Rattle.um_erasure.specs.Claims.{ClaimsAre}
 use Rattle.um_erasure.specs.Cleaning.{CleaningIs}
@@ -21,9 +23,11 @@ use Rattle.um_erasure.specs.Looks.{LooksAre}
 use Rattle.um_erasure.specs.Objects.{ContentsAre, StatusIs}
 use Rattle.um_erasure.specs.Relation.{Rel}
 use Rattle.um_erasure.specs.Threads.{AwayIs, ContextsAre, DomainKept, ReadyIs, ToldIs}
+use Rattle.um_erasure.proofs.CallsKnown.{own-known}
 use Rattle.um_erasure.proofs.CleanersPart.{cleaners-part}
 use Rattle.um_erasure.proofs.DomainPart.{domain-part}
 use Rattle.um_erasure.proofs.Erased.{IsReachable, Keeps, fine, stepped}
+use Rattle.um_erasure.proofs.FirstObjects.{opening-image}
 use Rattle.um_erasure.proofs.HeapPart.{heap-part}
 use Rattle.um_erasure.proofs.HeldPart.{held-part}
 use Rattle.um_erasure.proofs.Kept.{lists-kept, sorts-kept}
@@ -132,10 +136,11 @@ pub record IsLeftOpen (image : Image) (cpus : ℕ) : Type 0 where
   pub parts : (f : Fine) (m : State) (e : FineStep) → f.image ≡ image → f.cpus ≡ cpus → IsReachable image cpus m → Lawful f m e → Suits f m
       → (s : State) → Leaves f m e s → IsLeft (stepped f.image f.cpus f.processors f.sites e) s
 
-pub keeps-all : (image : Image) (cpus : ℕ) → length image.objects ≤ STATIC_ROWS → IsKnown (core_of (opening image)) → IsLeftOpen image cpus → Keeps image cpus
-keeps-all image cpus few known left ps ss m e rel reach by taken =
+pub keeps-all : (image : Image) (cpus : ℕ) → IsDescribed image → IsKnown (core_of (opening image)) → IsLeftOpen image cpus → Keeps image cpus
+keeps-all image cpus described known left ps ss m e rel reach by taken =
     let f = fine image cpus ps ss in
-    let law : Lawful f m e = record { rel = rel; sound = reachable-sound image cpus few m reach known; by = by; taken = taken } in
+    let law : Lawful f m e = record { rel = rel; sound = reachable-sound image cpus described.few m reach known; by = by; taken = taken } in
     let suits = left.suits f m refl refl rel reach in
-    let next = lawful-next f m e law suits in
+    let own = own-known image described.lawful (subst IsSited (opening-image image) known.reached.sited) in
+    let next = lawful-next f m e law suits own in
     (next.state, next.goes, related f m e law suits.domains next.state next.leaves (left.parts f m e refl refl reach law suits next.state next.leaves))

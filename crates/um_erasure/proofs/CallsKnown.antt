@@ -1,0 +1,111 @@
+-- What is known of a state bounds its threads and rows, and says that a thread which is started next doesn't live; and in a described image
+-- each thread object has a thread of its own. So of what the events ask, this needn't be asked.
+use Rattle.std.proofs.Common.{◌≡◌, ◌≢◌, ◌⊎◌, inl, ℕ, zero, suc, ◌+◌, ◌-◌, ◌<◌, ◌≤◌, Bool, true, false, List, [], ◌∷◌, length, Option, Some, None, refl, sym, ap, ◌∙◌, arith, eq-eqb}
+use Rattle.std.specs.Prelude.{if◌then◌else◌, is_some, nat_lt, position, slice_get, slice_index_or, unwrap_or, map}
+use Rattle.std.specs.List.{list_all}
+use Rattle.std.proofs.lemmas.Bool.{and_parts, false≢true, lt-ltb, ltb-true, true≢false}
+use Rattle.std.proofs.lemmas.Bool.Decides.{nat_tests}
+use Rattle.um_base.specs.declared.image.Image.{Image}
+use Rattle.um_base.specs.declared.image.ObjectDef.{ObjectDef}
+use Rattle.um_base.specs.declared.image.Setup.{Setup}
+use Rattle.um_base.specs.declared.limits.TheConstants.{ROWS, STATIC_ROWS, STATIC_THREADS, THREADS}
+use Rattle.um_base.specs.declared.names.Kind.{Kind}
+use Rattle.um_base.specs.Lawful.{IsLawful, is_setup_of}
+use Rattle.um_base.specs.Places.{is_thread_index, own_row, setup_at, setup_thread}
+use Rattle.um_machine.specs.declared.pending.Pending.{Pending}
+use Rattle.um_machine.specs.declared.thread.Life.{Life}
+use Rattle.um_machine.specs.Order.{Steps}
+use Rattle.um_machine.specs.State.{State, is_living, thread_at}
+use Rattle.um_reach.proofs.Claims.{claims}
+use Rattle.um_reach.proofs.Cores.{Call, call_is}
+use Rattle.um_reach.proofs.Facts.{not_less}
+use Rattle.um_reach.proofs.Guards.{IsSited, kind_in}
+use Rattle.um_erasure.proofs.CleanSteps.{Calls, OwnRows, StartsNext}
+use Rattle.um_erasure.proofs.Reachable.{IsSound}
+
+-- a thread that is started next is claimed by the one that starts it
+starts-claims : (image : Image) (u : ℕ) (steps : Steps) → StartsNext u steps → claims image u steps ≡ true
+starts-claims image u (Pending.Start who script stack priority mode ∷ rest) h = eq-eqb who.0 u h
+starts-claims image u (Pending.Inherit child ∷ Pending.Start who script stack priority mode ∷ rest) h = eq-eqb who.0 u h
+starts-claims image u (Pending.Drops from ∷ Pending.Start who script stack priority mode ∷ rest) h = eq-eqb who.0 u h
+starts-claims image u _ h = absurd h
+
+-- what is still asked of calls: who is in none holds nothing by one
+abbrev pub RestsHoldNothing : State → Type 0
+RestsHoldNothing m = (u x : ℕ) → ((thread_at m u).life ≢ Life.Living) ⊎ ((thread_at m u).pending ≡ []) → slice_index_or (thread_at m u).checked x false ≡ false
+
+module _ (m : State) (sound : IsSound m) where
+  starts-known : (t u : ℕ) → StartsNext u (thread_at m t).pending → (thread_at m u).life ≢ Life.Living
+  starts-known t u next lives =
+      let claimed = sound.known.claimed in
+      let free = claimed.free t u (ap (λ (c : Call). claims m.image u c.pending) (call_is m t) ∙ starts-claims m.image u (thread_at m t).pending next) in
+      let keeps = claimed.living u (ap (λ (c : Call). c.living) (call_is m u) ∙ ap is_living lives) in
+      true≢false (sym keeps ∙ free)
+
+  pub calls-known : RestsHoldNothing m → Calls m
+  calls-known rests =
+      let threads = sound.wide.threads in
+      let rows = sound.wide.rows in
+      record { threads = omega (arith, threads); rows = omega (arith, rows); rests = rests; starts = starts-known }
+
+-- Rows of threads.
+
+setup-inside : (os : List ObjectDef) (x n : ℕ) → setup_thread (slice_index_or (map (λ (o : ObjectDef). o.setup) os) x Setup.Bare) ≡ Some n
+    → (o : ObjectDef) × (slice_get os x ≡ Some o) × (setup_thread o.setup ≡ Some n) × (x < length os)
+setup-inside [] x n h = absurd (false≢true (ap is_some h))
+setup-inside (o ∷ os) zero n h = (o, refl, h, omega arith)
+setup-inside (o ∷ os) (suc x) n h = let r = setup-inside os x n h in let l = r.3 in (r.0, r.1, r.2, omega (arith, l))
+
+all-at : (test : ObjectDef → Bool) (os : List ObjectDef) (x : ℕ) (o : ObjectDef) → list_all test os ≡ true → slice_get os x ≡ Some o → test o ≡ true
+all-at test [] x o all h = absurd (false≢true (ap is_some h))
+all-at test (d ∷ os) zero o all h = ap (λ (z : Option ObjectDef). test (unwrap_or z d)) (sym h) ∙ (and_parts (test d) (list_all test os) all).0
+all-at test (d ∷ os) (suc x) o all h = all-at test os x o (and_parts (test d) (list_all test os) all).1 h
+
+module _ (image : Image) (lawful : IsLawful image) (sited : IsSited image) where
+  thread-kind : (kind : Kind) (setup : Setup) (n : ℕ) → is_setup_of image.mpu kind setup ≡ true → setup_thread setup ≡ Some n → kind ≡ Kind.Thread
+  thread-kind Kind.Thread (Setup.Thread index) n h t = refl
+  thread-kind Kind.ThreadStack (Setup.Thread index) n h t = absurd (false≢true h)
+  thread-kind Kind.Sem (Setup.Thread index) n h t = absurd (false≢true h)
+  thread-kind Kind.Mutex (Setup.Thread index) n h t = absurd (false≢true h)
+  thread-kind Kind.Msgq (Setup.Thread index) n h t = absurd (false≢true h)
+  thread-kind Kind.Stack (Setup.Thread index) n h t = absurd (false≢true h)
+  thread-kind Kind.Pipe (Setup.Thread index) n h t = absurd (false≢true h)
+  thread-kind kind setup n h t = absurd (false≢true (ap is_some t))
+
+  some-same : {a b : ℕ} → Some a ≡ Some b → a ≡ b
+  some-same {a} h = ap (λ (o : Option ℕ). unwrap_or o a) h
+
+  static-own : (x who : ℕ) → x < STATIC_ROWS → setup_thread (setup_at image x) ≡ Some who → (own_row image who ≡ x) × (x < ROWS)
+  static-own x who low h =
+      let o = setup-inside image.objects x who h in
+      let kind = thread-kind o.0.kind o.0.setup who (all-at (λ (d : ObjectDef). is_setup_of image.mpu d.kind d.setup) image.objects x o.0 lawful.objects o.1) o.2 in
+      let is = sited.threads x (inl o.3) (ap (λ (z : Option ObjectDef). kind_in z x) o.1 ∙ kind) in
+      let same = some-same (sym is.1 ∙ (ap (λ b. if b then setup_thread (setup_at image x) else if nat_lt (STATIC_THREADS + (x - STATIC_ROWS)) THREADS then Some (STATIC_THREADS + (x - STATIC_ROWS)) else None) (lt-ltb x STATIC_ROWS low) ∙ h)) in
+      (ap (own_row image) (sym same) ∙ is.2, omega (arith, low))
+
+  dynamic-own : (x who : ℕ) → STATIC_ROWS ≤ x → (if nat_lt (STATIC_THREADS + (x - STATIC_ROWS)) THREADS then Some (STATIC_THREADS + (x - STATIC_ROWS)) else None) ≡ Some who
+      → (own_row image who ≡ x) × (x < ROWS)
+  dynamic-own x who high h = by (nat_lt (STATIC_THREADS + (x - STATIC_ROWS)) THREADS) refl h
+    where
+      by : (b : Bool) → nat_lt (STATIC_THREADS + (x - STATIC_ROWS)) THREADS ≡ b → (if b then Some (STATIC_THREADS + (x - STATIC_ROWS)) else None) ≡ Some who
+          → (own_row image who ≡ x) × (x < ROWS)
+      by false q k = absurd (false≢true (ap is_some k))
+      by true q k =
+          let n : STATIC_THREADS + (x - STATIC_ROWS) ≡ who = some-same k in
+          let small = ltb-true (STATIC_THREADS + (x - STATIC_ROWS)) THREADS q in
+          let past : nat_lt who STATIC_THREADS ≡ false = not_less who STATIC_THREADS (omega (arith, n)) in
+          let back : STATIC_ROWS + (who - STATIC_THREADS) ≡ x = omega (arith, n, high) in
+          (ap (λ b. if b then unwrap_or (position (is_thread_index who) image.objects) 0 else STATIC_ROWS + (who - STATIC_THREADS)) past ∙ back, omega (arith, small))
+
+  -- each thread object has a thread of its own
+  pub own-known : OwnRows image
+  own-known x who h = by (nat_lt x STATIC_ROWS) refl h
+    where
+      by : (b : Bool) → nat_lt x STATIC_ROWS ≡ b
+          → (if b then setup_thread (setup_at image x) else if nat_lt (STATIC_THREADS + (x - STATIC_ROWS)) THREADS then Some (STATIC_THREADS + (x - STATIC_ROWS)) else None) ≡ Some who
+          → (own_row image who ≡ x) × (x < ROWS)
+      by true q k = static-own x who (ltb-true x STATIC_ROWS q) k
+      by false q k = dynamic-own x who (past x q) k
+        where
+          past : (n : ℕ) → nat_lt n STATIC_ROWS ≡ false → STATIC_ROWS ≤ n
+          past n z = grind (arith, nat_tests)
