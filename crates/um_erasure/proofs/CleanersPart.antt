@@ -42,10 +42,11 @@ use Rattle.um_erasure.specs.Fine.{Fine, one_if, row}
 use Rattle.um_erasure.specs.Lists.{counted, is_recycle, is_vacate}
 use Rattle.um_erasure.specs.Objects.{recyclers, vacaters}
 use Rattle.um_erasure.specs.Offers.{Fits}
+use Rattle.um_erasure.proofs.ListTails.{ReadsLast}
 use Rattle.um_erasure.proofs.Erased.{stepped}
 use Rattle.um_erasure.proofs.Leaves.{Lawful, Leaves}
 use Rattle.um_erasure.proofs.ListCounts.{vacates-none}
-use Rattle.um_erasure.proofs.ListGrips.{ReadsLast, read-rests}
+use Rattle.um_erasure.proofs.ListGrips.{read-rests}
 use Rattle.um_erasure.proofs.SchedulerSteps.{made-at, made-says}
 use Rattle.um_erasure.proofs.DomainFacts.{two-parts}
 use Rattle.um_erasure.proofs.FirstThreads.{one-most}

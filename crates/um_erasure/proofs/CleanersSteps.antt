@@ -32,12 +32,12 @@ use Rattle.um_erasure.specs.Fine.{Fine, one_if, over_processors, row, row_state}
 use Rattle.um_erasure.specs.Frames.{AreFramed, Behind}
 use Rattle.um_erasure.specs.Lists.{counted, is_recycle, is_vacate}
 use Rattle.um_erasure.specs.Objects.{is_being_born, recyclers, status_of, vacaters}
+use Rattle.um_erasure.proofs.ListTails.{ReadsLast}
 use Rattle.um_erasure.proofs.DomainReads.{eqb-swap}
 use Rattle.um_erasure.proofs.DropSteps.{left-here}
 use Rattle.um_erasure.proofs.Erased.{stepped}
 use Rattle.um_erasure.proofs.Leaves.{Lawful}
 use Rattle.um_erasure.proofs.ListCounts.{begun, next-counts, recycles-of, takes-counts, vacates-of}
-use Rattle.um_erasure.proofs.ListGrips.{ReadsLast}
 use Rattle.um_erasure.proofs.Reachable.{sound-held}
 use Rattle.um_erasure.proofs.RowSteps.{row-stands, settled}
 use Rattle.um_erasure.proofs.SchedulerSteps.{made-at, made-says, word-left}

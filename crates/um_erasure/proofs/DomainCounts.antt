@@ -27,8 +27,8 @@ use Rattle.um_erasure.specs.Lists.{edits, edits_step, is_hold, is_move_done, mov
 use Rattle.um_erasure.specs.Offers.{Fits, behind_shown}
 use Rattle.um_erasure.proofs.Erased.{stepped}
 use Rattle.um_erasure.proofs.Leaves.{Lawful}
-use Rattle.um_erasure.proofs.ListGrips.{ReadsLast, read-rests}
-use Rattle.um_erasure.proofs.ListTails.{exact-next, is_read_claim, tail-read, takes-read}
+use Rattle.um_erasure.proofs.ListGrips.{read-rests}
+use Rattle.um_erasure.proofs.ListTails.{ReadsLast, exact-next, is_read_claim, tail-read, takes-read}
 use Rattle.um_erasure.proofs.SchedulerSteps.{made-at, made-says}
 use Rattle.um_erasure.proofs.Sums.{over-changed, over-same}
 use Rattle.um_erasure.proofs.DomainWords.{word-else, word-here, word-takes}

@@ -20,8 +20,7 @@ use Rattle.um_fine.specs.Steps.{FineStep, Site}
 use Rattle.um_erasure.specs.Frames.{OnMemory, access_over}
 use Rattle.um_erasure.specs.Lists.{edits, edits_step, is_hold, is_own_claim, is_own_done, moves_step, moves_to}
 use Rattle.um_erasure.specs.Offers.{behind_shown}
-use Rattle.um_erasure.proofs.ListGrips.{ReadsLast}
-use Rattle.um_erasure.proofs.ListTails.{Reads, is_passed, is_read_claim}
+use Rattle.um_erasure.proofs.ListTails.{ReadsLast, Reads, is_passed, is_read_claim}
 
 -- What is read of lists.
 

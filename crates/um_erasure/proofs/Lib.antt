@@ -50,10 +50,10 @@ pub mod SchedulerSteps
 pub mod ListRuns
 pub mod RunningPart
 pub mod SchedulerPart
+pub mod ListTails
 pub mod ListGrips
 pub mod HeldPart
 pub mod RowsPart
-pub mod ListTails
 pub mod DomainReads
 pub mod DomainFacts
 pub mod DomainWords

@@ -25,7 +25,7 @@ use Rattle.um_fine.specs.Steps.{Exchange, FineStep}
 use Rattle.um_erasure.specs.Cleaning.{AreBlocks}
 use Rattle.um_erasure.specs.Frames.{Behind}
 use Rattle.um_erasure.specs.Lists.{counted, is_recycle, is_vacate, is_wipe}
-use Rattle.um_erasure.proofs.ListGrips.{ReadsLast}
+use Rattle.um_erasure.proofs.ListTails.{ReadsLast}
 
 -- the steps that clear a cell, vacate a row, or recycle an object
 abbrev pub empties : Todo → Bool

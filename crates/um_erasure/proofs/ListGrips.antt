@@ -2,7 +2,7 @@
 use Rattle.std.proofs.Common.{◌≡◌, ℕ, ◌+◌, Bool, true, false, List, [], ◌∷◌, ◌++◌, Option, Some, None, refl, sym, ap, ◌∙◌}
 use Rattle.std.specs.Prelude.{◌==◌, ◌&&◌, not, if◌then◌else◌, nat_lt}
 use Rattle.std.specs.List.{list_any}
-use Rattle.std.proofs.lemmas.Bool.{true≢false}
+use Rattle.std.proofs.lemmas.Bool.{false≢true, true≢false}
 use Rattle.um_base.specs.declared.act.Act.{Act}
 use Rattle.um_base.specs.declared.act.Answer.{Answer}
 use Rattle.um_base.specs.declared.act.Found.{Found}
@@ -35,6 +35,7 @@ use Rattle.um_erasure.specs.Frames.{Behind}
 use Rattle.um_erasure.specs.Lists.{is_hold, is_let_go}
 use Rattle.um_erasure.specs.Offers.{behind_shown}
 use Rattle.um_erasure.proofs.ListRuns.{is_end}
+use Rattle.um_erasure.proofs.ListTails.{Reads, ReadsLast, filled-read, is_passed, tail-read, takes-read, with-cleaned-read}
 
 -- a thread is held while the end of its hold is on the list, and the hold isn't
 abbrev pub grip : Todos → Bool
@@ -51,85 +52,24 @@ read-rests image p c Pending.Begin act said read = refl
 read-rests image p c Pending.Exit act said read = refl
 read-rests image p c q act said read = absurd (true≢false (sym read ∙ ap is_word_read said))
 
--- nothing stands behind the read of a thread's word
-abbrev pub ReadsLast : FineStep → Todo → Todos → Type 0
-ReadsLast e (Todo.show q rest) todo = is_word_read e.act ≡ true → todo ≡ []
-ReadsLast e q todo = Unit {0}
+grip-passed : (q : Todo) (todo : Todos) → is_passed q ≡ true → grip (q ∷ todo) ≡ grip todo
+grip-passed Todo.hold todo h = absurd (false≢true h)
+grip-passed Todo.let_go todo h = absurd (false≢true h)
+grip-passed q todo h = refl
+
+grip-none : (image : Image) (c : Context) (q : Pending) (rest : Steps) → grip (fine_steps image c q rest) ≡ false
+grip-none image c (Pending.Probe a (Amount.Bytes n)) rest = refl
+grip-none image c (Pending.Probe a (Amount.MessageOf b)) rest = refl
+grip-none image c (Pending.CopyIn a (Amount.Bytes n)) rest = refl
+grip-none image c (Pending.CopyIn a (Amount.MessageOf b)) rest = refl
+grip-none image c q rest = refl
+
+grip-reads : (image : Image) → Reads image grip false
+grip-reads image = record { empty = refl; passed = grip-passed; expanded = grip-none image; begins = refl; exits = refl }
 
 module _ (image : Image) where
-  fine-grip : (c : Context) (q : Pending) (rest : Steps) → grip (fine_steps image c q rest) ≡ false
-  fine-grip c (Pending.Probe a (Amount.Bytes n)) rest = refl
-  fine-grip c (Pending.Probe a (Amount.MessageOf b)) rest = refl
-  fine-grip c (Pending.CopyIn a (Amount.Bytes n)) rest = refl
-  fine-grip c (Pending.CopyIn a (Amount.MessageOf b)) rest = refl
-  fine-grip c q rest = refl
-
-  passes-grip : (who x : ℕ) (todo : Todos) → grip (passes who x todo) ≡ grip todo
-  passes-grip who x todo = elim (nat_lt x ROWS) as (λ b. grip (if b then Todo.pass who x ∷ todo else todo) ≡ grip todo) [ true ↦ refl | false ↦ refl ]
-
-  drops-grip : (x : ℕ) (todo : Todos) → grip (drops x todo) ≡ grip todo
-  drops-grip x todo = elim (nat_lt x ROWS) as (λ b. grip (if b then Todo.drop x ∷ todo else todo) ≡ grip todo) [ true ↦ refl | false ↦ refl ]
-
-  end-grip : (b : Bool) → grip (end_of_turn image b) ≡ false
-  end-grip true = refl
-  end-grip false = refl
-
-  next-grip : (c : Context) (steps : Steps) → grip (next_steps image c steps) ≡ false
-  next-grip c [] = end-grip c.ended
-  next-grip c (Pending.Resume ∷ rest) = refl
-  next-grip c (Pending.Inherit who ∷ q ∷ rest) = passes-grip who.0 (but (own_row image c.thread) 0) (fine_steps image c q rest) ∙ fine-grip c q rest
-  next-grip c (Pending.Drops from ∷ q ∷ rest) = drops-grip from (fine_steps image c q rest) ∙ fine-grip c q rest
-  next-grip c (Pending.Probe a (Amount.Bytes n) ∷ rest) = refl
-  next-grip c (Pending.Probe a (Amount.MessageOf b) ∷ rest) = refl
-  next-grip c (Pending.CopyIn a (Amount.Bytes n) ∷ rest) = refl
-  next-grip c (Pending.CopyIn a (Amount.MessageOf b) ∷ rest) = refl
-  next-grip c (q ∷ rest) = refl
-
   pub filled-grip : (c : Context) (todo : Todos) → grip (filled_up image c todo) ≡ grip todo
-  filled-grip c [] = next-grip c c.pending
-  filled-grip c (q ∷ todo) = refl
-
-  wakes-grip : (ws : List (ThreadIx × Told)) (todo : Todos) → grip (wakes ws todo) ≡ grip todo
-  wakes-grip [] todo = refl
-  wakes-grip (w ∷ ws) todo = wakes-grip ws todo
-
-  end_calls-grip : (xs : List ℕ) (todo : Todos) → grip (end_calls xs todo) ≡ grip todo
-  end_calls-grip [] todo = refl
-  end_calls-grip (x ∷ xs) todo = end_calls-grip xs todo
-
-  behind-grip : (c : Context) (q : Pending) (moved : Exchange) (todo : Todos) → grip (behind_step image c q moved todo) ≡ grip todo
-  behind-grip c (Pending.Work a ask) moved todo = wakes-grip (outcome_in moved).woken todo
-  behind-grip c Pending.Exit moved todo = end_calls-grip c.claims todo
-  behind-grip c (Pending.Answer reply to) moved todo = end_calls-grip c.claims todo
-  behind-grip c (Pending.Fatal reason cause) moved todo = end_calls-grip c.claims todo
-  behind-grip c (Pending.ClearInit a) moved todo =
-      elim (row_named image a == own_row image c.thread) as (λ b. grip (if b then Todo.end_call (own_row image c.thread) ∷ todo else todo) ≡ grip todo) [ true ↦ refl | false ↦ refl ]
-  behind-grip c q moved todo = refl
-
-  block-grip : (x : ℕ) (o : Option ℕ) (todo : Todos) → grip (cleaning_of x o ++ todo) ≡ grip todo
-  block-grip x None todo = refl
-  block-grip x (Some who) todo = refl
-
-  alone-grip : (x : ℕ) (o : Option ℕ) → grip (cleaning_of x o) ≡ false
-  alone-grip x None = refl
-  alone-grip x (Some who) = refl
-
-  cleaned-grip : (x : ℕ) (todo : Todos) → grip (with_cleaning (cleaning image x) todo) ≡ grip todo
-  cleaned-grip x [] = alone-grip x (thread_of_row image x)
-  cleaned-grip x (Todo.clean_pair who y ∷ todo) = cleaned-grip x todo
-  cleaned-grip x (Todo.wipe y ∷ todo) = cleaned-grip x todo
-  cleaned-grip x (Todo.vacate y ∷ todo) = cleaned-grip x todo
-  cleaned-grip x (Todo.recycle y ∷ todo) = cleaned-grip x todo
-  cleaned-grip x (q ∷ todo) = block-grip x (thread_of_row image x) (q ∷ todo)
-
-  take-grip : (p : Processor) (moved : Exchange) → grip p.todo ≡ false → grip (after_take image p moved).todo ≡ false
-  take-grip p (Exchange.thread c None) h = by (instruction_at image c.place)
-    where
-      by : (instr : Option Instr) → grip (turn_of image instr) ≡ false
-      by None = refl
-      by (Some instr) = refl
-  take-grip p (Exchange.thread c (Some told)) h = filled-grip (resumed image c told) []
-  take-grip p moved h = h
+  filled-grip c todo = filled-read image grip false (grip-reads image) c todo
 
   unless-grip : (b : Bool) (todo : Todos) → grip (unless_loaded b todo) ≡ grip todo
   unless-grip true (Todo.region_load ∷ todo) = refl
@@ -139,50 +79,21 @@ module _ (image : Image) where
   claim-grip p d true todo = refl
   claim-grip p d false todo = refl
 
-  show-grip : (p : Processor) (e : FineStep) (q : Pending) (rest : Steps) (todo : Todos) (b : Bool) → (b ≡ true → todo ≡ [])
-      → grip (if b then record p { todo = Todo.done ∷ [] } else after_show image p e q rest todo).todo ≡ grip todo
-  show-grip p e q rest todo true read = sym (ap grip (read refl))
-  show-grip p e q rest todo false read =
-      let c = continues image p.context 0 q rest (act_in e.act) e.moved in behind-grip p.context q e.moved (filled_up image c todo) ∙ filled-grip c todo
-
-  clean-grip : (who x : ℕ) (todo : Todos) → grip (clean_pairs who x todo) ≡ grip todo
-  clean-grip who x todo = elim (nat_lt x ROWS) as (λ b. grip (if b then Todo.clean_pair who x ∷ todo else todo) ≡ grip todo) [ true ↦ refl | false ↦ refl ]
-
-  goes-grip : (p : Processor) (e : FineStep) (q : Todo) (todo : Todos) → is_gripping q ≡ false → Behind image q todo → ReadsLast e q todo
-      → grip (goes_on_by image p e (q ∷ todo)).todo ≡ grip (q ∷ todo)
-  goes-grip p e (Todo.show q rest) todo free h read = show-grip p e q rest todo (is_word_read e.act) read
-  goes-grip p e Todo.hold todo free h read = absurd (true≢false free)
-  goes-grip p e Todo.let_go todo free h read = absurd (true≢false free)
-  goes-grip p e (Todo.read_claim None) todo free h read = unless-grip (is_of (key_of (record p { version = (domain_in e.word).version })) p.table) todo
-  goes-grip p e (Todo.read_claim (Some d)) todo free h read = claim-grip p d (domain_in e.word).init todo
-  goes-grip p e (Todo.read_done d) todo free h read = filled-grip p.context todo
-  goes-grip p e (Todo.end_call x) todo free h read = filled-grip p.context todo
-  goes-grip p e (Todo.wake who told) todo free h read = filled-grip p.context todo
-  goes-grip p e (Todo.add c) todo free h read = filled-grip p.context todo
-  goes-grip p e (Todo.pass who x) todo free h read =
-      let next = but (own_row image p.context.thread) (x + 1) in filled-grip p.context (passes who next todo) ∙ passes-grip who next todo
-  goes-grip p e (Todo.drop x) todo free h read =
-      filled-grip (dropped_at image p.context x (is_visit e.act)) (drops (x + 1) todo) ∙ drops-grip (x + 1) todo
-  goes-grip p e (Todo.clean_pair who x) todo free h read = clean-grip who (x + 1) todo
-  goes-grip p e (Todo.recycle x) todo free h read = filled-grip p.context todo
-  goes-grip p e Todo.park todo free h read = sym (ap grip h)
-  goes-grip p e Todo.done todo free h read = sym (ap grip h)
-  goes-grip p e q todo free h read = refl
-
-  pub with-cleaned-grip : (p : Processor) (e : FineStep) (b : Bool) → grip (with_cleaned image p e b).todo ≡ grip p.todo
-  with-cleaned-grip p e true = cleaned-grip (row_number e.site) p.todo
-  with-cleaned-grip p e false = refl
+  goes-claim : (p : Processor) (e : FineStep) (d : Option ℕ) (todo : Todos) → grip (goes_on_by image p e (Todo.read_claim d ∷ todo)).todo ≡ grip todo
+  goes-claim p e None todo = unless-grip (is_of (key_of (record p { version = (domain_in e.word).version })) p.table) todo
+  goes-claim p e (Some d) todo = claim-grip p d (domain_in e.word).init todo
 
   pub next-grips : (p : Processor) (e : FineStep) (q : Todo) (todo : Todos) → p.todo ≡ q ∷ todo → is_gripping q ≡ false → Behind image q todo → ReadsLast e q todo
       → grip (p_next image p e).todo ≡ grip (q ∷ todo)
-  next-grips p e q todo at free h read =
-      with-cleaned-grip (goes_on_by image p e p.todo) e (begins_cleaning e)
-      ∙ (ap (λ (z : Todos). grip (goes_on_by image p e z).todo) at ∙ goes-grip p e q todo free h read)
+  next-grips p e (Todo.read_claim d) todo at free h last =
+      with-cleaned-read image grip false (grip-reads image) (goes_on_by image p e p.todo) e (begins_cleaning e)
+      ∙ (ap (λ (z : Todos). grip (goes_on_by image p e z).todo) at ∙ goes-claim p e d todo)
+  next-grips p e Todo.hold todo at free h last = absurd (true≢false free)
+  next-grips p e Todo.let_go todo at free h last = absurd (true≢false free)
+  next-grips p e q todo at free h last = tail-read image grip false (grip-reads image) p e q todo at refl h last
 
   pub takes-grip : (p : Processor) (e : FineStep) → p.todo ≡ [] → grip (p_next image p e).todo ≡ false
-  takes-grip p e at =
-      with-cleaned-grip (goes_on_by image p e p.todo) e (begins_cleaning e)
-      ∙ (ap (λ (z : Todos). grip (goes_on_by image p e z).todo) at ∙ take-grip p e.moved (ap grip at))
+  takes-grip p e at = takes-read image grip false (grip-reads image) p e at
 
   -- The thread.
 

@@ -22,7 +22,11 @@ use Rattle.um_fine.specs.Places.{Todo, Todos, but, clean_pairs, cleaning, cleani
 use Rattle.um_fine.specs.Processor.{Processor}
 use Rattle.um_fine.specs.Steps.{Exchange, FineStep}
 use Rattle.um_erasure.specs.Frames.{Behind}
-use Rattle.um_erasure.proofs.ListGrips.{ReadsLast}
+
+-- nothing stands behind the read of a thread's word
+abbrev pub ReadsLast : FineStep → Todo → Todos → Type 0
+ReadsLast e (Todo.show q rest) todo = is_word_read e.act ≡ true → todo ≡ []
+ReadsLast e q todo = Unit {0}
 
 -- the steps that are passed over
 abbrev pub is_passed : Todo → Bool
