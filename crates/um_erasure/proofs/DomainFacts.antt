@@ -1,10 +1,9 @@
 -- What steps do to domains: those of the machine that leave them, what an edit makes of one, and what a processor has edited.
-use Rattle.std.proofs.Common.{true≢false, ◌≡◌, ℕ, zero, suc, ◌+◌, ◌-◌, ◌<◌, ◌≤◌, Bool, true, false, [], ◌∷◌, Option, Some, None, refl, sym, ap, ◌∙◌, arith}
-use Rattle.std.specs.Prelude.{◌==◌, ◌||◌, Result, Ok, Err, if◌then◌else◌, is_some, nat_lt}
+use Rattle.std.proofs.Common.{true≢false, ◌≡◌, ℕ, zero, suc, ◌+◌, ◌<◌, ◌≤◌, Bool, true, false, [], ◌∷◌, Option, Some, None, refl, sym, ap, ◌∙◌, arith}
+use Rattle.std.specs.Prelude.{◌==◌, ◌||◌, Result, Ok, Err, if◌then◌else◌, is_some}
 use Rattle.std.proofs.lemmas.Bool.{eqb-false, eqb-true, false≢true}
 use Rattle.um_base.specs.declared.act.Act.{Act}
 use Rattle.um_base.specs.declared.image.Image.{Image}
-use Rattle.um_base.specs.declared.limits.TheConstants.{PARTITION_AREA, STACK_AREA}
 use Rattle.um_base.specs.declared.attr.Attr.{Attr}
 use Rattle.um_base.specs.declared.names.Errno.{Errno}
 use Rattle.um_base.specs.declared.names.Range.{Range}
@@ -12,7 +11,6 @@ use Rattle.um_base.specs.Regions.{Partitions}
 use Rattle.um_machine.specs.declared.pending.Amount.{Amount}
 use Rattle.um_machine.specs.declared.pending.Pending.{Pending}
 use Rattle.um_machine.specs.Domains.{domain_after, reply_to}
-use Rattle.um_machine.specs.Memory.{put_bytes}
 use Rattle.um_machine.specs.Order.{Steps}
 use Rattle.um_machine.specs.State.{State}
 use Rattle.um_machine.specs.Table as T
@@ -28,7 +26,7 @@ use Rattle.um_erasure.specs.Lists.{edited, edits, edits_step}
 use Rattle.um_erasure.proofs.ListTails.{Reads, is_passed}
 use Rattle.um_erasure.proofs.DomainReads.{or-false}
 use Rattle.um_erasure.proofs.MemorySteps.{part-total}
-use Rattle.um_erasure.proofs.Writes.{Keeping, Makes, Part, after-kept, domains}
+use Rattle.um_erasure.proofs.Writes.{Keeping, Makes, Part, after-kept, domains, bytes-kept}
 
 -- The machine: which steps leave its domains.
 
@@ -49,11 +47,7 @@ module _ (m : State) where
         status = λ may s x o e k. k;
         birth = λ may s x o k. k;
         pair = λ may s v x there k. k;
-        bytes = λ may s a bs k.
-            elim (nat_lt a STACK_AREA) as (λ c. SameDomains (if c then record s { memory = put_bytes s.memory (a - PARTITION_AREA) bs } else record s { stacks = put_bytes s.stacks (a - STACK_AREA) bs })) [
-              | true ↦ k
-              | false ↦ k
-            ];
+        bytes = λ may s a bs k. bytes-kept (λ (z : State). z.domains) (λ z bytes. refl) (λ z bytes. refl) s a bs ∙ k;
         pool = λ may s left k. k;
         parts = λ may s d ps k. absurd may;
       }

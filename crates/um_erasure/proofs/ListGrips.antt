@@ -1,6 +1,6 @@
 -- Whether a processor holds its thread changes at a hold and its end alone; and it goes on with the same thread until the end of a turn.
-use Rattle.std.proofs.Common.{◌≡◌, ℕ, ◌+◌, Bool, true, false, List, [], ◌∷◌, ◌++◌, Option, Some, None, refl, sym, ap, ◌∙◌}
-use Rattle.std.specs.Prelude.{◌==◌, ◌&&◌, not, if◌then◌else◌, nat_lt}
+use Rattle.std.proofs.Common.{◌≡◌, ℕ, Bool, true, false, List, [], ◌∷◌, Option, Some, None, refl, sym, ap, ◌∙◌}
+use Rattle.std.specs.Prelude.{◌&&◌, not, if◌then◌else◌}
 use Rattle.std.specs.List.{list_any}
 use Rattle.std.proofs.lemmas.Bool.{false≢true, true≢false}
 use Rattle.um_base.specs.declared.act.Act.{Act}
@@ -8,28 +8,23 @@ use Rattle.um_base.specs.declared.act.Answer.{Answer}
 use Rattle.um_base.specs.declared.act.Found.{Found}
 use Rattle.um_base.specs.declared.act.SetSaid.{SetSaid}
 use Rattle.um_base.specs.declared.ask.Ask.{Ask}
-use Rattle.um_base.specs.declared.ask.Told.{Told}
 use Rattle.um_base.specs.declared.image.Image.{Image}
 use Rattle.um_base.specs.declared.instr.Instr.{Instr}
-use Rattle.um_base.specs.declared.limits.TheConstants.{ROWS}
 use Rattle.um_base.specs.declared.names.Addr.{Addr}
 use Rattle.um_base.specs.declared.names.Errno.{Errno}
 use Rattle.um_base.specs.declared.names.Reply.{Reply}
-use Rattle.um_base.specs.declared.names.ThreadIx.{ThreadIx}
-use Rattle.um_base.specs.Places.{own_row, thread_of_row}
 use Rattle.um_machine.specs.declared.pending.Amount.{Amount}
 use Rattle.um_machine.specs.declared.pending.Pending.{Pending}
 use Rattle.um_machine.specs.Order.{Steps}
 use Rattle.um_machine.specs.State.{instruction_at}
 use Rattle.um_words.specs.declared.fine.FineAct.{FineAct}
-use Rattle.um_fine.specs.Addresses.{row_named}
-use Rattle.um_fine.specs.Answers.{act_in, domain_in, fits_in, found_in, is_fault, is_visit, is_word_read, outcome_in, reserved_in, set_in, verdict_in}
+use Rattle.um_fine.specs.Answers.{act_in, domain_in, fits_in, found_in, is_fault, is_visit, is_word_read, reserved_in, set_in, verdict_in}
 use Rattle.um_fine.specs.Context.{Context}
 use Rattle.um_fine.specs.Steps.{Exchange, FineStep}
-use Rattle.um_fine.specs.Continues.{after_access, after_reserve, after_set, after_text, after_work, begun, continues, resumed, with_claim}
-use Rattle.um_fine.specs.Places.{Todo, Todos, but, clean_pairs, cleaning, cleaning_of, drops, end_of_turn, fine_steps, next_steps, passes, turn_of, with_cleaning}
+use Rattle.um_fine.specs.Continues.{after_access, after_reserve, after_set, after_text, after_work, begun, continues, with_claim}
+use Rattle.um_fine.specs.Places.{Todo, Todos, fine_steps}
 use Rattle.um_fine.specs.Processor.{Processor, is_of, key_of}
-use Rattle.um_fine.specs.Follows.{after_claim, after_show, after_take, behind_step, dropped_at, end_calls, filled_up, goes_on_by, p_next, row_number, unless_loaded, wakes, with_cleaned}
+use Rattle.um_fine.specs.Follows.{after_claim, after_show, dropped_at, filled_up, goes_on_by, p_next, unless_loaded, with_cleaned}
 use Rattle.um_fine.specs.Asks.{begins_cleaning, says_show}
 use Rattle.um_erasure.specs.Frames.{Behind}
 use Rattle.um_erasure.specs.Lists.{is_hold, is_let_go}

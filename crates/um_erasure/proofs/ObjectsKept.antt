@@ -1,17 +1,16 @@
 -- What a step of the access-matrix machine leaves of objects: kind and cost but at a reservation and a recycling, and the status but there,
 -- at births and where a drop takes the last permission.
 use Rattle.std.proofs.Common.{arith, length, replicate, ◌≡◌, inl, inr, ℕ, zero, suc, ◌<◌, ◌≤◌, Bool, true, false, not, List, [], ◌∷◌, Some, refl, sym, ap, ◌∙◌, subst}
-use Rattle.std.specs.Prelude.{◌-◌, if◌then◌else◌, nat_lt, slice_index_or, slice_set}
+use Rattle.std.specs.Prelude.{if◌then◌else◌, slice_index_or, slice_set}
 use Rattle.std.proofs.lemmas.Bool.{false≢true}
 use Rattle.um_base.specs.declared.act.Leftover.{Leftover}
-use Rattle.um_base.specs.declared.limits.TheConstants.{PARTITION_AREA, ROWS, STACK_AREA, STATIC_ROWS, THREADS}
+use Rattle.um_base.specs.declared.limits.TheConstants.{ROWS, STATIC_ROWS, THREADS}
 use Rattle.um_base.specs.declared.names.Addr.{Addr}
 use Rattle.um_base.specs.declared.names.ThreadIx.{ThreadIx}
 use Rattle.um_base.specs.Places.{addr_of, row_at}
 use Rattle.um_machine.specs.declared.object.Object.{Object}
 use Rattle.um_machine.specs.declared.object.Status.{Status}
 use Rattle.um_machine.specs.declared.pending.Pending.{Pending}
-use Rattle.um_machine.specs.Memory.{put_bytes}
 use Rattle.um_machine.specs.Objects as Plain
 use Rattle.um_machine.specs.Order.{Steps}
 use Rattle.um_machine.specs.Run.{Offers, goes, skips_drops, skips_inherit}
@@ -21,7 +20,7 @@ use Rattle.um_reach.proofs.Cores.{call_is, status_is}
 use Rattle.um_reach.proofs.Guards.{IsRow, bearing, behind_birth, Guarded}
 use Rattle.um_reach.proofs.Turns.{below_rows}
 use Rattle.um_erasure.proofs.Reachable.{IsSound}
-use Rattle.um_erasure.proofs.Writes.{Keeping, Makes, Part, after-kept, births, lasting_of, statuses}
+use Rattle.um_erasure.proofs.Writes.{Keeping, Makes, Part, after-kept, births, lasting_of, statuses, bytes-kept}
 
 -- an object that is written with the same of something leaves that of all
 pub set-kept : {A : Type 0} (g : Object → A) (xs : List Object) (x y : ℕ) (o : Object) → g o ≡ g (slice_index_or xs x vacant)
@@ -58,11 +57,7 @@ module _ (m : State) (y : ℕ) where
         status = λ may s x o e k. set-kept lasting_of s.objects x y o e ∙ k;
         birth = λ may s x o k. absurd may;
         pair = λ may s v x there k. k;
-        bytes = λ may s a bs k.
-            elim (nat_lt a STACK_AREA) as (λ c. SameLasting (if c then record s { memory = put_bytes s.memory (a - PARTITION_AREA) bs } else record s { stacks = put_bytes s.stacks (a - STACK_AREA) bs })) [
-              | true ↦ k
-              | false ↦ k
-            ];
+        bytes = λ may s a bs k. bytes-kept (λ (z : State). lasting_of (object_at z y)) (λ z bytes. refl) (λ z bytes. refl) s a bs ∙ k;
         pool = λ may s left k. k;
         parts = λ may s d ps k. k;
       }
@@ -76,11 +71,7 @@ module _ (m : State) (y : ℕ) where
         status = λ may s x o e k. absurd may;
         birth = λ may s x o k. absurd may;
         pair = λ may s v x there k. k;
-        bytes = λ may s a bs k.
-            elim (nat_lt a STACK_AREA) as (λ c. SameStatus (if c then record s { memory = put_bytes s.memory (a - PARTITION_AREA) bs } else record s { stacks = put_bytes s.stacks (a - STACK_AREA) bs })) [
-              | true ↦ k
-              | false ↦ k
-            ];
+        bytes = λ may s a bs k. bytes-kept (λ (z : State). (object_at z y).status) (λ z bytes. refl) (λ z bytes. refl) s a bs ∙ k;
         pool = λ may s left k. k;
         parts = λ may s d ps k. k;
       }

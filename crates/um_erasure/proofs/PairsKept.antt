@@ -1,15 +1,14 @@
 -- The permissions in the words of rows are the machine's pairs after each event that writes none, where the relation holds before it.
 use Rattle.std.proofs.Common.{◌≡◌, ℕ, ◌<◌, Bool, true, false, cond, List, [], Option, Some, None, refl, sym, ap, ◌∙◌}
-use Rattle.std.specs.Prelude.{◌-◌, ◌&&◌, not, if◌then◌else◌, nat_le, nat_lt, slice_index_or}
+use Rattle.std.specs.Prelude.{◌&&◌, not, if◌then◌else◌, nat_le, slice_index_or}
 use Rattle.um_base.specs.declared.act.Act.{Act}
 use Rattle.um_base.specs.declared.act.Event.{Event}
 use Rattle.um_base.specs.declared.act.SetSaid.{SetSaid}
 use Rattle.um_base.specs.declared.image.Image.{Image}
-use Rattle.um_base.specs.declared.limits.TheConstants.{PARTITION_AREA, ROWS, STACK_AREA, STATIC_ROWS}
+use Rattle.um_base.specs.declared.limits.TheConstants.{ROWS, STATIC_ROWS}
 use Rattle.um_base.specs.declared.names.Access.TheVariants as Access
 use Rattle.um_base.specs.declared.names.Errno.{Errno}
 use Rattle.um_machine.specs.declared.pending.Pending.{Pending}
-use Rattle.um_machine.specs.Memory.{put_bytes}
 use Rattle.um_machine.specs.Order.{Steps}
 use Rattle.um_machine.specs.State.{State}
 use Rattle.um_machine.specs.Table as T
@@ -30,7 +29,7 @@ use Rattle.um_erasure.proofs.Erased.{stepped}
 use Rattle.um_erasure.proofs.Offered.{Shows}
 use Rattle.um_erasure.proofs.RowSteps.{row-stands}
 use Rattle.um_erasure.proofs.WordsKept.{IsShown}
-use Rattle.um_erasure.proofs.Writes.{Keeping, Makes, Part, after-kept, pairs}
+use Rattle.um_erasure.proofs.Writes.{Keeping, Makes, Part, after-kept, pairs, bytes-kept}
 
 -- all that a step may write but permissions
 abbrev pub NoPairs : Part → Type 0
@@ -50,11 +49,7 @@ module _ (m : State) where
         status = λ may s x o e k. k;
         birth = λ may s x o k. k;
         pair = λ may s v x there k. absurd may;
-        bytes = λ may s a bs k.
-            elim (nat_lt a STACK_AREA) as (λ c. SamePairs (if c then record s { memory = put_bytes s.memory (a - PARTITION_AREA) bs } else record s { stacks = put_bytes s.stacks (a - STACK_AREA) bs })) [
-              | true ↦ k
-              | false ↦ k
-            ];
+        bytes = λ may s a bs k. bytes-kept (λ (z : State). z.pairs) (λ z bytes. refl) (λ z bytes. refl) s a bs ∙ k;
         pool = λ may s left k. k;
         parts = λ may s d ps k. k;
       }

@@ -1,11 +1,9 @@
 -- Every lawful step keeps the relation, where it keeps the parts of it that are still to be proved, and the machine's states suit the events:
 -- the other parts are kept.
-use Rattle.std.proofs.Common.{subst, ◌≡◌, ℕ, ◌<◌, true, false, refl, ◌∙◌}
-use Rattle.std.specs.Prelude.{◌-◌, if◌then◌else◌, nat_lt}
+use Rattle.std.proofs.Common.{subst, ◌≡◌, ℕ, ◌<◌, refl, ◌∙◌}
 use Rattle.um_base.specs.declared.image.Image.{Image}
-use Rattle.um_base.specs.declared.limits.TheConstants.{PARTITION_AREA, ROWS, STACK_AREA, THREADS}
+use Rattle.um_base.specs.declared.limits.TheConstants.{ROWS, THREADS}
 use Rattle.um_machine.specs.declared.pending.Pending.{Pending}
-use Rattle.um_machine.specs.Memory.{put_bytes}
 use Rattle.um_machine.specs.Order.{Steps, to_thread}
 use Rattle.um_machine.specs.Run.{opening}
 use Rattle.um_machine.specs.State.{State}
@@ -43,7 +41,7 @@ use Rattle.um_erasure.proofs.RunningPart.{running-part}
 use Rattle.um_erasure.proofs.SchedulerPart.{scheduler-part}
 use Rattle.um_erasure.proofs.TablePart.{table-part}
 use Rattle.um_erasure.proofs.WordsPart.{words-part}
-use Rattle.um_erasure.proofs.Writes.{Keeping, after-kept}
+use Rattle.um_erasure.proofs.Writes.{Keeping, after-kept, bytes-kept}
 
 -- The parts of the relation that are still to be kept.
 pub record IsLeft (g : Fine) (s : State) : Type 0 where
@@ -74,11 +72,7 @@ module _ (m : State) where
         status = λ may s x o e k. k;
         birth = λ may s x o k. k;
         pair = λ may s v x there k. k;
-        bytes = λ may s a bs k.
-            elim (nat_lt a STACK_AREA) as (λ c. SameImage (if c then record s { memory = put_bytes s.memory (a - PARTITION_AREA) bs } else record s { stacks = put_bytes s.stacks (a - STACK_AREA) bs })) [
-              | true ↦ k
-              | false ↦ k
-            ];
+        bytes = λ may s a bs k. bytes-kept (λ (z : State). z.image) (λ z bytes. refl) (λ z bytes. refl) s a bs ∙ k;
         pool = λ may s left k. k;
         parts = λ may s d ps k. k;
       }

@@ -1,15 +1,13 @@
 -- The pools of both machines stay the same at every event that doesn't write them, and are written alike by buffers, where the relation
 -- holds; memory stays the same at the events that have places of their own.
 use Rattle.std.proofs.Common.{◌≡◌, ℕ, Bool, true, false, cond, List, Option, Some, None, refl, sym, ap, ◌∙◌}
-use Rattle.std.specs.Prelude.{◌-◌, if◌then◌else◌, nat_lt}
+use Rattle.std.specs.Prelude.{if◌then◌else◌}
 use Rattle.um_base.specs.declared.act.Act.{Act}
 use Rattle.um_base.specs.declared.act.Event.{Event}
 use Rattle.um_base.specs.declared.image.Image.{Image}
-use Rattle.um_base.specs.declared.limits.TheConstants.{PARTITION_AREA, STACK_AREA}
 use Rattle.um_base.specs.declared.names.Access.TheVariants as Access
 use Rattle.um_machine.specs.declared.pending.Pending.{Pending}
 use Rattle.um_machine.specs.declared.thread.Thread.{Thread}
-use Rattle.um_machine.specs.Memory.{put_bytes}
 use Rattle.um_machine.specs.Order.{Steps}
 use Rattle.um_machine.specs.State.{State, thread_at}
 use Rattle.um_machine.specs.Table as T
@@ -33,7 +31,7 @@ use Rattle.um_erasure.proofs.MemoryKept.{Untouched, after-untouched}
 use Rattle.um_erasure.proofs.MemorySteps.{memory-sort}
 use Rattle.um_erasure.proofs.Offered.{Shows, act-is, own-part, site-is}
 use Rattle.um_erasure.proofs.WordsKept.{IsShown}
-use Rattle.um_erasure.proofs.Writes.{Keeping, Makes, Part, after-kept, pools}
+use Rattle.um_erasure.proofs.Writes.{Keeping, Makes, Part, after-kept, pools, bytes-kept}
 
 -- all that a step may write but the pools
 abbrev pub NoPools : Part → Type 0
@@ -53,11 +51,7 @@ module _ (m : State) where
         status = λ may s x o e k. k;
         birth = λ may s x o k. k;
         pair = λ may s v x there k. k;
-        bytes = λ may s a bs k.
-            elim (nat_lt a STACK_AREA) as (λ c. SamePools (if c then record s { memory = put_bytes s.memory (a - PARTITION_AREA) bs } else record s { stacks = put_bytes s.stacks (a - STACK_AREA) bs })) [
-              | true ↦ k
-              | false ↦ k
-            ];
+        bytes = λ may s a bs k. bytes-kept (λ (z : State). z.pools) (λ z bytes. refl) (λ z bytes. refl) s a bs ∙ k;
         pool = λ may s left k. absurd may;
         parts = λ may s d ps k. k;
       }

@@ -1,13 +1,13 @@
 -- The words of threads say what the machine's threads are after each event of a pending step, where the relation holds before it.
 use Rattle.std.proofs.Common.{◌≡◌, ℕ, zero, suc, ◌+◌, ◌<◌, Bool, true, false, cond, List, [], ◌∷◌, length, Option, Some, None, ℤ, refl, sym, ap, ◌∙◌, subst}
-use Rattle.std.specs.Prelude.{◌==◌, ◌-◌, ◌&&◌, not, if◌then◌else◌, nat_lt, slice_index_or, slice_set}
+use Rattle.std.specs.Prelude.{◌==◌, ◌&&◌, not, if◌then◌else◌, slice_index_or, slice_set}
 use Rattle.std.specs.List.{list_any}
 use Rattle.std.proofs.lemmas.Bool.{eqb-false, eqb-true}
 use Rattle.um_base.specs.declared.act.Act.{Act}
 use Rattle.um_base.specs.declared.act.Cause.{Cause}
 use Rattle.um_base.specs.declared.act.Event.{Event}
 use Rattle.um_base.specs.declared.image.Image.{Image}
-use Rattle.um_base.specs.declared.limits.TheConstants.{PARTITION_AREA, STACK_AREA, THREADS}
+use Rattle.um_base.specs.declared.limits.TheConstants.{THREADS}
 use Rattle.um_base.specs.declared.names.Access.TheVariants as Access
 use Rattle.um_base.specs.declared.names.Mode.{Mode}
 use Rattle.um_base.specs.declared.names.Reply.{Reply}
@@ -17,7 +17,6 @@ use Rattle.um_base.specs.Regions.{Partitions}
 use Rattle.um_machine.specs.declared.pending.Pending.{Pending}
 use Rattle.um_machine.specs.declared.thread.Life.TheVariants as Life
 use Rattle.um_machine.specs.declared.thread.Thread.{Thread}
-use Rattle.um_machine.specs.Memory.{put_bytes}
 use Rattle.um_machine.specs.Order.{Steps}
 use Rattle.um_machine.specs.State.{State, nobody, thread_at, with_pair}
 use Rattle.um_machine.specs.Table as T
@@ -40,7 +39,7 @@ use Rattle.um_erasure.proofs.Erased.{stepped}
 use Rattle.um_erasure.proofs.Offered.{Shows, act-is, behind-is, own-part, shows-rest, site-is}
 use Rattle.um_erasure.proofs.RowSteps.{thread-sort}
 use Rattle.um_erasure.proofs.ThreadLists.{at-here, set-else}
-use Rattle.um_erasure.proofs.Writes.{Keeping, Makes, Part, Said, after-kept, said_of, words}
+use Rattle.um_erasure.proofs.Writes.{Keeping, Makes, Part, Said, after-kept, said_of, words, bytes-kept}
 
 abbrev pub word_says : ThreadWord → Said
 word_says w = record { life = w.life; doomed = w.doomed; mode = w.mode; domain = w.domain }
@@ -88,11 +87,7 @@ module _ (m : State) (u : ℕ) where
         status = λ may s x o e k. k;
         birth = λ may s x o k. k;
         pair = λ may s v x there k. dues-said x 0 (slice_index_or (with_pair s v x there).pairs x []) s.threads u ∙ k;
-        bytes = λ may s a bs k.
-            elim (nat_lt a STACK_AREA) as (λ c. SaysSame (if c then record s { memory = put_bytes s.memory (a - PARTITION_AREA) bs } else record s { stacks = put_bytes s.stacks (a - STACK_AREA) bs })) [
-              | true ↦ k
-              | false ↦ k
-            ];
+        bytes = λ may s a bs k. bytes-kept (λ (z : State). said_of (thread_at z u)) (λ z bytes. refl) (λ z bytes. refl) s a bs ∙ k;
         pool = λ may s left k. k;
         parts = λ may s d ps k. k;
       }

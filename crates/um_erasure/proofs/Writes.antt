@@ -63,6 +63,15 @@ pub data Part : Type 0 where
   pools : Part
   domains : Part
 
+-- bytes that are written leave what is no memory
+pub bytes-kept : {A : Type 0} (of : State → A) → ((s : State) (bytes : List ℕ) → of (record s { memory = bytes }) ≡ of s) → ((s : State) (bytes : List ℕ) → of (record s { stacks = bytes }) ≡ of s)
+    → (s : State) (a : ℕ) (bs : List ℕ) → of (with_bytes s a bs) ≡ of s
+bytes-kept of one two s a bs =
+    elim (nat_lt a STACK_AREA) as (λ c. of (if c then record s { memory = put_bytes s.memory (a - PARTITION_AREA) bs } else record s { stacks = put_bytes s.stacks (a - STACK_AREA) bs }) ≡ of s) [
+      | true ↦ one s (put_bytes s.memory (a - PARTITION_AREA) bs)
+      | false ↦ two s (put_bytes s.stacks (a - STACK_AREA) bs)
+    ]
+
 module _ (May : Part → Type 0) where
   -- the writes that a step makes are those that may be made
   abbrev pub Makes : Pending → Type 0
