@@ -60,10 +60,9 @@ EditsOne n (Pending.DomAdd d range attr) = d < n
 EditsOne n (Pending.DomRemove d range attr) = d < n
 EditsOne n q = Unit {0}
 
--- What the events ask of the machine's state beside what is known of it: threads and edits are in the image's domains, a call works on an
--- object that it holds, only threads that wait are told anything, and who is in no call holds nothing by one.
+-- What the events ask of the machine's state beside what is known of it: edits are of the image's domains, a call works on an object that
+-- it holds, only threads that wait are told anything, and who is in no call holds nothing by one.
 pub record Suits (f : Fine) (m : State) : Type 0 where
-  pub domains : InDomains f m
   pub edits : (t : ℕ) (q : Pending) (rest : Steps) → Offers m t q rest → EditsOne (length f.image.domains) q
   pub works : (t : ℕ) (a : Addr) (ask : Ask) (rest : Steps) → Offers m t (Pending.Work a ask) rest → slice_index_or (thread_at m t).checked (T.row_of m a) false ≡ true
   pub tells : TellsWaiters m
@@ -75,7 +74,7 @@ pub record Next (f : Fine) (m : State) (e : FineStep) : Type 0 where
   pub goes : Goes m e state
   pub leaves : Leaves f m e state
 
-module _ (f : Fine) (m : State) (e : FineStep) (law : Lawful f m e) (suits : Suits f m) (own : OwnRows f.image) where
+module _ (f : Fine) (m : State) (e : FineStep) (law : Lawful f m e) (suits : Suits f m) (own : OwnRows f.image) (all : InDomains f m) where
   calls : Calls m
   calls = calls-known m law.sound suits.rests
 
@@ -127,15 +126,15 @@ module _ (f : Fine) (m : State) (e : FineStep) (law : Lawful f m e) (suits : Sui
   module _ (rest : Steps) (todo : Todos) where
     shown-step : (q : Pending) → Shows f m e.cpu e q rest todo → IsShown q × (x : ℕ) × IsStep f m e.cpu e x q
     shown-step (Pending.Check a kind want refusal) h = (tt, 0, check-step a kind want refusal (λ x at. ltb-true x ROWS (found f m e law a.0 x at)) h)
-    shown-step (Pending.Load to a n) h = (tt, 0, load-step (held-domain suits.domains h refl) to a n h)
-    shown-step (Pending.Store a n value) h = (tt, 0, store-step (held-domain suits.domains h refl) a n value h)
-    shown-step (Pending.Fetch a) h = (tt, 0, fetch-step (held-domain suits.domains h refl) a h)
-    shown-step (Pending.Probe a (Amount.Bytes n)) h = (tt, 0, probe-step (held-domain suits.domains h refl) a n h)
-    shown-step (Pending.Probe a (Amount.MessageOf b)) h = (tt, 0, get-probe-step a b (held-domain suits.domains h refl) h)
-    shown-step (Pending.CopyIn a (Amount.Bytes n)) h = (tt, 0, copy-in-step (held-domain suits.domains h refl) a n h)
-    shown-step (Pending.CopyIn a (Amount.MessageOf b)) h = (tt, 0, put-copy-step a b (held-domain suits.domains h refl) h)
-    shown-step (Pending.CopyOut a) h = (tt, 0, copy-out-step (held-domain suits.domains h refl) a h)
-    shown-step (Pending.CopyStr a) h = (tt, 0, copy-str-step (held-domain suits.domains h refl) a h)
+    shown-step (Pending.Load to a n) h = (tt, 0, load-step (held-domain all h refl) to a n h)
+    shown-step (Pending.Store a n value) h = (tt, 0, store-step (held-domain all h refl) a n value h)
+    shown-step (Pending.Fetch a) h = (tt, 0, fetch-step (held-domain all h refl) a h)
+    shown-step (Pending.Probe a (Amount.Bytes n)) h = (tt, 0, probe-step (held-domain all h refl) a n h)
+    shown-step (Pending.Probe a (Amount.MessageOf b)) h = (tt, 0, get-probe-step a b (held-domain all h refl) h)
+    shown-step (Pending.CopyIn a (Amount.Bytes n)) h = (tt, 0, copy-in-step (held-domain all h refl) a n h)
+    shown-step (Pending.CopyIn a (Amount.MessageOf b)) h = (tt, 0, put-copy-step a b (held-domain all h refl) h)
+    shown-step (Pending.CopyOut a) h = (tt, 0, copy-out-step (held-domain all h refl) a h)
+    shown-step (Pending.CopyStr a) h = (tt, 0, copy-str-step (held-domain all h refl) a h)
     shown-step (Pending.Work a ask) h = (
       tt,
       0,

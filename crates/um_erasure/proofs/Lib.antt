@@ -66,6 +66,7 @@ pub mod CleaningFacts
 pub mod CleanersSteps
 pub mod CleanersPart
 pub mod CallsKnown
+pub mod DomainsKnown
 pub mod LawfulSteps
 pub mod Parts
 pub mod MemoryPart

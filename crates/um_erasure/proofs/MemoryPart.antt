@@ -1,11 +1,11 @@
 -- Memory is the same in both machines after every lawful step.
 use Rattle.std.proofs.Common.{◌≡◌, ℕ, ◌<◌, ◌∷◌, length, true, sym, ap, ◌∙◌, subst, refl}
-use Rattle.std.specs.Prelude.{◌&&◌, not}
+use Rattle.std.specs.Prelude.{IsTrue, ◌&&◌, not}
 use Rattle.std.specs.List.{list_any}
 use Rattle.um_base.specs.declared.limits.TheConstants.{THREADS}
 use Rattle.um_machine.specs.declared.pending.Pending.{Pending}
 use Rattle.um_machine.specs.Order.{Steps, to_thread}
-use Rattle.um_machine.specs.State.{State, thread_at}
+use Rattle.um_machine.specs.State.{State, is_started, thread_at}
 use Rattle.um_machine.specs.Table as T
 use Rattle.um_words.specs.declared.fine.More.{More}
 use Rattle.um_fine.specs.Steps.{FineStep}
@@ -22,9 +22,9 @@ use Rattle.um_erasure.proofs.Offered.{IsStep, Shows, behind-is, own-part}
 use Rattle.um_erasure.proofs.PoolsKept.{memory-beside}
 use Rattle.um_erasure.proofs.Quiet.{memory-quiet}
 
--- each thread is in one of the image's domains
+-- each thread that was started is in one of the image's domains
 abbrev pub InDomains : Fine → State → Type 0
-InDomains f m = (t : ℕ) → t < THREADS → (thread_at m t).domain < length f.image.domains
+InDomains f m = (t : ℕ) → t < THREADS → IsTrue (is_started (thread_at m t).life) → (thread_at m t).domain < length f.image.domains
 
 -- so a processor that holds its thread has one of them
 pub held-domain : {f : Fine} {m : State} {k : ℕ} {e : FineStep} {q : Pending} {rest : Steps} {todo : Todos} → InDomains f m → Shows f m k e q rest todo
@@ -35,7 +35,7 @@ held-domain {f} {m} {k} {e} {q} {rest} all h holds =
     let list : (f.processors k).todo ≡ Todo.show q rest ∷ behind_shown f.image (f.processors k).context q = h.at ∙ ap (λ (z : Todos). Todo.show q rest ∷ z) (behind-is h) in
     let held : has_held (f.processors k) ≡ true = ap (λ (z : Todos). list_any is_let_go z && not (list_any is_hold z)) list ∙ holds in
     let domain : (f.processors k).domain ≡ (thread_at m t).domain = (h.rel.processors k h.there).domain.kept held ∙ (h.rel.threads t (own-part h).index).word.domain in
-    subst (λ d. d < length f.image.domains) (sym domain) (all t (own-part h).index)
+    subst (λ d. d < length f.image.domains) (sym domain) (all t (own-part h).index (own-part h).started)
 
 module _ (f : Fine) (m : State) (e : FineStep) (law : Lawful f m e) (all : InDomains f m) where
   abbrev Kept : State → Type 0

@@ -24,6 +24,7 @@ use Rattle.um_erasure.specs.Threads.{AwayIs, ContextsAre, DomainKept, ReadyIs, T
 use Rattle.um_erasure.proofs.CallsKnown.{own-known}
 use Rattle.um_erasure.proofs.CleanersPart.{cleaners-part}
 use Rattle.um_erasure.proofs.DomainPart.{domain-part}
+use Rattle.um_erasure.proofs.DomainsKnown.{started-placed}
 use Rattle.um_erasure.proofs.Erased.{IsReachable, Keeps, fine, stepped}
 use Rattle.um_erasure.proofs.FirstObjects.{opening-image}
 use Rattle.um_erasure.proofs.HeapPart.{heap-part}
@@ -136,5 +137,6 @@ keeps-all image cpus described known left ps ss m e rel reach by taken =
     let law : Lawful f m e = record { rel = rel; sound = reachable-sound image cpus described.few m reach known; by = by; taken = taken } in
     let suits = left.suits f m refl refl rel reach in
     let own = own-known image described.lawful (subst IsSited (opening-image image) known.reached.sited) in
-    let next = lawful-next f m e law suits own in
-    (next.state, next.goes, related f m e law suits.domains next.state next.leaves (left.parts f m e refl refl reach law suits next.state next.leaves))
+    let all : InDomains f m = λ t l started. started-placed image cpus described m reach t started in
+    let next = lawful-next f m e law suits own all in
+    (next.state, next.goes, related f m e law all next.state next.leaves (left.parts f m e refl refl reach law suits next.state next.leaves))

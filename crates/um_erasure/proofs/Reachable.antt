@@ -163,7 +163,7 @@ opening-domains image =
     ap length (booted-domains image.boots (loaded image.partitions (blank image)) ∙ loaded-domains image.partitions (blank image))
     ∙ (length-map image.domains (λ (d : DomainDef). parts_of image d.parts) ∙ ap (λ (i : Image). length i.domains) (sym (opening-image image)))
 
-opening-wide : (image : Image) → length image.objects ≤ STATIC_ROWS → IsWide (opening image)
+pub opening-wide : (image : Image) → length image.objects ≤ STATIC_ROWS → IsWide (opening image)
 unfolding blank
 opening-wide image few =
     record {

@@ -57,7 +57,7 @@ module _ (f : Fine) (m : State) (e : FineStep) (law : Lawful f m e) (all : InDom
       let here = law.rel.processors k l in
       let of = law.rel.contexts.running k l (claimed-steps (f.processors k).todo h) in
       let kept = here.domain.kept (claimed-grip f.image (f.processors k).todo here.frames h) in
-      subst (λ d. d < length f.image.domains) (sym (kept ∙ (law.rel.threads (f.processors k).context.thread of.index).word.domain)) (all (f.processors k).context.thread of.index)
+      subst (λ d. d < length f.image.domains) (sym (kept ∙ (law.rel.threads (f.processors k).context.thread of.index).word.domain)) (all (f.processors k).context.thread of.index of.started)
 
   -- it counts as a reader, so nobody writes
   unwritten : (k : ℕ) → k < f.cpus → claimed (f.processors k).todo ≡ true → (domain f (f.processors k).domain).writer ≡ false
