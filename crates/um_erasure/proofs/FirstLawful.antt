@@ -34,7 +34,7 @@ use Rattle.um_erasure.proofs.FirstThreads.{granted-image, loaded-threads, nobodi
 use Rattle.um_erasure.proofs.Opens.{opens}
 use Rattle.um_erasure.proofs.ThreadLists.{set-else}
 
-some-objects : (p : ObjectDef → Bool) (os : List ObjectDef) (x : ℕ) → object_passes p (slice_get os x) ≡ true → 0 < length os
+pub some-objects : (p : ObjectDef → Bool) (os : List ObjectDef) (x : ℕ) → object_passes p (slice_get os x) ≡ true → 0 < length os
 some-objects p [] x h = absurd (false≢true h)
 some-objects p (o ∷ os) x h = omega arith
 

@@ -69,5 +69,6 @@ pub mod CallsKnown
 pub mod DomainsKnown
 pub mod LawfulSteps
 pub mod Parts
+pub mod ErasedLeft
 pub mod MemoryPart
 pub mod WordsPart
