@@ -1,5 +1,6 @@
 //! Each kind of event as the machine makes it, and the same event with one field wrong.
 
+mod audited;
 mod changed;
 mod described;
 mod values;
