@@ -1,4 +1,5 @@
 pub mod Room
+pub mod Short
 pub mod Places
 pub mod Regions
 pub mod Layout

@@ -1,37 +1,74 @@
 //! Short lists of a fixed room, which take no memory.
 
-ghost use Rattle.std.specs.Prelude.{◌≡◌, ◌<◌, ◌≤◌, [], ◌∷◌, ◌++◌, length};
+ghost use Rattle.std.specs.Prelude.{◌≡◌, ◌<◌, ◌≤◌, [], ◌∷◌, ◌++◌, length, slice_index_or};
+ghost use Rattle.um_base.specs.Short.{IsShort, reply_of};
 
 use crate::attr::Attr;
 use crate::limits::{DOMAIN_PARTITIONS, NAMED_PARTITIONS, PIECE, THREADS};
-use crate::names::{Addr, PartRef, Range, Reply, ThreadIx};
+use crate::names::{Addr, Errno, PartRef, Range, Reply, ThreadIx};
 use std::marker::Model;
 
-/// The woken threads, each with what its call answers.
+/// A reply as it is kept: a number up to 256, or an error.
+#[derive(Clone, Copy, PartialEq, Eq)]
+enum ShortReply {
+    /// The number 0.
+    Zero,
+    /// The number that is one more.
+    OneMore(u8),
+    Fail(Errno),
+}
+
+/// The reply that is kept.
+fn reply_of(kept: ShortReply) -> Reply
+    ensures { result ≡ reply_of kept }
+{
+    match kept {
+        ShortReply::Zero => Reply::Num(0),
+        ShortReply::OneMore(n) => Reply::Num(n as u32 + 1),
+        ShortReply::Fail(error) => Reply::Fail(error),
+    }
+}
+
+/// How a short reply is kept.
+fn short_of(reply: Reply) -> ShortReply
+    requires { IsShort reply }
+    ensures { reply_of result ≡ reply }
+{
+    match reply {
+        Reply::Num(0) => ShortReply::Zero,
+        Reply::Num(n) => ShortReply::OneMore((n - 1) as u8),
+        Reply::Fail(error) => ShortReply::Fail(error),
+        _ => unreachable!(),
+    }
+}
+
+/// The woken threads, each with what its call answers: a number up to 256, or an error.
 #[derive(Clone, Copy, PartialEq, Eq)]
 pub struct Replies {
-    items: [(ThreadIx, Reply); THREADS],
+    items: [(ThreadIx, ShortReply); THREADS],
     len: usize,
 }
 
 impl Model for Replies {
-    ghost use Rattle.std.specs.Prelude.{List, length, take, ℕ};
+    ghost use Rattle.std.specs.Prelude.{List, length, map, take, ℕ};
     ghost use Rattle.std.proofs.Common.{ap};
     ghost use Rattle.um_base.specs.declared.limits.TheConstants.{THREADS};
+    ghost use Rattle.um_base.specs.declared.lists.ShortReply.{ShortReply};
+    ghost use Rattle.um_base.specs.declared.lists.ShortReply.TheVariants.{Zero};
     ghost use Rattle.um_base.specs.declared.names.ThreadIx.{ThreadIx};
     ghost use Rattle.um_base.specs.declared.names.Reply.{Reply};
-    ghost use Rattle.um_base.specs.declared.names.Reply.TheVariants.{Void};
-    ghost use Rattle.um_base.specs.Room.{IsRoom, filled, room-front};
+    ghost use Rattle.um_base.specs.Room.{IsRoom, filled};
+    ghost use Rattle.um_base.specs.Short.{told, kept, told-front};
 
     ghost Value = { List (ThreadIx × Reply) };
 
-    ghost view = { λ r. take r.len r.items };
+    ghost view = { λ r. map told (take r.len r.items) };
 
-    ghost invariant = { λ r. IsRoom THREADS (record { 0 = 0 }, Void) r.items r.len };
+    ghost invariant = { λ r. IsRoom THREADS (record { 0 = 0 }, Zero) r.items r.len };
 
-    ghost inverse = { λ l. record { items = filled THREADS (record { 0 = 0 }, Void) l; len = length l } };
+    ghost inverse = { λ l. record { items = filled THREADS (record { 0 = 0 }, Zero) (map kept l); len = length l } };
 
-    ghost inverse_ok = { λ a h. ap (λ (p : List (ThreadIx × Reply) × ℕ). record { items = p.0; len = p.1 }) (room-front h) };
+    ghost inverse_ok = { λ a h. ap (λ (p : List (ThreadIx × ShortReply) × ℕ). record { items = p.0; len = p.1 }) (told-front h) };
 }
 
 impl Replies {
@@ -40,17 +77,9 @@ impl Replies {
         ensures { result ≡ [] }
     {
         Replies {
-            items: [(ThreadIx(0), Reply::Void); THREADS],
+            items: [(ThreadIx(0), ShortReply::Zero); THREADS],
             len: 0,
         }
-    }
-
-    /// The threads and replies, in the order in which they woke.
-    pub fn as_slice(&self) -> &[(ThreadIx, Reply)]
-        ensures value { result.now ≡ self.now }
-        ensures few { length result.now ≤ THREADS }
-    {
-        &self.items[..self.len]
     }
 
     /// How many threads.
@@ -61,12 +90,23 @@ impl Replies {
         self.len
     }
 
+    /// A thread and its reply, by their place in the order of waking, from 0 on.
+    pub fn at(&self, i: usize) -> (ThreadIx, Reply)
+        requires { i < length self.now }
+        ensures { result ≡ slice_index_or self.now i result }
+    {
+        let kept = &self.items[..self.len];
+        let (thread, reply) = kept[i];
+        (thread, reply_of(reply))
+    }
+
     /// One more at the end.
     pub fn push(&mut self, thread: ThreadIx, reply: Reply)
-        requires { length self.old < THREADS }
+        requires room { length self.old < THREADS }
+        requires short { IsShort reply }
         ensures { self.new ≡ self.old ++ (thread, reply) ∷ [] }
     {
-        self.items[self.len] = (thread, reply);
+        self.items[self.len] = (thread, short_of(reply));
         self.len += 1;
     }
 }

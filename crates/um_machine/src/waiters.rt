@@ -134,6 +134,13 @@ impl Waiters {
         self.len == 0
     }
 
+    /// Nobody waits any longer.
+    pub fn clear(&mut self)
+        ensures { self.new ≡ [] }
+    {
+        self.len = 0;
+    }
+
     /// A thread waits no longer, if it did.
     pub fn remove(&mut self, thread: ThreadIx)
         ensures { self.new ≡ without thread.0 self.old }

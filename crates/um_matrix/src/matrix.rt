@@ -52,8 +52,8 @@ pub struct Matrix<'a> {
     memory: Vec<u8>,
     stacks: Vec<u8>,
     pools: Vec<u32>,
-    /// Room for what an act on an object answers and whom it wakes.
-    outcome: Outcome,
+    /// Room for one outcome: what an act on an object answers and whom it wakes.
+    outcome: Vec<Outcome>,
 }
 
 impl<'a> Model for Matrix<'a> {
@@ -79,7 +79,7 @@ impl<'a> Model for Matrix<'a> {
     ghost invariant = { λ m.
         (length m.threads.items ≡ THREADS) × (length m.objects ≡ ROWS) × (length m.pairs.items ≡ ROWS) × (length m.domains.items ≤ DOMAINS)
         × (length m.memory.items ≡ AREA_SIZE) × (length m.stacks.items ≡ AREA_SIZE) × (length m.pools.items ≤ POOLS) × (m.rodata.items ≡ rodata_of m.image.now)
-        × IsGiven m.image.now };
+        × (length m.outcome.items ≡ 1) × IsGiven m.image.now };
 }
 
 impl<'a> Matrix<'a> {

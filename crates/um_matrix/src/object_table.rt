@@ -16,16 +16,16 @@ use um_machine::{Object, Status};
 use um_rules::blank::{opening_object, vacant};
 
 /// The objects of all rows. Of the static rows, and of the dynamic ones, it has those up to the last that was ever written;
-/// the others are vacant. Room for all rows is reserved from the beginning.
+/// the others are vacant, and read as the one blank row. Room for all rows is reserved from the beginning.
 #[derive(Drop)]
 pub struct ObjectTable {
     statics: Vec<Object>,
     dynamics: Vec<Object>,
-    blank: Object,
+    blank: Vec<Object>,
 }
 
 impl Model for ObjectTable {
-    ghost use Rattle.std.specs.Prelude.{List, ◌≡◌, ◌≤◌, ◌-◌, ◌++◌, length, vec_capacity};
+    ghost use Rattle.std.specs.Prelude.{List, [], ◌∷◌, ◌≡◌, ◌≤◌, ◌-◌, ◌++◌, length, vec_capacity};
     ghost use Rattle.um_base.specs.declared.limits.TheConstants.{ROWS, STATIC_ROWS};
     ghost use Rattle.um_machine.specs.declared.object.Object.{Object};
     ghost use Rattle.um_machine.specs.State.{vacant};
@@ -38,7 +38,7 @@ impl Model for ObjectTable {
     ghost invariant = { λ t.
         (length t.statics.items ≤ STATIC_ROWS) × (STATIC_ROWS ≤ vec_capacity t.statics)
         × (length t.dynamics.items ≤ ROWS - STATIC_ROWS) × (ROWS - STATIC_ROWS ≤ vec_capacity t.dynamics)
-        × (t.blank ≡ vacant) };
+        × (t.blank.items ≡ vacant ∷ []) };
 }
 
 /// The objects of a description.
@@ -91,10 +91,12 @@ impl ObjectTable {
     {
         let statics = statics(alloc, image)?;
         let dynamics = Vec::with_capacity(alloc, ROWS - STATIC_ROWS)?;
+        let mut blank = Vec::with_capacity(alloc, 1)?;
+        blank.push_reserved(vacant());
         Ok(ObjectTable {
             statics,
             dynamics,
-            blank: vacant(),
+            blank,
         })
     }
 
@@ -110,7 +112,7 @@ impl ObjectTable {
         };
         match kept {
             Some(object) => object,
-            None => &self.blank,
+            None => &self.blank[0],
         }
     }
 

@@ -75,6 +75,21 @@ pub fn vacant() -> Object
     }
 }
 
+/// No object stands on a row any longer.
+pub fn vacate(object: &mut Object)
+    ensures { object.new ≡ vacant }
+{
+    object.kind = None;
+    object.status = Status::Free;
+    object.public = false;
+    object.init = false;
+    object.contents = Contents::Nothing;
+    object.waiters.clear();
+    object.cost = None;
+    object.buffer = None;
+    object.cleaner = None;
+}
+
 /// Contents as a description sets them up.
 fn setup_contents(setup: Setup) -> Contents
     requires { IsTrue (is_in_limits setup) }

@@ -3,3 +3,4 @@ pub mod PipeLemmas
 mod PreviewLemmas
 mod StackLemmas
 pub mod WakingLemmas
+mod ToldLemmas

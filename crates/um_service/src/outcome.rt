@@ -3,11 +3,13 @@
 ghost use Rattle.std.specs.Prelude.{◌≡◌, ◌<◌, ◌≤◌, [], ◌∷◌, ◌++◌, length};
 ghost use Rattle.um_base.specs.declared.act.Answer.TheVariants as Answer;
 ghost use Rattle.um_base.specs.declared.names.Reply.TheVariants as Reply;
+ghost use Rattle.um_base.specs.Short.{IsShort};
+ghost use Rattle.um_machine.specs.Table.{replies_of};
 
 use std::marker::Model;
-use um_base::{Answer, Piece, Reply, THREADS, ThreadIx, Told};
+use um_base::{Answer, Piece, Replies, Reply, THREADS, ThreadIx, Told};
 
-/// The woken threads, in the order of waking, each with what it is told.
+/// The woken threads, in the order of waking, each with what it is told: an error, or a number up to 256.
 #[derive(Drop)]
 pub struct Woken {
     items: [(ThreadIx, Told); THREADS],
@@ -19,15 +21,18 @@ impl Model for Woken {
     ghost use Rattle.um_base.specs.declared.ask.Told.{Told};
     ghost use Rattle.um_base.specs.declared.limits.TheConstants.{THREADS};
     ghost use Rattle.um_base.specs.declared.names.ThreadIx.{ThreadIx};
+    ghost use Rattle.um_service.specs.Told.{AreShort};
 
     ghost Value = { List (ThreadIx × Told) };
 
     ghost view = { λ w. take w.len w.items };
 
-    ghost invariant = { λ w. (w.len ≤ THREADS) × (length w.items ≡ THREADS) };
+    ghost invariant = { λ w. (w.len ≤ THREADS) × (length w.items ≡ THREADS) × AreShort (take w.len w.items) };
 }
 
 impl Woken {
+    ghost use Rattle.um_service.specs.Told.{AreShort};
+
     /// Nobody.
     pub fn new() -> Woken
         ensures { result ≡ [] }
@@ -49,6 +54,7 @@ impl Woken {
     pub fn as_slice(&self) -> &[(ThreadIx, Told)]
         ensures value { result.now ≡ self.now }
         ensures few { length result.now ≤ THREADS }
+        ensures short { AreShort result.now }
     {
         &self.items[..self.len]
     }
@@ -70,11 +76,26 @@ impl Woken {
 
     /// One more is woken, and told this.
     pub fn push(&mut self, thread: ThreadIx, told: &Told)
-        requires { length self.old < THREADS }
+        requires room { length self.old < THREADS }
+        requires short { IsShort told.now.reply }
         ensures { self.new ≡ self.old ++ (thread, told.now) ∷ [] }
     {
         self.items[self.len] = (thread, *told);
         self.len += 1;
+    }
+
+    /// What the woken are told, without the bytes that they take.
+    #[inline(never)]
+    pub fn replies(&self) -> Replies
+        ensures { result ≡ replies_of self.now }
+    {
+        let woken = self.as_slice();
+        let mut replies = Replies::new();
+        for i in 0..woken.len() {
+            let (thread, told) = &woken[i];
+            replies.push(*thread, told.reply);
+        }
+        replies
     }
 }
 

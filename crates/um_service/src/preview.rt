@@ -1,6 +1,6 @@
 //! What an act says, without doing it.
 
-ghost use Rattle.std.specs.Prelude.{◌≡◌, [], length, List};
+ghost use Rattle.std.specs.Prelude.{◌≡◌, ◌≤◌, [], length, List};
 ghost use Rattle.um_base.specs.declared.act.Answer.TheVariants as Answer;
 ghost use Rattle.um_base.specs.declared.ask.Waiter.{Waiter};
 ghost use Rattle.um_machine.specs.declared.contents.Contents.{Contents};
@@ -78,8 +78,9 @@ pub fn all_go(waiters: &Waiters, reply: Reply, error: Errno) -> Said
     }
 }
 
-/// So many bytes, or room for so many, are shared among those that an act serves while some are left.
+/// At most 256 bytes, or room for so many, are shared among those that an act serves while some are left.
 pub fn shares(waiters: &Waiters, which: Served, n: u32) -> Replies
+    requires { n ≤ 256 }
     ensures { result ≡ shares (queue_of which waiters.now) n }
 {
     let queue = queue_of(waiters, which);

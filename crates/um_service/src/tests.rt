@@ -54,10 +54,10 @@ fn acts_with(
 /// What was said is what the outcome answers and tells the woken.
 fn agree<R: Abort>(rt: &R, said: &Said, outcome: &Outcome) {
     assert!(rt; said.answer == outcome.answer);
-    let replies = said.woken.as_slice();
-    assert!(rt; replies.len() == outcome.woken.len());
+    assert!(rt; said.woken.len() == outcome.woken.len());
+    assert!(rt; said.woken == outcome.woken.replies());
     for (i, pair) in outcome.woken.as_slice().iter().enumerate() {
-        assert!(rt; replies[i] == (pair.0, pair.1.reply));
+        assert!(rt; i < said.woken.len() && said.woken.at(i) == (pair.0, pair.1.reply));
     }
 }
 

@@ -13,7 +13,7 @@ use crate::heap::put_heap_act;
 use crate::names::{put_of, put_on, put_reply};
 use crate::room::put_text;
 use crate::words::{given_word, kind_word, set_word, verdict_word, want_word};
-use um_base::{Act, Answer, Errno, Image, Kind, Reply, ThreadIx, Want};
+use um_base::{Act, Answer, Errno, Image, Kind, Replies, Reply, ThreadIx, Want};
 
 /// The kind and the state that a check wants, and what it says.
 fn put_check(room: &mut Vec<u8>, kind: Option<Kind>, want: Want, verdict: Option<Errno>)
@@ -52,12 +52,12 @@ fn put_wake(room: &mut Vec<u8>, image: &Image, woken: (ThreadIx, Reply))
 }
 
 /// The threads that an act wakes, in order, each with its reply.
-fn put_wakes(room: &mut Vec<u8>, image: &Image, woken: &[(ThreadIx, Reply)])
+fn put_wakes(room: &mut Vec<u8>, image: &Image, woken: &Replies)
     requires { vec_len room.old + 64 * length woken.now ≤ vec_capacity room.old }
     ensures { Puts room.old room.new (flat_map (wake_text image.now) woken.now) (64 * length woken.now) }
 {
-    for one in woken {
-        put_wake(room, image, *one);
+    for i in 0..woken.len() {
+        put_wake(room, image, woken.at(i));
     }
 }
 
@@ -85,7 +85,7 @@ pub fn put_object_act(room: &mut Vec<u8>, image: &Image, act: &Act)
             put_on(room, image, "act ", *addr);
             put_text(room, " ");
             put_answer(room, image, *answer);
-            put_wakes(room, image, woken.as_slice());
+            put_wakes(room, image, woken);
         }
         Act::Publish { addr, given } => {
             put_on(room, image, "public ", *addr);

@@ -10,7 +10,7 @@ use crate::line::Line;
 use crate::processor::Processor;
 use std::alloc::Global;
 use std::marker::Model;
-use um_base::{Act, Event, Image, Memory, ROWS, Reply, STATIC_ROWS, THREADS, ThreadIx};
+use um_base::{Act, Event, Image, Memory, ROWS, Replies, STATIC_ROWS, THREADS, ThreadIx};
 use um_machine::{Life, Pending};
 use um_matrix::Matrix;
 use um_rules::rows::thread_of_row;
@@ -109,10 +109,11 @@ fn take(matrix: &Matrix, ready: &mut Line) -> Option<ThreadIx>
 }
 
 /// The woken threads are ready.
-fn add_woken(ready: &mut Line, woken: &[(ThreadIx, Reply)])
+fn add_woken(ready: &mut Line, woken: &Replies)
     ensures { ready.new ≡ all_join ready.old (map (λ (w : ThreadIx × Reply). w.0.0) woken.now) }
 {
-    for (who, _) in woken {
+    for i in 0..woken.len() {
+        let (who, _) = woken.at(i);
         ready.add(who.0);
     }
 }
@@ -123,7 +124,7 @@ fn add_ready(ready: &mut Line, act: &Act)
 {
     match act {
         Act::Start { who } => ready.add(who.0),
-        Act::Work { woken, .. } => add_woken(ready, woken.as_slice()),
+        Act::Work { woken, .. } => add_woken(ready, woken),
         _ => {}
     }
 }

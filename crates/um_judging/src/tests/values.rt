@@ -67,7 +67,7 @@ pub fn answer_of(other: Answer) -> Answer {
 pub fn woken_of(woken: &Replies) -> Replies {
     let mut other = Replies::new();
     if woken.len() == 0 {
-        other.push(ThreadIx(1), Reply::Void);
+        other.push(ThreadIx(1), Reply::Num(0));
     }
     other
 }

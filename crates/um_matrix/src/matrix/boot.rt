@@ -215,6 +215,8 @@ impl<'a> Matrix<'a> {
         let rodata = rodata(alloc, image)?;
         let memory = zeros(alloc)?;
         let stacks = zeros(alloc)?;
+        let mut outcome = Vec::with_capacity(alloc, 1)?;
+        outcome.push_reserved(Outcome::new());
         Ok(Matrix {
             image,
             rodata,
@@ -225,7 +227,7 @@ impl<'a> Matrix<'a> {
             memory,
             stacks,
             pools,
-            outcome: Outcome::new(),
+            outcome,
         })
     }
 

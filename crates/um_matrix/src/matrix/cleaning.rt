@@ -6,7 +6,7 @@ use crate::matrix::Matrix;
 use crate::matrix::moves::pay_back;
 use um_base::{ROWS, THREADS, ThreadIx};
 use um_machine::Pending;
-use um_rules::blank::vacant;
+use um_rules::blank::vacate;
 
 impl<'a> Matrix<'a> {
     ghost use Rattle.um_machine.specs.Table.{after, cleaned_by};
@@ -41,6 +41,6 @@ impl<'a> Matrix<'a> {
         let buffer = object.buffer;
         pay_back(&mut self.pools, cost);
         pay_back(&mut self.pools, buffer);
-        *self.objects.row_mut(x) = vacant();
+        vacate(self.objects.row_mut(x));
     }
 }

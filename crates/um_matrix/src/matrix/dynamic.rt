@@ -6,7 +6,7 @@ use crate::matrix::Matrix;
 use crate::matrix::moves::{cost_of, pay_back, pay_from};
 use um_base::{Addr, Errno, Kind, ROWS, Reply, THREADS};
 use um_machine::{Pending, Status};
-use um_rules::blank::vacant;
+use um_rules::blank::vacate;
 use um_rules::order::answer_error;
 use um_rules::rows::addr_of;
 
@@ -34,11 +34,12 @@ impl<'a> Matrix<'a> {
         thread.reply = Reply::At(addr);
         thread.goes_to(&Pending::Born { addr }, taken);
         pay_from(&mut self.pools, thread.pool, OBJECT_COST);
-        let mut object = vacant();
+        let cost = cost_of(thread.pool, OBJECT_COST);
+        let object = self.objects.row_mut(x);
+        vacate(object);
         object.kind = Some(kind);
         object.status = Status::Reserved;
-        object.cost = cost_of(thread.pool, OBJECT_COST);
-        *self.objects.row_mut(x) = object;
+        object.cost = cost;
     }
 
     /// The birth of a reserved object, which its creator holds.

@@ -4,12 +4,12 @@ ghost use Rattle.std.specs.Prelude.{◌≡◌, ◌<◌, ◌≤◌, drop, length,
 ghost use Rattle.um_machine.specs.Limits.{is_sound_ask};
 ghost use Rattle.um_machine.specs.Order.{to_thread};
 ghost use Rattle.um_machine.specs.State.{nobody};
-ghost use Rattle.um_machine.specs.Table.{bytes_given, replies_of, buffer_cost};
+ghost use Rattle.um_machine.specs.Table.{bytes_given, buffer_cost};
 ghost use Rattle.um_matrix.specs.Worked.{threads_woken, answered};
 
 use crate::matrix::Matrix;
 use um_base::{
-    Act, Addr, Answer, Ask, Image, Piece, Replies, Reply, THREADS, ThreadIx, Told, Waiter,
+    Act, Addr, Answer, Ask, Image, Piece, Reply, THREADS, ThreadIx, Told, Waiter,
 };
 use um_machine::{Cost, Pending, Thread};
 use um_rules::order::{after_error, rounded};
@@ -23,20 +23,6 @@ fn bytes_given(buffer: &Piece, ask: &Ask) -> Piece
         Ask::MsgqPut { .. } | Ask::PipeWrite { .. } => *buffer,
         _ => Piece::new(),
     }
-}
-
-/// The replies of the woken.
-#[inline(never)]
-fn replies_of(woken: &[(ThreadIx, Told)]) -> Replies
-    requires { length woken.now ≤ THREADS }
-    ensures { result ≡ replies_of woken.now }
-{
-    let mut replies = Replies::new();
-    for i in 0..woken.len() {
-        let (thread, told) = &woken[i];
-        replies.push(*thread, told.reply);
-    }
-    replies
 }
 
 /// What an object's buffer costs after an act.
@@ -165,7 +151,7 @@ impl<'a> Matrix<'a> {
         let x = self.row_of(a);
         let who = self.worker(t, ask);
         let object = self.objects.row_mut(x);
-        let outcome = &mut self.outcome;
+        let outcome = &mut self.outcome[0];
         act(&mut object.contents, &mut object.waiters, &who, outcome);
         object.buffer = buffer_cost(ask, outcome.answer, object.buffer);
         wake(&mut self.threads, outcome.woken.as_slice());
@@ -180,7 +166,7 @@ impl<'a> Matrix<'a> {
         *said = Act::Work {
             addr: a,
             answer: outcome.answer,
-            woken: replies_of(outcome.woken.as_slice()),
+            woken: outcome.woken.replies(),
         };
     }
 

@@ -27,13 +27,11 @@ fn same_woken_one(a: (ThreadIx, Reply), b: (ThreadIx, Reply)) -> bool
 fn same_replies(a: &Replies, b: &Replies) -> bool
     ensures { IsTrue result ↔ (a.now ≡ b.now) }
 {
-    let xs = a.as_slice();
-    let ys = b.as_slice();
-    if xs.len() != ys.len() {
+    if a.len() != b.len() {
         return false;
     }
-    for (i, x) in xs.iter().enumerate() {
-        if !same_woken_one(*x, ys[i]) {
+    for i in 0..a.len() {
+        if !same_woken_one(a.at(i), b.at(i)) {
             return false;
         }
     }

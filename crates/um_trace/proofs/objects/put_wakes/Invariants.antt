@@ -4,5 +4,5 @@ use Rattle.um_trace.specs.Acts.{wake_text}
 use Rattle.um_trace.specs.Room.{Puts}
 use Rattle.um_trace.proofs.objects.put_wakes.Given as goal
 
-abbrev pub invariant-loop-one : goal.invariant-loop-one
-invariant-loop-one l = Puts l.fn.room l.room (flat_map (wake_text l.image) (take l.one-index l.woken)) (64 * l.one-index)
+abbrev pub invariant-loop-i : goal.invariant-loop-i
+invariant-loop-i l = Puts l.fn.room l.room (flat_map (wake_text l.image) (take l.i l.woken)) (64 * l.i)

@@ -2,4 +2,4 @@ use Rattle.std.proofs.Common.{◌≡◌, take}
 use Rattle.um_rules.proofs.same.calls.same_replies.Given as goal
 
 abbrev pub invariant-loop-i : goal.invariant-loop-i
-invariant-loop-i l = take l.i l.xs ≡ take l.i l.ys
+invariant-loop-i l = take l.i l.a ≡ take l.i l.b

@@ -1,6 +1,6 @@
 use Rattle.std.proofs.Common.{◌≡◌, take, length}
 use Rattle.um_machine.specs.Table.{replies_of}
-use Rattle.um_matrix.proofs.matrix.waiting.replies_of.Given as goal
+use Rattle.um_service.proofs.outcome.Woken.replies.Given as goal
 
 abbrev pub invariant-loop-i : goal.invariant-loop-i
 invariant-loop-i l = record {
