@@ -142,6 +142,15 @@ fn pools(alloc: Global, image: &Image) -> Result<Vec<u32>, Memory>
     Ok(all)
 }
 
+/// Room for one outcome.
+fn outcome(alloc: Global) -> Result<Vec<Outcome>, Memory>
+    ensures { IfOk result (λ room. length room.items ≡ 1) }
+{
+    let mut room = Vec::with_capacity(alloc, 1)?;
+    room.push_reserved(Outcome::new());
+    Ok(room)
+}
+
 impl<'a> Matrix<'a> {
     ghost use Rattle.um_machine.specs.State.{with_pair, with_thread};
     ghost use Rattle.um_machine.specs.Run.{granted, booted_one, booted, loaded, blank, opening};
@@ -215,8 +224,7 @@ impl<'a> Matrix<'a> {
         let rodata = rodata(alloc, image)?;
         let memory = zeros(alloc)?;
         let stacks = zeros(alloc)?;
-        let mut outcome = Vec::with_capacity(alloc, 1)?;
-        outcome.push_reserved(Outcome::new());
+        let outcome = outcome(alloc)?;
         Ok(Matrix {
             image,
             rodata,

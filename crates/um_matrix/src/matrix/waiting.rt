@@ -8,9 +8,7 @@ ghost use Rattle.um_machine.specs.Table.{bytes_given, buffer_cost};
 ghost use Rattle.um_matrix.specs.Worked.{threads_woken, answered};
 
 use crate::matrix::Matrix;
-use um_base::{
-    Act, Addr, Answer, Ask, Image, Piece, Reply, THREADS, ThreadIx, Told, Waiter,
-};
+use um_base::{Act, Addr, Answer, Ask, Image, Piece, Reply, THREADS, ThreadIx, Told, Waiter};
 use um_machine::{Cost, Pending, Thread};
 use um_rules::order::{after_error, rounded};
 use um_service::{act, says};

@@ -6,7 +6,7 @@ use Rattle.um_matrix.proofs.matrix.Matrix.blank.Goals as goal
 pub invariant_of-result : goal.invariant_of-result
 unfolding IsGiven
 invariant_of-result c =
-    (c.in_ok-threads.ensures.all, c.in_ok-objects.ensures.all, c.in_ok-pairs.ensures.all, c.in_ok-domains.ensures.few, c.in_ok-memory.ensures.all, c.in_ok-stacks.ensures.all, c.in_ok-pools.ensures.few, c.in_ok-rodata.ensures, c.requires)
+    (c.in_ok-threads.ensures.all, c.in_ok-objects.ensures.all, c.in_ok-pairs.ensures.all, c.in_ok-domains.ensures.few, c.in_ok-memory.ensures.all, c.in_ok-stacks.ensures.all, c.in_ok-pools.ensures.few, c.in_ok-rodata.ensures, c.in_ok-outcome.ensures, c.requires)
 
 pub returns : goal.returns
 unfolding blank
