@@ -1,6 +1,7 @@
 //! The processors, the threads that are ready, and the machine.
 
 ghost use Rattle.std.specs.Prelude.{◌≡◌, ◌<◌, ◌≤◌, ℕ, map, Some, None, true, false, if◌then◌else◌, [], replicate, slice_get, slice_set, slice_index_or, IfOk, IfSome, IfNone};
+ghost use Rattle.um_base.specs.declared.names.Reply.{Reply};
 ghost use Rattle.um_base.specs.Lawful.{IsLawful};
 ghost use Rattle.um_machine.specs.Run.{opening};
 ghost use Rattle.um_turns.specs.Lines.{joins, all_join};
