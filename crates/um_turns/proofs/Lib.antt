@@ -10,7 +10,7 @@ mod SettleLemmas
 mod ThreadCounts
 mod ThreadWaits
 mod ThreadServes
-mod ThreadWords
+pub mod ThreadWords
 mod ThreadFrames
 mod ThreadPairs
 mod ThreadSteps
@@ -25,6 +25,7 @@ mod ThreadTurns
 mod ThreadStays
 mod ThreadOpens
 mod ThreadRests
+pub mod ThreadRuns
 mod RowLines
 mod RowKept
 mod RowFrames

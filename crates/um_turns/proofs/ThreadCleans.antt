@@ -11,14 +11,14 @@ use Rattle.um_turns.proofs.ThreadWords.{AreKept, IsBase}
 use Rattle.um_turns.proofs.ThreadFrames.{base-same, base-object, base-kept, fewer-wait}
 use Rattle.um_turns.proofs.ThreadPairs.{base-drop, base-compose}
 
-pair-base : (s : State) (t x : ℕ) (who : ThreadIx) (rest : Steps) → AreKept s → IsBase s (after s t x (Pending.CleanPair who) rest)
+pub pair-base : (s : State) (t x : ℕ) (who : ThreadIx) (rest : Steps) → AreKept s → IsBase s (after s t x (Pending.CleanPair who) rest)
 pair-base s t x who rest kept =
     let y = own_row s.image who.0 in
     let s1 = cleaned_by s t y in
     let first = base-object s kept y (record (object_at s y) { cleaner = Some (to_thread t) }) refl in
     base-compose s s1 (after_drop s1 who.0 x) first (base-drop s1 (base-kept s s1 kept first) who.0 x)
 
-recycle-base : (s : State) (t x : ℕ) (rest : Steps) → AreKept s → IsBase s (after s t x Pending.Recycle rest)
+pub recycle-base : (s : State) (t x : ℕ) (rest : Steps) → AreKept s → IsBase s (after s t x Pending.Recycle rest)
 recycle-base s t x rest kept = base-same s (after s t x Pending.Recycle rest) kept refl refl refl (fewer-wait s x vacant (λ u. omega arith))
 
 pub cleans-base : (s : State) (t x : ℕ) (p : Pending) (row : ℕ) → AreKept s → CleansBy s t x p row → IsBase s (after s t row p [])
