@@ -3,5 +3,6 @@
 
 mod matrix;
 mod object_table;
+mod places;
 
 pub use matrix::{Matrix, NotAStep};

@@ -31,7 +31,7 @@ dynamic_addr : (image : Image) (x : ℕ) → length image.objects ≤ STATIC_ROW
 dynamic_addr image x few h = ap (λ (o : Option ObjectDef). addr_in o x) (no_slice image.objects x (omega (arith, few, h)))
 
 -- the row at an address that a static object has, and at one that none has
-static_position : (image : Image) → IsLawful image → (x : ℕ) (d : ObjectDef) → x < length image.objects
+pub static_position : (image : Image) → IsLawful image → (x : ℕ) (d : ObjectDef) → x < length image.objects
     → position (λ (o : ObjectDef). o.addr.0 == (get_or image.objects x d).addr.0) image.objects ≡ Some x
 static_position image lawful x d h =
     let a = (get_or image.objects x d).addr.0 in
@@ -40,7 +40,7 @@ static_position image lawful x d h =
     (λ k less. differs _ a (static_apart image lawful k x d (omega (arith, less, h)) h (λ same. omega (arith, less, same)))) (λ within. equals a a refl) in
     let inside : nat_lt x (length image.objects) ≡ true = grind (arith, nat_tests) in rw (e, inside) refl
 
-no_position : (a : ℕ) (os : List ObjectDef) (d : ObjectDef) → ((k : ℕ) → k < length os → (get_or os k d).addr.0 ≢ a) → position (λ (o : ObjectDef). o.addr.0 == a) os ≡ None
+pub no_position : (a : ℕ) (os : List ObjectDef) (d : ObjectDef) → ((k : ℕ) → k < length os → (get_or os k d).addr.0 ≢ a) → position (λ (o : ObjectDef). o.addr.0 == a) os ≡ None
 no_position a os d other =
     let e : position_or_len (λ (o : ObjectDef). o.addr.0 == a) os ≡ length os =
     position_or_len_is (λ (o : ObjectDef). o.addr.0 == a) os (length os) d (omega arith) (λ k less. differs _ a (other k less)) (λ within. absurd (omega (arith, within))) in

@@ -7,12 +7,13 @@ ghost use Rattle.um_machine.specs.Table.{set_said};
 
 use crate::matrix::Matrix;
 use crate::matrix::moves::{flag, holders_of, put};
+use crate::places::row_at;
 use um_base::{
     Addr, Errno, Given, Image, Kind, Leftover, Mode, ROWS, STATIC_ROWS, STATIC_THREADS, SetSaid,
     THREADS, ThreadIx, Want,
 };
 use um_machine::{Object, Status, Thread};
-use um_rules::rows::{own_row, row_at};
+use um_rules::rows::own_row;
 
 impl<'a> Matrix<'a> {
     ghost use Rattle.um_base.specs.Places.{own_row};
