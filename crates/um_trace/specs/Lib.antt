@@ -2,6 +2,7 @@ pub mod Room
 pub mod Digits
 pub mod Words
 pub mod Names
+pub mod Rows
 pub mod Acts
 pub mod Dump
 pub mod Text

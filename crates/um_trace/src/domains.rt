@@ -6,7 +6,7 @@ ghost use Rattle.um_trace.specs.Names.{domain_text, part_text, reply_text};
 ghost use Rattle.um_trace.specs.Room.{Puts};
 
 use crate::names::{put_domain, put_part, put_reply, put_thread};
-use crate::room::put_text;
+use crate::room::{put_space, put_text};
 use crate::threads::put_thread_act;
 use um_base::{Act, Attr, Image, Range, Reply};
 
@@ -24,9 +24,9 @@ fn put_outcome(room: &mut Vec<u8>, image: &Image, range: Range, attr: Attr, repl
     requires { vec_len room.old + 59 ≤ vec_capacity room.old }
     ensures { Puts room.old room.new (codes " " ++ part_text range attr ++ codes " " ++ reply_text image.now reply) 59 }
 {
-    put_text(room, " ");
+    put_space(room);
     put_part(room, range, attr);
-    put_text(room, " ");
+    put_space(room);
     put_reply(room, image, reply);
 }
 
@@ -39,7 +39,7 @@ pub fn put_domain_act(room: &mut Vec<u8>, image: &Image, act: &Act)
     match act {
         Act::DomInit { domain, reply } => {
             put_on(room, image, "domain init ", *domain);
-            put_text(room, " ");
+            put_space(room);
             put_reply(room, image, *reply);
         }
         Act::DomAdd {
@@ -62,9 +62,9 @@ pub fn put_domain_act(room: &mut Vec<u8>, image: &Image, act: &Act)
         }
         Act::DomMove { domain, who, reply } => {
             put_on(room, image, "domain move ", *domain);
-            put_text(room, " ");
+            put_space(room);
             put_thread(room, image, who.0);
-            put_text(room, " ");
+            put_space(room);
             put_reply(room, image, *reply);
         }
         _ => put_thread_act(room, image, act),

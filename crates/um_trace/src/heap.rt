@@ -6,7 +6,7 @@ ghost use Rattle.um_trace.specs.Room.{Puts};
 
 use crate::names::{put_object, put_on};
 use crate::pairs::put_pair_act;
-use crate::room::{put_decimal, put_text};
+use crate::room::{put_decimal, put_space, put_text};
 use crate::words::{kind_word, pool_word};
 use um_base::{Act, Addr, Image};
 
@@ -32,14 +32,14 @@ pub fn put_heap_act(room: &mut Vec<u8>, image: &Image, act: &Act)
         Act::Reserve { kind, addr } => {
             put_text(room, "reserve ");
             put_text(room, kind_word(Some(*kind)));
-            put_text(room, " ");
+            put_space(room);
             put_reserved(room, image, *addr);
         }
         Act::Born { addr } => put_on(room, image, "born ", *addr),
         Act::Buffer { size, fits } => {
             put_text(room, "buffer ");
             put_decimal(room, *size);
-            put_text(room, " ");
+            put_space(room);
             put_text(room, pool_word(*fits));
         }
         Act::Unbuffer { size } => {

@@ -6,7 +6,7 @@ ghost use Rattle.um_trace.specs.Layout.{rodata_line, partition_line, stack_size_
 ghost use Rattle.um_trace.specs.Room.{Puts};
 
 use crate::memory::put_range;
-use crate::room::{put, put_address, put_decimal, put_text};
+use crate::room::{put, put_address, put_decimal, put_newline, put_space, put_text};
 use crate::words::{attr_word, kind_word};
 use um_base::{Image, Name, ObjectDef, Partition, Range, Setup};
 
@@ -20,7 +20,7 @@ fn put_rodata(room: &mut Vec<u8>, rodata: Option<Range>)
         Some(range) => {
             put_text(room, "rodata ");
             put_range(room, range.start, range.size);
-            put_text(room, "\n");
+            put_newline(room);
         }
         None => {}
     }
@@ -33,7 +33,7 @@ fn put_named(room: &mut Vec<u8>, word: &str, name: &Name)
 {
     put_text(room, word);
     put(room, name.as_slice());
-    put_text(room, " ");
+    put_space(room);
 }
 
 /// The line of a partition.
@@ -44,9 +44,9 @@ fn put_partition(room: &mut Vec<u8>, partition: &Partition)
 {
     put_named(room, "partition ", &partition.name);
     put_range(room, partition.range.start, partition.range.size);
-    put_text(room, " ");
+    put_space(room);
     put_text(room, attr_word(partition.attr));
-    put_text(room, "\n");
+    put_newline(room);
 }
 
 /// The lines of partitions.
@@ -67,7 +67,7 @@ fn put_stack_size(room: &mut Vec<u8>, setup: Setup)
 {
     match setup {
         Setup::ThreadStack { range, declared: _ } => {
-            put_text(room, " ");
+            put_space(room);
             put_decimal(room, range.size);
         }
         _ => {}
@@ -82,10 +82,10 @@ fn put_place(room: &mut Vec<u8>, object: &ObjectDef)
 {
     put_named(room, "object ", &object.name);
     put_text(room, kind_word(Some(object.kind)));
-    put_text(room, " ");
+    put_space(room);
     put_address(room, object.addr);
     put_stack_size(room, object.setup);
-    put_text(room, "\n");
+    put_newline(room);
 }
 
 /// The lines of objects.

@@ -7,7 +7,7 @@ ghost use Rattle.um_trace.specs.Names.{thread_text};
 
 use crate::dump::{DUMP_ROOM, put_dump};
 use crate::names::put_thread;
-use crate::room::put_text;
+use crate::room::{put_space, put_text};
 use crate::trace::{put_event, woken_by};
 use um_base::{Event, Image, THREADS};
 use um_matrix::Matrix;
@@ -34,7 +34,7 @@ pub fn thread_beginning(image: &Image, thread: u8, room: &mut Vec<u8>)
 {
     room.clear();
     put_thread(room, image, thread);
-    put_text(room, " ");
+    put_space(room);
 }
 
 /// Writes the dump of a state in place of what stands in a room. The room is reserved, so it takes no memory.

@@ -9,7 +9,7 @@ ghost use Rattle.um_trace.specs.Words.{reach_word};
 
 use crate::names::put_row;
 use crate::objects::put_object_act;
-use crate::room::{put_address, put_decimal, put_text, put_value};
+use crate::room::{put_address, put_decimal, put_space, put_text, put_value};
 use crate::words::{access_word, reach_word};
 use um_base::{Act, Addr, Found, Image};
 
@@ -20,7 +20,7 @@ pub fn put_range(room: &mut Vec<u8>, addr: Addr, size: u32)
     ensures { Puts room.old room.new (range_text addr.0 size) 21 }
 {
     put_address(room, addr);
-    put_text(room, " ");
+    put_space(room);
     put_decimal(room, size);
 }
 
@@ -31,7 +31,7 @@ fn put_access(room: &mut Vec<u8>, word: &str, addr: Addr, size: u32, number: u32
 {
     put_text(room, word);
     put_range(room, addr, size);
-    put_text(room, " ");
+    put_space(room);
     put_value(room, number);
 }
 
@@ -42,7 +42,7 @@ fn put_reach(room: &mut Vec<u8>, word: &str, addr: Addr, size: u32, fits: bool)
 {
     put_text(room, word);
     put_range(room, addr, size);
-    put_text(room, " ");
+    put_space(room);
     put_text(room, reach_word(fits));
 }
 
@@ -75,7 +75,7 @@ pub fn put_act(room: &mut Vec<u8>, image: &Image, act: &Act)
         Act::Fault { access, addr, size } => {
             put_text(room, "fault ");
             put_text(room, access_word(*access));
-            put_text(room, " ");
+            put_space(room);
             put_range(room, *addr, *size);
         }
         Act::Probe { addr, size, fits } => put_reach(room, "probe ", *addr, *size, *fits),
@@ -84,7 +84,7 @@ pub fn put_act(room: &mut Vec<u8>, image: &Image, act: &Act)
         Act::CopyStr { addr, found } => {
             put_text(room, "copystr ");
             put_address(room, *addr);
-            put_text(room, " ");
+            put_space(room);
             put_found(room, *found);
         }
         Act::Erase { stack } => {

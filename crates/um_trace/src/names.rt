@@ -5,7 +5,7 @@ ghost use Rattle.um_trace.specs.Names.{row_text, thread_text, object_text, domai
 ghost use Rattle.um_trace.specs.Room.{Puts};
 
 use crate::places::{own_row, row_at};
-use crate::room::{put, put_address, put_decimal, put_text};
+use crate::room::{put, put_address, put_decimal, put_short, put_text};
 use crate::words::{attr_word, errno_word};
 use um_base::{Addr, Attr, Image, Range, Reply, STATIC_ROWS, ThreadIx};
 
@@ -17,7 +17,7 @@ pub fn put_row(room: &mut Vec<u8>, image: &Image, row: usize)
     ensures { Puts room.old room.new (row_text image.now row) 24 }
 {
     match image.objects.as_slice().get(row) {
-        Some(object) => put(room, object.name.as_slice()),
+        Some(object) => put_short(room, object.name.as_slice()),
         None => {
             put_text(room, "#");
             put_decimal(room, row.saturating_sub(STATIC_ROWS) as u32);
@@ -65,7 +65,7 @@ pub fn put_script(room: &mut Vec<u8>, image: &Image, script: u8)
     ensures { Puts room.old room.new (script_text image.now script) 24 }
 {
     match image.scripts.as_slice().get(script as usize) {
-        Some(script) => put(room, script.name.as_slice()),
+        Some(script) => put_short(room, script.name.as_slice()),
         None => {}
     }
 }

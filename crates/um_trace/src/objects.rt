@@ -11,7 +11,7 @@ ghost use Rattle.um_trace.specs.Words.{kind_word, want_word, verdict_word};
 
 use crate::heap::put_heap_act;
 use crate::names::{put_of, put_on, put_reply};
-use crate::room::put_text;
+use crate::room::{put_space, put_text};
 use crate::words::{given_word, kind_word, set_word, verdict_word, want_word};
 use um_base::{Act, Answer, Errno, Image, Kind, Replies, Reply, ThreadIx, Want};
 
@@ -20,11 +20,11 @@ fn put_check(room: &mut Vec<u8>, kind: Option<Kind>, want: Want, verdict: Option
     requires { vec_len room.old + 31 ≤ vec_capacity room.old }
     ensures { Puts room.old room.new (codes " " ++ kind_word kind ++ codes " " ++ want_word want ++ codes " " ++ verdict_word verdict) 31 }
 {
-    put_text(room, " ");
+    put_space(room);
     put_text(room, kind_word(kind));
-    put_text(room, " ");
+    put_space(room);
     put_text(room, want_word(want));
-    put_text(room, " ");
+    put_space(room);
     put_text(room, verdict_word(verdict));
 }
 
@@ -47,7 +47,7 @@ fn put_wake(room: &mut Vec<u8>, image: &Image, woken: (ThreadIx, Reply))
     ensures { Puts room.old room.new (wake_text image.now woken) 64 }
 {
     put_of(room, image, " wake ", woken.0);
-    put_text(room, " ");
+    put_space(room);
     put_reply(room, image, woken.1);
 }
 
@@ -83,18 +83,18 @@ pub fn put_object_act(room: &mut Vec<u8>, image: &Image, act: &Act)
             woken,
         } => {
             put_on(room, image, "act ", *addr);
-            put_text(room, " ");
+            put_space(room);
             put_answer(room, image, *answer);
             put_wakes(room, image, woken);
         }
         Act::Publish { addr, given } => {
             put_on(room, image, "public ", *addr);
-            put_text(room, " ");
+            put_space(room);
             put_text(room, given_word(*given));
         }
         Act::SetInit { addr, set } => {
             put_on(room, image, "setinit ", *addr);
-            put_text(room, " ");
+            put_space(room);
             put_text(room, set_word(*set));
         }
         Act::ClearInit { addr } => put_on(room, image, "uninit ", *addr),

@@ -3,6 +3,7 @@
 ghost use Rattle.std.specs.Prelude.{◌≡◌, ◌==◌, ◌<◌, ◌≤◌, position, length, IfSome};
 ghost use Rattle.um_base.specs.Places.{row_at, own_row, dynamic_row, is_thread_index, thread_of_row, setup_thread};
 ghost use Rattle.um_base.specs.declared.image.ObjectDef.{ObjectDef};
+ghost use Rattle.um_trace.specs.Rows.{OwnRows};
 
 use um_base::{
     Addr, DYNAMIC_OBJECTS, Image, OBJECT_STEP, ObjectDef, ROWS, STATIC_ROWS, STATIC_THREADS, Setup,
@@ -73,5 +74,29 @@ pub fn own_row(image: &Image, thread: u8) -> usize
         static_thread_row(image.objects.as_slice(), thread).unwrap_or(0)
     } else {
         STATIC_ROWS + (thread as usize - STATIC_THREADS)
+    }
+}
+
+/// The rows of the threads' own objects, by their thread indices.
+pub fn own_rows(image: &Image) -> [usize; THREADS]
+    ensures { OwnRows image.now result }
+{
+    let mut rows = [0usize; THREADS];
+    for t in 0..THREADS {
+        rows[t] = own_row(image, t as u8);
+    }
+    rows
+}
+
+/// The row of a thread's own object, where those of the threads are known.
+pub fn row_among(rows: &[usize; THREADS], image: &Image, thread: u8) -> usize
+    requires { OwnRows image.now rows.now }
+    ensures value { result ≡ own_row image.now thread }
+    ensures few { result < 1000 }
+{
+    if (thread as usize) < THREADS {
+        rows[thread as usize]
+    } else {
+        own_row(image, thread)
     }
 }

@@ -1,6 +1,6 @@
 //! Text, appended into reserved room.
 
-ghost use Rattle.std.specs.Prelude.{◌≡◌, ◌+◌, ◌*◌, ◌≤◌, ◌<◌, length, vec_len, vec_capacity, decimal};
+ghost use Rattle.std.specs.Prelude.{◌≡◌, ◌+◌, ◌*◌, ◌≤◌, ◌<◌, codes, length, vec_len, vec_capacity, decimal};
 ghost use Rattle.std.specs.Fmt.{signed_decimal};
 ghost use Rattle.std.specs.List.{flat_map};
 ghost use Rattle.um_trace.specs.Digits.{hex2, hex8, address, value, glyph_of, leading};
@@ -17,6 +17,35 @@ pub fn put(room: &mut Vec<u8>, piece: &[u8])
     room.extend_from_slice(piece).unwrap()
 }
 
+/// A short piece, such as a name.
+pub fn put_short(room: &mut Vec<u8>, piece: &[u8])
+    requires { vec_len room.old + length piece.now ≤ vec_capacity room.old }
+    ensures { Puts room.old room.new piece.now (length piece.now) }
+{
+    if piece.len() > 8 {
+        return put(room, piece);
+    }
+    for byte in piece {
+        room.push_reserved(*byte);
+    }
+}
+
+/// A space.
+pub fn put_space(room: &mut Vec<u8>)
+    requires { vec_len room.old + 1 ≤ vec_capacity room.old }
+    ensures { Puts room.old room.new (codes " ") 1 }
+{
+    room.push_reserved(b' ');
+}
+
+/// The end of a line.
+pub fn put_newline(room: &mut Vec<u8>)
+    requires { vec_len room.old + 1 ≤ vec_capacity room.old }
+    ensures { Puts room.old room.new (codes "\n") 1 }
+{
+    room.push_reserved(b'\n');
+}
+
 /// A piece of text.
 pub fn put_text(room: &mut Vec<u8>, text: &str)
     requires { vec_len room.old + length text.now ≤ vec_capacity room.old }
@@ -25,11 +54,28 @@ pub fn put_text(room: &mut Vec<u8>, text: &str)
     put(room, text.as_bytes())
 }
 
+/// A decimal digit.
+#[tactic(auto, using(std::proofs::lemmas::Fmt::decimal_digit))]
+fn put_digit(room: &mut Vec<u8>, digit: u32)
+    requires room { vec_len room.old + 1 ≤ vec_capacity room.old }
+    requires small { digit < 10 }
+    ensures { Puts room.old room.new (decimal digit) 1 }
+{
+    room.push_reserved(48 + digit as u8);
+}
+
 /// A number.
 pub fn put_decimal(room: &mut Vec<u8>, n: u32)
     requires { vec_len room.old + 10 ≤ vec_capacity room.old }
     ensures { Puts room.old room.new (decimal n) 10 }
 {
+    if n < 10 {
+        return put_digit(room, n);
+    }
+    if n < 100 {
+        put_digit(room, n / 10);
+        return put_digit(room, n % 10);
+    }
     let mut buffer = Buffer::new();
     put_text(room, buffer.format(n))
 }
@@ -78,14 +124,32 @@ fn digits(n: u32) -> [u8; 8]
     ]
 }
 
+/// `0x` and the eight digits of a number.
+#[tactic(auto, unfolding(crate::specs::Digits::address, crate::specs::Digits::hex8))]
+fn address_digits(n: u32) -> [u8; 10]
+    ensures value { result ≡ address n }
+    ensures len { length (address n) ≡ 10 }
+{
+    [
+        b'0',
+        b'x',
+        glyph(n / 0x1000_0000),
+        glyph(n / 0x100_0000 % 16),
+        glyph(n / 0x10_0000 % 16),
+        glyph(n / 0x1_0000 % 16),
+        glyph(n / 0x1000 % 16),
+        glyph(n / 0x100 % 16),
+        glyph(n / 0x10 % 16),
+        glyph(n % 16),
+    ]
+}
+
 /// An address in memory: `0x` and eight digits.
-#[tactic(auto, unfolding(crate::specs::Digits::address))]
 pub fn put_address(room: &mut Vec<u8>, addr: Addr)
     requires { vec_len room.old + 10 ≤ vec_capacity room.old }
     ensures { Puts room.old room.new (address addr.0) 10 }
 {
-    put_text(room, "0x");
-    put(room, &digits(addr.0))
+    put(room, &address_digits(addr.0))
 }
 
 /// How many of a number's eight digits are zeros in front.

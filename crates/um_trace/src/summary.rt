@@ -7,7 +7,7 @@ ghost use Rattle.um_trace.specs.Summary.{count_line, summary_text};
 pub mod events;
 mod threads;
 
-use crate::room::{put_count, put_text};
+use crate::room::{put_count, put_newline, put_space, put_text};
 use crate::summary::events::{Counted, events_that};
 use um_base::{Event, Image};
 use um_matrix::Matrix;
@@ -23,9 +23,9 @@ fn put_line(room: &mut Vec<u8>, word: &str, count: usize)
     ensures { Puts room.old room.new (count_line word.now count) 32 }
 {
     put_text(room, word);
-    put_text(room, " ");
+    put_space(room);
     put_count(room, count);
-    put_text(room, "\n");
+    put_newline(room);
 }
 
 /// Appends the summary of a run: counts of its events, and of the threads that the dump of its last state shows. The room is reserved, so

@@ -7,7 +7,7 @@ ghost use Rattle.um_trace.specs.Room.{Puts};
 
 use crate::dump::lists::{put_lead, put_share};
 use crate::names::{put_domain, put_part};
-use crate::room::{put, put_text};
+use crate::room::{put, put_newline, put_space, put_text};
 use um_base::{Attr, DOMAIN_PARTITIONS, DOMAINS, Image, POOLS, Pool, Range};
 use um_matrix::Matrix;
 
@@ -57,9 +57,9 @@ fn put_domain_line(room: &mut Vec<u8>, image: &Image, last: &Matrix, domain: usi
 {
     put_text(room, "domain ");
     put_domain(room, image, domain as u8);
-    put_text(room, " ");
+    put_space(room);
     put_domain_parts(room, last, domain);
-    put_text(room, "\n");
+    put_newline(room);
 }
 
 /// The lines of domains.
@@ -90,9 +90,9 @@ fn put_pool(room: &mut Vec<u8>, pool: &Pool, left: u32)
 {
     put_text(room, "pool ");
     put(room, pool.name.as_slice());
-    put_text(room, " ");
+    put_space(room);
     put_share(room, left, pool.size);
-    put_text(room, "\n");
+    put_newline(room);
 }
 
 /// The line of a pool.

@@ -5,7 +5,7 @@ ghost use Rattle.std.specs.List.{flat_map, list_all, range_with_len};
 ghost use Rattle.um_trace.specs.Dump.{block_line, area_lines};
 ghost use Rattle.um_trace.specs.Room.{Puts};
 
-use crate::room::{put_address, put_bytes, put_text};
+use crate::room::{put_address, put_bytes, put_newline, put_space, put_text};
 use um_base::{AREA_SIZE, Addr, STACK_AREA};
 
 /// The bytes of a block.
@@ -64,9 +64,9 @@ fn put_block(room: &mut Vec<u8>, area: u32, bytes: &[u8], k: usize)
     if !are_zero(block) {
         put_text(room, "memory ");
         put_address(room, Addr(area + (BLOCK * k) as u32));
-        put_text(room, " ");
+        put_space(room);
         put_bytes(room, block);
-        put_text(room, "\n");
+        put_newline(room);
     }
 }
 

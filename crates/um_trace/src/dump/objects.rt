@@ -10,7 +10,7 @@ ghost use Rattle.um_trace.specs.Room.{Puts};
 use crate::dump::lists::{put_lead, put_share};
 use crate::dump::state::{is_shown, object_at, pair_at};
 use crate::names::{put_row, put_thread};
-use crate::room::{put_bytes, put_decimal, put_text};
+use crate::room::{put_bytes, put_decimal, put_newline, put_space, put_text};
 use crate::words::kind_word;
 use um_base::{Image, Kind, PIECE, ROWS, THREADS, ThreadIx};
 use um_machine::{Contents, Object, Status};
@@ -53,9 +53,9 @@ fn put_marks(room: &mut Vec<u8>, object: &Object)
     ensures { Puts room.old room.new (marks_text object.now) 27 }
 {
     put_text(room, kind_word(object.kind));
-    put_text(room, " ");
+    put_space(room);
     put_text(room, state_word(object));
-    put_text(room, " ");
+    put_space(room);
     put_text(room, flag_word(object.public));
 }
 
@@ -180,13 +180,13 @@ fn put_object_line(room: &mut Vec<u8>, image: &Image, last: &Matrix, row: usize)
     let object = object_at(last, row);
     put_text(room, "object ");
     put_row(room, image, row);
-    put_text(room, " ");
+    put_space(room);
     put_marks(room, object);
-    put_text(room, " ");
+    put_space(room);
     put_holders(room, image, last, row);
-    put_text(room, " ");
+    put_space(room);
     put_content(room, image, object);
-    put_text(room, "\n");
+    put_newline(room);
 }
 
 /// The line of a row, where an object stands there.

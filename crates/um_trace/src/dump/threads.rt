@@ -8,7 +8,7 @@ ghost use Rattle.um_trace.specs.Room.{Puts};
 
 use crate::dump::standing::{Standing, shown_thread, standing_of};
 use crate::names::{put_domain, put_row};
-use crate::room::{put_signed, put_text};
+use crate::room::{put_newline, put_signed, put_space, put_text};
 use crate::words::mode_word;
 use um_base::{Image, ROWS};
 use um_machine::{Life, Thread};
@@ -39,11 +39,11 @@ fn put_rights(room: &mut Vec<u8>, image: &Image, me: &Thread)
     ensures { Puts room.old room.new (rights_text image.now me.now) 41 }
 {
     if me.life != Life::Unborn {
-        put_text(room, " ");
+        put_space(room);
         put_text(room, mode_word(me.mode));
-        put_text(room, " ");
+        put_space(room);
         put_signed(room, me.priority);
-        put_text(room, " ");
+        put_space(room);
         put_domain(room, image, me.domain);
     }
 }
@@ -79,9 +79,9 @@ fn put_thread_line(room: &mut Vec<u8>, image: &Image, last: &Matrix, row: usize,
 {
     put_text(room, "thread ");
     put_row(room, image, row);
-    put_text(room, " ");
+    put_space(room);
     put_life_at(room, image, last, thread);
-    put_text(room, "\n");
+    put_newline(room);
 }
 
 /// The line of a row, where a thread object stands there.

@@ -5,7 +5,7 @@ use Rattle.um_trace.proofs.domains.put_domain_act.Goals as goal
 pub returns-in-DomInit : goal.returns-in-DomInit
 unfolding domain_act_text
 returns-in-DomInit c = record {
-  items = rw (c.put_reply.ensures.items, c.put_text.ensures.items, c.put_on.ensures.items, c.in-DomInit.is) (simp append_assoc);
+  items = rw (c.put_reply.ensures.items, c.put_space.ensures.items, c.put_on.ensures.items, c.in-DomInit.is) (simp append_assoc);
   len = omega arith;
   capacity = omega arith;
 }
@@ -30,7 +30,7 @@ pub returns-in-DomMove : goal.returns-in-DomMove
 unfolding domain_act_text
 returns-in-DomMove c = record {
   items =
-      rw (c.put_reply-in-DomMove.ensures.items, c.put_text-in-DomMove-2.ensures.items, c.put_thread.ensures.items, c.put_text-in-DomMove.ensures.items, c.put_on-in-DomMove.ensures.items, c.in-DomMove.is)
+      rw (c.put_reply-in-DomMove.ensures.items, c.put_space-in-DomMove-2.ensures.items, c.put_thread.ensures.items, c.put_space-in-DomMove.ensures.items, c.put_on-in-DomMove.ensures.items, c.in-DomMove.is)
       (simp append_assoc);
   len = omega arith;
   capacity = omega arith;
