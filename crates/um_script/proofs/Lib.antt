@@ -8,3 +8,4 @@ pub mod WordAgain
 pub mod NameAgain
 pub mod TermAgain
 pub mod LineAgain
+pub mod LengthLemmas

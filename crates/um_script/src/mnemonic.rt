@@ -152,6 +152,76 @@ const ALL: [Mnemonic; 43] = [
     Mnemonic::Pipe(PipeCall::Close),
 ];
 
+/// Those of three letters.
+const OF_THREE: [Mnemonic; 3] = [
+    Mnemonic::Plain(Plain::End),
+    Mnemonic::Plain(Plain::Set),
+    Mnemonic::Plain(Plain::Add),
+];
+
+/// Those of four letters.
+const OF_FOUR: [Mnemonic; 2] = [Mnemonic::Plain(Plain::Load), Mnemonic::Plain(Plain::Exec)];
+
+/// Those of five letters.
+const OF_FIVE: [Mnemonic; 1] = [Mnemonic::Plain(Plain::Store)];
+
+/// Those of six letters.
+const OF_SIX: [Mnemonic; 2] = [Mnemonic::Plain(Plain::Oops), Mnemonic::Plain(Plain::Repeat)];
+
+/// Those of seven letters.
+const OF_SEVEN: [Mnemonic; 1] = [Mnemonic::Plain(Plain::Panic)];
+
+/// Those of ten letters.
+const OF_TEN: [Mnemonic; 5] = [
+    Mnemonic::Sem(SemCall::Init),
+    Mnemonic::Sem(SemCall::Take),
+    Mnemonic::Sem(SemCall::Give),
+    Mnemonic::Msgq(MsgqCall::Put),
+    Mnemonic::Msgq(MsgqCall::Get),
+];
+
+/// Those of eleven letters.
+const OF_ELEVEN: [Mnemonic; 5] = [
+    Mnemonic::Sem(SemCall::Reset),
+    Mnemonic::Msgq(MsgqCall::Peek),
+    Mnemonic::Stack(StackCall::Pop),
+    Mnemonic::Pipe(PipeCall::Init),
+    Mnemonic::Pipe(PipeCall::Read),
+];
+
+/// Those of twelve letters.
+const OF_TWELVE: [Mnemonic; 7] = [
+    Mnemonic::Mutex(MutexCall::Init),
+    Mnemonic::Mutex(MutexCall::Lock),
+    Mnemonic::Msgq(MsgqCall::Purge),
+    Mnemonic::Stack(StackCall::Push),
+    Mnemonic::Pipe(PipeCall::Write),
+    Mnemonic::Pipe(PipeCall::Reset),
+    Mnemonic::Pipe(PipeCall::Close),
+];
+
+/// Those of fourteen letters.
+const OF_FOURTEEN: [Mnemonic; 2] = [
+    Mnemonic::Object(ObjectCall::Alloc),
+    Mnemonic::Mutex(MutexCall::Unlock),
+];
+
+/// Those of fifteen letters.
+const OF_FIFTEEN: [Mnemonic; 2] = [
+    Mnemonic::Thread(ThreadCall::Create),
+    Mnemonic::Sem(SemCall::CountGet),
+];
+
+/// Those of sixteen letters.
+const OF_SIXTEEN: [Mnemonic; 1] = [Mnemonic::Object(ObjectCall::Release)];
+
+/// Those of seventeen letters.
+const OF_SEVENTEEN: [Mnemonic; 3] = [
+    Mnemonic::Domain(DomainCall::Init),
+    Mnemonic::Thread(ThreadCall::NameSet),
+    Mnemonic::Msgq(MsgqCall::AllocInit),
+];
+
 impl Plain {
     fn word(self) -> &'static [u8]
         ensures { result.now ≡ spelling (Mnemonic.Plain self) }
@@ -276,6 +346,15 @@ impl PipeCall {
     }
 }
 
+/// The one among some whose word this is.
+fn among(some: &[Mnemonic], word: &[u8]) -> Option<Mnemonic>
+    ensures { result ≡ find (λ m. bytes_eq word.now (spelling m)) some.now }
+{
+    some.iter()
+        .copied()
+        .find(|mnemonic| word == mnemonic.word())
+}
+
 impl Mnemonic {
     /// The word.
     pub fn word(self) -> &'static [u8]
@@ -294,10 +373,24 @@ impl Mnemonic {
         }
     }
 
-    /// The one whose word this is.
+    /// The one whose word this is. It is looked for among those of the same length.
     pub fn of_word(word: &[u8]) -> Option<Mnemonic>
         ensures { result ≡ find (λ m. bytes_eq word.now (spelling m)) mnemonics }
     {
-        ALL.iter().copied().find(|mnemonic| word == mnemonic.word())
+        match word.len() {
+            3 => among(&OF_THREE, word),
+            4 => among(&OF_FOUR, word),
+            5 => among(&OF_FIVE, word),
+            6 => among(&OF_SIX, word),
+            7 => among(&OF_SEVEN, word),
+            10 => among(&OF_TEN, word),
+            11 => among(&OF_ELEVEN, word),
+            12 => among(&OF_TWELVE, word),
+            14 => among(&OF_FOURTEEN, word),
+            15 => among(&OF_FIFTEEN, word),
+            16 => among(&OF_SIXTEEN, word),
+            17 => among(&OF_SEVENTEEN, word),
+            _ => among(&ALL, word),
+        }
     }
 }
