@@ -1,19 +1,15 @@
 -- Partitions in their ranges, and ranges in their area.
-use Rattle.std.proofs.Common.{◌≡◌, ℕ, ◌+◌, ◌≤◌, Bool, false, ◌&&◌, nat_lt, nat_le, List, [], ◌∷◌, ◌++◌, length, map, sum, IsTrue, ℤ, pos, negsuc, int_lt, refl, ap, sym, ◌∙◌, arith}
+use Rattle.std.proofs.Common.{◌≡◌, ℕ, ◌+◌, ◌≤◌, Bool, ◌&&◌, nat_lt, nat_le, List, [], ◌∷◌, length, map, sum, IsTrue, refl, ap, sym, ◌∙◌, arith}
 use Rattle.std.specs.List.{list_all}
-use Rattle.std.proofs.lemmas.Bool.{true≢false}
 use Rattle.std.proofs.lemmas.Bool.Decides.{nat_tests}
 use Rattle.um_base.specs.declared.image.Partition.{Partition}
-use Rattle.um_base.specs.declared.limits.TheConstants.{AREA_ENTRY, AREA_SIZE, PARTITIONS}
+use Rattle.um_base.specs.declared.limits.TheConstants.{AREA_SIZE, PARTITIONS}
 use Rattle.um_base.specs.declared.names.Mpu.{Mpu}
 use Rattle.um_base.specs.declared.names.Range.{Range}
 use Rattle.um_base.specs.Lawful.{is_rounded, is_given_attr, is_lawful_partition, places_of, sizes_of, ArePlaced}
 use Rattle.um_base.specs.Layout.{rounded, starts, starts_from}
 use Rattle.um_document.specs.declared.description.PartitionEntry.{PartitionEntry}
-use Rattle.um_document.specs.declared.place.Place.{Place}
-use Rattle.um_document.specs.declared.shape.Key.{Key}
 use Rattle.um_document.specs.declared.shape.Section.{Section}
-use Rattle.um_description.specs.declared.flaw.Counted.TheVariants as counted
 use Rattle.um_description.specs.declared.flaw.Flaw.{Flaw}
 use Rattle.um_description.specs.Flaws.{too_large}
 use Rattle.um_document.specs.LawfulNames.{has_given_attr}

@@ -1,5 +1,5 @@
 -- How variables are packed into a partition: each at the least multiple of its alignment that is no less than the end of the one before it.
-use Rattle.std.specs.Prelude.{◌≡◌, ℕ, ◌+◌, ◌-◌, ◌%◌, ◌≤◌, List, [], ◌∷◌, ◌++◌, length, replicate, Bool, if◌then◌else◌, bytes_eq, Option, Some, None}
+use Rattle.std.specs.Prelude.{◌≡◌, ℕ, ◌+◌, ◌-◌, ◌%◌, ◌≤◌, List, [], ◌∷◌, ◌++◌, length, replicate, if◌then◌else◌, bytes_eq, Option, Some, None}
 use Rattle.std.specs.Int.{next_multiple_of}
 use Rattle.um_document.specs.declared.description.Alignment.{Alignment}
 use Rattle.um_document.specs.declared.description.PartitionContents.{PartitionContents}

@@ -1,5 +1,5 @@
 -- The image of a description: names become rows, numbers and addresses.
-use Rattle.std.specs.Prelude.{ℕ, ◌+◌, ◌*◌, ◌-◌, ◌%◌, ◌^◌, min, List, [], ◌∷◌, ◌++◌, length, map, drop, ◌==◌, if◌then◌else◌, Option, Some, None, unwrap_or, option_map, ℤ, pos, negsuc, int_lt, bytes_eq}
+use Rattle.std.specs.Prelude.{ℕ, ◌+◌, ◌*◌, ◌%◌, ◌^◌, min, List, [], ◌∷◌, ◌++◌, length, map, drop, ◌==◌, if◌then◌else◌, Option, Some, None, unwrap_or, option_map, ℤ, pos, negsuc, int_lt, bytes_eq}
 use Rattle.std.specs.List.{flat_map}
 use Rattle.um_base.specs.declared.limits.TheConstants.{PARTITION_AREA, STACK_AREA, RODATA, OBJECTS, OBJECT_STEP}
 use Rattle.um_base.specs.declared.image.Boot.{Boot}

@@ -6,10 +6,11 @@ ghost use Rattle.um_document.specs.First.{first_of};
 ghost use Rattle.um_description.specs.Lines as spec;
 ghost use Rattle.um_description.specs.Names as names;
 
-use crate::lines::{line_place, read_line};
+use crate::lines::line_place;
+use crate::read::{ReadLine, ReadScript};
 use std::alloc::Global;
 use um_base::{Instr, Memory};
-use um_document::{Place, ScriptEntry, Text};
+use um_document::Place;
 
 /// What a line is to the blocks of a script.
 #[derive(Clone, Copy, PartialEq, Eq)]
@@ -21,24 +22,23 @@ pub enum Bracket {
 
 /// What a line is to the blocks of its script.
 #[tactic(auto, unfolding(crate::specs::Lines::bracket_at))]
-fn read_bracket(line: &Text) -> Result<Bracket, Memory>
-    ensures { IfOk result (λ b. b ≡ spec.bracket_at line.now) }
+fn bracket_at(line: &ReadLine<'_>) -> Bracket
+    ensures { result ≡ spec.bracket_at line.now }
 {
-    match read_line(line) {
-        Ok(Ok(Instr::Repeat { .. })) => Ok(Bracket::Opens),
-        Ok(Ok(Instr::End)) => Ok(Bracket::Closes),
-        Ok(_) => Ok(Bracket::Stays),
-        Err(Memory) => Err(Memory),
+    match line.outcome() {
+        Ok(Instr::Repeat { .. }) => Bracket::Opens,
+        Ok(Instr::End) => Bracket::Closes,
+        _ => Bracket::Stays,
     }
 }
 
 /// What lines are to the blocks of their script.
-fn brackets(alloc: Global, lines: &[Text]) -> Result<Vec<Bracket>, Memory>
+fn brackets(alloc: Global, lines: &[ReadLine<'_>]) -> Result<Vec<Bracket>, Memory>
     ensures { IfOk result (λ found. found.items ≡ map spec.bracket_at lines.now) }
 {
     let mut found = Vec::new(alloc);
     for line in lines {
-        found.push(read_bracket(line)?)?;
+        found.push(bracket_at(line))?;
     }
     Ok(found)
 }
@@ -103,7 +103,7 @@ fn broken_block(script: usize, brackets: &[Bracket]) -> Option<Place>
 
 /// The first line of a script that breaks a block.
 #[tactic(auto, unfolding(crate::specs::Lines::blocks_in))]
-fn block_of(alloc: Global, script: usize, lines: &[Text]) -> Result<Option<Place>, Memory>
+fn block_of(alloc: Global, script: usize, lines: &[ReadLine<'_>]) -> Result<Option<Place>, Memory>
     ensures { IfOk result (λ found. found ≡ first_of (spec.blocks_in script lines.now)) }
 {
     let found = brackets(alloc, lines)?;
@@ -111,12 +111,12 @@ fn block_of(alloc: Global, script: usize, lines: &[Text]) -> Result<Option<Place
 }
 
 /// The first line of some scripts that breaks a block.
-pub fn first_block(alloc: Global, scripts: &[ScriptEntry]) -> Result<Option<Place>, Memory>
+pub fn first_block(alloc: Global, scripts: &[ReadScript<'_>]) -> Result<Option<Place>, Memory>
     ensures { IfOk result (λ found. found ≡ first_of (names.each spec.blocks_of 0 scripts.now)) }
 {
     let mut index = 0usize;
     for script in scripts {
-        let found = block_of(alloc, index, script.lines.as_slice())?;
+        let found = block_of(alloc, index, script.lines())?;
         if found.is_some() {
             return Ok(found);
         }

@@ -13,6 +13,7 @@ use crate::flaw::Flaw;
 use crate::limits::first_limit;
 use crate::lines::first_unread;
 use crate::order::first_misordered;
+use crate::read::{ReadScript, read_scripts};
 use crate::resolve::image_or_flaw;
 use crate::strangers::first_stranger;
 use crate::unknown::first_unknown;
@@ -34,19 +35,24 @@ fn first_in_entries(alloc: Global, d: &Description) -> Result<Option<Flaw>, Memo
 }
 
 /// The first flaw of the lines of a description's scripts.
-fn first_in_lines(alloc: Global, d: &Description) -> Result<Option<Flaw>, Memory>
+fn first_in_lines(
+    alloc: Global,
+    d: &Description,
+    scripts: &[ReadScript<'_>],
+) -> Result<Option<Flaw>, Memory>
+    requires { scripts.now ≡ d.now.scripts }
     ensures { IfOk result (λ found. found ≡ first_of (kinds.line_flaws d.now)) }
 {
-    if let Some(flaw) = first_unread(d.scripts.as_slice())? {
+    if let Some(flaw) = first_unread(scripts) {
         return Ok(Some(flaw));
     }
-    if let Some(place) = first_block(alloc, d.scripts.as_slice())? {
+    if let Some(place) = first_block(alloc, scripts)? {
         return Ok(Some(Flaw::Block(place)));
     }
-    if let Some(flaw) = first_stranger(alloc, d, d.scripts.as_slice())? {
+    if let Some(flaw) = first_stranger(alloc, d, scripts)? {
         return Ok(Some(flaw));
     }
-    if let Some(place) = first_misordered(d)? {
+    if let Some(place) = first_misordered(d, scripts) {
         return Ok(Some(Flaw::ScriptOrder(place)));
     }
     Ok(None)
@@ -62,8 +68,9 @@ pub fn meaning(alloc: Global, d: &Description) -> Result<Result<Image, Flaw>, Me
     if let Some(flaw) = first_in_entries(alloc, d)? {
         return Ok(Err(flaw));
     }
-    if let Some(flaw) = first_in_lines(alloc, d)? {
+    let scripts = read_scripts(alloc, d.scripts.as_slice())?;
+    if let Some(flaw) = first_in_lines(alloc, d, &scripts)? {
         return Ok(Err(flaw));
     }
-    image_or_flaw(alloc, d)
+    image_or_flaw(alloc, d, &scripts)
 }

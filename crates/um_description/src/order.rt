@@ -1,14 +1,15 @@
 //! The order of scripts: a line names only those behind its own.
 
-ghost use Rattle.std.specs.Prelude.{◌≡◌, ◌<◌, length, IfOk};
+ghost use Rattle.std.specs.Prelude.{◌≡◌, ◌<◌, length};
 ghost use Rattle.um_document.specs.First.{first_of};
 ghost use Rattle.um_description.specs.Lines as spec;
 ghost use Rattle.um_description.specs.Names as names;
 
-use crate::lines::{line_place, read_line};
+use crate::lines::line_place;
 use crate::mentions::is_script;
-use um_base::{Instr, Memory, Name, Ref};
-use um_document::{Description, Place, Text};
+use crate::read::{ReadLine, ReadScript};
+use um_base::{Instr, Name, Ref};
+use um_document::{Description, Place};
 
 fn name_in(named: &Ref) -> Option<Name>
     ensures { result ≡ spec.name_in named.now }
@@ -31,13 +32,12 @@ fn script_in(instr: &Instr) -> Option<Name>
 }
 
 /// The name of the script that a line names.
-fn script_named(line: &Text) -> Result<Option<Name>, Memory>
-    ensures { IfOk result (λ name. name ≡ spec.script_named line.now) }
+fn script_named(line: &ReadLine<'_>) -> Option<Name>
+    ensures { result ≡ spec.script_named line.now }
 {
-    match read_line(line) {
-        Ok(Ok(instr)) => Ok(script_in(&instr)),
-        Ok(Err(_)) => Ok(None),
-        Err(Memory) => Err(Memory),
+    match line.outcome() {
+        Ok(instr) => script_in(instr),
+        Err(_) => None,
     }
 }
 
@@ -58,51 +58,47 @@ fn misordered_line(
     d: &Description,
     script: usize,
     index: usize,
-    line: &Text,
-) -> Result<Option<Place>, Memory>
+    line: &ReadLine<'_>,
+) -> Option<Place>
     requires { script < length d.now.scripts }
-    ensures { IfOk result (λ found. found ≡ first_of (spec.misordered_at d.now script index line.now)) }
+    ensures { result ≡ first_of (spec.misordered_at d.now script index line.now) }
 {
-    let name = script_named(line)?;
-    if is_misordered(d, script, name) {
-        Ok(Some(line_place(script, index)))
+    if is_misordered(d, script, script_named(line)) {
+        Some(line_place(script, index))
     } else {
-        Ok(None)
+        None
     }
 }
 
 /// The first such line of a script.
 #[tactic(auto, unfolding(crate::specs::Lines::misordered_in))]
-fn misordered_script(
-    d: &Description,
-    script: usize,
-    lines: &[Text],
-) -> Result<Option<Place>, Memory>
+fn misordered_script(d: &Description, script: usize, lines: &[ReadLine<'_>]) -> Option<Place>
     requires { script < length d.now.scripts }
-    ensures { IfOk result (λ found. found ≡ first_of (spec.misordered_in d.now script lines.now)) }
+    ensures { result ≡ first_of (spec.misordered_in d.now script lines.now) }
 {
     let mut index = 0usize;
     for line in lines {
-        let found = misordered_line(d, script, index, line)?;
+        let found = misordered_line(d, script, index, line);
         if found.is_some() {
-            return Ok(found);
+            return found;
         }
         index += 1;
     }
-    Ok(None)
+    None
 }
 
 /// The first line of a description that names a script that doesn't stand behind its own.
-pub fn first_misordered(d: &Description) -> Result<Option<Place>, Memory>
-    ensures { IfOk result (λ found. found ≡ first_of (names.each (spec.misordered_script d.now) 0 d.now.scripts)) }
+pub fn first_misordered(d: &Description, scripts: &[ReadScript<'_>]) -> Option<Place>
+    requires { scripts.now ≡ d.now.scripts }
+    ensures { result ≡ first_of (names.each (spec.misordered_script d.now) 0 d.now.scripts) }
 {
     let mut index = 0usize;
-    for script in d.scripts.as_slice() {
-        let found = misordered_script(d, index, script.lines.as_slice())?;
+    for script in scripts {
+        let found = misordered_script(d, index, script.lines());
         if found.is_some() {
-            return Ok(found);
+            return found;
         }
         index += 1;
     }
-    Ok(None)
+    None
 }

@@ -9,11 +9,12 @@ ghost use Rattle.um_description.specs.Names as names;
 
 use crate::flaw::Flaw;
 use crate::indexed::Indexed;
-use crate::lines::{line_place, read_line};
+use crate::lines::line_place;
 use crate::mentions::{Wanted, in_part, in_parts, in_ref, in_term};
+use crate::read::{ReadLine, ReadScript};
 use std::alloc::Global;
 use um_base::{Instr, Memory, PartRef, PartRefs, Ref, Term};
-use um_document::{Description, ScriptEntry, Text};
+use um_document::Description;
 
 /// The names of two terms.
 fn in_two(d: &Indexed<'_>, first: &Term, second: &Term) -> Option<usize>
@@ -172,51 +173,50 @@ fn unknown_in_line(
     d: &Indexed<'_>,
     script: usize,
     index: usize,
-    line: &Text,
-) -> Result<Option<Flaw>, Memory>
-    ensures { IfOk result (λ found. found ≡ first_of (spec.unknown_at d.now script index line.now)) }
+    line: &ReadLine<'_>,
+) -> Option<Flaw>
+    ensures { result ≡ first_of (spec.unknown_at d.now script index line.now) }
 {
-    match read_line(line) {
-        Ok(Ok(instr)) => match stranger_of(d, &instr) {
-            Some(word) => Ok(Some(Flaw::LineName {
+    match line.outcome() {
+        Ok(instr) => match stranger_of(d, instr) {
+            Some(word) => Some(Flaw::LineName {
                 place: line_place(script, index),
-                column: column_of(line.as_slice(), word),
-            })),
-            None => Ok(None),
+                column: column_of(line.bytes(), word),
+            }),
+            None => None,
         },
-        Ok(Err(_)) => Ok(None),
-        Err(Memory) => Err(Memory),
+        Err(_) => None,
     }
 }
 
 /// The first name of a script's lines that names nothing.
 #[tactic(auto, unfolding(crate::specs::Lines::unknown_in))]
-fn unknown_in_script(d: &Indexed<'_>, script: usize, lines: &[Text]) -> Result<Option<Flaw>, Memory>
-    ensures { IfOk result (λ found. found ≡ first_of (spec.unknown_in d.now script lines.now)) }
+fn unknown_in_script(d: &Indexed<'_>, script: usize, lines: &[ReadLine<'_>]) -> Option<Flaw>
+    ensures { result ≡ first_of (spec.unknown_in d.now script lines.now) }
 {
     let mut index = 0usize;
     for line in lines {
-        let found = unknown_in_line(d, script, index, line)?;
+        let found = unknown_in_line(d, script, index, line);
         if found.is_some() {
-            return Ok(found);
+            return found;
         }
         index += 1;
     }
-    Ok(None)
+    None
 }
 
 /// The first name of some scripts' lines that names nothing.
 pub fn first_stranger(
     alloc: Global,
     d: &Description,
-    scripts: &[ScriptEntry],
+    scripts: &[ReadScript<'_>],
 ) -> Result<Option<Flaw>, Memory>
     ensures { IfOk result (λ found. found ≡ first_of (names.each (spec.unknown_in_script d.now) 0 scripts.now)) }
 {
     let indexed = Indexed::new(alloc, d)?;
     let mut index = 0usize;
     for script in scripts {
-        let found = unknown_in_script(&indexed, index, script.lines.as_slice())?;
+        let found = unknown_in_script(&indexed, index, script.lines());
         if found.is_some() {
             return Ok(found);
         }

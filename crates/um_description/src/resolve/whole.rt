@@ -9,6 +9,7 @@ ghost use Rattle.um_description.specs.Resolve.{image_in};
 ghost use Rattle.um_description.specs.Told.{told};
 
 use crate::flaw::Flaw;
+use crate::read::ReadScript;
 use crate::resolve::base::without_scripts;
 use crate::resolve::ranges::{Placing, partition_ranges, stack_ranges};
 use crate::resolve::scripts::scripts;
@@ -23,7 +24,9 @@ fn image_in(
     d: &Description,
     partitions: &Placing,
     stacks: &Placing,
+    read: &[ReadScript<'_>],
 ) -> Result<Image, Memory>
+    requires read { read.now ≡ d.now.scripts }
     requires limits { IsInLimits d.now }
     requires ranges { length partitions.now.ranges.items ≡ length d.now.partitions }
     ensures { IfOk result (λ image. image ≡ image_in d.now partitions.now.ranges.items stacks.now.ranges.items) }
@@ -34,7 +37,7 @@ fn image_in(
         partitions.ranges.as_slice(),
         stacks.ranges.as_slice(),
     )?;
-    image.scripts = scripts(alloc, &image, d)?;
+    image.scripts = scripts(alloc, &image, d, read)?;
     Ok(image)
 }
 
@@ -73,13 +76,18 @@ fn told(
 }
 
 /// The image of a description in its limits, or the first flaw of its weight and its areas.
-pub fn image_or_flaw(alloc: Global, d: &Description) -> Result<Result<Image, Flaw>, Memory>
-    requires { IsInLimits d.now }
+pub fn image_or_flaw(
+    alloc: Global,
+    d: &Description,
+    read: &[ReadScript<'_>],
+) -> Result<Result<Image, Flaw>, Memory>
+    requires read { read.now ≡ d.now.scripts }
+    requires limits { IsInLimits d.now }
     ensures { IfOk result (λ r. r ≡ meaning_by d.now (image_flaws d.now)) }
 {
     let partitions = partition_ranges(alloc, d)?;
     let stacks = stack_ranges(alloc, d)?;
-    let image = image_in(alloc, d, &partitions, &stacks)?;
+    let image = image_in(alloc, d, &partitions, &stacks, read)?;
     let heavy = is_too_heavy(&image);
     Ok(told(image, heavy, partitions.need, stacks.need))
 }

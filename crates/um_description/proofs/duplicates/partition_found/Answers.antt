@@ -1,4 +1,4 @@
-use Rattle.std.proofs.Common.{Result, Option, Ok, Err, None, ◌≡◌, refl, ◌∙◌}
+use Rattle.std.proofs.Common.{Result, Option, Ok, Err, ◌≡◌, refl, ◌∙◌}
 use Rattle.um_base.specs.declared.memory.Memory.{Memory}
 use Rattle.std.specs.Prelude.{IfOk}
 use Rattle.um_document.specs.declared.place.Place.{Place}

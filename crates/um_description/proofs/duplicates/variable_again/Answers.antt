@@ -1,6 +1,6 @@
 use Rattle.std.proofs.Common.{arith, map}
 use Rattle.um_description.specs.Duplicates.{added}
-use Rattle.um_description.proofs.AgainLemmas.{variable_name, variable_step, variable_here, variable_added_step}
+use Rattle.um_description.proofs.AgainLemmas.{variable_name, variable_step, variable_added_step}
 use Rattle.um_description.proofs.duplicates.variable_again.Goals as goal
 
 pub loop-variable-preserved : goal.loop-variable-preserved

@@ -1,9 +1,12 @@
-use Rattle.std.proofs.Common.{sym, ◌∙◌}
+use Rattle.std.proofs.Common.{sym, rules, ◌∙◌}
 use Rattle.um_description.proofs.KindLemmas.{entries_in_limits, entry_means, line_means, image_told}
 use Rattle.um_description.proofs.kinds.meaning.Goals as goal
 
 pub image_or_flaw-requires : goal.image_or_flaw-requires
-image_or_flaw-requires c = entries_in_limits c.args.d.now (sym c.in_default.is ∙ c.in_ok-flaw.ensures)
+image_or_flaw-requires c = record {
+  read = search rules;
+  limits = entries_in_limits c.args.d.now (sym c.in_default.is ∙ c.in_ok-flaw.ensures);
+}
 
 pub returns-in-Some-clause-value : goal.returns-in-Some-clause-value
 returns-in-Some-clause-value c = entry_means c.args.d.now (sym c.in-Some.is ∙ c.in_ok-flaw.ensures)

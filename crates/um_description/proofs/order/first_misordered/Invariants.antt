@@ -6,6 +6,6 @@ use Rattle.um_description.proofs.order.first_misordered.Given as goal
 
 abbrev pub invariant-loop-script : goal.invariant-loop-script
 invariant-loop-script l = record {
-  rest : first_of (each (misordered_script l.d) l.index (drop l.script-index l.script-items)) ≡ first_of (each (misordered_script l.d) 0 l.d.scripts);
+  rest : first_of (each (misordered_script l.d) l.index (drop l.script-index l.scripts)) ≡ first_of (each (misordered_script l.d) 0 l.d.scripts);
   index : l.index ≡ l.script-index;
 }
