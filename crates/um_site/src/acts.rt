@@ -7,6 +7,7 @@ use um_base::{Act, Event, ThreadIx};
 use um_words::{FineAct, More};
 
 /// The step that shows this act of a thread.
+#[inline(always)]
 pub fn shown(by: ThreadIx, act: Act) -> FineAct
     ensures { result ≡ shown by act }
 {

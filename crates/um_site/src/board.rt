@@ -89,6 +89,7 @@ impl<T: Content, L: Local> Board<T, L> {
     }
 
     /// Where `seen` still stands at the site, `word` takes its place. The word that stood there is given.
+    #[inline(always)]
     fn exchange<D: Step>(
         &self,
         seat: &mut Seat<T>,
@@ -114,6 +115,7 @@ impl<T: Content, L: Local> Board<T, L> {
     }
 
     /// One recorded step of a row, of a thread or of a domain. It gives its number, or the word that stands where that isn't `seen`.
+    #[inline(always)]
     pub fn step(
         &self,
         seat: &mut Seat<T>,

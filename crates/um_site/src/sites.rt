@@ -31,6 +31,7 @@ pub fn domain_site(domain: u8) -> u16
 
 impl<T: Content, L: Local> Board<T, L> {
     /// One recorded step of a row.
+    #[inline(always)]
     pub fn step_row(
         &self,
         seat: &mut Seat<T>,
@@ -56,6 +57,7 @@ impl<T: Content, L: Local> Board<T, L> {
     }
 
     /// One recorded step of a thread.
+    #[inline(always)]
     pub fn step_thread(
         &self,
         seat: &mut Seat<T>,
@@ -82,6 +84,7 @@ impl<T: Content, L: Local> Board<T, L> {
     }
 
     /// One recorded step of a domain.
+    #[inline(always)]
     pub fn step_domain(
         &self,
         seat: &mut Seat<T>,

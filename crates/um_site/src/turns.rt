@@ -44,6 +44,7 @@ impl<T: Content, L: Local> Board<T, L> {
     }
 
     /// Records a step of the cell whose turn the seat has, and gives the turn back with what stands in its slot.
+    #[inline(always)]
     pub fn record<D: Step>(&self, seat: &mut Seat<T>, made: &Made)
         requires here { seat.old.token.table_id ≡ self.now.table.shared.table_id }
         requires site { made.now.site < self.now.table.shared.table_id.words }

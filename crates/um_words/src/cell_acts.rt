@@ -14,6 +14,7 @@ use um_base::{Act, THREADS};
 /// The greatest step number: there the word takes no step.
 const LAST: u32 = 0xfff_ffff;
 
+#[inline(always)]
 fn is_object_act(act: &FineAct) -> bool
     ensures { result ≡ object_takes act.now }
 {
@@ -27,6 +28,7 @@ fn is_object_act(act: &FineAct) -> bool
     }
 }
 
+#[inline(always)]
 fn is_parts_act(act: &FineAct) -> bool
     ensures { result ≡ parts_takes act.now }
 {
@@ -36,6 +38,7 @@ fn is_parts_act(act: &FineAct) -> bool
     }
 }
 
+#[inline(always)]
 fn is_memory_act(act: &FineAct) -> bool
     ensures { result ≡ memory_takes act.now }
 {
@@ -56,6 +59,7 @@ fn is_memory_act(act: &FineAct) -> bool
     }
 }
 
+#[inline(always)]
 fn is_heap_act(act: &FineAct) -> bool
     ensures { result ≡ heap_takes act.now }
 {
@@ -69,6 +73,7 @@ fn is_heap_act(act: &FineAct) -> bool
     }
 }
 
+#[inline(always)]
 fn is_resume(act: &Act) -> bool
     ensures { result ≡ is_resume act.now }
 {
@@ -91,6 +96,7 @@ impl CellWord {
         (self.ready as usize) < THREADS
     }
 
+    #[inline(always)]
     fn schedules_unseen(&self, unseen: &Unseen) -> bool
         ensures { result ≡ scheduler_takes_unseen self.now unseen.now }
     {
@@ -103,6 +109,7 @@ impl CellWord {
         }
     }
 
+    #[inline(always)]
     fn schedules(&self, act: &FineAct) -> bool
         ensures { result ≡ scheduler_takes self.now act.now }
     {
@@ -112,6 +119,7 @@ impl CellWord {
         }
     }
 
+    #[inline(always)]
     fn takes(&self, kind: CellKind, act: &FineAct) -> bool
         ensures { result ≡ word_takes kind self.now act.now }
     {
@@ -149,6 +157,7 @@ impl CellWord {
         self.running -= 1;
     }
 
+    #[inline(always)]
     fn schedule_unseen(&mut self, unseen: &Unseen)
         requires { IsTrue (scheduler_takes_unseen self.old unseen.now) }
         ensures { self.new ≡ scheduler_after_unseen self.old unseen.now }
@@ -166,6 +175,7 @@ impl CellWord {
         }
     }
 
+    #[inline(always)]
     fn schedule(&mut self, act: &FineAct)
         requires { IsTrue (scheduler_takes self.old act.now) }
         ensures { self.new ≡ scheduler_after self.old act.now }
@@ -176,6 +186,7 @@ impl CellWord {
         }
     }
 
+    #[inline(always)]
     fn take(&mut self, kind: CellKind, act: &FineAct)
         requires { IsTrue (word_takes kind self.old act.now) }
         ensures { self.new ≡ word_after kind self.old act.now }
@@ -200,6 +211,7 @@ impl CellWord {
 }
 
 /// The word that a lawful step leaves, and nothing where the step isn't lawful.
+#[inline(always)]
 pub fn cell_step(kind: CellKind, word: u64, act: &FineAct) -> Option<u64>
     ensures { MatchOption result ((next : ℕ) → CellStep kind word act.now next → ⊥) (λ next. CellStep kind word act.now next) }
 {

@@ -12,6 +12,7 @@ use um_base::{Act, Reply};
 /// The greatest step number: there the word takes no step.
 const LAST: u32 = 0xfff_ffff;
 
+#[inline(always)]
 fn is_zero(reply: &Reply) -> bool
     ensures { result ≡ is_zero reply.now }
 {
@@ -46,6 +47,7 @@ impl DomWord {
         self.readers -= 1;
     }
 
+    #[inline(always)]
     fn takes_act(&self, act: &Act) -> bool
         ensures { result ≡ domain_takes_act self.now act.now }
     {
@@ -56,6 +58,7 @@ impl DomWord {
         }
     }
 
+    #[inline(always)]
     fn takes_unseen(&self, unseen: &Unseen) -> bool
         ensures { result ≡ domain_takes_unseen self.now unseen.now }
     {
@@ -67,6 +70,7 @@ impl DomWord {
         }
     }
 
+    #[inline(always)]
     fn takes(&self, act: &FineAct) -> bool
         ensures { result ≡ domain_takes self.now act.now }
     {
@@ -76,6 +80,7 @@ impl DomWord {
         }
     }
 
+    #[inline(always)]
     fn take_act(&mut self, act: &Act)
         requires { IsTrue (domain_takes_act self.old act.now) }
         ensures { self.new ≡ domain_after_act self.old act.now }
@@ -88,6 +93,7 @@ impl DomWord {
         }
     }
 
+    #[inline(always)]
     fn take_unseen(&mut self, unseen: &Unseen)
         requires { IsTrue (domain_takes_unseen self.old unseen.now) }
         ensures { self.new ≡ domain_after_unseen self.old unseen.now }
@@ -100,6 +106,7 @@ impl DomWord {
         }
     }
 
+    #[inline(always)]
     fn take(&mut self, act: &FineAct)
         requires { IsTrue (domain_takes self.old act.now) }
         ensures { self.new ≡ domain_after self.old act.now }
@@ -124,6 +131,7 @@ impl DomWord {
 }
 
 /// The word that a lawful step leaves, and nothing where the step isn't lawful.
+#[inline(always)]
 pub fn domain_step(word: u64, act: &FineAct) -> Option<u64>
     ensures { MatchOption result ((next : ℕ) → DomainStep word act.now next → ⊥) (λ next. DomainStep word act.now next) }
 {

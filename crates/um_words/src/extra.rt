@@ -6,6 +6,7 @@ ghost use Rattle.um_words.specs.Extra.{mode_in, has_kind_in, strict_in, starts_i
 use crate::fine::More;
 use um_base::Mode;
 
+#[inline(always)]
 pub fn mode(more: &More) -> Mode
     ensures { result ≡ mode_in more.now }
 {
@@ -15,6 +16,7 @@ pub fn mode(more: &More) -> Mode
     }
 }
 
+#[inline(always)]
 pub fn has_kind(more: &More) -> bool
     ensures { result ≡ has_kind_in more.now }
 {
@@ -24,6 +26,7 @@ pub fn has_kind(more: &More) -> bool
     }
 }
 
+#[inline(always)]
 pub fn is_strict(more: &More) -> bool
     ensures { result ≡ strict_in more.now }
 {
@@ -33,6 +36,7 @@ pub fn is_strict(more: &More) -> bool
     }
 }
 
+#[inline(always)]
 pub fn starts(more: &More) -> u8
     ensures { result ≡ starts_in more.now }
 {

@@ -25,6 +25,7 @@ pub trait Local {
 }
 
 /// The word that a lawful step leaves at the site, and nothing where the step isn't lawful there.
+#[inline(always)]
 pub fn word_step(site: u16, word: u64, act: &FineAct) -> Option<u64>
     ensures counts { IfSome result (λ next. number site next ≡ number site word + 1) }
     ensures step { MatchOption result ((next : ℕ) → WordMay site word act.now next → ⊥) (λ next. WordMay site word act.now next) }
@@ -43,6 +44,7 @@ pub struct AnyStep;
 impl Local for AnyStep {
     ghost goes = { λ image name list made. Unit {0} };
 
+    #[inline(always)]
     fn step(site: u16, word: u64, act: &FineAct) -> Option<u64> {
         word_step(site, word, act)
     }

@@ -14,6 +14,7 @@ use um_base::{Act, SetSaid};
 const LAST: u32 = 0xf_ffff;
 
 impl RowWord {
+    #[inline(always)]
     fn takes_act(&self, thread: u8, act: &Act) -> bool
         ensures { result ≡ row_takes_act self.now thread act.now }
     {
@@ -29,6 +30,7 @@ impl RowWord {
         }
     }
 
+    #[inline(always)]
     fn takes_unseen(&self, unseen: &Unseen) -> bool
         ensures { result ≡ row_takes_unseen self.now unseen.now }
     {
@@ -41,6 +43,7 @@ impl RowWord {
     }
 
     /// Whether it takes the step.
+    #[inline(always)]
     fn takes(&self, act: &FineAct) -> bool
         ensures { result ≡ row_takes self.now act.now }
     {
@@ -51,6 +54,7 @@ impl RowWord {
     }
 
     /// Whether the answers in the act are those that the word gives.
+    #[inline(always)]
     fn agrees_act(&self, thread: u8, more: &More, act: &Act) -> bool
         ensures { IsTrue result ↔ (row_says_act self.now thread more.now act.now ≡ act.now) }
     {
@@ -67,6 +71,7 @@ impl RowWord {
         }
     }
 
+    #[inline(always)]
     fn agrees(&self, act: &FineAct) -> bool
         ensures { IsTrue result ↔ (row_says self.now act.now ≡ act.now) }
     {
@@ -76,6 +81,7 @@ impl RowWord {
         }
     }
 
+    #[inline(always)]
     fn take_act(&mut self, thread: u8, act: &Act)
         requires { IsTrue (row_takes_act self.old thread act.now) }
         ensures { self.new ≡ row_after_act self.old thread act.now }
@@ -110,6 +116,7 @@ impl RowWord {
         }
     }
 
+    #[inline(always)]
     fn take_unseen(&mut self, unseen: &Unseen)
         requires { IsTrue (row_takes_unseen self.old unseen.now) }
         ensures { self.new ≡ row_after_unseen self.old unseen.now }
@@ -121,6 +128,7 @@ impl RowWord {
         }
     }
 
+    #[inline(always)]
     fn take(&mut self, act: &FineAct)
         requires { IsTrue (row_takes self.old act.now) }
         ensures { self.new ≡ row_after self.old act.now }
@@ -133,6 +141,7 @@ impl RowWord {
 }
 
 /// The word that a lawful step leaves, and nothing where the step isn't lawful.
+#[inline(always)]
 pub fn row_step(word: u64, act: &FineAct) -> Option<u64>
     ensures { MatchOption result ((next : ℕ) → RowStep word act.now next → ⊥) (λ next. RowStep word act.now next) }
 {

@@ -26,6 +26,7 @@ impl ThreadWord {
         }
     }
 
+    #[inline(always)]
     fn takes_act(&self, more: &More, act: &Act) -> bool
         ensures { result ≡ thread_takes_act self.now more.now act.now }
     {
@@ -42,6 +43,7 @@ impl ThreadWord {
         }
     }
 
+    #[inline(always)]
     fn takes_unseen(&self, unseen: &Unseen) -> bool
         ensures { result ≡ thread_takes_unseen self.now unseen.now }
     {
@@ -53,6 +55,7 @@ impl ThreadWord {
         }
     }
 
+    #[inline(always)]
     fn takes(&self, act: &FineAct) -> bool
         ensures { result ≡ thread_takes self.now act.now }
     {
@@ -62,6 +65,7 @@ impl ThreadWord {
         }
     }
 
+    #[inline(always)]
     fn take_act(&mut self, more: &More, act: &Act)
         ensures { self.new ≡ thread_after_act self.old more.now act.now }
     {
@@ -79,6 +83,7 @@ impl ThreadWord {
         }
     }
 
+    #[inline(always)]
     fn take_unseen(&mut self, unseen: &Unseen)
         ensures { self.new ≡ thread_after_unseen self.old unseen.now }
     {
@@ -89,6 +94,7 @@ impl ThreadWord {
         }
     }
 
+    #[inline(always)]
     fn take(&mut self, act: &FineAct)
         ensures { self.new ≡ thread_after self.old act.now }
     {
@@ -112,6 +118,7 @@ impl ThreadWord {
 }
 
 /// Whether the answer in the act is the one that a thread's word gives.
+#[inline(always)]
 fn agrees_act(act: &Act) -> bool
     ensures { IsTrue result ↔ (thread_says_act act.now ≡ act.now) }
 {
@@ -121,6 +128,7 @@ fn agrees_act(act: &Act) -> bool
     }
 }
 
+#[inline(always)]
 fn agrees(act: &FineAct) -> bool
     ensures { IsTrue result ↔ (thread_says act.now ≡ act.now) }
 {
@@ -131,6 +139,7 @@ fn agrees(act: &FineAct) -> bool
 }
 
 /// The word that a lawful step leaves, and nothing where the step isn't lawful.
+#[inline(always)]
 pub fn thread_step(word: u64, act: &FineAct) -> Option<u64>
     ensures { MatchOption result ((next : ℕ) → ThreadStep word act.now next → ⊥) (λ next. ThreadStep word act.now next) }
 {

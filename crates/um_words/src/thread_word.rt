@@ -1,6 +1,6 @@
 //! The word of a thread index.
 
-ghost use Rattle.std.specs.Prelude.{◌≡◌, Some, IfSome, not};
+ghost use Rattle.std.specs.Prelude.{◌≡◌, ◌<◌, Some, IfSome, not};
 ghost use Rattle.um_machine.specs.State.{is_user};
 ghost use Rattle.um_words.specs.Packed.{FitsThread, packed_thread, thread_of};
 
@@ -31,13 +31,16 @@ fn life_code(life: Life) -> u64
     }
 }
 
+/// The life of a code. Of three codes alone it is the code itself, which takes no instruction.
 fn life_of(code: u64) -> Life
+    requires { code < 3 }
     ensures { result ≡ Rattle.um_words.specs.Packed.life_of code }
 {
     match code {
         0 => Life::Unborn,
         1 => Life::Living,
-        _ => Life::Ended,
+        2 => Life::Ended,
+        _ => unreachable!(),
     }
 }
 
