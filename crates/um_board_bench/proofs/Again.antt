@@ -2,7 +2,7 @@
 use Rattle.std.proofs.Common.{◌≡◌, ℕ, true, false, cond, List, [], ◌∷◌, ◌++◌, refl, sym, ap, ◌∙◌, append-nil}
 use Rattle.um_site.specs.declared.view.View.{View}
 use Rattle.um_site.specs.History.{splitter, newborn, child, without, joiner}
-use Rattle.um_site.specs.Sublists.{same_name}
+use Rattle.um_words.specs.Sublists.{same_name}
 use Rattle.um_site.proofs.Sublists.{same_itself}
 
 pub again : (v s o a b r : View) → s ≡ splitter v → o ≡ newborn v → a.name ≡ s.name → a.children ≡ s.children → b.name ≡ o.name → b.children ≡ o.children → r ≡ joiner a b → (r.name ≡ v.name) × (r.children ≡ v.children)

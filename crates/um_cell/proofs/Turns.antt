@@ -6,7 +6,7 @@ use Rattle.um_words.specs.declared.fine.FineAct.{FineAct}
 use Rattle.um_words.specs.declared.made.Made.{Made}
 use Rattle.um_words.specs.declared.made.Moved.{Moved}
 use Rattle.um_site.specs.declared.view.View.{View}
-use Rattle.um_site.specs.History.{by_site}
+use Rattle.um_words.specs.History.{by_site}
 use Rattle.um_site.specs.Cells.{ContentsAre}
 use Rattle.um_site.specs.Tells.{HasTurn, Took, taking}
 

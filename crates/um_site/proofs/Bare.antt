@@ -1,14 +1,14 @@
 -- A site's word without the turn of a cell.
-use Rattle.std.proofs.Common.{◌≡◌, ℕ, ◌+◌, ◌-◌, ◌%◌, ◌/◌, ◌<◌, ◌≤◌, Bool, true, false, ⊎_elim, refl, sym, ap, ◌∙◌, arith}
+use Rattle.std.proofs.Common.{◌≡◌, ℕ, ◌-◌, ◌%◌, ◌/◌, ◌<◌, ◌≤◌, true, false, sym, ap, ◌∙◌, arith}
 use Rattle.std.specs.Prelude.{nat_lt, if◌then◌else◌}
 use Rattle.std.proofs.lemmas.Bool.Decides.{nat_tests}
 use mathlib.Core.Logic.{dite}
 use native.Mathlib.Decide.{dec_le}
 use Rattle.um_words.specs.declared.kind.WordKind.{WordKind}
 use Rattle.um_words.specs.declared.fine.FineAct.{FineAct}
-use Rattle.um_words.specs.Steps.{cell_kind_at, kind_at, number_in, number, WordMay}
+use Rattle.um_words.specs.Steps.{cell_kind_at, number_in, number, WordMay}
 use Rattle.um_words.specs.WordFacts.{free-turns}
-use Rattle.um_site.specs.History.{bare}
+use Rattle.um_words.specs.History.{bare}
 
 pub bare-low : (i w : ℕ) → i < 168 → bare i w ≡ w
 bare-low i w h = let e : nat_lt i 168 ≡ true = grind (arith, nat_tests) in ap (λ b. if b then w else w - w % 2) e

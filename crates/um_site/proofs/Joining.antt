@@ -4,13 +4,14 @@ use mathlib.Core.Logic.{dite}
 use mathlib.Core.Option.{some, some-injective, some-ne-none}
 use native.Mathlib.Decide.{ℕ_discrete}
 use lib.ListN.{get_elem?}
-use Rattle.atomic_table.proofs.Lists.{at_set, at_longer, set_again, set_here, set_else}
-use Rattle.um_site.specs.Sublists.{same_name}
+use Rattle.atomic_table.proofs.Lists.{at_set, at_longer, set_here, set_else}
+use Rattle.um_words.specs.Sublists.{same_name}
 use Rattle.um_site.proofs.Sublists.{same_sound, same_itself}
 use Rattle.um_words.specs.declared.made.Made.{Made}
 use Rattle.um_base.specs.declared.image.Image.{Image}
 use Rattle.um_site.specs.declared.view.View.{View}
-use Rattle.um_site.specs.History.{Entry, by_seat, Among, Distinct, Has, Later, Owns, Apart, Told, Fresh, IsHistory, Knows, Tidy, AllApart, Somewhere, AmongNames, without, Kept, child, splitter, newborn, joiner, spent, shadow_of, IsClosed}
+use Rattle.um_words.specs.History.{Entry, by_seat}
+use Rattle.um_site.specs.History.{Among, Distinct, Has, Later, Owns, Apart, Told, Fresh, Knows, Tidy, AllApart, Somewhere, AmongNames, without, Kept, child, splitter, newborn, joiner, spent, shadow_of}
 use Rattle.um_site.proofs.Keeps.{in_range, apart_set, tidy_set, somewhere_set, owned_set}
 
 -- a list with one more element, read at a place

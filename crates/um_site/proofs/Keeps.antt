@@ -6,7 +6,7 @@ use mathlib.Core.Option.{some, some-injective, some-ne-none}
 use native.Mathlib.Decide.{ℕ_discrete}
 use lib.ListN.{get_elem?}
 use Rattle.atomic_table.proofs.Lists.{at_set, set_here, set_else}
-use Rattle.um_site.specs.Sublists.{RunsBy, sub, same_name}
+use Rattle.um_words.specs.Sublists.{RunsBy, sub, same_name}
 use Rattle.um_words.specs.WordFacts.{counts}
 use Rattle.um_words.specs.Steps.{WordMay, number}
 use Rattle.um_site.proofs.Bare.{bare-number, bare-even, may-bare}
@@ -15,7 +15,8 @@ use Rattle.um_words.specs.declared.made.Made.{Made}
 use Rattle.um_base.specs.declared.image.Image.{Image}
 use Rattle.um_site.specs.declared.turn.Turn.{Turn}
 use Rattle.um_site.specs.declared.view.View.{View}
-use Rattle.um_site.specs.History.{Entry, made_of, is_by, is_at, by_seat, by_site, Words, Among, Has, Owns, Told, Fresh, IsHistory, Knows, Tidy, AllTidy, AllApart, Somewhere, AllOwned, AmongNames, Kept, Numbers, bare, opening_view, with_cells}
+use Rattle.um_words.specs.History.{Entry, made_of, is_by, is_at, by_seat, by_site, Words, IsHistory, Numbers, bare}
+use Rattle.um_site.specs.History.{Among, Has, Owns, Told, Fresh, Knows, Tidy, AllTidy, AllApart, Somewhere, AllOwned, AmongNames, Kept, opening_view, with_cells}
 use Rattle.um_site.specs.Tells.{with_got, with_made, NoOlder, GoesOn, Looked}
 
 -- the sublists of a history with one more step

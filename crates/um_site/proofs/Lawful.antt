@@ -1,10 +1,10 @@
 -- A lawful step of a row, of a thread or of a domain is one of its site.
-use Rattle.std.proofs.Common.{◌≡◌, ℕ, ◌+◌, ◌<◌, Bool, true, false, Some, None, refl, sym, ap, ◌∙◌, arith, subst}
+use Rattle.std.proofs.Common.{◌≡◌, ℕ, ◌<◌, Bool, true, false, Some, None, refl, sym, ap, arith, subst}
 use Rattle.std.specs.Prelude.{nat_lt, if◌then◌else◌, IsTrue}
 use Rattle.std.proofs.lemmas.Bool.Decides.{nat_tests}
 use Rattle.um_words.specs.declared.fine.FineAct.{FineAct}
 use Rattle.um_words.specs.declared.kind.WordKind.{WordKind}
-use Rattle.um_words.specs.Packed.{row_of, packed_row, is_thread, thread_in, thread_of, packed_thread, is_domain, domain_in, domain_of, packed_domain}
+use Rattle.um_words.specs.Packed.{row_of, packed_row, is_thread, thread_in, packed_thread, is_domain, domain_in, packed_domain}
 use Rattle.um_words.specs.Rows.{row_takes, row_says, row_after, counted_row}
 use Rattle.um_words.specs.Threads.{thread_takes, thread_says, thread_after, counted_thread}
 use Rattle.um_words.specs.Domains.{domain_takes, domain_after, counted_domain}

@@ -1,5 +1,5 @@
 -- An object is cleaned once in each life.
-use Rattle.std.proofs.Common.{◌≡◌, ℕ, zero, suc, ◌+◌, ◌-◌, ◌<◌, ◌≤◌, ◌%◌, Bool, true, false, not, List, [], ◌∷◌, ◌++◌, length, Option, Some, None, refl, sym, ap, ◌∙◌, arith, subst, slice_index_or, slice_set, slice_index}
+use Rattle.std.proofs.Common.{◌≡◌, ℕ, zero, suc, ◌+◌, ◌-◌, ◌<◌, ◌≤◌, ◌%◌, Bool, true, false, not, List, [], ◌∷◌, ◌++◌, Some, None, refl, sym, ap, ◌∙◌, arith, subst, slice_index_or, slice_set, slice_index}
 use Rattle.std.specs.Prelude.{◌==◌, ◌&&◌, nat_lt, if◌then◌else◌, IsTrue}
 use Rattle.std.specs.List.{list_all}
 use Rattle.std.proofs.lemmas.Bool.Decides.{nat_tests}
@@ -20,9 +20,9 @@ use Rattle.um_words.specs.RowFacts.{row-keeps, row-fits}
 use Rattle.um_words.specs.Steps.{StepIn, RowStep, WordMay}
 use Rattle.um_base.specs.declared.image.Image.{Image}
 use Rattle.um_site.specs.declared.view.View.{View}
-use Rattle.um_site.specs.History.{Words, by_site, bare}
+use Rattle.um_words.specs.History.{Words, by_site, bare}
 use Rattle.um_site.specs.Tells.{with_made}
-use Rattle.um_site.specs.Lives.{IsBare, IsSoundAt, IsSound, stage, begins_cleaning, is_vacate, is_birth_act, is_birth, cleanings, vacates, births, word_after, AreSound, IsCleanedOnce, CleansOnce, begins_at, ends_at, cleans_after, Cleans}
+use Rattle.um_site.specs.Lives.{IsSoundAt, IsSound, stage, begins_cleaning, is_vacate, is_birth_act, is_birth, cleanings, vacates, births, word_after, AreSound, IsCleanedOnce, CleansOnce, begins_at, ends_at, cleans_after, Cleans}
 use Rattle.um_site.proofs.Lawful.{at-row}
 
 -- The row that a step leaves.

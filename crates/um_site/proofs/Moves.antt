@@ -1,12 +1,12 @@
 -- Each step on a board keeps the board's rule, and tells what it has to.
-use Rattle.std.proofs.Common.{◌≡◌, ◌≢◌, ℕ, zero, suc, ◌+◌, ◌-◌, ◌*◌, ◌/◌, ◌%◌, ◌^◌, ◌<◌, ◌≤◌, true, false, eqb, cond, List, [], ◌∷◌, ◌++◌, ◌⊎◌, inl, inr, ⊎_elim, Option, Some, None, map, length, get_or, set, sym, refl, ap, ◌∙◌, subst, arith, eq-eqb, ne_eqb}
+use Rattle.std.proofs.Common.{◌≡◌, ◌≢◌, ℕ, ◌+◌, ◌-◌, ◌*◌, ◌/◌, ◌%◌, ◌^◌, ◌<◌, ◌≤◌, true, false, eqb, cond, List, [], ◌∷◌, ◌++◌, ◌⊎◌, inr, ⊎_elim, Option, Some, None, map, length, get_or, set, sym, refl, ap, ◌∙◌, subst, arith, eq-eqb, ne_eqb}
 use Rattle.std.proofs.lemmas.List.{set-get_or, length-map}
 use Rattle.std.proofs.lemmas.Nat.{or_block}
 use Rattle.std.specs.Prelude.{bit_or, replicate}
 use Rattle.std.specs.Int.Bits.{or_zero_r as or_nought}
 use prog.Atomic.{either}
 use mathlib.Core.Logic.{dite}
-use mathlib.Core.Option.{some, none, some-injective}
+use mathlib.Core.Option.{some, none}
 use native.Mathlib.Decide.{ℕ_discrete}
 use lib.ListN.{get_elem?}
 use Rattle.atomic_table.specs.Table.{State, Me, step, keeps, takes, gives, stepped, Allows, Splits, Joins, Final, Seen}
@@ -19,15 +19,16 @@ use Rattle.um_words.specs.WordFacts.{counts, free-turns}
 use Rattle.um_base.specs.declared.image.Image.{Image}
 use Rattle.um_site.specs.declared.turn.Turn.{Turn}
 use Rattle.um_site.specs.declared.view.View.{View}
-use Rattle.um_site.specs.Sublists.{same_name, sub}
-use Rattle.um_site.specs.History.{Entry, made_of, is_at, is_by, by_seat, by_site, bare, Among, Told, Has, IsHistory, Knows, Tidy, Kept, AmongNames, with_cells, opening_view, splitter, newborn, joiner, spent, shadow_of, IsClosed}
-use Rattle.um_site.specs.Cells.{AmongCells, IsTurn, Follow, ContentsAre, CellsAre, Rule, NoSteps, NoneOfThem}
-use Rattle.um_site.specs.Tells.{with_got, with_made, GoesOn, Looked, looked, stepped_by, taking, recording, returning, Took, took, reached, recorded_by, returned}
-use Rattle.um_site.proofs.Sublists.{same_itself, name_cases}
+use Rattle.um_words.specs.Sublists.{same_name, sub}
+use Rattle.um_words.specs.History.{Entry, made_of, is_at, is_by, by_seat, by_site, bare, IsHistory}
+use Rattle.um_site.specs.History.{Among, Told, Has, Knows, Tidy, AmongNames, opening_view, splitter, newborn, joiner, spent, shadow_of, IsClosed}
+use Rattle.um_site.specs.Cells.{AmongCells, Follow, ContentsAre, CellsAre, Rule, NoSteps, NoneOfThem}
+use Rattle.um_site.specs.Tells.{with_got, with_made, GoesOn, Looked, looked, stepped_by, taking, recording, returning, took, reached, recorded_by, returned}
+use Rattle.um_site.proofs.Sublists.{same_itself}
 use Rattle.um_site.proofs.Bare.{bare-low, bare-high, bare-even, bare-number}
 use Rattle.um_site.proofs.Keeps.{own_words, look_tells, turn_keeps, step_keeps, no_older, words_numbers, by_site_here, by_site_else, opens as board_opens, only_first}
 use Rattle.um_site.proofs.Joining.{split_keeps, join_keeps, shadow_keeps, all_told, alone, no_items}
-use Rattle.um_site.proofs.Transfers.{IsAlike, alike_same, alike_split, alike_join, alike_shadow, no_turn, cells_alike, cells_elsewhere}
+use Rattle.um_site.proofs.Transfers.{alike_same, alike_split, alike_join, alike_shadow, no_turn, cells_alike, cells_elsewhere}
 use Rattle.um_site.proofs.TurnCells.{same_turn, take_cells, give_cells}
 
 -- what the turn bit's fetch_or leaves

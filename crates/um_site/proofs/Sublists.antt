@@ -2,7 +2,7 @@
 use Rattle.std.proofs.Common.{◌≡◌, ℕ, Bool, true, false, cond, eqb, List, [], ◌∷◌, ◌++◌, ◌⊎◌, inl, inr, sym, refl, ap, ◌∙◌, subst, append_assoc, append-nil, eq-eqb}
 use Rattle.std.proofs.lemmas.Bool.{eqb-true}
 use mathlib.Core.Bool.{◌&&◌}
-use Rattle.um_site.specs.Sublists.{RunsBy, sub, same_name}
+use Rattle.um_words.specs.Sublists.{RunsBy, sub, same_name}
 
 pub same_itself : (n : List ℕ) → same_name n n ≡ true
 same_itself [] = refl

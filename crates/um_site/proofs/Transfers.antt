@@ -1,5 +1,5 @@
 -- The cells of a board stay as they are where views change, but for turns and cells that are filled, and where another site's word changes.
-use Rattle.std.proofs.Common.{◌≡◌, ◌≢◌, ℕ, zero, suc, ◌+◌, ◌%◌, ◌<◌, ◌≤◌, true, false, List, [], ◌∷◌, ◌++◌, ◌⊎◌, inl, inr, ⊎_elim, Option, Some, None, length, get_or, set, sym, refl, ap, ◌∙◌, subst, arith, length-set, get_or-set_other}
+use Rattle.std.proofs.Common.{◌≡◌, ℕ, ◌+◌, ◌%◌, ◌<◌, ◌≤◌, true, List, [], ◌∷◌, ◌++◌, ◌⊎◌, inl, inr, ⊎_elim, Option, Some, None, get_or, set, sym, refl, ap, ◌∙◌, subst, arith, length-set, get_or-set_other}
 use mathlib.Core.Logic.{dite}
 use mathlib.Core.Option.{some, some-injective}
 use mathlib.Core.Option as found
@@ -12,8 +12,9 @@ use Rattle.um_words.specs.declared.made.Moved.{Moved}
 use Rattle.um_base.specs.declared.image.Image.{Image}
 use Rattle.um_site.specs.declared.turn.Turn.{Turn}
 use Rattle.um_site.specs.declared.view.View.{View}
-use Rattle.um_site.specs.History.{Entry, by_site, splitter, newborn, joiner, spent, shadow_of}
-use Rattle.um_site.specs.Cells.{AmongCells, IsTurn, ContentsAre, CellsAre}
+use Rattle.um_words.specs.History.{Entry, by_site}
+use Rattle.um_site.specs.History.{splitter, newborn, joiner, spent, shadow_of}
+use Rattle.um_site.specs.Cells.{AmongCells, ContentsAre, CellsAre}
 use Rattle.um_site.proofs.Keeps.{in_range, by_site_else}
 use Rattle.um_site.proofs.Joining.{at_end}
 

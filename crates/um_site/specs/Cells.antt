@@ -1,5 +1,5 @@
 -- The cells of a board: sites from 168 on, of which the site 168 + k has its contents in the slot k while nobody has its turn.
-use Rattle.std.specs.Prelude.{◌≡◌, ◌≢◌, ℕ, ◌+◌, ◌-◌, ◌%◌, ◌<◌, ◌≤◌, ◌⊎◌, true, List, [], ◌∷◌, length, slice_index, Option, Some}
+use Rattle.std.specs.Prelude.{◌≡◌, ◌≢◌, ℕ, ◌+◌, ◌%◌, ◌<◌, ◌≤◌, ◌⊎◌, true, List, [], ◌∷◌, length, slice_index, Option, Some}
 use mathlib.Core.Option as found
 use mathlib.Core.Option.{some}
 use lib.ListN.{get_elem?}
@@ -9,7 +9,8 @@ use Rattle.um_words.specs.declared.made.Made.{Made}
 use Rattle.um_words.specs.declared.made.Moved.{Moved}
 use Rattle.um_site.specs.declared.turn.Turn.{Turn}
 use Rattle.um_site.specs.declared.view.View.{View}
-use Rattle.um_site.specs.History.{Entry, by_site, Kept}
+use Rattle.um_words.specs.History.{Entry, by_site}
+use Rattle.um_site.specs.History.{Kept}
 
 abbrev pub AmongCells : List ℕ → ℕ → Type 0
 AmongCells [] i = ⊥

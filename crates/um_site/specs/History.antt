@@ -1,43 +1,16 @@
--- The history of a board.
-use Rattle.std.specs.Prelude.{◌≡◌, ℕ, ◌+◌, ◌-◌, ◌%◌, ◌<◌, ◌≤◌, ◌⊎◌, Bool, true, false, cond, eqb, nat_lt, if◌then◌else◌, List, [], ◌∷◌, ◌++◌, map, length, slice_index, Option, None}
+-- What seats know of the history of a board.
+use Rattle.std.specs.Prelude.{◌≡◌, ℕ, ◌+◌, ◌<◌, ◌≤◌, ◌⊎◌, true, false, cond, List, [], ◌∷◌, ◌++◌, length, slice_index, Option, None}
 use mathlib.Core.Option.{some}
 use lib.ListN.{get_elem?}
-use Rattle.um_site.specs.Sublists.{RunsBy, sub, same_name}
-use Rattle.um_words.specs.Steps.{WordMay, number}
+use Rattle.um_words.specs.Sublists.{same_name}
+use Rattle.um_words.specs.History.{Entry, by_seat, IsHistory}
+use Rattle.um_words.specs.Steps.{number}
 use Rattle.um_words.specs.declared.made.Made.{Made}
 use Rattle.um_base.specs.declared.image.Image.{Image}
 use Rattle.um_base.specs.declared.names.Mpu.{Mpu}
 use Rattle.um_base.specs.declared.names.Policy.{Policy}
 use Rattle.um_site.specs.declared.turn.Turn.{Turn}
 use Rattle.um_site.specs.declared.view.View.{View}
-
--- a step with the name of the seat that made it
-abbrev pub Entry : Type 0
-Entry = List ℕ × Made
-
-abbrev pub made_of : Entry → Made
-made_of e = e.1
-
-abbrev pub is_by : List ℕ → Entry → Bool
-is_by n e = same_name e.0 n
-
-abbrev pub is_at : ℕ → Entry → Bool
-is_at i e = eqb e.1.site i
-
-abbrev pub by_seat : List ℕ → List Entry → List Made
-by_seat n h = map made_of (sub (is_by n) h)
-
-abbrev pub by_site : ℕ → List Entry → List Made
-by_site i h = map made_of (sub (is_at i) h)
-
--- a site's word without the turn of a cell, which no step counts
-abbrev pub bare : ℕ → ℕ → ℕ
-bare site w = if nat_lt site 168 then w else w - w % 2
-
--- the word goes from w by these steps, each lawful, to z
-abbrev pub Words : ℕ → ℕ → List Made → ℕ → Type 0
-Words i w [] z = w ≡ z
-Words i w (m ∷ ms) z = (WordMay i w m.act m.word) × Words i m.word ms z
 
 -- the names under which lists stand in a view
 abbrev pub Among : List (List ℕ × List Made) → List ℕ → Type 0
@@ -74,20 +47,6 @@ Told h (e ∷ es) = (by_seat e.0 h ≡ e.1) × Told h es
 abbrev pub Fresh : List ℕ → List (ℕ × ℕ) → Type 0
 Fresh words [] = Unit {0}
 Fresh words (e ∷ es) = (number e.0 e.1 ≤ number e.0 (slice_index words e.0)) × Fresh words es
-
--- the step numbers of a site's steps go on from n without a gap
-abbrev pub Numbers : ℕ → ℕ → List Made → Type 0
-Numbers i n [] = Unit {0}
-Numbers i n (m ∷ ms) = (number i m.word ≡ n + 1) × Numbers i (n + 1) ms
-
--- The history of a board from these opening words, as a fact of its sublists alone: each site's words go by lawful steps to the word that stands, a cell's turn aside, its steps are numbered from 1 without a gap, and each seat's steps go
-pub record IsHistory (goes : List ℕ → List Made → Made → Type 0) (opening words : List ℕ) (h : List Entry) : Type 0 where
-  pub wide : length words ≡ length opening
-  pub opened : (i : ℕ) → i < length opening → number i (slice_index opening i) ≡ 0
-  pub inside : (i : ℕ) → length words ≤ i → by_site i h ≡ []
-  pub sites : (i : ℕ) → i < length words → Words i (slice_index opening i) (by_site i h) (bare i (slice_index words i))
-  pub numbers : (i : ℕ) → i < length words → Numbers i 0 (by_site i h)
-  pub seats : (n : List ℕ) → RunsBy (goes n) [] (by_seat n h)
 
 -- what a view that isn't spent has to do with the history
 pub record Knows (image : Image) (opening words : List ℕ) (h : List Entry) (v : View) : Type 0 where
@@ -186,3 +145,7 @@ shadow_of v = record v { live = false }
 -- the words of a board that was closed, and what the first seat has: one history, whose steps stand in the seat's lists and nowhere else
 abbrev pub IsClosed : (Image → List ℕ → List Made → Made → Type 0) → View → List ℕ → Type 0
 IsClosed goes v words = (h : List Entry) × IsHistory (goes v.image) v.opening words h × Knows v.image v.opening words h v × Tidy v × ((n : List ℕ) → (by_seat n h ≡ []) ⊎ Has v n)
+
+-- the fact holds of such a history
+abbrev pub IsClosedWithFact : (Image → List ℕ → List Made → Made → Type 0) → (Image → List ℕ → List Entry → Type 0) → View → List ℕ → Type 0
+IsClosedWithFact goes fact v words = (h : List Entry) × IsHistory (goes v.image) v.opening words h × Knows v.image v.opening words h v × fact v.image words h

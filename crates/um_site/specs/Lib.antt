@@ -1,4 +1,3 @@
-pub mod Sublists
 pub mod History
 pub mod Cells
 pub mod Tells

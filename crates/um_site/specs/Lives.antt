@@ -13,7 +13,7 @@ use Rattle.um_words.specs.Bits.{bit}
 use Rattle.um_words.specs.Packed.{row_of}
 use Rattle.um_words.specs.Rows.{is_live, is_cleaning}
 use Rattle.um_site.specs.declared.view.View.{View}
-use Rattle.um_site.specs.History.{Entry, by_site, IsHistory}
+use Rattle.um_words.specs.History.{Entry, by_site, IsHistory}
 
 -- Nobody has a permission on an object that doesn't stand. A dying one has claims, and one that is cleaned has none.
 

@@ -8,7 +8,8 @@ use Rattle.um_words.specs.declared.made.Moved.{Moved}
 use Rattle.um_base.specs.declared.image.Image.{Image}
 use Rattle.um_site.specs.declared.turn.Turn.{Turn}
 use Rattle.um_site.specs.declared.view.View.{View}
-use Rattle.um_site.specs.History.{Entry, by_site, IsHistory, Knows, with_cells}
+use Rattle.um_words.specs.History.{Entry, by_site, IsHistory}
+use Rattle.um_site.specs.History.{Knows, with_cells}
 use Rattle.um_site.specs.Cells.{ContentsAre}
 
 abbrev pub made : ℕ → FineAct → ℕ → Made
@@ -29,6 +30,10 @@ module _ (goes : Image → List ℕ → List Made → Made → Type 0) where
   -- one history stands, in which the seat has its steps; the site's word in it is w
   abbrev pub Stands : View → ℕ → ℕ → Type 0
   Stands v i w = (words : List ℕ) × (h : List Entry) × IsHistory (goes v.image) v.opening words h × Knows v.image v.opening words h v × (i < length words) × (slice_index words i ≡ w)
+
+  -- the same, and the fact holds of it
+  abbrev pub StandsWithFact : (Image → List ℕ → List Entry → Type 0) → View → ℕ → ℕ → Type 0
+  StandsWithFact fact v i w = (words : List ℕ) × (h : List Entry) × IsHistory (goes v.image) v.opening words h × Knows v.image v.opening words h v × fact v.image words h × (i < length words) × (slice_index words i ≡ w)
 
   -- one history stood, and goes on with the step
   abbrev pub GoesOn : View → Made → ℕ → Type 0

@@ -2,8 +2,8 @@
 
 ghost use Rattle.std.specs.Prelude.{◌≡◌, ◌≢◌, ℕ, ◌+◌, ◌%◌, ◌<◌, ◌≤◌, ◌^◌, true, false, [], length, slice_index, IfOk, IfErr, ◌⊎◌, MatchResult, Option, Some, None};
 ghost use Rattle.um_words.specs.Steps.{number, WordMay};
-ghost use Rattle.um_site.specs.Tells.{made, last_got, Looked, Steps, stepped_by};
-ghost use Rattle.um_site.specs.History.{opening_view, splitter, newborn, joiner, AmongNames, IsClosed, shadow_of};
+ghost use Rattle.um_site.specs.Tells.{made, last_got, Looked, StandsWithFact, Steps, stepped_by};
+ghost use Rattle.um_site.specs.History.{opening_view, splitter, newborn, joiner, AmongNames, IsClosed, IsClosedWithFact, shadow_of};
 ghost use Rattle.std.specs.Mem.Slots.{slots_items, slots_len, IsFull};
 ghost use Rattle.atomic_table.specs.Table.{step};
 ghost use mathlib.Core.Option.{none};
@@ -53,6 +53,7 @@ impl<T: Content, L: Local> Board<T, L> {
     ) -> Result<(Board<T, L>, Seat<T>), Memory>
         requires unstepped { (i : ℕ) → i < length words.items → number i (slice_index words.items i) ≡ 0 }
         requires turns { (i : ℕ) → 168 ≤ i → i < length words.items → slice_index words.items i % 2 ≡ 0 }
+        requires fact { L.fact image.now words.items [] }
         ensures same { IfOk result (λ r. r.1.token.table_id ≡ r.0.table.shared.table_id) }
         ensures sites { IfOk result (λ r. (r.0.table.shared.table_id.words ≡ length words.items) × (r.0.table.shared.table_id.slots ≡ slots)) }
         ensures opens { IfOk result (λ r. r.1.token.me.0 ≡ opening_view image.now words.items) }
@@ -82,6 +83,7 @@ impl<T: Content, L: Local> Board<T, L> {
         ensures slots { seat.new.token.me.1 ≡ seat.old.token.me.1 }
         ensures kin { (seat.new.token.me.0.name ≡ seat.old.token.me.0.name) × (seat.new.token.me.0.children ≡ seat.old.token.me.0.children) × (seat.new.token.me.0.turn ≡ seat.old.token.me.0.turn) × (seat.new.token.me.0.filled ≡ seat.old.token.me.0.filled) }
         ensures last { last_got seat.new.token.me.0.got site ≡ Some result }
+        ensures fact { L.fact seat.old.token.me.0.image seat.old.token.me.0.opening [] → StandsWithFact L.goes L.fact seat.old.token.me.0 site result }
     {
         self.table
             .shared
@@ -197,6 +199,7 @@ impl<T: Content, L: Local> Board<T, L> {
         requires here { seat.token.table_id ≡ self.table.shared.table_id }
         requires words { 0 < self.table.shared.table_id.words }
         ensures closed { IfOk result (λ c. (c.token.me.0 ≡ shadow_of seat.token.me.0) × IsFull c.table.words × IsClosed L.goes seat.token.me.0 (slots_items c.table.words)) }
+        ensures fact { IfOk result (λ c. L.fact seat.token.me.0.image seat.token.me.0.opening [] → IsClosedWithFact L.goes L.fact seat.token.me.0 (slots_items c.table.words)) }
         ensures sites { IfOk result (λ c. slots_len c.table.words ≡ self.table.shared.table_id.words) }
         ensures back { IfErr result (λ e. (e.board ≡ self) × (e.seat ≡ seat)) }
         ensures out { IfErr result (λ e. (0 < e.seats) × ((seat.first ≡ false) ⊎ (seat.split ≢ seat.joined))) }

@@ -11,3 +11,5 @@ pub mod Cells
 pub mod Steps
 pub mod RowFacts
 pub mod WordFacts
+pub mod Sublists
+pub mod History

@@ -19,7 +19,7 @@ use Rattle.um_words.specs.Threads.{thread_takes_act, thread_takes, thread_after_
 use Rattle.um_words.specs.Domains.{writes, domain_takes_act, domain_takes_unseen, domain_takes, domain_after_act, domain_after_unseen, domain_after, counted_domain}
 use Rattle.um_words.specs.Steps.{cell_kind_at, kind_at, number_in, number, ThreadStep, DomainStep, CellStep, StepIn, WordMay}
 use Rattle.um_words.specs.RowFacts.{row-counts}
-use Rattle.um_words.specs.Cells.{has_ready, has_place, scheduler_takes_unseen, scheduler_takes, word_takes, with_ready, first_taken, one_less, scheduler_after_unseen, scheduler_after, word_after, counted_cell}
+use Rattle.um_words.specs.Cells.{has_ready, scheduler_takes_unseen, scheduler_takes, word_takes, with_ready, first_taken, one_less, scheduler_after_unseen, scheduler_after, word_after, counted_cell}
 
 -- the second of two tests
 second : (b : Bool) (n m : ℕ) → IsTrue (b && nat_lt n m) → n < m

@@ -12,16 +12,23 @@ use crate::thread_acts::thread_step;
 
 /// Words that change by lawful steps alone, and processors of which each makes the steps that it may make next.
 pub trait Local {
-    ghost use Rattle.std.specs.Prelude.{ℕ, List};
+    ghost use Rattle.std.specs.Prelude.{ℕ, List, []};
     ghost use Rattle.um_base.specs.declared.image.Image.{Image};
     ghost use Rattle.um_words.specs.declared.made.Made.{Made};
+    ghost use Rattle.um_words.specs.History.{Entry, IsHistory};
 
     /// In a run from this image the processor of that name, which has made this list, may make that step next.
     ghost goes: { Image → List ℕ → List Made → Made → Type 0 };
 
+    /// What holds of the words that stand, and of all steps that were made, in a run from this image.
+    ghost fact: { Image → List ℕ → List Entry → Type 0 };
+
     /// The word that a lawful step leaves at the site, and nothing where the step isn't lawful there.
     fn step(site: u16, word: u64, act: &FineAct) -> Option<u64>
         ensures { MatchOption result ((next : ℕ) → WordMay site word act.now next → ⊥) (λ next. WordMay site word act.now next) };
+
+    /// The fact follows from the steps that may be made, where it holds of the words before the first one.
+    ghost follows: { (image : Image) (opening words : List ℕ) (h : List Entry) → fact image opening [] → IsHistory (goes image) opening words h → fact image words h };
 }
 
 /// The word that a lawful step leaves at the site, and nothing where the step isn't lawful there.
@@ -43,6 +50,10 @@ pub struct AnyStep;
 
 impl Local for AnyStep {
     ghost goes = { λ image name list made. Unit {0} };
+
+    ghost fact = { λ image words history. Unit {0} };
+
+    ghost follows = { λ image opening words history first stands. tt };
 
     #[inline(always)]
     fn step(site: u16, word: u64, act: &FineAct) -> Option<u64> {

@@ -19,3 +19,6 @@ returns-clause-closed g c = let key = c.args.self.table.shared.key in let v = c.
       c.close_with-table.ensures.values.0,
       closes g.T.Content.opens g.T.Content.follows g.L.Local.goes key.0.value key.1.value.items _ v _ _ c.args.seat.live (c.args.seat.is_first first) none (rw is at fin),
     )
+
+pub returns-clause-fact : goal.returns-clause-fact
+returns-clause-fact g c = let v = c.args.seat.token.me.0 in let is = (returns-clause-closed g c).2 in λ first. (is.0, is.1, is.2, g.met.L.Local.follows v.image v.opening _ is.0 first is.1)
