@@ -1,5 +1,7 @@
--- Seats that come back from a thread.
-use Rattle.std.specs.Prelude.{◌≡◌, ℕ, ◌+◌}
+-- Seats at a board, and seats that come back from a thread.
+use Rattle.std.specs.Prelude.{◌≡◌, ℕ, ◌+◌, ◌<◌}
+use Rattle.atomic_table.specs.Seated.{TableId}
+use Rattle.um_site.specs.Calls.{thread_site, domain_site}
 use Rattle.um_site.specs.declared.seat.Seat.{Seat}
 
 -- the seat comes back with so many seats split off and taken in again, and with its turn
@@ -10,3 +12,14 @@ ComesBack count s t =
 -- it has its name, and the seats out that were so before
 abbrev pub IsSameKin : {S : Type 0} → Seat S → Seat S → Type 0
 IsSameKin s t = (t.token.me.0.name ≡ s.token.me.0.name) × (t.token.me.0.children ≡ s.token.me.0.children)
+
+-- The seat is at this board, which has the word of the row, of the thread or of the domain.
+
+abbrev pub OnRow : {S : Type 0} → TableId → Seat S → ℕ → Type 0
+OnRow board s row = (s.token.table_id ≡ board) × (row < 128) × (row < board.words)
+
+abbrev pub OnThread : {S : Type 0} → TableId → Seat S → ℕ → Type 0
+OnThread board s who = (s.token.table_id ≡ board) × (who < 32) × (thread_site who < board.words)
+
+abbrev pub OnDomain : {S : Type 0} → TableId → Seat S → ℕ → Type 0
+OnDomain board s domain = (s.token.table_id ≡ board) × (domain < 8) × (domain_site domain < board.words)

@@ -1,19 +1,21 @@
 //! Calls on the word that stands, where it allows them, which the tests alone make.
 
-ghost use Rattle.std.specs.Prelude.{◌≡◌, ◌<◌, ◌||◌};
+ghost use Rattle.std.specs.Prelude.{◌≡◌, ◌||◌};
 ghost use Rattle.um_machine.specs.State.{is_living};
 ghost use Rattle.um_thread.specs.Acts.{IsEdit};
-ghost use Rattle.um_site.specs.Calls.{thread_site, domain_site, Stays};
+ghost use Rattle.um_site.specs.Calls.{Stays};
+ghost use Rattle.um_board_bench.specs.Seats.{OnRow, OnThread, OnDomain};
 
-use crate::now::{LAST, LAST_OF_ROW, OBJECT};
+use crate::now::OBJECT;
+use crate::seen::{domain_seen, row_seen, thread_seen};
 use um_base::{
     Act, Addr, Attr, Cause, Errno, Event, Given, Kind, Mode, Range, Reply, Row, ThreadIx, Want,
 };
 use um_machine::Life;
 use um_perm::{Passed, Set};
-use um_site::{Board, Changed, Seat, domain_site, thread_site};
+use um_site::{Board, Changed, Seat};
 use um_thread::{Going, Move, Reading, Writing};
-use um_words::{AnyStep, DomWord, FineAct, More, RowWord, ThreadWord};
+use um_words::{AnyStep, FineAct, More, ThreadWord};
 
 /// A new thread's permission on its own object.
 pub fn own_now(
@@ -23,14 +25,11 @@ pub fn own_now(
     by: ThreadIx,
     who: ThreadIx,
 ) -> Option<Result<Given, Changed>>
-    requires here { seat.old.token.table_id ≡ board.now.table.shared.table_id }
-    requires row { row.0 < 128 }
-    requires site { row.0 < board.now.table.shared.table_id.words }
+    requires on { OnRow board.now.table.shared.table_id seat.old row.0 }
     ensures stays { Stays seat.old seat.new }
 {
-    let seen = board.look(seat, u16::from(row.0));
-    let word = RowWord::read(seen);
-    if word.number >= LAST_OF_ROW || word.claims >= 127 || word.is_free() || word.is_cleaning() {
+    let (seen, word) = row_seen(board, seat, row)?;
+    if word.claims >= 127 || word.is_free() || word.is_cleaning() {
         return None;
     }
     Some(um_perm::own(board, seat, row, by, who, seen))
@@ -44,16 +43,10 @@ pub fn inherit_now(
     by: ThreadIx,
     child: ThreadIx,
 ) -> Option<Result<Passed, Changed>>
-    requires here { seat.old.token.table_id ≡ board.now.table.shared.table_id }
-    requires row { row.0 < 128 }
-    requires site { row.0 < board.now.table.shared.table_id.words }
+    requires on { OnRow board.now.table.shared.table_id seat.old row.0 }
     ensures stays { Stays seat.old seat.new }
 {
-    let seen = board.look(seat, u16::from(row.0));
-    let word = RowWord::read(seen);
-    if word.number >= LAST_OF_ROW {
-        return None;
-    }
+    let (seen, _) = row_seen(board, seat, row)?;
     Some(um_perm::inherit(board, seat, row, by, by, child, OBJECT, seen))
 }
 
@@ -64,14 +57,11 @@ pub fn publish_now(
     row: Row,
     by: ThreadIx,
 ) -> Option<Result<Given, Changed>>
-    requires here { seat.old.token.table_id ≡ board.now.table.shared.table_id }
-    requires row { row.0 < 128 }
-    requires site { row.0 < board.now.table.shared.table_id.words }
+    requires on { OnRow board.now.table.shared.table_id seat.old row.0 }
     ensures stays { Stays seat.old seat.new }
 {
-    let seen = board.look(seat, u16::from(row.0));
-    let word = RowWord::read(seen);
-    if word.number >= LAST_OF_ROW || word.is_free() {
+    let (seen, word) = row_seen(board, seat, row)?;
+    if word.is_free() {
         return None;
     }
     Some(um_perm::publish(board, seat, row, by, OBJECT, seen))
@@ -84,14 +74,11 @@ pub fn set_now(
     row: Row,
     by: ThreadIx,
 ) -> Option<Result<Set, Changed>>
-    requires here { seat.old.token.table_id ≡ board.now.table.shared.table_id }
-    requires row { row.0 < 128 }
-    requires site { row.0 < board.now.table.shared.table_id.words }
+    requires on { OnRow board.now.table.shared.table_id seat.old row.0 }
     ensures stays { Stays seat.old seat.new }
 {
-    let seen = board.look(seat, u16::from(row.0));
-    let word = RowWord::read(seen);
-    if word.number >= LAST_OF_ROW || word.is_free() {
+    let (seen, word) = row_seen(board, seat, row)?;
+    if word.is_free() {
         return None;
     }
     Some(um_perm::set_init(board, seat, row, by, true, OBJECT, seen))
@@ -104,14 +91,11 @@ pub fn clear_now(
     row: Row,
     by: ThreadIx,
 ) -> Option<Result<(), Changed>>
-    requires here { seat.old.token.table_id ≡ board.now.table.shared.table_id }
-    requires row { row.0 < 128 }
-    requires site { row.0 < board.now.table.shared.table_id.words }
+    requires on { OnRow board.now.table.shared.table_id seat.old row.0 }
     ensures stays { Stays seat.old seat.new }
 {
-    let seen = board.look(seat, u16::from(row.0));
-    let word = RowWord::read(seen);
-    if word.number >= LAST_OF_ROW || word.is_free() {
+    let (seen, word) = row_seen(board, seat, row)?;
+    if word.is_free() {
         return None;
     }
     Some(um_perm::clear_init(board, seat, row, by, OBJECT, seen))
@@ -124,16 +108,10 @@ pub fn start_now(
     who: ThreadIx,
     by: ThreadIx,
 ) -> Option<Result<(), Changed>>
-    requires here { seat.old.token.table_id ≡ board.now.table.shared.table_id }
-    requires who { who.0 < 32 }
-    requires site { thread_site who.0 < board.now.table.shared.table_id.words }
+    requires on { OnThread board.now.table.shared.table_id seat.old who.0 }
     ensures stays { Stays seat.old seat.new }
 {
-    let seen = board.look(seat, thread_site(who));
-    let word = ThreadWord::unpack(seen)?;
-    if word.number >= LAST {
-        return None;
-    }
+    let (seen, _) = thread_seen(board, seat, who)?;
     Some(um_thread::start(board, seat, who, by, Mode::Supervisor, 1, seen))
 }
 
@@ -153,14 +131,11 @@ pub fn begin_now(
     seat: &mut Seat<()>,
     who: ThreadIx,
 ) -> Option<Result<Going, Changed>>
-    requires here { seat.old.token.table_id ≡ board.now.table.shared.table_id }
-    requires who { who.0 < 32 }
-    requires site { thread_site who.0 < board.now.table.shared.table_id.words }
+    requires on { OnThread board.now.table.shared.table_id seat.old who.0 }
     ensures stays { Stays seat.old seat.new }
 {
-    let seen = board.look(seat, thread_site(who));
-    let word = ThreadWord::unpack(seen)?;
-    if word.number >= LAST || !is_going(&word) {
+    let (seen, word) = thread_seen(board, seat, who)?;
+    if !is_going(&word) {
         return None;
     }
     Some(um_thread::begin(board, seat, who, who, 0, 1, seen))
@@ -172,14 +147,11 @@ pub fn exit_now(
     seat: &mut Seat<()>,
     who: ThreadIx,
 ) -> Option<Result<Going, Changed>>
-    requires here { seat.old.token.table_id ≡ board.now.table.shared.table_id }
-    requires who { who.0 < 32 }
-    requires site { thread_site who.0 < board.now.table.shared.table_id.words }
+    requires on { OnThread board.now.table.shared.table_id seat.old who.0 }
     ensures stays { Stays seat.old seat.new }
 {
-    let seen = board.look(seat, thread_site(who));
-    let word = ThreadWord::unpack(seen)?;
-    if word.number >= LAST || !is_going(&word) {
+    let (seen, word) = thread_seen(board, seat, who)?;
+    if !is_going(&word) {
         return None;
     }
     Some(um_thread::exit(board, seat, who, who, seen))
@@ -191,16 +163,10 @@ pub fn reply_now(
     seat: &mut Seat<()>,
     who: ThreadIx,
 ) -> Option<Result<(), Changed>>
-    requires here { seat.old.token.table_id ≡ board.now.table.shared.table_id }
-    requires who { who.0 < 32 }
-    requires site { thread_site who.0 < board.now.table.shared.table_id.words }
+    requires on { OnThread board.now.table.shared.table_id seat.old who.0 }
     ensures stays { Stays seat.old seat.new }
 {
-    let seen = board.look(seat, thread_site(who));
-    let word = ThreadWord::unpack(seen)?;
-    if word.number >= LAST {
-        return None;
-    }
+    let (seen, _) = thread_seen(board, seat, who)?;
     Some(um_thread::reply(board, seat, who, who, Reply::Num(0), seen))
 }
 
@@ -210,16 +176,10 @@ pub fn miss_now(
     seat: &mut Seat<()>,
     who: ThreadIx,
 ) -> Option<Result<(), Changed>>
-    requires here { seat.old.token.table_id ≡ board.now.table.shared.table_id }
-    requires who { who.0 < 32 }
-    requires site { thread_site who.0 < board.now.table.shared.table_id.words }
+    requires on { OnThread board.now.table.shared.table_id seat.old who.0 }
     ensures stays { Stays seat.old seat.new }
 {
-    let seen = board.look(seat, thread_site(who));
-    let word = ThreadWord::unpack(seen)?;
-    if word.number >= LAST {
-        return None;
-    }
+    let (seen, _) = thread_seen(board, seat, who)?;
     Some(um_thread::miss(
         board,
         seat,
@@ -238,16 +198,10 @@ pub fn fatal_now(
     seat: &mut Seat<()>,
     who: ThreadIx,
 ) -> Option<Result<(), Changed>>
-    requires here { seat.old.token.table_id ≡ board.now.table.shared.table_id }
-    requires who { who.0 < 32 }
-    requires site { thread_site who.0 < board.now.table.shared.table_id.words }
+    requires on { OnThread board.now.table.shared.table_id seat.old who.0 }
     ensures stays { Stays seat.old seat.new }
 {
-    let seen = board.look(seat, thread_site(who));
-    let word = ThreadWord::unpack(seen)?;
-    if word.number >= LAST {
-        return None;
-    }
+    let (seen, _) = thread_seen(board, seat, who)?;
     Some(um_thread::fatal(board, seat, who, who, 3, Cause::Refused(Errno::EBADF), seen))
 }
 
@@ -258,16 +212,10 @@ pub fn doom_now(
     who: ThreadIx,
     by: ThreadIx,
 ) -> Option<Result<(), Changed>>
-    requires here { seat.old.token.table_id ≡ board.now.table.shared.table_id }
-    requires who { who.0 < 32 }
-    requires site { thread_site who.0 < board.now.table.shared.table_id.words }
+    requires on { OnThread board.now.table.shared.table_id seat.old who.0 }
     ensures stays { Stays seat.old seat.new }
 {
-    let seen = board.look(seat, thread_site(who));
-    let word = ThreadWord::unpack(seen)?;
-    if word.number >= LAST {
-        return None;
-    }
+    let (seen, _) = thread_seen(board, seat, who)?;
     Some(um_thread::doom(board, seat, who, by, seen))
 }
 
@@ -277,14 +225,11 @@ pub fn hold_now(
     seat: &mut Seat<()>,
     who: ThreadIx,
 ) -> Option<Result<u8, Changed>>
-    requires here { seat.old.token.table_id ≡ board.now.table.shared.table_id }
-    requires who { who.0 < 32 }
-    requires site { thread_site who.0 < board.now.table.shared.table_id.words }
+    requires on { OnThread board.now.table.shared.table_id seat.old who.0 }
     ensures stays { Stays seat.old seat.new }
 {
-    let seen = board.look(seat, thread_site(who));
-    let word = ThreadWord::unpack(seen)?;
-    if word.number >= LAST || word.held {
+    let (seen, word) = thread_seen(board, seat, who)?;
+    if word.held {
         return None;
     }
     Some(um_thread::hold(board, seat, who, who, seen))
@@ -296,14 +241,11 @@ pub fn let_go_now(
     seat: &mut Seat<()>,
     who: ThreadIx,
 ) -> Option<Result<(), Changed>>
-    requires here { seat.old.token.table_id ≡ board.now.table.shared.table_id }
-    requires who { who.0 < 32 }
-    requires site { thread_site who.0 < board.now.table.shared.table_id.words }
+    requires on { OnThread board.now.table.shared.table_id seat.old who.0 }
     ensures stays { Stays seat.old seat.new }
 {
-    let seen = board.look(seat, thread_site(who));
-    let word = ThreadWord::unpack(seen)?;
-    if word.number >= LAST || !word.held {
+    let (seen, word) = thread_seen(board, seat, who)?;
+    if !word.held {
         return None;
     }
     Some(um_thread::let_go(board, seat, who, who, seen))
@@ -315,16 +257,10 @@ pub fn move_now(
     seat: &mut Seat<()>,
     who: ThreadIx,
 ) -> Option<Result<Move, Changed>>
-    requires here { seat.old.token.table_id ≡ board.now.table.shared.table_id }
-    requires who { who.0 < 32 }
-    requires site { thread_site who.0 < board.now.table.shared.table_id.words }
+    requires on { OnThread board.now.table.shared.table_id seat.old who.0 }
     ensures stays { Stays seat.old seat.new }
 {
-    let seen = board.look(seat, thread_site(who));
-    let word = ThreadWord::unpack(seen)?;
-    if word.number >= LAST {
-        return None;
-    }
+    let (seen, _) = thread_seen(board, seat, who)?;
     Some(um_thread::move_domain(board, seat, who, who, 0, seen))
 }
 
@@ -334,16 +270,10 @@ pub fn enter_user_now(
     seat: &mut Seat<()>,
     who: ThreadIx,
 ) -> Option<Result<(), Changed>>
-    requires here { seat.old.token.table_id ≡ board.now.table.shared.table_id }
-    requires who { who.0 < 32 }
-    requires site { thread_site who.0 < board.now.table.shared.table_id.words }
+    requires on { OnThread board.now.table.shared.table_id seat.old who.0 }
     ensures stays { Stays seat.old seat.new }
 {
-    let seen = board.look(seat, thread_site(who));
-    let word = ThreadWord::unpack(seen)?;
-    if word.number >= LAST {
-        return None;
-    }
+    let (seen, _) = thread_seen(board, seat, who)?;
     Some(um_thread::enter_user(board, seat, who, who, seen))
 }
 
@@ -353,14 +283,11 @@ pub fn read_claim_now(
     seat: &mut Seat<()>,
     domain: u8,
 ) -> Option<Result<Reading, Changed>>
-    requires here { seat.old.token.table_id ≡ board.now.table.shared.table_id }
-    requires domain { domain < 8 }
-    requires site { domain_site domain < board.now.table.shared.table_id.words }
+    requires on { OnDomain board.now.table.shared.table_id seat.old domain }
     ensures stays { Stays seat.old seat.new }
 {
-    let seen = board.look(seat, domain_site(domain));
-    let word = DomWord::unpack(seen)?;
-    if word.number >= LAST || word.readers >= 127 {
+    let (seen, word) = domain_seen(board, seat, domain)?;
+    if word.readers >= 127 {
         return None;
     }
     Some(um_thread::read_claim(board, seat, domain, ThreadIx(0), seen))
@@ -372,14 +299,11 @@ pub fn read_done_now(
     seat: &mut Seat<()>,
     domain: u8,
 ) -> Option<Result<(), Changed>>
-    requires here { seat.old.token.table_id ≡ board.now.table.shared.table_id }
-    requires domain { domain < 8 }
-    requires site { domain_site domain < board.now.table.shared.table_id.words }
+    requires on { OnDomain board.now.table.shared.table_id seat.old domain }
     ensures stays { Stays seat.old seat.new }
 {
-    let seen = board.look(seat, domain_site(domain));
-    let word = DomWord::unpack(seen)?;
-    if word.number >= LAST || word.readers == 0 {
+    let (seen, word) = domain_seen(board, seat, domain)?;
+    if word.readers == 0 {
         return None;
     }
     Some(um_thread::read_done(board, seat, domain, ThreadIx(0), None, seen))
@@ -391,16 +315,10 @@ pub fn write_claim_now(
     seat: &mut Seat<()>,
     domain: u8,
 ) -> Option<Result<Writing, Changed>>
-    requires here { seat.old.token.table_id ≡ board.now.table.shared.table_id }
-    requires domain { domain < 8 }
-    requires site { domain_site domain < board.now.table.shared.table_id.words }
+    requires on { OnDomain board.now.table.shared.table_id seat.old domain }
     ensures stays { Stays seat.old seat.new }
 {
-    let seen = board.look(seat, domain_site(domain));
-    let word = DomWord::unpack(seen)?;
-    if word.number >= LAST {
-        return None;
-    }
+    let (seen, _) = domain_seen(board, seat, domain)?;
     Some(um_thread::write_claim(board, seat, domain, ThreadIx(0), seen))
 }
 
@@ -433,14 +351,11 @@ pub fn write_done_now(
     seat: &mut Seat<()>,
     domain: u8,
 ) -> Option<Result<(), Changed>>
-    requires here { seat.old.token.table_id ≡ board.now.table.shared.table_id }
-    requires domain { domain < 8 }
-    requires site { domain_site domain < board.now.table.shared.table_id.words }
+    requires on { OnDomain board.now.table.shared.table_id seat.old domain }
     ensures stays { Stays seat.old seat.new }
 {
-    let seen = board.look(seat, domain_site(domain));
-    let word = DomWord::unpack(seen)?;
-    if word.number >= LAST || !word.writer || word.version >= 0xf_ffff {
+    let (seen, word) = domain_seen(board, seat, domain)?;
+    if !word.writer || word.version >= 0xf_ffff {
         return None;
     }
     Some(um_thread::write_done(board, seat, domain, ThreadIx(0), added(domain), seen))

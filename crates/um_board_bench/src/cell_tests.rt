@@ -5,7 +5,7 @@ ghost use Rattle.um_cell.specs.Contents.{IsCell, KnowsFilled};
 
 use super::*;
 use crate::blank::empty_image;
-use crate::now::LAST;
+use crate::seen::LAST;
 use std::mem::size_of;
 use um_cell::{Cells, Held};
 use um_site::{are_unstepped, have_no_turn};

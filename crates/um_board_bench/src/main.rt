@@ -12,6 +12,7 @@ mod cell_tests;
 mod now;
 mod plain;
 mod play;
+mod seen;
 mod tally;
 #[cfg(test)]
 mod tests;

@@ -1,23 +1,19 @@
 //! Calls on the word that stands, where it allows them: nothing where it doesn't.
 
-ghost use Rattle.std.specs.Prelude.{◌≡◌, ◌<◌, true, Some, IfSome};
-ghost use Rattle.um_site.specs.Calls.{thread_site, domain_site, Stays};
+ghost use Rattle.std.specs.Prelude.{◌≡◌, true, Some, IfSome};
+ghost use Rattle.um_site.specs.Calls.{Stays};
 ghost use Rattle.um_site.specs.Lives.{Cleans};
+ghost use Rattle.um_board_bench.specs.Seats.{OnRow, OnThread};
 
+use crate::seen::{row_seen, thread_seen};
 use um_base::{Addr, Given, Kind, Mode, Row, ThreadIx, Want};
 use um_perm::Dropped;
-use um_site::{Board, Changed, Seat, thread_site};
+use um_site::{Board, Changed, Seat};
 use um_verify::Checked;
-use um_words::{AnyStep, RowWord, ThreadWord};
+use um_words::AnyStep;
 
 /// The address of the object that the calls are about.
 pub const OBJECT: Addr = Addr(0x4800_0000);
-
-/// The greatest step number of a row.
-pub const LAST_OF_ROW: u32 = 0xf_ffff;
-
-/// The greatest step number of a thread, a domain or a cell.
-pub const LAST: u32 = 0xfff_ffff;
 
 /// A user's check of a semaphore.
 pub fn check_now(
@@ -27,14 +23,11 @@ pub fn check_now(
     who: ThreadIx,
     want: Want,
 ) -> Option<Result<Checked, Changed>>
-    requires here { seat.old.token.table_id ≡ board.now.table.shared.table_id }
-    requires row { row.0 < 128 }
-    requires site { row.0 < board.now.table.shared.table_id.words }
+    requires on { OnRow board.now.table.shared.table_id seat.old row.0 }
     ensures stays { Stays seat.old seat.new }
 {
-    let seen = board.look(seat, u16::from(row.0));
-    let word = RowWord::read(seen);
-    if word.number >= LAST_OF_ROW || word.claims >= 127 {
+    let (seen, word) = row_seen(board, seat, row)?;
+    if word.claims >= 127 {
         return None;
     }
     Some(um_verify::check(
@@ -57,15 +50,12 @@ pub fn end_now(
     seat: &mut Seat<()>,
     row: Row,
 ) -> Option<Result<bool, Changed>>
-    requires here { seat.old.token.table_id ≡ board.now.table.shared.table_id }
-    requires row { row.0 < 128 }
-    requires site { row.0 < board.now.table.shared.table_id.words }
+    requires on { OnRow board.now.table.shared.table_id seat.old row.0 }
     ensures stays { Stays seat.old seat.new }
     ensures cleans { result ≡ Some (Ok true) → Cleans row.0 seat.new.token.me.0 }
 {
-    let seen = board.look(seat, u16::from(row.0));
-    let word = RowWord::read(seen);
-    if word.number >= LAST_OF_ROW || word.claims == 0 {
+    let (seen, word) = row_seen(board, seat, row)?;
+    if word.claims == 0 {
         return None;
     }
     Some(um_verify::end_call(board, seat, row, seen))
@@ -79,14 +69,11 @@ pub fn grant_now(
     by: ThreadIx,
     who: ThreadIx,
 ) -> Option<Result<Given, Changed>>
-    requires here { seat.old.token.table_id ≡ board.now.table.shared.table_id }
-    requires row { row.0 < 128 }
-    requires site { row.0 < board.now.table.shared.table_id.words }
+    requires on { OnRow board.now.table.shared.table_id seat.old row.0 }
     ensures stays { Stays seat.old seat.new }
 {
-    let seen = board.look(seat, u16::from(row.0));
-    let word = RowWord::read(seen);
-    if word.number >= LAST_OF_ROW || word.is_free() {
+    let (seen, word) = row_seen(board, seat, row)?;
+    if word.is_free() {
         return None;
     }
     Some(um_perm::grant(board, seat, row, by, who, OBJECT, seen))
@@ -100,17 +87,11 @@ pub fn drop_now(
     by: ThreadIx,
     who: ThreadIx,
 ) -> Option<Result<Dropped, Changed>>
-    requires here { seat.old.token.table_id ≡ board.now.table.shared.table_id }
-    requires row { row.0 < 128 }
-    requires site { row.0 < board.now.table.shared.table_id.words }
+    requires on { OnRow board.now.table.shared.table_id seat.old row.0 }
     ensures stays { Stays seat.old seat.new }
     ensures cleans { result ≡ Some (Ok (Dropped.Gone true)) → Cleans row.0 seat.new.token.me.0 }
 {
-    let seen = board.look(seat, u16::from(row.0));
-    let word = RowWord::read(seen);
-    if word.number >= LAST_OF_ROW {
-        return None;
-    }
+    let (seen, _) = row_seen(board, seat, row)?;
     Some(um_perm::drop_one(board, seat, row, by, who, true, OBJECT, seen))
 }
 
@@ -121,16 +102,13 @@ pub fn vacate_now(
     row: Row,
     by: ThreadIx,
 ) -> Option<Result<(), Changed>>
-    requires here { seat.old.token.table_id ≡ board.now.table.shared.table_id }
-    requires row { row.0 < 128 }
-    requires site { row.0 < board.now.table.shared.table_id.words }
+    requires on { OnRow board.now.table.shared.table_id seat.old row.0 }
     requires cleans { Cleans row.0 seat.old.token.me.0 }
     ensures stays { Stays seat.old seat.new }
     ensures still { IfSome result (λ r. (e : Changed) → r ≡ Err e → Cleans row.0 seat.new.token.me.0) }
 {
-    let seen = board.look(seat, u16::from(row.0));
-    let word = RowWord::read(seen);
-    if word.number >= LAST_OF_ROW || !word.is_cleaning() || word.claims != 0 {
+    let (seen, word) = row_seen(board, seat, row)?;
+    if !word.is_cleaning() || word.claims != 0 {
         return None;
     }
     Some(um_perm::vacate(board, seat, row, by, seen))
@@ -143,14 +121,11 @@ pub fn born_now(
     row: Row,
     who: ThreadIx,
 ) -> Option<Result<(), Changed>>
-    requires here { seat.old.token.table_id ≡ board.now.table.shared.table_id }
-    requires row { row.0 < 128 }
-    requires site { row.0 < board.now.table.shared.table_id.words }
+    requires on { OnRow board.now.table.shared.table_id seat.old row.0 }
     ensures stays { Stays seat.old seat.new }
 {
-    let seen = board.look(seat, u16::from(row.0));
-    let word = RowWord::read(seen);
-    if word.number >= LAST_OF_ROW || !word.is_free() {
+    let (seen, word) = row_seen(board, seat, row)?;
+    if !word.is_free() {
         return None;
     }
     Some(um_perm::born(board, seat, row, who, who, OBJECT, seen))
@@ -162,15 +137,9 @@ pub fn read_now(
     seat: &mut Seat<()>,
     who: ThreadIx,
 ) -> Option<Result<(), Changed>>
-    requires here { seat.old.token.table_id ≡ board.now.table.shared.table_id }
-    requires who { who.0 < 32 }
-    requires site { thread_site who.0 < board.now.table.shared.table_id.words }
+    requires on { OnThread board.now.table.shared.table_id seat.old who.0 }
     ensures stays { Stays seat.old seat.new }
 {
-    let seen = board.look(seat, thread_site(who));
-    let word = ThreadWord::unpack(seen)?;
-    if word.number >= LAST {
-        return None;
-    }
+    let (seen, _) = thread_seen(board, seat, who)?;
     Some(um_thread::read_word(board, seat, who, who, seen))
 }

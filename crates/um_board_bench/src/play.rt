@@ -1,8 +1,9 @@
 //! A seat that makes steps of many kinds on one row.
 
-ghost use Rattle.std.specs.Prelude.{◌≡◌, ◌<◌, true, Some};
+ghost use Rattle.std.specs.Prelude.{true, Some};
 ghost use Rattle.um_site.specs.Calls.{Stays};
 ghost use Rattle.um_site.specs.Lives.{Cleans};
+ghost use Rattle.um_board_bench.specs.Seats.{OnRow};
 
 use crate::now::{born_now, check_now, drop_now, end_now, grant_now, vacate_now};
 use crate::tally::Tally;
@@ -23,9 +24,7 @@ fn clean(
     who: ThreadIx,
     tally: &mut Tally,
 )
-    requires here { seat.old.token.table_id ≡ board.now.table.shared.table_id }
-    requires row { row.0 < 128 }
-    requires site { row.0 < board.now.table.shared.table_id.words }
+    requires on { OnRow board.now.table.shared.table_id seat.old row.0 }
     requires cleans { Cleans row.0 seat.old.token.me.0 }
     ensures stays { Stays seat.old seat.new }
 {
@@ -52,9 +51,7 @@ fn drop_turn(
     who: ThreadIx,
     tally: &mut Tally,
 )
-    requires here { seat.old.token.table_id ≡ board.now.table.shared.table_id }
-    requires row { row.0 < 128 }
-    requires site { row.0 < board.now.table.shared.table_id.words }
+    requires on { OnRow board.now.table.shared.table_id seat.old row.0 }
     ensures stays { Stays seat.old seat.new }
 {
     match drop_now(board, seat, row, by, who) {
@@ -80,9 +77,7 @@ fn end_turn(
     who: ThreadIx,
     tally: &mut Tally,
 )
-    requires here { seat.old.token.table_id ≡ board.now.table.shared.table_id }
-    requires row { row.0 < 128 }
-    requires site { row.0 < board.now.table.shared.table_id.words }
+    requires on { OnRow board.now.table.shared.table_id seat.old row.0 }
     ensures stays { Stays seat.old seat.new }
 {
     if tally.ended >= tally.held {
@@ -110,9 +105,7 @@ fn check_turn(
     who: ThreadIx,
     tally: &mut Tally,
 )
-    requires here { seat.old.token.table_id ≡ board.now.table.shared.table_id }
-    requires row { row.0 < 128 }
-    requires site { row.0 < board.now.table.shared.table_id.words }
+    requires on { OnRow board.now.table.shared.table_id seat.old row.0 }
     ensures stays { Stays seat.old seat.new }
 {
     match check_now(board, seat, row, who, Want::Any) {
@@ -138,9 +131,7 @@ fn grant_turn(
     who: ThreadIx,
     tally: &mut Tally,
 )
-    requires here { seat.old.token.table_id ≡ board.now.table.shared.table_id }
-    requires row { row.0 < 128 }
-    requires site { row.0 < board.now.table.shared.table_id.words }
+    requires on { OnRow board.now.table.shared.table_id seat.old row.0 }
     ensures stays { Stays seat.old seat.new }
 {
     if let Some(Ok(_)) = grant_now(board, seat, row, who, other(who)) {
@@ -156,9 +147,7 @@ fn born_turn(
     who: ThreadIx,
     tally: &mut Tally,
 )
-    requires here { seat.old.token.table_id ≡ board.now.table.shared.table_id }
-    requires row { row.0 < 128 }
-    requires site { row.0 < board.now.table.shared.table_id.words }
+    requires on { OnRow board.now.table.shared.table_id seat.old row.0 }
     ensures stays { Stays seat.old seat.new }
 {
     if let Some(Ok(())) = born_now(board, seat, row, who) {
@@ -176,9 +165,7 @@ fn turn(
     number: u32,
     tally: &mut Tally,
 )
-    requires here { seat.old.token.table_id ≡ board.now.table.shared.table_id }
-    requires row { row.0 < 128 }
-    requires site { row.0 < board.now.table.shared.table_id.words }
+    requires on { OnRow board.now.table.shared.table_id seat.old row.0 }
     ensures stays { Stays seat.old seat.new }
 {
     let seen = board.look(seat, u16::from(row.0));
@@ -200,9 +187,7 @@ pub fn play(
     who: ThreadIx,
     steps: u32,
 ) -> Tally
-    requires here { seat.old.token.table_id ≡ board.now.table.shared.table_id }
-    requires row { row.0 < 128 }
-    requires site { row.0 < board.now.table.shared.table_id.words }
+    requires on { OnRow board.now.table.shared.table_id seat.old row.0 }
     ensures stays { Stays seat.old seat.new }
 {
     let mut tally = Tally::none();

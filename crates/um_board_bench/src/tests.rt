@@ -1,12 +1,12 @@
 //! The calls on a board by worked rows, and many threads at one row.
 
-ghost use Rattle.std.specs.Prelude.{◌≡◌, ◌<◌, ◌≤◌, [], true, Some, IfOk, IfSome};
-ghost use Rattle.um_site.specs.Tells.{last_got};
-ghost use Rattle.um_site.specs.Calls.{Stays};
+ghost use Rattle.std.specs.Prelude.{◌≡◌, ◌<◌, ◌≤◌, [], IfOk, IfSome};
+ghost use Rattle.um_site.specs.Calls.{AtRow, Stays};
 
 use super::*;
 use crate::calls::*;
 use crate::now::*;
+use crate::seen::row_seen;
 use std::mem::size_of;
 use um_base::{Errno, Given, Row, ThreadIx, Want};
 use um_perm::{Dropped, Passed, Set};
@@ -217,13 +217,10 @@ fn check_seen(
     seat: &mut Seat<()>,
     seen: u64,
 ) -> Option<Result<Checked, Changed>>
-    requires here { seat.old.token.table_id ≡ board.now.table.shared.table_id }
-    requires site { 0 < board.now.table.shared.table_id.words }
-    requires seen { last_got seat.old.token.me.0.got 0 ≡ Some seen }
+    requires at { AtRow board.now.table.shared.table_id seat.old 0 seen }
     ensures stays { Stays seat.old seat.new }
 {
-    let word = RowWord::read(seen);
-    if word.number >= LAST_OF_ROW || word.claims >= 127 {
+    if RowWord::read(seen).claims >= 127 {
         return None;
     }
     Some(um_verify::check(
@@ -248,8 +245,14 @@ fn two_seats(rt: HostRuntime) -> Result<(), Memory> {
         return Ok(());
     };
     let mut second = board.split(&mut first);
-    let seen = board.look(&mut first, 0);
-    let too_late = board.look(&mut second, 0);
+    let Some((seen, _)) = row_seen(&board, &mut first, ROW) else {
+        assert!(rt; false, "the word that both see");
+        return Ok(());
+    };
+    let Some((too_late, _)) = row_seen(&board, &mut second, ROW) else {
+        assert!(rt; false, "the word that both see");
+        return Ok(());
+    };
     assert!(rt; check_seen(&board, &mut first, seen) == Some(Ok(Checked::Held)));
     let word = Changed {
         seen: 0x0000_1029_0000_0001,

@@ -1,10 +1,9 @@
 //! Taking permissions away.
 
-ghost use Rattle.std.specs.Prelude.{◌≡◌, ◌<◌, true, false, MatchResult, Some, IfOk};
+ghost use Rattle.std.specs.Prelude.{◌≡◌, true, IfOk};
 ghost use Rattle.um_words.specs.Packed.{row_of};
 ghost use Rattle.um_words.specs.Rows.{left_of};
-ghost use Rattle.um_site.specs.Tells.{last_got};
-ghost use Rattle.um_site.specs.Calls.{Stays, MayNext, Recorded, Missed};
+ghost use Rattle.um_site.specs.Calls.{Stays, AtRow, MayNext, Records};
 ghost use Rattle.um_site.specs.Lives.{Cleans, CleansOnce};
 ghost use Rattle.um_perm.specs.Pairs.{dropped_of, drop_act, is_to_clean, TellsCleaning};
 
@@ -42,14 +41,11 @@ fn drop_pair<T: Content, L: Local>(
     addr: Addr,
     seen: u64,
 ) -> Result<Dropped, Changed>
-    requires here { seat.old.token.table_id ≡ board.now.table.shared.table_id }
-    requires row { row.0 < 128 }
-    requires site { row.0 < board.now.table.shared.table_id.words }
-    requires seen { last_got seat.old.token.me.0.got row.0 ≡ Some seen }
-    requires room { (row_of seen).number < 1048575 }
-    requires goes { MayNext L.goes seat.old.token.me.0 row.0 seen (drop_act by who shown addr seen) }
+    requires at { AtRow board.now.table.shared.table_id seat.old row.0 seen }
+    requires goes { MayNext L.goes seat.old row.0 seen (drop_act by who shown addr seen) }
     ensures stays { Stays seat.old seat.new }
-    ensures told { MatchResult result (λ dropped. (dropped ≡ dropped_of (left_of (row_of seen) who.0) (row_of seen).claims) × Recorded L.goes seat.old.token.me.0 row.0 seen (drop_act by who shown addr seen) seat.new.token.me.0) (λ e. Missed L.goes seat.old.token.me.0 row.0 seen e.seen seat.new.token.me.0) }
+    ensures told { Records L.goes seat.old row.0 seen (drop_act by who shown addr seen) result seat.new }
+    ensures answer { IfOk result (λ dropped. dropped ≡ dropped_of (left_of (row_of seen) who.0) (row_of seen).claims) }
 {
     let word = RowWord::read(seen);
     let left = word.left(who.0);
@@ -75,14 +71,11 @@ pub fn drop_one<T: Content, L: Local>(
     addr: Addr,
     seen: u64,
 ) -> Result<Dropped, Changed>
-    requires here { seat.old.token.table_id ≡ board.now.table.shared.table_id }
-    requires row { row.0 < 128 }
-    requires site { row.0 < board.now.table.shared.table_id.words }
-    requires seen { last_got seat.old.token.me.0.got row.0 ≡ Some seen }
-    requires room { (row_of seen).number < 1048575 }
-    requires goes { MayNext L.goes seat.old.token.me.0 row.0 seen (drop_act by who shown addr seen) }
+    requires at { AtRow board.now.table.shared.table_id seat.old row.0 seen }
+    requires goes { MayNext L.goes seat.old row.0 seen (drop_act by who shown addr seen) }
     ensures stays { Stays seat.old seat.new }
-    ensures told { MatchResult result (λ dropped. (dropped ≡ dropped_of (left_of (row_of seen) who.0) (row_of seen).claims) × Recorded L.goes seat.old.token.me.0 row.0 seen (drop_act by who shown addr seen) seat.new.token.me.0) (λ e. Missed L.goes seat.old.token.me.0 row.0 seen e.seen seat.new.token.me.0) }
+    ensures told { Records L.goes seat.old row.0 seen (drop_act by who shown addr seen) result seat.new }
+    ensures answer { IfOk result (λ dropped. dropped ≡ dropped_of (left_of (row_of seen) who.0) (row_of seen).claims) }
     ensures cleaner { IfOk result (λ dropped. TellsCleaning row.0 seen (drop_act by who shown addr seen) seat.old.token.me.0 dropped seat.new.token.me.0) }
     ensures cleans { IfOk result (λ dropped. is_to_clean dropped ≡ true → Cleans row.0 seat.new.token.me.0) }
     ensures once { CleansOnce L.goes seat.old.token.me.0 row.0 }

@@ -1,10 +1,9 @@
 //! Births of dynamic objects, and the end of their cleaning.
 
-ghost use Rattle.std.specs.Prelude.{◌≡◌, ◌<◌, true, false, MatchResult, Some};
+ghost use Rattle.std.specs.Prelude.{◌≡◌, true};
 ghost use Rattle.um_words.specs.Packed.{row_of};
 ghost use Rattle.um_words.specs.Rows.{is_free, is_cleaning};
-ghost use Rattle.um_site.specs.Tells.{last_got};
-ghost use Rattle.um_site.specs.Calls.{Stays, MayNext, Recorded, Missed};
+ghost use Rattle.um_site.specs.Calls.{Stays, AtRow, MayNext, Records};
 ghost use Rattle.um_site.specs.Lives.{Cleans, CleansOnce};
 ghost use Rattle.um_perm.specs.Pairs.{born_act, vacate_act};
 
@@ -22,16 +21,12 @@ pub fn born<T: Content, L: Local>(
     addr: Addr,
     seen: u64,
 ) -> Result<(), Changed>
-    requires here { seat.old.token.table_id ≡ board.now.table.shared.table_id }
-    requires row { row.0 < 128 }
-    requires site { row.0 < board.now.table.shared.table_id.words }
-    requires seen { last_got seat.old.token.me.0.got row.0 ≡ Some seen }
-    requires room { (row_of seen).number < 1048575 }
+    requires at { AtRow board.now.table.shared.table_id seat.old row.0 seen }
     requires free { is_free (row_of seen).stage ≡ true }
     requires who { who ≡ by }
-    requires goes { MayNext L.goes seat.old.token.me.0 row.0 seen (born_act by addr) }
+    requires goes { MayNext L.goes seat.old row.0 seen (born_act by addr) }
     ensures stays { Stays seat.old seat.new }
-    ensures told { MatchResult result (λ done. Recorded L.goes seat.old.token.me.0 row.0 seen (born_act by addr) seat.new.token.me.0) (λ e. Missed L.goes seat.old.token.me.0 row.0 seen e.seen seat.new.token.me.0) }
+    ensures told { Records L.goes seat.old row.0 seen (born_act by addr) result seat.new }
 {
     let _ = who;
     let act = shown(by, Act::Born { addr });
@@ -47,18 +42,14 @@ pub fn vacate<T: Content, L: Local>(
     by: ThreadIx,
     seen: u64,
 ) -> Result<(), Changed>
-    requires here { seat.old.token.table_id ≡ board.now.table.shared.table_id }
-    requires row { row.0 < 128 }
-    requires site { row.0 < board.now.table.shared.table_id.words }
-    requires seen { last_got seat.old.token.me.0.got row.0 ≡ Some seen }
-    requires room { (row_of seen).number < 1048575 }
+    requires at { AtRow board.now.table.shared.table_id seat.old row.0 seen }
     requires cleans { Cleans row.0 seat.old.token.me.0 }
     requires cleaning { is_cleaning (row_of seen).stage ≡ true }
     requires claims { (row_of seen).claims ≡ 0 }
-    requires goes { MayNext L.goes seat.old.token.me.0 row.0 seen (vacate_act) }
+    requires goes { MayNext L.goes seat.old row.0 seen vacate_act }
     ensures stays { Stays seat.old seat.new }
     ensures once { CleansOnce L.goes seat.old.token.me.0 row.0 }
-    ensures told { MatchResult result (λ done. Recorded L.goes seat.old.token.me.0 row.0 seen (vacate_act) seat.new.token.me.0) (λ e. Missed L.goes seat.old.token.me.0 row.0 seen e.seen seat.new.token.me.0) }
+    ensures told { Records L.goes seat.old row.0 seen vacate_act result seat.new }
 {
     let _ = by;
     board.step_row(seat, row, seen, &FineAct::Unseen(Unseen::Vacate))

@@ -1,10 +1,9 @@
 //! Giving permissions.
 
-ghost use Rattle.std.specs.Prelude.{◌≡◌, ◌<◌, true, false, MatchResult, Some};
+ghost use Rattle.std.specs.Prelude.{◌≡◌, ◌<◌, false, IfOk};
 ghost use Rattle.um_words.specs.Packed.{row_of};
 ghost use Rattle.um_words.specs.Rows.{is_free, is_cleaning, given_of};
-ghost use Rattle.um_site.specs.Tells.{last_got};
-ghost use Rattle.um_site.specs.Calls.{Stays, MayNext, Recorded, Missed};
+ghost use Rattle.um_site.specs.Calls.{Stays, AtRow, MayNext, Records};
 ghost use Rattle.um_perm.specs.Pairs.{grant_act, own_act, publish_act, passes, passed_of, inherit_act};
 
 use um_base::{Act, Addr, Given, Row, ThreadIx};
@@ -28,15 +27,12 @@ pub fn grant<T: Content, L: Local>(
     addr: Addr,
     seen: u64,
 ) -> Result<Given, Changed>
-    requires here { seat.old.token.table_id ≡ board.now.table.shared.table_id }
-    requires row { row.0 < 128 }
-    requires site { row.0 < board.now.table.shared.table_id.words }
-    requires seen { last_got seat.old.token.me.0.got row.0 ≡ Some seen }
-    requires room { (row_of seen).number < 1048575 }
+    requires at { AtRow board.now.table.shared.table_id seat.old row.0 seen }
     requires free { is_free (row_of seen).stage ≡ false }
-    requires goes { MayNext L.goes seat.old.token.me.0 row.0 seen (grant_act by who addr seen) }
+    requires goes { MayNext L.goes seat.old row.0 seen (grant_act by who addr seen) }
     ensures stays { Stays seat.old seat.new }
-    ensures told { MatchResult result (λ given. (given ≡ given_of (row_of seen)) × Recorded L.goes seat.old.token.me.0 row.0 seen (grant_act by who addr seen) seat.new.token.me.0) (λ e. Missed L.goes seat.old.token.me.0 row.0 seen e.seen seat.new.token.me.0) }
+    ensures told { Records L.goes seat.old row.0 seen (grant_act by who addr seen) result seat.new }
+    ensures answer { IfOk result (λ given. given ≡ given_of (row_of seen)) }
 {
     let given = RowWord::read(seen).given();
     let act = shown(by, Act::Grant { who, addr, given });
@@ -55,15 +51,12 @@ pub fn inherit<T: Content, L: Local>(
     addr: Addr,
     seen: u64,
 ) -> Result<Passed, Changed>
-    requires here { seat.old.token.table_id ≡ board.now.table.shared.table_id }
-    requires row { row.0 < 128 }
-    requires site { row.0 < board.now.table.shared.table_id.words }
-    requires seen { last_got seat.old.token.me.0.got row.0 ≡ Some seen }
-    requires room { (row_of seen).number < 1048575 }
+    requires at { AtRow board.now.table.shared.table_id seat.old row.0 seen }
     requires parent { parent ≡ by }
-    requires goes { MayNext L.goes seat.old.token.me.0 row.0 seen (inherit_act by child addr seen) }
+    requires goes { MayNext L.goes seat.old row.0 seen (inherit_act by child addr seen) }
     ensures stays { Stays seat.old seat.new }
-    ensures told { MatchResult result (λ passed. (passed ≡ passed_of (passes seen parent.0 child.0)) × Recorded L.goes seat.old.token.me.0 row.0 seen (inherit_act by child addr seen) seat.new.token.me.0) (λ e. Missed L.goes seat.old.token.me.0 row.0 seen e.seen seat.new.token.me.0) }
+    ensures told { Records L.goes seat.old row.0 seen (inherit_act by child addr seen) result seat.new }
+    ensures answer { IfOk result (λ passed. passed ≡ passed_of (passes seen parent.0 child.0)) }
 {
     let word = RowWord::read(seen);
     if word.has(parent.0) && !word.has(child.0) {
@@ -84,17 +77,14 @@ pub fn own<T: Content, L: Local>(
     who: ThreadIx,
     seen: u64,
 ) -> Result<Given, Changed>
-    requires here { seat.old.token.table_id ≡ board.now.table.shared.table_id }
-    requires row { row.0 < 128 }
-    requires site { row.0 < board.now.table.shared.table_id.words }
-    requires seen { last_got seat.old.token.me.0.got row.0 ≡ Some seen }
-    requires room { (row_of seen).number < 1048575 }
+    requires at { AtRow board.now.table.shared.table_id seat.old row.0 seen }
     requires free { is_free (row_of seen).stage ≡ false }
     requires cleaning { is_cleaning (row_of seen).stage ≡ false }
     requires claims { (row_of seen).claims < 127 }
-    requires goes { MayNext L.goes seat.old.token.me.0 row.0 seen (own_act by who seen) }
+    requires goes { MayNext L.goes seat.old row.0 seen (own_act by who seen) }
     ensures stays { Stays seat.old seat.new }
-    ensures told { MatchResult result (λ given. (given ≡ given_of (row_of seen)) × Recorded L.goes seat.old.token.me.0 row.0 seen (own_act by who seen) seat.new.token.me.0) (λ e. Missed L.goes seat.old.token.me.0 row.0 seen e.seen seat.new.token.me.0) }
+    ensures told { Records L.goes seat.old row.0 seen (own_act by who seen) result seat.new }
+    ensures answer { IfOk result (λ given. given ≡ given_of (row_of seen)) }
 {
     let given = RowWord::read(seen).given();
     let act = shown(by, Act::Own { who, given });
@@ -111,15 +101,12 @@ pub fn publish<T: Content, L: Local>(
     addr: Addr,
     seen: u64,
 ) -> Result<Given, Changed>
-    requires here { seat.old.token.table_id ≡ board.now.table.shared.table_id }
-    requires row { row.0 < 128 }
-    requires site { row.0 < board.now.table.shared.table_id.words }
-    requires seen { last_got seat.old.token.me.0.got row.0 ≡ Some seen }
-    requires room { (row_of seen).number < 1048575 }
+    requires at { AtRow board.now.table.shared.table_id seat.old row.0 seen }
     requires free { is_free (row_of seen).stage ≡ false }
-    requires goes { MayNext L.goes seat.old.token.me.0 row.0 seen (publish_act by addr seen) }
+    requires goes { MayNext L.goes seat.old row.0 seen (publish_act by addr seen) }
     ensures stays { Stays seat.old seat.new }
-    ensures told { MatchResult result (λ given. (given ≡ given_of (row_of seen)) × Recorded L.goes seat.old.token.me.0 row.0 seen (publish_act by addr seen) seat.new.token.me.0) (λ e. Missed L.goes seat.old.token.me.0 row.0 seen e.seen seat.new.token.me.0) }
+    ensures told { Records L.goes seat.old row.0 seen (publish_act by addr seen) result seat.new }
+    ensures answer { IfOk result (λ given. given ≡ given_of (row_of seen)) }
 {
     let given = RowWord::read(seen).given();
     let act = shown(by, Act::Publish { addr, given });

@@ -1,12 +1,15 @@
 -- What a call on a board asks of its seat, and what it tells.
-use Rattle.std.specs.Prelude.{◌≡◌, ◌≢◌, ℕ, ◌+◌, List, Some}
+use Rattle.std.specs.Prelude.{◌≡◌, ◌≢◌, ℕ, ◌+◌, ◌<◌, true, List, Some, Result, MatchResult}
+use Rattle.atomic_table.specs.Seated.{TableId}
 use Rattle.um_base.specs.declared.act.Act.{Act}
 use Rattle.um_base.specs.declared.image.Image.{Image}
 use Rattle.um_base.specs.declared.names.ThreadIx.{ThreadIx}
+use Rattle.um_words.specs.Packed.{row_of, is_thread, thread_in, is_domain, domain_in}
 use Rattle.um_words.specs.Steps.{WordMay}
 use Rattle.um_words.specs.declared.fine.FineAct.{FineAct}
 use Rattle.um_words.specs.declared.fine.More.{More}
 use Rattle.um_words.specs.declared.made.Made.{Made}
+use Rattle.um_site.specs.declared.board.Changed.{Changed}
 use Rattle.um_site.specs.declared.seat.Seat.{Seat}
 use Rattle.um_site.specs.declared.view.View.{View}
 use Rattle.um_site.specs.Tells.{made, Looked, Steps, last_got}
@@ -33,10 +36,25 @@ Stays s t =
     × (t.token.me.1 ≡ s.token.me.1) × (t.token.me.0.name ≡ s.token.me.0.name) × (t.token.me.0.children ≡ s.token.me.0.children)
     × (t.token.me.0.turn ≡ s.token.me.0.turn) × (t.token.me.0.filled ≡ s.token.me.0.filled)
 
+-- the seat is at this board, which has the site, and got or left this word last there
+abbrev pub HasSeen : {T : Type 0} → TableId → Seat T → ℕ → ℕ → Type 0
+HasSeen board s site seen = (s.token.table_id ≡ board) × (site < board.words) × (last_got s.token.me.0.got site ≡ Some seen)
+
+-- What a call on a row, on a thread or on a domain asks of its seat and of the word that it is handed: the seat has seen that word, which says something and has room for a step.
+
+abbrev pub AtRow : {T : Type 0} → TableId → Seat T → ℕ → ℕ → Type 0
+AtRow board s row seen = HasSeen board s row seen × (row < 128) × ((row_of seen).number < 1048575)
+
+abbrev pub AtThread : {T : Type 0} → TableId → Seat T → ℕ → ℕ → Type 0
+AtThread board s who seen = HasSeen board s (thread_site who) seen × (who < 32) × (is_thread seen ≡ true) × ((thread_in seen).number < 268435455)
+
+abbrev pub AtDomain : {T : Type 0} → TableId → Seat T → ℕ → ℕ → Type 0
+AtDomain board s domain seen = HasSeen board s (domain_site domain) seen × (domain < 8) × (is_domain seen ≡ true) × ((domain_in seen).number < 268435455)
+
 module _ (goes : Image → List ℕ → List Made → Made → Type 0) where
   -- the seat may make this act next, where it is lawful
-  abbrev pub MayNext : View → ℕ → ℕ → FineAct → Type 0
-  MayNext v site seen act = (next : ℕ) → WordMay site seen act next → goes v.image v.name v.made (made site act next)
+  abbrev pub MayNext : {T : Type 0} → Seat T → ℕ → ℕ → FineAct → Type 0
+  MayNext s site seen act = let v = s.token.me.0 in (next : ℕ) → WordMay site seen act next → goes v.image v.name v.made (made site act next)
 
   -- the act was recorded, on the word that was handed in
   abbrev pub Recorded : View → ℕ → ℕ → FineAct → View → Type 0
@@ -49,3 +67,8 @@ module _ (goes : Image → List ℕ → List Made → Made → Type 0) where
   -- the word that was handed in still stood there, and nothing was recorded
   abbrev pub Stood : View → ℕ → ℕ → View → Type 0
   Stood v site seen w = Looked goes v site seen w × (last_got w.got site ≡ Some seen)
+
+  -- the act was recorded on the word that was handed in, or another word stood there
+  abbrev pub Records : {T A : Type 0} → Seat T → ℕ → ℕ → FineAct → Result A Changed → Seat T → Type 0
+  Records s site seen act r t =
+      MatchResult r (λ a. Recorded s.token.me.0 site seen act t.token.me.0) (λ e. Missed s.token.me.0 site seen e.seen t.token.me.0)

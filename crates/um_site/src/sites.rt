@@ -1,12 +1,11 @@
 //! Steps of rows, threads and domains, each at its site.
 
-ghost use Rattle.std.specs.Prelude.{◌≡◌, ◌<◌, true, IsTrue, MatchResult, Some};
-ghost use Rattle.um_words.specs.Packed.{row_of, is_thread, thread_in, is_domain, domain_in};
+ghost use Rattle.std.specs.Prelude.{◌≡◌, ◌<◌, IsTrue};
+ghost use Rattle.um_words.specs.Packed.{row_of, thread_in, domain_in};
 ghost use Rattle.um_words.specs.Rows.{row_takes, row_says};
 ghost use Rattle.um_words.specs.Threads.{thread_takes, thread_says};
 ghost use Rattle.um_words.specs.Domains.{domain_takes};
-ghost use Rattle.um_site.specs.Tells.{last_got};
-ghost use Rattle.um_site.specs.Calls.{thread_site, domain_site, Stays, MayNext, Recorded, Missed};
+ghost use Rattle.um_site.specs.Calls.{thread_site, domain_site, Stays, AtRow, AtThread, AtDomain, MayNext, Records};
 
 use crate::board::{Board, Changed};
 use crate::seat::Seat;
@@ -39,16 +38,12 @@ impl<T: Content, L: Local> Board<T, L> {
         seen: u64,
         act: &FineAct,
     ) -> Result<(), Changed>
-        requires here { seat.old.token.table_id ≡ self.now.table.shared.table_id }
-        requires row { row.0 < 128 }
-        requires site { row.0 < self.now.table.shared.table_id.words }
-        requires seen { last_got seat.old.token.me.0.got row.0 ≡ Some seen }
-        requires room { (row_of seen).number < 1048575 }
+        requires at { AtRow self.now.table.shared.table_id seat.old row.0 seen }
         requires takes { IsTrue (row_takes (row_of seen) act.now) }
         requires says { row_says (row_of seen) act.now ≡ act.now }
-        requires goes { MayNext L.goes seat.old.token.me.0 row.0 seen act.now }
+        requires goes { MayNext L.goes seat.old row.0 seen act.now }
         ensures stays { Stays seat.old seat.new }
-        ensures told { MatchResult result (λ done. Recorded L.goes seat.old.token.me.0 row.0 seen act.now seat.new.token.me.0) (λ e. Missed L.goes seat.old.token.me.0 row.0 seen e.seen seat.new.token.me.0) }
+        ensures told { Records L.goes seat.old row.0 seen act.now result seat.new }
     {
         match self.step(seat, u16::from(row.0), seen, act) {
             Ok(_) => Ok(()),
@@ -65,17 +60,12 @@ impl<T: Content, L: Local> Board<T, L> {
         seen: u64,
         act: &FineAct,
     ) -> Result<(), Changed>
-        requires here { seat.old.token.table_id ≡ self.now.table.shared.table_id }
-        requires who { who.0 < 32 }
-        requires site { thread_site who.0 < self.now.table.shared.table_id.words }
-        requires seen { last_got seat.old.token.me.0.got (thread_site who.0) ≡ Some seen }
-        requires word { is_thread seen ≡ true }
-        requires room { (thread_in seen).number < 268435455 }
+        requires at { AtThread self.now.table.shared.table_id seat.old who.0 seen }
         requires takes { IsTrue (thread_takes (thread_in seen) act.now) }
         requires says { thread_says act.now ≡ act.now }
-        requires goes { MayNext L.goes seat.old.token.me.0 (thread_site who.0) seen act.now }
+        requires goes { MayNext L.goes seat.old (thread_site who.0) seen act.now }
         ensures stays { Stays seat.old seat.new }
-        ensures told { MatchResult result (λ done. Recorded L.goes seat.old.token.me.0 (thread_site who.0) seen act.now seat.new.token.me.0) (λ e. Missed L.goes seat.old.token.me.0 (thread_site who.0) seen e.seen seat.new.token.me.0) }
+        ensures told { Records L.goes seat.old (thread_site who.0) seen act.now result seat.new }
     {
         match self.step(seat, thread_site(who), seen, act) {
             Ok(_) => Ok(()),
@@ -92,16 +82,11 @@ impl<T: Content, L: Local> Board<T, L> {
         seen: u64,
         act: &FineAct,
     ) -> Result<(), Changed>
-        requires here { seat.old.token.table_id ≡ self.now.table.shared.table_id }
-        requires domain { domain < 8 }
-        requires site { domain_site domain < self.now.table.shared.table_id.words }
-        requires seen { last_got seat.old.token.me.0.got (domain_site domain) ≡ Some seen }
-        requires word { is_domain seen ≡ true }
-        requires room { (domain_in seen).number < 268435455 }
+        requires at { AtDomain self.now.table.shared.table_id seat.old domain seen }
         requires takes { IsTrue (domain_takes (domain_in seen) act.now) }
-        requires goes { MayNext L.goes seat.old.token.me.0 (domain_site domain) seen act.now }
+        requires goes { MayNext L.goes seat.old (domain_site domain) seen act.now }
         ensures stays { Stays seat.old seat.new }
-        ensures told { MatchResult result (λ done. Recorded L.goes seat.old.token.me.0 (domain_site domain) seen act.now seat.new.token.me.0) (λ e. Missed L.goes seat.old.token.me.0 (domain_site domain) seen e.seen seat.new.token.me.0) }
+        ensures told { Records L.goes seat.old (domain_site domain) seen act.now result seat.new }
     {
         match self.step(seat, domain_site(domain), seen, act) {
             Ok(_) => Ok(()),

@@ -1,12 +1,11 @@
 //! Claims to read and to write the partitions of a domain.
 
-ghost use Rattle.std.specs.Prelude.{◌≡◌, ◌<◌, true, false, MatchResult, Some, IfSome};
-ghost use Rattle.um_words.specs.Packed.{is_domain, domain_in};
-ghost use Rattle.um_site.specs.Tells.{last_got};
-ghost use Rattle.um_site.specs.Calls.{domain_site, Stays, MayNext, Recorded, Missed};
+ghost use Rattle.std.specs.Prelude.{◌≡◌, ◌<◌, true, false, IfSome};
+ghost use Rattle.um_words.specs.Packed.{domain_in};
+ghost use Rattle.um_site.specs.Calls.{domain_site, Stays, AtDomain, MayNext, Records};
 ghost use Rattle.um_words.specs.declared.fine.Unseen.{Unseen};
 ghost use Rattle.um_thread.specs.Acts.{unseen, IsFailedMove, read_done_act, IsEdit};
-ghost use Rattle.um_thread.specs.Tells.{Reads, Writes};
+ghost use Rattle.um_thread.specs.Tells.{TellsReading, TellsWriting};
 
 use um_base::ThreadIx;
 use um_site::{Board, Changed, Seat, domain_site};
@@ -37,16 +36,11 @@ pub fn read_claim<T: Content, L: Local>(
     by: ThreadIx,
     seen: u64,
 ) -> Result<Reading, Changed>
-    requires here { seat.old.token.table_id ≡ board.now.table.shared.table_id }
-    requires domain { domain < 8 }
-    requires site { domain_site domain < board.now.table.shared.table_id.words }
-    requires seen { last_got seat.old.token.me.0.got (domain_site domain) ≡ Some seen }
-    requires word { is_domain seen ≡ true }
-    requires room { (domain_in seen).number < 268435455 }
+    requires at { AtDomain board.now.table.shared.table_id seat.old domain seen }
     requires readers { (domain_in seen).writer ≡ false → (domain_in seen).readers < 127 }
-    requires goes { MayNext L.goes seat.old.token.me.0 (domain_site domain) seen (unseen Unseen.ReadClaim) }
+    requires goes { MayNext L.goes seat.old (domain_site domain) seen (unseen Unseen.ReadClaim) }
     ensures stays { Stays seat.old seat.new }
-    ensures told { MatchResult result (λ reading. Reads L.goes seat.old.token.me.0 (domain_site domain) seen reading seat.new.token.me.0) (λ e. Missed L.goes seat.old.token.me.0 (domain_site domain) seen e.seen seat.new.token.me.0) }
+    ensures told { TellsReading L.goes seat.old (domain_site domain) seen result seat.new }
 {
     let _ = by;
     let Some(word) = DomWord::unpack(seen) else {
@@ -75,17 +69,12 @@ pub fn read_done<T: Content, L: Local>(
     act: Option<FineAct>,
     seen: u64,
 ) -> Result<(), Changed>
-    requires here { seat.old.token.table_id ≡ board.now.table.shared.table_id }
-    requires domain { domain < 8 }
-    requires site { domain_site domain < board.now.table.shared.table_id.words }
-    requires seen { last_got seat.old.token.me.0.got (domain_site domain) ≡ Some seen }
-    requires word { is_domain seen ≡ true }
-    requires room { (domain_in seen).number < 268435455 }
+    requires at { AtDomain board.now.table.shared.table_id seat.old domain seen }
     requires claim { 0 < (domain_in seen).readers }
     requires act { IfSome act (λ a. IsFailedMove by domain a × ((domain_in seen).init ≡ false)) }
-    requires goes { MayNext L.goes seat.old.token.me.0 (domain_site domain) seen (read_done_act act) }
+    requires goes { MayNext L.goes seat.old (domain_site domain) seen (read_done_act act) }
     ensures stays { Stays seat.old seat.new }
-    ensures told { MatchResult result (λ done. Recorded L.goes seat.old.token.me.0 (domain_site domain) seen (read_done_act act) seat.new.token.me.0) (λ e. Missed L.goes seat.old.token.me.0 (domain_site domain) seen e.seen seat.new.token.me.0) }
+    ensures told { Records L.goes seat.old (domain_site domain) seen (read_done_act act) result seat.new }
 {
     let _ = by;
     let act = match act {
@@ -104,15 +93,10 @@ pub fn write_claim<T: Content, L: Local>(
     by: ThreadIx,
     seen: u64,
 ) -> Result<Writing, Changed>
-    requires here { seat.old.token.table_id ≡ board.now.table.shared.table_id }
-    requires domain { domain < 8 }
-    requires site { domain_site domain < board.now.table.shared.table_id.words }
-    requires seen { last_got seat.old.token.me.0.got (domain_site domain) ≡ Some seen }
-    requires word { is_domain seen ≡ true }
-    requires room { (domain_in seen).number < 268435455 }
-    requires goes { MayNext L.goes seat.old.token.me.0 (domain_site domain) seen (unseen Unseen.WriteClaim) }
+    requires at { AtDomain board.now.table.shared.table_id seat.old domain seen }
+    requires goes { MayNext L.goes seat.old (domain_site domain) seen (unseen Unseen.WriteClaim) }
     ensures stays { Stays seat.old seat.new }
-    ensures told { MatchResult result (λ writing. Writes L.goes seat.old.token.me.0 (domain_site domain) seen writing seat.new.token.me.0) (λ e. Missed L.goes seat.old.token.me.0 (domain_site domain) seen e.seen seat.new.token.me.0) }
+    ensures told { TellsWriting L.goes seat.old (domain_site domain) seen result seat.new }
 {
     let _ = by;
     let Some(word) = DomWord::unpack(seen) else {
@@ -138,18 +122,13 @@ pub fn write_done<T: Content, L: Local>(
     act: FineAct,
     seen: u64,
 ) -> Result<(), Changed>
-    requires here { seat.old.token.table_id ≡ board.now.table.shared.table_id }
-    requires domain { domain < 8 }
-    requires site { domain_site domain < board.now.table.shared.table_id.words }
-    requires seen { last_got seat.old.token.me.0.got (domain_site domain) ≡ Some seen }
-    requires word { is_domain seen ≡ true }
-    requires room { (domain_in seen).number < 268435455 }
+    requires at { AtDomain board.now.table.shared.table_id seat.old domain seen }
     requires claim { (domain_in seen).writer ≡ true }
     requires versions { (domain_in seen).version < 1048575 }
     requires edit { IsEdit by domain act }
-    requires goes { MayNext L.goes seat.old.token.me.0 (domain_site domain) seen (act) }
+    requires goes { MayNext L.goes seat.old (domain_site domain) seen act }
     ensures stays { Stays seat.old seat.new }
-    ensures told { MatchResult result (λ done. Recorded L.goes seat.old.token.me.0 (domain_site domain) seen (act) seat.new.token.me.0) (λ e. Missed L.goes seat.old.token.me.0 (domain_site domain) seen e.seen seat.new.token.me.0) }
+    ensures told { Records L.goes seat.old (domain_site domain) seen act result seat.new }
 {
     let _ = by;
     board.step_domain(seat, domain, seen, &act)?;

@@ -1,12 +1,11 @@
 //! Holds of threads, and their moves between domains.
 
-ghost use Rattle.std.specs.Prelude.{◌≡◌, ◌<◌, true, false, MatchResult, Some};
-ghost use Rattle.um_words.specs.Packed.{is_thread, thread_in};
-ghost use Rattle.um_site.specs.Tells.{last_got};
-ghost use Rattle.um_site.specs.Calls.{thread_site, Stays, MayNext, Recorded, Missed};
+ghost use Rattle.std.specs.Prelude.{◌≡◌, ◌<◌, true, false, IfOk};
+ghost use Rattle.um_words.specs.Packed.{thread_in};
+ghost use Rattle.um_site.specs.Calls.{thread_site, Stays, AtThread, MayNext, Records};
 ghost use Rattle.um_words.specs.declared.fine.Unseen.{Unseen};
 ghost use Rattle.um_thread.specs.Acts.{move_act, unseen};
-ghost use Rattle.um_thread.specs.Tells.{MovedTo};
+ghost use Rattle.um_thread.specs.Tells.{TellsMove};
 
 use um_base::{Act, Reply, ThreadIx};
 use um_site::{Board, Changed, Seat, shown, thread_site};
@@ -28,16 +27,12 @@ pub fn hold<T: Content, L: Local>(
     by: ThreadIx,
     seen: u64,
 ) -> Result<u8, Changed>
-    requires here { seat.old.token.table_id ≡ board.now.table.shared.table_id }
-    requires who { who.0 < 32 }
-    requires site { thread_site who.0 < board.now.table.shared.table_id.words }
-    requires seen { last_got seat.old.token.me.0.got (thread_site who.0) ≡ Some seen }
-    requires word { is_thread seen ≡ true }
-    requires room { (thread_in seen).number < 268435455 }
+    requires at { AtThread board.now.table.shared.table_id seat.old who.0 seen }
     requires free { (thread_in seen).held ≡ false }
-    requires goes { MayNext L.goes seat.old.token.me.0 (thread_site who.0) seen (unseen Unseen.Hold) }
+    requires goes { MayNext L.goes seat.old (thread_site who.0) seen (unseen Unseen.Hold) }
     ensures stays { Stays seat.old seat.new }
-    ensures told { MatchResult result (λ domain. (domain ≡ (thread_in seen).domain) × Recorded L.goes seat.old.token.me.0 (thread_site who.0) seen (unseen Unseen.Hold) seat.new.token.me.0) (λ e. Missed L.goes seat.old.token.me.0 (thread_site who.0) seen e.seen seat.new.token.me.0) }
+    ensures told { Records L.goes seat.old (thread_site who.0) seen (unseen Unseen.Hold) result seat.new }
+    ensures answer { IfOk result (λ domain. domain ≡ (thread_in seen).domain) }
 {
     let _ = by;
     let Some(thread) = ThreadWord::unpack(seen) else {
@@ -55,16 +50,11 @@ pub fn let_go<T: Content, L: Local>(
     by: ThreadIx,
     seen: u64,
 ) -> Result<(), Changed>
-    requires here { seat.old.token.table_id ≡ board.now.table.shared.table_id }
-    requires who { who.0 < 32 }
-    requires site { thread_site who.0 < board.now.table.shared.table_id.words }
-    requires seen { last_got seat.old.token.me.0.got (thread_site who.0) ≡ Some seen }
-    requires word { is_thread seen ≡ true }
-    requires room { (thread_in seen).number < 268435455 }
+    requires at { AtThread board.now.table.shared.table_id seat.old who.0 seen }
     requires held { (thread_in seen).held ≡ true }
-    requires goes { MayNext L.goes seat.old.token.me.0 (thread_site who.0) seen (unseen Unseen.LetGo) }
+    requires goes { MayNext L.goes seat.old (thread_site who.0) seen (unseen Unseen.LetGo) }
     ensures stays { Stays seat.old seat.new }
-    ensures told { MatchResult result (λ done. Recorded L.goes seat.old.token.me.0 (thread_site who.0) seen (unseen Unseen.LetGo) seat.new.token.me.0) (λ e. Missed L.goes seat.old.token.me.0 (thread_site who.0) seen e.seen seat.new.token.me.0) }
+    ensures told { Records L.goes seat.old (thread_site who.0) seen (unseen Unseen.LetGo) result seat.new }
 {
     let _ = by;
     board.step_thread(seat, who, seen, &FineAct::Unseen(Unseen::LetGo))?;
@@ -80,16 +70,11 @@ pub fn move_domain<T: Content, L: Local>(
     domain: u8,
     seen: u64,
 ) -> Result<Move, Changed>
-    requires here { seat.old.token.table_id ≡ board.now.table.shared.table_id }
-    requires who { who.0 < 32 }
-    requires site { thread_site who.0 < board.now.table.shared.table_id.words }
-    requires seen { last_got seat.old.token.me.0.got (thread_site who.0) ≡ Some seen }
-    requires word { is_thread seen ≡ true }
-    requires room { (thread_in seen).number < 268435455 }
+    requires at { AtThread board.now.table.shared.table_id seat.old who.0 seen }
     requires domain { domain < 8 }
-    requires goes { MayNext L.goes seat.old.token.me.0 (thread_site who.0) seen (move_act by who domain) }
+    requires goes { MayNext L.goes seat.old (thread_site who.0) seen (move_act by who domain) }
     ensures stays { Stays seat.old seat.new }
-    ensures told { MatchResult result (λ moved. MovedTo L.goes seat.old.token.me.0 (thread_site who.0) seen (move_act by who domain) moved seat.new.token.me.0) (λ e. Missed L.goes seat.old.token.me.0 (thread_site who.0) seen e.seen seat.new.token.me.0) }
+    ensures told { TellsMove L.goes seat.old (thread_site who.0) seen (move_act by who domain) result seat.new }
 {
     let Some(thread) = ThreadWord::unpack(seen) else {
         unreachable!();

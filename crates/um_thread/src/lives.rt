@@ -1,12 +1,11 @@
 //! The lives of threads.
 
-ghost use Rattle.std.specs.Prelude.{◌≡◌, ◌<◌, true, false, IsTrue, MatchResult, Some};
-ghost use Rattle.um_words.specs.Packed.{is_thread, thread_in};
+ghost use Rattle.std.specs.Prelude.{◌≡◌, ◌<◌, false, IsTrue};
+ghost use Rattle.um_words.specs.Packed.{thread_in};
 ghost use Rattle.um_machine.specs.State.{is_living};
-ghost use Rattle.um_site.specs.Tells.{last_got};
-ghost use Rattle.um_site.specs.Calls.{thread_site, Stays, MayNext, Recorded, Missed, Stood};
+ghost use Rattle.um_site.specs.Calls.{thread_site, Stays, AtThread, MayNext, Records};
 ghost use Rattle.um_thread.specs.Acts.{start_act, begin_act, exit_act, fatal_act, doom_act};
-ghost use Rattle.um_thread.specs.Tells.{Went};
+ghost use Rattle.um_thread.specs.Tells.{TellsGoing, IsStillDoomed};
 
 use um_base::{Act, Cause, Event, Mode, ThreadIx};
 use um_site::{Board, Changed, Seat, shown, thread_site};
@@ -30,16 +29,11 @@ pub fn start<T: Content, L: Local>(
     domain: u8,
     seen: u64,
 ) -> Result<(), Changed>
-    requires here { seat.old.token.table_id ≡ board.now.table.shared.table_id }
-    requires who { who.0 < 32 }
-    requires site { thread_site who.0 < board.now.table.shared.table_id.words }
-    requires seen { last_got seat.old.token.me.0.got (thread_site who.0) ≡ Some seen }
-    requires word { is_thread seen ≡ true }
-    requires room { (thread_in seen).number < 268435455 }
+    requires at { AtThread board.now.table.shared.table_id seat.old who.0 seen }
     requires domain { domain < 8 }
-    requires goes { MayNext L.goes seat.old.token.me.0 (thread_site who.0) seen (start_act by who mode domain) }
+    requires goes { MayNext L.goes seat.old (thread_site who.0) seen (start_act by who mode domain) }
     ensures stays { Stays seat.old seat.new }
-    ensures told { MatchResult result (λ done. Recorded L.goes seat.old.token.me.0 (thread_site who.0) seen (start_act by who mode domain) seat.new.token.me.0) (λ e. Missed L.goes seat.old.token.me.0 (thread_site who.0) seen e.seen seat.new.token.me.0) }
+    ensures told { Records L.goes seat.old (thread_site who.0) seen (start_act by who mode domain) result seat.new }
 {
     let act = FineAct::Shown {
         event: Event {
@@ -63,7 +57,7 @@ fn still_doomed<T: Content, L: Local>(
     requires who { who.0 < 32 }
     requires site { thread_site who.0 < board.now.table.shared.table_id.words }
     ensures stays { Stays seat.old seat.new }
-    ensures told { MatchResult result (λ going. (going ≡ Going.Doomed seen) × Stood L.goes seat.old.token.me.0 (thread_site who.0) seen seat.new.token.me.0) (λ e. Missed L.goes seat.old.token.me.0 (thread_site who.0) seen e.seen seat.new.token.me.0) }
+    ensures told { IsStillDoomed L.goes seat.old (thread_site who.0) seen result seat.new }
 {
     let word = board.look(seat, thread_site(who));
     if word == seen {
@@ -83,16 +77,11 @@ pub fn begin<T: Content, L: Local>(
     line: u16,
     seen: u64,
 ) -> Result<Going, Changed>
-    requires here { seat.old.token.table_id ≡ board.now.table.shared.table_id }
-    requires who { who.0 < 32 }
-    requires site { thread_site who.0 < board.now.table.shared.table_id.words }
-    requires seen { last_got seat.old.token.me.0.got (thread_site who.0) ≡ Some seen }
-    requires word { is_thread seen ≡ true }
-    requires room { (thread_in seen).number < 268435455 }
+    requires at { AtThread board.now.table.shared.table_id seat.old who.0 seen }
     requires living { (thread_in seen).doomed ≡ false → IsTrue (is_living (thread_in seen).life) }
-    requires goes { MayNext L.goes seat.old.token.me.0 (thread_site who.0) seen (begin_act by script line) }
+    requires goes { MayNext L.goes seat.old (thread_site who.0) seen (begin_act by script line) }
     ensures stays { Stays seat.old seat.new }
-    ensures told { MatchResult result (λ going. Went L.goes seat.old.token.me.0 (thread_site who.0) seen (begin_act by script line) going seat.new.token.me.0) (λ e. Missed L.goes seat.old.token.me.0 (thread_site who.0) seen e.seen seat.new.token.me.0) }
+    ensures told { TellsGoing L.goes seat.old (thread_site who.0) seen (begin_act by script line) result seat.new }
 {
     let Some(thread) = ThreadWord::unpack(seen) else {
         unreachable!();
@@ -113,16 +102,11 @@ pub fn exit<T: Content, L: Local>(
     by: ThreadIx,
     seen: u64,
 ) -> Result<Going, Changed>
-    requires here { seat.old.token.table_id ≡ board.now.table.shared.table_id }
-    requires who { who.0 < 32 }
-    requires site { thread_site who.0 < board.now.table.shared.table_id.words }
-    requires seen { last_got seat.old.token.me.0.got (thread_site who.0) ≡ Some seen }
-    requires word { is_thread seen ≡ true }
-    requires room { (thread_in seen).number < 268435455 }
+    requires at { AtThread board.now.table.shared.table_id seat.old who.0 seen }
     requires living { (thread_in seen).doomed ≡ false → IsTrue (is_living (thread_in seen).life) }
-    requires goes { MayNext L.goes seat.old.token.me.0 (thread_site who.0) seen (exit_act by) }
+    requires goes { MayNext L.goes seat.old (thread_site who.0) seen (exit_act by) }
     ensures stays { Stays seat.old seat.new }
-    ensures told { MatchResult result (λ going. Went L.goes seat.old.token.me.0 (thread_site who.0) seen (exit_act by) going seat.new.token.me.0) (λ e. Missed L.goes seat.old.token.me.0 (thread_site who.0) seen e.seen seat.new.token.me.0) }
+    ensures told { TellsGoing L.goes seat.old (thread_site who.0) seen (exit_act by) result seat.new }
 {
     let Some(thread) = ThreadWord::unpack(seen) else {
         unreachable!();
@@ -145,15 +129,10 @@ pub fn fatal<T: Content, L: Local>(
     cause: Cause,
     seen: u64,
 ) -> Result<(), Changed>
-    requires here { seat.old.token.table_id ≡ board.now.table.shared.table_id }
-    requires who { who.0 < 32 }
-    requires site { thread_site who.0 < board.now.table.shared.table_id.words }
-    requires seen { last_got seat.old.token.me.0.got (thread_site who.0) ≡ Some seen }
-    requires word { is_thread seen ≡ true }
-    requires room { (thread_in seen).number < 268435455 }
-    requires goes { MayNext L.goes seat.old.token.me.0 (thread_site who.0) seen (fatal_act by reason cause) }
+    requires at { AtThread board.now.table.shared.table_id seat.old who.0 seen }
+    requires goes { MayNext L.goes seat.old (thread_site who.0) seen (fatal_act by reason cause) }
     ensures stays { Stays seat.old seat.new }
-    ensures told { MatchResult result (λ done. Recorded L.goes seat.old.token.me.0 (thread_site who.0) seen (fatal_act by reason cause) seat.new.token.me.0) (λ e. Missed L.goes seat.old.token.me.0 (thread_site who.0) seen e.seen seat.new.token.me.0) }
+    ensures told { Records L.goes seat.old (thread_site who.0) seen (fatal_act by reason cause) result seat.new }
 {
     let act = shown(by, Act::Fatal { reason, cause });
     board.step_thread(seat, who, seen, &act)?;
@@ -168,15 +147,10 @@ pub fn doom<T: Content, L: Local>(
     by: ThreadIx,
     seen: u64,
 ) -> Result<(), Changed>
-    requires here { seat.old.token.table_id ≡ board.now.table.shared.table_id }
-    requires who { who.0 < 32 }
-    requires site { thread_site who.0 < board.now.table.shared.table_id.words }
-    requires seen { last_got seat.old.token.me.0.got (thread_site who.0) ≡ Some seen }
-    requires word { is_thread seen ≡ true }
-    requires room { (thread_in seen).number < 268435455 }
-    requires goes { MayNext L.goes seat.old.token.me.0 (thread_site who.0) seen (doom_act by who) }
+    requires at { AtThread board.now.table.shared.table_id seat.old who.0 seen }
+    requires goes { MayNext L.goes seat.old (thread_site who.0) seen (doom_act by who) }
     ensures stays { Stays seat.old seat.new }
-    ensures told { MatchResult result (λ done. Recorded L.goes seat.old.token.me.0 (thread_site who.0) seen (doom_act by who) seat.new.token.me.0) (λ e. Missed L.goes seat.old.token.me.0 (thread_site who.0) seen e.seen seat.new.token.me.0) }
+    ensures told { Records L.goes seat.old (thread_site who.0) seen (doom_act by who) result seat.new }
 {
     let act = shown(by, Act::Doom { who });
     board.step_thread(seat, who, seen, &act)?;

@@ -1,10 +1,9 @@
 //! The calls.
 
-ghost use Rattle.std.specs.Prelude.{◌≡◌, ◌<◌, true, MatchResult, Some, None, IfOk};
+ghost use Rattle.std.specs.Prelude.{◌≡◌, ◌<◌, true, None, IfOk};
 ghost use Rattle.um_words.specs.Packed.{row_of};
 ghost use Rattle.um_words.specs.Rows.{verdict_of};
-ghost use Rattle.um_site.specs.Tells.{last_got};
-ghost use Rattle.um_site.specs.Calls.{Stays, MayNext, Recorded, Missed};
+ghost use Rattle.um_site.specs.Calls.{Stays, AtRow, MayNext, Records};
 ghost use Rattle.um_site.specs.Lives.{Cleans, CleansOnce};
 ghost use Rattle.um_verify.specs.Checks.{check_act, checked_of, end_act, cleans, TellsCleaning};
 
@@ -42,16 +41,13 @@ pub fn check<T: Content, L: Local>(
     addr: Addr,
     seen: u64,
 ) -> Result<Checked, Changed>
-    requires here { seat.old.token.table_id ≡ board.now.table.shared.table_id }
-    requires row { row.0 < 128 }
-    requires site { row.0 < board.now.table.shared.table_id.words }
-    requires seen { last_got seat.old.token.me.0.got row.0 ≡ Some seen }
-    requires room { (row_of seen).number < 1048575 }
+    requires at { AtRow board.now.table.shared.table_id seat.old row.0 seen }
     requires claims { (row_of seen).claims < 127 }
     requires kind { kind ≡ None → fits ≡ true }
-    requires goes { MayNext L.goes seat.old.token.me.0 row.0 seen (check_act who mode kind fits want addr seen) }
+    requires goes { MayNext L.goes seat.old row.0 seen (check_act who mode kind fits want addr seen) }
     ensures stays { Stays seat.old seat.new }
-    ensures told { MatchResult result (λ checked. (checked ≡ checked_of (verdict_of (row_of seen) who.0 mode fits want)) × Recorded L.goes seat.old.token.me.0 row.0 seen (check_act who mode kind fits want addr seen) seat.new.token.me.0) (λ e. Missed L.goes seat.old.token.me.0 row.0 seen e.seen seat.new.token.me.0) }
+    ensures told { Records L.goes seat.old row.0 seen (check_act who mode kind fits want addr seen) result seat.new }
+    ensures answer { IfOk result (λ checked. checked ≡ checked_of (verdict_of (row_of seen) who.0 mode fits want)) }
 {
     let verdict = RowWord::read(seen).verdict(who.0, mode, fits, want);
     let act = FineAct::Shown {
@@ -77,15 +73,12 @@ fn end_claim<T: Content, L: Local>(
     row: Row,
     seen: u64,
 ) -> Result<bool, Changed>
-    requires here { seat.old.token.table_id ≡ board.now.table.shared.table_id }
-    requires row { row.0 < 128 }
-    requires site { row.0 < board.now.table.shared.table_id.words }
-    requires seen { last_got seat.old.token.me.0.got row.0 ≡ Some seen }
-    requires room { (row_of seen).number < 1048575 }
+    requires at { AtRow board.now.table.shared.table_id seat.old row.0 seen }
     requires claim { 0 < (row_of seen).claims }
-    requires goes { MayNext L.goes seat.old.token.me.0 row.0 seen end_act }
+    requires goes { MayNext L.goes seat.old row.0 seen end_act }
     ensures stays { Stays seat.old seat.new }
-    ensures told { MatchResult result (λ clean. (clean ≡ cleans seen) × Recorded L.goes seat.old.token.me.0 row.0 seen end_act seat.new.token.me.0) (λ e. Missed L.goes seat.old.token.me.0 row.0 seen e.seen seat.new.token.me.0) }
+    ensures told { Records L.goes seat.old row.0 seen end_act result seat.new }
+    ensures answer { IfOk result (λ clean. clean ≡ cleans seen) }
 {
     let word = RowWord::read(seen);
     let clean = word.is_dying() && word.claims == 1;
@@ -100,15 +93,12 @@ pub fn end_call<T: Content, L: Local>(
     row: Row,
     seen: u64,
 ) -> Result<bool, Changed>
-    requires here { seat.old.token.table_id ≡ board.now.table.shared.table_id }
-    requires row { row.0 < 128 }
-    requires site { row.0 < board.now.table.shared.table_id.words }
-    requires seen { last_got seat.old.token.me.0.got row.0 ≡ Some seen }
-    requires room { (row_of seen).number < 1048575 }
+    requires at { AtRow board.now.table.shared.table_id seat.old row.0 seen }
     requires claim { 0 < (row_of seen).claims }
-    requires goes { MayNext L.goes seat.old.token.me.0 row.0 seen end_act }
+    requires goes { MayNext L.goes seat.old row.0 seen end_act }
     ensures stays { Stays seat.old seat.new }
-    ensures told { MatchResult result (λ clean. (clean ≡ cleans seen) × Recorded L.goes seat.old.token.me.0 row.0 seen end_act seat.new.token.me.0) (λ e. Missed L.goes seat.old.token.me.0 row.0 seen e.seen seat.new.token.me.0) }
+    ensures told { Records L.goes seat.old row.0 seen end_act result seat.new }
+    ensures answer { IfOk result (λ clean. clean ≡ cleans seen) }
     ensures cleaner { IfOk result (λ clean. TellsCleaning row.0 seen seat.old.token.me.0 clean seat.new.token.me.0) }
     ensures cleans { IfOk result (λ clean. clean ≡ true → Cleans row.0 seat.new.token.me.0) }
     ensures once { CleansOnce L.goes seat.old.token.me.0 row.0 }

@@ -6,4 +6,4 @@ use Rattle.um_site.proofs.board.Board.step_thread.Goals as goal
 pub step-requires-clause-lawful : goal.step-requires-clause-lawful
 step-requires-clause-lawful g c = let a = c.args in
     subst (λ (site : ℕ). (next : ℕ) × WordMay site a.seen a.act.now next) (sym c.thread_site.ensures)
-    (thread-lawful a.who.0 a.seen a.act.now c.requires.who c.requires.word c.requires.room c.requires.takes c.requires.says)
+    (thread-lawful a.who.0 a.seen a.act.now c.requires.at.1 c.requires.at.2 c.requires.at.3 c.requires.takes c.requires.says)
