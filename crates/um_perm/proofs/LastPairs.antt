@@ -1,23 +1,20 @@
 -- What a drop does to a row's stage.
-use Rattle.std.proofs.Common.{◌≡◌, ℕ, ◌<◌, Bool, true, false, not, List, refl, sym, ap, ◌∙◌, arith, subst, eq-eqb}
+use Rattle.std.proofs.Common.{◌≡◌, ℕ, ◌<◌, Bool, true, false, not, List, refl, sym, ap, ◌∙◌, subst, eq-eqb}
 use Rattle.std.specs.Prelude.{◌==◌, ◌&&◌, ◌||◌, if◌then◌else◌}
-use Rattle.std.proofs.lemmas.Bool.Decides.{nat_tests}
 use Rattle.um_base.specs.declared.act.Act.{Act}
 use Rattle.um_base.specs.declared.act.Leftover.{Leftover}
 use Rattle.um_base.specs.declared.image.Image.{Image}
 use Rattle.um_base.specs.declared.names.Addr.{Addr}
 use Rattle.um_base.specs.declared.names.ThreadIx.{ThreadIx}
-use Rattle.um_words.specs.declared.fine.FineAct.{FineAct}
 use Rattle.um_words.specs.declared.made.Made.{Made}
 use Rattle.um_words.specs.declared.row_word.RowWord.{RowWord}
 use Rattle.um_words.specs.declared.row_word.Stage.{Stage}
 use Rattle.um_words.specs.Packed.{row_of}
 use Rattle.um_words.specs.Rows.{is_live, is_cleaning, has, permitted, is_last, gone_stage, left_of, row_after}
-use Rattle.um_words.specs.Steps.{WordMay}
 use Rattle.um_site.specs.declared.view.View.{View}
-use Rattle.um_site.specs.Tells.{made, with_made}
+use Rattle.um_site.specs.Tells.{made}
 use Rattle.um_site.specs.Calls.{shown, Recorded}
-use Rattle.um_site.specs.Lives.{stage, begins_cleaning, takes_last, begins_at, Cleans}
+use Rattle.um_site.specs.Lives.{stage, begins_cleaning, takes_last, Cleans}
 use Rattle.um_site.proofs.Lives.{row-step, row-left, in-cleaning, to-clean}
 use Rattle.um_perm.specs.declared.drops.Dropped.{Dropped}
 use Rattle.um_perm.specs.Pairs.{visit, drop_act, dropped_of, is_to_clean, Leaves, TellsCleaning}

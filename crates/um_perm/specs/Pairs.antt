@@ -1,5 +1,5 @@
 -- The acts on permissions and on the state of an object, and what each answers on a row's word.
-use Rattle.std.specs.Prelude.{◌≡◌, ℕ, Bool, true, false, ◌==◌, ◌&&◌, ◌||◌, not, if◌then◌else◌}
+use Rattle.std.specs.Prelude.{◌≡◌, ℕ, Bool, false, ◌==◌, ◌&&◌, ◌||◌, not, if◌then◌else◌}
 use Rattle.um_base.specs.declared.names.Addr.{Addr}
 use Rattle.um_base.specs.declared.names.Errno.{Errno}
 use Rattle.um_base.specs.declared.names.ThreadIx.{ThreadIx}

@@ -1,5 +1,5 @@
 -- What the calls tell whose answer the word decides. Where it forbids the step, nothing is recorded, and the word that stood there is told.
-use Rattle.std.specs.Prelude.{◌≡◌, ℕ, Bool, true, false, ◌||◌, ◌==◌, not, nat_lt, List, Result, MatchResult}
+use Rattle.std.specs.Prelude.{◌≡◌, ℕ, Bool, true, false, ◌||◌, nat_lt, List, Result, MatchResult}
 use Rattle.um_base.specs.declared.image.Image.{Image}
 use Rattle.um_words.specs.declared.fine.FineAct.{FineAct}
 use Rattle.um_words.specs.declared.fine.Unseen.{Unseen}

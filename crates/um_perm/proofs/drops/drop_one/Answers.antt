@@ -1,4 +1,4 @@
-use Rattle.std.proofs.Common.{◌≡◌, true, sym, ◌∙◌, ap, subst}
+use Rattle.std.proofs.Common.{sym, ◌∙◌, ap, subst}
 use Rattle.um_site.proofs.Lives.{cleans-once}
 use Rattle.um_perm.specs.Pairs.{drop_act, is_to_clean, TellsCleaning}
 use Rattle.um_perm.proofs.LastPairs.{tells, cleans}

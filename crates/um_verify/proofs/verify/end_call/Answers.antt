@@ -1,4 +1,4 @@
-use Rattle.std.proofs.Common.{◌≡◌, true, sym, ◌∙◌, ap, subst}
+use Rattle.std.proofs.Common.{sym, ◌∙◌, subst}
 use Rattle.um_site.proofs.Lives.{cleans-once}
 use Rattle.um_verify.specs.Checks.{TellsCleaning}
 use Rattle.um_verify.proofs.LastClaims.{tells, to-clean-it}
