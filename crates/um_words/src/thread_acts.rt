@@ -1,10 +1,11 @@
 //! The steps of the word of a thread index.
 
-ghost use Rattle.std.specs.Prelude.{◌≡◌, ◌↔◌, ◌<◌, ◌&&◌, not, ℕ, IsTrue, MatchOption};
+ghost use Rattle.std.specs.Prelude.{◌≡◌, ◌↔◌, ◌<◌, ◌/◌, ◌&&◌, not, ℕ, IsTrue, MatchOption};
 ghost use Rattle.um_machine.specs.State.{is_living};
 ghost use Rattle.um_words.specs.Packed.{FitsThread, packed_thread};
 ghost use Rattle.um_words.specs.Threads.{thread_takes, thread_takes_act, thread_takes_unseen, thread_says, thread_says_act, thread_after, thread_after_act, thread_after_unseen, counted_thread};
 ghost use Rattle.um_words.specs.Steps.{ThreadStep};
+ghost use Rattle.um_words.specs.declared.thread_word.ThreadWord.{ThreadWord};
 
 use crate::extra::{mode, starts};
 use crate::fine::{FineAct, More, Unseen};
@@ -138,6 +139,30 @@ fn agrees(act: &FineAct) -> bool
     }
 }
 
+/// Whether a step with this act leaves all that a word says.
+#[inline(always)]
+fn leaves_all(act: &FineAct) -> bool
+    ensures { IsTrue result → (w : ThreadWord) → thread_after w act.now ≡ w }
+{
+    match act {
+        FineAct::Shown { event, .. } => match event.act {
+            Act::Check { .. } | Act::Answered { .. } => true,
+            _ => false,
+        },
+        FineAct::Unseen(Unseen::WordRead) => true,
+        FineAct::Unseen(_) => false,
+    }
+}
+
+/// The word with one step more, which says the same.
+#[inline(always)]
+fn one_more(word: u64) -> u64
+    requires { word / 68719476736 < 268435455 }
+    ensures { (t : ThreadWord) → packed_thread t ≡ word → result ≡ packed_thread (counted_thread t) }
+{
+    word + 0x10_0000_0000
+}
+
 /// The word that a lawful step leaves, and nothing where the step isn't lawful.
 #[inline(always)]
 pub fn thread_step(word: u64, act: &FineAct) -> Option<u64>
@@ -146,6 +171,9 @@ pub fn thread_step(word: u64, act: &FineAct) -> Option<u64>
     let thread = ThreadWord::unpack(word)?;
     if thread.number >= LAST || !thread.takes(act) || !agrees(act) {
         return None;
+    }
+    if leaves_all(act) {
+        return Some(one_more(word));
     }
     let mut next = thread;
     next.take(act);
