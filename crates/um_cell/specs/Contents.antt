@@ -3,11 +3,13 @@ use Rattle.std.specs.Prelude.{◌≡◌, ℕ, ◌+◌, ◌<◌, ◌≤◌, List,
 use mathlib.Core.Option.{some}
 use lib.ListN.{get_elem?}
 use Rattle.atomic_table.specs.Table.{Me, rest}
+use Rattle.atomic_table.specs.Seated.{TableId}
 use Rattle.um_base.specs.declared.image.Image.{Image}
 use Rattle.um_words.specs.Steps.{WordMay, number}
 use Rattle.um_words.specs.declared.fine.FineAct.{FineAct}
 use Rattle.um_words.specs.declared.made.Made.{Made}
 use Rattle.um_words.specs.declared.made.Moved.{Moved}
+use Rattle.um_site.specs.declared.seat.Seat.{Seat}
 use Rattle.um_site.specs.declared.view.View.{View}
 use Rattle.um_site.specs.Cells.{AmongCells}
 use Rattle.um_site.specs.Tells.{recording, GoesOn}
@@ -15,6 +17,10 @@ use Rattle.um_cell.specs.declared.cells.Cells.{Cells}
 
 abbrev pub IsCell : {T : Type 0} → Cells T → ℕ → Type 0
 IsCell c i = (c.first ≤ i) × (i < c.first + c.count)
+
+-- the seat is at this board, which has the cell, and the cell is one of these
+abbrev pub AtCell : {T : Type 0} → TableId → Seat T → Cells T → ℕ → Type 0
+AtCell board s cells i = (s.token.table_id ≡ board) × (i < board.words) × IsCell cells i
 
 -- the seat knows that these cells have their contents
 abbrev pub KnowsFilled : {T : Type 0} → Cells T → View → Type 0
@@ -35,6 +41,11 @@ SameView v w =
 
 abbrev pub made : ℕ → FineAct → ℕ → Moved → Made
 made cell act next moved = record { site = cell; act = act; word = next; moved = moved }
+
+-- the seat may make this act next with what it moves, where it is lawful on the word of the take
+abbrev pub MayPut : {T : Type 0} → (Image → List ℕ → List Made → Made → Type 0) → Seat T → ℕ → ℕ → FineAct → Moved → Type 0
+MayPut goes s cell word act moved =
+    let v = s.token.me.0 in (next : ℕ) → WordMay cell word act next → goes v.image v.name v.made (made cell act next moved)
 
 -- one step with this act was recorded, with the number n, on the word of the take, which had the turn's bit
 pub record HasPut {T : Type 0} (goes : Image → List ℕ → List Made → Made → Type 0) (me : Me (Option T) View) (cell word : ℕ) (act : FineAct) (moved : Moved) (n : ℕ) (me' : Me (Option T) View) : Type 0 where

@@ -1,10 +1,10 @@
 //! Turns that are given back.
 
-ghost use Rattle.std.specs.Prelude.{◌≡◌, ℕ, ◌<◌, None};
+ghost use Rattle.std.specs.Prelude.{◌≡◌, ℕ, None};
 ghost use Rattle.um_words.specs.Steps.{WordMay};
 ghost use Rattle.um_site.specs.Calls.{SameSeat};
 ghost use Rattle.um_site.specs.Tells.{HasTurn, returning};
-ghost use Rattle.um_cell.specs.Contents.{IsCell, KeepsKin, made, HasPut};
+ghost use Rattle.um_cell.specs.Contents.{AtCell, KeepsKin, MayPut, HasPut};
 ghost use Rattle.atomic_table.specs.Table.{rest};
 
 use crate::cells::Cells;
@@ -23,12 +23,10 @@ impl<T: Content> Cells<T> {
         act: &FineAct,
         moved: &Moved,
     ) -> u32
-        requires here { seat.old.token.table_id ≡ board.now.table.shared.table_id }
-        requires site { held.cell < board.now.table.shared.table_id.words }
-        requires cell { IsCell self.now held.cell }
+        requires at { AtCell board.now.table.shared.table_id seat.old self.now held.cell }
         requires held { (old : T) × HasTurn T.opens T.follows seat.old.token.me held.cell held.word None old × T.follows old act.now moved.now held.contents }
         requires lawful { (next : ℕ) × WordMay held.cell held.word act.now next }
-        requires goes { (next : ℕ) → WordMay held.cell held.word act.now next → L.goes seat.old.token.me.0.image seat.old.token.me.0.name seat.old.token.me.0.made (made held.cell act.now next moved.now) }
+        requires goes { MayPut L.goes seat.old held.cell held.word act.now moved.now }
         ensures same { SameSeat seat.old seat.new }
         ensures kin { KeepsKin seat.old.token.me.0 seat.new.token.me.0 }
         ensures idle { seat.new.token.me.0.turn ≡ None }
@@ -62,9 +60,7 @@ impl<T: Content> Cells<T> {
 
     /// Gives the turn of a cell back unchanged, and records nothing.
     pub fn put_quiet<L: Local>(&self, board: &Board<T, L>, seat: &mut Seat<T>, held: Held<T>)
-        requires here { seat.old.token.table_id ≡ board.now.table.shared.table_id }
-        requires site { held.cell < board.now.table.shared.table_id.words }
-        requires cell { IsCell self.now held.cell }
+        requires at { AtCell board.now.table.shared.table_id seat.old self.now held.cell }
         requires held { HasTurn T.opens T.follows seat.old.token.me held.cell held.word None held.contents }
         ensures same { SameSeat seat.old seat.new }
         ensures kin { KeepsKin seat.old.token.me.0 seat.new.token.me.0 }

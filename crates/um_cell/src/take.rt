@@ -1,9 +1,9 @@
 //! Turns that are taken.
 
-ghost use Rattle.std.specs.Prelude.{◌≡◌, ◌%◌, ◌<◌, MatchResult, Some, None};
+ghost use Rattle.std.specs.Prelude.{◌≡◌, ◌%◌, MatchResult, Some, None};
 ghost use Rattle.um_site.specs.Calls.{SameSeat, Stays};
 ghost use Rattle.um_site.specs.Tells.{HasTurn, Looked, Took};
-ghost use Rattle.um_cell.specs.Contents.{IsCell, KnowsFilled, KeepsKin};
+ghost use Rattle.um_cell.specs.Contents.{AtCell, KnowsFilled, KeepsKin};
 
 use crate::cells::Cells;
 use crate::held::{Busy, Held};
@@ -18,9 +18,7 @@ impl<T: Content> Cells<T> {
         seat: &mut Seat<T>,
         cell: u16,
     ) -> Result<Held<T>, Busy>
-        requires here { seat.old.token.table_id ≡ board.now.table.shared.table_id }
-        requires site { cell < board.now.table.shared.table_id.words }
-        requires cell { IsCell self.now cell }
+        requires at { AtCell board.now.table.shared.table_id seat.old self.now cell }
         requires filled { KnowsFilled self.now seat.old.token.me.0 }
         requires idle { seat.old.token.me.0.turn ≡ None }
         ensures same { SameSeat seat.old seat.new }

@@ -28,7 +28,7 @@ pub trait Local {
         ensures { MatchOption result ((next : ℕ) → WordMay site word act.now next → ⊥) (λ next. WordMay site word act.now next) };
 
     /// The fact follows from the steps that may be made, where it holds of the words before the first one.
-    ghost follows: { (image : Image) (opening words : List ℕ) (h : List Entry) → fact image opening [] → IsHistory (goes image) opening words h → fact image words h };
+    ghost fact_holds: { (image : Image) (opening words : List ℕ) (h : List Entry) → fact image opening [] → IsHistory (goes image) opening words h → fact image words h };
 }
 
 /// The word that a lawful step leaves at the site, and nothing where the step isn't lawful there.
@@ -53,7 +53,7 @@ impl Local for AnyStep {
 
     ghost fact = { λ image words history. Unit {0} };
 
-    ghost follows = { λ image opening words history first stands. tt };
+    ghost fact_holds = { λ image opening words history first stands. tt };
 
     #[inline(always)]
     fn step(site: u16, word: u64, act: &FineAct) -> Option<u64> {

@@ -1,4 +1,4 @@
-use Rattle.std.proofs.Common.{◌≡◌, ◌-◌, ◌%◌, ◌∷◌, ℕ, Some, refl, ap, ◌∙◌, subst, arith}
+use Rattle.std.proofs.Common.{◌≡◌, ◌-◌, ◌%◌, ◌∷◌, refl, ap, ◌∙◌, arith}
 use Rattle.atomic_table.specs.Table.{rest}
 use Rattle.um_cell.proofs.Turns.{taken_held}
 use Rattle.um_cell.proofs.cells.Cells.take.Goals as goal
