@@ -2,7 +2,8 @@
 -- holds at the opening (First and the files of that name, Opens). Of the premise: Leaves is what a lawful step makes of the machine's state,
 -- and the files named Part have the parts of the relation that are kept whole, with those named List for lists; own parts (Own, Others),
 -- claims (ListClaims, RowClaims), what is kept beside (ListFits, ListBlocks, Kept, Quiet, Writes and the files named Kept and Written), and
--- that events are steps of the machine where the relation holds (Says, Offered, HeldRows, Shown and the files of steps).
+-- that events are steps of the machine where the relation holds (Says, Offered, HeldRows, Shown and the files of steps). What the machine's state is
+-- known to be in a run is in the files named Known, CallSteps, CallsProper and Reachable.
 pub mod Erased
 pub mod ThreadLists
 pub mod Own
@@ -67,6 +68,8 @@ pub mod CleanersSteps
 pub mod CleanersPart
 pub mod CallsKnown
 pub mod DomainsKnown
+pub mod CallSteps
+pub mod CallsProper
 pub mod LawfulSteps
 pub mod Parts
 pub mod ErasedLeft

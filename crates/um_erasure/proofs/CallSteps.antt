@@ -1,0 +1,149 @@
+-- The steps that are left of a call are proper: each act on an object is on one that the call holds then, each edit is of one of the
+-- image's domains, and where the call is over it holds nothing. The steps of each line of a lawful image are.
+use Rattle.std.proofs.Common.{◌≡◌, ℕ, zero, suc, ◌+◌, ◌*◌, ◌<◌, Bool, true, false, List, [], ◌∷◌, ◌++◌, length, Option, Some, None, refl, sym, ap, ◌∙◌, subst, arith}
+use Rattle.std.specs.Prelude.{◌==◌, ◌&&◌, ◌||◌, ℤ, if◌then◌else◌, is_some, nat_lt, slice_get, slice_index_or, slice_set, unwrap_or}
+use Rattle.std.specs.List.{list_all}
+use Rattle.std.proofs.lemmas.Bool.{and_parts, false≢true, ltb-true}
+use Rattle.um_base.specs.declared.act.Cause.{Cause}
+use Rattle.um_base.specs.declared.ask.Ask.{Ask}
+use Rattle.um_base.specs.declared.image.Image.{Image}
+use Rattle.um_base.specs.declared.image.Script.{Script}
+use Rattle.um_base.specs.declared.instr.Instr.{Instr}
+use Rattle.um_base.specs.declared.instr.Options.{Options}
+use Rattle.um_base.specs.declared.names.Errno.{Errno}
+use Rattle.um_base.specs.declared.names.Kind.{Kind}
+use Rattle.um_base.specs.declared.names.Mode.{Mode}
+use Rattle.um_base.specs.declared.names.Ref.{Ref}
+use Rattle.um_base.specs.declared.names.ThreadIx.{ThreadIx}
+use Rattle.um_base.specs.Lawful.{IsLawful, are_lawful_scripts, is_lawful_line, is_lawful_script, is_number_below, is_within}
+use Rattle.um_base.specs.Places.{row_at}
+use Rattle.um_machine.specs.declared.pending.Pending.{Pending}
+use Rattle.um_machine.specs.declared.thread.Place.{Place}
+use Rattle.um_machine.specs.declared.thread.Thread.{Thread}
+use Rattle.um_machine.specs.Order.{Steps, answer_error, answer_zero, buffered, creates, number_of, privileged, steps_of, to_addr, work}
+use Rattle.um_machine.specs.State.{instruction_at, lines_of, script_lines, value_of}
+use Rattle.um_reach.proofs.Guards.{Names}
+
+-- nothing is held
+abbrev pub Bare : List Bool → Type 0
+Bare checked = (x : ℕ) → slice_index_or checked x false ≡ false
+
+module _ (image : Image) where
+  abbrev pub Proper : List Bool → Steps → Type 0
+  Proper checked [] = Bare checked
+  Proper checked (Pending.Begin ∷ rest) = ⊥
+  Proper checked (Pending.Exit ∷ rest) = ⊥
+  Proper checked (Pending.CleanPair who ∷ rest) = ⊥
+  Proper checked (Pending.Recycle ∷ rest) = ⊥
+  Proper checked (Pending.Check a kind want refusal ∷ rest) =
+      (x : ℕ) → row_at image a.0 ≡ Some x → slice_index_or (slice_set checked x true) x false ≡ true → Proper (slice_set checked x true) rest
+  Proper checked (Pending.Work a ask ∷ rest) = Names image checked a.0 × Proper checked rest
+  Proper checked (Pending.Answer reply to ∷ rest) = rest ≡ []
+  Proper checked (Pending.Fatal reason cause ∷ rest) = Unit {0}
+  Proper checked (Pending.EnterUser script ∷ rest) = Bare checked
+  Proper checked (Pending.Dooms from ∷ rest) = Bare checked
+  Proper checked (Pending.Start who script stack priority mode ∷ rest) = (other : List Bool) → Proper other rest
+  Proper checked (Pending.DomInit d parts ∷ rest) = (d < length image.domains) × Proper checked rest
+  Proper checked (Pending.DomAdd d range attr ∷ rest) = (d < length image.domains) × Proper checked rest
+  Proper checked (Pending.DomRemove d range attr ∷ rest) = (d < length image.domains) × Proper checked rest
+  Proper checked (p ∷ rest) = Proper checked rest
+
+-- The steps of a line.
+
+module _ (image : Image) (checked : List Bool) where
+  proper-privileged : (mode : Mode) (steps : Steps) → Proper image checked steps → Proper image checked (privileged mode steps)
+  proper-privileged Mode.User steps h = tt
+  proper-privileged Mode.Supervisor steps h = h
+
+  proper-init : (a x : ℕ) → row_at image a ≡ Some x → slice_index_or checked x false ≡ true → (ask : Ask) (refused : Bool)
+      → Proper image checked (if refused then answer_error Errno.EINVAL else work a ask ∷ Pending.SetInit (to_addr a) false None ∷ answer_zero)
+  proper-init a x e h ask true = refl
+  proper-init a x e h ask false = ((x, e, h), refl)
+
+  proper-inherit : (inherits : Bool) (who : ThreadIx) (rest : Steps) → Proper image checked rest
+      → Proper image checked ((if inherits then Pending.Inherit who ∷ [] else []) ++ rest)
+  proper-inherit true who rest h = h
+  proper-inherit false who rest h = h
+
+  proper-creates : (mode : Mode) (who stack a b script : ℕ) (priority : ℤ) (options : Options) (cause : Option Cause)
+      → Proper image checked (creates mode who stack a b script priority options cause)
+  proper-creates mode who stack a b script priority options (Some cause) = tt
+  proper-creates mode who stack a b script priority options None = proper-inherit options.inherit _ _ (λ other. refl)
+
+proper-buffered : (image : Image) (checked : List Bool) (a : ℕ) (kind : Kind) (lawful : Bool) (size : ℕ) (ask : Ask) → Proper image checked (buffered a kind lawful size ask)
+proper-buffered image checked a kind true size ask = λ x e h. ((x, e, h), refl)
+proper-buffered image checked a kind false size ask = λ x e h. refl
+
+number-below : (n : ℕ) (domain : Ref) → is_number_below n domain ≡ true → number_of domain < n
+number-below n (Ref.At i) h = ltb-true i n h
+number-below n (Ref.Named name) h = absurd (false≢true h)
+
+module _ (image : Image) (t : ℕ) (me : Thread) (none : Bare me.checked) where
+  pub proper-steps : (i : ℕ) (instr : Instr) → is_lawful_line image i instr ≡ true → Proper image me.checked (steps_of image t me instr)
+  proper-steps i (Instr.Set to value) lawful = none
+  proper-steps i (Instr.Add to value) lawful = none
+  proper-steps i (Instr.Load to addr size) lawful = none
+  proper-steps i (Instr.Store addr size value) lawful = none
+  proper-steps i (Instr.Exec addr) lawful = none
+  proper-steps i Instr.Oops lawful = tt
+  proper-steps i Instr.Panic lawful = tt
+  proper-steps i Instr.End lawful = none
+  proper-steps i (Instr.Repeat times) lawful = none
+  proper-steps i (Instr.ObjectAlloc kind to) lawful = refl
+  proper-steps i (Instr.DomainInit domain parts) lawful =
+      proper-privileged image me.checked me.mode _ (number-below (length image.domains) domain (and_parts _ _ lawful).0, refl)
+  proper-steps i (Instr.DomainAdd domain part) lawful =
+      proper-privileged image me.checked me.mode _ (number-below (length image.domains) domain (and_parts _ _ lawful).0, refl)
+  proper-steps i (Instr.DomainRemove domain part) lawful =
+      proper-privileged image me.checked me.mode _ (number-below (length image.domains) domain (and_parts _ _ lawful).0, refl)
+  proper-steps i (Instr.DomainMove domain thread) lawful = proper-privileged image me.checked me.mode _ (λ x e h. refl)
+  proper-steps i (Instr.UserMode script) lawful = proper-privileged image me.checked me.mode _ none
+  proper-steps i (Instr.AllGrant object) lawful = proper-privileged image me.checked me.mode _ (λ x e h. refl)
+  proper-steps i (Instr.Grant object thread) lawful = λ y f g x e h. refl
+  proper-steps i (Instr.Revoke object thread) lawful = proper-privileged image me.checked me.mode _ (λ y f g x e h. refl)
+  proper-steps i (Instr.Release object) lawful = λ x e h. refl
+  proper-steps i (Instr.Create thread stack size script priority options) lawful =
+      λ y f g x e h. proper-creates image (slice_set (slice_set me.checked y true) x true) me.mode _ _ _ _ _ _ options _
+  proper-steps i (Instr.NameSet thread addr) lawful = λ x e h. refl
+  proper-steps i (Instr.SemInit object count limit) lawful =
+      let c = value_of me.registers count in
+      let l = value_of me.registers limit in
+      λ x e h. proper-init image (slice_set me.checked x true) (value_of me.registers object) x e h (Ask.SemInit c l) (l == 0 || nat_lt l c)
+  proper-steps i (Instr.MsgqInit object msg_size max_msgs) lawful =
+      let size = value_of me.registers msg_size in
+      let most = value_of me.registers max_msgs in
+      proper-buffered image me.checked (value_of me.registers object) Kind.Msgq (is_within 1 256 size && is_within 1 64 most) (size * most) (Ask.MsgqInit size most (unwrap_or me.pool 0))
+  proper-steps i (Instr.StackInit object entries) lawful =
+      let most = value_of me.registers entries in
+      proper-buffered image me.checked (value_of me.registers object) Kind.Stack (is_within 1 64 most) (4 * most) (Ask.StackInit most (unwrap_or me.pool 0))
+  proper-steps i (Instr.PipeInit object size) lawful =
+      let most = value_of me.registers size in
+      proper-buffered image me.checked (value_of me.registers object) Kind.Pipe (is_within 1 256 most) most (Ask.PipeInit most (unwrap_or me.pool 0))
+  proper-steps i _ lawful = λ x e h. ((x, e, h), refl)
+
+-- Lines of a lawful image.
+
+lawful-script : (image : Image) (i : ℕ) (scripts : List Script) → are_lawful_scripts image i scripts ≡ true → (k : ℕ) (script : Script) → slice_get scripts k ≡ Some script
+    → is_lawful_script image (i + k) script ≡ true
+lawful-script image i [] h k script e = absurd (false≢true (ap is_some e))
+lawful-script image i (s ∷ scripts) h zero script e =
+    let at : i ≡ i + 0 = omega arith in
+    ap (λ (o : Option Script). is_lawful_script image (i + 0) (unwrap_or o s)) (sym e) ∙ (ap (λ n. is_lawful_script image n s) (sym at) ∙ (and_parts _ _ h).0)
+lawful-script image i (s ∷ scripts) h (suc k) script e =
+    let at : i + 1 + k ≡ i + suc k = omega arith in
+    ap (λ n. is_lawful_script image n script) (sym at) ∙ lawful-script image (i + 1) scripts (and_parts _ _ h).1 k script e
+
+line-at : (test : Instr → Bool) (lines : List Instr) → list_all test lines ≡ true → (n : ℕ) (line : Instr) → slice_get lines n ≡ Some line → test line ≡ true
+line-at test [] h n line e = absurd (false≢true (ap is_some e))
+line-at test (l ∷ lines) h zero line e = ap (λ (o : Option Instr). test (unwrap_or o l)) (sym e) ∙ (and_parts _ _ h).0
+line-at test (l ∷ lines) h (suc n) line e = line-at test lines (and_parts _ _ h).1 n line e
+
+pub line-lawful : (image : Image) → IsLawful image → (place : Place) (line : Instr) → instruction_at image place ≡ Some line → is_lawful_line image place.script line ≡ true
+line-lawful image lawful place line e = line-at (is_lawful_line image place.script) (script_lines image place.script) (by (slice_get image.scripts place.script) refl) place.line line e
+  where
+    by : (o : Option Script) → slice_get image.scripts place.script ≡ o → list_all (is_lawful_line image place.script) (lines_of o) ≡ true
+    by None q = refl
+    by (Some script) q =
+        let at : 0 + place.script ≡ place.script = omega arith in
+        let is : is_lawful_script image place.script script ≡ true =
+        subst (λ n. is_lawful_script image n script ≡ true) at (lawful-script image 0 image.scripts lawful.scripts place.script script q) in (and_parts _ _ (and_parts _ _ is).0).1
