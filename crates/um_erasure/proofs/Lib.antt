@@ -71,6 +71,7 @@ pub mod DomainsKnown
 pub mod CallSteps
 pub mod CallsProper
 pub mod LawfulSteps
+pub mod SuitsKnown
 pub mod Parts
 pub mod ErasedLeft
 pub mod MemoryPart

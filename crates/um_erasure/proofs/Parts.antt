@@ -1,5 +1,4 @@
--- Every lawful step keeps the relation, where it keeps the parts of it that are still to be proved, and the machine's states suit the events:
--- the other parts are kept.
+-- Every lawful step keeps the relation, where it keeps the parts of it that are still to be proved: the other parts are kept.
 use Rattle.std.proofs.Common.{subst, ◌≡◌, ℕ, ◌<◌, refl, ◌∙◌}
 use Rattle.um_base.specs.declared.image.Image.{Image}
 use Rattle.um_base.specs.declared.limits.TheConstants.{ROWS, THREADS}
@@ -40,6 +39,7 @@ use Rattle.um_erasure.proofs.Reachable.{Any, makes-any, reachable-sound}
 use Rattle.um_erasure.proofs.RowsPart.{rows-part}
 use Rattle.um_erasure.proofs.RunningPart.{running-part}
 use Rattle.um_erasure.proofs.SchedulerPart.{scheduler-part}
+use Rattle.um_erasure.proofs.SuitsKnown.{suits-known}
 use Rattle.um_erasure.proofs.TablePart.{table-part}
 use Rattle.um_erasure.proofs.WordsPart.{words-part}
 use Rattle.um_erasure.proofs.Writes.{Keeping, after-kept, bytes-kept}
@@ -124,10 +124,8 @@ module _ (f : Fine) (m : State) (e : FineStep) (law : Lawful f m e) where
         heap = heap-part f m e law s leaves;
       }
 
--- What is left to prove of every lawful step, with a state that a run reaches: that the state suits the events, and that the step keeps the
--- parts that are left.
+-- What is left to prove of every lawful step, with a state that a run reaches: that the step keeps the parts that are left.
 pub record IsLeftOpen (image : Image) (cpus : ℕ) : Type 0 where
-  pub suits : (f : Fine) (m : State) → f.image ≡ image → f.cpus ≡ cpus → Rel f m → IsReachable image cpus m → Suits f m
   pub parts : (f : Fine) (m : State) (e : FineStep) → f.image ≡ image → f.cpus ≡ cpus → IsReachable image cpus m → Lawful f m e → Suits f m
       → (s : State) → Leaves f m e s → IsLeft (stepped f.image f.cpus f.processors f.sites e) s
 
@@ -135,7 +133,7 @@ pub keeps-all : (image : Image) (cpus : ℕ) → IsDescribed image → IsKnown (
 keeps-all image cpus described known left ps ss m e rel reach by taken =
     let f = fine image cpus ps ss in
     let law : Lawful f m e = record { rel = rel; sound = reachable-sound image cpus described.few m reach known; by = by; taken = taken } in
-    let suits = left.suits f m refl refl rel reach in
+    let suits = suits-known image cpus described known m reach f rel in
     let own = own-known image described.lawful (subst IsSited (opening-image image) known.reached.sited) in
     let all : InDomains f m = λ t l started. started-placed image cpus described m reach t started in
     let next = lawful-next f m e law suits own all in
