@@ -1,7 +1,7 @@
 -- What is known of a state bounds its threads and rows, and says that a thread which is started next doesn't live; and in a described image
 -- each thread object has a thread of its own. So of what the events ask, this needn't be asked.
 use Rattle.std.proofs.Common.{◌≡◌, ◌≢◌, ◌⊎◌, inl, ℕ, zero, suc, ◌+◌, ◌-◌, ◌<◌, ◌≤◌, Bool, true, false, List, [], ◌∷◌, length, Option, Some, None, refl, sym, ap, ◌∙◌, arith, eq-eqb}
-use Rattle.std.specs.Prelude.{if◌then◌else◌, is_some, nat_lt, position, slice_get, slice_index_or, unwrap_or, map}
+use Rattle.std.specs.Prelude.{ℤ, if◌then◌else◌, is_some, nat_lt, position, slice_get, slice_index_or, unwrap_or, map}
 use Rattle.std.specs.List.{list_all}
 use Rattle.std.proofs.lemmas.Bool.{and_parts, false≢true, lt-ltb, ltb-true, true≢false}
 use Rattle.std.proofs.lemmas.Bool.Decides.{nat_tests}
@@ -10,43 +10,52 @@ use Rattle.um_base.specs.declared.image.ObjectDef.{ObjectDef}
 use Rattle.um_base.specs.declared.image.Setup.{Setup}
 use Rattle.um_base.specs.declared.limits.TheConstants.{ROWS, STATIC_ROWS, STATIC_THREADS, THREADS}
 use Rattle.um_base.specs.declared.names.Kind.{Kind}
+use Rattle.um_base.specs.declared.names.Mode.{Mode}
+use Rattle.um_base.specs.declared.names.Row.{Row}
+use Rattle.um_base.specs.declared.names.ThreadIx.{ThreadIx}
 use Rattle.um_base.specs.Lawful.{IsLawful, is_setup_of}
 use Rattle.um_base.specs.Places.{is_thread_index, own_row, setup_at, setup_thread}
 use Rattle.um_machine.specs.declared.pending.Pending.{Pending}
 use Rattle.um_machine.specs.declared.thread.Life.{Life}
 use Rattle.um_machine.specs.Order.{Steps}
+use Rattle.um_machine.specs.Run.{Offers, goes, skips_drops, skips_inherit}
 use Rattle.um_machine.specs.State.{State, is_living, thread_at}
 use Rattle.um_reach.proofs.Claims.{claims}
-use Rattle.um_reach.proofs.Cores.{Call, call_is}
+use Rattle.um_reach.proofs.Cores.{Call, call_at, call_is, core_of}
 use Rattle.um_reach.proofs.Facts.{not_less}
 use Rattle.um_reach.proofs.Guards.{IsSited, kind_in}
-use Rattle.um_erasure.proofs.CleanSteps.{Calls, OwnRows, StartsNext}
+use Rattle.um_erasure.proofs.CleanSteps.{Calls, OwnRows}
 use Rattle.um_erasure.proofs.Reachable.{IsSound}
 
 -- a thread that is started next is claimed by the one that starts it
-starts-claims : (image : Image) (u : ℕ) (steps : Steps) → StartsNext u steps → claims image u steps ≡ true
-starts-claims image u (Pending.Start who script stack priority mode ∷ rest) h = eq-eqb who.0 u h
-starts-claims image u (Pending.Inherit child ∷ Pending.Start who script stack priority mode ∷ rest) h = eq-eqb who.0 u h
-starts-claims image u (Pending.Drops from ∷ Pending.Start who script stack priority mode ∷ rest) h = eq-eqb who.0 u h
-starts-claims image u _ h = absurd h
+starts-claims : (m : State) (t : ℕ) (who : ThreadIx) (script : ℕ) (stack : Row) (priority : ℤ) (mode : Mode) (rest : Steps)
+    → Offers m t (Pending.Start who script stack priority mode) rest → claims m.image who.0 (thread_at m t).pending ≡ true
+starts-claims m t who script stack priority mode rest (goes e) = ap (claims m.image who.0) e ∙ eq-eqb who.0 who.0 refl
+starts-claims m t who script stack priority mode rest (skips_inherit e due) = ap (claims m.image who.0) e ∙ eq-eqb who.0 who.0 refl
+starts-claims m t who script stack priority mode rest (skips_drops e due) = ap (claims m.image who.0) e ∙ eq-eqb who.0 who.0 refl
 
 -- what is still asked of calls: who is in none holds nothing by one
 abbrev pub RestsHoldNothing : State → Type 0
 RestsHoldNothing m = (u x : ℕ) → ((thread_at m u).life ≢ Life.Living) ⊎ ((thread_at m u).pending ≡ []) → slice_index_or (thread_at m u).checked x false ≡ false
 
 module _ (m : State) (sound : IsSound m) where
-  starts-known : (t u : ℕ) → StartsNext u (thread_at m t).pending → (thread_at m u).life ≢ Life.Living
-  starts-known t u next lives =
+  -- it doesn't live, and has no step left
+  pub starts-known : (t : ℕ) (who : ThreadIx) (script : ℕ) (stack : Row) (priority : ℤ) (mode : Mode) (rest : Steps)
+      → Offers m t (Pending.Start who script stack priority mode) rest → (is_living (thread_at m who.0).life ≡ false) × ((thread_at m who.0).pending ≡ [])
+  starts-known t who script stack priority mode rest offers =
       let claimed = sound.known.claimed in
-      let free = claimed.free t u (ap (λ (c : Call). claims m.image u c.pending) (call_is m t) ∙ starts-claims m.image u (thread_at m t).pending next) in
-      let keeps = claimed.living u (ap (λ (c : Call). c.living) (call_is m u) ∙ ap is_living lives) in
-      true≢false (sym keeps ∙ free)
+      let free = claimed.free t who.0 (ap (λ (c : Call). claims m.image who.0 c.pending) (call_is m t) ∙ starts-claims m t who script stack priority mode rest offers) in
+      (by (is_living (thread_at m who.0).life) refl free, sym (ap (λ (c : Call). c.pending) (call_is m who.0)) ∙ claimed.idle who.0 free)
+    where
+      by : (b : Bool) → is_living (thread_at m who.0).life ≡ b → (call_at (core_of m) who.0).keeps ≡ false → b ≡ false
+      by false e free = refl
+      by true e free = absurd (true≢false (sym (sound.known.claimed.living who.0 (ap (λ (c : Call). c.living) (call_is m who.0) ∙ e)) ∙ free))
 
   pub calls-known : RestsHoldNothing m → Calls m
   calls-known rests =
       let threads = sound.wide.threads in
       let rows = sound.wide.rows in
-      record { threads = omega (arith, threads); rows = omega (arith, rows); rests = rests; starts = starts-known }
+      record { threads = omega (arith, threads); rows = omega (arith, rows); rests = rests }
 
 -- Rows of threads.
 

@@ -12,8 +12,7 @@ use Rattle.um_machine.specs.declared.pending.Pending.{Pending}
 use Rattle.um_machine.specs.declared.thread.Life.{Life}
 use Rattle.um_machine.specs.declared.thread.Thread.{Thread}
 use Rattle.um_machine.specs.Objects as Plain
-use Rattle.um_machine.specs.declared.pending.Amount.TheVariants as Amount
-use Rattle.um_machine.specs.Order.{Steps, to_thread}
+use Rattle.um_machine.specs.Order.{to_thread}
 use Rattle.um_machine.specs.Run.{MayChoose, MayClean, NoPairsOf, cleans_pair, recycles}
 use Rattle.um_machine.specs.State.{State, nobody, object_at, pair_at, thread_at}
 use Rattle.um_machine.specs.Table as T
@@ -26,16 +25,15 @@ use Rattle.um_fine.specs.Context.{Context}
 use Rattle.um_fine.specs.Scheduler.{parked_at}
 use Rattle.um_fine.specs.Steps.{FineStep, Site}
 use Rattle.um_fine.specs.Sites.{SiteState, site_answers}
-use Rattle.um_fine.specs.Places.{Todo, Todos, emptying, fine_steps}
+use Rattle.um_fine.specs.Places.{Todo, Todos, emptying}
 use Rattle.um_fine.specs.Asks.{CpuMay, by_me, fits, is_dropped, says}
 use Rattle.um_erasure.specs.Fine.{Fine, one_if, row, scheduler}
-use Rattle.um_erasure.specs.Lists.{Adds, cleaned_pairs, counted, has_steps, is_add, is_recycle, runs, runs_thread}
+use Rattle.um_erasure.specs.Lists.{Adds, adders, cleaned_pairs, counted, has_steps, is_recycle, of_thread, runs, runs_thread}
 use Rattle.um_erasure.specs.Claims.{call_claims, claims, context_claims}
 use Rattle.um_erasure.specs.Cleaning.{AreBlocks, Cleans}
-use Rattle.um_erasure.specs.Offers as O
-use Rattle.um_erasure.specs.Offers.{Fits, IsOffered, behind_shown}
+use Rattle.um_erasure.specs.Offers.{is_over}
 use Rattle.um_erasure.specs.Objects.{is_being_born, status_of}
-use Rattle.um_erasure.specs.Threads.{IsOf, flags_of, occurs, places}
+use Rattle.um_erasure.specs.Threads.{IsOf, flags_of, occurs, places, runs_on}
 use Rattle.um_erasure.specs.Relation.{Rel}
 use Rattle.um_erasure.proofs.Erased.{Goes, GoesBy}
 use Rattle.um_erasure.proofs.DropSteps.{Held, dropped-has, left-here}
@@ -46,74 +44,27 @@ use Rattle.um_erasure.proofs.ResumeSteps.{some-is}
 use Rattle.um_erasure.proofs.RowSteps.{row-stands, settled}
 use Rattle.um_erasure.proofs.VisitSteps.{Visits, pair-is, visit-act, visit-part, visit-shows, visit-site}
 
--- the thread that a thread starts next
-abbrev pub StartsNext : ℕ → Steps → Type 0
-StartsNext u (Pending.Start who script stack priority mode ∷ rest) = who.0 ≡ u
-StartsNext u (Pending.Inherit child ∷ Pending.Start who script stack priority mode ∷ rest) = who.0 ≡ u
-StartsNext u (Pending.Drops from ∷ Pending.Start who script stack priority mode ∷ rest) = who.0 ≡ u
-StartsNext u _ = ⊥
-
--- What is known of the machine: it has no more threads and rows than the bounds say, a thread that is in no call holds nothing by one, and
--- a thread that is started next doesn't live.
+-- What is known of the machine: it has no more threads and rows than the bounds say, and a thread that is in no call holds nothing by one.
 pub record Calls (m : State) : Type 0 where
   pub threads : length m.threads ≤ THREADS
   pub rows : length m.pairs ≤ ROWS
   pub rests : (u x : ℕ) → ((thread_at m u).life ≢ Life.Living) ⊎ ((thread_at m u).pending ≡ []) → slice_index_or (thread_at m u).checked x false ≡ false
-  pub starts : (t u : ℕ) → StartsNext u (thread_at m t).pending → (thread_at m u).life ≢ Life.Living
 
 -- each thread object of an image has a thread of its own
 abbrev pub OwnRows : Image → Type 0
 OwnRows image = (x who : ℕ) → thread_of_row image x ≡ Some who → (own_row image who ≡ x) × (x < ROWS)
 
--- A step that adds a thread has its own part, or stands behind the start of that thread, which comes next.
-
-adds-behind : (image : Image) (u : ℕ) (c : Context) (q : Pending) (rest : Steps) → IsOffered image c q rest → 0 < counted (is_add u) (behind_shown image c q)
-    → StartsNext u c.pending
-adds-behind image u c (Pending.Start who script stack priority mode) rest offered h = by (who.0 == u) refl h offered
+-- a step that adds a thread has its own part
+adds-one : (u : ℕ) (todo : Todos) → 0 < of_thread u (adders todo) → (d : Context) × Adds d todo × (d.thread ≡ u)
+adds-one u [] h = absurd (omega (arith, h))
+adds-one u (Todo.show q rest ∷ todo) h = absurd (omega (arith, h))
+adds-one u (Todo.add d ∷ todo) h = by (d.thread == u) refl (adds-one u todo)
   where
-    step : Pending
-    step = Pending.Start who script stack priority mode
-
-    named : who.0 ≡ u → IsOffered image c (Pending.Start who script stack priority mode) rest → StartsNext u c.pending
-    named at (O.goes e) = subst (StartsNext u) (sym e) at
-    named at (O.passed e) = subst (StartsNext u) (sym e) at
-    named at (O.dropped e) = subst (StartsNext u) (sym e) at
-
-    by : (b : Bool) → (who.0 == u) ≡ b → 0 < (if who.0 == u then 1 else 0) → IsOffered image c (Pending.Start who script stack priority mode) rest → StartsNext u c.pending
-    by true e some o = named (eqb-true who.0 u e) o
-    by false e some o = absurd (omega (arith, subst (λ b. 0 < (if b then 1 else 0)) e some))
-adds-behind image u c q rest offered h = absurd (omega (arith, h))
-
-adds-in : (image : Image) (u : ℕ) (c : Context) (q : Pending) (rest : Steps) → IsOffered image c q rest → 0 < counted (is_add u) (fine_steps image c q rest)
-    → StartsNext u c.pending
-adds-in image u c (Pending.Start who script stack priority mode) rest offered h = adds-behind image u c (Pending.Start who script stack priority mode) rest offered h
-adds-in image u c (Pending.Probe a (Amount.Bytes n)) rest offered h = absurd (omega (arith, h))
-adds-in image u c (Pending.Probe a (Amount.MessageOf b)) rest offered h = absurd (omega (arith, h))
-adds-in image u c (Pending.CopyIn a (Amount.Bytes n)) rest offered h = absurd (omega (arith, h))
-adds-in image u c (Pending.CopyIn a (Amount.MessageOf b)) rest offered h = absurd (omega (arith, h))
-adds-in image u c q rest offered h = absurd (omega (arith, h))
-
-abbrev AddsOne : ℕ → Context → Todos → Type 0
-AddsOne u c todo = ((d : Context) × Adds d todo × (d.thread ≡ u)) ⊎ StartsNext u c.pending
-
-adds-one : (image : Image) (u : ℕ) (c : Context) (todo : Todos) → Fits image c todo → 0 < counted (is_add u) todo → AddsOne u c todo
-adds-one image u c [] fit h = absurd (omega (arith, h))
-adds-one image u c (Todo.show q rest ∷ todo) fit h = inr (adds-behind image u c q rest fit.0 (subst (λ (l : Todos). 0 < counted (is_add u) l) fit.1 h))
-adds-one image u c (Todo.pass who x ∷ todo) fit h =
-    inr (adds-in image u c fit.0.step fit.0.rest (O.passed fit.0.pending) (subst (λ (l : Todos). 0 < counted (is_add u) l) fit.0.behind h))
-adds-one image u c (Todo.drop x ∷ todo) fit h =
-    inr (adds-in image u c fit.step fit.rest (O.dropped fit.pending) (subst (λ (l : Todos). 0 < counted (is_add u) l) fit.behind h))
-adds-one image u c (Todo.add d ∷ todo) fit h = by (d.thread == u) refl (adds-one image u c todo fit.1)
-  where
-    further : AddsOne u c todo → AddsOne u c (Todo.add d ∷ todo)
-    further (inl r) = inl (r.0, inr r.1, r.2)
-    further (inr r) = inr r
-
-    by : (b : Bool) → (d.thread == u) ≡ b → (0 < counted (is_add u) todo → AddsOne u c todo) → AddsOne u c (Todo.add d ∷ todo)
-    by true e more = inl (d, inl refl, eqb-true d.thread u e)
-    by false e more = further (more (subst (λ b. 0 < (if b then counted (is_add u) todo + 1 else counted (is_add u) todo)) e h))
-adds-one image u c (Todo.park ∷ todo) fit h = absurd (omega (arith, subst (λ (l : Todos). 0 < counted (is_add u) l) fit.1 h))
-adds-one image u c (q ∷ todo) fit h = adds-one image u c todo fit h
+    by : (b : Bool) → (d.thread == u) ≡ b → (0 < of_thread u (adders todo) → (c : Context) × Adds c todo × (c.thread ≡ u))
+        → (c : Context) × Adds c (Todo.add d ∷ todo) × (c.thread ≡ u)
+    by true e more = (d, inl refl, eqb-true d.thread u e)
+    by false e more = let r = more (subst (λ b. 0 < (if b then of_thread u (adders todo) + 1 else of_thread u (adders todo))) e h) in (r.0, inr r.1, r.2)
+adds-one u (q ∷ todo) h = adds-one u todo h
 
 -- none of these threads holds a row of which each is known not to
 none-holds : (image : Image) (x i : ℕ) (threads : List Thread)
@@ -150,11 +101,12 @@ module _ (f : Fine) (m : State) (rel : Rel f m) (calls : Calls m) where
             ap (λ (flags : List Bool). slice_index_or flags x false) (sym of.claims ∙ ap (λ n. (thread_at m n).checked) at) ∙ e in
             let some = flagged-occurs x c.claims flag in absurd (omega (arith, some, free))
 
-    running-free : (u k : ℕ) → k < f.cpus → runs (f.processors k) ≡ true → (f.processors k).context.thread ≡ u → slice_index_or (thread_at m u).checked x false ≡ false
-    running-free u k l running at =
+    running-free : (u k : ℕ) → k < f.cpus → runs (f.processors k) ≡ true → is_over (f.processors k).context ≡ false → (f.processors k).context.thread ≡ u
+        → slice_index_or (thread_at m u).checked x false ≡ false
+    running-free u k l running on at =
         let part = part-total (λ j. call_claims x (f.processors j)) f.cpus k l in
         let sum = no-claims in
-        unflagged u (f.processors k).context (rel.contexts.running k l running) at (omega (arith, part, sum))
+        unflagged u (f.processors k).context ((rel.contexts.running k l running).of on) at (omega (arith, part, sum))
 
     parked-free : (u : ℕ) → u < THREADS → (c : Context) → parked_at (scheduler f) u ≡ Some c → slice_index_or (thread_at m u).checked x false ≡ false
     parked-free u l c at =
@@ -164,42 +116,33 @@ module _ (f : Fine) (m : State) (rel : Rel f m) (calls : Calls m) where
         let sum = no-claims in
         unflagged u c is.0 is.1 (omega (arith, part, here, sum))
 
-    added-free : (u k : ℕ) → k < f.cpus → 0 < counted (is_add u) (f.processors k).todo → slice_index_or (thread_at m u).checked x false ≡ false
-    added-free u k l some = by (adds-one f.image u (f.processors k).context (f.processors k).todo (rel.processors k l).list.fits some)
-      where
-        running : (todo : Todos) → 0 < counted (is_add u) todo → has_steps todo ≡ true
-        running [] h = absurd (omega (arith, h))
-        running (q ∷ todo) h = refl
-
-        by : AddsOne u (f.processors k).context (f.processors k).todo → slice_index_or (thread_at m u).checked x false ≡ false
-        by (inl c) =
-            let is = rel.contexts.added k c.0 l c.1 in
-            let rest : (thread_at m u).pending ≡ [] =
-            ap (λ n. (thread_at m n).pending) (sym c.2) ∙ (sym (ap (λ (z : Thread). z.pending) is.0.own) ∙ is.2) in
-            calls.rests u x (inr rest)
-        by (inr starts) =
-            let of = rel.contexts.running k l (running (f.processors k).todo some) in
-            calls.rests u x
-            (inl (calls.starts (f.processors k).context.thread u (subst (StartsNext u) (ap (λ (z : Thread). z.pending) of.own) starts)))
+    added-free : (u k : ℕ) → k < f.cpus → 0 < of_thread u (adders (f.processors k).todo) → slice_index_or (thread_at m u).checked x false ≡ false
+    added-free u k l some =
+        let c = adds-one u (f.processors k).todo some in
+        let is = rel.contexts.added k c.0 l c.1 in
+        let rest : (thread_at m u).pending ≡ [] =
+        ap (λ n. (thread_at m n).pending) (sym c.2) ∙ (sym (ap (λ (z : Thread). z.pending) is.0.own) ∙ is.2) in
+        calls.rests u x (inr rest)
 
     -- wherever its own part lies, a thread's call doesn't hold the object
     call-free : (u : ℕ) → u < THREADS → slice_index_or (thread_at m u).checked x false ≡ false
     call-free u l = by (places f u) refl
       where
-        with-processor : (k : ℕ) → k < f.cpus → 0 < one_if (runs_thread u (f.processors k)) + counted (is_add u) (f.processors k).todo
+        with-processor : (k : ℕ) → k < f.cpus → 0 < one_if (runs_on u (f.processors k)) + of_thread u (adders (f.processors k).todo)
             → slice_index_or (thread_at m u).checked x false ≡ false
-        with-processor k there some = choose (runs_thread u (f.processors k)) refl
+        with-processor k there some = choose (runs_on u (f.processors k)) refl
           where
-            choose : (b : Bool) → runs_thread u (f.processors k) ≡ b → slice_index_or (thread_at m u).checked x false ≡ false
+            choose : (b : Bool) → runs_on u (f.processors k) ≡ b → slice_index_or (thread_at m u).checked x false ≡ false
             choose true e =
-                let parts = and_parts _ _ e in running-free u k there parts.0 (eqb-true (f.processors k).context.thread u parts.1)
-            choose false e = let lacks : one_if (runs_thread u (f.processors k)) ≡ 0 = ap one_if e in added-free u k there (omega (arith, some, lacks))
+                let all = and_parts (runs_thread u (f.processors k)) _ e in
+                let parts = and_parts _ _ all.0 in running-free u k there parts.0 (not-true _ all.1) (eqb-true (f.processors k).context.thread u parts.1)
+            choose false e = let lacks : one_if (runs_on u (f.processors k)) ≡ 0 = ap one_if e in added-free u k there (omega (arith, some, lacks))
 
         by-parked : (b : Bool) → is_some (parked_at (scheduler f) u) ≡ b → 0 < places f u → slice_index_or (thread_at m u).checked x false ≡ false
         by-parked true e some = let c = some-is (parked_at (scheduler f) u) e in parked-free u l c.0 c.1
         by-parked false e some =
             let lacks : one_if (is_some (parked_at (scheduler f) u)) ≡ 0 = ap one_if e in
-            let k = some-part (λ j. one_if (runs_thread u (f.processors j)) + counted (is_add u) (f.processors j).todo) f.cpus (omega (arith, some, lacks)) in
+            let k = some-part (λ j. one_if (runs_on u (f.processors j)) + of_thread u (adders (f.processors j).todo)) f.cpus (omega (arith, some, lacks)) in
             with-processor k.0 k.1 k.2
 
         away : ((thread_at m u).life ≢ Life.Living) ⊎ (((thread_at m u).doomed ≡ true) × ((thread_at m u).pending ≡ [])) → slice_index_or (thread_at m u).checked x false ≡ false

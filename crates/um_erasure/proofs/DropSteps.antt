@@ -32,6 +32,7 @@ use Rattle.um_erasure.specs.Objects.{recyclers, vacaters}
 use Rattle.um_erasure.specs.Dues.{is_visiting}
 use Rattle.um_erasure.specs.Offers.{Drops, Fits}
 use Rattle.um_erasure.specs.Relation.{Rel}
+use Rattle.um_erasure.proofs.StepsLeft.{drops-on}
 use Rattle.um_erasure.proofs.Erased.{Goes, GoesBy}
 use Rattle.um_erasure.proofs.Offered.{IsStep, Shows, act-is, machine-step, site-is}
 use Rattle.um_erasure.proofs.RowSteps.{named-row, row-says, row-stands, stands-at}
@@ -126,6 +127,7 @@ module _ {f : Fine} {m : State} {k : ℕ} {e : FineStep} {x : ℕ} {todo : Todos
       let fit : is_dropped (left_in (act_in e.act)) ≡ true = drop-found in
       let there : has (row f x) t ≡ true = dropped-has (has (row f x) t) (is_last (row f x) t) (ap is_dropped left ∙ fit) in
       let dues = (h.rel.processors k h.there).dues in
+      let own = ((visit-part h).of (drops-on f.image (f.processors k).context todo drop-fits)).own in
       let least : drop-fits.from ≤ x =
       (let low = dues.drops drop-fits.from (drop-fits.step ∷ drop-fits.rest) (ap has_steps h.at) drop-fits.pending in
       let at : visited (f.processors k).todo ≡ x = ap visited h.at in omega (arith, low, at)) in (
@@ -136,7 +138,7 @@ module _ {f : Fine} {m : State} {k : ℕ} {e : FineStep} {x : ℕ} {todo : Todos
               step = Pending.Drops drop-fits.from;
               rest = drop-fits.step ∷ drop-fits.rest;
               row = x;
-              offered = goes (sym (ap (λ (z : Thread). z.pending) (visit-part h).own) ∙ drop-fits.pending);
+              offered = goes (sym (ap (λ (z : Thread). z.pending) own) ∙ drop-fits.pending);
               chosen = (least, sym (pair-is f m h.rel x t h.few) ∙ there, clear-below (thread_at m t).due x due-below);
               says = (λ i. Act.DropPair (to_thread t) (address_of (sym h.rel.image i) x) ((sym left ∙ left-here f m h.rel x t h.few held) i));
               leaves = refl;

@@ -17,10 +17,10 @@ use Rattle.um_machine.specs.Run.{blank, boot_thread, booted, booted_one, granted
 use Rattle.um_machine.specs.State.{State, is_living, is_started, no_rows, nobody, thread_at, with_pair, with_thread}
 use Rattle.um_fine.specs.Context.{Context, context_of}
 use Rattle.um_fine.specs.Opening.{indexed, parked_if}
-use Rattle.um_fine.specs.Scheduler.{parked_at}
+use Rattle.um_fine.specs.Scheduler.{parked_at, told_at}
 use Rattle.um_erasure.specs.Fine.{one_if, scheduler, total}
-use Rattle.um_erasure.specs.Lists.{counted, is_add, runs_thread}
-use Rattle.um_erasure.specs.Threads.{AwayIs, ContextsAre, IsOf, SchedulerIs, ToldIs, is_ended, told_by}
+use Rattle.um_erasure.specs.Lists.{adders, counted, is_wake, of_thread}
+use Rattle.um_erasure.specs.Threads.{AwayIs, ContextsAre, IsOf, SchedulerIs, ToldIs, is_ended, runs_on, told_by}
 use Rattle.um_erasure.specs.Dues.{DuesAre}
 use Rattle.um_erasure.proofs.First.{first}
 
@@ -154,8 +154,19 @@ module _ (image : Image) (cpus : ℕ) where
   told-nobody t zero = no-told THREADS t
   told-nobody t (suc n) = told-nobody t n
 
+  no-wakes : (t n : ℕ) → total (λ k. counted (is_wake t) ((first image cpus).processors k).todo) n ≡ 0
+  no-wakes t zero = refl
+  no-wakes t (suc n) = let h = no-wakes t n in omega (arith, h)
+
   pub told-first : (t : ℕ) → ToldIs (first image cpus) (opening image) t
-  told-first t = record { told = (new-thread image t).told ∙ sym (told-nobody t cpus) }
+  told-first t =
+      record {
+        told = (new-thread image t).told ∙ sym (told-nobody t cpus);
+        once =
+            let none = no-wakes t cpus in
+            let most = one-most (is_some (told_at (scheduler (first image cpus)) t)) in
+            omega (arith, none, most);
+      }
 
   pub few-first : (k : ℕ) → length (thread_at (opening image) ((first image cpus).processors k).context.thread).due ≤ ROWS
   few-first k = let n = (new-thread image 0).due in omega (arith, n)
@@ -188,7 +199,7 @@ module _ (image : Image) (cpus : ℕ) where
       let l = r.2 in
       (r.0, r.1 ∙ ap (λ n. context_of n (thread_at (opening image) t)) at, omega (arith, l, long))
 
-  nowhere-else : (t n : ℕ) → total (λ k. one_if (runs_thread t ((first image cpus).processors k)) + counted (is_add t) ((first image cpus).processors k).todo) n ≡ 0
+  nowhere-else : (t n : ℕ) → total (λ k. one_if (runs_on t ((first image cpus).processors k)) + of_thread t (adders ((first image cpus).processors k).todo)) n ≡ 0
   nowhere-else t zero = refl
   nowhere-else t (suc n) = let h = nowhere-else t n in omega (arith, h)
 
@@ -200,6 +211,7 @@ module _ (image : Image) (cpus : ℕ) where
             let r = parked-first t c h in
             (part-first t c r.0 r.2 r.1, ap (λ (z : Context). z.thread) r.1, ap (λ (z : Context). z.ended) r.1, inl (ap (λ (z : Context). z.pending) r.1 ∙ (new-thread image t).rests));
         added = λ k c l h. absurd h;
+        done = λ k l h. absurd (false≢true h);
         once = λ t l.
             let none = nowhere-else t cpus in
             let most = one-most (is_some (parked_at (scheduler (first image cpus)) t)) in
@@ -213,7 +225,7 @@ module _ (image : Image) (cpus : ℕ) where
             inl (not-living (thread_at (opening image) t).life (living-parked 0 (opening image).threads t (no-one (is_some (parked_at (scheduler (first image cpus)) t)) none)));
       }
     where
-      no-one : (b : Bool) → total (λ k. one_if (runs_thread t ((first image cpus).processors k)) + counted (is_add t) ((first image cpus).processors k).todo) cpus + one_if b ≡ 0 → b ≡ false
+      no-one : (b : Bool) → total (λ k. one_if (runs_on t ((first image cpus).processors k)) + of_thread t (adders ((first image cpus).processors k).todo)) cpus + one_if b ≡ 0 → b ≡ false
       no-one true h = absurd (omega (arith, h))
       no-one false h = refl
 

@@ -14,6 +14,7 @@ use Rattle.um_erasure.specs.Lists.{counted, is_recycle, is_wipe, runs}
 use Rattle.um_erasure.specs.Claims.{call_claims}
 use Rattle.um_erasure.specs.Cleaning.{AreBlocks}
 use Rattle.um_erasure.specs.Objects.{is_being_born, recyclers, status_of, vacaters, wipers}
+use Rattle.um_erasure.specs.Offers.{is_over}
 use Rattle.um_erasure.specs.Threads.{flags_of, occurs}
 use Rattle.um_erasure.specs.Relation.{Rel}
 use Rattle.um_erasure.proofs.MemorySteps.{part-total}
@@ -125,10 +126,10 @@ module _ (f : Fine) (m : State) (rel : Rel f m) where
       clears-none f.image x (f.processors k).todo (rel.processors k l).blocks (omega (arith, part, none)))
       ∙ sym none
 
-  -- the row that a thread's call holds is claimed
-  pub checked-claimed : (k x : ℕ) → k < f.cpus → x < ROWS → runs (f.processors k) ≡ true
+  -- the row that a thread's call holds is claimed, while it has steps left
+  pub checked-claimed : (k x : ℕ) → k < f.cpus → x < ROWS → runs (f.processors k) ≡ true → is_over (f.processors k).context ≡ false
       → slice_index_or (thread_at m (f.processors k).context.thread).checked x false ≡ true → 0 < (row f x).claims
-  checked-claimed k x l few running held =
-      let of = rel.contexts.running k l running in
+  checked-claimed k x l few running on held =
+      let of = (rel.contexts.running k l running).of on in
       let some = flagged-occurs x (f.processors k).context.claims (ap (λ (flags : List Bool). slice_index_or flags x false) (sym of.claims) ∙ held) in
       call-claimed k x l few (omega (arith, some))

@@ -68,7 +68,7 @@ module _ (f : Fine) (m : State) (rel : Rel f m) where
           → IsAtRest (Exchange.thread (unwrap_or o no_context) told)
       by None p told q = absurd (false≢true (sym (ap is_some p) ∙ (and_parts _ _ h).0))
       by (Some c) p (Some told) q = tt
-      by (Some c) p None q = rests ((rel.contexts.parked t c p).3)
+      by (Some c) p None q = let is = rel.contexts.parked t c p in (rests is.3, is.2)
         where
           few : t < THREADS
           few = subst (λ n. n < THREADS) (rel.contexts.parked t c p).1 (rel.contexts.parked t c p).0.index

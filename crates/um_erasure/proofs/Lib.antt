@@ -14,6 +14,7 @@ pub mod Says
 pub mod ListFits
 pub mod ListBlocks
 pub mod ListFrames
+pub mod StepsLeft
 pub mod Offered
 pub mod Shown
 pub mod RowSteps

@@ -22,11 +22,12 @@ use Rattle.um_fine.specs.Places.{Todo, Todos, but, clean_pairs, cleaning, cleani
 use Rattle.um_fine.specs.Processor.{Processor, is_of, key_of}
 use Rattle.um_fine.specs.Follows.{after_claim, after_show, after_take, behind_step, dropped_at, end_calls, filled_up, goes_on_by, p_next, refilled_by, row_number, unless_loaded, wakes, with_cleaned}
 use Rattle.um_fine.specs.Asks.{begins_cleaning}
+use Rattle.um_erasure.proofs.StepsLeft.{rests-on, steps-on}
 use Rattle.um_erasure.specs.Offers.{Bare, Drops, behind_shown, Fits, IsOffered, ListIs, Passes, begins, dropped, exits, goes, passed}
 
--- a thread that is taken without being told anything is at rest
+-- a thread that is taken without being told anything is at rest, and hasn't ended
 abbrev pub IsAtRest : Exchange → Type 0
-IsAtRest (Exchange.thread c None) = c.pending ≡ []
+IsAtRest (Exchange.thread c None) = (c.pending ≡ []) × (c.ended ≡ false)
 IsAtRest moved = Unit {0}
 
 -- a row that isn't the own one
@@ -95,13 +96,13 @@ module _ (image : Image) where
         | false ↦ subst (Fits image c) (sym h.behind) (fine-fits c h.step h.rest (dropped h.pending))
       ]
 
-  turn-ends : (c : Context) (b : Bool) → c.pending ≡ [] → Fits image c (end_of_turn image b)
-  turn-ends c true h = tt
-  turn-ends c false h = (inl h, refl)
+  turn-ends : (c : Context) (b : Bool) → c.ended ≡ b → c.pending ≡ [] → Fits image c (end_of_turn image b)
+  turn-ends c true e h = tt
+  turn-ends c false e h = (inl h, rests-on c e, refl)
 
   next-fits : (c : Context) (steps : Steps) → c.pending ≡ steps → Fits image c (next_steps image c steps)
-  next-fits c [] h = turn-ends c c.ended h
-  next-fits c (Pending.Resume ∷ rest) h = (inr (ap waits h), refl)
+  next-fits c [] h = turn-ends c c.ended refl h
+  next-fits c (Pending.Resume ∷ rest) h = (inr (ap waits h), steps-on c Pending.Resume rest h, refl)
   next-fits c (Pending.Inherit who ∷ q ∷ rest) h =
       passes-fit c who.0 (but (own_row image c.thread) 0) (fine_steps image c q rest)
       (record { child = who; step = q; rest = rest; pending = h; same = refl; behind = refl }) (but-other (own_row image c.thread) 0)
@@ -152,12 +153,12 @@ module _ (image : Image) where
 
   -- A step.
 
-  turn-fits : (c : Context) → c.pending ≡ [] → Fits image c (turn image c)
+  turn-fits : (c : Context) → (c.pending ≡ []) × (c.ended ≡ false) → Fits image c (turn image c)
   turn-fits c h = by (instruction_at image c.place) refl
     where
       by : (instr : Option Instr) → instruction_at image c.place ≡ instr → Fits image c (turn_of image instr)
-      by None e = (exits h e, refl)
-      by (Some instr) e = (begins h (ap is_some e), refl)
+      by None e = (exits h.0 h.1 e, refl)
+      by (Some instr) e = (begins h.0 h.1 (ap is_some e), refl)
 
   take-fits : (p : Processor) (moved : Exchange) → p.todo ≡ [] → IsAtRest moved → ListIs image (after_take image p moved)
   take-fits p (Exchange.thread c None) idle h = record { fits = turn-fits c h }

@@ -26,12 +26,13 @@ use Rattle.um_fine.specs.Asks.{CpuMay, says, says_show, says_step, shows, site_a
 use Rattle.um_erasure.specs.Fine.{Fine, thread_state}
 use Rattle.um_erasure.specs.Lists.{has_steps, visited}
 use Rattle.um_erasure.specs.Offers as O
-use Rattle.um_erasure.specs.Offers.{Bare, Fits, IsOffered, behind_shown}
+use Rattle.um_erasure.specs.Offers.{Bare, Fits, IsOffered, behind_shown, is_over}
 use Rattle.um_erasure.specs.Threads.{IsOf}
 use Rattle.um_erasure.specs.Dues.{is_visiting}
 use Rattle.um_erasure.specs.Relation.{Rel}
 use Rattle.um_erasure.proofs.Erased.{Goes, GoesBy}
 use Rattle.um_erasure.proofs.ListFits.{behind-bare}
+use Rattle.um_erasure.proofs.StepsLeft.{offered-on}
 
 -- Where no visit is left, nothing is due.
 
@@ -113,8 +114,8 @@ module _ (image : Image) (m : State) (c : Context) (same : m.image ≡ image) (o
   offers q rest (O.goes e) due life = goes (sym pending-same ∙ e)
   offers q rest (O.passed e) due life = skips_inherit (sym pending-same ∙ e) (due (ap is_visiting e))
   offers q rest (O.dropped e) due life = skips_drops (sym pending-same ∙ e) (due (ap is_visiting e))
-  offers _ _ (O.begins e i) due life = begins (sym pending-same ∙ e) life.0 life.1 (subst (λ (o : Option _). IsTrue (is_some o)) place-same i)
-  offers _ _ (O.exits e i) due life = exits (sym pending-same ∙ e) life.0 life.1 (sym place-same ∙ i)
+  offers _ _ (O.begins e on i) due life = begins (sym pending-same ∙ e) life.0 life.1 (subst (λ (o : Option _). IsTrue (is_some o)) place-same i)
+  offers _ _ (O.exits e on i) due life = exits (sym pending-same ∙ e) life.0 life.1 (sym place-same ∙ i)
 
 module _ (f : Fine) (m : State) (rel : Rel f m) (k : ℕ) (l : k < f.cpus) where
   -- nothing is due of a thread whose visits are over
@@ -164,8 +165,12 @@ module _ {f : Fine} {m : State} {k : ℕ} {e : FineStep} {q : Pending} {rest : S
   pub behind-is : todo ≡ behind_shown f.image (f.processors k).context q
   behind-is = (subst (Fits f.image (f.processors k).context) h.at (h.rel.processors k h.there).list.fits).1
 
+  -- so its thread has a step left
+  pub shown-on : is_over (f.processors k).context ≡ false
+  shown-on = offered-on f.image (f.processors k).context q rest (subst (Fits f.image (f.processors k).context) h.at (h.rel.processors k h.there).list.fits).0
+
   pub own-part : IsOf m (f.processors k).context
-  own-part = h.rel.contexts.running k h.there (ap has_steps h.at)
+  own-part = (h.rel.contexts.running k h.there (ap has_steps h.at)).of shown-on
 
   -- the word that takes a begin or an exit says that of the machine's thread
   is-alive : IsAlive (f.sites (Site.thread (f.processors k).context.thread))

@@ -29,6 +29,7 @@ use Rattle.um_erasure.specs.Fine.{Fine}
 use Rattle.um_erasure.specs.Lists.{has_steps, names_row}
 use Rattle.um_erasure.proofs.Leaves.{Lawful}
 use Rattle.um_erasure.proofs.ObjectsKept.{found-below}
+use Rattle.um_erasure.proofs.StepsLeft.{run-below}
 use Rattle.um_erasure.proofs.SchedulerSteps.{made-at, made-says}
 
 abbrev Are : Todos → Type 0
@@ -229,7 +230,7 @@ module _ (f : Fine) (m : State) (e : FineStep) (law : Lawful f m e) where
           let was = (law.rel.processors e.cpu law.by.named).rows in
           rows-next f.image named-below (f.processors e.cpu) e
           (λ begins. ap (λ i. nat_lt (row_number i) ROWS) (made-at f m e law (f.processors e.cpu).todo refl) ∙ at-row (f.processors e.cpu).todo refl was begins)
-          (λ running. (law.rel.contexts.running e.cpu law.by.named running).below) was
+          (λ running. run-below m (f.processors e.cpu).context (law.rel.contexts.running e.cpu law.by.named running)) was
 
       by : (b : Bool) → (e.cpu == k) ≡ b → Are (cond b (p_next f.image (f.processors k) e) (f.processors k)).todo
       by true q = subst (λ n. Are (p_next f.image (f.processors n) e).todo) (eqb-true e.cpu k q) mine

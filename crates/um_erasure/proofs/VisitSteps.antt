@@ -25,8 +25,9 @@ use Rattle.um_fine.specs.Asks.{CpuMay, by_me, says, site_at}
 use Rattle.um_erasure.specs.Fine.{Fine, row}
 use Rattle.um_erasure.specs.Lists.{has_steps}
 use Rattle.um_erasure.specs.Offers.{Fits, Passes}
-use Rattle.um_erasure.specs.Threads.{IsOf}
+use Rattle.um_erasure.specs.Threads.{IsRun}
 use Rattle.um_erasure.specs.Relation.{Rel}
+use Rattle.um_erasure.proofs.StepsLeft.{passes-on}
 use Rattle.um_erasure.proofs.Erased.{Goes, GoesBy}
 use Rattle.um_erasure.proofs.RowSteps.{row-stands}
 
@@ -61,7 +62,7 @@ module _ {f : Fine} {m : State} {k : ℕ} {e : FineStep} {x : ℕ} {step : Todo}
       subst (λ (s : SiteState). IsTrue (site_takes s act)) (row-stands f m h.rel x)
       (subst (λ (z : Site × FineAct). IsTrue (site_takes (f.sites z.0) z.1)) (λ j. (site j, said j)) h.taken.takes)
 
-  pub visit-part : IsOf m (f.processors k).context
+  pub visit-part : IsRun m (f.processors k).context
   visit-part = h.rel.contexts.running k h.there (ap has_steps h.at)
 
 module _ {f : Fine} {m : State} {k : ℕ} {e : FineStep} {x : ℕ} {todo : Todos} where
@@ -74,6 +75,7 @@ module _ {f : Fine} {m : State} {k : ℕ} {e : FineStep} {x : ℕ} {todo : Todos
       let said = visit-shows h act (visit-act h) in
       let takes = and_parts _ _ (and_parts _ _ (visit-takes h (by_me f.image (f.processors k) act) (visit-site h) said)).1 in
       let fits : Passes f.image (f.processors k).context who todo = (subst (Fits f.image (f.processors k).context) h.at (h.rel.processors k h.there).list.fits).0 in
+      let own = ((visit-part h).of (passes-on f.image (f.processors k).context who todo fits)).own in
       let child : Pending.Inherit fits.child ≡ Pending.Inherit (to_thread who) = ap (λ n. Pending.Inherit (to_thread n)) fits.same in (
         fits.step ∷ fits.rest,
         subst (λ a. GoesBy m a (T.after m t x (Pending.Inherit (to_thread who)) (fits.step ∷ fits.rest))) (sym said)
@@ -81,7 +83,7 @@ module _ {f : Fine} {m : State} {k : ℕ} {e : FineStep} {x : ℕ} {todo : Todos
               step = Pending.Inherit (to_thread who);
               rest = fits.step ∷ fits.rest;
               row = x;
-              offered = goes (sym (ap (λ (z : Thread). z.pending) (visit-part h).own) ∙ (fits.pending ∙ ap (λ q. q ∷ fits.step ∷ fits.rest) child));
+              offered = goes (sym (ap (λ (z : Thread). z.pending) own) ∙ (fits.pending ∙ ap (λ q. q ∷ fits.step ∷ fits.rest) child));
               chosen = (
                 sym (pair-is f m h.rel x t h.few) ∙ takes.0,
                 subst (λ b. IsTrue (not b)) (pair-is f m h.rel x who h.few) takes.1,

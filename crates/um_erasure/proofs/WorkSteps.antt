@@ -29,7 +29,7 @@ use Rattle.um_erasure.specs.Fine.{Fine, object, object_state}
 use Rattle.um_erasure.specs.Lists.{has_steps, looked, moving}
 use Rattle.um_erasure.proofs.HeldRows.{checked-claimed, claimed-whole}
 use Rattle.um_erasure.proofs.MemorySteps.{allows-it}
-use Rattle.um_erasure.proofs.Offered.{IsStep, Shows, act-is, behind-is, machine-step, own-part, says-at, site-is}
+use Rattle.um_erasure.proofs.Offered.{IsStep, Shows, act-is, behind-is, machine-step, own-part, says-at, shown-on, site-is}
 use Rattle.um_erasure.proofs.RowSteps.{named-row}
 use Rattle.um_erasure.proofs.Says.{work-agrees}
 
@@ -55,7 +55,7 @@ module _ {f : Fine} {m : State} {k : ℕ} {e : FineStep} {rest : Steps} {todo : 
       let says : worked a (work_on (object f x) e.moved) ≡ Act.Work a (answer_in (act_in e.act)) (woken_in (act_in e.act)) = ap act_in here in
       let moved : e.moved ≡ Exchange.asked (caller f.image p ask) (outcome_in e.moved) =
       sym (ap (λ (s : FineStep). s.moved) h.may.makes) ∙ ap (λ (z : Todos). moves f.image p z e.moved) h.at in
-      let whole = claimed-whole f m h.rel x few (checked-claimed f m h.rel k x h.there few (ap has_steps h.at) held) in
+      let whole = claimed-whole f m h.rel x few (checked-claimed f m h.rel k x h.there few (ap has_steps h.at) (shown-on h) held) in
       let contents = (h.rel.rows x few).contents in
       let own = (own-part h).own in
       let same = work-agrees m p.context.thread x a ask (object f x) p.context (sym (named-row f m h.rel a)) (contents.contents whole) (contents.waiters whole)

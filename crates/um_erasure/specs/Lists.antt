@@ -1,5 +1,5 @@
 -- What a processor has on its list of steps to make.
-use Rattle.std.specs.Prelude.{◌≡◌, ◌⊎◌, ℕ, ◌+◌, Bool, true, false, ◌==◌, ◌&&◌, not, if◌then◌else◌, nat_lt, [], ◌∷◌, Option, Some, None}
+use Rattle.std.specs.Prelude.{◌≡◌, ◌⊎◌, ℕ, ◌+◌, Bool, true, false, ◌==◌, ◌&&◌, not, if◌then◌else◌, nat_lt, List, [], ◌∷◌, Option, Some, None}
 use Rattle.std.specs.List.{list_any}
 use Rattle.um_base.specs.declared.ask.Told.{Told}
 use Rattle.um_base.specs.declared.limits.TheConstants.{ROWS}
@@ -43,9 +43,13 @@ abbrev pub is_wipe : ℕ → Todo → Bool
 is_wipe x (Todo.wipe y) = x == y
 is_wipe x _ = false
 
-abbrev pub is_add : ℕ → Todo → Bool
-is_add t (Todo.add c) = c.thread == t
-is_add t _ = false
+abbrev pub is_wake : ℕ → Todo → Bool
+is_wake t (Todo.wake who told) = who == t
+is_wake t _ = false
+
+abbrev pub is_done : Todo → Bool
+is_done Todo.done = true
+is_done _ = false
 
 -- a thread that was started is added with this own part by a step on a list
 abbrev pub Adds : Context → Todos → Type 0
@@ -53,6 +57,18 @@ Adds c [] = ⊥
 Adds c (Todo.show q rest ∷ todo) = ⊥
 Adds c (Todo.add d ∷ todo) = (c ≡ d) ⊎ Adds c todo
 Adds c (q ∷ todo) = Adds c todo
+
+-- the own parts of all threads that were started and are added by steps on a list
+abbrev pub adders : Todos → List Context
+adders [] = []
+adders (Todo.show q rest ∷ todo) = []
+adders (Todo.add d ∷ todo) = d ∷ adders todo
+adders (q ∷ todo) = adders todo
+
+-- how many own parts are of a thread
+abbrev pub of_thread : ℕ → List Context → ℕ
+of_thread t [] = 0
+of_thread t (c ∷ cs) = if c.thread == t then of_thread t cs + 1 else of_thread t cs
 
 abbrev pub is_hold : Todo → Bool
 is_hold Todo.hold = true

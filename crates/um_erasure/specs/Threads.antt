@@ -8,10 +8,10 @@ use Rattle.um_machine.specs.declared.thread.Thread.{Thread}
 use Rattle.um_machine.specs.State.{State, is_started, nobody, no_rows, thread_at}
 use Rattle.um_fine.specs.Context.{Context, as_thread}
 use Rattle.um_fine.specs.Scheduler.{parked_at, told_at, waits}
-use Rattle.um_erasure.specs.Offers.{IsPutBack}
+use Rattle.um_erasure.specs.Offers.{IsPutBack, is_over}
 use Rattle.um_erasure.specs.Fine.{Fine, one_if, over_processors, scheduler, word}
-use Rattle.um_fine.specs.Processor.{fails}
-use Rattle.um_erasure.specs.Lists.{Adds, counted, has_held, is_add, is_move_done, runs, runs_thread, wake_of}
+use Rattle.um_fine.specs.Processor.{Processor, fails}
+use Rattle.um_erasure.specs.Lists.{Adds, adders, counted, has_held, is_done, is_move_done, is_wake, of_thread, runs, runs_thread, wake_of}
 
 -- The word of a thread index says what the machine's thread is.
 pub record WordIs (f : Fine) (m : State) (t : ℕ) : Type 0 where
@@ -53,16 +53,30 @@ pub record IsOf (m : State) (c : Context) : Type 0 where
   pub started : IsTrue (is_started (thread_at m c.thread).life)
   pub below : list_all (λ x. nat_lt x ROWS) c.claims ≡ true
 
+-- The own part of a thread that a processor runs is that of the machine's thread until its steps are over; then it holds nothing.
+pub record IsRun (m : State) (c : Context) : Type 0 where
+  pub index : c.thread < THREADS
+  pub started : IsTrue (is_started (thread_at m c.thread).life)
+  pub of : is_over c ≡ false → IsOf m c
+  pub over : is_over c ≡ true → c.claims ≡ []
+
+-- a processor runs a thread whose steps aren't over
+abbrev pub runs_on : ℕ → Processor → Bool
+runs_on t p = runs_thread t p && not (is_over p.context)
+
 -- in how many places an own part lies: with processors that run the thread, on the way to the ready list, and parked
 abbrev pub places : Fine → ℕ → ℕ
-places f t = over_processors f (λ p. one_if (runs_thread t p) + counted (is_add t) p.todo) + one_if (is_some (parked_at (scheduler f) t))
+places f t = over_processors f (λ p. one_if (runs_on t p) + of_thread t (adders p.todo)) + one_if (is_some (parked_at (scheduler f) t))
 
 -- Own parts lie with processors, parked, or, of a new thread that was started and isn't added yet, on the list of a processor.
 pub record ContextsAre (f : Fine) (m : State) : Type 0 where
-  pub running : (k : ℕ) → k < f.cpus → runs (f.processors k) ≡ true → IsOf m (f.processors k).context
+  pub running : (k : ℕ) → k < f.cpus → runs (f.processors k) ≡ true → IsRun m (f.processors k).context
   pub parked : (t : ℕ) (c : Context) → parked_at (scheduler f) t ≡ Some c → IsOf m c × (c.thread ≡ t) × (c.ended ≡ false) × IsPutBack c
   pub added : (k : ℕ) (c : Context) → k < f.cpus → Adds c (f.processors k).todo → IsOf m c × (c.ended ≡ false) × (c.pending ≡ [])
   pub once : (t : ℕ) → t < THREADS → places f t ≤ 1
+  -- a turn ends with a thread that is at rest, and has ended or is doomed
+  pub done : (k : ℕ) → k < f.cpus → list_any is_done (f.processors k).todo ≡ true
+      → ((f.processors k).context.pending ≡ []) × (((f.processors k).context.ended ≡ true) ⊎ ((thread_at m (f.processors k).context.thread).doomed ≡ true))
 
 -- A thread that lies nowhere was never started, has ended, or is doomed at rest.
 pub record AwayIs (f : Fine) (m : State) (t : ℕ) : Type 0 where
@@ -77,9 +91,14 @@ abbrev pub told_by : Fine → ℕ → ℕ → Option Told
 told_by f t zero = told_at (scheduler f) t
 told_by f t (suc k) = first_told (wake_of t (f.processors k).todo) (told_by f t k)
 
+-- in how many places it stands what a thread is told: on lists of processors, and with the scheduler
+abbrev pub tellers : Fine → ℕ → ℕ
+tellers f t = over_processors f (λ p. counted (is_wake t) p.todo) + one_if (is_some (told_at (scheduler f) t))
+
 -- What a woken thread is told stands with the scheduler, or on the list of the processor that wakes it.
 pub record ToldIs (f : Fine) (m : State) (t : ℕ) : Type 0 where
   pub told : (thread_at m t).told ≡ told_by f t f.cpus
+  pub once : tellers f t ≤ 1
 
 -- A thread is held by the processor that runs it.
 pub record HeldIs (f : Fine) (t : ℕ) : Type 0 where

@@ -29,8 +29,9 @@ use Rattle.um_fine.specs.Scheduler.{parked_at, told_at}
 use Rattle.um_fine.specs.Places.{Todo, Todos}
 use Rattle.um_fine.specs.Processor.{Processor, edit_of, fails, key_of, same_key}
 use Rattle.um_erasure.specs.Fine.{Fine, domain, heap, object, one_if, over_processors, parts, row, scheduler, word}
-use Rattle.um_erasure.specs.Lists.{cleaned_pairs, counted, edited, edits, edits_step, has_claimed, has_held, has_loaded, has_steps, is_move_done, is_recycle, is_wipe, looked, moving, names_row, runs, runs_thread, visited}
-use Rattle.um_erasure.specs.Threads.{flags_of, is_ended, is_ready_there, occurs, places, told_by}
+use Rattle.um_erasure.specs.Lists.{cleaned_pairs, counted, edited, edits, edits_step, has_claimed, has_held, has_loaded, has_steps, is_done, is_move_done, is_recycle, is_wipe, looked, moving, names_row, runs, runs_thread, visited}
+use Rattle.um_erasure.specs.Offers.{is_over}
+use Rattle.um_erasure.specs.Threads.{flags_of, is_ended, is_ready_there, occurs, places, tellers, told_by}
 use Rattle.um_erasure.specs.Claims.{claims}
 use Rattle.um_erasure.specs.Objects.{is_being_born, recyclers, status_of, vacaters, wipers}
 use Rattle.um_erasure.specs.Dues.{is_visiting}
@@ -108,6 +109,14 @@ module _ (n : Tested) (f : Fine) (m : State) where
       && list_all (λ x. same_bool (slice_index_or (flags_of c.claims) x false) (slice_index_or me.checked x false)) n.rows
       && list_all (λ x. nat_lt x ROWS) c.claims
 
+  -- of a thread that a processor runs
+  abbrev pub run_is : Context → Bool
+  run_is c = if is_over c then length c.claims == 0 && is_started (thread_at m c.thread).life else is_of c
+
+  -- a turn ends with a thread that is at rest, and has ended or is doomed
+  abbrev pub done_is : Context → Bool
+  done_is c = length c.pending == 0 && (c.ended || (thread_at m c.thread).doomed)
+
   abbrev pub parked_is : ℕ → Option Context → Bool
   parked_is t None = true
   parked_is t (Some c) = is_of c && c.thread == t && not c.ended
@@ -121,7 +130,7 @@ module _ (n : Tested) (f : Fine) (m : State) where
       life_number v.life == life_number me.life && same_bool v.doomed me.doomed && same_bool (is_user v.mode) (is_user me.mode)
       && v.domain == me.domain && nat_le there 1
       && implies (there == 0) (not (life_number me.life == 1) || (me.doomed && length me.pending == 0))
-      && same_bool (is_some me.told) (is_some (told_by f t n.cpus))
+      && same_bool (is_some me.told) (is_some (told_by f t n.cpus)) && nat_le (tellers f t) 1
       && one_if v.held == over_processors f (λ p. one_if (runs_thread t p && has_held p))
       && parked_is t parked
       && occurs t (scheduler f).ready == one_if (is_ready_there parked (told_at (scheduler f) t))
@@ -255,7 +264,7 @@ module _ (n : Tested) (f : Fine) (m : State) where
   processor_is k =
       let p = f.processors k in
       let me = thread_at m p.context.thread in
-      implies (runs p) (is_of p.context) && added_are p.todo && is_framed p.todo && list_all names_row p.todo
+      implies (runs p) (run_is p.context) && implies (list_any is_done p.todo) (done_is p.context) && added_are p.todo && is_framed p.todo && list_all names_row p.todo
       && list_all (is_others (own_row f.image p.context.thread)) p.todo && size_is p (looked p.todo) && reply_is p (moving p.todo)
       && implies (has_held p) (p.domain == (word f p.context.thread).domain)
       && implies (list_any is_move_done p.todo) (not (fails p.reply))
