@@ -52,6 +52,8 @@ pub mod SchedulerSteps
 pub mod ListRuns
 pub mod RunningPart
 pub mod SchedulerPart
+pub mod PlacesFacts
+pub mod ReadyPart
 pub mod ListTails
 pub mod ListGrips
 pub mod HeldPart

@@ -19,7 +19,7 @@ use Rattle.um_erasure.specs.Fine.{Fine}
 use Rattle.um_erasure.specs.Looks.{LooksAre}
 use Rattle.um_erasure.specs.Objects.{ContentsAre, StatusIs}
 use Rattle.um_erasure.specs.Relation.{Rel}
-use Rattle.um_erasure.specs.Threads.{AwayIs, ContextsAre, DomainKept, ReadyIs, ToldIs}
+use Rattle.um_erasure.specs.Threads.{AwayIs, ContextsAre, DomainKept, ToldIs}
 use Rattle.um_erasure.proofs.CallsKnown.{own-known}
 use Rattle.um_erasure.proofs.CleanersPart.{cleaners-part}
 use Rattle.um_erasure.proofs.DomainPart.{domain-part}
@@ -36,6 +36,7 @@ use Rattle.um_erasure.proofs.ListFrames.{frames-kept}
 use Rattle.um_erasure.proofs.MemoryPart.{InDomains, memory-part}
 use Rattle.um_erasure.proofs.PairsPart.{pairs-part}
 use Rattle.um_erasure.proofs.Reachable.{Any, makes-any, reachable-sound}
+use Rattle.um_erasure.proofs.ReadyPart.{ready-part}
 use Rattle.um_erasure.proofs.RowsPart.{rows-part}
 use Rattle.um_erasure.proofs.RunningPart.{running-part}
 use Rattle.um_erasure.proofs.SchedulerPart.{scheduler-part}
@@ -49,7 +50,6 @@ pub record IsLeft (g : Fine) (s : State) : Type 0 where
   pub contexts : ContextsAre g s
   pub away : (t : ℕ) → t < THREADS → AwayIs g s t
   pub told : (t : ℕ) → t < THREADS → ToldIs g s t
-  pub ready : (t : ℕ) → t < THREADS → ReadyIs g t
   pub status : (x : ℕ) → x < ROWS → StatusIs g s x
   pub contents : (x : ℕ) → x < ROWS → ContentsAre g s x
   pub claims : (x : ℕ) → x < ROWS → ClaimsAre g s x
@@ -95,8 +95,8 @@ module _ (f : Fine) (m : State) (e : FineStep) (law : Lawful f m e) where
   image-part _ (recycles x rest todo at l said chosen) = image-same m (mine f m e) x Pending.Recycle rest ∙ law.rel.image
 
   -- the relation holds after the step where what is left of it does
-  pub related : InDomains f m → (s : State) → Leaves f m e s → IsLeft later s → Rel later s
-  related all s leaves left =
+  pub related : InDomains f m → Suits f m → (s : State) → Leaves f m e s → IsLeft later s → Rel later s
+  related all suits s leaves left =
       record {
         image = image-part s leaves;
         sorts = sorts-kept f.image f.sites e law.rel.sorts;
@@ -104,7 +104,7 @@ module _ (f : Fine) (m : State) (e : FineStep) (law : Lawful f m e) where
         running = running-part f m e law;
         scheduler = scheduler-part f m e law;
         threads = λ t l.
-            record { word = words-part f m e law t l s leaves; away = left.away t l; told = left.told t l; held = held-part f m e law t l; ready = left.ready t l };
+            record { word = words-part f m e law t l s leaves; away = left.away t l; told = left.told t l; held = held-part f m e law t l; ready = ready-part f m e law suits.tells t l };
         rows = λ x l.
             record { pairs = pairs-part f m e law x l s leaves; status = left.status x l; contents = left.contents x l; claims = left.claims x l; cleaners = cleaners-part f m e law x l s leaves };
         domains = λ d l. domain-part f m e law d l s leaves;
@@ -137,4 +137,4 @@ keeps-all image cpus described known left ps ss m e rel reach by taken =
     let own = own-known image described.lawful (subst IsSited (opening-image image) known.reached.sited) in
     let all : InDomains f m = λ t l started. started-placed image cpus described m reach t started in
     let next = lawful-next f m e law suits own all in
-    (next.state, next.goes, related f m e law all next.state next.leaves (left.parts f m e refl refl reach law suits next.state next.leaves))
+    (next.state, next.goes, related f m e law all suits next.state next.leaves (left.parts f m e refl refl reach law suits next.state next.leaves))

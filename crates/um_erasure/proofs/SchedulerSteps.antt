@@ -6,7 +6,7 @@ use Rattle.um_base.specs.declared.image.Image.{Image}
 use Rattle.um_base.specs.Places.{row_at}
 use Rattle.um_machine.specs.declared.pending.Pending.{Pending}
 use Rattle.um_words.specs.declared.fine.FineAct.{FineAct}
-use Rattle.um_fine.specs.Asks.{check_site, says, site_at, site_of_step}
+use Rattle.um_fine.specs.Asks.{check_site, moves, says, site_at, site_of_step}
 use Rattle.um_fine.specs.Cells.{Cell}
 use Rattle.um_fine.specs.Places.{Todos}
 use Rattle.um_fine.specs.Processor.{Processor, fails}
@@ -41,6 +41,9 @@ module _ (f : Fine) (m : State) (e : FineStep) (law : Lawful f m e) where
 
   pub made-says : (todo : Todos) → (maker f m e).todo ≡ todo → e.act ≡ says f.image (maker f m e) todo e.act e.moved
   made-says todo at = sym (ap (λ (s : FineStep). s.act) law.by.may.makes) ∙ ap (λ (z : Todos). says f.image (maker f m e) z e.act e.moved) at
+
+  pub made-moves : (todo : Todos) → (maker f m e).todo ≡ todo → e.moved ≡ moves f.image (maker f m e) todo e.moved
+  made-moves todo at = sym (ap (λ (s : FineStep). s.moved) law.by.may.makes) ∙ ap (λ (z : Todos). moves f.image (maker f m e) z e.moved) at
 
   -- The word that a step leaves is the one that stands then.
   pub word-left : e.word ≡ word_of (s_next f.image (f.sites e.site) e)
