@@ -14,6 +14,7 @@ pub mod Says
 pub mod ListFits
 pub mod ListBlocks
 pub mod ListFrames
+pub mod RestKept
 pub mod StepsLeft
 pub mod Offered
 pub mod Shown
@@ -24,6 +25,8 @@ pub mod DomainSteps
 pub mod HeapSteps
 pub mod HeldRows
 pub mod WorkSteps
+pub mod OwnKept
+pub mod OfKept
 pub mod VisitSteps
 pub mod DropSteps
 pub mod Kept

@@ -40,12 +40,12 @@ use Rattle.um_machine.specs.Order.{Steps, answer_error, copy_fails, end_steps, f
 use Rattle.um_machine.specs.Services.{is_empty}
 use Rattle.um_machine.specs.State.{State, first_place, object_at, vacant, with_object, with_pair, instruction_at, next_place, no_rows, thread_at, with_thread}
 use Rattle.um_machine.specs.Table as T
-use Rattle.um_fine.specs.Answers.{is_fault, value_in}
+use Rattle.um_fine.specs.Answers.{bytes_in, is_fault, outcome_in, value_in}
 use Rattle.um_base.specs.declared.attr.Attr.{Attr}
 use Rattle.um_base.specs.declared.names.Range.{Range}
 use Rattle.um_base.specs.Regions.{Partitions, stack_range}
-use Rattle.um_base.specs.declared.ask.Waiter.{Waiter}
 use Rattle.um_fine.specs.Context.{Context, as_thread}
+use Rattle.um_fine.specs.Objects.{outcome_of}
 use Rattle.um_fine.specs.Steps.{Exchange}
 use Rattle.um_fine.specs.Continues as C
 use Rattle.um_erasure.specs.Threads.{own_part}
@@ -154,18 +154,16 @@ module _ (m : State) (t : ℕ) (c : Context) (own : as_thread c ≡ own_part (th
         | false ↦ fails
       ]
 
-  copy-in : (x : ℕ) (a : Addr) (amount : Amount) (rest : Steps)
-      → let p = Pending.CopyIn a amount in
-      Same (C.continues m.image c x p rest (T.act_of m t x p) (Exchange.bytes (take PIECE (bytes_at m a.0 (T.amount_of m amount))))) (T.after m t x p rest)
-  copy-in x a amount rest =
-      let bs = take PIECE (bytes_at m a.0 (T.amount_of m amount)) in
-      elim (allowed m t Access.Read a.0 (T.amount_of m amount)) as (λ b.
-      Same
-      (if b then C.goes_on m.image (record c { buffer = bs }) rest else C.goes_on m.image c (copy_fails c.mode))
-      (if b then T.goes_on m t (record (thread_at m t) { buffer = bs }) rest else T.goes_on m t (thread_at m t) (copy_fails (thread_at m t).mode))) [
-        | true ↦ buffer bs rest
-        | false ↦ fails
-      ]
+  copy-in : (x : ℕ) (a : Addr) (amount : Amount) (rest : Steps) (moved : Exchange)
+      → (allowed m t Access.Read a.0 (T.amount_of m amount) ≡ true → bytes_in moved ≡ take PIECE (bytes_at m a.0 (T.amount_of m amount)))
+      → let p = Pending.CopyIn a amount in Same (C.continues m.image c x p rest (T.act_of m t x p) moved) (T.after m t x p rest)
+  copy-in x a amount rest moved same = by (allowed m t Access.Read a.0 (T.amount_of m amount)) same
+    where
+      by : (b : Bool) → (b ≡ true → bytes_in moved ≡ take PIECE (bytes_at m a.0 (T.amount_of m amount)))
+          → Same (if b then C.goes_on m.image (record c { buffer = bytes_in moved }) rest else C.goes_on m.image c (copy_fails c.mode))
+          (if b then T.goes_on m t (record (thread_at m t) { buffer = take PIECE (bytes_at m a.0 (T.amount_of m amount)) }) rest else T.goes_on m t (thread_at m t) (copy_fails (thread_at m t).mode))
+      by true h = (λ i. as_thread (C.goes_on m.image (record c { buffer = h refl i }) rest)) ∙ buffer (take PIECE (bytes_at m a.0 (T.amount_of m amount))) rest
+      by false h = fails
 
   texts : (a : Addr) (rest : Steps) (found : Found) (bs : List ℕ) → ((n : ℕ) → found ≡ Found.Length n → bs ≡ string_bytes m a.0 n)
       → Same (C.after_text m.image c bs rest found) (T.after_string m t (thread_at m t) a rest found)
@@ -173,9 +171,9 @@ module _ (m : State) (t : ℕ) (c : Context) (own : as_thread c ≡ own_part (th
   texts a rest Found.Unreadable bs h = stays (answer_error Errno.EFAULT)
   texts a rest Found.TooLong bs h = stays (answer_error Errno.EINVAL)
 
-  copy-str : (x : ℕ) (a : Addr) (rest : Steps) (r : ℕ) (bs : List ℕ) → ((n : ℕ) → string_read m t a.0 32 ≡ Found.Length n → bs ≡ string_bytes m a.0 n)
-      → let p = Pending.CopyStr a in Same (C.continues m.image c x p rest (T.act_of m t x p) (Exchange.text r bs)) (T.after m t x p rest)
-  copy-str x a rest r bs h = texts a rest (string_read m t a.0 32) bs h
+  copy-str : (x : ℕ) (a : Addr) (rest : Steps) (moved : Exchange) → ((n : ℕ) → string_read m t a.0 32 ≡ Found.Length n → bytes_in moved ≡ string_bytes m a.0 n)
+      → let p = Pending.CopyStr a in Same (C.continues m.image c x p rest (T.act_of m t x p) moved) (T.after m t x p rest)
+  copy-str x a rest moved h = texts a rest (string_read m t a.0 32) (bytes_in moved) h
 
   -- the reply
   replied : (reply : Option Reply) → C.reply_of m.image c reply ≡ T.reply_of (thread_at m t) reply
@@ -312,16 +310,15 @@ module _ (m : State) (t : ℕ) (c : Context) (own : as_thread c ≡ own_part (th
   worked s ask taken rest (Answer.Now (Reply.At a)) q = replies s (Reply.At a) taken rest q
   worked s ask taken rest (Answer.Now Reply.Null) q = replies s Reply.Null taken rest q
 
-  work : (x : ℕ) (a : Addr) (ask : Ask) (caller : Waiter) (rest : Steps)
-      → let p = Pending.Work a ask in
-      let w = T.work_of m t a ask in
-      Same (C.continues m.image c x p rest (T.act_of m t x p) (Exchange.asked caller (record { answer = w.answer; taken = w.taken; woken = w.woken }))) (T.after m t x p rest)
-  work x a ask caller rest =
+  work : (x : ℕ) (a : Addr) (ask : Ask) (rest : Steps) (moved : Exchange) → outcome_in moved ≡ outcome_of (T.work_of m t a ask)
+      → let p = Pending.Work a ask in Same (C.continues m.image c x p rest (T.act_of m t x p) moved) (T.after m t x p rest)
+  work x a ask rest moved same =
       let w = T.work_of m t a ask in
       let y = T.row_of m a in
       let o = object_at m y in
       let s = with_object m y (record o { contents = w.contents; waiters = w.waiters; buffer = T.buffer_cost ask w.answer o.buffer }) in
-      worked (T.all_woken w.woken s) ask w.taken rest w.answer (woken-quiet w.woken s (record { image = refl; long = room; part = refl }))
+      (λ i. as_thread (C.after_work m.image c ask (same i).taken rest (same i).answer))
+      ∙ worked (T.all_woken w.woken s) ask w.taken rest w.answer (woken-quiet w.woken s (record { image = refl; long = room; part = refl }))
 
   goes-own : (x : ℕ) (who : ThreadIx) (rest : Steps) (moved : Exchange)
       → let p = Pending.Own who in Same (C.continues m.image c x p rest (T.act_of m t x p) moved) (T.after m t x p rest)
@@ -497,3 +494,59 @@ module _ (m : State) (t : ℕ) (c : Context) (own : as_thread c ≡ own_part (th
       let steps = elim w.reply as (λ _. Steps) [ Reply.Fail e ↦ T.without_copy rest | _ ↦ rest ] in
       (λ i. as_thread (C.goes_on m.image (record c { reply = w.reply; buffer = w.taken }) (told-steps rest w.reply i)))
       ∙ here (record me { told = None; reply = w.reply; buffer = w.taken }) (record c { reply = w.reply; buffer = w.taken }) steps (ap (λ (z : Thread). record z { reply = w.reply; buffer = w.taken }) own)
+
+  -- What goes with a step beside its act: the bytes that are copied in, a text, what came of work; and nobody starts itself.
+  abbrev pub Carries : Pending → Exchange → Type 0
+  Carries (Pending.CopyIn a amount) moved =
+      allowed m t Access.Read a.0 (T.amount_of m amount) ≡ true → bytes_in moved ≡ take PIECE (bytes_at m a.0 (T.amount_of m amount))
+  Carries (Pending.CopyStr a) moved = (n : ℕ) → string_read m t a.0 32 ≡ Found.Length n → bytes_in moved ≡ string_bytes m a.0 n
+  Carries (Pending.Work a ask) moved = outcome_in moved ≡ outcome_of (T.work_of m t a ask)
+  Carries (Pending.Start who script stack priority mode) moved = who.0 ≡ t → ⊥
+  Carries Pending.Resume moved = ⊥
+  Carries (Pending.CleanPair who) moved = ⊥
+  Carries Pending.Recycle moved = ⊥
+  Carries q moved = Unit {0}
+
+  -- the own part after any step of an instruction
+  pub own-after : (x : ℕ) (q : Pending) (rest : Steps) (moved : Exchange) → Carries q moved → Same (C.continues m.image c x q rest (T.act_of m t x q) moved) (T.after m t x q rest)
+  own-after x Pending.Begin rest moved h = begin rest (T.act_of m t x Pending.Begin) moved x
+  own-after x Pending.Exit rest moved h = exit x rest moved
+  own-after x (Pending.Check a kind want refusal) rest moved h = check x a kind want refusal rest moved
+  own-after x (Pending.Load to a n) rest moved h = load x to a n rest moved
+  own-after x (Pending.Store a n value) rest moved h = store x a n value rest moved
+  own-after x (Pending.Fetch a) rest moved h = fetch x a rest moved
+  own-after x (Pending.Probe a amount) rest moved h = probe x a amount rest moved
+  own-after x (Pending.CopyIn a amount) rest moved h = copy-in x a amount rest moved h
+  own-after x (Pending.CopyOut a) rest moved h = copy-out x a rest moved
+  own-after x (Pending.CopyStr a) rest moved h = copy-str x a rest moved h
+  own-after x (Pending.Erase stack) rest moved h = erase x stack rest moved
+  own-after x (Pending.Work a ask) rest moved h = work x a ask rest moved h
+  own-after x Pending.Resume rest moved h = absurd h
+  own-after x (Pending.Answer reply to) rest moved h = answer x reply to rest moved
+  own-after x (Pending.Grant who a) rest moved h = grant x who a rest moved
+  own-after x (Pending.Own who) rest moved h = goes-own x who rest moved
+  own-after x (Pending.Inherit who) rest moved h = inherit x who rest moved
+  own-after x (Pending.DropPair who a) rest moved h = drop-pair x who a rest moved
+  own-after x (Pending.Publish a) rest moved h = publish x a rest moved
+  own-after x (Pending.SetInit a strict undo) rest moved h = set-init x a strict undo rest moved
+  own-after x (Pending.ClearInit a) rest moved h = clear-init x a rest moved
+  own-after x (Pending.Named who) rest moved h = named x who rest moved
+  own-after x (Pending.Reserve kind) rest moved h = reserve x kind rest moved
+  own-after x (Pending.Born a) rest moved h = born x a rest moved
+  own-after x (Pending.Buffer size) rest moved h = buffers x size rest moved
+  own-after x (Pending.Unbuffer size) rest moved h = unbuffer x size rest moved
+  own-after x (Pending.DomInit d parts) rest moved h = dom-init x d parts rest moved
+  own-after x (Pending.DomAdd d range attr) rest moved h = dom-add x d range attr rest moved
+  own-after x (Pending.DomRemove d range attr) rest moved h = dom-remove x d range attr rest moved
+  own-after x (Pending.DomMove d who) rest moved h = dom-move x d who rest moved
+  own-after x (Pending.Start who script stack priority mode') rest moved h = start x who script stack priority mode' rest moved h
+  own-after x (Pending.EnterUser script) rest moved h = user x script rest moved
+  own-after x (Pending.Fatal reason cause) rest moved h = fatal x reason cause rest moved
+  own-after x (Pending.Drops from) rest moved h = drops x from rest moved
+  own-after x (Pending.Dooms from) rest moved h = dooms x from rest moved
+  own-after x (Pending.CleanPair who) rest moved h = absurd h
+  own-after x Pending.Recycle rest moved h = absurd h
+
+  -- and after a call is resumed
+  pub own-resumed : (told : Told) (rest : Steps) → Same (C.resumed_at m.image c told (Pending.Resume ∷ rest)) (T.resumed m t (thread_at m t) rest (Some told))
+  own-resumed told rest = resume told rest

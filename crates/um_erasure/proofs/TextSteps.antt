@@ -1,19 +1,20 @@
 -- A processor's copy of a text is that step of the machine, where the relation holds: as many bytes are read as its table allows one by
 -- one, up to a zero.
-use Rattle.std.proofs.Common.{◌≡◌, ℕ, zero, suc, ◌+◌, ◌<◌, Bool, true, false, length, refl, sym, ap, ◌∙◌, subst, arith, eq-eqb, ne_eqb}
+use Rattle.std.proofs.Common.{◌≡◌, ℕ, zero, suc, ◌+◌, ◌-◌, ◌<◌, ◌≤◌, Bool, true, false, List, [], ◌∷◌, length, refl, sym, ap, ◌∙◌, subst, arith, eq-eqb, ne_eqb}
 use Rattle.std.specs.Prelude.{◌==◌, if◌then◌else◌, slice_index}
+use Rattle.std.proofs.lemmas.Bool.{false≢true}
 use Rattle.um_base.specs.declared.act.Act.{Act}
 use Rattle.um_base.specs.declared.act.Found.{Found}
 use Rattle.um_base.specs.declared.image.Image.{Image}
 use Rattle.um_base.specs.declared.names.Access.TheVariants as Access
 use Rattle.um_base.specs.declared.names.Addr.{Addr}
 use Rattle.um_machine.specs.declared.pending.Pending.{Pending}
-use Rattle.um_machine.specs.Memory.{allowed, bytes_at, string_from}
+use Rattle.um_machine.specs.Memory.{allowed, bytes_at, string_bytes, string_from}
 use Rattle.um_machine.specs.Order.{Steps}
 use Rattle.um_machine.specs.State.{State}
 use Rattle.um_fine.specs.Answers.{act_in, bytes_in, found_in, limit_in}
 use Rattle.um_fine.specs.Steps.{Exchange, FineStep, Site}
-use Rattle.um_fine.specs.Memory.{Bytes, read, text_found}
+use Rattle.um_fine.specs.Memory.{Bytes, read, text_bytes, text_found}
 use Rattle.um_fine.specs.Sites.{SiteState, site_answers}
 use Rattle.um_fine.specs.Places.{Todos}
 use Rattle.um_fine.specs.Processor.{Processor}
@@ -49,6 +50,63 @@ module _ (image : Image) (p : Processor) (b : Bytes) (m : State) (t : ℕ)
           ap (λ c. text_found image b a (if c then readable image p (a + 1) limit + 1 else 0) before) h
           ∙ (ap (λ c. if c then Found.TooLong else Found.Unreadable) (ne_eqb before 32 (λ q. absurd (omega (arith, q, e))))
           ∙ sym (ap (λ c. if c then found_by (slice_index (bytes_at m a 1) 0 == 0) before (string_from m t (a + 1) limit (before + 1)) else Found.Unreadable) (sym (may a) ∙ h)))
+
+  -- the bytes of a text that is found are the machine's
+  is_length : Found → Bool
+  is_length (Found.Length n) = true
+  is_length found = false
+
+  length_in : Found → ℕ
+  length_in (Found.Length n) = n
+  length_in found = 0
+
+  pub text-bytes : (limit a before n : ℕ) → string_from m t a limit before ≡ Found.Length n
+      → (before ≤ n) × (text_bytes image b a (readable image p a limit) ≡ string_bytes m a (n - before))
+  unfolding is_length length_in
+  text-bytes zero a before n e = absurd (false≢true (ap is_length e))
+  text-bytes (suc limit) a before n e = by (allows image p Access.Read a 1) refl (text-bytes limit (a + 1) (before + 1) n)
+    where
+      by : (c : Bool) → allows image p Access.Read a 1 ≡ c
+          → (string_from m t (a + 1) limit (before + 1) ≡ Found.Length n
+          → (before + 1 ≤ n) × (text_bytes image b (a + 1) (readable image p (a + 1) limit) ≡ string_bytes m (a + 1) (n - (before + 1))))
+          → (before ≤ n) × (text_bytes image b a (if allows image p Access.Read a 1 then readable image p (a + 1) limit + 1 else 0) ≡ string_bytes m a (n - before))
+      by true h more = found (slice_index (bytes_at m a 1) 0 == 0) refl
+        where
+          reads : string_from m t a (suc limit) before
+              ≡ (if slice_index (bytes_at m a 1) 0 == 0 then Found.Length before else string_from m t (a + 1) limit (before + 1))
+          reads =
+              ap (λ d. if d then (if slice_index (bytes_at m a 1) 0 == 0 then Found.Length before else string_from m t (a + 1) limit (before + 1)) else Found.Unreadable)
+              (sym (may a) ∙ h)
+
+          text : text_bytes image b a (if allows image p Access.Read a 1 then readable image p (a + 1) limit + 1 else 0)
+              ≡ (if slice_index (bytes_at m a 1) 0 == 0 then [] else slice_index (bytes_at m a 1) 0 ∷ text_bytes image b (a + 1) (readable image p (a + 1) limit))
+          text =
+              ap (λ d. text_bytes image b a (if d then readable image p (a + 1) limit + 1 else 0)) h
+              ∙ (ap (text_bytes image b a) (plus-one (readable image p (a + 1) limit))
+              ∙ ap (λ (bs : List ℕ). if slice_index bs 0 == 0 then [] else slice_index bs 0 ∷ text_bytes image b (a + 1) (readable image p (a + 1) limit)) (same a))
+
+          found : (d : Bool) → (slice_index (bytes_at m a 1) 0 == 0) ≡ d
+              → (before ≤ n) × (text_bytes image b a (if allows image p Access.Read a 1 then readable image p (a + 1) limit + 1 else 0) ≡ string_bytes m a (n - before))
+          found true q =
+              let at : before ≡ n =
+              ap length_in (sym (ap (λ d. if d then Found.Length before else string_from m t (a + 1) limit (before + 1)) q) ∙ (sym reads ∙ e)) in
+              let none : 0 ≡ n - before = omega (arith, at) in (
+                omega (arith, at),
+                text
+                    ∙ (ap (λ d. if d then [] else slice_index (bytes_at m a 1) 0 ∷ text_bytes image b (a + 1) (readable image p (a + 1) limit)) q
+                    ∙ ap (string_bytes m a) none),
+              )
+          found false q =
+              let rest = more (sym (ap (λ d. if d then Found.Length before else string_from m t (a + 1) limit (before + 1)) q) ∙ (sym reads ∙ e)) in
+              let low = rest.0 in
+              let many : suc (n - (before + 1)) ≡ n - before = omega (arith, low) in (
+                omega (arith, low),
+                text
+                    ∙ (ap (λ d. if d then [] else slice_index (bytes_at m a 1) 0 ∷ text_bytes image b (a + 1) (readable image p (a + 1) limit)) q
+                    ∙ (ap (λ (bs : List ℕ). slice_index (bytes_at m a 1) 0 ∷ bs) rest.1 ∙ ap (string_bytes m a) many)),
+              )
+      by false h more =
+          absurd (false≢true (ap is_length (sym (ap (λ d. if d then (if slice_index (bytes_at m a 1) 0 == 0 then Found.Length before else string_from m t (a + 1) limit (before + 1)) else Found.Unreadable) (sym (may a) ∙ h)) ∙ e)))
 
 pub copy-str-step : {f : Fine} {m : State} {k : ℕ} {e : FineStep} {rest : Steps} {todo : Todos} → (f.processors k).domain < length f.image.domains → (a : Addr)
     → Shows f m k e (Pending.CopyStr a) rest todo → IsStep f m k e 0 (Pending.CopyStr a)

@@ -33,7 +33,7 @@ use Rattle.um_erasure.proofs.Offered.{IsStep, Shows, act-is, behind-is, machine-
 use Rattle.um_erasure.proofs.RowSteps.{named-row}
 use Rattle.um_erasure.proofs.Says.{work-agrees}
 
-object-sort : (x : ℕ) (s : SiteState) → IsTrue (is_sort (Site.object x) s) → (n : ℕ) × (s ≡ SiteState.cell n (Cell.object (object_state s)))
+pub object-sort : (x : ℕ) (s : SiteState) → IsTrue (is_sort (Site.object x) s) → (n : ℕ) × (s ≡ SiteState.cell n (Cell.object (object_state s)))
 object-sort x (SiteState.cell n (Cell.object o)) h = (n, refl)
 object-sort x s h = absurd (false≢true h)
 
