@@ -116,7 +116,7 @@ module _ {f : Fine} {m : State} {k : ℕ} {e : FineStep} {x : ℕ} {todo : Todos
           let here : visited (f.processors k).todo ≡ x = ap visited h.at in absurd (omega (arith, least, here, less))
 
   pub drop-step : Held m x (f.processors k).context.thread
-      → (from : ℕ) × (rest : Steps) × Goes m e (T.after m (f.processors k).context.thread x (Pending.Drops from) rest)
+      → (from : ℕ) × (rest : Steps) × ((f.processors k).context.pending ≡ Pending.Drops from ∷ rest) × Goes m e (T.after m (f.processors k).context.thread x (Pending.Drops from) rest)
   drop-step held =
       let t = (f.processors k).context.thread in
       let act = Act.DropPair (to_thread t) (address_of f.image x) (left_in (act_in e.act)) in
@@ -133,6 +133,7 @@ module _ {f : Fine} {m : State} {k : ℕ} {e : FineStep} {x : ℕ} {todo : Todos
       let at : visited (f.processors k).todo ≡ x = ap visited h.at in omega (arith, low, at)) in (
         drop-fits.from,
         drop-fits.step ∷ drop-fits.rest,
+        drop-fits.pending,
         subst (λ a. GoesBy m a (T.after m t x (Pending.Drops drop-fits.from) (drop-fits.step ∷ drop-fits.rest))) (sym said)
             (record {
               step = Pending.Drops drop-fits.from;

@@ -37,7 +37,7 @@ use Rattle.um_erasure.proofs.DomainSteps.{add-step, init-step, remove-step}
 use Rattle.um_erasure.proofs.DropSteps.{drop-pair-step, drop-step}
 use Rattle.um_erasure.proofs.Erased.{Goes, GoesBy}
 use Rattle.um_erasure.proofs.HeapSteps.{buffer-step, reserve-step}
-use Rattle.um_erasure.proofs.Leaves.{Lawful, Leaves, cleans, drops, event, nothing, passes, recycles, resumes}
+use Rattle.um_erasure.proofs.Leaves.{HasStep, Lawful, Leaves, cleans, drops, event, nothing, passes, recycles, resumes}
 use Rattle.um_erasure.proofs.MemoryPart.{InDomains, held-domain}
 use Rattle.um_erasure.proofs.MemorySteps.{copy-in-step, copy-out-step, fetch-step, load-step, memory-sort, probe-step, store-step}
 use Rattle.um_erasure.proofs.ObjectsKept.{row-below}
@@ -73,6 +73,7 @@ pub record Next (f : Fine) (m : State) (e : FineStep) : Type 0 where
   pub state : State
   pub goes : Goes m e state
   pub leaves : Leaves f m e state
+  pub has : HasStep f m e state leaves
 
 module _ (f : Fine) (m : State) (e : FineStep) (law : Lawful f m e) (suits : Suits f m) (own : OwnRows f.image) (all : InDomains f m) where
   calls : Calls m
@@ -82,7 +83,7 @@ module _ (f : Fine) (m : State) (e : FineStep) (law : Lawful f m e) (suits : Sui
   p = f.processors e.cpu
 
   quietly : (u : Unseen) → e.act ≡ FineAct.Unseen u → Next f m e
-  quietly u said = record { state = m; goes = subst (λ act. GoesBy m act m) (sym said) refl; leaves = nothing u said }
+  quietly u said = record { state = m; goes = subst (λ act. GoesBy m act m) (sym said) refl; leaves = nothing u said; has = tt }
 
   row-named : (a : Addr) → row_named f.image a < ROWS
   row-named a = ltb-true (row_named f.image a) ROWS (named-below f m e law a)
@@ -163,7 +164,7 @@ module _ (f : Fine) (m : State) (e : FineStep) (law : Lawful f m e) (suits : Sui
   show-next q rest todo at false shown =
       let h : Shows f m e.cpu e q rest todo = record { rel = law.rel; there = law.by.named; at = at; may = law.by.may; taken = law.taken; shown = shown } in
       let r = shown-step rest todo q h in
-      record { state = T.after m p.context.thread r.1 q rest; goes = step-goes h r.2; leaves = event q rest todo r.1 h r.0 r.2 }
+      record { state = T.after m p.context.thread r.1 q rest; goes = step-goes h r.2; leaves = event q rest todo r.1 h r.0 r.2; has = tt }
   show-next q rest todo at true read = by q (made-says f m e law (Todo.show q rest ∷ todo) at)
     where
       reads : (q : Pending) → e.act ≡ (if is_word_read e.act then FineAct.Unseen Unseen.WordRead else shows f.image p q e.act) → Next f m e
@@ -196,7 +197,8 @@ module _ (f : Fine) (m : State) (e : FineStep) (law : Lawful f m e) (suits : Sui
       let r = pass-step who v in
       record {
         state = T.after m p.context.thread x (Pending.Inherit (to_thread who)) r.0;
-        goes = r.1;
+        goes = r.2;
+        has = r.1;
         leaves = passes who x r.0 todo v (does (Act.Inherit (to_thread who) (address_of f.image x)) (made-says f m e law (Todo.pass who x ∷ todo) at) shown);
       }
 
@@ -208,7 +210,8 @@ module _ (f : Fine) (m : State) (e : FineStep) (law : Lawful f m e) (suits : Sui
       let r = drop-step v (sound-held m law.sound x p.context.thread v.few) in
       record {
         state = T.after m p.context.thread x (Pending.Drops r.0) r.1;
-        goes = r.2;
+        goes = r.3;
+        has = r.2;
         leaves = drops r.0 x r.1 todo v (does (Act.DropPair (to_thread p.context.thread) (address_of f.image x) (left_in (act_in e.act))) (made-says f m e law (Todo.drop x ∷ todo) at) shown);
       }
 
@@ -220,6 +223,7 @@ module _ (f : Fine) (m : State) (e : FineStep) (law : Lawful f m e) (suits : Sui
       let pending = (thread_at m p.context.thread).pending in
       record {
         state = T.after m p.context.thread x (Pending.CleanPair (to_thread who)) pending;
+        has = tt;
         goes = clean-pair-step v calls own (sound-held m law.sound x who v.few);
         leaves = cleans who x pending todo v (does (Act.DropPair (to_thread who) (address_of f.image x) (left_in (act_in e.act))) (made-says f m e law (Todo.clean_pair who x ∷ todo) at) shown);
       }
@@ -230,6 +234,7 @@ module _ (f : Fine) (m : State) (e : FineStep) (law : Lawful f m e) (suits : Sui
       let pending = (thread_at m p.context.thread).pending in
       record {
         state = T.after m p.context.thread x Pending.Recycle pending;
+        has = tt;
         goes = recycle-step f m law.rel calls own x todo law.by.named few at law.by.may;
         leaves = recycles x pending todo at few (made-says f m e law (Todo.recycle x ∷ todo) at) (recycle-chosen f m law.rel calls own x todo law.by.named few at);
       }
@@ -239,7 +244,7 @@ module _ (f : Fine) (m : State) (e : FineStep) (law : Lawful f m e) (suits : Sui
   take-next at (Exchange.thread c None) moved said = quietly (Unseen.Next (to_thread c.thread)) said
   take-next at (Exchange.thread c (Some told)) moved said =
       let r = resume-step f m law.rel c told law.by.named at law.by.may law.taken moved suits.tells in
-      record { state = T.after m c.thread 0 Pending.Resume r.0; goes = r.1; leaves = resumes c told r.0 at moved said }
+      record { state = T.after m c.thread 0 Pending.Resume r.0; goes = r.2; leaves = resumes c told r.0 at moved said; has = r.1 }
   take-next at Exchange.nothing moved said = quietly _ said
   take-next at (Exchange.bytes bs) moved said = quietly _ said
   take-next at (Exchange.asked who outcome) moved said = quietly _ said

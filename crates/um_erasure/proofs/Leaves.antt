@@ -56,3 +56,13 @@ module _ (f : Fine) (m : State) (e : FineStep) where
         → e.act ≡ by_me f.image maker (Act.DropPair (to_thread who) (address_of f.image x) (left_in (act_in e.act))) → Leaves (T.after m mine x (Pending.CleanPair (to_thread who)) rest)
     recycles : (x : ℕ) (rest : Steps) (todo : Todos) → maker.todo ≡ Todo.recycle x ∷ todo → x < ROWS
         → e.act ≡ by_me f.image maker (Act.Recycle (address_of f.image x)) → MayChoose m mine x Pending.Recycle → Leaves (T.after m mine x Pending.Recycle rest)
+
+  -- where a thread's own part has the step that is made
+  abbrev pub HasStep : (s : State) → Leaves s → Type 0
+  HasStep _ (nothing u said) = Unit {0}
+  HasStep _ (event q rest todo x h shown is) = Unit {0}
+  HasStep _ (resumes c told rest idle moved said) = c.pending ≡ Pending.Resume ∷ rest
+  HasStep _ (passes who x rest todo h said) = maker.context.pending ≡ Pending.Inherit (to_thread who) ∷ rest
+  HasStep _ (drops from x rest todo h said) = maker.context.pending ≡ Pending.Drops from ∷ rest
+  HasStep _ (cleans who x rest todo h said) = Unit {0}
+  HasStep _ (recycles x rest todo at l said chosen) = Unit {0}

@@ -82,3 +82,6 @@ pub mod Parts
 pub mod ErasedLeft
 pub mod MemoryPart
 pub mod WordsPart
+pub mod PartsElsewhere
+pub mod ListAdders
+pub mod OfVisits

@@ -38,7 +38,7 @@ set-same (y ∷ ys) zero (suc u) th e = refl
 set-same (y ∷ ys) (suc v) zero th e = refl
 set-same (y ∷ ys) (suc v) (suc u) th e = set-same ys v u th e
 
-dues-same : (x i : ℕ) (holders : List Bool) (xs : List Thread) (u : ℕ) → doing (slice_index_or (T.with_dues x i holders xs) u nobody) ≡ doing (slice_index_or xs u nobody)
+pub dues-same : (x i : ℕ) (holders : List Bool) (xs : List Thread) (u : ℕ) → doing (slice_index_or (T.with_dues x i holders xs) u nobody) ≡ doing (slice_index_or xs u nobody)
 dues-same x i holders [] u = refl
 dues-same x i holders (y ∷ ys) zero = refl
 dues-same x i holders (y ∷ ys) (suc u) = dues-same x (i + 1) holders ys u

@@ -1,14 +1,16 @@
 -- A thread's own part lies in one place at most, so one that a processor runs, or that is still to be added, isn't parked; and whom a wake
 -- on a list tells something, the machine has told something, and the scheduler hasn't yet.
-use Rattle.std.proofs.Common.{◌≡◌, ℕ, zero, suc, ◌+◌, ◌<◌, Bool, true, false, List, [], ◌∷◌, Option, Some, None, refl, ap, ◌∙◌, subst, arith}
-use Rattle.std.specs.Prelude.{◌==◌, is_some, slice_index_or, slice_set}
+use Rattle.std.proofs.Common.{◌≡◌, inl, inr, ℕ, zero, suc, ◌+◌, ◌<◌, ◌≤◌, Bool, true, false, List, [], ◌∷◌, Option, Some, None, refl, sym, ap, ◌∙◌, subst, arith, eq-eqb}
+use Rattle.std.specs.Prelude.{◌==◌, is_some, slice_index_or, slice_set, if◌then◌else◌}
 use Rattle.std.proofs.lemmas.Bool.{eqb-false, eqb-true, false≢true}
 use Rattle.um_base.specs.declared.ask.Told.{Told}
 use Rattle.um_base.specs.declared.limits.TheConstants.{THREADS}
 use Rattle.um_machine.specs.State.{State, thread_at}
+use Rattle.um_fine.specs.Context.{Context}
+use Rattle.um_fine.specs.Places.{Todo, Todos}
 use Rattle.um_fine.specs.Scheduler.{parked_at, told_at}
-use Rattle.um_erasure.specs.Fine.{Fine, one_if, scheduler}
-use Rattle.um_erasure.specs.Lists.{adders, counted, is_wake, of_thread, wake_of}
+use Rattle.um_erasure.specs.Fine.{Fine, one_if, scheduler, total}
+use Rattle.um_erasure.specs.Lists.{Adds, adders, counted, is_wake, of_thread, wake_of}
 use Rattle.um_erasure.specs.Relation.{Rel}
 use Rattle.um_erasure.specs.Threads.{first_told, runs_on, told_by}
 use Rattle.um_erasure.proofs.MemorySteps.{part-total}
@@ -31,8 +33,51 @@ second-some : (a b : Option Told) → is_some b ≡ true → is_some (first_told
 second-some None b h = h
 second-some (Some w) b h = refl
 
+-- two parts of a sum are at most the sum
+total-two : (g : ℕ → ℕ) (n k j : ℕ) → k < n → j < n → (k ≡ j → ⊥) → g k + g j ≤ total g n
+total-two g zero k j l r apart = absurd (omega (arith, l))
+total-two g (suc n) k j l r apart = by (k == n) refl (j == n) refl (total-two g n k j)
+  where
+    by : (a : Bool) → (k == n) ≡ a → (b : Bool) → (j == n) ≡ b → (k < n → j < n → (k ≡ j → ⊥) → g k + g j ≤ total g n) → g k + g j ≤ total g n + g n
+    by true e true h more = absurd (apart (eqb-true k n e ∙ sym (eqb-true j n h)))
+    by true e false h more =
+        let last : g k ≡ g n = ap g (eqb-true k n e) in
+        let other = eqb-false j n h in
+        let part = part-total g n j (below j r other) in omega (arith, last, part)
+      where
+        below : (i : ℕ) → i < suc n → (i ≡ n → ⊥) → i < n
+        below i l ne = omega (arith, l, ne)
+    by false e true h more =
+        let last : g j ≡ g n = ap g (eqb-true j n h) in
+        let other = eqb-false k n e in
+        let part = part-total g n k (below k l other) in omega (arith, last, part)
+      where
+        below : (i : ℕ) → i < suc n → (i ≡ n → ⊥) → i < n
+        below i l ne = omega (arith, l, ne)
+    by false e false h more =
+        let one = eqb-false k n e in
+        let other = eqb-false j n h in
+        let sum = more (below k l one) (below j r other) apart in omega (arith, sum)
+      where
+        below : (i : ℕ) → i < suc n → (i ≡ n → ⊥) → i < n
+        below i l ne = omega (arith, l, ne)
+
+-- a step that adds a thread is one of its adders
+pub adds-count : (c : Context) (todo : Todos) → Adds c todo → 0 < of_thread c.thread (adders todo)
+adds-count c [] h = absurd h
+adds-count c (Todo.show q rest ∷ todo) h = absurd h
+adds-count c (Todo.add d ∷ todo) (inl e) =
+    let one = ap (λ b. if b then of_thread c.thread (adders todo) + 1 else of_thread c.thread (adders todo)) (eq-eqb d.thread c.thread (ap (λ (z : Context). z.thread) (sym e))) in omega (arith, one)
+adds-count c (Todo.add d ∷ todo) (inr h) = by (d.thread == c.thread) (adds-count c todo h)
+  where
+    by : (b : Bool) → 0 < of_thread c.thread (adders todo) → 0 < (if b then of_thread c.thread (adders todo) + 1 else of_thread c.thread (adders todo))
+    by true some = omega arith
+    by false some = some
+adds-count c (q ∷ todo) h = adds-count c todo h
+
 module _ (f : Fine) (m : State) (rel : Rel f m) (t : ℕ) (few : t < THREADS) where
-  abbrev part : ℕ → ℕ
+  -- whether it lies with a processor
+  abbrev pub part : ℕ → ℕ
   part k = one_if (runs_on t (f.processors k)) + of_thread t (adders (f.processors k).todo)
 
   pub running-unparked : (k : ℕ) → k < f.cpus → runs_on t (f.processors k) ≡ true → is_some (parked_at (scheduler f) t) ≡ false
@@ -47,6 +92,26 @@ module _ (f : Fine) (m : State) (rel : Rel f m) (t : ℕ) (few : t < THREADS) wh
       let sum = part-total part f.cpus k l in
       let once = rel.contexts.once t few in
       not-some (is_some (parked_at (scheduler f) t)) (omega (arith, sum, some, once))
+
+  pub lies-unparked : (k : ℕ) → k < f.cpus → 0 < part k → is_some (parked_at (scheduler f) t) ≡ false
+  lies-unparked k l some =
+      let sum = part-total part f.cpus k l in
+      let once = rel.contexts.once t few in
+      not-some (is_some (parked_at (scheduler f) t)) (omega (arith, sum, some, once))
+
+  -- not with two
+  pub lies-once : (k j : ℕ) → k < f.cpus → j < f.cpus → (k ≡ j → ⊥) → 0 < part k → 0 < part j → ⊥
+  lies-once k j l r apart some other =
+      let sum = total-two part f.cpus k j l r apart in
+      let once = rel.contexts.once t few in
+      omega (arith, sum, some, other, once)
+
+  -- nor in two places of one
+  pub lies-here : (k : ℕ) → k < f.cpus → part k ≤ 1
+  lies-here k l =
+      let sum = part-total part f.cpus k l in
+      let once = rel.contexts.once t few in
+      omega (arith, sum, once)
 
   -- a wake on a list is one that the machine has made
   wakes-tell : (n k : ℕ) → k < n → is_some (wake_of t (f.processors k).todo) ≡ true → is_some (told_by f t n) ≡ true

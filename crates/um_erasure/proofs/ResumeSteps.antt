@@ -6,6 +6,7 @@ use Rattle.std.proofs.lemmas.Bool.{and_parts, false≢true}
 use Rattle.um_base.specs.declared.ask.Told.{Told}
 use Rattle.um_base.specs.declared.limits.TheConstants.{THREADS}
 use Rattle.um_machine.specs.declared.pending.Pending.{Pending}
+use Rattle.um_machine.specs.declared.thread.Thread.{Thread}
 use Rattle.um_machine.specs.Order.{Steps}
 use Rattle.um_machine.specs.Run.{goes}
 use Rattle.um_machine.specs.State.{State, thread_at}
@@ -79,7 +80,7 @@ module _ (f : Fine) (m : State) (rel : Rel f m) where
 
   pub resume-step : {k : ℕ} {e : FineStep} (c : Context) (told : Told) → k < f.cpus → (f.processors k).todo ≡ [] → CpuMay f.image (f.processors k) e
       → SiteMay f.image (f.sites e.site) e → e.moved ≡ Exchange.thread c (Some told) → TellsWaiters m
-      → (rest : Steps) × Goes m e (T.after m c.thread 0 Pending.Resume rest)
+      → (rest : Steps) × (c.pending ≡ Pending.Resume ∷ rest) × Goes m e (T.after m c.thread 0 Pending.Resume rest)
   resume-step {k} {e} c told there idle may taken moved waiters =
       let p = f.processors k in
       let site : e.site ≡ Site.scheduler = sym (ap (λ (s : FineStep). s.site) may.makes) ∙ ap (site_at f.image p) idle in
@@ -96,6 +97,7 @@ module _ (f : Fine) (m : State) (rel : Rel f m) where
       let is = first-taken (scheduler f).ready c told ready (sym (idle-moves f.image p (scheduler f) e.moved) ∙ (moves ∙ moved)) in
       let steps = waits-form (thread_at m c.thread).pending (waiters c.thread is.tells.0 is.tells.1) in (
         steps.0,
+        ap (λ (th : Thread). th.pending) is.of.own ∙ steps.1,
         subst (λ a. GoesBy m a (T.after m c.thread 0 Pending.Resume steps.0)) (sym (act ∙ ap (says_idle f.image p) moved))
             (record { step = Pending.Resume; rest = steps.0; row = 0; offered = goes steps.1; chosen = is.tells; says = refl; leaves = refl }),
       )

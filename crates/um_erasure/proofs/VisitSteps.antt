@@ -68,7 +68,7 @@ module _ {f : Fine} {m : State} {k : ℕ} {e : FineStep} {x : ℕ} {step : Todo}
 module _ {f : Fine} {m : State} {k : ℕ} {e : FineStep} {x : ℕ} {todo : Todos} where
   -- a permission is passed on
   pub pass-step : (who : ℕ) → Visits f m k e x (Todo.pass who x) todo
-      → (rest : Steps) × Goes m e (T.after m (f.processors k).context.thread x (Pending.Inherit (to_thread who)) rest)
+      → (rest : Steps) × ((f.processors k).context.pending ≡ Pending.Inherit (to_thread who) ∷ rest) × Goes m e (T.after m (f.processors k).context.thread x (Pending.Inherit (to_thread who)) rest)
   pass-step who h =
       let t = (f.processors k).context.thread in
       let act = Act.Inherit (to_thread who) (address_of f.image x) in
@@ -78,6 +78,7 @@ module _ {f : Fine} {m : State} {k : ℕ} {e : FineStep} {x : ℕ} {todo : Todos
       let own = ((visit-part h).of (passes-on f.image (f.processors k).context who todo fits)).own in
       let child : Pending.Inherit fits.child ≡ Pending.Inherit (to_thread who) = ap (λ n. Pending.Inherit (to_thread n)) fits.same in (
         fits.step ∷ fits.rest,
+        fits.pending ∙ ap (λ q. q ∷ fits.step ∷ fits.rest) child,
         subst (λ a. GoesBy m a (T.after m t x (Pending.Inherit (to_thread who)) (fits.step ∷ fits.rest))) (sym said)
             (record {
               step = Pending.Inherit (to_thread who);

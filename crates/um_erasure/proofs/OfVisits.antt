@@ -1,0 +1,113 @@
+-- The own part of a thread that visits a row, or goes on after it was woken, is that of the machine's thread then.
+use Rattle.std.proofs.Common.{◌≡◌, ℕ, zero, suc, ◌+◌, ◌<◌, Bool, true, false, [], ◌∷◌, length, Option, Some, None, refl, sym, ap, ◌∙◌, subst, arith}
+use Rattle.std.specs.Prelude.{◌==◌, IsTrue, if◌then◌else◌, is_some, nat_lt}
+use Rattle.std.specs.List.{list_all}
+use Rattle.um_base.specs.declared.ask.Told.{Told}
+use Rattle.um_base.specs.declared.limits.TheConstants.{ROWS, THREADS}
+use Rattle.um_base.specs.declared.names.Reply.{Reply}
+use Rattle.um_machine.specs.declared.pending.Pending.{Pending}
+use Rattle.um_machine.specs.declared.thread.Thread.{Thread}
+use Rattle.um_machine.specs.Order.{Steps, to_thread}
+use Rattle.um_machine.specs.State.{State, is_started, thread_at}
+use Rattle.um_machine.specs.Table as T
+use Rattle.um_fine.specs.Context.{Context, as_thread}
+use Rattle.um_fine.specs.Continues.{resumed, resumed_at}
+use Rattle.um_fine.specs.Follows.{dropped_at}
+use Rattle.um_fine.specs.Places.{Todo, Todos}
+use Rattle.um_fine.specs.Processor.{Processor}
+use Rattle.um_fine.specs.Scheduler.{told_at}
+use Rattle.um_fine.specs.Steps.{Exchange, FineStep}
+use Rattle.um_erasure.specs.Fine.{Fine, one_if, scheduler, total}
+use Rattle.um_erasure.specs.Lists.{counted, is_wake, wake_of}
+use Rattle.um_erasure.specs.Relation.{Rel}
+use Rattle.um_erasure.specs.Threads.{IsOf, first_told, flags_of, is_ended, own_part, told_by}
+use Rattle.um_erasure.proofs.Leaves.{Lawful}
+use Rattle.um_erasure.proofs.MemorySteps.{part-total}
+use Rattle.um_erasure.proofs.Own.{own-after, own-resumed}
+use Rattle.um_erasure.proofs.RestKept.{Alike, beside-kept, beside-same}
+use Rattle.um_erasure.proofs.ThreadLists.{at-here}
+
+-- What the scheduler tells a thread is what the machine tells it.
+
+no-wake : (t : ℕ) (todo : Todos) → counted (is_wake t) todo ≡ 0 → wake_of t todo ≡ None
+no-wake t [] h = refl
+no-wake t (Todo.wake who told ∷ todo) h = by (who == t) h (no-wake t todo)
+  where
+    by : (b : Bool) → (if b then counted (is_wake t) todo + 1 else counted (is_wake t) todo) ≡ 0 → (counted (is_wake t) todo ≡ 0 → wake_of t todo ≡ None)
+        → (if b then Some told else wake_of t todo) ≡ None
+    by true h more = absurd (omega (arith, h))
+    by false h more = more h
+no-wake t (q ∷ todo) h = no-wake t todo h
+
+module _ (f : Fine) (m : State) (rel : Rel f m) (t : ℕ) (few : t < THREADS) (told : Told) (here : told_at (scheduler f) t ≡ Some told) where
+  unwoken : (n : ℕ) → ((k : ℕ) → k < n → wake_of t (f.processors k).todo ≡ None) → told_by f t n ≡ Some told
+  unwoken zero h = here
+  unwoken (suc n) h =
+      ap (λ (o : Option Told). first_told o (told_by f t n)) (h n (omega arith)) ∙ unwoken n (λ k l. h k (omega (arith, l)))
+
+  pub scheduler-tells : (thread_at m t).told ≡ Some told
+  scheduler-tells =
+      (rel.threads t few).told.told
+      ∙ unwoken f.cpus
+      (λ k l.
+      let once = (rel.threads t few).told.once in
+      let part = part-total (λ j. counted (is_wake t) (f.processors j).todo) f.cpus k l in
+      let one : one_if (is_some (told_at (scheduler f) t)) ≡ 1 = ap (λ (o : Option Told). one_if (is_some o)) here in
+      no-wake t (f.processors k).todo (omega (arith, once, part, one)))
+
+module _ (f : Fine) (m : State) (e : FineStep) (law : Lawful f m e) where
+  -- an own part with other steps, where the rest of the thread is as before
+  visited : (c d : Context) (s : State) → IsOf m c → d.thread ≡ c.thread → d.claims ≡ c.claims → d.ended ≡ c.ended → as_thread d ≡ own_part (thread_at s c.thread)
+      → Alike m c.thread s → IsOf s d
+  visited c d s of thread claims ended own alike =
+      let same = beside-same m c.thread s alike c.thread in
+      record {
+        index = subst (λ n. n < THREADS) (sym thread) of.index;
+        own = own ∙ ap (λ n. own_part (thread_at s n)) (sym thread);
+        claims = ap (λ n. (thread_at s n).checked) thread ∙ (ap (λ z. z.checked) same ∙ (of.claims ∙ ap flags_of (sym claims)));
+        ended = ended ∙ (of.ended ∙ (ap (λ z. is_ended z.life) (sym same) ∙ ap (λ n. is_ended (thread_at s n).life) (sym thread)));
+        started = subst (λ n. IsTrue (is_started (thread_at s n).life)) (sym thread) (subst (λ z. IsTrue (is_started z.life)) (sym same) of.started);
+        below = ap (list_all (λ x. nat_lt x ROWS)) claims ∙ of.below;
+      }
+
+  room : (c : Context) → IsOf m c → c.thread < length m.threads
+  room c of = let index = of.index in let many = law.sound.wide.threads in omega (arith, index, many)
+
+  pub of-passes : (c : Context) (who x : ℕ) (rest : Steps) → IsOf m c → c.pending ≡ Pending.Inherit (to_thread who) ∷ rest
+      → IsOf (T.after m c.thread x (Pending.Inherit (to_thread who)) rest) c
+  of-passes c who x rest of has =
+      visited c c (T.after m c.thread x (Pending.Inherit (to_thread who)) rest) of refl refl refl
+      ((λ i. as_thread (record c { pending = has i })) ∙ own-after m c.thread c of.own refl (room c of) x (Pending.Inherit (to_thread who)) rest e.moved tt)
+      (beside-kept m c.thread x (Pending.Inherit (to_thread who)) rest tt)
+
+  pub of-drops : (c : Context) (from x : ℕ) (rest : Steps) → IsOf m c → c.pending ≡ Pending.Drops from ∷ rest
+      → IsOf (T.after m c.thread x (Pending.Drops from) rest) (dropped_at f.image c x false)
+  of-drops c from x rest of has =
+      visited c (dropped_at f.image c x false) (T.after m c.thread x (Pending.Drops from) rest) of refl refl refl
+      ((λ i. as_thread (dropped_at f.image (record c { pending = has i }) x false)) ∙ own-after m c.thread c of.own refl (room c of) x (Pending.Drops from) rest e.moved tt)
+      (beside-kept m c.thread x (Pending.Drops from) rest tt)
+
+  pub of-resumes : (c : Context) (told : Told) (rest : Steps) → IsOf m c → c.pending ≡ Pending.Resume ∷ rest → told_at (scheduler f) c.thread ≡ Some told
+      → IsOf (T.after m c.thread 0 Pending.Resume rest) (resumed f.image c told)
+  of-resumes c told rest of has here =
+      let t = c.thread in
+      let me = thread_at m t in
+      let tells = scheduler-tells f m law.rel t of.index told here in
+      let steps = elim told.reply as (λ _. Steps) [ Reply.Fail e ↦ T.without_copy rest | _ ↦ rest ] in
+      let th = T.at_steps m.image (record me { told = None; reply = told.reply; buffer = told.taken }) steps in
+      let now : thread_at (T.after m t 0 Pending.Resume rest) t ≡ th = (λ i. thread_at (T.resumed m t me rest (tells i)) t) ∙ at-here m.threads t th (room c of) in
+      let shape : (d : Context) × (resumed f.image c told ≡ d) × (d.thread ≡ c.thread) × (d.claims ≡ c.claims) × (d.ended ≡ c.ended) =
+      (resumed_at f.image c told (Pending.Resume ∷ rest), ap (resumed_at f.image c told) has, refl, refl, refl) in
+      let thread = ap (λ (z : Context). z.thread) shape.1 ∙ shape.2 in
+      let claims = ap (λ (z : Context). z.claims) shape.1 ∙ shape.3 in
+      let ended = ap (λ (z : Context). z.ended) shape.1 ∙ shape.4 in
+      record {
+        index = subst (λ n. n < THREADS) (sym thread) of.index;
+        own = ap as_thread shape.1
+            ∙ ((λ i. as_thread (resumed_at (sym law.rel.image i) c told (Pending.Resume ∷ rest)))
+            ∙ (own-resumed m t c of.own refl (room c of) told rest ∙ ((λ i. own_part (thread_at (T.resumed m t me rest (sym tells i)) t)) ∙ ap (λ n. own_part (thread_at (T.after m t 0 Pending.Resume rest) n)) (sym thread))));
+        claims = ap (λ n. (thread_at (T.after m t 0 Pending.Resume rest) n).checked) thread ∙ (ap (λ (z : Thread). z.checked) now ∙ (of.claims ∙ ap flags_of (sym claims)));
+        ended = ended ∙ (of.ended ∙ (ap (λ (z : Thread). is_ended z.life) (sym now) ∙ ap (λ n. is_ended (thread_at (T.after m t 0 Pending.Resume rest) n).life) (sym thread)));
+        started = subst (λ n. IsTrue (is_started (thread_at (T.after m t 0 Pending.Resume rest) n).life)) (sym thread) (subst (λ (z : Thread). IsTrue (is_started z.life)) (sym now) of.started);
+        below = ap (list_all (λ x. nat_lt x ROWS)) claims ∙ of.below;
+      }

@@ -1,0 +1,223 @@
+-- What a step leaves of the own parts of threads that it isn't of, wherever they lie.
+use Rattle.std.proofs.Common.{◌≡◌, ℕ, ◌+◌, ◌<◌, Bool, true, false, cond, List, [], ◌∷◌, Option, Some, None, refl, sym, ap, ◌∙◌, subst, arith, eq-eqb}
+use Rattle.std.specs.Prelude.{◌==◌, ◌&&◌, IsTrue, not, slice_index_or, unwrap_or}
+use Rattle.std.proofs.lemmas.Bool.{and_parts, eqb-true, false≢true, true≢false}
+use Rattle.um_base.specs.declared.act.Act.{Act}
+use Rattle.um_base.specs.declared.act.Leftover.{Leftover}
+use Rattle.um_base.specs.declared.ask.Told.{Told}
+use Rattle.um_base.specs.declared.limits.TheConstants.{THREADS}
+use Rattle.um_base.specs.declared.names.ThreadIx.{ThreadIx}
+use Rattle.um_base.specs.Places.{own_row}
+use Rattle.um_machine.specs.declared.object.Status.TheVariants as Status
+use Rattle.um_machine.specs.declared.pending.Pending.{Pending}
+use Rattle.um_machine.specs.declared.thread.Life.{Life}
+use Rattle.um_machine.specs.declared.thread.Thread.{Thread}
+use Rattle.um_machine.specs.Order.{Steps, to_thread}
+use Rattle.um_machine.specs.Services.{is_empty}
+use Rattle.um_machine.specs.State.{State, is_living, is_started, object_at, thread_at, with_object, with_pair}
+use Rattle.um_machine.specs.Table as T
+use Rattle.um_words.specs.declared.fine.FineAct.{FineAct}
+use Rattle.um_words.specs.declared.fine.Unseen.{Unseen}
+use Rattle.um_words.specs.declared.thread_word.ThreadWord.{ThreadWord}
+use Rattle.um_words.specs.Threads.{thread_after, thread_after_act}
+use Rattle.um_fine.specs.Asks.{says_idle}
+use Rattle.um_fine.specs.Context.{Context, no_context}
+use Rattle.um_fine.specs.Places.{Todo, Todos}
+use Rattle.um_fine.specs.Processor.{Processor}
+use Rattle.um_fine.specs.Scheduler.{first_ready, has_ready, parked_at, told_at}
+use Rattle.um_fine.specs.Sites.{SiteState, s_next, same_site, site_after}
+use Rattle.um_fine.specs.Steps.{Exchange, FineStep, Site}
+use Rattle.um_erasure.specs.Fine.{Fine, one_if, scheduler, thread_state, word}
+use Rattle.um_erasure.specs.Lists.{Adds, has_steps, runs, runs_thread}
+use Rattle.um_erasure.specs.Offers.{Fits, is_over}
+use Rattle.um_erasure.specs.Threads.{IsOf, is_ended, own_part, runs_on}
+use Rattle.um_erasure.proofs.CallsKnown.{starts-known}
+use Rattle.um_erasure.proofs.Erased.{stepped}
+use Rattle.um_erasure.proofs.Kept.{idle-moves, idle-takes}
+use Rattle.um_erasure.proofs.Leaves.{Lawful, Leaves, cleans, drops, event, maker, mine, nothing, passes, recycles, resumes}
+use Rattle.um_erasure.proofs.Offered.{Shows, shown-offers, shown-on}
+use Rattle.um_erasure.proofs.Others.{doing, dues-same, others, starts_other}
+use Rattle.um_erasure.proofs.PlacesFacts.{adds-count, lies-here, lies-once, lies-unparked, running-unparked}
+use Rattle.um_erasure.proofs.ResumeSteps.{some-is}
+use Rattle.um_erasure.proofs.RowSteps.{thread-sort}
+use Rattle.um_erasure.proofs.SchedulerSteps.{made-at, made-says, sched-moved, sched-took}
+use Rattle.um_erasure.proofs.StepsLeft.{drops-on, passes-on, rests-on}
+use Rattle.um_erasure.proofs.WordsPart.{words-part}
+
+-- a thread that was started stays so
+life-started : (w : ThreadWord) (act : FineAct) → is_started w.life ≡ true → is_started (thread_after w act).life ≡ true
+life-started w (FineAct.Shown said more) h = by said.act
+  where
+    by : (act : Act) → is_started (thread_after_act w more act).life ≡ true
+    by Act.Exit = refl
+    by (Act.Fatal reason cause) = refl
+    by (Act.Doom who) = h
+    by (Act.DomMove d who reply) = h
+    by (Act.Start who) = refl
+    by Act.EnterUser = h
+    by act = h
+life-started w (FineAct.Unseen Unseen.Hold) h = h
+life-started w (FineAct.Unseen Unseen.LetGo) h = h
+life-started w (FineAct.Unseen u) h = h
+
+-- the cleaning of an object changes nothing of what threads do
+clean-doing : (m : State) (t x : ℕ) (who : ThreadIx) (u : ℕ) → doing (thread_at (T.after_drop (T.cleaned_by m t (own_row m.image who.0)) who.0 x) u) ≡ doing (thread_at m u)
+clean-doing m t x who u =
+    let s = T.cleaned_by m t (own_row m.image who.0) in
+    let Same = λ (z : State). doing (thread_at z u) ≡ doing (thread_at m u) in
+    let paired = dues-same x 0 (slice_index_or (with_pair s who.0 x false).pairs x []) s.threads u in
+    elim (T.dropped s who.0 x) as (λ l. Same (elim l as (λ _. State) [ Leftover.NoPair ↦ s | Leftover.Kept ↦ T.paired s who.0 x false | Leftover.Gone ↦ with_object (T.paired s who.0 x false) x (record (object_at s x) { status = Status.Gone }) ])) [
+      | Leftover.NoPair ↦ refl
+      | Leftover.Kept ↦ paired
+      | Leftover.Gone ↦ paired
+    ]
+
+module _ (f : Fine) (m : State) (e : FineStep) (law : Lawful f m e) where
+  abbrev later : Fine
+  later = stepped f.image f.cpus f.processors f.sites e
+
+  abbrev p : Processor
+  p = f.processors e.cpu
+
+  -- The thread that is taken is parked.
+
+  pub taken-parked : p.todo ≡ [] → (c : Context) (told : Option Told) → e.moved ≡ Exchange.thread c told → parked_at (scheduler f) c.thread ≡ Some c
+  taken-parked at c told moved = by (scheduler f).ready refl
+    where
+      act : FineAct
+      act = says_idle f.image p e.moved
+
+      said : e.act ≡ act
+      said = made-says f m e law [] at
+
+      ready : IsTrue (has_ready (scheduler f) (scheduler f).ready)
+      ready = idle-takes f.image p (scheduler f) e.moved (sched-took f m e law (made-at f m e law [] at) act said)
+
+      first : e.moved ≡ first_ready (scheduler f) (scheduler f).ready
+      first = sym (sched-moved f m e law (made-at f m e law [] at) act said) ∙ idle-moves f.image p (scheduler f) e.moved
+
+      by : (list : List ℕ) → (scheduler f).ready ≡ list → parked_at (scheduler f) c.thread ≡ Some c
+      by [] q = absurd (false≢true (subst (λ (l : List ℕ). IsTrue (has_ready (scheduler f) l)) q ready))
+      by (u ∷ list) q =
+          let some = some-is (parked_at (scheduler f) u) (and_parts _ _ (subst (λ (l : List ℕ). IsTrue (has_ready (scheduler f) l)) q ready)).0 in
+          let same : some.0 ≡ c = ap (λ (o : Option Context). unwrap_or o no_context) (sym some.1) ∙ ap thread_of (sym (sym moved ∙ (first ∙ ap (first_ready (scheduler f)) q))) in
+          let is = law.rel.contexts.parked u some.0 some.1 in
+          subst (λ n. parked_at (scheduler f) n ≡ Some c) (sym is.1 ∙ ap (λ (z : Context). z.thread) same) (some.1 ∙ ap (λ (z : Context). Some z) same)
+        where
+          thread_of : Exchange → Context
+          thread_of (Exchange.thread d told) = d
+          thread_of moved = no_context
+
+  -- what is taken is a thread, the first of the ready list
+  pub takes-first : p.todo ≡ [] → (u : ℕ) × (list : List ℕ) × (d : Context) × (told : Option Told) × ((scheduler f).ready ≡ u ∷ list) × (e.moved ≡ Exchange.thread d told) × (d.thread ≡ u)
+  takes-first at = by (scheduler f).ready refl
+    where
+      act : FineAct
+      act = says_idle f.image p e.moved
+
+      said : e.act ≡ act
+      said = made-says f m e law [] at
+
+      ready : IsTrue (has_ready (scheduler f) (scheduler f).ready)
+      ready = idle-takes f.image p (scheduler f) e.moved (sched-took f m e law (made-at f m e law [] at) act said)
+
+      first : e.moved ≡ first_ready (scheduler f) (scheduler f).ready
+      first = sym (sched-moved f m e law (made-at f m e law [] at) act said) ∙ idle-moves f.image p (scheduler f) e.moved
+
+      by : (list : List ℕ) → (scheduler f).ready ≡ list
+          → (u : ℕ) × (list : List ℕ) × (d : Context) × (told : Option Told) × ((scheduler f).ready ≡ u ∷ list) × (e.moved ≡ Exchange.thread d told) × (d.thread ≡ u)
+      by [] q = absurd (false≢true (subst (λ (l : List ℕ). IsTrue (has_ready (scheduler f) l)) q ready))
+      by (u ∷ list) q =
+          let some = some-is (parked_at (scheduler f) u) (and_parts _ _ (subst (λ (l : List ℕ). IsTrue (has_ready (scheduler f) l)) q ready)).0 in
+          (u, list, unwrap_or (parked_at (scheduler f) u) no_context, told_at (scheduler f) u, q, first ∙ ap (first_ready (scheduler f)) q,
+          ap (λ (o : Option Context). (unwrap_or o no_context).thread) some.1 ∙ (law.rel.contexts.parked u some.0 some.1).1)
+
+  -- who is started next lies nowhere
+  pub starts-apart : (c : Context) → IsOf m c → is_over c ≡ false → (q : Pending) (rest : Steps) (todo : Todos) → Shows f m e.cpu e q rest todo → starts_other c.thread q
+  starts-apart c of on (Pending.Start who script stack priority mode) rest todo h = λ same.
+      let new = starts-known m law.sound p.context.thread who script stack priority mode rest (shown-offers h) in
+      by (thread_at m c.thread).life refl (ap (λ n. is_living (thread_at m n).life) (sym same) ∙ new.0) (ap (λ n. (thread_at m n).pending) (sym same) ∙ new.1)
+    where
+      by : (life : Life) → (thread_at m c.thread).life ≡ life → is_living (thread_at m c.thread).life ≡ false → (thread_at m c.thread).pending ≡ [] → ⊥
+      by Life.Unborn q dead none = false≢true (sym (ap is_started q) ∙ of.started)
+      by Life.Living q dead none = true≢false (sym (ap is_living q) ∙ dead)
+      by Life.Ended q dead none =
+          let pending = ap (λ (th : Thread). th.pending) of.own ∙ none in
+          true≢false (sym (λ i. ((of.ended ∙ ap is_ended q) i) && is_empty (pending i)) ∙ on)
+  starts-apart c of on q rest todo h = tt
+
+  module _ (s : State) (leaves : Leaves f m e s) where
+    -- whether a step is of another thread
+    abbrev pub Apart : (z : State) → Leaves f m e z → ℕ → Type 0
+    Apart _ (nothing u said) v = Unit {0}
+    Apart _ (event q rest todo x h shown is) v = (mine f m e ≡ v → ⊥) × starts_other v q
+    Apart _ (resumes c told rest idle moved said) v = c.thread ≡ v → ⊥
+    Apart _ (passes who x rest todo h said) v = mine f m e ≡ v → ⊥
+    Apart _ (drops from x rest todo h said) v = mine f m e ≡ v → ⊥
+    Apart _ (cleans who x rest todo h said) v = Unit {0}
+    Apart _ (recycles x rest todo at l said chosen) v = Unit {0}
+
+    pub stays : (v : ℕ) → Apart s leaves v → doing (thread_at s v) ≡ doing (thread_at m v)
+    stays v apart = by s leaves apart
+      where
+        by : (z : State) (l : Leaves f m e z) → Apart z l v → doing (thread_at z v) ≡ doing (thread_at m v)
+        by _ (nothing u said) a = refl
+        by _ (event q rest todo x h shown is) a = others m (mine f m e) v a.0 x q rest a.1
+        by _ (resumes c told rest idle moved said) a = others m c.thread v a 0 Pending.Resume rest tt
+        by _ (passes who x rest todo h said) a = others m (mine f m e) v a x (Pending.Inherit (to_thread who)) rest tt
+        by _ (drops from x rest todo h said) a = others m (mine f m e) v a x (Pending.Drops from) rest tt
+        by _ (cleans who x rest todo h said) a = clean-doing m (mine f m e) x (to_thread who) v
+        by _ (recycles x rest todo at l said chosen) a = refl
+
+    pub of-stays : (c : Context) → IsOf m c → Apart s leaves c.thread → IsOf s c
+    of-stays c of apart =
+        let same = stays c.thread apart in
+        record {
+          index = of.index;
+          own = of.own ∙ ap own_part (sym same);
+          claims = ap (λ (th : Thread). th.checked) same ∙ of.claims;
+          ended = of.ended ∙ ap (λ (th : Thread). is_ended th.life) (sym same);
+          started = subst (λ (th : Thread). IsTrue (is_started th.life)) (sym same) of.started;
+          below = of.below;
+        }
+
+    pub started-kept : (v : ℕ) → v < THREADS → IsTrue (is_started (thread_at m v).life) → IsTrue (is_started (thread_at s v).life)
+    started-kept v few h =
+        let before = (law.rel.threads v few).word.life in
+        let after = (words-part f m e law v few s leaves).life in
+        ap is_started (sym after) ∙ by (same_site e.site (Site.thread v)) refl (ap is_started before ∙ h)
+      where
+        by : (b : Bool) → same_site e.site (Site.thread v) ≡ b → is_started (word f v).life ≡ true → is_started (word later v).life ≡ true
+        by true q k =
+            ap is_started (ap (λ b. (thread_state (cond b (s_next f.image (f.sites (Site.thread v)) e) (f.sites (Site.thread v)))).life) q
+            ∙ ap (λ (z : SiteState). (thread_state (site_after f.image z e.act e.moved)).life) (thread-sort v (f.sites (Site.thread v)) (law.rel.sorts (Site.thread v))))
+            ∙ life-started (word f v) e.act k
+        by false q k = ap is_started (ap (λ b. (thread_state (cond b (s_next f.image (f.sites (Site.thread v)) e) (f.sites (Site.thread v)))).life) q) ∙ k
+
+    -- An own part that lies elsewhere.
+
+    on-here : has_steps p.todo ≡ true → is_over p.context ≡ false → runs_on p.context.thread p ≡ true
+    on-here steps on = λ i. (steps i && eq-eqb p.context.thread p.context.thread refl i) && not (on i)
+
+    -- the maker of an event of its thread runs that one
+    mine-lies : (v : ℕ) → p.context.thread ≡ v → has_steps p.todo ≡ true → is_over p.context ≡ false → runs_on v p ≡ true
+    mine-lies v same steps on = subst (λ n. runs_on n p ≡ true) same (on-here steps on)
+
+    module _ (v : ℕ) (few : v < THREADS) (c : Context) (of : IsOf m c) (at : c.thread ≡ v) (on : is_over c ≡ false)
+        (alone : runs_on v p ≡ true → ⊥) (unparked : (d : Context) (told : Told) → p.todo ≡ [] → e.moved ≡ Exchange.thread d (Some told) → d.thread ≡ v → ⊥) where
+      pub apart-from : Apart s leaves v
+      apart-from = by s leaves
+        where
+          by : (z : State) (l : Leaves f m e z) → Apart z l v
+          by _ (nothing u said) = tt
+          by _ (event q rest todo x h shown is) =
+              (λ same. alone (mine-lies v same (ap has_steps h.at) (shown-on h)), subst (λ n. starts_other n q) at (starts-apart c of on q rest todo h))
+          by _ (resumes d told rest idle moved said) = λ same. unparked d told idle moved same
+          by _ (passes who x rest todo h said) = λ same.
+              let fits = (subst (Fits f.image p.context) h.at (law.rel.processors e.cpu law.by.named).list.fits).0 in
+              alone (mine-lies v same (ap has_steps h.at) (passes-on f.image p.context who todo fits))
+          by _ (drops from x rest todo h said) = λ same.
+              let fits = subst (Fits f.image p.context) h.at (law.rel.processors e.cpu law.by.named).list.fits in
+              alone (mine-lies v same (ap has_steps h.at) (drops-on f.image p.context todo fits))
+          by _ (cleans who x rest todo h said) = tt
+          by _ (recycles x rest todo at l said chosen) = tt
