@@ -24,6 +24,7 @@ use Rattle.um_reach.proofs.Claims.{claims}
 use Rattle.um_reach.proofs.Cores.{Call, call_at, call_is, core_of}
 use Rattle.um_reach.proofs.Facts.{not_less}
 use Rattle.um_reach.proofs.Guards.{IsSited, kind_in}
+use Rattle.um_turns.proofs.ThreadStarts.{real-below}
 use Rattle.um_erasure.proofs.CleanSteps.{Calls, OwnRows}
 use Rattle.um_erasure.proofs.Reachable.{IsSound}
 
@@ -50,6 +51,13 @@ module _ (m : State) (sound : IsSound m) where
       by : (b : Bool) → is_living (thread_at m who.0).life ≡ b → (call_at (core_of m) who.0).keeps ≡ false → b ≡ false
       by false e free = refl
       by true e free = absurd (true≢false (sym (sound.known.claimed.living who.0 (ap (λ (c : Call). c.living) (call_is m who.0) ∙ e)) ∙ free))
+
+  -- and its index is one
+  pub starts-below : IsLawful m.image → (t : ℕ) (who : ThreadIx) (script : ℕ) (stack : Row) (priority : ℤ) (mode : Mode) (rest : Steps)
+      → Offers m t (Pending.Start who script stack priority mode) rest → who.0 < THREADS
+  starts-below lawful t who script stack priority mode rest offers =
+      real-below m.image lawful who.0
+      (sound.known.claimed.claimed t who.0 (ap (λ (c : Call). claims m.image who.0 c.pending) (call_is m t) ∙ starts-claims m t who script stack priority mode rest offers))
 
   pub calls-known : RestsHoldNothing m → Calls m
   calls-known rests =

@@ -55,7 +55,7 @@ abbrev pub OwnRows : Image → Type 0
 OwnRows image = (x who : ℕ) → thread_of_row image x ≡ Some who → (own_row image who ≡ x) × (x < ROWS)
 
 -- a step that adds a thread has its own part
-adds-one : (u : ℕ) (todo : Todos) → 0 < of_thread u (adders todo) → (d : Context) × Adds d todo × (d.thread ≡ u)
+pub adds-one : (u : ℕ) (todo : Todos) → 0 < of_thread u (adders todo) → (d : Context) × Adds d todo × (d.thread ≡ u)
 adds-one u [] h = absurd (omega (arith, h))
 adds-one u (Todo.show q rest ∷ todo) h = absurd (omega (arith, h))
 adds-one u (Todo.add d ∷ todo) h = by (d.thread == u) refl (adds-one u todo)

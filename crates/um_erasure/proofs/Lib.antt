@@ -85,3 +85,4 @@ pub mod WordsPart
 pub mod PartsElsewhere
 pub mod ListAdders
 pub mod OfVisits
+pub mod ContextsPart

@@ -109,7 +109,7 @@ module _ (f : Fine) (m : State) (e : FineStep) (law : Lawful f m e) where
           thread_of moved = no_context
 
   -- what is taken is a thread, the first of the ready list
-  pub takes-first : p.todo ≡ [] → (u : ℕ) × (list : List ℕ) × (d : Context) × (told : Option Told) × ((scheduler f).ready ≡ u ∷ list) × (e.moved ≡ Exchange.thread d told) × (d.thread ≡ u)
+  pub takes-first : p.todo ≡ [] → (u : ℕ) × (list : List ℕ) × (d : Context) × (told : Option Told) × ((scheduler f).ready ≡ u ∷ list) × (e.moved ≡ Exchange.thread d told) × (d.thread ≡ u) × (told ≡ told_at (scheduler f) u)
   takes-first at = by (scheduler f).ready refl
     where
       act : FineAct
@@ -125,12 +125,28 @@ module _ (f : Fine) (m : State) (e : FineStep) (law : Lawful f m e) where
       first = sym (sched-moved f m e law (made-at f m e law [] at) act said) ∙ idle-moves f.image p (scheduler f) e.moved
 
       by : (list : List ℕ) → (scheduler f).ready ≡ list
-          → (u : ℕ) × (list : List ℕ) × (d : Context) × (told : Option Told) × ((scheduler f).ready ≡ u ∷ list) × (e.moved ≡ Exchange.thread d told) × (d.thread ≡ u)
+          → (u : ℕ) × (list : List ℕ) × (d : Context) × (told : Option Told) × ((scheduler f).ready ≡ u ∷ list) × (e.moved ≡ Exchange.thread d told) × (d.thread ≡ u) × (told ≡ told_at (scheduler f) u)
       by [] q = absurd (false≢true (subst (λ (l : List ℕ). IsTrue (has_ready (scheduler f) l)) q ready))
       by (u ∷ list) q =
           let some = some-is (parked_at (scheduler f) u) (and_parts _ _ (subst (λ (l : List ℕ). IsTrue (has_ready (scheduler f) l)) q ready)).0 in
           (u, list, unwrap_or (parked_at (scheduler f) u) no_context, told_at (scheduler f) u, q, first ∙ ap (first_ready (scheduler f)) q,
-          ap (λ (o : Option Context). (unwrap_or o no_context).thread) some.1 ∙ (law.rel.contexts.parked u some.0 some.1).1)
+          ap (λ (o : Option Context). (unwrap_or o no_context).thread) some.1 ∙ (law.rel.contexts.parked u some.0 some.1).1, refl)
+
+  -- and what it is told stands with the scheduler
+  pub taken-told : p.todo ≡ [] → (c : Context) (told : Told) → e.moved ≡ Exchange.thread c (Some told) → told_at (scheduler f) c.thread ≡ Some told
+  taken-told at c told moved =
+      let first = takes-first at in
+      let same : Exchange.thread first.2 first.3 ≡ Exchange.thread c (Some told) = sym first.5 ∙ moved in
+      let index : first.0 ≡ c.thread = sym first.6 ∙ ap thread_in same in
+      subst (λ n. told_at (scheduler f) n ≡ Some told) index (sym first.7 ∙ ap told_in same)
+    where
+      thread_in : Exchange → ℕ
+      thread_in (Exchange.thread d w) = d.thread
+      thread_in moved = 0
+
+      told_in : Exchange → Option Told
+      told_in (Exchange.thread d w) = w
+      told_in moved = None
 
   -- who is started next lies nowhere
   pub starts-apart : (c : Context) → IsOf m c → is_over c ≡ false → (q : Pending) (rest : Steps) (todo : Todos) → Shows f m e.cpu e q rest todo → starts_other c.thread q
