@@ -91,7 +91,7 @@ run-of s c rests of =
           (λ x. ap (λ (flags : List Bool). slice_index_or flags x false) (sym of.claims) ∙ rests c.thread x (inl (ended-not (thread_at s c.thread).life (sym of.ended ∙ ended))));
     }
 
-abbrev is_shown : FineAct → Bool
+abbrev pub is_shown : FineAct → Bool
 is_shown (FineAct.Shown said more) = true
 is_shown (FineAct.Unseen u) = false
 
@@ -103,11 +103,11 @@ module _ (f : Fine) (m : State) (e : FineStep) (law : Lawful f m e) where
   now = p_next f.image p e
 
   -- the own part that the maker has then
-  now-context : (todo : Todos) → p.todo ≡ todo → now.context ≡ (goes_on_by f.image p e todo).context
+  pub now-context : (todo : Todos) → p.todo ≡ todo → now.context ≡ (goes_on_by f.image p e todo).context
   now-context todo at = cleaned-context f.image (goes_on_by f.image p e p.todo) e (begins_cleaning e) ∙ ap (λ (z : Todos). (goes_on_by f.image p e z).context) at
 
   -- a step that no trace shows and that is no last one of a turn leaves it
-  read-only : (q : Pending) → e.act ≡ says_show f.image p q e.act → is_shown e.act ≡ false → is_word_read e.act ≡ true
+  pub read-only : (q : Pending) → e.act ≡ says_show f.image p q e.act → is_shown e.act ≡ false → is_word_read e.act ≡ true
   read-only q said quiet = by q said
     where
       either : (q : Pending) → e.act ≡ (if is_word_read e.act then FineAct.Unseen Unseen.WordRead else shows f.image p q e.act) → is_word_read e.act ≡ true
@@ -133,7 +133,7 @@ module _ (f : Fine) (m : State) (e : FineStep) (law : Lawful f m e) where
   claim-context d true todo = refl
   claim-context d false todo = refl
 
-  quiet-context : (q : Todo) (todo : Todos) → p.todo ≡ q ∷ todo → is_end q ≡ false → is_shown e.act ≡ false → now.context ≡ p.context
+  pub quiet-context : (q : Todo) (todo : Todos) → p.todo ≡ q ∷ todo → is_end q ≡ false → is_shown e.act ≡ false → now.context ≡ p.context
   quiet-context q todo at goes quiet = now-context (q ∷ todo) at ∙ by q goes (made-says f m e law (q ∷ todo) at)
     where
       by : (q : Todo) → is_end q ≡ false → e.act ≡ says f.image p (q ∷ todo) e.act e.moved → (goes_on_by f.image p e (q ∷ todo)).context ≡ p.context

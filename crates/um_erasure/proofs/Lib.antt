@@ -86,3 +86,4 @@ pub mod PartsElsewhere
 pub mod ListAdders
 pub mod OfVisits
 pub mod ContextsPart
+pub mod OncePart

@@ -1,0 +1,374 @@
+-- An own part lies in one place at most, after every lawful step.
+use Rattle.std.proofs.Common.{◌≡◌, ℕ, zero, suc, ◌+◌, ◌<◌, ◌≤◌, Bool, true, false, List, [], ◌∷◌, Option, Some, None, refl, sym, ap, ◌∙◌, subst, arith, eq-eqb}
+use Rattle.std.specs.Prelude.{ℤ, ◌==◌, ◌&&◌, if◌then◌else◌, is_some, not, slice_index_or, slice_set}
+use Rattle.std.proofs.lemmas.Bool.{and_parts, eqb-false, eqb-true, not-true, true≢false}
+use Rattle.std.proofs.lemmas.List.{get_or-set_other}
+use Rattle.um_base.specs.declared.ask.Told.{Told}
+use Rattle.um_base.specs.declared.image.Image.{Image}
+use Rattle.um_base.specs.declared.limits.TheConstants.{THREADS}
+use Rattle.um_base.specs.declared.names.Mode.{Mode}
+use Rattle.um_base.specs.declared.names.Row.{Row}
+use Rattle.um_base.specs.declared.names.ThreadIx.{ThreadIx}
+use Rattle.um_machine.specs.declared.pending.Pending.{Pending}
+use Rattle.um_machine.specs.Order.{Steps, to_thread}
+use Rattle.um_machine.specs.State.{State}
+use Rattle.um_words.specs.declared.fine.FineAct.{FineAct}
+use Rattle.um_words.specs.declared.fine.Unseen.{Unseen}
+use Rattle.um_fine.specs.Answers.{context_in, is_word_read, ready_in}
+use Rattle.um_fine.specs.Asks.{begins_cleaning, says_idle}
+use Rattle.um_fine.specs.Context.{Context}
+use Rattle.um_fine.specs.Continues.{resumed, resumed_at}
+use Rattle.um_fine.specs.Follows.{after_take, p_next}
+use Rattle.um_fine.specs.Places.{Todo, Todos}
+use Rattle.um_fine.specs.Processor.{Processor}
+use Rattle.um_fine.specs.Scheduler.{Scheduler, first_taken, one_less, parked_at, put_back, told_at}
+use Rattle.um_fine.specs.Sites.{same_site}
+use Rattle.um_fine.specs.Steps.{Exchange, FineStep, Site}
+use Rattle.um_erasure.specs.Fine.{Fine, one_if, over_processors, scheduler}
+use Rattle.um_erasure.specs.Frames.{AreFramed}
+use Rattle.um_erasure.specs.Lists.{adders, has_steps, of_thread, runs, runs_thread}
+use Rattle.um_erasure.specs.Offers.{Fits, behind_shown, is_over}
+use Rattle.um_erasure.specs.Threads.{IsOf, places, runs_on}
+use Rattle.um_erasure.proofs.CleanSteps.{adds-one}
+use Rattle.um_erasure.proofs.ContextsPart.{is_shown, now-context, quiet-context, read-only}
+use Rattle.um_erasure.proofs.Erased.{stepped}
+use Rattle.um_erasure.proofs.FirstThreads.{one-most}
+use Rattle.um_erasure.proofs.HeldRows.{some-part}
+use Rattle.um_erasure.proofs.Leaves.{Lawful, Leaves, cleans, drops, event, nothing, passes, recycles, resumes}
+use Rattle.um_erasure.proofs.ListAdders.{next-adders, takes-adders}
+use Rattle.um_erasure.proofs.ListGrips.{next-thread, read-rests}
+use Rattle.um_erasure.proofs.ListRuns.{ends-rests, is_end}
+use Rattle.um_erasure.proofs.ListTails.{ReadsLast}
+use Rattle.um_erasure.proofs.Offered.{Shows, behind-is, shown-on}
+use Rattle.um_erasure.proofs.PartsElsewhere.{starts-apart, taken-parked, takes-first}
+use Rattle.um_erasure.proofs.PlacesFacts.{set-none}
+use Rattle.um_erasure.proofs.ResumeSteps.{some-is}
+use Rattle.um_erasure.proofs.RunningPart.{idle-after, is_scheduling, todo-elsewhere}
+use Rattle.um_erasure.proofs.SchedulerSteps.{made-at, made-moves, made-says, sched-else, sched-later}
+use Rattle.um_erasure.proofs.StepsLeft.{drops-on, passes-on, rests-on}
+use Rattle.um_erasure.proofs.Sums.{over-changed}
+
+resumed-thread : (image : Image) (c : Context) (told : Told) → (resumed image c told).thread ≡ c.thread
+resumed-thread image c told = by c.pending
+  where
+    by : (steps : Steps) → (resumed_at image c told steps).thread ≡ c.thread
+    by (Pending.Resume ∷ rest) = refl
+    by steps = refl
+
+-- how much three tests come to
+at-most : (a b c d : Bool) → a ≡ true → c ≡ true → one_if ((d && b) && c) ≤ one_if ((a && b) && c)
+at-most true b true true e h = omega arith
+at-most true b true false e h = omega arith
+at-most false b c d e h = absurd (true≢false (sym e))
+at-most true b false d e h = absurd (true≢false (sym h))
+
+never : (a b c : Bool) → c ≡ false → one_if ((a && b) && c) ≡ 0
+never true true false h = refl
+never true false false h = refl
+never false b false h = refl
+never a b true h = absurd (true≢false h)
+
+no-thread : (a b c : Bool) → b ≡ false → one_if ((a && b) && c) ≡ 0
+no-thread true false c h = refl
+no-thread false false c h = refl
+no-thread a true c h = absurd (true≢false h)
+
+no-steps : (a b c : Bool) → a ≡ false → one_if ((a && b) && c) ≡ 0
+no-steps false b c h = refl
+no-steps true b c h = absurd (true≢false h)
+
+module _ (f : Fine) (m : State) (e : FineStep) (law : Lawful f m e) (s : State) (leaves : Leaves f m e s) (t : ℕ) (few : t < THREADS) where
+  abbrev later : Fine
+  later = stepped f.image f.cpus f.processors f.sites e
+
+  abbrev p : Processor
+  p = f.processors e.cpu
+
+  abbrev now : Processor
+  now = p_next f.image p e
+
+  abbrev lies : Processor → ℕ
+  lies z = one_if (runs_on t z) + of_thread t (adders z.todo)
+
+  abbrev rests : Fine → ℕ
+  rests g = one_if (is_some (parked_at (scheduler g) t))
+
+  sums : over_processors later lies + lies p ≡ over_processors f lies + lies now
+  sums = over-changed f e lies law.by.named
+
+  was : over_processors f lies + rests f ≤ 1
+  was = law.rel.contexts.once t few
+
+  -- A thread whose steps are over stays so while its processor goes on.
+  stays-over : (q : Todo) (todo : Todos) → p.todo ≡ q ∷ todo → is_end q ≡ false → is_over p.context ≡ true → is_over now.context ≡ true
+  stays-over q todo at goes over = by s leaves
+    where
+      off : (is_over p.context ≡ false) → is_over now.context ≡ true
+      off on = absurd (true≢false (sym over ∙ on))
+
+      by : (z : State) → Leaves f m e z → is_over now.context ≡ true
+      by _ (nothing u said) = ap is_over (quiet-context f m e law q todo at goes (ap is_shown said)) ∙ over
+      by _ (event r rest more x h shown is) = off (shown-on h)
+      by _ (resumes c told rest idle moved said) = absurd (true≢false (ap has_steps (sym at ∙ idle)))
+      by _ (passes who x rest more h said) =
+          off (passes-on f.image p.context who more (subst (Fits f.image p.context) h.at (law.rel.processors e.cpu law.by.named).list.fits).0)
+      by _ (drops from x rest more h said) =
+          off (drops-on f.image p.context more (subst (Fits f.image p.context) h.at (law.rel.processors e.cpu law.by.named).list.fits))
+      by _ (cleans who x rest more h said) = ap is_over (now-context f m e law (Todo.clean_pair who x ∷ more) h.at) ∙ over
+      by _ (recycles x rest more there l said chosen) = ap is_over (now-context f m e law (Todo.recycle x ∷ more) there) ∙ over
+
+  -- so it runs no more threads than before
+  runs-less : (q : Todo) (todo : Todos) → p.todo ≡ q ∷ todo → is_end q ≡ false → one_if (runs_on t now) ≤ one_if (runs_on t p)
+  runs-less q todo at goes = by (is_over p.context) refl
+    where
+      thread : now.context.thread ≡ p.context.thread
+      thread = next-thread f.image p e q todo at goes
+
+      same : one_if (runs_on t now) ≡ one_if ((runs now && (p.context.thread == t)) && not (is_over now.context))
+      same = ap (λ n. one_if ((runs now && (n == t)) && not (is_over now.context))) thread
+
+      by : (b : Bool) → is_over p.context ≡ b → one_if (runs_on t now) ≤ one_if (runs_on t p)
+      by true over =
+          let none = never (runs now) (p.context.thread == t) (not (is_over now.context)) (ap not (stays-over q todo at goes over)) in omega (arith, same, none)
+      by false on = which (is_over now.context) refl
+        where
+          which : (c : Bool) → is_over now.context ≡ c → one_if (runs_on t now) ≤ one_if (runs_on t p)
+          which true over = let none = never (runs now) (p.context.thread == t) (not (is_over now.context)) (ap not over) in omega (arith, same, none)
+          which false still =
+              let most = at-most (runs p) (p.context.thread == t) true (runs now) (ap has_steps at) refl in
+              let first : one_if ((runs now && (p.context.thread == t)) && not (is_over now.context)) ≡ one_if ((runs now && (p.context.thread == t)) && true) =
+              ap (λ b. one_if ((runs now && (p.context.thread == t)) && not b)) still in
+              let last : one_if (runs_on t p) ≡ one_if ((runs p && (p.context.thread == t)) && true) = ap (λ b. one_if ((runs p && (p.context.thread == t)) && not b)) on in
+              omega (arith, same, most, first, last)
+
+  behind : (q : Todo) (todo : Todos) → p.todo ≡ q ∷ todo → of_thread t (adders now.todo) ≡ of_thread t (adders todo)
+  behind q todo at = ap (of_thread t) (next-adders f.image p e q todo at (subst (AreFramed f.image) at (law.rel.processors e.cpu law.by.named).frames).0 (last q at))
+    where
+      last : (q : Todo) → p.todo ≡ q ∷ todo → ReadsLast e q todo
+      last (Todo.show r rest) at = λ read.
+          (subst (Fits f.image p.context) at (law.rel.processors e.cpu law.by.named).list.fits).1
+          ∙ read-rests f.image p p.context r e.act (made-says f m e law (Todo.show r rest ∷ todo) at) read
+      last r at = tt
+
+  -- a step that neither adds nor starts a thread
+  goes-on : (q : Todo) (todo : Todos) → p.todo ≡ q ∷ todo → is_end q ≡ false → of_thread t (adders todo) ≤ of_thread t (adders (q ∷ todo)) → rests later ≡ rests f → places later t ≤ 1
+  goes-on q todo at goes fewer same =
+      let all = sums in
+      let before = was in
+      let less = runs-less q todo at goes in
+      let after = behind q todo at in
+      let list : of_thread t (adders p.todo) ≡ of_thread t (adders (q ∷ todo)) = ap (λ (z : Todos). of_thread t (adders z)) at in
+      omega (arith, all, before, less, after, list, fewer, same)
+
+  -- who is started next lies nowhere
+  unplaced : (who : ThreadIx) (script : ℕ) (stack : Row) (priority : ℤ) (mode : Mode) (rest : Steps) (todo : Todos)
+      → Shows f m e.cpu e (Pending.Start who script stack priority mode) rest todo → who.0 ≡ t → over_processors f lies + rests f ≡ 0
+  unplaced who script stack priority mode rest todo h same = by (places f t) refl
+    where
+      apart : (c : Context) → IsOf m c → is_over c ≡ false → c.thread ≡ t → ⊥
+      apart c of on at = starts-apart f m e law c of on (Pending.Start who script stack priority mode) rest todo h (same ∙ sym at)
+
+      parked : (b : Bool) → is_some (parked_at (scheduler f) t) ≡ b → 0 < places f t → ⊥
+      parked true q some =
+          let c = some-is (parked_at (scheduler f) t) q in
+          let is = law.rel.contexts.parked t c.0 c.1 in
+          apart c.0 is.0 (rests-on c.0 is.2) is.1
+      parked false q some =
+          let none : rests f ≡ 0 = ap one_if q in
+          let k = some-part (λ j. lies (f.processors j)) f.cpus (omega (arith, some, none)) in with-processor k.0 k.1 k.2
+        where
+          with-processor : (k : ℕ) → k < f.cpus → 0 < lies (f.processors k) → ⊥
+          with-processor k l some = which (runs_on t (f.processors k)) refl
+            where
+              which : (b : Bool) → runs_on t (f.processors k) ≡ b → ⊥
+              which true runs-it =
+                  let all = and_parts (runs_thread t (f.processors k)) _ runs-it in
+                  let parts = and_parts _ _ all.0 in
+                  let on = not-true _ all.1 in
+                  apart (f.processors k).context ((law.rel.contexts.running k l parts.0).of on) on (eqb-true (f.processors k).context.thread t parts.1)
+              which false off =
+                  let none : one_if (runs_on t (f.processors k)) ≡ 0 = ap one_if off in
+                  let c = adds-one t (f.processors k).todo (omega (arith, some, none)) in
+                  let is = law.rel.contexts.added k c.0 l c.1 in
+                  apart c.0 is.0 (rests-on c.0 is.1) c.2
+
+      by : (n : ℕ) → places f t ≡ n → over_processors f lies + rests f ≡ 0
+      by zero q = q
+      by (suc n) q = absurd (parked (is_some (parked_at (scheduler f) t)) refl (omega (arith, q)))
+
+  -- an event
+  shows : (q : Pending) (rest : Steps) (todo : Todos) → p.todo ≡ Todo.show q rest ∷ todo → rests later ≡ rests f → places later t ≤ 1
+  shows q rest todo at same = by s leaves
+    where
+      tail : Todos → Todos
+      tail [] = []
+      tail (r ∷ more) = more
+
+      is-show : Todos → Bool
+      is-show (Todo.show r more ∷ todo) = true
+      is-show todo = false
+
+      plain : of_thread t (adders todo) ≡ 0 → places later t ≤ 1
+      plain none = goes-on (Todo.show q rest) todo at refl (omega (arith, none)) same
+
+      started : (r : Pending) (more : Steps) (x : ℕ) → Shows f m e.cpu e r more todo → places later t ≤ 1
+      started (Pending.Start who script stack priority mode) more x h = which (who.0 == t) refl
+        where
+          list : of_thread t (adders todo) ≡ (if who.0 == t then 0 + 1 else 0)
+          list = ap (λ (z : Todos). of_thread t (adders z)) (behind-is h)
+
+          which : (b : Bool) → (who.0 == t) ≡ b → places later t ≤ 1
+          which true here =
+              let none = unplaced who script stack priority mode more todo h (eqb-true who.0 t here) in
+              let all = sums in
+              let less = runs-less (Todo.show q rest) todo at refl in
+              let after = behind (Todo.show q rest) todo at in
+              let one : (if who.0 == t then 0 + 1 else 0) ≡ 1 = ap (λ b. if b then 0 + 1 else 0) here in
+              omega (arith, none, all, less, after, list, one, same)
+          which false other = plain (list ∙ ap (λ b. if b then 0 + 1 else 0) other)
+      started r more x h = plain (ap (λ (z : Todos). of_thread t (adders z)) (behind-is h))
+
+      by : (z : State) → Leaves f m e z → places later t ≤ 1
+      by _ (nothing u said) =
+          plain (ap (λ (z : Todos). of_thread t (adders z))
+          ((subst (Fits f.image p.context) at (law.rel.processors e.cpu law.by.named).list.fits).1
+          ∙ read-rests f.image p p.context q e.act (made-says f m e law (Todo.show q rest ∷ todo) at) (read-only f m e law q (made-says f m e law (Todo.show q rest ∷ todo) at) (ap is_shown said))))
+      by _ (event r more later-todo x h shown is) = started r more x (subst (λ (z : Todos). Shows f m e.cpu e r more z) (ap tail (sym h.at ∙ at)) h)
+      by _ (resumes c told more idle moved said) = absurd (true≢false (ap has_steps (sym at ∙ idle)))
+      by _ (passes who x more l h said) = absurd (true≢false (ap is-show (sym at ∙ h.at)))
+      by _ (drops from x more l h said) = absurd (true≢false (ap is-show (sym at ∙ h.at)))
+      by _ (cleans who x more l h said) = absurd (true≢false (ap is-show (sym at ∙ h.at)))
+      by _ (recycles x more l there few said chosen) = absurd (true≢false (ap is-show (sym at ∙ there)))
+
+  -- a thread is taken
+  takes : p.todo ≡ [] → places later t ≤ 1
+  takes at = which (t == first.0) refl
+    where
+      first : (u : ℕ) × (list : List ℕ) × (d : Context) × (told : Option Told) × ((scheduler f).ready ≡ u ∷ list) × (e.moved ≡ Exchange.thread d told) × (d.thread ≡ u) × (told ≡ told_at (scheduler f) u)
+      first = takes-first f m e law at
+
+      after : scheduler later ≡ first_taken (scheduler f) (first.0 ∷ first.1)
+      after = sched-later f m e law (made-at f m e law [] at) (says_idle f.image p e.moved) (made-says f m e law [] at) ∙ (idle-after f.image p (scheduler f) e.moved ∙ ap (first_taken (scheduler f)) first.4)
+
+      parked : rests later ≡ one_if (is_some (slice_index_or (slice_set (scheduler f).parked first.0 None) t None))
+      parked = ap (λ (z : Scheduler). one_if (is_some (parked_at z t))) after
+
+      thread : now.context.thread ≡ first.0
+      thread = ap (λ (c : Context). c.thread) (now-context f m e law [] at ∙ ap (λ (mv : Exchange). (after_take f.image p mv).context) first.5) ∙ (by first.3 ∙ first.6)
+        where
+          by : (told : Option Told) → (after_take f.image p (Exchange.thread first.2 told)).context.thread ≡ first.2.thread
+          by None = refl
+          by (Some w) = resumed-thread f.image first.2 w
+
+      idle-runs : one_if (runs_on t p) ≡ 0
+      idle-runs = no-steps (runs p) (p.context.thread == t) (not (is_over p.context)) (ap has_steps at)
+
+      idle-adds : of_thread t (adders p.todo) ≡ 0
+      idle-adds = ap (λ (z : Todos). of_thread t (adders z)) at
+
+      now-adds : of_thread t (adders now.todo) ≡ 0
+      now-adds = ap (of_thread t) (takes-adders f.image p e at)
+
+      which : (b : Bool) → (t == first.0) ≡ b → places later t ≤ 1
+      which true same =
+          let gone : slice_index_or (slice_set (scheduler f).parked first.0 None) t None ≡ None =
+          subst (λ n. slice_index_or (slice_set (scheduler f).parked first.0 None) n None ≡ None) (sym (eqb-true t first.0 same)) (set-none (scheduler f).parked first.0) in
+          let none = parked ∙ ap (λ (o : Option Context). one_if (is_some o)) gone in
+          let all = sums in
+          let before = was in
+          let most = one-most (runs_on t now) in
+          let there : rests f ≡ 1 = ap (λ n. one_if (is_some (parked_at (scheduler f) n))) (eqb-true t first.0 same) ∙ ap (λ (o : Option Context). one_if (is_some o)) (stood first.0) in
+          omega (arith, none, all, before, most, there, idle-runs, idle-adds, now-adds)
+        where
+          stood : (u : ℕ) → parked_at (scheduler f) first.0 ≡ Some first.2
+          stood u = subst (λ n. parked_at (scheduler f) n ≡ Some first.2) first.6 (taken-parked f m e law at first.2 first.3 first.5)
+      which false other =
+          let apart = eqb-false t first.0 other in
+          let kept = parked ∙ ap (λ (o : Option Context). one_if (is_some o)) (get_or-set_other (scheduler f).parked first.0 t None None apart) in
+          let all = sums in
+          let before = was in
+          let lacks = no-thread (runs now) (now.context.thread == t) (not (is_over now.context)) (ap (λ n. n == t) thread ∙ swapped) in
+          omega (arith, kept, all, before, lacks, idle-runs, idle-adds, now-adds)
+        where
+          swapped : (first.0 == t) ≡ false
+          swapped = by (first.0 == t) refl
+            where
+              by : (b : Bool) → (first.0 == t) ≡ b → b ≡ false
+              by false h = refl
+              by true h = absurd (true≢false (sym (eq-eqb t first.0 (sym (eqb-true first.0 t h))) ∙ other))
+
+  -- the end of a turn
+  ends : (q : Todo) (todo : Todos) → p.todo ≡ q ∷ todo → is_end q ≡ true → begins_cleaning e ≡ false → lies now ≡ 0
+  ends q todo at over quiet =
+      let none = ends-rests f.image p e q todo at over quiet in
+      let runs-none = no-steps (runs now) (now.context.thread == t) (not (is_over now.context)) (ap has_steps none) in
+      let adds-none : of_thread t (adders now.todo) ≡ 0 = ap (λ (z : Todos). of_thread t (adders z)) none in
+      omega (arith, runs-none, adds-none)
+
+  -- what is put back
+  put-rests : (b : Bool) (c : Context) → is_some (parked_at (put_back (scheduler f) b c) t) ≡ true → (c.thread == t) ≡ false → is_some (parked_at (scheduler f) t) ≡ true
+  put-rests b c h other =
+      ap is_some (sym (get_or-set_other (scheduler f).parked c.thread t (Some c) None (λ same. true≢false (sym (eq-eqb c.thread t (sym same)) ∙ other)))) ∙ h
+
+  puts : (b : Bool) (c : Context) → rests later ≡ one_if (is_some (parked_at (put_back (scheduler f) b c) t)) → rests later ≤ rests f + one_if (c.thread == t)
+  puts b c now-parked = by (c.thread == t) refl
+    where
+      by : (v : Bool) → (c.thread == t) ≡ v → rests later ≤ rests f + one_if v
+      by true h = let most = one-most (is_some (parked_at (put_back (scheduler f) b c) t)) in omega (arith, now-parked, most)
+      by false h = which (is_some (parked_at (put_back (scheduler f) b c) t)) refl
+        where
+          which : (w : Bool) → is_some (parked_at (put_back (scheduler f) b c) t) ≡ w → rests later ≤ rests f + 0
+          which true q = let here = ap one_if (put-rests b c q h) in let one = ap one_if q in omega (arith, now-parked, here, one)
+          which false q = let none = ap one_if q in omega (arith, now-parked, none)
+
+  by-todo : (todo : Todos) → p.todo ≡ todo → places later t ≤ 1
+  by-todo [] at = takes at
+  by-todo (Todo.park ∷ todo) at =
+      let act = FineAct.Unseen (Unseen.Park (to_thread p.context.thread) (ready_in e.act)) in
+      let after = sched-later f m e law (made-at f m e law (Todo.park ∷ todo) at) act (made-says f m e law (Todo.park ∷ todo) at)
+      ∙ ap (λ (mv : Exchange). one_less (put_back (scheduler f) (ready_in e.act) (context_in mv))) (made-moves f m e law (Todo.park ∷ todo) at) in
+      let now-parked = ap (λ (z : Scheduler). one_if (is_some (parked_at z t))) after in
+      let more = puts (ready_in e.act) p.context now-parked in
+      let none = ends Todo.park todo at refl (ap (λ a. begins_cleaning (record e { act = a })) (made-says f m e law (Todo.park ∷ todo) at)) in
+      let on = (subst (Fits f.image p.context) at (law.rel.processors e.cpu law.by.named).list.fits).1 in
+      let ran : one_if (runs_on t p) ≡ one_if (p.context.thread == t) = (λ i. one_if ((has_steps (at i) && (p.context.thread == t)) && not (on i))) ∙ ap one_if (both (p.context.thread == t)) in
+      let all = sums in
+      let before = was in
+      omega (arith, more, none, ran, all, before)
+    where
+      both : (b : Bool) → (b && true) ≡ b
+      both true = refl
+      both false = refl
+  by-todo (Todo.done ∷ todo) at =
+      let same = ap (λ (z : Scheduler). one_if (is_some (parked_at z t))) (sched-later f m e law (made-at f m e law (Todo.done ∷ todo) at) (FineAct.Unseen Unseen.Done) (made-says f m e law (Todo.done ∷ todo) at)) in
+      let none = ends Todo.done todo at refl (ap (λ a. begins_cleaning (record e { act = a })) (made-says f m e law (Todo.done ∷ todo) at)) in
+      let all = sums in
+      let before = was in
+      omega (arith, same, none, all, before)
+  by-todo (Todo.add d ∷ todo) at =
+      let act = FineAct.Unseen (Unseen.Add (to_thread d.thread)) in
+      let after = sched-later f m e law (made-at f m e law (Todo.add d ∷ todo) at) act (made-says f m e law (Todo.add d ∷ todo) at)
+      ∙ ap (λ (mv : Exchange). put_back (scheduler f) true (context_in mv)) (made-moves f m e law (Todo.add d ∷ todo) at) in
+      let now-parked = ap (λ (z : Scheduler). one_if (is_some (parked_at z t))) after in
+      let more = puts true d now-parked in
+      let less = runs-less (Todo.add d) todo at refl in
+      let list = behind (Todo.add d) todo at in
+      let first : of_thread t (adders p.todo) ≡ of_thread t (adders todo) + one_if (d.thread == t) = ap (λ (z : Todos). of_thread t (adders z)) at ∙ added (d.thread == t) in
+      let all = sums in
+      let before = was in
+      omega (arith, more, less, list, first, all, before)
+    where
+      added : (b : Bool) → (if b then of_thread t (adders todo) + 1 else of_thread t (adders todo)) ≡ of_thread t (adders todo) + one_if b
+      added true = refl
+      added false = omega arith
+  by-todo (Todo.show q rest ∷ todo) at =
+      shows q rest todo at (ap (λ (z : Scheduler). one_if (is_some (parked_at z t))) (sched-else f m e law (ap (λ i. same_site i Site.scheduler) (made-at f m e law (Todo.show q rest ∷ todo) at) ∙ todo-elsewhere f.image p (Todo.show q rest) todo refl)))
+  by-todo (Todo.wake who told ∷ todo) at =
+      goes-on (Todo.wake who told) todo at refl (omega arith)
+      (ap (λ (z : Scheduler). one_if (is_some (parked_at z t))) (sched-later f m e law (made-at f m e law (Todo.wake who told ∷ todo) at) _ (made-says f m e law (Todo.wake who told ∷ todo) at)))
+  by-todo (q ∷ todo) at =
+      goes-on q todo at refl (omega arith)
+      (ap (λ (z : Scheduler). one_if (is_some (parked_at z t))) (sched-else f m e law (ap (λ i. same_site i Site.scheduler) (made-at f m e law (q ∷ todo) at) ∙ todo-elsewhere f.image p q todo refl)))
+
+  pub once-part : places later t ≤ 1
+  once-part = by-todo p.todo refl
