@@ -1,5 +1,5 @@
 -- Own parts lie with processors, parked, or with a new thread on a list, and are those of the machine's threads, after every lawful step.
-use Rattle.std.proofs.Common.{◌≡◌, ◌⊎◌, inl, inr, ℕ, zero, suc, ◌+◌, ◌<◌, Bool, true, false, cond, List, [], ◌∷◌, length, Option, Some, None, refl, sym, ap, ◌∙◌, subst, arith, eq-eqb}
+use Rattle.std.proofs.Common.{◌≡◌, inl, inr, ℕ, ◌+◌, ◌<◌, Bool, true, false, cond, List, [], ◌∷◌, length, Option, Some, None, refl, sym, ap, ◌∙◌, subst, arith, eq-eqb}
 use Rattle.std.specs.Prelude.{ℤ, ◌==◌, ◌&&◌, IsTrue, if◌then◌else◌, is_some, nat_lt, not, slice_index_or, slice_set, unwrap_or}
 use Rattle.std.specs.List.{list_all}
 use Rattle.std.proofs.lemmas.Bool.{and_parts, eqb-false, eqb-true, false≢true, ltb-true, true≢false}
@@ -17,17 +17,15 @@ use Rattle.um_machine.specs.declared.thread.Life.{Life}
 use Rattle.um_machine.specs.declared.thread.Thread.{Thread}
 use Rattle.um_machine.specs.Order.{Steps, to_thread}
 use Rattle.um_machine.specs.Services.{is_empty}
-use Rattle.um_machine.specs.State.{State, is_living, is_started, no_rows, thread_at, with_thread}
+use Rattle.um_machine.specs.State.{State, is_living, is_started, thread_at, with_thread}
 use Rattle.um_machine.specs.Table as T
 use Rattle.um_words.specs.declared.fine.FineAct.{FineAct}
-use Rattle.um_words.specs.declared.fine.More.{More}
 use Rattle.um_words.specs.declared.fine.Unseen.{Unseen}
 use Rattle.um_fine.specs.Answers.{act_in, context_in, domain_in, is_visit, is_word_read, ready_in}
 use Rattle.um_fine.specs.Asks.{begins_cleaning, by_me, says, says_idle, says_show, shows, visits}
-use Rattle.um_fine.specs.Context.{Context, as_thread, no_context}
+use Rattle.um_fine.specs.Context.{Context, as_thread}
 use Rattle.um_fine.specs.Continues.{continues, newborn, resumed}
-use Rattle.um_fine.specs.FineRun.{cpu_of, same_cpu}
-use Rattle.um_fine.specs.Follows.{after_claim, after_show, after_take, dropped_at, goes_on_by, p_next, with_cleaned}
+use Rattle.um_fine.specs.Follows.{after_claim, after_show, after_take, dropped_at, goes_on_by, p_next}
 use Rattle.um_fine.specs.Places.{Todo, Todos}
 use Rattle.um_fine.specs.Processor.{Processor}
 use Rattle.um_fine.specs.Scheduler.{Scheduler, first_taken, one_less, parked_at, put_back, told_at, waits}
@@ -42,7 +40,7 @@ use Rattle.um_erasure.proofs.CallsKnown.{RestsHoldNothing, starts-below}
 use Rattle.um_erasure.proofs.CallsProper.{AreProper, Closing}
 use Rattle.um_erasure.proofs.Erased.{stepped}
 use Rattle.um_erasure.proofs.LawfulSteps.{Suits}
-use Rattle.um_erasure.proofs.Leaves.{HasStep, Lawful, Leaves, cleans, drops, event, mine, nothing, passes, recycles, resumes}
+use Rattle.um_erasure.proofs.Leaves.{HasStep, Lawful, Leaves, cleans, drops, event, nothing, passes, recycles, resumes}
 use Rattle.um_erasure.proofs.ListAdders.{next-adds, takes-none}
 use Rattle.um_erasure.proofs.ListGrips.{cleaned-context, read-rests}
 use Rattle.um_erasure.proofs.ListTails.{ReadsLast}

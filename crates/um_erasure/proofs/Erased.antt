@@ -65,7 +65,7 @@ module _ (image : Image) (cpus : ℕ) where
   abbrev pub IsReachable : State → Type 0
   IsReachable m = (events : List Event) × Runs (opening image) events m
 
-  reach-on : (m m2 : State) (act : FineAct) → IsReachable m → GoesBy m act m2 → IsReachable m2
+  pub reach-on : (m m2 : State) (act : FineAct) → IsReachable m → GoesBy m act m2 → IsReachable m2
   reach-on m m2 (FineAct.Shown event more) r q = (r.0 ++ event ∷ [], runs-append (opening image) m m2 r.0 (event ∷ []) r.1 (m2, q, refl))
   reach-on m m2 (FineAct.Unseen unseen) r q = subst IsReachable (sym q) r
 

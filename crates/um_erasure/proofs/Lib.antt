@@ -1,6 +1,7 @@
 -- What fine steps do to both machines. Erased is the theorem, under the premise that each step keeps the relation, and FirstLawful that it
 -- holds at the opening (First and the files of that name, Opens). Of the premise: Leaves is what a lawful step makes of the machine's state,
--- and the files named Part have the parts of the relation that are kept whole, with those named List for lists; own parts (Own, Others),
+-- and the files named Part have the parts of the relation that are kept whole, with those named List for lists; own parts (Own, Others, OwnKept, OfKept,
+-- OfVisits, PartsElsewhere, StepsLeft, RestKept),
 -- claims (ListClaims, RowClaims), what is kept beside (ListFits, ListBlocks, Kept, Quiet, Writes and the files named Kept and Written), and
 -- that events are steps of the machine where the relation holds (Says, Offered, HeldRows, Shown and the files of steps). What the machine's state is
 -- known to be in a run is in the files named Known, CallSteps, CallsProper and Reachable.
@@ -87,3 +88,5 @@ pub mod ListAdders
 pub mod OfVisits
 pub mod ContextsPart
 pub mod OncePart
+pub mod ListDone
+pub mod DonePart

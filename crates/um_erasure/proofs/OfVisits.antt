@@ -14,10 +14,9 @@ use Rattle.um_fine.specs.Context.{Context, as_thread}
 use Rattle.um_fine.specs.Continues.{resumed, resumed_at}
 use Rattle.um_fine.specs.Follows.{dropped_at}
 use Rattle.um_fine.specs.Places.{Todo, Todos}
-use Rattle.um_fine.specs.Processor.{Processor}
 use Rattle.um_fine.specs.Scheduler.{told_at}
-use Rattle.um_fine.specs.Steps.{Exchange, FineStep}
-use Rattle.um_erasure.specs.Fine.{Fine, one_if, scheduler, total}
+use Rattle.um_fine.specs.Steps.{FineStep}
+use Rattle.um_erasure.specs.Fine.{Fine, one_if, scheduler}
 use Rattle.um_erasure.specs.Lists.{counted, is_wake, wake_of}
 use Rattle.um_erasure.specs.Relation.{Rel}
 use Rattle.um_erasure.specs.Threads.{IsOf, first_told, flags_of, is_ended, own_part, told_by}

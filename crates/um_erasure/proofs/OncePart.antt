@@ -14,7 +14,7 @@ use Rattle.um_machine.specs.Order.{Steps, to_thread}
 use Rattle.um_machine.specs.State.{State}
 use Rattle.um_words.specs.declared.fine.FineAct.{FineAct}
 use Rattle.um_words.specs.declared.fine.Unseen.{Unseen}
-use Rattle.um_fine.specs.Answers.{context_in, is_word_read, ready_in}
+use Rattle.um_fine.specs.Answers.{context_in, ready_in}
 use Rattle.um_fine.specs.Asks.{begins_cleaning, says_idle}
 use Rattle.um_fine.specs.Context.{Context}
 use Rattle.um_fine.specs.Continues.{resumed, resumed_at}
@@ -27,7 +27,7 @@ use Rattle.um_fine.specs.Steps.{Exchange, FineStep, Site}
 use Rattle.um_erasure.specs.Fine.{Fine, one_if, over_processors, scheduler}
 use Rattle.um_erasure.specs.Frames.{AreFramed}
 use Rattle.um_erasure.specs.Lists.{adders, has_steps, of_thread, runs, runs_thread}
-use Rattle.um_erasure.specs.Offers.{Fits, behind_shown, is_over}
+use Rattle.um_erasure.specs.Offers.{Fits, is_over}
 use Rattle.um_erasure.specs.Threads.{IsOf, places, runs_on}
 use Rattle.um_erasure.proofs.CleanSteps.{adds-one}
 use Rattle.um_erasure.proofs.ContextsPart.{is_shown, now-context, quiet-context, read-only}
@@ -43,7 +43,7 @@ use Rattle.um_erasure.proofs.Offered.{Shows, behind-is, shown-on}
 use Rattle.um_erasure.proofs.PartsElsewhere.{starts-apart, taken-parked, takes-first}
 use Rattle.um_erasure.proofs.PlacesFacts.{set-none}
 use Rattle.um_erasure.proofs.ResumeSteps.{some-is}
-use Rattle.um_erasure.proofs.RunningPart.{idle-after, is_scheduling, todo-elsewhere}
+use Rattle.um_erasure.proofs.RunningPart.{idle-after, todo-elsewhere}
 use Rattle.um_erasure.proofs.SchedulerSteps.{made-at, made-moves, made-says, sched-else, sched-later}
 use Rattle.um_erasure.proofs.StepsLeft.{drops-on, passes-on, rests-on}
 use Rattle.um_erasure.proofs.Sums.{over-changed}

@@ -1,7 +1,8 @@
 -- Every lawful step keeps the relation, where it keeps the parts of it that are still to be proved: the other parts are kept.
-use Rattle.std.proofs.Common.{subst, ◌≡◌, ℕ, ◌<◌, refl, ◌∙◌}
+use Rattle.std.proofs.Common.{sym, subst, ◌≡◌, ℕ, ◌<◌, refl, ◌∙◌}
 use Rattle.um_base.specs.declared.image.Image.{Image}
 use Rattle.um_base.specs.declared.limits.TheConstants.{ROWS, THREADS}
+use Rattle.um_base.specs.Lawful.{IsLawful}
 use Rattle.um_machine.specs.declared.pending.Pending.{Pending}
 use Rattle.um_machine.specs.Order.{Steps, to_thread}
 use Rattle.um_machine.specs.Run.{opening}
@@ -20,34 +21,37 @@ use Rattle.um_erasure.specs.Looks.{LooksAre}
 use Rattle.um_erasure.specs.Objects.{ContentsAre, StatusIs}
 use Rattle.um_erasure.specs.Relation.{Rel}
 use Rattle.um_erasure.specs.Threads.{AwayIs, ContextsAre, DomainKept, ToldIs}
-use Rattle.um_erasure.proofs.CallsKnown.{own-known}
+use Rattle.um_erasure.proofs.CallsKnown.{RestsHoldNothing, own-known}
+use Rattle.um_erasure.proofs.CallsProper.{AreProper}
 use Rattle.um_erasure.proofs.CleanersPart.{cleaners-part}
+use Rattle.um_erasure.proofs.ContextsPart.{added-field, parked-field, running-field}
 use Rattle.um_erasure.proofs.DomainPart.{domain-part}
 use Rattle.um_erasure.proofs.DomainsKnown.{started-placed}
-use Rattle.um_erasure.proofs.Erased.{IsReachable, Keeps, fine, stepped}
+use Rattle.um_erasure.proofs.DonePart.{done-part}
+use Rattle.um_erasure.proofs.Erased.{IsReachable, Keeps, fine, reach-on, stepped}
 use Rattle.um_erasure.proofs.FirstObjects.{opening-image}
 use Rattle.um_erasure.proofs.HeapPart.{heap-part}
 use Rattle.um_erasure.proofs.HeldPart.{held-part}
 use Rattle.um_erasure.proofs.Kept.{lists-kept, sorts-kept}
 use Rattle.um_erasure.proofs.LawfulSteps.{Suits, lawful-next}
-use Rattle.um_erasure.proofs.Leaves.{Lawful, Leaves, cleans, drops, event, mine, nothing, passes, recycles, resumes}
+use Rattle.um_erasure.proofs.Leaves.{HasStep, Lawful, Leaves, cleans, drops, event, mine, nothing, passes, recycles, resumes}
 use Rattle.um_erasure.proofs.ListBlocks.{blocks-kept}
 use Rattle.um_erasure.proofs.ListFrames.{frames-kept}
 use Rattle.um_erasure.proofs.MemoryPart.{InDomains, memory-part}
+use Rattle.um_erasure.proofs.OncePart.{once-part}
 use Rattle.um_erasure.proofs.PairsPart.{pairs-part}
 use Rattle.um_erasure.proofs.Reachable.{Any, makes-any, reachable-sound}
 use Rattle.um_erasure.proofs.ReadyPart.{ready-part}
 use Rattle.um_erasure.proofs.RowsPart.{rows-part}
 use Rattle.um_erasure.proofs.RunningPart.{running-part}
 use Rattle.um_erasure.proofs.SchedulerPart.{scheduler-part}
-use Rattle.um_erasure.proofs.SuitsKnown.{suits-known}
+use Rattle.um_erasure.proofs.SuitsKnown.{proper-known, rests-known, suits-known}
 use Rattle.um_erasure.proofs.TablePart.{table-part}
 use Rattle.um_erasure.proofs.WordsPart.{words-part}
 use Rattle.um_erasure.proofs.Writes.{Keeping, after-kept, bytes-kept}
 
 -- The parts of the relation that are still to be kept.
 pub record IsLeft (g : Fine) (s : State) : Type 0 where
-  pub contexts : ContextsAre g s
   pub away : (t : ℕ) → t < THREADS → AwayIs g s t
   pub told : (t : ℕ) → t < THREADS → ToldIs g s t
   pub status : (x : ℕ) → x < ROWS → StatusIs g s x
@@ -94,13 +98,23 @@ module _ (f : Fine) (m : State) (e : FineStep) (law : Lawful f m e) where
   image-part _ (cleans who x rest todo h said) = image-same m (mine f m e) x (Pending.CleanPair (to_thread who)) rest ∙ law.rel.image
   image-part _ (recycles x rest todo at l said chosen) = image-same m (mine f m e) x Pending.Recycle rest ∙ law.rel.image
 
+  contexts-part : InDomains f m → Suits f m → IsLawful m.image → AreProper m.image m → (s : State) (leaves : Leaves f m e s) → HasStep f m e s leaves → RestsHoldNothing s → ContextsAre later s
+  contexts-part all suits lawful proper s leaves has rests =
+      record {
+        running = running-field f m e law suits all s leaves has rests;
+        parked = parked-field f m e law proper s leaves;
+        added = added-field f m e law lawful suits all s leaves;
+        once = once-part f m e law s leaves;
+        done = done-part f m e law proper s leaves;
+      }
+
   -- the relation holds after the step where what is left of it does
-  pub related : InDomains f m → Suits f m → (s : State) → Leaves f m e s → IsLeft later s → Rel later s
-  related all suits s leaves left =
+  pub related : InDomains f m → Suits f m → IsLawful m.image → AreProper m.image m → (s : State) (leaves : Leaves f m e s) → HasStep f m e s leaves → RestsHoldNothing s → IsLeft later s → Rel later s
+  related all suits lawful proper s leaves has rests left =
       record {
         image = image-part s leaves;
         sorts = sorts-kept f.image f.sites e law.rel.sorts;
-        contexts = left.contexts;
+        contexts = contexts-part all suits lawful proper s leaves has rests;
         running = running-part f m e law;
         scheduler = scheduler-part f m e law;
         threads = λ t l.
@@ -137,4 +151,7 @@ keeps-all image cpus described known left ps ss m e rel reach by taken =
     let own = own-known image described.lawful (subst IsSited (opening-image image) known.reached.sited) in
     let all : InDomains f m = λ t l started. started-placed image cpus described m reach t started in
     let next = lawful-next f m e law suits own all in
-    (next.state, next.goes, related f m e law all suits next.state next.leaves (left.parts f m e refl refl reach law suits next.state next.leaves))
+    let lawful = subst IsLawful (sym rel.image) described.lawful in
+    let proper = proper-known image cpus described known m reach in
+    let rests = rests-known image cpus described known next.state (reach-on image cpus m next.state e.act reach next.goes) in
+    (next.state, next.goes, related f m e law all suits lawful proper next.state next.leaves next.has rests (left.parts f m e refl refl reach law suits next.state next.leaves))

@@ -1,7 +1,7 @@
 -- What a step leaves of the own parts of threads that it isn't of, wherever they lie.
-use Rattle.std.proofs.Common.{◌≡◌, ℕ, ◌+◌, ◌<◌, Bool, true, false, cond, List, [], ◌∷◌, Option, Some, None, refl, sym, ap, ◌∙◌, subst, arith, eq-eqb}
-use Rattle.std.specs.Prelude.{◌==◌, ◌&&◌, IsTrue, not, slice_index_or, unwrap_or}
-use Rattle.std.proofs.lemmas.Bool.{and_parts, eqb-true, false≢true, true≢false}
+use Rattle.std.proofs.Common.{◌≡◌, ℕ, ◌<◌, Bool, true, false, cond, List, [], ◌∷◌, Option, Some, None, refl, sym, ap, ◌∙◌, subst, eq-eqb}
+use Rattle.std.specs.Prelude.{◌&&◌, IsTrue, not, slice_index_or, unwrap_or}
+use Rattle.std.proofs.lemmas.Bool.{and_parts, false≢true, true≢false}
 use Rattle.um_base.specs.declared.act.Act.{Act}
 use Rattle.um_base.specs.declared.act.Leftover.{Leftover}
 use Rattle.um_base.specs.declared.ask.Told.{Told}
@@ -22,26 +22,25 @@ use Rattle.um_words.specs.declared.thread_word.ThreadWord.{ThreadWord}
 use Rattle.um_words.specs.Threads.{thread_after, thread_after_act}
 use Rattle.um_fine.specs.Asks.{says_idle}
 use Rattle.um_fine.specs.Context.{Context, no_context}
-use Rattle.um_fine.specs.Places.{Todo, Todos}
+use Rattle.um_fine.specs.Places.{Todos}
 use Rattle.um_fine.specs.Processor.{Processor}
 use Rattle.um_fine.specs.Scheduler.{first_ready, has_ready, parked_at, told_at}
 use Rattle.um_fine.specs.Sites.{SiteState, s_next, same_site, site_after}
 use Rattle.um_fine.specs.Steps.{Exchange, FineStep, Site}
-use Rattle.um_erasure.specs.Fine.{Fine, one_if, scheduler, thread_state, word}
-use Rattle.um_erasure.specs.Lists.{Adds, has_steps, runs, runs_thread}
+use Rattle.um_erasure.specs.Fine.{Fine, scheduler, thread_state, word}
+use Rattle.um_erasure.specs.Lists.{has_steps}
 use Rattle.um_erasure.specs.Offers.{Fits, is_over}
 use Rattle.um_erasure.specs.Threads.{IsOf, is_ended, own_part, runs_on}
 use Rattle.um_erasure.proofs.CallsKnown.{starts-known}
 use Rattle.um_erasure.proofs.Erased.{stepped}
 use Rattle.um_erasure.proofs.Kept.{idle-moves, idle-takes}
-use Rattle.um_erasure.proofs.Leaves.{Lawful, Leaves, cleans, drops, event, maker, mine, nothing, passes, recycles, resumes}
+use Rattle.um_erasure.proofs.Leaves.{Lawful, Leaves, cleans, drops, event, mine, nothing, passes, recycles, resumes}
 use Rattle.um_erasure.proofs.Offered.{Shows, shown-offers, shown-on}
 use Rattle.um_erasure.proofs.Others.{doing, dues-same, others, starts_other}
-use Rattle.um_erasure.proofs.PlacesFacts.{adds-count, lies-here, lies-once, lies-unparked, running-unparked}
 use Rattle.um_erasure.proofs.ResumeSteps.{some-is}
 use Rattle.um_erasure.proofs.RowSteps.{thread-sort}
 use Rattle.um_erasure.proofs.SchedulerSteps.{made-at, made-says, sched-moved, sched-took}
-use Rattle.um_erasure.proofs.StepsLeft.{drops-on, passes-on, rests-on}
+use Rattle.um_erasure.proofs.StepsLeft.{drops-on, passes-on}
 use Rattle.um_erasure.proofs.WordsPart.{words-part}
 
 -- a thread that was started stays so
@@ -128,9 +127,16 @@ module _ (f : Fine) (m : State) (e : FineStep) (law : Lawful f m e) where
           → (u : ℕ) × (list : List ℕ) × (d : Context) × (told : Option Told) × ((scheduler f).ready ≡ u ∷ list) × (e.moved ≡ Exchange.thread d told) × (d.thread ≡ u) × (told ≡ told_at (scheduler f) u)
       by [] q = absurd (false≢true (subst (λ (l : List ℕ). IsTrue (has_ready (scheduler f) l)) q ready))
       by (u ∷ list) q =
-          let some = some-is (parked_at (scheduler f) u) (and_parts _ _ (subst (λ (l : List ℕ). IsTrue (has_ready (scheduler f) l)) q ready)).0 in
-          (u, list, unwrap_or (parked_at (scheduler f) u) no_context, told_at (scheduler f) u, q, first ∙ ap (first_ready (scheduler f)) q,
-          ap (λ (o : Option Context). (unwrap_or o no_context).thread) some.1 ∙ (law.rel.contexts.parked u some.0 some.1).1, refl)
+          let some = some-is (parked_at (scheduler f) u) (and_parts _ _ (subst (λ (l : List ℕ). IsTrue (has_ready (scheduler f) l)) q ready)).0 in (
+            u,
+            list,
+            unwrap_or (parked_at (scheduler f) u) no_context,
+            told_at (scheduler f) u,
+            q,
+            first ∙ ap (first_ready (scheduler f)) q,
+            ap (λ (o : Option Context). (unwrap_or o no_context).thread) some.1 ∙ (law.rel.contexts.parked u some.0 some.1).1,
+            refl,
+          )
 
   -- and what it is told stands with the scheduler
   pub taken-told : p.todo ≡ [] → (c : Context) (told : Told) → e.moved ≡ Exchange.thread c (Some told) → told_at (scheduler f) c.thread ≡ Some told

@@ -15,7 +15,7 @@ mod ThreadFrames
 mod ThreadPairs
 mod ThreadSteps
 mod ThreadWorks
-mod ThreadStarts
+pub mod ThreadStarts
 mod ThreadMoves
 mod ThreadCleans
 mod ThreadOffers
