@@ -73,7 +73,7 @@ flags-none (x ∷ xs) below none =
     let long = flags-long xs in
     absurd (true≢false (sym (get_or-set_same (flags_of xs) x true false (omega (arith, few, long))) ∙ none x))
 
-ended-not : (life : Life) → is_ended life ≡ true → life ≡ Life.Living → ⊥
+pub ended-not : (life : Life) → is_ended life ≡ true → life ≡ Life.Living → ⊥
 ended-not life h same = false≢true (sym (ap is_ended same) ∙ h)
 
 -- of the thread of a processor, where the part is that of the machine's thread
@@ -243,7 +243,7 @@ module _ (f : Fine) (m : State) (e : FineStep) (law : Lawful f m e) where
   -- Parked threads.
 
   -- what a step of the scheduler's cell puts there is no event's
-  apart-scheduling : (s : State) (leaves : Leaves f m e s) (q : Todo) (todo : Todos) → p.todo ≡ q ∷ todo → is_scheduling q ≡ true → (v : ℕ) → Apart f m e law s leaves s leaves v
+  pub apart-scheduling : (s : State) (leaves : Leaves f m e s) (q : Todo) (todo : Todos) → p.todo ≡ q ∷ todo → is_scheduling q ≡ true → (v : ℕ) → Apart f m e law s leaves s leaves v
   apart-scheduling s leaves q todo at scheduling v = by s leaves
     where
       first : Todos → Bool

@@ -90,3 +90,4 @@ pub mod ContextsPart
 pub mod OncePart
 pub mod ListDone
 pub mod DonePart
+pub mod AwayPart

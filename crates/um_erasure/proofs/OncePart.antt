@@ -48,7 +48,7 @@ use Rattle.um_erasure.proofs.SchedulerSteps.{made-at, made-moves, made-says, sch
 use Rattle.um_erasure.proofs.StepsLeft.{drops-on, passes-on, rests-on}
 use Rattle.um_erasure.proofs.Sums.{over-changed}
 
-resumed-thread : (image : Image) (c : Context) (told : Told) → (resumed image c told).thread ≡ c.thread
+pub resumed-thread : (image : Image) (c : Context) (told : Told) → (resumed image c told).thread ≡ c.thread
 resumed-thread image c told = by c.pending
   where
     by : (steps : Steps) → (resumed_at image c told steps).thread ≡ c.thread
@@ -68,12 +68,12 @@ never true false false h = refl
 never false b false h = refl
 never a b true h = absurd (true≢false h)
 
-no-thread : (a b c : Bool) → b ≡ false → one_if ((a && b) && c) ≡ 0
+pub no-thread : (a b c : Bool) → b ≡ false → one_if ((a && b) && c) ≡ 0
 no-thread true false c h = refl
 no-thread false false c h = refl
 no-thread a true c h = absurd (true≢false h)
 
-no-steps : (a b c : Bool) → a ≡ false → one_if ((a && b) && c) ≡ 0
+pub no-steps : (a b c : Bool) → a ≡ false → one_if ((a && b) && c) ≡ 0
 no-steps false b c h = refl
 no-steps true b c h = absurd (true≢false h)
 
@@ -87,13 +87,13 @@ module _ (f : Fine) (m : State) (e : FineStep) (law : Lawful f m e) (s : State) 
   abbrev now : Processor
   now = p_next f.image p e
 
-  abbrev lies : Processor → ℕ
+  abbrev pub lies : Processor → ℕ
   lies z = one_if (runs_on t z) + of_thread t (adders z.todo)
 
-  abbrev rests : Fine → ℕ
+  abbrev pub rests : Fine → ℕ
   rests g = one_if (is_some (parked_at (scheduler g) t))
 
-  sums : over_processors later lies + lies p ≡ over_processors f lies + lies now
+  pub sums : over_processors later lies + lies p ≡ over_processors f lies + lies now
   sums = over-changed f e lies law.by.named
 
   was : over_processors f lies + rests f ≤ 1
@@ -141,7 +141,7 @@ module _ (f : Fine) (m : State) (e : FineStep) (law : Lawful f m e) (s : State) 
               let last : one_if (runs_on t p) ≡ one_if ((runs p && (p.context.thread == t)) && true) = ap (λ b. one_if ((runs p && (p.context.thread == t)) && not b)) on in
               omega (arith, same, most, first, last)
 
-  behind : (q : Todo) (todo : Todos) → p.todo ≡ q ∷ todo → of_thread t (adders now.todo) ≡ of_thread t (adders todo)
+  pub behind : (q : Todo) (todo : Todos) → p.todo ≡ q ∷ todo → of_thread t (adders now.todo) ≡ of_thread t (adders todo)
   behind q todo at = ap (of_thread t) (next-adders f.image p e q todo at (subst (AreFramed f.image) at (law.rel.processors e.cpu law.by.named).frames).0 (last q at))
     where
       last : (q : Todo) → p.todo ≡ q ∷ todo → ReadsLast e q todo
@@ -298,7 +298,7 @@ module _ (f : Fine) (m : State) (e : FineStep) (law : Lawful f m e) (s : State) 
               by true h = absurd (true≢false (sym (eq-eqb t first.0 (sym (eqb-true first.0 t h))) ∙ other))
 
   -- the end of a turn
-  ends : (q : Todo) (todo : Todos) → p.todo ≡ q ∷ todo → is_end q ≡ true → begins_cleaning e ≡ false → lies now ≡ 0
+  pub ends : (q : Todo) (todo : Todos) → p.todo ≡ q ∷ todo → is_end q ≡ true → begins_cleaning e ≡ false → lies now ≡ 0
   ends q todo at over quiet =
       let none = ends-rests f.image p e q todo at over quiet in
       let runs-none = no-steps (runs now) (now.context.thread == t) (not (is_over now.context)) (ap has_steps none) in

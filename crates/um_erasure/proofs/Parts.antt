@@ -20,7 +20,8 @@ use Rattle.um_erasure.specs.Fine.{Fine}
 use Rattle.um_erasure.specs.Looks.{LooksAre}
 use Rattle.um_erasure.specs.Objects.{ContentsAre, StatusIs}
 use Rattle.um_erasure.specs.Relation.{Rel}
-use Rattle.um_erasure.specs.Threads.{AwayIs, ContextsAre, DomainKept, ToldIs}
+use Rattle.um_erasure.specs.Threads.{ContextsAre, DomainKept, ToldIs}
+use Rattle.um_erasure.proofs.AwayPart.{away-part}
 use Rattle.um_erasure.proofs.CallsKnown.{RestsHoldNothing, own-known}
 use Rattle.um_erasure.proofs.CallsProper.{AreProper}
 use Rattle.um_erasure.proofs.CleanersPart.{cleaners-part}
@@ -52,7 +53,6 @@ use Rattle.um_erasure.proofs.Writes.{Keeping, after-kept, bytes-kept}
 
 -- The parts of the relation that are still to be kept.
 pub record IsLeft (g : Fine) (s : State) : Type 0 where
-  pub away : (t : ℕ) → t < THREADS → AwayIs g s t
   pub told : (t : ℕ) → t < THREADS → ToldIs g s t
   pub status : (x : ℕ) → x < ROWS → StatusIs g s x
   pub contents : (x : ℕ) → x < ROWS → ContentsAre g s x
@@ -118,7 +118,7 @@ module _ (f : Fine) (m : State) (e : FineStep) (law : Lawful f m e) where
         running = running-part f m e law;
         scheduler = scheduler-part f m e law;
         threads = λ t l.
-            record { word = words-part f m e law t l s leaves; away = left.away t l; told = left.told t l; held = held-part f m e law t l; ready = ready-part f m e law suits.tells t l };
+            record { word = words-part f m e law t l s leaves; away = away-part f m e law suits all s leaves has t l; told = left.told t l; held = held-part f m e law t l; ready = ready-part f m e law suits.tells t l };
         rows = λ x l.
             record { pairs = pairs-part f m e law x l s leaves; status = left.status x l; contents = left.contents x l; claims = left.claims x l; cleaners = cleaners-part f m e law x l s leaves };
         domains = λ d l. domain-part f m e law d l s leaves;
