@@ -91,3 +91,4 @@ pub mod OncePart
 pub mod ListDone
 pub mod DonePart
 pub mod AwayPart
+pub mod ListWakes

@@ -7,9 +7,9 @@ pub mod RunLemmas
 mod ScheduleLemmas
 mod ScheduledLemmas
 mod SettleLemmas
-mod ThreadCounts
-mod ThreadWaits
-mod ThreadServes
+pub mod ThreadCounts
+pub mod ThreadWaits
+pub mod ThreadServes
 pub mod ThreadWords
 mod ThreadFrames
 mod ThreadPairs

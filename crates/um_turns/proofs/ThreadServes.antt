@@ -8,7 +8,7 @@ use Rattle.um_base.specs.declared.names.ThreadIx.{ThreadIx}
 use Rattle.um_base.specs.declared.names.Timeout.{Timeout}
 use Rattle.um_machine.specs.declared.contents.Contents.{Contents}
 use Rattle.um_machine.specs.Services.{Acted, in_order, without, queue, stack, pipe, blocks, is_empty, sem_take, sem_give, sem_act, mutex_lock, mutex_passes, mutex_unlock, mutex_act, is_getter, is_putter, msgq_put, msgq_take, msgq_get, msgq_peek, msgq_act, stack_push, stack_pop, stack_act, is_reader, is_writer, pipe_write, pipe_take, pipe_read, pipe_act, renews, fills, uses, acted_by}
-use Rattle.um_turns.proofs.ThreadWaits.{numbers, IsServed, AreApart, Among, times-first, all-order, some-order, served-none, served-blocks, served-one, served-all, served-some, served-still, readers-times, writers-times}
+use Rattle.um_turns.proofs.ThreadWaits.{numbers, IsServed, AreApart, Among, times-first, all-order, some-order, served-none, served-blocks, served-one, served-all, served-some, served-still, readers-few, readers-times, writers-few, writers-times}
 
 module _ (ws : List Waiter) (who : Waiter) (apart : AreApart ws) where
   abbrev Serves : Acted → Type 0
@@ -112,12 +112,14 @@ module _ (ws : List Waiter) (who : Waiter) (apart : AreApart ws) where
       let put = take (size - length bytes) given in
       let vs = in_order (filter is_reader ws) in
       either (n == 0) _ _ (none _ refl refl) (either closed _ _ (none _ refl refl) (either (nat_le size (length bytes)) _ _ (wait (pipe size bytes closed) timeout Errno.EAGAIN)
-      (served-still ws who.thread.0 _ apart (λ u h. (let some = readers-times vs (bytes ++ put) u h in let among = some-order is_reader ws u in omega (arith, some, among))) refl)))
+      (served-still ws who.thread.0 _ apart (λ u h. (let some = readers-times vs (bytes ++ put) u h in let among = some-order is_reader ws u in omega (arith, some, among)))
+      (λ u. (let some = readers-few vs (bytes ++ put) u in let among = some-order is_reader ws u in omega (arith, some, among))) refl)))
 
   takes_bytes : (size : ℕ) (bytes : List ℕ) (closed : Bool) (n : ℕ) → Serves (pipe_take size bytes closed ws n)
   takes_bytes size bytes closed n =
       let vs = in_order (filter is_writer ws) in
-      served-still ws who.thread.0 _ apart (λ u h. (let some = writers-times size vs (drop n bytes) u h in let among = some-order is_writer ws u in omega (arith, some, among))) refl
+      served-still ws who.thread.0 _ apart (λ u h. (let some = writers-times size vs (drop n bytes) u h in let among = some-order is_writer ws u in omega (arith, some, among)))
+      (λ u. (let some = writers-few size vs (drop n bytes) u in let among = some-order is_writer ws u in omega (arith, some, among))) refl
 
   reads : (size : ℕ) (bytes : List ℕ) (closed : Bool) (n : ℕ) (timeout : Timeout) → Serves (pipe_read size bytes closed ws who n timeout)
   reads size bytes closed n timeout =

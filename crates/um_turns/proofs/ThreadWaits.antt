@@ -1,5 +1,5 @@
 -- Whom an act wakes of those who wait on an object, and who waits then.
-use Rattle.std.proofs.Common.{◌≡◌, ◌≢◌, ◌⊎◌, inl, inr, ◌≤◌, ℕ, ◌+◌, ◌-◌, Bool, true, false, not, ◌||◌, cond, List, [], ◌∷◌, ◌++◌, length, filter, map, take, drop, refl, sym, subst, ◌∙◌, arith, if◌then◌else◌, nat_le}
+use Rattle.std.proofs.Common.{◌≡◌, ◌≢◌, ◌⊎◌, inl, inr, ◌≤◌, ℕ, ◌+◌, ◌-◌, Bool, true, false, not, ◌||◌, cond, List, [], ◌∷◌, ◌++◌, length, filter, map, take, drop, refl, sym, ap, subst, ◌∙◌, arith, if◌then◌else◌, nat_le}
 use Rattle.std.specs.Prelude.{◌==◌, int_lt}
 use Rattle.std.specs.List.{list_any}
 use Rattle.um_base.specs.declared.act.Answer.{Answer}
@@ -26,9 +26,14 @@ times t ws = count (is_of t) ws
 abbrev pub numbers : List (ThreadIx × Told) → List ℕ
 numbers woken = map (λ (p : ThreadIx × Told). p.0.0) woken
 
--- what an act of a thread does with those who wait: whom it wakes has waited, and who waits then waited and isn't woken, or is that thread
+-- how often a thread is woken
+abbrev pub wakings : ℕ → List (ThreadIx × Told) → ℕ
+wakings u woken = count (λ (p : ThreadIx × Told). p.0.0 == u) woken
+
+-- what an act of a thread does with those who wait: whom it wakes has waited as often, and who waits then waited and isn't woken, or is that thread
 pub record IsServed (ws : List Waiter) (t : ℕ) (w : Acted) : Type 0 where
   pub woken : (u : ℕ) → stands (numbers w.woken) u ≡ true → 1 ≤ times u ws
+  pub often : (u : ℕ) → wakings u w.woken ≤ times u ws
   pub left : (u : ℕ) → 1 ≤ times u w.waiters → ((1 ≤ times u ws) × (stands (numbers w.woken) u ≡ false)) ⊎ ((u ≡ t) × (w.answer ≡ Answer.Wait))
   pub apart : (u : ℕ) → times u w.waiters ≤ 1
 
@@ -80,6 +85,7 @@ other_way a b =
 pub served-none : (ws : List Waiter) (t : ℕ) (w : Acted) → AreApart ws → w.woken ≡ [] → w.waiters ≡ ws → IsServed ws t w
 served-none ws t w apart e f = record {
   woken = λ u h. (let none : false ≡ true = subst (λ (l : List (ThreadIx × Told)). stands (numbers l) u ≡ true) e h in cc);
+  often = λ u. (let none : wakings u w.woken ≡ 0 = ap (wakings u) e in omega (arith, none));
   left = λ u h. inl (subst (λ (l : List Waiter). 1 ≤ times u l) f h, rw e refl);
   apart = λ u. rw f (apart u);
 }
@@ -92,6 +98,7 @@ served-blocks ws who contents Timeout.Forever e apart =
     let fewer : (u : ℕ) → times u (without t ws) ≤ times u ws = λ u. count-filter (is_of u) (λ (w : Waiter). not (w.thread.0 == t)) ws in
     record {
       woken = λ u h. cc;
+      often = λ u. omega arith;
       left = λ u h. elim (equal_or_not u t) [
         | inl same ↦ inr (same, refl)
         | inr other ↦ (let apart_from : (t == u) ≡ false = differs t u (λ e. other (sym e)) in inl ((let some = both u in let less = fewer u in let none : one_if (t == u) ≡ 0 = rw apart_from refl in omega (arith, h, some, less, none)), refl))
@@ -103,11 +110,20 @@ served-blocks ws who contents Timeout.Forever e apart =
     }
 
 -- One is woken, who was first.
+wakings-numbers : (u : ℕ) (woken : List (ThreadIx × Told)) → wakings u woken ≡ count (λ x. x == u) (numbers woken)
+wakings-numbers u [] = refl
+wakings-numbers u (p ∷ woken) = ap (λ n. one_if (p.0.0 == u) + n) (wakings-numbers u woken)
+
 pub served-one : (ws : List Waiter) (t : ℕ) (first : Waiter) (w : Acted) → AreApart ws → 1 ≤ times first.thread.0 ws → numbers w.woken ≡ first.thread.0 ∷ [] → w.waiters ≡ without first.thread.0 ws → IsServed ws t w
 served-one ws t first w apart there e f =
     let x = first.thread.0 in
     let fewer : (u : ℕ) → times u (without x ws) ≤ times u ws = λ u. count-filter (is_of u) (λ (v : Waiter). not (v.thread.0 == x)) ws in
     record {
+      often = λ u. (let all : wakings u w.woken ≡ one_if (x == u) + 0 = wakings-numbers u w.woken ∙ ap (count (λ n. n == u)) e in
+          elim (equal_or_not x u) [
+            | inl same ↦ (let here : 1 ≤ times u ws = subst (λ n. 1 ≤ times n ws) same there in let one : one_if (x == u) ≡ 1 = rw (same, itself u) refl in omega (arith, all, here, one))
+            | inr other ↦ (let none : one_if (x == u) ≡ 0 = rw (differs x u other) refl in omega (arith, all, none))
+          ]);
       woken = λ u h. (let same : u ≡ x = one_stands u x (subst (λ (l : List ℕ). stands l u ≡ true) e h) in rw same there);
       left = λ u h. (let some : 1 ≤ times u (without x ws) = subst (λ (l : List Waiter). 1 ≤ times u l) f h in
           elim (equal_or_not u x) [
@@ -133,9 +149,14 @@ told-times e (v ∷ vs) u h =
       | inr later ↦ (let rest = told-times e vs u (subst (λ (b : Bool). (b || stands (numbers (map (λ (w : Waiter). told w (Reply.Fail e) []) vs)) u) ≡ true) later h) in omega (arith, rest))
     ]
 
+told-wakings : (e : Errno) (vs : List Waiter) (u : ℕ) → wakings u (map (λ (w : Waiter). told w (Reply.Fail e) []) vs) ≡ times u vs
+told-wakings e [] u = refl
+told-wakings e (v ∷ vs) u = ap (λ n. one_if (v.thread.0 == u) + n) (told-wakings e vs u)
+
 pub served-all : (ws : List Waiter) (t : ℕ) (e : Errno) (w : Acted) → AreApart ws → w.woken ≡ all_told e ws → w.waiters ≡ [] → IsServed ws t w
 served-all ws t e w apart f g = record {
   woken = λ u h. (let some = told-times e (in_order ws) u (subst (λ (l : List (ThreadIx × Told)). stands (numbers l) u ≡ true) f h) in let same = times-order u ws in omega (arith, some, same));
+  often = λ u. (let all = ap (wakings u) f ∙ told-wakings e (in_order ws) u in let same = times-order u ws in omega (arith, all, same));
   left = λ u h. absurd (let none : 1 ≤ times u [] = subst (λ (l : List Waiter). 1 ≤ times u l) g h in omega (arith, none));
   apart = λ u. rw g (omega arith);
 }
@@ -148,6 +169,7 @@ served-some ws t e p w apart f g =
     let parts : (u : ℕ) → times u (filter p ws) + times u (filter (λ v. not (p v)) ws) ≡ times u ws = λ u. count-split (is_of u) p ws in
     record {
       woken = λ u h. (let some = found u h in let both = parts u in omega (arith, some, both));
+      often = λ u. (let all = ap (wakings u) f ∙ told-wakings e (in_order (filter p ws)) u in let same = times-order u (filter p ws) in let both = parts u in omega (arith, all, same, both));
       left = λ u h. (let there : 1 ≤ times u (filter (λ v. not (p v)) ws) = subst (λ (l : List Waiter). 1 ≤ times u l) g h in let both = parts u in let once = apart u in
           inl (omega (arith, there, both), is_not (stands (numbers w.woken) u) (λ yes. (let some = found u yes in omega (arith, some, there, both, once)))));
       apart = λ u. rw g (let both = parts u in let once = apart u in omega (arith, both, once));
@@ -168,11 +190,12 @@ times-still woken u (w ∷ ws) h =
     ] refl
 
 -- those who are woken leave
-pub served-still : (ws : List Waiter) (t : ℕ) (w : Acted) → AreApart ws → ((u : ℕ) → stands (numbers w.woken) u ≡ true → 1 ≤ times u ws) → w.waiters ≡ still_waiting w.woken ws → IsServed ws t w
-served-still ws t w apart found g =
+pub served-still : (ws : List Waiter) (t : ℕ) (w : Acted) → AreApart ws → ((u : ℕ) → stands (numbers w.woken) u ≡ true → 1 ≤ times u ws) → ((u : ℕ) → wakings u w.woken ≤ times u ws) → w.waiters ≡ still_waiting w.woken ws → IsServed ws t w
+served-still ws t w apart found few g =
     let fewer : (u : ℕ) → times u (still_waiting w.woken ws) ≤ times u ws = λ u. count-filter (is_of u) (λ (v : Waiter). not (list_any (λ (p : ThreadIx × Told). p.0.0 == v.thread.0) w.woken)) ws in
     record {
       woken = found;
+      often = few;
       left = λ u h. (let there : 1 ≤ times u (still_waiting w.woken ws) = subst (λ (l : List Waiter). 1 ≤ times u l) g h in let less = fewer u in
           inl (omega (arith, there, less), is_not (stands (numbers w.woken) u) (λ yes. (let none = times-still w.woken u ws yes in omega (arith, none, there)))));
       apart = λ u. rw g (let less = fewer u in let once = apart u in omega (arith, less, once));
@@ -201,3 +224,20 @@ writers-times size (v ∷ vs) bytes u h =
         | inr later ↦ (let more = writers-times size vs (bytes ++ put) u (subst (λ (c : Bool). (c || stands (numbers rest.1) u) ≡ true) later g) in omega (arith, more))
       ]
     ] h
+
+-- each is woken once at most
+pub readers-few : (vs : List Waiter) (bytes : List ℕ) (u : ℕ) → wakings u (readers_served vs bytes).1 ≤ times u vs
+readers-few [] bytes u = omega arith
+readers-few (v ∷ vs) [] u = omega arith
+readers-few (v ∷ vs) (b ∷ bytes) u = let rest = readers-few vs (drop (read_length v.ask) (b ∷ bytes)) u in omega (arith, rest)
+
+pub writers-few : (size : ℕ) (vs : List Waiter) (bytes : List ℕ) (u : ℕ) → wakings u (writers_served size vs bytes).1 ≤ times u vs
+writers-few size [] bytes u = omega arith
+writers-few size (v ∷ vs) bytes u =
+    let put = take (size - length bytes) v.bytes in
+    let rest = writers_served size vs (bytes ++ put) in
+    let found : List (ThreadIx × Told) = told v (Reply.Num (length put)) [] ∷ rest.1 in
+    elim (nat_le size (length bytes)) as (λ b. wakings u (let both : List ℕ × List (ThreadIx × Told) = if b then (bytes, []) else (rest.0, found) in both.1) ≤ times u (v ∷ vs)) [
+      | true ↦ omega arith
+      | false ↦ (let more = writers-few size vs (bytes ++ put) u in omega (arith, more))
+    ]
