@@ -92,3 +92,4 @@ pub mod ListDone
 pub mod DonePart
 pub mod AwayPart
 pub mod ListWakes
+pub mod ToldFacts

@@ -34,7 +34,7 @@ second-some None b h = h
 second-some (Some w) b h = refl
 
 -- two parts of a sum are at most the sum
-total-two : (g : ℕ → ℕ) (n k j : ℕ) → k < n → j < n → (k ≡ j → ⊥) → g k + g j ≤ total g n
+pub total-two : (g : ℕ → ℕ) (n k j : ℕ) → k < n → j < n → (k ≡ j → ⊥) → g k + g j ≤ total g n
 total-two g zero k j l r apart = absurd (omega (arith, l))
 total-two g (suc n) k j l r apart = by (k == n) refl (j == n) refl (total-two g n k j)
   where

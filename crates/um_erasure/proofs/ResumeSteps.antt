@@ -53,7 +53,7 @@ some-is (Some x) h = (x, refl)
 
 module _ (f : Fine) (m : State) (rel : Rel f m) where
   -- whom the scheduler has something to tell, the machine has told something
-  told-some : (t n : ℕ) → is_some (told_at (scheduler f) t) ≡ true → is_some (told_by f t n) ≡ true
+  pub told-some : (t n : ℕ) → is_some (told_at (scheduler f) t) ≡ true → is_some (told_by f t n) ≡ true
   told-some t zero h = h
   told-some t (suc n) h = first-some (wake_of t (f.processors n).todo) (told_by f t n) (told-some t n h)
 
