@@ -93,3 +93,4 @@ pub mod DonePart
 pub mod AwayPart
 pub mod ListWakes
 pub mod ToldFacts
+pub mod ToldPart
