@@ -1,6 +1,7 @@
--- The steps that are left of a call are proper: each act on an object is on one that the call holds then, each edit is of one of the
--- image's domains, and where the call is over it holds nothing. The steps of each line of a lawful image are.
-use Rattle.std.proofs.Common.{◌≡◌, ℕ, zero, suc, ◌+◌, ◌*◌, ◌<◌, Bool, true, false, List, [], ◌∷◌, ◌++◌, length, Option, Some, None, refl, sym, ap, ◌∙◌, subst, arith}
+-- The steps that are left of a call are proper: each act on an object is on one that the call holds then, a thread that gets a permission or
+-- a name is one whose object it holds, or a static one, permissions are passed on to the thread that it starts next, each edit and each move
+-- is of one of the image's domains, and where the call is over it holds nothing. The steps of each line of a lawful image are.
+use Rattle.std.proofs.Common.{◌≡◌, ◌⊎◌, inl, inr, ℕ, zero, suc, ◌+◌, ◌*◌, ◌<◌, Bool, true, false, List, [], ◌∷◌, ◌++◌, length, Option, Some, None, refl, sym, ap, ◌∙◌, subst, arith}
 use Rattle.std.specs.Prelude.{◌==◌, ◌&&◌, ◌||◌, ℤ, if◌then◌else◌, is_some, nat_lt, slice_get, slice_index_or, slice_set, unwrap_or}
 use Rattle.std.specs.List.{list_all}
 use Rattle.std.proofs.lemmas.Bool.{and_parts, false≢true, ltb-true}
@@ -16,17 +17,22 @@ use Rattle.um_base.specs.declared.names.Mode.{Mode}
 use Rattle.um_base.specs.declared.names.Ref.{Ref}
 use Rattle.um_base.specs.declared.names.ThreadIx.{ThreadIx}
 use Rattle.um_base.specs.Lawful.{IsLawful, are_lawful_scripts, is_lawful_line, is_lawful_script, is_number_below, is_within}
-use Rattle.um_base.specs.Places.{row_at}
+use Rattle.um_base.specs.Places.{own_row, row_at, thread_of_addr}
 use Rattle.um_machine.specs.declared.pending.Pending.{Pending}
 use Rattle.um_machine.specs.declared.thread.Place.{Place}
 use Rattle.um_machine.specs.declared.thread.Thread.{Thread}
 use Rattle.um_machine.specs.Order.{Steps, answer_error, answer_zero, buffered, creates, number_of, privileged, steps_of, to_addr, work}
 use Rattle.um_machine.specs.State.{instruction_at, lines_of, script_lines, value_of}
-use Rattle.um_reach.proofs.Guards.{Names}
+use Rattle.um_reach.proofs.Guards.{IsRow, IsSited, IsStatic, Names, keeps}
 
 -- nothing is held
 abbrev pub Bare : List Bool → Type 0
 Bare checked = (x : ℕ) → slice_index_or checked x false ≡ false
+
+-- these steps start a thread next
+abbrev pub StartsOne : ThreadIx → Steps → Type 0
+StartsOne who (Pending.Start w script stack priority mode ∷ rest) = w ≡ who
+StartsOne who steps = ⊥
 
 module _ (image : Image) where
   abbrev pub Proper : List Bool → Steps → Type 0
@@ -43,6 +49,10 @@ module _ (image : Image) where
   Proper checked (Pending.EnterUser script ∷ rest) = Bare checked
   Proper checked (Pending.Dooms from ∷ rest) = Bare checked
   Proper checked (Pending.Start who script stack priority mode ∷ rest) = (other : List Bool) → Proper other rest
+  Proper checked (Pending.Grant who a ∷ rest) = IsStatic image checked (own_row image who.0) × Proper checked rest
+  Proper checked (Pending.Named who ∷ rest) = IsStatic image checked (own_row image who.0) × Proper checked rest
+  Proper checked (Pending.Inherit who ∷ rest) = StartsOne who rest × Proper checked rest
+  Proper checked (Pending.DomMove d who ∷ rest) = (d < length image.domains) × Proper checked rest
   Proper checked (Pending.DomInit d parts ∷ rest) = (d < length image.domains) × Proper checked rest
   Proper checked (Pending.DomAdd d range attr ∷ rest) = (d < length image.domains) × Proper checked rest
   Proper checked (Pending.DomRemove d range attr ∷ rest) = (d < length image.domains) × Proper checked rest
@@ -60,15 +70,15 @@ module _ (image : Image) (checked : List Bool) where
   proper-init a x e h ask true = refl
   proper-init a x e h ask false = ((x, e, h), refl)
 
-  proper-inherit : (inherits : Bool) (who : ThreadIx) (rest : Steps) → Proper image checked rest
+  proper-inherit : (inherits : Bool) (who : ThreadIx) (rest : Steps) → StartsOne who rest → Proper image checked rest
       → Proper image checked ((if inherits then Pending.Inherit who ∷ [] else []) ++ rest)
-  proper-inherit true who rest h = h
-  proper-inherit false who rest h = h
+  proper-inherit true who rest starts h = (starts, h)
+  proper-inherit false who rest starts h = h
 
   proper-creates : (mode : Mode) (who stack a b script : ℕ) (priority : ℤ) (options : Options) (cause : Option Cause)
       → Proper image checked (creates mode who stack a b script priority options cause)
   proper-creates mode who stack a b script priority options (Some cause) = tt
-  proper-creates mode who stack a b script priority options None = proper-inherit options.inherit _ _ (λ other. refl)
+  proper-creates mode who stack a b script priority options None = proper-inherit options.inherit _ _ refl (λ other. refl)
 
 proper-buffered : (image : Image) (checked : List Bool) (a : ℕ) (kind : Kind) (lawful : Bool) (size : ℕ) (ask : Ask) → Proper image checked (buffered a kind lawful size ask)
 proper-buffered image checked a kind true size ask = λ x e h. ((x, e, h), refl)
@@ -78,7 +88,16 @@ number-below : (n : ℕ) (domain : Ref) → is_number_below n domain ≡ true �
 number-below n (Ref.At i) h = ltb-true i n h
 number-below n (Ref.Named name) h = absurd (false≢true h)
 
-module _ (image : Image) (t : ℕ) (me : Thread) (none : Bare me.checked) where
+-- a thread whose object was checked
+owned : (image : Image) → IsSited image → (checked : List Bool) (a x : ℕ) → row_at image a ≡ Some x → slice_index_or checked x false ≡ true
+    → IsStatic image checked (own_row image (thread_of_addr image a))
+owned image sited checked a x e h = by (sited.owns a x e)
+  where
+    by : (own_row image (thread_of_addr image a) < length image.objects) ⊎ (own_row image (thread_of_addr image a) ≡ x) → IsStatic image checked (own_row image (thread_of_addr image a))
+    by (inl l) = inl l
+    by (inr same) = inr (subst (IsRow image) (sym same) (sited.found a x e).0, ap (λ r. slice_index_or checked r false) same ∙ h)
+
+module _ (image : Image) (sited : IsSited image) (t : ℕ) (me : Thread) (none : Bare me.checked) where
   pub proper-steps : (i : ℕ) (instr : Instr) → is_lawful_line image i instr ≡ true → Proper image me.checked (steps_of image t me instr)
   proper-steps i (Instr.Set to value) lawful = none
   proper-steps i (Instr.Add to value) lawful = none
@@ -96,15 +115,17 @@ module _ (image : Image) (t : ℕ) (me : Thread) (none : Bare me.checked) where
       proper-privileged image me.checked me.mode _ (number-below (length image.domains) domain (and_parts _ _ lawful).0, refl)
   proper-steps i (Instr.DomainRemove domain part) lawful =
       proper-privileged image me.checked me.mode _ (number-below (length image.domains) domain (and_parts _ _ lawful).0, refl)
-  proper-steps i (Instr.DomainMove domain thread) lawful = proper-privileged image me.checked me.mode _ (λ x e h. refl)
+  proper-steps i (Instr.DomainMove domain thread) lawful =
+      proper-privileged image me.checked me.mode _ (λ x e h. (number-below (length image.domains) domain (and_parts _ _ lawful).0, refl))
   proper-steps i (Instr.UserMode script) lawful = proper-privileged image me.checked me.mode _ none
   proper-steps i (Instr.AllGrant object) lawful = proper-privileged image me.checked me.mode _ (λ x e h. refl)
-  proper-steps i (Instr.Grant object thread) lawful = λ y f g x e h. refl
+  proper-steps i (Instr.Grant object thread) lawful =
+      λ y f g x e h. (owned image sited (slice_set (slice_set me.checked y true) x true) (value_of me.registers thread) y f (keeps (slice_set me.checked y true) y x g), refl)
   proper-steps i (Instr.Revoke object thread) lawful = proper-privileged image me.checked me.mode _ (λ y f g x e h. refl)
   proper-steps i (Instr.Release object) lawful = λ x e h. refl
   proper-steps i (Instr.Create thread stack size script priority options) lawful =
       λ y f g x e h. proper-creates image (slice_set (slice_set me.checked y true) x true) me.mode _ _ _ _ _ _ options _
-  proper-steps i (Instr.NameSet thread addr) lawful = λ x e h. refl
+  proper-steps i (Instr.NameSet thread addr) lawful = λ x e h. (owned image sited (slice_set me.checked x true) (value_of me.registers thread) x e h, refl)
   proper-steps i (Instr.SemInit object count limit) lawful =
       let c = value_of me.registers count in
       let l = value_of me.registers limit in

@@ -43,6 +43,7 @@ use Rattle.um_reach.proofs.Facts.{none_checked}
 use Rattle.um_reach.proofs.Reached.{image_move}
 use Rattle.um_reach.proofs.RunMoves.{known_step, step_move}
 use Rattle.um_reach.proofs.Turns.{IsKnown, below_rows, core-bytes, core-erased, core-moved, core-published, passed, row_is}
+use Rattle.um_reach.proofs.Guards.{IsSited}
 use Rattle.um_erasure.proofs.CallSteps.{Bare, Proper, line-lawful, proper-steps}
 
 -- the steps of a thread that has ended
@@ -95,7 +96,7 @@ module _ (m : State) (t x : ℕ) where
       by : {q : Pending} {rest : Steps} → Offers m t q rest → Stands q rest
       by (goes {p} {rest} e) = stands p rest (at (p ∷ rest) e)
       by (skips_inherit {who} {p} {rest} e due) =
-          let was = at (Pending.Inherit who ∷ p ∷ rest) e in stands p rest (was.0, λ dead. absurd (was.1 dead).1)
+          let was = at (Pending.Inherit who ∷ p ∷ rest) e in stands p rest (was.0.1, λ dead. absurd (was.1 dead).1)
       by (skips_drops {from} {p} {rest} e due) = stands p rest (at (Pending.Drops from ∷ p ∷ rest) e)
       by (begins e lives doomed there) = ((at [] e).0, lives)
       by (exits e lives doomed there) = ((at [] e).0, lives)
@@ -272,16 +273,16 @@ module _ (m : State) (t x : ℕ) where
     dooms-next true from none = (none, tt)
     dooms-next false from none = (none, tt)
 
-    begun : IsLawful m.image → Bare me.checked → is_living me.life ≡ true → (instr : Option Instr) → instruction_at m.image me.place ≡ instr
+    begun : IsSited m.image → IsLawful m.image → Bare me.checked → is_living me.life ≡ true → (instr : Option Instr) → instruction_at m.image me.place ≡ instr
         → AreProper m.image (T.after_begin m t me instr)
-    begun lawful none lives None e = all
-    begun lawful none lives (Some instr) e =
+    begun sited lawful none lives None e = all
+    begun sited lawful none lives (Some instr) e =
         here lives (record me { registers = T.with_begin me.registers instr }) _ refl refl
-        (proper-steps m.image t me none me.place.script instr (line-lawful m.image lawful me.place instr e))
+        (proper-steps m.image sited t me none me.place.script instr (line-lawful m.image lawful me.place instr e))
 
     module _ (known : IsKnown (core_of m)) (lawful : IsLawful m.image) where
       pub proper-after : (q : Pending) (rest : Steps) → Stands q rest → AreProper m.image (T.after m t x q rest)
-      proper-after Pending.Begin rest h = begun lawful h.0 h.1 (instruction_at m.image me.place) refl
+      proper-after Pending.Begin rest h = begun known.reached.sited lawful h.0 h.1 (instruction_at m.image me.place) refl
       proper-after Pending.Exit rest h = set m all t _ (none-held, λ dead. (none-held, tt))
       proper-after (Pending.Check a kind want refusal) rest h =
           checks (lives-on (is_living me.life) h.1) known a kind want refusal rest h.0 (verdict m t a.0 kind want) refl
@@ -319,7 +320,7 @@ module _ (m : State) (t x : ℕ) where
       proper-after (Pending.Answer reply to) rest h =
           set m all t _
           (subst (λ (left : Steps). Proper m.image no_rows left) (sym h.0) none-held, λ dead. absurd (true≢false (sym (lives-on (is_living me.life) h.1) ∙ dead)))
-      proper-after (Pending.Grant who a) rest h = there (lives-on (is_living me.life) h.1) (T.after_given m who.0 (T.row_of m a)) (given-alike who.0 (T.row_of m a)) rest h.0
+      proper-after (Pending.Grant who a) rest h = there (lives-on (is_living me.life) h.1) (T.after_given m who.0 (T.row_of m a)) (given-alike who.0 (T.row_of m a)) rest h.0.1
       proper-after (Pending.Own who) rest h =
           let s = T.after_given m who.0 (own_row m.image who.0) in
           let e = given-alike who.0 (own_row m.image who.0) in
@@ -331,7 +332,7 @@ module _ (m : State) (t x : ℕ) where
           let e = paired-alike m who.0 x true refl in
           let call = call-same s e t in
           set s (keeps s e) t _ (
-            subst (λ (held : List Bool). Proper m.image held rest) (sym (ap (λ (c : Call). c.checked) call)) h.0,
+            subst (λ (held : List Bool). Proper m.image held (Pending.Inherit who ∷ rest)) (sym (ap (λ (c : Call). c.checked) call)) h.0,
             λ dead. absurd (true≢false (sym (ap (λ (c : Call). c.living) call ∙ lives-on (is_living me.life) h.1) ∙ dead)),
           )
       proper-after (Pending.DropPair who a) rest h =
@@ -345,7 +346,7 @@ module _ (m : State) (t x : ℕ) where
       proper-after (Pending.ClearInit a) rest h = set (with_object m (T.row_of m a) (record (object_at m (T.row_of m a)) { init = false })) all t _ (h.0, h.1)
       proper-after (Pending.Named who) rest h =
           let y = own_row m.image who.0 in
-          on (with_object m y (record (object_at m y) { contents = Contents.Named me.buffer })) refl me rest refl (lives-on (is_living me.life) h.1) h.0
+          on (with_object m y (record (object_at m y) { contents = Contents.Named me.buffer })) refl me rest refl (lives-on (is_living me.life) h.1) h.0.1
       proper-after (Pending.Reserve kind) rest h = reserves (lives-on (is_living me.life) h.1) x kind rest h.0
       proper-after (Pending.Born a) rest h =
           let y = T.row_of m a in
@@ -367,7 +368,7 @@ module _ (m : State) (t x : ℕ) where
           let s = T.moved m who.0 d reply in
           let e : Alike s = ap (λ (c : Core). c.calls) (core-moved m who.0 d reply) in
           let call = call-same s e t in
-          on s e (record (thread_at s t) { reply = reply }) rest (ap (λ (c : Call). c.checked) call) (ap (λ (c : Call). c.living) call ∙ lives-on (is_living me.life) h.1) h.0
+          on s e (record (thread_at s t) { reply = reply }) rest (ap (λ (c : Call). c.checked) call) (ap (λ (c : Call). c.living) call ∙ lives-on (is_living me.life) h.1) h.0.1
       proper-after (Pending.Start who script stack priority mode) rest h =
           let child = T.newborn m me who.0 script (Pending.Start who script stack priority mode) in
           let s = with_thread m who.0 child in

@@ -32,7 +32,7 @@ use Rattle.um_erasure.specs.Lists.{Adds, adders, cleaned_pairs, counted, has_ste
 use Rattle.um_erasure.specs.Claims.{call_claims, claims, context_claims}
 use Rattle.um_erasure.specs.Cleaning.{AreBlocks, Cleans}
 use Rattle.um_erasure.specs.Offers.{is_over}
-use Rattle.um_erasure.specs.Objects.{is_being_born, status_of}
+use Rattle.um_erasure.specs.Objects.{is_reserved, status_of}
 use Rattle.um_erasure.specs.Threads.{IsOf, flags_of, occurs, places, runs_on}
 use Rattle.um_erasure.specs.Relation.{Rel}
 use Rattle.um_erasure.proofs.Erased.{Goes, GoesBy}
@@ -190,18 +190,18 @@ module _ (f : Fine) (m : State) (rel : Rel f m) (calls : Calls m) where
       unclaimed Stage.Dying e = absurd (true≢false (sym (ap is_dying e) ∙ not-true _ (and_parts _ _ recycled).1))
       unclaimed Stage.Live e =
           let at = settled f m rel x few (ap is_free e) in
-          absurd (false≢true (sym (ap Plain.is_gone ((rel.rows x few).status.status at ∙ ap (λ s. status_of s (is_being_born f x f.cpus)) e)) ∙ gone))
+          absurd (false≢true (sym (ap Plain.is_gone ((rel.rows x few).status.status at ∙ ap (λ s. status_of s (is_reserved (object_at m x).status)) e)) ∙ gone))
 
       by-thread : (o : Option ThreadIx) → (object_at m x).cleaner ≡ o
           → ((object_at m x).cleaner ≡ None) ⊎ ((object_at m x).cleaner ≡ Some (to_thread (f.processors k).context.thread))
       by-thread None e = inl e
       by-thread (Some t) e =
-          inr (e ∙ ap (λ n. Some (to_thread n)) (sym (((rel.processors k there).cleaning x).begun t e cleans)))
+          inr (e ∙ ap (λ n. Some (to_thread n)) (sym (((rel.processors k there).cleaning x few).begun t e cleans)))
 
 -- The visits and the end of a cleaning.
 
 -- behind the recycling of a thread object no visit of its thread's permissions is left
-visits-over : (image : Image) (x who : ℕ) (todo : Todos) → OwnRows image → thread_of_row image x ≡ Some who → AreBlocks image todo
+pub visits-over : (image : Image) (x who : ℕ) (todo : Todos) → OwnRows image → thread_of_row image x ≡ Some who → AreBlocks image todo
     → counted (is_recycle x) todo ≡ 0 → cleaned_pairs who todo ≡ ROWS
 visits-over image x who [] own at h none = refl
 visits-over image x who (Todo.clean_pair u y ∷ todo) own at h none = by (u == who) refl (visits-over image x who todo own at h.1 none)
@@ -301,7 +301,7 @@ module _ (f : Fine) (m : State) (rel : Rel f m) (calls : Calls m) (own : OwnRows
           let rows = calls.rows in
           let all = over in
           let here = mine in
-          ((rel.processors k there).cleaning x).emptied who (own x who e).0 (omega (arith, here)) y (omega (arith, l, rows, all))
+          ((rel.processors k there).cleaning x few).emptied who e (omega (arith, here)) y (omega (arith, l, rows, all))
 
   -- it may recycle it
   pub recycle-chosen : {k : ℕ} (x : ℕ) (todo : Todos) → k < f.cpus → x < ROWS → (f.processors k).todo ≡ Todo.recycle x ∷ todo

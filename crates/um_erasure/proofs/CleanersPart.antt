@@ -150,7 +150,7 @@ module _ (f : Fine) (m : State) (e : FineStep) (law : Lawful f m e) (x : ℕ) (f
       let word = leaves-word f m e law x few (FineAct.Unseen Unseen.Visit) said (λ w. refl) (λ w. refl) in
       beside f m e law x few m q todo at last vac rec (no-gain f m e law x few (ap (λ a. begins_cleaning (record e { act = a })) said)) word.0 (λ h k. word.1 ∙ k) refl
 
-  visit-is : (u : Unseen) (act : Act) → e.act ≡ FineAct.Unseen u → e.act ≡ (if is_visit e.act then FineAct.Unseen Unseen.Visit else by_me f.image p act) → e.act ≡ FineAct.Unseen Unseen.Visit
+  pub visit-is : (u : Unseen) (act : Act) → e.act ≡ FineAct.Unseen u → e.act ≡ (if is_visit e.act then FineAct.Unseen Unseen.Visit else by_me f.image p act) → e.act ≡ FineAct.Unseen Unseen.Visit
   visit-is u act said is = by (is_visit e.act) refl
     where
       by : (b : Bool) → is_visit e.act ≡ b → e.act ≡ FineAct.Unseen Unseen.Visit
@@ -371,7 +371,7 @@ module _ (f : Fine) (m : State) (e : FineStep) (law : Lawful f m e) (x : ℕ) (f
       leaves-stage q rest todo n h is refl refl refl (row-untouched f.image p (row f x) p.context.thread q (act_in e.act) shown tt).stage (gone-same p.context.thread n q rest tt)
 
   -- The object of the last step of a cleaning isn't vacated by anybody any more.
-  none-vacates : (todo : Todos) → p.todo ≡ Todo.recycle x ∷ todo → vacaters f x ≡ 0
+  pub none-vacates : (todo : Todos) → p.todo ≡ Todo.recycle x ∷ todo → vacaters f x ≡ 0
   none-vacates todo at = total-zero (λ k. counted (is_vacate x) (f.processors k).todo) f.cpus (λ k l. by k l (e.cpu == k) refl)
     where
       here : counted (is_recycle x) p.todo ≡ counted (is_recycle x) todo + 1

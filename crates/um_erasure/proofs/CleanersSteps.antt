@@ -31,7 +31,7 @@ use Rattle.um_erasure.specs.Cleaning.{CleanersAre}
 use Rattle.um_erasure.specs.Fine.{Fine, one_if, over_processors, row, row_state}
 use Rattle.um_erasure.specs.Frames.{AreFramed, Behind}
 use Rattle.um_erasure.specs.Lists.{counted, is_recycle, is_vacate}
-use Rattle.um_erasure.specs.Objects.{is_being_born, recyclers, status_of, vacaters}
+use Rattle.um_erasure.specs.Objects.{is_reserved, recyclers, status_of, vacaters}
 use Rattle.um_erasure.proofs.ListTails.{ReadsLast}
 use Rattle.um_erasure.proofs.DomainReads.{eqb-swap}
 use Rattle.um_erasure.proofs.DropSteps.{left-here}
@@ -300,7 +300,7 @@ module _ (f : Fine) (m : State) (e : FineStep) (law : Lawful f m e) (x : ℕ) (f
               claims = let c = eqb-true (row f x).claims 1 one in let w = ap (λ (v : RowWord). v.claims) word in omega (arith, w, c)
 
               status : (object_at m x).status ≡ Status.Gone
-              status = (law.rel.rows x few).status.status (settled f m law.rel x few (ap is_free q)) ∙ ap (λ t. status_of t (is_being_born f x f.cpus)) q
+              status = (law.rel.rows x few).status.status (settled f m law.rel x few (ap is_free q)) ∙ ap (λ t. status_of t (is_reserved (object_at m x).status)) q
 
               none : recyclers f x ≡ 0
               none = was.cleaner ∙ (λ i. one_if (Plain.is_gone (status i) && not (is_dying (q i))))
@@ -415,7 +415,7 @@ module _ (f : Fine) (m : State) (e : FineStep) (law : Lawful f m e) (x : ℕ) (f
               stage-was = live-is (row f x).stage live
 
               status : (object_at m x).status ≡ Status.Live
-              status = (law.rel.rows x few).status.status (settled f m law.rel x few (ap is_free stage-was)) ∙ ap (λ z. status_of z (is_being_born f x f.cpus)) stage-was
+              status = (law.rel.rows x few).status.status (settled f m law.rel x few (ap is_free stage-was)) ∙ ap (λ z. status_of z (is_reserved (object_at m x).status)) stage-was
 
               none : recyclers f x ≡ 0
               none = was.cleaner ∙ (λ i. one_if (Plain.is_gone (status i) && not (is_dying (row f x).stage)))

@@ -62,7 +62,7 @@ module _ (f : Fine) (m : State) (e : FineStep) (law : Lawful f m e) (d : ℕ) wh
   abbrev later : Fine
   later = stepped f.image f.cpus f.processors f.sites e
 
-  is-domain : f.sites (Site.domain d) ≡ SiteState.domain (domain f d)
+  pub is-domain : f.sites (Site.domain d) ≡ SiteState.domain (domain f d)
   is-domain = by (f.sites (Site.domain d)) (law.rel.sorts (Site.domain d))
     where
       by : (s : SiteState) → IsTrue (is_sort (Site.domain d) s) → s ≡ SiteState.domain (domain_state s)

@@ -98,7 +98,7 @@ module _ (f : Fine) (m : State) (e : FineStep) (law : Lawful f m e) where
       by r more (O.goes h) said =
           absurd (starts-none r more (subst (Proper m.image (thread_at m p.context.thread).checked) (sym (ap (λ (th : Thread). th.pending) of.own) ∙ h) (proper p.context.thread).0) said)
       by r more (O.passed {who} h) said =
-          absurd (starts-none r more (subst (Proper m.image (thread_at m p.context.thread).checked) (sym (ap (λ (th : Thread). th.pending) of.own) ∙ h) (proper p.context.thread).0) said)
+          absurd (starts-none r more (subst (Proper m.image (thread_at m p.context.thread).checked) (sym (ap (λ (th : Thread). th.pending) of.own) ∙ h) (proper p.context.thread).0).1 said)
       by r more (O.dropped {from} h) said =
           absurd (starts-none r more (subst (Proper m.image (thread_at m p.context.thread).checked) (sym (ap (λ (th : Thread). th.pending) of.own) ∙ h) (proper p.context.thread).0) said)
       by _ _ (O.begins none on i) said = none

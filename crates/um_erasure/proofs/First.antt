@@ -75,7 +75,8 @@ module _ (image : Image) where
     held-first t = record { held = sym (total-none cpus) }
 
     pub kept-first : (k : ℕ) → DomainKept first k
-    kept-first k = record { kept = λ h. absurd (false≢true h); moves = λ h. absurd (false≢true h) }
+    kept-first k =
+        record { kept = λ h. absurd (false≢true h); moves = λ h. absurd (false≢true h); lives = λ h. absurd (false≢true h); ends = λ h. absurd (false≢true h) }
 
     pub domains-first : (d : ℕ) → DomainIs first (opening image) d
     domains-first d =
@@ -102,6 +103,7 @@ module _ (image : Image) where
         record {
           begun = λ t h cleans. absurd (omega (arith, cleans));
           emptied = λ who h cleans. absurd (omega (arith, cleans));
+          order = refl;
           charged = λ cleans h. absurd (omega (arith, cleans));
         }
 

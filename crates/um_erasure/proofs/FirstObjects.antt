@@ -26,8 +26,8 @@ use Rattle.um_fine.specs.Processor.{kind_in, kind_of}
 use Rattle.um_fine.specs.Scheduler.{parked_at}
 use Rattle.um_erasure.specs.Fine.{one_if, over_processors, row, scheduler, total}
 use Rattle.um_erasure.specs.Claims.{ClaimsAre, call_claims, claims, context_claims, creates}
-use Rattle.um_erasure.specs.Cleaning.{CleanersAre}
-use Rattle.um_erasure.specs.Objects.{ContentsAre, PairsAre, StatusIs, is_being_born, recyclers, status_of, vacaters}
+use Rattle.um_erasure.specs.Cleaning.{CleanerIs, CleanersAre}
+use Rattle.um_erasure.specs.Objects.{ContentsAre, PairsAre, StatusIs, cell_of, empty_cell, is_reserved, recyclers, status_of, vacaters}
 use Rattle.um_erasure.specs.Resources.{HeapIs}
 use Rattle.um_erasure.specs.Threads.{occurs}
 use Rattle.um_erasure.proofs.First.{first, total-none}
@@ -109,11 +109,14 @@ not_clean _ = Unit {0}
 
 -- What is so of each object at the opening.
 record IsSet (image : Image) (x : ℕ) (o : Object) : Type 0 where
-  status : o.status ≡ status_of (stage_of o) false
+  status : o.status ≡ status_of (stage_of o) (is_reserved o.status)
   stage : (stage_of o ≡ Stage.Live) ⊎ (stage_of o ≡ Stage.Free)
+  bare : stage_of o ≡ Stage.Free → (o.init ≡ false) × (o.public ≡ false)
   gone : Plain.is_gone o.status ≡ false
   kind : o.status ≢ Status.Free → o.kind ≡ kind_of image x
   cost : o.cost ≡ None
+  cleaner : o.cleaner ≡ None
+  vacant : Plain.is_free o.status ≡ true → cell_of o ≡ empty_cell
   dynamic : length image.objects ≤ x → Plain.is_free o.status ≡ true
 
 new-object : (image : Image) (x : ℕ) → IsSet image x (object_at (opening image) x)
@@ -132,14 +135,17 @@ new-object image x =
         (record {
           status = refl;
           stage = inl refl;
+          bare = λ free. absurd (false≢true (ap is_free free));
           gone = refl;
           kind = λ free. sym (ap (λ o. kind_in o x) r.1);
           cost = refl;
+          cleaner = refl;
+          vacant = λ free. absurd (false≢true free);
           dynamic = λ past. let l = found image.objects x r.0 r.1 in absurd (omega (arith, l, past));
         })
     by (inr r) =
         subst (IsSet image x) (sym r.0)
-        (record { status = refl; stage = inr refl; gone = refl; kind = λ free. absurd (free refl); cost = refl; dynamic = λ past. refl })
+        (record { status = refl; stage = inr refl; bare = λ free. (refl, refl); gone = refl; kind = λ free. absurd (free refl); cost = refl; cleaner = refl; vacant = λ free. refl; dynamic = λ past. refl })
 
 module _ (image : Image) (cpus : ℕ) where
   none-vacates : (x : ℕ) → vacaters (first image cpus) x ≡ 0
@@ -148,23 +154,25 @@ module _ (image : Image) (cpus : ℕ) where
   none-recycles : (x : ℕ) → recyclers (first image cpus) x ≡ 0
   none-recycles x = total-none cpus
 
-  none-born : (x n : ℕ) → is_being_born (first image cpus) x n ≡ false
-  none-born x zero = refl
-  none-born x (suc n) = none-born x n
-
   pub status-first : (x : ℕ) → StatusIs (first image cpus) (opening image) x
   status-first x =
       let o = new-object image x in
       record {
-        status = λ h. o.status ∙ ap (status_of (stage_of (object_at (opening image) x))) (sym (none-born x cpus));
+        status = λ h. o.status;
         vacated = λ h. let v = none-vacates x in let r = none-recycles x in absurd (omega (arith, h, v, r));
         init = λ h. refl;
         public = λ h. refl;
+        bare = o.bare;
         kind = o.kind;
       }
 
   pub contents-first : (x : ℕ) → ContentsAre (first image cpus) (opening image) x
-  contents-first x = record { contents = λ h. refl; waiters = λ h. refl; buffer = λ h. refl }
+  contents-first x =
+      record {
+        whole = λ h. refl;
+        cleared = λ h. let r = none-recycles x in absurd (omega (arith, h, r));
+        vacant = (new-object image x).vacant;
+      }
 
   -- no row is in cleaning
   not_cleaning : (x : ℕ) → (row (first image cpus) x).stage ≡ Stage.Cleaning → ⊥
@@ -182,6 +190,9 @@ module _ (image : Image) (cpus : ℕ) where
         order = let v = none-vacates x in let r = none-recycles x in omega (arith, v, r);
         cleaner = none-recycles x ∙ sym (ap (λ b. one_if (b && not (is_dying (row (first image cpus) x).stage))) (new-object image x).gone);
       }
+
+  pub cleaner-first : (x : ℕ) → CleanerIs (first image cpus) (opening image) x
+  cleaner-first x = record { none = λ h. (new-object image x).cleaner }
 
   -- a dynamic row has no object
   pub pairs-all-first : length image.objects ≤ STATIC_ROWS → (x : ℕ) → PairsAre (first image cpus) (opening image) x

@@ -255,7 +255,7 @@ module _ (f : Fine) (m : State) (e : FineStep) (law : Lawful f m e) where
       charged =
           let here = mine-left in
           ap charge_in (sym (ap (λ (s : FineStep). s.moved) law.by.may.makes) ∙ ap (λ (z : Todos). moves f.image (maker f m e) z e.moved) at)
-          ∙ ((law.rel.processors e.cpu law.by.named).cleaning x).charged (omega (arith, here)) cleared
+          ∙ ((law.rel.processors e.cpu law.by.named).cleaning x few).charged (omega (arith, here)) cleared
 
   -- an event beside the heap that leaves what objects cost and which rows are free
 

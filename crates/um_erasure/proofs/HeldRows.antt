@@ -5,7 +5,7 @@ use Rattle.std.proofs.lemmas.Bool.{eqb-false, false≢true}
 use Rattle.um_base.specs.declared.image.Image.{Image}
 use Rattle.um_base.specs.declared.limits.TheConstants.{ROWS}
 use Rattle.um_machine.specs.Objects as Plain
-use Rattle.um_machine.specs.State.{State, thread_at}
+use Rattle.um_machine.specs.State.{State, object_at, thread_at}
 use Rattle.um_words.specs.declared.row_word.Stage.{Stage}
 use Rattle.um_words.specs.Rows.{is_dying, is_free}
 use Rattle.um_fine.specs.Places.{Todo, Todos}
@@ -13,7 +13,7 @@ use Rattle.um_erasure.specs.Fine.{Fine, one_if, row, total}
 use Rattle.um_erasure.specs.Lists.{counted, is_recycle, is_wipe, runs}
 use Rattle.um_erasure.specs.Claims.{call_claims}
 use Rattle.um_erasure.specs.Cleaning.{AreBlocks}
-use Rattle.um_erasure.specs.Objects.{is_being_born, recyclers, status_of, vacaters, wipers}
+use Rattle.um_erasure.specs.Objects.{is_reserved, recyclers, status_of, vacaters, wipers}
 use Rattle.um_erasure.specs.Offers.{is_over}
 use Rattle.um_erasure.specs.Threads.{flags_of, occurs}
 use Rattle.um_erasure.specs.Relation.{Rel}
@@ -101,13 +101,13 @@ module _ (f : Fine) (m : State) (rel : Rel f m) where
   pub claimed-kept : (x : ℕ) → x < ROWS → 0 < (row f x).claims → (vacaters f x ≡ 0) × (recyclers f x ≡ 0)
   claimed-kept x few some = by (row f x).stage refl
     where
-      none : (s : Stage) → (row f x).stage ≡ s → is_free s ≡ false → Plain.is_gone (status_of s (is_being_born f x f.cpus)) && not (is_dying s) ≡ false
+      none : (s : Stage) → (row f x).stage ≡ s → is_free s ≡ false → Plain.is_gone (status_of s (is_reserved (object_at m x).status)) && not (is_dying s) ≡ false
           → (vacaters f x ≡ 0) × (recyclers f x ≡ 0)
       none s e free gone =
           let at = settled f m rel x few (ap is_free e ∙ free) in
           let r = rel.rows x few in
           let status = r.status.status at in
-          let count : recyclers f x ≡ 0 = r.cleaners.cleaner ∙ ap one_if ((λ i. Plain.is_gone ((status ∙ ap (λ z. status_of z (is_being_born f x f.cpus)) e) i) && not (is_dying (e i))) ∙ gone) in
+          let count : recyclers f x ≡ 0 = r.cleaners.cleaner ∙ ap one_if ((λ i. Plain.is_gone ((status ∙ ap (λ z. status_of z (is_reserved (object_at m x).status)) e) i) && not (is_dying (e i))) ∙ gone) in
           (at ∙ count, count)
 
       by : (s : Stage) → (row f x).stage ≡ s → (vacaters f x ≡ 0) × (recyclers f x ≡ 0)

@@ -4,7 +4,8 @@
 -- OfVisits, PartsElsewhere, StepsLeft, RestKept),
 -- claims (ListClaims, RowClaims), what is kept beside (ListFits, ListBlocks, Kept, Quiet, Writes and the files named Kept and Written), and
 -- that events are steps of the machine where the relation holds (Says, Offered, HeldRows, Shown and the files of steps). What the machine's state is
--- known to be in a run is in the files named Known, CallSteps, CallsProper and Reachable.
+-- known to be in a run is in the files named Known, CallSteps, CallsProper and Reachable. CellSteps and Endings are what a step makes of the
+-- cell of an object, and of a thread that has ended.
 pub mod Erased
 pub mod ThreadLists
 pub mod Own
@@ -73,12 +74,27 @@ pub mod ListCounts
 pub mod CleaningFacts
 pub mod CleanersSteps
 pub mod CleanersPart
+pub mod Endings
+pub mod ContentsKept
+pub mod CellSteps
 pub mod CallsKnown
 pub mod DomainsKnown
 pub mod CallSteps
+pub mod ChildSteps
+pub mod ChildrenKnown
 pub mod CallsProper
 pub mod LawfulSteps
 pub mod SuitsKnown
+pub mod NamesKnown
+pub mod ContentsPart
+pub mod StatusKept
+pub mod StatusPart
+pub mod ChargedPart
+pub mod CleanerPart
+pub mod ListVisits
+pub mod EmptiedPart
+pub mod ReplyPart
+pub mod HeldDomainPart
 pub mod Parts
 pub mod ErasedLeft
 pub mod MemoryPart

@@ -125,7 +125,7 @@ module _ (image : Image) where
   clean-blocks : (who x : ℕ) (todo : Todos) → ((y : ℕ) × (thread_of_row image y ≡ Some who) × BeginsWith (emptying y) todo) × Are todo → Are (clean_pairs who x todo)
   clean-blocks who x todo h = elim (nat_lt x ROWS) as (λ b. Are (if b then Todo.clean_pair who x ∷ todo else todo)) [ true ↦ h | false ↦ h.1 ]
 
-  goes-blocks : (p : Processor) (e : FineStep) (todo : Todos) → Are p.todo → Are todo → Are (goes_on_by image p e todo).todo
+  pub goes-blocks : (p : Processor) (e : FineStep) (todo : Todos) → Are p.todo → Are todo → Are (goes_on_by image p e todo).todo
   goes-blocks p e [] was h = take-blocks p e.moved was
   goes-blocks p e (Todo.show q rest ∷ todo) was h = show-blocks p e q rest todo (is_word_read e.act) h
   goes-blocks p e (Todo.let_go ∷ todo) was h = filled-blocks p.context todo h

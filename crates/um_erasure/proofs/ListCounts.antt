@@ -177,7 +177,7 @@ module _ (test : Todo → Bool) (of : IsOfEmptying test) where
     clean-count who x todo =
         elim (nat_lt x ROWS) as (λ b. Count (if b then Todo.clean_pair who x ∷ todo else todo) ≡ Count todo) [ true ↦ skips (Todo.clean_pair who x) todo refl | false ↦ refl ]
 
-    goes-count : (p : Processor) (e : FineStep) (q : Todo) (todo : Todos) → Behind image q todo → ReadsLast e q todo → Count (goes_on_by image p e (q ∷ todo)).todo ≡ Count todo
+    pub goes-count : (p : Processor) (e : FineStep) (q : Todo) (todo : Todos) → Behind image q todo → ReadsLast e q todo → Count (goes_on_by image p e (q ∷ todo)).todo ≡ Count todo
     goes-count p e (Todo.show q rest) todo h last = show-count p e q rest todo (is_word_read e.act) last
     goes-count p e Todo.let_go todo h last = filled-count p.context todo
     goes-count p e (Todo.read_claim None) todo h last = unless-count (is_of (key_of (record p { version = (domain_in e.word).version })) p.table) todo

@@ -179,7 +179,7 @@ module _ {f : Fine} {m : State} {k : ℕ} {e : FineStep} {q : Pending} {rest : S
       let w = (h.rel.threads (f.processors k).context.thread own-part.index).word in
       (subst (λ x. IsTrue (is_living x)) w.life a.0, sym w.doomed ∙ a.1)
 
-leaves-rest : {f : Fine} {m : State} {k : ℕ} {e : FineStep} {rest : Steps} {todo : Todos} (q : Pending) → Shows f m k e q rest todo
+pub leaves-rest : {f : Fine} {m : State} {k : ℕ} {e : FineStep} {rest : Steps} {todo : Todos} (q : Pending) → Shows f m k e q rest todo
     → LeavesRest (thread_at m (f.processors k).context.thread) q
 leaves-rest {f} {m} {k} Pending.Begin h =
     let t = (f.processors k).context.thread in

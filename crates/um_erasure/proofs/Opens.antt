@@ -7,7 +7,7 @@ use Rattle.um_base.specs.declared.limits.TheConstants.{STATIC_ROWS}
 use Rattle.um_machine.specs.Run.{opening}
 use Rattle.um_erasure.specs.Relation.{Rel}
 use Rattle.um_erasure.proofs.First.{blocks-first, cleaning-first, domains-first, first, held-first, kept-first, lists-first, looks-first, memory-first, running-first, sorts-along, tables-first, words-first}
-use Rattle.um_erasure.proofs.FirstObjects.{OwnStands, claims-first, cleaners-first, contents-first, heap-first, opening-image, pairs-all-first, status-first}
+use Rattle.um_erasure.proofs.FirstObjects.{OwnStands, claims-first, cleaner-first, cleaners-first, contents-first, heap-first, opening-image, pairs-all-first, status-first}
 use Rattle.um_erasure.proofs.FirstReady.{OneEach, ready-first}
 use Rattle.um_erasure.proofs.FirstThreads.{away-first, contexts-first, dues-first, scheduler-first, told-first}
 
@@ -28,6 +28,7 @@ opens image cpus few one stands =
             contents = contents-first image cpus x;
             claims = claims-first image cpus stands x;
             cleaners = cleaners-first image cpus x;
+            cleaner = cleaner-first image cpus x;
           };
       domains = λ d l. domains-first image cpus d;
       processors = λ k l.
@@ -40,7 +41,7 @@ opens image cpus few one stands =
             blocks = blocks-first image cpus k;
             frames = tt;
             rows = λ i. true;
-            cleaning = λ x. cleaning-first image cpus k x;
+            cleaning = λ x few. cleaning-first image cpus k x;
           };
       memory = memory-first image cpus;
       heap = heap-first image cpus few;

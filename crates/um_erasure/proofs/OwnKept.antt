@@ -30,7 +30,7 @@ use Rattle.um_fine.specs.Asks.{amount, caller, me, moves, readable, shows}
 use Rattle.um_fine.specs.Context.{Context, as_thread}
 use Rattle.um_fine.specs.Continues.{continues}
 use Rattle.um_fine.specs.Memory.{read, text_bytes}
-use Rattle.um_fine.specs.Objects.{outcome_of, work_on}
+use Rattle.um_fine.specs.Objects.{ObjectCell, outcome_of, work_on}
 use Rattle.um_fine.specs.Places.{Todo, Todos}
 use Rattle.um_fine.specs.Processor.{Processor}
 use Rattle.um_fine.specs.Sites.{SiteState, site_moves}
@@ -113,7 +113,7 @@ module _ {f : Fine} {m : State} {k : ℕ} {e : FineStep} {rest : Steps} {todo : 
       let whole = claimed-whole f m h.rel x few claimed in
       let contents = (h.rel.rows x few).contents in
       let own = (own-part h).own in
-      let same = work-agrees m p.context.thread x a ask (object f x) p.context (sym (named-row f m h.rel a)) (contents.contents whole) (contents.waiters whole)
+      let same = work-agrees m p.context.thread x a ask (object f x) p.context (sym (named-row f m h.rel a)) (ap (λ (z : ObjectCell). z.contents) (contents.whole whole)) (ap (λ (z : ObjectCell). z.waiters) (contents.whole whole))
       (ap (λ (z : Thread). z.priority) own) (ap (λ (z : Thread). z.buffer) own) in
       sym (ap outcome_in here) ∙ ap outcome_of (ap (λ z. work_on (object f x) z) moved ∙ same)
 

@@ -29,7 +29,7 @@ use Rattle.um_fine.specs.Sites.{SiteState, s_next, same_site, site_after, site_t
 use Rattle.um_fine.specs.Steps.{FineStep, Site}
 use Rattle.um_fine.proofs.Keys.{same-sound}
 use Rattle.um_erasure.specs.Fine.{Fine, row, row_state}
-use Rattle.um_erasure.specs.Objects.{PairsAre, is_being_born, status_of}
+use Rattle.um_erasure.specs.Objects.{PairsAre, is_reserved, status_of}
 use Rattle.um_erasure.proofs.Erased.{stepped}
 use Rattle.um_erasure.proofs.Leaves.{Lawful, Leaves, cleans, drops, event, mine, nothing, passes, recycles, resumes}
 use Rattle.um_erasure.proofs.ObjectsKept.{born-reserved, unlived-dynamic, unlived-none}
@@ -203,7 +203,7 @@ module _ (f : Fine) (m : State) (e : FineStep) (law : Lawful f m e) (x : ℕ) (f
       }
   quiet-has Unseen.Vacate h =
       let stage = cleaning-is (row f x).stage (and_parts _ _ h).0 in
-      let status = (law.rel.rows x few).status.status (settled f m law.rel x few (ap is_free stage)) ∙ ap (λ s. status_of s (is_being_born f x f.cpus)) stage in
+      let status = (law.rel.rows x few).status.status (settled f m law.rel x few (ap is_free stage)) ∙ ap (λ s. status_of s (is_reserved (object_at m x).status)) stage in
       record {
         pairs = sym (unlived-none m law.sound x few (ap Plain.is_live status));
         dynamic = sym (by (nat_le STATIC_ROWS x));

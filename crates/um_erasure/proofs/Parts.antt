@@ -1,5 +1,5 @@
 -- Every lawful step keeps the relation, where it keeps the parts of it that are still to be proved: the other parts are kept.
-use Rattle.std.proofs.Common.{sym, subst, ◌≡◌, ℕ, ◌<◌, refl, ◌∙◌}
+use Rattle.std.proofs.Common.{sym, subst, ◌≡◌, ℕ, ◌<◌, length, refl, ◌∙◌}
 use Rattle.um_base.specs.declared.image.Image.{Image}
 use Rattle.um_base.specs.declared.limits.TheConstants.{ROWS, THREADS}
 use Rattle.um_base.specs.Lawful.{IsLawful}
@@ -14,24 +14,29 @@ use Rattle.um_reach.proofs.Turns.{IsKnown}
 use Rattle.um_reach.specs.Described.{IsDescribed}
 use Rattle.um_fine.specs.Steps.{FineStep}
 use Rattle.um_erasure.specs.Claims.{ClaimsAre}
-use Rattle.um_erasure.specs.Cleaning.{CleaningIs}
 use Rattle.um_erasure.specs.Dues.{DuesAre}
 use Rattle.um_erasure.specs.Fine.{Fine}
-use Rattle.um_erasure.specs.Looks.{LooksAre}
-use Rattle.um_erasure.specs.Objects.{ContentsAre, StatusIs}
+use Rattle.um_erasure.specs.Looks.{IsSized}
 use Rattle.um_erasure.specs.Relation.{Rel}
-use Rattle.um_erasure.specs.Threads.{ContextsAre, DomainKept, ToldIs}
+use Rattle.um_erasure.specs.Threads.{ContextsAre, ToldIs}
+use Rattle.um_erasure.proofs.ChargedPart.{charged-part, order-part}
+use Rattle.um_erasure.proofs.CleanerPart.{begun-part, cleaner-part}
+use Rattle.um_erasure.proofs.CleanersPart.{cleaners-part}
+use Rattle.um_erasure.proofs.CleanSteps.{OwnRows}
+use Rattle.um_erasure.proofs.ContentsPart.{NamesHeld, contents-part}
+use Rattle.um_erasure.proofs.DomainPart.{domain-part}
+use Rattle.um_erasure.proofs.DomainsKnown.{started-placed}
+use Rattle.um_erasure.proofs.EmptiedPart.{GivesHeld, emptied-part}
+use Rattle.um_erasure.proofs.Erased.{IsReachable, Keeps, fine, stepped}
 use Rattle.um_erasure.proofs.AwayPart.{away-part}
 use Rattle.um_erasure.proofs.CallsKnown.{RestsHoldNothing, own-known}
 use Rattle.um_erasure.proofs.CallsProper.{AreProper}
-use Rattle.um_erasure.proofs.CleanersPart.{cleaners-part}
 use Rattle.um_erasure.proofs.ContextsPart.{added-field, parked-field, running-field}
-use Rattle.um_erasure.proofs.DomainPart.{domain-part}
-use Rattle.um_erasure.proofs.DomainsKnown.{started-placed}
 use Rattle.um_erasure.proofs.DonePart.{done-part}
 use Rattle.um_erasure.proofs.Erased.{IsReachable, Keeps, fine, reach-on, stepped}
 use Rattle.um_erasure.proofs.FirstObjects.{opening-image}
 use Rattle.um_erasure.proofs.HeapPart.{heap-part}
+use Rattle.um_erasure.proofs.HeldDomainPart.{held-domain-part}
 use Rattle.um_erasure.proofs.HeldPart.{held-part}
 use Rattle.um_erasure.proofs.Kept.{lists-kept, sorts-kept}
 use Rattle.um_erasure.proofs.LawfulSteps.{Suits, lawful-next}
@@ -39,13 +44,16 @@ use Rattle.um_erasure.proofs.Leaves.{HasStep, Lawful, Leaves, cleans, drops, eve
 use Rattle.um_erasure.proofs.ListBlocks.{blocks-kept}
 use Rattle.um_erasure.proofs.ListFrames.{frames-kept}
 use Rattle.um_erasure.proofs.MemoryPart.{InDomains, memory-part}
+use Rattle.um_erasure.proofs.NamesKnown.{gives-known, moves-known, names-known}
 use Rattle.um_erasure.proofs.OncePart.{once-part}
 use Rattle.um_erasure.proofs.PairsPart.{pairs-part}
 use Rattle.um_erasure.proofs.Reachable.{Any, makes-any, reachable-sound}
 use Rattle.um_erasure.proofs.ReadyPart.{ready-part}
+use Rattle.um_erasure.proofs.ReplyPart.{MovesIn, reply-part}
 use Rattle.um_erasure.proofs.RowsPart.{rows-part}
 use Rattle.um_erasure.proofs.RunningPart.{running-part}
 use Rattle.um_erasure.proofs.SchedulerPart.{scheduler-part}
+use Rattle.um_erasure.proofs.StatusPart.{status-part}
 use Rattle.um_erasure.proofs.SuitsKnown.{proper-known, rests-known, suits-known}
 use Rattle.um_erasure.proofs.TablePart.{table-part}
 use Rattle.um_erasure.proofs.WordsPart.{words-part}
@@ -54,13 +62,9 @@ use Rattle.um_erasure.proofs.Writes.{Keeping, after-kept, bytes-kept}
 -- The parts of the relation that are still to be kept.
 pub record IsLeft (g : Fine) (s : State) : Type 0 where
   pub told : (t : ℕ) → t < THREADS → ToldIs g s t
-  pub status : (x : ℕ) → x < ROWS → StatusIs g s x
-  pub contents : (x : ℕ) → x < ROWS → ContentsAre g s x
   pub claims : (x : ℕ) → x < ROWS → ClaimsAre g s x
-  pub domain : (k : ℕ) → k < g.cpus → DomainKept g k
   pub dues : (k : ℕ) → k < g.cpus → DuesAre g s k
-  pub looks : (k : ℕ) → k < g.cpus → LooksAre g s k
-  pub cleaning : (k : ℕ) → k < g.cpus → (x : ℕ) → CleaningIs g s k x
+  pub sizes : (k : ℕ) → k < g.cpus → IsSized g s k
 
 -- No step changes the image.
 
@@ -109,8 +113,9 @@ module _ (f : Fine) (m : State) (e : FineStep) (law : Lawful f m e) where
       }
 
   -- the relation holds after the step where what is left of it does
-  pub related : InDomains f m → Suits f m → IsLawful m.image → AreProper m.image m → (s : State) (leaves : Leaves f m e s) → HasStep f m e s leaves → RestsHoldNothing s → IsLeft later s → Rel later s
-  related all suits lawful proper s leaves has rests left =
+  pub related : OwnRows f.image → InDomains f m → Suits f m → IsLawful m.image → AreProper m.image m → NamesHeld m → GivesHeld m → MovesIn m (length f.image.domains)
+      → (s : State) (leaves : Leaves f m e s) → HasStep f m e s leaves → RestsHoldNothing s → IsLeft later s → Rel later s
+  related own all suits lawful proper names gives moves s leaves has rests left =
       record {
         image = image-part s leaves;
         sorts = sorts-kept f.image f.sites e law.rel.sorts;
@@ -120,19 +125,25 @@ module _ (f : Fine) (m : State) (e : FineStep) (law : Lawful f m e) where
         threads = λ t l.
             record { word = words-part f m e law t l s leaves; away = away-part f m e law suits all s leaves has t l; told = left.told t l; held = held-part f m e law t l; ready = ready-part f m e law suits.tells t l };
         rows = λ x l.
-            record { pairs = pairs-part f m e law x l s leaves; status = left.status x l; contents = left.contents x l; claims = left.claims x l; cleaners = cleaners-part f m e law x l s leaves };
+            record { pairs = pairs-part f m e law x l s leaves; status = status-part f m e law x l s leaves; contents = contents-part f m e law suits names x l s leaves; claims = left.claims x l; cleaners = cleaners-part f m e law x l s leaves; cleaner = cleaner-part f m e law x l own s leaves };
         domains = λ d l. domain-part f m e law d l s leaves;
         processors = λ k l.
             record {
               list = lists-kept f m law.rel e law.by.may law.taken k l;
-              domain = left.domain k l;
+              domain = held-domain-part f m e law s leaves k l;
               dues = left.dues k l;
               table = table-part f m e law all s leaves k l;
-              looks = left.looks k l;
+              looks = record { size = left.sizes k l; reply = λ d. reply-part f m e law moves s leaves k d l };
               blocks = blocks-kept f m law.rel e k l;
               frames = frames-kept f m law.rel e k l;
               rows = rows-part f m e law k l;
-              cleaning = left.cleaning k l;
+              cleaning = λ x few.
+                  record {
+                    begun = begun-part f m e law x few own s leaves k l;
+                    emptied = λ who thread. emptied-part f m e law gives own x few who thread s leaves k l;
+                    order = order-part f m e law x few k l;
+                    charged = charged-part f m e law x few suits s leaves k l;
+                  };
             };
         memory = memory-part f m e law all s leaves;
         heap = heap-part f m e law s leaves;
@@ -154,4 +165,5 @@ keeps-all image cpus described known left ps ss m e rel reach by taken =
     let lawful = subst IsLawful (sym rel.image) described.lawful in
     let proper = proper-known image cpus described known m reach in
     let rests = rests-known image cpus described known next.state (reach-on image cpus m next.state e.act reach next.goes) in
-    (next.state, next.goes, related f m e law all suits lawful proper next.state next.leaves next.has rests (left.parts f m e refl refl reach law suits next.state next.leaves))
+    let moves = subst (λ (i : Image). MovesIn m (length i.domains)) rel.image (moves-known image cpus described known m reach) in
+    (next.state, next.goes, related f m e law own all suits lawful proper (names-known image cpus described known m reach) (gives-known image cpus described known m reach) moves next.state next.leaves next.has rests (left.parts f m e refl refl reach law suits next.state next.leaves))

@@ -34,7 +34,7 @@ use Rattle.um_fine.specs.Places.{Todos}
 use Rattle.um_fine.specs.Processor.{kind_of}
 use Rattle.um_fine.specs.Asks.{check_site, fits_kind, shows}
 use Rattle.um_erasure.specs.Fine.{Fine, row, row_state, thread_state}
-use Rattle.um_erasure.specs.Objects.{is_being_born, recyclers, vacaters}
+use Rattle.um_erasure.specs.Objects.{is_reserved, recyclers, vacaters}
 use Rattle.um_erasure.specs.Relation.{Rel}
 use Rattle.um_erasure.proofs.Offered.{IsStep, Shows, act-is, machine-step, own-part, says-at, site-is, takes-at}
 use Rattle.um_erasure.proofs.Says.{Stands, given-agrees, set-agrees, verdict-agrees}
@@ -85,7 +85,7 @@ module _ (f : Fine) (m : State) (rel : Rel f m) where
       by (inr less) = absurd (true≢false (sym (ap is_free ((rel.rows x few).status.vacated less).0) ∙ h))
 
   -- its word stands for the object
-  pub stands-at : (x : ℕ) → x < ROWS → vacaters f x ≡ recyclers f x → Stands m x (is_being_born f x f.cpus) (row f x)
+  pub stands-at : (x : ℕ) → x < ROWS → vacaters f x ≡ recyclers f x → Stands m x (is_reserved (object_at m x).status) (row f x)
   stands-at x few at =
       let r = rel.rows x few in
       record {
@@ -96,7 +96,7 @@ module _ (f : Fine) (m : State) (rel : Rel f m) where
         kind = λ free. r.status.kind free ∙ ap (λ (i : Image). kind_of i x) (sym rel.image);
       }
 
-  pub stands : (x : ℕ) → x < ROWS → is_free (row f x).stage ≡ false → Stands m x (is_being_born f x f.cpus) (row f x)
+  pub stands : (x : ℕ) → x < ROWS → is_free (row f x).stage ≡ false → Stands m x (is_reserved (object_at m x).status) (row f x)
   stands x few h = stands-at x few (settled x few h)
 
   not-free : (x : ℕ) → is_free (row f x).stage ≡ false → (row f x).stage ≢ Stage.Free

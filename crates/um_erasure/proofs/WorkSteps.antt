@@ -20,7 +20,7 @@ use Rattle.um_machine.specs.Table as T
 use Rattle.um_fine.specs.Addresses.{row_named}
 use Rattle.um_fine.specs.Answers.{act_in, answer_in, caller_in, outcome_in, woken_in}
 use Rattle.um_fine.specs.Cells.{Cell}
-use Rattle.um_fine.specs.Objects.{work_on}
+use Rattle.um_fine.specs.Objects.{ObjectCell, work_on}
 use Rattle.um_fine.specs.Steps.{Exchange, FineStep, Site}
 use Rattle.um_fine.specs.Sites.{SiteState, is_sort, site_answers}
 use Rattle.um_fine.specs.Places.{Todo, Todos}
@@ -58,7 +58,7 @@ module _ {f : Fine} {m : State} {k : ℕ} {e : FineStep} {rest : Steps} {todo : 
       let whole = claimed-whole f m h.rel x few (checked-claimed f m h.rel k x h.there few (ap has_steps h.at) (shown-on h) held) in
       let contents = (h.rel.rows x few).contents in
       let own = (own-part h).own in
-      let same = work-agrees m p.context.thread x a ask (object f x) p.context (sym (named-row f m h.rel a)) (contents.contents whole) (contents.waiters whole)
+      let same = work-agrees m p.context.thread x a ask (object f x) p.context (sym (named-row f m h.rel a)) (ap (λ (z : ObjectCell). z.contents) (contents.whole whole)) (ap (λ (z : ObjectCell). z.waiters) (contents.whole whole))
       (ap (λ (z : Thread). z.priority) own) (ap (λ (z : Thread). z.buffer) own) in
       machine-step h 0 (act-is h) tt
       (sym says ∙ ap (worked a) (ap (λ z. acted (object f x).contents (object f x).waiters (caller_in z)) moved ∙ same))

@@ -43,6 +43,12 @@ abbrev pub is_wipe : ℕ → Todo → Bool
 is_wipe x (Todo.wipe y) = x == y
 is_wipe x _ = false
 
+-- the cell of this object was cleared, and the rest of its cleaning comes next
+abbrev pub is_cleared : ℕ → Todos → Bool
+is_cleared x (Todo.vacate y ∷ todo) = x == y
+is_cleared x (Todo.recycle y ∷ todo) = x == y
+is_cleared x todo = false
+
 abbrev pub is_wake : ℕ → Todo → Bool
 is_wake t (Todo.wake who told) = who == t
 is_wake t _ = false

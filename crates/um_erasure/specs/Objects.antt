@@ -1,17 +1,17 @@
 -- Objects: permissions, status, marks, contents.
-use Rattle.std.specs.Prelude.{◌≡◌, ◌≢◌, ℕ, zero, suc, ◌<◌, Bool, false, ◌==◌, ◌&&◌, ◌||◌, not, nat_le, if◌then◌else◌, [], ◌∷◌, slice_index_or}
-use Rattle.um_base.specs.declared.image.Image.{Image}
+use Rattle.std.specs.Prelude.{◌≡◌, ◌≢◌, ℕ, ◌<◌, Bool, true, false, ◌&&◌, not, nat_le, if◌then◌else◌, [], None, slice_index_or}
 use Rattle.um_base.specs.declared.limits.TheConstants.{STATIC_ROWS}
+use Rattle.um_machine.specs.declared.contents.Contents.TheVariants as Contents
+use Rattle.um_machine.specs.declared.object.Object.{Object}
 use Rattle.um_machine.specs.declared.object.Status.{Status}
-use Rattle.um_machine.specs.declared.pending.Pending.{Pending}
-use Rattle.um_machine.specs.Order.{Steps}
+use Rattle.um_machine.specs.Objects as Plain
 use Rattle.um_machine.specs.State.{State, object_at}
 use Rattle.um_words.specs.declared.row_word.Stage.{Stage}
 use Rattle.um_words.specs.Rows.{is_free}
-use Rattle.um_fine.specs.Addresses.{row_named}
+use Rattle.um_fine.specs.Objects.{ObjectCell}
 use Rattle.um_fine.specs.Processor.{kind_of}
 use Rattle.um_erasure.specs.Fine.{Fine, object, over_processors, row}
-use Rattle.um_erasure.specs.Lists.{counted, is_recycle, is_vacate, is_wipe, runs}
+use Rattle.um_erasure.specs.Lists.{counted, is_recycle, is_vacate, is_wipe}
 
 -- The permissions in the word are the machine's pairs. It is marked as dynamic while an object stands at a dynamic address.
 pub record PairsAre (f : Fine) (m : State) (x : ℕ) : Type 0 where
@@ -28,31 +28,36 @@ vacaters f x = over_processors f (λ p. counted (is_vacate x) p.todo)
 abbrev pub wipers : Fine → ℕ → ℕ
 wipers f x = over_processors f (λ p. counted (is_wipe x) p.todo)
 
--- a thread that took the address of this row lets its object stand next
-abbrev pub gives_birth : Image → ℕ → Steps → Bool
-gives_birth image x (Pending.Born a ∷ rest) = row_named image a == x
-gives_birth image x _ = false
+abbrev pub is_reserved : Status → Bool
+is_reserved Status.Reserved = true
+is_reserved _ = false
 
-abbrev pub is_being_born : Fine → ℕ → ℕ → Bool
-is_being_born f x zero = false
-is_being_born f x (suc k) = (runs (f.processors k) && gives_birth f.image x (f.processors k).context.pending) || is_being_born f x k
-
+-- the status of an object by the stage of its row: a free row has none, or a reserved one
 abbrev pub status_of : Stage → Bool → Status
-status_of Stage.Live birth = Status.Live
-status_of Stage.Dying birth = Status.Gone
-status_of Stage.Cleaning birth = Status.Gone
-status_of Stage.Free birth = if birth then Status.Reserved else Status.Free
+status_of Stage.Live reserved = Status.Live
+status_of Stage.Dying reserved = Status.Gone
+status_of Stage.Cleaning reserved = Status.Gone
+status_of Stage.Free reserved = if reserved then Status.Reserved else Status.Free
 
--- The word says what the object is. Between its `vacate` and its `recycle` the row is free, and the object still gone.
+-- The word says what the object is; whether a free row has one that is reserved, the heap says. Between its `vacate` and its `recycle` the row
+-- is free, and the object still gone. A free row has no marks.
 pub record StatusIs (f : Fine) (m : State) (x : ℕ) : Type 0 where
-  pub status : vacaters f x ≡ recyclers f x → (object_at m x).status ≡ status_of (row f x).stage (is_being_born f x f.cpus)
+  pub status : vacaters f x ≡ recyclers f x → (object_at m x).status ≡ status_of (row f x).stage (is_reserved (object_at m x).status)
   pub vacated : vacaters f x < recyclers f x → ((row f x).stage ≡ Stage.Free) × ((object_at m x).status ≡ Status.Gone)
   pub init : vacaters f x ≡ recyclers f x → (row f x).init ≡ (object_at m x).init
   pub public : vacaters f x ≡ recyclers f x → (row f x).public ≡ (object_at m x).public
+  pub bare : (row f x).stage ≡ Stage.Free → ((row f x).init ≡ false) × ((row f x).public ≡ false)
   pub kind : (object_at m x).status ≢ Status.Free → (object_at m x).kind ≡ kind_of f.image x
 
--- The cell has the object's contents, but between its clearing and its `recycle`.
+-- what the cell of an object keeps, and that of a row without one
+abbrev pub cell_of : Object → ObjectCell
+cell_of o = record { contents = o.contents; waiters = o.waiters; buffer = o.buffer }
+
+abbrev pub empty_cell : ObjectCell
+empty_cell = record { contents = Contents.Nothing; waiters = []; buffer = None }
+
+-- The cell has the object's contents. Between its clearing and its `recycle` it is empty, and so it is where no object stands.
 pub record ContentsAre (f : Fine) (m : State) (x : ℕ) : Type 0 where
-  pub contents : wipers f x ≡ recyclers f x → (object f x).contents ≡ (object_at m x).contents
-  pub waiters : wipers f x ≡ recyclers f x → (object f x).waiters ≡ (object_at m x).waiters
-  pub buffer : wipers f x ≡ recyclers f x → (object f x).buffer ≡ (object_at m x).buffer
+  pub whole : wipers f x ≡ recyclers f x → object f x ≡ cell_of (object_at m x)
+  pub cleared : wipers f x < recyclers f x → object f x ≡ empty_cell
+  pub vacant : Plain.is_free (object_at m x).status ≡ true → object f x ≡ empty_cell

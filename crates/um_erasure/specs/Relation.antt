@@ -11,7 +11,7 @@ use Rattle.um_erasure.specs.Lists.{names_row}
 use Rattle.um_erasure.specs.Threads.{AwayIs, ContextsAre, DomainKept, HeldIs, ReadyIs, RunningIs, SchedulerIs, ToldIs, WordIs}
 use Rattle.um_erasure.specs.Claims.{ClaimsAre}
 use Rattle.um_erasure.specs.Objects.{ContentsAre, PairsAre, StatusIs}
-use Rattle.um_erasure.specs.Cleaning.{AreBlocks, CleanersAre, CleaningIs}
+use Rattle.um_erasure.specs.Cleaning.{AreBlocks, CleanerIs, CleanersAre, CleaningIs}
 use Rattle.um_erasure.specs.Dues.{DuesAre}
 use Rattle.um_erasure.specs.Looks.{LooksAre}
 use Rattle.um_erasure.specs.Frames.{AreFramed}
@@ -34,6 +34,7 @@ pub record RowIs (f : Fine) (m : State) (x : ℕ) : Type 0 where
   pub contents : ContentsAre f m x
   pub claims : ClaimsAre f m x
   pub cleaners : CleanersAre f m x
+  pub cleaner : CleanerIs f m x
 
 -- of each processor
 pub record ProcessorIs (f : Fine) (m : State) (k : ℕ) : Type 0 where
@@ -45,7 +46,7 @@ pub record ProcessorIs (f : Fine) (m : State) (k : ℕ) : Type 0 where
   pub blocks : AreBlocks f.image (f.processors k).todo
   pub frames : AreFramed f.image (f.processors k).todo
   pub rows : list_all names_row (f.processors k).todo ≡ true
-  pub cleaning : (x : ℕ) → CleaningIs f m k x
+  pub cleaning : (x : ℕ) → x < ROWS → CleaningIs f m k x
 
 pub record Rel (f : Fine) (m : State) : Type 0 where
   pub image : m.image ≡ f.image

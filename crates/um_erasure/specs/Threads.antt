@@ -5,6 +5,7 @@ use Rattle.um_base.specs.declared.ask.Told.{Told}
 use Rattle.um_base.specs.declared.limits.TheConstants.{ROWS, THREADS}
 use Rattle.um_machine.specs.declared.thread.Life.{Life}
 use Rattle.um_machine.specs.declared.thread.Thread.{Thread}
+use Rattle.um_machine.specs.declared.pending.Pending.{Pending}
 use Rattle.um_machine.specs.State.{State, is_started, nobody, no_rows, thread_at}
 use Rattle.um_fine.specs.Context.{Context, as_thread}
 use Rattle.um_fine.specs.Scheduler.{parked_at, told_at, waits}
@@ -104,11 +105,20 @@ pub record ToldIs (f : Fine) (m : State) (t : ℕ) : Type 0 where
 pub record HeldIs (f : Fine) (t : ℕ) : Type 0 where
   pub held : one_if (word f t).held ≡ over_processors f (λ p. one_if (runs_thread t p && has_held p))
 
+-- what a thread does after its end
+abbrev pub is_ending : Pending → Bool
+is_ending (Pending.Drops from) = true
+is_ending (Pending.ClearInit a) = true
+is_ending (Pending.Dooms from) = true
+is_ending q = false
+
 -- A processor that holds its thread has that one's domain; and what it was told of a domain to which its thread moves is no error while it
--- has still to end the claim.
+-- has still to end the claim. A thread that has ended, or dooms all, has only the steps of that left, and isn't held.
 pub record DomainKept (f : Fine) (k : ℕ) : Type 0 where
   pub kept : has_held (f.processors k) ≡ true → (f.processors k).domain ≡ (word f (f.processors k).context.thread).domain
   pub moves : list_any is_move_done (f.processors k).todo ≡ true → fails (f.processors k).reply ≡ false
+  pub lives : has_held (f.processors k) ≡ true → (f.processors k).context.ended ≡ false
+  pub ends : (f.processors k).context.ended ≡ true → list_all is_ending (f.processors k).context.pending ≡ true
 
 -- how often a number stands in a list
 abbrev pub occurs : ℕ → List ℕ → ℕ

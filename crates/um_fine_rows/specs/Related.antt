@@ -7,6 +7,7 @@ use Rattle.um_base.specs.declared.limits.TheConstants.{ROWS, STATIC_ROWS, THREAD
 use Rattle.um_base.specs.declared.names.Addr.{Addr}
 use Rattle.um_base.specs.Places.{own_row, thread_of_row}
 use Rattle.um_base.specs.Regions.{Partitions}
+use Rattle.um_machine.specs.declared.contents.Contents.{Contents}
 use Rattle.um_machine.specs.declared.object.Cost.{Cost}
 use Rattle.um_machine.specs.declared.object.Status.{Status}
 use Rattle.um_machine.specs.declared.thread.Life.{Life}
@@ -25,15 +26,16 @@ use Rattle.um_fine.specs.Addresses.{row_named}
 use Rattle.um_fine.specs.Context.{Context}
 use Rattle.um_fine.specs.Steps.{FineStep}
 use Rattle.um_fine.specs.Heap.{cost_at}
+use Rattle.um_fine.specs.Objects.{ObjectCell}
 use Rattle.um_fine.specs.Scheduler.{parked_at, told_at}
 use Rattle.um_fine.specs.Places.{Todo, Todos}
 use Rattle.um_fine.specs.Processor.{Processor, edit_of, fails, key_of, same_key}
 use Rattle.um_erasure.specs.Fine.{Fine, domain, heap, object, one_if, over_processors, parts, row, scheduler, word}
-use Rattle.um_erasure.specs.Lists.{cleaned_pairs, counted, edited, edits, edits_step, has_claimed, has_held, has_loaded, has_steps, is_done, is_move_done, is_recycle, is_wipe, looked, moving, names_row, runs, runs_thread, visited}
+use Rattle.um_erasure.specs.Lists.{cleaned_pairs, counted, edited, edits, edits_step, has_claimed, has_held, has_loaded, has_steps, is_cleared, is_done, is_move_done, is_recycle, is_wipe, looked, moving, names_row, runs, runs_thread, visited}
 use Rattle.um_erasure.specs.Offers.{is_over}
-use Rattle.um_erasure.specs.Threads.{flags_of, is_ended, is_ready_there, occurs, places, tellers, told_by}
+use Rattle.um_erasure.specs.Threads.{flags_of, is_ended, is_ending, is_ready_there, occurs, places, tellers, told_by}
 use Rattle.um_erasure.specs.Claims.{claims}
-use Rattle.um_erasure.specs.Objects.{is_being_born, recyclers, status_of, vacaters, wipers}
+use Rattle.um_erasure.specs.Objects.{is_reserved, recyclers, status_of, vacaters, wipers}
 use Rattle.um_erasure.specs.Dues.{is_visiting}
 use Rattle.um_erasure.specs.Domains.{reads}
 use Rattle.um_rows.specs.Evaluate.{Choice, Offer, numbers, offered}
@@ -79,6 +81,13 @@ abbrev pub same_cost : Option Cost → Option Cost → Bool
 same_cost None None = true
 same_cost (Some a) (Some b) = a.pool == b.pool && a.bytes == b.bytes
 same_cost _ _ = false
+
+abbrev pub is_nothing : Contents → Bool
+is_nothing Contents.Nothing = true
+is_nothing contents = false
+
+abbrev pub is_empty : ObjectCell → Bool
+is_empty o = is_nothing o.contents && length o.waiters == 0 && not (is_some o.buffer)
 
 abbrev pub parts_length : Option Partitions → ℕ
 parts_length None = 0
@@ -147,9 +156,11 @@ module _ (n : Tested) (f : Fine) (m : State) where
       same_bools v.permissions (slice_index_or m.pairs x [])
       && same_bool v.dynamic (nat_le STATIC_ROWS x && not (stage_number v.stage == 0))
       && implies (vacating == recycling)
-      (status_number o.status == status_number (status_of v.stage (is_being_born f x n.cpus)) && same_bool v.init o.init && same_bool v.public o.public)
+      (status_number o.status == status_number (status_of v.stage (is_reserved o.status)) && same_bool v.init o.init && same_bool v.public o.public)
       && implies (nat_lt vacating recycling) (stage_number v.stage == 0 && is_gone o.status)
       && implies (wipers f x == recycling) (length (object f x).waiters == length o.waiters && same_cost (object f x).buffer o.buffer)
+      && implies (nat_lt (wipers f x) recycling || is_free o.status) (is_empty (object f x))
+      && implies (stage_number v.stage == 0) (not v.init && not v.public)
       && same_cost (cost_at (heap f) x) o.cost
       && same_bool (slice_index_or (heap f).free x false) (nat_le STATIC_ROWS x && is_free o.status)
 
@@ -175,6 +186,8 @@ module _ (n : Tested) (f : Fine) (m : State) where
       && nat_le (vacaters f x) (recyclers f x) && nat_le (wipers f x) (vacaters f x)
       && recyclers f x == one_if (is_gone o.status && not (is_dying v.stage))
       && begun_by x
+      && implies (recyclers f x == 0) (not (is_some o.cleaner))
+      && list_all (λ k. let todo = (f.processors k).todo in counted (is_recycle x) todo == counted (is_wipe x) todo + one_if (is_cleared x todo)) cpus
       && list_all (λ k. implies (cleans_it x k && counted (is_wipe x) (f.processors k).todo == 0) (same_cost (f.processors k).charge o.buffer)) cpus
       && emptied x (thread_of_row f.image x)
 
@@ -268,6 +281,8 @@ module _ (n : Tested) (f : Fine) (m : State) where
       && list_all (is_others (own_row f.image p.context.thread)) p.todo && size_is p (looked p.todo) && reply_is p (moving p.todo)
       && implies (has_held p) (p.domain == (word f p.context.thread).domain)
       && implies (list_any is_move_done p.todo) (not (fails p.reply))
+      && implies (has_held p) (not p.context.ended)
+      && implies p.context.ended (list_all is_ending p.context.pending)
       && implies (has_claimed p) (p.version == (domain f p.domain).version)
       && table_stands p.table
       && implies (has_loaded p) (table_loaded p p.table)

@@ -1,0 +1,217 @@
+-- What a thread does after its end: only the steps of that are left, none of which holds it.
+use Rattle.std.proofs.Common.{◌≡◌, ℕ, ◌+◌, Bool, true, false, List, [], ◌∷◌, Option, Some, None, refl, sym, ap, ◌∙◌, subst}
+use Rattle.std.specs.Prelude.{◌==◌, if◌then◌else◌, nat_lt}
+use Rattle.std.specs.List.{list_all}
+use Rattle.std.proofs.lemmas.Bool.{and_parts, false≢true, true≢false}
+use Rattle.um_base.specs.declared.act.Act.{Act}
+use Rattle.um_base.specs.declared.act.Answer.{Answer}
+use Rattle.um_base.specs.declared.act.Found.{Found}
+use Rattle.um_base.specs.declared.act.SetSaid.{SetSaid}
+use Rattle.um_base.specs.declared.ask.Ask.{Ask}
+use Rattle.um_base.specs.declared.ask.Told.{Told}
+use Rattle.um_base.specs.declared.image.Image.{Image}
+use Rattle.um_base.specs.declared.names.Policy.{Policy}
+use Rattle.um_base.specs.declared.instr.Instr.{Instr}
+use Rattle.um_base.specs.declared.limits.TheConstants.{THREADS}
+use Rattle.um_base.specs.declared.names.Addr.{Addr}
+use Rattle.um_base.specs.declared.names.Errno.{Errno}
+use Rattle.um_base.specs.declared.names.Reply.{Reply}
+use Rattle.um_machine.specs.declared.pending.Pending.{Pending}
+use Rattle.um_machine.specs.Order.{Steps, fatal_steps}
+use Rattle.um_machine.specs.State.{instruction_at}
+use Rattle.um_machine.specs.Table.{next_doom}
+use Rattle.um_fine.specs.Answers.{act_in, domain_in, fits_in, found_in, is_fault, is_visit, is_word_read, reserved_in, set_in, verdict_in}
+use Rattle.um_fine.specs.Asks.{begins_cleaning}
+use Rattle.um_fine.specs.Context.{Context, as_thread}
+use Rattle.um_fine.specs.Continues.{after_access, after_reserve, after_set, after_text, after_work, begun, continues, resumed_at, with_claim}
+use Rattle.um_fine.specs.Follows.{after_claim, after_show, dropped_at, goes_on_by, p_next}
+use Rattle.um_fine.specs.Places.{Todo, Todos}
+use Rattle.um_fine.specs.Processor.{Processor}
+use Rattle.um_fine.specs.Steps.{Exchange, FineStep}
+use Rattle.um_erasure.specs.Offers.{Fits, IsOffered, behind_shown}
+use Rattle.um_erasure.specs.Offers as O
+use Rattle.um_erasure.specs.Threads.{is_ending}
+use Rattle.um_erasure.proofs.ListGrips.{cleaned-context}
+
+-- the steps by which a thread ends, or dooms all
+abbrev pub is_last : Pending → Bool
+is_last Pending.Exit = true
+is_last (Pending.Fatal reason cause) = true
+is_last q = false
+
+-- where it has ended, the steps of that are left
+abbrev pub Ends : Context → Type 0
+Ends c = c.ended ≡ true → list_all is_ending c.pending ≡ true
+
+module _ (image : Image) where
+  either-ended : (b : Bool) (c d : Context) (v : Bool) → c.ended ≡ v → d.ended ≡ v → (if b then c else d).ended ≡ v
+  either-ended true c d v e h = e
+  either-ended false c d v e h = h
+
+  begun-ended : (c : Context) (instr : Option Instr) → (begun image c instr).ended ≡ c.ended
+  begun-ended c None = refl
+  begun-ended c (Some instr) = refl
+
+  checked-ended : (c : Context) (a : Addr) (v : Option Errno) → (with_claim image c a v).ended ≡ c.ended
+  checked-ended c a None = refl
+  checked-ended c a (Some e) = refl
+
+  access-ended : (c : Context) (b : Bool) (rest otherwise : Steps) → (after_access image c b rest otherwise).ended ≡ c.ended
+  access-ended c true rest otherwise = refl
+  access-ended c false rest otherwise = refl
+
+  text-ended : (c : Context) (bs : List ℕ) (rest : Steps) (found : Found) → (after_text image c bs rest found).ended ≡ c.ended
+  text-ended c bs rest (Found.Length n) = refl
+  text-ended c bs rest Found.Unreadable = refl
+  text-ended c bs rest Found.TooLong = refl
+
+  work-ended : (c : Context) (ask : Ask) (taken : List ℕ) (rest : Steps) (answer : Answer) → (after_work image c ask taken rest answer).ended ≡ c.ended
+  work-ended c ask taken rest Answer.Wait = refl
+  work-ended c ask taken rest (Answer.Now Reply.Void) = refl
+  work-ended c ask taken rest (Answer.Now (Reply.Num n)) = refl
+  work-ended c ask taken rest (Answer.Now (Reply.At a)) = refl
+  work-ended c ask taken rest (Answer.Now Reply.Null) = refl
+  work-ended c ask taken rest (Answer.Now (Reply.Fail e)) = refl
+
+  set-ended : (c : Context) (undo : Option Addr) (rest : Steps) (said : SetSaid) → (after_set image c undo rest said).ended ≡ c.ended
+  set-ended c undo rest SetSaid.Done = refl
+  set-ended c undo rest SetSaid.Gone = refl
+  set-ended c undo rest (SetSaid.Fail e) = refl
+
+  reserve-ended : (c : Context) (rest : Steps) (addr : Option Addr) → (after_reserve image c rest addr).ended ≡ c.ended
+  reserve-ended c rest None = refl
+  reserve-ended c rest (Some a) = refl
+
+  -- no other step ends it
+  pub continues-ended : (c : Context) (x : ℕ) (q : Pending) (rest : Steps) (act : Act) (moved : Exchange) → is_last q ≡ false → (continues image c x q rest act moved).ended ≡ c.ended
+  continues-ended c x Pending.Begin rest act moved h = begun-ended c (instruction_at image c.place)
+  continues-ended c x Pending.Exit rest act moved h = absurd (true≢false h)
+  continues-ended c x (Pending.Fatal reason cause) rest act moved h = absurd (true≢false h)
+  continues-ended c x (Pending.Check a kind want refusal) rest act moved h = checked-ended c a (verdict_in act)
+  continues-ended c x (Pending.Load to a n) rest act moved h = either-ended (is_fault act) _ _ c.ended refl refl
+  continues-ended c x (Pending.Store a n value) rest act moved h = either-ended (is_fault act) _ _ c.ended refl refl
+  continues-ended c x (Pending.Fetch a) rest act moved h = either-ended (is_fault act) _ _ c.ended refl refl
+  continues-ended c x (Pending.Probe a amount) rest act moved h = access-ended c (fits_in act) _ _
+  continues-ended c x (Pending.CopyIn a amount) rest act moved h = either-ended (fits_in act) _ _ c.ended refl refl
+  continues-ended c x (Pending.CopyOut a) rest act moved h = access-ended c (fits_in act) _ _
+  continues-ended c x (Pending.CopyStr a) rest act moved h = text-ended c _ _ (found_in act)
+  continues-ended c x (Pending.Work a ask) rest act moved h = work-ended c ask _ rest _
+  continues-ended c x (Pending.SetInit a strict undo) rest act moved h = set-ended c undo rest (set_in act)
+  continues-ended c x (Pending.Reserve kind) rest act moved h = reserve-ended c rest (reserved_in act)
+  continues-ended c x (Pending.Buffer size) rest act moved h = access-ended c (fits_in act) _ _
+  continues-ended c x q rest act moved h = refl
+
+  -- the end itself
+  fatal-ending : (c : Context) (reason : ℕ) (policy : Policy) → list_all is_ending (fatal_steps image c.thread (as_thread c) reason policy) ≡ true
+  fatal-ending c reason Policy.Halt = refl
+  fatal-ending c reason Policy.Abort = by (reason == 4)
+    where
+      by : (b : Bool) → list_all is_ending (if b then Pending.Dooms 0 ∷ [] else fatal_steps image c.thread (as_thread c) 0 Policy.Abort) ≡ true
+      by true = refl
+      by false = refl
+
+  doom-ending : (from : ℕ) → list_all is_ending (next_doom from) ≡ true
+  doom-ending from = elim (nat_lt (from + 1) THREADS) as (λ b. list_all is_ending (if b then Pending.Dooms (from + 1) ∷ [] else []) ≡ true) [ true ↦ refl | false ↦ refl ]
+
+  -- a step of an end leaves others of it
+  ending-kept : (c : Context) (x : ℕ) (q : Pending) (rest : Steps) (act : Act) (moved : Exchange) → is_ending q ≡ true → list_all is_ending rest ≡ true
+      → list_all is_ending (continues image c x q rest act moved).pending ≡ true
+  ending-kept c x (Pending.Drops from) rest act moved h k = k
+  ending-kept c x (Pending.ClearInit a) rest act moved h k = k
+  ending-kept c x (Pending.Dooms from) rest act moved h k = doom-ending from
+  ending-kept c x q rest act moved h k = absurd (false≢true h)
+
+  pub shown-ends : (c : Context) (q : Pending) (rest : Steps) (act : Act) (moved : Exchange) → Ends c → IsOffered image c q rest
+      → Ends (continues image c 0 q rest act moved)
+  shown-ends c Pending.Exit rest act moved was offered h = refl
+  shown-ends c (Pending.Fatal reason cause) rest act moved was offered h = fatal-ending c reason image.policy
+  shown-ends c q rest act moved was offered h = by-last (is_last q) refl
+    where
+      by : (q : Pending) (rest : Steps) → c.ended ≡ true → IsOffered image c q rest → list_all is_ending (continues image c 0 q rest act moved).pending ≡ true
+      by q rest over (O.goes e) =
+          let parts = and_parts (is_ending q) (list_all is_ending rest) (ap (list_all is_ending) (sym e) ∙ was over) in ending-kept c 0 q rest act moved parts.0 parts.1
+      by q rest over (O.passed e) = absurd (false≢true (ap (list_all is_ending) (sym e) ∙ was over))
+      by q rest over (O.dropped e) =
+          let parts = and_parts (is_ending q) (list_all is_ending rest) (ap (list_all is_ending) (sym e) ∙ was over) in ending-kept c 0 q rest act moved parts.0 parts.1
+      by _ _ over (O.begins e on i) = absurd (true≢false (sym over ∙ on))
+      by _ _ over (O.exits e on i) = absurd (true≢false (sym over ∙ on))
+
+      last-ends : (q : Pending) → is_last q ≡ true → list_all is_ending (continues image c 0 q rest act moved).pending ≡ true
+      last-ends Pending.Exit k = refl
+      last-ends (Pending.Fatal reason cause) k = fatal-ending c reason image.policy
+      last-ends q k = absurd (false≢true k)
+
+      by-last : (b : Bool) → is_last q ≡ b → list_all is_ending (continues image c 0 q rest act moved).pending ≡ true
+      by-last true k = last-ends q k
+      by-last false k = by q rest (sym (continues-ended c 0 q rest act moved k) ∙ h) offered
+
+  -- nothing stands behind a step of an end, or the first of a turn
+  pub ending-alone : (c : Context) (q : Pending) (rest : Steps) → IsOffered image c q rest → Ends c → c.ended ≡ true → behind_shown image c q ≡ []
+  ending-alone c q rest offered was over = by q rest offered
+    where
+      alone : (q : Pending) → is_ending q ≡ true → behind_shown image c q ≡ []
+      alone (Pending.Drops from) h = refl
+      alone (Pending.ClearInit a) h = refl
+      alone (Pending.Dooms from) h = refl
+      alone q h = absurd (false≢true h)
+
+      by : (q : Pending) (rest : Steps) → IsOffered image c q rest → behind_shown image c q ≡ []
+      by q rest (O.goes e) = alone q (and_parts (is_ending q) (list_all is_ending rest) (ap (list_all is_ending) (sym e) ∙ was over)).0
+      by q rest (O.passed e) = absurd (false≢true (ap (list_all is_ending) (sym e) ∙ was over))
+      by q rest (O.dropped e) = alone q (and_parts (is_ending q) (list_all is_ending rest) (ap (list_all is_ending) (sym e) ∙ was over)).0
+      by _ _ (O.begins e on i) = refl
+      by _ _ (O.exits e on i) = refl
+
+  -- nor behind that end
+  pub last-alone : (c : Context) (q : Pending) → is_last q ≡ true → behind_shown image c q ≡ []
+  last-alone c Pending.Exit h = refl
+  last-alone c (Pending.Fatal reason cause) h = refl
+  last-alone c q h = absurd (false≢true h)
+
+  -- A processor.
+
+  dropped-ends : (c : Context) (x : ℕ) (b : Bool) → Ends c → Ends (dropped_at image c x b)
+  dropped-ends c x true was h = was h
+  dropped-ends c x false was h = by c.pending refl
+    where
+      by : (steps : Steps) → c.pending ≡ steps → list_all is_ending (dropped_at image c x false).pending ≡ true
+      by [] e = subst (λ (s : Steps). list_all is_ending (dropped_at image (record c { pending = s }) x false).pending ≡ true) (sym e) refl
+      by (q ∷ steps) e =
+          subst (λ (s : Steps). list_all is_ending (dropped_at image (record c { pending = s }) x false).pending ≡ true) (sym e)
+          (and_parts (is_ending q) (list_all is_ending steps) (ap (list_all is_ending) (sym e) ∙ was h)).1
+
+  resumed-ended : (c : Context) (told : Told) (steps : Steps) → (resumed_at image c told steps).ended ≡ c.ended
+  resumed-ended c told (Pending.Resume ∷ rest) = refl
+  resumed-ended c told steps = refl
+
+  claim-context : (p : Processor) (d : ℕ) (init : Bool) (todo : Todos) → (after_claim p d init 0 todo).context ≡ p.context
+  claim-context p d true todo = refl
+  claim-context p d false todo = refl
+
+  -- a thread that is taken hasn't ended
+  abbrev pub TakesLiving : Exchange → Type 0
+  TakesLiving (Exchange.thread c told) = c.ended ≡ false
+  TakesLiving moved = Unit {0}
+
+  goes-ends : (p : Processor) (e : FineStep) (todo : Todos) → Fits image p.context todo → Ends p.context → (todo ≡ [] → TakesLiving e.moved) → Ends (goes_on_by image p e todo).context
+  goes-ends p e [] fits was living = by e.moved (living refl)
+    where
+      by : (moved : Exchange) → TakesLiving moved → Ends (goes_on_by image p (record e { moved = moved }) []).context
+      by (Exchange.thread c None) k h = absurd (false≢true (sym k ∙ h))
+      by (Exchange.thread c (Some told)) k h = absurd (false≢true (sym k ∙ (sym (resumed-ended c told c.pending) ∙ h)))
+      by moved k h = was h
+  goes-ends p e (Todo.show q rest ∷ todo) fits was living = by (is_word_read e.act) refl
+    where
+      by : (b : Bool) → is_word_read e.act ≡ b → Ends (if b then record p { todo = Todo.done ∷ [] } else after_show image p e q rest todo).context
+      by true k h = was h
+      by false k h = shown-ends p.context q rest (act_in e.act) e.moved was fits.0 h
+  goes-ends p e (Todo.read_claim None ∷ todo) fits was living = was
+  goes-ends p e (Todo.read_claim (Some d) ∷ todo) fits was living = subst Ends (sym (claim-context p d (domain_in e.word).init todo)) was
+  goes-ends p e (Todo.drop x ∷ todo) fits was living = dropped-ends p.context x (is_visit e.act) was
+  goes-ends p e (Todo.park ∷ todo) fits was living = λ h. absurd (false≢true h)
+  goes-ends p e (Todo.done ∷ todo) fits was living = λ h. absurd (false≢true h)
+  goes-ends p e (q ∷ todo) fits was living = was
+
+  pub next-ends : (p : Processor) (e : FineStep) → Fits image p.context p.todo → Ends p.context → (p.todo ≡ [] → TakesLiving e.moved) → Ends (p_next image p e).context
+  next-ends p e fits was living =
+      subst Ends (sym (cleaned-context image (goes_on_by image p e p.todo) e (begins_cleaning e))) (goes-ends p e p.todo fits was living)
