@@ -12,6 +12,7 @@ use Rattle.um_fine.specs.FineRun.{p_start, site_of}
 use Rattle.um_erasure.specs.Fine.{Fine, heap, row, total}
 use Rattle.um_erasure.specs.Looks.{LooksAre}
 use Rattle.um_erasure.specs.Offers.{ListIs}
+use Rattle.um_erasure.specs.Claims.{IdleIs}
 use Rattle.um_erasure.specs.Threads.{DomainKept, HeldIs, RunningIs, WordIs}
 use Rattle.um_erasure.specs.Cleaning.{AreBlocks, CleaningIs}
 use Rattle.um_erasure.specs.Domains.{DomainIs, TableIs}
@@ -73,6 +74,9 @@ module _ (image : Image) where
 
     pub held-first : (t : ℕ) → HeldIs first t
     held-first t = record { held = sym (total-none cpus) }
+
+    pub idle-first : (k : ℕ) → IdleIs first k
+    idle-first k = record { idle = λ h. refl }
 
     pub kept-first : (k : ℕ) → DomainKept first k
     kept-first k =

@@ -94,6 +94,7 @@ pub mod CleanerPart
 pub mod ListVisits
 pub mod EmptiedPart
 pub mod ReplyPart
+pub mod IdlePart
 pub mod HeldDomainPart
 pub mod Parts
 pub mod ErasedLeft

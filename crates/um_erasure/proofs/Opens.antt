@@ -6,7 +6,7 @@ use Rattle.um_base.specs.declared.image.Image.{Image}
 use Rattle.um_base.specs.declared.limits.TheConstants.{STATIC_ROWS}
 use Rattle.um_machine.specs.Run.{opening}
 use Rattle.um_erasure.specs.Relation.{Rel}
-use Rattle.um_erasure.proofs.First.{blocks-first, cleaning-first, domains-first, first, held-first, kept-first, lists-first, looks-first, memory-first, running-first, sorts-along, tables-first, words-first}
+use Rattle.um_erasure.proofs.First.{blocks-first, cleaning-first, domains-first, first, held-first, idle-first, kept-first, lists-first, looks-first, memory-first, running-first, sorts-along, tables-first, words-first}
 use Rattle.um_erasure.proofs.FirstObjects.{OwnStands, claims-first, cleaner-first, cleaners-first, contents-first, heap-first, opening-image, pairs-all-first, status-first}
 use Rattle.um_erasure.proofs.FirstReady.{OneEach, ready-first}
 use Rattle.um_erasure.proofs.FirstThreads.{away-first, contexts-first, dues-first, scheduler-first, told-first}
@@ -34,6 +34,7 @@ opens image cpus few one stands =
       processors = λ k l.
           record {
             list = lists-first image cpus k;
+            idle = idle-first image cpus k;
             domain = kept-first image cpus k;
             dues = dues-first image cpus k;
             table = tables-first image cpus k;

@@ -38,6 +38,7 @@ use Rattle.um_erasure.proofs.FirstObjects.{opening-image}
 use Rattle.um_erasure.proofs.HeapPart.{heap-part}
 use Rattle.um_erasure.proofs.HeldDomainPart.{held-domain-part}
 use Rattle.um_erasure.proofs.HeldPart.{held-part}
+use Rattle.um_erasure.proofs.IdlePart.{idle-part}
 use Rattle.um_erasure.proofs.Kept.{lists-kept, sorts-kept}
 use Rattle.um_erasure.proofs.LawfulSteps.{Suits, lawful-next}
 use Rattle.um_erasure.proofs.Leaves.{HasStep, Lawful, Leaves, cleans, drops, event, mine, nothing, passes, recycles, resumes}
@@ -130,6 +131,7 @@ module _ (f : Fine) (m : State) (e : FineStep) (law : Lawful f m e) where
         processors = λ k l.
             record {
               list = lists-kept f m law.rel e law.by.may law.taken k l;
+              idle = idle-part f m e law k l;
               domain = held-domain-part f m e law s leaves k l;
               dues = left.dues k l;
               table = table-part f m e law all s leaves k l;

@@ -9,7 +9,7 @@ use Rattle.std.specs.List.{list_all}
 use Rattle.um_erasure.specs.Fine.{Fine}
 use Rattle.um_erasure.specs.Lists.{names_row}
 use Rattle.um_erasure.specs.Threads.{AwayIs, ContextsAre, DomainKept, HeldIs, ReadyIs, RunningIs, SchedulerIs, ToldIs, WordIs}
-use Rattle.um_erasure.specs.Claims.{ClaimsAre}
+use Rattle.um_erasure.specs.Claims.{ClaimsAre, IdleIs}
 use Rattle.um_erasure.specs.Objects.{ContentsAre, PairsAre, StatusIs}
 use Rattle.um_erasure.specs.Cleaning.{AreBlocks, CleanerIs, CleanersAre, CleaningIs}
 use Rattle.um_erasure.specs.Dues.{DuesAre}
@@ -39,6 +39,7 @@ pub record RowIs (f : Fine) (m : State) (x : ℕ) : Type 0 where
 -- of each processor
 pub record ProcessorIs (f : Fine) (m : State) (k : ℕ) : Type 0 where
   pub list : ListIs f.image (f.processors k)
+  pub idle : IdleIs f k
   pub domain : DomainKept f k
   pub dues : DuesAre f m k
   pub table : TableIs f m k

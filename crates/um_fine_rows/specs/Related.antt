@@ -281,6 +281,7 @@ module _ (n : Tested) (f : Fine) (m : State) where
       && list_all (is_others (own_row f.image p.context.thread)) p.todo && size_is p (looked p.todo) && reply_is p (moving p.todo)
       && implies (has_held p) (p.domain == (word f p.context.thread).domain)
       && implies (list_any is_move_done p.todo) (not (fails p.reply))
+      && implies (not (runs p)) (length p.context.claims == 0)
       && implies (has_held p) (not p.context.ended)
       && implies p.context.ended (list_all is_ending p.context.pending)
       && implies (has_claimed p) (p.version == (domain f p.domain).version)
