@@ -1,0 +1,27 @@
+-- Steps as a processor asks for them, before their site has filled them in, and what comes of them there.
+use Rattle.std.specs.Prelude.{◌≡◌, ℕ, false}
+use Rattle.um_base.specs.declared.act.Act.{Act}
+use Rattle.um_base.specs.declared.image.Image.{Image}
+use Rattle.um_base.specs.declared.names.ThreadIx.{ThreadIx}
+use Rattle.um_words.specs.declared.fine.FineAct.{FineAct}
+use Rattle.um_words.specs.declared.fine.More.{More}
+use Rattle.um_fine.specs.Answers.{no_row}
+use Rattle.um_fine.specs.Steps.{Exchange, FineStep, Site, Word}
+use Rattle.um_fine.specs.Sites.{SiteMay, SiteState, s_next, site_takes}
+
+-- an event of a thread, with what the site needs beside it
+abbrev pub shown : ThreadIx → Act → More → FineAct
+shown t act more = FineAct.Shown (record { thread = t; act = act }) more
+
+-- a step without the word that its site leaves
+abbrev pub asked : ℕ → Site → FineAct → Exchange → FineStep
+asked cpu site act moved = record { cpu = cpu; site = site; act = act; word = Word.row no_row; moved = moved }
+
+-- the step is lawful at its site in the first state, and leaves the second
+pub record Takes (image : Image) (s : SiteState) (e : FineStep) (z : SiteState) : Type 0 where
+  pub may : SiteMay image s e
+  pub leaves : z ≡ s_next image s e
+
+-- the site takes no such step
+abbrev pub Refuses : SiteState → FineStep → Type 0
+Refuses s e = site_takes s e.act ≡ false

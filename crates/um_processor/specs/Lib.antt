@@ -1,0 +1,4 @@
+pub mod Asked
+pub mod RowActs
+pub mod ThreadActs
+pub mod DomainActs

@@ -1,0 +1,30 @@
+-- What is asked of the word of a thread index: the step that it stands for.
+use Rattle.std.specs.Prelude.{ℕ, false, None}
+use Rattle.um_base.specs.declared.act.Act.{Act}
+use Rattle.um_base.specs.declared.image.Image.{Image}
+use Rattle.um_words.specs.declared.fine.FineAct.{FineAct}
+use Rattle.um_words.specs.declared.fine.More.{More}
+use Rattle.um_words.specs.declared.fine.Unseen.{Unseen}
+use Rattle.um_words.specs.declared.thread_word.ThreadWord.{ThreadWord}
+use Rattle.um_fine.specs.Sites.{SiteState, filled}
+use Rattle.um_fine.specs.Steps.{Exchange, FineStep, Site}
+use Rattle.um_processor.specs.Asked.{asked, shown}
+use Rattle.um_processor.specs.declared.thread_act.ThreadAct.{ThreadAct}
+
+-- the act without the answer of the word
+abbrev pub thread_act : ThreadAct → FineAct
+thread_act (ThreadAct.Begin t script line) = shown t (Act.Begin script line) More.Nothing
+thread_act (ThreadAct.Exit t) = shown t Act.Exit More.Nothing
+thread_act (ThreadAct.Miss t a kind want mode) = shown t (Act.Check a kind want None) (More.By mode false)
+thread_act (ThreadAct.Answered t reply) = shown t (Act.Answered reply) More.Nothing
+thread_act (ThreadAct.Fatal t reason cause) = shown t (Act.Fatal reason cause) More.Nothing
+thread_act (ThreadAct.Doom t who) = shown t (Act.Doom who) More.Nothing
+thread_act (ThreadAct.DomMove t d who reply) = shown t (Act.DomMove d who reply) More.Nothing
+thread_act (ThreadAct.Start t who mode d) = shown t (Act.Start who) (More.Starts mode d)
+thread_act (ThreadAct.EnterUser t) = shown t Act.EnterUser More.Nothing
+thread_act ThreadAct.Hold = FineAct.Unseen Unseen.Hold
+thread_act ThreadAct.LetGo = FineAct.Unseen Unseen.LetGo
+
+-- the step as it is made at a thread index with this word
+abbrev pub thread_made : Image → ℕ → ℕ → ThreadWord → ThreadAct → FineStep
+thread_made image cpu t w act = filled image (SiteState.thread w) (asked cpu (Site.thread t) (thread_act act) Exchange.nothing)

@@ -1,0 +1,12 @@
+//! One processor of the fine machine as code, over any way of keeping the sites: what it asks of each site, in short.
+#![tactic(auto)]
+
+mod domain_act;
+mod row_act;
+mod said;
+mod thread_act;
+
+pub use domain_act::DomainAct;
+pub use row_act::{RowAct, RowSaid};
+pub use said::Said;
+pub use thread_act::ThreadAct;

@@ -1,0 +1,227 @@
+//! What a processor asks of the word of a row.
+
+ghost use Rattle.std.specs.Prelude.{◌≡◌, ◌<◌, ℕ, IsTrue, MatchOption};
+ghost use Rattle.um_base.specs.declared.image.Image.{Image};
+ghost use Rattle.um_words.specs.Rows.{row_after, row_says, row_takes};
+ghost use Rattle.um_fine.specs.Sites.{SiteState};
+ghost use Rattle.um_processor.specs.Asked.{Refuses, Takes};
+ghost use Rattle.um_processor.specs.RowActs.{left_by, row_act, row_made, row_said};
+
+use um_base::{Addr, Errno, Given, Kind, Leftover, Mode, SetSaid, ThreadIx, Want};
+use um_words::RowWord;
+
+/// The greatest step number: there the word takes no step.
+const LAST: u32 = 0xf_ffff;
+
+/// What is asked of the word of a row, and by which thread.
+#[derive(Clone, Copy)]
+pub enum RowAct {
+    /// To hold the object for a call, where it passes the check. Fits: the row has the wanted kind.
+    Check {
+        thread: ThreadIx,
+        addr: Addr,
+        kind: Option<Kind>,
+        want: Want,
+        mode: Mode,
+        fits: bool,
+    },
+    Grant {
+        thread: ThreadIx,
+        who: ThreadIx,
+        addr: Addr,
+    },
+    Own {
+        thread: ThreadIx,
+        who: ThreadIx,
+    },
+    /// To pass the thread's permission on, where it has one and the other hasn't.
+    Pass {
+        thread: ThreadIx,
+        who: ThreadIx,
+        addr: Addr,
+    },
+    DropPair {
+        thread: ThreadIx,
+        who: ThreadIx,
+        addr: Addr,
+    },
+    /// To drop a permission, where there is one.
+    Sweep {
+        thread: ThreadIx,
+        who: ThreadIx,
+        addr: Addr,
+    },
+    Publish {
+        thread: ThreadIx,
+        addr: Addr,
+    },
+    SetInit {
+        thread: ThreadIx,
+        addr: Addr,
+        strict: bool,
+    },
+    ClearInit {
+        thread: ThreadIx,
+        addr: Addr,
+    },
+    Born {
+        thread: ThreadIx,
+        addr: Addr,
+    },
+    EndCall,
+    Vacate,
+}
+
+/// What the word of a row says.
+#[derive(Clone, Copy, PartialEq, Eq)]
+pub struct RowSaid {
+    pub verdict: Option<Errno>,
+    pub given: Given,
+    pub left: Leftover,
+    pub set: SetSaid,
+    /// Whether there was nothing to pass on or to drop.
+    pub visits: bool,
+    /// Whether the row came to cleaning by this step.
+    pub cleans: bool,
+}
+
+/// A row that says nothing.
+const QUIET: RowSaid = RowSaid {
+    verdict: None,
+    given: Given::Done,
+    left: Leftover::NoPair,
+    set: SetSaid::Done,
+    visits: false,
+    cleans: false,
+};
+
+/// A permission is taken away.
+fn drops(word: &mut RowWord, who: ThreadIx) -> RowSaid
+    ensures word { word.new ≡ Rattle.um_words.specs.Rows.dropped word.old who.0 }
+    ensures said { result ≡ Rattle.um_processor.specs.RowActs.drop_said (Rattle.um_words.specs.Rows.left_of word.old who.0) word.new }
+{
+    match word.drop_one(who.0) {
+        Leftover::Gone => RowSaid {
+            left: Leftover::Gone,
+            cleans: word.is_cleaning(),
+            ..QUIET
+        },
+        Leftover::Kept => RowSaid {
+            left: Leftover::Kept,
+            ..QUIET
+        },
+        Leftover::NoPair => QUIET,
+    }
+}
+
+impl RowAct {
+    /// Whether the word takes it.
+    fn is_taken(&self, word: &RowWord) -> bool
+        ensures { result ≡ row_takes word.now (row_says word.now (row_act word.now self.now)) }
+    {
+        match self {
+            RowAct::Check { .. } => word.claims < 127,
+            RowAct::Own { .. } => word.claims < 127 && !word.is_free() && !word.is_cleaning(),
+            RowAct::Grant { .. } => !word.is_free(),
+            RowAct::Publish { .. } => !word.is_free(),
+            RowAct::SetInit { .. } => !word.is_free(),
+            RowAct::ClearInit { .. } => !word.is_free(),
+            RowAct::Born { .. } => word.is_free(),
+            RowAct::DropPair { .. } => true,
+            RowAct::Pass { .. } => true,
+            RowAct::Sweep { .. } => true,
+            RowAct::EndCall => 0 < word.claims,
+            RowAct::Vacate => word.is_cleaning() && word.claims == 0,
+        }
+    }
+
+    /// What the word says, and the word that is left but for its step number.
+    fn take(&self, word: &mut RowWord) -> RowSaid
+        requires { IsTrue (row_takes word.old (row_says word.old (row_act word.old self.now))) }
+        ensures word { word.new ≡ row_after word.old (row_says word.old (row_act word.old self.now)) }
+        ensures said { result ≡ row_said (left_by (row_says word.old (row_act word.old self.now)) word.new) }
+    {
+        match self {
+            RowAct::Check {
+                thread,
+                want,
+                mode,
+                fits,
+                ..
+            } => RowSaid {
+                verdict: word.check(thread.0, *mode, *fits, *want),
+                ..QUIET
+            },
+            RowAct::Grant { who, .. } => RowSaid {
+                given: word.grant(who.0),
+                ..QUIET
+            },
+            RowAct::Own { who, .. } => RowSaid {
+                given: word.own(who.0),
+                ..QUIET
+            },
+            RowAct::Pass { thread, who, .. } => {
+                if word.has(thread.0) && !word.has(who.0) {
+                    word.inherit(who.0);
+                    return QUIET;
+                }
+                RowSaid {
+                    visits: true,
+                    ..QUIET
+                }
+            }
+            RowAct::DropPair { who, .. } => drops(word, *who),
+            RowAct::Sweep { who, .. } => {
+                if word.has(who.0) {
+                    return drops(word, *who);
+                }
+                RowSaid {
+                    visits: true,
+                    ..QUIET
+                }
+            }
+            RowAct::Publish { .. } => RowSaid {
+                given: word.publish(),
+                ..QUIET
+            },
+            RowAct::SetInit { strict, .. } => RowSaid {
+                set: word.set_init(*strict),
+                ..QUIET
+            },
+            RowAct::ClearInit { .. } => {
+                word.init = false;
+                QUIET
+            }
+            RowAct::Born { thread, .. } => {
+                word.born(thread.0);
+                QUIET
+            }
+            RowAct::EndCall => {
+                word.end_call();
+                RowSaid {
+                    cleans: word.is_cleaning(),
+                    ..QUIET
+                }
+            }
+            RowAct::Vacate => {
+                word.vacate();
+                QUIET
+            }
+        }
+    }
+
+    /// The word that the step leaves, with what it says; nothing where the word takes no such step.
+    pub fn make(&self, word: &RowWord) -> Option<(RowWord, RowSaid)>
+        ensures { MatchOption result
+            ((image : Image) (cpu x : ℕ) → Refuses (SiteState.row word.now) (row_made image cpu x word.now self.now))
+            (λ made. (image : Image) (cpu x : ℕ) → Takes image (SiteState.row word.now) (row_made image cpu x word.now self.now) (SiteState.row made.0) × (made.1 ≡ row_said (row_made image cpu x word.now self.now))) }
+    {
+        if word.number >= LAST || !self.is_taken(word) {
+            return None;
+        }
+        let mut next = *word;
+        let said = self.take(&mut next);
+        next.number += 1;
+        Some((next, said))
+    }
+}

@@ -1,0 +1,137 @@
+//! What a processor asks of the word of a thread index.
+
+ghost use Rattle.std.specs.Prelude.{◌≡◌, ◌<◌, ℕ, IfSome, IsTrue, MatchOption};
+ghost use Rattle.um_base.specs.declared.image.Image.{Image};
+ghost use Rattle.um_base.specs.declared.limits.TheConstants.{DOMAINS};
+ghost use Rattle.um_words.specs.Threads.{thread_after, thread_takes};
+ghost use Rattle.um_fine.specs.Sites.{SiteState};
+ghost use Rattle.um_fine.specs.Threads.{thread_answers};
+ghost use Rattle.um_processor.specs.Asked.{Refuses, Takes};
+ghost use Rattle.um_processor.specs.ThreadActs.{thread_act, thread_made};
+
+use um_base::{Addr, Cause, DOMAINS, Kind, Mode, Reply, ThreadIx, Want};
+use um_machine::Life;
+use um_words::ThreadWord;
+
+/// The greatest step number: there the word takes no step.
+const LAST: u32 = 0xfff_ffff;
+
+/// What is asked of the word of a thread index, and by which thread.
+#[derive(Clone, Copy)]
+pub enum ThreadAct {
+    /// To begin a line, unless the thread is doomed: then its word is read instead.
+    Begin {
+        thread: ThreadIx,
+        script: u8,
+        line: u16,
+    },
+    /// To end after the last line, unless the thread is doomed: then its word is read instead.
+    Exit {
+        thread: ThreadIx,
+    },
+    /// A check of an address where nothing stands.
+    Miss {
+        thread: ThreadIx,
+        addr: Addr,
+        kind: Option<Kind>,
+        want: Want,
+        mode: Mode,
+    },
+    Answered {
+        thread: ThreadIx,
+        reply: Reply,
+    },
+    Fatal {
+        thread: ThreadIx,
+        reason: u8,
+        cause: Cause,
+    },
+    Doom {
+        thread: ThreadIx,
+        who: ThreadIx,
+    },
+    DomMove {
+        thread: ThreadIx,
+        domain: u8,
+        who: ThreadIx,
+        reply: Reply,
+    },
+    /// Mode and domain are those of the new thread.
+    Start {
+        thread: ThreadIx,
+        who: ThreadIx,
+        mode: Mode,
+        domain: u8,
+    },
+    EnterUser {
+        thread: ThreadIx,
+    },
+    Hold,
+    LetGo,
+}
+
+impl ThreadAct {
+    /// Whether the word takes it.
+    fn is_taken(&self, word: &ThreadWord) -> bool
+        ensures { result ≡ thread_takes word.now (thread_answers word.now (thread_act self.now)) }
+    {
+        match self {
+            ThreadAct::Begin { .. } => word.doomed || word.may_begin(),
+            ThreadAct::Exit { .. } => word.doomed || word.may_begin(),
+            ThreadAct::Miss { .. } => true,
+            ThreadAct::Answered { .. } => true,
+            ThreadAct::Fatal { .. } => true,
+            ThreadAct::Doom { .. } => true,
+            ThreadAct::DomMove { domain, .. } => !word.held && (*domain as usize) < DOMAINS,
+            ThreadAct::Start { domain, .. } => (*domain as usize) < DOMAINS,
+            ThreadAct::EnterUser { .. } => true,
+            ThreadAct::Hold => !word.held,
+            ThreadAct::LetGo => word.held,
+        }
+    }
+
+    /// What is left but for the step number.
+    fn take(&self, word: &mut ThreadWord)
+        requires { IsTrue (thread_takes word.old (thread_answers word.old (thread_act self.now))) }
+        ensures domain { word.old.domain < DOMAINS → word.new.domain < DOMAINS }
+        ensures word { word.new ≡ thread_after word.old (thread_answers word.old (thread_act self.now)) }
+    {
+        match self {
+            ThreadAct::Begin { .. } => {}
+            ThreadAct::Exit { .. } => {
+                if !word.doomed {
+                    word.life = Life::Ended;
+                }
+            }
+            ThreadAct::Miss { .. } => {}
+            ThreadAct::Answered { .. } => {}
+            ThreadAct::Fatal { .. } => word.life = Life::Ended,
+            ThreadAct::Doom { .. } => word.doomed = true,
+            ThreadAct::DomMove { domain, .. } => word.domain = *domain,
+            ThreadAct::Start { mode, domain, .. } => {
+                word.life = Life::Living;
+                word.mode = *mode;
+                word.domain = *domain;
+            }
+            ThreadAct::EnterUser { .. } => word.mode = Mode::User,
+            ThreadAct::Hold => word.held = true,
+            ThreadAct::LetGo => word.held = false,
+        }
+    }
+
+    /// The word that the step leaves; nothing where the word takes no such step.
+    pub fn make(&self, word: &ThreadWord) -> Option<ThreadWord>
+        ensures domain { word.now.domain < DOMAINS → IfSome result (λ next. next.domain < DOMAINS) }
+        ensures made { MatchOption result
+            ((image : Image) (cpu t : ℕ) → Refuses (SiteState.thread word.now) (thread_made image cpu t word.now self.now))
+            (λ next. (image : Image) (cpu t : ℕ) → Takes image (SiteState.thread word.now) (thread_made image cpu t word.now self.now) (SiteState.thread next)) }
+    {
+        if word.number >= LAST || !self.is_taken(word) {
+            return None;
+        }
+        let mut next = *word;
+        self.take(&mut next);
+        next.number += 1;
+        Some(next)
+    }
+}
