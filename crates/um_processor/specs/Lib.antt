@@ -2,3 +2,4 @@ pub mod Asked
 pub mod RowActs
 pub mod ThreadActs
 pub mod DomainActs
+pub mod Sited

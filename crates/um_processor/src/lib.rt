@@ -4,9 +4,13 @@
 mod domain_act;
 mod row_act;
 mod said;
+mod sites;
+mod tables;
 mod thread_act;
 
 pub use domain_act::DomainAct;
 pub use row_act::{RowAct, RowSaid};
 pub use said::Said;
+pub use sites::Sites;
+pub use tables::Tables;
 pub use thread_act::ThreadAct;

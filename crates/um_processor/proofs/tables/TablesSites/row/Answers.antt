@@ -1,0 +1,23 @@
+use Rattle.std.proofs.Common.{arith, ◌≡◌, ap, refl, slice_index_or}
+use Rattle.std.proofs.lemmas.List.{get_or_read}
+use Rattle.um_fine.specs.Answers.{no_row}
+use Rattle.um_fine.specs.Sites.{SiteState}
+use Rattle.um_processor.specs.RowActs.{row_made}
+use Rattle.um_processor.proofs.Tabled.{refused, taken}
+use Rattle.um_processor.proofs.tables.TablesSites.row.Goals as goal
+
+pub returns-clause-said : goal.returns-clause-said
+returns-clause-said c =
+    let w = c.index.result.now in
+    let here : w ≡ slice_index_or c.self.inside.rows.items c.args.row.0 no_row = get_or_read c.self.inside.rows.items _ _ (omega arith) c.index.ensures no_row in
+    let e = row_made c.args.image.now c.args.cpu c.args.row.0 w c.args.act.now in
+    let t = c.in-Some.ensures c.args.image.now c.args.cpu c.args.row.0 in
+    (w, taken c.args.image.now _ _ c.self.view_is e (SiteState.row w) (SiteState.row c.in-Some.made.0) (ap SiteState.row here) t.0, t.1)
+
+pub returns-in-None-clause-said : goal.returns-in-None-clause-said
+returns-in-None-clause-said c =
+    let w = c.index.result.now in
+    let here : w ≡ slice_index_or c.self.inside.rows.items c.args.row.0 no_row = get_or_read c.self.inside.rows.items _ _ (omega arith) c.index.ensures no_row in
+    let e = row_made c.args.image.now c.args.cpu c.args.row.0 w c.args.act.now in
+    let r = c.in-None.ensures c.args.image.now c.args.cpu c.args.row.0 in
+    (w, refl, refused _ _ c.self.view_is e (SiteState.row w) (ap SiteState.row here) r)

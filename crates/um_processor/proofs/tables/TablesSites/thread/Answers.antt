@@ -1,0 +1,29 @@
+use Rattle.std.proofs.Common.{arith, ◌≡◌, ap, refl, slice_index_or}
+use Rattle.std.proofs.lemmas.List.{get_or_read}
+use Rattle.um_words.specs.declared.thread_word.ThreadWord.{ThreadWord}
+use Rattle.um_fine.specs.Answers.{no_thread}
+use Rattle.um_fine.specs.Sites.{SiteState}
+use Rattle.um_processor.specs.ThreadActs.{thread_made}
+use Rattle.um_processor.proofs.Tabled.{refused, taken}
+use Rattle.um_processor.proofs.tables.TablesSites.thread.Goals as goal
+
+word-in : SiteState → ThreadWord
+word-in (SiteState.thread w) = w
+word-in _ = no_thread
+
+pub returns-clause-said : goal.returns-clause-said
+unfolding word-in
+returns-clause-said c =
+    let w = c.index.result.now in
+    let here : w ≡ slice_index_or c.self.inside.threads.items c.args.thread.0 no_thread = get_or_read c.self.inside.threads.items _ _ (omega arith) c.index.ensures no_thread in
+    let e = thread_made c.args.image.now c.args.cpu c.args.thread.0 w c.args.act.now in
+    let t = c.in-Some.ensures.made c.args.image.now c.args.cpu c.args.thread.0 in
+    (w, taken c.args.image.now _ _ c.self.view_is e (SiteState.thread w) (SiteState.thread c.in-Some.next) (ap SiteState.thread here) t, ap word-in t.leaves)
+
+pub returns-in-None-clause-said : goal.returns-in-None-clause-said
+returns-in-None-clause-said c =
+    let w = c.index.result.now in
+    let here : w ≡ slice_index_or c.self.inside.threads.items c.args.thread.0 no_thread = get_or_read c.self.inside.threads.items _ _ (omega arith) c.index.ensures no_thread in
+    let e = thread_made c.args.image.now c.args.cpu c.args.thread.0 w c.args.act.now in
+    let r = c.in-None.ensures.made c.args.image.now c.args.cpu c.args.thread.0 in
+    (w, refl, refused _ _ c.self.view_is e (SiteState.thread w) (ap SiteState.thread here) r)

@@ -1,0 +1,48 @@
+-- The states of the sites that tables keep, what comes of a step there, and what a site says to the one that asks for it.
+use Rattle.std.specs.Prelude.{◌≡◌, ◌<◌, List, slice_index_or, slice_set}
+use Rattle.um_base.specs.declared.image.Image.{Image}
+use Rattle.um_base.specs.declared.limits.TheConstants.{DOMAINS}
+use Rattle.um_words.specs.declared.row_word.RowWord.{RowWord}
+use Rattle.um_words.specs.declared.thread_word.ThreadWord.{ThreadWord}
+use Rattle.um_words.specs.declared.dom_word.DomWord.{DomWord}
+use Rattle.um_fine.specs.Answers.{no_domain, no_row, no_thread}
+use Rattle.um_fine.specs.Steps.{FineStep, Site}
+use Rattle.um_fine.specs.Sites.{SiteMay, SiteState, s_next}
+use Rattle.um_processor.specs.declared.said.Said.{Said}
+
+-- the words of all rows, thread indices and domains
+pub record Sited : Type 0 where
+  pub rows : List RowWord
+  pub threads : List ThreadWord
+  pub domains : List DomWord
+
+-- the word of a thread names a domain
+abbrev pub in_domains : ThreadWord → Type 0
+in_domains w = w.domain < DOMAINS
+
+-- what stands at a site: at one that isn't kept, a row without an object
+abbrev pub state_at : Sited → Site → SiteState
+state_at s (Site.row x) = SiteState.row (slice_index_or s.rows x no_row)
+state_at s (Site.thread t) = SiteState.thread (slice_index_or s.threads t no_thread)
+state_at s (Site.domain d) = SiteState.domain (slice_index_or s.domains d no_domain)
+state_at s site = SiteState.row no_row
+
+abbrev pub with_state : Sited → Site → SiteState → Sited
+with_state s (Site.row x) (SiteState.row w) = record s { rows = slice_set s.rows x w }
+with_state s (Site.thread t) (SiteState.thread w) = record s { threads = slice_set s.threads t w }
+with_state s (Site.domain d) (SiteState.domain w) = record s { domains = slice_set s.domains d w }
+with_state s site state = s
+
+-- the step was made: its site took it, and the other sites are as before
+pub record WasMade (image : Image) (old : Sited) (e : FineStep) (new : Sited) : Type 0 where
+  pub may : SiteMay image (state_at old e.site) e
+  pub leaves : new ≡ with_state old e.site (s_next image (state_at old e.site) e)
+
+abbrev pub MatchSaid : {A : Type 0} → Said A → (A → Type 0) → Type 0 → Type 0 → Type 0
+MatchSaid (Said.Made said) made busy changed = made said
+MatchSaid Said.Busy made busy changed = busy
+MatchSaid Said.Changed made busy changed = changed
+
+abbrev pub IfMade : {A : Type 0} → Said A → (A → Type 0) → Type 0
+IfMade (Said.Made said) made = made said
+IfMade _ made = Unit {0}

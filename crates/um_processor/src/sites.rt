@@ -1,0 +1,75 @@
+//! How a processor reaches the sites.
+
+ghost use Rattle.std.specs.Prelude.{◌≡◌, ◌<◌};
+ghost use Rattle.um_base.specs.declared.limits.TheConstants.{DOMAINS, ROWS, THREADS};
+ghost use Rattle.um_words.specs.declared.row_word.RowWord.{RowWord};
+ghost use Rattle.um_words.specs.declared.thread_word.ThreadWord.{ThreadWord};
+ghost use Rattle.um_words.specs.declared.dom_word.DomWord.{DomWord};
+ghost use Rattle.um_fine.specs.Answers.{domain_in, thread_in};
+ghost use Rattle.um_processor.specs.DomainActs.{domain_made};
+ghost use Rattle.um_processor.specs.RowActs.{row_made, row_said};
+ghost use Rattle.um_processor.specs.Sited.{IfMade, MatchSaid};
+ghost use Rattle.um_processor.specs.ThreadActs.{thread_made};
+
+use crate::domain_act::DomainAct;
+use crate::row_act::{RowAct, RowSaid};
+use crate::said::Said;
+use crate::thread_act::ThreadAct;
+use um_base::{Image, Row, ThreadIx};
+use um_words::{DomWord, ThreadWord};
+
+/// The sites that a processor shares with others, wherever they live. Each call asks for one step of a processor by its number.
+/// What the site has in it then, nobody else need know: some state of its sort, at which the step was made or is refused.
+pub trait Sites {
+    ghost use Rattle.um_base.specs.declared.image.Image.{Image};
+    ghost use Rattle.um_fine.specs.Steps.{FineStep};
+
+    /// They are those of this image.
+    ghost IsOf: { Image → Self → Type 0 };
+
+    /// This step was made, and no other one.
+    ghost Took: { Image → Self → FineStep → Self → Type 0 };
+
+    /// No step was made.
+    ghost Kept: { Self → Self → Type 0 };
+
+    /// This step can't be made now.
+    ghost Shut: { Image → Self → FineStep → Type 0 };
+
+    /// A step at the word of a row, and what the word says.
+    fn row(&mut self, image: &Image, cpu: u8, row: Row, act: &RowAct) -> Said<RowSaid>
+        requires image { IsOf image.now self.old }
+        requires row { row.0 < ROWS }
+        ensures image { IsOf image.now self.new }
+        ensures said { MatchSaid result
+            (λ said. (w : RowWord) × Took image.now self.old (row_made image.now cpu row.0 w act.now) self.new × (said ≡ row_said (row_made image.now cpu row.0 w act.now)))
+            ((w : RowWord) × Kept self.old self.new × Shut image.now self.old (row_made image.now cpu row.0 w act.now))
+            (Kept self.old self.new) };
+
+    /// A step at the word of a thread index, and the word that it leaves.
+    fn thread(
+        &mut self,
+        image: &Image,
+        cpu: u8,
+        thread: ThreadIx,
+        act: &ThreadAct,
+    ) -> Said<ThreadWord>
+        requires image { IsOf image.now self.old }
+        requires thread { thread.0 < THREADS }
+        ensures image { IsOf image.now self.new }
+        ensures domain { IfMade result (λ word. word.domain < DOMAINS) }
+        ensures said { MatchSaid result
+            (λ word. (w : ThreadWord) × Took image.now self.old (thread_made image.now cpu thread.0 w act.now) self.new × (word ≡ thread_in (thread_made image.now cpu thread.0 w act.now).word))
+            ((w : ThreadWord) × Kept self.old self.new × Shut image.now self.old (thread_made image.now cpu thread.0 w act.now))
+            (Kept self.old self.new) };
+
+    /// A step at the word of a domain, and the word that it leaves.
+    fn domain(&mut self, image: &Image, cpu: u8, domain: u8, act: &DomainAct) -> Said<DomWord>
+        requires image { IsOf image.now self.old }
+        requires domain { domain < DOMAINS }
+        ensures image { IsOf image.now self.new }
+        ensures said { MatchSaid result
+            (λ word. (w : DomWord) × Took image.now self.old (domain_made image.now cpu domain w act.now) self.new × (word ≡ domain_in (domain_made image.now cpu domain w act.now).word))
+            ((w : DomWord) × Kept self.old self.new × Shut image.now self.old (domain_made image.now cpu domain w act.now))
+            (Kept self.old self.new) };
+}

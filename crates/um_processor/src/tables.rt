@@ -1,0 +1,79 @@
+//! The sites in tables, of which only one call at a time makes a step.
+
+use crate::domain_act::DomainAct;
+use crate::row_act::{RowAct, RowSaid};
+use crate::said::Said;
+use crate::sites::Sites;
+use crate::thread_act::ThreadAct;
+use std::marker::Model;
+use um_base::{Image, Row, ThreadIx};
+use um_words::{DomWord, RowWord, ThreadWord};
+
+/// The words of all rows, thread indices and domains.
+#[derive(Drop)]
+pub struct Tables {
+    rows: Vec<RowWord>,
+    threads: Vec<ThreadWord>,
+    domains: Vec<DomWord>,
+}
+
+impl Model for Tables {
+    ghost use Rattle.std.specs.Prelude.{◌≡◌, ◌<◌, length};
+    ghost use Rattle.std.specs.List.{All};
+    ghost use Rattle.um_base.specs.declared.limits.TheConstants.{DOMAINS, ROWS, THREADS};
+    ghost use Rattle.um_processor.specs.Sited.{Sited, in_domains};
+
+    ghost Value = { Sited };
+
+    ghost view = { λ t. record { rows = t.rows.items; threads = t.threads.items; domains = t.domains.items } };
+
+    ghost invariant = { λ t. (length t.rows.items ≡ ROWS) × (length t.threads.items ≡ THREADS) × (length t.domains.items ≡ DOMAINS) × All in_domains t.threads.items };
+}
+
+impl Sites for Tables {
+    ghost use Rattle.std.specs.Prelude.{◌≡◌};
+    ghost use Rattle.um_base.specs.declared.image.Image.{Image};
+    ghost use Rattle.um_processor.specs.Asked.{Refuses};
+    ghost use Rattle.um_processor.specs.Sited.{WasMade, state_at};
+
+    ghost IsOf = { λ image s. Unit {0} };
+
+    ghost Took = { WasMade };
+
+    ghost Kept = { λ old new. new ≡ old };
+
+    ghost Shut = { λ image old e. Refuses (state_at old e.site) e };
+
+    fn row(&mut self, image: &Image, cpu: u8, row: Row, act: &RowAct) -> Said<RowSaid> {
+        let (next, said) = match act.make(&self.rows[row.0 as usize]) {
+            None => return Said::Busy,
+            Some(made) => made,
+        };
+        self.rows[row.0 as usize] = next;
+        Said::Made(said)
+    }
+
+    fn thread(
+        &mut self,
+        image: &Image,
+        cpu: u8,
+        thread: ThreadIx,
+        act: &ThreadAct,
+    ) -> Said<ThreadWord> {
+        let next = match act.make(&self.threads[thread.0 as usize]) {
+            None => return Said::Busy,
+            Some(next) => next,
+        };
+        self.threads[thread.0 as usize] = next;
+        Said::Made(next)
+    }
+
+    fn domain(&mut self, image: &Image, cpu: u8, domain: u8, act: &DomainAct) -> Said<DomWord> {
+        let next = match act.make(&self.domains[domain as usize]) {
+            None => return Said::Busy,
+            Some(next) => next,
+        };
+        self.domains[domain as usize] = next;
+        Said::Made(next)
+    }
+}
