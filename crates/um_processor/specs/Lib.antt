@@ -3,3 +3,4 @@ pub mod RowActs
 pub mod ThreadActs
 pub mod DomainActs
 pub mod Sited
+pub mod Contexts

@@ -1,6 +1,7 @@
 //! One processor of the fine machine as code, over any way of keeping the sites: what it asks of each site, in short.
 #![tactic(auto)]
 
+mod context;
 mod domain_act;
 mod row_act;
 mod said;
@@ -8,6 +9,7 @@ mod sites;
 mod tables;
 mod thread_act;
 
+pub use context::Context;
 pub use domain_act::DomainAct;
 pub use row_act::{RowAct, RowSaid};
 pub use said::Said;
