@@ -4,3 +4,4 @@ pub mod ThreadActs
 pub mod DomainActs
 pub mod Sited
 pub mod Contexts
+pub mod Parked

@@ -3,16 +3,20 @@
 
 mod context;
 mod domain_act;
+mod parked;
 mod row_act;
 mod said;
+mod scheduler;
 mod sites;
 mod tables;
 mod thread_act;
 
 pub use context::Context;
 pub use domain_act::DomainAct;
+pub use parked::Parked;
 pub use row_act::{RowAct, RowSaid};
 pub use said::Said;
+pub use scheduler::Scheduler;
 pub use sites::Sites;
 pub use tables::Tables;
 pub use thread_act::ThreadAct;

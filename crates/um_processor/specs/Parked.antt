@@ -1,0 +1,28 @@
+-- What stands at the place of a thread index in the scheduler's cell.
+use Rattle.std.specs.Prelude.{ℕ, Bool, true, false, List, Option, Some, None, map, slice_set}
+use Rattle.um_base.specs.declared.ask.Told.{Told}
+use Rattle.um_fine.specs.Context.{Context}
+use Rattle.um_fine.specs.Scheduler.{Scheduler, behind}
+
+-- the thread, where no processor runs it, and what it is told, where it was woken
+pub record Parked : Type 0 where
+  pub context : Option Context
+  pub told : Option Told
+
+abbrev pub some_if : {A : Type 0} → Bool → A → Option A
+some_if true x = Some x
+some_if false x = None
+
+abbrev pub context_at : Parked → Option Context
+context_at p = p.context
+
+abbrev pub told_at : Parked → Option Told
+told_at p = p.told
+
+-- the scheduler's contents by its ready list, all places and how many threads run
+abbrev pub scheduler_of : List ℕ → List Parked → ℕ → Scheduler
+scheduler_of ready places running = record { ready = ready; parked = map context_at places; told = map told_at places; running = running }
+
+-- the contents after a thread was told this
+abbrev pub awake : Scheduler → Bool → ℕ → Told → Scheduler
+awake s ready t told = record s { ready = behind ready t s.ready; told = slice_set s.told t (Some told) }

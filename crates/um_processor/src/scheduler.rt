@@ -1,0 +1,144 @@
+//! The contents of the scheduler's cell.
+
+ghost use Rattle.std.specs.Prelude.{◌≡◌, ◌<◌, ◌&&◌, ◌||◌, false, length, nat_lt, is_some, not, true, IsTrue, MatchOption};
+ghost use Rattle.um_base.specs.declared.limits.TheConstants.{THREADS};
+ghost use Rattle.std.specs.List.{All};
+ghost use Rattle.um_fine.specs.Scheduler.{behind, first_ready, first_taken, has_place, has_ready, is_ready, one_less, parked_at, put_back};
+ghost use Rattle.um_fine.specs.Steps.{Exchange};
+ghost use Rattle.um_processor.specs.Parked.{awake, some_if};
+
+use crate::context::Context;
+use crate::parked::Parked;
+use arrayvec::ArrayVec;
+use std::marker::Model;
+use um_base::{THREADS, ThreadIx, Told};
+
+/// The ready list, the threads that no processor runs, and how many threads run.
+#[derive(Drop)]
+pub struct Scheduler {
+    ready: ArrayVec<u8, THREADS>,
+    /// By thread index.
+    places: Vec<Parked>,
+    running: u8,
+}
+
+impl Model for Scheduler {
+    ghost use Rattle.std.specs.Prelude.{◌≡◌, ◌<◌, length};
+    ghost use Rattle.std.specs.List.{All};
+    ghost use Rattle.um_base.specs.declared.limits.TheConstants.{THREADS};
+    ghost use Rattle.um_fine.specs.Scheduler.{Scheduler as Contents};
+    ghost use Rattle.um_processor.specs.Parked.{scheduler_of};
+
+    ghost Value = { Contents };
+
+    ghost view = { λ s. scheduler_of s.ready.items s.places.items s.running };
+
+    ghost invariant = { λ s. (length s.places.items ≡ THREADS) × All (λ t. t < THREADS) s.ready.items };
+}
+
+/// Whether a thread stands in the ready list once it is put back.
+fn is_ready(waits: bool, is_told: bool) -> bool
+    ensures { result ≡ (not waits || is_told) }
+{
+    !waits || is_told
+}
+
+/// A thread joins the ready list, where it is ready.
+fn join(ready: &mut ArrayVec<u8, THREADS>, thread: u8, is_ready: bool)
+    requires { length ready.old.items < THREADS }
+    ensures items { ready.new.items ≡ behind is_ready thread ready.old.items }
+    ensures small { thread < THREADS → All (λ t. t < THREADS) ready.old.items → All (λ t. t < THREADS) ready.new.items }
+{
+    if is_ready {
+        ready.push(thread);
+    }
+}
+
+impl Scheduler {
+    /// The first ready thread goes on, for the room that it is given, and is told what it was woken by. Answers whether something did.
+    pub fn take(&mut self, context: &mut Box<Context>, told: &mut Told) -> Option<bool>
+        ensures { MatchOption result
+            ((self.new ≡ self.old) × (context.new ≡ context.old) × (told.new ≡ told.old) × (has_ready self.old self.old.ready ≡ false))
+            (λ woken. IsTrue (has_ready self.old self.old.ready) × (self.new ≡ first_taken self.old self.old.ready)
+            × (first_ready self.old self.old.ready ≡ Exchange.thread context.new.value (some_if woken told.new))) }
+    {
+        if self.running == 255 {
+            return None;
+        }
+        let first = match self.ready.as_slice().first() {
+            None => return None,
+            Some(first) => *first,
+        };
+        let place = &mut self.places[first as usize];
+        if !place.is_there() {
+            return None;
+        }
+        let woken = place.take(context, told);
+        self.ready.remove(0);
+        self.running += 1;
+        Some(woken)
+    }
+
+    /// A thread that isn't put back doesn't run any longer.
+    pub fn done(&mut self) -> bool
+        ensures made { IsTrue result → (0 < self.old.running) × (self.new ≡ one_less self.old) }
+        ensures refused { result ≡ false → (self.new ≡ self.old) × (self.old.running ≡ 0) }
+    {
+        if self.running == 0 {
+            return false;
+        }
+        self.running -= 1;
+        true
+    }
+
+    /// A thread is put back, for the room that is there. Answers whether it is ready.
+    pub fn park(&mut self, context: &mut Box<Context>) -> Option<bool>
+        ensures { MatchOption result
+            ((self.new ≡ self.old) × (context.new ≡ context.old) × ((nat_lt 0 self.old.running && has_place self.old) ≡ false))
+            (λ ready. IsTrue (nat_lt 0 self.old.running && has_place self.old) × (ready ≡ is_ready self.old context.old.value)
+            × (self.new ≡ one_less (put_back self.old ready context.old.value))) }
+    {
+        if self.running == 0 || self.ready.len() >= THREADS {
+            return None;
+        }
+        let thread = context.thread();
+        let waits = context.waits();
+        let place = &mut self.places[thread as usize];
+        let ready = is_ready(waits, place.is_told());
+        place.put(context);
+        join(&mut self.ready, thread, ready);
+        self.running -= 1;
+        Some(ready)
+    }
+
+    /// A thread is told what woke it, and gets ready where it has been put back. Answers whether it does.
+    pub fn wake(&mut self, who: ThreadIx, told: &Told) -> Option<bool>
+        requires { who.0 < THREADS }
+        ensures { MatchOption result
+            ((self.new ≡ self.old) × (has_place self.old ≡ false))
+            (λ ready. IsTrue (has_place self.old) × (ready ≡ is_some (parked_at self.old who.0)) × (self.new ≡ awake self.old ready who.0 told.now)) }
+    {
+        if self.ready.len() >= THREADS {
+            return None;
+        }
+        let place = &mut self.places[who.0 as usize];
+        let ready = place.is_there();
+        place.tell(told);
+        join(&mut self.ready, who.0, ready);
+        Some(ready)
+    }
+
+    /// A new thread gets ready, for the room that is there.
+    pub fn add(&mut self, context: &mut Box<Context>) -> bool
+        ensures made { IsTrue result → IsTrue (has_place self.old) × (self.new ≡ put_back self.old true context.old.value) }
+        ensures refused { result ≡ false → (self.new ≡ self.old) × (context.new ≡ context.old) × (has_place self.old ≡ false) }
+    {
+        if self.ready.len() >= THREADS {
+            return false;
+        }
+        let thread = context.thread();
+        self.places[thread as usize].put(context);
+        join(&mut self.ready, thread, true);
+        true
+    }
+}
