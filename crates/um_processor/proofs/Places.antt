@@ -1,5 +1,5 @@
 -- The scheduler's contents where one of its places changes.
-use Rattle.std.proofs.Common.{◌≡◌, ◌<◌, ℕ, ◌+◌, Bool, List, [], ◌∷◌, Option, Some, None, IsTrue, ap, refl, sym, subst, ◌∙◌, map, length, remove, slice_get, slice_index_or, slice_set, is_some, unwrap_or, nat_lt, true, ◌&&◌}
+use Rattle.std.proofs.Common.{◌≡◌, ◌<◌, ℕ, ◌+◌, Bool, List, [], ◌∷◌, Option, Some, None, IsTrue, ap, sym, subst, ◌∙◌, map, length, remove, slice_get, slice_index_or, slice_set, is_some, unwrap_or, nat_lt, ◌&&◌}
 use Rattle.std.proofs.lemmas.List.{get_or-map, map-set}
 use Rattle.std.proofs.lemmas.Bool.{false≢true, lt-ltb}
 use Rattle.std.proofs.Math.Seq.{map-set_same}

@@ -5,3 +5,4 @@ pub mod DomainActs
 pub mod Sited
 pub mod Contexts
 pub mod Parked
+pub mod SchedulerActs

@@ -1,20 +1,24 @@
 -- The states of the sites that tables keep, what comes of a step there, and what a site says to the one that asks for it.
-use Rattle.std.specs.Prelude.{◌≡◌, ◌<◌, List, slice_index_or, slice_set}
+use Rattle.std.specs.Prelude.{◌≡◌, ◌<◌, ℕ, List, slice_index_or, slice_set}
 use Rattle.um_base.specs.declared.image.Image.{Image}
 use Rattle.um_base.specs.declared.limits.TheConstants.{DOMAINS}
 use Rattle.um_words.specs.declared.row_word.RowWord.{RowWord}
 use Rattle.um_words.specs.declared.thread_word.ThreadWord.{ThreadWord}
 use Rattle.um_words.specs.declared.dom_word.DomWord.{DomWord}
 use Rattle.um_fine.specs.Answers.{no_domain, no_row, no_thread}
+use Rattle.um_fine.specs.Cells.{Cell}
+use Rattle.um_fine.specs.Scheduler.{Scheduler}
 use Rattle.um_fine.specs.Steps.{FineStep, Site}
 use Rattle.um_fine.specs.Sites.{SiteMay, SiteState, s_next}
 use Rattle.um_processor.specs.declared.said.Said.{Said}
 
--- the words of all rows, thread indices and domains
+-- the words of all rows, thread indices and domains, and the scheduler's cell with the steps that it has taken
 pub record Sited : Type 0 where
   pub rows : List RowWord
   pub threads : List ThreadWord
   pub domains : List DomWord
+  pub scheduler : Scheduler
+  pub scheduler_steps : ℕ
 
 -- the word of a thread names a domain
 abbrev pub in_domains : ThreadWord → Type 0
@@ -25,12 +29,14 @@ abbrev pub state_at : Sited → Site → SiteState
 state_at s (Site.row x) = SiteState.row (slice_index_or s.rows x no_row)
 state_at s (Site.thread t) = SiteState.thread (slice_index_or s.threads t no_thread)
 state_at s (Site.domain d) = SiteState.domain (slice_index_or s.domains d no_domain)
+state_at s Site.scheduler = SiteState.cell s.scheduler_steps (Cell.scheduler s.scheduler)
 state_at s site = SiteState.row no_row
 
 abbrev pub with_state : Sited → Site → SiteState → Sited
 with_state s (Site.row x) (SiteState.row w) = record s { rows = slice_set s.rows x w }
 with_state s (Site.thread t) (SiteState.thread w) = record s { threads = slice_set s.threads t w }
 with_state s (Site.domain d) (SiteState.domain w) = record s { domains = slice_set s.domains d w }
+with_state s Site.scheduler (SiteState.cell n (Cell.scheduler t)) = record s { scheduler = t; scheduler_steps = n }
 with_state s site state = s
 
 -- the step was made: its site took it, and the other sites are as before

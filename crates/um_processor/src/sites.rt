@@ -1,21 +1,26 @@
 //! How a processor reaches the sites.
 
-ghost use Rattle.std.specs.Prelude.{◌≡◌, ◌<◌};
+ghost use Rattle.std.specs.Prelude.{◌≡◌, ◌<◌, ℕ};
 ghost use Rattle.um_base.specs.declared.limits.TheConstants.{DOMAINS, ROWS, THREADS};
 ghost use Rattle.um_words.specs.declared.row_word.RowWord.{RowWord};
 ghost use Rattle.um_words.specs.declared.thread_word.ThreadWord.{ThreadWord};
 ghost use Rattle.um_words.specs.declared.dom_word.DomWord.{DomWord};
 ghost use Rattle.um_fine.specs.Answers.{domain_in, thread_in};
+ghost use Rattle.um_fine.specs.Scheduler.{Scheduler};
+ghost use Rattle.um_fine.specs.Steps.{Exchange};
 ghost use Rattle.um_processor.specs.DomainActs.{domain_made};
 ghost use Rattle.um_processor.specs.RowActs.{row_made, row_said};
+ghost use Rattle.um_processor.specs.Parked.{some_if};
+ghost use Rattle.um_processor.specs.SchedulerActs.{added_made, done_made, parked_made, taken_made, woken_made};
 ghost use Rattle.um_processor.specs.Sited.{IfMade, MatchSaid};
 ghost use Rattle.um_processor.specs.ThreadActs.{thread_made};
 
+use crate::context::Context;
 use crate::domain_act::DomainAct;
 use crate::row_act::{RowAct, RowSaid};
 use crate::said::Said;
 use crate::thread_act::ThreadAct;
-use um_base::{Image, Row, ThreadIx};
+use um_base::{Image, Row, ThreadIx, Told};
 use um_words::{DomWord, ThreadWord};
 
 /// The sites that a processor shares with others, wherever they live. Each call asks for one step of a processor by its number.
@@ -71,5 +76,57 @@ pub trait Sites {
         ensures said { MatchSaid result
             (λ word. (w : DomWord) × Took image.now self.old (domain_made image.now cpu domain w act.now) self.new × (word ≡ domain_in (domain_made image.now cpu domain w act.now).word))
             ((w : DomWord) × Kept self.old self.new × Shut image.now self.old (domain_made image.now cpu domain w act.now))
+            (Kept self.old self.new) };
+
+    /// The first ready thread is taken, for the room that is given for it. Answers whether it was woken, and by what.
+    fn take(
+        &mut self,
+        image: &Image,
+        cpu: u8,
+        context: &mut Box<Context>,
+        told: &mut Told,
+    ) -> Said<bool>
+        requires { IsOf image.now self.old }
+        ensures image { IsOf image.now self.new }
+        ensures said { MatchSaid result
+            (λ woken. (n : ℕ) × (s : Scheduler) × Took image.now self.old (taken_made image.now cpu n s) self.new × ((taken_made image.now cpu n s).moved ≡ Exchange.thread context.new.value (some_if woken told.new)))
+            ((n : ℕ) × (s : Scheduler) × Kept self.old self.new × Shut image.now self.old (taken_made image.now cpu n s) × (context.new ≡ context.old) × (told.new ≡ told.old))
+            (Kept self.old self.new × (context.new ≡ context.old) × (told.new ≡ told.old)) };
+
+    /// A thread is told what woke it.
+    fn wake(&mut self, image: &Image, cpu: u8, who: ThreadIx, told: &Told) -> Said<()>
+        requires image { IsOf image.now self.old }
+        requires thread { who.0 < THREADS }
+        ensures image { IsOf image.now self.new }
+        ensures said { MatchSaid result
+            (λ said. (n : ℕ) × (s : Scheduler) × Took image.now self.old (woken_made image.now cpu n s who told.now) self.new)
+            ((n : ℕ) × (s : Scheduler) × Kept self.old self.new × Shut image.now self.old (woken_made image.now cpu n s who told.now))
+            (Kept self.old self.new) };
+
+    /// A new thread gets ready, for the room that was there. What is in that room, nothing says.
+    fn add(&mut self, image: &Image, cpu: u8, context: &mut Box<Context>) -> Said<()>
+        requires { IsOf image.now self.old }
+        ensures image { IsOf image.now self.new }
+        ensures said { MatchSaid result
+            (λ said. (n : ℕ) × (s : Scheduler) × Took image.now self.old (added_made image.now cpu n s context.old.value) self.new)
+            ((n : ℕ) × (s : Scheduler) × Kept self.old self.new × Shut image.now self.old (added_made image.now cpu n s context.old.value) × (context.new ≡ context.old))
+            (Kept self.old self.new × (context.new ≡ context.old)) };
+
+    /// A thread is put back, for the room that was there. What is in that room, nothing says.
+    fn park(&mut self, image: &Image, cpu: u8, context: &mut Box<Context>) -> Said<()>
+        requires { IsOf image.now self.old }
+        ensures image { IsOf image.now self.new }
+        ensures said { MatchSaid result
+            (λ said. (n : ℕ) × (s : Scheduler) × Took image.now self.old (parked_made image.now cpu n s context.old.value) self.new)
+            ((n : ℕ) × (s : Scheduler) × Kept self.old self.new × Shut image.now self.old (parked_made image.now cpu n s context.old.value) × (context.new ≡ context.old))
+            (Kept self.old self.new × (context.new ≡ context.old)) };
+
+    /// A thread that isn't put back doesn't run any longer.
+    fn done(&mut self, image: &Image, cpu: u8) -> Said<()>
+        requires { IsOf image.now self.old }
+        ensures image { IsOf image.now self.new }
+        ensures said { MatchSaid result
+            (λ said. (n : ℕ) × (s : Scheduler) × Took image.now self.old (done_made image.now cpu n s) self.new)
+            ((n : ℕ) × (s : Scheduler) × Kept self.old self.new × Shut image.now self.old (done_made image.now cpu n s))
             (Kept self.old self.new) };
 }

@@ -1,20 +1,28 @@
 //! The sites in tables, of which only one call at a time makes a step.
 
+use crate::context::Context;
 use crate::domain_act::DomainAct;
 use crate::row_act::{RowAct, RowSaid};
 use crate::said::Said;
+use crate::scheduler::Scheduler;
 use crate::sites::Sites;
 use crate::thread_act::ThreadAct;
 use std::marker::Model;
-use um_base::{Image, Row, ThreadIx};
+use um_base::{Image, Row, ThreadIx, Told};
 use um_words::{DomWord, RowWord, ThreadWord};
 
-/// The words of all rows, thread indices and domains.
+/// The greatest step number: there the scheduler's cell takes no step.
+const LAST: u32 = 0xfff_ffff;
+
+/// The words of all rows, thread indices and domains, and the scheduler's cell.
 #[derive(Drop)]
 pub struct Tables {
     rows: Vec<RowWord>,
     threads: Vec<ThreadWord>,
     domains: Vec<DomWord>,
+    scheduler: Scheduler,
+    /// How many steps the scheduler's cell has taken, below 2^28.
+    scheduler_steps: u32,
 }
 
 impl Model for Tables {
@@ -25,7 +33,7 @@ impl Model for Tables {
 
     ghost Value = { Sited };
 
-    ghost view = { λ t. record { rows = t.rows.items; threads = t.threads.items; domains = t.domains.items } };
+    ghost view = { λ t. record { rows = t.rows.items; threads = t.threads.items; domains = t.domains.items; scheduler = t.scheduler; scheduler_steps = t.scheduler_steps } };
 
     ghost invariant = { λ t. (length t.rows.items ≡ ROWS) × (length t.threads.items ≡ THREADS) × (length t.domains.items ≡ DOMAINS) × All in_domains t.threads.items };
 }
@@ -75,5 +83,69 @@ impl Sites for Tables {
         };
         self.domains[domain as usize] = next;
         Said::Made(next)
+    }
+
+    fn take(
+        &mut self,
+        image: &Image,
+        cpu: u8,
+        context: &mut Box<Context>,
+        told: &mut Told,
+    ) -> Said<bool> {
+        if self.scheduler_steps >= LAST {
+            return Said::Busy;
+        }
+        let woken = match self.scheduler.take(context, told) {
+            None => return Said::Busy,
+            Some(woken) => woken,
+        };
+        self.scheduler_steps += 1;
+        Said::Made(woken)
+    }
+
+    fn wake(&mut self, image: &Image, cpu: u8, who: ThreadIx, told: &Told) -> Said<()> {
+        if self.scheduler_steps >= LAST {
+            return Said::Busy;
+        }
+        let _ready = match self.scheduler.wake(who, told) {
+            None => return Said::Busy,
+            Some(ready) => ready,
+        };
+        self.scheduler_steps += 1;
+        Said::Made(())
+    }
+
+    fn add(&mut self, image: &Image, cpu: u8, context: &mut Box<Context>) -> Said<()> {
+        if self.scheduler_steps >= LAST {
+            return Said::Busy;
+        }
+        if !self.scheduler.add(context) {
+            return Said::Busy;
+        }
+        self.scheduler_steps += 1;
+        Said::Made(())
+    }
+
+    fn park(&mut self, image: &Image, cpu: u8, context: &mut Box<Context>) -> Said<()> {
+        if self.scheduler_steps >= LAST {
+            return Said::Busy;
+        }
+        let _ready = match self.scheduler.park(context) {
+            None => return Said::Busy,
+            Some(ready) => ready,
+        };
+        self.scheduler_steps += 1;
+        Said::Made(())
+    }
+
+    fn done(&mut self, image: &Image, cpu: u8) -> Said<()> {
+        if self.scheduler_steps >= LAST {
+            return Said::Busy;
+        }
+        if !self.scheduler.done() {
+            return Said::Busy;
+        }
+        self.scheduler_steps += 1;
+        Said::Made(())
     }
 }

@@ -1,4 +1,4 @@
-use Rattle.std.proofs.Common.{arith, ◌≡◌, IsTrue, ap, subst, ◌∙◌, true}
+use Rattle.std.proofs.Common.{arith, IsTrue, ap, subst, ◌∙◌, true}
 use Rattle.std.proofs.lemmas.Bool.{lt-ltb}
 use Rattle.um_fine.specs.Context.{Context}
 use Rattle.um_fine.specs.Scheduler.{Scheduler, has_place, put_back}

@@ -1,4 +1,4 @@
-use Rattle.std.proofs.Common.{arith, ◌≡◌, ℕ, Bool, IsTrue, ap, subst, sym, ◌∙◌, length, nat_lt, not, is_some, ◌&&◌, ◌||◌}
+use Rattle.std.proofs.Common.{arith, ℕ, Bool, IsTrue, ap, subst, sym, ◌∙◌, length, nat_lt, not, is_some, ◌&&◌, ◌||◌}
 use Rattle.std.proofs.lemmas.Bool.{lt-ltb}
 use Rattle.um_base.specs.declared.limits.TheConstants.{THREADS}
 use Rattle.um_fine.specs.Context.{Context}

@@ -1,7 +1,5 @@
-use Rattle.std.proofs.Common.{arith, rules, ◌≡◌, IsTrue, List, ℕ, ap, slice_get, subst, sym, ◌∙◌}
+use Rattle.std.proofs.Common.{arith, rules, IsTrue, List, ℕ, ap, slice_get, subst, sym, ◌∙◌}
 use Rattle.um_fine.specs.Scheduler.{Scheduler, first_ready, first_taken, has_ready}
-use Rattle.um_fine.specs.Steps.{Exchange}
-use Rattle.um_processor.specs.Parked.{some_if}
 use Rattle.um_processor.proofs.Places.{first-taken}
 use Rattle.um_processor.proofs.scheduler.Scheduler.take.Goals as goal
 

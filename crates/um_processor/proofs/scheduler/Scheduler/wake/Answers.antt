@@ -1,7 +1,6 @@
-use Rattle.std.proofs.Common.{arith, ◌≡◌, Bool, IsTrue, Option, ap, is_some, length, subst, sym, ◌∙◌}
+use Rattle.std.proofs.Common.{arith, IsTrue, ap, is_some, length, subst, sym, ◌∙◌}
 use Rattle.std.proofs.lemmas.Bool.{lt-ltb}
 use Rattle.um_base.specs.declared.limits.TheConstants.{THREADS}
-use Rattle.um_fine.specs.Context.{Context}
 use Rattle.um_fine.specs.Scheduler.{Scheduler, has_place, parked_at}
 use Rattle.um_processor.specs.Parked.{awake}
 use Rattle.um_processor.proofs.Places.{parked-there, told-at-place}
