@@ -9,6 +9,10 @@ pub record Parked : Type 0 where
   pub context : Option Context
   pub told : Option Told
 
+-- at the place of a thread index on which none was put
+abbrev pub nobody : Parked
+nobody = record { context = None; told = None }
+
 abbrev pub some_if : {A : Type 0} → Bool → A → Option A
 some_if true x = Some x
 some_if false x = None

@@ -20,3 +20,6 @@ pub use scheduler::Scheduler;
 pub use sites::Sites;
 pub use tables::Tables;
 pub use thread_act::ThreadAct;
+
+#[cfg(test)]
+mod tests;

@@ -1,17 +1,18 @@
 //! The contents of the scheduler's cell.
 
-ghost use Rattle.std.specs.Prelude.{◌≡◌, ◌<◌, ◌&&◌, ◌||◌, false, length, nat_lt, is_some, not, true, IsTrue, MatchOption};
+ghost use Rattle.std.specs.Prelude.{◌≡◌, ◌<◌, ◌&&◌, ◌||◌, [], false, length, nat_lt, is_some, not, replicate, true, IfOk, IsTrue, MatchOption};
 ghost use Rattle.um_base.specs.declared.limits.TheConstants.{THREADS};
 ghost use Rattle.std.specs.List.{All};
 ghost use Rattle.um_fine.specs.Scheduler.{behind, first_ready, first_taken, has_place, has_ready, is_ready, one_less, parked_at, put_back};
 ghost use Rattle.um_fine.specs.Steps.{Exchange};
-ghost use Rattle.um_processor.specs.Parked.{awake, some_if};
+ghost use Rattle.um_processor.specs.Parked.{awake, nobody, scheduler_of, some_if};
 
 use crate::context::Context;
 use crate::parked::Parked;
 use arrayvec::ArrayVec;
+use std::alloc::Global;
 use std::marker::Model;
-use um_base::{THREADS, ThreadIx, Told};
+use um_base::{Memory, THREADS, ThreadIx, Told};
 
 /// The ready list, the threads that no processor runs, and how many threads run.
 #[derive(Drop)]
@@ -54,7 +55,30 @@ fn join(ready: &mut ArrayVec<u8, THREADS>, thread: u8, is_ready: bool)
     }
 }
 
+/// The place of each thread index, nobody's.
+fn places(alloc: Global) -> Result<Vec<Parked>, Memory>
+    ensures items { IfOk result (λ all. all.items ≡ replicate THREADS nobody) }
+    ensures all { IfOk result (λ all. length all.items ≡ THREADS) }
+{
+    let mut all = Vec::with_capacity(alloc, THREADS)?;
+    for _ in 0..THREADS {
+        all.push(Parked::empty(Box::new(alloc, Context::idle())?))?;
+    }
+    Ok(all)
+}
+
 impl Scheduler {
+    /// No thread, and room for each.
+    pub fn new(alloc: Global) -> Result<Scheduler, Memory>
+        ensures { IfOk result (λ s. s ≡ scheduler_of [] (replicate THREADS nobody) 0) }
+    {
+        Ok(Scheduler {
+            ready: ArrayVec::new(),
+            places: places(alloc)?,
+            running: 0,
+        })
+    }
+
     /// The first ready thread goes on, for the room that it is given, and is told what it was woken by. Answers whether something did.
     pub fn take(&mut self, context: &mut Box<Context>, told: &mut Told) -> Option<bool>
         ensures { MatchOption result

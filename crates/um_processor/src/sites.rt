@@ -41,6 +41,9 @@ pub trait Sites {
     /// This step can't be made now.
     ghost Shut: { Image → Self → FineStep → Type 0 };
 
+    /// Others may make steps there meanwhile.
+    ghost Contended: { Self → Type 0 };
+
     /// A step at the word of a row, and what the word says.
     fn row(&mut self, image: &Image, cpu: u8, row: Row, act: &RowAct) -> Said<RowSaid>
         requires image { IsOf image.now self.old }
@@ -49,7 +52,7 @@ pub trait Sites {
         ensures said { MatchSaid result
             (λ said. (w : RowWord) × Took image.now self.old (row_made image.now cpu row.0 w act.now) self.new × (said ≡ row_said (row_made image.now cpu row.0 w act.now)))
             ((w : RowWord) × Kept self.old self.new × Shut image.now self.old (row_made image.now cpu row.0 w act.now))
-            (Kept self.old self.new) };
+            (Kept self.old self.new × Contended self.old) };
 
     /// A step at the word of a thread index, and the word that it leaves.
     fn thread(
@@ -66,7 +69,7 @@ pub trait Sites {
         ensures said { MatchSaid result
             (λ word. (w : ThreadWord) × Took image.now self.old (thread_made image.now cpu thread.0 w act.now) self.new × (word ≡ thread_in (thread_made image.now cpu thread.0 w act.now).word))
             ((w : ThreadWord) × Kept self.old self.new × Shut image.now self.old (thread_made image.now cpu thread.0 w act.now))
-            (Kept self.old self.new) };
+            (Kept self.old self.new × Contended self.old) };
 
     /// A step at the word of a domain, and the word that it leaves.
     fn domain(&mut self, image: &Image, cpu: u8, domain: u8, act: &DomainAct) -> Said<DomWord>
@@ -76,7 +79,7 @@ pub trait Sites {
         ensures said { MatchSaid result
             (λ word. (w : DomWord) × Took image.now self.old (domain_made image.now cpu domain w act.now) self.new × (word ≡ domain_in (domain_made image.now cpu domain w act.now).word))
             ((w : DomWord) × Kept self.old self.new × Shut image.now self.old (domain_made image.now cpu domain w act.now))
-            (Kept self.old self.new) };
+            (Kept self.old self.new × Contended self.old) };
 
     /// The first ready thread is taken, for the room that is given for it. Answers whether it was woken, and by what.
     fn take(
@@ -91,7 +94,7 @@ pub trait Sites {
         ensures said { MatchSaid result
             (λ woken. (n : ℕ) × (s : Scheduler) × Took image.now self.old (taken_made image.now cpu n s) self.new × ((taken_made image.now cpu n s).moved ≡ Exchange.thread context.new.value (some_if woken told.new)))
             ((n : ℕ) × (s : Scheduler) × Kept self.old self.new × Shut image.now self.old (taken_made image.now cpu n s) × (context.new ≡ context.old) × (told.new ≡ told.old))
-            (Kept self.old self.new × (context.new ≡ context.old) × (told.new ≡ told.old)) };
+            (Kept self.old self.new × Contended self.old × (context.new ≡ context.old) × (told.new ≡ told.old)) };
 
     /// A thread is told what woke it.
     fn wake(&mut self, image: &Image, cpu: u8, who: ThreadIx, told: &Told) -> Said<()>
@@ -101,7 +104,7 @@ pub trait Sites {
         ensures said { MatchSaid result
             (λ said. (n : ℕ) × (s : Scheduler) × Took image.now self.old (woken_made image.now cpu n s who told.now) self.new)
             ((n : ℕ) × (s : Scheduler) × Kept self.old self.new × Shut image.now self.old (woken_made image.now cpu n s who told.now))
-            (Kept self.old self.new) };
+            (Kept self.old self.new × Contended self.old) };
 
     /// A new thread gets ready, for the room that was there. What is in that room, nothing says.
     fn add(&mut self, image: &Image, cpu: u8, context: &mut Box<Context>) -> Said<()>
@@ -110,7 +113,7 @@ pub trait Sites {
         ensures said { MatchSaid result
             (λ said. (n : ℕ) × (s : Scheduler) × Took image.now self.old (added_made image.now cpu n s context.old.value) self.new)
             ((n : ℕ) × (s : Scheduler) × Kept self.old self.new × Shut image.now self.old (added_made image.now cpu n s context.old.value) × (context.new ≡ context.old))
-            (Kept self.old self.new × (context.new ≡ context.old)) };
+            (Kept self.old self.new × Contended self.old × (context.new ≡ context.old)) };
 
     /// A thread is put back, for the room that was there. What is in that room, nothing says.
     fn park(&mut self, image: &Image, cpu: u8, context: &mut Box<Context>) -> Said<()>
@@ -119,7 +122,7 @@ pub trait Sites {
         ensures said { MatchSaid result
             (λ said. (n : ℕ) × (s : Scheduler) × Took image.now self.old (parked_made image.now cpu n s context.old.value) self.new)
             ((n : ℕ) × (s : Scheduler) × Kept self.old self.new × Shut image.now self.old (parked_made image.now cpu n s context.old.value) × (context.new ≡ context.old))
-            (Kept self.old self.new × (context.new ≡ context.old)) };
+            (Kept self.old self.new × Contended self.old × (context.new ≡ context.old)) };
 
     /// A thread that isn't put back doesn't run any longer.
     fn done(&mut self, image: &Image, cpu: u8) -> Said<()>
@@ -128,5 +131,5 @@ pub trait Sites {
         ensures said { MatchSaid result
             (λ said. (n : ℕ) × (s : Scheduler) × Took image.now self.old (done_made image.now cpu n s) self.new)
             ((n : ℕ) × (s : Scheduler) × Kept self.old self.new × Shut image.now self.old (done_made image.now cpu n s))
-            (Kept self.old self.new) };
+            (Kept self.old self.new × Contended self.old) };
 }

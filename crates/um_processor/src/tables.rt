@@ -1,5 +1,10 @@
 //! The sites in tables, of which only one call at a time makes a step.
 
+ghost use Rattle.std.specs.Prelude.{◌≡◌, length};
+ghost use Rattle.std.specs.List.{All};
+ghost use Rattle.um_base.specs.declared.limits.TheConstants.{DOMAINS, ROWS, THREADS};
+ghost use Rattle.um_processor.specs.Sited.{in_domains};
+
 use crate::context::Context;
 use crate::domain_act::DomainAct;
 use crate::row_act::{RowAct, RowSaid};
@@ -38,6 +43,30 @@ impl Model for Tables {
     ghost invariant = { λ t. (length t.rows.items ≡ ROWS) × (length t.threads.items ≡ THREADS) × (length t.domains.items ≡ DOMAINS) × All in_domains t.threads.items };
 }
 
+impl Tables {
+    /// Those with these words, and with a scheduler's cell that has taken no step.
+    pub fn new(
+        rows: Vec<RowWord>,
+        threads: Vec<ThreadWord>,
+        domains: Vec<DomWord>,
+        scheduler: Scheduler,
+    ) -> Tables
+        requires rows { length rows.items ≡ ROWS }
+        requires threads { length threads.items ≡ THREADS }
+        requires domains { length domains.items ≡ DOMAINS }
+        requires named { All in_domains threads.items }
+        ensures { result ≡ record { rows = rows.items; threads = threads.items; domains = domains.items; scheduler = scheduler; scheduler_steps = 0 } }
+    {
+        Tables {
+            rows,
+            threads,
+            domains,
+            scheduler,
+            scheduler_steps: 0,
+        }
+    }
+}
+
 impl Sites for Tables {
     ghost use Rattle.std.specs.Prelude.{◌≡◌};
     ghost use Rattle.um_base.specs.declared.image.Image.{Image};
@@ -51,6 +80,8 @@ impl Sites for Tables {
     ghost Kept = { λ old new. new ≡ old };
 
     ghost Shut = { λ image old e. Refuses (state_at old e.site) e };
+
+    ghost Contended = { λ old. ⊥ };
 
     fn row(&mut self, image: &Image, cpu: u8, row: Row, act: &RowAct) -> Said<RowSaid> {
         let (next, said) = match act.make(&self.rows[row.0 as usize]) {

@@ -1,0 +1,208 @@
+//! Steps over tables: a row, a thread, a domain, and turns of a thread.
+
+ghost use Rattle.std.specs.Prelude.{◌≡◌};
+
+use super::*;
+use std::alloc::Global;
+use std::test::Fail;
+use um_base::{
+    Addr, BoundedVec, DOMAINS, Image, Leftover, Memory, Mode, Mpu, Piece, Policy, ROWS, Reply, Row,
+    THREADS, ThreadIx, Told,
+};
+use um_machine::Life;
+use um_words::{DomWord, Permissions, RowWord, Stage, ThreadWord};
+
+/// An object that one call holds, and the thread 3 alone may use.
+fn row() -> RowWord {
+    let mut permissions = Permissions::none();
+    permissions.add(3);
+    RowWord {
+        permissions,
+        init: true,
+        public: false,
+        dynamic: true,
+        stage: Stage::Live,
+        claims: 1,
+        number: 7,
+    }
+}
+
+/// The last permission goes while a call holds the object, and the object is to be cleaned once the call ends.
+#[test]
+fn a_row(rt: HostRuntime) -> Result<(), Fail> {
+    let who = ThreadIx(3);
+    let drop = RowAct::Sweep {
+        thread: who,
+        who,
+        addr: Addr(0x4800_0000),
+    };
+    let mut dying = row();
+    match drop.make(&row()) {
+        None => assert!(rt; false),
+        Some((next, said)) => {
+            assert!(rt; said.left == Leftover::Gone && !said.cleans && !said.visits);
+            assert!(rt; next.stage == Stage::Dying && next.number == 8);
+            dying = next;
+        }
+    }
+    match drop.make(&dying) {
+        None => assert!(rt; false),
+        Some((next, said)) => assert!(rt;
+            said.visits && next.stage == Stage::Dying && next.number == 9
+        ),
+    }
+    match RowAct::EndCall.make(&dying) {
+        None => assert!(rt; false),
+        Some((next, said)) => assert!(rt;
+            said.cleans && next.stage == Stage::Cleaning && next.claims == 0
+        ),
+    }
+    assert!(rt; RowAct::Vacate.make(&dying).is_none());
+    Ok(())
+}
+
+fn living(domain: u8) -> ThreadWord
+    ensures { result.domain ≡ domain }
+{
+    ThreadWord {
+        life: Life::Living,
+        doomed: false,
+        held: false,
+        mode: Mode::User,
+        domain,
+        number: 0,
+    }
+}
+
+/// A doomed thread begins nothing, and its word is read instead.
+#[test]
+fn a_thread(rt: HostRuntime) -> Result<(), Fail> {
+    let exit = ThreadAct::Exit {
+        thread: ThreadIx(0),
+    };
+    match exit.make(&living(2)) {
+        None => assert!(rt; false),
+        Some(next) => assert!(rt; next.life == Life::Ended && exit.make(&next).is_none()),
+    }
+    let mut doomed = living(2);
+    doomed.doomed = true;
+    match exit.make(&doomed) {
+        None => assert!(rt; false),
+        Some(next) => assert!(rt; next.life == Life::Living && next.doomed && next.number == 1),
+    }
+    assert!(rt; ThreadAct::LetGo.make(&doomed).is_none());
+    Ok(())
+}
+
+fn domain() -> DomWord {
+    DomWord {
+        init: true,
+        writer: false,
+        readers: 0,
+        version: 5,
+        number: 0,
+    }
+}
+
+/// Nobody claims a domain to write it while it is read, and an edit makes another version.
+#[test]
+fn a_domain(rt: HostRuntime) -> Result<(), Fail> {
+    match DomainAct::ReadClaim.make(&domain()) {
+        None => assert!(rt; false),
+        Some(read) => assert!(rt; read.readers == 1 && DomainAct::WriteClaim.make(&read).is_none()),
+    }
+    let mut claimed = domain();
+    claimed.writer = true;
+    let edit = DomainAct::DomInit {
+        thread: ThreadIx(0),
+        domain: 0,
+        reply: Reply::Num(0),
+    };
+    match edit.make(&claimed) {
+        None => assert!(rt; false),
+        Some(left) => assert!(rt; !left.writer && left.version == 6 && left.number == 1),
+    }
+    assert!(rt; edit.make(&domain()).is_none());
+    Ok(())
+}
+
+fn told() -> Told {
+    Told {
+        reply: Reply::Void,
+        taken: Piece::new(),
+    }
+}
+
+/// A thread is added, taken, put back, told something and taken again.
+#[test]
+fn turns(rt: HostRuntime) -> Result<(), Fail> {
+    let mut scheduler = Scheduler::new(rt.alloc())?;
+    let mut context = Box::new(rt.alloc(), Context::idle())?;
+    let mut heard = told();
+    assert!(rt; scheduler.take(&mut context, &mut heard) == None && !scheduler.done());
+    assert!(rt; scheduler.add(&mut context));
+    assert!(rt; scheduler.take(&mut context, &mut heard) == Some(false));
+    assert!(rt; scheduler.wake(ThreadIx(0), &told()) == Some(false));
+    assert!(rt; scheduler.park(&mut context) == Some(true));
+    assert!(rt; scheduler.take(&mut context, &mut heard) == Some(true));
+    assert!(rt; scheduler.done() && !scheduler.done());
+    Ok(())
+}
+
+/// An image without anything.
+fn image(alloc: Global) -> Image {
+    Image {
+        mpu: Mpu::V8,
+        regions: 8,
+        policy: Policy::Abort,
+        rodata: None,
+        rodata_bytes: BoundedVec::new(alloc),
+        pools: BoundedVec::new(alloc),
+        partitions: BoundedVec::new(alloc),
+        domains: BoundedVec::new(alloc),
+        objects: BoundedVec::new(alloc),
+        boots: BoundedVec::new(alloc),
+        scripts: BoundedVec::new(alloc),
+    }
+}
+
+/// Tables in which all rows are alike, and all threads, and all domains.
+fn tables(alloc: Global) -> Result<Tables, Memory> {
+    let mut rows = Vec::new(alloc);
+    rows.resize(ROWS, row())?;
+    let mut threads = Vec::new(alloc);
+    threads.resize(THREADS, living(0))?;
+    let mut domains = Vec::new(alloc);
+    domains.resize(DOMAINS, domain())?;
+    Ok(Tables::new(rows, threads, domains, Scheduler::new(alloc)?))
+}
+
+/// The permission of a row is passed on once, while another row stays as it was.
+#[test]
+fn over_tables(rt: HostRuntime) -> Result<(), Fail> {
+    let image = image(rt.alloc());
+    let mut sites = tables(rt.alloc())?;
+    let pass = RowAct::Pass {
+        thread: ThreadIx(3),
+        who: ThreadIx(4),
+        addr: Addr(0x4000_0000),
+    };
+    for (row, visits) in [(9, false), (9, true), (10, false)] {
+        match sites.row(&image, 0, Row(row), &pass) {
+            Said::Made(said) => assert!(rt; said.visits == visits),
+            _ => assert!(rt; false),
+        }
+    }
+    match sites.thread(&image, 1, ThreadIx(3), &ThreadAct::Hold) {
+        Said::Made(word) => assert!(rt; word.held && word.number == 1),
+        _ => assert!(rt; false),
+    }
+    assert!(rt;
+        matches!(
+            sites.thread(&image, 0, ThreadIx(3), &ThreadAct::Hold),
+            Said::Busy
+        )
+    );
+    assert!(rt; matches!(sites.done(&image, 0), Said::Busy));
+    Ok(())
+}
