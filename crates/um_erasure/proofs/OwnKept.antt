@@ -138,7 +138,7 @@ module _ (f : Fine) (m : State) (e : FineStep) (law : Lawful f m e) (suits : Sui
       (ap (λ n. (thread_at m n).pending) (sym same) ∙ (starts-known m law.sound t who script stack priority mode rest offers).1)
 
   module _ (x : ℕ) where
-    carries : (q : Pending) (h : Shows f m e.cpu e q rest todo) (room : t < length m.threads) → IsShown q → IsStep f m e.cpu e x q
+    pub carries : (q : Pending) (h : Shows f m e.cpu e q rest todo) (room : t < length m.threads) → IsShown q → IsStep f m e.cpu e x q
         → Carries m t p.context (own-part h).own refl room q e.moved
     carries (Pending.CopyIn a amount) h room shown is = copy-in-carries x a amount h is
     carries (Pending.CopyStr a) h room shown is = copy-str-carries (held-domain all h refl) a h

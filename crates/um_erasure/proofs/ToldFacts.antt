@@ -23,7 +23,7 @@ use Rattle.um_erasure.proofs.ThreadLists.{at-here, set-else, set-long}
 
 -- Lists.
 
-none-first : (t : ℕ) (ws : Wakes) → told_times t ws ≡ 0 → told_first t ws ≡ None
+pub none-first : (t : ℕ) (ws : Wakes) → told_times t ws ≡ 0 → told_first t ws ≡ None
 none-first t [] h = refl
 none-first t (w ∷ ws) h = by (w.0 == t) h (none-first t ws)
   where
@@ -31,7 +31,7 @@ none-first t (w ∷ ws) h = by (w.0 == t) h (none-first t ws)
     by true h more = absurd (omega (arith, h))
     by false h more = more h
 
-some-first : (t : ℕ) (ws : Wakes) → 0 < told_times t ws → is_some (told_first t ws) ≡ true
+pub some-first : (t : ℕ) (ws : Wakes) → 0 < told_times t ws → is_some (told_first t ws) ≡ true
 some-first t [] h = absurd (omega (arith, h))
 some-first t (w ∷ ws) h = by (w.0 == t) h (some-first t ws)
   where

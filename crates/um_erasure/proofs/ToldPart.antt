@@ -13,7 +13,7 @@ use Rattle.um_machine.specs.declared.thread.Thread.{Thread}
 use Rattle.um_machine.specs.Objects.{verdict}
 use Rattle.um_machine.specs.Order.{Steps, to_thread}
 use Rattle.um_machine.specs.Run.{Offers, exits, goes, skips_drops, skips_inherit}
-use Rattle.um_machine.specs.State.{State, nobody, thread_at, with_thread}
+use Rattle.um_machine.specs.State.{State, nobody, object_at, thread_at, with_object, with_thread}
 use Rattle.um_machine.specs.Table as T
 use Rattle.um_reach.proofs.Cores.{map_at}
 use Rattle.um_turns.proofs.ThreadWords.{AreKept, is_resume}
@@ -25,6 +25,40 @@ use Rattle.um_erasure.proofs.CallsKnown.{starts-known}
 use Rattle.um_erasure.proofs.Leaves.{Lawful}
 use Rattle.um_erasure.proofs.Offered.{Shows, shown-offers}
 use Rattle.um_erasure.proofs.RestKept.{KeepsBeside, beside-kept, beside-same}
+use Rattle.std.proofs.lemmas.List.{append-nil}
+use Rattle.um_base.specs.declared.names.Addr.{Addr}
+use Rattle.um_base.specs.declared.names.Reply.{Reply}
+use Rattle.um_base.specs.declared.names.ThreadIx.{ThreadIx}
+use Rattle.um_base.specs.declared.act.Answer.{Answer}
+use Rattle.um_base.specs.declared.ask.Ask.{Ask}
+use Rattle.um_machine.specs.declared.object.Object.{Object}
+use Rattle.um_machine.specs.Services.{Acted}
+use Rattle.um_turns.proofs.ThreadServes.{served}
+use Rattle.um_turns.proofs.ThreadWaits.{IsServed, times, wakings, wakings-more}
+use Rattle.um_fine.specs.Answers.{is_word_read, outcome_in}
+use Rattle.um_fine.specs.Asks.{says_show}
+use Rattle.um_fine.specs.Follows.{p_next}
+use Rattle.um_fine.specs.Objects.{outcome_of}
+use Rattle.um_fine.specs.Scheduler.{Scheduler, told_at}
+use Rattle.um_fine.specs.Sites.{same_site}
+use Rattle.um_fine.specs.Steps.{Site}
+use Rattle.um_erasure.specs.Fine.{one_if, over_processors, scheduler}
+use Rattle.um_erasure.specs.Frames.{AreFramed}
+use Rattle.um_erasure.specs.Lists.{counted, is_wake, wake_of}
+use Rattle.um_erasure.specs.Offers.{Fits}
+use Rattle.um_erasure.specs.Threads.{ToldIs, first_told, tellers, told_by}
+use Rattle.um_erasure.proofs.Erased.{stepped}
+use Rattle.um_erasure.proofs.LawfulSteps.{Suits}
+use Rattle.um_erasure.proofs.ListGrips.{read-rests}
+use Rattle.um_erasure.proofs.ListWakes.{LastRead, named, next-wakers, told_first, told_times, wake-first, wake-times, wakers, woken_by}
+use Rattle.um_erasure.proofs.MemoryPart.{InDomains}
+use Rattle.um_erasure.proofs.Offered.{IsStep, behind-is, own-part}
+use Rattle.um_erasure.proofs.OwnKept.{carries}
+use Rattle.um_erasure.proofs.ResumeSteps.{some-is}
+use Rattle.um_erasure.proofs.RunningPart.{is_scheduling, todo-elsewhere}
+use Rattle.um_erasure.proofs.SchedulerSteps.{made-at, made-says, sched-else}
+use Rattle.um_erasure.proofs.Sums.{over-changed}
+use Rattle.um_erasure.proofs.ToldFacts.{last-first, none-first, some-first, told-alike, told_last, untold, wake-is-told, woken-told}
 
 -- What the machine tells a thread.
 
@@ -77,3 +111,153 @@ module _ (f : Fine) (m : State) (e : FineStep) (law : Lawful f m e) (kept : AreK
   event-tells-none (Pending.Work a ask) rest todo h none = absurd none
   event-tells-none Pending.Resume rest todo h none = absurd none
   event-tells-none q rest todo h none = ap (λ z. z.told) (beside-same m mine (T.after m mine x q rest) (beside-kept m mine x q rest tt) t)
+
+answer-tells : (s : State) (v : ℕ) (ask : Ask) (taken : List ℕ) (rest : Steps) (answer : Answer) (t : ℕ)
+    → (thread_at (T.after_answer s v (thread_at s v) ask taken rest answer) t).told ≡ (thread_at s t).told
+answer-tells s v ask taken rest Answer.Wait t = set-told s v _ t refl
+answer-tells s v ask taken rest (Answer.Now (Reply.Fail e)) t = set-told s v _ t refl
+answer-tells s v ask taken rest (Answer.Now Reply.Void) t = set-told s v _ t refl
+answer-tells s v ask taken rest (Answer.Now (Reply.Num n)) t = set-told s v _ t refl
+answer-tells s v ask taken rest (Answer.Now (Reply.At a)) t = set-told s v _ t refl
+answer-tells s v ask taken rest (Answer.Now Reply.Null) t = set-told s v _ t refl
+
+-- how often a thread is woken, counted in both ways
+wakings-named : (t : ℕ) (ws : List (ThreadIx × Told)) → wakings t ws ≡ told_times t (named ws)
+wakings-named t [] = refl
+wakings-named t (w ∷ ws) = wakings-more t w ws ∙ ap (λ n. if w.0.0 == t then n + 1 else n) (wakings-named t ws)
+
+module _ (f : Fine) (m : State) (e : FineStep) (law : Lawful f m e) (suits : Suits f m) (all : InDomains f m) (kept : AreKept m) (t : ℕ) (few : t < THREADS) where
+  abbrev later : Fine
+  later = stepped f.image f.cpus f.processors f.sites e
+
+  abbrev p : Processor
+  p = f.processors e.cpu
+
+  abbrev now : Processor
+  now = p_next f.image p e
+
+  abbrev count : Processor → ℕ
+  count z = counted (is_wake t) z.todo
+
+  sums : over_processors later count + count p ≡ over_processors f count + count now
+  sums = over-changed f e count law.by.named
+
+  at-cpu : later.processors e.cpu ≡ now
+  at-cpu = ap (λ b. cond b (p_next f.image (f.processors e.cpu) e) (f.processors e.cpu)) (eq-eqb e.cpu e.cpu refl)
+
+  -- where all stands as before
+  same-tellers : (s : State) → (thread_at s t).told ≡ (thread_at m t).told → wake_of t now.todo ≡ wake_of t p.todo → count now ≡ count p → told_at (scheduler later) t ≡ told_at (scheduler f) t → ToldIs later s t
+  same-tellers s machine wake times here =
+      let sum = sums in
+      let before = (law.rel.threads t few).told.once in
+      let stood = ap (λ (o : Option Told). one_if (is_some o)) here in
+      record {
+        told = machine ∙ ((law.rel.threads t few).told.told ∙ sym (told-alike later t f refl each here));
+        once = omega (arith, sum, before, stood, times);
+      }
+    where
+      each : (k : ℕ) → wake_of t (later.processors k).todo ≡ wake_of t (f.processors k).todo
+      each k = by (e.cpu == k) refl
+        where
+          by : (b : Bool) → (e.cpu == k) ≡ b → wake_of t (cond b (p_next f.image (f.processors k) e) (f.processors k)).todo ≡ wake_of t (f.processors k).todo
+          by true q = subst (λ n. wake_of t (p_next f.image (f.processors n) e).todo ≡ wake_of t (f.processors n).todo) (eqb-true e.cpu k q) wake
+          by false q = refl
+
+  last-read : (q : Todo) (todo : Todos) → p.todo ≡ q ∷ todo → LastRead f.image e q todo
+  last-read (Todo.show r rest) todo at = λ read.
+      ((subst (Fits f.image p.context) at (law.rel.processors e.cpu law.by.named).list.fits).1 ∙ read-rests f.image p p.context r e.act (made-says f m e law (Todo.show r rest ∷ todo) at) read,
+      by r (made-says f m e law (Todo.show r rest ∷ todo) at) read)
+    where
+      by : (r : Pending) → e.act ≡ says_show f.image p r e.act → is_word_read e.act ≡ true → woken_by e (Todo.show r rest) ≡ []
+      by (Pending.Work a ask) said read = absurd (true≢false (sym read ∙ ap is_word_read said))
+      by r said read = refl
+  last-read q todo at = tt
+
+  wakers-now : (q : Todo) (todo : Todos) → p.todo ≡ q ∷ todo → wakers now.todo ≡ woken_by e q ++ wakers todo
+  wakers-now q todo at = next-wakers f.image p e q todo at (subst (AreFramed f.image) at (law.rel.processors e.cpu law.by.named).frames).0 (last-read q todo at)
+
+  -- a step that leaves the wakes on the list
+  wakes-same : (s : State) → (thread_at s t).told ≡ (thread_at m t).told → wakers now.todo ≡ wakers p.todo → told_at (scheduler later) t ≡ told_at (scheduler f) t → ToldIs later s t
+  wakes-same s machine lists here =
+      same-tellers s machine (wake-first t now.todo ∙ (ap (told_first t) lists ∙ sym (wake-first t p.todo))) (wake-times t now.todo ∙ (ap (told_times t) lists ∙ sym (wake-times t p.todo))) here
+
+  elsewhere : (q : Todo) (todo : Todos) → p.todo ≡ q ∷ todo → is_scheduling q ≡ false → told_at (scheduler later) t ≡ told_at (scheduler f) t
+  elsewhere q todo at off = ap (λ (z : Scheduler). told_at z t) (sched-else f m e law (ap (λ i. same_site i Site.scheduler) (made-at f m e law (q ∷ todo) at) ∙ todo-elsewhere f.image p q todo off))
+
+  -- work that wakes
+  works : (a : Addr) (ask : Ask) (rest : Steps) (todo : Todos) (x : ℕ) → (h : Shows f m e.cpu e (Pending.Work a ask) rest todo) → IsStep f m e.cpu e x (Pending.Work a ask)
+      → ToldIs later (T.after m p.context.thread x (Pending.Work a ask) rest) t
+  works a ask rest todo x h is = by (told_times t (named w.woken)) refl
+    where
+      v : ℕ
+      v = p.context.thread
+
+      w : Acted
+      w = T.work_of m p.context.thread a ask
+
+      y : ℕ
+      y = T.row_of m a
+
+      o : Object
+      o = record (object_at m (T.row_of m a)) { contents = w.contents; waiters = w.waiters; buffer = T.buffer_cost ask w.answer (object_at m (T.row_of m a)).buffer }
+
+      s : State
+      s = T.after m p.context.thread x (Pending.Work a ask) rest
+
+      room : t < length m.threads
+      room = let many = law.sound.wide.threads in omega (arith, few, many)
+
+      mine-room : p.context.thread < length m.threads
+      mine-room = let many = law.sound.wide.threads in let index = (own-part h).index in omega (arith, index, many)
+
+      outcome : outcome_in e.moved ≡ outcome_of (T.work_of m p.context.thread a ask)
+      outcome = carries f m e law suits all rest todo x (Pending.Work a ask) h mine-room tt is
+
+      lists : wakers now.todo ≡ named (T.work_of m p.context.thread a ask).woken
+      lists =
+          wakers-now (Todo.show (Pending.Work a ask) rest) todo h.at
+          ∙ ((λ i. named (outcome i).woken ++ wakers (behind-is h i)) ∙ append-nil (named (T.work_of m p.context.thread a ask).woken))
+
+      bare : wakers p.todo ≡ []
+      bare = ap wakers h.at ∙ ap wakers (behind-is h)
+
+      machine : (thread_at s t).told ≡ told_last t (T.work_of m p.context.thread a ask).woken (thread_at m t).told
+      machine =
+          answer-tells (T.all_woken w.woken (with_object m (T.row_of m a) o)) p.context.thread ask w.taken rest w.answer t
+          ∙ woken-told (T.work_of m p.context.thread a ask).woken (with_object m (T.row_of m a) o) t room
+
+      here : told_at (scheduler later) t ≡ told_at (scheduler f) t
+      here = elsewhere (Todo.show (Pending.Work a ask) rest) todo h.at refl
+
+      serves : IsServed (object_at m (T.row_of m a)).waiters p.context.thread (T.work_of m p.context.thread a ask)
+      serves = served (object_at m (T.row_of m a)).waiters (record { thread = to_thread p.context.thread; priority = (thread_at m p.context.thread).priority; ask = ask; bytes = T.bytes_given (thread_at m p.context.thread).buffer ask })
+          (kept.once (T.row_of m a)) (object_at m (T.row_of m a)).contents ask
+
+      often : told_times t (named (T.work_of m p.context.thread a ask).woken) ≤ times t (object_at m (T.row_of m a)).waiters
+      often = let least = serves.often t in let same = wakings-named t (T.work_of m p.context.thread a ask).woken in omega (arith, least, same)
+
+      once : told_times t (named (T.work_of m p.context.thread a ask).woken) ≤ 1
+      once = let most = kept.once (T.row_of m a) t in let less = often in omega (arith, most, less)
+
+      by : (n : ℕ) → told_times t (named (T.work_of m p.context.thread a ask).woken) ≡ n → ToldIs later s t
+      by zero none =
+          same-tellers s (machine ∙ (last-first t (T.work_of m p.context.thread a ask).woken (thread_at m t).told once ∙ ap (λ (o : Option Told). first_told o (thread_at m t).told) (none-first t (named (T.work_of m p.context.thread a ask).woken) none)))
+          (wake-first t now.todo ∙ (ap (told_first t) lists ∙ (none-first t (named (T.work_of m p.context.thread a ask).woken) none ∙ sym (wake-first t p.todo ∙ ap (told_first t) bare))))
+          (wake-times t now.todo ∙ (ap (told_times t) lists ∙ (none ∙ sym (wake-times t p.todo ∙ ap (told_times t) bare)))) here
+      by (suc n) some =
+          let less = often in
+          let waits = kept.waits (T.row_of m a) t (omega (arith, some, less)) in
+          let none = untold f m law.rel t few waits.1 in
+          let first = some-is (told_first t (named (T.work_of m p.context.thread a ask).woken)) (some-first t (named (T.work_of m p.context.thread a ask).woken) (omega (arith, some))) in
+          let times-now = wake-times t now.todo ∙ ap (told_times t) lists in
+          let times-was = wake-times t p.todo ∙ ap (told_times t) bare in
+          let sum = sums in
+          let most = once in
+          let stood = ap (λ (o : Option Told). one_if (is_some o)) here in
+          let single : tellers later t ≤ 1 = omega (arith, none, times-now, times-was, sum, most, stood) in
+          record {
+            told = machine ∙ (last-first t (T.work_of m p.context.thread a ask).woken (thread_at m t).told once ∙ (ap (λ (o : Option Told). first_told o (thread_at m t).told) first.1
+                ∙ sym (wake-is-told later t first.0 e.cpu law.by.named (ap (λ (z : Processor). wake_of t z.todo) at-cpu ∙ (wake-first t now.todo ∙ (ap (told_first t) lists ∙ first.1)))
+                (let same = ap (λ (z : Processor). counted (is_wake t) z.todo) at-cpu in omega (arith, same, times-now, some)) single)));
+            once = single;
+          }

@@ -241,3 +241,7 @@ writers-few size (v ∷ vs) bytes u =
       | true ↦ omega arith
       | false ↦ (let more = writers-few size vs (bytes ++ put) u in omega (arith, more))
     ]
+
+pub wakings-more : (u : ℕ) (p : ThreadIx × Told) (woken : List (ThreadIx × Told)) → wakings u (p ∷ woken) ≡ (if p.0.0 == u then wakings u woken + 1 else wakings u woken)
+wakings-more u p woken =
+    elim (p.0.0 == u) as (λ b. one_if b + wakings u woken ≡ (if b then wakings u woken + 1 else wakings u woken)) [ true ↦ omega arith | false ↦ omega arith ]
