@@ -1,5 +1,5 @@
 -- The wakes on a processor's list: an act that wakes puts them there, and each goes by its step.
-use Rattle.std.proofs.Common.{◌≡◌, ℕ, ◌+◌, Bool, true, false, List, [], ◌∷◌, ◌++◌, map, Option, Some, None, refl, sym, ap, ◌∙◌, subst, arith}
+use Rattle.std.proofs.Common.{◌≡◌, ℕ, ◌+◌, Bool, true, false, List, [], ◌∷◌, ◌++◌, map, Option, Some, None, refl, sym, ap, ◌∙◌}
 use Rattle.std.specs.Prelude.{◌==◌, if◌then◌else◌, nat_lt}
 use Rattle.um_base.specs.declared.ask.Told.{Told}
 use Rattle.um_base.specs.declared.image.Image.{Image}
@@ -22,7 +22,6 @@ use Rattle.um_fine.specs.Processor.{Processor, is_of, key_of}
 use Rattle.um_fine.specs.Steps.{Exchange, FineStep}
 use Rattle.um_erasure.specs.Frames.{Behind}
 use Rattle.um_erasure.specs.Lists.{counted, is_wake, wake_of}
-use Rattle.um_erasure.proofs.ListTails.{ReadsLast}
 
 abbrev pub Wakes : Type 0
 Wakes = List (ℕ × Told)

@@ -1,7 +1,7 @@
 -- Every lawful step keeps the relation, where it keeps the parts of it that are still to be proved: the other parts are kept.
 use Rattle.std.proofs.Common.{sym, subst, ◌≡◌, ℕ, ◌<◌, length, refl, ◌∙◌}
 use Rattle.um_base.specs.declared.image.Image.{Image}
-use Rattle.um_base.specs.declared.limits.TheConstants.{ROWS, THREADS}
+use Rattle.um_base.specs.declared.limits.TheConstants.{ROWS}
 use Rattle.um_base.specs.Lawful.{IsLawful}
 use Rattle.um_machine.specs.declared.pending.Pending.{Pending}
 use Rattle.um_machine.specs.Order.{Steps, to_thread}
@@ -12,27 +12,27 @@ use Rattle.um_reach.proofs.Cores.{core_of}
 use Rattle.um_reach.proofs.Guards.{IsSited}
 use Rattle.um_reach.proofs.Turns.{IsKnown}
 use Rattle.um_reach.specs.Described.{IsDescribed}
+use Rattle.um_turns.proofs.ThreadWords.{AreKept}
 use Rattle.um_fine.specs.Steps.{FineStep}
 use Rattle.um_erasure.specs.Claims.{ClaimsAre}
 use Rattle.um_erasure.specs.Dues.{DuesAre}
 use Rattle.um_erasure.specs.Fine.{Fine}
 use Rattle.um_erasure.specs.Looks.{IsSized}
 use Rattle.um_erasure.specs.Relation.{Rel}
-use Rattle.um_erasure.specs.Threads.{ContextsAre, ToldIs}
-use Rattle.um_erasure.proofs.ChargedPart.{charged-part, order-part}
-use Rattle.um_erasure.proofs.CleanerPart.{begun-part, cleaner-part}
-use Rattle.um_erasure.proofs.CleanersPart.{cleaners-part}
-use Rattle.um_erasure.proofs.CleanSteps.{OwnRows}
-use Rattle.um_erasure.proofs.ContentsPart.{NamesHeld, contents-part}
-use Rattle.um_erasure.proofs.DomainPart.{domain-part}
-use Rattle.um_erasure.proofs.DomainsKnown.{started-placed}
-use Rattle.um_erasure.proofs.EmptiedPart.{GivesHeld, emptied-part}
-use Rattle.um_erasure.proofs.Erased.{IsReachable, Keeps, fine, stepped}
+use Rattle.um_erasure.specs.Threads.{ContextsAre}
 use Rattle.um_erasure.proofs.AwayPart.{away-part}
 use Rattle.um_erasure.proofs.CallsKnown.{RestsHoldNothing, own-known}
 use Rattle.um_erasure.proofs.CallsProper.{AreProper}
+use Rattle.um_erasure.proofs.ChargedPart.{charged-part, order-part}
+use Rattle.um_erasure.proofs.CleanSteps.{OwnRows}
+use Rattle.um_erasure.proofs.CleanerPart.{begun-part, cleaner-part}
+use Rattle.um_erasure.proofs.CleanersPart.{cleaners-part}
+use Rattle.um_erasure.proofs.ContentsPart.{NamesHeld, contents-part}
 use Rattle.um_erasure.proofs.ContextsPart.{added-field, parked-field, running-field}
+use Rattle.um_erasure.proofs.DomainPart.{domain-part}
+use Rattle.um_erasure.proofs.DomainsKnown.{started-placed}
 use Rattle.um_erasure.proofs.DonePart.{done-part}
+use Rattle.um_erasure.proofs.EmptiedPart.{GivesHeld, emptied-part}
 use Rattle.um_erasure.proofs.Erased.{IsReachable, Keeps, fine, reach-on, stepped}
 use Rattle.um_erasure.proofs.FirstObjects.{opening-image}
 use Rattle.um_erasure.proofs.HeapPart.{heap-part}
@@ -55,14 +55,14 @@ use Rattle.um_erasure.proofs.RowsPart.{rows-part}
 use Rattle.um_erasure.proofs.RunningPart.{running-part}
 use Rattle.um_erasure.proofs.SchedulerPart.{scheduler-part}
 use Rattle.um_erasure.proofs.StatusPart.{status-part}
-use Rattle.um_erasure.proofs.SuitsKnown.{proper-known, rests-known, suits-known}
+use Rattle.um_erasure.proofs.SuitsKnown.{kept-known, proper-known, rests-known, suits-known}
 use Rattle.um_erasure.proofs.TablePart.{table-part}
+use Rattle.um_erasure.proofs.ToldPart.{told-part}
 use Rattle.um_erasure.proofs.WordsPart.{words-part}
 use Rattle.um_erasure.proofs.Writes.{Keeping, after-kept, bytes-kept}
 
 -- The parts of the relation that are still to be kept.
 pub record IsLeft (g : Fine) (s : State) : Type 0 where
-  pub told : (t : ℕ) → t < THREADS → ToldIs g s t
   pub claims : (x : ℕ) → x < ROWS → ClaimsAre g s x
   pub dues : (k : ℕ) → k < g.cpus → DuesAre g s k
   pub sizes : (k : ℕ) → k < g.cpus → IsSized g s k
@@ -114,9 +114,9 @@ module _ (f : Fine) (m : State) (e : FineStep) (law : Lawful f m e) where
       }
 
   -- the relation holds after the step where what is left of it does
-  pub related : OwnRows f.image → InDomains f m → Suits f m → IsLawful m.image → AreProper m.image m → NamesHeld m → GivesHeld m → MovesIn m (length f.image.domains)
+  pub related : OwnRows f.image → InDomains f m → Suits f m → IsLawful m.image → AreProper m.image m → AreKept m → NamesHeld m → GivesHeld m → MovesIn m (length f.image.domains)
       → (s : State) (leaves : Leaves f m e s) → HasStep f m e s leaves → RestsHoldNothing s → IsLeft later s → Rel later s
-  related own all suits lawful proper names gives moves s leaves has rests left =
+  related own all suits lawful proper kept names gives moves s leaves has rests left =
       record {
         image = image-part s leaves;
         sorts = sorts-kept f.image f.sites e law.rel.sorts;
@@ -124,7 +124,7 @@ module _ (f : Fine) (m : State) (e : FineStep) (law : Lawful f m e) where
         running = running-part f m e law;
         scheduler = scheduler-part f m e law;
         threads = λ t l.
-            record { word = words-part f m e law t l s leaves; away = away-part f m e law suits all s leaves has t l; told = left.told t l; held = held-part f m e law t l; ready = ready-part f m e law suits.tells t l };
+            record { word = words-part f m e law t l s leaves; away = away-part f m e law suits all s leaves has t l; told = told-part f m e law suits all kept t l s leaves; held = held-part f m e law t l; ready = ready-part f m e law suits.tells t l };
         rows = λ x l.
             record { pairs = pairs-part f m e law x l s leaves; status = status-part f m e law x l s leaves; contents = contents-part f m e law suits names x l s leaves; claims = left.claims x l; cleaners = cleaners-part f m e law x l s leaves; cleaner = cleaner-part f m e law x l own s leaves };
         domains = λ d l. domain-part f m e law d l s leaves;
@@ -165,7 +165,8 @@ keeps-all image cpus described known left ps ss m e rel reach by taken =
     let all : InDomains f m = λ t l started. started-placed image cpus described m reach t started in
     let next = lawful-next f m e law suits own all in
     let lawful = subst IsLawful (sym rel.image) described.lawful in
+    let kept = kept-known image cpus described known m reach in
     let proper = proper-known image cpus described known m reach in
     let rests = rests-known image cpus described known next.state (reach-on image cpus m next.state e.act reach next.goes) in
     let moves = subst (λ (i : Image). MovesIn m (length i.domains)) rel.image (moves-known image cpus described known m reach) in
-    (next.state, next.goes, related f m e law own all suits lawful proper (names-known image cpus described known m reach) (gives-known image cpus described known m reach) moves next.state next.leaves next.has rests (left.parts f m e refl refl reach law suits next.state next.leaves))
+    (next.state, next.goes, related f m e law own all suits lawful proper kept (names-known image cpus described known m reach) (gives-known image cpus described known m reach) moves next.state next.leaves next.has rests (left.parts f m e refl refl reach law suits next.state next.leaves))

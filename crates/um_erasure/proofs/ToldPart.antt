@@ -1,6 +1,6 @@
 -- What a woken thread is told stands with the scheduler, or on the list of the processor that wakes it, after every lawful step.
-use Rattle.std.proofs.Common.{◌≡◌, ℕ, zero, suc, ◌+◌, ◌<◌, ◌≤◌, Bool, true, false, cond, List, [], ◌∷◌, ◌++◌, length, map, Option, Some, None, refl, sym, ap, ◌∙◌, subst, arith, eq-eqb}
-use Rattle.std.specs.Prelude.{ℤ, ◌==◌, if◌then◌else◌, is_some, slice_index_or, slice_set}
+use Rattle.std.proofs.Common.{◌≡◌, ℕ, zero, suc, ◌+◌, ◌<◌, ◌≤◌, Bool, true, false, cond, List, [], ◌∷◌, ◌++◌, length, Option, Some, None, refl, sym, ap, ◌∙◌, subst, arith, eq-eqb}
+use Rattle.std.specs.Prelude.{◌==◌, if◌then◌else◌, is_some, slice_index_or, slice_set}
 use Rattle.std.proofs.Math.Seq.{map-set_same}
 use Rattle.std.proofs.lemmas.Bool.{eqb-false, eqb-true, false≢true, true≢false}
 use Rattle.std.proofs.lemmas.Grind.{get_or-set_at}
@@ -19,12 +19,12 @@ use Rattle.um_reach.proofs.Cores.{map_at}
 use Rattle.um_turns.proofs.ThreadWords.{AreKept, is_resume}
 use Rattle.um_fine.specs.Places.{Todo, Todos}
 use Rattle.um_fine.specs.Processor.{Processor}
-use Rattle.um_fine.specs.Steps.{FineStep}
+use Rattle.um_fine.specs.Steps.{Exchange, FineStep, Site}
 use Rattle.um_erasure.specs.Fine.{Fine}
 use Rattle.um_erasure.proofs.CallsKnown.{starts-known}
-use Rattle.um_erasure.proofs.Leaves.{Lawful}
+use Rattle.um_erasure.proofs.Leaves.{Lawful, Leaves, cleans, drops, event, nothing, passes, recycles, resumes}
 use Rattle.um_erasure.proofs.Offered.{Shows, shown-offers}
-use Rattle.um_erasure.proofs.RestKept.{KeepsBeside, beside-kept, beside-same}
+use Rattle.um_erasure.proofs.RestKept.{beside-kept, beside-same}
 use Rattle.std.proofs.lemmas.List.{append-nil}
 use Rattle.um_base.specs.declared.names.Addr.{Addr}
 use Rattle.um_base.specs.declared.names.Reply.{Reply}
@@ -35,30 +35,40 @@ use Rattle.um_machine.specs.declared.object.Object.{Object}
 use Rattle.um_machine.specs.Services.{Acted}
 use Rattle.um_turns.proofs.ThreadServes.{served}
 use Rattle.um_turns.proofs.ThreadWaits.{IsServed, times, wakings, wakings-more}
-use Rattle.um_fine.specs.Answers.{is_word_read, outcome_in}
-use Rattle.um_fine.specs.Asks.{says_show}
+use Rattle.um_fine.specs.Answers.{is_word_read, outcome_in, ready_in, wake_in}
+use Rattle.um_fine.specs.Asks.{says_idle, says_show}
 use Rattle.um_fine.specs.Follows.{p_next}
 use Rattle.um_fine.specs.Objects.{outcome_of}
-use Rattle.um_fine.specs.Scheduler.{Scheduler, told_at}
+use Rattle.um_fine.specs.Scheduler.{Scheduler, first_taken, told_at}
 use Rattle.um_fine.specs.Sites.{same_site}
-use Rattle.um_fine.specs.Steps.{Site}
 use Rattle.um_erasure.specs.Fine.{one_if, over_processors, scheduler}
 use Rattle.um_erasure.specs.Frames.{AreFramed}
 use Rattle.um_erasure.specs.Lists.{counted, is_wake, wake_of}
 use Rattle.um_erasure.specs.Offers.{Fits}
-use Rattle.um_erasure.specs.Threads.{ToldIs, first_told, tellers, told_by}
+use Rattle.um_erasure.specs.Threads.{ToldIs, first_told, tellers}
 use Rattle.um_erasure.proofs.Erased.{stepped}
 use Rattle.um_erasure.proofs.LawfulSteps.{Suits}
 use Rattle.um_erasure.proofs.ListGrips.{read-rests}
-use Rattle.um_erasure.proofs.ListWakes.{LastRead, named, next-wakers, told_first, told_times, wake-first, wake-times, wakers, woken_by}
+use Rattle.um_erasure.proofs.ListWakes.{LastRead, named, next-wakers, takes-wakers, told_first, told_times, wake-first, wake-times, wakers, woken_by}
 use Rattle.um_erasure.proofs.MemoryPart.{InDomains}
 use Rattle.um_erasure.proofs.Offered.{IsStep, behind-is, own-part}
 use Rattle.um_erasure.proofs.OwnKept.{carries}
 use Rattle.um_erasure.proofs.ResumeSteps.{some-is}
-use Rattle.um_erasure.proofs.RunningPart.{is_scheduling, todo-elsewhere}
-use Rattle.um_erasure.proofs.SchedulerSteps.{made-at, made-says, sched-else}
+use Rattle.um_erasure.proofs.RunningPart.{idle-after, is_scheduling, todo-elsewhere}
+use Rattle.um_erasure.proofs.SchedulerSteps.{made-at, made-moves, made-says, sched-else, sched-later}
 use Rattle.um_erasure.proofs.Sums.{over-changed}
-use Rattle.um_erasure.proofs.ToldFacts.{last-first, none-first, some-first, told-alike, told_last, untold, wake-is-told, woken-told}
+use Rattle.um_erasure.proofs.ToldFacts.{last-first, none-first, none-told, scheduler-told, some-first, told-alike, told_last, untold, wake-is-told, woken-told}
+use Rattle.um_words.specs.declared.fine.FineAct.{FineAct}
+use Rattle.um_words.specs.declared.fine.Unseen.{Unseen}
+use Rattle.um_fine.specs.Context.{Context}
+use Rattle.um_erasure.specs.Threads.{IsOf}
+use Rattle.um_erasure.proofs.ContextsPart.{is_shown, read-only}
+use Rattle.um_erasure.proofs.MemorySteps.{part-total}
+use Rattle.um_erasure.proofs.OfVisits.{scheduler-tells}
+use Rattle.um_erasure.proofs.PartsElsewhere.{taken-parked, taken-told, takes-first}
+use Rattle.um_erasure.proofs.PlacesFacts.{set-none}
+use Rattle.um_erasure.proofs.ThreadLists.{at-here, set-else}
+use Rattle.um_erasure.proofs.WordsKept.{IsShown}
 
 -- What the machine tells a thread.
 
@@ -164,9 +174,10 @@ module _ (f : Fine) (m : State) (e : FineStep) (law : Lawful f m e) (suits : Sui
           by false q = refl
 
   last-read : (q : Todo) (todo : Todos) → p.todo ≡ q ∷ todo → LastRead f.image e q todo
-  last-read (Todo.show r rest) todo at = λ read.
-      ((subst (Fits f.image p.context) at (law.rel.processors e.cpu law.by.named).list.fits).1 ∙ read-rests f.image p p.context r e.act (made-says f m e law (Todo.show r rest ∷ todo) at) read,
-      by r (made-says f m e law (Todo.show r rest ∷ todo) at) read)
+  last-read (Todo.show r rest) todo at = λ read. (
+    (subst (Fits f.image p.context) at (law.rel.processors e.cpu law.by.named).list.fits).1 ∙ read-rests f.image p p.context r e.act (made-says f m e law (Todo.show r rest ∷ todo) at) read,
+    by r (made-says f m e law (Todo.show r rest ∷ todo) at) read,
+  )
     where
       by : (r : Pending) → e.act ≡ says_show f.image p r e.act → is_word_read e.act ≡ true → woken_by e (Todo.show r rest) ≡ []
       by (Pending.Work a ask) said read = absurd (true≢false (sym read ∙ ap is_word_read said))
@@ -261,3 +272,167 @@ module _ (f : Fine) (m : State) (e : FineStep) (law : Lawful f m e) (suits : Sui
                 (let same = ap (λ (z : Processor). counted (is_wake t) z.todo) at-cpu in omega (arith, same, times-now, some)) single)));
             once = single;
           }
+
+  -- A thread is taken.
+
+  took-none : (s : State) → (thread_at s t).told ≡ (thread_at m t).told → p.todo ≡ [] → is_shown e.act ≡ false → ToldIs later s t
+  took-none s machine at quiet = wakes-same s machine (takes-wakers f.image p e at ∙ sym (ap wakers at)) here
+    where
+      first : (u : ℕ) × (list : List ℕ) × (d : Context) × (told : Option Told) × ((scheduler f).ready ≡ u ∷ list) × (e.moved ≡ Exchange.thread d told) × (d.thread ≡ u) × (told ≡ told_at (scheduler f) u)
+      first = takes-first f m e law at
+
+      untold-it : (o : Option Told) → first.3 ≡ o → o ≡ None
+      untold-it None q = refl
+      untold-it (Some w) q =
+          absurd (false≢true (sym quiet ∙ ap is_shown (made-says f m e law [] at ∙ ap (says_idle f.image p) (first.5 ∙ ap (Exchange.thread first.2) q))))
+
+      after : scheduler later ≡ first_taken (scheduler f) (first.0 ∷ first.1)
+      after = sched-later f m e law (made-at f m e law [] at) (says_idle f.image p e.moved) (made-says f m e law [] at) ∙ (idle-after f.image p (scheduler f) e.moved ∙ ap (first_taken (scheduler f)) first.4)
+
+      here : told_at (scheduler later) t ≡ told_at (scheduler f) t
+      here = ap (λ (z : Scheduler). told_at z t) after ∙ which (t == first.0) refl
+        where
+          which : (b : Bool) → (t == first.0) ≡ b → slice_index_or (slice_set (scheduler f).told first.0 None) t None ≡ told_at (scheduler f) t
+          which true same =
+              subst (λ n. slice_index_or (slice_set (scheduler f).told first.0 None) n None ≡ told_at (scheduler f) n) (sym (eqb-true t first.0 same))
+              (set-none (scheduler f).told first.0 ∙ sym (sym first.7 ∙ untold-it first.3 refl))
+          which false other = get_or-set_other (scheduler f).told first.0 t None None (eqb-false t first.0 other)
+
+  took-told : (c : Context) (told : Told) (rest : Steps) → p.todo ≡ [] → e.moved ≡ Exchange.thread c (Some told) → ToldIs later (T.after m c.thread 0 Pending.Resume rest) t
+  took-told c told rest at moved = which (t == c.thread) refl
+    where
+      v : ℕ
+      v = c.thread
+
+      is : IsOf m c
+      is = (law.rel.contexts.parked c.thread c (taken-parked f m e law at c (Some told) moved)).0
+
+      room : c.thread < length m.threads
+      room = let index = is.index in let many = law.sound.wide.threads in omega (arith, index, many)
+
+      stands : told_at (scheduler f) c.thread ≡ Some told
+      stands = taken-told f m e law at c told moved
+
+      steps : Steps
+      steps = elim told.reply as (λ _. Steps) [ Reply.Fail e ↦ T.without_copy rest | _ ↦ rest ]
+
+      th : Thread
+      th = T.at_steps m.image (record (thread_at m c.thread) { told = None; reply = told.reply; buffer = told.taken }) (elim told.reply as (λ _. Steps) [ Reply.Fail e ↦ T.without_copy rest | _ ↦ rest ])
+
+      written : (n : ℕ) → thread_at (T.after m c.thread 0 Pending.Resume rest) n ≡ thread_at (with_thread m c.thread th) n
+      written n = λ i. thread_at (T.resumed m c.thread (thread_at m c.thread) rest (scheduler-tells f m law.rel c.thread is.index told stands i)) n
+
+      first : (u : ℕ) × (list : List ℕ) × (d : Context) × (told : Option Told) × ((scheduler f).ready ≡ u ∷ list) × (e.moved ≡ Exchange.thread d told) × (d.thread ≡ u) × (told ≡ told_at (scheduler f) u)
+      first = takes-first f m e law at
+
+      thread_in : Exchange → ℕ
+      thread_in (Exchange.thread d w) = d.thread
+      thread_in moved = 0
+
+      index : first.0 ≡ c.thread
+      index = sym first.6 ∙ ap thread_in (sym first.5 ∙ moved)
+
+      after : scheduler later ≡ first_taken (scheduler f) (first.0 ∷ first.1)
+      after = sched-later f m e law (made-at f m e law [] at) (says_idle f.image p e.moved) (made-says f m e law [] at) ∙ (idle-after f.image p (scheduler f) e.moved ∙ ap (first_taken (scheduler f)) first.4)
+
+      here : told_at (scheduler later) t ≡ slice_index_or (slice_set (scheduler f).told c.thread None) t None
+      here = ap (λ (z : Scheduler). told_at z t) after ∙ ap (λ n. slice_index_or (slice_set (scheduler f).told n None) t None) index
+
+      lists : wakers now.todo ≡ wakers p.todo
+      lists = takes-wakers f.image p e at ∙ sym (ap wakers at)
+
+      which : (b : Bool) → (t == c.thread) ≡ b → ToldIs later (T.after m c.thread 0 Pending.Resume rest) t
+      which true same =
+          let equal = eqb-true t c.thread same in
+          let gone : told_at (scheduler later) t ≡ None = here ∙ subst (λ n. slice_index_or (slice_set (scheduler f).told c.thread None) n None ≡ None) (sym equal) (set-none (scheduler f).told c.thread) in
+          let none = ap (λ (o : Option Told). one_if (is_some o)) gone in
+          let sum = sums in
+          let before = (law.rel.threads t few).told.once in
+          let one : one_if (is_some (told_at (scheduler f) t)) ≡ 1 = ap (λ n. one_if (is_some (told_at (scheduler f) n))) equal ∙ ap (λ (o : Option Told). one_if (is_some o)) stands in
+          let times : count now ≡ count p = wake-times t now.todo ∙ (ap (told_times t) lists ∙ sym (wake-times t p.todo)) in
+          let silent : tellers later t ≡ 0 = omega (arith, none, sum, before, one, times) in
+          record {
+            told = ap told_of (written t) ∙ (ap (λ n. told_of (thread_at (with_thread m c.thread th) n)) equal ∙ (ap told_of (at-here m.threads c.thread th room) ∙ sym (none-told later t silent)));
+            once = omega (arith, silent);
+          }
+      which false other =
+          let apart = eqb-false t c.thread other in
+          wakes-same (T.after m c.thread 0 Pending.Resume rest) (ap told_of (written t) ∙ ap told_of (set-else m.threads c.thread t th (λ same. apart (sym same)))) lists
+          (here ∙ get_or-set_other (scheduler f).told c.thread t None None apart)
+
+  -- A thread is woken.
+  woke : (s : State) → (thread_at s t).told ≡ (thread_at m t).told → (who : ℕ) (told : Told) (todo : Todos) → p.todo ≡ Todo.wake who told ∷ todo → ToldIs later s t
+  woke s machine who told todo at = which (who == t) refl
+    where
+      act : FineAct
+      act = FineAct.Unseen (Unseen.Wake (to_thread who) (ready_in e.act))
+
+      here : told_at (scheduler later) t ≡ slice_index_or (slice_set (scheduler f).told who (Some told)) t None
+      here =
+          ap (λ (z : Scheduler). told_at z t) (sched-later f m e law (made-at f m e law (Todo.wake who told ∷ todo) at) act (made-says f m e law (Todo.wake who told ∷ todo) at))
+          ∙ ap (λ (mv : Exchange). slice_index_or (slice_set (scheduler f).told who (Some (wake_in mv))) t None) (made-moves f m e law (Todo.wake who told ∷ todo) at)
+
+      lists : wakers now.todo ≡ wakers todo
+      lists = wakers-now (Todo.wake who told) todo at
+
+      was : wakers p.todo ≡ (who, told) ∷ wakers todo
+      was = ap wakers at
+
+      which : (b : Bool) → (who == t) ≡ b → ToldIs later s t
+      which true same =
+          let equal : t ≡ who = sym (eqb-true who t same) in
+          let long = law.rel.scheduler.told in
+          let now-told = here ∙ get_or-set_at (scheduler f).told who t (Some told) None equal (omega (arith, few, long, equal)) in
+          let one = ap (λ (o : Option Told). one_if (is_some o)) now-told in
+          let sum = sums in
+          let before = (law.rel.threads t few).told.once in
+          let times-now = wake-times t now.todo ∙ ap (told_times t) lists in
+          let times-was : count p ≡ told_times t (wakers todo) + 1 = wake-times t p.todo ∙ (ap (told_times t) was ∙ ap (λ b. if b then told_times t (wakers todo) + 1 else told_times t (wakers todo)) same) in
+          let part = part-total (λ j. counted (is_wake t) (f.processors j).todo) f.cpus e.cpu law.by.named in
+          let single : tellers later t ≤ 1 = omega (arith, one, sum, before, times-now, times-was, part) in
+          let first : wake_of t p.todo ≡ Some told = wake-first t p.todo ∙ (ap (told_first t) was ∙ ap (λ b. if b then Some told else told_first t (wakers todo)) same) in
+          record {
+            told = machine ∙ ((law.rel.threads t few).told.told ∙ (wake-is-told f t told e.cpu law.by.named first (omega (arith, times-was)) before ∙ sym (scheduler-told later t told now-told single)));
+            once = single;
+          }
+      which false other =
+          same-tellers s machine
+          (wake-first t now.todo ∙ (ap (told_first t) lists ∙ sym (wake-first t p.todo ∙ (ap (told_first t) was ∙ ap (λ b. if b then Some told else told_first t (wakers todo)) other))))
+          (wake-times t now.todo ∙ (ap (told_times t) lists ∙ sym (wake-times t p.todo ∙ (ap (told_times t) was ∙ ap (λ b. if b then told_times t (wakers todo) + 1 else told_times t (wakers todo)) other))))
+          (here ∙ get_or-set_other (scheduler f).told who t (Some told) None (λ same. true≢false (sym (eq-eqb who t (sym same)) ∙ other)))
+
+  quiet-told : (s : State) → (thread_at s t).told ≡ (thread_at m t).told → is_shown e.act ≡ false → (todo : Todos) → p.todo ≡ todo → ToldIs later s t
+  quiet-told s machine quiet [] at = took-none s machine at quiet
+  quiet-told s machine quiet (Todo.wake who told ∷ todo) at = woke s machine who told todo at
+  quiet-told s machine quiet (Todo.add d ∷ todo) at =
+      wakes-same s machine (wakers-now (Todo.add d) todo at ∙ sym (ap wakers at))
+      (ap (λ (z : Scheduler). told_at z t) (sched-later f m e law (made-at f m e law (Todo.add d ∷ todo) at) _ (made-says f m e law (Todo.add d ∷ todo) at)))
+  quiet-told s machine quiet (Todo.park ∷ todo) at =
+      wakes-same s machine (wakers-now Todo.park todo at ∙ sym (ap wakers at))
+      (ap (λ (z : Scheduler). told_at z t) (sched-later f m e law (made-at f m e law (Todo.park ∷ todo) at) _ (made-says f m e law (Todo.park ∷ todo) at)))
+  quiet-told s machine quiet (Todo.done ∷ todo) at =
+      wakes-same s machine (wakers-now Todo.done todo at ∙ sym (ap wakers at))
+      (ap (λ (z : Scheduler). told_at z t) (sched-later f m e law (made-at f m e law (Todo.done ∷ todo) at) _ (made-says f m e law (Todo.done ∷ todo) at)))
+  quiet-told s machine quiet (Todo.show q rest ∷ todo) at =
+      wakes-same s machine (wakers-now (Todo.show q rest) todo at ∙ ((λ i. (last-read (Todo.show q rest) todo at (read-only f m e law q (made-says f m e law (Todo.show q rest ∷ todo) at) quiet)).1 i ++ wakers todo) ∙ sym (ap wakers at)))
+      (elsewhere (Todo.show q rest) todo at refl)
+  quiet-told s machine quiet (q ∷ todo) at = wakes-same s machine (wakers-now q todo at ∙ sym (ap wakers at)) (elsewhere q todo at refl)
+
+  event-told : (q : Pending) (rest : Steps) (todo : Todos) (x : ℕ) → Shows f m e.cpu e q rest todo → IsShown q → IsStep f m e.cpu e x q → ToldIs later (T.after m p.context.thread x q rest) t
+  event-told (Pending.Work a ask) rest todo x h shown is = works a ask rest todo x h is
+  event-told Pending.Resume rest todo x h shown is = absurd shown
+  event-told q rest todo x h shown is =
+      wakes-same (T.after m p.context.thread x q rest) (event-tells-none f m e law kept x t q rest todo h tt) (wakers-now (Todo.show q rest) todo h.at ∙ sym (ap wakers h.at)) (elsewhere (Todo.show q rest) todo h.at refl)
+
+  pub told-part : (s : State) → Leaves f m e s → ToldIs later s t
+  told-part _ (nothing u said) = quiet-told m refl (ap is_shown said) p.todo refl
+  told-part _ (event q rest todo x h shown is) = event-told q rest todo x h shown is
+  told-part _ (resumes c told rest idle moved said) = took-told c told rest idle moved
+  told-part s (passes who x rest todo h said) =
+      wakes-same s (ap (λ z. z.told) (beside-same m p.context.thread s (beside-kept m p.context.thread x (Pending.Inherit (to_thread who)) rest tt) t)) (wakers-now (Todo.pass who x) todo h.at ∙ sym (ap wakers h.at)) (elsewhere (Todo.pass who x) todo h.at refl)
+  told-part s (drops from x rest todo h said) =
+      wakes-same s (ap (λ z. z.told) (beside-same m p.context.thread s (beside-kept m p.context.thread x (Pending.Drops from) rest tt) t)) (wakers-now (Todo.drop x) todo h.at ∙ sym (ap wakers h.at)) (elsewhere (Todo.drop x) todo h.at refl)
+  told-part s (cleans who x rest todo h said) =
+      wakes-same s (ap (λ z. z.told) (beside-same m p.context.thread s (beside-kept m p.context.thread x (Pending.CleanPair (to_thread who)) rest tt) t)) (wakers-now (Todo.clean_pair who x) todo h.at ∙ sym (ap wakers h.at)) (elsewhere (Todo.clean_pair who x) todo h.at refl)
+  told-part s (recycles x rest todo at l said chosen) =
+      wakes-same s (ap (λ z. z.told) (beside-same m p.context.thread s (beside-kept m p.context.thread x Pending.Recycle rest tt) t)) (wakers-now (Todo.recycle x) todo at ∙ sym (ap wakers at)) (elsewhere (Todo.recycle x) todo at refl)
