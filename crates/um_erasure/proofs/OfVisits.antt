@@ -1,6 +1,6 @@
 -- The own part of a thread that visits a row, or goes on after it was woken, is that of the machine's thread then.
-use Rattle.std.proofs.Common.{◌≡◌, ℕ, zero, suc, ◌+◌, ◌<◌, Bool, true, false, [], ◌∷◌, length, Option, Some, None, refl, sym, ap, ◌∙◌, subst, arith}
-use Rattle.std.specs.Prelude.{◌==◌, IsTrue, if◌then◌else◌, is_some, nat_lt}
+use Rattle.std.proofs.Common.{◌≡◌, ℕ, ◌<◌, false, ◌∷◌, length, Some, None, refl, sym, ap, ◌∙◌, subst, arith}
+use Rattle.std.specs.Prelude.{IsTrue, nat_lt}
 use Rattle.std.specs.List.{list_all}
 use Rattle.um_base.specs.declared.ask.Told.{Told}
 use Rattle.um_base.specs.declared.limits.TheConstants.{ROWS, THREADS}
@@ -13,46 +13,20 @@ use Rattle.um_machine.specs.Table as T
 use Rattle.um_fine.specs.Context.{Context, as_thread}
 use Rattle.um_fine.specs.Continues.{resumed, resumed_at}
 use Rattle.um_fine.specs.Follows.{dropped_at}
-use Rattle.um_fine.specs.Places.{Todo, Todos}
 use Rattle.um_fine.specs.Scheduler.{told_at}
 use Rattle.um_fine.specs.Steps.{FineStep}
-use Rattle.um_erasure.specs.Fine.{Fine, one_if, scheduler}
-use Rattle.um_erasure.specs.Lists.{counted, is_wake, wake_of}
+use Rattle.um_erasure.specs.Fine.{Fine, scheduler}
 use Rattle.um_erasure.specs.Relation.{Rel}
-use Rattle.um_erasure.specs.Threads.{IsOf, first_told, flags_of, is_ended, own_part, told_by}
+use Rattle.um_erasure.specs.Threads.{IsOf, flags_of, is_ended, own_part}
 use Rattle.um_erasure.proofs.Leaves.{Lawful}
-use Rattle.um_erasure.proofs.MemorySteps.{part-total}
 use Rattle.um_erasure.proofs.Own.{own-after, own-resumed}
 use Rattle.um_erasure.proofs.RestKept.{Alike, beside-kept, beside-same}
 use Rattle.um_erasure.proofs.ThreadLists.{at-here}
+use Rattle.um_erasure.proofs.ToldFacts.{scheduler-told}
 
--- What the scheduler tells a thread is what the machine tells it.
-
-no-wake : (t : ℕ) (todo : Todos) → counted (is_wake t) todo ≡ 0 → wake_of t todo ≡ None
-no-wake t [] h = refl
-no-wake t (Todo.wake who told ∷ todo) h = by (who == t) h (no-wake t todo)
-  where
-    by : (b : Bool) → (if b then counted (is_wake t) todo + 1 else counted (is_wake t) todo) ≡ 0 → (counted (is_wake t) todo ≡ 0 → wake_of t todo ≡ None)
-        → (if b then Some told else wake_of t todo) ≡ None
-    by true h more = absurd (omega (arith, h))
-    by false h more = more h
-no-wake t (q ∷ todo) h = no-wake t todo h
-
-module _ (f : Fine) (m : State) (rel : Rel f m) (t : ℕ) (few : t < THREADS) (told : Told) (here : told_at (scheduler f) t ≡ Some told) where
-  unwoken : (n : ℕ) → ((k : ℕ) → k < n → wake_of t (f.processors k).todo ≡ None) → told_by f t n ≡ Some told
-  unwoken zero h = here
-  unwoken (suc n) h =
-      ap (λ (o : Option Told). first_told o (told_by f t n)) (h n (omega arith)) ∙ unwoken n (λ k l. h k (omega (arith, l)))
-
-  pub scheduler-tells : (thread_at m t).told ≡ Some told
-  scheduler-tells =
-      (rel.threads t few).told.told
-      ∙ unwoken f.cpus
-      (λ k l.
-      let once = (rel.threads t few).told.once in
-      let part = part-total (λ j. counted (is_wake t) (f.processors j).todo) f.cpus k l in
-      let one : one_if (is_some (told_at (scheduler f) t)) ≡ 1 = ap (λ (o : Option Told). one_if (is_some o)) here in
-      no-wake t (f.processors k).todo (omega (arith, once, part, one)))
+-- what the scheduler tells a thread is what the machine tells it
+pub scheduler-tells : (f : Fine) (m : State) → Rel f m → (t : ℕ) → t < THREADS → (told : Told) → told_at (scheduler f) t ≡ Some told → (thread_at m t).told ≡ Some told
+scheduler-tells f m rel t few told here = (rel.threads t few).told.told ∙ scheduler-told f t told here (rel.threads t few).told.once
 
 module _ (f : Fine) (m : State) (e : FineStep) (law : Lawful f m e) where
   -- an own part with other steps, where the rest of the thread is as before
