@@ -95,6 +95,9 @@ pub mod ListVisits
 pub mod EmptiedPart
 pub mod ReplyPart
 pub mod IdlePart
+pub mod LifeClaims
+pub mod RowStages
+pub mod ParkedClaims
 pub mod HeldDomainPart
 pub mod Parts
 pub mod ErasedLeft
