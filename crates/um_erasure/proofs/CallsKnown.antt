@@ -29,7 +29,7 @@ use Rattle.um_erasure.proofs.CleanSteps.{Calls, OwnRows}
 use Rattle.um_erasure.proofs.Reachable.{IsSound}
 
 -- a thread that is started next is claimed by the one that starts it
-starts-claims : (m : State) (t : ℕ) (who : ThreadIx) (script : ℕ) (stack : Row) (priority : ℤ) (mode : Mode) (rest : Steps)
+pub starts-claims : (m : State) (t : ℕ) (who : ThreadIx) (script : ℕ) (stack : Row) (priority : ℤ) (mode : Mode) (rest : Steps)
     → Offers m t (Pending.Start who script stack priority mode) rest → claims m.image who.0 (thread_at m t).pending ≡ true
 starts-claims m t who script stack priority mode rest (goes e) = ap (claims m.image who.0) e ∙ eq-eqb who.0 who.0 refl
 starts-claims m t who script stack priority mode rest (skips_inherit e due) = ap (claims m.image who.0) e ∙ eq-eqb who.0 who.0 refl

@@ -238,7 +238,7 @@ module _ (m : State) (t x : ℕ) (all : AllCreate m) where
   stands Pending.Recycle rest h = tt
   stands q rest h = h
 
-  offered-stands : (q : Pending) (rest : Steps) → Offers m t q rest → Stands q rest
+  pub offered-stands : (q : Pending) (rest : Steps) → Offers m t q rest → Stands q rest
   offered-stands q rest offers = by offers
     where
       at : (steps : Steps) → me.pending ≡ steps → Creates me.child steps

@@ -86,11 +86,11 @@ no-left image p (Pending.Store a n value) act h = either-act left_in Leftover.No
 no-left image p (Pending.Fetch a) act h = either-act left_in Leftover.NoPair (allows image p Access.Exec a.0 4) _ _ refl refl
 no-left image p q act h = refl
 
-abbrev is_born_act : Act → Bool
+abbrev pub is_born_act : Act → Bool
 is_born_act (Act.Born a) = true
 is_born_act act = false
 
-abbrev is_birth : Pending → Bool
+abbrev pub is_birth : Pending → Bool
 is_birth (Pending.Born a) = true
 is_birth q = false
 
@@ -102,7 +102,7 @@ no-birth image p (Pending.Fetch a) act h = either-act is_born_act false (allows 
 no-birth image p q act h = refl
 
 -- the events that take claims
-abbrev is_claiming : Pending → Bool
+abbrev pub is_claiming : Pending → Bool
 is_claiming (Pending.Check a kind want refusal) = true
 is_claiming (Pending.Own who) = true
 is_claiming q = false
@@ -200,7 +200,7 @@ module _ (f : Fine) (m : State) (e : FineStep) (law : Lawful f m e) (x : ℕ) (f
         by true on = ap (λ (w : RowWord). w.stage) (row-here f m e law x few on _ is.said) ∙ same
         by false off = ap (λ (w : RowWord). w.stage) (row-else f m e law x few off)
 
-    keeps-claims : is_claiming q ≡ false → is_birth q ≡ false → (row later x).claims ≡ (row f x).claims
+    pub keeps-claims : is_claiming q ≡ false → is_birth q ≡ false → (row later x).claims ≡ (row f x).claims
     keeps-claims free birth = by (same_site e.site (Site.row x)) refl
       where
         unborn : (a : Addr) → says_step f.image p q (act_in e.act) ≡ Act.Born a → ⊥

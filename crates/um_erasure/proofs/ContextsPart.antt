@@ -66,7 +66,7 @@ flags-long : (xs : List ℕ) → length (flags_of xs) ≡ ROWS
 flags-long [] = refl
 flags-long (x ∷ xs) = length-set (flags_of xs) x true ∙ flags-long xs
 
-flags-none : (xs : List ℕ) → Below xs → ((x : ℕ) → slice_index_or (flags_of xs) x false ≡ false) → xs ≡ []
+pub flags-none : (xs : List ℕ) → Below xs → ((x : ℕ) → slice_index_or (flags_of xs) x false ≡ false) → xs ≡ []
 flags-none [] below none = refl
 flags-none (x ∷ xs) below none =
     let few = ltb-true x ROWS (and_parts (nat_lt x ROWS) (list_all (λ z. nat_lt z ROWS) xs) below).0 in

@@ -98,6 +98,7 @@ pub mod IdlePart
 pub mod LifeClaims
 pub mod RowStages
 pub mod ParkedClaims
+pub mod ClaimsPart
 pub mod HeldDomainPart
 pub mod Parts
 pub mod ErasedLeft

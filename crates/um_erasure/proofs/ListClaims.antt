@@ -1,7 +1,5 @@
 -- What each fine step changes of the claims that its processor has still to end.
 use Rattle.std.proofs.Common.{◌≡◌, ℕ, ◌+◌, Bool, true, false, List, [], ◌∷◌, ◌++◌, Option, Some, None, refl, ap, ◌∙◌, arith}
-use Rattle.std.proofs.lemmas.Bool.{eqb-true}
-use Rattle.std.proofs.Common.{eq-eqb}
 use Rattle.std.specs.Prelude.{◌==◌, if◌then◌else◌, nat_lt}
 use Rattle.um_base.specs.declared.act.Act.{Act}
 use Rattle.um_base.specs.declared.act.Answer.{Answer}
@@ -30,9 +28,6 @@ use Rattle.um_fine.specs.Places.{Todo, Todos, but, clean_pairs, cleaning, cleani
 use Rattle.um_fine.specs.Processor.{Processor}
 use Rattle.um_fine.specs.Follows.{after_claim, after_show, after_take, behind_step, dropped_at, end_calls, filled_up, goes_on_by, p_next, row_number, unless_loaded, wakes, with_cleaned}
 use Rattle.um_fine.specs.Asks.{begins_cleaning}
-use Rattle.um_fine.specs.FineRun.{cpu_of, same_cpu}
-use Rattle.um_fine.specs.Runs.{changed}
-use Rattle.um_fine.proofs.Balance.{AllDifferent, In, total, total_changed}
 use Rattle.um_erasure.specs.Lists.{counted, is_end_call}
 use Rattle.um_erasure.specs.Threads.{occurs}
 use Rattle.um_erasure.specs.Claims.{call_claims}
@@ -294,13 +289,3 @@ module _ (image : Image) (x : ℕ) where
   processor-claims p e idle =
       let h = goes-claims p e p.todo idle in
       let k = with-cleaned (goes_on_by image p e p.todo) e (begins_cleaning e) in omega arith
-
-  -- the same of all processors: a step changes the sum by what its processor takes and gives back
-  pub all-claims : (ps : ℕ → Processor) (e : FineStep) (all : List ℕ) → AllDifferent all → In (cpu_of e) all
-      → (((ps (cpu_of e)).todo ≡ []) → ((ps (cpu_of e)).context.claims ≡ []) × IsThread e.moved)
-      → total (call_claims x) (changed same_cpu cpu_of (p_next image) ps e) all + gone (ps (cpu_of e)) e (ps (cpu_of e)).todo
-      ≡ total (call_claims x) ps all + come_to (ps (cpu_of e)) e (ps (cpu_of e)).todo
-  all-claims ps e all different there idle =
-      let p = ps (cpu_of e) in
-      let sums = total_changed same_cpu (λ k. eq-eqb k k refl) (λ j k h. eqb-true j k h) cpu_of (p_next image) (call_claims x) ps e all different there in
-      let law = processor-claims p e idle in omega arith

@@ -1,7 +1,6 @@
 -- Every lawful step keeps the relation, where it keeps the parts of it that are still to be proved: the other parts are kept.
 use Rattle.std.proofs.Common.{sym, subst, ◌≡◌, ℕ, ◌<◌, length, refl, ◌∙◌}
 use Rattle.um_base.specs.declared.image.Image.{Image}
-use Rattle.um_base.specs.declared.limits.TheConstants.{ROWS}
 use Rattle.um_base.specs.Lawful.{IsLawful}
 use Rattle.um_machine.specs.declared.pending.Pending.{Pending}
 use Rattle.um_machine.specs.Order.{Steps, to_thread}
@@ -14,7 +13,6 @@ use Rattle.um_reach.proofs.Turns.{IsKnown}
 use Rattle.um_reach.specs.Described.{IsDescribed}
 use Rattle.um_turns.proofs.ThreadWords.{AreKept}
 use Rattle.um_fine.specs.Steps.{FineStep}
-use Rattle.um_erasure.specs.Claims.{ClaimsAre}
 use Rattle.um_erasure.specs.Dues.{DuesAre}
 use Rattle.um_erasure.specs.Fine.{Fine}
 use Rattle.um_erasure.specs.Looks.{IsSized}
@@ -24,6 +22,8 @@ use Rattle.um_erasure.proofs.AwayPart.{away-part}
 use Rattle.um_erasure.proofs.CallsKnown.{RestsHoldNothing, own-known}
 use Rattle.um_erasure.proofs.CallsProper.{AreProper}
 use Rattle.um_erasure.proofs.ChargedPart.{charged-part, order-part}
+use Rattle.um_erasure.proofs.ChildrenKnown.{AllCreate, children-known}
+use Rattle.um_erasure.proofs.ClaimsPart.{claims-part}
 use Rattle.um_erasure.proofs.CleanSteps.{OwnRows}
 use Rattle.um_erasure.proofs.CleanerPart.{begun-part, cleaner-part}
 use Rattle.um_erasure.proofs.CleanersPart.{cleaners-part}
@@ -63,7 +63,6 @@ use Rattle.um_erasure.proofs.Writes.{Keeping, after-kept, bytes-kept}
 
 -- The parts of the relation that are still to be kept.
 pub record IsLeft (g : Fine) (s : State) : Type 0 where
-  pub claims : (x : ℕ) → x < ROWS → ClaimsAre g s x
   pub dues : (k : ℕ) → k < g.cpus → DuesAre g s k
   pub sizes : (k : ℕ) → k < g.cpus → IsSized g s k
 
@@ -114,9 +113,9 @@ module _ (f : Fine) (m : State) (e : FineStep) (law : Lawful f m e) where
       }
 
   -- the relation holds after the step where what is left of it does
-  pub related : OwnRows f.image → InDomains f m → Suits f m → IsLawful m.image → AreProper m.image m → AreKept m → NamesHeld m → GivesHeld m → MovesIn m (length f.image.domains)
+  pub related : OwnRows f.image → InDomains f m → Suits f m → IsLawful m.image → AreProper m.image m → AreKept m → AllCreate m → NamesHeld m → GivesHeld m → MovesIn m (length f.image.domains)
       → (s : State) (leaves : Leaves f m e s) → HasStep f m e s leaves → RestsHoldNothing s → IsLeft later s → Rel later s
-  related own all suits lawful proper kept names gives moves s leaves has rests left =
+  related own all suits lawful proper kept creates names gives moves s leaves has rests left =
       record {
         image = image-part s leaves;
         sorts = sorts-kept f.image f.sites e law.rel.sorts;
@@ -126,7 +125,7 @@ module _ (f : Fine) (m : State) (e : FineStep) (law : Lawful f m e) where
         threads = λ t l.
             record { word = words-part f m e law t l s leaves; away = away-part f m e law suits all s leaves has t l; told = told-part f m e law suits all kept t l s leaves; held = held-part f m e law t l; ready = ready-part f m e law suits.tells t l };
         rows = λ x l.
-            record { pairs = pairs-part f m e law x l s leaves; status = status-part f m e law x l s leaves; contents = contents-part f m e law suits names x l s leaves; claims = left.claims x l; cleaners = cleaners-part f m e law x l s leaves; cleaner = cleaner-part f m e law x l own s leaves };
+            record { pairs = pairs-part f m e law x l s leaves; status = status-part f m e law x l s leaves; contents = contents-part f m e law suits names x l s leaves; claims = claims-part f m e law x l suits creates lawful s leaves; cleaners = cleaners-part f m e law x l s leaves; cleaner = cleaner-part f m e law x l own s leaves };
         domains = λ d l. domain-part f m e law d l s leaves;
         processors = λ k l.
             record {
@@ -169,4 +168,4 @@ keeps-all image cpus described known left ps ss m e rel reach by taken =
     let proper = proper-known image cpus described known m reach in
     let rests = rests-known image cpus described known next.state (reach-on image cpus m next.state e.act reach next.goes) in
     let moves = subst (λ (i : Image). MovesIn m (length i.domains)) rel.image (moves-known image cpus described known m reach) in
-    (next.state, next.goes, related f m e law own all suits lawful proper kept (names-known image cpus described known m reach) (gives-known image cpus described known m reach) moves next.state next.leaves next.has rests (left.parts f m e refl refl reach law suits next.state next.leaves))
+    (next.state, next.goes, related f m e law own all suits lawful proper kept (children-known image cpus m reach) (names-known image cpus described known m reach) (gives-known image cpus described known m reach) moves next.state next.leaves next.has rests (left.parts f m e refl refl reach law suits next.state next.leaves))

@@ -17,7 +17,7 @@ given-claims : (w : RowWord) (who : ℕ) (b : Bool) → (if b then permitted w w
 given-claims w who true = refl
 given-claims w who false = refl
 
-dropped-claims : (w : RowWord) (who : ℕ) (b : Bool) → (if b then record (permitted w who false) { stage = gone_stage w } else permitted w who false).claims ≡ w.claims
+pub dropped-claims : (w : RowWord) (who : ℕ) (b : Bool) → (if b then record (permitted w who false) { stage = gone_stage w } else permitted w who false).claims ≡ w.claims
 dropped-claims w who true = refl
 dropped-claims w who false = refl
 

@@ -76,7 +76,7 @@ unstood-free Stage.Live s b e l g = absurd (false≢true (sym l ∙ ap Plain.is_
 unstood-free Stage.Dying s b e l g = absurd (false≢true (sym g ∙ ap Plain.is_gone e))
 unstood-free Stage.Cleaning s b e l g = absurd (false≢true (sym g ∙ ap Plain.is_gone e))
 
-free-is : (st : Stage) → is_free st ≡ true → st ≡ Stage.Free
+pub free-is : (st : Stage) → is_free st ≡ true → st ≡ Stage.Free
 free-is Stage.Free h = refl
 free-is Stage.Live h = absurd (false≢true h)
 free-is Stage.Dying h = absurd (false≢true h)
