@@ -1,24 +1,22 @@
 -- In every state that a run reaches a thread that inherits next, or starts another, has that one as its child, and no other thread has one.
 use Rattle.std.proofs.Common.{◌≡◌, ℕ, zero, suc, ◌+◌, Bool, true, false, List, [], ◌∷◌, length, map, Option, Some, None, refl, sym, ap, ◌∙◌, subst}
-use Rattle.std.specs.Prelude.{◌-◌, ◌==◌, ◌&&◌, not, if◌then◌else◌, nat_lt, replicate, slice_index_or, slice_set, take}
+use Rattle.std.specs.Prelude.{◌==◌, ◌&&◌, not, if◌then◌else◌, nat_lt, slice_set, take}
 use Rattle.um_base.specs.declared.act.Answer.{Answer}
 use Rattle.um_base.specs.declared.act.Cause.TheVariants as Cause
 use Rattle.um_base.specs.declared.act.Event.{Event}
 use Rattle.um_base.specs.declared.act.Found.{Found}
-use Rattle.um_base.specs.declared.act.Leftover.{Leftover}
 use Rattle.um_base.specs.declared.act.SetSaid.{SetSaid}
 use Rattle.um_base.specs.declared.ask.Ask.{Ask}
 use Rattle.um_base.specs.declared.ask.Told.{Told}
 use Rattle.um_base.specs.declared.image.Image.{Image}
 use Rattle.um_base.specs.declared.instr.Instr.{Instr}
-use Rattle.um_base.specs.declared.limits.TheConstants.{PARTITION_AREA, PIECE, STACK_AREA, THREADS}
+use Rattle.um_base.specs.declared.limits.TheConstants.{PIECE, THREADS}
 use Rattle.um_base.specs.declared.names.Access.TheVariants as Access
 use Rattle.um_base.specs.declared.names.Addr.{Addr}
 use Rattle.um_base.specs.declared.names.Errno.{Errno}
 use Rattle.um_base.specs.declared.names.Kind.{Kind}
 use Rattle.um_base.specs.declared.names.Mode.{Mode}
 use Rattle.um_base.specs.declared.names.Policy.{Policy}
-use Rattle.um_base.specs.declared.names.Range.{Range}
 use Rattle.um_base.specs.declared.names.Reply.{Reply}
 use Rattle.um_base.specs.declared.names.ThreadIx.{ThreadIx}
 use Rattle.um_base.specs.Lawful.{most_parts}
@@ -30,16 +28,17 @@ use Rattle.um_machine.specs.declared.pending.Pending.{Pending}
 use Rattle.um_machine.specs.declared.pending.Refusal.{Refusal}
 use Rattle.um_machine.specs.declared.thread.Thread.{Thread}
 use Rattle.um_machine.specs.Domains.{added, domain_after, initialised, part_named, removed, reply_to}
-use Rattle.um_machine.specs.Memory.{allowed, bytes_at, le_bytes, le_value, put_bytes, string_bytes, string_read, with_bytes}
+use Rattle.um_machine.specs.Memory.{allowed, bytes_at, le_bytes, le_value, string_bytes, string_read, with_bytes}
 use Rattle.um_machine.specs.Objects.{is_gone, verdict}
 use Rattle.um_machine.specs.Order.{Steps, answer_error, copy_fails, end_steps, fatal_steps, refuses, to_addr}
 use Rattle.um_machine.specs.Run.{Offers, Runs, begins, cleans_pair, exits, goes, opening, recycles, skips_drops, skips_inherit}
-use Rattle.um_machine.specs.State.{State, instruction_at, no_rows, nobody, object_at, thread_at, vacant, with_object, with_pair, with_thread}
+use Rattle.um_machine.specs.State.{State, instruction_at, no_rows, nobody, object_at, thread_at, vacant, with_object, with_thread}
 use Rattle.um_machine.specs.Table as T
-use Rattle.um_reach.proofs.Cores.{at_set, map_at}
+use Rattle.um_reach.proofs.Cores.{at_set}
 use Rattle.um_erasure.proofs.ChildSteps.{Creates, InOrder, goes-in-order, order-steps}
 use Rattle.um_erasure.proofs.Erased.{IsReachable}
 use Rattle.um_erasure.proofs.FirstThreads.{new-thread}
+use Rattle.um_erasure.proofs.ThreadKeys.{Ignores, key-same, keys, keys-bytes, keys-dropped, keys-erased, keys-given, keys-moved, keys-paired, keys-set, keys-woken}
 
 -- what is followed of a thread
 record Key : Type 0 where
@@ -49,60 +48,11 @@ record Key : Type 0 where
 abbrev key_of : Thread → Key
 key_of me = record { child = me.child; pending = me.pending }
 
-abbrev keys : State → List Key
-keys s = map key_of s.threads
+ignores : Ignores key_of
+ignores = record { due = λ me due. refl; told = λ me told. refl; domain = λ me domain. refl }
 
 abbrev pub AllCreate : State → Type 0
 AllCreate s = (u : ℕ) → Creates (thread_at s u).child (thread_at s u).pending
-
-keys-set : (xs : List Thread) (v : ℕ) (th : Thread) → key_of th ≡ key_of (slice_index_or xs v nobody) → map key_of (slice_set xs v th) ≡ map key_of xs
-keys-set [] v th e = refl
-keys-set (y ∷ ys) zero th e = ap (λ k. k ∷ map key_of ys) e
-keys-set (y ∷ ys) (suc v) th e = ap (λ ks. key_of y ∷ ks) (keys-set ys v th e)
-
-keys-dues : (x i : ℕ) (holders : List Bool) (xs : List Thread) → map key_of (T.with_dues x i holders xs) ≡ map key_of xs
-keys-dues x i holders [] = refl
-keys-dues x i holders (y ∷ ys) = ap (λ ks. key_of y ∷ ks) (keys-dues x (i + 1) holders ys)
-
-keys-woken : (ws : List (ThreadIx × Told)) (s : State) → keys (T.all_woken ws s) ≡ keys s
-keys-woken [] s = refl
-keys-woken (w ∷ ws) s = keys-woken ws (with_thread s w.0.0 (record (thread_at s w.0.0) { told = Some w.1 })) ∙ keys-set s.threads w.0.0 (record (thread_at s w.0.0) { told = Some w.1 }) refl
-
-keys-bytes : (s : State) (a : ℕ) (bs : List ℕ) → keys (with_bytes s a bs) ≡ keys s
-keys-bytes s a bs =
-    elim (nat_lt a STACK_AREA) as (λ c. keys (if c then record s { memory = put_bytes s.memory (a - PARTITION_AREA) bs } else record s { stacks = put_bytes s.stacks (a - STACK_AREA) bs }) ≡ keys s) [
-      | true ↦ refl
-      | false ↦ refl
-    ]
-
-keys-erased : (s : State) (range : Option Range) → keys (T.erased s range) ≡ keys s
-keys-erased s None = refl
-keys-erased s (Some range) = keys-bytes s range.start.0 (replicate range.size 0)
-
-keys-moved : (s : State) (who d : ℕ) (reply : Reply) → keys (T.moved s who d reply) ≡ keys s
-keys-moved s who d (Reply.Num n) = keys-set s.threads who (record (thread_at s who) { domain = d }) refl
-keys-moved s who d Reply.Void = refl
-keys-moved s who d (Reply.At a) = refl
-keys-moved s who d Reply.Null = refl
-keys-moved s who d (Reply.Fail e) = refl
-
-keys-paired : (s : State) (who r : ℕ) (b : Bool) → keys (T.paired s who r b) ≡ keys s
-keys-paired s who r b = keys-dues r 0 (slice_index_or (with_pair s who r b).pairs r []) s.threads
-
-keys-given : (s : State) (who r : ℕ) → keys (T.after_given s who r) ≡ keys s
-keys-given s who r = by (is_gone (object_at s r).status)
-  where
-    by : (b : Bool) → keys (if b then s else T.paired s who r true) ≡ keys s
-    by true = refl
-    by false = keys-paired s who r true
-
-keys-dropped : (s : State) (who r : ℕ) → keys (T.after_drop s who r) ≡ keys s
-keys-dropped s who r =
-    elim (T.dropped s who r) as (λ l. keys (elim l as (λ _. State) [ Leftover.NoPair ↦ s | Leftover.Kept ↦ T.paired s who r false | Leftover.Gone ↦ with_object (T.paired s who r false) r (record (object_at s r) { status = Status.Gone }) ]) ≡ keys s) [
-      | Leftover.NoPair ↦ refl
-      | Leftover.Kept ↦ keys-paired s who r false
-      | Leftover.Gone ↦ keys-paired s who r false
-    ]
 
 -- behind the permission on its own object it is the child
 own-next : (who : ThreadIx) (rest : Steps) → InOrder (Pending.Own who ∷ rest) → Creates (Some who) rest
@@ -119,13 +69,10 @@ module _ (m : State) (t x : ℕ) (all : AllCreate m) where
   me = thread_at m t
 
   abbrev Alike : State → Type 0
-  Alike s = keys s ≡ keys m
-
-  key-same : (s : State) → Alike s → (u : ℕ) → key_of (thread_at s u) ≡ key_of (thread_at m u)
-  key-same s e u = sym (map_at key_of s.threads u nobody) ∙ (ap (λ (ks : List Key). slice_index_or ks u (key_of nobody)) e ∙ map_at key_of m.threads u nobody)
+  Alike s = keys key_of s ≡ keys key_of m
 
   keeps : (s : State) → Alike s → AllCreate s
-  keeps s e u = let k = key-same s e u in subst (λ (z : Key). Creates z.child z.pending) (sym k) (all u)
+  keeps s e u = let k = key-same key_of m s e u in subst (λ (z : Key). Creates z.child z.pending) (sym k) (all u)
 
   set : (s : State) → AllCreate s → (v : ℕ) (th : Thread) → Creates th.child th.pending → AllCreate (with_thread s v th)
   set s was v th new u = at_set (λ n (z : Thread). Creates z.child z.pending) s.threads v u th nobody new (was u)
@@ -136,7 +83,7 @@ module _ (m : State) (t x : ℕ) (all : AllCreate m) where
 
   -- it is the thread of a state with the same keys
   there : (s : State) → Alike s → (rest : Steps) → me.child ≡ None → InOrder rest → AllCreate (T.goes_on s t (thread_at s t) rest)
-  there s e rest none h = on s e (thread_at s t) rest (ap (λ (k : Key). k.child) (key-same s e t) ∙ none) h
+  there s e rest none h = on s e (thread_at s t) rest (ap (λ (k : Key). k.child) (key-same key_of m s e t) ∙ none) h
 
   either : (b : Bool) (s1 s2 : State) → AllCreate s1 → AllCreate s2 → AllCreate (if b then s1 else s2)
   either true s1 s2 h k = h
@@ -175,7 +122,7 @@ module _ (m : State) (t x : ℕ) (all : AllCreate m) where
   answers s e ask taken rest answer none h = by answer
     where
       child : (thread_at s t).child ≡ None
-      child = ap (λ (k : Key). k.child) (key-same s e t) ∙ none
+      child = ap (λ (k : Key). k.child) (key-same key_of m s e t) ∙ none
 
       by : (answer : Answer) → AllCreate (T.after_answer s t (thread_at s t) ask taken rest answer)
       by Answer.Wait = on s e (thread_at s t) (Pending.Resume ∷ rest) child h
@@ -262,7 +209,7 @@ module _ (m : State) (t x : ℕ) (all : AllCreate m) where
   creates-after (Pending.Load to a n) rest h =
       either (allowed m t Access.Read a.0 n) _ _ (on m refl (record me { registers = slice_set me.registers to (le_value (bytes_at m a.0 n)) }) rest h.0 h.1) (on m refl me T.fault h.0 tt)
   creates-after (Pending.Store a n value) rest h =
-      either (allowed m t Access.Write a.0 n) _ _ (on (with_bytes m a.0 (le_bytes n value)) (keys-bytes m a.0 (le_bytes n value)) me rest h.0 h.1) (on m refl me T.fault h.0 tt)
+      either (allowed m t Access.Write a.0 n) _ _ (on (with_bytes m a.0 (le_bytes n value)) (keys-bytes key_of m a.0 (le_bytes n value)) me rest h.0 h.1) (on m refl me T.fault h.0 tt)
   creates-after (Pending.Fetch a) rest h = either (allowed m t Access.Exec a.0 4) _ _ (on m refl me rest h.0 h.1) (on m refl me T.fault h.0 tt)
   creates-after (Pending.Probe a amount) rest h =
       either (allowed m t Access.Write a.0 (T.amount_of m amount)) _ _ (on m refl me rest h.0 h.1) (on m refl me (copy_fails me.mode) h.0 (fails-order me.mode))
@@ -270,26 +217,26 @@ module _ (m : State) (t x : ℕ) (all : AllCreate m) where
       either (allowed m t Access.Read a.0 (T.amount_of m amount)) _ _ (on m refl (record me { buffer = take PIECE (bytes_at m a.0 (T.amount_of m amount)) }) rest h.0 h.1)
       (on m refl me (copy_fails me.mode) h.0 (fails-order me.mode))
   creates-after (Pending.CopyOut a) rest h =
-      either (allowed m t Access.Write a.0 (length me.buffer)) _ _ (on (with_bytes m a.0 me.buffer) (keys-bytes m a.0 me.buffer) me rest h.0 h.1)
+      either (allowed m t Access.Write a.0 (length me.buffer)) _ _ (on (with_bytes m a.0 me.buffer) (keys-bytes key_of m a.0 me.buffer) me rest h.0 h.1)
       (on m refl me (copy_fails me.mode) h.0 (fails-order me.mode))
   creates-after (Pending.CopyStr a) rest h = texts a rest (string_read m t a.0 32) h.0 h.1
   creates-after (Pending.Erase stack) rest h =
-      let range = stack_range (setup_at m.image stack.0) in on (T.erased m range) (keys-erased m range) me rest h.0 h.1
+      let range = stack_range (setup_at m.image stack.0) in on (T.erased m range) (keys-erased key_of m range) me rest h.0 h.1
   creates-after (Pending.Work a ask) rest h =
       let w = T.work_of m t a ask in
       let o = record (object_at m (T.row_of m a)) { contents = w.contents; waiters = w.waiters; buffer = T.buffer_cost ask w.answer (object_at m (T.row_of m a)).buffer } in
-      answers (T.all_woken w.woken (with_object m (T.row_of m a) o)) (keys-woken w.woken (with_object m (T.row_of m a) o)) ask w.taken rest w.answer h.0 h.1
+      answers (T.all_woken w.woken (with_object m (T.row_of m a) o)) (keys-woken key_of ignores w.woken (with_object m (T.row_of m a) o)) ask w.taken rest w.answer h.0 h.1
   creates-after Pending.Resume rest h = resumed rest me.told h.0 h.1
   creates-after (Pending.Answer reply to) rest h = on m refl (record me { checked = no_rows; registers = T.with_answer me.registers to (T.reply_of me reply) }) rest h.0 h.1
-  creates-after (Pending.Grant who a) rest h = there (T.after_given m who.0 (T.row_of m a)) (keys-given m who.0 (T.row_of m a)) rest h.0 h.1
+  creates-after (Pending.Grant who a) rest h = there (T.after_given m who.0 (T.row_of m a)) (keys-given key_of ignores m who.0 (T.row_of m a)) rest h.0 h.1
   creates-after (Pending.Own who) rest h =
       let s = T.after_given m who.0 (own_row m.image who.0) in
-      set s (keeps s (keys-given m who.0 (own_row m.image who.0))) t _ (own-next who rest h.1)
+      set s (keeps s (keys-given key_of ignores m who.0 (own_row m.image who.0))) t _ (own-next who rest h.1)
   creates-after (Pending.Inherit who) rest h =
       let s = T.paired m who.0 x true in
-      let e = keys-paired m who.0 x true in
-      set s (keeps s e) t _ (subst (λ (c : Option ThreadIx). Creates c (Pending.Inherit who ∷ rest)) (sym (ap (λ (k : Key). k.child) (key-same s e t))) h)
-  creates-after (Pending.DropPair who a) rest h = there (T.after_drop m who.0 (T.row_of m a)) (keys-dropped m who.0 (T.row_of m a)) rest h.0 h.1
+      let e = keys-paired key_of ignores m who.0 x true in
+      set s (keeps s e) t _ (subst (λ (c : Option ThreadIx). Creates c (Pending.Inherit who ∷ rest)) (sym (ap (λ (k : Key). k.child) (key-same key_of m s e t))) h)
+  creates-after (Pending.DropPair who a) rest h = there (T.after_drop m who.0 (T.row_of m a)) (keys-dropped key_of ignores m who.0 (T.row_of m a)) rest h.0 h.1
   creates-after (Pending.Publish a) rest h = by (is_gone (object_at m (T.row_of m a)).status)
     where
       by : (b : Bool) → AllCreate (T.goes_on (if b then m else with_object m (T.row_of m a) (record (object_at m (T.row_of m a)) { public = true })) t me rest)
@@ -304,7 +251,7 @@ module _ (m : State) (t x : ℕ) (all : AllCreate m) where
   creates-after (Pending.Reserve kind) rest h = reserves x kind rest h.0 h.1
   creates-after (Pending.Born a) rest h =
       let y = T.row_of m a in
-      let s = with_object m y (record (object_at m y) { status = Status.Live }) in there (T.paired s t y true) (keys-paired s t y true) rest h.0 h.1
+      let s = with_object m y (record (object_at m y) { status = Status.Live }) in there (T.paired s t y true) (keys-paired key_of ignores s t y true) rest h.0 h.1
   creates-after (Pending.Buffer size) rest h =
       either (T.pays m me.pool size) _ _ (on (record m { pools = T.paid_from me.pool size m.pools }) refl me rest h.0 h.1) (on m refl me (answer_error Errno.ENOMEM) h.0 tt)
   creates-after (Pending.Unbuffer size) rest h = on (record m { pools = T.paid_back (T.cost_of me.pool size) m.pools }) refl me rest h.0 h.1
@@ -317,8 +264,8 @@ module _ (m : State) (t x : ℕ) (all : AllCreate m) where
   creates-after (Pending.DomMove d who) rest h =
       let reply = T.move_reply (T.domain_at m d) in
       let s = T.moved m who.0 d reply in
-      let e = keys-moved m who.0 d reply in
-      on s e (record (thread_at s t) { reply = reply }) rest (ap (λ (k : Key). k.child) (key-same s e t) ∙ h.0) h.1
+      let e = keys-moved key_of ignores m who.0 d reply in
+      on s e (record (thread_at s t) { reply = reply }) rest (ap (λ (k : Key). k.child) (key-same key_of m s e t) ∙ h.0) h.1
   creates-after (Pending.Start who script stack priority mode) rest h =
       let child = T.newborn m me who.0 script (Pending.Start who script stack priority mode) in
       let s = with_thread m who.0 child in
@@ -327,14 +274,14 @@ module _ (m : State) (t x : ℕ) (all : AllCreate m) where
   creates-after (Pending.Fatal reason cause) rest h = set m all t _ (goes-in-order None (fatal_steps m.image t me reason m.image.policy) refl (fatal-order reason m.image.policy))
   creates-after (Pending.Drops from) rest h =
       let s = T.after_drop m t x in
-      let e = keys-dropped m t x in
-      set s (keeps s e) t _ (ap (λ (k : Key). k.child) (key-same s e t) ∙ h.0, h.1)
+      let e = keys-dropped key_of ignores m t x in
+      set s (keeps s e) t _ (ap (λ (k : Key). k.child) (key-same key_of m s e t) ∙ h.0, h.1)
   creates-after (Pending.Dooms from) rest h =
       let th = record (thread_at m from) { doomed = true } in
       let s = with_thread m from th in
-      let e : Alike s = keys-set m.threads from th refl in
-      set s (keeps s e) t _ (goes-in-order _ (T.next_doom from) (ap (λ (k : Key). k.child) (key-same s e t) ∙ h.0) (doom-order from))
-  creates-after (Pending.CleanPair who) rest h = keeps (T.after_drop (T.cleaned_by m t (own_row m.image who.0)) who.0 x) (keys-dropped (T.cleaned_by m t (own_row m.image who.0)) who.0 x)
+      let e : Alike s = keys-set key_of m.threads from th refl in
+      set s (keeps s e) t _ (goes-in-order _ (T.next_doom from) (ap (λ (k : Key). k.child) (key-same key_of m s e t) ∙ h.0) (doom-order from))
+  creates-after (Pending.CleanPair who) rest h = keeps (T.after_drop (T.cleaned_by m t (own_row m.image who.0)) who.0 x) (keys-dropped key_of ignores (T.cleaned_by m t (own_row m.image who.0)) who.0 x)
   creates-after Pending.Recycle rest h = all
 
 creates-run : (s : State) (events : List Event) (s2 : State) → AllCreate s → Runs s events s2 → AllCreate s2

@@ -95,6 +95,7 @@ pub mod ListVisits
 pub mod EmptiedPart
 pub mod ReplyPart
 pub mod IdlePart
+pub mod ThreadKeys
 pub mod LifeClaims
 pub mod RowStages
 pub mod ParkedClaims

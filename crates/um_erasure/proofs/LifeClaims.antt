@@ -1,24 +1,21 @@
 -- The claims that threads have by their lives, and those of lives that are about to begin: which steps of the machine change them. They are a
 -- permission on a new thread's own object, its start, and the clearing of its mark at its end.
-use Rattle.std.proofs.Common.{◌≡◌, ℕ, zero, suc, ◌+◌, ◌<◌, Bool, true, false, List, [], ◌∷◌, length, map, Option, Some, None, refl, sym, ap, ◌∙◌, arith}
-use Rattle.std.specs.Prelude.{ℤ, ◌-◌, ◌==◌, ◌&&◌, not, if◌then◌else◌, nat_lt, replicate, slice_index_or, slice_set, take}
+use Rattle.std.proofs.Common.{◌≡◌, ℕ, zero, suc, ◌+◌, ◌<◌, Bool, true, false, List, ◌∷◌, length, map, Option, Some, None, refl, sym, ap, ◌∙◌, arith}
+use Rattle.std.specs.Prelude.{ℤ, ◌==◌, ◌&&◌, not, if◌then◌else◌, slice_set, take}
 use Rattle.std.proofs.lemmas.Bool.{false≢true}
-use Rattle.std.proofs.lemmas.List.{length-map}
 use Rattle.um_base.specs.declared.act.Answer.{Answer}
 use Rattle.um_base.specs.declared.act.Found.{Found}
-use Rattle.um_base.specs.declared.act.Leftover.{Leftover}
 use Rattle.um_base.specs.declared.act.SetSaid.{SetSaid}
 use Rattle.um_base.specs.declared.ask.Ask.{Ask}
 use Rattle.um_base.specs.declared.ask.Told.{Told}
 use Rattle.um_base.specs.declared.image.Image.{Image}
 use Rattle.um_base.specs.declared.instr.Instr.{Instr}
-use Rattle.um_base.specs.declared.limits.TheConstants.{PARTITION_AREA, PIECE, STACK_AREA, THREADS}
+use Rattle.um_base.specs.declared.limits.TheConstants.{PIECE, THREADS}
 use Rattle.um_base.specs.declared.names.Access.TheVariants as Access
 use Rattle.um_base.specs.declared.names.Addr.{Addr}
 use Rattle.um_base.specs.declared.names.Errno.{Errno}
 use Rattle.um_base.specs.declared.names.Kind.{Kind}
 use Rattle.um_base.specs.declared.names.Mode.{Mode}
-use Rattle.um_base.specs.declared.names.Range.{Range}
 use Rattle.um_base.specs.declared.names.Reply.{Reply}
 use Rattle.um_base.specs.declared.names.Row.{Row}
 use Rattle.um_base.specs.declared.names.ThreadIx.{ThreadIx}
@@ -30,15 +27,15 @@ use Rattle.um_machine.specs.declared.object.Status.TheVariants as Status
 use Rattle.um_machine.specs.declared.pending.Pending.{Pending}
 use Rattle.um_machine.specs.declared.thread.Thread.{Thread}
 use Rattle.um_machine.specs.Domains.{added, domain_after, initialised, part_named, removed, reply_to}
-use Rattle.um_machine.specs.Memory.{allowed, bytes_at, le_bytes, le_value, put_bytes, string_bytes, string_read, with_bytes}
+use Rattle.um_machine.specs.Memory.{allowed, bytes_at, le_bytes, le_value, string_bytes, string_read, with_bytes}
 use Rattle.um_machine.specs.Objects.{is_gone, verdict}
 use Rattle.um_machine.specs.Order.{Steps, answer_error, copy_fails, to_addr}
-use Rattle.um_machine.specs.State.{State, instruction_at, no_rows, nobody, object_at, thread_at, vacant, with_object, with_pair, with_thread}
+use Rattle.um_machine.specs.State.{State, instruction_at, no_rows, object_at, thread_at, vacant, with_object, with_thread}
 use Rattle.um_machine.specs.Table as T
-use Rattle.um_reach.proofs.Cores.{map_at}
 use Rattle.um_erasure.specs.Claims.{creates}
 use Rattle.um_erasure.specs.Fine.{one_if, total}
 use Rattle.um_erasure.proofs.Sums.{total-one, total-same}
+use Rattle.um_erasure.proofs.ThreadKeys.{Ignores, key-same, keys, keys-bytes, keys-dropped, keys-erased, keys-given, keys-long, keys-moved, keys-paired, keys-set, keys-woken}
 use Rattle.um_erasure.proofs.ThreadLists.{at-here, set-else, set-long}
 
 -- what is followed of a thread: whether it keeps its own object, and whom it creates
@@ -49,57 +46,8 @@ record Key : Type 0 where
 abbrev key_of : Thread → Key
 key_of me = record { keeps = me.keeps_own; child = me.child }
 
-abbrev keys : State → List Key
-keys s = map key_of s.threads
-
-keys-set : (xs : List Thread) (v : ℕ) (th : Thread) → key_of th ≡ key_of (slice_index_or xs v nobody) → map key_of (slice_set xs v th) ≡ map key_of xs
-keys-set [] v th e = refl
-keys-set (y ∷ ys) zero th e = ap (λ k. k ∷ map key_of ys) e
-keys-set (y ∷ ys) (suc v) th e = ap (λ ks. key_of y ∷ ks) (keys-set ys v th e)
-
-keys-dues : (x i : ℕ) (holders : List Bool) (xs : List Thread) → map key_of (T.with_dues x i holders xs) ≡ map key_of xs
-keys-dues x i holders [] = refl
-keys-dues x i holders (y ∷ ys) = ap (λ ks. key_of y ∷ ks) (keys-dues x (i + 1) holders ys)
-
-keys-woken : (ws : List (ThreadIx × Told)) (s : State) → keys (T.all_woken ws s) ≡ keys s
-keys-woken [] s = refl
-keys-woken (w ∷ ws) s = keys-woken ws (with_thread s w.0.0 (record (thread_at s w.0.0) { told = Some w.1 })) ∙ keys-set s.threads w.0.0 (record (thread_at s w.0.0) { told = Some w.1 }) refl
-
-keys-bytes : (s : State) (a : ℕ) (bs : List ℕ) → keys (with_bytes s a bs) ≡ keys s
-keys-bytes s a bs =
-    elim (nat_lt a STACK_AREA) as (λ c. keys (if c then record s { memory = put_bytes s.memory (a - PARTITION_AREA) bs } else record s { stacks = put_bytes s.stacks (a - STACK_AREA) bs }) ≡ keys s) [
-      | true ↦ refl
-      | false ↦ refl
-    ]
-
-keys-erased : (s : State) (range : Option Range) → keys (T.erased s range) ≡ keys s
-keys-erased s None = refl
-keys-erased s (Some range) = keys-bytes s range.start.0 (replicate range.size 0)
-
-keys-moved : (s : State) (who d : ℕ) (reply : Reply) → keys (T.moved s who d reply) ≡ keys s
-keys-moved s who d (Reply.Num n) = keys-set s.threads who (record (thread_at s who) { domain = d }) refl
-keys-moved s who d Reply.Void = refl
-keys-moved s who d (Reply.At a) = refl
-keys-moved s who d Reply.Null = refl
-keys-moved s who d (Reply.Fail e) = refl
-
-keys-paired : (s : State) (who r : ℕ) (b : Bool) → keys (T.paired s who r b) ≡ keys s
-keys-paired s who r b = keys-dues r 0 (slice_index_or (with_pair s who r b).pairs r []) s.threads
-
-keys-given : (s : State) (who r : ℕ) → keys (T.after_given s who r) ≡ keys s
-keys-given s who r = by (is_gone (object_at s r).status)
-  where
-    by : (b : Bool) → keys (if b then s else T.paired s who r true) ≡ keys s
-    by true = refl
-    by false = keys-paired s who r true
-
-keys-dropped : (s : State) (who r : ℕ) → keys (T.after_drop s who r) ≡ keys s
-keys-dropped s who r =
-    elim (T.dropped s who r) as (λ l. keys (elim l as (λ _. State) [ Leftover.NoPair ↦ s | Leftover.Kept ↦ T.paired s who r false | Leftover.Gone ↦ with_object (T.paired s who r false) r (record (object_at s r) { status = Status.Gone }) ]) ≡ keys s) [
-      | Leftover.NoPair ↦ refl
-      | Leftover.Kept ↦ keys-paired s who r false
-      | Leftover.Gone ↦ keys-paired s who r false
-    ]
+ignores : Ignores key_of
+ignores = record { due = λ me due. refl; told = λ me told. refl; domain = λ me domain. refl }
 
 -- the steps that leave that of all threads: a thread that ends has no child
 abbrev pub Stays : Option ThreadIx → Pending → Type 0
@@ -115,14 +63,11 @@ module _ (m : State) (t x : ℕ) where
   me = thread_at m t
 
   abbrev Alike : State → Type 0
-  Alike s = keys s ≡ keys m
-
-  key-same : (s : State) → Alike s → (u : ℕ) → key_of (thread_at s u) ≡ key_of (thread_at m u)
-  key-same s e u = sym (map_at key_of s.threads u nobody) ∙ (ap (λ (ks : List Key). slice_index_or ks u (key_of nobody)) e ∙ map_at key_of m.threads u nobody)
+  Alike s = keys key_of s ≡ keys key_of m
 
   -- a thread is written that keeps and creates what it did
   set : (s : State) → Alike s → (v : ℕ) (th : Thread) → key_of th ≡ key_of (thread_at s v) → Alike (with_thread s v th)
-  set s e v th k = keys-set s.threads v th k ∙ e
+  set s e v th k = keys-set key_of s.threads v th k ∙ e
 
   on : (s : State) → Alike s → (th : Thread) (rest : Steps) → key_of th ≡ key_of (thread_at s t) → Alike (T.goes_on s t th rest)
   on s e th rest k = set s e t (T.at_steps s.image th rest) k
@@ -182,7 +127,7 @@ module _ (m : State) (t x : ℕ) where
       either (allowed m t Access.Read a.0 n) _ _ (on m refl (record me { registers = slice_set me.registers to (le_value (bytes_at m a.0 n)) }) rest refl) (on m refl me T.fault refl)
   keys-after (Pending.Store a n value) rest h =
       either (allowed m t Access.Write a.0 n) _ _
-      (let s = with_bytes m a.0 (le_bytes n value) in let e : Alike s = keys-bytes m a.0 (le_bytes n value) in on s e me rest (sym (key-same s e t))) (on m refl me T.fault refl)
+      (let s = with_bytes m a.0 (le_bytes n value) in let e : Alike s = keys-bytes key_of m a.0 (le_bytes n value) in on s e me rest (sym (key-same key_of m s e t))) (on m refl me T.fault refl)
   keys-after (Pending.Fetch a) rest h = either (allowed m t Access.Exec a.0 4) _ _ (on m refl me rest refl) (on m refl me T.fault refl)
   keys-after (Pending.Probe a amount) rest h = either (allowed m t Access.Write a.0 (T.amount_of m amount)) _ _ (on m refl me rest refl) (on m refl me (copy_fails me.mode) refl)
   keys-after (Pending.CopyIn a amount) rest h =
@@ -190,22 +135,22 @@ module _ (m : State) (t x : ℕ) where
       (on m refl me (copy_fails me.mode) refl)
   keys-after (Pending.CopyOut a) rest h =
       either (allowed m t Access.Write a.0 (length me.buffer)) _ _
-      (let s = with_bytes m a.0 me.buffer in let e : Alike s = keys-bytes m a.0 me.buffer in on s e me rest (sym (key-same s e t))) (on m refl me (copy_fails me.mode) refl)
+      (let s = with_bytes m a.0 me.buffer in let e : Alike s = keys-bytes key_of m a.0 me.buffer in on s e me rest (sym (key-same key_of m s e t))) (on m refl me (copy_fails me.mode) refl)
   keys-after (Pending.CopyStr a) rest h = texts a rest (string_read m t a.0 32)
   keys-after (Pending.Erase stack) rest h =
       let range = stack_range (setup_at m.image stack.0) in
       let s = T.erased m range in
-      let e : Alike s = keys-erased m range in on s e me rest (sym (key-same s e t))
+      let e : Alike s = keys-erased key_of m range in on s e me rest (sym (key-same key_of m s e t))
   keys-after (Pending.Work a ask) rest h =
       let w = T.work_of m t a ask in
       let o = record (object_at m (T.row_of m a)) { contents = w.contents; waiters = w.waiters; buffer = T.buffer_cost ask w.answer (object_at m (T.row_of m a)).buffer } in
-      answers (T.all_woken w.woken (with_object m (T.row_of m a) o)) (keys-woken w.woken (with_object m (T.row_of m a) o)) ask w.taken rest w.answer
+      answers (T.all_woken w.woken (with_object m (T.row_of m a) o)) (keys-woken key_of ignores w.woken (with_object m (T.row_of m a) o)) ask w.taken rest w.answer
   keys-after Pending.Resume rest h = resumed rest me.told
   keys-after (Pending.Answer reply to) rest h = on m refl (record me { checked = no_rows; registers = T.with_answer me.registers to (T.reply_of me reply) }) rest refl
-  keys-after (Pending.Grant who a) rest h = there (T.after_given m who.0 (T.row_of m a)) (keys-given m who.0 (T.row_of m a)) rest
+  keys-after (Pending.Grant who a) rest h = there (T.after_given m who.0 (T.row_of m a)) (keys-given key_of ignores m who.0 (T.row_of m a)) rest
   keys-after (Pending.Own who) rest h = absurd h
-  keys-after (Pending.Inherit who) rest h = let s = T.paired m who.0 x true in set s (keys-paired m who.0 x true) t _ refl
-  keys-after (Pending.DropPair who a) rest h = there (T.after_drop m who.0 (T.row_of m a)) (keys-dropped m who.0 (T.row_of m a)) rest
+  keys-after (Pending.Inherit who) rest h = let s = T.paired m who.0 x true in set s (keys-paired key_of ignores m who.0 x true) t _ refl
+  keys-after (Pending.DropPair who a) rest h = there (T.after_drop m who.0 (T.row_of m a)) (keys-dropped key_of ignores m who.0 (T.row_of m a)) rest
   keys-after (Pending.Publish a) rest h = by (is_gone (object_at m (T.row_of m a)).status)
     where
       by : (b : Bool) → Alike (T.goes_on (if b then m else with_object m (T.row_of m a) (record (object_at m (T.row_of m a)) { public = true })) t me rest)
@@ -218,7 +163,7 @@ module _ (m : State) (t x : ℕ) where
   keys-after (Pending.Reserve kind) rest h = reserves x kind rest
   keys-after (Pending.Born a) rest h =
       let y = T.row_of m a in
-      let s = with_object m y (record (object_at m y) { status = Status.Live }) in there (T.paired s t y true) (keys-paired s t y true) rest
+      let s = with_object m y (record (object_at m y) { status = Status.Live }) in there (T.paired s t y true) (keys-paired key_of ignores s t y true) rest
   keys-after (Pending.Buffer size) rest h =
       either (T.pays m me.pool size) _ _ (on (record m { pools = T.paid_from me.pool size m.pools }) refl me rest refl) (on m refl me (answer_error Errno.ENOMEM) refl)
   keys-after (Pending.Unbuffer size) rest h = on (record m { pools = T.paid_back (T.cost_of me.pool size) m.pools }) refl me rest refl
@@ -230,15 +175,15 @@ module _ (m : State) (t x : ℕ) where
       let made = removed (T.domain_at m d) range in edited d (domain_after (T.domain_at m d) made) (reply_to made) rest
   keys-after (Pending.DomMove d who) rest h =
       let reply = T.move_reply (T.domain_at m d) in
-      let s = T.moved m who.0 d reply in on s (keys-moved m who.0 d reply) (record (thread_at s t) { reply = reply }) rest refl
+      let s = T.moved m who.0 d reply in on s (keys-moved key_of ignores m who.0 d reply) (record (thread_at s t) { reply = reply }) rest refl
   keys-after (Pending.Start who script stack priority mode) rest h = absurd h
   keys-after (Pending.EnterUser script) rest h = set m refl t _ refl
   keys-after (Pending.Fatal reason cause) rest h = set m refl t _ (λ i. record { keeps = me.keeps_own; child = sym h i })
-  keys-after (Pending.Drops from) rest h = let s = T.after_drop m t x in set s (keys-dropped m t x) t _ refl
+  keys-after (Pending.Drops from) rest h = let s = T.after_drop m t x in set s (keys-dropped key_of ignores m t x) t _ refl
   keys-after (Pending.Dooms from) rest h =
       let th = record (thread_at m from) { doomed = true } in
-      let s = with_thread m from th in set s (keys-set m.threads from th refl) t _ refl
-  keys-after (Pending.CleanPair who) rest h = keys-dropped (T.cleaned_by m t (own_row m.image who.0)) who.0 x
+      let s = with_thread m from th in set s (keys-set key_of m.threads from th refl) t _ refl
+  keys-after (Pending.CleanPair who) rest h = keys-dropped key_of ignores (T.cleaned_by m t (own_row m.image who.0)) who.0 x
   keys-after Pending.Recycle rest h = refl
 
 -- The sums.
@@ -257,10 +202,10 @@ module _ (image : Image) (x : ℕ) where
   abbrev pub births : State → ℕ
   births s = total (λ t. one_if (creates image x (thread_at s t).child)) THREADS
 
-  alike-sums : (m s : State) → keys s ≡ keys m → (lives s ≡ lives m) × (births s ≡ births m)
+  alike-sums : (m s : State) → keys key_of s ≡ keys key_of m → (lives s ≡ lives m) × (births s ≡ births m)
   alike-sums m s e = (
-    total-same (λ t. keeps (thread_at s t) t) (λ t. keeps (thread_at m t) t) THREADS (λ t l. ap (λ (k : Key). one_if (k.keeps && (own_row image t == x))) (key-same m 0 0 s e t)),
-    total-same (λ t. begins (thread_at s t)) (λ t. begins (thread_at m t)) THREADS (λ t l. ap (λ (k : Key). one_if (creates image x k.child)) (key-same m 0 0 s e t)),
+    total-same (λ t. keeps (thread_at s t) t) (λ t. keeps (thread_at m t) t) THREADS (λ t l. ap (λ (k : Key). one_if (k.keeps && (own_row image t == x))) (key-same key_of m s e t)),
+    total-same (λ t. begins (thread_at s t)) (λ t. begins (thread_at m t)) THREADS (λ t l. ap (λ (k : Key). one_if (creates image x k.child)) (key-same key_of m s e t)),
   )
 
   -- where one thread is written
@@ -273,9 +218,6 @@ module _ (image : Image) (x : ℕ) where
         ∙ ap (λ (z : Thread). births s + begins z) (at-here s.threads v th (omega (arith, l, long))),
   )
 
-  same-long : (m s : State) → keys s ≡ keys m → length m.threads ≡ THREADS → length s.threads ≡ THREADS
-  same-long m s e long = sym (length-map s.threads key_of) ∙ (ap length e ∙ (length-map m.threads key_of ∙ long))
-
   -- A step that is none of those.
   pub sums-stay : (m : State) (t n : ℕ) (q : Pending) (rest : Steps) → Stays (thread_at m t).child q
       → (lives (T.after m t n q rest) ≡ lives m) × (births (T.after m t n q rest) ≡ births m)
@@ -287,15 +229,15 @@ module _ (image : Image) (x : ℕ) where
         → (lives (T.after m t n (Pending.Own who) rest) ≡ lives m) × (births (T.after m t n (Pending.Own who) rest) ≡ births m + one_if (own_row image who.0 == x))
     sums-own n who rest none =
         let s = T.after_given m who.0 (own_row m.image who.0) in
-        let e = keys-given m who.0 (own_row m.image who.0) in
+        let e = keys-given key_of ignores m who.0 (own_row m.image who.0) in
         let sums = alike-sums m s e in
         let lives-same = sums.0 in
         let births-same = sums.1 in
         let th = T.at_steps s.image (record (thread_at s t) { child = Some who; due = slice_set (T.rows_to_pass s t who.0) (own_row m.image t) false }) rest in
-        let here = set-sums s t th few (same-long m s e long) in
+        let here = set-sums s t th few (keys-long key_of m s e ∙ long) in
         let lives-here = here.0 in
         let births-here = here.1 in
-        let before : begins (thread_at s t) ≡ 0 = ap (λ (k : Key). one_if (creates image x k.child)) (key-same m 0 0 s e t) ∙ ap (λ (c : Option ThreadIx). one_if (creates image x c)) none in
+        let before : begins (thread_at s t) ≡ 0 = ap (λ (k : Key). one_if (creates image x k.child)) (key-same key_of m s e t) ∙ ap (λ (c : Option ThreadIx). one_if (creates image x c)) none in
         (omega (arith, lives-same, lives-here), omega (arith, births-same, births-here, before))
 
     -- a thread is started
