@@ -162,7 +162,7 @@ module _ (f : Fine) (m : State) (e : FineStep) (law : Lawful f m e) where
   makes-part : (v : ℕ) → runs_on v p ≡ true → 0 < one_if (runs_on v p) + of_thread v (adders p.todo)
   makes-part v h = let one = ap one_if h in omega (arith, one)
 
-  apart-with : (s : State) (leaves : Leaves f m e s) (v : ℕ) → v < THREADS → (c : Context) → IsOf m c → c.thread ≡ v → is_over c ≡ false → (k : ℕ) → k < f.cpus → (e.cpu == k) ≡ false
+  pub apart-with : (s : State) (leaves : Leaves f m e s) (v : ℕ) → v < THREADS → (c : Context) → IsOf m c → c.thread ≡ v → is_over c ≡ false → (k : ℕ) → k < f.cpus → (e.cpu == k) ≡ false
       → 0 < one_if (runs_on v (f.processors k)) + of_thread v (adders (f.processors k).todo) → Apart f m e law s leaves s leaves v
   apart-with s leaves v few c of at on k l other some =
       apart-from f m e law s leaves v few c of at on

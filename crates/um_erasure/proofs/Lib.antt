@@ -2,12 +2,13 @@
 -- holds at the opening (First and the files of that name, Opens). Of the premise: Leaves is what a lawful step makes of the machine's state,
 -- and the files named Part have the parts of the relation that are kept whole, with those named List for lists; own parts (Own, Others, OwnKept, OfKept,
 -- OfVisits, PartsElsewhere, StepsLeft, RestKept),
--- claims (ListClaims, RowClaims), what is kept beside (ListFits, ListBlocks, Kept, Quiet, Writes and the files named Kept and Written), and
+-- claims (ListClaims, RowClaims), what is due (DuesFilled), what is kept beside (ListFits, ListBlocks, Kept, Quiet, Writes and the files named Kept and Written), and
 -- that events are steps of the machine where the relation holds (Says, Offered, HeldRows, Shown and the files of steps). What the machine's state is
 -- known to be in a run is in the files named Known, CallSteps, CallsProper and Reachable. CellSteps and Endings are what a step makes of the
 -- cell of an object, and of a thread that has ended.
 pub mod Erased
 pub mod ThreadLists
+pub mod DuesKept
 pub mod Own
 pub mod Others
 pub mod ListClaims
@@ -92,6 +93,9 @@ pub mod StatusPart
 pub mod ChargedPart
 pub mod CleanerPart
 pub mod ListVisits
+pub mod ListDues
+pub mod DuesFilled
+pub mod DuesPart
 pub mod EmptiedPart
 pub mod ReplyPart
 pub mod IdlePart

@@ -11,9 +11,7 @@ use Rattle.um_reach.proofs.Cores.{core_of}
 use Rattle.um_reach.proofs.Guards.{IsSited}
 use Rattle.um_reach.proofs.Turns.{IsKnown}
 use Rattle.um_reach.specs.Described.{IsDescribed}
-use Rattle.um_turns.proofs.ThreadWords.{AreKept}
 use Rattle.um_fine.specs.Steps.{FineStep}
-use Rattle.um_erasure.specs.Dues.{DuesAre}
 use Rattle.um_erasure.specs.Fine.{Fine}
 use Rattle.um_erasure.specs.Looks.{IsSized}
 use Rattle.um_erasure.specs.Relation.{Rel}
@@ -22,7 +20,6 @@ use Rattle.um_erasure.proofs.AwayPart.{away-part}
 use Rattle.um_erasure.proofs.CallsKnown.{RestsHoldNothing, own-known}
 use Rattle.um_erasure.proofs.CallsProper.{AreProper}
 use Rattle.um_erasure.proofs.ChargedPart.{charged-part, order-part}
-use Rattle.um_erasure.proofs.ChildrenKnown.{AllCreate, children-known}
 use Rattle.um_erasure.proofs.ClaimsPart.{claims-part}
 use Rattle.um_erasure.proofs.CleanSteps.{OwnRows}
 use Rattle.um_erasure.proofs.CleanerPart.{begun-part, cleaner-part}
@@ -32,6 +29,7 @@ use Rattle.um_erasure.proofs.ContextsPart.{added-field, parked-field, running-fi
 use Rattle.um_erasure.proofs.DomainPart.{domain-part}
 use Rattle.um_erasure.proofs.DomainsKnown.{started-placed}
 use Rattle.um_erasure.proofs.DonePart.{done-part}
+use Rattle.um_erasure.proofs.DuesPart.{DuesKnown, dues-known, dues-part}
 use Rattle.um_erasure.proofs.EmptiedPart.{GivesHeld, emptied-part}
 use Rattle.um_erasure.proofs.Erased.{IsReachable, Keeps, fine, reach-on, stepped}
 use Rattle.um_erasure.proofs.FirstObjects.{opening-image}
@@ -55,7 +53,7 @@ use Rattle.um_erasure.proofs.RowsPart.{rows-part}
 use Rattle.um_erasure.proofs.RunningPart.{running-part}
 use Rattle.um_erasure.proofs.SchedulerPart.{scheduler-part}
 use Rattle.um_erasure.proofs.StatusPart.{status-part}
-use Rattle.um_erasure.proofs.SuitsKnown.{kept-known, proper-known, rests-known, suits-known}
+use Rattle.um_erasure.proofs.SuitsKnown.{proper-known, rests-known, suits-known}
 use Rattle.um_erasure.proofs.TablePart.{table-part}
 use Rattle.um_erasure.proofs.ToldPart.{told-part}
 use Rattle.um_erasure.proofs.WordsPart.{words-part}
@@ -63,7 +61,6 @@ use Rattle.um_erasure.proofs.Writes.{Keeping, after-kept, bytes-kept}
 
 -- The parts of the relation that are still to be kept.
 pub record IsLeft (g : Fine) (s : State) : Type 0 where
-  pub dues : (k : ℕ) → k < g.cpus → DuesAre g s k
   pub sizes : (k : ℕ) → k < g.cpus → IsSized g s k
 
 -- No step changes the image.
@@ -113,9 +110,9 @@ module _ (f : Fine) (m : State) (e : FineStep) (law : Lawful f m e) where
       }
 
   -- the relation holds after the step where what is left of it does
-  pub related : OwnRows f.image → InDomains f m → Suits f m → IsLawful m.image → AreProper m.image m → AreKept m → AllCreate m → NamesHeld m → GivesHeld m → MovesIn m (length f.image.domains)
-      → (s : State) (leaves : Leaves f m e s) → HasStep f m e s leaves → RestsHoldNothing s → IsLeft later s → Rel later s
-  related own all suits lawful proper kept creates names gives moves s leaves has rests left =
+  pub related : OwnRows f.image → InDomains f m → Suits f m → IsLawful m.image → AreProper m.image m → DuesKnown m → NamesHeld m → GivesHeld m → MovesIn m (length f.image.domains)
+      → (s : State) (leaves : Leaves f m e s) → HasStep f m e s leaves → RestsHoldNothing s → DuesKnown s → IsLeft later s → Rel later s
+  related own all suits lawful proper before names gives moves s leaves has rests after left =
       record {
         image = image-part s leaves;
         sorts = sorts-kept f.image f.sites e law.rel.sorts;
@@ -123,16 +120,16 @@ module _ (f : Fine) (m : State) (e : FineStep) (law : Lawful f m e) where
         running = running-part f m e law;
         scheduler = scheduler-part f m e law;
         threads = λ t l.
-            record { word = words-part f m e law t l s leaves; away = away-part f m e law suits all s leaves has t l; told = told-part f m e law suits all kept t l s leaves; held = held-part f m e law t l; ready = ready-part f m e law suits.tells t l };
+            record { word = words-part f m e law t l s leaves; away = away-part f m e law suits all s leaves has t l; told = told-part f m e law suits all before.kept t l s leaves; held = held-part f m e law t l; ready = ready-part f m e law suits.tells t l };
         rows = λ x l.
-            record { pairs = pairs-part f m e law x l s leaves; status = status-part f m e law x l s leaves; contents = contents-part f m e law suits names x l s leaves; claims = claims-part f m e law x l suits creates lawful s leaves; cleaners = cleaners-part f m e law x l s leaves; cleaner = cleaner-part f m e law x l own s leaves };
+            record { pairs = pairs-part f m e law x l s leaves; status = status-part f m e law x l s leaves; contents = contents-part f m e law suits names x l s leaves; claims = claims-part f m e law x l suits before.creates lawful s leaves; cleaners = cleaners-part f m e law x l s leaves; cleaner = cleaner-part f m e law x l own s leaves };
         domains = λ d l. domain-part f m e law d l s leaves;
         processors = λ k l.
             record {
               list = lists-kept f m law.rel e law.by.may law.taken k l;
               idle = idle-part f m e law k l;
               domain = held-domain-part f m e law s leaves k l;
-              dues = left.dues k l;
+              dues = dues-part f m e law before lawful s leaves has (image-part s leaves) after (contexts-part all suits lawful proper s leaves has rests).running k l;
               table = table-part f m e law all s leaves k l;
               looks = record { size = left.sizes k l; reply = λ d. reply-part f m e law moves s leaves k d l };
               blocks = blocks-kept f m law.rel e k l;
@@ -164,8 +161,10 @@ keeps-all image cpus described known left ps ss m e rel reach by taken =
     let all : InDomains f m = λ t l started. started-placed image cpus described m reach t started in
     let next = lawful-next f m e law suits own all in
     let lawful = subst IsLawful (sym rel.image) described.lawful in
-    let kept = kept-known image cpus described known m reach in
     let proper = proper-known image cpus described known m reach in
-    let rests = rests-known image cpus described known next.state (reach-on image cpus m next.state e.act reach next.goes) in
+    let onwards = reach-on image cpus m next.state e.act reach next.goes in
+    let rests = rests-known image cpus described known next.state onwards in
+    let before = dues-known image cpus described known m reach in
+    let after = dues-known image cpus described known next.state onwards in
     let moves = subst (λ (i : Image). MovesIn m (length i.domains)) rel.image (moves-known image cpus described known m reach) in
-    (next.state, next.goes, related f m e law own all suits lawful proper kept (children-known image cpus m reach) (names-known image cpus described known m reach) (gives-known image cpus described known m reach) moves next.state next.leaves next.has rests (left.parts f m e refl refl reach law suits next.state next.leaves))
+    (next.state, next.goes, related f m e law own all suits lawful proper before (names-known image cpus described known m reach) (gives-known image cpus described known m reach) moves next.state next.leaves next.has rests after (left.parts f m e refl refl reach law suits next.state next.leaves))
