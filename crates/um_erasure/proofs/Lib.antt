@@ -4,8 +4,8 @@
 -- OfVisits, PartsElsewhere, StepsLeft, RestKept),
 -- claims (ListClaims, RowClaims), what is due (DuesFilled), what is kept beside (ListFits, ListBlocks, Kept, Quiet, Writes and the files named Kept and Written), and
 -- that events are steps of the machine where the relation holds (Says, Offered, HeldRows, Shown and the files of steps). What the machine's state is
--- known to be in a run is in the files named Known, CallSteps, CallsProper and Reachable. CellSteps and Endings are what a step makes of the
--- cell of an object, and of a thread that has ended.
+-- known to be in a run is in the files named Known, CallSteps, CallsProper, Reachable and, of message queues, QueueSteps, QueuesKept and
+-- QueuesAfter. CellSteps and Endings are what a step makes of the cell of an object, and of a thread that has ended.
 pub mod Erased
 pub mod ThreadLists
 pub mod DuesKept
@@ -120,3 +120,7 @@ pub mod AwayPart
 pub mod ListWakes
 pub mod ToldFacts
 pub mod ToldPart
+pub mod QueueSteps
+pub mod QueuesKept
+pub mod QueuesAfter
+pub mod QueuesKnown
