@@ -106,7 +106,7 @@ pub mod ParkedClaims
 pub mod ClaimsPart
 pub mod HeldDomainPart
 pub mod Parts
-pub mod ErasedLeft
+pub mod ErasedRuns
 pub mod MemoryPart
 pub mod WordsPart
 pub mod PartsElsewhere
@@ -124,3 +124,4 @@ pub mod QueueSteps
 pub mod QueuesKept
 pub mod QueuesAfter
 pub mod QueuesKnown
+pub mod SizesPart

@@ -1,4 +1,4 @@
--- Every lawful step keeps the relation, where it keeps the parts of it that are still to be proved: the other parts are kept.
+-- Every lawful step keeps the relation: its parts together, and in the states that a run of a described image reaches all that they ask for.
 use Rattle.std.proofs.Common.{sym, subst, ◌≡◌, ℕ, ◌<◌, length, refl, ◌∙◌}
 use Rattle.um_base.specs.declared.image.Image.{Image}
 use Rattle.um_base.specs.Lawful.{IsLawful}
@@ -13,7 +13,6 @@ use Rattle.um_reach.proofs.Turns.{IsKnown}
 use Rattle.um_reach.specs.Described.{IsDescribed}
 use Rattle.um_fine.specs.Steps.{FineStep}
 use Rattle.um_erasure.specs.Fine.{Fine}
-use Rattle.um_erasure.specs.Looks.{IsSized}
 use Rattle.um_erasure.specs.Relation.{Rel}
 use Rattle.um_erasure.specs.Threads.{ContextsAre}
 use Rattle.um_erasure.proofs.AwayPart.{away-part}
@@ -46,22 +45,20 @@ use Rattle.um_erasure.proofs.MemoryPart.{InDomains, memory-part}
 use Rattle.um_erasure.proofs.NamesKnown.{gives-known, moves-known, names-known}
 use Rattle.um_erasure.proofs.OncePart.{once-part}
 use Rattle.um_erasure.proofs.PairsPart.{pairs-part}
+use Rattle.um_erasure.proofs.QueuesKnown.{AreQueues, queues-known}
 use Rattle.um_erasure.proofs.Reachable.{Any, makes-any, reachable-sound}
 use Rattle.um_erasure.proofs.ReadyPart.{ready-part}
 use Rattle.um_erasure.proofs.ReplyPart.{MovesIn, reply-part}
 use Rattle.um_erasure.proofs.RowsPart.{rows-part}
 use Rattle.um_erasure.proofs.RunningPart.{running-part}
 use Rattle.um_erasure.proofs.SchedulerPart.{scheduler-part}
+use Rattle.um_erasure.proofs.SizesPart.{sizes-part}
 use Rattle.um_erasure.proofs.StatusPart.{status-part}
 use Rattle.um_erasure.proofs.SuitsKnown.{proper-known, rests-known, suits-known}
 use Rattle.um_erasure.proofs.TablePart.{table-part}
 use Rattle.um_erasure.proofs.ToldPart.{told-part}
 use Rattle.um_erasure.proofs.WordsPart.{words-part}
 use Rattle.um_erasure.proofs.Writes.{Keeping, after-kept, bytes-kept}
-
--- The parts of the relation that are still to be kept.
-pub record IsLeft (g : Fine) (s : State) : Type 0 where
-  pub sizes : (k : ℕ) → k < g.cpus → IsSized g s k
 
 -- No step changes the image.
 
@@ -109,10 +106,10 @@ module _ (f : Fine) (m : State) (e : FineStep) (law : Lawful f m e) where
         done = done-part f m e law proper s leaves;
       }
 
-  -- the relation holds after the step where what is left of it does
-  pub related : OwnRows f.image → InDomains f m → Suits f m → IsLawful m.image → AreProper m.image m → DuesKnown m → NamesHeld m → GivesHeld m → MovesIn m (length f.image.domains)
-      → (s : State) (leaves : Leaves f m e s) → HasStep f m e s leaves → RestsHoldNothing s → DuesKnown s → IsLeft later s → Rel later s
-  related own all suits lawful proper before names gives moves s leaves has rests after left =
+  -- the relation holds after the step
+  pub related : OwnRows f.image → InDomains f m → Suits f m → IsLawful m.image → AreProper m.image m → DuesKnown m → NamesHeld m → GivesHeld m → MovesIn m (length f.image.domains) → AreQueues m
+      → (s : State) (leaves : Leaves f m e s) → HasStep f m e s leaves → RestsHoldNothing s → DuesKnown s → Rel later s
+  related own all suits lawful proper before names gives moves queues s leaves has rests after =
       record {
         image = image-part s leaves;
         sorts = sorts-kept f.image f.sites e law.rel.sorts;
@@ -131,7 +128,7 @@ module _ (f : Fine) (m : State) (e : FineStep) (law : Lawful f m e) where
               domain = held-domain-part f m e law s leaves k l;
               dues = dues-part f m e law before lawful s leaves has (image-part s leaves) after (contexts-part all suits lawful proper s leaves has rests).running k l;
               table = table-part f m e law all s leaves k l;
-              looks = record { size = left.sizes k l; reply = λ d. reply-part f m e law moves s leaves k d l };
+              looks = record { size = sizes-part f m e law queues s leaves k l; reply = λ d. reply-part f m e law moves s leaves k d l };
               blocks = blocks-kept f m law.rel e k l;
               frames = frames-kept f m law.rel e k l;
               rows = rows-part f m e law k l;
@@ -147,13 +144,9 @@ module _ (f : Fine) (m : State) (e : FineStep) (law : Lawful f m e) where
         heap = heap-part f m e law s leaves;
       }
 
--- What is left to prove of every lawful step, with a state that a run reaches: that the step keeps the parts that are left.
-pub record IsLeftOpen (image : Image) (cpus : ℕ) : Type 0 where
-  pub parts : (f : Fine) (m : State) (e : FineStep) → f.image ≡ image → f.cpus ≡ cpus → IsReachable image cpus m → Lawful f m e → Suits f m
-      → (s : State) → Leaves f m e s → IsLeft (stepped f.image f.cpus f.processors f.sites e) s
-
-pub keeps-all : (image : Image) (cpus : ℕ) → IsDescribed image → IsKnown (core_of (opening image)) → IsLeftOpen image cpus → Keeps image cpus
-keeps-all image cpus described known left ps ss m e rel reach by taken =
+-- Every lawful step keeps the relation with a state that a run of a described image reaches.
+pub keeps-all : (image : Image) (cpus : ℕ) → IsDescribed image → IsKnown (core_of (opening image)) → Keeps image cpus
+keeps-all image cpus described known ps ss m e rel reach by taken =
     let f = fine image cpus ps ss in
     let law : Lawful f m e = record { rel = rel; sound = reachable-sound image cpus described.few m reach known; by = by; taken = taken } in
     let suits = suits-known image cpus described known m reach f rel in
@@ -167,4 +160,5 @@ keeps-all image cpus described known left ps ss m e rel reach by taken =
     let before = dues-known image cpus described known m reach in
     let after = dues-known image cpus described known next.state onwards in
     let moves = subst (λ (i : Image). MovesIn m (length i.domains)) rel.image (moves-known image cpus described known m reach) in
-    (next.state, next.goes, related f m e law own all suits lawful proper before (names-known image cpus described known m reach) (gives-known image cpus described known m reach) moves next.state next.leaves next.has rests after (left.parts f m e refl refl reach law suits next.state next.leaves))
+    let queues = queues-known image cpus described known m reach in
+    (next.state, next.goes, related f m e law own all suits lawful proper before (names-known image cpus described known m reach) (gives-known image cpus described known m reach) moves queues next.state next.leaves next.has rests after)

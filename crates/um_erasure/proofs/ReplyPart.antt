@@ -79,7 +79,7 @@ edit-moving : (d : ℕ) (q : Pending) → edits_step d q ≡ true → domain_mov
 edit-moving d (Pending.DomMove e who) h = absurd (false≢true h)
 edit-moving d q h = refl
 
-none-some : {A B : Type 0} {a : A} → None ≡ Some a → B
+pub none-some : {A B : Type 0} {a : A} → None ≡ Some a → B
 none-some h = absurd (false≢true (ap is_some h))
 
 some-is : {a b : ℕ} → Some a ≡ Some b → a ≡ b

@@ -1,4 +1,5 @@
 pub mod Fine
+pub mod After
 pub mod Lists
 pub mod Offers
 pub mod Threads

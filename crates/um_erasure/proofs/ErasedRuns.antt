@@ -1,4 +1,4 @@
--- The events of every fine run of a described image are a run of the access-matrix machine, where what is left open holds (`IsLeftOpen`).
+-- The events of every fine run of a described image are a run of the access-matrix machine.
 use Rattle.std.proofs.Common.{◌≡◌, ◌⊎◌, inl, inr, ℕ, zero, suc, ◌<◌, true, false, cond, List, [], ◌∷◌, length, refl, sym, ap, ◌∙◌, subst, arith, eq-eqb}
 use Rattle.std.specs.Prelude.{map, nat_lt}
 use Rattle.std.specs.List.{list_all}
@@ -23,11 +23,13 @@ use Rattle.um_fine.specs.Scheduler.{has_ready}
 use Rattle.um_fine.specs.Sites.{SiteMay, s_next, same_site, site_takes}
 use Rattle.um_fine.specs.Steps.{FineStep, Site}
 use Rattle.um_fine.proofs.Keys.{same-itself}
+use Rattle.um_erasure.specs.After.{left_by}
 use Rattle.um_erasure.specs.Fine.{scheduler_state}
+use Rattle.um_erasure.specs.Relation.{Rel}
 use Rattle.um_erasure.proofs.FirstLawful.{erased-described, some-objects}
 use Rattle.um_erasure.proofs.FirstObjects.{opening-image}
 use Rattle.um_erasure.proofs.Kept.{idle-takes}
-use Rattle.um_erasure.proofs.Parts.{IsLeftOpen, keeps-all}
+use Rattle.um_erasure.proofs.Parts.{keeps-all}
 
 none-or-some : (n : ℕ) → (n ≡ 0) ⊎ (0 < n)
 none-or-some zero = inl refl
@@ -73,13 +75,16 @@ module _ (image : Image) (cpus : ℕ) (described : IsDescribed image) where
           ap (λ (boots : List Boot). has_ready (scheduler_state (s_start image Site.scheduler)) (map (boot_index (opening image)) boots))
           (ap (λ (i : Image). i.boots) (opening-image image) ∙ no-boots image image.boots described.lawful.boots none)
 
-  pub erased-left : IsLeftOpen image cpus → (h : List FineStep) → IsFineRun image cpus h → (m : State) × Runs (opening image) (shown h) m
-  erased-left left h run = by (none-or-some (length image.objects)) h run
+  abbrev Erases : List FineStep → Type 0
+  Erases h = (m : State) × Runs (opening image) (shown h) m × (0 < length image.objects → Rel (left_by image cpus h) m)
+
+  pub erased-runs : (h : List FineStep) → IsFineRun image cpus h → Erases h
+  erased-runs h run = by (none-or-some (length image.objects)) h run
     where
-      by : (length image.objects ≡ 0) ⊎ (0 < length image.objects) → (h : List FineStep) → IsFineRun image cpus h → (m : State) × Runs (opening image) (shown h) m
-      by (inl none) [] run = (opening image, refl)
+      by : (length image.objects ≡ 0) ⊎ (0 < length image.objects) → (h : List FineStep) → IsFineRun image cpus h → Erases h
+      by (inl none) [] run = (opening image, refl, λ some. absurd (omega (arith, some, none)))
       by (inl none) (e ∷ h) run = absurd (no-steps none e h run)
       by (inr some) h run =
           let known = (is_opening image (is_sited image described.lawful described.few some) described.lawful).known in
-          let r = erased-described image described cpus (keeps-all image cpus described known left) h run in
-          (r.0, r.1)
+          let r = erased-described image described cpus (keeps-all image cpus described known) h run in
+          (r.0, r.1, λ _. r.2)
