@@ -1,8 +1,8 @@
--- A thread whose own part lies nowhere was never started, has ended, or is doomed at rest, after every lawful step.
+-- A thread whose own part lies nowhere has no step left, and was never started, has ended, or is doomed, after every lawful step.
 use Rattle.std.proofs.Common.{◌≡◌, ◌≢◌, ◌⊎◌, inl, inr, ℕ, zero, suc, ◌+◌, ◌<◌, ◌≤◌, Bool, true, false, cond, List, [], ◌∷◌, Option, Some, None, refl, sym, ap, ◌∙◌, subst, arith, eq-eqb}
 use Rattle.std.specs.Prelude.{◌==◌, ◌&&◌, if◌then◌else◌, is_some, not}
 use Rattle.std.specs.List.{list_any}
-use Rattle.std.proofs.lemmas.Bool.{and_parts, eqb-false, eqb-true, not-true, true≢false}
+use Rattle.std.proofs.lemmas.Bool.{and_parts, eqb-false, eqb-true, false≢true, not-true, true≢false}
 use Rattle.std.proofs.lemmas.Grind.{get_or-set_at}
 use Rattle.std.proofs.lemmas.List.{get_or-set_other}
 use Rattle.um_base.specs.declared.ask.Told.{Told}
@@ -53,7 +53,7 @@ use Rattle.um_erasure.proofs.SchedulerSteps.{made-at, made-moves, made-says, sch
 use Rattle.um_erasure.proofs.StepsLeft.{drops-on, passes-on, rests-on, steps-on}
 
 abbrev IsAway : Thread → Type 0
-IsAway me = (me.life ≢ Life.Living) ⊎ ((me.doomed ≡ true) × (me.pending ≡ []))
+IsAway me = ((me.life ≢ Life.Living) ⊎ (me.doomed ≡ true)) × (me.pending ≡ [])
 
 resumed-ended : (image : Image) (c : Context) (told : Told) → (resumed image c told).ended ≡ c.ended
 resumed-ended image c told = by c.pending
@@ -61,6 +61,10 @@ resumed-ended image c told = by c.pending
     by : (steps : Steps) → (resumed_at image c told steps).ended ≡ c.ended
     by (Pending.Resume ∷ rest) = refl
     by steps = refl
+
+none-left : (steps : Steps) → is_empty steps ≡ true → steps ≡ []
+none-left [] h = refl
+none-left (q ∷ rest) h = absurd (false≢true h)
 
 some-true : (b : Bool) → 0 < one_if b → b ≡ true
 some-true true h = refl
@@ -99,14 +103,14 @@ module _ (f : Fine) (m : State) (e : FineStep) (law : Lawful f m e) (suits : Sui
 
   -- a thread that isn't the step's, and lay nowhere
   away-stays : Apart f m e law s leaves s leaves t → IsAway (thread_at m t) → IsAway (thread_at s t)
-  away-stays apart away = by away
+  away-stays apart away = (by away.0, ap (λ (th : Thread). th.pending) same ∙ away.1)
     where
       same : doing (thread_at s t) ≡ doing (thread_at m t)
       same = stays f m e law s leaves t apart
 
-      by : IsAway (thread_at m t) → IsAway (thread_at s t)
+      by : ((thread_at m t).life ≢ Life.Living) ⊎ ((thread_at m t).doomed ≡ true) → ((thread_at s t).life ≢ Life.Living) ⊎ ((thread_at s t).doomed ≡ true)
       by (inl ended) = inl (λ lives. ended (sym (ap (λ (th : Thread). th.life) same) ∙ lives))
-      by (inr h) = inr (doomed-kept f m e law s leaves t few h.0, ap (λ (th : Thread). th.pending) same ∙ h.1)
+      by (inr doomed) = inr (doomed-kept f m e law s leaves t few doomed)
 
   mine-lies : has_steps p.todo ≡ true → is_over p.context ≡ false → p.context.thread ≡ t → lies p ≡ 0 → ⊥
   mine-lies steps on same none =
@@ -156,9 +160,12 @@ module _ (f : Fine) (m : State) (e : FineStep) (law : Lawful f m e) (suits : Sui
           let context : now.context ≡ c =
           now-context f m e law (Todo.show r rest ∷ more) h.at ∙ ap (λ b. (if b then record p { todo = Todo.done ∷ [] } else after_show f.image p e r rest more).context) h.shown in
           let of = of-kept f m e law suits all rest more x r h shown is in
-          let ended : c.ended ≡ true = (and_parts c.ended (is_empty c.pending) (sym (ap is_over context) ∙ over)).0 in
-          let index : c.thread ≡ t = sym (ap (λ (d : Context). d.thread) context) ∙ (next-thread f.image p e q todo at goes ∙ same) in
-          inl (λ lives. ended-not (thread_at z c.thread).life (sym of.ended ∙ ended) (ap (λ n. (thread_at z n).life) index ∙ lives))
+          let ends = and_parts c.ended (is_empty c.pending) (sym (ap is_over context) ∙ over) in
+          let ended : c.ended ≡ true = ends.0 in
+          let index : c.thread ≡ t = sym (ap (λ (d : Context). d.thread) context) ∙ (next-thread f.image p e q todo at goes ∙ same) in (
+            inl (λ lives. ended-not (thread_at z c.thread).life (sym of.ended ∙ ended) (ap (λ n. (thread_at z n).life) index ∙ lives)),
+            ap (λ n. (thread_at z n).pending) (sym index) ∙ (sym (ap (λ (th : Thread). th.pending) of.own) ∙ none-left c.pending ends.1),
+          )
       by z (resumes c told rest idle moved said) = absurd (true≢false (ap has_steps (sym at ∙ idle)))
       by z (passes who x rest more h said) = stayed z (now-context f m e law (Todo.pass who x ∷ more) h.at)
       by z (drops from x rest more h said) =
@@ -298,7 +305,7 @@ module _ (f : Fine) (m : State) (e : FineStep) (law : Lawful f m e) (suits : Sui
           by : (p.context.ended ≡ true) ⊎ ((thread_at m p.context.thread).doomed ≡ true) → IsAway (thread_at m t)
           by (inl ended) = absurd (true≢false (sym (λ i. ended i && is_empty (done.0 i)) ∙ on))
           by (inr doomed) =
-              inr (ap (λ n. (thread_at m n).doomed) (sym same) ∙ doomed, ap (λ n. (thread_at m n).pending) (sym same) ∙ (sym (ap (λ (th : Thread). th.pending) of.own) ∙ done.0))
+              (inr (ap (λ n. (thread_at m n).doomed) (sym same) ∙ doomed), ap (λ n. (thread_at m n).pending) (sym same) ∙ (sym (ap (λ (th : Thread). th.pending) of.own) ∙ done.0))
 
   adds : (d : Context) (todo : Todos) → p.todo ≡ Todo.add d ∷ todo → 0 < places f t → IsAway (thread_at s t)
   adds d todo at some = which (d.thread == t) refl

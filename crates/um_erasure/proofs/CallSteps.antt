@@ -1,6 +1,7 @@
--- The steps that are left of a call are proper: each act on an object is on one that the call holds then, a thread that gets a permission or
--- a name is one whose object it holds, or a static one, permissions are passed on to the thread that it starts next, each edit and each move
--- is of one of the image's domains, and where the call is over it holds nothing. The steps of each line of a lawful image are.
+-- The steps that are left of a call are proper: each act on an object is on one that the call holds then, and so is each publication and each
+-- mark as initialised, a thread that gets a permission or a name is one whose object it holds, or a static one, permissions are passed on to the
+-- thread that it starts next, each edit and each move is of one of the image's domains, and where the call is over it holds nothing. The steps
+-- of each line of a lawful image are.
 use Rattle.std.proofs.Common.{◌≡◌, ◌⊎◌, inl, inr, ℕ, zero, suc, ◌+◌, ◌*◌, ◌<◌, Bool, true, false, List, [], ◌∷◌, ◌++◌, length, Option, Some, None, refl, sym, ap, ◌∙◌, subst, arith}
 use Rattle.std.specs.Prelude.{◌==◌, ◌&&◌, ◌||◌, ℤ, if◌then◌else◌, is_some, nat_lt, slice_get, slice_index_or, slice_set, unwrap_or}
 use Rattle.std.specs.List.{list_all}
@@ -44,6 +45,8 @@ module _ (image : Image) where
   Proper checked (Pending.Check a kind want refusal ∷ rest) =
       (x : ℕ) → row_at image a.0 ≡ Some x → slice_index_or (slice_set checked x true) x false ≡ true → Proper (slice_set checked x true) rest
   Proper checked (Pending.Work a ask ∷ rest) = Names image checked a.0 × Proper checked rest
+  Proper checked (Pending.Publish a ∷ rest) = Names image checked a.0 × Proper checked rest
+  Proper checked (Pending.SetInit a strict undo ∷ rest) = Names image checked a.0 × Proper checked rest
   Proper checked (Pending.Answer reply to ∷ rest) = rest ≡ []
   Proper checked (Pending.Fatal reason cause ∷ rest) = Unit {0}
   Proper checked (Pending.EnterUser script ∷ rest) = Bare checked
@@ -68,7 +71,7 @@ module _ (image : Image) (checked : List Bool) where
   proper-init : (a x : ℕ) → row_at image a ≡ Some x → slice_index_or checked x false ≡ true → (ask : Ask) (refused : Bool)
       → Proper image checked (if refused then answer_error Errno.EINVAL else work a ask ∷ Pending.SetInit (to_addr a) false None ∷ answer_zero)
   proper-init a x e h ask true = refl
-  proper-init a x e h ask false = ((x, e, h), refl)
+  proper-init a x e h ask false = ((x, e, h), ((x, e, h), refl))
 
   proper-inherit : (inherits : Bool) (who : ThreadIx) (rest : Steps) → StartsOne who rest → Proper image checked rest
       → Proper image checked ((if inherits then Pending.Inherit who ∷ [] else []) ++ rest)
@@ -76,12 +79,13 @@ module _ (image : Image) (checked : List Bool) where
   proper-inherit false who rest starts h = h
 
   proper-creates : (mode : Mode) (who stack a b script : ℕ) (priority : ℤ) (options : Options) (cause : Option Cause)
-      → Proper image checked (creates mode who stack a b script priority options cause)
-  proper-creates mode who stack a b script priority options (Some cause) = tt
-  proper-creates mode who stack a b script priority options None = proper-inherit options.inherit _ _ refl (λ other. refl)
+      → Names image checked a → Names image checked b → Proper image checked (creates mode who stack a b script priority options cause)
+  proper-creates mode who stack a b script priority options (Some cause) thread-named stack-named = tt
+  proper-creates mode who stack a b script priority options None thread-named stack-named =
+      (thread-named, (stack-named, proper-inherit options.inherit _ _ refl (λ other. refl)))
 
 proper-buffered : (image : Image) (checked : List Bool) (a : ℕ) (kind : Kind) (lawful : Bool) (size : ℕ) (ask : Ask) → Proper image checked (buffered a kind lawful size ask)
-proper-buffered image checked a kind true size ask = λ x e h. ((x, e, h), refl)
+proper-buffered image checked a kind true size ask = λ x e h. ((x, e, h), ((x, e, h), refl))
 proper-buffered image checked a kind false size ask = λ x e h. refl
 
 number-below : (n : ℕ) (domain : Ref) → is_number_below n domain ≡ true → number_of domain < n
@@ -118,18 +122,19 @@ module _ (image : Image) (sited : IsSited image) (t : ℕ) (me : Thread) (none :
   proper-steps i (Instr.DomainMove domain thread) lawful =
       proper-privileged image me.checked me.mode _ (λ x e h. (number-below (length image.domains) domain (and_parts _ _ lawful).0, refl))
   proper-steps i (Instr.UserMode script) lawful = proper-privileged image me.checked me.mode _ none
-  proper-steps i (Instr.AllGrant object) lawful = proper-privileged image me.checked me.mode _ (λ x e h. refl)
+  proper-steps i (Instr.AllGrant object) lawful = proper-privileged image me.checked me.mode _ (λ x e h. ((x, e, h), refl))
   proper-steps i (Instr.Grant object thread) lawful =
       λ y f g x e h. (owned image sited (slice_set (slice_set me.checked y true) x true) (value_of me.registers thread) y f (keeps (slice_set me.checked y true) y x g), refl)
   proper-steps i (Instr.Revoke object thread) lawful = proper-privileged image me.checked me.mode _ (λ y f g x e h. refl)
   proper-steps i (Instr.Release object) lawful = λ x e h. refl
   proper-steps i (Instr.Create thread stack size script priority options) lawful =
-      λ y f g x e h. proper-creates image (slice_set (slice_set me.checked y true) x true) me.mode _ _ _ _ _ _ options _
+      λ y f g x e h. proper-creates image (slice_set (slice_set me.checked y true) x true) me.mode _ _ _ _ _ _ options _ (y, f, keeps (slice_set me.checked y true) y x g) (x, e, h)
   proper-steps i (Instr.NameSet thread addr) lawful = λ x e h. (owned image sited (slice_set me.checked x true) (value_of me.registers thread) x e h, refl)
   proper-steps i (Instr.SemInit object count limit) lawful =
       let c = value_of me.registers count in
       let l = value_of me.registers limit in
       λ x e h. proper-init image (slice_set me.checked x true) (value_of me.registers object) x e h (Ask.SemInit c l) (l == 0 || nat_lt l c)
+  proper-steps i (Instr.MutexInit object) lawful = λ x e h. ((x, e, h), ((x, e, h), refl))
   proper-steps i (Instr.MsgqInit object msg_size max_msgs) lawful =
       let size = value_of me.registers msg_size in
       let most = value_of me.registers max_msgs in

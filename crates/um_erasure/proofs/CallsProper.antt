@@ -340,9 +340,9 @@ module _ (m : State) (t x : ℕ) where
       proper-after (Pending.Publish a) rest h =
           let y = T.row_of m a in
           let b = is_gone (object_at m y).status in
-          on (if b then m else with_object m y (record (object_at m y) { public = true })) (ap (λ (c : Core). c.calls) (core-published m y b)) me rest refl (lives-on (is_living me.life) h.1) h.0
+          on (if b then m else with_object m y (record (object_at m y) { public = true })) (ap (λ (c : Core). c.calls) (core-published m y b)) me rest refl (lives-on (is_living me.life) h.1) h.0.1
       proper-after (Pending.SetInit a strict undo) rest h =
-          marks (lives-on (is_living me.life) h.1) a undo rest (T.set_said (object_at m (T.row_of m a)) strict) h.0
+          marks (lives-on (is_living me.life) h.1) a undo rest (T.set_said (object_at m (T.row_of m a)) strict) h.0.1
       proper-after (Pending.ClearInit a) rest h = set (with_object m (T.row_of m a) (record (object_at m (T.row_of m a)) { init = false })) all t _ (h.0, h.1)
       proper-after (Pending.Named who) rest h =
           let y = own_row m.image who.0 in

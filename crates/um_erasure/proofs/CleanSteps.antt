@@ -145,12 +145,8 @@ module _ (f : Fine) (m : State) (rel : Rel f m) (calls : Calls m) where
             let k = some-part (λ j. one_if (runs_on u (f.processors j)) + of_thread u (adders (f.processors j).todo)) f.cpus (omega (arith, some, lacks)) in
             with-processor k.0 k.1 k.2
 
-        away : ((thread_at m u).life ≢ Life.Living) ⊎ (((thread_at m u).doomed ≡ true) × ((thread_at m u).pending ≡ [])) → slice_index_or (thread_at m u).checked x false ≡ false
-        away (inl h) = calls.rests u x (inl h)
-        away (inr h) = calls.rests u x (inr h.1)
-
         by : (n : ℕ) → places f u ≡ n → slice_index_or (thread_at m u).checked x false ≡ false
-        by zero e = away ((rel.threads u l).away.away e)
+        by zero e = calls.rests u x (inr ((rel.threads u l).away.away e).1)
         by (suc n) e = by-parked (is_some (parked_at (scheduler f) u)) refl (omega (arith, e))
 
     own-free : (u : ℕ) → u < THREADS → ((thread_at m u).keeps_own && (own_row m.image u == x)) ≡ false

@@ -62,7 +62,7 @@ use Rattle.um_erasure.proofs.ThreadLists.{at-here, set-else}
 abbrev Below : List ℕ → Type 0
 Below xs = list_all (λ x. nat_lt x ROWS) xs ≡ true
 
-flags-long : (xs : List ℕ) → length (flags_of xs) ≡ ROWS
+pub flags-long : (xs : List ℕ) → length (flags_of xs) ≡ ROWS
 flags-long [] = refl
 flags-long (x ∷ xs) = length-set (flags_of xs) x true ∙ flags-long xs
 

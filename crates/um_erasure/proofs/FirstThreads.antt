@@ -222,7 +222,7 @@ module _ (image : Image) (cpus : ℕ) where
   away-first t =
       record {
         away = λ none.
-            inl (not-living (thread_at (opening image) t).life (living-parked 0 (opening image).threads t (no-one (is_some (parked_at (scheduler (first image cpus)) t)) none)));
+            (inl (not-living (thread_at (opening image) t).life (living-parked 0 (opening image).threads t (no-one (is_some (parked_at (scheduler (first image cpus)) t)) none))), (new-thread image t).rests);
       }
     where
       no-one : (b : Bool) → total (λ k. one_if (runs_on t ((first image cpus).processors k)) + of_thread t (adders ((first image cpus).processors k).todo)) cpus + one_if b ≡ 0 → b ≡ false

@@ -5,7 +5,8 @@
 -- claims (ListClaims, RowClaims), what is due (DuesFilled), what is kept beside (ListFits, ListBlocks, Kept, Quiet, Writes and the files named Kept and Written), and
 -- that events are steps of the machine where the relation holds (Says, Offered, HeldRows, Shown and the files of steps). What the machine's state is
 -- known to be in a run is in the files named Known, CallSteps, CallsProper, Reachable and, of message queues, QueueSteps, QueuesKept and
--- QueuesAfter. CellSteps and Endings are what a step makes of the cell of an object, and of a thread that has ended.
+-- QueuesAfter. CellSteps and Endings are what a step makes of the cell of an object, and of a thread that has ended. IdleComplete and
+-- the files named Stuck show that where no processor can step the machine can't either, and CompleteRuns what that says of fine runs.
 pub mod Erased
 pub mod ThreadLists
 pub mod DuesKept
@@ -107,6 +108,12 @@ pub mod ClaimsPart
 pub mod HeldDomainPart
 pub mod Parts
 pub mod ErasedRuns
+pub mod IdleComplete
+pub mod Stuck
+pub mod StuckEvents
+pub mod StuckLists
+pub mod StuckComplete
+pub mod CompleteRuns
 pub mod MemoryPart
 pub mod WordsPart
 pub mod PartsElsewhere

@@ -79,9 +79,9 @@ pub record ContextsAre (f : Fine) (m : State) : Type 0 where
   pub done : (k : ℕ) → k < f.cpus → list_any is_done (f.processors k).todo ≡ true
       → ((f.processors k).context.pending ≡ []) × (((f.processors k).context.ended ≡ true) ⊎ ((thread_at m (f.processors k).context.thread).doomed ≡ true))
 
--- A thread that lies nowhere was never started, has ended, or is doomed at rest.
+-- A thread that lies nowhere has no step left: it was never started, has ended, or is doomed at rest.
 pub record AwayIs (f : Fine) (m : State) (t : ℕ) : Type 0 where
-  pub away : places f t ≡ 0 → ((thread_at m t).life ≢ Life.Living) ⊎ (((thread_at m t).doomed ≡ true) × ((thread_at m t).pending ≡ []))
+  pub away : places f t ≡ 0 → (((thread_at m t).life ≢ Life.Living) ⊎ ((thread_at m t).doomed ≡ true)) × ((thread_at m t).pending ≡ [])
 
 abbrev pub first_told : Option Told → Option Told → Option Told
 first_told None told = told

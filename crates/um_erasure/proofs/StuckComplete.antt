@@ -1,0 +1,102 @@
+-- Where no processor can step, the access-matrix machine has no step: the events of the run are then a complete run. Asked for are that words
+-- and lists have room, that the ready list names thread indices, and that an object can be marked as not initialised.
+use Rattle.std.proofs.Common.{◌≡◌, ℕ, ◌+◌, ◌<◌, true, List, [], ◌∷◌, Option, Some, None, refl, sym, ap, ◌∙◌, arith, eq-eqb}
+use Rattle.std.specs.Prelude.{◌&&◌, if◌then◌else◌, is_some, nat_lt, unwrap_or}
+use Rattle.std.specs.List.{list_all}
+use Rattle.std.proofs.lemmas.Bool.{and_parts, false≢true, ltb-true}
+use Rattle.um_base.specs.declared.ask.Told.{Told}
+use Rattle.um_base.specs.declared.image.Image.{Image}
+use Rattle.um_base.specs.declared.limits.TheConstants.{THREADS}
+use Rattle.um_machine.specs.Order.{to_thread}
+use Rattle.um_machine.specs.Run.{IsComplete, opening}
+use Rattle.um_machine.specs.State.{State}
+use Rattle.um_reach.proofs.Cores.{core_of}
+use Rattle.um_reach.proofs.Turns.{IsKnown}
+use Rattle.um_reach.specs.Described.{IsDescribed}
+use Rattle.um_words.specs.declared.fine.FineAct.{FineAct}
+use Rattle.um_words.specs.declared.fine.Unseen.{Unseen}
+use Rattle.um_fine.specs.Cells.{Cell}
+use Rattle.um_fine.specs.Context.{Context, no_context}
+use Rattle.um_fine.specs.Processor.{Processor}
+use Rattle.um_fine.specs.Scheduler.{Scheduler, first_ready, has_ready, parked_at, sched_takes, takes_turn, told_at, turn_in}
+use Rattle.um_fine.specs.Sites.{SiteState}
+use Rattle.um_fine.specs.Steps.{Exchange, Site}
+use Rattle.um_erasure.specs.Fine.{Fine, one_if, scheduler}
+use Rattle.um_erasure.specs.Lists.{has_steps, runs}
+use Rattle.um_erasure.specs.Relation.{Rel}
+use Rattle.um_erasure.specs.Threads.{is_ready_there, occurs}
+use Rattle.um_erasure.proofs.ChildrenKnown.{children-known}
+use Rattle.um_erasure.proofs.DomainsKnown.{started-placed}
+use Rattle.um_erasure.proofs.Erased.{IsReachable, fine}
+use Rattle.um_erasure.proofs.HeldRows.{one-some, total-zero}
+use Rattle.um_erasure.proofs.IdleComplete.{IsIdle, idle-complete}
+use Rattle.um_erasure.proofs.Kept.{scheduler-sort}
+use Rattle.um_erasure.proofs.Reachable.{reachable-sound, reachable-wide}
+use Rattle.um_erasure.proofs.Stuck as S
+use Rattle.um_erasure.proofs.Stuck.{HasRoom, IsStuck}
+use Rattle.um_erasure.proofs.StuckEvents.{EventsTaken}
+use Rattle.um_erasure.proofs.StuckLists.{stuck-empty}
+use Rattle.um_erasure.proofs.SuitsKnown.{proper-known}
+
+-- The ready list names thread indices.
+abbrev pub ReadyThreads : Fine → Type 0
+ReadyThreads f = list_all (λ t. nat_lt t THREADS) (scheduler f).ready ≡ true
+
+-- a first thread is taken where it is parked, and another one can be counted
+takes-first : (s : Scheduler) (c : Context) (told : Option Told) → sched_takes s (takes_turn c told) ≡ has_ready s s.ready
+takes-first s c None = refl
+takes-first s c (Some told) = refl
+
+is-parked : (o : Option Context) (told : Option Told) → is_ready_there o told ≡ true → is_some o ≡ true
+is-parked None told h = absurd (false≢true h)
+is-parked (Some c) told h = refl
+
+module _ (f : Fine) (m : State) (rel : Rel f m) (room : HasRoom f) (stuck : IsStuck f) (some : 0 < f.cpus) (threads : ReadyThreads f) (empty : (k : ℕ) → k < f.cpus → (f.processors k).todo ≡ []) where
+  -- nobody is ready: a processor without a thread would take the first one
+  first-taken : (t : ℕ) (ready : List ℕ) → (scheduler f).ready ≡ t ∷ ready → ⊥
+  first-taken t ready e =
+      S.not-taken f m rel room stuck 0 [] (SiteState.cell is.0 cell) (S.plain f m rel room stuck) Exchange.nothing some (empty 0 some) is.1 tt
+      (λ i. S.counts f m rel room stuck Site.scheduler _ is.1 i && taken i) refl
+    where
+      few : t < THREADS
+      few = ltb-true t THREADS (and_parts _ _ (sym (ap (list_all (λ t. nat_lt t THREADS)) e) ∙ threads)).0
+
+      is : (n : ℕ) × (f.sites Site.scheduler ≡ SiteState.cell n (Cell.scheduler (scheduler f)))
+      is = scheduler-sort (f.sites Site.scheduler) (rel.sorts Site.scheduler)
+
+      cell : Cell
+      cell = Cell.scheduler (scheduler f)
+
+      parked : is_some (parked_at (scheduler f) t) ≡ true
+      parked =
+          let once : occurs t (scheduler f).ready ≡ occurs t ready + 1 = ap (occurs t) e ∙ ap (λ b. if b then occurs t ready + 1 else occurs t ready) (eq-eqb t t refl) in
+          let count = (rel.threads t few).ready.ready in
+          is-parked (parked_at (scheduler f) t) (told_at (scheduler f) t) (one-some _ (omega (arith, once, count)))
+
+      none : (scheduler f).running ≡ 0
+      none = rel.running.running ∙ total-zero (λ k. one_if (runs (f.processors k))) f.cpus (λ k l. ap (λ todo. one_if (has_steps todo)) (empty k l))
+
+      taken : sched_takes (scheduler f) (turn_in (FineAct.Unseen (Unseen.Next (to_thread (f.processors 0).context.thread))) (first_ready (scheduler f) (scheduler f).ready)) ≡ true
+      taken =
+          ap (λ z. sched_takes (scheduler f) (turn_in (FineAct.Unseen (Unseen.Next (to_thread (f.processors 0).context.thread))) (first_ready (scheduler f) z))) e
+          ∙ (takes-first (scheduler f) (unwrap_or (parked_at (scheduler f) t) no_context) (told_at (scheduler f) t)
+          ∙ (ap (has_ready (scheduler f)) e ∙ (λ i. parked i && nat_lt (none i) 255)))
+
+  ready-none : (scheduler f).ready ≡ []
+  ready-none = by (scheduler f).ready refl
+    where
+      by : (ready : List ℕ) → (scheduler f).ready ≡ ready → ready ≡ []
+      by [] e = refl
+      by (t ∷ ready) e = absurd (first-taken t ready e)
+
+  pub stuck-idle : IsIdle f
+  stuck-idle = record { lists = empty; ready = λ t few. ap (occurs t) ready-none }
+
+-- What a fine run leaves, and a state that its events reach: where no processor can step, the events are a complete run.
+pub stuck-complete : (image : Image) (cpus : ℕ) → IsDescribed image → IsKnown (core_of (opening image)) → 0 < cpus → (ps : ℕ → Processor) (ss : Site → SiteState) (m : State)
+    → let f = fine image cpus ps ss in Rel f m → IsReachable image cpus m → ReadyThreads f → HasRoom f → EventsTaken f → IsStuck f → IsComplete m
+stuck-complete image cpus described known some ps ss m rel reach threads room events stuck =
+    let f = fine image cpus ps ss in
+    let proper = proper-known image cpus described known m reach in
+    let empty = stuck-empty f m rel proper (λ t l started. started-placed image cpus described m reach t started) (reachable-sound image cpus described.few m reach known) room events stuck in
+    idle-complete f m rel (stuck-idle f m rel room stuck some threads empty) (reachable-wide image cpus described.few m reach) (children-known image cpus m reach)

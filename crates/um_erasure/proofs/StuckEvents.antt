@@ -1,0 +1,610 @@
+-- Where no processor can step, an event that is next marks an object as not initialised, or it moves a thread that is held: its site takes any
+-- other one.
+use Rattle.std.proofs.Common.{◌≡◌, ◌⊎◌, inl, inr, ℕ, zero, suc, ◌<◌, Bool, true, false, List, [], ◌∷◌, length, Option, Some, None, refl, sym, ap, ◌∙◌, subst, arith, eq-eqb}
+use Rattle.std.specs.Prelude.{◌==◌, ◌&&◌, ◌||◌, ℤ, not, if◌then◌else◌, is_some, nat_lt, slice_index_or, unwrap_or}
+use Rattle.std.specs.List.{list_any}
+use Rattle.std.proofs.lemmas.Bool.{eqb-true, false≢true, le-leb, lt-ltb, ltb-true, true≢false}
+use Rattle.std.proofs.Math.Bool.{or-true}
+use Rattle.um_base.specs.declared.act.Act.{Act}
+use Rattle.um_base.specs.declared.image.Image.{Image}
+use Rattle.um_base.specs.declared.names.Access.TheVariants as Access
+use Rattle.um_base.specs.declared.names.Addr.{Addr}
+use Rattle.um_base.specs.declared.limits.TheConstants.{DOMAINS, ROWS}
+use Rattle.um_base.specs.declared.names.Kind.{Kind}
+use Rattle.um_base.specs.declared.names.Mode.{Mode}
+use Rattle.um_base.specs.declared.names.Reply.{Reply}
+use Rattle.um_base.specs.declared.names.Row.{Row}
+use Rattle.um_base.specs.declared.names.ThreadIx.{ThreadIx}
+use Rattle.um_base.specs.declared.names.Want.{Want}
+use Rattle.um_base.specs.Places.{own_row, row_at}
+use Rattle.um_base.specs.Regions.{Partitions}
+use Rattle.um_machine.specs.declared.object.Object.{Object}
+use Rattle.um_machine.specs.declared.object.Status.{Status}
+use Rattle.um_machine.specs.declared.pending.Pending.{Pending}
+use Rattle.um_machine.specs.declared.pending.Refusal.{Refusal}
+use Rattle.um_machine.specs.declared.thread.Life.{Life}
+use Rattle.um_machine.specs.declared.thread.Thread.{Thread}
+use Rattle.um_machine.specs.Objects as Plain
+use Rattle.um_machine.specs.Order.{Steps}
+use Rattle.um_machine.specs.State.{State, instruction_at, is_living, is_started, object_at, thread_at, vacant}
+use Rattle.um_machine.specs.Table.{domain_at, move_reply}
+use Rattle.um_reach.proofs.Cores.{Call, call_is, status_is}
+use Rattle.um_reach.proofs.Guards.{Guarded, IsStatic, Names, bearing, behind_birth}
+use Rattle.um_words.specs.declared.row_word.Stage.{Stage}
+use Rattle.um_words.specs.CellActs.{memory_takes_act}
+use Rattle.um_words.specs.Rows.{is_cleaning, is_free}
+use Rattle.um_fine.specs.Addresses.{row_named}
+use Rattle.um_fine.specs.Asks.{allows, check_site}
+use Rattle.um_fine.specs.Cells.{Cell}
+use Rattle.um_fine.specs.Continues.{newborn}
+use Rattle.um_fine.specs.FineRun.{ByOneOf}
+use Rattle.um_fine.specs.Memory.{Bytes, memory_says_act}
+use Rattle.um_fine.specs.Places.{Todo, Todos}
+use Rattle.um_fine.specs.Processor.{fails}
+use Rattle.um_fine.specs.Sites.{SiteMay, SiteState}
+use Rattle.um_fine.specs.Steps.{Exchange, FineStep, Site}
+use Rattle.um_erasure.specs.Domains.{reads}
+use Rattle.um_erasure.specs.Fine.{Fine, bytes, domain, one_if, row, word}
+use Rattle.um_erasure.specs.Lists.{edits, edits_step, has_claimed, has_held, has_steps, is_hold, is_let_go, moves_to, moving, runs}
+use Rattle.um_erasure.specs.Objects.{is_reserved, recyclers, status_of, vacaters}
+use Rattle.um_erasure.specs.Offers.{Fits, IsOffered, is_over}
+use Rattle.um_erasure.specs.Offers as O
+use Rattle.um_erasure.specs.Relation.{Rel}
+use Rattle.um_erasure.specs.Threads.{IsOf, is_ended}
+use Rattle.um_erasure.proofs.CallSteps.{Proper}
+use Rattle.um_erasure.proofs.CallsProper.{AreProper}
+use Rattle.um_erasure.proofs.HeapSteps.{heap-sort}
+use Rattle.um_erasure.proofs.HeldRows.{checked-claimed, one-some}
+use Rattle.um_erasure.proofs.IdleComplete.{past}
+use Rattle.um_erasure.proofs.MemoryPart.{InDomains}
+use Rattle.um_erasure.proofs.MemorySteps.{memory-sort, part-total}
+use Rattle.um_erasure.proofs.Reachable.{IsSound}
+use Rattle.um_erasure.proofs.RowSteps.{thread-sort}
+use Rattle.um_erasure.proofs.StepsLeft.{offered-on}
+use Rattle.um_erasure.proofs.Stuck as S
+use Rattle.um_erasure.proofs.Stuck.{HasRoom, IsStuck, domain-is, row-is}
+use Rattle.um_erasure.proofs.WorkSteps.{object-sort}
+
+-- The event whose row has still to be known not to be free, and the steps that no list shows, though the relation doesn't say so.
+abbrev pub IsRefusable : Pending → Type 0
+IsRefusable (Pending.ClearInit a) = Unit {0}
+IsRefusable Pending.Resume = Unit {0}
+IsRefusable (Pending.Inherit who) = Unit {0}
+IsRefusable (Pending.Drops from) = Unit {0}
+IsRefusable q = ⊥
+
+-- Each of these that is next can be made.
+abbrev pub EventsTaken : Fine → Type 0
+EventsTaken f =
+    (k : ℕ) (q : Pending) (rest : Steps) (todo : Todos) → k < f.cpus → (f.processors k).todo ≡ Todo.show q rest ∷ todo → IsRefusable q
+    → (e : FineStep) × ByOneOf f.image f.cpus (f.processors e.cpu) e × SiteMay f.image (f.sites e.site) e
+
+-- a thread that is held moves to a domain, by a step that is next
+abbrev pub IsHeldMove : Fine → ℕ → Pending → Type 0
+IsHeldMove f k (Pending.DomMove d who) = (fails (f.processors k).reply ≡ false) × ((word f who.0).held ≡ true)
+IsHeldMove f k q = ⊥
+
+-- The domain that an edit or a move names is one of the image's.
+
+abbrev pub InImage : ℕ → Pending → Type 0
+InImage n (Pending.DomInit d parts) = d < n
+InImage n (Pending.DomAdd d range attr) = d < n
+InImage n (Pending.DomRemove d range attr) = d < n
+InImage n (Pending.DomMove d who) = d < n
+InImage n q = Unit {0}
+
+first-in : (image : Image) (checked : List Bool) (q : Pending) (rest : Steps) → Proper image checked (q ∷ rest) → InImage (length image.domains) q
+first-in image checked (Pending.DomInit d parts) rest h = h.0
+first-in image checked (Pending.DomAdd d range attr) rest h = h.0
+first-in image checked (Pending.DomRemove d range attr) rest h = h.0
+first-in image checked (Pending.DomMove d who) rest h = h.0
+first-in image checked q rest h = tt
+
+pub edit-in : (n d : ℕ) (q : Pending) → edits_step d q ≡ true → InImage n q → d < n
+edit-in n d (Pending.DomInit e parts) h l = let same = eqb-true d e h in omega (arith, same, l)
+edit-in n d (Pending.DomAdd e range attr) h l = let same = eqb-true d e h in omega (arith, same, l)
+edit-in n d (Pending.DomRemove e range attr) h l = let same = eqb-true d e h in omega (arith, same, l)
+edit-in n d q h l = absurd (false≢true h)
+
+-- an access that is allowed, or a fault
+either-taken : (image : Image) (bs : Bytes) (moved : Exchange) (good bad : Act) (b : Bool) → memory_takes_act (memory_says_act image bs moved good) ≡ true
+    → memory_takes_act (memory_says_act image bs moved bad) ≡ true → memory_takes_act (memory_says_act image bs moved (if b then good else bad)) ≡ true
+either-taken image bs moved good bad true h k = h
+either-taken image bs moved good bad false h k = k
+
+-- a thread that was started and hasn't ended lives
+living : (life : Life) → is_started life ≡ true → is_ended life ≡ false → is_living life ≡ true
+living Life.Unborn s e = s
+living Life.Living s e = refl
+living Life.Ended s e = sym e
+
+-- what stands in a list stands before its end
+inside-of : (xs : List Bool) (x : ℕ) → slice_index_or xs x false ≡ true → x < length xs
+inside-of [] x h = absurd (false≢true h)
+inside-of (b ∷ xs) zero h = omega arith
+inside-of (b ∷ xs) (suc x) h = let l = inside-of xs x h in omega (arith, l)
+
+inside-objects : (os : List Object) (x : ℕ) → is_reserved (slice_index_or os x vacant).status ≡ true → x < length os
+inside-objects [] x h = absurd (false≢true h)
+inside-objects (o ∷ os) zero h = omega arith
+inside-objects (o ∷ os) (suc x) h = let l = inside-objects os x h in omega (arith, l)
+
+module _ (f : Fine) (m : State) (rel : Rel f m) (proper : AreProper m.image m) (all : InDomains f m) (sound : IsSound m) (room : HasRoom f) (stuck : IsStuck f) where
+  -- At the word of the thread.
+
+  own-word : (k : ℕ) → f.sites (Site.thread (f.processors k).context.thread) ≡ SiteState.thread (word f (f.processors k).context.thread)
+  own-word k = thread-sort (f.processors k).context.thread (f.sites (Site.thread (f.processors k).context.thread)) (rel.sorts (Site.thread (f.processors k).context.thread))
+
+  counted : (k : ℕ) → nat_lt (word f (f.processors k).context.thread).number 268435455 ≡ true
+  counted k = S.counts f m rel room stuck (Site.thread (f.processors k).context.thread) (SiteState.thread (word f (f.processors k).context.thread)) (own-word k)
+
+  fits-at : (k : ℕ) (q : Pending) (rest : Steps) (todo : Todos) → k < f.cpus → (f.processors k).todo ≡ Todo.show q rest ∷ todo → IsOffered f.image (f.processors k).context q rest
+  fits-at k q rest todo l at = (subst (Fits f.image (f.processors k).context) at (rel.processors k l).list.fits).0
+
+  is-of : (k : ℕ) (q : Pending) (rest : Steps) (todo : Todos) → k < f.cpus → (f.processors k).todo ≡ Todo.show q rest ∷ todo → IsOf m (f.processors k).context
+  is-of k q rest todo l at = (rel.contexts.running k l (ap has_steps at)).of (offered-on f.image (f.processors k).context q rest (fits-at k q rest todo l at))
+
+  proper-at : (k : ℕ) → IsOf m (f.processors k).context → (steps : Steps) → (f.processors k).context.pending ≡ steps → Proper m.image (thread_at m (f.processors k).context.thread).checked steps
+  proper-at k of steps e =
+      subst (Proper m.image (thread_at m (f.processors k).context.thread).checked) (sym (ap (λ (z : Thread). z.pending) of.own) ∙ e) (proper (f.processors k).context.thread).0
+
+  -- a thread that begins or exits is at rest, and hasn't ended
+  begins-at : (k : ℕ) (rest : Steps) → IsOf m (f.processors k).context → IsOffered f.image (f.processors k).context Pending.Begin rest
+      → ((f.processors k).context.ended ≡ false) × (is_some (instruction_at f.image (f.processors k).context.place) ≡ true)
+  begins-at k rest of (O.goes e) = absurd (proper-at k of (Pending.Begin ∷ rest) e)
+  begins-at k rest of (O.passed {who} e) = absurd (proper-at k of (Pending.Inherit who ∷ Pending.Begin ∷ rest) e).0
+  begins-at k rest of (O.dropped {from} e) = absurd (proper-at k of (Pending.Drops from ∷ Pending.Begin ∷ rest) e)
+  begins-at k _ of (O.begins e on i) = (on, i)
+
+  exits-at : (k : ℕ) (rest : Steps) → IsOf m (f.processors k).context → IsOffered f.image (f.processors k).context Pending.Exit rest → (f.processors k).context.ended ≡ false
+  exits-at k rest of (O.goes e) = absurd (proper-at k of (Pending.Exit ∷ rest) e)
+  exits-at k rest of (O.passed {who} e) = absurd (proper-at k of (Pending.Inherit who ∷ Pending.Exit ∷ rest) e).0
+  exits-at k rest of (O.dropped {from} e) = absurd (proper-at k of (Pending.Drops from ∷ Pending.Exit ∷ rest) e)
+  exits-at k _ of (O.exits e on i) = on
+
+  lives : (k : ℕ) → IsOf m (f.processors k).context → (f.processors k).context.ended ≡ false → is_living (word f (f.processors k).context.thread).life ≡ true
+  lives k of on =
+      ap is_living (rel.threads (f.processors k).context.thread of.index).word.life
+      ∙ living (thread_at m (f.processors k).context.thread).life of.started (sym of.ended ∙ on)
+
+  begin : (k : ℕ) (rest : Steps) (todo : Todos) → k < f.cpus → (f.processors k).todo ≡ Todo.show Pending.Begin rest ∷ todo → ⊥
+  begin k rest todo l at = by (word f (f.processors k).context.thread).doomed refl
+    where
+      of : IsOf m (f.processors k).context
+      of = is-of k Pending.Begin rest todo l at
+
+      facts : ((f.processors k).context.ended ≡ false) × (is_some (instruction_at f.image (f.processors k).context.place) ≡ true)
+      facts = begins-at k rest of (fits-at k Pending.Begin rest todo l at)
+
+      by : (b : Bool) → (word f (f.processors k).context.thread).doomed ≡ b → ⊥
+      by true e =
+          S.not-taken f m rel room stuck k (Todo.show Pending.Begin rest ∷ todo) (SiteState.thread (record (word f (f.processors k).context.thread) { doomed = true }))
+          (S.plain f m rel room stuck) Exchange.nothing l at (own-word k ∙ (λ i. SiteState.thread (record (word f (f.processors k).context.thread) { doomed = e i }))) tt
+          (λ i. counted k i && true) facts.1
+      by false e =
+          S.not-taken f m rel room stuck k (Todo.show Pending.Begin rest ∷ todo) (SiteState.thread (record (word f (f.processors k).context.thread) { doomed = false }))
+          (S.plain f m rel room stuck) Exchange.nothing l at (own-word k ∙ (λ i. SiteState.thread (record (word f (f.processors k).context.thread) { doomed = e i }))) tt
+          (λ i. counted k i && (lives k of facts.0 i && true)) facts.1
+
+  exit : (k : ℕ) (rest : Steps) (todo : Todos) → k < f.cpus → (f.processors k).todo ≡ Todo.show Pending.Exit rest ∷ todo → ⊥
+  exit k rest todo l at = by (word f (f.processors k).context.thread).doomed refl
+    where
+      of : IsOf m (f.processors k).context
+      of = is-of k Pending.Exit rest todo l at
+
+      by : (b : Bool) → (word f (f.processors k).context.thread).doomed ≡ b → ⊥
+      by true e =
+          S.not-taken f m rel room stuck k (Todo.show Pending.Exit rest ∷ todo) (SiteState.thread (record (word f (f.processors k).context.thread) { doomed = true }))
+          (S.plain f m rel room stuck) Exchange.nothing l at (own-word k ∙ (λ i. SiteState.thread (record (word f (f.processors k).context.thread) { doomed = e i }))) tt
+          (λ i. counted k i && true) refl
+      by false e =
+          S.not-taken f m rel room stuck k (Todo.show Pending.Exit rest ∷ todo) (SiteState.thread (record (word f (f.processors k).context.thread) { doomed = false }))
+          (S.plain f m rel room stuck) Exchange.nothing l at (own-word k ∙ (λ i. SiteState.thread (record (word f (f.processors k).context.thread) { doomed = e i }))) tt
+          (λ i. counted k i && (lives k of (exits-at k rest of (fits-at k Pending.Exit rest todo l at)) i && true)) refl
+
+  -- A check, at the word of a row or, where no object has that address, at its own.
+  check : (k : ℕ) (a : Addr) (kind : Option Kind) (want : Want) (refusal : Refusal) (rest : Steps) (todo : Todos) → k < f.cpus
+      → (f.processors k).todo ≡ Todo.show (Pending.Check a kind want refusal) rest ∷ todo → ⊥
+  check k a kind want refusal rest todo l at = by (row_at f.image a.0) refl
+    where
+      holds : nat_lt (length (f.processors k).context.claims) 2 ≡ true
+      holds = lt-ltb (length (f.processors k).context.claims) 2 (room.checks k a kind want refusal rest todo l at)
+
+      by : (o : Option ℕ) → row_at f.image a.0 ≡ o → ⊥
+      by None e =
+          S.not-taken f m rel room stuck k (Todo.show (Pending.Check a kind want refusal) rest ∷ todo) (SiteState.thread (word f (f.processors k).context.thread))
+          (S.plain f m rel room stuck) Exchange.nothing l at (ap (λ o. f.sites (check_site f.image (f.processors k) o)) e ∙ own-word k) tt (λ i. counted k i && true) holds
+      by (Some x) e =
+          let is = row-is x (f.sites (Site.row x)) (rel.sorts (Site.row x)) in
+          let few = lt-ltb (row f x).claims 127 (room.claims x) in
+          S.not-taken f m rel room stuck k (Todo.show (Pending.Check a kind want refusal) rest ∷ todo) (SiteState.row (row f x))
+          (S.plain f m rel room stuck) Exchange.nothing l at (ap (λ o. f.sites (check_site f.image (f.processors k) o)) e ∙ is) tt
+          (λ i. S.counts f m rel room stuck (Site.row x) (SiteState.row (row f x)) is i && few i) holds
+
+  -- Domains.
+
+  -- the domain that an offered step names
+  pub offered-in : (k : ℕ) (q : Pending) (rest : Steps) → k < f.cpus → runs (f.processors k) ≡ true → IsOffered f.image (f.processors k).context q rest → InImage (length f.image.domains) q
+  offered-in k q rest l run offered = subst (λ (i : Image). InImage (length i.domains) q) rel.image (by offered)
+    where
+      of : IsOf m (f.processors k).context
+      of = (rel.contexts.running k l run).of (offered-on f.image (f.processors k).context q rest offered)
+
+      by : {q : Pending} {rest : Steps} → IsOffered f.image (f.processors k).context q rest → InImage (length m.image.domains) q
+      by (O.goes {q} {rest} e) = first-in m.image _ q rest (proper-at k of (q ∷ rest) e)
+      by (O.passed {who} {q} {rest} e) = first-in m.image _ q rest (proper-at k of (Pending.Inherit who ∷ q ∷ rest) e).1
+      by (O.dropped {from} {q} {rest} e) = first-in m.image _ q rest (proper-at k of (Pending.Drops from ∷ q ∷ rest) e)
+      by (O.begins e on i) = tt
+      by (O.exits e on i) = tt
+
+  -- that of a thread which is held
+  pub own-domain : (k : ℕ) → k < f.cpus → runs (f.processors k) ≡ true → has_held (f.processors k) ≡ true → (f.processors k).domain < length f.image.domains
+  own-domain k l run held =
+      let t = (f.processors k).context.thread in
+      let is = rel.contexts.running k l run in
+      let below = all t is.index is.started in
+      subst (λ n. n < length f.image.domains) (sym ((rel.processors k l).domain.kept held ∙ (rel.threads t is.index).word.domain)) below
+
+  domain-word : (d : ℕ) → f.sites (Site.domain d) ≡ SiteState.domain (domain f d)
+  domain-word d = domain-is d (f.sites (Site.domain d)) (rel.sorts (Site.domain d))
+
+  -- who edits a domain is its writer
+  edits-it : (k d : ℕ) (q : Pending) (rest : Steps) (todo : Todos) → k < f.cpus → (f.processors k).todo ≡ Todo.show q rest ∷ todo → edits_step d q ≡ true
+      → (nat_lt (domain f d).number 268435455 && ((domain f d).writer && nat_lt (domain f d).version 1048575)) ≡ true
+  edits-it k d q rest todo l at h =
+      let few = edit-in (length f.image.domains) d q h (offered-in k q rest l (ap has_steps at) (fits-at k q rest todo l at)) in
+      let part = part-total (λ j. one_if (edits d (f.processors j).todo)) f.cpus k l in
+      let mine : one_if (edits d (f.processors k).todo) ≡ 1 = ap (λ (z : Todos). one_if (edits d z)) at ∙ ap one_if h in
+      let sum = (rel.domains d few).writers in
+      let writer = one-some (domain f d).writer (omega (arith, part, mine, sum)) in
+      let version = lt-ltb (domain f d).version 1048575 (room.versions d) in
+      let number = S.counts f m rel room stuck (Site.domain d) (SiteState.domain (domain f d)) (domain-word d) in
+      λ i. number i && (writer i && version i)
+
+  -- A move that fails is made at the domain, which is claimed, and any other one at the thread.
+  move : (k d : ℕ) (who : ThreadIx) (rest : Steps) (todo : Todos) → k < f.cpus → (f.processors k).todo ≡ Todo.show (Pending.DomMove d who) rest ∷ todo → IsHeldMove f k (Pending.DomMove d who)
+  move k d who rest todo l at = by (fails (f.processors k).reply) refl (word f who.0).held refl
+    where
+      few : d < length f.image.domains
+      few = offered-in k (Pending.DomMove d who) rest l (ap has_steps at) (fits-at k (Pending.DomMove d who) rest todo l at)
+
+      none-if : (o : Option Partitions) (reply : Reply) → reply ≡ move_reply o → fails reply ≡ true → is_some o ≡ false
+      none-if None reply e h = refl
+      none-if (Some ps) reply e h = absurd (true≢false (sym h ∙ ap fails e))
+
+      vain : fails (f.processors k).reply ≡ true → (nat_lt 0 (domain f d).readers && not (domain f d).init) ≡ true
+      vain h =
+          let moves : moves_to d (f.processors k).reply (f.processors k).todo ≡ true = ap (moves_to d (f.processors k).reply) at ∙ (λ i. h i && eq-eqb d d refl i) in
+          let claims : reads d (f.processors k) ≡ true =
+          ap (λ b. (has_claimed (f.processors k) && ((f.processors k).domain == d)) || b) moves ∙ or-true (has_claimed (f.processors k) && ((f.processors k).domain == d)) in
+          let part = part-total (λ j. one_if (reads d (f.processors j))) f.cpus k l in
+          let mine : one_if (reads d (f.processors k)) ≡ 1 = ap one_if claims in
+          let sum = (rel.domains d few).readers in
+          let some = lt-ltb 0 (domain f d).readers (omega (arith, part, mine, sum)) in
+          let reply = (rel.processors k l).looks.reply d (ap moving at) in
+          let init : (domain f d).init ≡ false = (rel.domains d few).init ∙ none-if (domain_at m d) (f.processors k).reply reply h in
+          λ i. some i && not (init i)
+
+      by : (b : Bool) → fails (f.processors k).reply ≡ b → (c : Bool) → (word f who.0).held ≡ c → IsHeldMove f k (Pending.DomMove d who)
+      by false e true h = (e, h)
+      by false e false h =
+          let is = thread-sort who.0 (f.sites (Site.thread who.0)) (rel.sorts (Site.thread who.0)) in
+          let most = room.domains in
+          let below = lt-ltb d DOMAINS (omega (arith, few, most)) in
+          absurd
+          (S.not-taken f m rel room stuck k (Todo.show (Pending.DomMove d who) rest ∷ todo) (SiteState.thread (word f who.0)) (S.plain f m rel room stuck) Exchange.nothing l at
+          (ap (λ b. f.sites (if b then Site.domain d else Site.thread who.0)) e ∙ is) tt (λ i. S.counts f m rel room stuck (Site.thread who.0) (SiteState.thread (word f who.0)) is i && (not (h i) && below i)) refl)
+      by true e c h =
+          absurd
+          (S.not-taken f m rel room stuck k (Todo.show (Pending.DomMove d who) rest ∷ todo) (SiteState.domain (domain f d)) (S.plain f m rel room stuck) Exchange.nothing l at
+          (ap (λ b. f.sites (if b then Site.domain d else Site.thread who.0)) e ∙ domain-word d) tt (λ i. S.counts f m rel room stuck (Site.domain d) (SiteState.domain (domain f d)) (domain-word d) i && vain e i) refl)
+
+  -- A thread is started at its word, with the domain of the one that starts it.
+  start : (k : ℕ) (who : ThreadIx) (script : ℕ) (stack : Row) (priority : ℤ) (mode : Mode) (rest : Steps) (todo : Todos) → k < f.cpus
+      → (f.processors k).todo ≡ Todo.show (Pending.Start who script stack priority mode) rest ∷ todo → ⊥
+  start k who script stack priority mode rest todo l at =
+      let p = f.processors k in
+      let q = Pending.Start who script stack priority mode in
+      let behind = (subst (Fits f.image p.context) at (rel.processors k l).list.fits).1 in
+      let list : p.todo ≡ Todo.show q rest ∷ Todo.let_go ∷ Todo.add (newborn f.image p.context q) ∷ [] = at ∙ ap (λ (z : Todos). Todo.show q rest ∷ z) behind in
+      let held : has_held p ≡ true = ap (λ (z : Todos). list_any is_let_go z && not (list_any is_hold z)) list in
+      let few = own-domain k l (ap has_steps at) held in
+      let most = room.domains in
+      let below = lt-ltb p.domain DOMAINS (omega (arith, few, most)) in
+      let is = thread-sort who.0 (f.sites (Site.thread who.0)) (rel.sorts (Site.thread who.0)) in
+      S.not-taken f m rel room stuck k (Todo.show q rest ∷ todo) _ (S.plain f m rel room stuck) Exchange.nothing l at is tt
+      (λ i. S.counts f m rel room stuck (Site.thread who.0) _ is i && below i) refl
+
+  -- Rows: a permission is given of an object that the call holds, or that is static; one that is published or marked as initialised is held
+  -- too; and an object is born at a row that was reserved.
+
+  guarded-at : (k : ℕ) → IsOf m (f.processors k).context → (steps : Steps) → (f.processors k).context.pending ≡ steps
+      → Guarded m.image (thread_at m (f.processors k).context.thread).checked (behind_birth steps)
+  guarded-at k of steps e =
+      let t = (f.processors k).context.thread in
+      subst (λ (z : Steps). Guarded m.image (thread_at m t).checked (behind_birth z)) (sym (ap (λ (z : Thread). z.pending) of.own) ∙ e)
+      (subst (λ (call : Call). Guarded m.image call.checked (behind_birth call.pending)) (call_is m t) (sound.known.reached.guarded t))
+
+  grant-names : (k : ℕ) (who : ThreadIx) (a : Addr) (rest : Steps) → IsOf m (f.processors k).context → IsOffered f.image (f.processors k).context (Pending.Grant who a) rest
+      → Names m.image (thread_at m (f.processors k).context.thread).checked a.0
+  grant-names k who a rest of (O.goes e) = (guarded-at k of (Pending.Grant who a ∷ rest) e).0
+  grant-names k who a rest of (O.passed {who = w} e) = absurd (proper-at k of (Pending.Inherit w ∷ Pending.Grant who a ∷ rest) e).0
+  grant-names k who a rest of (O.dropped {from} e) = (guarded-at k of (Pending.Drops from ∷ Pending.Grant who a ∷ rest) e).0
+
+  own-static : (k : ℕ) (who : ThreadIx) (rest : Steps) → IsOf m (f.processors k).context → IsOffered f.image (f.processors k).context (Pending.Own who) rest
+      → IsStatic m.image (thread_at m (f.processors k).context.thread).checked (own_row m.image who.0)
+  own-static k who rest of (O.goes e) = (guarded-at k of (Pending.Own who ∷ rest) e).0
+  own-static k who rest of (O.passed {who = w} e) = absurd (proper-at k of (Pending.Inherit w ∷ Pending.Own who ∷ rest) e).0
+  own-static k who rest of (O.dropped {from} e) = (guarded-at k of (Pending.Drops from ∷ Pending.Own who ∷ rest) e).0
+
+  born-next : (k : ℕ) (a : Addr) (rest : Steps) → IsOf m (f.processors k).context → IsOffered f.image (f.processors k).context (Pending.Born a) rest
+      → bearing (thread_at m (f.processors k).context.thread).pending ≡ Some a.0
+  born-next k a rest of (O.goes e) = ap bearing (sym (ap (λ (z : Thread). z.pending) of.own) ∙ e)
+  born-next k a rest of (O.passed {who = w} e) = absurd (proper-at k of (Pending.Inherit w ∷ Pending.Born a ∷ rest) e).0
+  born-next k a rest of (O.dropped {from} e) = absurd (guarded-at k of (Pending.Drops from ∷ Pending.Born a ∷ rest) e)
+
+  -- a row that a call holds is claimed
+  held-claimed : (k : ℕ) → k < f.cpus → runs (f.processors k) ≡ true → is_over (f.processors k).context ≡ false → (x : ℕ)
+      → slice_index_or (thread_at m (f.processors k).context.thread).checked x false ≡ true → (x < ROWS) × (0 < (row f x).claims)
+  held-claimed k l run on x h =
+      let t = (f.processors k).context.thread in
+      let wide : length (thread_at m t).checked ≡ ROWS = sym (ap (λ (call : Call). length call.checked) (call_is m t)) ∙ sound.known.reached.wide t in
+      let below = inside-of (thread_at m t).checked x h in
+      let few : x < ROWS = omega (arith, wide, below) in
+      (few, checked-claimed f m rel k x l few run on h)
+
+  -- it is neither free nor in cleaning
+  claimed-stands : (x : ℕ) → x < ROWS → 0 < (row f x).claims → (is_free (row f x).stage ≡ false) × (is_cleaning (row f x).stage ≡ false)
+  claimed-stands x few some = by (row f x).stage refl
+    where
+      by : (s : Stage) → (row f x).stage ≡ s → (is_free s ≡ false) × (is_cleaning s ≡ false)
+      by Stage.Free e = let none = (rel.rows x few).claims.free e in absurd (omega (arith, some, none))
+      by Stage.Cleaning e = let none = (rel.rows x few).cleaners.unclaimed e in absurd (omega (arith, some, none))
+      by Stage.Live e = (refl, refl)
+      by Stage.Dying e = (refl, refl)
+
+  -- the row of a live object is live
+  live-stands : (x : ℕ) → x < ROWS → Plain.is_live (object_at m x).status ≡ true → (is_free (row f x).stage ≡ false) × (is_cleaning (row f x).stage ≡ false)
+  live-stands x few lives = by (nat_lt (vacaters f x) (recyclers f x)) refl
+    where
+      stage : (s : Stage) (r : Bool) → Plain.is_live (status_of s r) ≡ true → (is_free s ≡ false) × (is_cleaning s ≡ false)
+      stage Stage.Free true h = absurd (false≢true h)
+      stage Stage.Free false h = absurd (false≢true h)
+      stage Stage.Live r h = (refl, refl)
+      stage Stage.Dying r h = absurd (false≢true h)
+      stage Stage.Cleaning r h = absurd (false≢true h)
+
+      by : (b : Bool) → nat_lt (vacaters f x) (recyclers f x) ≡ b → (is_free (row f x).stage ≡ false) × (is_cleaning (row f x).stage ≡ false)
+      by true e = absurd (false≢true (sym (ap Plain.is_live ((rel.rows x few).status.vacated (ltb-true (vacaters f x) (recyclers f x) e)).1) ∙ lives))
+      by false e =
+          let order = (rel.rows x few).cleaners.order in
+          let least = past (vacaters f x) (recyclers f x) e in
+          let status = (rel.rows x few).status.status (omega (arith, order, least)) in
+          stage (row f x).stage (is_reserved (object_at m x).status) (ap Plain.is_live (sym status) ∙ lives)
+
+  -- the row of a reserved object is free
+  reserved-free : (x : ℕ) → x < ROWS → (object_at m x).status ≡ Status.Reserved → is_free (row f x).stage ≡ true
+  reserved-free x few is = by (nat_lt (vacaters f x) (recyclers f x)) refl
+    where
+      stage : (s : Stage) (r : Bool) → is_reserved (status_of s r) ≡ true → is_free s ≡ true
+      stage Stage.Free r h = refl
+      stage Stage.Live r h = absurd (false≢true h)
+      stage Stage.Dying r h = absurd (false≢true h)
+      stage Stage.Cleaning r h = absurd (false≢true h)
+
+      by : (b : Bool) → nat_lt (vacaters f x) (recyclers f x) ≡ b → is_free (row f x).stage ≡ true
+      by true e = absurd (false≢true (ap is_reserved (sym ((rel.rows x few).status.vacated (ltb-true (vacaters f x) (recyclers f x) e)).1 ∙ is)))
+      by false e =
+          let order = (rel.rows x few).cleaners.order in
+          let least = past (vacaters f x) (recyclers f x) e in
+          let status = (rel.rows x few).status.status (omega (arith, order, least)) in
+          stage (row f x).stage (is_reserved (object_at m x).status) (ap is_reserved (sym status ∙ is))
+
+  row-word : (x : ℕ) → f.sites (Site.row x) ≡ SiteState.row (row f x)
+  row-word x = row-is x (f.sites (Site.row x)) (rel.sorts (Site.row x))
+
+  row-counted : (x : ℕ) → nat_lt (row f x).number 1048575 ≡ true
+  row-counted x = S.counts f m rel room stuck (Site.row x) (SiteState.row (row f x)) (row-word x)
+
+  named-row : (a : Addr) (x : ℕ) → row_at m.image a.0 ≡ Some x → row_named f.image a ≡ x
+  named-row a x e = ap (λ (i : Image). row_named i a) (sym rel.image) ∙ ap (λ o. unwrap_or o 0) e
+
+  on-of : (k : ℕ) (q : Pending) (rest : Steps) (todo : Todos) → k < f.cpus → (f.processors k).todo ≡ Todo.show q rest ∷ todo → is_over (f.processors k).context ≡ false
+  on-of k q rest todo l at = offered-on f.image (f.processors k).context q rest (fits-at k q rest todo l at)
+
+  grant : (k : ℕ) (who : ThreadIx) (a : Addr) (rest : Steps) (todo : Todos) → k < f.cpus → (f.processors k).todo ≡ Todo.show (Pending.Grant who a) rest ∷ todo → ⊥
+  grant k who a rest todo l at =
+      let names = grant-names k who a rest (is-of k (Pending.Grant who a) rest todo l at) (fits-at k (Pending.Grant who a) rest todo l at) in
+      let x = names.0 in
+      let claimed = held-claimed k l (ap has_steps at) (on-of k (Pending.Grant who a) rest todo l at) x names.2 in
+      let stands = claimed-stands x claimed.0 claimed.1 in
+      S.not-taken f m rel room stuck k (Todo.show (Pending.Grant who a) rest ∷ todo) (SiteState.row (row f x)) (S.plain f m rel room stuck) Exchange.nothing l at
+      (ap (λ n. f.sites (Site.row n)) (named-row a x names.1) ∙ row-word x) tt (λ i. row-counted x i && not (stands.0 i)) refl
+
+  own : (k : ℕ) (who : ThreadIx) (rest : Steps) (todo : Todos) → k < f.cpus → (f.processors k).todo ≡ Todo.show (Pending.Own who) rest ∷ todo → ⊥
+  own k who rest todo l at = by (own-static k who rest (is-of k (Pending.Own who) rest todo l at) (fits-at k (Pending.Own who) rest todo l at))
+    where
+      refused : (x : ℕ) → own_row f.image who.0 ≡ x → (is_free (row f x).stage ≡ false) × (is_cleaning (row f x).stage ≡ false) → ⊥
+      refused x same stands =
+          let few = lt-ltb (row f x).claims 127 (room.claims x) in
+          S.not-taken f m rel room stuck k (Todo.show (Pending.Own who) rest ∷ todo) (SiteState.row (row f x)) (S.plain f m rel room stuck) Exchange.nothing l at
+          (ap (λ n. f.sites (Site.row n)) same ∙ row-word x) tt (λ i. row-counted x i && ((few i && not (stands.0 i)) && not (stands.1 i))) refl
+
+      same-own : own_row f.image who.0 ≡ own_row m.image who.0
+      same-own = ap (λ (i : Image). own_row i who.0) (sym rel.image)
+
+      by : IsStatic m.image (thread_at m (f.processors k).context.thread).checked (own_row m.image who.0) → ⊥
+      by (inl static) =
+          let some = sound.known.reached.sited.few in
+          let few : own_row m.image who.0 < ROWS = omega (arith, static, some) in
+          refused (own_row m.image who.0) same-own
+          (live-stands (own_row m.image who.0) few (ap Plain.is_live (sym (status_is m (own_row m.image who.0))) ∙ sound.known.reached.static (own_row m.image who.0) static))
+      by (inr held) =
+          let claimed = held-claimed k l (ap has_steps at) (on-of k (Pending.Own who) rest todo l at) (own_row m.image who.0) held.1 in
+          refused (own_row m.image who.0) same-own (claimed-stands (own_row m.image who.0) claimed.0 claimed.1)
+
+  publish-names : (k : ℕ) (a : Addr) (rest : Steps) → IsOf m (f.processors k).context → IsOffered f.image (f.processors k).context (Pending.Publish a) rest
+      → Names m.image (thread_at m (f.processors k).context.thread).checked a.0
+  publish-names k a rest of (O.goes e) = (proper-at k of (Pending.Publish a ∷ rest) e).0
+  publish-names k a rest of (O.passed {who = w} e) = absurd (proper-at k of (Pending.Inherit w ∷ Pending.Publish a ∷ rest) e).0
+  publish-names k a rest of (O.dropped {from} e) = (proper-at k of (Pending.Drops from ∷ Pending.Publish a ∷ rest) e).0
+
+  publish : (k : ℕ) (a : Addr) (rest : Steps) (todo : Todos) → k < f.cpus → (f.processors k).todo ≡ Todo.show (Pending.Publish a) rest ∷ todo → ⊥
+  publish k a rest todo l at =
+      let names = publish-names k a rest (is-of k (Pending.Publish a) rest todo l at) (fits-at k (Pending.Publish a) rest todo l at) in
+      let x = names.0 in
+      let claimed = held-claimed k l (ap has_steps at) (on-of k (Pending.Publish a) rest todo l at) x names.2 in
+      let stands = claimed-stands x claimed.0 claimed.1 in
+      S.not-taken f m rel room stuck k (Todo.show (Pending.Publish a) rest ∷ todo) (SiteState.row (row f x)) (S.plain f m rel room stuck) Exchange.nothing l at
+      (ap (λ n. f.sites (Site.row n)) (named-row a x names.1) ∙ row-word x) tt (λ i. row-counted x i && not (stands.0 i)) refl
+
+  mark-names : (k : ℕ) (a : Addr) (strict : Bool) (undo : Option Addr) (rest : Steps) → IsOf m (f.processors k).context
+      → IsOffered f.image (f.processors k).context (Pending.SetInit a strict undo) rest → Names m.image (thread_at m (f.processors k).context.thread).checked a.0
+  mark-names k a strict undo rest of (O.goes e) = (proper-at k of (Pending.SetInit a strict undo ∷ rest) e).0
+  mark-names k a strict undo rest of (O.passed {who = w} e) = absurd (proper-at k of (Pending.Inherit w ∷ Pending.SetInit a strict undo ∷ rest) e).0
+  mark-names k a strict undo rest of (O.dropped {from} e) = (proper-at k of (Pending.Drops from ∷ Pending.SetInit a strict undo ∷ rest) e).0
+
+  mark : (k : ℕ) (a : Addr) (strict : Bool) (undo : Option Addr) (rest : Steps) (todo : Todos) → k < f.cpus
+      → (f.processors k).todo ≡ Todo.show (Pending.SetInit a strict undo) rest ∷ todo → ⊥
+  mark k a strict undo rest todo l at =
+      let names = mark-names k a strict undo rest (is-of k (Pending.SetInit a strict undo) rest todo l at) (fits-at k (Pending.SetInit a strict undo) rest todo l at) in
+      let x = names.0 in
+      let claimed = held-claimed k l (ap has_steps at) (on-of k (Pending.SetInit a strict undo) rest todo l at) x names.2 in
+      let stands = claimed-stands x claimed.0 claimed.1 in
+      S.not-taken f m rel room stuck k (Todo.show (Pending.SetInit a strict undo) rest ∷ todo) (SiteState.row (row f x)) (S.plain f m rel room stuck) Exchange.nothing l at
+      (ap (λ n. f.sites (Site.row n)) (named-row a x names.1) ∙ row-word x) tt (λ i. row-counted x i && not (stands.0 i)) refl
+
+  born : (k : ℕ) (a : Addr) (rest : Steps) (todo : Todos) → k < f.cpus → (f.processors k).todo ≡ Todo.show (Pending.Born a) rest ∷ todo → ⊥
+  born k a rest todo l at =
+      let t = (f.processors k).context.thread in
+      let next = born-next k a rest (is-of k (Pending.Born a) rest todo l at) (fits-at k (Pending.Born a) rest todo l at) in
+      let reserved = sound.known.reached.reserved t a.0 (ap (λ (call : Call). bearing call.pending) (call_is m t) ∙ next) in
+      let x = reserved.0 in
+      let is : (object_at m x).status ≡ Status.Reserved = sym (status_is m x) ∙ reserved.2 in
+      let many = sound.wide.objects in
+      let below = inside-objects m.objects x (ap is_reserved is) in
+      let free = reserved-free x (omega (arith, below, many)) is in
+      S.not-taken f m rel room stuck k (Todo.show (Pending.Born a) rest ∷ todo) (SiteState.row (row f x)) (S.plain f m rel room stuck) Exchange.nothing l at
+      (ap (λ n. f.sites (Site.row n)) (named-row a x reserved.1) ∙ row-word x) tt (λ i. row-counted x i && free i) refl
+
+  -- Nobody is offered the cleaning of an object as a step of its own.
+
+  cleans-never : (k : ℕ) (who : ThreadIx) (rest : Steps) → IsOf m (f.processors k).context → IsOffered f.image (f.processors k).context (Pending.CleanPair who) rest → ⊥
+  cleans-never k who rest of (O.goes e) = proper-at k of (Pending.CleanPair who ∷ rest) e
+  cleans-never k who rest of (O.passed {who = w} e) = (proper-at k of (Pending.Inherit w ∷ Pending.CleanPair who ∷ rest) e).0
+  cleans-never k who rest of (O.dropped {from} e) = proper-at k of (Pending.Drops from ∷ Pending.CleanPair who ∷ rest) e
+
+  recycles-never : (k : ℕ) (rest : Steps) → IsOf m (f.processors k).context → IsOffered f.image (f.processors k).context Pending.Recycle rest → ⊥
+  recycles-never k rest of (O.goes e) = proper-at k of (Pending.Recycle ∷ rest) e
+  recycles-never k rest of (O.passed {who = w} e) = (proper-at k of (Pending.Inherit w ∷ Pending.Recycle ∷ rest) e).0
+  recycles-never k rest of (O.dropped {from} e) = proper-at k of (Pending.Drops from ∷ Pending.Recycle ∷ rest) e
+
+  -- At cells.
+
+  abbrev at-memory : (n : ℕ) × (f.sites Site.memory ≡ SiteState.cell n (Cell.memory (bytes f)))
+  at-memory = memory-sort (f.sites Site.memory) (rel.sorts Site.memory)
+
+  on-memory : nat_lt at-memory.0 268435455 ≡ true
+  on-memory = S.counts f m rel room stuck Site.memory (SiteState.cell at-memory.0 (Cell.memory (bytes f))) at-memory.1
+
+  on-heap : nat_lt (heap-sort (f.sites Site.heap) (rel.sorts Site.heap)).0 268435455 ≡ true
+  on-heap = let is = heap-sort (f.sites Site.heap) (rel.sorts Site.heap) in S.counts f m rel room stuck Site.heap _ is.1
+
+  on-object : (x : ℕ) → nat_lt (object-sort x (f.sites (Site.object x)) (rel.sorts (Site.object x))).0 268435455 ≡ true
+  on-object x = let is = object-sort x (f.sites (Site.object x)) (rel.sorts (Site.object x)) in S.counts f m rel room stuck (Site.object x) _ is.1
+
+  -- an event that is next is one of those, or such a move
+  pub guarded : (k : ℕ) (q : Pending) (rest : Steps) (todo : Todos) → k < f.cpus → (f.processors k).todo ≡ Todo.show q rest ∷ todo → IsRefusable q ⊎ IsHeldMove f k q
+  guarded k Pending.Begin rest todo l at = absurd (begin k rest todo l at)
+  guarded k Pending.Exit rest todo l at = absurd (exit k rest todo l at)
+  guarded k (Pending.Check a kind want refusal) rest todo l at = absurd (check k a kind want refusal rest todo l at)
+  guarded k (Pending.Load to a n) rest todo l at =
+      absurd
+      (S.not-taken f m rel room stuck k (Todo.show (Pending.Load to a n) rest ∷ todo) _ (S.plain f m rel room stuck) Exchange.nothing l at at-memory.1 tt
+      (λ i. on-memory i && either-taken f.image (bytes f) Exchange.nothing (Act.Load a n 0) (Act.Fault Access.Read a n) (allows f.image (f.processors k) Access.Read a.0 n) refl refl i)
+      (le-leb n 4 (room.loads k to a n rest todo l at)))
+  guarded k (Pending.Store a n value) rest todo l at =
+      absurd
+      (S.not-taken f m rel room stuck k (Todo.show (Pending.Store a n value) rest ∷ todo) _ (S.plain f m rel room stuck) Exchange.nothing l at at-memory.1 tt
+      (λ i. on-memory i && either-taken f.image (bytes f) Exchange.nothing (Act.Store a n value) (Act.Fault Access.Write a n) (allows f.image (f.processors k) Access.Write a.0 n) refl refl i) refl)
+  guarded k (Pending.Fetch a) rest todo l at =
+      absurd
+      (S.not-taken f m rel room stuck k (Todo.show (Pending.Fetch a) rest ∷ todo) _ (S.plain f m rel room stuck) Exchange.nothing l at at-memory.1 tt
+      (λ i. on-memory i && either-taken f.image (bytes f) Exchange.nothing (Act.Fetch a) (Act.Fault Access.Exec a 4) (allows f.image (f.processors k) Access.Exec a.0 4) refl refl i) refl)
+  guarded k (Pending.Probe a amount) rest todo l at =
+      absurd
+      (S.not-taken f m rel room stuck k (Todo.show (Pending.Probe a amount) rest ∷ todo) _ (S.plain f m rel room stuck) Exchange.nothing l at at-memory.1 tt (λ i. on-memory i && true) refl)
+  guarded k (Pending.CopyIn a amount) rest todo l at =
+      absurd
+      (S.not-taken f m rel room stuck k (Todo.show (Pending.CopyIn a amount) rest ∷ todo) _ (S.plain f m rel room stuck) Exchange.nothing l at at-memory.1 tt (λ i. on-memory i && true) refl)
+  guarded k (Pending.CopyOut a) rest todo l at =
+      absurd
+      (S.not-taken f m rel room stuck k (Todo.show (Pending.CopyOut a) rest ∷ todo) _ (S.plain f m rel room stuck) Exchange.nothing l at at-memory.1 tt (λ i. on-memory i && true) refl)
+  guarded k (Pending.CopyStr a) rest todo l at =
+      absurd
+      (S.not-taken f m rel room stuck k (Todo.show (Pending.CopyStr a) rest ∷ todo) _ (S.plain f m rel room stuck) Exchange.nothing l at at-memory.1 tt (λ i. on-memory i && true) refl)
+  guarded k (Pending.Erase stack) rest todo l at =
+      absurd
+      (S.not-taken f m rel room stuck k (Todo.show (Pending.Erase stack) rest ∷ todo) _ (S.plain f m rel room stuck) Exchange.nothing l at at-memory.1 tt (λ i. on-memory i && true) refl)
+  guarded k (Pending.Work a ask) rest todo l at =
+      let x = row_named f.image a in
+      absurd
+      (S.not-taken f m rel room stuck k (Todo.show (Pending.Work a ask) rest ∷ todo) _ (S.plain f m rel room stuck) Exchange.nothing l at (object-sort x (f.sites (Site.object x)) (rel.sorts (Site.object x))).1 tt
+      (λ i. on-object x i && true) refl)
+  guarded k (Pending.Named who) rest todo l at =
+      let x = own_row f.image who.0 in
+      absurd
+      (S.not-taken f m rel room stuck k (Todo.show (Pending.Named who) rest ∷ todo) _ (S.plain f m rel room stuck) Exchange.nothing l at (object-sort x (f.sites (Site.object x)) (rel.sorts (Site.object x))).1 tt
+      (λ i. on-object x i && true) refl)
+  guarded k (Pending.Answer reply to) rest todo l at =
+      absurd
+      (S.not-taken f m rel room stuck k (Todo.show (Pending.Answer reply to) rest ∷ todo) _ (S.plain f m rel room stuck) Exchange.nothing l at (own-word k) tt (λ i. counted k i && true) refl)
+  guarded k (Pending.EnterUser script) rest todo l at =
+      absurd
+      (S.not-taken f m rel room stuck k (Todo.show (Pending.EnterUser script) rest ∷ todo) _ (S.plain f m rel room stuck) Exchange.nothing l at (own-word k) tt (λ i. counted k i && true) refl)
+  guarded k (Pending.Fatal reason cause) rest todo l at =
+      absurd
+      (S.not-taken f m rel room stuck k (Todo.show (Pending.Fatal reason cause) rest ∷ todo) _ (S.plain f m rel room stuck) Exchange.nothing l at (own-word k) tt (λ i. counted k i && true) refl)
+  guarded k (Pending.Dooms from) rest todo l at =
+      let is = thread-sort from (f.sites (Site.thread from)) (rel.sorts (Site.thread from)) in
+      absurd
+      (S.not-taken f m rel room stuck k (Todo.show (Pending.Dooms from) rest ∷ todo) _ (S.plain f m rel room stuck) Exchange.nothing l at is tt
+      (λ i. S.counts f m rel room stuck (Site.thread from) _ is i && true) refl)
+  guarded k (Pending.DropPair who a) rest todo l at =
+      let x = row_named f.image a in
+      let is = row-is x (f.sites (Site.row x)) (rel.sorts (Site.row x)) in
+      absurd
+      (S.not-taken f m rel room stuck k (Todo.show (Pending.DropPair who a) rest ∷ todo) _ (S.plain f m rel room stuck) Exchange.nothing l at is tt
+      (λ i. S.counts f m rel room stuck (Site.row x) _ is i && true) refl)
+  guarded k (Pending.Reserve kind) rest todo l at =
+      absurd
+      (S.not-taken f m rel room stuck k (Todo.show (Pending.Reserve kind) rest ∷ todo) _ (S.plain f m rel room stuck) Exchange.nothing l at (heap-sort (f.sites Site.heap) (rel.sorts Site.heap)).1 tt (λ i. on-heap i && true) refl)
+  guarded k (Pending.Buffer size) rest todo l at =
+      absurd
+      (S.not-taken f m rel room stuck k (Todo.show (Pending.Buffer size) rest ∷ todo) _ (S.plain f m rel room stuck) Exchange.nothing l at (heap-sort (f.sites Site.heap) (rel.sorts Site.heap)).1 tt (λ i. on-heap i && true) refl)
+  guarded k (Pending.Unbuffer size) rest todo l at =
+      absurd
+      (S.not-taken f m rel room stuck k (Todo.show (Pending.Unbuffer size) rest ∷ todo) _ (S.plain f m rel room stuck) Exchange.nothing l at (heap-sort (f.sites Site.heap) (rel.sorts Site.heap)).1 tt (λ i. on-heap i && true) refl)
+  guarded k (Pending.DomInit d parts) rest todo l at =
+      absurd
+      (S.not-taken f m rel room stuck k (Todo.show (Pending.DomInit d parts) rest ∷ todo) (SiteState.domain (domain f d)) (S.plain f m rel room stuck) Exchange.nothing l at (domain-word d) tt
+      (edits-it k d (Pending.DomInit d parts) rest todo l at (eq-eqb d d refl)) refl)
+  guarded k (Pending.DomAdd d range attr) rest todo l at =
+      absurd
+      (S.not-taken f m rel room stuck k (Todo.show (Pending.DomAdd d range attr) rest ∷ todo) (SiteState.domain (domain f d)) (S.plain f m rel room stuck) Exchange.nothing l at (domain-word d) tt
+      (edits-it k d (Pending.DomAdd d range attr) rest todo l at (eq-eqb d d refl)) refl)
+  guarded k (Pending.DomRemove d range attr) rest todo l at =
+      absurd
+      (S.not-taken f m rel room stuck k (Todo.show (Pending.DomRemove d range attr) rest ∷ todo) (SiteState.domain (domain f d)) (S.plain f m rel room stuck) Exchange.nothing l at (domain-word d) tt
+      (edits-it k d (Pending.DomRemove d range attr) rest todo l at (eq-eqb d d refl)) refl)
+  guarded k (Pending.DomMove d who) rest todo l at = inr (move k d who rest todo l at)
+  guarded k (Pending.Start who script stack priority mode) rest todo l at = absurd (start k who script stack priority mode rest todo l at)
+  guarded k (Pending.Grant who a) rest todo l at = absurd (grant k who a rest todo l at)
+  guarded k (Pending.Own who) rest todo l at = absurd (own k who rest todo l at)
+  guarded k (Pending.Publish a) rest todo l at = absurd (publish k a rest todo l at)
+  guarded k (Pending.SetInit a strict undo) rest todo l at = absurd (mark k a strict undo rest todo l at)
+  guarded k (Pending.Born a) rest todo l at = absurd (born k a rest todo l at)
+  guarded k (Pending.CleanPair who) rest todo l at =
+      absurd (cleans-never k who rest (is-of k (Pending.CleanPair who) rest todo l at) (fits-at k (Pending.CleanPair who) rest todo l at))
+  guarded k Pending.Recycle rest todo l at = absurd (recycles-never k rest (is-of k Pending.Recycle rest todo l at) (fits-at k Pending.Recycle rest todo l at))
+  guarded k q rest todo l at = inl tt
