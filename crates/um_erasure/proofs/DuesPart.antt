@@ -35,7 +35,7 @@ use Rattle.um_fine.specs.Scheduler.{told_at, waits}
 use Rattle.um_fine.specs.Sites.{same_site}
 use Rattle.um_fine.specs.Steps.{Exchange, FineStep, Site}
 use Rattle.um_erasure.specs.Dues.{DuesAre, is_visiting}
-use Rattle.um_erasure.specs.Fine.{Fine, one_if, row, scheduler}
+use Rattle.um_erasure.specs.Fine.{Fine, one_if, scheduler}
 use Rattle.um_erasure.specs.Frames.{AreFramed, Behind}
 use Rattle.um_erasure.specs.Lists.{has_steps, names_row, runs, visited}
 use Rattle.um_erasure.specs.Offers.{Drops, Fits, IsPutBack, Passes, behind_shown, is_over}

@@ -1,5 +1,5 @@
 -- Every lawful step keeps the relation: its parts together, and in the states that a run of a described image reaches all that they ask for.
-use Rattle.std.proofs.Common.{sym, subst, ◌≡◌, ℕ, ◌<◌, length, refl, ◌∙◌}
+use Rattle.std.proofs.Common.{sym, subst, ◌≡◌, ℕ, length, refl, ◌∙◌}
 use Rattle.um_base.specs.declared.image.Image.{Image}
 use Rattle.um_base.specs.Lawful.{IsLawful}
 use Rattle.um_machine.specs.declared.pending.Pending.{Pending}
@@ -30,7 +30,7 @@ use Rattle.um_erasure.proofs.DomainsKnown.{started-placed}
 use Rattle.um_erasure.proofs.DonePart.{done-part}
 use Rattle.um_erasure.proofs.DuesPart.{DuesKnown, dues-known, dues-part}
 use Rattle.um_erasure.proofs.EmptiedPart.{GivesHeld, emptied-part}
-use Rattle.um_erasure.proofs.Erased.{IsReachable, Keeps, fine, reach-on, stepped}
+use Rattle.um_erasure.proofs.Erased.{Keeps, fine, reach-on, stepped}
 use Rattle.um_erasure.proofs.FirstObjects.{opening-image}
 use Rattle.um_erasure.proofs.HeapPart.{heap-part}
 use Rattle.um_erasure.proofs.HeldDomainPart.{held-domain-part}
