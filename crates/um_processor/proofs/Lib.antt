@@ -1,4 +1,5 @@
 -- What the proofs of several functions cite.
+pub mod Celled
 pub mod Places
 pub mod Scheduled
 pub mod Tabled

@@ -7,7 +7,8 @@ use Rattle.um_words.specs.declared.fine.FineAct.{FineAct}
 use Rattle.um_words.specs.declared.fine.More.{More}
 use Rattle.um_fine.specs.Answers.{no_row}
 use Rattle.um_fine.specs.Steps.{Exchange, FineStep, Site, Word}
-use Rattle.um_fine.specs.Sites.{SiteMay, SiteState, s_next, site_takes}
+use Rattle.um_fine.specs.Cells.{Cell}
+use Rattle.um_fine.specs.Sites.{SiteMay, SiteState, filled, s_next, site_takes}
 
 -- an event of a thread, with what the site needs beside it
 abbrev pub shown : ThreadIx → Act → More → FineAct
@@ -16,6 +17,10 @@ shown t act more = FineAct.Shown (record { thread = t; act = act }) more
 -- a step without the word that its site leaves
 abbrev pub asked : ℕ → Site → FineAct → Exchange → FineStep
 asked cpu site act moved = record { cpu = cpu; site = site; act = act; word = Word.row no_row; moved = moved }
+
+-- the step as it is made at a cell with these contents, after so many steps
+abbrev pub cell_made : Image → ℕ → Site → ℕ → Cell → FineAct → Exchange → FineStep
+cell_made image cpu site n c act moved = filled image (SiteState.cell n c) (asked cpu site act moved)
 
 -- the step is lawful at its site in the first state, and leaves the second
 pub record Takes (image : Image) (s : SiteState) (e : FineStep) (z : SiteState) : Type 0 where

@@ -6,3 +6,4 @@ pub mod Sited
 pub mod Contexts
 pub mod Parked
 pub mod SchedulerActs
+pub mod DomainCells

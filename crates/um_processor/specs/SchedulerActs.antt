@@ -9,13 +9,11 @@ use Rattle.um_words.specs.declared.fine.Unseen.{Unseen}
 use Rattle.um_fine.specs.Cells.{Cell}
 use Rattle.um_fine.specs.Context.{Context}
 use Rattle.um_fine.specs.Scheduler.{Scheduler}
-use Rattle.um_fine.specs.Sites.{SiteState, filled}
 use Rattle.um_fine.specs.Steps.{Exchange, FineStep, Site}
-use Rattle.um_processor.specs.Asked.{asked}
+use Rattle.um_processor.specs.Asked.{cell_made}
 
 abbrev pub scheduler_made : Image → ℕ → ℕ → Scheduler → Unseen → Exchange → FineStep
-scheduler_made image cpu n s unseen moved =
-    filled image (SiteState.cell n (Cell.scheduler s)) (asked cpu Site.scheduler (FineAct.Unseen unseen) moved)
+scheduler_made image cpu n s unseen moved = cell_made image cpu Site.scheduler n (Cell.scheduler s) (FineAct.Unseen unseen) moved
 
 -- the first ready thread is taken: the site says which it is, and whether it resumes
 abbrev pub taken_made : Image → ℕ → ℕ → Scheduler → FineStep

@@ -1,5 +1,5 @@
 -- The states of the sites that tables keep, what comes of a step there, and what a site says to the one that asks for it.
-use Rattle.std.specs.Prelude.{◌≡◌, ◌<◌, ℕ, List, slice_index_or, slice_set}
+use Rattle.std.specs.Prelude.{◌≡◌, ◌<◌, ℕ, List, None, slice_index_or, slice_set}
 use Rattle.um_base.specs.declared.image.Image.{Image}
 use Rattle.um_base.specs.declared.limits.TheConstants.{DOMAINS}
 use Rattle.um_words.specs.declared.row_word.RowWord.{RowWord}
@@ -10,13 +10,15 @@ use Rattle.um_fine.specs.Cells.{Cell}
 use Rattle.um_fine.specs.Scheduler.{Scheduler}
 use Rattle.um_fine.specs.Steps.{FineStep, Site}
 use Rattle.um_fine.specs.Sites.{SiteMay, SiteState, s_next}
+use Rattle.um_processor.specs.declared.domain_cell.DomainCell.{DomainCell}
 use Rattle.um_processor.specs.declared.said.Said.{Said}
 
--- the words of all rows, thread indices and domains, and the scheduler's cell with the steps that it has taken
+-- the words of all rows, thread indices and domains, the cells of the domains, and the scheduler's cell with the steps that it has taken
 pub record Sited : Type 0 where
   pub rows : List RowWord
   pub threads : List ThreadWord
   pub domains : List DomWord
+  pub domain_cells : List DomainCell
   pub scheduler : Scheduler
   pub scheduler_steps : ℕ
 
@@ -24,11 +26,19 @@ pub record Sited : Type 0 where
 abbrev pub in_domains : ThreadWord → Type 0
 in_domains w = w.domain < DOMAINS
 
+-- the cell of a domain that isn't initialised
+abbrev pub no_domain_cell : DomainCell
+no_domain_cell = record { parts = None; steps = 0 }
+
+abbrev pub domain_cell_state : DomainCell → SiteState
+domain_cell_state c = SiteState.cell c.steps (Cell.parts c.parts)
+
 -- what stands at a site: at one that isn't kept, a row without an object
 abbrev pub state_at : Sited → Site → SiteState
 state_at s (Site.row x) = SiteState.row (slice_index_or s.rows x no_row)
 state_at s (Site.thread t) = SiteState.thread (slice_index_or s.threads t no_thread)
 state_at s (Site.domain d) = SiteState.domain (slice_index_or s.domains d no_domain)
+state_at s (Site.parts d) = domain_cell_state (slice_index_or s.domain_cells d no_domain_cell)
 state_at s Site.scheduler = SiteState.cell s.scheduler_steps (Cell.scheduler s.scheduler)
 state_at s site = SiteState.row no_row
 
@@ -36,6 +46,8 @@ abbrev pub with_state : Sited → Site → SiteState → Sited
 with_state s (Site.row x) (SiteState.row w) = record s { rows = slice_set s.rows x w }
 with_state s (Site.thread t) (SiteState.thread w) = record s { threads = slice_set s.threads t w }
 with_state s (Site.domain d) (SiteState.domain w) = record s { domains = slice_set s.domains d w }
+with_state s (Site.parts d) (SiteState.cell n (Cell.parts parts)) =
+    record s { domain_cells = slice_set s.domain_cells d (record { parts = parts; steps = n }) }
 with_state s Site.scheduler (SiteState.cell n (Cell.scheduler t)) = record s { scheduler = t; scheduler_steps = n }
 with_state s site state = s
 

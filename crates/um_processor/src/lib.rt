@@ -3,6 +3,7 @@
 
 mod context;
 mod domain_act;
+mod domain_cell;
 mod parked;
 mod row_act;
 mod said;
@@ -13,6 +14,7 @@ mod thread_act;
 
 pub use context::Context;
 pub use domain_act::DomainAct;
+pub use domain_cell::DomainCell;
 pub use parked::Parked;
 pub use row_act::{RowAct, RowSaid};
 pub use said::Said;

@@ -1,14 +1,18 @@
 //! How a processor reaches the sites.
 
-ghost use Rattle.std.specs.Prelude.{◌≡◌, ◌<◌, ℕ};
+ghost use Rattle.std.specs.Prelude.{◌≡◌, ◌<◌, ℕ, Option};
 ghost use Rattle.um_base.specs.declared.limits.TheConstants.{DOMAINS, ROWS, THREADS};
+ghost use Rattle.um_base.specs.Regions.{Partitions};
+ghost use Rattle.um_machine.specs.Domains.{reply_to};
 ghost use Rattle.um_words.specs.declared.row_word.RowWord.{RowWord};
 ghost use Rattle.um_words.specs.declared.thread_word.ThreadWord.{ThreadWord};
 ghost use Rattle.um_words.specs.declared.dom_word.DomWord.{DomWord};
 ghost use Rattle.um_fine.specs.Answers.{domain_in, thread_in};
+ghost use Rattle.um_fine.specs.Processor.{edit_of};
 ghost use Rattle.um_fine.specs.Scheduler.{Scheduler};
 ghost use Rattle.um_fine.specs.Steps.{Exchange};
 ghost use Rattle.um_processor.specs.DomainActs.{domain_made};
+ghost use Rattle.um_processor.specs.DomainCells.{edited_made, loaded_made};
 ghost use Rattle.um_processor.specs.RowActs.{row_made, row_said};
 ghost use Rattle.um_processor.specs.Parked.{some_if};
 ghost use Rattle.um_processor.specs.SchedulerActs.{added_made, done_made, parked_made, taken_made, woken_made};
@@ -20,7 +24,8 @@ use crate::domain_act::DomainAct;
 use crate::row_act::{RowAct, RowSaid};
 use crate::said::Said;
 use crate::thread_act::ThreadAct;
-use um_base::{Image, Row, ThreadIx, Told};
+use um_base::{Image, Parts, Reply, Row, ThreadIx, Told};
+use um_machine::Pending;
 use um_words::{DomWord, ThreadWord};
 
 /// The sites that a processor shares with others, wherever they live. Each call asks for one step of a processor by its number.
@@ -79,6 +84,26 @@ pub trait Sites {
         ensures said { MatchSaid result
             (λ word. (w : DomWord) × Took image.now self.old (domain_made image.now cpu domain w act.now) self.new × (word ≡ domain_in (domain_made image.now cpu domain w act.now).word))
             ((w : DomWord) × Kept self.old self.new × Shut image.now self.old (domain_made image.now cpu domain w act.now))
+            (Kept self.old self.new × Contended self.old) };
+
+    /// The partitions of a domain are read for a region table: none where it isn't initialised.
+    fn load_parts(&mut self, image: &Image, cpu: u8, domain: u8, parts: &mut Parts) -> Said<()>
+        requires image { IsOf image.now self.old }
+        requires domain { domain < DOMAINS }
+        ensures image { IsOf image.now self.new }
+        ensures said { MatchSaid result
+            (λ said. (n : ℕ) × (before : Option Partitions) × Took image.now self.old (loaded_made image.now cpu domain n before) self.new × ((loaded_made image.now cpu domain n before).moved ≡ Exchange.parts parts.new))
+            ((n : ℕ) × (before : Option Partitions) × Kept self.old self.new × Shut image.now self.old (loaded_made image.now cpu domain n before) × (parts.new ≡ parts.old))
+            (Kept self.old self.new × Contended self.old × (parts.new ≡ parts.old)) };
+
+    /// The partitions of a domain become what a call makes of them, which is a step of its thread. Answers its reply.
+    fn edit(&mut self, image: &Image, cpu: u8, domain: u8, call: &Pending) -> Said<Reply>
+        requires image { IsOf image.now self.old }
+        requires domain { domain < DOMAINS }
+        ensures image { IsOf image.now self.new }
+        ensures said { MatchSaid result
+            (λ reply. (n : ℕ) × (before : Option Partitions) × Took image.now self.old (edited_made image.now cpu domain n before call.now) self.new × (reply ≡ reply_to (edit_of image.now call.now before)))
+            ((n : ℕ) × (before : Option Partitions) × Kept self.old self.new × Shut image.now self.old (edited_made image.now cpu domain n before call.now))
             (Kept self.old self.new × Contended self.old) };
 
     /// The first ready thread is taken, for the room that is given for it. Answers whether it was woken, and by what.

@@ -7,24 +7,27 @@ ghost use Rattle.um_processor.specs.Sited.{in_domains};
 
 use crate::context::Context;
 use crate::domain_act::DomainAct;
+use crate::domain_cell::{DomainCell, edited, parts_or_none};
 use crate::row_act::{RowAct, RowSaid};
 use crate::said::Said;
 use crate::scheduler::Scheduler;
 use crate::sites::Sites;
 use crate::thread_act::ThreadAct;
 use std::marker::Model;
-use um_base::{Image, Row, ThreadIx, Told};
+use um_base::{Image, Parts, Reply, Row, ThreadIx, Told};
+use um_machine::Pending;
 use um_words::{DomWord, RowWord, ThreadWord};
 
-/// The greatest step number: there the scheduler's cell takes no step.
+/// The greatest step number: there a cell takes no step.
 const LAST: u32 = 0xfff_ffff;
 
-/// The words of all rows, thread indices and domains, and the scheduler's cell.
+/// The words of all rows, thread indices and domains, the cells of the domains, and the scheduler's cell.
 #[derive(Drop)]
 pub struct Tables {
     rows: Vec<RowWord>,
     threads: Vec<ThreadWord>,
     domains: Vec<DomWord>,
+    domain_cells: Vec<DomainCell>,
     scheduler: Scheduler,
     /// How many steps the scheduler's cell has taken, below 2^28.
     scheduler_steps: u32,
@@ -38,29 +41,32 @@ impl Model for Tables {
 
     ghost Value = { Sited };
 
-    ghost view = { λ t. record { rows = t.rows.items; threads = t.threads.items; domains = t.domains.items; scheduler = t.scheduler; scheduler_steps = t.scheduler_steps } };
+    ghost view = { λ t. record { rows = t.rows.items; threads = t.threads.items; domains = t.domains.items; domain_cells = t.domain_cells.items; scheduler = t.scheduler; scheduler_steps = t.scheduler_steps } };
 
-    ghost invariant = { λ t. (length t.rows.items ≡ ROWS) × (length t.threads.items ≡ THREADS) × (length t.domains.items ≡ DOMAINS) × All in_domains t.threads.items };
+    ghost invariant = { λ t. (length t.rows.items ≡ ROWS) × (length t.threads.items ≡ THREADS) × (length t.domains.items ≡ DOMAINS) × (length t.domain_cells.items ≡ DOMAINS) × All in_domains t.threads.items };
 }
 
 impl Tables {
-    /// Those with these words, and with a scheduler's cell that has taken no step.
+    /// Those with these words and cells, and with a scheduler's cell that has taken no step.
     pub fn new(
         rows: Vec<RowWord>,
         threads: Vec<ThreadWord>,
         domains: Vec<DomWord>,
+        domain_cells: Vec<DomainCell>,
         scheduler: Scheduler,
     ) -> Tables
         requires rows { length rows.items ≡ ROWS }
         requires threads { length threads.items ≡ THREADS }
         requires domains { length domains.items ≡ DOMAINS }
+        requires cells { length domain_cells.items ≡ DOMAINS }
         requires named { All in_domains threads.items }
-        ensures { result ≡ record { rows = rows.items; threads = threads.items; domains = domains.items; scheduler = scheduler; scheduler_steps = 0 } }
+        ensures { result ≡ record { rows = rows.items; threads = threads.items; domains = domains.items; domain_cells = domain_cells.items; scheduler = scheduler; scheduler_steps = 0 } }
     {
         Tables {
             rows,
             threads,
             domains,
+            domain_cells,
             scheduler,
             scheduler_steps: 0,
         }
@@ -114,6 +120,27 @@ impl Sites for Tables {
         };
         self.domains[domain as usize] = next;
         Said::Made(next)
+    }
+
+    fn load_parts(&mut self, image: &Image, cpu: u8, domain: u8, parts: &mut Parts) -> Said<()> {
+        let cell = &mut self.domain_cells[domain as usize];
+        if cell.steps >= LAST {
+            return Said::Busy;
+        }
+        *parts = parts_or_none(&cell.parts);
+        cell.steps += 1;
+        Said::Made(())
+    }
+
+    fn edit(&mut self, image: &Image, cpu: u8, domain: u8, call: &Pending) -> Said<Reply> {
+        let cell = &mut self.domain_cells[domain as usize];
+        if cell.steps >= LAST {
+            return Said::Busy;
+        }
+        let (parts, reply) = edited(image, call, &cell.parts);
+        cell.parts = parts;
+        cell.steps += 1;
+        Said::Made(reply)
     }
 
     fn take(

@@ -6,10 +6,10 @@ use super::*;
 use std::alloc::Global;
 use std::test::Fail;
 use um_base::{
-    Addr, BoundedVec, DOMAINS, Image, Leftover, Memory, Mode, Mpu, Piece, Policy, ROWS, Reply, Row,
-    THREADS, ThreadIx, Told,
+    Addr, Attr, BoundedVec, DOMAINS, Errno, Image, Leftover, Memory, Mode, Mpu, PartRefs, Parts,
+    Piece, Policy, ROWS, Range, Reply, Row, THREADS, ThreadIx, Told,
 };
-use um_machine::Life;
+use um_machine::{Life, Pending};
 use um_words::{DomWord, Permissions, RowWord, Stage, ThreadWord};
 
 /// An object that one call holds, and the thread 3 alone may use.
@@ -174,7 +174,15 @@ fn tables(alloc: Global) -> Result<Tables, Memory> {
     threads.resize(THREADS, living(0))?;
     let mut domains = Vec::new(alloc);
     domains.resize(DOMAINS, domain())?;
-    Ok(Tables::new(rows, threads, domains, Scheduler::new(alloc)?))
+    let mut cells = Vec::new(alloc);
+    cells.resize(
+        DOMAINS,
+        DomainCell {
+            parts: None,
+            steps: 0,
+        },
+    )?;
+    Ok(Tables::new(rows, threads, domains, cells, Scheduler::new(alloc)?))
 }
 
 /// The permission of a row is passed on once, while another row stays as it was.
@@ -204,5 +212,43 @@ fn over_tables(rt: HostRuntime) -> Result<(), Fail> {
         )
     );
     assert!(rt; matches!(sites.done(&image, 0), Said::Busy));
+    Ok(())
+}
+
+/// A domain is initialised once, a partition is added to it, and that is what a region table is loaded with.
+#[test]
+fn a_domain_cell(rt: HostRuntime) -> Result<(), Fail> {
+    let image = image(rt.alloc());
+    let mut sites = tables(rt.alloc())?;
+    let init = Pending::DomInit {
+        domain: 1,
+        parts: PartRefs::new(),
+    };
+    let add = Pending::DomAdd {
+        domain: 1,
+        range: Range {
+            start: Addr(0x2000_0040),
+            size: 64,
+        },
+        attr: Attr(27),
+    };
+    for (call, reply) in [
+        (&add, Reply::Fail(Errno::EINVAL)),
+        (&init, Reply::Num(0)),
+        (&init, Reply::Fail(Errno::EINVAL)),
+        (&add, Reply::Num(0)),
+    ] {
+        match sites.edit(&image, 0, 1, call) {
+            Said::Made(said) => assert!(rt; said == reply),
+            _ => assert!(rt; false),
+        }
+    }
+    let mut parts = Parts::new();
+    for (domain, few) in [(1, 1), (2, 0)] {
+        match sites.load_parts(&image, 0, domain, &mut parts) {
+            Said::Made(()) => assert!(rt; parts.len() == few),
+            _ => assert!(rt; false),
+        }
+    }
     Ok(())
 }
