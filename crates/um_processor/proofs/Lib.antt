@@ -1,5 +1,6 @@
 -- What the proofs of several functions cite.
 pub mod Celled
+pub mod HeapLemmas
 pub mod Places
 pub mod Scheduled
 pub mod Tabled

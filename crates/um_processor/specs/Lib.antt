@@ -7,3 +7,5 @@ pub mod Contexts
 pub mod Parked
 pub mod SchedulerActs
 pub mod DomainCells
+pub mod HeapActs
+pub mod ObjectCells

@@ -7,18 +7,24 @@ use Rattle.um_words.specs.declared.thread_word.ThreadWord.{ThreadWord}
 use Rattle.um_words.specs.declared.dom_word.DomWord.{DomWord}
 use Rattle.um_fine.specs.Answers.{no_domain, no_row, no_thread}
 use Rattle.um_fine.specs.Cells.{Cell}
+use Rattle.um_fine.specs.Heap.{Heap}
 use Rattle.um_fine.specs.Scheduler.{Scheduler}
 use Rattle.um_fine.specs.Steps.{FineStep, Site}
 use Rattle.um_fine.specs.Sites.{SiteMay, SiteState, s_next}
 use Rattle.um_processor.specs.declared.domain_cell.DomainCell.{DomainCell}
+use Rattle.um_processor.specs.declared.object_cell.ObjectCell.{ObjectCell}
+use Rattle.um_processor.specs.ObjectCells.{cleared, kept_in}
 use Rattle.um_processor.specs.declared.said.Said.{Said}
 
--- the words of all rows, thread indices and domains, the cells of the domains, and the scheduler's cell with the steps that it has taken
+-- the words of all rows, thread indices and domains, the cells of domains and of objects, and those of the heap and the scheduler with the steps that they have taken
 pub record Sited : Type 0 where
   pub rows : List RowWord
   pub threads : List ThreadWord
   pub domains : List DomWord
   pub domain_cells : List DomainCell
+  pub objects : List ObjectCell
+  pub heap : Heap
+  pub heap_steps : ℕ
   pub scheduler : Scheduler
   pub scheduler_steps : ℕ
 
@@ -33,12 +39,17 @@ no_domain_cell = record { parts = None; steps = 0 }
 abbrev pub domain_cell_state : DomainCell → SiteState
 domain_cell_state c = SiteState.cell c.steps (Cell.parts c.parts)
 
+abbrev pub object_state : ObjectCell → SiteState
+object_state c = SiteState.cell c.steps (Cell.object (kept_in c))
+
 -- what stands at a site: at one that isn't kept, a row without an object
 abbrev pub state_at : Sited → Site → SiteState
 state_at s (Site.row x) = SiteState.row (slice_index_or s.rows x no_row)
 state_at s (Site.thread t) = SiteState.thread (slice_index_or s.threads t no_thread)
 state_at s (Site.domain d) = SiteState.domain (slice_index_or s.domains d no_domain)
 state_at s (Site.parts d) = domain_cell_state (slice_index_or s.domain_cells d no_domain_cell)
+state_at s (Site.object x) = object_state (slice_index_or s.objects x (cleared 0))
+state_at s Site.heap = SiteState.cell s.heap_steps (Cell.heap s.heap)
 state_at s Site.scheduler = SiteState.cell s.scheduler_steps (Cell.scheduler s.scheduler)
 state_at s site = SiteState.row no_row
 
@@ -48,6 +59,9 @@ with_state s (Site.thread t) (SiteState.thread w) = record s { threads = slice_s
 with_state s (Site.domain d) (SiteState.domain w) = record s { domains = slice_set s.domains d w }
 with_state s (Site.parts d) (SiteState.cell n (Cell.parts parts)) =
     record s { domain_cells = slice_set s.domain_cells d (record { parts = parts; steps = n }) }
+with_state s (Site.object x) (SiteState.cell n (Cell.object o)) =
+    record s { objects = slice_set s.objects x (record { contents = o.contents; waiters = o.waiters; buffer = o.buffer; steps = n }) }
+with_state s Site.heap (SiteState.cell n (Cell.heap h)) = record s { heap = h; heap_steps = n }
 with_state s Site.scheduler (SiteState.cell n (Cell.scheduler t)) = record s { scheduler = t; scheduler_steps = n }
 with_state s site state = s
 

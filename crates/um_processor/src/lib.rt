@@ -4,17 +4,24 @@
 mod context;
 mod domain_act;
 mod domain_cell;
+mod heap;
+mod heap_act;
+mod object_cell;
 mod parked;
 mod row_act;
 mod said;
 mod scheduler;
 mod sites;
+mod slots;
 mod tables;
 mod thread_act;
 
 pub use context::Context;
 pub use domain_act::DomainAct;
 pub use domain_cell::DomainCell;
+pub use heap::Heap;
+pub use heap_act::{HeapAct, HeapSaid};
+pub use object_cell::ObjectCell;
 pub use parked::Parked;
 pub use row_act::{RowAct, RowSaid};
 pub use said::Said;

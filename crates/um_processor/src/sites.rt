@@ -1,18 +1,23 @@
 //! How a processor reaches the sites.
 
-ghost use Rattle.std.specs.Prelude.{◌≡◌, ◌<◌, ℕ, Option};
+ghost use Rattle.std.specs.Prelude.{◌≡◌, ◌<◌, ℕ, IsTrue, Option};
 ghost use Rattle.um_base.specs.declared.limits.TheConstants.{DOMAINS, ROWS, THREADS};
 ghost use Rattle.um_base.specs.Regions.{Partitions};
 ghost use Rattle.um_machine.specs.Domains.{reply_to};
+ghost use Rattle.um_machine.specs.Limits.{is_sound_ask};
 ghost use Rattle.um_words.specs.declared.row_word.RowWord.{RowWord};
 ghost use Rattle.um_words.specs.declared.thread_word.ThreadWord.{ThreadWord};
 ghost use Rattle.um_words.specs.declared.dom_word.DomWord.{DomWord};
 ghost use Rattle.um_fine.specs.Answers.{domain_in, thread_in};
+ghost use Rattle.um_fine.specs.Heap.{Heap};
+ghost use Rattle.um_fine.specs.Objects.{ObjectCell};
 ghost use Rattle.um_fine.specs.Processor.{edit_of};
 ghost use Rattle.um_fine.specs.Scheduler.{Scheduler};
 ghost use Rattle.um_fine.specs.Steps.{Exchange};
 ghost use Rattle.um_processor.specs.DomainActs.{domain_made};
 ghost use Rattle.um_processor.specs.DomainCells.{edited_made, loaded_made};
+ghost use Rattle.um_processor.specs.HeapActs.{heap_made, heap_said};
+ghost use Rattle.um_processor.specs.ObjectCells.{cleared_made, looked_made, named_made, outcome_by, worked_made};
 ghost use Rattle.um_processor.specs.RowActs.{row_made, row_said};
 ghost use Rattle.um_processor.specs.Parked.{some_if};
 ghost use Rattle.um_processor.specs.SchedulerActs.{added_made, done_made, parked_made, taken_made, woken_made};
@@ -21,11 +26,13 @@ ghost use Rattle.um_processor.specs.ThreadActs.{thread_made};
 
 use crate::context::Context;
 use crate::domain_act::DomainAct;
+use crate::heap_act::{HeapAct, HeapSaid};
 use crate::row_act::{RowAct, RowSaid};
 use crate::said::Said;
 use crate::thread_act::ThreadAct;
-use um_base::{Image, Parts, Reply, Row, ThreadIx, Told};
-use um_machine::Pending;
+use um_base::{Addr, Image, Parts, Piece, Reply, Row, ThreadIx, Told, Waiter};
+use um_machine::{Cost, Pending};
+use um_service::Outcome;
 use um_words::{DomWord, ThreadWord};
 
 /// The sites that a processor shares with others, wherever they live. Each call asks for one step of a processor by its number.
@@ -104,6 +111,79 @@ pub trait Sites {
         ensures said { MatchSaid result
             (λ reply. (n : ℕ) × (before : Option Partitions) × Took image.now self.old (edited_made image.now cpu domain n before call.now) self.new × (reply ≡ reply_to (edit_of image.now call.now before)))
             ((n : ℕ) × (before : Option Partitions) × Kept self.old self.new × Shut image.now self.old (edited_made image.now cpu domain n before call.now))
+            (Kept self.old self.new × Contended self.old) };
+
+    /// A call's work on the object of a row, at this address. Writes what comes of it.
+    fn work(
+        &mut self,
+        image: &Image,
+        cpu: u8,
+        row: Row,
+        addr: Addr,
+        who: &Waiter,
+        outcome: &mut Outcome,
+    ) -> Said<()>
+        requires image { IsOf image.now self.old }
+        requires row { row.0 < ROWS }
+        requires thread { who.now.thread.0 < THREADS }
+        requires sound { IsTrue (is_sound_ask who.now.ask) }
+        ensures image { IsOf image.now self.new }
+        ensures said { MatchSaid result
+            (λ said. (n : ℕ) × (o : ObjectCell) × Took image.now self.old (worked_made image.now cpu row.0 n o addr who.now) self.new × ((worked_made image.now cpu row.0 n o addr who.now).moved ≡ Exchange.asked who.now (outcome_by outcome.new)))
+            ((n : ℕ) × (o : ObjectCell) × Kept self.old self.new × Shut image.now self.old (worked_made image.now cpu row.0 n o addr who.now) × (outcome.new ≡ outcome.old))
+            (Kept self.old self.new × Contended self.old × (outcome.new ≡ outcome.old)) };
+
+    /// A thread gives a thread object, which is that of a row, this name.
+    fn name(
+        &mut self,
+        image: &Image,
+        cpu: u8,
+        row: Row,
+        thread: ThreadIx,
+        who: ThreadIx,
+        bytes: &Piece,
+    ) -> Said<()>
+        requires image { IsOf image.now self.old }
+        requires row { row.0 < ROWS }
+        ensures image { IsOf image.now self.new }
+        ensures said { MatchSaid result
+            (λ said. (n : ℕ) × (o : ObjectCell) × Took image.now self.old (named_made image.now cpu row.0 n o thread who bytes.now) self.new)
+            ((n : ℕ) × (o : ObjectCell) × Kept self.old self.new × Shut image.now self.old (named_made image.now cpu row.0 n o thread who bytes.now))
+            (Kept self.old self.new × Contended self.old) };
+
+    /// A look at the size of the messages of the object of a row: 0 where it is no queue.
+    fn message_size(&mut self, image: &Image, cpu: u8, row: Row) -> Said<u32>
+        requires image { IsOf image.now self.old }
+        requires row { row.0 < ROWS }
+        ensures image { IsOf image.now self.new }
+        ensures said { MatchSaid result
+            (λ size. (n : ℕ) × (o : ObjectCell) × Took image.now self.old (looked_made image.now cpu row.0 n o) self.new × ((looked_made image.now cpu row.0 n o).moved ≡ Exchange.size size))
+            ((n : ℕ) × (o : ObjectCell) × Kept self.old self.new × Shut image.now self.old (looked_made image.now cpu row.0 n o))
+            (Kept self.old self.new × Contended self.old) };
+
+    /// What the object of a row keeps is cleared. Answers what its buffer cost.
+    fn clear(&mut self, image: &Image, cpu: u8, row: Row) -> Said<Option<Cost>>
+        requires image { IsOf image.now self.old }
+        requires row { row.0 < ROWS }
+        ensures image { IsOf image.now self.new }
+        ensures said { MatchSaid result
+            (λ cost. (n : ℕ) × (o : ObjectCell) × Took image.now self.old (cleared_made image.now cpu row.0 n o) self.new × ((cleared_made image.now cpu row.0 n o).moved ≡ Exchange.charge cost))
+            ((n : ℕ) × (o : ObjectCell) × Kept self.old self.new × Shut image.now self.old (cleared_made image.now cpu row.0 n o))
+            (Kept self.old self.new × Contended self.old) };
+
+    /// A step at the heap's cell, where a pool pays this or gets it back, and what the cell says.
+    fn heap(
+        &mut self,
+        image: &Image,
+        cpu: u8,
+        act: &HeapAct,
+        charge: Option<Cost>,
+    ) -> Said<HeapSaid>
+        requires { IsOf image.now self.old }
+        ensures image { IsOf image.now self.new }
+        ensures said { MatchSaid result
+            (λ said. (n : ℕ) × (h : Heap) × Took image.now self.old (heap_made image.now cpu n h act.now charge) self.new × (said ≡ heap_said (heap_made image.now cpu n h act.now charge).act))
+            ((n : ℕ) × (h : Heap) × Kept self.old self.new × Shut image.now self.old (heap_made image.now cpu n h act.now charge))
             (Kept self.old self.new × Contended self.old) };
 
     /// The first ready thread is taken, for the room that is given for it. Answers whether it was woken, and by what.

@@ -8,26 +8,34 @@ ghost use Rattle.um_processor.specs.Sited.{in_domains};
 use crate::context::Context;
 use crate::domain_act::DomainAct;
 use crate::domain_cell::{DomainCell, edited, parts_or_none};
+use crate::heap::Heap;
+use crate::heap_act::{HeapAct, HeapSaid};
+use crate::object_cell::ObjectCell;
 use crate::row_act::{RowAct, RowSaid};
 use crate::said::Said;
 use crate::scheduler::Scheduler;
 use crate::sites::Sites;
 use crate::thread_act::ThreadAct;
 use std::marker::Model;
-use um_base::{Image, Parts, Reply, Row, ThreadIx, Told};
-use um_machine::Pending;
+use um_base::{Addr, Image, Parts, Piece, Reply, Row, ThreadIx, Told, Waiter};
+use um_machine::{Cost, Pending};
+use um_service::Outcome;
 use um_words::{DomWord, RowWord, ThreadWord};
 
 /// The greatest step number: there a cell takes no step.
 const LAST: u32 = 0xfff_ffff;
 
-/// The words of all rows, thread indices and domains, the cells of the domains, and the scheduler's cell.
+/// The words of all rows, thread indices and domains, the cells of domains and of objects, and those of the heap and the scheduler.
 #[derive(Drop)]
 pub struct Tables {
     rows: Vec<RowWord>,
     threads: Vec<ThreadWord>,
     domains: Vec<DomWord>,
     domain_cells: Vec<DomainCell>,
+    objects: Vec<ObjectCell>,
+    heap: Heap,
+    /// How many steps the heap's cell has taken, below 2^28.
+    heap_steps: u32,
     scheduler: Scheduler,
     /// How many steps the scheduler's cell has taken, below 2^28.
     scheduler_steps: u32,
@@ -41,32 +49,38 @@ impl Model for Tables {
 
     ghost Value = { Sited };
 
-    ghost view = { λ t. record { rows = t.rows.items; threads = t.threads.items; domains = t.domains.items; domain_cells = t.domain_cells.items; scheduler = t.scheduler; scheduler_steps = t.scheduler_steps } };
+    ghost view = { λ t. record { rows = t.rows.items; threads = t.threads.items; domains = t.domains.items; domain_cells = t.domain_cells.items; objects = t.objects.items; heap = t.heap; heap_steps = t.heap_steps; scheduler = t.scheduler; scheduler_steps = t.scheduler_steps } };
 
-    ghost invariant = { λ t. (length t.rows.items ≡ ROWS) × (length t.threads.items ≡ THREADS) × (length t.domains.items ≡ DOMAINS) × (length t.domain_cells.items ≡ DOMAINS) × All in_domains t.threads.items };
+    ghost invariant = { λ t. (length t.rows.items ≡ ROWS) × (length t.threads.items ≡ THREADS) × (length t.domains.items ≡ DOMAINS) × (length t.domain_cells.items ≡ DOMAINS) × (length t.objects.items ≡ ROWS) × All in_domains t.threads.items };
 }
 
 impl Tables {
-    /// Those with these words and cells, and with a scheduler's cell that has taken no step.
+    /// Those with these words and cells, of which those of the heap and the scheduler have taken no step.
     pub fn new(
         rows: Vec<RowWord>,
         threads: Vec<ThreadWord>,
         domains: Vec<DomWord>,
         domain_cells: Vec<DomainCell>,
+        objects: Vec<ObjectCell>,
+        heap: Heap,
         scheduler: Scheduler,
     ) -> Tables
         requires rows { length rows.items ≡ ROWS }
         requires threads { length threads.items ≡ THREADS }
         requires domains { length domains.items ≡ DOMAINS }
         requires cells { length domain_cells.items ≡ DOMAINS }
+        requires objects { length objects.items ≡ ROWS }
         requires named { All in_domains threads.items }
-        ensures { result ≡ record { rows = rows.items; threads = threads.items; domains = domains.items; domain_cells = domain_cells.items; scheduler = scheduler; scheduler_steps = 0 } }
+        ensures { result ≡ record { rows = rows.items; threads = threads.items; domains = domains.items; domain_cells = domain_cells.items; objects = objects.items; heap = heap; heap_steps = 0; scheduler = scheduler; scheduler_steps = 0 } }
     {
         Tables {
             rows,
             threads,
             domains,
             domain_cells,
+            objects,
+            heap,
+            heap_steps: 0,
             scheduler,
             scheduler_steps: 0,
         }
@@ -141,6 +155,77 @@ impl Sites for Tables {
         cell.parts = parts;
         cell.steps += 1;
         Said::Made(reply)
+    }
+
+    fn work(
+        &mut self,
+        image: &Image,
+        cpu: u8,
+        row: Row,
+        addr: Addr,
+        who: &Waiter,
+        outcome: &mut Outcome,
+    ) -> Said<()> {
+        let cell = &mut self.objects[row.0 as usize];
+        if cell.steps >= LAST {
+            return Said::Busy;
+        }
+        cell.work(who, outcome);
+        cell.steps += 1;
+        Said::Made(())
+    }
+
+    fn name(
+        &mut self,
+        image: &Image,
+        cpu: u8,
+        row: Row,
+        thread: ThreadIx,
+        who: ThreadIx,
+        bytes: &Piece,
+    ) -> Said<()> {
+        let cell = &mut self.objects[row.0 as usize];
+        if cell.steps >= LAST {
+            return Said::Busy;
+        }
+        cell.name(bytes);
+        cell.steps += 1;
+        Said::Made(())
+    }
+
+    fn message_size(&mut self, image: &Image, cpu: u8, row: Row) -> Said<u32> {
+        let cell = &mut self.objects[row.0 as usize];
+        if cell.steps >= LAST {
+            return Said::Busy;
+        }
+        let size = cell.message_size();
+        cell.steps += 1;
+        Said::Made(size)
+    }
+
+    fn clear(&mut self, image: &Image, cpu: u8, row: Row) -> Said<Option<Cost>> {
+        let cell = &mut self.objects[row.0 as usize];
+        if cell.steps >= LAST {
+            return Said::Busy;
+        }
+        let buffer = cell.clear();
+        cell.steps += 1;
+        Said::Made(buffer)
+    }
+
+    fn heap(
+        &mut self,
+        image: &Image,
+        cpu: u8,
+        act: &HeapAct,
+        charge: Option<Cost>,
+    ) -> Said<HeapSaid> {
+        if self.heap_steps >= LAST {
+            return Said::Busy;
+        }
+        let said = self.heap.make(image, act, charge);
+        self.heap_steps += 1;
+        Said::Made(said)
     }
 
     fn take(

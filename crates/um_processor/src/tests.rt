@@ -1,15 +1,18 @@
 //! Steps over tables: a row, a thread, a domain, and turns of a thread.
 
-ghost use Rattle.std.specs.Prelude.{◌≡◌};
+ghost use Rattle.std.specs.Prelude.{◌≡◌, IfOk, length};
+ghost use Rattle.um_base.specs.declared.limits.TheConstants.{ROWS};
 
 use super::*;
 use std::alloc::Global;
 use std::test::Fail;
 use um_base::{
-    Addr, Attr, BoundedVec, DOMAINS, Errno, Image, Leftover, Memory, Mode, Mpu, PartRefs, Parts,
-    Piece, Policy, ROWS, Range, Reply, Row, THREADS, ThreadIx, Told,
+    Addr, Answer, Ask, Attr, BoundedVec, DOMAINS, Errno, Image, Kind, Leftover, Memory, Mode, Mpu,
+    POOLS, PartRefs, Parts, Piece, Policy, ROWS, Range, Reply, Row, THREADS, ThreadIx, Told,
+    Waiter,
 };
-use um_machine::{Life, Pending};
+use um_machine::{Cost, Life, Pending};
+use um_service::Outcome;
 use um_words::{DomWord, Permissions, RowWord, Stage, ThreadWord};
 
 /// An object that one call holds, and the thread 3 alone may use.
@@ -166,6 +169,17 @@ fn image(alloc: Global) -> Image {
     }
 }
 
+/// The cells of all rows, without an object.
+fn objects(alloc: Global) -> Result<Vec<ObjectCell>, Memory>
+    ensures { IfOk result (λ all. length all.items ≡ ROWS) }
+{
+    let mut all = Vec::with_capacity(alloc, ROWS)?;
+    for _ in 0..ROWS {
+        all.push(ObjectCell::empty())?;
+    }
+    Ok(all)
+}
+
 /// Tables in which all rows are alike, and all threads, and all domains.
 fn tables(alloc: Global) -> Result<Tables, Memory> {
     let mut rows = Vec::new(alloc);
@@ -182,7 +196,21 @@ fn tables(alloc: Global) -> Result<Tables, Memory> {
             steps: 0,
         },
     )?;
-    Ok(Tables::new(rows, threads, domains, cells, Scheduler::new(alloc)?))
+    let mut pools = Vec::new(alloc);
+    pools.resize(POOLS, 100)?;
+    let mut free = Vec::new(alloc);
+    free.resize(ROWS, true)?;
+    let mut costs = Vec::new(alloc);
+    costs.resize(ROWS, None)?;
+    Ok(Tables::new(
+        rows,
+        threads,
+        domains,
+        cells,
+        objects(alloc)?,
+        Heap::new(pools, free, costs),
+        Scheduler::new(alloc)?,
+    ))
 }
 
 /// The permission of a row is passed on once, while another row stays as it was.
@@ -247,6 +275,81 @@ fn a_domain_cell(rt: HostRuntime) -> Result<(), Fail> {
     for (domain, few) in [(1, 1), (2, 0)] {
         match sites.load_parts(&image, 0, domain, &mut parts) {
             Said::Made(()) => assert!(rt; parts.len() == few),
+            _ => assert!(rt; false),
+        }
+    }
+    Ok(())
+}
+
+/// A pool pays for one object, which is reserved at the least address of its kind, and for a second one when the first is recycled.
+#[test]
+fn a_heap(rt: HostRuntime) -> Result<(), Fail> {
+    let image = image(rt.alloc());
+    let mut sites = tables(rt.alloc())?;
+    let thread = ThreadIx(0);
+    let reserve = HeapAct::Reserve {
+        thread,
+        kind: Kind::Sem,
+    };
+    let cost = Some(Cost { pool: 1, bytes: 64 });
+    let first = Addr(0x4800_0100);
+    for (act, charge, addr) in [
+        (&reserve, None, None),
+        (&reserve, cost, Some(first)),
+        (&reserve, cost, None),
+        (
+            &HeapAct::Recycle {
+                thread,
+                addr: first,
+            },
+            None,
+            None,
+        ),
+        (&reserve, cost, Some(first)),
+    ] {
+        match sites.heap(&image, 0, act, charge) {
+            Said::Made(said) => assert!(rt; said.addr == addr && !said.fits),
+            _ => assert!(rt; false),
+        }
+    }
+    Ok(())
+}
+
+fn waiter(ask: &Ask) -> Waiter
+    ensures ask { result.ask ≡ ask.now }
+    ensures thread { result.thread.0 ≡ 2 }
+{
+    Waiter {
+        thread: ThreadIx(2),
+        priority: 0,
+        ask: *ask,
+        bytes: Piece::new(),
+    }
+}
+
+/// A queue is initialised, and its contents are cleared, which says what its buffer cost.
+#[test]
+fn an_object(rt: HostRuntime) -> Result<(), Fail> {
+    let image = image(rt.alloc());
+    let mut sites = tables(rt.alloc())?;
+    let mut outcome = Outcome::new();
+    let init = waiter(&Ask::MsgqInit {
+        msg_size: 3,
+        max_msgs: 2,
+        pool: 1,
+    });
+    let addr = Addr(0x4000_0000);
+    match sites.work(&image, 0, Row(3), addr, &init, &mut outcome) {
+        Said::Made(()) => assert!(rt; outcome.answer == Answer::Now(Reply::Num(0))),
+        _ => assert!(rt; false),
+    }
+    match sites.message_size(&image, 0, Row(3)) {
+        Said::Made(size) => assert!(rt; size == 3),
+        _ => assert!(rt; false),
+    }
+    for cost in [Some(Cost { pool: 1, bytes: 8 }), None] {
+        match sites.clear(&image, 0, Row(3)) {
+            Said::Made(said) => assert!(rt; said == cost),
             _ => assert!(rt; false),
         }
     }

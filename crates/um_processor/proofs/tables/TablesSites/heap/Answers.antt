@@ -1,0 +1,24 @@
+use Rattle.std.proofs.Common.{arith, ap, refl}
+use Rattle.um_fine.specs.Cells.{Cell}
+use Rattle.um_fine.specs.Steps.{Exchange, Site}
+use Rattle.um_processor.specs.HeapActs.{heap_act}
+use Rattle.um_processor.proofs.Celled.{cell-ends, cell-taken}
+use Rattle.um_processor.proofs.HeapLemmas.{heap-takes}
+use Rattle.um_processor.proofs.tables.TablesSites.heap.Goals as goal
+
+pub returns-clause-said : goal.returns-clause-said
+returns-clause-said c =
+    let h = c.self.inside.heap in (
+      c.self.inside.heap_steps,
+      h,
+      cell-taken c.args.image.now _ _ c.self.view_is c.args.cpu Site.heap c.self.inside.heap_steps (Cell.heap h) (Cell.heap c.make-said.new.self) (heap_act c.args.act.now) (Exchange.charge c.args.charge) refl (omega arith) (heap-takes c.args.image.now h (Exchange.charge c.args.charge) c.args.act.now) (ap Cell.heap c.make-said.ensures.leaves),
+      c.make-said.ensures.said,
+    )
+
+pub returns-then-self-ge-LAST-clause-said : goal.returns-then-self-ge-LAST-clause-said
+returns-then-self-ge-LAST-clause-said c = (
+  c.self.inside.heap_steps,
+  c.self.inside.heap,
+  refl,
+  cell-ends c.args.image.now _ _ c.self.view_is c.args.cpu Site.heap c.self.inside.heap_steps (Cell.heap c.self.inside.heap) (heap_act c.args.act.now) (Exchange.charge c.args.charge) refl (search arith),
+)

@@ -1,0 +1,38 @@
+use Rattle.std.proofs.Common.{arith, ◌≡◌, ap, refl, slice_index_or, sym}
+use Rattle.std.proofs.lemmas.List.{get_or_read}
+use Rattle.um_fine.specs.Cells.{Cell}
+use Rattle.um_fine.specs.Steps.{Exchange, Site}
+use Rattle.um_processor.specs.ObjectCells.{cleared, kept_in}
+use Rattle.um_processor.specs.Sited.{object_state}
+use Rattle.um_processor.proofs.Celled.{cell-ends, cell-taken, object-kept}
+use Rattle.um_machine.specs.Services.{Acted}
+use Rattle.um_machine.specs.Table.{buffer_cost}
+use Rattle.um_fine.specs.Answers.{no_outcome}
+use Rattle.um_fine.specs.Objects.{outcome_of}
+use Rattle.um_processor.specs.ObjectCells.{work_act}
+use Rattle.um_processor.proofs.tables.TablesSites.work.Goals as goal
+
+pub returns-clause-said : goal.returns-clause-said
+returns-clause-said c =
+    let d = c.index_mut-cell.result.now in
+    let here : d ≡ slice_index_or c.self.inside.objects.items c.args.row.0 (cleared 0) = get_or_read c.self.inside.objects.items _ _ (omega arith) c.index_mut-cell.ensures.value (cleared 0) in
+    let who = c.args.who.now in
+    rw c.work.ensures.steps (
+      d.steps,
+      kept_in d,
+      cell-taken c.args.image.now _ _ c.self.view_is c.args.cpu (Site.object c.args.row.0) d.steps (Cell.object (kept_in d)) (Cell.object (kept_in c.work.new.self)) (work_act c.args.addr who) (Exchange.asked who no_outcome) (ap object_state here) (omega arith) refl
+          (rw c.work.ensures.buffer
+          (ap (λ (w : Acted). Cell.object (record { contents = w.contents; waiters = w.waiters; buffer = buffer_cost who.ask w.answer d.buffer })) (sym c.work.ensures.work))),
+      ap (λ (w : Acted). Exchange.asked who (outcome_of w)) c.work.ensures.work,
+    )
+
+pub returns-then-cell-ge-LAST-clause-said : goal.returns-then-cell-ge-LAST-clause-said
+returns-then-cell-ge-LAST-clause-said c =
+    let d = c.index_mut-cell.result.now in
+    let here : d ≡ slice_index_or c.self.inside.objects.items c.args.row.0 (cleared 0) = get_or_read c.self.inside.objects.items _ _ (omega arith) c.index_mut-cell.ensures.value (cleared 0) in (
+      d.steps,
+      kept_in d,
+      object-kept _ _ c.self.view_is c.args.row.0 d here,
+      cell-ends c.args.image.now _ _ c.self.view_is c.args.cpu (Site.object c.args.row.0) d.steps (Cell.object (kept_in d)) (work_act c.args.addr c.args.who.now) (Exchange.asked c.args.who.now no_outcome) (ap object_state here) (search arith),
+      refl,
+    )
