@@ -8,4 +8,5 @@ pub mod Parked
 pub mod SchedulerActs
 pub mod DomainCells
 pub mod HeapActs
+pub mod MemoryActs
 pub mod ObjectCells

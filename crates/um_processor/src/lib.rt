@@ -1,11 +1,13 @@
 //! One processor of the fine machine as code, over any way of keeping the sites: what it asks of each site, in short.
 #![tactic(auto)]
 
+mod bytes;
 mod context;
 mod domain_act;
 mod domain_cell;
 mod heap;
 mod heap_act;
+mod memory_act;
 mod object_cell;
 mod parked;
 mod row_act;
@@ -16,11 +18,13 @@ mod slots;
 mod tables;
 mod thread_act;
 
+pub use bytes::Bytes;
 pub use context::Context;
 pub use domain_act::DomainAct;
 pub use domain_cell::DomainCell;
 pub use heap::Heap;
 pub use heap_act::{HeapAct, HeapSaid};
+pub use memory_act::MemoryAct;
 pub use object_cell::ObjectCell;
 pub use parked::Parked;
 pub use row_act::{RowAct, RowSaid};
