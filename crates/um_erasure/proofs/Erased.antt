@@ -47,7 +47,7 @@ one-shown s m m2 h (FineAct.Shown event more) r q = runs-append s m m2 (shown h)
 one-shown s m m2 h (FineAct.Unseen unseen) r q =
     subst (λ (z : State). Runs s (shown h ++ []) z) (sym q) (subst (λ (l : List Event). Runs s l m) (sym (append-nil (shown h))) r)
 
-along-runs : (s m : State) (h : List FineStep) → Along Goes s h m → Runs s (shown h) m
+pub along-runs : (s m : State) (h : List FineStep) → Along Goes s h m → Runs s (shown h) m
 along-runs s m _ nothing = refl
 along-runs s m2 _ (then {h} {e} {m} a g) =
     subst (λ (l : List Event). Runs s l m2) (sym (shown-append h (e ∷ []))) (one-shown s m m2 h e.act (along-runs s m h a) g)

@@ -39,7 +39,7 @@ some-objects p [] x h = absurd (false≢true h)
 some-objects p (o ∷ os) x h = omega arith
 
 module _ (image : Image) (described : IsDescribed image) where
-  boot-is : (boot : Boot) → is_lawful_boot image boot ≡ true → IsBoot image boot
+  pub boot-is : (boot : Boot) → is_lawful_boot image boot ≡ true → IsBoot image boot
   boot-is boot h =
       let passes = and_parts _ _ (and_parts _ _ (and_parts _ _ (and_parts _ _ (and_parts _ _ (and_parts _ _ h).0).0).0).0).0 in
       is_boot image (is_sited image described.lawful described.few (some-objects _ image.objects boot.thread.0 passes.0)) boot passes.0 passes.1

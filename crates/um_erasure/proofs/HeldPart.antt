@@ -35,16 +35,16 @@ use Rattle.um_erasure.proofs.SchedulerSteps.{made-at, made-says}
 use Rattle.um_erasure.proofs.Sums.{over-changed}
 
 -- a step that holds a thread, or lets go of it
-abbrev grips : FineAct → Bool
+abbrev pub grips : FineAct → Bool
 grips (FineAct.Unseen Unseen.Hold) = true
 grips (FineAct.Unseen Unseen.LetGo) = true
 grips act = false
 
-either-no : (b : Bool) (x y : FineAct) → grips x ≡ false → grips y ≡ false → grips (if b then x else y) ≡ false
+pub either-no : (b : Bool) (x y : FineAct) → grips x ≡ false → grips y ≡ false → grips (if b then x else y) ≡ false
 either-no true x y h k = h
 either-no false x y h k = k
 
-says-no-grip : (image : Image) (p : Processor) (q : Todo) (todo : Todos) (act : FineAct) (moved : Exchange) → is_gripping q ≡ false → grips (says image p (q ∷ todo) act moved) ≡ false
+pub says-no-grip : (image : Image) (p : Processor) (q : Todo) (todo : Todos) (act : FineAct) (moved : Exchange) → is_gripping q ≡ false → grips (says image p (q ∷ todo) act moved) ≡ false
 says-no-grip image p (Todo.show q rest) todo act moved free = by q
   where
     begins-no : (q : Pending) → grips (begins image p q act) ≡ false
@@ -61,12 +61,12 @@ says-no-grip image p Todo.hold todo act moved free = absurd (true≢false free)
 says-no-grip image p Todo.let_go todo act moved free = absurd (true≢false free)
 says-no-grip image p q todo act moved free = refl
 
-idle-no-grip : (image : Image) (p : Processor) (moved : Exchange) → grips (says_idle image p moved) ≡ false
+pub idle-no-grip : (image : Image) (p : Processor) (moved : Exchange) → grips (says_idle image p moved) ≡ false
 idle-no-grip image p (Exchange.thread c None) = refl
 idle-no-grip image p (Exchange.thread c (Some told)) = refl
 idle-no-grip image p moved = refl
 
-held-same : (w : ThreadWord) (act : FineAct) → grips act ≡ false → (thread_after w act).held ≡ w.held
+pub held-same : (w : ThreadWord) (act : FineAct) → grips act ≡ false → (thread_after w act).held ≡ w.held
 held-same w (FineAct.Shown event more) free = by event.act
   where
     by : (act : Act) → (thread_after_act w more act).held ≡ w.held
@@ -81,7 +81,7 @@ held-same w (FineAct.Unseen Unseen.Hold) free = absurd (true≢false free)
 held-same w (FineAct.Unseen Unseen.LetGo) free = absurd (true≢false free)
 held-same w (FineAct.Unseen u) free = refl
 
-and-false : (b : Bool) → (b && false) ≡ false
+pub and-false : (b : Bool) → (b && false) ≡ false
 and-false true = refl
 and-false false = refl
 

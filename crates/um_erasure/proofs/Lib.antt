@@ -132,3 +132,12 @@ pub mod QueuesKept
 pub mod QueuesAfter
 pub mod QueuesKnown
 pub mod SizesPart
+pub mod CallBounds
+pub mod CallBoundsKept
+pub mod ListEnds
+pub mod ListSingles
+pub mod Bounds
+pub mod FirstBounds
+pub mod SchedulerBounds
+pub mod BoundsKept
+pub mod BoundedRuns

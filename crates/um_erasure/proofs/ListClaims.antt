@@ -43,10 +43,10 @@ module _ (image : Image) (x : ℕ) where
   fine-none c (Pending.CopyIn a amount) rest = sized-none amount _
   fine-none c p rest = refl
 
-  passes-none : (who y : ℕ) (todo : Todos) → counted (is_end_call x) (passes who y todo) ≡ counted (is_end_call x) todo
+  pub passes-none : (who y : ℕ) (todo : Todos) → counted (is_end_call x) (passes who y todo) ≡ counted (is_end_call x) todo
   passes-none who y todo = elim (nat_lt y ROWS) as (λ b. counted (is_end_call x) (if b then Todo.pass who y ∷ todo else todo) ≡ counted (is_end_call x) todo) [ true ↦ refl | false ↦ refl ]
 
-  drops-none : (y : ℕ) (todo : Todos) → counted (is_end_call x) (drops y todo) ≡ counted (is_end_call x) todo
+  pub drops-none : (y : ℕ) (todo : Todos) → counted (is_end_call x) (drops y todo) ≡ counted (is_end_call x) todo
   drops-none y todo = elim (nat_lt y ROWS) as (λ b. counted (is_end_call x) (if b then Todo.drop y ∷ todo else todo) ≡ counted (is_end_call x) todo) [ true ↦ refl | false ↦ refl ]
 
   turn-none : (b : Bool) → counted (is_end_call x) (end_of_turn image b) ≡ 0
@@ -183,7 +183,7 @@ module _ (image : Image) (x : ℕ) where
   shown-claims c (Pending.Fatal reason cause) rest act moved todo = ended-claims c.claims todo
   shown-claims c q rest act moved todo = same-form _ _ _ _ refl refl
 
-  cleaned-same : (y : ℕ) (todo : Todos) → counted (is_end_call x) (with_cleaning (cleaning image y) todo) ≡ counted (is_end_call x) todo
+  pub cleaned-same : (y : ℕ) (todo : Todos) → counted (is_end_call x) (with_cleaning (cleaning image y) todo) ≡ counted (is_end_call x) todo
   cleaned-same y [] = cleaning-none-here (thread_of_row image y)
     where
       cleaning-none-here : (who : Option ℕ) → counted (is_end_call x) (cleaning_of y who) ≡ 0
@@ -209,7 +209,7 @@ module _ (image : Image) (x : ℕ) where
   gone p e (Todo.show q rest ∷ todo) = if is_word_read e.act then counted (is_end_call x) todo else 0
   gone p e _ = 0
 
-  unless-same : (b : Bool) (todo : Todos) → counted (is_end_call x) (unless_loaded b todo) ≡ counted (is_end_call x) todo
+  pub unless-same : (b : Bool) (todo : Todos) → counted (is_end_call x) (unless_loaded b todo) ≡ counted (is_end_call x) todo
   unless-same true (Todo.region_load ∷ todo) = refl
   unless-same b todo = refl
 

@@ -11,7 +11,10 @@ use Rattle.um_reach.proofs.Cores.{core_of}
 use Rattle.um_reach.proofs.Guards.{IsSited}
 use Rattle.um_reach.proofs.Turns.{IsKnown}
 use Rattle.um_reach.specs.Described.{IsDescribed}
-use Rattle.um_fine.specs.Steps.{FineStep}
+use Rattle.um_fine.specs.FineRun.{ByOneOf, cpu_of, site_of}
+use Rattle.um_fine.specs.Processor.{Processor}
+use Rattle.um_fine.specs.Sites.{SiteMay, SiteState}
+use Rattle.um_fine.specs.Steps.{FineStep, Site}
 use Rattle.um_erasure.specs.Fine.{Fine}
 use Rattle.um_erasure.specs.Relation.{Rel}
 use Rattle.um_erasure.specs.Threads.{ContextsAre}
@@ -30,7 +33,7 @@ use Rattle.um_erasure.proofs.DomainsKnown.{started-placed}
 use Rattle.um_erasure.proofs.DonePart.{done-part}
 use Rattle.um_erasure.proofs.DuesPart.{DuesKnown, dues-known, dues-part}
 use Rattle.um_erasure.proofs.EmptiedPart.{GivesHeld, emptied-part}
-use Rattle.um_erasure.proofs.Erased.{Keeps, fine, reach-on, stepped}
+use Rattle.um_erasure.proofs.Erased.{Goes, IsReachable, Keeps, fine, reach-on, stepped}
 use Rattle.um_erasure.proofs.FirstObjects.{opening-image}
 use Rattle.um_erasure.proofs.HeapPart.{heap-part}
 use Rattle.um_erasure.proofs.HeldDomainPart.{held-domain-part}
@@ -144,9 +147,16 @@ module _ (f : Fine) (m : State) (e : FineStep) (law : Lawful f m e) where
         heap = heap-part f m e law s leaves;
       }
 
--- Every lawful step keeps the relation with a state that a run of a described image reaches.
-pub keeps-all : (image : Image) (cpus : ℕ) → IsDescribed image → IsKnown (core_of (opening image)) → Keeps image cpus
-keeps-all image cpus described known ps ss m e rel reach by taken =
+-- What a lawful step leaves of the machine's state, and that the relation holds then.
+pub record IsKept (f : Fine) (m : State) (e : FineStep) : Type 0 where
+  pub state : State
+  pub leaves : Leaves f m e state
+  pub goes : Goes m e state
+  pub related : Rel (stepped f.image f.cpus f.processors f.sites e) state
+
+pub kept-step : (image : Image) (cpus : ℕ) → IsDescribed image → IsKnown (core_of (opening image)) → (ps : ℕ → Processor) (ss : Site → SiteState) (m : State) (e : FineStep)
+    → let f = fine image cpus ps ss in Rel f m → IsReachable image cpus m → ByOneOf image cpus (ps (cpu_of e)) e → SiteMay image (ss (site_of e)) e → IsKept f m e
+kept-step image cpus described known ps ss m e rel reach by taken =
     let f = fine image cpus ps ss in
     let law : Lawful f m e = record { rel = rel; sound = reachable-sound image cpus described.few m reach known; by = by; taken = taken } in
     let suits = suits-known image cpus described known m reach f rel in
@@ -161,4 +171,14 @@ keeps-all image cpus described known ps ss m e rel reach by taken =
     let after = dues-known image cpus described known next.state onwards in
     let moves = subst (λ (i : Image). MovesIn m (length i.domains)) rel.image (moves-known image cpus described known m reach) in
     let queues = queues-known image cpus described known m reach in
-    (next.state, next.goes, related f m e law own all suits lawful proper before (names-known image cpus described known m reach) (gives-known image cpus described known m reach) moves queues next.state next.leaves next.has rests after)
+    record {
+      state = next.state;
+      leaves = next.leaves;
+      goes = next.goes;
+      related = related f m e law own all suits lawful proper before (names-known image cpus described known m reach) (gives-known image cpus described known m reach) moves queues next.state next.leaves next.has rests after;
+    }
+
+-- Every lawful step keeps the relation with a state that a run of a described image reaches.
+pub keeps-all : (image : Image) (cpus : ℕ) → IsDescribed image → IsKnown (core_of (opening image)) → Keeps image cpus
+keeps-all image cpus described known ps ss m e rel reach by taken =
+    let kept = kept-step image cpus described known ps ss m e rel reach by taken in (kept.state, kept.goes, kept.related)
