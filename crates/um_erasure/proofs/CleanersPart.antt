@@ -75,11 +75,11 @@ either-act : {A : Type 0} (g : Act → A) (a : A) (b : Bool) (one two : Act) →
 either-act g a true one two h k = h
 either-act g a false one two h k = k
 
-abbrev is_drop : Pending → Bool
+abbrev pub is_drop : Pending → Bool
 is_drop (Pending.DropPair who a) = true
 is_drop q = false
 
-no-left : (image : Image) (p : Processor) (q : Pending) (act : Act) → is_drop q ≡ false → left_in (says_step image p q act) ≡ Leftover.NoPair
+pub no-left : (image : Image) (p : Processor) (q : Pending) (act : Act) → is_drop q ≡ false → left_in (says_step image p q act) ≡ Leftover.NoPair
 no-left image p (Pending.DropPair who a) act h = absurd (true≢false h)
 no-left image p (Pending.Load to a n) act h = either-act left_in Leftover.NoPair (allows image p Access.Read a.0 n) _ _ refl refl
 no-left image p (Pending.Store a n value) act h = either-act left_in Leftover.NoPair (allows image p Access.Write a.0 n) _ _ refl refl

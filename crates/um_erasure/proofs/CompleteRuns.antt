@@ -1,6 +1,6 @@
--- The events of a fine run of a described image are a complete run of the access-matrix machine where no processor can make another step, where
--- what completeness asks for holds of what the run leaves.
-use Rattle.std.proofs.Common.{ℕ, ◌<◌, List, length}
+-- The events of a fine run of a described image by at most eight processors are a complete run of the access-matrix machine where no processor can
+-- make another step, though each word can still count one.
+use Rattle.std.proofs.Common.{ℕ, List}
 use Rattle.um_base.specs.declared.image.Image.{Image}
 use Rattle.um_machine.specs.Run.{IsComplete, Runs, opening}
 use Rattle.um_machine.specs.State.{State}
@@ -11,16 +11,13 @@ use Rattle.um_fine.specs.Erasure.{shown}
 use Rattle.um_fine.specs.FineRun.{IsFineRun}
 use Rattle.um_fine.specs.Steps.{FineStep}
 use Rattle.um_erasure.specs.After.{left_by}
-use Rattle.um_erasure.proofs.FirstLawful.{erased-described}
-use Rattle.um_erasure.proofs.Parts.{keeps-all}
-use Rattle.um_erasure.proofs.Stuck.{HasRoom, IsStuck}
-use Rattle.um_erasure.proofs.StuckComplete.{ReadyThreads, stuck-complete}
-use Rattle.um_erasure.proofs.StuckEvents.{EventsTaken}
+use Rattle.um_erasure.specs.Room.{CanCount, CanRun, IsStuck}
+use Rattle.um_erasure.proofs.BoundedRuns.{bounded-runs}
+use Rattle.um_erasure.proofs.StuckComplete.{stuck-complete}
 
-pub complete-runs : (image : Image) (cpus : ℕ) → IsDescribed image → 0 < length image.objects → 0 < cpus → (h : List FineStep) → IsFineRun image cpus h
-    → ReadyThreads (left_by image cpus h) → HasRoom (left_by image cpus h) → EventsTaken (left_by image cpus h) → IsStuck (left_by image cpus h)
-    → (m : State) × Runs (opening image) (shown h) m × IsComplete m
-complete-runs image cpus described objects some h run threads room events stuck =
-    let known = (is_opening image (is_sited image described.lawful described.few objects) described.lawful).known in
-    let r = erased-described image described cpus (keeps-all image cpus described known) h run in
-    (r.0, r.1, stuck-complete image cpus described known some _ _ r.0 r.2 (shown h, r.1) threads room events stuck)
+pub complete-runs : (image : Image) (cpus : ℕ) → IsDescribed image → CanRun image cpus → (h : List FineStep) → IsFineRun image cpus h
+    → CanCount (left_by image cpus h) → IsStuck (left_by image cpus h) → (m : State) × Runs (opening image) (shown h) m × IsComplete m
+complete-runs image cpus described can h run counts stuck =
+    let known = (is_opening image (is_sited image described.lawful described.few can.objects) described.lawful).known in
+    let r = bounded-runs image cpus described known h run in
+    (r.0, r.1, stuck-complete image cpus described known can _ _ r.0 r.2 (shown h, r.1) r.3 counts stuck)

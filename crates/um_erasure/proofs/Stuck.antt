@@ -1,5 +1,5 @@
 -- Where no processor can step, no list begins with a step that its site takes whatever stands there: each step that no trace shows, but
--- claims of domains, is such a step. Bounds on words and lists are asked for by name.
+-- claims of domains, is such a step. Bounds on words and lists are asked for by name, and known of fine runs (RoomKnown).
 use Rattle.std.proofs.Common.{◌≡◌, inl, inr, ℕ, ◌+◌, ◌-◌, ◌<◌, ◌≤◌, Bool, true, false, ◌∷◌, length, Option, refl, sym, ap, ◌∙◌, subst, arith, eq-eqb}
 use Rattle.std.specs.Prelude.{◌==◌, ◌&&◌, ◌||◌, not, IsTrue, if◌then◌else◌, nat_lt}
 use Rattle.std.specs.List.{list_all, list_any}
@@ -26,7 +26,6 @@ use Rattle.um_fine.specs.Answers.{no_event, no_row}
 use Rattle.um_fine.specs.Asks.{begins_cleaning, fits_step, is_dropped, made_by, moves, says, site_at}
 use Rattle.um_fine.specs.Cells.{Cell}
 use Rattle.um_fine.specs.Context.{Context}
-use Rattle.um_fine.specs.FineRun.{ByOneOf}
 use Rattle.um_fine.specs.Places.{Todo, Todos, cleanings}
 use Rattle.um_fine.specs.Processor.{Processor}
 use Rattle.um_fine.specs.Sites.{SiteMay, SiteState, filled, is_sort, site_takes}
@@ -38,23 +37,13 @@ use Rattle.um_erasure.specs.Lists.{counted, has_held, has_steps, is_end_call, is
 use Rattle.um_erasure.specs.Frames.{AreFramed, Behind}
 use Rattle.um_erasure.specs.Objects.{is_reserved, recyclers, status_of, vacaters}
 use Rattle.um_erasure.specs.Relation.{Rel}
+use Rattle.um_erasure.specs.Room.{CanCount, IsStuck, has_number}
 use Rattle.um_erasure.proofs.HeapSteps.{heap-sort}
 use Rattle.um_erasure.proofs.HeldRows.{call-claimed, one-some}
 use Rattle.um_erasure.proofs.Kept.{scheduler-sort}
 use Rattle.um_erasure.proofs.MemorySteps.{part-total}
 use Rattle.um_erasure.proofs.RowSteps.{thread-sort}
 use Rattle.um_erasure.proofs.WorkSteps.{object-sort}
-
--- No processor has a lawful step.
-abbrev pub IsStuck : Fine → Type 0
-IsStuck f = (e : FineStep) → ByOneOf f.image f.cpus (f.processors e.cpu) e → SiteMay f.image (f.sites e.site) e → ⊥
-
--- whether a site's word can count one more step
-abbrev pub has_number : SiteState → Bool
-has_number (SiteState.row w) = nat_lt w.number 1048575
-has_number (SiteState.thread w) = nat_lt w.number 268435455
-has_number (SiteState.domain w) = nat_lt w.number 268435455
-has_number (SiteState.cell n c) = nat_lt n 268435455
 
 -- whether a step may put a thread into the ready list
 abbrev pub readies : Todo → Bool
@@ -64,19 +53,18 @@ readies Todo.park = true
 readies q = false
 
 -- Words and lists have room for the next step: they can count it, and one reader, version or claim more; the ready list can hold a thread more where
--- one is still to be put there, and the list of a processor that begins to clean an object can hold that one. A call that checks holds one
+-- one is put there next, and the list of a processor that begins to clean an object can hold that one. A call that checks holds one
 -- object at most, and a load is of four bytes at most. There are words for all domains, and no other thread is held than those that there are.
 pub record HasRoom (f : Fine) : Type 0 where
-  pub numbers : (i : Site) → has_number (f.sites i) ≡ true
-  pub readers : (d : ℕ) → (domain f d).readers < 127
-  pub versions : (d : ℕ) → (domain f d).version < 1048575
+  pub counts : CanCount f
+  pub readers : (d : ℕ) → d < length f.image.domains → (domain f d).readers < 127
   pub domains : length f.image.domains ≤ DOMAINS
   pub inside : (t : ℕ) → nat_lt t THREADS ≡ false → (word f t).held ≡ false
-  pub claims : (x : ℕ) → (row f x).claims < 127
+  pub claims : (x : ℕ) → x < ROWS → (row f x).claims < 127
   pub checks : (k : ℕ) (a : Addr) (kind : Option Kind) (want : Want) (refusal : Refusal) (rest : Steps) (todo : Todos) → k < f.cpus
       → (f.processors k).todo ≡ Todo.show (Pending.Check a kind want refusal) rest ∷ todo → length (f.processors k).context.claims < 2
   pub loads : (k to : ℕ) (a : Addr) (n : ℕ) (rest : Steps) (todo : Todos) → k < f.cpus → (f.processors k).todo ≡ Todo.show (Pending.Load to a n) rest ∷ todo → n ≤ 4
-  pub ready : (k : ℕ) → k < f.cpus → list_any readies (f.processors k).todo ≡ true → length (scheduler f).ready < THREADS
+  pub ready : (k : ℕ) (q : Todo) (rest : Todos) → k < f.cpus → (f.processors k).todo ≡ q ∷ rest → readies q ≡ true → length (scheduler f).ready < THREADS
   pub cleaned : (k : ℕ) (e : FineStep) → k < f.cpus → made_by f.image (f.processors k) e ≡ e → SiteMay f.image (f.sites e.site) e → begins_cleaning e ≡ true
       → cleanings (f.processors k).todo < ROWS - STATIC_ROWS
 
@@ -159,7 +147,7 @@ module _ (f : Fine) (m : State) (rel : Rel f m) (room : HasRoom f) (stuck : IsSt
 
   -- what a site of this state can count
   pub counts : (i : Site) (s : SiteState) → f.sites i ≡ s → has_number s ≡ true
-  counts i s e = subst (λ z. has_number z ≡ true) e (room.numbers i)
+  counts i s e = subst (λ z. has_number z ≡ true) e (room.counts.numbers i)
 
   pub running : (k : ℕ) (q : Todo) (rest : Todos) → (f.processors k).todo ≡ q ∷ rest → runs (f.processors k) ≡ true
   running k q rest at = ap has_steps at
@@ -196,7 +184,7 @@ module _ (f : Fine) (m : State) (rel : Rel f m) (room : HasRoom f) (stuck : IsSt
   -- The scheduler.
 
   has-place : (k : ℕ) (q : Todo) (rest : Todos) → k < f.cpus → (f.processors k).todo ≡ q ∷ rest → readies q ≡ true → nat_lt (length (scheduler f).ready) THREADS ≡ true
-  has-place k q rest l at puts = lt-ltb (length (scheduler f).ready) THREADS (room.ready k l (ap (list_any readies) at ∙ ap (λ b. b || list_any readies rest) puts))
+  has-place k q rest l at puts = lt-ltb (length (scheduler f).ready) THREADS (room.ready k q rest l at puts)
 
   some-run : (k : ℕ) (q : Todo) (rest : Todos) → k < f.cpus → (f.processors k).todo ≡ q ∷ rest → nat_lt 0 (scheduler f).running ≡ true
   some-run k q rest l at =

@@ -1,5 +1,5 @@
--- Where no processor can step, the access-matrix machine has no step: the events of the run are then a complete run. Asked for are that words
--- and lists have room, that the ready list names thread indices, and that an object can be marked as not initialised.
+-- Where no processor can step, the access-matrix machine has no step: the events of the run are then a complete run. Asked for is that words can
+-- count one step more.
 use Rattle.std.proofs.Common.{◌≡◌, ℕ, ◌+◌, ◌<◌, true, List, [], ◌∷◌, Option, Some, None, refl, sym, ap, ◌∙◌, arith, eq-eqb}
 use Rattle.std.specs.Prelude.{◌&&◌, if◌then◌else◌, is_some, nat_lt, unwrap_or}
 use Rattle.std.specs.List.{list_all}
@@ -24,7 +24,9 @@ use Rattle.um_fine.specs.Steps.{Exchange, Site}
 use Rattle.um_erasure.specs.Fine.{Fine, one_if, scheduler}
 use Rattle.um_erasure.specs.Lists.{has_steps, runs}
 use Rattle.um_erasure.specs.Relation.{Rel}
+use Rattle.um_erasure.specs.Room.{CanCount, CanRun, IsStuck}
 use Rattle.um_erasure.specs.Threads.{is_ready_there, occurs}
+use Rattle.um_erasure.proofs.Bounds.{AreBounded, ReadyThreads}
 use Rattle.um_erasure.proofs.ChildrenKnown.{children-known}
 use Rattle.um_erasure.proofs.DomainsKnown.{started-placed}
 use Rattle.um_erasure.proofs.Erased.{IsReachable, fine}
@@ -32,15 +34,11 @@ use Rattle.um_erasure.proofs.HeldRows.{one-some, total-zero}
 use Rattle.um_erasure.proofs.IdleComplete.{IsIdle, idle-complete}
 use Rattle.um_erasure.proofs.Kept.{scheduler-sort}
 use Rattle.um_erasure.proofs.Reachable.{reachable-sound, reachable-wide}
+use Rattle.um_erasure.proofs.RoomKnown.{events-stand, has-room}
 use Rattle.um_erasure.proofs.Stuck as S
-use Rattle.um_erasure.proofs.Stuck.{HasRoom, IsStuck}
-use Rattle.um_erasure.proofs.StuckEvents.{EventsTaken}
+use Rattle.um_erasure.proofs.Stuck.{HasRoom}
 use Rattle.um_erasure.proofs.StuckLists.{stuck-empty}
-use Rattle.um_erasure.proofs.SuitsKnown.{proper-known}
-
--- The ready list names thread indices.
-abbrev pub ReadyThreads : Fine → Type 0
-ReadyThreads f = list_all (λ t. nat_lt t THREADS) (scheduler f).ready ≡ true
+use Rattle.um_erasure.proofs.SuitsKnown.{proper-known, tells-known}
 
 -- a first thread is taken where it is parked, and another one can be counted
 takes-first : (s : Scheduler) (c : Context) (told : Option Told) → sched_takes s (takes_turn c told) ≡ has_ready s s.ready
@@ -93,10 +91,14 @@ module _ (f : Fine) (m : State) (rel : Rel f m) (room : HasRoom f) (stuck : IsSt
   stuck-idle = record { lists = empty; ready = λ t few. ap (occurs t) ready-none }
 
 -- What a fine run leaves, and a state that its events reach: where no processor can step, the events are a complete run.
-pub stuck-complete : (image : Image) (cpus : ℕ) → IsDescribed image → IsKnown (core_of (opening image)) → 0 < cpus → (ps : ℕ → Processor) (ss : Site → SiteState) (m : State)
-    → let f = fine image cpus ps ss in Rel f m → IsReachable image cpus m → ReadyThreads f → HasRoom f → EventsTaken f → IsStuck f → IsComplete m
-stuck-complete image cpus described known some ps ss m rel reach threads room events stuck =
+pub stuck-complete : (image : Image) (cpus : ℕ) → IsDescribed image → IsKnown (core_of (opening image)) → CanRun image cpus
+    → (ps : ℕ → Processor) (ss : Site → SiteState) (m : State)
+    → let f = fine image cpus ps ss in Rel f m → IsReachable image cpus m → AreBounded f → CanCount f → IsStuck f → IsComplete m
+stuck-complete image cpus described known can ps ss m rel reach bounds counts stuck =
     let f = fine image cpus ps ss in
     let proper = proper-known image cpus described known m reach in
-    let empty = stuck-empty f m rel proper (λ t l started. started-placed image cpus described m reach t started) (reachable-sound image cpus described.few m reach known) room events stuck in
-    idle-complete f m rel (stuck-idle f m rel room stuck some threads empty) (reachable-wide image cpus described.few m reach) (children-known image cpus m reach)
+    let sound = reachable-sound image cpus described.few m reach known in
+    let children = children-known image cpus m reach in
+    let room = has-room f m rel proper sound bounds (tells-known image cpus described known m reach) children can counts in
+    let empty = stuck-empty f m rel proper (λ t l started. started-placed image cpus described m reach t started) sound room (events-stand f m rel proper sound bounds) stuck in
+    idle-complete f m rel (stuck-idle f m rel room stuck can.some bounds.ready empty) (reachable-wide image cpus described.few m reach) children

@@ -1,9 +1,8 @@
--- Where no processor can step, an event that is next marks an object as not initialised, or it moves a thread that is held: its site takes any
--- other one.
-use Rattle.std.proofs.Common.{◌≡◌, ◌⊎◌, inl, inr, ℕ, zero, suc, ◌<◌, Bool, true, false, List, [], ◌∷◌, length, Option, Some, None, refl, sym, ap, ◌∙◌, subst, arith, eq-eqb}
+-- Where no processor can step, an event that is next moves a thread that is held: its site takes any other one.
+use Rattle.std.proofs.Common.{◌≡◌, inl, inr, ℕ, zero, suc, ◌<◌, Bool, true, false, List, [], ◌∷◌, length, Option, Some, None, refl, sym, ap, ◌∙◌, subst, arith, eq-eqb}
 use Rattle.std.specs.Prelude.{◌==◌, ◌&&◌, ◌||◌, ℤ, not, if◌then◌else◌, is_some, nat_lt, slice_index_or, unwrap_or}
-use Rattle.std.specs.List.{list_any}
-use Rattle.std.proofs.lemmas.Bool.{eqb-true, false≢true, le-leb, lt-ltb, ltb-true, true≢false}
+use Rattle.std.specs.List.{list_all, list_any}
+use Rattle.std.proofs.lemmas.Bool.{and_parts, eqb-true, false≢true, le-leb, lt-ltb, ltb-true, true≢false}
 use Rattle.std.proofs.Math.Bool.{or-true}
 use Rattle.um_base.specs.declared.act.Act.{Act}
 use Rattle.um_base.specs.declared.image.Image.{Image}
@@ -37,12 +36,11 @@ use Rattle.um_fine.specs.Addresses.{row_named}
 use Rattle.um_fine.specs.Asks.{allows, check_site}
 use Rattle.um_fine.specs.Cells.{Cell}
 use Rattle.um_fine.specs.Continues.{newborn}
-use Rattle.um_fine.specs.FineRun.{ByOneOf}
 use Rattle.um_fine.specs.Memory.{Bytes, memory_says_act}
 use Rattle.um_fine.specs.Places.{Todo, Todos}
 use Rattle.um_fine.specs.Processor.{fails}
-use Rattle.um_fine.specs.Sites.{SiteMay, SiteState}
-use Rattle.um_fine.specs.Steps.{Exchange, FineStep, Site}
+use Rattle.um_fine.specs.Sites.{SiteState}
+use Rattle.um_fine.specs.Steps.{Exchange, Site}
 use Rattle.um_erasure.specs.Domains.{reads}
 use Rattle.um_erasure.specs.Fine.{Fine, bytes, domain, one_if, row, word}
 use Rattle.um_erasure.specs.Lists.{edits, edits_step, has_claimed, has_held, has_steps, is_hold, is_let_go, moves_to, moving, runs}
@@ -50,34 +48,30 @@ use Rattle.um_erasure.specs.Objects.{is_reserved, recyclers, status_of, vacaters
 use Rattle.um_erasure.specs.Offers.{Fits, IsOffered, is_over}
 use Rattle.um_erasure.specs.Offers as O
 use Rattle.um_erasure.specs.Relation.{Rel}
+use Rattle.um_erasure.specs.Room.{IsStuck}
 use Rattle.um_erasure.specs.Threads.{IsOf, is_ended}
 use Rattle.um_erasure.proofs.CallSteps.{Proper}
 use Rattle.um_erasure.proofs.CallsProper.{AreProper}
 use Rattle.um_erasure.proofs.HeapSteps.{heap-sort}
-use Rattle.um_erasure.proofs.HeldRows.{checked-claimed, one-some}
+use Rattle.um_erasure.proofs.HeldRows.{one-some}
 use Rattle.um_erasure.proofs.IdleComplete.{past}
+use Rattle.um_erasure.proofs.ListSingles.{AreSingle, is_single, shows_single}
 use Rattle.um_erasure.proofs.MemoryPart.{InDomains}
 use Rattle.um_erasure.proofs.MemorySteps.{memory-sort, part-total}
+use Rattle.um_erasure.proofs.ObjectsKept.{found-below}
 use Rattle.um_erasure.proofs.Reachable.{IsSound}
+use Rattle.um_erasure.proofs.RowStands.{claimed-stands, held-claimed, live-stands}
 use Rattle.um_erasure.proofs.RowSteps.{thread-sort}
 use Rattle.um_erasure.proofs.StepsLeft.{offered-on}
 use Rattle.um_erasure.proofs.Stuck as S
-use Rattle.um_erasure.proofs.Stuck.{HasRoom, IsStuck, domain-is, row-is}
+use Rattle.um_erasure.proofs.Stuck.{HasRoom, domain-is, row-is}
 use Rattle.um_erasure.proofs.WorkSteps.{object-sort}
 
--- The event whose row has still to be known not to be free, and the steps that no list shows, though the relation doesn't say so.
-abbrev pub IsRefusable : Pending → Type 0
-IsRefusable (Pending.ClearInit a) = Unit {0}
-IsRefusable Pending.Resume = Unit {0}
-IsRefusable (Pending.Inherit who) = Unit {0}
-IsRefusable (Pending.Drops from) = Unit {0}
-IsRefusable q = ⊥
-
--- Each of these that is next can be made.
-abbrev pub EventsTaken : Fine → Type 0
-EventsTaken f =
-    (k : ℕ) (q : Pending) (rest : Steps) (todo : Todos) → k < f.cpus → (f.processors k).todo ≡ Todo.show q rest ∷ todo → IsRefusable q
-    → (e : FineStep) × ByOneOf f.image f.cpus (f.processors e.cpu) e × SiteMay f.image (f.sites e.site) e
+-- What is asked of the events that are next: none is a resume, an inheritance or the drops of an end, and a mark that is cleared is of a row that
+-- isn't free.
+pub record EventsStand (f : Fine) : Type 0 where
+  pub single : (k : ℕ) → k < f.cpus → AreSingle (f.processors k).todo
+  pub clears : (k : ℕ) (a : Addr) (rest : Steps) (todo : Todos) → k < f.cpus → (f.processors k).todo ≡ Todo.show (Pending.ClearInit a) rest ∷ todo → is_free (row f (row_named f.image a)).stage ≡ false
 
 -- a thread that is held moves to a domain, by a step that is next
 abbrev pub IsHeldMove : Fine → ℕ → Pending → Type 0
@@ -118,18 +112,13 @@ living Life.Unborn s e = s
 living Life.Living s e = refl
 living Life.Ended s e = sym e
 
--- what stands in a list stands before its end
-inside-of : (xs : List Bool) (x : ℕ) → slice_index_or xs x false ≡ true → x < length xs
-inside-of [] x h = absurd (false≢true h)
-inside-of (b ∷ xs) zero h = omega arith
-inside-of (b ∷ xs) (suc x) h = let l = inside-of xs x h in omega (arith, l)
-
+-- an object that is reserved stands before the end of its list
 inside-objects : (os : List Object) (x : ℕ) → is_reserved (slice_index_or os x vacant).status ≡ true → x < length os
 inside-objects [] x h = absurd (false≢true h)
 inside-objects (o ∷ os) zero h = omega arith
 inside-objects (o ∷ os) (suc x) h = let l = inside-objects os x h in omega (arith, l)
 
-module _ (f : Fine) (m : State) (rel : Rel f m) (proper : AreProper m.image m) (all : InDomains f m) (sound : IsSound m) (room : HasRoom f) (stuck : IsStuck f) where
+module _ (f : Fine) (m : State) (rel : Rel f m) (proper : AreProper m.image m) (all : InDomains f m) (sound : IsSound m) (room : HasRoom f) (events : EventsStand f) (stuck : IsStuck f) where
   -- At the word of the thread.
 
   own-word : (k : ℕ) → f.sites (Site.thread (f.processors k).context.thread) ≡ SiteState.thread (word f (f.processors k).context.thread)
@@ -216,7 +205,7 @@ module _ (f : Fine) (m : State) (rel : Rel f m) (proper : AreProper m.image m) (
           (S.plain f m rel room stuck) Exchange.nothing l at (ap (λ o. f.sites (check_site f.image (f.processors k) o)) e ∙ own-word k) tt (λ i. counted k i && true) holds
       by (Some x) e =
           let is = row-is x (f.sites (Site.row x)) (rel.sorts (Site.row x)) in
-          let few = lt-ltb (row f x).claims 127 (room.claims x) in
+          let few = lt-ltb (row f x).claims 127 (room.claims x (found-below m sound a.0 x (ap (λ (i : Image). row_at i a.0) rel.image ∙ e))) in
           S.not-taken f m rel room stuck k (Todo.show (Pending.Check a kind want refusal) rest ∷ todo) (SiteState.row (row f x))
           (S.plain f m rel room stuck) Exchange.nothing l at (ap (λ o. f.sites (check_site f.image (f.processors k) o)) e ∙ is) tt
           (λ i. S.counts f m rel room stuck (Site.row x) (SiteState.row (row f x)) is i && few i) holds
@@ -257,7 +246,7 @@ module _ (f : Fine) (m : State) (rel : Rel f m) (proper : AreProper m.image m) (
       let mine : one_if (edits d (f.processors k).todo) ≡ 1 = ap (λ (z : Todos). one_if (edits d z)) at ∙ ap one_if h in
       let sum = (rel.domains d few).writers in
       let writer = one-some (domain f d).writer (omega (arith, part, mine, sum)) in
-      let version = lt-ltb (domain f d).version 1048575 (room.versions d) in
+      let version = lt-ltb (domain f d).version 1048575 (room.counts.versions d few) in
       let number = S.counts f m rel room stuck (Site.domain d) (SiteState.domain (domain f d)) (domain-word d) in
       λ i. number i && (writer i && version i)
 
@@ -343,45 +332,6 @@ module _ (f : Fine) (m : State) (rel : Rel f m) (proper : AreProper m.image m) (
   born-next k a rest of (O.passed {who = w} e) = absurd (proper-at k of (Pending.Inherit w ∷ Pending.Born a ∷ rest) e).0
   born-next k a rest of (O.dropped {from} e) = absurd (guarded-at k of (Pending.Drops from ∷ Pending.Born a ∷ rest) e)
 
-  -- a row that a call holds is claimed
-  held-claimed : (k : ℕ) → k < f.cpus → runs (f.processors k) ≡ true → is_over (f.processors k).context ≡ false → (x : ℕ)
-      → slice_index_or (thread_at m (f.processors k).context.thread).checked x false ≡ true → (x < ROWS) × (0 < (row f x).claims)
-  held-claimed k l run on x h =
-      let t = (f.processors k).context.thread in
-      let wide : length (thread_at m t).checked ≡ ROWS = sym (ap (λ (call : Call). length call.checked) (call_is m t)) ∙ sound.known.reached.wide t in
-      let below = inside-of (thread_at m t).checked x h in
-      let few : x < ROWS = omega (arith, wide, below) in
-      (few, checked-claimed f m rel k x l few run on h)
-
-  -- it is neither free nor in cleaning
-  claimed-stands : (x : ℕ) → x < ROWS → 0 < (row f x).claims → (is_free (row f x).stage ≡ false) × (is_cleaning (row f x).stage ≡ false)
-  claimed-stands x few some = by (row f x).stage refl
-    where
-      by : (s : Stage) → (row f x).stage ≡ s → (is_free s ≡ false) × (is_cleaning s ≡ false)
-      by Stage.Free e = let none = (rel.rows x few).claims.free e in absurd (omega (arith, some, none))
-      by Stage.Cleaning e = let none = (rel.rows x few).cleaners.unclaimed e in absurd (omega (arith, some, none))
-      by Stage.Live e = (refl, refl)
-      by Stage.Dying e = (refl, refl)
-
-  -- the row of a live object is live
-  live-stands : (x : ℕ) → x < ROWS → Plain.is_live (object_at m x).status ≡ true → (is_free (row f x).stage ≡ false) × (is_cleaning (row f x).stage ≡ false)
-  live-stands x few lives = by (nat_lt (vacaters f x) (recyclers f x)) refl
-    where
-      stage : (s : Stage) (r : Bool) → Plain.is_live (status_of s r) ≡ true → (is_free s ≡ false) × (is_cleaning s ≡ false)
-      stage Stage.Free true h = absurd (false≢true h)
-      stage Stage.Free false h = absurd (false≢true h)
-      stage Stage.Live r h = (refl, refl)
-      stage Stage.Dying r h = absurd (false≢true h)
-      stage Stage.Cleaning r h = absurd (false≢true h)
-
-      by : (b : Bool) → nat_lt (vacaters f x) (recyclers f x) ≡ b → (is_free (row f x).stage ≡ false) × (is_cleaning (row f x).stage ≡ false)
-      by true e = absurd (false≢true (sym (ap Plain.is_live ((rel.rows x few).status.vacated (ltb-true (vacaters f x) (recyclers f x) e)).1) ∙ lives))
-      by false e =
-          let order = (rel.rows x few).cleaners.order in
-          let least = past (vacaters f x) (recyclers f x) e in
-          let status = (rel.rows x few).status.status (omega (arith, order, least)) in
-          stage (row f x).stage (is_reserved (object_at m x).status) (ap Plain.is_live (sym status) ∙ lives)
-
   -- the row of a reserved object is free
   reserved-free : (x : ℕ) → x < ROWS → (object_at m x).status ≡ Status.Reserved → is_free (row f x).stage ≡ true
   reserved-free x few is = by (nat_lt (vacaters f x) (recyclers f x)) refl
@@ -416,17 +366,17 @@ module _ (f : Fine) (m : State) (rel : Rel f m) (proper : AreProper m.image m) (
   grant k who a rest todo l at =
       let names = grant-names k who a rest (is-of k (Pending.Grant who a) rest todo l at) (fits-at k (Pending.Grant who a) rest todo l at) in
       let x = names.0 in
-      let claimed = held-claimed k l (ap has_steps at) (on-of k (Pending.Grant who a) rest todo l at) x names.2 in
-      let stands = claimed-stands x claimed.0 claimed.1 in
+      let claimed = held-claimed f m rel sound k l (ap has_steps at) (on-of k (Pending.Grant who a) rest todo l at) x names.2 in
+      let stands = claimed-stands f m rel sound x claimed.0 claimed.1 in
       S.not-taken f m rel room stuck k (Todo.show (Pending.Grant who a) rest ∷ todo) (SiteState.row (row f x)) (S.plain f m rel room stuck) Exchange.nothing l at
       (ap (λ n. f.sites (Site.row n)) (named-row a x names.1) ∙ row-word x) tt (λ i. row-counted x i && not (stands.0 i)) refl
 
   own : (k : ℕ) (who : ThreadIx) (rest : Steps) (todo : Todos) → k < f.cpus → (f.processors k).todo ≡ Todo.show (Pending.Own who) rest ∷ todo → ⊥
   own k who rest todo l at = by (own-static k who rest (is-of k (Pending.Own who) rest todo l at) (fits-at k (Pending.Own who) rest todo l at))
     where
-      refused : (x : ℕ) → own_row f.image who.0 ≡ x → (is_free (row f x).stage ≡ false) × (is_cleaning (row f x).stage ≡ false) → ⊥
-      refused x same stands =
-          let few = lt-ltb (row f x).claims 127 (room.claims x) in
+      refused : (x : ℕ) → x < ROWS → own_row f.image who.0 ≡ x → (is_free (row f x).stage ≡ false) × (is_cleaning (row f x).stage ≡ false) → ⊥
+      refused x low same stands =
+          let few = lt-ltb (row f x).claims 127 (room.claims x low) in
           S.not-taken f m rel room stuck k (Todo.show (Pending.Own who) rest ∷ todo) (SiteState.row (row f x)) (S.plain f m rel room stuck) Exchange.nothing l at
           (ap (λ n. f.sites (Site.row n)) same ∙ row-word x) tt (λ i. row-counted x i && ((few i && not (stands.0 i)) && not (stands.1 i))) refl
 
@@ -437,11 +387,11 @@ module _ (f : Fine) (m : State) (rel : Rel f m) (proper : AreProper m.image m) (
       by (inl static) =
           let some = sound.known.reached.sited.few in
           let few : own_row m.image who.0 < ROWS = omega (arith, static, some) in
-          refused (own_row m.image who.0) same-own
-          (live-stands (own_row m.image who.0) few (ap Plain.is_live (sym (status_is m (own_row m.image who.0))) ∙ sound.known.reached.static (own_row m.image who.0) static))
+          refused (own_row m.image who.0) few same-own
+          (live-stands f m rel sound (own_row m.image who.0) few (ap Plain.is_live (sym (status_is m (own_row m.image who.0))) ∙ sound.known.reached.static (own_row m.image who.0) static))
       by (inr held) =
-          let claimed = held-claimed k l (ap has_steps at) (on-of k (Pending.Own who) rest todo l at) (own_row m.image who.0) held.1 in
-          refused (own_row m.image who.0) same-own (claimed-stands (own_row m.image who.0) claimed.0 claimed.1)
+          let claimed = held-claimed f m rel sound k l (ap has_steps at) (on-of k (Pending.Own who) rest todo l at) (own_row m.image who.0) held.1 in
+          refused (own_row m.image who.0) claimed.0 same-own (claimed-stands f m rel sound (own_row m.image who.0) claimed.0 claimed.1)
 
   publish-names : (k : ℕ) (a : Addr) (rest : Steps) → IsOf m (f.processors k).context → IsOffered f.image (f.processors k).context (Pending.Publish a) rest
       → Names m.image (thread_at m (f.processors k).context.thread).checked a.0
@@ -453,8 +403,8 @@ module _ (f : Fine) (m : State) (rel : Rel f m) (proper : AreProper m.image m) (
   publish k a rest todo l at =
       let names = publish-names k a rest (is-of k (Pending.Publish a) rest todo l at) (fits-at k (Pending.Publish a) rest todo l at) in
       let x = names.0 in
-      let claimed = held-claimed k l (ap has_steps at) (on-of k (Pending.Publish a) rest todo l at) x names.2 in
-      let stands = claimed-stands x claimed.0 claimed.1 in
+      let claimed = held-claimed f m rel sound k l (ap has_steps at) (on-of k (Pending.Publish a) rest todo l at) x names.2 in
+      let stands = claimed-stands f m rel sound x claimed.0 claimed.1 in
       S.not-taken f m rel room stuck k (Todo.show (Pending.Publish a) rest ∷ todo) (SiteState.row (row f x)) (S.plain f m rel room stuck) Exchange.nothing l at
       (ap (λ n. f.sites (Site.row n)) (named-row a x names.1) ∙ row-word x) tt (λ i. row-counted x i && not (stands.0 i)) refl
 
@@ -469,8 +419,8 @@ module _ (f : Fine) (m : State) (rel : Rel f m) (proper : AreProper m.image m) (
   mark k a strict undo rest todo l at =
       let names = mark-names k a strict undo rest (is-of k (Pending.SetInit a strict undo) rest todo l at) (fits-at k (Pending.SetInit a strict undo) rest todo l at) in
       let x = names.0 in
-      let claimed = held-claimed k l (ap has_steps at) (on-of k (Pending.SetInit a strict undo) rest todo l at) x names.2 in
-      let stands = claimed-stands x claimed.0 claimed.1 in
+      let claimed = held-claimed f m rel sound k l (ap has_steps at) (on-of k (Pending.SetInit a strict undo) rest todo l at) x names.2 in
+      let stands = claimed-stands f m rel sound x claimed.0 claimed.1 in
       S.not-taken f m rel room stuck k (Todo.show (Pending.SetInit a strict undo) rest ∷ todo) (SiteState.row (row f x)) (S.plain f m rel room stuck) Exchange.nothing l at
       (ap (λ n. f.sites (Site.row n)) (named-row a x names.1) ∙ row-word x) tt (λ i. row-counted x i && not (stands.0 i)) refl
 
@@ -513,8 +463,18 @@ module _ (f : Fine) (m : State) (rel : Rel f m) (proper : AreProper m.image m) (
   on-object : (x : ℕ) → nat_lt (object-sort x (f.sites (Site.object x)) (rel.sorts (Site.object x))).0 268435455 ≡ true
   on-object x = let is = object-sort x (f.sites (Site.object x)) (rel.sorts (Site.object x)) in S.counts f m rel room stuck (Site.object x) _ is.1
 
-  -- an event that is next is one of those, or such a move
-  pub guarded : (k : ℕ) (q : Pending) (rest : Steps) (todo : Todos) → k < f.cpus → (f.processors k).todo ≡ Todo.show q rest ∷ todo → IsRefusable q ⊎ IsHeldMove f k q
+  clear : (k : ℕ) (a : Addr) (rest : Steps) (todo : Todos) → k < f.cpus → (f.processors k).todo ≡ Todo.show (Pending.ClearInit a) rest ∷ todo → ⊥
+  clear k a rest todo l at =
+      let x = row_named f.image a in
+      let stands = events.clears k a rest todo l at in
+      S.not-taken f m rel room stuck k (Todo.show (Pending.ClearInit a) rest ∷ todo) (SiteState.row (row f x)) (S.plain f m rel room stuck) Exchange.nothing l at (row-word x) tt
+      (λ i. row-counted x i && not (stands i)) refl
+
+  never : (k : ℕ) (q : Pending) (rest : Steps) (todo : Todos) → k < f.cpus → (f.processors k).todo ≡ Todo.show q rest ∷ todo → is_single q ≡ false → ⊥
+  never k q rest todo l at h = true≢false (sym (and_parts (is_single q) _ (sym (ap (list_all shows_single) at) ∙ events.single k l)).0 ∙ h)
+
+  -- an event that is next is such a move
+  pub guarded : (k : ℕ) (q : Pending) (rest : Steps) (todo : Todos) → k < f.cpus → (f.processors k).todo ≡ Todo.show q rest ∷ todo → IsHeldMove f k q
   guarded k Pending.Begin rest todo l at = absurd (begin k rest todo l at)
   guarded k Pending.Exit rest todo l at = absurd (exit k rest todo l at)
   guarded k (Pending.Check a kind want refusal) rest todo l at = absurd (check k a kind want refusal rest todo l at)
@@ -597,7 +557,7 @@ module _ (f : Fine) (m : State) (rel : Rel f m) (proper : AreProper m.image m) (
       absurd
       (S.not-taken f m rel room stuck k (Todo.show (Pending.DomRemove d range attr) rest ∷ todo) (SiteState.domain (domain f d)) (S.plain f m rel room stuck) Exchange.nothing l at (domain-word d) tt
       (edits-it k d (Pending.DomRemove d range attr) rest todo l at (eq-eqb d d refl)) refl)
-  guarded k (Pending.DomMove d who) rest todo l at = inr (move k d who rest todo l at)
+  guarded k (Pending.DomMove d who) rest todo l at = move k d who rest todo l at
   guarded k (Pending.Start who script stack priority mode) rest todo l at = absurd (start k who script stack priority mode rest todo l at)
   guarded k (Pending.Grant who a) rest todo l at = absurd (grant k who a rest todo l at)
   guarded k (Pending.Own who) rest todo l at = absurd (own k who rest todo l at)
@@ -607,4 +567,7 @@ module _ (f : Fine) (m : State) (rel : Rel f m) (proper : AreProper m.image m) (
   guarded k (Pending.CleanPair who) rest todo l at =
       absurd (cleans-never k who rest (is-of k (Pending.CleanPair who) rest todo l at) (fits-at k (Pending.CleanPair who) rest todo l at))
   guarded k Pending.Recycle rest todo l at = absurd (recycles-never k rest (is-of k Pending.Recycle rest todo l at) (fits-at k Pending.Recycle rest todo l at))
-  guarded k q rest todo l at = inl tt
+  guarded k (Pending.ClearInit a) rest todo l at = absurd (clear k a rest todo l at)
+  guarded k Pending.Resume rest todo l at = absurd (never k Pending.Resume rest todo l at refl)
+  guarded k (Pending.Inherit who) rest todo l at = absurd (never k (Pending.Inherit who) rest todo l at refl)
+  guarded k (Pending.Drops from) rest todo l at = absurd (never k (Pending.Drops from) rest todo l at refl)

@@ -1,7 +1,7 @@
--- Where no processor can step, though an object can be marked as not initialised, no processor has a step left to make: a hold
+-- Where no processor can step, no processor has a step left to make: a hold
 -- is never refused, a claim waits for one that writes or reads its domain, a move for one that holds its thread, and those have steps to
 -- make that wait for nobody.
-use Rattle.std.proofs.Common.{◌≡◌, ◌⊎◌, inl, inr, ℕ, zero, suc, ◌+◌, ◌<◌, ◌≤◌, Bool, true, false, [], ◌∷◌, length, Option, Some, None, refl, sym, ap, ◌∙◌, subst, arith, eq-eqb}
+use Rattle.std.proofs.Common.{◌≡◌, inl, inr, ℕ, zero, suc, ◌+◌, ◌<◌, ◌≤◌, Bool, true, false, [], ◌∷◌, length, Option, Some, None, refl, sym, ap, ◌∙◌, subst, arith, eq-eqb}
 use Rattle.std.specs.Prelude.{◌==◌, ◌&&◌, ◌||◌, not, nat_lt}
 use Rattle.std.specs.List.{list_any}
 use Rattle.std.proofs.lemmas.Bool.{and_parts, eqb-false, eqb-true, false≢true, lt-ltb, ltb-true, true≢false}
@@ -24,6 +24,7 @@ use Rattle.um_erasure.specs.Frames.{AreFramed, Behind, access_over}
 use Rattle.um_erasure.specs.Lists.{adders, edits, edits_step, has_claimed, has_held, has_steps, is_hold, is_let_go, is_own_claim, is_own_done, moves_step, moves_to, of_thread, runs, runs_thread}
 use Rattle.um_erasure.specs.Offers.{Fits, behind_shown, is_over}
 use Rattle.um_erasure.specs.Relation.{Rel}
+use Rattle.um_erasure.specs.Room.{IsStuck}
 use Rattle.um_erasure.specs.Threads.{runs_on}
 use Rattle.um_erasure.proofs.CallsProper.{AreProper}
 use Rattle.um_erasure.proofs.DomainReads.{memory-edits-none, memory-moves-none}
@@ -34,8 +35,8 @@ use Rattle.um_erasure.proofs.Reachable.{IsSound}
 use Rattle.um_erasure.proofs.RowSteps.{thread-sort}
 use Rattle.um_erasure.proofs.StepsLeft.{offered-on}
 use Rattle.um_erasure.proofs.Stuck as S
-use Rattle.um_erasure.proofs.StuckEvents.{EventsTaken, IsHeldMove, IsRefusable, edit-in, guarded, offered-in, own-domain}
-use Rattle.um_erasure.proofs.Stuck.{HasRoom, IsStuck, domain-is}
+use Rattle.um_erasure.proofs.StuckEvents.{EventsStand, IsHeldMove, edit-in, guarded, offered-in, own-domain}
+use Rattle.um_erasure.proofs.Stuck.{HasRoom, domain-is}
 
 -- two of the numbers of a sum
 two-parts : (g : ℕ → ℕ) (n a b : ℕ) → a < n → b < n → (a ≡ b → ⊥) → g a + g b ≤ total g n
@@ -70,15 +71,10 @@ Waits (Todo.read_claim d ∷ todo) = Unit {0}
 Waits (Todo.write_claim d ∷ todo) = Unit {0}
 Waits todo = ⊥
 
-module _ (f : Fine) (m : State) (rel : Rel f m) (proper : AreProper m.image m) (all : InDomains f m) (sound : IsSound m) (room : HasRoom f) (events : EventsTaken f) (stuck : IsStuck f) where
+module _ (f : Fine) (m : State) (rel : Rel f m) (proper : AreProper m.image m) (all : InDomains f m) (sound : IsSound m) (room : HasRoom f) (events : EventsStand f) (stuck : IsStuck f) where
   -- An event that is next is such a move.
   no-event : (k : ℕ) (q : Pending) (rest : Steps) (todo : Todos) → k < f.cpus → (f.processors k).todo ≡ Todo.show q rest ∷ todo → (IsHeldMove f k q → ⊥) → ⊥
-  no-event k q rest todo l at other =
-      by (guarded f m rel proper all sound room stuck k q rest todo l at)
-    where
-      by : IsRefusable q ⊎ IsHeldMove f k q → ⊥
-      by (inl may) = let made = events k q rest todo l at may in stuck made.0 made.1 made.2
-      by (inr held) = other held
+  no-event k q rest todo l at other = other (guarded f m rel proper all sound room events stuck k q rest todo l at)
 
   fits-at : (k : ℕ) (todo : Todos) → k < f.cpus → (f.processors k).todo ≡ todo → Fits f.image (f.processors k).context todo
   fits-at k todo l at = subst (Fits f.image (f.processors k).context) at (rel.processors k l).list.fits
@@ -171,14 +167,14 @@ module _ (f : Fine) (m : State) (rel : Rel f m) (proper : AreProper m.image m) (
       let list : p.todo ≡ Todo.read_done None ∷ Todo.let_go ∷ [] = at ∙ ap (λ (z : Todos). Todo.read_done None ∷ z) (frames-at k (Todo.read_done None ∷ rest) l at).0 in
       let held : has_held p ≡ true = ap (λ (z : Todos). list_any is_let_go z && not (list_any is_hold z)) list in
       let claimed : has_claimed p ≡ true = ap (λ (z : Todos). list_any is_own_done z && not (list_any is_own_claim z)) list in
-      ends-read k p.domain None rest l at refl (own-domain f m rel proper all sound room stuck k l (ap has_steps at) held)
+      ends-read k p.domain None rest l at refl (own-domain f m rel proper all sound room events stuck k l (ap has_steps at) held)
       (λ i. (claimed i && eq-eqb p.domain p.domain refl i) || moves_to p.domain p.reply p.todo)
   read-done k (Some d) rest l at =
       let p = f.processors k in
       let move = (frames-at k (Todo.read_done (Some d) ∷ rest) l at).0 in
       let offered = (subst (Fits f.image p.context) move.2 (fits-at k (Todo.read_done (Some d) ∷ rest) l at)).0 in
       let moves : moves_to d p.reply p.todo ≡ true = ap (moves_to d p.reply) at ∙ eq-eqb d d refl in
-      ends-read k d (Some d) rest l at refl (offered-in f m rel proper all sound room stuck k (Pending.DomMove d move.0) move.1 l (ap has_steps at) offered)
+      ends-read k d (Some d) rest l at refl (offered-in f m rel proper all sound room events stuck k (Pending.DomMove d move.0) move.1 l (ap has_steps at) offered)
       (ap (λ b. (has_claimed p && (p.domain == d)) || b) moves ∙ or-true (has_claimed p && (p.domain == d)))
 
   -- so nobody waits with any other step
@@ -239,7 +235,7 @@ module _ (f : Fine) (m : State) (rel : Rel f m) (proper : AreProper m.image m) (
       let is : f.sites (Site.domain (claimed_domain f.image (f.processors k) which)) ≡ SiteState.domain (domain f d) =
       ap (λ n. f.sites (Site.domain n)) same ∙ domain-is d (f.sites (Site.domain d)) (rel.sorts (Site.domain d)) in
       let free = no-writer d few in
-      let some = lt-ltb (domain f d).readers 127 (room.readers d) in
+      let some = lt-ltb (domain f d).readers 127 (room.readers d few) in
       S.not-taken f m rel room stuck k (Todo.read_claim which ∷ rest) _ (S.plain f m rel room stuck) Exchange.nothing l at is tt
       (λ i. S.counts f m rel room stuck (Site.domain (claimed_domain f.image (f.processors k) which)) _ is i && (not (free i) && some i)) refl
 
@@ -249,12 +245,12 @@ module _ (f : Fine) (m : State) (rel : Rel f m) (proper : AreProper m.image m) (
       let frame = (frames-at k (Todo.read_claim None ∷ rest) l at).0 in
       let list : p.todo ≡ Todo.read_claim None ∷ Todo.region_load ∷ Todo.show frame.0 frame.1 ∷ access_over = at ∙ ap (λ (z : Todos). Todo.read_claim None ∷ z) frame.2 in
       let held : has_held p ≡ true = ap (λ (z : Todos). list_any is_let_go z && not (list_any is_hold z)) list in
-      claims-read k p.domain None rest l at refl (own-domain f m rel proper all sound room stuck k l (ap has_steps at) held)
+      claims-read k p.domain None rest l at refl (own-domain f m rel proper all sound room events stuck k l (ap has_steps at) held)
   read-claim k (Some d) rest l at =
       let p = f.processors k in
       let move = (frames-at k (Todo.read_claim (Some d) ∷ rest) l at).0 in
       let offered = (subst (Fits f.image p.context) move.2 (fits-at k (Todo.read_claim (Some d) ∷ rest) l at)).0 in
-      claims-read k d (Some d) rest l at refl (offered-in f m rel proper all sound room stuck k (Pending.DomMove d move.0) move.1 l (ap has_steps at) offered)
+      claims-read k d (Some d) rest l at refl (offered-in f m rel proper all sound room events stuck k (Pending.DomMove d move.0) move.1 l (ap has_steps at) offered)
 
   -- Nobody reads a domain: who does has an event next.
 
@@ -315,7 +311,7 @@ module _ (f : Fine) (m : State) (rel : Rel f m) (proper : AreProper m.image m) (
       let p = f.processors k in
       let frame = (frames-at k (Todo.write_claim d ∷ rest) l at).0 in
       let offered = (subst (Fits f.image p.context) frame.2 (fits-at k (Todo.write_claim d ∷ rest) l at)).0 in
-      let few = edit-in (length f.image.domains) d frame.0 frame.3 (offered-in f m rel proper all sound room stuck k frame.0 frame.1 l (ap has_steps at) offered) in
+      let few = edit-in (length f.image.domains) d frame.0 frame.3 (offered-in f m rel proper all sound room events stuck k frame.0 frame.1 l (ap has_steps at) offered) in
       let is = domain-is d (f.sites (Site.domain d)) (rel.sorts (Site.domain d)) in
       let free = no-writer d few in
       let none = eq-eqb (domain f d).readers 0 (no-reader d few) in

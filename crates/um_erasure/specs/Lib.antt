@@ -9,6 +9,7 @@ pub mod Cleaning
 pub mod Dues
 pub mod Domains
 pub mod Resources
+pub mod Room
 pub mod Looks
 pub mod Frames
 pub mod Relation

@@ -1,0 +1,65 @@
+-- Words and lists of what a fine run of a described image leaves have room for the next step, where words can count it; and each event that is next
+-- is one that its site takes, but for a move of a thread that is held.
+use Rattle.std.proofs.Common.{◌≡◌, ℕ, ◌<◌, Bool, true, false, ◌∷◌, length, refl, sym, ap, subst}
+use Rattle.std.proofs.lemmas.Bool.{false≢true}
+use Rattle.um_machine.specs.declared.pending.Pending.{Pending}
+use Rattle.um_machine.specs.Order.{Steps}
+use Rattle.um_machine.specs.State.{State}
+use Rattle.um_fine.specs.Context.{Context}
+use Rattle.um_fine.specs.Places.{Todo, Todos}
+use Rattle.um_erasure.specs.Fine.{Fine}
+use Rattle.um_erasure.specs.Lists.{has_steps}
+use Rattle.um_erasure.specs.Offers as O
+use Rattle.um_erasure.specs.Offers.{Fits, IsOffered}
+use Rattle.um_erasure.specs.Relation.{Rel}
+use Rattle.um_erasure.specs.Room.{CanCount, CanRun}
+use Rattle.um_erasure.proofs.Bounds.{AreBounded}
+use Rattle.um_erasure.proofs.CallBounds.{Bounded}
+use Rattle.um_erasure.proofs.CallsProper.{AreProper}
+use Rattle.um_erasure.proofs.ChildrenKnown.{AllCreate}
+use Rattle.um_erasure.proofs.ClaimRoom.{claim-room, reader-room}
+use Rattle.um_erasure.proofs.CleanRoom.{clean-room}
+use Rattle.um_erasure.proofs.ClearsKnown.{clears-stand}
+use Rattle.um_erasure.proofs.Reachable.{IsSound}
+use Rattle.um_erasure.proofs.ReadyRoom.{ready-room}
+use Rattle.um_erasure.proofs.ResumeSteps.{TellsWaiters}
+use Rattle.um_erasure.proofs.Stuck.{HasRoom}
+use Rattle.um_erasure.proofs.StuckEvents.{EventsStand}
+
+-- the events of a thread at rest
+abbrev begins : Pending → Bool
+begins Pending.Begin = true
+begins Pending.Exit = true
+begins q = false
+
+module _ (f : Fine) (m : State) (rel : Rel f m) (proper : AreProper m.image m) (sound : IsSound m) (bounds : AreBounded f) where
+  -- the steps that are left behind one that is next
+  offered-bounded : (c : Context) (q : Pending) (rest : Steps) → Bounded f.image (length c.claims) c.pending → IsOffered f.image c q rest → begins q ≡ false → Bounded f.image (length c.claims) (q ∷ rest)
+  offered-bounded c q rest h (O.goes e) other = subst (Bounded f.image (length c.claims)) e h
+  offered-bounded c q rest h (O.passed {who} e) other = subst (Bounded f.image (length c.claims)) e h
+  offered-bounded c q rest h (O.dropped {from} e) other = subst (Bounded f.image (length c.claims)) e h
+  offered-bounded c _ _ h (O.begins e on i) other = absurd (false≢true (sym other))
+  offered-bounded c _ _ h (O.exits e on i) other = absurd (false≢true (sym other))
+
+  shown-bounded : (k : ℕ) (q : Pending) (rest : Steps) (todo : Todos) → k < f.cpus → (f.processors k).todo ≡ Todo.show q rest ∷ todo → begins q ≡ false
+      → Bounded f.image (length (f.processors k).context.claims) (q ∷ rest)
+  shown-bounded k q rest todo l at other =
+      let c = (f.processors k).context in
+      offered-bounded c q rest (bounds.running k l (ap has_steps at)).steps (subst (Fits f.image c) at (rel.processors k l).list.fits).0 other
+
+  pub events-stand : EventsStand f
+  events-stand = record { single = bounds.single; clears = λ k a rest todo l at. clears-stand f m rel proper sound bounds k l a rest todo at }
+
+  pub has-room : TellsWaiters m → AllCreate m → CanRun f.image f.cpus → CanCount f → HasRoom f
+  has-room tells children can counts =
+      record {
+        counts = counts;
+        readers = reader-room f m rel can.few;
+        domains = can.domains;
+        inside = bounds.inside;
+        claims = claim-room f m rel sound children bounds can.few;
+        checks = λ k a kind want refusal rest todo l at. (shown-bounded k (Pending.Check a kind want refusal) rest todo l at refl).0;
+        loads = λ k to a n rest todo l at. (shown-bounded k (Pending.Load to a n) rest todo l at refl).0;
+        ready = ready-room f m rel tells bounds;
+        cleaned = λ k e l makes taken begins. clean-room f m rel sound k l e makes taken begins;
+      }
