@@ -1,5 +1,9 @@
+use Rattle.um_erasure.proofs.CompleteRuns.{complete-runs}
 use Rattle.um_erasure.proofs.ErasedRuns.{erased-runs}
 use Rattle.um_erasure.proofs.laws.every_fine_run.Goals as goal
 
-pub returns : goal.returns
-returns c = λ image cpus steps described run. erased-runs image cpus described steps run
+pub returns-clause-run : goal.returns-clause-run
+returns-clause-run c = λ image cpus steps described run. erased-runs image cpus described steps run
+
+pub returns-clause-complete : goal.returns-clause-complete
+returns-clause-complete c = λ image cpus steps described can run stuck counts. complete-runs image cpus described can steps run counts stuck
