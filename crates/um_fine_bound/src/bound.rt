@@ -1,10 +1,12 @@
 //! How long fine runs are.
 
-ghost use Rattle.std.specs.Prelude.{◌≡◌, ◌≢◌, ◌≤◌, ◌+◌};
+ghost use Rattle.std.specs.Prelude.{◌≡◌, ◌≢◌, ◌≤◌, ◌+◌, ℕ, List, length};
 ghost use Rattle.um_base.specs.declared.image.Image.{Image};
 ghost use Rattle.um_base.specs.Lawful.{IsLawful};
 ghost use Rattle.um_base.specs.Weight.{weight};
+ghost use Rattle.um_reach.specs.Described.{IsDescribed};
 ghost use Rattle.um_fine.specs.Asks.{CpuMay};
+ghost use Rattle.um_fine.specs.FineRun.{IsFineRun};
 ghost use Rattle.um_fine.specs.Follows.{p_next};
 ghost use Rattle.um_fine.specs.Opening.{s_start};
 ghost use Rattle.um_fine.specs.Processor.{Processor, idle};
@@ -12,6 +14,8 @@ ghost use Rattle.um_fine.specs.Sites.{SiteMay, SiteState, s_next};
 ghost use Rattle.um_fine.specs.Steps.{FineStep, Site};
 ghost use Rattle.um_fine_bound.specs.Measure.{processor_cost, site_cost};
 ghost use Rattle.um_fine_bound.specs.Ready.{MayStep};
+
+use um_erasure::every_fine_run;
 
 /// What processors and sites have left falls with each fine step, and is at most the weight of the image at the opening.
 ///
@@ -25,3 +29,11 @@ pub fn every_fine_step()
     ensures falls { (image : Image) (p : Processor) (s : SiteState) (e : FineStep) → IsLawful image → CpuMay image p e → SiteMay image s e → MayStep image p e.moved p.todo
         → processor_cost image (p_next image p e) + site_cost image (s_next image s e) + 1 ≤ processor_cost image p + site_cost image s }
 {}
+
+/// No fine run of an image that a description gives has more steps than the weight of the image, whatever the number of processors and
+/// their order. Steps of every kind count, also those that no trace shows and those that only look.
+pub fn longest_fine_run()
+    ensures { (image : Image) (cpus : ℕ) (steps : List FineStep) → IsDescribed image → IsFineRun image cpus steps → length steps ≤ weight image }
+{
+    every_fine_run();
+}

@@ -1,6 +1,6 @@
-//! What processors and sites of a fine run have left of steps, which falls with each step.
+//! No fine run has more steps than the weight of its image.
 #![tactic(auto)]
 
 mod bound;
 
-pub use bound::every_fine_step;
+pub use bound::{every_fine_step, longest_fine_run};
