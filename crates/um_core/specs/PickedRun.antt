@@ -1,0 +1,47 @@
+-- The fine run of an order of processors: at each turn the first that can step does, from the preferred one on.
+use Rattle.std.specs.Prelude.{◌≡◌, ℕ, ◌+◌, ◌%◌, ◌<◌, List, [], ◌∷◌, ◌++◌, length, Option}
+use Rattle.um_base.specs.declared.image.Image.{Image}
+use Rattle.um_fine.specs.FineRun.{ByOneOf, cpu_of, p_start, same_cpu, site_of}
+use Rattle.um_fine.specs.Follows.{p_next}
+use Rattle.um_fine.specs.Opening.{s_start}
+use Rattle.um_fine.specs.Processor.{Processor}
+use Rattle.um_fine.specs.Runs.{state_at}
+use Rattle.um_fine.specs.Sites.{SiteMay, SiteState, s_next, same_site}
+use Rattle.um_fine.specs.Steps.{FineStep, Site}
+use Rattle.um_turns.specs.Order.{preferred}
+
+-- what steps leave of a processor, and of a site
+abbrev pub processor_after : Image → List FineStep → ℕ → Processor
+processor_after image done k = state_at same_cpu cpu_of (p_next image) p_start done k
+
+abbrev pub site_after : Image → List FineStep → Site → SiteState
+site_after image done i = state_at same_site site_of (s_next image) (s_start image) done i
+
+-- Its processor, which is one of so many, makes this step after those, and its site takes it.
+pub record MayFollow (image : Image) (cpus : ℕ) (done : List FineStep) (e : FineStep) : Type 0 where
+  pub makes : ByOneOf image cpus (processor_after image done e.cpu) e
+  pub takes : SiteMay image (site_after image done e.site) e
+
+-- the processor that comes so many behind one, round-robin
+abbrev pub behind : ℕ → ℕ → ℕ → ℕ
+behind cpus first n = (first + n) % cpus
+
+-- It is a step of the first processor that can make one, from the preferred one on.
+pub record IsPicked (image : Image) (cpus first : ℕ) (done : List FineStep) (e : FineStep) : Type 0 where
+  pub follows : MayFollow image cpus done e
+  pub turn : ℕ  -- how far that processor is behind the preferred one
+  pub within : turn < cpus
+  pub made_by : e.cpu ≡ behind cpus first turn
+  pub others : (n : ℕ) (g : FineStep) → n < turn → g.cpu ≡ behind cpus first n → MayFollow image cpus done g → ⊥
+
+-- each of these steps is picked after those before it, given which processors are preferred
+abbrev pub ArePicked : Image → ℕ → List FineStep → List ℕ → List FineStep → Type 0
+ArePicked image cpus done [] [] = Unit {0}
+ArePicked image cpus done [] (e ∷ steps) = ⊥
+ArePicked image cpus done (first ∷ firsts) [] = ⊥
+ArePicked image cpus done (first ∷ firsts) (e ∷ steps) = IsPicked image cpus first done e × ArePicked image cpus (done ++ e ∷ []) firsts steps
+
+-- The steps of so many processors, which are preferred round-robin or as a pick draws them, until none can make another.
+pub record IsPickedRun (image : Image) (cpus : ℕ) (pick : Option ℕ) (steps : List FineStep) : Type 0 where
+  pub picked : ArePicked image cpus [] (preferred cpus pick (length steps)) steps
+  pub over : (e : FineStep) → MayFollow image cpus steps e → ⊥

@@ -1,0 +1,32 @@
+//! Laws over every moment of a fine run, and over the run of an order of processors.
+
+ghost use Rattle.std.specs.Prelude.{◌≡◌, ℕ, List, Option};
+ghost use Rattle.um_base.specs.declared.image.Image.{Image};
+ghost use Rattle.um_machine.specs.Run.{Runs, opening};
+ghost use Rattle.um_machine.specs.State.{State};
+ghost use Rattle.um_reach.specs.Described.{IsDescribed};
+ghost use Rattle.um_fine.specs.Erasure.{shown};
+ghost use Rattle.um_fine.specs.FineRun.{IsFineRun};
+ghost use Rattle.um_fine.specs.Processor.{Processor};
+ghost use Rattle.um_fine.specs.Sites.{SiteState};
+ghost use Rattle.um_fine.specs.Steps.{FineStep, Site};
+ghost use Rattle.um_core.specs.Moments.{AreSorted, MayStep};
+ghost use Rattle.um_core.specs.PickedRun.{IsPickedRun};
+
+/// A processor has at most one next step: where each site keeps its sort, two steps of one processor, each as the processor makes it
+/// and as its site takes it, are the same.
+pub fn every_moment()
+    ensures { (image : Image) (p : Processor) (sites : Site → SiteState) → AreSorted sites → (e e2 : FineStep) → e.cpu ≡ e2.cpu
+        → MayStep image p sites e → MayStep image p sites e2 → e ≡ e2 }
+{}
+
+/// Of an image, so many processors and a pick there is one run in their order. It is a fine run; and so, where a description gives the
+/// image, what it shows is a run of the access-matrix machine.
+pub fn every_order()
+    ensures one { (image : Image) (cpus : ℕ) (pick : Option ℕ) (steps steps2 : List FineStep)
+        → IsPickedRun image cpus pick steps → IsPickedRun image cpus pick steps2 → steps ≡ steps2 }
+    ensures fine { (image : Image) (cpus : ℕ) (pick : Option ℕ) (steps : List FineStep)
+        → IsPickedRun image cpus pick steps → IsFineRun image cpus steps }
+    ensures run { (image : Image) (cpus : ℕ) (pick : Option ℕ) (steps : List FineStep)
+        → IsDescribed image → IsPickedRun image cpus pick steps → (last : State) × Runs (opening image) (shown steps) last }
+{}

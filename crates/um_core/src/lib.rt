@@ -1,0 +1,6 @@
+//! The processors of the fine machine together, on one thread: which step each makes, and which processor is next.
+#![tactic(auto)]
+
+mod laws;
+
+pub use laws::{every_moment, every_order};
