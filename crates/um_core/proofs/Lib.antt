@@ -3,4 +3,5 @@
 pub mod Filling
 pub mod OneStep
 pub mod Sorts
+pub mod Counts
 pub mod OneRun

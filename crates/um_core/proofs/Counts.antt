@@ -1,0 +1,157 @@
+-- No word comes to the end of its step numbers, nor that of a domain to the end of its versions: each counts no more than all steps of the run,
+-- of which there are no more than the image's weight.
+use Rattle.std.proofs.Common.{◌≡◌, ℕ, zero, suc, ◌+◌, ◌<◌, ◌≤◌, Bool, true, false, cond, List, [], ◌∷◌, length, Option, Some, None, refl, sym, ap, ◌∙◌, subst, arith}
+use Rattle.std.specs.Prelude.{◌&&◌, if◌then◌else◌, nat_lt}
+use Rattle.std.proofs.lemmas.Bool.{lt-ltb}
+use Rattle.um_base.specs.Weight.{weight}
+use Rattle.um_base.specs.declared.act.Act.{Act}
+use Rattle.um_base.specs.declared.act.SetSaid.{SetSaid}
+use Rattle.um_base.specs.declared.image.Image.{Image}
+use Rattle.um_base.specs.declared.names.Errno.{Errno}
+use Rattle.um_reach.specs.Described.{IsDescribed}
+use Rattle.um_words.specs.declared.fine.FineAct.{FineAct}
+use Rattle.um_words.specs.declared.fine.More.{More}
+use Rattle.um_words.specs.declared.fine.Unseen.{Unseen}
+use Rattle.um_words.specs.declared.row_word.RowWord.{RowWord}
+use Rattle.um_words.specs.declared.thread_word.ThreadWord.{ThreadWord}
+use Rattle.um_words.specs.declared.dom_word.DomWord.{DomWord}
+use Rattle.um_words.specs.Domains.{domain_after, domain_after_act}
+use Rattle.um_words.specs.Rows.{after_set, after_verdict, dropped, given_to, gone_stage, has, is_last, is_live, permitted, row_after, row_after_act}
+use Rattle.um_words.specs.Threads.{thread_after, thread_after_act}
+use Rattle.um_fine.specs.FineRun.{IsFineRun, site_of}
+use Rattle.um_fine.specs.Opening.{s_start}
+use Rattle.um_fine.specs.Runs.{ends, has_key, sub}
+use Rattle.um_fine.specs.Sites.{SiteState, s_next, same_site}
+use Rattle.um_fine.specs.Steps.{FineStep, Site}
+use Rattle.um_erasure.specs.Fine.{domain_state}
+use Rattle.um_erasure.proofs.Stuck.{has_number}
+use Rattle.um_core.specs.PickedRun.{site_after}
+
+abbrev pub number_of : SiteState → ℕ
+number_of (SiteState.row w) = w.number
+number_of (SiteState.thread w) = w.number
+number_of (SiteState.domain w) = w.number
+number_of (SiteState.cell n c) = n
+
+-- What a step leaves of a word, but for its own number.
+
+either-row : (n : ℕ) (b : Bool) (x y : RowWord) → x.number ≡ n → y.number ≡ n → (if b then x else y).number ≡ n
+either-row n true x y h k = h
+either-row n false x y h k = k
+
+verdict-kept : (w : RowWord) (verdict : Option Errno) → (after_verdict w verdict).number ≡ w.number
+verdict-kept w None = refl
+verdict-kept w (Some e) = refl
+
+set-kept : (w : RowWord) (said : SetSaid) → (after_set w said).number ≡ w.number
+set-kept w SetSaid.Done = refl
+set-kept w said = refl
+
+row-kept : (w : RowWord) (act : FineAct) → (row_after w act).number ≡ w.number
+row-kept w (FineAct.Shown event more) = by event.thread.0 event.act
+  where
+    by : (t : ℕ) (act : Act) → (row_after_act w t act).number ≡ w.number
+    by t (Act.Check a kind want verdict) = verdict-kept w verdict
+    by t (Act.Grant who a given) = either-row w.number (is_live w.stage) (permitted w who.0 true) w refl refl
+    by t (Act.Own who given) = either-row w.number (is_live w.stage) (permitted w who.0 true) w refl refl
+    by t (Act.DropPair who a left) =
+        either-row w.number (is_last w who.0 && has w who.0) (record (permitted w who.0 false) { stage = gone_stage w }) (permitted w who.0 false) refl refl
+    by t (Act.Publish a given) = either-row w.number (is_live w.stage) (record w { public = true }) w refl refl
+    by t (Act.SetInit a said) = set-kept w said
+    by t act = refl
+row-kept w (FineAct.Unseen Unseen.EndCall) = refl
+row-kept w (FineAct.Unseen Unseen.Vacate) = refl
+row-kept w (FineAct.Unseen unseen) = refl
+
+thread-kept : (w : ThreadWord) (act : FineAct) → (thread_after w act).number ≡ w.number
+thread-kept w (FineAct.Shown event more) = by event.act
+  where
+    by : (act : Act) → (thread_after_act w more act).number ≡ w.number
+    by Act.Exit = refl
+    by (Act.Fatal reason cause) = refl
+    by (Act.Doom who) = refl
+    by (Act.DomMove d who reply) = refl
+    by (Act.Start who) = refl
+    by Act.EnterUser = refl
+    by act = refl
+thread-kept w (FineAct.Unseen Unseen.Hold) = refl
+thread-kept w (FineAct.Unseen Unseen.LetGo) = refl
+thread-kept w (FineAct.Unseen unseen) = refl
+
+domain-kept : (w : DomWord) (act : FineAct) → ((domain_after w act).number ≡ w.number) × ((domain_after w act).version ≤ w.version + 1)
+domain-kept w (FineAct.Shown event more) = by event.act
+  where
+    by : (act : Act) → ((domain_after_act w act).number ≡ w.number) × ((domain_after_act w act).version ≤ w.version + 1)
+    by (Act.DomInit d reply) = (refl, omega arith)
+    by (Act.DomAdd d range attr reply) = (refl, omega arith)
+    by (Act.DomRemove d range attr reply) = (refl, omega arith)
+    by (Act.DomMove d who reply) = (refl, omega arith)
+    by act = (refl, omega arith)
+domain-kept w (FineAct.Unseen Unseen.ReadClaim) = (refl, omega arith)
+domain-kept w (FineAct.Unseen Unseen.ReadDone) = (refl, omega arith)
+domain-kept w (FineAct.Unseen Unseen.WriteClaim) = (refl, omega arith)
+domain-kept w (FineAct.Unseen unseen) = (refl, omega arith)
+
+-- Along the steps of a site.
+
+module _ (image : Image) where
+  number-next : (s : SiteState) (e : FineStep) → number_of (s_next image s e) ≡ number_of s + 1
+  number-next (SiteState.row w) e = ap (λ n. n + 1) (row-kept w e.act)
+  number-next (SiteState.thread w) e = ap (λ n. n + 1) (thread-kept w e.act)
+  number-next (SiteState.domain w) e = ap (λ n. n + 1) (domain-kept w e.act).0
+  number-next (SiteState.cell n c) e = refl
+
+  version-next : (s : SiteState) (e : FineStep) → (domain_state (s_next image s e)).version ≤ (domain_state s).version + 1
+  version-next (SiteState.domain w) e = (domain-kept w e.act).1
+  version-next (SiteState.row w) e = omega arith
+  version-next (SiteState.thread w) e = omega arith
+  version-next (SiteState.cell n c) e = omega arith
+
+  number-ends : (s : SiteState) (steps : List FineStep) → number_of (ends (s_next image) s steps) ≡ number_of s + length steps
+  number-ends s [] = omega arith
+  number-ends s (e ∷ steps) = let here = number-next s e in let on = number-ends (s_next image s e) steps in omega (arith, here, on)
+
+  version-ends : (s : SiteState) (steps : List FineStep) → (domain_state (ends (s_next image) s steps)).version ≤ (domain_state s).version + length steps
+  version-ends s [] = omega arith
+  version-ends s (e ∷ steps) = let here = version-next s e in let on = version-ends (s_next image s e) steps in omega (arith, here, on)
+
+  number-first : (i : Site) → number_of (s_start image i) ≡ 0
+  number-first (Site.row x) = refl
+  number-first (Site.thread t) = refl
+  number-first (Site.domain d) = refl
+  number-first (Site.object x) = refl
+  number-first (Site.parts d) = refl
+  number-first Site.memory = refl
+  number-first Site.heap = refl
+  number-first Site.scheduler = refl
+
+  shorter : (p : FineStep → Bool) (steps : List FineStep) → length (sub p steps) ≤ length steps
+  shorter p [] = omega arith
+  shorter p (e ∷ steps) = by (p e) (shorter p steps)
+    where
+      by : (b : Bool) → length (sub p steps) ≤ length steps → length (cond b (e ∷ sub p steps) (sub p steps)) ≤ suc (length steps)
+      by true on = omega (arith, on)
+      by false on = omega (arith, on)
+
+  has-number : (s : SiteState) → number_of s ≤ 400000 → has_number s ≡ true
+  has-number (SiteState.row w) h = lt-ltb w.number 1048575 (omega (arith, h))
+  has-number (SiteState.thread w) h = lt-ltb w.number 268435455 (omega (arith, h))
+  has-number (SiteState.domain w) h = lt-ltb w.number 268435455 (omega (arith, h))
+  has-number (SiteState.cell n c) h = lt-ltb n 268435455 (omega (arith, h))
+
+  module _ (steps : List FineStep) (few : length steps ≤ 400000) where
+    abbrev there : Site → List FineStep
+    there i = sub (has_key same_site site_of i) steps
+
+    pub numbers-known : (i : Site) → has_number (site_after image steps i) ≡ true
+    numbers-known i =
+        let count = number-ends (s_start image i) (there i) in
+        let first = number-first i in
+        let short = shorter (has_key same_site site_of i) steps in
+        has-number (site_after image steps i) (omega (arith, count, first, short, few))
+
+    pub versions-known : (d : ℕ) → (domain_state (site_after image steps (Site.domain d))).version < 1048575
+    versions-known d =
+        let most = version-ends (s_start image (Site.domain d)) (there (Site.domain d)) in
+        let short = shorter (has_key same_site site_of (Site.domain d)) steps in
+        omega (arith, most, short, few)
