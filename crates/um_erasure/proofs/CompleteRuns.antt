@@ -1,6 +1,7 @@
 -- The events of a fine run of a described image by at most eight processors are a complete run of the access-matrix machine where no processor can
--- make another step, though each word can still count one.
-use Rattle.std.proofs.Common.{ℕ, List}
+-- make another step, though each site can still count one.
+use Rattle.std.proofs.Common.{◌≡◌, ◌⊎◌, inl, inr, ℕ, ◌<◌, List, [], ◌∷◌, length, map, refl, ap, ◌∙◌}
+use Rattle.um_base.specs.declared.image.Boot.{Boot}
 use Rattle.um_base.specs.declared.image.Image.{Image}
 use Rattle.um_machine.specs.Run.{IsComplete, Runs, opening}
 use Rattle.um_machine.specs.State.{State}
@@ -9,15 +10,38 @@ use Rattle.um_reach.proofs.SitedImages.{is_sited}
 use Rattle.um_reach.specs.Described.{IsDescribed}
 use Rattle.um_fine.specs.Erasure.{shown}
 use Rattle.um_fine.specs.FineRun.{IsFineRun}
+use Rattle.um_fine.specs.Opening.{boot_index}
 use Rattle.um_fine.specs.Steps.{FineStep}
 use Rattle.um_erasure.specs.After.{left_by}
 use Rattle.um_erasure.specs.Room.{CanCount, CanRun, IsStuck}
+use Rattle.um_erasure.specs.Threads.{occurs}
 use Rattle.um_erasure.proofs.BoundedRuns.{bounded-runs}
+use Rattle.um_erasure.proofs.ChildrenKnown.{children-known}
+use Rattle.um_erasure.proofs.ErasedRuns.{no-boots, no-steps, none-or-some}
+use Rattle.um_erasure.proofs.First.{first}
+use Rattle.um_erasure.proofs.FirstLawful.{opens-described}
+use Rattle.um_erasure.proofs.FirstObjects.{opening-image}
+use Rattle.um_erasure.proofs.IdleComplete.{idle-complete}
+use Rattle.um_erasure.proofs.Reachable.{opening-wide}
 use Rattle.um_erasure.proofs.StuckComplete.{stuck-complete}
+
+-- Without an object there is no thread, and no step.
+none-complete : (image : Image) (cpus : ℕ) → IsDescribed image → length image.objects ≡ 0 → IsComplete (opening image)
+none-complete image cpus described none =
+    let boots = ap (λ (i : Image). i.boots) (opening-image image) ∙ no-boots image image.boots described.lawful.boots none in
+    idle-complete (first image cpus) (opening image) (opens-described image described cpus)
+    (record { lists = λ k l. refl; ready = λ t l. ap (λ (bs : List Boot). occurs t (map (boot_index (opening image)) bs)) boots })
+    (opening-wide image described.few) (children-known image cpus (opening image) ([], refl))
 
 pub complete-runs : (image : Image) (cpus : ℕ) → IsDescribed image → CanRun image cpus → (h : List FineStep) → IsFineRun image cpus h
     → CanCount (left_by image cpus h) → IsStuck (left_by image cpus h) → (m : State) × Runs (opening image) (shown h) m × IsComplete m
-complete-runs image cpus described can h run counts stuck =
-    let known = (is_opening image (is_sited image described.lawful described.few can.objects) described.lawful).known in
-    let r = bounded-runs image cpus described known h run in
-    (r.0, r.1, stuck-complete image cpus described known can _ _ r.0 r.2 (shown h, r.1) r.3 counts stuck)
+complete-runs image cpus described can = by (none-or-some (length image.objects))
+  where
+    by : (length image.objects ≡ 0) ⊎ (0 < length image.objects) → (h : List FineStep) → IsFineRun image cpus h → CanCount (left_by image cpus h) → IsStuck (left_by image cpus h)
+        → (m : State) × Runs (opening image) (shown h) m × IsComplete m
+    by (inl none) [] run counts stuck = (opening image, refl, none-complete image cpus described none)
+    by (inl none) (e ∷ h) run counts stuck = absurd (no-steps image cpus described none e h run)
+    by (inr some) h run counts stuck =
+        let known = (is_opening image (is_sited image described.lawful described.few some) described.lawful).known in
+        let r = bounded-runs image cpus described known h run in
+        (r.0, r.1, stuck-complete image cpus described known can _ _ r.0 r.2 (shown h, r.1) r.3 counts stuck)

@@ -26,17 +26,17 @@ use Rattle.um_fine.proofs.Keys.{same-itself}
 use Rattle.um_erasure.specs.After.{left_by}
 use Rattle.um_erasure.specs.Fine.{scheduler_state}
 use Rattle.um_erasure.specs.Relation.{Rel}
-use Rattle.um_erasure.proofs.FirstLawful.{erased-described, some-objects}
+use Rattle.um_erasure.proofs.FirstLawful.{erased-described, opens-described, some-objects}
 use Rattle.um_erasure.proofs.FirstObjects.{opening-image}
 use Rattle.um_erasure.proofs.Kept.{idle-takes}
 use Rattle.um_erasure.proofs.Parts.{keeps-all}
 
-none-or-some : (n : ℕ) → (n ≡ 0) ⊎ (0 < n)
+pub none-or-some : (n : ℕ) → (n ≡ 0) ⊎ (0 < n)
 none-or-some zero = inl refl
 none-or-some (suc n) = inr (omega arith)
 
 -- an image without objects has no boot entries
-no-boots : (image : Image) (boots : List Boot) → list_all (is_lawful_boot image) boots ≡ true → length image.objects ≡ 0 → boots ≡ []
+pub no-boots : (image : Image) (boots : List Boot) → list_all (is_lawful_boot image) boots ≡ true → length image.objects ≡ 0 → boots ≡ []
 no-boots image [] h none = refl
 no-boots image (boot ∷ boots) h none =
     let passes = and_parts _ _ (and_parts _ _ (and_parts _ _ (and_parts _ _ (and_parts _ _ (and_parts _ _ (and_parts (is_lawful_boot image boot) _ h).0).0).0).0).0).0 in
@@ -45,7 +45,7 @@ no-boots image (boot ∷ boots) h none =
 
 module _ (image : Image) (cpus : ℕ) (described : IsDescribed image) where
   -- so nobody makes a step
-  no-steps : length image.objects ≡ 0 → (e : FineStep) (h : List FineStep) → IsFineRun image cpus (e ∷ h) → ⊥
+  pub no-steps : length image.objects ≡ 0 → (e : FineStep) (h : List FineStep) → IsFineRun image cpus (e ∷ h) → ⊥
   no-steps none e h run = false≢true (sym nobody ∙ ready)
     where
       may : ByOneOf image cpus idle e
@@ -76,15 +76,15 @@ module _ (image : Image) (cpus : ℕ) (described : IsDescribed image) where
           (ap (λ (i : Image). i.boots) (opening-image image) ∙ no-boots image image.boots described.lawful.boots none)
 
   abbrev Erases : List FineStep → Type 0
-  Erases h = (m : State) × Runs (opening image) (shown h) m × (0 < length image.objects → Rel (left_by image cpus h) m)
+  Erases h = (m : State) × Runs (opening image) (shown h) m × Rel (left_by image cpus h) m
 
   pub erased-runs : (h : List FineStep) → IsFineRun image cpus h → Erases h
   erased-runs h run = by (none-or-some (length image.objects)) h run
     where
       by : (length image.objects ≡ 0) ⊎ (0 < length image.objects) → (h : List FineStep) → IsFineRun image cpus h → Erases h
-      by (inl none) [] run = (opening image, refl, λ some. absurd (omega (arith, some, none)))
+      by (inl none) [] run = (opening image, refl, opens-described image described cpus)
       by (inl none) (e ∷ h) run = absurd (no-steps none e h run)
       by (inr some) h run =
           let known = (is_opening image (is_sited image described.lawful described.few some) described.lawful).known in
           let r = erased-described image described cpus (keeps-all image cpus described known) h run in
-          (r.0, r.1, λ _. r.2)
+          r

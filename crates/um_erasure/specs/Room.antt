@@ -11,9 +11,8 @@ use Rattle.um_erasure.specs.Fine.{Fine, domain}
 abbrev pub IsStuck : Fine → Type 0
 IsStuck f = (e : FineStep) → ByOneOf f.image f.cpus (f.processors e.cpu) e → SiteMay f.image (f.sites e.site) e → ⊥
 
--- An image that has an object, and no more domains than there are words for, on one to eight processors.
+-- An image with no more domains than there are words for, on one to eight processors.
 pub record CanRun (image : Image) (cpus : ℕ) : Type 0 where
-  pub objects : 0 < length image.objects
   pub domains : length image.domains ≤ DOMAINS
   pub some : 0 < cpus
   pub few : cpus ≤ 8

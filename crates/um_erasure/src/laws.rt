@@ -1,6 +1,6 @@
 //! The law over every fine run.
 
-ghost use Rattle.std.specs.Prelude.{ℕ, ◌<◌, List, length};
+ghost use Rattle.std.specs.Prelude.{ℕ, List};
 ghost use Rattle.um_base.specs.declared.image.Image.{Image};
 ghost use Rattle.um_machine.specs.Run.{IsComplete, Runs, opening};
 ghost use Rattle.um_machine.specs.State.{State};
@@ -13,16 +13,16 @@ ghost use Rattle.um_erasure.specs.Relation.{Rel};
 ghost use Rattle.um_erasure.specs.Room.{CanCount, CanRun, IsStuck};
 
 /// The law over every fine run of an image that a description gives, by any number of processors, whatever their order: the events
-/// that it shows are a run of the access-matrix machine from the image's opening. Where the image has an object at all, the state that
-/// this run leads to is related to what the fine run leaves of processors and sites: memory, permissions, threads, domains, contents
-/// and pools are the same, but for what processors have still to do.
+/// that it shows are a run of the access-matrix machine from the image's opening, and the state that this run leads to is related to what
+/// the fine run leaves of processors and sites: memory, permissions, threads, domains, contents and pools are the same, but for what
+/// processors have still to do.
 ///
-/// Where then no processor can make another step, the machine has none either: the run is a complete one. Asked for is that the image has an
-/// object and no more domains than there are words for, that there are one to eight processors, and that each site can count one step more,
-/// and each domain one version more.
+/// Where then no processor can make another step, the machine has none either: the run is a complete one. Asked for is that the image has no
+/// more domains than there are words for, that there are one to eight processors, and that each site can count one step more, and each domain
+/// one version more.
 pub fn every_fine_run()
     ensures run { (image : Image) (cpus : ℕ) (steps : List FineStep) → IsDescribed image → IsFineRun image cpus steps
-        → (last : State) × Runs (opening image) (shown steps) last × (0 < length image.objects → Rel (left_by image cpus steps) last) }
+        → (last : State) × Runs (opening image) (shown steps) last × Rel (left_by image cpus steps) last }
     ensures complete { (image : Image) (cpus : ℕ) (steps : List FineStep) → IsDescribed image → CanRun image cpus → IsFineRun image cpus steps
         → IsStuck (left_by image cpus steps) → CanCount (left_by image cpus steps) → (last : State) × Runs (opening image) (shown steps) last × IsComplete last }
 {}
