@@ -1,30 +1,28 @@
 -- No word comes to the end of its step numbers, nor that of a domain to the end of its versions: each counts no more than all steps of the run,
 -- of which there are no more than the image's weight.
-use Rattle.std.proofs.Common.{◌≡◌, ℕ, zero, suc, ◌+◌, ◌<◌, ◌≤◌, Bool, true, false, cond, List, [], ◌∷◌, length, Option, Some, None, refl, sym, ap, ◌∙◌, subst, arith}
-use Rattle.std.specs.Prelude.{◌&&◌, if◌then◌else◌, nat_lt}
+use Rattle.std.proofs.Common.{◌≡◌, ℕ, suc, ◌+◌, ◌<◌, ◌≤◌, Bool, true, false, cond, List, [], ◌∷◌, length, Option, Some, None, refl, ap, arith}
+use Rattle.std.specs.Prelude.{◌&&◌, if◌then◌else◌}
 use Rattle.std.proofs.lemmas.Bool.{lt-ltb}
-use Rattle.um_base.specs.Weight.{weight}
 use Rattle.um_base.specs.declared.act.Act.{Act}
 use Rattle.um_base.specs.declared.act.SetSaid.{SetSaid}
 use Rattle.um_base.specs.declared.image.Image.{Image}
 use Rattle.um_base.specs.declared.names.Errno.{Errno}
-use Rattle.um_reach.specs.Described.{IsDescribed}
 use Rattle.um_words.specs.declared.fine.FineAct.{FineAct}
-use Rattle.um_words.specs.declared.fine.More.{More}
 use Rattle.um_words.specs.declared.fine.Unseen.{Unseen}
 use Rattle.um_words.specs.declared.row_word.RowWord.{RowWord}
 use Rattle.um_words.specs.declared.thread_word.ThreadWord.{ThreadWord}
 use Rattle.um_words.specs.declared.dom_word.DomWord.{DomWord}
 use Rattle.um_words.specs.Domains.{domain_after, domain_after_act}
-use Rattle.um_words.specs.Rows.{after_set, after_verdict, dropped, given_to, gone_stage, has, is_last, is_live, permitted, row_after, row_after_act}
+use Rattle.um_words.specs.Rows.{after_set, after_verdict, gone_stage, has, is_last, is_live, permitted, row_after, row_after_act}
 use Rattle.um_words.specs.Threads.{thread_after, thread_after_act}
-use Rattle.um_fine.specs.FineRun.{IsFineRun, site_of}
+use Rattle.um_fine.specs.FineRun.{site_of}
 use Rattle.um_fine.specs.Opening.{s_start}
 use Rattle.um_fine.specs.Runs.{ends, has_key, sub}
 use Rattle.um_fine.specs.Sites.{SiteState, s_next, same_site}
 use Rattle.um_fine.specs.Steps.{FineStep, Site}
 use Rattle.um_erasure.specs.Fine.{domain_state}
-use Rattle.um_erasure.proofs.Stuck.{has_number}
+use Rattle.um_erasure.specs.After.{left_by}
+use Rattle.um_erasure.specs.Room.{CanCount, has_number}
 use Rattle.um_core.specs.PickedRun.{site_after}
 
 abbrev pub number_of : SiteState → ℕ
@@ -143,15 +141,18 @@ module _ (image : Image) where
     abbrev there : Site → List FineStep
     there i = sub (has_key same_site site_of i) steps
 
-    pub numbers-known : (i : Site) → has_number (site_after image steps i) ≡ true
+    numbers-known : (i : Site) → has_number (site_after image steps i) ≡ true
     numbers-known i =
         let count = number-ends (s_start image i) (there i) in
         let first = number-first i in
         let short = shorter (has_key same_site site_of i) steps in
         has-number (site_after image steps i) (omega (arith, count, first, short, few))
 
-    pub versions-known : (d : ℕ) → (domain_state (site_after image steps (Site.domain d))).version < 1048575
+    versions-known : (d : ℕ) → (domain_state (site_after image steps (Site.domain d))).version < 1048575
     versions-known d =
         let most = version-ends (s_start image (Site.domain d)) (there (Site.domain d)) in
         let short = shorter (has_key same_site site_of (Site.domain d)) steps in
         omega (arith, most, short, few)
+
+    pub can-count : (cpus : ℕ) → CanCount (left_by image cpus steps)
+    can-count cpus = record { numbers = numbers-known; versions = λ d named. versions-known d }

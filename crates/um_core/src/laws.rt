@@ -2,7 +2,7 @@
 
 ghost use Rattle.std.specs.Prelude.{◌≡◌, ℕ, List, Option};
 ghost use Rattle.um_base.specs.declared.image.Image.{Image};
-ghost use Rattle.um_machine.specs.Run.{Runs, opening};
+ghost use Rattle.um_machine.specs.Run.{IsComplete, Runs, opening};
 ghost use Rattle.um_machine.specs.State.{State};
 ghost use Rattle.um_reach.specs.Described.{IsDescribed};
 ghost use Rattle.um_fine.specs.Erasure.{shown};
@@ -10,8 +10,12 @@ ghost use Rattle.um_fine.specs.FineRun.{IsFineRun};
 ghost use Rattle.um_fine.specs.Processor.{Processor};
 ghost use Rattle.um_fine.specs.Sites.{SiteState};
 ghost use Rattle.um_fine.specs.Steps.{FineStep, Site};
+ghost use Rattle.um_erasure.specs.Room.{CanRun};
 ghost use Rattle.um_core.specs.Moments.{AreSorted, MayStep};
 ghost use Rattle.um_core.specs.PickedRun.{IsPickedRun};
+
+use um_erasure::every_fine_run;
+use um_fine_bound::longest_fine_run;
 
 /// A processor has at most one next step: where each site keeps its sort, two steps of one processor, each as the processor makes it
 /// and as its site takes it, are the same.
@@ -21,12 +25,18 @@ pub fn every_moment()
 {}
 
 /// Of an image, so many processors and a pick there is one run in their order. It is a fine run; and so, where a description gives the
-/// image, what it shows is a run of the access-matrix machine.
+/// image, what it shows is a run of the access-matrix machine. On one to eight processors that is a complete one, where the image has no
+/// more domains than there are words for.
 pub fn every_order()
     ensures one { (image : Image) (cpus : ℕ) (pick : Option ℕ) (steps steps2 : List FineStep)
         → IsPickedRun image cpus pick steps → IsPickedRun image cpus pick steps2 → steps ≡ steps2 }
     ensures fine { (image : Image) (cpus : ℕ) (pick : Option ℕ) (steps : List FineStep)
         → IsPickedRun image cpus pick steps → IsFineRun image cpus steps }
-    ensures run { (image : Image) (cpus : ℕ) (pick : Option ℕ) (steps : List FineStep)
-        → IsDescribed image → IsPickedRun image cpus pick steps → (last : State) × Runs (opening image) (shown steps) last }
-{}
+    ensures run { (image : Image) (cpus : ℕ) (pick : Option ℕ) (steps : List FineStep) → IsDescribed image
+        → IsPickedRun image cpus pick steps → (last : State) × Runs (opening image) (shown steps) last }
+    ensures complete { (image : Image) (cpus : ℕ) (pick : Option ℕ) (steps : List FineStep) → IsDescribed image → CanRun image cpus
+        → IsPickedRun image cpus pick steps → (last : State) × Runs (opening image) (shown steps) last × IsComplete last }
+{
+    every_fine_run();
+    longest_fine_run();
+}
