@@ -8,6 +8,7 @@ use Rattle.um_words.specs.declared.dom_word.DomWord.{DomWord}
 use Rattle.um_fine.specs.Answers.{no_domain, no_row, no_thread}
 use Rattle.um_fine.specs.Cells.{Cell}
 use Rattle.um_fine.specs.Heap.{Heap}
+use Rattle.um_fine.specs.Memory.{Bytes}
 use Rattle.um_fine.specs.Scheduler.{Scheduler}
 use Rattle.um_fine.specs.Steps.{FineStep, Site}
 use Rattle.um_fine.specs.Sites.{SiteMay, SiteState, s_next}
@@ -16,13 +17,16 @@ use Rattle.um_processor.specs.declared.object_cell.ObjectCell.{ObjectCell}
 use Rattle.um_processor.specs.ObjectCells.{cleared, kept_in}
 use Rattle.um_processor.specs.declared.said.Said.{Said}
 
--- the words of all rows, thread indices and domains, the cells of domains and of objects, and those of the heap and the scheduler with the steps that they have taken
+-- the words of all rows, thread indices and domains, the cells of domains and of objects, and those of memory, the heap and the scheduler with the steps that they have taken
 pub record Sited : Type 0 where
   pub rows : List RowWord
   pub threads : List ThreadWord
   pub domains : List DomWord
   pub domain_cells : List DomainCell
   pub objects : List ObjectCell
+  pub rodata : List ℕ
+  pub memory : Bytes
+  pub memory_steps : ℕ
   pub heap : Heap
   pub heap_steps : ℕ
   pub scheduler : Scheduler
@@ -42,16 +46,16 @@ domain_cell_state c = SiteState.cell c.steps (Cell.parts c.parts)
 abbrev pub object_state : ObjectCell → SiteState
 object_state c = SiteState.cell c.steps (Cell.object (kept_in c))
 
--- what stands at a site: at one that isn't kept, a row without an object
+-- what stands at a site: past the last of a sort, what is nobody's
 abbrev pub state_at : Sited → Site → SiteState
 state_at s (Site.row x) = SiteState.row (slice_index_or s.rows x no_row)
 state_at s (Site.thread t) = SiteState.thread (slice_index_or s.threads t no_thread)
 state_at s (Site.domain d) = SiteState.domain (slice_index_or s.domains d no_domain)
 state_at s (Site.parts d) = domain_cell_state (slice_index_or s.domain_cells d no_domain_cell)
 state_at s (Site.object x) = object_state (slice_index_or s.objects x (cleared 0))
+state_at s Site.memory = SiteState.cell s.memory_steps (Cell.memory s.memory)
 state_at s Site.heap = SiteState.cell s.heap_steps (Cell.heap s.heap)
 state_at s Site.scheduler = SiteState.cell s.scheduler_steps (Cell.scheduler s.scheduler)
-state_at s site = SiteState.row no_row
 
 abbrev pub with_state : Sited → Site → SiteState → Sited
 with_state s (Site.row x) (SiteState.row w) = record s { rows = slice_set s.rows x w }
@@ -61,6 +65,7 @@ with_state s (Site.parts d) (SiteState.cell n (Cell.parts parts)) =
     record s { domain_cells = slice_set s.domain_cells d (record { parts = parts; steps = n }) }
 with_state s (Site.object x) (SiteState.cell n (Cell.object o)) =
     record s { objects = slice_set s.objects x (record { contents = o.contents; waiters = o.waiters; buffer = o.buffer; steps = n }) }
+with_state s Site.memory (SiteState.cell n (Cell.memory m)) = record s { memory = m; memory_steps = n }
 with_state s Site.heap (SiteState.cell n (Cell.heap h)) = record s { heap = h; heap_steps = n }
 with_state s Site.scheduler (SiteState.cell n (Cell.scheduler t)) = record s { scheduler = t; scheduler_steps = n }
 with_state s site state = s

@@ -8,8 +8,9 @@ ghost use Rattle.um_machine.specs.Limits.{is_sound_ask};
 ghost use Rattle.um_words.specs.declared.row_word.RowWord.{RowWord};
 ghost use Rattle.um_words.specs.declared.thread_word.ThreadWord.{ThreadWord};
 ghost use Rattle.um_words.specs.declared.dom_word.DomWord.{DomWord};
-ghost use Rattle.um_fine.specs.Answers.{domain_in, thread_in};
+ghost use Rattle.um_fine.specs.Answers.{act_in, domain_in, thread_in, value_in};
 ghost use Rattle.um_fine.specs.Heap.{Heap};
+ghost use Rattle.um_fine.specs.Memory.{Bytes};
 ghost use Rattle.um_fine.specs.Objects.{ObjectCell};
 ghost use Rattle.um_fine.specs.Processor.{edit_of};
 ghost use Rattle.um_fine.specs.Scheduler.{Scheduler};
@@ -17,6 +18,7 @@ ghost use Rattle.um_fine.specs.Steps.{Exchange};
 ghost use Rattle.um_processor.specs.DomainActs.{domain_made};
 ghost use Rattle.um_processor.specs.DomainCells.{edited_made, loaded_made};
 ghost use Rattle.um_processor.specs.HeapActs.{heap_made, heap_said};
+ghost use Rattle.um_processor.specs.MemoryActs.{has_room, memory_made, taken_after};
 ghost use Rattle.um_processor.specs.ObjectCells.{cleared_made, looked_made, named_made, outcome_by, worked_made};
 ghost use Rattle.um_processor.specs.RowActs.{row_made, row_said};
 ghost use Rattle.um_processor.specs.Parked.{some_if};
@@ -27,6 +29,7 @@ ghost use Rattle.um_processor.specs.ThreadActs.{thread_made};
 use crate::context::Context;
 use crate::domain_act::DomainAct;
 use crate::heap_act::{HeapAct, HeapSaid};
+use crate::memory_act::MemoryAct;
 use crate::row_act::{RowAct, RowSaid};
 use crate::said::Said;
 use crate::thread_act::ThreadAct;
@@ -170,6 +173,16 @@ pub trait Sites {
             (λ cost. (n : ℕ) × (o : ObjectCell) × Took image.now self.old (cleared_made image.now cpu row.0 n o) self.new × ((cleared_made image.now cpu row.0 n o).moved ≡ Exchange.charge cost))
             ((n : ℕ) × (o : ObjectCell) × Kept self.old self.new × Shut image.now self.old (cleared_made image.now cpu row.0 n o))
             (Kept self.old self.new × Contended self.old) };
+
+    /// A step at the memory's cell. A copy reads or writes the buffer. Answers the value of a load.
+    fn memory(&mut self, image: &Image, cpu: u8, act: &MemoryAct, buffer: &mut Piece) -> Said<u32>
+        requires image { IsOf image.now self.old }
+        requires few { IsTrue (has_room act.now) }
+        ensures image { IsOf image.now self.new }
+        ensures said { MatchSaid result
+            (λ value. (n : ℕ) × (m : Bytes) × Took image.now self.old (memory_made image.now cpu n m act.now buffer.old) self.new × (value ≡ value_in (act_in (memory_made image.now cpu n m act.now buffer.old).act)) × (buffer.new ≡ taken_after act.now (memory_made image.now cpu n m act.now buffer.old).moved buffer.old))
+            ((n : ℕ) × (m : Bytes) × Kept self.old self.new × Shut image.now self.old (memory_made image.now cpu n m act.now buffer.old) × (buffer.new ≡ buffer.old))
+            (Kept self.old self.new × Contended self.old × (buffer.new ≡ buffer.old)) };
 
     /// A step at the heap's cell, where a pool pays this or gets it back, and what the cell says.
     fn heap(

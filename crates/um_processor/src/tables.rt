@@ -5,11 +5,13 @@ ghost use Rattle.std.specs.List.{All};
 ghost use Rattle.um_base.specs.declared.limits.TheConstants.{DOMAINS, ROWS, THREADS};
 ghost use Rattle.um_processor.specs.Sited.{in_domains};
 
+use crate::bytes::Bytes;
 use crate::context::Context;
 use crate::domain_act::DomainAct;
 use crate::domain_cell::{DomainCell, edited, parts_or_none};
 use crate::heap::Heap;
 use crate::heap_act::{HeapAct, HeapSaid};
+use crate::memory_act::MemoryAct;
 use crate::object_cell::ObjectCell;
 use crate::row_act::{RowAct, RowSaid};
 use crate::said::Said;
@@ -25,7 +27,7 @@ use um_words::{DomWord, RowWord, ThreadWord};
 /// The greatest step number: there a cell takes no step.
 const LAST: u32 = 0xfff_ffff;
 
-/// The words of all rows, thread indices and domains, the cells of domains and of objects, and those of the heap and the scheduler.
+/// The words of all rows, thread indices and domains, the cells of domains and of objects, and those of memory, the heap and the scheduler.
 #[derive(Drop)]
 pub struct Tables {
     rows: Vec<RowWord>,
@@ -33,6 +35,11 @@ pub struct Tables {
     domains: Vec<DomWord>,
     domain_cells: Vec<DomainCell>,
     objects: Vec<ObjectCell>,
+    /// The bytes of the read-only data, which no step changes.
+    rodata: Vec<u8>,
+    memory: Bytes,
+    /// How many steps the memory's cell has taken, below 2^28.
+    memory_steps: u32,
     heap: Heap,
     /// How many steps the heap's cell has taken, below 2^28.
     heap_steps: u32,
@@ -49,19 +56,21 @@ impl Model for Tables {
 
     ghost Value = { Sited };
 
-    ghost view = { λ t. record { rows = t.rows.items; threads = t.threads.items; domains = t.domains.items; domain_cells = t.domain_cells.items; objects = t.objects.items; heap = t.heap; heap_steps = t.heap_steps; scheduler = t.scheduler; scheduler_steps = t.scheduler_steps } };
+    ghost view = { λ t. record { rows = t.rows.items; threads = t.threads.items; domains = t.domains.items; domain_cells = t.domain_cells.items; objects = t.objects.items; rodata = t.rodata.items; memory = t.memory; memory_steps = t.memory_steps; heap = t.heap; heap_steps = t.heap_steps; scheduler = t.scheduler; scheduler_steps = t.scheduler_steps } };
 
     ghost invariant = { λ t. (length t.rows.items ≡ ROWS) × (length t.threads.items ≡ THREADS) × (length t.domains.items ≡ DOMAINS) × (length t.domain_cells.items ≡ DOMAINS) × (length t.objects.items ≡ ROWS) × All in_domains t.threads.items };
 }
 
 impl Tables {
-    /// Those with these words and cells, of which those of the heap and the scheduler have taken no step.
+    /// Those with these words and cells, of which those of memory, the heap and the scheduler have taken no step.
     pub fn new(
         rows: Vec<RowWord>,
         threads: Vec<ThreadWord>,
         domains: Vec<DomWord>,
         domain_cells: Vec<DomainCell>,
         objects: Vec<ObjectCell>,
+        rodata: Vec<u8>,
+        memory: Bytes,
         heap: Heap,
         scheduler: Scheduler,
     ) -> Tables
@@ -71,7 +80,7 @@ impl Tables {
         requires cells { length domain_cells.items ≡ DOMAINS }
         requires objects { length objects.items ≡ ROWS }
         requires named { All in_domains threads.items }
-        ensures { result ≡ record { rows = rows.items; threads = threads.items; domains = domains.items; domain_cells = domain_cells.items; objects = objects.items; heap = heap; heap_steps = 0; scheduler = scheduler; scheduler_steps = 0 } }
+        ensures { result ≡ record { rows = rows.items; threads = threads.items; domains = domains.items; domain_cells = domain_cells.items; objects = objects.items; rodata = rodata.items; memory = memory; memory_steps = 0; heap = heap; heap_steps = 0; scheduler = scheduler; scheduler_steps = 0 } }
     {
         Tables {
             rows,
@@ -79,6 +88,9 @@ impl Tables {
             domains,
             domain_cells,
             objects,
+            rodata,
+            memory,
+            memory_steps: 0,
             heap,
             heap_steps: 0,
             scheduler,
@@ -90,10 +102,11 @@ impl Tables {
 impl Sites for Tables {
     ghost use Rattle.std.specs.Prelude.{◌≡◌};
     ghost use Rattle.um_base.specs.declared.image.Image.{Image};
+    ghost use Rattle.um_machine.specs.Memory.{rodata_of};
     ghost use Rattle.um_processor.specs.Asked.{Refuses};
     ghost use Rattle.um_processor.specs.Sited.{WasMade, state_at};
 
-    ghost IsOf = { λ image s. Unit {0} };
+    ghost IsOf = { λ image s. s.rodata ≡ rodata_of image };
 
     ghost Took = { WasMade };
 
@@ -211,6 +224,15 @@ impl Sites for Tables {
         let buffer = cell.clear();
         cell.steps += 1;
         Said::Made(buffer)
+    }
+
+    fn memory(&mut self, image: &Image, cpu: u8, act: &MemoryAct, buffer: &mut Piece) -> Said<u32> {
+        if self.memory_steps >= LAST {
+            return Said::Busy;
+        }
+        let value = self.memory.make(image, self.rodata.as_slice(), act, buffer);
+        self.memory_steps += 1;
+        Said::Made(value)
     }
 
     fn heap(

@@ -1,7 +1,8 @@
 //! Steps over tables: a row, a thread, a domain, and turns of a thread.
 
-ghost use Rattle.std.specs.Prelude.{◌≡◌, IfOk, length};
+ghost use Rattle.std.specs.Prelude.{◌≡◌, [], IfOk, length};
 ghost use Rattle.um_base.specs.declared.limits.TheConstants.{ROWS};
+ghost use Rattle.um_machine.specs.Memory.{rodata_of};
 
 use super::*;
 use std::alloc::Global;
@@ -153,7 +154,9 @@ fn turns(rt: HostRuntime) -> Result<(), Fail> {
 }
 
 /// An image without anything.
-fn image(alloc: Global) -> Image {
+fn image(alloc: Global) -> Image
+    ensures { rodata_of result ≡ [] }
+{
     Image {
         mpu: Mpu::V8,
         regions: 8,
@@ -180,8 +183,19 @@ fn objects(alloc: Global) -> Result<Vec<ObjectCell>, Memory>
     Ok(all)
 }
 
-/// Tables in which all rows are alike, and all threads, and all domains.
-fn tables(alloc: Global) -> Result<Tables, Memory> {
+/// A few bytes of each area, all zero.
+fn memory(alloc: Global) -> Result<Bytes, Memory> {
+    let mut partitions = Vec::new(alloc);
+    partitions.resize(64, 0)?;
+    let mut stacks = Vec::new(alloc);
+    stacks.resize(64, 0)?;
+    Ok(Bytes::new(partitions, stacks))
+}
+
+/// Tables in which all rows are alike, and all threads, and all domains, without read-only data.
+fn tables(alloc: Global) -> Result<Tables, Memory>
+    ensures { IfOk result (λ t. t.rodata ≡ []) }
+{
     let mut rows = Vec::new(alloc);
     rows.resize(ROWS, row())?;
     let mut threads = Vec::new(alloc);
@@ -208,6 +222,8 @@ fn tables(alloc: Global) -> Result<Tables, Memory> {
         domains,
         cells,
         objects(alloc)?,
+        Vec::new(alloc),
+        memory(alloc)?,
         Heap::new(pools, free, costs),
         Scheduler::new(alloc)?,
     ))

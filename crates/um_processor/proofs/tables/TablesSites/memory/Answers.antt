@@ -1,0 +1,27 @@
+use Rattle.std.proofs.Common.{arith, ap, refl}
+use Rattle.um_fine.specs.Cells.{Cell}
+use Rattle.um_fine.specs.Steps.{Site}
+use Rattle.um_processor.specs.MemoryActs.{memory_act, memory_sent}
+use Rattle.um_processor.proofs.ByteLemmas.{memory-takes}
+use Rattle.um_processor.proofs.Celled.{cell-ends, cell-taken}
+use Rattle.um_processor.proofs.tables.TablesSites.memory.Goals as goal
+
+pub returns-clause-said : goal.returns-clause-said
+returns-clause-said c =
+    let m = c.self.inside.memory in
+    let sent = memory_sent c.args.act.now c.args.buffer.now in (
+      c.self.inside.memory_steps,
+      m,
+      cell-taken c.args.image.now _ _ c.self.view_is c.args.cpu Site.memory c.self.inside.memory_steps (Cell.memory m) (Cell.memory c.make-value.new.self) (memory_act c.args.act.now) sent refl (omega arith) (memory-takes c.args.image.now m sent c.args.act.now) (ap Cell.memory c.make-value.ensures.leaves),
+      c.make-value.ensures.value,
+      c.make-value.ensures.taken,
+    )
+
+pub returns-then-self-ge-LAST-clause-said : goal.returns-then-self-ge-LAST-clause-said
+returns-then-self-ge-LAST-clause-said c = (
+  c.self.inside.memory_steps,
+  c.self.inside.memory,
+  refl,
+  cell-ends c.args.image.now _ _ c.self.view_is c.args.cpu Site.memory c.self.inside.memory_steps (Cell.memory c.self.inside.memory) (memory_act c.args.act.now) (memory_sent c.args.act.now c.args.buffer.now) refl (search arith),
+  refl,
+)
