@@ -24,4 +24,5 @@ memory-takes image m moved (MemoryAct.Fault t access a n) = refl
 memory-takes image m moved (MemoryAct.Probe t a n fits) = refl
 memory-takes image m moved (MemoryAct.CopyIn t a n fits) = refl
 memory-takes image m moved (MemoryAct.CopyOut t a n fits) = refl
+memory-takes image m moved (MemoryAct.CopyStr t a n) = refl
 memory-takes image m moved (MemoryAct.Erase t stack) = refl

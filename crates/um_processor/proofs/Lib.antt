@@ -5,3 +5,4 @@ pub mod HeapLemmas
 pub mod Places
 pub mod Scheduled
 pub mod Tabled
+pub mod TextLemmas

@@ -1,15 +1,17 @@
--- What is asked of the memory's cell: the steps as they are made at these bytes after so many steps, and what a copy takes.
-use Rattle.std.specs.Prelude.{ℕ, Bool, true, nat_le, List}
+-- What is asked of the memory's cell: the steps as they are made at these bytes after so many steps, what the cell says, and what a copy takes.
+use Rattle.std.specs.Prelude.{◌≡◌, ℕ, Bool, true, nat_le, List, []}
 use Rattle.um_base.specs.declared.act.Act.{Act}
+use Rattle.um_base.specs.declared.act.Found.{Found}
 use Rattle.um_base.specs.declared.image.Image.{Image}
 use Rattle.um_words.specs.declared.fine.FineAct.{FineAct}
 use Rattle.um_words.specs.declared.fine.More.{More}
-use Rattle.um_fine.specs.Answers.{bytes_in}
+use Rattle.um_fine.specs.Answers.{act_in, bytes_in, found_in, value_in}
 use Rattle.um_fine.specs.Cells.{Cell}
-use Rattle.um_fine.specs.Memory.{Bytes}
+use Rattle.um_fine.specs.Memory.{Bytes, memory_moves, memory_says}
 use Rattle.um_fine.specs.Steps.{Exchange, FineStep, Site}
 use Rattle.um_processor.specs.Asked.{cell_made, shown}
 use Rattle.um_processor.specs.declared.memory_act.MemoryAct.{MemoryAct}
+use Rattle.um_processor.specs.declared.memory_act.MemorySaid.{MemorySaid}
 
 -- the act without the answer of the cell
 abbrev pub memory_act : MemoryAct → FineAct
@@ -20,22 +22,49 @@ memory_act (MemoryAct.Fault t access a n) = shown t (Act.Fault access a n) More.
 memory_act (MemoryAct.Probe t a n fits) = shown t (Act.Probe a n fits) More.Nothing
 memory_act (MemoryAct.CopyIn t a n fits) = shown t (Act.CopyIn a n fits) More.Nothing
 memory_act (MemoryAct.CopyOut t a n fits) = shown t (Act.CopyOut a n fits) More.Nothing
+memory_act (MemoryAct.CopyStr t a n) = shown t (Act.CopyStr a Found.Unreadable) More.Nothing
 memory_act (MemoryAct.Erase t stack) = shown t (Act.Erase stack) More.Nothing
 
--- a load has four bytes at most
+-- a load has four bytes at most, and a text 32
 abbrev pub has_room : MemoryAct → Bool
 has_room (MemoryAct.Load t a n) = nat_le n 4
+has_room (MemoryAct.CopyStr t a n) = nat_le n 32
 has_room act = true
 
 -- what goes with it, of the thread's buffer
 abbrev pub memory_sent : MemoryAct → List ℕ → Exchange
 memory_sent (MemoryAct.CopyOut t a n fits) buffer = Exchange.bytes buffer
+memory_sent (MemoryAct.CopyStr t a n) buffer = Exchange.text n []
 memory_sent act buffer = Exchange.nothing
 
--- the buffer after the step
-abbrev pub taken_after : MemoryAct → Exchange → List ℕ → List ℕ
-taken_after (MemoryAct.CopyIn t a n true) moved buffer = bytes_in moved
+module _ (image : Image) (m : Bytes) (act : MemoryAct) (buffer : List ℕ) where
+  -- the act with the answer of the cell
+  abbrev pub memory_answered : FineAct
+  memory_answered = memory_says image m (memory_sent act buffer) (memory_act act)
+
+  -- what goes with it then
+  abbrev pub memory_given : Exchange
+  memory_given = memory_moves image m (act_in (memory_act act)) (memory_sent act buffer)
+
+-- what the cell says, by the act with its answer
+abbrev pub memory_said : FineAct → MemorySaid
+memory_said act = record { value = value_in (act_in act); found = found_in (act_in act) }
+
+-- the buffer after the copy of a text: its bytes, where its end was found
+abbrev pub text_taken : Found → List ℕ → List ℕ → List ℕ
+text_taken (Found.Length n) bytes buffer = bytes
+text_taken found bytes buffer = buffer
+
+-- the buffer after the act with its answer
+abbrev pub taken_after : Act → Exchange → List ℕ → List ℕ
+taken_after (Act.CopyIn a n true) moved buffer = bytes_in moved
+taken_after (Act.CopyStr a found) moved buffer = text_taken found (bytes_in moved) buffer
 taken_after act moved buffer = buffer
 
 abbrev pub memory_made : Image → ℕ → ℕ → Bytes → MemoryAct → List ℕ → FineStep
 memory_made image cpu n m act buffer = cell_made image cpu Site.memory n (Cell.memory m) (memory_act act) (memory_sent act buffer)
+
+-- what a step that was made says, and leaves in the buffer
+pub record Tells (e : FineStep) (said : MemorySaid) (before after : List ℕ) : Type 0 where
+  pub said_is : said ≡ memory_said e.act
+  pub taken : after ≡ taken_after (act_in e.act) e.moved before

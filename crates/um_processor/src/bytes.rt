@@ -1,20 +1,32 @@
 //! The contents of the memory's cell.
 
-ghost use Rattle.std.specs.Prelude.{◌≡◌, ◌+◌, ◌<◌, ◌≤◌, ◌^◌, length, replicate, take, ℕ, IsTrue};
+ghost use Rattle.std.specs.Prelude.{◌≡◌, ◌+◌, ◌<◌, ◌≤◌, ◌^◌, length, replicate, slice_index, take, ℕ, IsTrue};
 ghost use Rattle.um_base.specs.declared.act.Act.{Act};
+ghost use Rattle.um_base.specs.declared.limits.TheConstants.{AREA_SIZE};
 ghost use Rattle.um_base.specs.Places.{setup_at};
 ghost use Rattle.um_base.specs.Regions.{stack_range};
 ghost use Rattle.um_machine.specs.Memory.{le_bytes, le_value, put_bytes, rodata_of};
-ghost use Rattle.um_fine.specs.Answers.{act_in, value_in};
-ghost use Rattle.um_fine.specs.Memory.{memory_after, memory_moves, memory_says, read, write};
+ghost use Rattle.um_fine.specs.Answers.{act_in};
+ghost use Rattle.um_fine.specs.Memory.{byte_at, memory_after, read, text_bytes, text_found, write};
 ghost use Rattle.um_fine.specs.Steps.{Exchange};
-ghost use Rattle.um_processor.specs.MemoryActs.{has_room, memory_act, memory_sent, taken_after};
+ghost use Rattle.um_processor.specs.MemoryActs.{has_room, memory_answered, memory_given, memory_said, taken_after, text_taken};
 
-use crate::memory_act::MemoryAct;
+use crate::memory_act::{MemoryAct, MemorySaid};
 use std::marker::Model;
-use um_base::{Image, PARTITION_AREA, PIECE, Piece, RODATA, Range, Row, STACK_AREA, Setup};
+use um_base::{
+    AREA_SIZE, Found, Image, PARTITION_AREA, PIECE, Piece, RODATA, Range, Row, STACK_AREA, Setup,
+};
 use um_rules::bytes::{le_value, part, put, write};
 use um_rules::rows::setup_at;
+
+/// How many bytes of a text are read at most.
+const MOST_TEXT: u32 = 32;
+
+/// What the cell says where it is asked for nothing.
+const NOTHING: MemorySaid = MemorySaid {
+    value: 0,
+    found: Found::Unreadable,
+};
 
 /// The bytes of the area of the partitions, and of that of the stacks.
 #[derive(Drop)]
@@ -24,11 +36,15 @@ pub struct Bytes {
 }
 
 impl Model for Bytes {
+    ghost use Rattle.std.specs.Prelude.{◌≤◌, length};
+    ghost use Rattle.um_base.specs.declared.limits.TheConstants.{AREA_SIZE};
     ghost use Rattle.um_fine.specs.Memory.{Bytes as Contents};
 
     ghost Value = { Contents };
 
     ghost view = { λ m. record { memory = m.memory.items; stacks = m.stacks.items } };
+
+    ghost invariant = { λ m. length m.stacks.items ≤ AREA_SIZE };
 }
 
 /// As many bytes as a copy takes at most.
@@ -41,6 +57,16 @@ fn first_bytes(bytes: &[u8]) -> Piece
         piece.push(front[i]);
     }
     piece
+}
+
+/// The first byte, or zero.
+fn first(bytes: &[u8]) -> u8
+    ensures { result ≡ slice_index bytes.now 0 }
+{
+    match bytes {
+        [b, ..] => *b,
+        [] => 0,
+    }
 }
 
 /// The range of the stack of a row, if it is one.
@@ -67,6 +93,7 @@ fn clear(memory: &mut [u8], i: usize, n: usize)
 impl Bytes {
     /// Those of these areas.
     pub fn new(memory: Vec<u8>, stacks: Vec<u8>) -> Bytes
+        requires { length stacks.items ≤ AREA_SIZE }
         ensures { result ≡ record { memory = memory.items; stacks = stacks.items } }
     {
         Bytes { memory, stacks }
@@ -145,18 +172,68 @@ impl Bytes {
         }
     }
 
-    /// Makes a step, which the cell always takes. A copy reads or writes the buffer. Answers the value of a load.
-    pub fn make(&mut self, image: &Image, rodata: &[u8], act: &MemoryAct, buffer: &mut Piece) -> u32
+    /// The byte so many behind an address: zero where there is no memory.
+    #[tactic(auto, using(crate::proofs::TextLemmas::no_byte))]
+    fn byte_behind(&self, image: &Image, rodata: &[u8], a: u32, before: u32) -> u8
+        requires { rodata.now ≡ rodata_of image.now }
+        ensures { result ≡ byte_at image.now self.now (a + before) }
+    {
+        let _ = &self.stacks;
+        match a.checked_add(before) {
+            Some(at) => first(self.read(image, rodata, at, 1)),
+            None => 0,
+        }
+    }
+
+    /// Reads a text up to its zero, of which so many bytes may be read. Where there is its end the buffer takes the bytes.
+    fn copy_text(
+        &self,
+        image: &Image,
+        rodata: &[u8],
+        a: u32,
+        readable: u32,
+        buffer: &mut Piece,
+    ) -> Found
+        requires rodata { rodata.now ≡ rodata_of image.now }
+        requires few { readable ≤ 32 }
+        ensures found { result ≡ text_found image.now self.now a readable 0 }
+        ensures taken { buffer.new ≡ text_taken result (text_bytes image.now self.now a readable) buffer.old }
+    {
+        let mut text = Piece::new();
+        for before in 0..readable {
+            let byte = self.byte_behind(image, rodata, a, before);
+            if byte == 0 {
+                *buffer = text;
+                return Found::Length(before);
+            }
+            text.push(byte);
+        }
+        if readable == MOST_TEXT {
+            Found::TooLong
+        } else {
+            Found::Unreadable
+        }
+    }
+
+    /// Makes a step, which the cell always takes, and answers what it says. A copy reads or writes the buffer.
+    pub fn make(
+        &mut self,
+        image: &Image,
+        rodata: &[u8],
+        act: &MemoryAct,
+        buffer: &mut Piece,
+    ) -> MemorySaid
         requires rodata { rodata.now ≡ rodata_of image.now }
         requires few { IsTrue (has_room act.now) }
-        ensures value { result ≡ value_in (act_in (memory_says image.now self.old (memory_sent act.now buffer.old) (memory_act act.now))) }
-        ensures taken { buffer.new ≡ taken_after act.now (memory_moves image.now self.old (act_in (memory_act act.now)) (memory_sent act.now buffer.old)) buffer.old }
-        ensures leaves { self.new ≡ memory_after image.now self.old (act_in (memory_says image.now self.old (memory_sent act.now buffer.old) (memory_act act.now))) (memory_moves image.now self.old (act_in (memory_act act.now)) (memory_sent act.now buffer.old)) }
+        ensures said { result ≡ memory_said (memory_answered image.now self.old act.now buffer.old) }
+        ensures taken { buffer.new ≡ taken_after (act_in (memory_answered image.now self.old act.now buffer.old)) (memory_given image.now self.old act.now buffer.old) buffer.old }
+        ensures leaves { self.new ≡ memory_after image.now self.old (act_in (memory_answered image.now self.old act.now buffer.old)) (memory_given image.now self.old act.now buffer.old) }
     {
         match act {
-            MemoryAct::Load { addr, size, .. } => {
-                le_value(self.read(image, rodata, addr.0, *size))
-            }
+            MemoryAct::Load { addr, size, .. } => MemorySaid {
+                value: le_value(self.read(image, rodata, addr.0, *size)),
+                found: Found::Unreadable,
+            },
             MemoryAct::Store {
                 addr,
                 size,
@@ -164,7 +241,7 @@ impl Bytes {
                 ..
             } => {
                 self.write_number(image, addr.0, *size, *value);
-                0
+                NOTHING
             }
             MemoryAct::CopyIn {
                 addr,
@@ -175,21 +252,25 @@ impl Bytes {
                 if *fits {
                     *buffer = first_bytes(self.read(image, rodata, addr.0, *size));
                 }
-                0
+                NOTHING
             }
             MemoryAct::CopyOut { addr, fits, .. } => {
                 if *fits {
                     self.write(image, addr.0, buffer.as_slice());
                 }
-                0
+                NOTHING
             }
+            MemoryAct::CopyStr { addr, readable, .. } => MemorySaid {
+                value: 0,
+                found: self.copy_text(image, rodata, addr.0, *readable, buffer),
+            },
             MemoryAct::Erase { stack, .. } => {
                 self.erase(image, *stack);
-                0
+                NOTHING
             }
-            MemoryAct::Fetch { .. } => 0,
-            MemoryAct::Fault { .. } => 0,
-            MemoryAct::Probe { .. } => 0,
+            MemoryAct::Fetch { .. } => NOTHING,
+            MemoryAct::Fault { .. } => NOTHING,
+            MemoryAct::Probe { .. } => NOTHING,
         }
     }
 }

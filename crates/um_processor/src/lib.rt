@@ -24,7 +24,7 @@ pub use domain_act::DomainAct;
 pub use domain_cell::DomainCell;
 pub use heap::Heap;
 pub use heap_act::{HeapAct, HeapSaid};
-pub use memory_act::MemoryAct;
+pub use memory_act::{MemoryAct, MemorySaid};
 pub use object_cell::ObjectCell;
 pub use parked::Parked;
 pub use row_act::{RowAct, RowSaid};

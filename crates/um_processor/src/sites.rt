@@ -8,7 +8,7 @@ ghost use Rattle.um_machine.specs.Limits.{is_sound_ask};
 ghost use Rattle.um_words.specs.declared.row_word.RowWord.{RowWord};
 ghost use Rattle.um_words.specs.declared.thread_word.ThreadWord.{ThreadWord};
 ghost use Rattle.um_words.specs.declared.dom_word.DomWord.{DomWord};
-ghost use Rattle.um_fine.specs.Answers.{act_in, domain_in, thread_in, value_in};
+ghost use Rattle.um_fine.specs.Answers.{domain_in, thread_in};
 ghost use Rattle.um_fine.specs.Heap.{Heap};
 ghost use Rattle.um_fine.specs.Memory.{Bytes};
 ghost use Rattle.um_fine.specs.Objects.{ObjectCell};
@@ -18,7 +18,7 @@ ghost use Rattle.um_fine.specs.Steps.{Exchange};
 ghost use Rattle.um_processor.specs.DomainActs.{domain_made};
 ghost use Rattle.um_processor.specs.DomainCells.{edited_made, loaded_made};
 ghost use Rattle.um_processor.specs.HeapActs.{heap_made, heap_said};
-ghost use Rattle.um_processor.specs.MemoryActs.{has_room, memory_made, taken_after};
+ghost use Rattle.um_processor.specs.MemoryActs.{Tells, has_room, memory_made};
 ghost use Rattle.um_processor.specs.ObjectCells.{cleared_made, looked_made, named_made, outcome_by, worked_made};
 ghost use Rattle.um_processor.specs.RowActs.{row_made, row_said};
 ghost use Rattle.um_processor.specs.Parked.{some_if};
@@ -29,7 +29,7 @@ ghost use Rattle.um_processor.specs.ThreadActs.{thread_made};
 use crate::context::Context;
 use crate::domain_act::DomainAct;
 use crate::heap_act::{HeapAct, HeapSaid};
-use crate::memory_act::MemoryAct;
+use crate::memory_act::{MemoryAct, MemorySaid};
 use crate::row_act::{RowAct, RowSaid};
 use crate::said::Said;
 use crate::thread_act::ThreadAct;
@@ -174,13 +174,19 @@ pub trait Sites {
             ((n : ℕ) × (o : ObjectCell) × Kept self.old self.new × Shut image.now self.old (cleared_made image.now cpu row.0 n o))
             (Kept self.old self.new × Contended self.old) };
 
-    /// A step at the memory's cell. A copy reads or writes the buffer. Answers the value of a load.
-    fn memory(&mut self, image: &Image, cpu: u8, act: &MemoryAct, buffer: &mut Piece) -> Said<u32>
+    /// A step at the memory's cell, and what the cell says. A copy reads or writes the buffer.
+    fn memory(
+        &mut self,
+        image: &Image,
+        cpu: u8,
+        act: &MemoryAct,
+        buffer: &mut Piece,
+    ) -> Said<MemorySaid>
         requires image { IsOf image.now self.old }
         requires few { IsTrue (has_room act.now) }
         ensures image { IsOf image.now self.new }
         ensures said { MatchSaid result
-            (λ value. (n : ℕ) × (m : Bytes) × Took image.now self.old (memory_made image.now cpu n m act.now buffer.old) self.new × (value ≡ value_in (act_in (memory_made image.now cpu n m act.now buffer.old).act)) × (buffer.new ≡ taken_after act.now (memory_made image.now cpu n m act.now buffer.old).moved buffer.old))
+            (λ said. (n : ℕ) × (m : Bytes) × Took image.now self.old (memory_made image.now cpu n m act.now buffer.old) self.new × Tells (memory_made image.now cpu n m act.now buffer.old) said buffer.old buffer.new)
             ((n : ℕ) × (m : Bytes) × Kept self.old self.new × Shut image.now self.old (memory_made image.now cpu n m act.now buffer.old) × (buffer.new ≡ buffer.old))
             (Kept self.old self.new × Contended self.old × (buffer.new ≡ buffer.old)) };
 

@@ -11,7 +11,7 @@ use crate::domain_act::DomainAct;
 use crate::domain_cell::{DomainCell, edited, parts_or_none};
 use crate::heap::Heap;
 use crate::heap_act::{HeapAct, HeapSaid};
-use crate::memory_act::MemoryAct;
+use crate::memory_act::{MemoryAct, MemorySaid};
 use crate::object_cell::ObjectCell;
 use crate::row_act::{RowAct, RowSaid};
 use crate::said::Said;
@@ -226,13 +226,19 @@ impl Sites for Tables {
         Said::Made(buffer)
     }
 
-    fn memory(&mut self, image: &Image, cpu: u8, act: &MemoryAct, buffer: &mut Piece) -> Said<u32> {
+    fn memory(
+        &mut self,
+        image: &Image,
+        cpu: u8,
+        act: &MemoryAct,
+        buffer: &mut Piece,
+    ) -> Said<MemorySaid> {
         if self.memory_steps >= LAST {
             return Said::Busy;
         }
-        let value = self.memory.make(image, self.rodata.as_slice(), act, buffer);
+        let said = self.memory.make(image, self.rodata.as_slice(), act, buffer);
         self.memory_steps += 1;
-        Said::Made(value)
+        Said::Made(said)
     }
 
     fn heap(

@@ -1,5 +1,7 @@
 //! Steps over tables: a row, a thread, a domain, and turns of a thread.
 
+mod memory;
+
 ghost use Rattle.std.specs.Prelude.{◌≡◌, [], IfOk, length};
 ghost use Rattle.um_base.specs.declared.limits.TheConstants.{ROWS};
 ghost use Rattle.um_machine.specs.Memory.{rodata_of};
@@ -183,13 +185,11 @@ fn objects(alloc: Global) -> Result<Vec<ObjectCell>, Memory>
     Ok(all)
 }
 
-/// A few bytes of each area, all zero.
-fn memory(alloc: Global) -> Result<Bytes, Memory> {
+/// The first bytes of the area of the partitions, all zero.
+fn bytes(alloc: Global) -> Result<Bytes, Memory> {
     let mut partitions = Vec::new(alloc);
     partitions.resize(64, 0)?;
-    let mut stacks = Vec::new(alloc);
-    stacks.resize(64, 0)?;
-    Ok(Bytes::new(partitions, stacks))
+    Ok(Bytes::new(partitions, Vec::new(alloc)))
 }
 
 /// Tables in which all rows are alike, and all threads, and all domains, without read-only data.
@@ -223,7 +223,7 @@ fn tables(alloc: Global) -> Result<Tables, Memory>
         cells,
         objects(alloc)?,
         Vec::new(alloc),
-        memory(alloc)?,
+        bytes(alloc)?,
         Heap::new(pools, free, costs),
         Scheduler::new(alloc)?,
     ))

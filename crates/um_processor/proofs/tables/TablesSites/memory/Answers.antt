@@ -12,9 +12,8 @@ returns-clause-said c =
     let sent = memory_sent c.args.act.now c.args.buffer.now in (
       c.self.inside.memory_steps,
       m,
-      cell-taken c.args.image.now _ _ c.self.view_is c.args.cpu Site.memory c.self.inside.memory_steps (Cell.memory m) (Cell.memory c.make-value.new.self) (memory_act c.args.act.now) sent refl (omega arith) (memory-takes c.args.image.now m sent c.args.act.now) (ap Cell.memory c.make-value.ensures.leaves),
-      c.make-value.ensures.value,
-      c.make-value.ensures.taken,
+      cell-taken c.args.image.now _ _ c.self.view_is c.args.cpu Site.memory c.self.inside.memory_steps (Cell.memory m) (Cell.memory c.make-said.new.self) (memory_act c.args.act.now) sent refl (omega arith) (memory-takes c.args.image.now m sent c.args.act.now) (ap Cell.memory c.make-said.ensures.leaves),
+      record { said_is = c.make-said.ensures.said; taken = c.make-said.ensures.taken },
     )
 
 pub returns-then-self-ge-LAST-clause-said : goal.returns-then-self-ge-LAST-clause-said

@@ -1,0 +1,53 @@
+//! Steps at the memory's cell.
+
+use super::image;
+use crate::{MemoryAct, Said, Sites};
+use std::test::Fail;
+use um_base::{Addr, Found, Piece, ThreadIx};
+
+/// Bytes are stored, loaded, copied in, and read as a text as far as the thread may read.
+#[test]
+fn a_memory(rt: HostRuntime) -> Result<(), Fail> {
+    let image = image(rt.alloc());
+    let mut sites = super::tables(rt.alloc())?;
+    let mut buffer = Piece::new();
+    let thread = ThreadIx(0);
+    let addr = Addr(0x2000_0000);
+    let store = MemoryAct::Store {
+        thread,
+        addr,
+        size: 4,
+        value: 0x41_4243,
+    };
+    assert!(rt; matches!(sites.memory(&image, 0, &store, &mut buffer), Said::Made(_)));
+    let load = MemoryAct::Load {
+        thread,
+        addr,
+        size: 2,
+    };
+    match sites.memory(&image, 0, &load, &mut buffer) {
+        Said::Made(said) => assert!(rt; said.value == 0x4243),
+        _ => assert!(rt; false),
+    }
+    let short = MemoryAct::CopyStr {
+        thread,
+        addr,
+        readable: 3,
+    };
+    match sites.memory(&image, 0, &short, &mut buffer) {
+        Said::Made(said) => assert!(rt; said.found == Found::Unreadable && buffer.len() == 0),
+        _ => assert!(rt; false),
+    }
+    let whole = MemoryAct::CopyStr {
+        thread,
+        addr,
+        readable: 32,
+    };
+    match sites.memory(&image, 0, &whole, &mut buffer) {
+        Said::Made(said) => assert!(rt;
+            said.found == Found::Length(3) && buffer.as_slice() == b"CBA".as_slice()
+        ),
+        _ => assert!(rt; false),
+    }
+    Ok(())
+}
