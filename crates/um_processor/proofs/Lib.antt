@@ -1,8 +1,10 @@
 -- What the proofs of several functions cite.
 pub mod ByteLemmas
 pub mod Celled
+pub mod Fronts
 pub mod HeapLemmas
 pub mod Places
 pub mod Scheduled
+pub mod SizeLemmas
 pub mod Tabled
 pub mod TextLemmas

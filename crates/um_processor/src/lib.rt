@@ -10,6 +10,7 @@ mod heap_act;
 mod memory_act;
 mod object_cell;
 mod parked;
+mod registers;
 mod row_act;
 mod said;
 mod scheduler;

@@ -1,0 +1,80 @@
+//! How a thread goes on after it reaches memory. A store, a fetch and an erased stack write nothing of its own: it goes on, or faults.
+
+ghost use Rattle.std.specs.Prelude.{◌≡◌, drop, if◌then◌else◌, slice_set};
+ghost use Rattle.um_machine.specs.Order.{copy_fails};
+ghost use Rattle.um_machine.specs.Table.{fault};
+ghost use Rattle.um_fine.specs.Continues.{after_access, after_text, goes_on};
+
+use crate::context::Context;
+use crate::registers::put_register;
+use um_base::{Cause, Errno, Found, Image, Piece};
+use um_machine::Pending;
+use um_rules::order::{answer_error, copy_fails};
+
+/// What follows an access that isn't allowed.
+const FAULT: Pending = Pending::Fatal {
+    reason: 0,
+    cause: Cause::Access,
+};
+
+impl Context {
+    /// Goes on after a load of this number into a register.
+    pub fn loads(&mut self, image: &Image, to: u8, value: u32, taken: usize)
+        ensures { self.new ≡ goes_on image.now (record self.old { registers = slice_set self.old.registers to value }) (drop taken self.old.pending) }
+    {
+        put_register(&mut self.own.registers, to, value);
+        self.own.goes_on(image, taken);
+    }
+
+    /// Goes on after a load, a store or a fetch that isn't allowed.
+    pub fn faults(&mut self, image: &Image)
+        ensures { self.new ≡ goes_on image.now self.old fault }
+    {
+        self.own.turns_to(&FAULT);
+    }
+
+    /// Goes on after a copy or a probe that isn't allowed.
+    fn fails_to_copy(&mut self, image: &Image)
+        ensures { self.new ≡ goes_on image.now self.old (copy_fails self.old.mode) }
+    {
+        let mode = self.own.mode;
+        self.own.turns_to(&copy_fails(mode));
+    }
+
+    /// Goes on after a probe or a copy out, where that is allowed, or else fails.
+    pub fn copies_out(&mut self, image: &Image, fits: bool, taken: usize)
+        ensures { self.new ≡ after_access image.now self.old fits (drop taken self.old.pending) (copy_fails self.old.mode) }
+    {
+        if fits {
+            self.own.goes_on(image, taken);
+        } else {
+            self.fails_to_copy(image);
+        }
+    }
+
+    /// Goes on after a copy of these bytes into its buffer, where that is allowed, or else fails.
+    pub fn copies_in(&mut self, image: &Image, fits: bool, bytes: &Piece, taken: usize)
+        ensures { self.new ≡ (if fits then goes_on image.now (record self.old { buffer = bytes.now }) (drop taken self.old.pending) else goes_on image.now self.old (copy_fails self.old.mode)) }
+    {
+        if fits {
+            self.own.buffer = *bytes;
+            self.own.goes_on(image, taken);
+        } else {
+            self.fails_to_copy(image);
+        }
+    }
+
+    /// Goes on after the copy of a text, of which these bytes were read, or answers an error.
+    pub fn copies_text(&mut self, image: &Image, found: Found, bytes: &Piece, taken: usize)
+        ensures { self.new ≡ after_text image.now self.old bytes.now (drop taken self.old.pending) found }
+    {
+        match found {
+            Found::Length(_) => {
+                self.own.buffer = *bytes;
+                self.own.goes_on(image, taken);
+            }
+            Found::Unreadable => self.own.turns_to(&answer_error(Errno::EFAULT)),
+            Found::TooLong => self.own.turns_to(&answer_error(Errno::EINVAL)),
+        }
+    }
+}

@@ -1,0 +1,73 @@
+//! How a thread goes on after a step on the marks of an object, on its pool or on a domain.
+
+ghost use Rattle.std.specs.Prelude.{◌≡◌, ◌<◌, drop};
+ghost use Rattle.um_base.specs.declared.act.Cause.TheVariants as Cause;
+ghost use Rattle.um_base.specs.declared.names.Errno.TheVariants as Errno;
+ghost use Rattle.um_machine.specs.Order.{answer_error, refuses};
+ghost use Rattle.um_machine.specs.Table.{cleared_first};
+ghost use Rattle.um_fine.specs.Continues.{after_access, after_reserve, after_set, goes_on};
+
+use crate::context::Context;
+use um_base::{Addr, Cause, Errno, Image, Reply, SetSaid};
+use um_machine::Pending;
+use um_rules::order::{answer_error, refuses};
+
+impl Context {
+    /// Goes on after an object was to be marked as initialised. Where that is refused, another one is cleared first.
+    pub fn marks(&mut self, image: &Image, undo: Option<Addr>, said: SetSaid, taken: usize)
+        ensures { self.new ≡ after_set image.now self.old undo (drop taken self.old.pending) said }
+    {
+        match said {
+            SetSaid::Done => self.own.goes_on(image, taken),
+            SetSaid::Gone => self.own.goes_on(image, taken),
+            SetSaid::Fail(e) => self.turns_back(image, undo, e),
+        }
+    }
+
+    /// Fails, and clears another object first.
+    fn turns_back(&mut self, image: &Image, undo: Option<Addr>, e: Errno)
+        ensures { self.new ≡ goes_on image.now self.old (cleared_first undo (refuses self.old.mode (Cause.Refused e))) }
+    {
+        let mode = self.own.mode;
+        self.own.turns_to(&refuses(mode, Cause::Refused(e)));
+        if let Some(addr) = undo {
+            self.own.pending.push(&Pending::ClearInit { addr });
+        }
+    }
+
+    /// Goes on after it asked for a new object: at this address, where it got one.
+    pub fn reserves(&mut self, image: &Image, addr: Option<Addr>, taken: usize)
+        requires { 0 < taken }
+        ensures { self.new ≡ after_reserve image.now self.old (drop taken self.old.pending) addr }
+    {
+        match addr {
+            None => {
+                self.own.reply = Reply::Null;
+                self.own.goes_on(image, taken);
+            }
+            Some(addr) => {
+                self.own.reply = Reply::At(addr);
+                self.own.goes_to(&Pending::Born { addr }, taken);
+            }
+        }
+    }
+
+    /// Goes on after it asked its pool for a buffer, or answers that there is none.
+    pub fn buffers(&mut self, image: &Image, fits: bool, taken: usize)
+        ensures { self.new ≡ after_access image.now self.old fits (drop taken self.old.pending) (answer_error Errno.ENOMEM) }
+    {
+        if fits {
+            self.own.goes_on(image, taken);
+        } else {
+            self.own.turns_to(&answer_error(Errno::ENOMEM));
+        }
+    }
+
+    /// Goes on after a call on a domain, with this reply.
+    pub fn replies(&mut self, image: &Image, reply: Reply, taken: usize)
+        ensures { self.new ≡ goes_on image.now (record self.old { reply = reply }) (drop taken self.old.pending) }
+    {
+        self.own.reply = reply;
+        self.own.goes_on(image, taken);
+    }
+}

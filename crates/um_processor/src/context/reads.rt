@@ -1,0 +1,104 @@
+//! What a processor reads of a thread's own part.
+
+ghost use Rattle.std.specs.Prelude.{◌≡◌, ◌<◌, ◌≤◌, ◌∷◌, [], drop, is_some, length, nat_lt, IfSome, MatchOption};
+ghost use Rattle.std.specs.List.{All};
+ghost use Rattle.um_base.specs.declared.limits.TheConstants.{ROWS};
+ghost use Rattle.um_machine.specs.Limits.{IsSound};
+ghost use Rattle.um_machine.specs.State.{instruction_at};
+ghost use Rattle.um_fine.specs.Continues.{reply_of};
+
+use crate::context::Context;
+use um_base::{Image, Mode, Piece, Reply, Row};
+use um_machine::places::instruction_at;
+use um_machine::{Pending, Place};
+
+impl Context {
+    /// The next step.
+    #[tactic(auto, using(crate::proofs::Fronts::first_is))]
+    pub fn first(&self) -> Option<Pending>
+        ensures step { MatchOption result (self.now.pending ≡ []) (λ step. self.now.pending ≡ step ∷ drop 1 self.now.pending) }
+        ensures sound { IfSome result IsSound }
+    {
+        self.own.pending.first()
+    }
+
+    /// The step behind the next one.
+    #[tactic(auto, using(crate::proofs::Fronts::second_is))]
+    pub fn second(&self) -> Option<Pending>
+        ensures step { MatchOption result (drop 1 self.now.pending ≡ []) (λ step. drop 1 self.now.pending ≡ step ∷ drop 2 self.now.pending) }
+        ensures sound { IfSome result IsSound }
+    {
+        self.own.pending.second()
+    }
+
+    pub fn mode(&self) -> Mode
+        ensures { result ≡ self.now.mode }
+    {
+        self.own.mode
+    }
+
+    /// The row of its thread stack.
+    pub fn stack(&self) -> Row
+        ensures { result ≡ self.now.stack }
+    {
+        self.own.stack
+    }
+
+    /// -16 to 14; a lower number is a higher priority.
+    pub fn priority(&self) -> i8
+        ensures { result ≡ self.now.priority }
+    {
+        self.own.priority
+    }
+
+    /// The number of its resource pool.
+    pub fn pool(&self) -> Option<u8>
+        ensures { result ≡ self.now.pool }
+    {
+        self.own.pool
+    }
+
+    /// The line that it makes, or makes next where it is at rest.
+    pub fn place(&self) -> Place
+        ensures { result ≡ self.now.place }
+    {
+        self.own.place
+    }
+
+    /// Whether a line stands at its place. Where none does, its thread exits next.
+    pub fn has_line(&self, image: &Image) -> bool
+        ensures { result ≡ is_some (instruction_at image.now self.now.place) }
+    {
+        instruction_at(image, self.own.place).is_some()
+    }
+
+    /// The reply that a step names, or the one that its call has worked out.
+    pub fn reply_of(&self, image: &Image, reply: Option<Reply>) -> Reply
+        ensures { result ≡ reply_of image.now self.now reply }
+    {
+        reply.unwrap_or(self.own.reply)
+    }
+
+    /// The bytes that its call copies.
+    pub fn buffer(&self) -> &Piece
+        ensures { result.now ≡ self.now.buffer }
+    {
+        &self.own.buffer
+    }
+
+    /// The rows that its call holds, in the order of the checks.
+    pub fn claims(&self) -> &[u8]
+        ensures value { result.now ≡ self.now.claims }
+        ensures few { length result.now ≤ 2 }
+        ensures rows { All (λ x. x < ROWS) result.now }
+    {
+        self.claims.as_slice()
+    }
+
+    /// Whether its call may hold one more object.
+    pub fn has_room(&self) -> bool
+        ensures { result ≡ nat_lt (length self.now.claims) 2 }
+    {
+        self.claims.len() < 2
+    }
+}

@@ -1,0 +1,86 @@
+//! A thread's own part along a call.
+
+use super::*;
+use std::alloc::Global;
+use std::test::Fail;
+use um_base::{
+    Addr, Answer, Ask, BoundedVec, Cause, Errno, Image, Instr, Mpu, Piece, Policy, Reply, Term,
+    Timeout, Told,
+};
+use um_machine::{Pending, Refusal};
+
+/// The address of the first dynamic row, 96.
+const SEM: Addr = Addr(0x4800_0000);
+
+const WAITS: Timeout = Timeout::Forever;
+
+/// An image without anything.
+fn image(alloc: Global) -> Image {
+    Image {
+        mpu: Mpu::V8,
+        regions: 8,
+        policy: Policy::Abort,
+        rodata: None,
+        rodata_bytes: BoundedVec::new(alloc),
+        pools: BoundedVec::new(alloc),
+        partitions: BoundedVec::new(alloc),
+        domains: BoundedVec::new(alloc),
+        objects: BoundedVec::new(alloc),
+        boots: BoundedVec::new(alloc),
+        scripts: BoundedVec::new(alloc),
+    }
+}
+
+/// The take of a semaphore that waits: the thread holds the semaphore from the check to the answer, and then is at rest.
+#[test]
+fn a_call(rt: HostRuntime) -> Result<(), Fail> {
+    let image = image(rt.alloc());
+    let ask = Ask::SemTake { timeout: WAITS };
+    let mut context = Context::idle();
+    context.begins(
+        &image,
+        &Instr::SemTake {
+            object: Term::Num(SEM.0),
+            timeout: WAITS,
+        },
+    );
+    assert!(rt; matches!(context.first(), Some(Pending::Check { addr: SEM, .. })));
+    context.checks(&image, SEM, Refusal::Fails, None, 1);
+    assert!(rt; matches!(context.claims(), [96]));
+    assert!(rt; context.first() == Some(Pending::Work { addr: SEM, ask }));
+    context.works(&image, &ask, Answer::Wait, &Piece::new(), 1);
+    assert!(rt; context.waits() && matches!(context.claims(), [96]));
+    let told = Told {
+        reply: Reply::Num(0),
+        taken: Piece::new(),
+    };
+    context.resumes(&image, &told);
+    assert!(rt;
+        context.first()
+            == Some(Pending::Answer {
+                reply: None,
+                to: None
+            })
+    );
+    assert!(rt; context.reply_of(&image, None) == Reply::Num(0));
+    context.answers(&image, None, None, 1);
+    assert!(rt; context.first().is_none() && context.claims().is_empty() && !context.has_ended());
+    Ok(())
+}
+
+/// A check that isn't ok: the thread holds nothing, and fails with the reason of a user's refused call.
+#[test]
+fn a_refusal(rt: HostRuntime) -> Result<(), Fail> {
+    let image = image(rt.alloc());
+    let mut context = Context::idle();
+    context.checks(&image, SEM, Refusal::Fails, Some(Errno::EPERM), 1);
+    let fatal = Pending::Fatal {
+        reason: 3,
+        cause: Cause::Refused(Errno::EPERM),
+    };
+    assert!(rt; context.first() == Some(fatal) && context.second().is_none());
+    assert!(rt; context.claims().is_empty());
+    context.fails(&image, 3);
+    assert!(rt; context.has_ended() && context.first() == Some(Pending::Drops { from: 0 }));
+    Ok(())
+}
