@@ -4,6 +4,7 @@ mod accesses;
 mod calls;
 mod ends;
 mod lines;
+mod newborn;
 mod objects;
 mod reads;
 #[cfg(test)]

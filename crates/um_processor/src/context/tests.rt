@@ -4,8 +4,8 @@ use super::*;
 use std::alloc::Global;
 use std::test::Fail;
 use um_base::{
-    Addr, Answer, Ask, BoundedVec, Cause, Errno, Image, Instr, Mpu, Piece, Policy, Reply, Term,
-    Timeout, Told,
+    Addr, Answer, Ask, BoundedVec, Cause, Errno, Image, Instr, Mode, Mpu, Piece, Policy, Reply,
+    Row, Term, ThreadIx, Timeout, Told,
 };
 use um_machine::{Pending, Refusal};
 
@@ -82,5 +82,26 @@ fn a_refusal(rt: HostRuntime) -> Result<(), Fail> {
     assert!(rt; context.claims().is_empty());
     context.fails(&image, 3);
     assert!(rt; context.has_ended() && context.first() == Some(Pending::Drops { from: 0 }));
+    Ok(())
+}
+
+/// A thread that is started is at rest on its stack and in its mode, whatever was there before.
+#[test]
+fn a_start(rt: HostRuntime) -> Result<(), Fail> {
+    let image = image(rt.alloc());
+    let creator = Context::idle();
+    let mut born = Context::idle();
+    born.fails(&image, 3);
+    let start = Pending::Start {
+        who: ThreadIx(5),
+        script: 2,
+        stack: Row(7),
+        priority: -3,
+        mode: Mode::Supervisor,
+    };
+    born.becomes_newborn(&image, &creator, &start);
+    assert!(rt; born.thread() == 5 && born.stack() == Row(7) && born.priority() == -3);
+    assert!(rt; born.mode() == Mode::Supervisor && born.place().script == 2);
+    assert!(rt; born.first().is_none() && !born.has_ended());
     Ok(())
 }
