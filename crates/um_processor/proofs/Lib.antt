@@ -1,10 +1,14 @@
 -- What the proofs of several functions cite.
 pub mod ByteLemmas
 pub mod Celled
+pub mod Cleaned
+pub mod Counted
 pub mod Fronts
 pub mod HeapLemmas
+pub mod Phased
 pub mod Places
 pub mod Scheduled
 pub mod SizeLemmas
 pub mod Tabled
 pub mod TextLemmas
+pub mod Visited

@@ -11,3 +11,6 @@ pub mod DomainCells
 pub mod HeapActs
 pub mod MemoryActs
 pub mod ObjectCells
+pub mod Phases
+pub mod Processors
+pub mod Cleanings

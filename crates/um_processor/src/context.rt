@@ -1,6 +1,7 @@
 //! A thread as the processor has it that runs it.
 
 mod accesses;
+mod births;
 mod calls;
 mod ends;
 mod lines;

@@ -2,16 +2,20 @@
 #![tactic(auto)]
 
 mod bytes;
+mod cleaning;
 mod context;
 mod domain_act;
 mod domain_cell;
 mod heap;
 mod heap_act;
 mod memory_act;
+mod newborn;
 mod object_cell;
 mod parked;
+mod phase;
 mod registers;
 mod row_act;
+mod running;
 mod said;
 mod scheduler;
 mod sites;
@@ -20,15 +24,19 @@ mod tables;
 mod thread_act;
 
 pub use bytes::Bytes;
+pub use cleaning::{CleanStage, CleanStep, Cleaning, Gone};
 pub use context::Context;
 pub use domain_act::DomainAct;
 pub use domain_cell::DomainCell;
 pub use heap::Heap;
 pub use heap_act::{HeapAct, HeapSaid};
 pub use memory_act::{MemoryAct, MemorySaid};
+pub use newborn::Newborn;
 pub use object_cell::ObjectCell;
 pub use parked::Parked;
+pub use phase::{Phase, Turn};
 pub use row_act::{RowAct, RowSaid};
+pub use running::Running;
 pub use said::Said;
 pub use scheduler::Scheduler;
 pub use sites::Sites;

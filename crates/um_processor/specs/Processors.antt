@@ -1,0 +1,109 @@
+-- The processor that the code's fields stand for, and what comes of a turn.
+use Rattle.std.specs.Prelude.{◌≡◌, ℕ, ◌-◌, Bool, true, false, nat_le, nat_lt, if◌then◌else◌, [], ◌∷◌, drop}
+use Rattle.um_base.specs.declared.image.Image.{Image}
+use Rattle.um_base.specs.declared.limits.TheConstants.{ROWS, STATIC_ROWS, THREADS}
+use Rattle.um_machine.specs.Order.{Steps}
+use Rattle.um_fine.specs.Asks.{CpuMay, has_room, next_site}
+use Rattle.um_fine.specs.Context.{Context, no_context}
+use Rattle.um_fine.specs.Follows.{p_next}
+use Rattle.um_fine.specs.Places.{Todo, Todos, cleaning, cleanings, next_steps, turn, with_cleaning}
+use Rattle.um_fine.specs.Processor.{Processor}
+use Rattle.um_fine.specs.Sites.{is_site}
+use Rattle.um_fine.specs.Steps.{FineStep}
+use Rattle.um_processor.specs.Parked.{some_if}
+use Rattle.um_processor.specs.Phases.{born, passed_to, phase_of, steps_behind, todo_in}
+use Rattle.um_processor.specs.declared.phase.Phase.{Phase}
+use Rattle.um_processor.specs.declared.phase.Turn.{Turn}
+use Rattle.um_processor.specs.declared.running.Running.{Running}
+
+-- what is left of the thread's next step in a phase, but for visits
+abbrev pub todo_at : Phase → Steps → Running → Todos
+todo_at phase steps r = todo_in phase steps r.queue (born r.newborn)
+
+-- the same from its first phase on, behind visits
+abbrev pub todo_behind : Running → Todos
+todo_behind r = let steps = drop 1 r.context.value.pending in todo_at (phase_of steps) steps r
+
+-- The list of a processor in a phase, where nothing stands before its thread's next step. The steps of a running thread leave no other lists:
+-- each function of `Running` shows that of its own step.
+abbrev pub todo_of : Phase → Running → Todos
+todo_of Phase.Idle r = []
+todo_of Phase.Pass r = Todo.pass (passed_to r.context.value.pending) r.row ∷ todo_behind r
+todo_of Phase.Drop r = Todo.drop r.row ∷ todo_behind r
+todo_of phase r = todo_at phase (steps_behind r.visited r.context.value.pending) r
+
+-- the thread of a processor that has none is nobody
+abbrev pub context_in : Phase → Context → Context
+context_in Phase.Idle c = no_context
+context_in phase c = c
+
+-- the processor in a phase
+abbrev pub in_phase : Phase → Running → Processor
+in_phase phase r =
+    record {
+      context = context_in phase r.context.value;
+      todo = todo_of phase r;
+      table = some_if r.loaded r.table;
+      domain = r.domain;
+      version = r.version;
+      reply = r.reply;
+      size = r.size;
+      charge = r.charge;
+    }
+
+abbrev pub processor_of : Running → Processor
+processor_of r = in_phase r.phase r
+
+-- at the visit of this row, or at the step behind the visits where there is no such row
+abbrev pub visiting : ℕ → Phase → Running → Running
+visiting row phase r = record r { row = row; visited = true; phase = if nat_lt row ROWS then phase else phase_of (drop 1 r.context.value.pending) }
+
+-- the processor with a thread and these steps
+abbrev pub with_todo : Running → Todos → Processor
+with_todo r todo = record (in_phase Phase.Park r) { todo = todo }
+
+-- the same at the first fine step of its thread's next step, and of a turn
+abbrev pub refilled : Image → Running → Processor
+refilled image r = with_todo r (next_steps image r.context.value r.context.value.pending)
+
+abbrev pub turning : Image → Running → Processor
+turning image r = with_todo r (turn image r.context.value)
+
+-- the same, with an object to clean where its row came to that
+abbrev pub cleaned : Image → ℕ → Bool → Processor → Processor
+cleaned image x false p = p
+cleaned image x true p = record p { todo = with_cleaning (cleaning image x) p.todo }
+
+-- a step that the processor may make, and the processor after it
+pub record Goes (image : Image) (p : Processor) (e : FineStep) (z : Processor) : Type 0 where
+  pub may : CpuMay image p e
+  pub next : z ≡ p_next image p e
+
+-- It has no step that it could ask for: its next one has no room, or is at a site that isn't there, or names a thread index that isn't there,
+-- or may begin the cleaning of one more object than there are dynamic rows.
+abbrev pub has_thread : Todos → Bool
+has_thread (Todo.wake who told ∷ todo) = nat_lt who THREADS
+has_thread (Todo.add c ∷ todo) = nat_lt c.thread THREADS
+has_thread todo = true
+
+abbrev pub fits_next : Image → Processor → Todos → Bool
+fits_next image p (Todo.show q rest ∷ todo) = has_room image p q
+fits_next image p todo = true
+
+pub data IsStuck (image : Image) (p : Processor) : Type 0 where
+  no_room : fits_next image p p.todo ≡ false → IsStuck image p
+  no_site : is_site (next_site image p) ≡ false → IsStuck image p
+  no_thread : has_thread p.todo ≡ false → IsStuck image p
+  full : nat_le (ROWS - STATIC_ROWS) (cleanings p.todo) ≡ true → IsStuck image p
+
+-- What comes of a turn, by what the sites say of a step that was made, of one that is refused, of one that came too late, and of none.
+abbrev pub Turned : Turn → Image → Processor → Processor → (FineStep → Type 0) → (FineStep → Type 0) → Type 0 → Type 0 → Type 0
+Turned Turn.Made image p z took shut late none = (e : FineStep) × took e × Goes image p e z
+Turned Turn.Busy image p z took shut late none = (e : FineStep) × shut e × CpuMay image p e
+Turned Turn.Changed image p z took shut late none = late
+Turned Turn.Stuck image p z took shut late none = none × IsStuck image p
+
+-- whether a step was made
+abbrev pub UnlessMade : Turn → Type 0 → Type 0
+UnlessMade Turn.Made kept = Unit {0}
+UnlessMade turn kept = kept

@@ -1,0 +1,136 @@
+//! The objects that a processor has still to clean.
+
+ghost use Rattle.std.specs.Prelude.{◌≡◌, ◌<◌, ◌≤◌, ◌++◌, ◌∷◌, [], drop, length, MatchOption};
+ghost use Rattle.um_fine.specs.Places.{cleaning_of, cleanings};
+ghost use Rattle.um_processor.specs.Cleanings.{behind_first, clean_todo};
+
+use arrayvec::ArrayVec;
+use std::default::Default;
+use std::marker::Model;
+use um_base::ROWS;
+
+/// How many objects at most: each dynamic row once.
+const MOST: usize = 32;
+
+/// An object that is gone, with its thread index where it is a thread object.
+#[derive(Clone, Copy)]
+pub struct Gone {
+    pub row: u8,
+    pub who: Option<u8>,
+}
+
+impl Default for Gone {
+    fn default() -> Gone {
+        Gone { row: 0, who: None }
+    }
+}
+
+/// How far the first object is.
+#[derive(Clone, Copy)]
+pub enum CleanStage {
+    /// The pairs of its thread from this row on, and all that is behind them.
+    Empty(u8),
+    Vacate,
+    Recycle,
+}
+
+/// A step of cleaning, at a row.
+#[derive(Clone, Copy)]
+pub enum CleanStep {
+    /// The permission of a thread that is gone is dropped.
+    Pair { who: u8, row: u8 },
+    Wipe(u8),
+    Vacate(u8),
+    Recycle(u8),
+}
+
+/// Objects that are gone, each of which is wholly cleaned before the next.
+#[derive(Drop)]
+pub struct Cleaning {
+    gone: ArrayVec<Gone, MOST>,
+    stage: CleanStage,
+}
+
+impl Model for Cleaning {
+    ghost use Rattle.um_fine.specs.Places.{Todos};
+    ghost use Rattle.um_processor.specs.Cleanings.{queued};
+
+    ghost Value = { Todos };
+
+    ghost view = { λ c. queued c.stage c.gone.items };
+}
+
+impl Cleaning {
+    /// None.
+    pub fn new() -> Cleaning
+        ensures { result ≡ [] }
+    {
+        Cleaning {
+            gone: ArrayVec::new(),
+            stage: CleanStage::Empty(0),
+        }
+    }
+
+    /// How many objects are still to be recycled.
+    #[tactic(auto, using(crate::proofs::Cleaned::counted))]
+    pub fn len(&self) -> usize
+        ensures { result ≡ cleanings self.now }
+    {
+        self.gone.len()
+    }
+
+    /// The next step.
+    pub fn next(&self) -> Option<CleanStep>
+        ensures { MatchOption result (self.now ≡ []) (λ step. self.now ≡ clean_todo step ∷ drop 1 self.now) }
+    {
+        let gone = match self.gone.as_slice().first() {
+            None => return None,
+            Some(gone) => *gone,
+        };
+        let step = match self.stage {
+            CleanStage::Empty(row) => match gone.who {
+                Some(who) => {
+                    if (row as usize) < ROWS {
+                        CleanStep::Pair { who, row }
+                    } else {
+                        CleanStep::Wipe(gone.row)
+                    }
+                }
+                None => CleanStep::Wipe(gone.row),
+            },
+            CleanStage::Vacate => CleanStep::Vacate(gone.row),
+            CleanStage::Recycle => CleanStep::Recycle(gone.row),
+        };
+        Some(step)
+    }
+
+    /// Leaves the next step out.
+    pub fn advance(&mut self)
+        ensures { self.new ≡ behind_first self.old }
+    {
+        match self.next() {
+            None => {}
+            Some(CleanStep::Pair { row, .. }) => self.stage = CleanStage::Empty(row + 1),
+            Some(CleanStep::Wipe(_)) => self.stage = CleanStage::Vacate,
+            Some(CleanStep::Vacate(_)) => self.stage = CleanStage::Recycle,
+            Some(CleanStep::Recycle(_)) => {
+                self.gone.remove(0);
+                self.stage = CleanStage::Empty(0);
+            }
+        }
+    }
+
+    /// One object more is gone.
+    #[tactic(auto, using(crate::proofs::Cleaned::counted, crate::proofs::Cleaned::one_more, crate::proofs::Cleaned::first_one))]
+    pub fn push(&mut self, row: u8, who: Option<u8>)
+        requires { cleanings self.old < 32 }
+        ensures { self.new ≡ self.old ++ cleaning_of row who }
+    {
+        if self.gone.is_empty() {
+            self.stage = CleanStage::Empty(0);
+            self.gone.push(Gone { row, who });
+            return;
+        }
+        self.gone.push(Gone { row, who });
+    }
+}

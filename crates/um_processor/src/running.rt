@@ -1,0 +1,46 @@
+//! What a processor runs.
+
+mod accesses;
+mod domains;
+mod next;
+mod starts;
+mod turns;
+mod visits;
+
+use crate::context::Context;
+use crate::newborn::Newborn;
+use crate::phase::Phase;
+use um_base::{Reply, Told};
+use um_fine::Table;
+use um_machine::Cost;
+
+/// The thread of a processor, how far it is with its next step, and what steps told it.
+#[derive(Drop)]
+pub struct Running {
+    phase: Phase,
+    context: Box<Context>,
+    /// Whether visits stood before its next step.
+    visited: bool,
+    /// The row that is visited next.
+    row: u8,
+    /// The row of the queue at whose messages it looks.
+    queue: u8,
+    /// The thread that it starts.
+    newborn: Newborn,
+    /// What its thread was told where it waited.
+    told: Told,
+    /// Room for a new thread.
+    room: Box<Context>,
+    /// Whether the table was ever loaded.
+    loaded: bool,
+    table: Table,
+    /// The domain of its thread when that was held, and the version of the domain when it was claimed.
+    domain: u8,
+    version: u32,
+    /// What a domain's call answers.
+    reply: Reply,
+    /// The size of a queue's messages.
+    size: u32,
+    /// What the buffer of the object cost that it cleans.
+    charge: Option<Cost>,
+}

@@ -1,0 +1,208 @@
+//! The first fine step of a thread's next step.
+
+ghost use Rattle.std.specs.Prelude.{◌≡◌, ◌<◌, slice_get};
+ghost use Rattle.um_base.specs.declared.limits.TheConstants.{ROWS};
+ghost use Rattle.um_fine.specs.Addresses.{row_named};
+ghost use Rattle.um_fine.specs.Continues.{newborn};
+ghost use Rattle.um_fine.specs.Places.{but};
+ghost use Rattle.um_processor.specs.Phases.{born, domain_named, first_of, first_phase, phase_of_amount, queue_of, row_of_amount, steps_behind};
+ghost use Rattle.um_processor.specs.Processors.{in_phase, processor_of, refilled};
+
+use crate::context::Context;
+use crate::newborn::Newborn;
+use crate::phase::Phase;
+use crate::running::Running;
+use um_base::{Addr, Image, Mode, ROWS, Row, ThreadIx};
+use um_machine::places::first_place;
+use um_machine::{Amount, Pending, Place};
+use um_rules::rows::{own_row, row_at};
+
+/// The first phase of a copy: that of a message looks at its size.
+fn phase_of_amount(amount: &Amount) -> Phase
+    ensures { result ≡ phase_of_amount amount.now }
+{
+    match amount {
+        Amount::Bytes(_) => Phase::Hold,
+        Amount::MessageOf(_) => Phase::SizeLook,
+    }
+}
+
+/// The first phase of a step.
+pub fn first_phase(step: &Pending) -> Phase
+    ensures { result ≡ first_phase step.now }
+{
+    match step {
+        Pending::Load { .. } | Pending::Store { .. } | Pending::Fetch { .. } => Phase::Hold,
+        Pending::CopyOut { .. } | Pending::CopyStr { .. } => Phase::Hold,
+        Pending::Probe { amount, .. } => phase_of_amount(amount),
+        Pending::CopyIn { amount, .. } => phase_of_amount(amount),
+        Pending::DomInit { .. } | Pending::DomAdd { .. } => Phase::WriteClaim,
+        Pending::DomRemove { .. } => Phase::WriteClaim,
+        Pending::DomMove { .. } => Phase::MoveClaim,
+        Pending::Start { .. } => Phase::StartHold,
+        Pending::Begin | Pending::Exit | Pending::Check { .. } => Phase::Show,
+        Pending::Erase { .. } | Pending::Work { .. } | Pending::Resume => Phase::Show,
+        Pending::Answer { .. } | Pending::Grant { .. } | Pending::Own { .. } => Phase::Show,
+        Pending::Inherit { .. } | Pending::DropPair { .. } => Phase::Show,
+        Pending::Publish { .. } | Pending::SetInit { .. } => Phase::Show,
+        Pending::ClearInit { .. } | Pending::Named { .. } => Phase::Show,
+        Pending::Reserve { .. } | Pending::Born { .. } | Pending::Buffer { .. } => Phase::Show,
+        Pending::Unbuffer { .. } | Pending::EnterUser { .. } => Phase::Show,
+        Pending::Fatal { .. } | Pending::Drops { .. } | Pending::Dooms { .. } => Phase::Show,
+        Pending::CleanPair { .. } | Pending::Recycle => Phase::Show,
+    }
+}
+
+/// The row at an address that was checked.
+fn row_named(image: &Image, addr: Addr) -> u8
+    ensures { result ≡ row_named image.now addr }
+{
+    match row_at(image, addr.0) {
+        Some(x) => x as u8,
+        None => 0,
+    }
+}
+
+fn row_of_amount(image: &Image, amount: &Amount) -> u8
+    ensures { result ≡ row_of_amount image.now amount.now }
+{
+    match amount {
+        Amount::Bytes(_) => 0,
+        Amount::MessageOf(addr) => row_named(image, *addr),
+    }
+}
+
+/// The row of the queue at whose messages a copy looks.
+fn queue_of(image: &Image, step: &Pending) -> u8
+    ensures { result ≡ queue_of image.now step.now }
+{
+    match step {
+        Pending::Probe { amount, .. } => row_of_amount(image, amount),
+        Pending::CopyIn { amount, .. } => row_of_amount(image, amount),
+        _ => 0,
+    }
+}
+
+/// The domain that a call names.
+pub fn domain_named(call: &Pending) -> u8
+    ensures { result ≡ domain_named call.now }
+{
+    match call {
+        Pending::DomInit { domain, .. } => *domain,
+        Pending::DomAdd { domain, .. } => *domain,
+        Pending::DomRemove { domain, .. } => *domain,
+        Pending::DomMove { domain, .. } => *domain,
+        _ => 0,
+    }
+}
+
+/// Nobody's.
+const NOBODY: Newborn = Newborn {
+    thread: ThreadIx(0),
+    mode: Mode::User,
+    stack: Row(0),
+    priority: 0,
+    pool: None,
+    place: Place {
+        script: 0,
+        line: 0,
+        left: 0,
+    },
+};
+
+/// The thread that a step starts.
+fn newborn(image: &Image, context: &Context, step: &Pending) -> Newborn
+    ensures { born result ≡ newborn image.now context.now step.now }
+{
+    match step {
+        Pending::Start {
+            who,
+            script,
+            stack,
+            priority,
+            mode,
+        } => Newborn {
+            thread: *who,
+            mode: *mode,
+            stack: *stack,
+            priority: *priority,
+            pool: context.pool(),
+            place: first_place(image, *script),
+        },
+        _ => NOBODY,
+    }
+}
+
+/// A row, unless it is the own one, and then the next.
+pub fn but(own: usize, row: u8) -> u8
+    requires { row < 255 }
+    ensures { result ≡ but own row }
+{
+    if row as usize == own { row + 1 } else { row }
+}
+
+impl Running {
+    /// The next step, behind the visits.
+    pub fn step(&self) -> Pending
+        ensures { result ≡ first_of (steps_behind self.now.visited self.now.context.value.pending) }
+    {
+        let step = if self.visited {
+            self.context.second()
+        } else {
+            self.context.first()
+        };
+        match step {
+            Some(step) => step,
+            None => Pending::Resume,
+        }
+    }
+
+    /// Readies this step, behind visits or not.
+    fn readies(&mut self, image: &Image, step: &Pending, visited: bool)
+        ensures queue { self.new.queue ≡ queue_of image.now step.now }
+        ensures newborn { born self.new.newborn ≡ newborn image.now self.old.context.value step.now }
+        ensures rest { self.new ≡ record self.old { queue = self.new.queue; newborn = self.new.newborn; visited = visited; phase = first_phase step.now } }
+    {
+        self.queue = queue_of(image, step);
+        self.newborn = newborn(image, &self.context, step);
+        self.visited = visited;
+        self.phase = first_phase(step);
+    }
+
+    /// Goes to the first fine step of the thread's next step.
+    pub fn expands(&mut self, image: &Image)
+        ensures { processor_of self.new ≡ refilled image.now self.old }
+    {
+        let first = match self.context.first() {
+            None => {
+                self.phase = if self.context.has_ended() {
+                    Phase::Done
+                } else {
+                    Phase::Park
+                };
+                return;
+            }
+            Some(first) => first,
+        };
+        let second = self.context.second();
+        match first {
+            Pending::Resume => self.phase = Phase::Park,
+            Pending::Inherit { .. } => match second {
+                None => self.readies(image, &first, false),
+                Some(second) => {
+                    self.readies(image, &second, true);
+                    let own = own_row(image, self.context.thread() as usize);
+                    self.visits(but(own, 0), Phase::Pass);
+                }
+            },
+            Pending::Drops { from } => match second {
+                None => self.readies(image, &first, false),
+                Some(second) => {
+                    self.readies(image, &second, true);
+                    self.visits(from, Phase::Drop);
+                }
+            },
+            _ => self.readies(image, &first, false),
+        }
+    }
+}

@@ -1,0 +1,125 @@
+//! The visits of rows before a thread's next step.
+
+ghost use Rattle.std.specs.Prelude.{◌≡◌, ◌∷◌, drop};
+ghost use Rattle.um_machine.specs.declared.pending.Pending.TheVariants as Pending;
+ghost use Rattle.um_processor.specs.Phases.{passed_to};
+ghost use Rattle.um_processor.specs.Processors.{Turned, UnlessMade, cleaned, in_phase, processor_of, visiting};
+
+use crate::phase::{Phase, Turn};
+use crate::row_act::RowAct;
+use crate::running::Running;
+use crate::running::next::{but, first_phase};
+use crate::said::Said;
+use crate::sites::Sites;
+use um_base::{Addr, Image, ROWS, Row, ThreadIx};
+use um_machine::Pending;
+use um_rules::rows::{addr_of, own_row};
+
+impl Running {
+    /// To whom permissions are passed on.
+    fn passed_to(&self) -> ThreadIx
+        ensures { result.0 ≡ passed_to self.now.context.value.pending }
+    {
+        match self.context.first() {
+            Some(Pending::Inherit { who }) => who,
+            _ => ThreadIx(0),
+        }
+    }
+
+    /// Goes to the visit of this row, or to the thread's next step where there is no such row.
+    pub fn visits(&mut self, row: u8, phase: Phase)
+        ensures { self.new ≡ visiting row phase self.old }
+    {
+        self.row = row;
+        self.visited = true;
+        self.phase = if (row as usize) < ROWS {
+            phase
+        } else {
+            first_phase(&self.step())
+        };
+    }
+
+    /// The rows from this one on are still to be visited, to drop permissions.
+    fn drops_from(&mut self, row: u8)
+        ensures context { self.new.context.value ≡ record self.old.context.value { pending = Pending.Drops row ∷ drop 1 self.old.context.value.pending } }
+        ensures rest { record self.new { context = self.old.context } ≡ self.old }
+    {
+        self.context.drops_from(row);
+    }
+
+    /// The permission on the object of a row is passed on, where the other thread hasn't it.
+    pub fn pass<S: Sites>(&mut self, image: &Image, cpu: u8, sites: &mut S) -> Turn
+        requires { S.IsOf image.now sites.old }
+        ensures image { S.IsOf image.now sites.new }
+        ensures same { UnlessMade result (processor_of self.new ≡ processor_of self.old) }
+        ensures turn { Turned result image.now (in_phase Phase.Pass self.old) (processor_of self.new)
+            (λ e. S.Took image.now sites.old e sites.new)
+            (λ e. S.Kept sites.old sites.new × S.Shut image.now sites.old e)
+            (S.Kept sites.old sites.new × S.Contended sites.old)
+            (sites.new ≡ sites.old) }
+    {
+        let x = self.row as usize;
+        if x >= ROWS {
+            return Turn::Stuck;
+        }
+        let thread = self.context.thread();
+        let act = RowAct::Pass {
+            thread: ThreadIx(thread),
+            who: self.passed_to(),
+            addr: Addr(addr_of(image, x)),
+        };
+        match sites.row(image, cpu, Row(self.row), &act) {
+            Said::Made(_) => {
+                let own = own_row(image, thread as usize);
+                self.visits(but(own, self.row + 1), Phase::Pass);
+                Turn::Made
+            }
+            Said::Busy => Turn::Busy,
+            Said::Changed => Turn::Changed,
+        }
+    }
+
+    /// The permission on the object of a row is dropped, where there is one. Answers in `cleans` whether the row came to cleaning.
+    pub fn drop_permission<S: Sites>(
+        &mut self,
+        image: &Image,
+        cpu: u8,
+        cleans: &mut bool,
+        sites: &mut S,
+    ) -> Turn
+        requires { S.IsOf image.now sites.old }
+        ensures image { S.IsOf image.now sites.new }
+        ensures same { UnlessMade result (processor_of self.new ≡ processor_of self.old) }
+        ensures turn { Turned result image.now (in_phase Phase.Drop self.old) (cleaned image.now self.old.row cleans.new (processor_of self.new))
+            (λ e. S.Took image.now sites.old e sites.new)
+            (λ e. S.Kept sites.old sites.new × S.Shut image.now sites.old e)
+            (S.Kept sites.old sites.new × S.Contended sites.old)
+            (sites.new ≡ sites.old) }
+    {
+        let x = self.row as usize;
+        if x >= ROWS {
+            return Turn::Stuck;
+        }
+        let me = ThreadIx(self.context.thread());
+        let act = RowAct::Sweep {
+            thread: me,
+            who: me,
+            addr: Addr(addr_of(image, x)),
+        };
+        match sites.row(image, cpu, Row(self.row), &act) {
+            Said::Made(said) => {
+                *cleans = said.cleans;
+                let next = self.row + 1;
+                if said.visits {
+                    self.visits(next, Phase::Drop);
+                    return Turn::Made;
+                }
+                self.drops_from(next);
+                self.visits(next, Phase::Drop);
+                Turn::Made
+            }
+            Said::Busy => Turn::Busy,
+            Said::Changed => Turn::Changed,
+        }
+    }
+}
