@@ -2,10 +2,10 @@
 use Rattle.std.proofs.lemmas.List.{append-nil}
 use Rattle.std.proofs.Common.{◌≡◌, ℕ, ◌+◌, ◌<◌, Bool, true, false, List, [], ◌∷◌, ◌++◌, length, refl, sym, ap, ◌∙◌, append_assoc, arith, nat_lt}
 use Rattle.std.specs.Prelude.{◌&&◌, Option, Some, None, if◌then◌else◌}
-use Rattle.um_fine.specs.Places.{Todo, Todos, cleaning_of, cleanings, emptying, is_cleaning_todo, with_cleaning}
+use Rattle.um_fine.specs.Places.{Todo, Todos, cleaning_of, cleanings, emptying, with_cleaning}
 use Rattle.um_processor.specs.declared.cleaning.CleanStage.{CleanStage}
 use Rattle.um_processor.specs.declared.cleaning.Gone.{Gone}
-use Rattle.um_processor.specs.Cleanings.{left_of, pairs_of, queued, whole}
+use Rattle.um_processor.specs.Cleanings.{all_clean, left_of, pairs_of, queued, whole}
 
 pub cleanings-append : (a b : Todos) → cleanings (a ++ b) ≡ cleanings a + cleanings b
 cleanings-append [] b = omega arith
@@ -64,13 +64,8 @@ first_one o = append-nil (pairs_of o.who 0 (emptying o.row)) ∙ same o.row o.wh
     same x None = refl
     same x (Some who) = refl
 
--- whether all are steps of cleaning
-abbrev all_clean : Todos → Bool
-all_clean [] = true
-all_clean (q ∷ todo) = is_cleaning_todo q && all_clean todo
-
 -- behind steps of cleaning alone
-behind-clean : (block a rest : Todos) → all_clean a ≡ true → with_cleaning block rest ≡ block ++ rest → with_cleaning block (a ++ rest) ≡ a ++ (block ++ rest)
+pub behind-clean : (block a rest : Todos) → all_clean a ≡ true → with_cleaning block rest ≡ block ++ rest → with_cleaning block (a ++ rest) ≡ a ++ (block ++ rest)
 behind-clean block [] rest h e = e
 behind-clean block (Todo.clean_pair who x ∷ a) rest h e = ap (λ (z : Todos). Todo.clean_pair who x ∷ z) (behind-clean block a rest h e)
 behind-clean block (Todo.wipe x ∷ a) rest h e = ap (λ (z : Todos). Todo.wipe x ∷ z) (behind-clean block a rest h e)
@@ -111,11 +106,11 @@ whole-clean : (os : List Gone) → all_clean (whole os) ≡ true
 whole-clean [] = refl
 whole-clean (o ∷ os) = all-append (cleaning_of o.row o.who) (whole os) (of-clean o.row o.who) (whole-clean os)
 
-queued-clean : (stage : CleanStage) (os : List Gone) → all_clean (queued stage os) ≡ true
-queued-clean stage [] = refl
-queued-clean stage (o ∷ os) = all-append (left_of stage o) (whole os) (left-clean stage o) (whole-clean os)
+pub queued_clean : (stage : CleanStage) (os : List Gone) → all_clean (queued stage os) ≡ true
+queued_clean stage [] = refl
+queued_clean stage (o ∷ os) = all-append (left_of stage o) (whole os) (left-clean stage o) (whole-clean os)
 
 -- one more is cleaned behind those whose cleaning has begun
 pub joins : (stage : CleanStage) (os : List Gone) (block rest : Todos) → with_cleaning block rest ≡ block ++ rest
     → with_cleaning block (queued stage os ++ rest) ≡ queued stage os ++ (block ++ rest)
-joins stage os block rest e = behind-clean block (queued stage os) rest (queued-clean stage os) e
+joins stage os block rest e = behind-clean block (queued stage os) rest (queued_clean stage os) e

@@ -9,6 +9,8 @@ pub mod Phased
 pub mod Places
 pub mod Scheduled
 pub mod SizeLemmas
+pub mod Standings
 pub mod Tabled
 pub mod TextLemmas
 pub mod Visited
+pub mod Wholes

@@ -33,7 +33,7 @@ use Rattle.um_processor.proofs.Counted.{none-of}
 use Rattle.um_processor.proofs.Phased.{dropped, passed}
 
 -- a permission that is there is dropped
-there-dropped : (there last : Bool) → there ≡ true → is_dropped (if not there then Leftover.NoPair else if last then Leftover.Gone else Leftover.Kept) ≡ true
+pub there-dropped : (there last : Bool) → there ≡ true → is_dropped (if not there then Leftover.NoPair else if last then Leftover.Gone else Leftover.Kept) ≡ true
 there-dropped true true h = refl
 there-dropped true false h = refl
 there-dropped false last h = absurd (cc)

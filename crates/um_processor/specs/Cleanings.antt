@@ -1,6 +1,6 @@
 -- The fine steps that are left of the cleaning of objects, in their order.
-use Rattle.std.specs.Prelude.{ℕ, ◌+◌, List, [], ◌∷◌, ◌++◌, Option, Some, None}
-use Rattle.um_fine.specs.Places.{Todo, Todos, clean_pairs, cleaning_of, emptying}
+use Rattle.std.specs.Prelude.{ℕ, ◌+◌, Bool, true, ◌&&◌, List, [], ◌∷◌, ◌++◌, Option, Some, None}
+use Rattle.um_fine.specs.Places.{Todo, Todos, clean_pairs, cleaning_of, emptying, is_cleaning_todo}
 use Rattle.um_processor.specs.declared.cleaning.CleanStage.{CleanStage}
 use Rattle.um_processor.specs.declared.cleaning.CleanStep.{CleanStep}
 use Rattle.um_processor.specs.declared.cleaning.Gone.{Gone}
@@ -34,3 +34,8 @@ abbrev pub behind_first : Todos → Todos
 behind_first [] = []
 behind_first (Todo.clean_pair who x ∷ todo) = clean_pairs who (x + 1) todo
 behind_first (q ∷ todo) = todo
+
+-- whether all are steps of cleaning
+abbrev pub all_clean : Todos → Bool
+all_clean [] = true
+all_clean (q ∷ todo) = is_cleaning_todo q && all_clean todo

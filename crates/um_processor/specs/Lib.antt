@@ -14,3 +14,4 @@ pub mod ObjectCells
 pub mod Phases
 pub mod Processors
 pub mod Cleanings
+pub mod Standing

@@ -10,6 +10,10 @@ use Rattle.um_fine.specs.Places.{Todo, Todos}
 use Rattle.um_processor.specs.declared.newborn.Newborn.{Newborn}
 use Rattle.um_processor.specs.declared.phase.Phase.{Phase}
 
+abbrev pub is_idle : Phase → Bool
+is_idle Phase.Idle = true
+is_idle phase = false
+
 -- the steps behind a visit
 abbrev pub steps_behind : Bool → Steps → Steps
 steps_behind true steps = drop 1 steps

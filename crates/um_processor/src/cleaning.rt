@@ -1,16 +1,17 @@
 //! The objects that a processor has still to clean.
 
-ghost use Rattle.std.specs.Prelude.{◌≡◌, ◌<◌, ◌≤◌, ◌++◌, ◌∷◌, [], drop, length, MatchOption};
-ghost use Rattle.um_fine.specs.Places.{cleaning_of, cleanings};
-ghost use Rattle.um_processor.specs.Cleanings.{behind_first, clean_todo};
+ghost use Rattle.std.specs.Prelude.{◌≡◌, ◌<◌, ◌≤◌, ◌++◌, ◌∷◌, [], drop, length, true, MatchOption};
+ghost use Rattle.um_fine.specs.Places.{cleaning, cleaning_of, cleanings};
+ghost use Rattle.um_processor.specs.Cleanings.{all_clean, behind_first, clean_todo};
 
 use arrayvec::ArrayVec;
 use std::default::Default;
 use std::marker::Model;
-use um_base::ROWS;
+use um_base::{Image, ROWS};
+use um_rules::rows::thread_of_row;
 
 /// How many objects at most: each dynamic row once.
-const MOST: usize = 32;
+pub const MOST: usize = 32;
 
 /// An object that is gone, with its thread index where it is a thread object.
 #[derive(Clone, Copy)]
@@ -105,8 +106,10 @@ impl Cleaning {
     }
 
     /// Leaves the next step out.
+    #[tactic(auto, using(crate::proofs::Cleaned::queued_clean))]
     pub fn advance(&mut self)
-        ensures { self.new ≡ behind_first self.old }
+        ensures rest { self.new ≡ behind_first self.old }
+        ensures clean { all_clean self.new ≡ true }
     {
         match self.next() {
             None => {}
@@ -132,5 +135,17 @@ impl Cleaning {
             return;
         }
         self.gone.push(Gone { row, who });
+    }
+
+    /// The object of a row is gone.
+    pub fn take_in(&mut self, image: &Image, row: u8)
+        requires { cleanings self.old < 32 }
+        ensures { self.new ≡ self.old ++ cleaning image.now row }
+    {
+        let who = match thread_of_row(image, row as usize) {
+            Some(who) => Some(who as u8),
+            None => None,
+        };
+        self.push(row, who);
     }
 }

@@ -7,10 +7,13 @@ mod starts;
 mod turns;
 mod visits;
 
+ghost use Rattle.std.specs.Prelude.{◌≡◌};
+ghost use Rattle.um_processor.specs.Phases.{is_idle};
+
 use crate::context::Context;
 use crate::newborn::Newborn;
 use crate::phase::Phase;
-use um_base::{Reply, Told};
+use um_base::{Reply, ThreadIx, Told};
 use um_fine::Table;
 use um_machine::Cost;
 
@@ -43,4 +46,36 @@ pub struct Running {
     size: u32,
     /// What the buffer of the object cost that it cleans.
     charge: Option<Cost>,
+}
+
+impl Running {
+    /// Whether it has no thread.
+    pub fn is_idle(&self) -> bool
+        ensures { result ≡ is_idle self.now.phase }
+    {
+        match self.phase {
+            Phase::Idle => true,
+            _ => false,
+        }
+    }
+
+    /// Its thread.
+    pub fn thread(&self) -> ThreadIx
+        ensures { result.0 ≡ self.now.context.value.thread }
+    {
+        ThreadIx(self.context.thread())
+    }
+
+    /// What the buffer of the object cost that it cleans.
+    pub fn charge(&self) -> Option<Cost>
+        ensures { result ≡ self.now.charge }
+    {
+        self.charge
+    }
+
+    pub fn set_charge(&mut self, charge: Option<Cost>)
+        ensures { self.new ≡ record self.old { charge = charge } }
+    {
+        self.charge = charge;
+    }
 }

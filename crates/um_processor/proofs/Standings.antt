@@ -1,0 +1,178 @@
+-- The steps before a thread's next step: what each leaves.
+use Rattle.std.proofs.Common.{◌≡◌, ℕ, ◌+◌, Bool, true, false, List, [], ◌∷◌, ◌++◌, refl, sym, ap, ◌∙◌, append_assoc}
+use Rattle.std.proofs.lemmas.List.{append-nil}
+use Rattle.std.specs.Prelude.{◌&&◌, not, nat_lt, if◌then◌else◌, Option}
+use Rattle.um_base.specs.declared.act.Act.{Act}
+use Rattle.um_base.specs.declared.act.Leftover.{Leftover}
+use Rattle.um_base.specs.declared.ask.Told.{Told}
+use Rattle.um_base.specs.declared.image.Image.{Image}
+use Rattle.um_base.specs.declared.limits.TheConstants.{ROWS}
+use Rattle.um_base.specs.declared.names.ThreadIx.{ThreadIx}
+use Rattle.um_machine.specs.declared.object.Cost.{Cost}
+use Rattle.um_machine.specs.Order.{Steps, to_thread}
+use Rattle.um_words.specs.declared.fine.FineAct.{FineAct}
+use Rattle.um_words.specs.declared.fine.More.{More}
+use Rattle.um_words.specs.declared.fine.Unseen.{Unseen}
+use Rattle.um_words.specs.declared.row_word.RowWord.{RowWord}
+use Rattle.um_words.specs.Rows.{has, is_last}
+use Rattle.um_fine.specs.Addresses.{address_of}
+use Rattle.um_fine.specs.Answers.{charge_in}
+use Rattle.um_fine.specs.Asks.{CpuMay, begins_cleaning}
+use Rattle.um_fine.specs.Context.{Context}
+use Rattle.um_fine.specs.Follows.{end_calls, filled_up, wakes}
+use Rattle.um_fine.specs.Heap.{Heap}
+use Rattle.um_fine.specs.Objects.{ObjectCell}
+use Rattle.um_fine.specs.Places.{Todo, Todos, clean_pairs, cleaning, cleanings, is_cleaning_todo, with_cleaning}
+use Rattle.um_fine.specs.Processor.{Processor}
+use Rattle.um_fine.specs.Scheduler.{Scheduler}
+use Rattle.um_fine.specs.Sites.{SiteState, filled}
+use Rattle.um_fine.specs.Steps.{Exchange, FineStep, Site}
+use Rattle.um_processor.specs.declared.heap_act.HeapAct.{HeapAct}
+use Rattle.um_processor.specs.declared.phase.Phase.{Phase}
+use Rattle.um_processor.specs.declared.row_act.RowAct.{RowAct}
+use Rattle.um_processor.specs.declared.running.Running.{Running}
+use Rattle.um_processor.specs.Asked.{asked, shown}
+use Rattle.um_processor.specs.Cleanings.{all_clean}
+use Rattle.um_processor.specs.HeapActs.{heap_made}
+use Rattle.um_processor.specs.ObjectCells.{cleared_made}
+use Rattle.um_processor.specs.Phases.{born, is_idle, showing, steps_behind, todo_in}
+use Rattle.um_processor.specs.Processors.{Goes, cleaned, todo_of}
+use Rattle.um_processor.specs.RowActs.{row_made}
+use Rattle.um_processor.specs.SchedulerActs.{woken_made}
+use Rattle.um_processor.specs.Standing.{before, standing}
+use Rattle.um_processor.proofs.Cleaned.{behind-clean}
+use Rattle.um_processor.proofs.Visited.{all-fit, cleaned-is, there-dropped}
+
+-- a list whose first step is none of cleaning
+pub record Front (todo : Todos) : Type 0 where
+  pub first : Todo
+  pub rest : Todos
+  pub plain : is_cleaning_todo first ≡ false
+  pub is : todo ≡ first ∷ rest
+
+front-showing : (steps : Steps) (todo : Todos) → Front (showing steps todo)
+front-showing [] todo = record { first = Todo.park; rest = todo; plain = refl; is = refl }
+front-showing (p ∷ rest) todo = record { first = Todo.show p rest; rest = todo; plain = refl; is = refl }
+
+front-in : (phase : Phase) (steps : Steps) (x : ℕ) (c : Context) → Front (todo_in phase steps x c)
+front-in Phase.Access steps x c = front-showing steps _
+front-in Phase.Start steps x c = front-showing steps _
+front-in Phase.Show steps x c = front-showing steps _
+front-in phase steps x c = record { first = _; rest = _; plain = refl; is = refl }
+
+-- the next step of a processor with a thread is none of cleaning
+pub front-of : (phase : Phase) (r : Running) → is_idle phase ≡ false → Front (todo_of phase r)
+front-of Phase.Idle r h = absurd (cc)
+front-of Phase.Pass r h = record { first = _; rest = _; plain = refl; is = refl }
+front-of Phase.Drop r h = record { first = _; rest = _; plain = refl; is = refl }
+front-of phase r h = front-in phase (steps_behind r.visited r.context.value.pending) r.queue (born r.newborn)
+
+front-wakes : (woken : List (ThreadIx × Told)) (todo : Todos) → Front todo → Front (wakes woken todo)
+front-wakes [] todo f = f
+front-wakes (w ∷ ws) todo f = record { first = _; rest = _; plain = refl; is = refl }
+
+pub front-before : (ends : List ℕ) (woken : List (ThreadIx × Told)) (todo : Todos) → Front todo → Front (end_calls ends (wakes woken todo))
+front-before [] woken todo f = front-wakes woken todo f
+front-before (x ∷ xs) woken todo f = record { first = _; rest = _; plain = refl; is = refl }
+
+-- with a thread, all stands before its next step
+pub stands : (cleans : Todos) (ends : List ℕ) (woken : List (ThreadIx × Told)) (p : Processor) → Front p.todo
+    → standing cleans ends woken p ≡ record p { todo = cleans ++ end_calls ends (wakes woken p.todo) }
+stands cleans ends woken p f =
+    ap (λ (t : Todos). record p { todo = before cleans ends woken t }) f.is
+    ∙ sym (ap (λ (t : Todos). record p { todo = cleans ++ end_calls ends (wakes woken t) }) f.is)
+
+fills : (image : Image) (c : Context) (todo : Todos) → Front todo → filled_up image c todo ≡ todo
+fills image c todo f = ap (filled_up image c) f.is ∙ sym f.is
+
+-- what is filled up behind steps of cleaning
+fills-behind : (image : Image) (c : Context) (cs todo : Todos) → Front todo → filled_up image c (cs ++ todo) ≡ cs ++ todo
+fills-behind image c [] todo f = fills image c todo f
+fills-behind image c (q ∷ cs) todo f = refl
+
+unless : (q : Todo) (rest block : Todos) (b : Bool) → b ≡ false → (if b then q ∷ with_cleaning block rest else block ++ q ∷ rest) ≡ block ++ q ∷ rest
+unless q rest block true h = absurd (cc)
+unless q rest block false h = refl
+
+first-cleaned : (block todo : Todos) → Front todo → with_cleaning block todo ≡ block ++ todo
+first-cleaned block todo f =
+    ap (with_cleaning block) f.is ∙ (unless f.first f.rest block (is_cleaning_todo f.first) f.plain ∙ ap (λ (t : Todos). block ++ t) (sym f.is))
+
+-- the cleaning of a row, where it came to that
+abbrev pub block_if : Image → ℕ → Bool → Todos
+block_if image x true = cleaning image x
+block_if image x false = []
+
+cleaned-behind : (image : Image) (x : ℕ) (p : Processor) (cs todo : Todos) (b : Bool) → all_clean cs ≡ true → Front todo
+    → cleaned image x b (record p { todo = cs ++ todo }) ≡ record p { todo = (cs ++ block_if image x b) ++ todo }
+cleaned-behind image x p cs todo true h f =
+    let block = cleaning image x in
+    ap (λ (t : Todos). record p { todo = t }) (behind-clean block cs todo h (first-cleaned block todo f) ∙ sym (append_assoc cs block todo))
+cleaned-behind image x p cs todo false h f = ap (λ (t : Todos). record p { todo = t ++ todo }) (sym (append-nil cs))
+
+module _ (image : Image) (cpu : ℕ) (p : Processor) (todo : Todos) (f : Front todo) where
+  pub waked : (n : ℕ) (s : Scheduler) (who : ThreadIx) (told : Told)
+      → Goes image (record p { todo = Todo.wake who.0 told ∷ todo }) (woken_made image cpu n s who told) (record p { todo = todo })
+  waked n s who told =
+      record { may = record { makes = refl; fit = refl }; next = ap (λ (t : Todos). record p { todo = t }) (sym (fills image p.context todo f)) }
+
+  pub ended : (x : ℕ) (w : RowWord) (cleans : Bool) → cleanings todo ≡ 0 → let e = row_made image cpu x w RowAct.EndCall in cleans ≡ begins_cleaning e
+      → Goes image (record p { todo = Todo.end_call x ∷ todo }) e (record p { todo = block_if image x cleans ++ todo })
+  ended x w cleans none h =
+      let e = row_made image cpu x w RowAct.EndCall in
+      record {
+        may = record { makes = refl; fit = all-fit true _ _ refl (ap (λ (n : ℕ). nat_lt n 32) none) };
+        next =
+            sym (cleaned-behind image x p [] todo cleans refl f)
+            ∙ ((λ i. cleaned image x (h i) (record p { todo = sym (fills image p.context todo f) i }))
+            ∙ cleaned-is image x e (record p { todo = filled_up image p.context todo }) (begins_cleaning e) refl);
+      }
+
+  module _ (cs : Todos) where
+    pub wiped : (x n : ℕ) (o : ObjectCell) (cost : Option Cost) → (cleared_made image cpu x n o).moved ≡ Exchange.charge cost
+        → Goes image (record p { todo = Todo.wipe x ∷ (cs ++ todo) }) (cleared_made image cpu x n o) (record p { charge = cost; todo = cs ++ todo })
+    wiped x n o cost h =
+        record { may = record { makes = refl; fit = refl }; next = ap (λ (v : Exchange). record p { charge = charge_in v; todo = cs ++ todo }) (sym h) }
+
+    pub vacated : (x : ℕ) (w : RowWord) → Goes image (record p { todo = Todo.vacate x ∷ (cs ++ todo) }) (row_made image cpu x w RowAct.Vacate) (record p { todo = cs ++ todo })
+    vacated x w = record { may = record { makes = refl; fit = refl }; next = refl }
+
+    pub recycled : (x n : ℕ) (h : Heap)
+        → Goes image (record p { todo = Todo.recycle x ∷ (cs ++ todo) }) (heap_made image cpu n h (HeapAct.Recycle (to_thread p.context.thread) (address_of image x)) p.charge) (record p { todo = cs ++ todo })
+    recycled x n h =
+        record { may = record { makes = refl; fit = refl }; next = ap (λ (t : Todos). record p { todo = t }) (sym (fills-behind image p.context cs todo f)) }
+
+    -- a drop of the cleaner, where there is a permission, and the look where there is none
+    abbrev swept : ℕ → ℕ → RowWord → FineStep
+    swept who x w = row_made image cpu x w (RowAct.Sweep (to_thread p.context.thread) (to_thread who) (address_of image x))
+
+    pub sweep-may : (who x : ℕ) (w : RowWord) → nat_lt (cleanings (Todo.clean_pair who x ∷ (cs ++ todo))) 32 ≡ true
+        → CpuMay image (record p { todo = Todo.clean_pair who x ∷ (cs ++ todo) }) (swept who x w)
+    sweep-may who x w room = by (has w who) refl
+      where
+        by : (b : Bool) → has w who ≡ b
+            → CpuMay image (record p { todo = Todo.clean_pair who x ∷ (cs ++ todo) })
+            (filled image (SiteState.row w) (asked cpu (Site.row x)
+            (if b then shown (to_thread p.context.thread) (Act.DropPair (to_thread who) (address_of image x) Leftover.NoPair) More.Nothing else FineAct.Unseen Unseen.Visit)
+            Exchange.nothing))
+        by true h = record { makes = refl; fit = all-fit _ _ _ (there-dropped (has w who) (is_last w who) h) room }
+        by false h = record { makes = refl; fit = ap (λ (v : Bool). not v && true) h }
+
+    pairs-behind : (who x : ℕ) (b : Bool) → (if b then Todo.clean_pair who x ∷ (cs ++ todo) else cs ++ todo) ≡ (if b then Todo.clean_pair who x ∷ cs else cs) ++ todo
+    pairs-behind who x true = refl
+    pairs-behind who x false = refl
+
+    pub pair_cleaned : (who x : ℕ) (w : RowWord) (cleans : Bool) → nat_lt (cleanings (Todo.clean_pair who x ∷ (cs ++ todo))) 32 ≡ true
+        → all_clean (clean_pairs who (x + 1) cs) ≡ true → cleans ≡ begins_cleaning (swept who x w)
+        → Goes image (record p { todo = Todo.clean_pair who x ∷ (cs ++ todo) }) (swept who x w)
+        (record p { todo = (clean_pairs who (x + 1) cs ++ block_if image x cleans) ++ todo })
+    pair_cleaned who x w cleans room clean h =
+        let b = nat_lt (x + 1) ROWS in
+        let e = swept who x w in
+        record {
+          may = sweep-may who x w room;
+          next =
+              sym (cleaned-behind image x p (clean_pairs who (x + 1) cs) todo cleans clean f)
+              ∙ ((λ i. cleaned image x (h i) (record p { todo = sym (pairs-behind who (x + 1) b) i }))
+              ∙ cleaned-is image x e (record p { todo = clean_pairs who (x + 1) (cs ++ todo) }) (begins_cleaning e) refl);
+        }

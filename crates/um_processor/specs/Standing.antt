@@ -1,0 +1,20 @@
+-- What stands before a thread's next step: objects to clean, claims to end, and threads to wake.
+use Rattle.std.specs.Prelude.{ℕ, List, [], ◌∷◌, ◌++◌, drop}
+use Rattle.um_base.specs.declared.ask.Told.{Told}
+use Rattle.um_base.specs.declared.names.ThreadIx.{ThreadIx}
+use Rattle.um_fine.specs.Follows.{end_calls, wakes}
+use Rattle.um_fine.specs.Places.{Todos}
+use Rattle.um_fine.specs.Processor.{Processor}
+use Rattle.um_processor.specs.declared.processor.Processor.{Processor as Kept}
+use Rattle.um_processor.specs.Processors.{processor_of}
+
+-- before the steps of a processor that has any: one without a thread has none
+abbrev pub before : Todos → List ℕ → List (ThreadIx × Told) → Todos → Todos
+before cleans ends woken [] = []
+before cleans ends woken (q ∷ todo) = cleans ++ end_calls ends (wakes woken (q ∷ todo))
+
+abbrev pub standing : Todos → List ℕ → List (ThreadIx × Told) → Processor → Processor
+standing cleans ends woken p = record p { todo = before cleans ends woken p.todo }
+
+abbrev pub whole : Kept → Processor
+whole p = standing p.cleans p.ends.items (drop p.told p.outcome.woken) (processor_of p.running)

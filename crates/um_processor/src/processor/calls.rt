@@ -1,0 +1,76 @@
+//! The steps behind a call: its claims end, and the woken are told.
+
+ghost use Rattle.std.specs.Prelude.{◌≡◌, ◌<◌, [], false, length};
+ghost use Rattle.um_processor.specs.Phases.{is_idle};
+ghost use Rattle.um_processor.specs.Processors.{Turned, UnlessMade};
+ghost use Rattle.um_processor.specs.Standing.{whole};
+
+use crate::phase::Turn;
+use crate::processor::Processor;
+use crate::row_act::RowAct;
+use crate::said::Said;
+use crate::sites::Sites;
+use um_base::{Image, ROWS, Row, THREADS};
+
+impl Processor {
+    /// The first claim ends. Where its row comes to cleaning by that, the object is to be cleaned.
+    pub fn end_call<S: Sites>(&mut self, image: &Image, cpu: u8, sites: &mut S) -> Turn
+        requires sites { S.IsOf image.now sites.old }
+        requires runs { is_idle self.old.running.phase ≡ false }
+        requires cleans { self.old.cleans ≡ [] }
+        requires ends { 0 < length self.old.ends.items }
+        ensures image { S.IsOf image.now sites.new }
+        ensures same { UnlessMade result (whole self.new ≡ whole self.old) }
+        ensures turn { Turned result image.now (whole self.old) (whole self.new)
+            (λ e. S.Took image.now sites.old e sites.new)
+            (λ e. S.Kept sites.old sites.new × S.Shut image.now sites.old e)
+            (S.Kept sites.old sites.new × S.Contended sites.old)
+            (sites.new ≡ sites.old) }
+    {
+        let row = self.ends.as_slice()[0];
+        if row as usize >= ROWS {
+            return Turn::Stuck;
+        }
+        match sites.row(image, cpu, Row(row), &RowAct::EndCall) {
+            Said::Made(said) => {
+                self.ends.remove(0);
+                if said.cleans {
+                    self.cleans.take_in(image, row);
+                    return Turn::Made;
+                }
+                Turn::Made
+            }
+            Said::Busy => Turn::Busy,
+            Said::Changed => Turn::Changed,
+        }
+    }
+
+    /// The first woken thread that wasn't told is told what it waited for.
+    pub fn wake<S: Sites>(&mut self, image: &Image, cpu: u8, sites: &mut S) -> Turn
+        requires sites { S.IsOf image.now sites.old }
+        requires runs { is_idle self.old.running.phase ≡ false }
+        requires cleans { self.old.cleans ≡ [] }
+        requires ends { self.old.ends.items ≡ [] }
+        requires woken { self.old.told < length self.old.outcome.woken }
+        ensures image { S.IsOf image.now sites.new }
+        ensures same { UnlessMade result (whole self.new ≡ whole self.old) }
+        ensures turn { Turned result image.now (whole self.old) (whole self.new)
+            (λ e. S.Took image.now sites.old e sites.new)
+            (λ e. S.Kept sites.old sites.new × S.Shut image.now sites.old e)
+            (S.Kept sites.old sites.new × S.Contended sites.old)
+            (sites.new ≡ sites.old) }
+    {
+        let (who, told) = &self.outcome.woken.as_slice()[self.told];
+        if who.0 as usize >= THREADS {
+            return Turn::Stuck;
+        }
+        match sites.wake(image, cpu, *who, told) {
+            Said::Made(_) => {
+                self.told += 1;
+                Turn::Made
+            }
+            Said::Busy => Turn::Busy,
+            Said::Changed => Turn::Changed,
+        }
+    }
+}

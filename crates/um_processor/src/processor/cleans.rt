@@ -1,0 +1,145 @@
+//! The cleaning of objects, before all else.
+
+ghost use Rattle.std.specs.Prelude.{◌≡◌, ◌<◌, ◌∷◌, drop, false};
+ghost use Rattle.um_fine.specs.Places.{Todo};
+ghost use Rattle.um_processor.specs.Phases.{is_idle};
+ghost use Rattle.um_processor.specs.Processors.{Turned, UnlessMade};
+ghost use Rattle.um_processor.specs.Standing.{whole};
+
+use crate::cleaning::MOST;
+use crate::heap_act::HeapAct;
+use crate::phase::Turn;
+use crate::processor::Processor;
+use crate::row_act::RowAct;
+use crate::said::Said;
+use crate::sites::Sites;
+use um_base::{Addr, Image, ROWS, Row, ThreadIx};
+use um_rules::rows::addr_of;
+
+impl Processor {
+    /// The permission of a thread that is gone is dropped at a row, where there is one. Where that row comes to cleaning, its object is to be cleaned too.
+    pub fn clean_pair<S: Sites>(
+        &mut self,
+        image: &Image,
+        cpu: u8,
+        who: u8,
+        row: u8,
+        sites: &mut S,
+    ) -> Turn
+        requires sites { S.IsOf image.now sites.old }
+        requires runs { is_idle self.old.running.phase ≡ false }
+        requires first { self.old.cleans ≡ Todo.clean_pair who row ∷ drop 1 self.old.cleans }
+        ensures image { S.IsOf image.now sites.new }
+        ensures same { UnlessMade result (whole self.new ≡ whole self.old) }
+        ensures turn { Turned result image.now (whole self.old) (whole self.new)
+            (λ e. S.Took image.now sites.old e sites.new)
+            (λ e. S.Kept sites.old sites.new × S.Shut image.now sites.old e)
+            (S.Kept sites.old sites.new × S.Contended sites.old)
+            (sites.new ≡ sites.old) }
+    {
+        let x = row as usize;
+        if x >= ROWS {
+            return Turn::Stuck;
+        }
+        if self.cleans.len() >= MOST {
+            return Turn::Stuck;
+        }
+        let act = RowAct::Sweep {
+            thread: self.running.thread(),
+            who: ThreadIx(who),
+            addr: Addr(addr_of(image, x)),
+        };
+        match sites.row(image, cpu, Row(row), &act) {
+            Said::Made(said) => {
+                self.cleans.advance();
+                if said.cleans {
+                    self.cleans.take_in(image, row);
+                    return Turn::Made;
+                }
+                Turn::Made
+            }
+            Said::Busy => Turn::Busy,
+            Said::Changed => Turn::Changed,
+        }
+    }
+
+    /// What the object of a row keeps is cleared.
+    pub fn wipe<S: Sites>(&mut self, image: &Image, cpu: u8, row: u8, sites: &mut S) -> Turn
+        requires sites { S.IsOf image.now sites.old }
+        requires runs { is_idle self.old.running.phase ≡ false }
+        requires first { self.old.cleans ≡ Todo.wipe row ∷ drop 1 self.old.cleans }
+        ensures image { S.IsOf image.now sites.new }
+        ensures same { UnlessMade result (whole self.new ≡ whole self.old) }
+        ensures turn { Turned result image.now (whole self.old) (whole self.new)
+            (λ e. S.Took image.now sites.old e sites.new)
+            (λ e. S.Kept sites.old sites.new × S.Shut image.now sites.old e)
+            (S.Kept sites.old sites.new × S.Contended sites.old)
+            (sites.new ≡ sites.old) }
+    {
+        if row as usize >= ROWS {
+            return Turn::Stuck;
+        }
+        match sites.clear(image, cpu, Row(row)) {
+            Said::Made(cost) => {
+                self.cleans.advance();
+                self.running.set_charge(cost);
+                Turn::Made
+            }
+            Said::Busy => Turn::Busy,
+            Said::Changed => Turn::Changed,
+        }
+    }
+
+    /// The object leaves its row.
+    pub fn vacate<S: Sites>(&mut self, image: &Image, cpu: u8, row: u8, sites: &mut S) -> Turn
+        requires sites { S.IsOf image.now sites.old }
+        requires runs { is_idle self.old.running.phase ≡ false }
+        requires first { self.old.cleans ≡ Todo.vacate row ∷ drop 1 self.old.cleans }
+        ensures image { S.IsOf image.now sites.new }
+        ensures same { UnlessMade result (whole self.new ≡ whole self.old) }
+        ensures turn { Turned result image.now (whole self.old) (whole self.new)
+            (λ e. S.Took image.now sites.old e sites.new)
+            (λ e. S.Kept sites.old sites.new × S.Shut image.now sites.old e)
+            (S.Kept sites.old sites.new × S.Contended sites.old)
+            (sites.new ≡ sites.old) }
+    {
+        if row as usize >= ROWS {
+            return Turn::Stuck;
+        }
+        match sites.row(image, cpu, Row(row), &RowAct::Vacate) {
+            Said::Made(_) => {
+                self.cleans.advance();
+                Turn::Made
+            }
+            Said::Busy => Turn::Busy,
+            Said::Changed => Turn::Changed,
+        }
+    }
+
+    /// The object is recycled, and its pool gets back what it and its buffer cost.
+    pub fn recycle<S: Sites>(&mut self, image: &Image, cpu: u8, row: u8, sites: &mut S) -> Turn
+        requires sites { S.IsOf image.now sites.old }
+        requires runs { is_idle self.old.running.phase ≡ false }
+        requires first { self.old.cleans ≡ Todo.recycle row ∷ drop 1 self.old.cleans }
+        ensures image { S.IsOf image.now sites.new }
+        ensures same { UnlessMade result (whole self.new ≡ whole self.old) }
+        ensures turn { Turned result image.now (whole self.old) (whole self.new)
+            (λ e. S.Took image.now sites.old e sites.new)
+            (λ e. S.Kept sites.old sites.new × S.Shut image.now sites.old e)
+            (S.Kept sites.old sites.new × S.Contended sites.old)
+            (sites.new ≡ sites.old) }
+    {
+        let act = HeapAct::Recycle {
+            thread: self.running.thread(),
+            addr: Addr(addr_of(image, row as usize)),
+        };
+        match sites.heap(image, cpu, &act, self.running.charge()) {
+            Said::Made(_) => {
+                self.cleans.advance();
+                Turn::Made
+            }
+            Said::Busy => Turn::Busy,
+            Said::Changed => Turn::Changed,
+        }
+    }
+}
