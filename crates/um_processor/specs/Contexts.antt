@@ -1,6 +1,5 @@
 -- The own part of a thread, kept as a thread of the access-matrix machine of which nothing else is in use.
 use Rattle.std.specs.Prelude.{◌≡◌, ℕ, Bool, false, List, []}
-use Rattle.um_machine.specs.declared.pending.Pending.{Pending}
 use Rattle.um_machine.specs.declared.thread.Thread.{Thread}
 use Rattle.um_fine.specs.Context.{Context, as_thread, context_of}
 
@@ -11,8 +10,3 @@ own_part t ended me claims = record (context_of t me) { ended = ended; claims = 
 -- nothing but the own part is in use
 abbrev pub IsOwn : Thread → Type 0
 IsOwn me = me ≡ as_thread (own_part 0 false me [])
-
--- the thread index that a step starts
-abbrev pub started : Pending → ℕ
-started (Pending.Start who script stack priority mode) = who.0
-started step = 0

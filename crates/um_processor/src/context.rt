@@ -5,7 +5,6 @@ mod births;
 mod calls;
 mod ends;
 mod lines;
-mod newborn;
 mod objects;
 mod reads;
 #[cfg(test)]
