@@ -11,3 +11,7 @@ first_is (Some y) (x ∷ xs) e = cc
 pub second_is : {A : Type 0} (o : Option A) (xs : List A) → o ≡ slice_get xs 1 → MatchOption o (drop 1 xs ≡ []) (λ x. drop 1 xs ≡ x ∷ drop 2 xs)
 second_is o [] e = first_is o [] e
 second_is o (x ∷ xs) e = first_is o xs e
+
+pub dropped_twice : {A : Type 0} (xs : List A) → drop 1 (drop 1 xs) ≡ drop 2 xs
+dropped_twice [] = refl
+dropped_twice (x ∷ xs) = refl

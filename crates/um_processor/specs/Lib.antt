@@ -15,3 +15,4 @@ pub mod Phases
 pub mod Processors
 pub mod Cleanings
 pub mod Standing
+pub mod Events

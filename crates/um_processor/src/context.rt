@@ -4,6 +4,7 @@ mod accesses;
 mod births;
 mod calls;
 mod ends;
+mod leaves;
 mod lines;
 mod objects;
 mod reads;

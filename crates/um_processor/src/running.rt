@@ -2,6 +2,8 @@
 
 mod accesses;
 mod domains;
+mod ends;
+mod events;
 mod next;
 mod starts;
 mod turns;

@@ -54,8 +54,9 @@ pub fn first_phase(step: &Pending) -> Phase
 }
 
 /// The row at an address that was checked.
-fn row_named(image: &Image, addr: Addr) -> u8
-    ensures { result ≡ row_named image.now addr }
+pub fn row_named(image: &Image, addr: Addr) -> u8
+    ensures value { result ≡ row_named image.now addr }
+    ensures small { result < ROWS }
 {
     match row_at(image, addr.0) {
         Some(x) => x as u8,

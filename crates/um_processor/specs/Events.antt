@@ -1,0 +1,35 @@
+-- The event of a thread's next step, and what is left behind it.
+use Rattle.std.specs.Prelude.{ℕ, List, [], ◌∷◌, drop}
+use Rattle.um_base.specs.declared.image.Image.{Image}
+use Rattle.um_machine.specs.declared.pending.Pending.{Pending}
+use Rattle.um_machine.specs.Order.{Steps}
+use Rattle.um_fine.specs.Context.{Context}
+use Rattle.um_fine.specs.Follows.{end_calls, filled_up}
+use Rattle.um_fine.specs.Places.{Todo, Todos}
+use Rattle.um_fine.specs.Processor.{Processor}
+use Rattle.um_processor.specs.declared.phase.Phase.{Phase}
+use Rattle.um_processor.specs.declared.running.Running.{Running}
+use Rattle.um_processor.specs.Phases.{born, released, steps_behind}
+use Rattle.um_processor.specs.Processors.{with_todo}
+
+-- what stands behind the event in a phase, with the new thread of a start
+abbrev pub todo_after : Phase → Context → Todos
+todo_after Phase.Access c = released
+todo_after Phase.Start c = Todo.let_go ∷ Todo.add c ∷ []
+todo_after phase c = []
+
+-- the steps behind the next one
+abbrev pub rest_of : Running → Steps
+rest_of r = drop 1 (steps_behind r.visited r.context.value.pending)
+
+-- a processor that makes the event of this step next
+abbrev pub about_to : Phase → Pending → Running → Processor
+about_to phase step r = with_todo r (Todo.show step (rest_of r) ∷ todo_after phase (born r.newborn))
+
+-- the processor behind the event, by which the thread's own part became this
+abbrev pub behind_event : Image → Phase → Context → Running → Processor
+behind_event image phase c r = record (with_todo r []) { context = c; todo = filled_up image c (todo_after phase (born r.newborn)) }
+
+-- the same, with claims to end before
+abbrev pub with_ends : List ℕ → Processor → Processor
+with_ends ends p = record p { todo = end_calls ends p.todo }
