@@ -9,6 +9,7 @@ pub mod Phased
 pub mod Places
 pub mod Scheduled
 pub mod SizeLemmas
+pub mod Shown
 pub mod Standings
 pub mod Tabled
 pub mod TextLemmas

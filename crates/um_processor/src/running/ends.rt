@@ -1,17 +1,20 @@
-//! The ends of threads.
+//! The ends of threads and of objects.
 
 ghost use Rattle.std.specs.Prelude.{◌≡◌, []};
 ghost use Rattle.um_machine.specs.declared.pending.Pending.TheVariants as Pending;
 ghost use Rattle.um_processor.specs.Events.{about_to, with_ends};
-ghost use Rattle.um_processor.specs.Processors.{Turned, UnlessMade, in_phase, processor_of};
+ghost use Rattle.um_processor.specs.Processors.{Turned, UnlessMade, cleaned, in_phase, processor_of};
+ghost use Rattle.um_fine.specs.Addresses.{row_named};
 
 use crate::phase::{Phase, Turn};
+use crate::row_act::RowAct;
 use crate::running::Running;
+use crate::running::next::row_named;
 use crate::said::Said;
 use crate::sites::Sites;
 use crate::thread_act::ThreadAct;
 use arrayvec::ArrayVec;
-use um_base::{Image, THREADS, ThreadIx};
+use um_base::{Addr, Image, Row, THREADS, ThreadIx};
 
 impl Running {
     /// The thread exits after its last line, unless it is doomed. The claims of its call are to end.
@@ -77,6 +80,40 @@ impl Running {
             Said::Made(_) => {
                 self.context.dooms(from);
                 self.leaves(image, phase);
+                Turn::Made
+            }
+            Said::Busy => Turn::Busy,
+            Said::Changed => Turn::Changed,
+        }
+    }
+
+    /// The permission of a thread for the object at an address is taken away. Answers in `cleans` whether the row came to cleaning.
+    pub fn take_away<S: Sites>(
+        &mut self,
+        image: &Image,
+        cpu: u8,
+        phase: Phase,
+        who: ThreadIx,
+        addr: Addr,
+        cleans: &mut bool,
+        sites: &mut S,
+    ) -> Turn
+        requires { S.IsOf image.now sites.old }
+        ensures image { S.IsOf image.now sites.new }
+        ensures same { UnlessMade result (processor_of self.new ≡ processor_of self.old) }
+        ensures turn { Turned result image.now (about_to phase (Pending.DropPair who addr) self.old) (cleaned image.now (row_named image.now addr) cleans.new (processor_of self.new))
+            (λ e. S.Took image.now sites.old e sites.new)
+            (λ e. S.Kept sites.old sites.new × S.Shut image.now sites.old e)
+            (S.Kept sites.old sites.new × S.Contended sites.old)
+            (sites.new ≡ sites.old) }
+    {
+        let row = Row(row_named(image, addr));
+        let thread = ThreadIx(self.context.thread());
+        let act = RowAct::DropPair { thread, who, addr };
+        match sites.row(image, cpu, row, &act) {
+            Said::Made(said) => {
+                *cleans = said.cleans;
+                self.goes_on(image, phase);
                 Turn::Made
             }
             Said::Busy => Turn::Busy,

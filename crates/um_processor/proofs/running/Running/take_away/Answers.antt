@@ -1,0 +1,23 @@
+use Rattle.std.proofs.Common.{refl, ap, ◌∙◌}
+use Rattle.um_fine.specs.Context.{Context}
+use Rattle.um_processor.specs.declared.row_act.RowSaid.{RowSaid}
+use Rattle.um_processor.proofs.Shown.{taken-goes}
+use Rattle.um_processor.proofs.running.Running.take_away.Goals as goal
+
+pub returns-in-Made-clause-turn : goal.returns-in-Made-clause-turn
+returns-in-Made-clause-turn g c =
+    let h = c.in-Made.ensures.said in
+    let image = c.args.image.now in
+    let r = c.args.self.now in
+    let thread = c.thread.ensures.value ∙ ap (λ (own : Context). own.thread) c.deref.ensures in (
+      _,
+      h.1,
+      taken-goes image c.args.cpu r c.args.phase c.args.who c.args.addr h.0 _ _ _ _ thread c.row_named.ensures.value (ap (λ (s : RowSaid). s.cleans) h.2) c.goes_on.ensures,
+    )
+
+pub returns-in-Busy-clause-turn : goal.returns-in-Busy-clause-turn
+returns-in-Busy-clause-turn g c =
+    let h = c.in-Busy.ensures.said in
+    let thread = c.thread.ensures.value ∙ ap (λ (own : Context). own.thread) c.deref.ensures in
+    let goes = taken-goes c.args.image.now c.args.cpu c.args.self.now c.args.phase c.args.who c.args.addr h.0 _ _ _ _ thread c.row_named.ensures.value refl refl in
+    (_, (h.1, h.2), goes.may)
