@@ -8,8 +8,8 @@ pub mod HeapLemmas
 pub mod Phased
 pub mod Places
 pub mod Scheduled
-pub mod SizeLemmas
 pub mod Shown
+pub mod SizeLemmas
 pub mod Standings
 pub mod Tabled
 pub mod TextLemmas
