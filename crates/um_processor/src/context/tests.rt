@@ -1,13 +1,14 @@
 //! A thread's own part along a call.
 
 use super::*;
+use crate::newborn::Newborn;
 use std::alloc::Global;
 use std::test::Fail;
 use um_base::{
     Addr, Answer, Ask, BoundedVec, Cause, Errno, Image, Instr, Mode, Mpu, Piece, Policy, Reply,
     Row, Term, ThreadIx, Timeout, Told,
 };
-use um_machine::{Pending, Refusal};
+use um_machine::{Pending, Place, Refusal};
 
 /// The address of the first dynamic row, 96.
 const SEM: Addr = Addr(0x4800_0000);
@@ -89,19 +90,24 @@ fn a_refusal(rt: HostRuntime) -> Result<(), Fail> {
 #[test]
 fn a_start(rt: HostRuntime) -> Result<(), Fail> {
     let image = image(rt.alloc());
-    let creator = Context::idle();
     let mut born = Context::idle();
     born.fails(&image, 3);
-    let start = Pending::Start {
-        who: ThreadIx(5),
-        script: 2,
+    born.becomes(&Newborn {
+        thread: ThreadIx(5),
+        mode: Mode::Supervisor,
         stack: Row(7),
         priority: -3,
-        mode: Mode::Supervisor,
-    };
-    born.becomes_newborn(&image, &creator, &start);
+        pool: Some(1),
+        place: Place {
+            script: 2,
+            line: 0,
+            left: 0,
+        },
+    });
     assert!(rt; born.thread() == 5 && born.stack() == Row(7) && born.priority() == -3);
-    assert!(rt; born.mode() == Mode::Supervisor && born.place().script == 2);
+    assert!(rt;
+        born.mode() == Mode::Supervisor && born.place().script == 2 && born.pool() == Some(1)
+    );
     assert!(rt; born.first().is_none() && !born.has_ended());
     Ok(())
 }
