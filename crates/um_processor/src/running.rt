@@ -2,8 +2,10 @@
 
 mod accesses;
 mod domains;
+mod edits;
 mod ends;
 mod events;
+mod heaps;
 mod next;
 mod starts;
 mod turns;

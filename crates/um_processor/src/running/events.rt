@@ -33,7 +33,7 @@ fn own_row(image: &Image, who: ThreadIx) -> usize
 }
 
 /// What a pool pays for so many bytes.
-fn cost_of(pool: Option<u8>, size: u32) -> Option<Cost>
+pub fn cost_of(pool: Option<u8>, size: u32) -> Option<Cost>
     ensures { result ≡ cost_of pool size }
 {
     match pool {
