@@ -1,10 +1,12 @@
 -- The event of a thread's next step, and what is left behind it.
 use Rattle.std.specs.Prelude.{ℕ, List, [], ◌∷◌, drop}
+use Rattle.um_base.specs.declared.ask.Told.{Told}
 use Rattle.um_base.specs.declared.image.Image.{Image}
+use Rattle.um_base.specs.declared.names.ThreadIx.{ThreadIx}
 use Rattle.um_machine.specs.declared.pending.Pending.{Pending}
 use Rattle.um_machine.specs.Order.{Steps}
 use Rattle.um_fine.specs.Context.{Context}
-use Rattle.um_fine.specs.Follows.{end_calls, filled_up}
+use Rattle.um_fine.specs.Follows.{end_calls, filled_up, wakes}
 use Rattle.um_fine.specs.Places.{Todo, Todos}
 use Rattle.um_fine.specs.Processor.{Processor}
 use Rattle.um_processor.specs.declared.phase.Phase.{Phase}
@@ -33,3 +35,7 @@ behind_event image phase c r = record (with_todo r []) { context = c; todo = fil
 -- the same, with claims to end before
 abbrev pub with_ends : List ℕ → Processor → Processor
 with_ends ends p = record p { todo = end_calls ends p.todo }
+
+-- the same, with threads to wake before
+abbrev pub with_woken : List (ThreadIx × Told) → Processor → Processor
+with_woken woken p = record p { todo = wakes woken p.todo }

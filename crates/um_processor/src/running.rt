@@ -11,6 +11,7 @@ mod next;
 mod starts;
 mod turns;
 mod visits;
+mod works;
 
 ghost use Rattle.std.specs.Prelude.{◌≡◌};
 ghost use Rattle.um_processor.specs.Phases.{is_idle};
