@@ -7,6 +7,7 @@ pub mod Fronts
 pub mod HeapLemmas
 pub mod Phased
 pub mod Places
+pub mod Released
 pub mod Scheduled
 pub mod Shown
 pub mod SizeLemmas

@@ -14,7 +14,7 @@ use crate::said::Said;
 use crate::sites::Sites;
 use crate::thread_act::ThreadAct;
 use arrayvec::ArrayVec;
-use um_base::{Addr, Image, Row, THREADS, ThreadIx};
+use um_base::{Addr, Cause, Image, Row, THREADS, ThreadIx};
 
 impl Running {
     /// The thread exits after its last line, unless it is doomed. The claims of its call are to end.
@@ -46,6 +46,46 @@ impl Running {
                 self.context.gives_claims(ends);
                 self.context.exits(image);
                 self.expands(image);
+                Turn::Made
+            }
+            Said::Busy => Turn::Busy,
+            Said::Changed => Turn::Changed,
+        }
+    }
+
+    /// The thread fails. The claims of its call are to end.
+    pub fn fail<S: Sites>(
+        &mut self,
+        image: &Image,
+        cpu: u8,
+        phase: Phase,
+        ends: &mut ArrayVec<u8, 2>,
+        reason: u8,
+        cause: Cause,
+        sites: &mut S,
+    ) -> Turn
+        requires sites { S.IsOf image.now sites.old }
+        requires none { ends.old.items ≡ [] }
+        ensures image { S.IsOf image.now sites.new }
+        ensures ends { UnlessMade result (ends.new ≡ ends.old) }
+        ensures same { UnlessMade result (processor_of self.new ≡ processor_of self.old) }
+        ensures turn { Turned result image.now (about_to phase (Pending.Fatal reason cause) self.old) (with_ends ends.new.items (processor_of self.new))
+            (λ e. S.Took image.now sites.old e sites.new)
+            (λ e. S.Kept sites.old sites.new × S.Shut image.now sites.old e)
+            (S.Kept sites.old sites.new × S.Contended sites.old)
+            (sites.new ≡ sites.old) }
+    {
+        let thread = ThreadIx(self.context.thread());
+        let act = ThreadAct::Fatal {
+            thread,
+            reason,
+            cause,
+        };
+        match sites.thread(image, cpu, thread, &act) {
+            Said::Made(_) => {
+                self.context.gives_claims(ends);
+                self.context.fails(image, reason);
+                self.leaves(image, phase);
                 Turn::Made
             }
             Said::Busy => Turn::Busy,
