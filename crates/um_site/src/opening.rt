@@ -1,6 +1,6 @@
 //! The words with which a board may open.
 
-ghost use Rattle.std.specs.Prelude.{◌≡◌, ℕ, ◌%◌, ◌<◌, ◌≤◌, true, length, slice_index};
+ghost use Rattle.std.specs.Prelude.{◌≡◌, ℕ, ◌%◌, ◌<◌, ◌≤◌, true, false, length, slice_index};
 ghost use Rattle.um_words.specs.Steps.{number};
 
 use um_words::step_number;
@@ -11,7 +11,8 @@ const CELLS: usize = 168;
 /// Whether nobody has the turn of a cell in these words.
 pub fn have_no_turn(words: &[u64]) -> bool
     requires { length words.now ≤ 65536 }
-    ensures { result ≡ true → (i : ℕ) → 168 ≤ i → i < length words.now → slice_index words.now i % 2 ≡ 0 }
+    ensures yes { result ≡ true → (i : ℕ) → 168 ≤ i → i < length words.now → slice_index words.now i % 2 ≡ 0 }
+    ensures no { result ≡ false → ((i : ℕ) → 168 ≤ i → i < length words.now → slice_index words.now i % 2 ≡ 0) → ⊥ }
 {
     let mut site = CELLS;
     while site < words.len() {
@@ -26,7 +27,8 @@ pub fn have_no_turn(words: &[u64]) -> bool
 /// Whether none of these words has taken a step.
 pub fn are_unstepped(words: &[u64]) -> bool
     requires { length words.now ≤ 65536 }
-    ensures { result ≡ true → (i : ℕ) → i < length words.now → number i (slice_index words.now i) ≡ 0 }
+    ensures yes { result ≡ true → (i : ℕ) → i < length words.now → number i (slice_index words.now i) ≡ 0 }
+    ensures no { result ≡ false → ((i : ℕ) → i < length words.now → number i (slice_index words.now i) ≡ 0) → ⊥ }
 {
     let mut site = 0;
     while site < words.len() {

@@ -2,7 +2,7 @@ use Rattle.std.proofs.Common.{length, ◌-◌, ◌%◌, ◌≡◌, ℕ, ◌<◌,
 use Rattle.um_site.proofs.opening.have_no_turn.Given as goal
 
 abbrev pub invariant-loop-site : goal.invariant-loop-site
-invariant-loop-site l = record { free : (k : ℕ) → 168 ≤ k → k < l.site → k < length l.words → slice_index l.words k % 2 ≡ 0 }
+invariant-loop-site l = record { behind : 168 ≤ l.site; free : (k : ℕ) → 168 ≤ k → k < l.site → k < length l.words → slice_index l.words k % 2 ≡ 0 }
 
 abbrev pub decreases-loop-site : goal.decreases-loop-site
 decreases-loop-site l = length l.words - l.site
