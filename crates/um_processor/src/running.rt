@@ -6,6 +6,7 @@ mod edits;
 mod ends;
 mod events;
 mod heaps;
+mod lines;
 mod marks;
 mod next;
 mod starts;
