@@ -1,6 +1,7 @@
 //! What a processor runs.
 
 mod accesses;
+mod calls;
 mod domains;
 mod edits;
 mod ends;

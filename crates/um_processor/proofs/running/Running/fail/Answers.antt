@@ -14,8 +14,7 @@ returns-in-Made-clause-turn g c =
     let r = c.args.self.now in
     let thread = c.thread.ensures.value ∙ ap (λ (own : Context). own.thread) c.deref.ensures in
     let free : c.deref_mut-in-Made.result.now ≡ record r.context.value { claims = [] } = search rules in
-    let after = c.fails.ensures ∙ ap (λ (own : Context). ends_with image own (fatal_steps image own.thread (as_thread own) c.args.reason image.policy)) free in
-    (
+    let after = c.fails.ensures ∙ ap (λ (own : Context). ends_with image own (fatal_steps image own.thread (as_thread own) c.args.reason image.policy)) free in (
       _,
       h.1,
       failed-goes image c.args.cpu r c.args.phase h.0 c.args.reason c.args.cause _ c.gives_claims.new.claims.items (processor_of c.leaves.new.self) thread

@@ -1,0 +1,29 @@
+use Rattle.std.proofs.Common.{rules, ◌≡◌, [], drop, ap, ◌∙◌}
+use Rattle.um_machine.specs.Order.{Steps}
+use Rattle.um_machine.specs.Table.{with_answer}
+use Rattle.um_fine.specs.Context.{Context}
+use Rattle.um_fine.specs.Continues.{goes_on, reply_of}
+use Rattle.um_processor.specs.Events.{behind_event}
+use Rattle.um_processor.specs.Processors.{processor_of}
+use Rattle.um_processor.proofs.Released.{answered-goes}
+use Rattle.um_processor.proofs.running.Running.answer.Goals as goal
+
+pub returns-in-Made-clause-turn : goal.returns-in-Made-clause-turn
+returns-in-Made-clause-turn g c =
+    let h = c.in-Made.ensures.said in
+    let image = c.args.image.now in
+    let r = c.args.self.now in
+    let thread = c.thread.ensures.value ∙ ap (λ (own : Context). own.thread) c.deref.ensures in
+    let free : c.deref_mut-in-Made.result.now ≡ record r.context.value { claims = [] } = search rules in
+    let left : Context → Steps → Context = λ own rest.
+    goes_on image (record own { claims = []; registers = with_answer own.registers c.args.to (reply_of image own c.args.reply) }) rest in
+    let after =
+    c.answers.ensures
+    ∙ (ap (λ (own : Context). left own (drop c.taken-taken.result own.pending)) free ∙ ap (left r.context.value) c.taken-taken.ensures.rest) in (
+      _,
+      h.1,
+      answered-goes image c.args.cpu r c.args.phase h.0 c.args.reply c.args.to _ c.reply_of-said.result c.gives_claims.new.claims.items (processor_of c.leaves.new.self) thread
+          (search rules)
+          (search rules)
+          (c.leaves.ensures ∙ ap (λ (own : Context). behind_event image c.args.phase own r) after),
+    )

@@ -1,0 +1,267 @@
+//! A call's checks and its answer.
+
+ghost use Rattle.std.specs.Prelude.{◌≡◌, ◌<◌, [], drop, length, Some, None};
+ghost use Rattle.um_base.specs.declared.limits.TheConstants.{ROWS};
+ghost use Rattle.um_base.specs.Places.{dynamic_kind, row_at};
+ghost use Rattle.um_fine.specs.Processor.{kind_of};
+ghost use Rattle.um_machine.specs.declared.pending.Pending.TheVariants as Pending;
+ghost use Rattle.um_machine.specs.Objects.{has_kind, kind_number};
+ghost use Rattle.um_processor.specs.Events.{about_to, rest_of, with_ends};
+ghost use Rattle.um_processor.specs.Processors.{Turned, UnlessMade, processor_of};
+
+use crate::phase::{Phase, Turn};
+use crate::row_act::RowAct;
+use crate::running::Running;
+use crate::said::Said;
+use crate::sites::Sites;
+use crate::thread_act::ThreadAct;
+use arrayvec::ArrayVec;
+use um_base::{Addr, Errno, Image, Kind, Reply, Row, STATIC_ROWS, ThreadIx, Want};
+use um_machine::Refusal;
+use um_rules::rows::row_at;
+
+/// The kind of the objects of a dynamic row.
+fn dynamic_kind(x: usize) -> Kind
+    ensures { result ≡ dynamic_kind x }
+{
+    let j = x.saturating_sub(STATIC_ROWS);
+    if j < 4 {
+        Kind::Thread
+    } else if j < 12 {
+        Kind::Sem
+    } else if j < 16 {
+        Kind::Mutex
+    } else if j < 24 {
+        Kind::Msgq
+    } else if j < 28 {
+        Kind::Stack
+    } else {
+        Kind::Pipe
+    }
+}
+
+/// The kind of the object of a row, whether it stands or not.
+fn kind_of(image: &Image, x: usize) -> Option<Kind>
+    ensures { result ≡ kind_of image.now x }
+{
+    match image.objects.as_slice().get(x) {
+        Some(o) => Some(o.kind),
+        None => {
+            if x < STATIC_ROWS {
+                None
+            } else {
+                Some(dynamic_kind(x))
+            }
+        }
+    }
+}
+
+/// The place of a kind among the kinds.
+fn kind_number(kind: Kind) -> u8
+    ensures { result ≡ kind_number kind }
+{
+    match kind {
+        Kind::Thread => 0,
+        Kind::ThreadStack => 1,
+        Kind::Sem => 2,
+        Kind::Mutex => 3,
+        Kind::Msgq => 4,
+        Kind::Stack => 5,
+        Kind::Pipe => 6,
+    }
+}
+
+/// Whether an object of this kind is one that a check wants.
+fn has_kind(want: Option<Kind>, have: Option<Kind>) -> bool
+    ensures { result ≡ has_kind want have }
+{
+    match want {
+        None => true,
+        Some(want) => match have {
+            None => false,
+            Some(have) => kind_number(want) == kind_number(have),
+        },
+    }
+}
+
+impl Running {
+    /// How many of the thread's steps are over behind its next one, which stands behind visits or not.
+    #[tactic(auto, using(crate::proofs::Fronts::dropped_twice))]
+    fn taken(&self) -> usize
+        ensures some { 0 < result }
+        ensures rest { drop result self.now.context.value.pending ≡ rest_of self.now }
+    {
+        if self.visited { 2 } else { 1 }
+    }
+
+    /// The call answers. Its claims are to end.
+    pub fn answer<S: Sites>(
+        &mut self,
+        image: &Image,
+        cpu: u8,
+        phase: Phase,
+        ends: &mut ArrayVec<u8, 2>,
+        reply: Option<Reply>,
+        to: Option<u8>,
+        sites: &mut S,
+    ) -> Turn
+        requires sites { S.IsOf image.now sites.old }
+        requires none { ends.old.items ≡ [] }
+        ensures image { S.IsOf image.now sites.new }
+        ensures ends { UnlessMade result (ends.new ≡ ends.old) }
+        ensures same { UnlessMade result (processor_of self.new ≡ processor_of self.old) }
+        ensures turn { Turned result image.now (about_to phase (Pending.Answer reply to) self.old) (with_ends ends.new.items (processor_of self.new))
+            (λ e. S.Took image.now sites.old e sites.new)
+            (λ e. S.Kept sites.old sites.new × S.Shut image.now sites.old e)
+            (S.Kept sites.old sites.new × S.Contended sites.old)
+            (sites.new ≡ sites.old) }
+    {
+        let thread = ThreadIx(self.context.thread());
+        let said = self.context.reply_of(image, reply);
+        let act = ThreadAct::Answered {
+            thread,
+            reply: said,
+        };
+        match sites.thread(image, cpu, thread, &act) {
+            Said::Made(_) => {
+                let taken = self.taken();
+                self.context.gives_claims(ends);
+                self.context.answers(image, reply, to, taken);
+                self.leaves(image, phase);
+                Turn::Made
+            }
+            Said::Busy => Turn::Busy,
+            Said::Changed => Turn::Changed,
+        }
+    }
+
+    /// An address is checked where an object may stand.
+    fn check_row<S: Sites>(
+        &mut self,
+        image: &Image,
+        cpu: u8,
+        row: Row,
+        phase: Phase,
+        addr: Addr,
+        kind: Option<Kind>,
+        want: Want,
+        refusal: Refusal,
+        sites: &mut S,
+    ) -> Turn
+        requires sites { S.IsOf image.now sites.old }
+        requires row { row_at image.now addr.0 ≡ Some row.0 }
+        requires small { row.0 < ROWS }
+        requires room { length self.old.context.value.claims < 2 }
+        ensures image { S.IsOf image.now sites.new }
+        ensures same { UnlessMade result (processor_of self.new ≡ processor_of self.old) }
+        ensures turn { Turned result image.now (about_to phase (Pending.Check addr kind want refusal) self.old) (processor_of self.new)
+            (λ e. S.Took image.now sites.old e sites.new)
+            (λ e. S.Kept sites.old sites.new × S.Shut image.now sites.old e)
+            (S.Kept sites.old sites.new × S.Contended sites.old)
+            (sites.new ≡ sites.old) }
+    {
+        let act = RowAct::Check {
+            thread: ThreadIx(self.context.thread()),
+            addr,
+            kind,
+            want,
+            mode: self.context.mode(),
+            fits: has_kind(kind, kind_of(image, row.0 as usize)),
+        };
+        match sites.row(image, cpu, row, &act) {
+            Said::Made(said) => {
+                let taken = self.taken();
+                self.context
+                    .checks(image, addr, refusal, said.verdict, taken);
+                self.leaves(image, phase);
+                Turn::Made
+            }
+            Said::Busy => Turn::Busy,
+            Said::Changed => Turn::Changed,
+        }
+    }
+
+    /// An address is checked where no object can stand.
+    fn check_nothing<S: Sites>(
+        &mut self,
+        image: &Image,
+        cpu: u8,
+        phase: Phase,
+        addr: Addr,
+        kind: Option<Kind>,
+        want: Want,
+        refusal: Refusal,
+        sites: &mut S,
+    ) -> Turn
+        requires sites { S.IsOf image.now sites.old }
+        requires row { row_at image.now addr.0 ≡ None }
+        requires room { length self.old.context.value.claims < 2 }
+        ensures image { S.IsOf image.now sites.new }
+        ensures same { UnlessMade result (processor_of self.new ≡ processor_of self.old) }
+        ensures turn { Turned result image.now (about_to phase (Pending.Check addr kind want refusal) self.old) (processor_of self.new)
+            (λ e. S.Took image.now sites.old e sites.new)
+            (λ e. S.Kept sites.old sites.new × S.Shut image.now sites.old e)
+            (S.Kept sites.old sites.new × S.Contended sites.old)
+            (sites.new ≡ sites.old) }
+    {
+        let thread = ThreadIx(self.context.thread());
+        let act = ThreadAct::Miss {
+            thread,
+            addr,
+            kind,
+            want,
+            mode: self.context.mode(),
+        };
+        match sites.thread(image, cpu, thread, &act) {
+            Said::Made(_) => {
+                let taken = self.taken();
+                self.context
+                    .checks(image, addr, refusal, Some(Errno::EBADF), taken);
+                self.leaves(image, phase);
+                Turn::Made
+            }
+            Said::Busy => Turn::Busy,
+            Said::Changed => Turn::Changed,
+        }
+    }
+
+    /// An object is looked for, which the call holds where it passes the check.
+    pub fn check<S: Sites>(
+        &mut self,
+        image: &Image,
+        cpu: u8,
+        phase: Phase,
+        addr: Addr,
+        kind: Option<Kind>,
+        want: Want,
+        refusal: Refusal,
+        sites: &mut S,
+    ) -> Turn
+        requires { S.IsOf image.now sites.old }
+        ensures image { S.IsOf image.now sites.new }
+        ensures same { UnlessMade result (processor_of self.new ≡ processor_of self.old) }
+        ensures turn { Turned result image.now (about_to phase (Pending.Check addr kind want refusal) self.old) (processor_of self.new)
+            (λ e. S.Took image.now sites.old e sites.new)
+            (λ e. S.Kept sites.old sites.new × S.Shut image.now sites.old e)
+            (S.Kept sites.old sites.new × S.Contended sites.old)
+            (sites.new ≡ sites.old) }
+    {
+        if !self.context.has_room() {
+            return Turn::Stuck;
+        }
+        match row_at(image, addr.0) {
+            None => self.check_nothing(image, cpu, phase, addr, kind, want, refusal, sites),
+            Some(x) => self.check_row(
+                image,
+                cpu,
+                Row(x as u8),
+                phase,
+                addr,
+                kind,
+                want,
+                refusal,
+                sites,
+            ),
+        }
+    }
+}
