@@ -7,6 +7,7 @@ mod edits;
 mod ends;
 mod events;
 mod heaps;
+mod kinds;
 mod lines;
 mod marks;
 mod next;

@@ -2,87 +2,22 @@
 
 ghost use Rattle.std.specs.Prelude.{◌≡◌, ◌<◌, [], drop, length, Some, None};
 ghost use Rattle.um_base.specs.declared.limits.TheConstants.{ROWS};
-ghost use Rattle.um_base.specs.Places.{dynamic_kind, row_at};
-ghost use Rattle.um_fine.specs.Processor.{kind_of};
+ghost use Rattle.um_base.specs.Places.{row_at};
 ghost use Rattle.um_machine.specs.declared.pending.Pending.TheVariants as Pending;
-ghost use Rattle.um_machine.specs.Objects.{has_kind, kind_number};
 ghost use Rattle.um_processor.specs.Events.{about_to, rest_of, with_ends};
 ghost use Rattle.um_processor.specs.Processors.{Turned, UnlessMade, processor_of};
 
 use crate::phase::{Phase, Turn};
 use crate::row_act::RowAct;
 use crate::running::Running;
+use crate::running::kinds::{has_kind, kind_of};
 use crate::said::Said;
 use crate::sites::Sites;
 use crate::thread_act::ThreadAct;
 use arrayvec::ArrayVec;
-use um_base::{Addr, Errno, Image, Kind, Reply, Row, STATIC_ROWS, ThreadIx, Want};
+use um_base::{Addr, Errno, Image, Kind, Reply, Row, ThreadIx, Want};
 use um_machine::Refusal;
 use um_rules::rows::row_at;
-
-/// The kind of the objects of a dynamic row.
-fn dynamic_kind(x: usize) -> Kind
-    ensures { result ≡ dynamic_kind x }
-{
-    let j = x.saturating_sub(STATIC_ROWS);
-    if j < 4 {
-        Kind::Thread
-    } else if j < 12 {
-        Kind::Sem
-    } else if j < 16 {
-        Kind::Mutex
-    } else if j < 24 {
-        Kind::Msgq
-    } else if j < 28 {
-        Kind::Stack
-    } else {
-        Kind::Pipe
-    }
-}
-
-/// The kind of the object of a row, whether it stands or not.
-fn kind_of(image: &Image, x: usize) -> Option<Kind>
-    ensures { result ≡ kind_of image.now x }
-{
-    match image.objects.as_slice().get(x) {
-        Some(o) => Some(o.kind),
-        None => {
-            if x < STATIC_ROWS {
-                None
-            } else {
-                Some(dynamic_kind(x))
-            }
-        }
-    }
-}
-
-/// The place of a kind among the kinds.
-fn kind_number(kind: Kind) -> u8
-    ensures { result ≡ kind_number kind }
-{
-    match kind {
-        Kind::Thread => 0,
-        Kind::ThreadStack => 1,
-        Kind::Sem => 2,
-        Kind::Mutex => 3,
-        Kind::Msgq => 4,
-        Kind::Stack => 5,
-        Kind::Pipe => 6,
-    }
-}
-
-/// Whether an object of this kind is one that a check wants.
-fn has_kind(want: Option<Kind>, have: Option<Kind>) -> bool
-    ensures { result ≡ has_kind want have }
-{
-    match want {
-        None => true,
-        Some(want) => match have {
-            None => false,
-            Some(have) => kind_number(want) == kind_number(have),
-        },
-    }
-}
 
 impl Running {
     /// How many of the thread's steps are over behind its next one, which stands behind visits or not.
