@@ -8,6 +8,7 @@ pub mod HeapLemmas
 pub mod Phased
 pub mod Places
 pub mod Released
+pub mod Readable
 pub mod Scheduled
 pub mod Shown
 pub mod SizeLemmas

@@ -11,6 +11,7 @@ mod kinds;
 mod lines;
 mod marks;
 mod next;
+mod rights;
 mod starts;
 mod turns;
 mod visits;
