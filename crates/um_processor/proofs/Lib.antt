@@ -1,4 +1,5 @@
 -- What the proofs of several functions cite.
+pub mod Accesses
 pub mod ByteLemmas
 pub mod Celled
 pub mod Cleaned

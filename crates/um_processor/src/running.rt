@@ -10,6 +10,7 @@ mod heaps;
 mod kinds;
 mod lines;
 mod marks;
+mod memory;
 mod next;
 mod rights;
 mod starts;
