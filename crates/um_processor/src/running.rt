@@ -2,6 +2,7 @@
 
 mod accesses;
 mod calls;
+mod copies;
 mod domains;
 mod edits;
 mod ends;
