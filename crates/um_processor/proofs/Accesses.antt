@@ -1,25 +1,25 @@
 -- The event of a load.
 use Rattle.std.proofs.Common.{◌≡◌, ℕ, Bool, true, false, List, refl, sym, subst, ap, ◌∙◌}
-use Rattle.std.specs.Prelude.{◌&&◌, nat_le, if◌then◌else◌, slice_set}
+use Rattle.std.specs.Prelude.{◌&&◌, nat_le, if◌then◌else◌}
 use Rattle.um_base.specs.declared.act.Act.{Act}
 use Rattle.um_base.specs.declared.image.Image.{Image}
 use Rattle.um_base.specs.declared.names.Access.{Access}
 use Rattle.um_base.specs.declared.names.Addr.{Addr}
+use Rattle.um_base.specs.declared.names.ThreadIx.{ThreadIx}
 use Rattle.um_machine.specs.declared.pending.Pending.{Pending}
 use Rattle.um_machine.specs.Order.{to_thread}
-use Rattle.um_machine.specs.Table.{fault}
-use Rattle.um_words.specs.declared.fine.FineAct.{FineAct}
 use Rattle.um_words.specs.declared.fine.More.{More}
 use Rattle.um_fine.specs.Answers.{act_in, value_in}
 use Rattle.um_fine.specs.Asks.{allows}
-use Rattle.um_fine.specs.Continues.{goes_on}
 use Rattle.um_fine.specs.Memory.{Bytes}
 use Rattle.um_fine.specs.Processor.{Processor}
 use Rattle.um_fine.specs.Steps.{FineStep}
 use Rattle.um_processor.specs.declared.memory_act.MemoryAct.{MemoryAct}
 use Rattle.um_processor.specs.declared.phase.Phase.{Phase}
 use Rattle.um_processor.specs.declared.running.Running.{Running}
-use Rattle.um_processor.specs.Events.{about_to, behind_event, rest_of}
+use Rattle.um_processor.specs.Accesses.{behind_load}
+use Rattle.um_processor.specs.Asked.{shown}
+use Rattle.um_processor.specs.Events.{about_to, behind_event}
 use Rattle.um_processor.specs.MemoryActs.{memory_made}
 use Rattle.um_processor.specs.Processors.{Goes, in_phase}
 
@@ -32,44 +32,36 @@ module _ (image : Image) (cpu k : ℕ) (m : Bytes) (r : Running) (phase : Phase)
   made b = memory_made image cpu k m (load_or_fault b) buffer
 
   -- the processor behind it, with the number that was loaded
-  abbrev pub behind_load : Bool → ℕ → Processor
-  behind_load b value =
-      let c = r.context.value in
-      behind_event image phase (if b then goes_on image (record c { registers = slice_set c.registers to value }) (rest_of r) else goes_on image c fault) r
+  abbrev pub behind : Bool → ℕ → Processor
+  behind b value = behind_event image phase (behind_load image r b to value) r
+
+  abbrev me : ThreadIx
+  me = to_thread r.context.value.thread
+
+  abbrev says : Bool → FineStep → Act
+  says b e = if b then Act.Load a n (value_in (act_in e.act)) else Act.Fault Access.Read a n
+
+  -- what it says is what the processor says
+  makes-by : (b : Bool) (e : FineStep) → t ≡ r.context.value.thread → b ≡ allows image (in_phase Phase.Park r) Access.Read a.0 n
+      → record e { act = shown me (says (allows image (in_phase Phase.Park r) Access.Read a.0 n) e) More.Nothing }
+      ≡ record e { act = shown (to_thread t) (says b e) More.Nothing }
+  makes-by b e et eb = λ i. record e { act = shown (to_thread (sym et i)) (says (sym eb i) e) More.Nothing }
 
   load-made : (b : Bool) → t ≡ r.context.value.thread → nat_le n 4 ≡ true → b ≡ allows image (in_phase Phase.Park r) Access.Read a.0 n
-      → Goes image (about_to phase (Pending.Load to a n) r) (made b) (behind_load b (value_in (act_in (made b).act)))
+      → Goes image (about_to phase (Pending.Load to a n) r) (made b) (behind b (value_in (act_in (made b).act)))
   load-made true et en eb =
-      let e = made true in
-      record {
-        may =
-            record {
-              makes =
-                  (λ i. record e { act = FineAct.Shown (record { thread = to_thread (sym et i); act = if sym eb i then Act.Load a n (value_in (act_in e.act)) else Act.Fault Access.Read a n }) More.Nothing });
-              fit = ap (λ (b : Bool). b && true) en;
-            };
-        next = refl;
-      }
+      record { may = record { makes = makes-by true (made true) et eb; fit = ap (λ (b : Bool). b && true) en }; next = refl }
   load-made false et en eb =
-      let e = made false in
-      record {
-        may =
-            record {
-              makes =
-                  (λ i. record e { act = FineAct.Shown (record { thread = to_thread (sym et i); act = if sym eb i then Act.Load a n (value_in (act_in e.act)) else Act.Fault Access.Read a n }) More.Nothing });
-              fit = ap (λ (b : Bool). b && true) en;
-            };
-        next = refl;
-      }
+      record { may = record { makes = makes-by false (made false) et eb; fit = ap (λ (b : Bool). b && true) en }; next = refl }
 
   pub load-goes : (b : Bool) (act : MemoryAct) (value : ℕ) (z : Processor) → t ≡ r.context.value.thread → nat_le n 4 ≡ true
       → b ≡ allows image (in_phase Phase.Park r) Access.Read a.0 n → act ≡ load_or_fault b
-      → value ≡ value_in (act_in (memory_made image cpu k m act buffer).act) → z ≡ behind_load b value
+      → value ≡ value_in (act_in (memory_made image cpu k m act buffer).act) → z ≡ behind b value
       → Goes image (about_to phase (Pending.Load to a n) r) (memory_made image cpu k m act buffer) z
   load-goes b act value z et en eb ea ev ez =
       let at = λ (x : MemoryAct). memory_made image cpu k m x buffer in
       subst (λ (x : MemoryAct). Goes image (about_to phase (Pending.Load to a n) r) (at x) z) (sym ea)
       (record {
         may = (load-made b et en eb).may;
-        next = ez ∙ (ap (behind_load b) (ev ∙ ap (λ (x : MemoryAct). value_in (act_in (at x).act)) ea) ∙ (load-made b et en eb).next);
+        next = ez ∙ (ap (behind b) (ev ∙ ap (λ (x : MemoryAct). value_in (act_in (at x).act)) ea) ∙ (load-made b et en eb).next);
       })

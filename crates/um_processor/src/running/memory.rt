@@ -1,10 +1,9 @@
 //! The events of accesses to memory.
 
-ghost use Rattle.std.specs.Prelude.{◌≡◌, if◌then◌else◌, drop, slice_set};
-ghost use Rattle.um_fine.specs.Continues.{goes_on};
-ghost use Rattle.um_machine.specs.Table.{fault};
+ghost use Rattle.std.specs.Prelude.{◌≡◌, if◌then◌else◌, drop};
 ghost use Rattle.um_machine.specs.declared.pending.Pending.TheVariants as Pending;
 ghost use Rattle.um_processor.specs.declared.memory_act.MemoryAct.TheVariants as MemoryAct;
+ghost use Rattle.um_processor.specs.Accesses.{behind_access, behind_load};
 ghost use Rattle.um_processor.specs.Events.{about_to, behind_event, rest_of};
 ghost use Rattle.um_processor.specs.Processors.{Turned, UnlessMade, processor_of};
 
@@ -52,7 +51,7 @@ impl Running {
 
     /// Goes on behind a load of this number, or after its fault.
     fn loads_or_faults(&mut self, image: &Image, phase: Phase, allowed: bool, to: u8, value: u32)
-        ensures { processor_of self.new ≡ behind_event image.now phase (if allowed then goes_on image.now (record self.old.context.value { registers = slice_set self.old.context.value.registers to value }) (rest_of self.old) else goes_on image.now self.old.context.value fault) self.old }
+        ensures { processor_of self.new ≡ behind_event image.now phase (behind_load image.now self.old allowed to value) self.old }
     {
         if allowed {
             let taken = self.taken();
@@ -65,7 +64,7 @@ impl Running {
 
     /// Goes on behind another access, or after its fault.
     fn goes_on_or_faults(&mut self, image: &Image, phase: Phase, allowed: bool)
-        ensures { processor_of self.new ≡ behind_event image.now phase (if allowed then goes_on image.now self.old.context.value (rest_of self.old) else goes_on image.now self.old.context.value fault) self.old }
+        ensures { processor_of self.new ≡ behind_event image.now phase (behind_access image.now self.old allowed) self.old }
     {
         if allowed {
             self.goes_on(image, phase);
