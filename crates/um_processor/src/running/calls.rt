@@ -1,10 +1,10 @@
 //! A call's checks and its answer.
 
-ghost use Rattle.std.specs.Prelude.{◌≡◌, ◌<◌, [], drop, length, Some, None};
+ghost use Rattle.std.specs.Prelude.{◌≡◌, ◌<◌, [], length, Some, None};
 ghost use Rattle.um_base.specs.declared.limits.TheConstants.{ROWS};
 ghost use Rattle.um_base.specs.Places.{row_at};
 ghost use Rattle.um_machine.specs.declared.pending.Pending.TheVariants as Pending;
-ghost use Rattle.um_processor.specs.Events.{about_to, rest_of, with_ends};
+ghost use Rattle.um_processor.specs.Events.{about_to, with_ends};
 ghost use Rattle.um_processor.specs.Processors.{Turned, UnlessMade, processor_of};
 
 use crate::phase::{Phase, Turn};
@@ -20,15 +20,6 @@ use um_machine::Refusal;
 use um_rules::rows::row_at;
 
 impl Running {
-    /// How many of the thread's steps are over behind its next one, which stands behind visits or not.
-    #[tactic(auto, using(crate::proofs::Fronts::dropped_twice))]
-    fn taken(&self) -> usize
-        ensures some { 0 < result }
-        ensures rest { drop result self.now.context.value.pending ≡ rest_of self.now }
-    {
-        if self.visited { 2 } else { 1 }
-    }
-
     /// The call answers. Its claims are to end.
     pub fn answer<S: Sites>(
         &mut self,

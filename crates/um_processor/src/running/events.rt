@@ -1,6 +1,6 @@
 //! Events behind which a thread goes on as it is.
 
-ghost use Rattle.std.specs.Prelude.{◌≡◌, ◌<◌};
+ghost use Rattle.std.specs.Prelude.{◌≡◌, ◌<◌, drop};
 ghost use Rattle.um_base.specs.Places.{own_row};
 ghost use Rattle.um_fine.specs.Continues.{goes_on};
 ghost use Rattle.um_machine.specs.Table.{cost_of};
@@ -43,6 +43,15 @@ pub fn cost_of(pool: Option<u8>, size: u32) -> Option<Cost>
 }
 
 impl Running {
+    /// How many of the thread's steps are over behind its next one, which stands behind visits or not.
+    #[tactic(auto, using(crate::proofs::Fronts::dropped_twice))]
+    pub fn taken(&self) -> usize
+        ensures some { 0 < result }
+        ensures rest { drop result self.now.context.value.pending ≡ rest_of self.now }
+    {
+        if self.visited { 2 } else { 1 }
+    }
+
     /// Goes on behind the event of a step that stood in this phase.
     pub fn leaves(&mut self, image: &Image, phase: Phase)
         ensures { processor_of self.new ≡ behind_event image.now phase self.old.context.value self.old }

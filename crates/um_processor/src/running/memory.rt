@@ -1,6 +1,6 @@
 //! The events of accesses to memory.
 
-ghost use Rattle.std.specs.Prelude.{◌≡◌, if◌then◌else◌, drop};
+ghost use Rattle.std.specs.Prelude.{◌≡◌, if◌then◌else◌};
 ghost use Rattle.um_machine.specs.declared.pending.Pending.TheVariants as Pending;
 ghost use Rattle.um_processor.specs.declared.memory_act.MemoryAct.TheVariants as MemoryAct;
 ghost use Rattle.um_processor.specs.Accesses.{behind_access, behind_load};
@@ -38,17 +38,6 @@ fn or_fault(
 }
 
 impl Running {
-    /// How many steps are left behind by the event of the next one.
-    #[tactic(auto, using(crate::proofs::Fronts::dropped_twice))]
-    pub fn taken(&self) -> usize
-        ensures { drop result self.now.context.value.pending ≡ rest_of self.now }
-    {
-        if self.visited {
-            return 2;
-        }
-        1
-    }
-
     /// Goes on behind a load of this number, or after its fault.
     fn loads_or_faults(&mut self, image: &Image, phase: Phase, allowed: bool, to: u8, value: u32)
         ensures { processor_of self.new ≡ behind_event image.now phase (behind_load image.now self.old allowed to value) self.old }
