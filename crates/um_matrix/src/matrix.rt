@@ -84,6 +84,7 @@ impl<'a> Model for Matrix<'a> {
 
 impl<'a> Matrix<'a> {
     ghost use Rattle.um_machine.specs.State.{object_at};
+    ghost use Rattle.um_machine.specs.Memory.{rodata_of};
 
     /// The image that runs.
     pub fn image(&self) -> &'a Image
@@ -130,6 +131,13 @@ impl<'a> Matrix<'a> {
         ensures few { length result.now ≤ DOMAINS }
     {
         self.domains.as_slice()
+    }
+
+    /// The bytes of the read-only data.
+    pub fn rodata(&self) -> &[u8]
+        ensures { result.now ≡ rodata_of self.now.image }
+    {
+        self.rodata.as_slice()
     }
 
     /// The bytes of the area of the partitions.
