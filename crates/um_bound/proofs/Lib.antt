@@ -1,9 +1,9 @@
-mod TotalLemmas
+pub mod TotalLemmas
 mod EasedLemmas
-mod PlaceLemmas
-mod SettledLemmas
-mod ScriptLemmas
-mod NextLemmas
+pub mod PlaceLemmas
+pub mod SettledLemmas
+pub mod ScriptLemmas
+pub mod NextLemmas
 mod IndexLemmas
 mod LineLemmas
 mod StoreLemmas

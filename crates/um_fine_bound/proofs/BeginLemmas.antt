@@ -17,8 +17,8 @@ use Rattle.um_fine_bound.specs.Measure.{ahead_cost, end_cost}
 use Rattle.um_fine_bound.specs.Ready.{MayShow}
 use Rattle.um_fine_bound.proofs.LeftLemmas.{behind_line, goes-cost, left_cost}
 use Rattle.um_fine_bound.proofs.LineLemmas.{line-cost}
-use Rattle.um_fine_bound.proofs.NextLemmas.{next-line}
-use Rattle.um_fine_bound.proofs.ScriptLemmas.{lawful-line}
+use Rattle.um_bound.proofs.NextLemmas.{next-line}
+use Rattle.um_bound.proofs.ScriptLemmas.{lawful-line}
 
 module _ (image : Image) (lawful : IsLawful image) (c : Context) where
   begin-line : MayShow image c Pending.Begin → (line : Option Instr) → instruction_at image c.place ≡ line → IsTrue (is_some line)

@@ -23,8 +23,8 @@ use Rattle.um_machine.specs.State.{value_of, first_place}
 use Rattle.um_bound.specs.Measure.{lines_left, weights_behind}
 use Rattle.um_bound.specs.Reached.{makes_steps}
 use Rattle.um_fine_bound.specs.Measure.{steps_cost, put_back_cost}
-use Rattle.um_fine_bound.proofs.NextLemmas.{first-stands}
-use Rattle.um_fine_bound.proofs.ScriptLemmas.{weight-later}
+use Rattle.um_bound.proofs.NextLemmas.{first-stands}
+use Rattle.um_bound.proofs.ScriptLemmas.{weight-later}
 
 -- the begin of a line, its steps, and the end of its turn cost no more than so much
 abbrev pub CostsMost : Image → ℕ → Steps → Type 0

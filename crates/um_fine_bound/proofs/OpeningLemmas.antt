@@ -24,9 +24,9 @@ use Rattle.um_fine.specs.Context.{context_of}
 use Rattle.um_fine.specs.Opening.{indexed, parked_if, s_start, stage_of}
 use Rattle.um_fine.specs.Steps.{Site}
 use Rattle.um_fine_bound.specs.Measure.{place_cost, site_cost, stage_cost, told_cost}
-use Rattle.um_fine_bound.proofs.NextLemmas.{first-stands}
-use Rattle.um_fine_bound.proofs.ScriptLemmas.{weight-script}
-use Rattle.um_fine_bound.proofs.SumLemmas.{total-set}
+use Rattle.um_bound.proofs.NextLemmas.{first-stands}
+use Rattle.um_bound.proofs.ScriptLemmas.{weight-script}
+use Rattle.um_bound.proofs.TotalLemmas.{total-set}
 
 total-replicate : {A : Type 0} (f : A → ℕ) (x : A) → f x ≡ 0 → (n : ℕ) → total f (replicate n x) ≡ 0
 total-replicate f x h zero = refl

@@ -25,7 +25,7 @@ use Rattle.um_fine.specs.Steps.{Exchange, FineStep, Outcome, Word}
 use Rattle.um_fine_bound.specs.Measure.{object_cost, parked_cost, place_cost, scheduler_cost, site_cost, told_cost}
 use Rattle.um_fine_bound.proofs.Between.{begun_cost, given_by, joins, taken_by, taken_cost}
 use Rattle.um_fine_bound.proofs.RowLemmas.{begins_by, cost_if, row-falls}
-use Rattle.um_fine_bound.proofs.SumLemmas.{total-set}
+use Rattle.um_bound.proofs.TotalLemmas.{total-set}
 use Rattle.um_fine_bound.proofs.WaiterLemmas.{waiters-pay}
 
 -- A cleaning is begun at a row.
