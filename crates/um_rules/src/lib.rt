@@ -2,9 +2,13 @@
 #![tactic(auto)]
 
 pub mod blank;
+pub mod buffers;
 pub mod bytes;
+pub mod costs;
 pub mod domains;
+pub mod kinds;
 pub mod order;
 pub mod regions;
+pub mod registers;
 pub mod rows;
 pub mod same;

@@ -2,7 +2,7 @@
 
 ghost use Rattle.std.specs.Prelude.{◌≡◌, ◌<◌, ◌≤◌, not, false, slice_set, slice_index_or, length, List, Bool};
 ghost use Rattle.std.specs.List.{list_all};
-ghost use Rattle.um_machine.specs.Objects.{any_holds, thread_holds, has_kind, kind_number, init_verdict};
+ghost use Rattle.um_machine.specs.Objects.{any_holds, thread_holds, init_verdict};
 ghost use Rattle.um_machine.specs.Table.{set_said};
 
 use crate::matrix::Matrix;
@@ -13,6 +13,7 @@ use um_base::{
     THREADS, ThreadIx, Want,
 };
 use um_machine::{Object, Status, Thread};
+use um_rules::kinds::has_kind;
 use um_rules::rows::own_row;
 
 impl<'a> Matrix<'a> {
@@ -131,34 +132,6 @@ fn left(pools: &[u32], pool: u8) -> u32
     match pools.get(pool as usize) {
         Some(left) => *left,
         None => 0,
-    }
-}
-
-/// Whether an object of this kind is one that a check wants.
-fn has_kind(want: Option<Kind>, have: Option<Kind>) -> bool
-    ensures { result ≡ has_kind want have }
-{
-    match want {
-        None => true,
-        Some(want) => match have {
-            None => false,
-            Some(have) => kind_number(want) == kind_number(have),
-        },
-    }
-}
-
-/// The place of a kind among the kinds.
-pub fn kind_number(kind: Kind) -> u8
-    ensures { result ≡ kind_number kind }
-{
-    match kind {
-        Kind::Thread => 0,
-        Kind::ThreadStack => 1,
-        Kind::Sem => 2,
-        Kind::Mutex => 3,
-        Kind::Msgq => 4,
-        Kind::Stack => 5,
-        Kind::Pipe => 6,
     }
 }
 

@@ -3,10 +3,10 @@
 ghost use Rattle.std.specs.Prelude.{◌≡◌, ◌<◌, []};
 
 use crate::matrix::Matrix;
-use crate::matrix::moves::pay_back;
 use um_base::{ROWS, THREADS, ThreadIx};
 use um_machine::Pending;
 use um_rules::blank::vacate;
+use um_rules::costs::pay_back;
 
 impl<'a> Matrix<'a> {
     ghost use Rattle.um_machine.specs.Table.{after, cleaned_by};

@@ -1,17 +1,16 @@
 //! The steps that start a thread, and that give up its privilege.
 
-ghost use Rattle.std.specs.Prelude.{◌≡◌, ◌<◌, ◌==◌, [], drop, if◌then◌else◌, slice_index, IsTrue, IfSome, length};
+ghost use Rattle.std.specs.Prelude.{◌≡◌, ◌<◌, ◌==◌, [], drop, if◌then◌else◌, IsTrue, IfSome, length};
 ghost use Rattle.std.specs.Option.{option_copied};
-ghost use Rattle.um_machine.specs.Table.{with_begin};
 ghost use Rattle.um_rules.specs.Accesses.{is_sized};
 
 use crate::matrix::Matrix;
-use crate::matrix::transfer::put_register;
 use um_base::{Instr, Mode, Row, THREADS, ThreadIx};
 use um_machine::places::{first_place, instruction_at};
 use um_machine::{Life, Pending, Thread};
 use um_rules::blank::nobody;
-use um_rules::order::{self, value_of};
+use um_rules::order;
+use um_rules::registers::put_begin;
 
 /// Where and how a new thread starts.
 #[derive(Clone, Copy)]
@@ -20,33 +19,6 @@ pub struct Beginning {
     pub stack: Row,
     pub priority: i8,
     pub mode: Mode,
-}
-
-/// What a register holds.
-fn register(registers: &[u32], r: u8) -> u32
-    ensures { result ≡ slice_index registers.now r }
-{
-    match registers.get(r as usize) {
-        Some(n) => *n,
-        None => 0,
-    }
-}
-
-/// Writes what the begin of an instruction writes to a register.
-fn put_begin(registers: &mut [u32], instr: &Instr)
-    ensures { registers.new ≡ with_begin registers.old instr.now }
-{
-    match instr {
-        Instr::Set { to, value } => {
-            let value = value_of(registers, value);
-            put_register(registers, *to, value);
-        }
-        Instr::Add { to, value } => {
-            let value = register(registers, *to).wrapping_add(value_of(registers, value));
-            put_register(registers, *to, value);
-        }
-        _ => {}
-    }
 }
 
 /// A thread becomes another one, but for the steps that are left.

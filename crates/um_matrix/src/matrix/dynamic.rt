@@ -3,10 +3,10 @@
 ghost use Rattle.std.specs.Prelude.{◌≡◌, ◌<◌, drop};
 
 use crate::matrix::Matrix;
-use crate::matrix::moves::{cost_of, pay_back, pay_from};
 use um_base::{Addr, Errno, Kind, ROWS, Reply, THREADS};
 use um_machine::{Pending, Status};
 use um_rules::blank::vacate;
+use um_rules::costs::{cost_of, pay_back, pay_from};
 use um_rules::order::answer_error;
 use um_rules::rows::addr_of;
 

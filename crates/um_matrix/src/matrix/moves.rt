@@ -1,11 +1,11 @@
 //! What steps have in common: pairs come and go, and pools pay.
 
 ghost use Rattle.std.specs.Prelude.{◌≡◌, ◌<◌, ◌≤◌, [], false, not, ◌&&◌, slice_index_or, slice_set, map, length, List, Bool};
-ghost use Rattle.um_machine.specs.Table.{stays_due, with_dues, paid_back, paid_from, cost_of};
+ghost use Rattle.um_machine.specs.Table.{stays_due, with_dues};
 
 use crate::matrix::Matrix;
 use um_base::{Given, Leftover, ROWS, THREADS, ThreadIx};
-use um_machine::{Cost, Status, Thread};
+use um_machine::{Status, Thread};
 
 impl<'a> Matrix<'a> {
     ghost use Rattle.um_machine.specs.Table.{paired, after_drop, after_given};
@@ -116,39 +116,5 @@ fn settle(threads: &mut [Thread], x: usize, holders: &[bool])
         let thread = &mut threads[t];
         let stays = flag(&thread.due, x) && stays_due(t, thread.child, holders);
         put(&mut thread.due, x, stays);
-    }
-}
-
-/// A pool gets bytes back.
-pub fn pay_back(pools: &mut [u32], cost: Option<Cost>)
-    ensures { pools.new ≡ paid_back cost pools.old }
-{
-    if let Some(cost) = cost {
-        let pool = cost.pool as usize;
-        if pool < pools.len() {
-            pools[pool] = pools[pool].saturating_add(cost.bytes);
-        }
-    }
-}
-
-/// Bytes are taken from a pool.
-pub fn pay_from(pools: &mut [u32], pool: Option<u8>, size: u32)
-    ensures { pools.new ≡ paid_from pool size pools.old }
-{
-    if let Some(pool) = pool {
-        let pool = pool as usize;
-        if pool < pools.len() {
-            pools[pool] = pools[pool].saturating_sub(size);
-        }
-    }
-}
-
-/// What a thread's pool pays.
-pub fn cost_of(pool: Option<u8>, size: u32) -> Option<Cost>
-    ensures { result ≡ cost_of pool size }
-{
-    match pool {
-        None => None,
-        Some(pool) => Some(Cost { pool, bytes: size }),
     }
 }

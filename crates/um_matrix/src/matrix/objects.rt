@@ -2,31 +2,16 @@
 
 ghost use Rattle.std.specs.Prelude.{◌≡◌, ◌<◌, drop};
 ghost use Rattle.um_machine.specs.Order.{refuses};
-ghost use Rattle.um_machine.specs.Table.{with_answer, at_steps, cleared_first};
+ghost use Rattle.um_machine.specs.Table.{at_steps, cleared_first};
 ghost use Rattle.um_base.specs.declared.image.Image.{Image};
 
 use crate::matrix::Matrix;
 use crate::matrix::checks::set_said;
-use crate::matrix::transfer::put_register;
 use um_base::{Addr, Cause, Errno, Given, Kind, ROWS, Reply, SetSaid, THREADS, ThreadIx, Want};
 use um_machine::{Contents, Pending, Refusal, Thread};
 use um_rules::order::{refused, refuses};
+use um_rules::registers::put_answer;
 use um_rules::rows::own_row;
-
-/// Writes an answer to its register, where it has one and is a number, an address or NULL.
-fn put_answer(registers: &mut [u32], to: Option<u8>, reply: Reply)
-    ensures { registers.new ≡ with_answer registers.old to reply }
-{
-    let Some(to) = to else {
-        return;
-    };
-    match reply {
-        Reply::Num(n) => put_register(registers, to, n),
-        Reply::At(a) => put_register(registers, to, a.0),
-        Reply::Null => put_register(registers, to, 0),
-        _ => {}
-    }
-}
 
 /// What follows where an object can't be marked: the other one is cleared first.
 fn turn_back(thread: &mut Thread, undo: Option<Addr>, e: Errno)

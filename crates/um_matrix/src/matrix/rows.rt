@@ -1,30 +1,15 @@
 //! Which rows the steps may choose.
 
 ghost use Rattle.std.specs.Prelude.{◌≡◌, ◌<◌, ◌≤◌, ◌↔◌, ◌⊎◌, IsTrue, None, Some, ℕ, false};
-ghost use Rattle.um_base.specs.Places.{dynamic_kind};
 ghost use Rattle.um_machine.specs.Order.{to_thread};
 
 use crate::matrix::Matrix;
-use crate::matrix::checks::{kind_number, none_set};
+use crate::matrix::checks::none_set;
 use crate::matrix::moves::{flag, holders_of};
 use um_base::{Kind, ROWS, STATIC_ROWS, THREADS, ThreadIx};
 use um_machine::{Pending, Status};
+use um_rules::kinds::{dynamic_kind, kind_number};
 use um_rules::rows::{own_row, thread_of_row};
-
-/// The kind of a dynamic row.
-fn dynamic_kind(x: usize) -> Kind
-    requires { STATIC_ROWS ≤ x }
-    ensures { result ≡ dynamic_kind x }
-{
-    match x - STATIC_ROWS {
-        0..4 => Kind::Thread,
-        4..12 => Kind::Sem,
-        12..16 => Kind::Mutex,
-        16..24 => Kind::Msgq,
-        24..28 => Kind::Stack,
-        _ => Kind::Pipe,
-    }
-}
 
 /// Whether no other thread cleans.
 fn no_other(cleaner: Option<ThreadIx>, t: usize) -> bool

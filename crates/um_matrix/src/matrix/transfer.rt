@@ -1,31 +1,22 @@
 //! Accesses and copies: the steps that read and write memory.
 
-ghost use Rattle.std.specs.Prelude.{◌≡◌, ◌<◌, ◌≤◌, drop, take, slice_set};
+ghost use Rattle.std.specs.Prelude.{◌≡◌, ◌<◌, ◌≤◌, drop};
 ghost use Rattle.um_base.specs.Regions.{stack_range};
-ghost use Rattle.um_machine.specs.Table.{message_size};
 ghost use Rattle.um_matrix.specs.Offered.{IsShort};
 
 use crate::matrix::Matrix;
-use um_base::{Access, Addr, Cause, Errno, Found, PIECE, Piece, Range, Row, Setup, THREADS};
-use um_machine::{Amount, Contents, Pending};
-use um_rules::bytes::{le_value, part};
+use um_base::{Access, Addr, Cause, Errno, Found, Range, Row, Setup, THREADS};
+use um_machine::{Amount, Pending};
+use um_rules::buffers::{first_bytes, message_size};
+use um_rules::bytes::le_value;
 use um_rules::order::{answer_error, copy_fails};
+use um_rules::registers::put_register;
 
 /// What follows an access that isn't allowed.
 const FAULT: Pending = Pending::Fatal {
     reason: 0,
     cause: Cause::Access,
 };
-
-/// The bytes of a message, where a queue keeps them.
-fn message_size(contents: &Contents) -> u32
-    ensures { result ≡ message_size contents.now }
-{
-    match contents {
-        Contents::Msgq(queue) => queue.size(),
-        _ => 0,
-    }
-}
 
 impl<'a> Matrix<'a> {
     ghost use Rattle.um_machine.specs.State.{thread_at};
@@ -185,26 +176,5 @@ fn stack_range(setup: Setup) -> Option<Range>
     match setup {
         Setup::ThreadStack { range, .. } => Some(range),
         _ => None,
-    }
-}
-
-/// As many bytes as a copy takes at most.
-fn first_bytes(bytes: &[u8]) -> Piece
-    ensures { result ≡ take PIECE bytes.now }
-{
-    let front = part(bytes, 0, PIECE);
-    let mut piece = Piece::new();
-    for i in 0..front.len() {
-        piece.push(front[i]);
-    }
-    piece
-}
-
-/// Writes a register, if it is one.
-pub fn put_register(registers: &mut [u32], to: u8, value: u32)
-    ensures { registers.new ≡ slice_set registers.old to value }
-{
-    if (to as usize) < registers.len() {
-        registers[to as usize] = value;
     }
 }

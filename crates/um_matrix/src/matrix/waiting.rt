@@ -1,56 +1,18 @@
 //! The steps of a call that works on an object, or waits on it.
 
-ghost use Rattle.std.specs.Prelude.{◌≡◌, ◌<◌, ◌≤◌, drop, length, Some, ℕ, IsTrue, slice_index_or, slice_set};
+ghost use Rattle.std.specs.Prelude.{◌≡◌, ◌<◌, ◌≤◌, drop, Some, ℕ, IsTrue, slice_index_or, slice_set};
 ghost use Rattle.um_machine.specs.Limits.{is_sound_ask};
 ghost use Rattle.um_machine.specs.Order.{to_thread};
 ghost use Rattle.um_machine.specs.State.{nobody};
-ghost use Rattle.um_machine.specs.Table.{bytes_given, buffer_cost};
 ghost use Rattle.um_matrix.specs.Worked.{threads_woken, answered};
 
 use crate::matrix::Matrix;
 use um_base::{Act, Addr, Answer, Ask, Image, Piece, Reply, THREADS, ThreadIx, Told, Waiter};
-use um_machine::{Cost, Pending, Thread};
-use um_rules::order::{after_error, rounded};
+use um_machine::{Pending, Thread};
+use um_rules::buffers::bytes_given;
+use um_rules::costs::buffer_cost;
+use um_rules::order::after_error;
 use um_service::{act, says};
-
-/// The bytes that a call gives of its buffer.
-fn bytes_given(buffer: &Piece, ask: &Ask) -> Piece
-    ensures { result ≡ bytes_given buffer.now ask.now }
-{
-    match ask {
-        Ask::MsgqPut { .. } | Ask::PipeWrite { .. } => *buffer,
-        _ => Piece::new(),
-    }
-}
-
-/// What an object's buffer costs after an act.
-fn buffer_cost(ask: &Ask, answer: Answer, before: Option<Cost>) -> Option<Cost>
-    requires { IsTrue (is_sound_ask ask.now) }
-    ensures { result ≡ buffer_cost ask.now answer before }
-{
-    match answer {
-        Answer::Now(Reply::Num(_)) => match ask {
-            Ask::MsgqInit {
-                msg_size,
-                max_msgs,
-                pool,
-            } => Some(Cost {
-                pool: *pool,
-                bytes: rounded(*msg_size * *max_msgs),
-            }),
-            Ask::StackInit { entries, pool } => Some(Cost {
-                pool: *pool,
-                bytes: rounded(4 * *entries),
-            }),
-            Ask::PipeInit { size, pool } => Some(Cost {
-                pool: *pool,
-                bytes: rounded(*size),
-            }),
-            _ => before,
-        },
-        _ => before,
-    }
-}
 
 /// A thread is told something.
 #[inline(never)]

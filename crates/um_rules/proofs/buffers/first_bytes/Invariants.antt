@@ -1,5 +1,5 @@
 use Rattle.std.proofs.Common.{◌≡◌, take, length}
-use Rattle.um_matrix.proofs.matrix.transfer.first_bytes.Given as goal
+use Rattle.um_rules.proofs.buffers.first_bytes.Given as goal
 
 abbrev pub invariant-loop-i : goal.invariant-loop-i
 invariant-loop-i l = record {
