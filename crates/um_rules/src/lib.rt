@@ -6,6 +6,7 @@ pub mod buffers;
 pub mod bytes;
 pub mod costs;
 pub mod domains;
+pub mod holds;
 pub mod kinds;
 pub mod order;
 pub mod regions;

@@ -5,7 +5,7 @@ mod OneLemmas
 mod OrderLemmas
 pub mod RunLemmas
 mod ScheduleLemmas
-mod ScheduledLemmas
+pub mod ScheduledLemmas
 mod SettleLemmas
 pub mod ThreadCounts
 pub mod ThreadWaits

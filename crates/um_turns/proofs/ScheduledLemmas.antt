@@ -24,12 +24,12 @@ all-left cpus pick order coming-all n =
     let none : 0 + n ≡ n = omega arith in
     ap (λ (k : ℕ). preferred cpus pick k) none ∙ sym (coming-all n) ∙ ap (λ (firsts : List ℕ). firsts ++ coming cpus order n) (sym (none-preferred cpus pick))
 
-order-first : (cpus : ℕ) (pick : Option ℕ) (i first : ℕ) (order order2 : Order) → Left cpus pick i order → ((n : ℕ) → coming cpus order (suc n) ≡ first ∷ coming cpus order2 n)
+pub order-first : (cpus : ℕ) (pick : Option ℕ) (i first : ℕ) (order order2 : Order) → Left cpus pick i order → ((n : ℕ) → coming cpus order (suc n) ≡ first ∷ coming cpus order2 n)
     → preferred cpus pick (i + 1) ≡ preferred cpus pick i ++ first ∷ []
 order-first cpus pick i first order order2 left on =
     left 1 ∙ ap (λ (firsts : List ℕ). preferred cpus pick i ++ firsts) (on 0 ∙ ap (λ (rest : List ℕ). first ∷ rest) (none-coming cpus order2))
 
-order-left : (cpus : ℕ) (pick : Option ℕ) (i first : ℕ) (order order2 : Order) → Left cpus pick i order → ((n : ℕ) → coming cpus order (suc n) ≡ first ∷ coming cpus order2 n)
+pub order-left : (cpus : ℕ) (pick : Option ℕ) (i first : ℕ) (order order2 : Order) → Left cpus pick i order → ((n : ℕ) → coming cpus order (suc n) ≡ first ∷ coming cpus order2 n)
     → Left cpus pick (i + 1) order2
 order-left cpus pick i first order order2 left on n =
     let count : i + 1 + n ≡ i + suc n = omega arith in

@@ -9,6 +9,7 @@ mod running;
 mod turns;
 
 pub use one::one_run;
+pub use order::Order;
 pub use running::{Ran, run};
 pub use turns::Processors;
 

@@ -2,7 +2,7 @@
 
 ghost use Rattle.std.specs.Prelude.{◌≡◌, ◌<◌, ◌≤◌, not, false, slice_set, slice_index_or, length, List, Bool};
 ghost use Rattle.std.specs.List.{list_all};
-ghost use Rattle.um_machine.specs.Objects.{any_holds, thread_holds, init_verdict};
+ghost use Rattle.um_machine.specs.Objects.{any_holds, init_verdict};
 ghost use Rattle.um_machine.specs.Table.{set_said};
 
 use crate::matrix::Matrix;
@@ -13,6 +13,7 @@ use um_base::{
     THREADS, ThreadIx, Want,
 };
 use um_machine::{Object, Status, Thread};
+use um_rules::holds::holds;
 use um_rules::kinds::has_kind;
 use um_rules::rows::own_row;
 
@@ -162,15 +163,6 @@ pub fn set_said(object: &Object, strict: bool) -> SetSaid
     } else {
         SetSaid::Done
     }
-}
-
-/// Whether a thread holds an object: its call has checked it, or it is its own.
-fn holds(image: &Image, x: usize, t: usize, thread: &Thread) -> bool
-    requires thread { t < THREADS }
-    requires row { x < ROWS }
-    ensures { result ≡ thread_holds image.now x t thread.now }
-{
-    thread.checked[x] || (thread.keeps_own && own_row(image, t) == x)
 }
 
 /// Whether any of the threads holds an object.
