@@ -3,8 +3,8 @@
 ghost use Rattle.std.specs.Prelude.{◌≡◌, slice_index, slice_set};
 ghost use Rattle.um_machine.specs.Table.{with_answer, with_begin};
 
-use um_base::{Instr, Reply};
 use crate::order::value_of;
+use um_base::{Instr, Reply};
 
 /// What a register holds: 0 where there is no such one.
 fn register(registers: &[u32], r: u8) -> u32
