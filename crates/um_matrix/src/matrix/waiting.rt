@@ -4,6 +4,7 @@ ghost use Rattle.std.specs.Prelude.{◌≡◌, ◌<◌, ◌≤◌, drop, Some, �
 ghost use Rattle.um_machine.specs.Limits.{is_sound_ask};
 ghost use Rattle.um_machine.specs.Order.{to_thread};
 ghost use Rattle.um_machine.specs.State.{nobody};
+ghost use Rattle.um_machine.specs.Table.{bytes_given};
 ghost use Rattle.um_matrix.specs.Worked.{threads_woken, answered};
 
 use crate::matrix::Matrix;
