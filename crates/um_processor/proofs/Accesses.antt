@@ -48,20 +48,20 @@ module _ (image : Image) (cpu k : ℕ) (m : Bytes) (r : Running) (phase : Phase)
   makes-by b e et eb = λ i. record e { act = shown (to_thread (sym et i)) (says (sym eb i) e) More.Nothing }
 
   load-made : (b : Bool) → t ≡ r.context.value.thread → nat_le n 4 ≡ true → b ≡ allows image (in_phase Phase.Park r) Access.Read a.0 n
-      → Goes image (about_to phase (Pending.Load to a n) r) (made b) (behind b (value_in (act_in (made b).act)))
+      → Goes cpu image (about_to phase (Pending.Load to a n) r) (made b) (behind b (value_in (act_in (made b).act)))
   load-made true et en eb =
-      record { may = record { makes = makes-by true (made true) et eb; fit = ap (λ (b : Bool). b && true) en }; next = refl }
+      record { asks = record { maker = refl; makes = makes-by true (made true) et eb; fit = en }; next = refl }
   load-made false et en eb =
-      record { may = record { makes = makes-by false (made false) et eb; fit = ap (λ (b : Bool). b && true) en }; next = refl }
+      record { asks = record { maker = refl; makes = makes-by false (made false) et eb; fit = en }; next = refl }
 
   pub load-goes : (b : Bool) (act : MemoryAct) (value : ℕ) (z : Processor) → t ≡ r.context.value.thread → nat_le n 4 ≡ true
       → b ≡ allows image (in_phase Phase.Park r) Access.Read a.0 n → act ≡ load_or_fault b
       → value ≡ value_in (act_in (memory_made image cpu k m act buffer).act) → z ≡ behind b value
-      → Goes image (about_to phase (Pending.Load to a n) r) (memory_made image cpu k m act buffer) z
+      → Goes cpu image (about_to phase (Pending.Load to a n) r) (memory_made image cpu k m act buffer) z
   load-goes b act value z et en eb ea ev ez =
       let at = λ (x : MemoryAct). memory_made image cpu k m x buffer in
-      subst (λ (x : MemoryAct). Goes image (about_to phase (Pending.Load to a n) r) (at x) z) (sym ea)
+      subst (λ (x : MemoryAct). Goes cpu image (about_to phase (Pending.Load to a n) r) (at x) z) (sym ea)
       (record {
-        may = (load-made b et en eb).may;
+        asks = (load-made b et en eb).asks;
         next = ez ∙ (ap (behind b) (ev ∙ ap (λ (x : MemoryAct). value_in (act_in (at x).act)) ea) ∙ (load-made b et en eb).next);
       })

@@ -1,25 +1,28 @@
--- A step that a cell of tables takes is made there, and leaves its contents after it; after the last step number none is made.
+-- A step that a cell of tables takes is made there, leaves its contents after it, and has its event in the log; after the last step number none is made.
 use Rattle.std.proofs.Common.{◌≡◌, ◌<◌, ℕ, ◌+◌, Bool, false, IsTrue, List, ap, ◌∙◌, nat_lt, ◌&&◌, slice_index_or, slice_set}
 use Rattle.std.proofs.lemmas.Bool.{lt-ltb}
 use Rattle.std.proofs.lemmas.List.{set-get_or}
+use Rattle.um_base.specs.declared.act.Event.{Event}
 use Rattle.um_base.specs.declared.image.Image.{Image}
 use Rattle.um_words.specs.declared.fine.FineAct.{FineAct}
 use Rattle.um_fine.specs.Cells.{Cell, cell_after, cell_moves, cell_says, cell_takes}
 use Rattle.um_fine.specs.Sites.{SiteState}
 use Rattle.um_fine.specs.Steps.{Exchange, Site}
 use Rattle.um_fine.proofs.Filled.{filled-twice}
-use Rattle.um_processor.specs.Asked.{Refuses, asked, cell_made}
+use Rattle.um_processor.specs.Asked.{asked, cell_made, event_of}
+use Rattle.um_processor.specs.declared.domain_cell.DomainCell.{DomainCell}
 use Rattle.um_processor.specs.declared.object_cell.ObjectCell.{ObjectCell}
 use Rattle.um_processor.specs.ObjectCells.{cleared}
-use Rattle.um_processor.specs.Sited.{Sited, WasMade, state_at, with_state}
+use Rattle.um_processor.specs.Sited.{IsShut, Sited, WasMade, logged, no_domain_cell, state_at, with_state}
 use Rattle.um_processor.proofs.Tabled.{refused, taken}
 
 pub cell-taken : (image : Image) (old p : Sited) → p ≡ old → (cpu : ℕ) (site : Site) (n : ℕ) (c z : Cell) (act : FineAct) (moved : Exchange)
     → SiteState.cell n c ≡ state_at p site → n < 268435455
     → IsTrue (cell_takes c (cell_says image c moved act))
     → z ≡ cell_after image c (cell_says image c moved act) (cell_moves image c act moved)
-    → WasMade image old (cell_made image cpu site n c act moved) (with_state p site (SiteState.cell (n + 1) z))
-cell-taken image old p v cpu site n c z act moved here room takes leaves =
+    → (log : List Event) (most : ℕ) → log ≡ logged p.log (event_of (cell_says image c moved act)) → most ≡ p.most
+    → WasMade image old (cell_made image cpu site n c act moved) (with_state (record p { log = log; most = most }) site (SiteState.cell (n + 1) z))
+cell-taken image old p v cpu site n c z act moved here room takes leaves log most l m =
     taken image old p v (cell_made image cpu site n c act moved) (SiteState.cell n c) (SiteState.cell (n + 1) z) here
     (record {
       may = record {
@@ -28,15 +31,23 @@ cell-taken image old p v cpu site n c z act moved here room takes leaves =
       };
       leaves = ap (λ (t : Cell). SiteState.cell (n + 1) t) leaves;
     })
+    log most l m
 
 pub cell-ends : (image : Image) (old p : Sited) → p ≡ old → (cpu : ℕ) (site : Site) (n : ℕ) (c : Cell) (act : FineAct) (moved : Exchange)
     → SiteState.cell n c ≡ state_at p site → nat_lt n 268435455 ≡ false
-    → Refuses (state_at old site) (cell_made image cpu site n c act moved)
+    → IsShut image (state_at old site) (cell_made image cpu site n c act moved)
 cell-ends image old p v cpu site n c act moved here denied =
-    refused old p v (cell_made image cpu site n c act moved) (SiteState.cell n c) here
+    refused image old p v (cell_made image cpu site n c act moved) (SiteState.cell n c) here
     (ap (λ (b : Bool). b && cell_takes c (cell_says image c moved act)) denied)
+    (filled-twice image (SiteState.cell n c) (asked cpu site act moved))
+    tt
 
 -- an object's cell that is written back as it was leaves all as before
 pub object-kept : (old p : Sited) → p ≡ old → (x : ℕ) (c : ObjectCell) → c ≡ slice_index_or p.objects x (cleared 0) → record p { objects = slice_set p.objects x c } ≡ old
 object-kept old p v x c here =
     ap (λ (o : List ObjectCell). record p { objects = o }) (ap (slice_set p.objects x) here ∙ set-get_or p.objects x (cleared 0)) ∙ v
+
+-- the same of a domain's cell
+pub domain-kept : (old p : Sited) → p ≡ old → (d : ℕ) (c : DomainCell) → c ≡ slice_index_or p.domain_cells d no_domain_cell → record p { domain_cells = slice_set p.domain_cells d c } ≡ old
+domain-kept old p v d c here =
+    ap (λ (o : List DomainCell). record p { domain_cells = o }) (ap (slice_set p.domain_cells d) here ∙ set-get_or p.domain_cells d no_domain_cell) ∙ v

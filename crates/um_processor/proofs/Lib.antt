@@ -6,10 +6,13 @@ pub mod Cleaned
 pub mod Counted
 pub mod Fronts
 pub mod HeapLemmas
+pub mod Noted
+pub mod Lifted
 pub mod Phased
 pub mod Places
 pub mod Released
 pub mod Readable
+pub mod Runs
 pub mod Scheduled
 pub mod Shown
 pub mod SizeLemmas

@@ -24,11 +24,11 @@ module _ (image : Image) (cpu : ℕ) (r : Running) (phase : Phase) (w : ThreadWo
 
   pub failed-goes : (reason : ℕ) (cause : Cause) (t : ℕ) (ends : List ℕ) (z : Processor) → t ≡ own.thread → ends ≡ own.claims
       → z ≡ behind_event image phase (ends_with image own (fatal_steps image own.thread (as_thread own) reason image.policy)) r
-      → Goes image (about_to phase (Pending.Fatal reason cause) r) (thread_made image cpu t w (ThreadAct.Fatal (to_thread t) reason cause)) (with_ends ends z)
+      → Goes cpu image (about_to phase (Pending.Fatal reason cause) r) (thread_made image cpu t w (ThreadAct.Fatal (to_thread t) reason cause)) (with_ends ends z)
   failed-goes reason cause t ends z et ec ez =
-      subst (λ (q : ℕ × List ℕ × Processor). Goes image (about_to phase (Pending.Fatal reason cause) r) (thread_made image cpu q.0 w (ThreadAct.Fatal (to_thread q.0) reason cause)) (with_ends q.1 q.2))
+      subst (λ (q : ℕ × List ℕ × Processor). Goes cpu image (about_to phase (Pending.Fatal reason cause) r) (thread_made image cpu q.0 w (ThreadAct.Fatal (to_thread q.0) reason cause)) (with_ends q.1 q.2))
       (λ i. (sym et i, sym ec i, sym ez i))
-      (record { may = record { makes = refl; fit = refl }; next = refl })
+      (record { asks = record { maker = refl; makes = refl; fit = refl }; next = refl })
 
   -- a thread after its answer
   abbrev pub answered : Option Reply → Option ℕ → Context
@@ -37,8 +37,8 @@ module _ (image : Image) (cpu : ℕ) (r : Running) (phase : Phase) (w : ThreadWo
 
   pub answered-goes : (reply : Option Reply) (to : Option ℕ) (t : ℕ) (said : Reply) (ends : List ℕ) (z : Processor)
       → t ≡ own.thread → said ≡ reply_of image own reply → ends ≡ own.claims → z ≡ behind_event image phase (answered reply to) r
-      → Goes image (about_to phase (Pending.Answer reply to) r) (thread_made image cpu t w (ThreadAct.Answered (to_thread t) said)) (with_ends ends z)
+      → Goes cpu image (about_to phase (Pending.Answer reply to) r) (thread_made image cpu t w (ThreadAct.Answered (to_thread t) said)) (with_ends ends z)
   answered-goes reply to t said ends z et es ec ez =
-      subst (λ (q : ℕ × Reply × List ℕ × Processor). Goes image (about_to phase (Pending.Answer reply to) r) (thread_made image cpu q.0 w (ThreadAct.Answered (to_thread q.0) q.1)) (with_ends q.2 q.3))
+      subst (λ (q : ℕ × Reply × List ℕ × Processor). Goes cpu image (about_to phase (Pending.Answer reply to) r) (thread_made image cpu q.0 w (ThreadAct.Answered (to_thread q.0) q.1)) (with_ends q.2 q.3))
       (λ i. (sym et i, sym es i, sym ec i, sym ez i))
-      (record { may = record { makes = refl; fit = refl }; next = refl })
+      (record { asks = record { maker = refl; makes = refl; fit = refl }; next = refl })

@@ -1,6 +1,7 @@
 -- What the scheduler's cell takes is made there, and leaves its contents after it; what it doesn't take isn't made.
 use Rattle.std.proofs.Common.{◌≡◌, ◌<◌, ℕ, ◌+◌, Bool, true, false, List, [], ◌∷◌, Option, Some, None, IsTrue, ap, refl, ◌∙◌, nat_lt, unwrap_or, ◌&&◌}
 use Rattle.std.proofs.lemmas.Bool.{lt-ltb}
+use Rattle.um_base.specs.declared.act.Event.{Event}
 use Rattle.um_base.specs.declared.ask.Told.{Told}
 use Rattle.um_base.specs.declared.image.Image.{Image}
 use Rattle.um_base.specs.declared.names.ThreadIx.{ThreadIx}
@@ -12,16 +13,18 @@ use Rattle.um_fine.specs.Scheduler.{Scheduler, first_ready, first_taken, has_rea
 use Rattle.um_fine.specs.Sites.{SiteState}
 use Rattle.um_fine.specs.Steps.{Exchange, Site}
 use Rattle.um_fine.proofs.Filled.{filled-twice}
-use Rattle.um_processor.specs.Asked.{Refuses, asked}
+use Rattle.um_processor.specs.Asked.{asked, event_of}
 use Rattle.um_processor.specs.SchedulerActs.{scheduler_made}
-use Rattle.um_processor.specs.Sited.{Sited, WasMade, state_at}
+use Rattle.um_processor.specs.Sited.{IsShut, Sited, WasMade, logged, state_at}
 use Rattle.um_processor.proofs.Tabled.{refused, taken}
 
 pub scheduler-taken : (image : Image) (old p : Sited) → p ≡ old → (cpu : ℕ) (z : Scheduler) (u : Unseen) (moved : Exchange) → p.scheduler_steps < 268435455
     → IsTrue (sched_takes p.scheduler (sched_says p.scheduler moved (FineAct.Unseen u)))
     → z ≡ sched_after p.scheduler (sched_says p.scheduler moved (FineAct.Unseen u)) (sched_moves p.scheduler (FineAct.Unseen u) moved)
-    → WasMade image old (scheduler_made image cpu p.scheduler_steps p.scheduler u moved) (record p { scheduler = z; scheduler_steps = p.scheduler_steps + 1 })
-scheduler-taken image old p v cpu z u moved room takes leaves =
+    → (log : List Event) (most : ℕ) → log ≡ logged p.log (event_of (sched_says p.scheduler moved (FineAct.Unseen u))) → most ≡ p.most
+    → WasMade image old (scheduler_made image cpu p.scheduler_steps p.scheduler u moved)
+    (record p { scheduler = z; scheduler_steps = p.scheduler_steps + 1; log = log; most = most })
+scheduler-taken image old p v cpu z u moved room takes leaves log most l m =
     let n = p.scheduler_steps in
     let s = SiteState.cell n (Cell.scheduler p.scheduler) in
     taken image old p v (scheduler_made image cpu n p.scheduler u moved) s (SiteState.cell (n + 1) (Cell.scheduler z)) refl
@@ -32,6 +35,7 @@ scheduler-taken image old p v cpu z u moved room takes leaves =
       };
       leaves = ap (λ (t : Scheduler). SiteState.cell (n + 1) (Cell.scheduler t)) leaves;
     })
+    log most l m
 
 and-no : (b : Bool) → (b && false) ≡ false
 and-no true = refl
@@ -39,18 +43,22 @@ and-no false = refl
 
 pub scheduler-refused : (image : Image) (old p : Sited) → p ≡ old → (cpu : ℕ) (u : Unseen) (moved : Exchange)
     → sched_takes p.scheduler (sched_says p.scheduler moved (FineAct.Unseen u)) ≡ false
-    → Refuses (state_at old Site.scheduler) (scheduler_made image cpu p.scheduler_steps p.scheduler u moved)
+    → IsShut image (state_at old Site.scheduler) (scheduler_made image cpu p.scheduler_steps p.scheduler u moved)
 scheduler-refused image old p v cpu u moved denied =
     let n = p.scheduler_steps in
-    refused old p v (scheduler_made image cpu n p.scheduler u moved) (SiteState.cell n (Cell.scheduler p.scheduler)) refl
+    refused image old p v (scheduler_made image cpu n p.scheduler u moved) (SiteState.cell n (Cell.scheduler p.scheduler)) refl
     (ap (λ (b : Bool). nat_lt n 268435455 && b) denied ∙ and-no (nat_lt n 268435455))
+    (filled-twice image (SiteState.cell n (Cell.scheduler p.scheduler)) (asked cpu Site.scheduler (FineAct.Unseen u) moved))
+    tt
 
 pub scheduler-ends : (image : Image) (old p : Sited) → p ≡ old → (cpu : ℕ) (u : Unseen) (moved : Exchange) → nat_lt p.scheduler_steps 268435455 ≡ false
-    → Refuses (state_at old Site.scheduler) (scheduler_made image cpu p.scheduler_steps p.scheduler u moved)
+    → IsShut image (state_at old Site.scheduler) (scheduler_made image cpu p.scheduler_steps p.scheduler u moved)
 scheduler-ends image old p v cpu u moved denied =
     let n = p.scheduler_steps in
-    refused old p v (scheduler_made image cpu n p.scheduler u moved) (SiteState.cell n (Cell.scheduler p.scheduler)) refl
+    refused image old p v (scheduler_made image cpu n p.scheduler u moved) (SiteState.cell n (Cell.scheduler p.scheduler)) refl
     (ap (λ (b : Bool). b && sched_takes p.scheduler (sched_says p.scheduler moved (FineAct.Unseen u))) denied)
+    (filled-twice image (SiteState.cell n (Cell.scheduler p.scheduler)) (asked cpu Site.scheduler (FineAct.Unseen u) moved))
+    tt
 
 -- a thread that was woken is taken where another one would be
 turn-takes : (s : Scheduler) (c : Context) (told : Option Told) → sched_takes s (takes_turn c told) ≡ has_ready s s.ready

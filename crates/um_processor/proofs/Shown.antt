@@ -1,6 +1,5 @@
 -- Events by which a row may come to cleaning.
-use Rattle.std.proofs.Common.{◌≡◌, ℕ, Bool, true, refl, sym, subst, ap, ◌∙◌}
-use Rattle.std.specs.Prelude.{nat_lt}
+use Rattle.std.proofs.Common.{◌≡◌, ℕ, Bool, refl, sym, subst, ◌∙◌}
 use Rattle.um_base.specs.declared.image.Image.{Image}
 use Rattle.um_base.specs.declared.names.Addr.{Addr}
 use Rattle.um_base.specs.declared.names.ThreadIx.{ThreadIx}
@@ -8,23 +7,16 @@ use Rattle.um_machine.specs.declared.pending.Pending.{Pending}
 use Rattle.um_machine.specs.Order.{to_thread}
 use Rattle.um_words.specs.declared.row_word.RowWord.{RowWord}
 use Rattle.um_fine.specs.Addresses.{row_named}
-use Rattle.um_fine.specs.Asks.{CpuMay, begins_cleaning}
-use Rattle.um_fine.specs.Context.{Context}
+use Rattle.um_fine.specs.Asks.{begins_cleaning}
 use Rattle.um_fine.specs.Continues.{goes_on}
-use Rattle.um_fine.specs.Places.{cleanings}
 use Rattle.um_fine.specs.Processor.{Processor}
 use Rattle.um_processor.specs.declared.phase.Phase.{Phase}
 use Rattle.um_processor.specs.declared.row_act.RowAct.{RowAct}
 use Rattle.um_processor.specs.declared.running.Running.{Running}
-use Rattle.um_processor.specs.Events.{about_to, behind_event, rest_of, todo_after}
-use Rattle.um_processor.specs.Phases.{born}
-use Rattle.um_processor.specs.Processors.{Goes, cleaned}
+use Rattle.um_processor.specs.Events.{about_to, behind_event, rest_of}
+use Rattle.um_processor.specs.Processors.{AsksFor, Goes, cleaned}
 use Rattle.um_processor.specs.RowActs.{row_made}
-use Rattle.um_processor.proofs.Visited.{all-fit, cleaned-is}
-
-none-after : (phase : Phase) (c : Context) → cleanings (todo_after phase c) ≡ 0
-none-after Phase.Access c = refl
-none-after phase c = refl
+use Rattle.um_processor.proofs.Visited.{cleaned-is}
 
 module _ (image : Image) (cpu : ℕ) (r : Running) (phase : Phase) (who : ThreadIx) (a : Addr) (w : RowWord) where
   -- the processor behind the event, but for a row that came to cleaning
@@ -33,13 +25,13 @@ module _ (image : Image) (cpu : ℕ) (r : Running) (phase : Phase) (who : Thread
 
   pub taken-goes : (t x : ℕ) (cleans : Bool) (z : Processor) → t ≡ r.context.value.thread → x ≡ row_named image a
       → let e = row_made image cpu x w (RowAct.DropPair (to_thread t) who a) in cleans ≡ begins_cleaning e → z ≡ behind_drop
-      → Goes image (about_to phase (Pending.DropPair who a) r) e (cleaned image (row_named image a) cleans z)
+      → Goes cpu image (about_to phase (Pending.DropPair who a) r) e (cleaned image (row_named image a) cleans z)
   taken-goes t x cleans z et ex ec ez =
       let e = row_made image cpu x w (RowAct.DropPair (to_thread t) who a) in
       record {
-        may =
-            subst (λ (q : ℕ × ℕ). CpuMay image (about_to phase (Pending.DropPair who a) r) (row_made image cpu q.0 w (RowAct.DropPair (to_thread q.1) who a)))
+        asks =
+            subst (λ (q : ℕ × ℕ). AsksFor cpu image (about_to phase (Pending.DropPair who a) r) (row_made image cpu q.0 w (RowAct.DropPair (to_thread q.1) who a)))
             (λ i. (sym ex i, sym et i))
-            (record { makes = refl; fit = all-fit true _ _ refl (ap (λ (n : ℕ). nat_lt n 32) (none-after phase (born r.newborn))) });
+            (record { maker = refl; makes = refl; fit = refl });
         next = (λ i. cleaned image (sym ex i) (ec i) (ez i)) ∙ cleaned-is image x e behind_drop (begins_cleaning e) refl;
       }

@@ -17,12 +17,12 @@ use Rattle.um_words.specs.declared.row_word.RowWord.{RowWord}
 use Rattle.um_words.specs.Rows.{has, is_last}
 use Rattle.um_fine.specs.Addresses.{address_of}
 use Rattle.um_fine.specs.Answers.{charge_in}
-use Rattle.um_fine.specs.Asks.{CpuMay, begins_cleaning}
+use Rattle.um_fine.specs.Asks.{begins_cleaning}
 use Rattle.um_fine.specs.Context.{Context}
 use Rattle.um_fine.specs.Follows.{end_calls, filled_up, wakes}
 use Rattle.um_fine.specs.Heap.{Heap}
 use Rattle.um_fine.specs.Objects.{ObjectCell}
-use Rattle.um_fine.specs.Places.{Todo, Todos, clean_pairs, cleaning, cleanings, is_cleaning_todo, with_cleaning}
+use Rattle.um_fine.specs.Places.{Todo, Todos, clean_pairs, cleaning, is_cleaning_todo, with_cleaning}
 use Rattle.um_fine.specs.Processor.{Processor}
 use Rattle.um_fine.specs.Scheduler.{Scheduler}
 use Rattle.um_fine.specs.Sites.{SiteState, filled}
@@ -36,12 +36,12 @@ use Rattle.um_processor.specs.Cleanings.{all_clean}
 use Rattle.um_processor.specs.HeapActs.{heap_made}
 use Rattle.um_processor.specs.ObjectCells.{cleared_made}
 use Rattle.um_processor.specs.Phases.{born, is_idle, showing, steps_behind, todo_in}
-use Rattle.um_processor.specs.Processors.{Goes, cleaned, todo_of}
+use Rattle.um_processor.specs.Processors.{AsksFor, Goes, cleaned, todo_of}
 use Rattle.um_processor.specs.RowActs.{row_made}
 use Rattle.um_processor.specs.SchedulerActs.{woken_made}
 use Rattle.um_processor.specs.Standing.{before, standing}
 use Rattle.um_processor.proofs.Cleaned.{behind-clean}
-use Rattle.um_processor.proofs.Visited.{all-fit, cleaned-is, there-dropped}
+use Rattle.um_processor.proofs.Visited.{cleaned-is, there-dropped}
 
 -- a list whose first step is none of cleaning
 pub record Front (todo : Todos) : Type 0 where
@@ -103,7 +103,7 @@ abbrev pub block_if : Image → ℕ → Bool → Todos
 block_if image x true = cleaning image x
 block_if image x false = []
 
-cleaned-behind : (image : Image) (x : ℕ) (p : Processor) (cs todo : Todos) (b : Bool) → all_clean cs ≡ true → Front todo
+pub cleaned-behind : (image : Image) (x : ℕ) (p : Processor) (cs todo : Todos) (b : Bool) → all_clean cs ≡ true → Front todo
     → cleaned image x b (record p { todo = cs ++ todo }) ≡ record p { todo = (cs ++ block_if image x b) ++ todo }
 cleaned-behind image x p cs todo true h f =
     let block = cleaning image x in
@@ -112,16 +112,16 @@ cleaned-behind image x p cs todo false h f = ap (λ (t : Todos). record p { todo
 
 module _ (image : Image) (cpu : ℕ) (p : Processor) (todo : Todos) (f : Front todo) where
   pub waked : (n : ℕ) (s : Scheduler) (who : ThreadIx) (told : Told)
-      → Goes image (record p { todo = Todo.wake who.0 told ∷ todo }) (woken_made image cpu n s who told) (record p { todo = todo })
+      → Goes cpu image (record p { todo = Todo.wake who.0 told ∷ todo }) (woken_made image cpu n s who told) (record p { todo = todo })
   waked n s who told =
-      record { may = record { makes = refl; fit = refl }; next = ap (λ (t : Todos). record p { todo = t }) (sym (fills image p.context todo f)) }
+      record { asks = record { maker = refl; makes = refl; fit = refl }; next = ap (λ (t : Todos). record p { todo = t }) (sym (fills image p.context todo f)) }
 
-  pub ended : (x : ℕ) (w : RowWord) (cleans : Bool) → cleanings todo ≡ 0 → let e = row_made image cpu x w RowAct.EndCall in cleans ≡ begins_cleaning e
-      → Goes image (record p { todo = Todo.end_call x ∷ todo }) e (record p { todo = block_if image x cleans ++ todo })
-  ended x w cleans none h =
+  pub ended : (x : ℕ) (w : RowWord) (cleans : Bool) → let e = row_made image cpu x w RowAct.EndCall in cleans ≡ begins_cleaning e
+      → Goes cpu image (record p { todo = Todo.end_call x ∷ todo }) e (record p { todo = block_if image x cleans ++ todo })
+  ended x w cleans h =
       let e = row_made image cpu x w RowAct.EndCall in
       record {
-        may = record { makes = refl; fit = all-fit true _ _ refl (ap (λ (n : ℕ). nat_lt n 32) none) };
+        asks = record { maker = refl; makes = refl; fit = refl };
         next =
             sym (cleaned-behind image x p [] todo cleans refl f)
             ∙ ((λ i. cleaned image x (h i) (record p { todo = sym (fills image p.context todo f) i }))
@@ -130,47 +130,47 @@ module _ (image : Image) (cpu : ℕ) (p : Processor) (todo : Todos) (f : Front t
 
   module _ (cs : Todos) where
     pub wiped : (x n : ℕ) (o : ObjectCell) (cost : Option Cost) → (cleared_made image cpu x n o).moved ≡ Exchange.charge cost
-        → Goes image (record p { todo = Todo.wipe x ∷ (cs ++ todo) }) (cleared_made image cpu x n o) (record p { charge = cost; todo = cs ++ todo })
+        → Goes cpu image (record p { todo = Todo.wipe x ∷ (cs ++ todo) }) (cleared_made image cpu x n o) (record p { charge = cost; todo = cs ++ todo })
     wiped x n o cost h =
-        record { may = record { makes = refl; fit = refl }; next = ap (λ (v : Exchange). record p { charge = charge_in v; todo = cs ++ todo }) (sym h) }
+        record { asks = record { maker = refl; makes = refl; fit = refl }; next = ap (λ (v : Exchange). record p { charge = charge_in v; todo = cs ++ todo }) (sym h) }
 
-    pub vacated : (x : ℕ) (w : RowWord) → Goes image (record p { todo = Todo.vacate x ∷ (cs ++ todo) }) (row_made image cpu x w RowAct.Vacate) (record p { todo = cs ++ todo })
-    vacated x w = record { may = record { makes = refl; fit = refl }; next = refl }
+    pub vacated : (x : ℕ) (w : RowWord) → Goes cpu image (record p { todo = Todo.vacate x ∷ (cs ++ todo) }) (row_made image cpu x w RowAct.Vacate) (record p { todo = cs ++ todo })
+    vacated x w = record { asks = record { maker = refl; makes = refl; fit = refl }; next = refl }
 
     pub recycled : (x n : ℕ) (h : Heap)
-        → Goes image (record p { todo = Todo.recycle x ∷ (cs ++ todo) }) (heap_made image cpu n h (HeapAct.Recycle (to_thread p.context.thread) (address_of image x)) p.charge) (record p { todo = cs ++ todo })
+        → Goes cpu image (record p { todo = Todo.recycle x ∷ (cs ++ todo) }) (heap_made image cpu n h (HeapAct.Recycle (to_thread p.context.thread) (address_of image x)) p.charge) (record p { todo = cs ++ todo })
     recycled x n h =
-        record { may = record { makes = refl; fit = refl }; next = ap (λ (t : Todos). record p { todo = t }) (sym (fills-behind image p.context cs todo f)) }
+        record { asks = record { maker = refl; makes = refl; fit = refl }; next = ap (λ (t : Todos). record p { todo = t }) (sym (fills-behind image p.context cs todo f)) }
 
     -- a drop of the cleaner, where there is a permission, and the look where there is none
     abbrev swept : ℕ → ℕ → RowWord → FineStep
     swept who x w = row_made image cpu x w (RowAct.Sweep (to_thread p.context.thread) (to_thread who) (address_of image x))
 
-    pub sweep-may : (who x : ℕ) (w : RowWord) → nat_lt (cleanings (Todo.clean_pair who x ∷ (cs ++ todo))) 32 ≡ true
-        → CpuMay image (record p { todo = Todo.clean_pair who x ∷ (cs ++ todo) }) (swept who x w)
-    sweep-may who x w room = by (has w who) refl
+    pub sweep-asks : (who x : ℕ) (w : RowWord)
+        → AsksFor cpu image (record p { todo = Todo.clean_pair who x ∷ (cs ++ todo) }) (swept who x w)
+    sweep-asks who x w = by (has w who) refl
       where
         by : (b : Bool) → has w who ≡ b
-            → CpuMay image (record p { todo = Todo.clean_pair who x ∷ (cs ++ todo) })
+            → AsksFor cpu image (record p { todo = Todo.clean_pair who x ∷ (cs ++ todo) })
             (filled image (SiteState.row w) (asked cpu (Site.row x)
             (if b then shown (to_thread p.context.thread) (Act.DropPair (to_thread who) (address_of image x) Leftover.NoPair) More.Nothing else FineAct.Unseen Unseen.Visit)
             Exchange.nothing))
-        by true h = record { makes = refl; fit = all-fit _ _ _ (there-dropped (has w who) (is_last w who) h) room }
-        by false h = record { makes = refl; fit = ap (λ (v : Bool). not v && true) h }
+        by true h = record { maker = refl; makes = refl; fit = there-dropped (has w who) (is_last w who) h }
+        by false h = record { maker = refl; makes = refl; fit = ap (λ (v : Bool). not v) h }
 
     pairs-behind : (who x : ℕ) (b : Bool) → (if b then Todo.clean_pair who x ∷ (cs ++ todo) else cs ++ todo) ≡ (if b then Todo.clean_pair who x ∷ cs else cs) ++ todo
     pairs-behind who x true = refl
     pairs-behind who x false = refl
 
-    pub pair_cleaned : (who x : ℕ) (w : RowWord) (cleans : Bool) → nat_lt (cleanings (Todo.clean_pair who x ∷ (cs ++ todo))) 32 ≡ true
+    pub pair_cleaned : (who x : ℕ) (w : RowWord) (cleans : Bool)
         → all_clean (clean_pairs who (x + 1) cs) ≡ true → cleans ≡ begins_cleaning (swept who x w)
-        → Goes image (record p { todo = Todo.clean_pair who x ∷ (cs ++ todo) }) (swept who x w)
+        → Goes cpu image (record p { todo = Todo.clean_pair who x ∷ (cs ++ todo) }) (swept who x w)
         (record p { todo = (clean_pairs who (x + 1) cs ++ block_if image x cleans) ++ todo })
-    pair_cleaned who x w cleans room clean h =
+    pair_cleaned who x w cleans clean h =
         let b = nat_lt (x + 1) ROWS in
         let e = swept who x w in
         record {
-          may = sweep-may who x w room;
+          asks = sweep-asks who x w;
           next =
               sym (cleaned-behind image x p (clean_pairs who (x + 1) cs) todo cleans clean f)
               ∙ ((λ i. cleaned image x (h i) (record p { todo = sym (pairs-behind who (x + 1) b) i }))

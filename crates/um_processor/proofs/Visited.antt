@@ -1,6 +1,6 @@
 -- The visits of rows before a thread's next step.
 use Rattle.std.proofs.Common.{◌≡◌, ℕ, ◌+◌, Bool, true, false, [], ◌∷◌, drop, refl, sym, subst, ap, ◌∙◌}
-use Rattle.std.specs.Prelude.{◌&&◌, ◌||◌, not, nat_lt, if◌then◌else◌}
+use Rattle.std.specs.Prelude.{◌&&◌, not, nat_lt, if◌then◌else◌}
 use Rattle.um_base.specs.declared.act.Act.{Act}
 use Rattle.um_base.specs.declared.act.Leftover.{Leftover}
 use Rattle.um_base.specs.declared.image.Image.{Image}
@@ -15,7 +15,7 @@ use Rattle.um_words.specs.declared.row_word.RowWord.{RowWord}
 use Rattle.um_words.specs.Rows.{has, is_last}
 use Rattle.um_fine.specs.Addresses.{address_of}
 use Rattle.um_fine.specs.Answers.{is_visit}
-use Rattle.um_fine.specs.Asks.{CpuMay, begins_cleaning, is_dropped}
+use Rattle.um_fine.specs.Asks.{begins_cleaning, is_dropped}
 use Rattle.um_fine.specs.Context.{Context}
 use Rattle.um_fine.specs.Follows.{dropped_at, filled_up, row_number, with_cleaned}
 use Rattle.um_fine.specs.Places.{but, cleaning, drops, with_cleaning}
@@ -27,9 +27,8 @@ use Rattle.um_processor.specs.declared.row_act.RowAct.{RowAct}
 use Rattle.um_processor.specs.declared.running.Running.{Running}
 use Rattle.um_processor.specs.Asked.{asked, shown}
 use Rattle.um_processor.specs.Phases.{passed_to, phase_of}
-use Rattle.um_processor.specs.Processors.{Goes, cleaned, in_phase, processor_of, todo_at, todo_behind, visiting, with_todo}
+use Rattle.um_processor.specs.Processors.{AsksFor, Goes, cleaned, in_phase, processor_of, todo_at, todo_behind, visiting, with_todo}
 use Rattle.um_processor.specs.RowActs.{row_made}
-use Rattle.um_processor.proofs.Counted.{none-of}
 use Rattle.um_processor.proofs.Phased.{dropped, passed}
 
 -- a permission that is there is dropped
@@ -37,11 +36,6 @@ pub there-dropped : (there last : Bool) → there ≡ true → is_dropped (if no
 there-dropped true true h = refl
 there-dropped true false h = refl
 there-dropped false last h = absurd (cc)
-
-pub all-fit : (a b c : Bool) → a ≡ true → c ≡ true → (a && (b || c)) ≡ true
-all-fit true true c h k = refl
-all-fit true false c h k = k
-all-fit false b c h k = absurd (cc)
 
 pub cleaned-is : (image : Image) (x : ℕ) (e : FineStep) (p : Processor) (b : Bool) → row_number e.site ≡ x → cleaned image x b p ≡ with_cleaned image p e b
 cleaned-is image x e p true h = ap (λ (n : ℕ). record p { todo = with_cleaning (cleaning image n) p.todo }) (sym h)
@@ -64,38 +58,37 @@ module _ (image : Image) (cpu : ℕ) (r : Running) (w : RowWord) where
   me = r.context.value.thread
 
   visited : let who = passed_to r.context.value.pending in
-      Goes image (in_phase Phase.Pass r)
+      Goes cpu image (in_phase Phase.Pass r)
       (row_made image cpu r.row w (RowAct.Pass (to_thread me) (to_thread who) (address_of image r.row)))
       (processor_of (visiting (but (own_row image me) (r.row + 1)) Phase.Pass r))
   visited = by (has w me && not (has w (passed_to r.context.value.pending))) refl
     where
       by : (b : Bool) → (has w me && not (has w (passed_to r.context.value.pending))) ≡ b → let who = passed_to r.context.value.pending in
-          Goes image (in_phase Phase.Pass r)
+          Goes cpu image (in_phase Phase.Pass r)
           (made (if b then shown (to_thread me) (Act.Inherit (to_thread who) (address_of image r.row)) More.Nothing else FineAct.Unseen Unseen.Visit))
           (processor_of (visiting (but (own_row image me) (r.row + 1)) Phase.Pass r))
-      by true h = record { may = record { makes = refl; fit = refl }; next = passed image r (but (own_row image me) (r.row + 1)) }
+      by true h = record { asks = record { maker = refl; makes = refl; fit = refl }; next = passed image r (but (own_row image me) (r.row + 1)) }
       by false h =
-          record { may = record { makes = refl; fit = ap (λ (v : Bool). not v && true) h }; next = passed image r (but (own_row image me) (r.row + 1)) }
+          record { asks = record { maker = refl; makes = refl; fit = ap (λ (v : Bool). not v) h }; next = passed image r (but (own_row image me) (r.row + 1)) }
 
   pub pass-goes : (t a own y : ℕ) (who : ThreadIx) (z : Running) → t ≡ me → who.0 ≡ passed_to r.context.value.pending → a ≡ addr_of image r.row
       → own ≡ own_row image t → y ≡ but own (r.row + 1) → z ≡ visiting y Phase.Pass r
-      → Goes image (in_phase Phase.Pass r) (row_made image cpu r.row w (RowAct.Pass (to_thread t) who (to_addr a))) (processor_of z)
+      → Goes cpu image (in_phase Phase.Pass r) (row_made image cpu r.row w (RowAct.Pass (to_thread t) who (to_addr a))) (processor_of z)
   pass-goes t a own y who z et ew ea eo ey ez =
       let next : z ≡ visiting (but (own_row image me) (r.row + 1)) Phase.Pass r =
       ez ∙ ap (λ (n : ℕ). visiting n Phase.Pass r) (ey ∙ ap (λ (n : ℕ). but n (r.row + 1)) (eo ∙ ap (own_row image) et)) in
-      subst (λ (q : ℕ × ℕ × ℕ × Running). Goes image (in_phase Phase.Pass r) (row_made image cpu r.row w (RowAct.Pass (to_thread q.0) (to_thread q.1) (to_addr q.2))) (processor_of q.3))
+      subst (λ (q : ℕ × ℕ × ℕ × Running). Goes cpu image (in_phase Phase.Pass r) (row_made image cpu r.row w (RowAct.Pass (to_thread q.0) (to_thread q.1) (to_addr q.2))) (processor_of q.3))
       (λ i. (sym et i, sym ew i, sym ea i, sym next i))
       visited
 
-  drop-may : CpuMay image (in_phase Phase.Drop r) (row_made image cpu r.row w (RowAct.Sweep (to_thread me) (to_thread me) (address_of image r.row)))
+  drop-may : AsksFor cpu image (in_phase Phase.Drop r) (row_made image cpu r.row w (RowAct.Sweep (to_thread me) (to_thread me) (address_of image r.row)))
   drop-may = by (has w me) refl
     where
       by : (b : Bool) → has w me ≡ b
-          → CpuMay image (in_phase Phase.Drop r)
+          → AsksFor cpu image (in_phase Phase.Drop r)
           (made (if b then shown (to_thread me) (Act.DropPair (to_thread me) (address_of image r.row) Leftover.NoPair) More.Nothing else FineAct.Unseen Unseen.Visit))
-      by true h =
-          record { makes = refl; fit = all-fit _ _ _ (there-dropped (has w me) (is_last w me) h) (ap (λ (n : ℕ). nat_lt n 32) (none-of Phase.Drop r)) }
-      by false h = record { makes = refl; fit = ap (λ (v : Bool). not v && true) h }
+      by true h = record { maker = refl; makes = refl; fit = there-dropped (has w me) (is_last w me) h }
+      by false h = record { maker = refl; makes = refl; fit = ap (λ (v : Bool). not v) h }
 
   -- the processor after the visit, but for a row that came to cleaning
   abbrev behind_visit : Bool → Processor
@@ -105,12 +98,12 @@ module _ (image : Image) (cpu : ℕ) (r : Running) (w : RowWord) where
 
   pub drop-goes : (t a : ℕ) (z : Processor) (cleans : Bool) → t ≡ me → a ≡ addr_of image r.row
       → let e = row_made image cpu r.row w (RowAct.Sweep (to_thread t) (to_thread t) (to_addr a)) in
-      cleans ≡ begins_cleaning e → z ≡ behind_visit (is_visit e.act) → Goes image (in_phase Phase.Drop r) e (cleaned image r.row cleans z)
+      cleans ≡ begins_cleaning e → z ≡ behind_visit (is_visit e.act) → Goes cpu image (in_phase Phase.Drop r) e (cleaned image r.row cleans z)
   drop-goes t a z cleans et ea ec ez =
       let e = row_made image cpu r.row w (RowAct.Sweep (to_thread t) (to_thread t) (to_addr a)) in
       record {
-        may =
-            subst (λ (q : ℕ × ℕ). CpuMay image (in_phase Phase.Drop r) (row_made image cpu r.row w (RowAct.Sweep (to_thread q.0) (to_thread q.0) (to_addr q.1))))
+        asks =
+            subst (λ (q : ℕ × ℕ). AsksFor cpu image (in_phase Phase.Drop r) (row_made image cpu r.row w (RowAct.Sweep (to_thread q.0) (to_thread q.0) (to_addr q.1))))
             (λ i. (sym et i, sym ea i))
             drop-may;
         next = (λ i. cleaned image r.row (ec i) (ez i)) ∙ cleaned-is image r.row e (behind_visit (is_visit e.act)) (begins_cleaning e) refl;

@@ -1,13 +1,13 @@
 -- The steps before a thread's next step, as steps of the whole processor.
 use Rattle.std.proofs.Common.{◌≡◌, ℕ, ◌+◌, ◌<◌, Bool, true, false, List, [], ◌∷◌, ◌++◌, drop, get_or, length, refl, sym, subst, ap, ◌∙◌, arith, add-one, drop-cons}
-use Rattle.std.specs.Prelude.{nat_lt, remove, Option}
+use Rattle.std.specs.Prelude.{remove, Option}
 use Rattle.um_base.specs.declared.ask.Told.{Told}
 use Rattle.um_base.specs.declared.image.Image.{Image}
 use Rattle.um_base.specs.declared.names.ThreadIx.{ThreadIx}
 use Rattle.um_machine.specs.declared.object.Cost.{Cost}
 use Rattle.um_machine.specs.Order.{to_addr, to_thread}
 use Rattle.um_words.specs.declared.row_word.RowWord.{RowWord}
-use Rattle.um_fine.specs.Asks.{CpuMay, begins_cleaning}
+use Rattle.um_fine.specs.Asks.{begins_cleaning}
 use Rattle.um_fine.specs.Follows.{end_calls, wakes}
 use Rattle.um_fine.specs.Heap.{Heap}
 use Rattle.um_fine.specs.Objects.{ObjectCell}
@@ -18,7 +18,6 @@ use Rattle.um_fine.specs.Steps.{Exchange, FineStep}
 use Rattle.um_fine.specs.Context.{Context}
 use Rattle.um_processor.specs.declared.phase.Phase.{Phase}
 use Rattle.um_base.specs.Places.{addr_of}
-use Rattle.std.proofs.lemmas.Bool.{lt-ltb}
 use Rattle.um_processor.specs.declared.heap_act.HeapAct.{HeapAct}
 use Rattle.um_processor.specs.declared.row_act.RowAct.{RowAct}
 use Rattle.um_processor.specs.declared.running.Running.{Running}
@@ -26,13 +25,13 @@ use Rattle.um_processor.specs.Cleanings.{all_clean}
 use Rattle.um_processor.specs.HeapActs.{heap_made}
 use Rattle.um_processor.specs.ObjectCells.{cleared_made}
 use Rattle.um_processor.specs.Phases.{is_idle}
-use Rattle.um_processor.specs.Processors.{Goes, context_in, in_phase, processor_of, todo_of}
+use Rattle.um_processor.specs.Processors.{AsksFor, Goes, context_in, in_phase, processor_of, todo_of}
 use Rattle.um_processor.specs.RowActs.{row_made}
 use Rattle.um_processor.specs.SchedulerActs.{woken_made}
 use Rattle.um_processor.specs.Standing.{standing}
 use Rattle.um_processor.proofs.Cleaned.{cleanings-append}
 use Rattle.um_processor.proofs.Counted.{none-before, none-of}
-use Rattle.um_processor.proofs.Standings.{Front, block_if, ended, front-before, front-of, pair_cleaned, recycled, stands, sweep-may, vacated, waked, wiped}
+use Rattle.um_processor.proofs.Standings.{Front, block_if, ended, front-before, front-of, pair_cleaned, recycled, stands, sweep-asks, vacated, waked, wiped}
 
 -- the first of a list, and those behind it
 pub first-removed : (xs : List ℕ) (d : ℕ) → 0 < length xs → xs ≡ get_or xs 0 d ∷ remove xs 0
@@ -75,11 +74,11 @@ module _ (image : Image) (cpu : ℕ) (r : Running) (runs : is_idle r.phase ≡ f
 
   pub end-goes : (cleans new : Todos) (ends rest : List ℕ) (woken : List (ThreadIx × Told)) (x : ℕ) (w : RowWord) (b : Bool) → cleans ≡ [] → ends ≡ x ∷ rest
       → let e = row_made image cpu x w RowAct.EndCall in b ≡ begins_cleaning e → new ≡ block_if image x b
-      → Goes image (standing cleans ends woken (processor_of r)) e (standing new rest woken (processor_of r))
+      → Goes cpu image (standing cleans ends woken (processor_of r)) e (standing new rest woken (processor_of r))
   end-goes cleans new ends rest woken x w b ec ee h en =
-      subst (λ (q : Processor × Processor). Goes image q.0 (row_made image cpu x w RowAct.EndCall) q.1)
+      subst (λ (q : Processor × Processor). Goes cpu image q.0 (row_made image cpu x w RowAct.EndCall) q.1)
       (λ i. (sym (end-first cleans ends rest woken x ec ee) i, sym (stood new (block_if image x b) rest woken en) i))
-      (ended image cpu (processor_of r) (behind rest woken) (front-before rest woken (todo_of r.phase r) front) x w b (none-before rest woken (todo_of r.phase r) (none-of r.phase r)) h)
+      (ended image cpu (processor_of r) (behind rest woken) (front-before rest woken (todo_of r.phase r) front) x w b h)
 
   -- the first woken thread
   pub wake-first : (cleans : Todos) (ends : List ℕ) (woken rest : List (ThreadIx × Told)) (w : ThreadIx × Told) → cleans ≡ [] → ends ≡ [] → woken ≡ w ∷ rest
@@ -88,11 +87,11 @@ module _ (image : Image) (cpu : ℕ) (r : Running) (runs : is_idle r.phase ≡ f
       (λ i. standing cleans (ee i) (ew i) (processor_of r)) ∙ stood cleans [] [] (w ∷ rest) ec
 
   pub wake-goes : (cleans : Todos) (ends : List ℕ) (woken rest : List (ThreadIx × Told)) (w : ThreadIx × Told) (n : ℕ) (s : Scheduler) → cleans ≡ [] → ends ≡ [] → woken ≡ w ∷ rest
-      → Goes image (standing cleans ends woken (processor_of r)) (woken_made image cpu n s w.0 w.1) (standing cleans ends rest (processor_of r))
+      → Goes cpu image (standing cleans ends woken (processor_of r)) (woken_made image cpu n s w.0 w.1) (standing cleans ends rest (processor_of r))
   wake-goes cleans ends woken rest w n s ec ee ew =
       let left : standing cleans ends rest (processor_of r) ≡ record (processor_of r) { todo = behind [] rest } =
       ap (λ (t : List ℕ). standing cleans t rest (processor_of r)) ee ∙ stood cleans [] [] rest ec in
-      subst (λ (q : Processor × Processor). Goes image q.0 (woken_made image cpu n s w.0 w.1) q.1)
+      subst (λ (q : Processor × Processor). Goes cpu image q.0 (woken_made image cpu n s w.0 w.1) q.1)
       (λ i. (sym (wake-first cleans ends woken rest w ec ee ew) i, sym left i))
       (waked image cpu (processor_of r) (behind [] rest) (front-before [] rest (todo_of r.phase r) front) n s w.0 w.1)
 
@@ -110,60 +109,52 @@ module _ (image : Image) (cpu : ℕ) (r : Running) (runs : is_idle r.phase ≡ f
       omega arith
 
   pub pair-goes : (cleans new cs : Todos) (ends : List ℕ) (woken : List (ThreadIx × Told)) (who x t a : ℕ) (w : RowWord) (b : Bool)
-      → cleans ≡ Todo.clean_pair who x ∷ cs → cleanings cleans < 32 → all_clean (clean_pairs who (x + 1) cs) ≡ true
+      → cleans ≡ Todo.clean_pair who x ∷ cs → all_clean (clean_pairs who (x + 1) cs) ≡ true
       → t ≡ r.context.value.thread → a ≡ addr_of image x
       → let e = row_made image cpu x w (RowAct.Sweep (to_thread t) (to_thread who) (to_addr a)) in
       b ≡ begins_cleaning e → new ≡ clean_pairs who (x + 1) cs ++ block_if image x b
-      → Goes image (standing cleans ends woken (processor_of r)) e (standing new ends woken (processor_of r))
-  pair-goes cleans new cs ends woken who x t a w b ec room clean et ea eb en =
+      → Goes cpu image (standing cleans ends woken (processor_of r)) e (standing new ends woken (processor_of r))
+  pair-goes cleans new cs ends woken who x t a w b ec clean et ea eb en =
       let made : ℕ → ℕ → FineStep = λ i j. row_made image cpu x w (RowAct.Sweep (to_thread i) (to_thread who) (to_addr j)) in
-      let left : Processor = record (processor_of r) { todo = Todo.clean_pair who x ∷ (cs ++ behind ends woken) } in
-      let count : cleanings left.todo ≡ cleanings cleans =
-      ap (λ (q : Processor). cleanings q.todo) (sym (stood cleans (Todo.clean_pair who x ∷ cs) ends woken ec)) ∙ cleanings-stood cleans ends woken in
-      let few : nat_lt (cleanings left.todo) 32 ≡ true = ap (λ (n : ℕ). nat_lt n 32) count ∙ lt-ltb (cleanings cleans) 32 room in
       let thread : (processor_of r).context.thread ≡ t = me ∙ sym et in
-      subst (λ (q : Processor × FineStep × Processor). Goes image q.0 q.1 q.2)
+      subst (λ (q : Processor × FineStep × Processor). Goes cpu image q.0 q.1 q.2)
       (λ i. (sym (stood cleans (Todo.clean_pair who x ∷ cs) ends woken ec) i, made (thread i) (sym ea i), sym (stood new (clean_pairs who (x + 1) cs ++ block_if image x b) ends woken en) i))
-      (pair_cleaned image cpu (processor_of r) (behind ends woken) (front-before ends woken (todo_of r.phase r) front) cs who x w b few clean
+      (pair_cleaned image cpu (processor_of r) (behind ends woken) (front-before ends woken (todo_of r.phase r) front) cs who x w b clean
       (eb ∙ (λ i. begins_cleaning (made (sym thread i) (ea i)))))
 
-  pub pair-may : (cleans cs : Todos) (ends : List ℕ) (woken : List (ThreadIx × Told)) (who x t a : ℕ) (w : RowWord)
-      → cleans ≡ Todo.clean_pair who x ∷ cs → cleanings cleans < 32 → t ≡ r.context.value.thread → a ≡ addr_of image x
-      → CpuMay image (standing cleans ends woken (processor_of r)) (row_made image cpu x w (RowAct.Sweep (to_thread t) (to_thread who) (to_addr a)))
-  pair-may cleans cs ends woken who x t a w ec room et ea =
+  pub pair-asks : (cleans cs : Todos) (ends : List ℕ) (woken : List (ThreadIx × Told)) (who x t a : ℕ) (w : RowWord)
+      → cleans ≡ Todo.clean_pair who x ∷ cs → t ≡ r.context.value.thread → a ≡ addr_of image x
+      → AsksFor cpu image (standing cleans ends woken (processor_of r)) (row_made image cpu x w (RowAct.Sweep (to_thread t) (to_thread who) (to_addr a)))
+  pair-asks cleans cs ends woken who x t a w ec et ea =
       let made : ℕ → ℕ → FineStep = λ i j. row_made image cpu x w (RowAct.Sweep (to_thread i) (to_thread who) (to_addr j)) in
-      let left : Processor = record (processor_of r) { todo = Todo.clean_pair who x ∷ (cs ++ behind ends woken) } in
-      let count : cleanings left.todo ≡ cleanings cleans =
-      ap (λ (q : Processor). cleanings q.todo) (sym (stood cleans (Todo.clean_pair who x ∷ cs) ends woken ec)) ∙ cleanings-stood cleans ends woken in
-      let few : nat_lt (cleanings left.todo) 32 ≡ true = ap (λ (n : ℕ). nat_lt n 32) count ∙ lt-ltb (cleanings cleans) 32 room in
       let thread : (processor_of r).context.thread ≡ t = me ∙ sym et in
-      subst (λ (q : Processor × FineStep). CpuMay image q.0 q.1)
+      subst (λ (q : Processor × FineStep). AsksFor cpu image q.0 q.1)
       (λ i. (sym (stood cleans (Todo.clean_pair who x ∷ cs) ends woken ec) i, made (thread i) (sym ea i)))
-      (sweep-may image cpu (processor_of r) (behind ends woken) (front-before ends woken (todo_of r.phase r) front) cs who x w few)
+      (sweep-asks image cpu (processor_of r) (behind ends woken) (front-before ends woken (todo_of r.phase r) front) cs who x w)
 
   pub wipe-goes : (cleans new cs : Todos) (ends : List ℕ) (woken : List (ThreadIx × Told)) (x n : ℕ) (o : ObjectCell) (cost : Option Cost)
       → cleans ≡ Todo.wipe x ∷ cs → new ≡ cs → (cleared_made image cpu x n o).moved ≡ Exchange.charge cost
-      → Goes image (standing cleans ends woken (processor_of r)) (cleared_made image cpu x n o) (standing new ends woken (processor_of (record r { charge = cost })))
+      → Goes cpu image (standing cleans ends woken (processor_of r)) (cleared_made image cpu x n o) (standing new ends woken (processor_of (record r { charge = cost })))
   wipe-goes cleans new cs ends woken x n o cost ec en h =
       let left : standing new ends woken (processor_of (record r { charge = cost })) ≡ record (processor_of r) { charge = cost; todo = cs ++ behind ends woken } =
       ap (λ (q : Processor). standing new ends woken q) (charged r.phase r cost)
       ∙ ap (λ (q : Processor). record q { charge = cost }) (stood new cs ends woken en) in
-      subst (λ (q : Processor × Processor). Goes image q.0 (cleared_made image cpu x n o) q.1)
+      subst (λ (q : Processor × Processor). Goes cpu image q.0 (cleared_made image cpu x n o) q.1)
       (λ i. (sym (stood cleans (Todo.wipe x ∷ cs) ends woken ec) i, sym left i))
       (wiped image cpu (processor_of r) (behind ends woken) (front-before ends woken (todo_of r.phase r) front) cs x n o cost h)
 
   pub vacate-goes : (cleans new cs : Todos) (ends : List ℕ) (woken : List (ThreadIx × Told)) (x : ℕ) (w : RowWord) → cleans ≡ Todo.vacate x ∷ cs → new ≡ cs
-      → Goes image (standing cleans ends woken (processor_of r)) (row_made image cpu x w RowAct.Vacate) (standing new ends woken (processor_of r))
+      → Goes cpu image (standing cleans ends woken (processor_of r)) (row_made image cpu x w RowAct.Vacate) (standing new ends woken (processor_of r))
   vacate-goes cleans new cs ends woken x w ec en =
-      subst (λ (q : Processor × Processor). Goes image q.0 (row_made image cpu x w RowAct.Vacate) q.1)
+      subst (λ (q : Processor × Processor). Goes cpu image q.0 (row_made image cpu x w RowAct.Vacate) q.1)
       (λ i. (sym (stood cleans (Todo.vacate x ∷ cs) ends woken ec) i, sym (stood new cs ends woken en) i))
       (vacated image cpu (processor_of r) (behind ends woken) (front-before ends woken (todo_of r.phase r) front) cs x w)
 
   pub recycle-goes : (cleans new cs : Todos) (ends : List ℕ) (woken : List (ThreadIx × Told)) (x n t a : ℕ) (h : Heap) (cost : Option Cost)
       → cleans ≡ Todo.recycle x ∷ cs → new ≡ cs → t ≡ r.context.value.thread → a ≡ addr_of image x → cost ≡ r.charge
-      → Goes image (standing cleans ends woken (processor_of r)) (heap_made image cpu n h (HeapAct.Recycle (to_thread t) (to_addr a)) cost) (standing new ends woken (processor_of r))
+      → Goes cpu image (standing cleans ends woken (processor_of r)) (heap_made image cpu n h (HeapAct.Recycle (to_thread t) (to_addr a)) cost) (standing new ends woken (processor_of r))
   recycle-goes cleans new cs ends woken x n t a h cost ec en et ea eh =
       let thread : (processor_of r).context.thread ≡ t = me ∙ sym et in
-      subst (λ (q : Processor × FineStep × Processor). Goes image q.0 q.1 q.2)
+      subst (λ (q : Processor × FineStep × Processor). Goes cpu image q.0 q.1 q.2)
       (λ i. (sym (stood cleans (Todo.recycle x ∷ cs) ends woken ec) i, heap_made image cpu n h (HeapAct.Recycle (to_thread (thread i)) (to_addr (sym ea i))) (sym eh i), sym (stood new cs ends woken en) i))
       (recycled image cpu (processor_of r) (behind ends woken) (front-before ends woken (todo_of r.phase r) front) cs x n h)

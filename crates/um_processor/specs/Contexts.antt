@@ -10,3 +10,7 @@ own_part t ended me claims = record (context_of t me) { ended = ended; claims = 
 -- nothing but the own part is in use
 abbrev pub IsOwn : Thread → Type 0
 IsOwn me = me ≡ as_thread (own_part 0 false me [])
+
+-- it has no step left to make
+abbrev pub rests : Thread → Type 0
+rests me = me.pending ≡ []

@@ -11,7 +11,7 @@ use Rattle.um_fine.specs.Places.{Todo, Todos}
 use Rattle.um_fine.specs.Processor.{Processor}
 use Rattle.um_processor.specs.declared.phase.Phase.{Phase}
 use Rattle.um_processor.specs.declared.running.Running.{Running}
-use Rattle.um_processor.specs.Phases.{born, released, steps_behind}
+use Rattle.um_processor.specs.Phases.{born, released, showing, steps_behind}
 use Rattle.um_processor.specs.Processors.{with_todo}
 
 -- what stands behind the event in a phase, with the new thread of a start
@@ -27,6 +27,14 @@ rest_of r = drop 1 (steps_behind r.visited r.context.value.pending)
 -- a processor that makes the event of this step next
 abbrev pub about_to : Phase → Pending → Running → Processor
 about_to phase step r = with_todo r (Todo.show step (rest_of r) ∷ todo_after phase (born r.newborn))
+
+-- a processor that puts its thread back next
+abbrev pub about_to_park : Phase → Running → Processor
+about_to_park phase r = with_todo r (Todo.park ∷ todo_after phase (born r.newborn))
+
+-- a processor that makes the event of its thread's next step next, or puts its thread back where there is no step
+abbrev pub at_event : Phase → Running → Processor
+at_event phase r = with_todo r (showing (steps_behind r.visited r.context.value.pending) (todo_after phase (born r.newborn)))
 
 -- the processor behind the event, by which the thread's own part became this
 abbrev pub behind_event : Image → Phase → Context → Running → Processor

@@ -1,6 +1,7 @@
 -- What is asked of the heap's cell: the steps as they are made at these contents after so many steps, and what the cell says.
 use Rattle.std.specs.Prelude.{ℕ, false, Option, None}
 use Rattle.um_base.specs.declared.act.Act.{Act}
+use Rattle.um_base.specs.declared.act.Event.{Event}
 use Rattle.um_base.specs.declared.image.Image.{Image}
 use Rattle.um_machine.specs.declared.object.Cost.{Cost}
 use Rattle.um_words.specs.declared.fine.FineAct.{FineAct}
@@ -9,7 +10,7 @@ use Rattle.um_fine.specs.Answers.{act_in, fits_in, reserved_in}
 use Rattle.um_fine.specs.Cells.{Cell}
 use Rattle.um_fine.specs.Heap.{Heap}
 use Rattle.um_fine.specs.Steps.{Exchange, FineStep, Site}
-use Rattle.um_processor.specs.Asked.{cell_made, shown}
+use Rattle.um_processor.specs.Asked.{by_thread, cell_made, shown}
 use Rattle.um_processor.specs.declared.heap_act.HeapAct.{HeapAct}
 use Rattle.um_processor.specs.declared.heap_act.HeapSaid.{HeapSaid}
 
@@ -26,3 +27,10 @@ heap_made image cpu n h act charge = cell_made image cpu Site.heap n (Cell.heap 
 -- what the cell says, by the act with its answer
 abbrev pub heap_said : FineAct → HeapSaid
 heap_said act = record { addr = reserved_in (act_in act); fits = fits_in (act_in act) }
+
+-- the event of the step, by what the cell says
+abbrev pub heap_event : HeapAct → HeapSaid → Event
+heap_event (HeapAct.Reserve t kind) said = by_thread t (Act.Reserve kind said.addr)
+heap_event (HeapAct.Buffer t n) said = by_thread t (Act.Buffer n said.fits)
+heap_event (HeapAct.Unbuffer t n) said = by_thread t (Act.Unbuffer n)
+heap_event (HeapAct.Recycle t a) said = by_thread t (Act.Recycle a)

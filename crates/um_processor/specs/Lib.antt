@@ -16,4 +16,5 @@ pub mod Phases
 pub mod Processors
 pub mod Cleanings
 pub mod Standing
+pub mod Subjects
 pub mod Events

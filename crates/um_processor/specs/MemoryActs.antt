@@ -1,6 +1,7 @@
 -- What is asked of the memory's cell: the steps as they are made at these bytes after so many steps, what the cell says, and what a copy takes.
 use Rattle.std.specs.Prelude.{◌≡◌, ℕ, Bool, true, nat_le, List, []}
 use Rattle.um_base.specs.declared.act.Act.{Act}
+use Rattle.um_base.specs.declared.act.Event.{Event}
 use Rattle.um_base.specs.declared.act.Found.{Found}
 use Rattle.um_base.specs.declared.image.Image.{Image}
 use Rattle.um_words.specs.declared.fine.FineAct.{FineAct}
@@ -9,7 +10,7 @@ use Rattle.um_fine.specs.Answers.{act_in, bytes_in, found_in, value_in}
 use Rattle.um_fine.specs.Cells.{Cell}
 use Rattle.um_fine.specs.Memory.{Bytes, memory_moves, memory_says}
 use Rattle.um_fine.specs.Steps.{Exchange, FineStep, Site}
-use Rattle.um_processor.specs.Asked.{cell_made, shown}
+use Rattle.um_processor.specs.Asked.{by_thread, cell_made, shown}
 use Rattle.um_processor.specs.declared.memory_act.MemoryAct.{MemoryAct}
 use Rattle.um_processor.specs.declared.memory_act.MemorySaid.{MemorySaid}
 
@@ -49,6 +50,18 @@ module _ (image : Image) (m : Bytes) (act : MemoryAct) (buffer : List ℕ) where
 -- what the cell says, by the act with its answer
 abbrev pub memory_said : FineAct → MemorySaid
 memory_said act = record { value = value_in (act_in act); found = found_in (act_in act) }
+
+-- the event of the step, by what the cell says
+abbrev pub memory_event : MemoryAct → MemorySaid → Event
+memory_event (MemoryAct.Load t a n) said = by_thread t (Act.Load a n said.value)
+memory_event (MemoryAct.Store t a n value) said = by_thread t (Act.Store a n value)
+memory_event (MemoryAct.Fetch t a) said = by_thread t (Act.Fetch a)
+memory_event (MemoryAct.Fault t access a n) said = by_thread t (Act.Fault access a n)
+memory_event (MemoryAct.Probe t a n fits) said = by_thread t (Act.Probe a n fits)
+memory_event (MemoryAct.CopyIn t a n fits) said = by_thread t (Act.CopyIn a n fits)
+memory_event (MemoryAct.CopyOut t a n fits) said = by_thread t (Act.CopyOut a n fits)
+memory_event (MemoryAct.CopyStr t a n) said = by_thread t (Act.CopyStr a said.found)
+memory_event (MemoryAct.Erase t stack) said = by_thread t (Act.Erase stack)
 
 -- the buffer after the copy of a text: its bytes, where its end was found
 abbrev pub text_taken : Found → List ℕ → List ℕ → List ℕ

@@ -1,7 +1,10 @@
 -- What stands at the place of a thread index in the scheduler's cell.
 use Rattle.std.specs.Prelude.{ℕ, Bool, true, false, List, Option, Some, None, map, slice_set}
 use Rattle.um_base.specs.declared.ask.Told.{Told}
-use Rattle.um_fine.specs.Context.{Context}
+use Rattle.um_machine.specs.declared.thread.Thread.{Thread}
+use Rattle.um_machine.specs.State.{is_living}
+use Rattle.um_fine.specs.Context.{Context, context_of}
+use Rattle.um_fine.specs.Opening.{parked_if}
 use Rattle.um_fine.specs.Scheduler.{Scheduler, behind}
 
 -- the thread, where no processor runs it, and what it is told, where it was woken
@@ -22,6 +25,10 @@ context_at p = p.context
 
 abbrev pub told_at : Parked → Option Told
 told_at p = p.told
+
+-- at that of a thread of the access-matrix machine that is at rest, where it lives
+abbrev pub resting : ℕ → Thread → Parked
+resting t me = record { context = parked_if (is_living me.life) (context_of t me); told = None }
 
 -- the scheduler's contents by its ready list, all places and how many threads run
 abbrev pub scheduler_of : List ℕ → List Parked → ℕ → Scheduler

@@ -14,6 +14,16 @@ abbrev pub is_idle : Phase → Bool
 is_idle Phase.Idle = true
 is_idle phase = false
 
+-- whether its step leaves nothing to be done before the next one: no claim ends, no row comes to cleaning, nobody is woken
+abbrev pub is_plain_phase : Phase → Bool
+is_plain_phase Phase.Idle = false
+is_plain_phase Phase.Exit = false
+is_plain_phase Phase.Drop = false
+is_plain_phase Phase.Access = false
+is_plain_phase Phase.Start = false
+is_plain_phase Phase.Show = false
+is_plain_phase phase = true
+
 -- the steps behind a visit
 abbrev pub steps_behind : Bool → Steps → Steps
 steps_behind true steps = drop 1 steps

@@ -1,9 +1,10 @@
 -- The processor that the code's fields stand for, and what comes of a turn.
-use Rattle.std.specs.Prelude.{◌≡◌, ℕ, ◌-◌, Bool, true, false, nat_le, nat_lt, if◌then◌else◌, [], ◌∷◌, drop}
+use Rattle.std.specs.Prelude.{◌≡◌, ℕ, Bool, true, false, nat_le, nat_lt, IsTrue, if◌then◌else◌, [], ◌∷◌, drop}
 use Rattle.um_base.specs.declared.image.Image.{Image}
-use Rattle.um_base.specs.declared.limits.TheConstants.{ROWS, STATIC_ROWS, THREADS}
+use Rattle.um_base.specs.declared.limits.TheConstants.{ROWS, THREADS}
+use Rattle.um_machine.specs.declared.pending.Pending.{Pending}
 use Rattle.um_machine.specs.Order.{Steps}
-use Rattle.um_fine.specs.Asks.{CpuMay, has_room, next_site}
+use Rattle.um_fine.specs.Asks.{fits_step, has_room, made_by, next_site}
 use Rattle.um_fine.specs.Context.{Context, no_context}
 use Rattle.um_fine.specs.Follows.{p_next}
 use Rattle.um_fine.specs.Places.{Todo, Todos, cleaning, cleanings, next_steps, turn, with_cleaning}
@@ -12,6 +13,7 @@ use Rattle.um_fine.specs.Sites.{is_site}
 use Rattle.um_fine.specs.Steps.{FineStep}
 use Rattle.um_processor.specs.Parked.{some_if}
 use Rattle.um_processor.specs.Phases.{born, passed_to, phase_of, steps_behind, todo_in}
+use Rattle.um_processor.specs.declared.cleaning.TheConstants.{MOST}
 use Rattle.um_processor.specs.declared.phase.Phase.{Phase}
 use Rattle.um_processor.specs.declared.phase.Turn.{Turn}
 use Rattle.um_processor.specs.declared.running.Running.{Running}
@@ -74,13 +76,19 @@ abbrev pub cleaned : Image → ℕ → Bool → Processor → Processor
 cleaned image x false p = p
 cleaned image x true p = record p { todo = with_cleaning (cleaning image x) p.todo }
 
--- a step that the processor may make, and the processor after it
-pub record Goes (image : Image) (p : Processor) (e : FineStep) (z : Processor) : Type 0 where
-  pub may : CpuMay image p e
+-- a step that the processor of this number asks for, as its site fills it in
+pub record AsksFor (cpu : ℕ) (image : Image) (p : Processor) (e : FineStep) : Type 0 where
+  pub maker : e.cpu ≡ cpu
+  pub makes : made_by image p e ≡ e
+  pub fit : IsTrue (fits_step image p p.todo e)
+
+-- the same, and the processor after it
+pub record Goes (cpu : ℕ) (image : Image) (p : Processor) (e : FineStep) (z : Processor) : Type 0 where
+  pub asks : AsksFor cpu image p e
   pub next : z ≡ p_next image p e
 
--- It has no step that it could ask for: its next one has no room, or is at a site that isn't there, or names a thread index that isn't there,
--- or may begin the cleaning of one more object than there are dynamic rows.
+-- It has no step that it could ask for: its next one has no room, or has no event, or is at a site that isn't there, or names a thread index that isn't there;
+-- or more objects are to be cleaned than there are dynamic rows.
 abbrev pub has_thread : Todos → Bool
 has_thread (Todo.wake who told ∷ todo) = nat_lt who THREADS
 has_thread (Todo.add c ∷ todo) = nat_lt c.thread THREADS
@@ -90,20 +98,38 @@ abbrev pub fits_next : Image → Processor → Todos → Bool
 fits_next image p (Todo.show q rest ∷ todo) = has_room image p q
 fits_next image p todo = true
 
+-- whether a step has an event: none has one that waits, that stands for visits of rows, or that is a cleaner's
+abbrev pub is_event : Pending → Bool
+is_event Pending.Resume = false
+is_event (Pending.Inherit who) = false
+is_event (Pending.Drops from) = false
+is_event (Pending.CleanPair who) = false
+is_event Pending.Recycle = false
+is_event step = true
+
+abbrev pub shows_event : Todos → Bool
+shows_event (Todo.show q rest ∷ todo) = is_event q
+shows_event todo = true
+
 pub data IsStuck (image : Image) (p : Processor) : Type 0 where
   no_room : fits_next image p p.todo ≡ false → IsStuck image p
+  no_event : shows_event p.todo ≡ false → IsStuck image p
   no_site : is_site (next_site image p) ≡ false → IsStuck image p
   no_thread : has_thread p.todo ≡ false → IsStuck image p
-  full : nat_le (ROWS - STATIC_ROWS) (cleanings p.todo) ≡ true → IsStuck image p
+  full : nat_le MOST (cleanings p.todo) ≡ true → IsStuck image p
 
--- What comes of a turn, by what the sites say of a step that was made, of one that is refused, of one that came too late, and of none.
-abbrev pub Turned : Turn → Image → Processor → Processor → (FineStep → Type 0) → (FineStep → Type 0) → Type 0 → Type 0 → Type 0
-Turned Turn.Made image p z took shut late none = (e : FineStep) × took e × Goes image p e z
-Turned Turn.Busy image p z took shut late none = (e : FineStep) × shut e × CpuMay image p e
-Turned Turn.Changed image p z took shut late none = late
-Turned Turn.Stuck image p z took shut late none = none × IsStuck image p
+-- What comes of a turn of the processor of this number, by what the sites say of a step that was made, of one that is refused, of one that came too late, and of none.
+abbrev pub Turned : Turn → ℕ → Image → Processor → Processor → (FineStep → Type 0) → (FineStep → Type 0) → Type 0 → Type 0 → Type 0
+Turned Turn.Made cpu image p z took shut late none = (e : FineStep) × took e × Goes cpu image p e z
+Turned Turn.Busy cpu image p z took shut late none = (e : FineStep) × shut e × AsksFor cpu image p e
+Turned Turn.Changed cpu image p z took shut late none = late
+Turned Turn.Stuck cpu image p z took shut late none = none × IsStuck image p
 
--- whether a step was made
+-- where a step was made, and where none was
+abbrev pub OnMade : Turn → Type 0 → Type 0
+OnMade Turn.Made holds = holds
+OnMade turn holds = Unit {0}
+
 abbrev pub UnlessMade : Turn → Type 0 → Type 0
 UnlessMade Turn.Made kept = Unit {0}
 UnlessMade turn kept = kept

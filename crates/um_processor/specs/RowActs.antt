@@ -1,6 +1,7 @@
 -- What is asked of the word of a row: the step that it stands for, and what the word says.
-use Rattle.std.specs.Prelude.{ℕ, Bool, false, ◌&&◌, not, if◌then◌else◌, None}
+use Rattle.std.specs.Prelude.{ℕ, Bool, false, ◌&&◌, not, if◌then◌else◌, Option, Some, None}
 use Rattle.um_base.specs.declared.act.Act.{Act}
+use Rattle.um_base.specs.declared.act.Event.{Event}
 use Rattle.um_base.specs.declared.act.Given.{Given}
 use Rattle.um_base.specs.declared.act.Leftover.{Leftover}
 use Rattle.um_base.specs.declared.act.SetSaid.{SetSaid}
@@ -14,7 +15,7 @@ use Rattle.um_fine.specs.Answers.{act_in, given_in, is_visit, left_in, set_in, v
 use Rattle.um_fine.specs.Asks.{begins_cleaning}
 use Rattle.um_fine.specs.Sites.{SiteState, filled}
 use Rattle.um_fine.specs.Steps.{Exchange, FineStep, Site, Word}
-use Rattle.um_processor.specs.Asked.{asked, shown}
+use Rattle.um_processor.specs.Asked.{asked, by_thread, shown}
 use Rattle.um_processor.specs.declared.row_act.RowAct.{RowAct}
 use Rattle.um_processor.specs.declared.row_act.RowSaid.{RowSaid}
 
@@ -50,6 +51,21 @@ row_said e =
       visits = is_visit e.act;
       cleans = begins_cleaning e;
     }
+
+-- the event of the step, by what the word says, if a trace shows it
+abbrev pub row_event : RowAct → RowSaid → Option Event
+row_event (RowAct.Check t a kind want mode fits) said = Some (by_thread t (Act.Check a kind want said.verdict))
+row_event (RowAct.Grant t who a) said = Some (by_thread t (Act.Grant who a said.given))
+row_event (RowAct.Own t who) said = Some (by_thread t (Act.Own who said.given))
+row_event (RowAct.Pass t who a) said = if said.visits then None else Some (by_thread t (Act.Inherit who a))
+row_event (RowAct.DropPair t who a) said = Some (by_thread t (Act.DropPair who a said.left))
+row_event (RowAct.Sweep t who a) said = if said.visits then None else Some (by_thread t (Act.DropPair who a said.left))
+row_event (RowAct.Publish t a) said = Some (by_thread t (Act.Publish a said.given))
+row_event (RowAct.SetInit t a strict) said = Some (by_thread t (Act.SetInit a said.set))
+row_event (RowAct.ClearInit t a) said = Some (by_thread t (Act.ClearInit a))
+row_event (RowAct.Born t a) said = Some (by_thread t (Act.Born a))
+row_event RowAct.EndCall said = None
+row_event RowAct.Vacate said = None
 
 -- a step that leaves this word
 abbrev pub left_by : FineAct → RowWord → FineStep

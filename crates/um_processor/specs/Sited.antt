@@ -1,23 +1,30 @@
--- The states of the sites that tables keep, what comes of a step there, and what a site says to the one that asks for it.
-use Rattle.std.specs.Prelude.{◌≡◌, ◌<◌, ℕ, List, None, slice_index_or, slice_set}
+-- The states of the sites that tables keep, with a log of events; what comes of a step there, and what a site says to the one that asks for it.
+use Rattle.std.specs.Prelude.{◌≡◌, ◌<◌, ◌≤◌, ◌&&◌, ℕ, List, [], ◌∷◌, ◌++◌, None, Option, Some, true, not, length, slice_index_or, slice_set}
+use Rattle.um_base.specs.declared.act.Act.{Act}
+use Rattle.um_base.specs.declared.act.Event.{Event}
 use Rattle.um_base.specs.declared.image.Image.{Image}
-use Rattle.um_base.specs.declared.limits.TheConstants.{DOMAINS}
+use Rattle.um_base.specs.declared.limits.TheConstants.{DOMAINS, ROWS, THREADS}
+use Rattle.um_base.specs.declared.names.ThreadIx.{ThreadIx}
+use Rattle.um_words.specs.declared.fine.FineAct.{FineAct}
 use Rattle.um_words.specs.declared.row_word.RowWord.{RowWord}
 use Rattle.um_words.specs.declared.thread_word.ThreadWord.{ThreadWord}
 use Rattle.um_words.specs.declared.dom_word.DomWord.{DomWord}
+use Rattle.um_words.specs.Rows.{has}
 use Rattle.um_fine.specs.Answers.{no_domain, no_row, no_thread}
 use Rattle.um_fine.specs.Cells.{Cell}
 use Rattle.um_fine.specs.Heap.{Heap}
 use Rattle.um_fine.specs.Memory.{Bytes}
 use Rattle.um_fine.specs.Scheduler.{Scheduler}
 use Rattle.um_fine.specs.Steps.{FineStep, Site}
-use Rattle.um_fine.specs.Sites.{SiteMay, SiteState, s_next}
+use Rattle.um_fine.specs.Sites.{SiteMay, SiteState, filled, s_next}
+use Rattle.um_processor.specs.Asked.{Refuses, event_of}
 use Rattle.um_processor.specs.declared.domain_cell.DomainCell.{DomainCell}
 use Rattle.um_processor.specs.declared.object_cell.ObjectCell.{ObjectCell}
 use Rattle.um_processor.specs.ObjectCells.{cleared, kept_in}
 use Rattle.um_processor.specs.declared.said.Said.{Said}
 
--- the words of all rows, thread indices and domains, the cells of domains and of objects, and those of memory, the heap and the scheduler with the steps that they have taken
+-- the words of all rows, thread indices and domains, the cells of domains and of objects, and those of memory, the heap and the scheduler with the steps that they have taken;
+-- the events of all steps so far, in their order, and how many the log has room for
 pub record Sited : Type 0 where
   pub rows : List RowWord
   pub threads : List ThreadWord
@@ -31,6 +38,16 @@ pub record Sited : Type 0 where
   pub heap_steps : ℕ
   pub scheduler : Scheduler
   pub scheduler_steps : ℕ
+  pub log : List Event
+  pub most : ℕ
+
+-- there is a word for each row, thread index and domain, and a cell for each domain and each object
+pub record IsSized (s : Sited) : Type 0 where
+  pub rows : length s.rows ≡ ROWS
+  pub threads : length s.threads ≡ THREADS
+  pub domains : length s.domains ≡ DOMAINS
+  pub domain_cells : length s.domain_cells ≡ DOMAINS
+  pub objects : length s.objects ≡ ROWS
 
 -- the word of a thread names a domain
 abbrev pub in_domains : ThreadWord → Type 0
@@ -70,10 +87,43 @@ with_state s Site.heap (SiteState.cell n (Cell.heap h)) = record s { heap = h; h
 with_state s Site.scheduler (SiteState.cell n (Cell.scheduler t)) = record s { scheduler = t; scheduler_steps = n }
 with_state s site state = s
 
--- the step was made: its site took it, and the other sites are as before
+-- a log with this event behind the others
+abbrev pub logged : List Event → Option Event → List Event
+logged log None = log
+logged log (Some event) = log ++ event ∷ []
+
+-- the step's event is in the log
+abbrev pub noted : Sited → FineStep → Sited
+noted s e = record s { log = logged s.log (event_of e.act) }
+
+-- the step was made: its site took it, the log has its event behind the others, and all else is as before
 pub record WasMade (image : Image) (old : Sited) (e : FineStep) (new : Sited) : Type 0 where
   pub may : SiteMay image (state_at old e.site) e
-  pub leaves : new ≡ with_state old e.site (s_next image (state_at old e.site) e)
+  pub leaves : new ≡ with_state (noted old e) e.site (s_next image (state_at old e.site) e)
+
+-- the log has no room for another event
+abbrev pub IsFull : Sited → Type 0
+IsFull s = s.most ≤ length s.log
+
+-- a thread passes a permission on that it has and the other one hasn't
+abbrev pub IsDueTo : RowWord → ThreadIx → Act → Type 0
+IsDueTo w t (Act.Inherit who a) = (has w t.0 && not (has w who.0)) ≡ true
+IsDueTo w t act = Unit {0}
+
+abbrev pub IsDue : RowWord → FineAct → Type 0
+IsDue w (FineAct.Shown event more) = IsDueTo w event.thread event.act
+IsDue w (FineAct.Unseen unseen) = Unit {0}
+
+-- one who looks at the site asks for the step: at a row, for an inheritance only where it is due
+abbrev pub IsSeen : SiteState → FineAct → Type 0
+IsSeen (SiteState.row w) act = IsDue w act
+IsSeen state act = Unit {0}
+
+-- the site refuses the step, as it would be made there
+pub record IsShut (image : Image) (s : SiteState) (e : FineStep) : Type 0 where
+  pub refuses : Refuses s e
+  pub filled_in : filled image s e ≡ e
+  pub seen : IsSeen s e.act
 
 abbrev pub MatchSaid : {A : Type 0} → Said A → (A → Type 0) → Type 0 → Type 0 → Type 0
 MatchSaid (Said.Made said) made busy changed = made said

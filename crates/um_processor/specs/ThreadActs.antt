@@ -1,14 +1,16 @@
 -- What is asked of the word of a thread index: the step that it stands for.
-use Rattle.std.specs.Prelude.{ℕ, false, None}
+use Rattle.std.specs.Prelude.{ℕ, false, Option, Some, None, if◌then◌else◌}
 use Rattle.um_base.specs.declared.act.Act.{Act}
+use Rattle.um_base.specs.declared.act.Event.{Event}
 use Rattle.um_base.specs.declared.image.Image.{Image}
+use Rattle.um_base.specs.declared.names.Errno.{Errno}
 use Rattle.um_words.specs.declared.fine.FineAct.{FineAct}
 use Rattle.um_words.specs.declared.fine.More.{More}
 use Rattle.um_words.specs.declared.fine.Unseen.{Unseen}
 use Rattle.um_words.specs.declared.thread_word.ThreadWord.{ThreadWord}
 use Rattle.um_fine.specs.Sites.{SiteState, filled}
 use Rattle.um_fine.specs.Steps.{Exchange, FineStep, Site}
-use Rattle.um_processor.specs.Asked.{asked, shown}
+use Rattle.um_processor.specs.Asked.{asked, by_thread, shown}
 use Rattle.um_processor.specs.declared.thread_act.ThreadAct.{ThreadAct}
 
 -- the act without the answer of the word
@@ -28,3 +30,17 @@ thread_act ThreadAct.LetGo = FineAct.Unseen Unseen.LetGo
 -- the step as it is made at a thread index with this word
 abbrev pub thread_made : Image → ℕ → ℕ → ThreadWord → ThreadAct → FineStep
 thread_made image cpu t w act = filled image (SiteState.thread w) (asked cpu (Site.thread t) (thread_act act) Exchange.nothing)
+
+-- the event of the step, by the word that it leaves, if a trace shows it
+abbrev pub thread_event : ThreadAct → ThreadWord → Option Event
+thread_event (ThreadAct.Begin t script line) next = if next.doomed then None else Some (by_thread t (Act.Begin script line))
+thread_event (ThreadAct.Exit t) next = if next.doomed then None else Some (by_thread t Act.Exit)
+thread_event (ThreadAct.Miss t a kind want mode) next = Some (by_thread t (Act.Check a kind want (Some Errno.EBADF)))
+thread_event (ThreadAct.Answered t reply) next = Some (by_thread t (Act.Answered reply))
+thread_event (ThreadAct.Fatal t reason cause) next = Some (by_thread t (Act.Fatal reason cause))
+thread_event (ThreadAct.Doom t who) next = Some (by_thread t (Act.Doom who))
+thread_event (ThreadAct.DomMove t d who reply) next = Some (by_thread t (Act.DomMove d who reply))
+thread_event (ThreadAct.Start t who mode d) next = Some (by_thread t (Act.Start who))
+thread_event (ThreadAct.EnterUser t) next = Some (by_thread t Act.EnterUser)
+thread_event ThreadAct.Hold next = None
+thread_event ThreadAct.LetGo next = None

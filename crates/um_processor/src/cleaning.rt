@@ -10,8 +10,8 @@ use std::marker::Model;
 use um_base::{Image, ROWS};
 use um_rules::rows::thread_of_row;
 
-/// How many objects at most: each dynamic row once.
-pub const MOST: usize = 32;
+/// How many objects at most: one more than the dynamic rows, so that there is room where each of them is queued.
+pub const MOST: usize = 33;
 
 /// An object that is gone, with its thread index where it is a thread object.
 #[derive(Clone, Copy)]
@@ -72,6 +72,13 @@ impl Cleaning {
         }
     }
 
+    /// None any longer.
+    pub fn clear(&mut self)
+        ensures { self.new ≡ [] }
+    {
+        self.gone.clear();
+    }
+
     /// How many objects are still to be recycled.
     #[tactic(auto, using(crate::proofs::Cleaned::counted))]
     pub fn len(&self) -> usize
@@ -126,7 +133,7 @@ impl Cleaning {
     /// One object more is gone.
     #[tactic(auto, using(crate::proofs::Cleaned::counted, crate::proofs::Cleaned::one_more, crate::proofs::Cleaned::first_one))]
     pub fn push(&mut self, row: u8, who: Option<u8>)
-        requires { cleanings self.old < 32 }
+        requires { cleanings self.old < MOST }
         ensures { self.new ≡ self.old ++ cleaning_of row who }
     {
         if self.gone.is_empty() {
@@ -139,7 +146,7 @@ impl Cleaning {
 
     /// The object of a row is gone.
     pub fn take_in(&mut self, image: &Image, row: u8)
-        requires { cleanings self.old < 32 }
+        requires { cleanings self.old < MOST }
         ensures { self.new ≡ self.old ++ cleaning image.now row }
     {
         let who = match thread_of_row(image, row as usize) {

@@ -13,9 +13,10 @@ mod tests;
 
 ghost use Rattle.std.specs.Prelude.{◌≡◌, ◌<◌, drop};
 ghost use Rattle.um_base.specs.declared.limits.TheConstants.{THREADS};
-ghost use Rattle.um_fine.specs.Context.{no_context};
+ghost use Rattle.um_fine.specs.Context.{context_of, no_context};
 ghost use Rattle.um_fine.specs.Continues.{goes_on};
 ghost use Rattle.um_fine.specs.Scheduler.{waits};
+ghost use Rattle.um_processor.specs.Contexts.{rests};
 
 use arrayvec::ArrayVec;
 use std::marker::Model;
@@ -60,6 +61,30 @@ impl Context {
             thread: 0,
             ended: false,
             own: nobody(),
+            claims: ArrayVec::new(),
+        }
+    }
+
+    /// That of a thread of the machine which is at rest.
+    pub fn at_rest(thread: u8, me: &Thread) -> Context
+        requires index { thread < THREADS }
+        requires rests { rests me.now }
+        ensures { result ≡ context_of thread me.now }
+    {
+        let registers = me.registers;
+        let mut own = nobody();
+        own.mode = me.mode;
+        own.stack = me.stack;
+        own.priority = me.priority;
+        own.pool = me.pool;
+        own.registers = registers;
+        own.place = me.place;
+        own.reply = me.reply;
+        own.buffer = me.buffer;
+        Context {
+            thread,
+            ended: false,
+            own,
             claims: ArrayVec::new(),
         }
     }

@@ -4,10 +4,11 @@ ghost use Rattle.std.specs.Prelude.{◌≡◌, ◌<◌, ℕ, IsTrue, MatchOption
 ghost use Rattle.um_base.specs.declared.image.Image.{Image};
 ghost use Rattle.um_words.specs.Domains.{domain_after, domain_takes, is_zero, left_by_reader, writes, written};
 ghost use Rattle.um_fine.specs.Sites.{SiteState};
-ghost use Rattle.um_processor.specs.Asked.{Refuses, Takes};
+ghost use Rattle.um_processor.specs.Asked.{Refuses, Takes, event_of};
 ghost use Rattle.um_processor.specs.DomainActs.{domain_act, domain_made};
 
-use um_base::{Attr, Range, Reply, ThreadIx};
+use crate::log::shown;
+use um_base::{Act, Attr, Event, Range, Reply, ThreadIx};
 use um_words::DomWord;
 
 /// The greatest step number: there the word takes no step.
@@ -126,5 +127,57 @@ impl DomainAct {
         self.take(&mut next);
         next.number += 1;
         Some(next)
+    }
+
+    /// The event of the step, if a trace shows it.
+    pub fn event(&self) -> Option<Event>
+        ensures { result ≡ event_of (domain_act self.now) }
+    {
+        match *self {
+            DomainAct::ReadClaim => None,
+            DomainAct::ReadDone => None,
+            DomainAct::WriteClaim => None,
+            DomainAct::DomInit {
+                thread,
+                domain,
+                reply,
+            } => shown(thread, Act::DomInit { domain, reply }),
+            DomainAct::DomAdd {
+                thread,
+                domain,
+                range,
+                attr,
+                reply,
+            } => shown(
+                thread,
+                Act::DomAdd {
+                    domain,
+                    range,
+                    attr,
+                    reply,
+                },
+            ),
+            DomainAct::DomRemove {
+                thread,
+                domain,
+                range,
+                attr,
+                reply,
+            } => shown(
+                thread,
+                Act::DomRemove {
+                    domain,
+                    range,
+                    attr,
+                    reply,
+                },
+            ),
+            DomainAct::DomMove {
+                thread,
+                domain,
+                who,
+                reply,
+            } => shown(thread, Act::DomMove { domain, who, reply }),
+        }
     }
 }

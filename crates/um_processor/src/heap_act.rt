@@ -1,6 +1,10 @@
 //! What a processor asks of the heap's cell.
 
-use um_base::{Addr, Kind, ThreadIx};
+ghost use Rattle.std.specs.Prelude.{◌≡◌, Some};
+ghost use Rattle.um_processor.specs.HeapActs.{heap_event};
+
+use crate::log::shown;
+use um_base::{Act, Addr, Event, Kind, ThreadIx};
 
 /// What is asked of the heap's cell, and by which thread.
 #[derive(Clone, Copy)]
@@ -22,4 +26,24 @@ pub struct HeapSaid {
     pub addr: Option<Addr>,
     /// Whether the pool pays for a buffer.
     pub fits: bool,
+}
+
+impl HeapAct {
+    /// The event of the step, by what the cell says. A trace shows each.
+    pub fn event(&self, said: &HeapSaid) -> Option<Event>
+        ensures { result ≡ Some (heap_event self.now said.now) }
+    {
+        match *self {
+            HeapAct::Reserve { thread, kind } => {
+                let addr = said.addr;
+                shown(thread, Act::Reserve { kind, addr })
+            }
+            HeapAct::Buffer { thread, size } => {
+                let fits = said.fits;
+                shown(thread, Act::Buffer { size, fits })
+            }
+            HeapAct::Unbuffer { thread, size } => shown(thread, Act::Unbuffer { size }),
+            HeapAct::Recycle { thread, addr } => shown(thread, Act::Recycle { addr }),
+        }
+    }
 }

@@ -8,6 +8,7 @@ mod domain_act;
 mod domain_cell;
 mod heap;
 mod heap_act;
+mod log;
 mod memory_act;
 mod newborn;
 mod object_cell;

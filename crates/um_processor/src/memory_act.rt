@@ -1,6 +1,10 @@
 //! What a processor asks of the memory's cell.
 
-use um_base::{Access, Addr, Found, Row, ThreadIx};
+ghost use Rattle.std.specs.Prelude.{◌≡◌, Some};
+ghost use Rattle.um_processor.specs.MemoryActs.{memory_event};
+
+use crate::log::shown;
+use um_base::{Access, Act, Addr, Event, Found, Row, ThreadIx};
 
 /// What is asked of the memory's cell, and by which thread, whose region table has told whether it may.
 #[derive(Clone, Copy)]
@@ -68,4 +72,54 @@ pub struct MemorySaid {
     pub value: u32,
     /// What the copy of a text found.
     pub found: Found,
+}
+
+impl MemoryAct {
+    /// The event of the step, by what the cell says. A trace shows each.
+    pub fn event(&self, said: &MemorySaid) -> Option<Event>
+        ensures { result ≡ Some (memory_event self.now said.now) }
+    {
+        match *self {
+            MemoryAct::Load { thread, addr, size } => {
+                let value = said.value;
+                shown(thread, Act::Load { addr, size, value })
+            }
+            MemoryAct::Store {
+                thread,
+                addr,
+                size,
+                value,
+            } => shown(thread, Act::Store { addr, size, value }),
+            MemoryAct::Fetch { thread, addr } => shown(thread, Act::Fetch { addr }),
+            MemoryAct::Fault {
+                thread,
+                access,
+                addr,
+                size,
+            } => shown(thread, Act::Fault { access, addr, size }),
+            MemoryAct::Probe {
+                thread,
+                addr,
+                size,
+                fits,
+            } => shown(thread, Act::Probe { addr, size, fits }),
+            MemoryAct::CopyIn {
+                thread,
+                addr,
+                size,
+                fits,
+            } => shown(thread, Act::CopyIn { addr, size, fits }),
+            MemoryAct::CopyOut {
+                thread,
+                addr,
+                size,
+                fits,
+            } => shown(thread, Act::CopyOut { addr, size, fits }),
+            MemoryAct::CopyStr { thread, addr, .. } => {
+                let found = said.found;
+                shown(thread, Act::CopyStr { addr, found })
+            }
+            MemoryAct::Erase { thread, stack } => shown(thread, Act::Erase { stack }),
+        }
+    }
 }

@@ -17,3 +17,17 @@ pub struct Newborn {
     /// The first place of its script.
     pub place: Place,
 }
+
+/// Nobody's.
+pub const NOBODY: Newborn = Newborn {
+    thread: ThreadIx(0),
+    mode: Mode::User,
+    stack: Row(0),
+    priority: 0,
+    pool: None,
+    place: Place {
+        script: 0,
+        line: 0,
+        left: 0,
+    },
+};

@@ -30,9 +30,16 @@ impl Parked {
     pub fn empty(room: Box<Context>) -> Parked
         ensures { result ≡ record { context = None; told = None } }
     {
+        Parked::of(room, false)
+    }
+
+    /// That of a thread, if it is there, which is told nothing.
+    pub fn of(context: Box<Context>, is_there: bool) -> Parked
+        ensures { result ≡ record { context = some_if is_there context.value; told = None } }
+    {
         Parked {
-            context: room,
-            is_there: false,
+            context,
+            is_there,
             told: Told {
                 reply: Reply::Void,
                 taken: Piece::new(),

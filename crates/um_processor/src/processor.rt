@@ -2,10 +2,18 @@
 
 mod calls;
 mod cleans;
+mod events;
+mod steps;
+
+ghost use Rattle.std.specs.Prelude.{◌≡◌, IfOk};
+ghost use Rattle.um_fine.specs.Processor.{idle};
+ghost use Rattle.um_processor.specs.Standing.{whole};
 
 use crate::cleaning::Cleaning;
 use crate::running::Running;
 use arrayvec::ArrayVec;
+use std::alloc::Global;
+use um_base::Memory;
 use um_service::Outcome;
 
 /// The next step of a processor's thread, and what stands before it.
@@ -20,4 +28,19 @@ pub struct Processor {
     outcome: Outcome,
     /// How many of them were told.
     told: usize,
+}
+
+impl Processor {
+    /// One without a thread, with all the room that it is ever to need.
+    pub fn new(alloc: Global) -> Result<Processor, Memory>
+        ensures { IfOk result (λ p. whole p ≡ idle) }
+    {
+        Ok(Processor {
+            running: Running::new(alloc)?,
+            cleans: Cleaning::new(),
+            ends: ArrayVec::new(),
+            outcome: Outcome::new(),
+            told: 0,
+        })
+    }
 }

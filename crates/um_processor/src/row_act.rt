@@ -5,9 +5,10 @@ ghost use Rattle.um_base.specs.declared.image.Image.{Image};
 ghost use Rattle.um_words.specs.Rows.{row_after, row_says, row_takes};
 ghost use Rattle.um_fine.specs.Sites.{SiteState};
 ghost use Rattle.um_processor.specs.Asked.{Refuses, Takes};
-ghost use Rattle.um_processor.specs.RowActs.{left_by, row_act, row_made, row_said};
+ghost use Rattle.um_processor.specs.RowActs.{left_by, row_act, row_event, row_made, row_said};
 
-use um_base::{Addr, Errno, Given, Kind, Leftover, Mode, SetSaid, ThreadIx, Want};
+use crate::log::shown;
+use um_base::{Act, Addr, Errno, Event, Given, Kind, Leftover, Mode, SetSaid, ThreadIx, Want};
 use um_words::RowWord;
 
 /// The greatest step number: there the word takes no step.
@@ -223,5 +224,68 @@ impl RowAct {
         let said = self.take(&mut next);
         next.number += 1;
         Some((next, said))
+    }
+
+    /// The event of the step, by what the word says, if a trace shows it.
+    pub fn event(&self, said: &RowSaid) -> Option<Event>
+        ensures { result ≡ row_event self.now said.now }
+    {
+        match *self {
+            RowAct::Check {
+                thread,
+                addr,
+                kind,
+                want,
+                ..
+            } => {
+                let verdict = said.verdict;
+                shown(
+                    thread,
+                    Act::Check {
+                        addr,
+                        kind,
+                        want,
+                        verdict,
+                    },
+                )
+            }
+            RowAct::Grant { thread, who, addr } => {
+                let given = said.given;
+                shown(thread, Act::Grant { who, addr, given })
+            }
+            RowAct::Own { thread, who } => {
+                let given = said.given;
+                shown(thread, Act::Own { who, given })
+            }
+            RowAct::Pass { thread, who, addr } => {
+                if said.visits {
+                    return None;
+                }
+                shown(thread, Act::Inherit { who, addr })
+            }
+            RowAct::DropPair { thread, who, addr } => {
+                let left = said.left;
+                shown(thread, Act::DropPair { who, addr, left })
+            }
+            RowAct::Sweep { thread, who, addr } => {
+                if said.visits {
+                    return None;
+                }
+                let left = said.left;
+                shown(thread, Act::DropPair { who, addr, left })
+            }
+            RowAct::Publish { thread, addr } => {
+                let given = said.given;
+                shown(thread, Act::Publish { addr, given })
+            }
+            RowAct::SetInit { thread, addr, .. } => {
+                let set = said.set;
+                shown(thread, Act::SetInit { addr, set })
+            }
+            RowAct::ClearInit { thread, addr } => shown(thread, Act::ClearInit { addr }),
+            RowAct::Born { thread, addr } => shown(thread, Act::Born { addr }),
+            RowAct::EndCall => None,
+            RowAct::Vacate => None,
+        }
     }
 }

@@ -7,6 +7,7 @@ mod domains;
 mod edits;
 mod ends;
 mod events;
+mod go;
 mod heaps;
 mod kinds;
 mod lines;
@@ -14,19 +15,24 @@ mod marks;
 mod memory;
 mod next;
 mod rights;
+mod show;
 mod starts;
 mod turns;
 mod visits;
 mod works;
 
-ghost use Rattle.std.specs.Prelude.{◌≡◌};
+ghost use Rattle.std.specs.Prelude.{◌≡◌, IfOk};
+ghost use Rattle.um_fine.specs.Processor.{idle};
 ghost use Rattle.um_processor.specs.Phases.{is_idle};
+ghost use Rattle.um_processor.specs.Processors.{processor_of};
 
 use crate::context::Context;
-use crate::newborn::Newborn;
+use crate::newborn::{NOBODY, Newborn};
 use crate::phase::Phase;
-use um_base::{Reply, ThreadIx, Told};
-use um_fine::Table;
+pub use next::row_named;
+use std::alloc::Global;
+use um_base::{Memory, Parts, Piece, Reply, ThreadIx, Told};
+use um_fine::{Table, TableKey};
 use um_machine::Cost;
 
 /// The thread of a processor, how far it is with its next step, and what steps told it.
@@ -60,7 +66,47 @@ pub struct Running {
     charge: Option<Cost>,
 }
 
+/// One that nothing was loaded into.
+fn no_table() -> Table {
+    Table {
+        key: TableKey {
+            thread: 0,
+            stack: 0,
+            user: false,
+            domain: 0,
+            version: 0,
+        },
+        parts: Parts::new(),
+    }
+}
+
 impl Running {
+    /// That of a processor without a thread, with room for one and for a new one.
+    pub fn new(alloc: Global) -> Result<Running, Memory>
+        ensures { IfOk result (λ r. processor_of r ≡ idle) }
+    {
+        Ok(Running {
+            phase: Phase::Idle,
+            context: Box::new(alloc, Context::idle())?,
+            visited: false,
+            row: 0,
+            queue: 0,
+            newborn: NOBODY,
+            told: Told {
+                reply: Reply::Void,
+                taken: Piece::new(),
+            },
+            room: Box::new(alloc, Context::idle())?,
+            loaded: false,
+            table: no_table(),
+            domain: 0,
+            version: 0,
+            reply: Reply::Void,
+            size: 0,
+            charge: None,
+        })
+    }
+
     /// Whether it has no thread.
     pub fn is_idle(&self) -> bool
         ensures { result ≡ is_idle self.now.phase }
@@ -69,6 +115,20 @@ impl Running {
             Phase::Idle => true,
             _ => false,
         }
+    }
+
+    /// How far it is with its thread's next step.
+    pub fn phase(&self) -> Phase
+        ensures { result ≡ self.now.phase }
+    {
+        self.phase
+    }
+
+    /// The row that is visited next.
+    pub fn row(&self) -> u8
+        ensures { result ≡ self.now.row }
+    {
+        self.row
     }
 
     /// Its thread.

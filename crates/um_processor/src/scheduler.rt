@@ -1,11 +1,14 @@
 //! The contents of the scheduler's cell.
 
-ghost use Rattle.std.specs.Prelude.{◌≡◌, ◌<◌, ◌&&◌, ◌||◌, [], false, length, nat_lt, is_some, not, replicate, true, IfOk, IsTrue, MatchOption};
+ghost use Rattle.std.specs.Prelude.{◌≡◌, ◌<◌, ◌≤◌, ◌&&◌, ◌||◌, [], false, length, nat_lt, is_some, not, replicate, true, IfOk, IsTrue, MatchOption};
 ghost use Rattle.um_base.specs.declared.limits.TheConstants.{THREADS};
 ghost use Rattle.std.specs.List.{All};
 ghost use Rattle.um_fine.specs.Scheduler.{behind, first_ready, first_taken, has_place, has_ready, is_ready, one_less, parked_at, put_back};
+ghost use Rattle.um_fine.specs.Opening.{indexed};
 ghost use Rattle.um_fine.specs.Steps.{Exchange};
-ghost use Rattle.um_processor.specs.Parked.{awake, nobody, scheduler_of, some_if};
+ghost use Rattle.um_machine.specs.State.{is_living};
+ghost use Rattle.um_processor.specs.Contexts.{rests};
+ghost use Rattle.um_processor.specs.Parked.{awake, nobody, resting, scheduler_of, some_if};
 
 use crate::context::Context;
 use crate::parked::Parked;
@@ -13,6 +16,7 @@ use arrayvec::ArrayVec;
 use std::alloc::Global;
 use std::marker::Model;
 use um_base::{Memory, THREADS, ThreadIx, Told};
+use um_machine::{Life, Thread};
 
 /// The ready list, the threads that no processor runs, and how many threads run.
 #[derive(Drop)]
@@ -67,6 +71,40 @@ fn places(alloc: Global) -> Result<Vec<Parked>, Memory>
     Ok(all)
 }
 
+/// Whether a thread lives.
+fn is_living(life: Life) -> bool
+    ensures { result ≡ is_living life }
+{
+    match life {
+        Life::Living => true,
+        _ => false,
+    }
+}
+
+/// The place of a thread that is at rest.
+fn resting(alloc: Global, t: u8, thread: &Thread) -> Result<Parked, Memory>
+    requires index { t < THREADS }
+    requires rests { rests thread.now }
+    ensures { IfOk result (λ place. place ≡ resting t thread.now) }
+{
+    let context = Box::new(alloc, Context::at_rest(t, thread))?;
+    Ok(Parked::of(context, is_living(thread.life)))
+}
+
+/// The places of threads that are at rest.
+fn all_resting(alloc: Global, threads: &[Thread]) -> Result<Vec<Parked>, Memory>
+    requires few { length threads.now ≤ THREADS }
+    requires rest { All rests threads.now }
+    ensures items { IfOk result (λ all. all.items ≡ indexed resting 0 threads.now) }
+    ensures all { IfOk result (λ all. length all.items ≡ length threads.now) }
+{
+    let mut all = Vec::with_capacity(alloc, THREADS)?;
+    for (t, thread) in threads.iter().enumerate() {
+        all.push(resting(alloc, t as u8, thread)?)?;
+    }
+    Ok(all)
+}
+
 impl Scheduler {
     /// No thread, and room for each.
     pub fn new(alloc: Global) -> Result<Scheduler, Memory>
@@ -75,6 +113,24 @@ impl Scheduler {
         Ok(Scheduler {
             ready: ArrayVec::new(),
             places: places(alloc)?,
+            running: 0,
+        })
+    }
+
+    /// These threads, at rest, of which those are ready that are listed.
+    pub fn at_rest(
+        alloc: Global,
+        ready: ArrayVec<u8, THREADS>,
+        threads: &[Thread],
+    ) -> Result<Scheduler, Memory>
+        requires ready { All (λ t. t < THREADS) ready.items }
+        requires all { length threads.now ≡ THREADS }
+        requires rest { All rests threads.now }
+        ensures { IfOk result (λ s. s ≡ scheduler_of ready.items (indexed resting 0 threads.now) 0) }
+    {
+        Ok(Scheduler {
+            ready,
+            places: all_resting(alloc, threads)?,
             running: 0,
         })
     }

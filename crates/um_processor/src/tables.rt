@@ -1,6 +1,6 @@
 //! The sites in tables, of which only one call at a time makes a step.
 
-ghost use Rattle.std.specs.Prelude.{◌≡◌, length};
+ghost use Rattle.std.specs.Prelude.{◌≡◌, length, vec_capacity};
 ghost use Rattle.std.specs.List.{All};
 ghost use Rattle.um_base.specs.declared.limits.TheConstants.{DOMAINS, ROWS, THREADS};
 ghost use Rattle.um_processor.specs.Sited.{in_domains};
@@ -11,6 +11,7 @@ use crate::domain_act::DomainAct;
 use crate::domain_cell::{DomainCell, edited, parts_or_none};
 use crate::heap::Heap;
 use crate::heap_act::{HeapAct, HeapSaid};
+use crate::log::{is_full, named, note, resumed, worked};
 use crate::memory_act::{MemoryAct, MemorySaid};
 use crate::object_cell::ObjectCell;
 use crate::row_act::{RowAct, RowSaid};
@@ -19,7 +20,7 @@ use crate::scheduler::Scheduler;
 use crate::sites::Sites;
 use crate::thread_act::ThreadAct;
 use std::marker::Model;
-use um_base::{Addr, Image, Parts, Piece, Reply, Row, ThreadIx, Told, Waiter};
+use um_base::{Addr, Event, Image, Parts, Piece, Reply, Row, ThreadIx, Told, Waiter};
 use um_machine::{Cost, Pending};
 use um_service::Outcome;
 use um_words::{DomWord, RowWord, ThreadWord};
@@ -27,7 +28,8 @@ use um_words::{DomWord, RowWord, ThreadWord};
 /// The greatest step number: there a cell takes no step.
 const LAST: u32 = 0xfff_ffff;
 
-/// The words of all rows, thread indices and domains, the cells of domains and of objects, and those of memory, the heap and the scheduler.
+/// The words of all rows, thread indices and domains, the cells of domains and of objects, and those of memory, the heap and the scheduler;
+/// and the events of all steps in their order. Where these leave no room for one more, no step is made that may show one.
 #[derive(Drop)]
 pub struct Tables {
     rows: Vec<RowWord>,
@@ -46,23 +48,24 @@ pub struct Tables {
     scheduler: Scheduler,
     /// How many steps the scheduler's cell has taken, below 2^28.
     scheduler_steps: u32,
+    log: Vec<Event>,
 }
 
 impl Model for Tables {
-    ghost use Rattle.std.specs.Prelude.{◌≡◌, ◌<◌, length};
+    ghost use Rattle.std.specs.Prelude.{◌≡◌, ◌<◌, length, vec_capacity};
     ghost use Rattle.std.specs.List.{All};
     ghost use Rattle.um_base.specs.declared.limits.TheConstants.{DOMAINS, ROWS, THREADS};
     ghost use Rattle.um_processor.specs.Sited.{Sited, in_domains};
 
     ghost Value = { Sited };
 
-    ghost view = { λ t. record { rows = t.rows.items; threads = t.threads.items; domains = t.domains.items; domain_cells = t.domain_cells.items; objects = t.objects.items; rodata = t.rodata.items; memory = t.memory; memory_steps = t.memory_steps; heap = t.heap; heap_steps = t.heap_steps; scheduler = t.scheduler; scheduler_steps = t.scheduler_steps } };
+    ghost view = { λ t. record { rows = t.rows.items; threads = t.threads.items; domains = t.domains.items; domain_cells = t.domain_cells.items; objects = t.objects.items; rodata = t.rodata.items; memory = t.memory; memory_steps = t.memory_steps; heap = t.heap; heap_steps = t.heap_steps; scheduler = t.scheduler; scheduler_steps = t.scheduler_steps; log = t.log.items; most = vec_capacity t.log } };
 
     ghost invariant = { λ t. (length t.rows.items ≡ ROWS) × (length t.threads.items ≡ THREADS) × (length t.domains.items ≡ DOMAINS) × (length t.domain_cells.items ≡ DOMAINS) × (length t.objects.items ≡ ROWS) × All in_domains t.threads.items };
 }
 
 impl Tables {
-    /// Those with these words and cells, of which those of memory, the heap and the scheduler have taken no step.
+    /// Those with these words and cells, of which those of memory, the heap and the scheduler have taken no step, and with this log.
     pub fn new(
         rows: Vec<RowWord>,
         threads: Vec<ThreadWord>,
@@ -73,6 +76,7 @@ impl Tables {
         memory: Bytes,
         heap: Heap,
         scheduler: Scheduler,
+        log: Vec<Event>,
     ) -> Tables
         requires rows { length rows.items ≡ ROWS }
         requires threads { length threads.items ≡ THREADS }
@@ -80,7 +84,7 @@ impl Tables {
         requires cells { length domain_cells.items ≡ DOMAINS }
         requires objects { length objects.items ≡ ROWS }
         requires named { All in_domains threads.items }
-        ensures { result ≡ record { rows = rows.items; threads = threads.items; domains = domains.items; domain_cells = domain_cells.items; objects = objects.items; rodata = rodata.items; memory = memory; memory_steps = 0; heap = heap; heap_steps = 0; scheduler = scheduler; scheduler_steps = 0 } }
+        ensures { result ≡ record { rows = rows.items; threads = threads.items; domains = domains.items; domain_cells = domain_cells.items; objects = objects.items; rodata = rodata.items; memory = memory; memory_steps = 0; heap = heap; heap_steps = 0; scheduler = scheduler; scheduler_steps = 0; log = log.items; most = vec_capacity log } }
     {
         Tables {
             rows,
@@ -95,7 +99,22 @@ impl Tables {
             heap_steps: 0,
             scheduler,
             scheduler_steps: 0,
+            log,
         }
+    }
+
+    /// The events of all steps, in their order.
+    pub fn events(&self) -> &[Event]
+        ensures { result.now ≡ self.now.log }
+    {
+        self.log.as_slice()
+    }
+
+    /// The same, and no tables any longer.
+    pub fn into_events(self) -> Vec<Event>
+        ensures { result.items ≡ self.log }
+    {
+        self.log
     }
 }
 
@@ -103,8 +122,7 @@ impl Sites for Tables {
     ghost use Rattle.std.specs.Prelude.{◌≡◌};
     ghost use Rattle.um_base.specs.declared.image.Image.{Image};
     ghost use Rattle.um_machine.specs.Memory.{rodata_of};
-    ghost use Rattle.um_processor.specs.Asked.{Refuses};
-    ghost use Rattle.um_processor.specs.Sited.{WasMade, state_at};
+    ghost use Rattle.um_processor.specs.Sited.{IsFull, IsShut, WasMade, state_at};
 
     ghost IsOf = { λ image s. s.rodata ≡ rodata_of image };
 
@@ -112,16 +130,20 @@ impl Sites for Tables {
 
     ghost Kept = { λ old new. new ≡ old };
 
-    ghost Shut = { λ image old e. Refuses (state_at old e.site) e };
+    ghost Shut = { λ image old e. IsShut image (state_at old e.site) e };
 
-    ghost Contended = { λ old. ⊥ };
+    ghost Contended = { IsFull };
 
     fn row(&mut self, image: &Image, cpu: u8, row: Row, act: &RowAct) -> Said<RowSaid> {
+        if is_full(&self.log) {
+            return Said::Changed;
+        }
         let (next, said) = match act.make(&self.rows[row.0 as usize]) {
             None => return Said::Busy,
             Some(made) => made,
         };
         self.rows[row.0 as usize] = next;
+        note(&mut self.log, &act.event(&said));
         Said::Made(said)
     }
 
@@ -132,20 +154,28 @@ impl Sites for Tables {
         thread: ThreadIx,
         act: &ThreadAct,
     ) -> Said<ThreadWord> {
+        if is_full(&self.log) {
+            return Said::Changed;
+        }
         let next = match act.make(&self.threads[thread.0 as usize]) {
             None => return Said::Busy,
             Some(next) => next,
         };
         self.threads[thread.0 as usize] = next;
+        note(&mut self.log, &act.event(&next));
         Said::Made(next)
     }
 
     fn domain(&mut self, image: &Image, cpu: u8, domain: u8, act: &DomainAct) -> Said<DomWord> {
+        if is_full(&self.log) {
+            return Said::Changed;
+        }
         let next = match act.make(&self.domains[domain as usize]) {
             None => return Said::Busy,
             Some(next) => next,
         };
         self.domains[domain as usize] = next;
+        note(&mut self.log, &act.event());
         Said::Made(next)
     }
 
@@ -179,12 +209,16 @@ impl Sites for Tables {
         who: &Waiter,
         outcome: &mut Outcome,
     ) -> Said<()> {
+        if is_full(&self.log) {
+            return Said::Changed;
+        }
         let cell = &mut self.objects[row.0 as usize];
         if cell.steps >= LAST {
             return Said::Busy;
         }
         cell.work(who, outcome);
         cell.steps += 1;
+        note(&mut self.log, &Some(worked(addr, who, outcome)));
         Said::Made(())
     }
 
@@ -197,12 +231,16 @@ impl Sites for Tables {
         who: ThreadIx,
         bytes: &Piece,
     ) -> Said<()> {
+        if is_full(&self.log) {
+            return Said::Changed;
+        }
         let cell = &mut self.objects[row.0 as usize];
         if cell.steps >= LAST {
             return Said::Busy;
         }
         cell.name(bytes);
         cell.steps += 1;
+        note(&mut self.log, &Some(named(thread, who)));
         Said::Made(())
     }
 
@@ -233,11 +271,15 @@ impl Sites for Tables {
         act: &MemoryAct,
         buffer: &mut Piece,
     ) -> Said<MemorySaid> {
+        if is_full(&self.log) {
+            return Said::Changed;
+        }
         if self.memory_steps >= LAST {
             return Said::Busy;
         }
         let said = self.memory.make(image, self.rodata.as_slice(), act, buffer);
         self.memory_steps += 1;
+        note(&mut self.log, &act.event(&said));
         Said::Made(said)
     }
 
@@ -248,11 +290,15 @@ impl Sites for Tables {
         act: &HeapAct,
         charge: Option<Cost>,
     ) -> Said<HeapSaid> {
+        if is_full(&self.log) {
+            return Said::Changed;
+        }
         if self.heap_steps >= LAST {
             return Said::Busy;
         }
         let said = self.heap.make(image, act, charge);
         self.heap_steps += 1;
+        note(&mut self.log, &act.event(&said));
         Said::Made(said)
     }
 
@@ -263,6 +309,9 @@ impl Sites for Tables {
         context: &mut Box<Context>,
         told: &mut Told,
     ) -> Said<bool> {
+        if is_full(&self.log) {
+            return Said::Changed;
+        }
         if self.scheduler_steps >= LAST {
             return Said::Busy;
         }
@@ -271,6 +320,7 @@ impl Sites for Tables {
             Some(woken) => woken,
         };
         self.scheduler_steps += 1;
+        note(&mut self.log, &resumed(context.thread(), woken));
         Said::Made(woken)
     }
 

@@ -1,5 +1,6 @@
 //! Steps over tables: a row, a thread, a domain, and turns of a thread.
 
+mod events;
 mod memory;
 
 ghost use Rattle.std.specs.Prelude.{◌≡◌, [], IfOk, length};
@@ -192,6 +193,9 @@ fn bytes(alloc: Global) -> Result<Bytes, Memory> {
     Ok(Bytes::new(partitions, Vec::new(alloc)))
 }
 
+/// How many events the log of the tables has room for.
+const EVENTS: usize = 8;
+
 /// Tables in which all rows are alike, and all threads, and all domains, without read-only data.
 fn tables(alloc: Global) -> Result<Tables, Memory>
     ensures { IfOk result (λ t. t.rodata ≡ []) }
@@ -226,6 +230,7 @@ fn tables(alloc: Global) -> Result<Tables, Memory>
         bytes(alloc)?,
         Heap::new(pools, free, costs),
         Scheduler::new(alloc)?,
+        Vec::with_capacity(alloc, EVENTS)?,
     ))
 }
 

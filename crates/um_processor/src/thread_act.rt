@@ -7,9 +7,10 @@ ghost use Rattle.um_words.specs.Threads.{thread_after, thread_takes};
 ghost use Rattle.um_fine.specs.Sites.{SiteState};
 ghost use Rattle.um_fine.specs.Threads.{thread_answers};
 ghost use Rattle.um_processor.specs.Asked.{Refuses, Takes};
-ghost use Rattle.um_processor.specs.ThreadActs.{thread_act, thread_made};
+ghost use Rattle.um_processor.specs.ThreadActs.{thread_act, thread_event, thread_made};
 
-use um_base::{Addr, Cause, DOMAINS, Kind, Mode, Reply, ThreadIx, Want};
+use crate::log::shown;
+use um_base::{Act, Addr, Cause, DOMAINS, Errno, Event, Kind, Mode, Reply, ThreadIx, Want};
 use um_machine::Life;
 use um_words::ThreadWord;
 
@@ -133,5 +134,64 @@ impl ThreadAct {
         self.take(&mut next);
         next.number += 1;
         Some(next)
+    }
+
+    /// The event of the step, by the word that it leaves, if a trace shows it.
+    pub fn event(&self, next: &ThreadWord) -> Option<Event>
+        ensures { result ≡ thread_event self.now next.now }
+    {
+        match *self {
+            ThreadAct::Begin {
+                thread,
+                script,
+                line,
+            } => {
+                if next.doomed {
+                    return None;
+                }
+                shown(thread, Act::Begin { script, line })
+            }
+            ThreadAct::Exit { thread } => {
+                if next.doomed {
+                    return None;
+                }
+                shown(thread, Act::Exit)
+            }
+            ThreadAct::Miss {
+                thread,
+                addr,
+                kind,
+                want,
+                ..
+            } => {
+                let verdict = Some(Errno::EBADF);
+                shown(
+                    thread,
+                    Act::Check {
+                        addr,
+                        kind,
+                        want,
+                        verdict,
+                    },
+                )
+            }
+            ThreadAct::Answered { thread, reply } => shown(thread, Act::Answered { reply }),
+            ThreadAct::Fatal {
+                thread,
+                reason,
+                cause,
+            } => shown(thread, Act::Fatal { reason, cause }),
+            ThreadAct::Doom { thread, who } => shown(thread, Act::Doom { who }),
+            ThreadAct::DomMove {
+                thread,
+                domain,
+                who,
+                reply,
+            } => shown(thread, Act::DomMove { domain, who, reply }),
+            ThreadAct::Start { thread, who, .. } => shown(thread, Act::Start { who }),
+            ThreadAct::EnterUser { thread } => shown(thread, Act::EnterUser),
+            ThreadAct::Hold => None,
+            ThreadAct::LetGo => None,
+        }
     }
 }

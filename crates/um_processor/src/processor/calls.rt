@@ -21,7 +21,7 @@ impl Processor {
         requires ends { 0 < length self.old.ends.items }
         ensures image { S.IsOf image.now sites.new }
         ensures same { UnlessMade result (whole self.new ≡ whole self.old) }
-        ensures turn { Turned result image.now (whole self.old) (whole self.new)
+        ensures turn { Turned result cpu image.now (whole self.old) (whole self.new)
             (λ e. S.Took image.now sites.old e sites.new)
             (λ e. S.Kept sites.old sites.new × S.Shut image.now sites.old e)
             (S.Kept sites.old sites.new × S.Contended sites.old)
@@ -54,7 +54,7 @@ impl Processor {
         requires woken { self.old.told < length self.old.outcome.woken }
         ensures image { S.IsOf image.now sites.new }
         ensures same { UnlessMade result (whole self.new ≡ whole self.old) }
-        ensures turn { Turned result image.now (whole self.old) (whole self.new)
+        ensures turn { Turned result cpu image.now (whole self.old) (whole self.new)
             (λ e. S.Took image.now sites.old e sites.new)
             (λ e. S.Kept sites.old sites.new × S.Shut image.now sites.old e)
             (S.Kept sites.old sites.new × S.Contended sites.old)

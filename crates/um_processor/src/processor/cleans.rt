@@ -31,7 +31,7 @@ impl Processor {
         requires first { self.old.cleans ≡ Todo.clean_pair who row ∷ drop 1 self.old.cleans }
         ensures image { S.IsOf image.now sites.new }
         ensures same { UnlessMade result (whole self.new ≡ whole self.old) }
-        ensures turn { Turned result image.now (whole self.old) (whole self.new)
+        ensures turn { Turned result cpu image.now (whole self.old) (whole self.new)
             (λ e. S.Took image.now sites.old e sites.new)
             (λ e. S.Kept sites.old sites.new × S.Shut image.now sites.old e)
             (S.Kept sites.old sites.new × S.Contended sites.old)
@@ -70,7 +70,7 @@ impl Processor {
         requires first { self.old.cleans ≡ Todo.wipe row ∷ drop 1 self.old.cleans }
         ensures image { S.IsOf image.now sites.new }
         ensures same { UnlessMade result (whole self.new ≡ whole self.old) }
-        ensures turn { Turned result image.now (whole self.old) (whole self.new)
+        ensures turn { Turned result cpu image.now (whole self.old) (whole self.new)
             (λ e. S.Took image.now sites.old e sites.new)
             (λ e. S.Kept sites.old sites.new × S.Shut image.now sites.old e)
             (S.Kept sites.old sites.new × S.Contended sites.old)
@@ -97,7 +97,7 @@ impl Processor {
         requires first { self.old.cleans ≡ Todo.vacate row ∷ drop 1 self.old.cleans }
         ensures image { S.IsOf image.now sites.new }
         ensures same { UnlessMade result (whole self.new ≡ whole self.old) }
-        ensures turn { Turned result image.now (whole self.old) (whole self.new)
+        ensures turn { Turned result cpu image.now (whole self.old) (whole self.new)
             (λ e. S.Took image.now sites.old e sites.new)
             (λ e. S.Kept sites.old sites.new × S.Shut image.now sites.old e)
             (S.Kept sites.old sites.new × S.Contended sites.old)
@@ -123,7 +123,7 @@ impl Processor {
         requires first { self.old.cleans ≡ Todo.recycle row ∷ drop 1 self.old.cleans }
         ensures image { S.IsOf image.now sites.new }
         ensures same { UnlessMade result (whole self.new ≡ whole self.old) }
-        ensures turn { Turned result image.now (whole self.old) (whole self.new)
+        ensures turn { Turned result cpu image.now (whole self.old) (whole self.new)
             (λ e. S.Took image.now sites.old e sites.new)
             (λ e. S.Kept sites.old sites.new × S.Shut image.now sites.old e)
             (S.Kept sites.old sites.new × S.Contended sites.old)

@@ -1,11 +1,12 @@
 //! A call's checks and its answer.
 
-ghost use Rattle.std.specs.Prelude.{◌≡◌, ◌<◌, [], length, Some, None};
+ghost use Rattle.std.specs.Prelude.{◌≡◌, ◌<◌, [], false, length, Some, None};
 ghost use Rattle.um_base.specs.declared.limits.TheConstants.{ROWS};
 ghost use Rattle.um_base.specs.Places.{row_at};
 ghost use Rattle.um_machine.specs.declared.pending.Pending.TheVariants as Pending;
 ghost use Rattle.um_processor.specs.Events.{about_to, with_ends};
-ghost use Rattle.um_processor.specs.Processors.{Turned, UnlessMade, processor_of};
+ghost use Rattle.um_processor.specs.Phases.{is_idle};
+ghost use Rattle.um_processor.specs.Processors.{OnMade, Turned, UnlessMade, processor_of};
 
 use crate::phase::{Phase, Turn};
 use crate::row_act::RowAct;
@@ -34,9 +35,10 @@ impl Running {
         requires sites { S.IsOf image.now sites.old }
         requires none { ends.old.items ≡ [] }
         ensures image { S.IsOf image.now sites.new }
-        ensures ends { UnlessMade result (ends.new ≡ ends.old) }
+        ensures ends { UnlessMade result (ends.new.items ≡ ends.old.items) }
         ensures same { UnlessMade result (processor_of self.new ≡ processor_of self.old) }
-        ensures turn { Turned result image.now (about_to phase (Pending.Answer reply to) self.old) (with_ends ends.new.items (processor_of self.new))
+        ensures runs { OnMade result (is_idle self.new.phase ≡ false) }
+        ensures turn { Turned result cpu image.now (about_to phase (Pending.Answer reply to) self.old) (with_ends ends.new.items (processor_of self.new))
             (λ e. S.Took image.now sites.old e sites.new)
             (λ e. S.Kept sites.old sites.new × S.Shut image.now sites.old e)
             (S.Kept sites.old sites.new × S.Contended sites.old)
@@ -80,7 +82,7 @@ impl Running {
         requires room { length self.old.context.value.claims < 2 }
         ensures image { S.IsOf image.now sites.new }
         ensures same { UnlessMade result (processor_of self.new ≡ processor_of self.old) }
-        ensures turn { Turned result image.now (about_to phase (Pending.Check addr kind want refusal) self.old) (processor_of self.new)
+        ensures turn { Turned result cpu image.now (about_to phase (Pending.Check addr kind want refusal) self.old) (processor_of self.new)
             (λ e. S.Took image.now sites.old e sites.new)
             (λ e. S.Kept sites.old sites.new × S.Shut image.now sites.old e)
             (S.Kept sites.old sites.new × S.Contended sites.old)
@@ -124,7 +126,7 @@ impl Running {
         requires room { length self.old.context.value.claims < 2 }
         ensures image { S.IsOf image.now sites.new }
         ensures same { UnlessMade result (processor_of self.new ≡ processor_of self.old) }
-        ensures turn { Turned result image.now (about_to phase (Pending.Check addr kind want refusal) self.old) (processor_of self.new)
+        ensures turn { Turned result cpu image.now (about_to phase (Pending.Check addr kind want refusal) self.old) (processor_of self.new)
             (λ e. S.Took image.now sites.old e sites.new)
             (λ e. S.Kept sites.old sites.new × S.Shut image.now sites.old e)
             (S.Kept sites.old sites.new × S.Contended sites.old)
@@ -166,7 +168,7 @@ impl Running {
         requires { S.IsOf image.now sites.old }
         ensures image { S.IsOf image.now sites.new }
         ensures same { UnlessMade result (processor_of self.new ≡ processor_of self.old) }
-        ensures turn { Turned result image.now (about_to phase (Pending.Check addr kind want refusal) self.old) (processor_of self.new)
+        ensures turn { Turned result cpu image.now (about_to phase (Pending.Check addr kind want refusal) self.old) (processor_of self.new)
             (λ e. S.Took image.now sites.old e sites.new)
             (λ e. S.Kept sites.old sites.new × S.Shut image.now sites.old e)
             (S.Kept sites.old sites.new × S.Contended sites.old)

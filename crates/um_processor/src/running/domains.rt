@@ -17,7 +17,7 @@ impl Running {
         requires { S.IsOf image.now sites.old }
         ensures image { S.IsOf image.now sites.new }
         ensures same { UnlessMade result (processor_of self.new ≡ processor_of self.old) }
-        ensures turn { Turned result image.now (in_phase Phase.WriteClaim self.old) (processor_of self.new)
+        ensures turn { Turned result cpu image.now (in_phase Phase.WriteClaim self.old) (processor_of self.new)
             (λ e. S.Took image.now sites.old e sites.new)
             (λ e. S.Kept sites.old sites.new × S.Shut image.now sites.old e)
             (S.Kept sites.old sites.new × S.Contended sites.old)
@@ -42,7 +42,7 @@ impl Running {
         requires { S.IsOf image.now sites.old }
         ensures image { S.IsOf image.now sites.new }
         ensures same { UnlessMade result (processor_of self.new ≡ processor_of self.old) }
-        ensures turn { Turned result image.now (in_phase Phase.Edit self.old) (processor_of self.new)
+        ensures turn { Turned result cpu image.now (in_phase Phase.Edit self.old) (processor_of self.new)
             (λ e. S.Took image.now sites.old e sites.new)
             (λ e. S.Kept sites.old sites.new × S.Shut image.now sites.old e)
             (S.Kept sites.old sites.new × S.Contended sites.old)
@@ -69,7 +69,7 @@ impl Running {
         requires { S.IsOf image.now sites.old }
         ensures image { S.IsOf image.now sites.new }
         ensures same { UnlessMade result (processor_of self.new ≡ processor_of self.old) }
-        ensures turn { Turned result image.now (in_phase Phase.MoveClaim self.old) (processor_of self.new)
+        ensures turn { Turned result cpu image.now (in_phase Phase.MoveClaim self.old) (processor_of self.new)
             (λ e. S.Took image.now sites.old e sites.new)
             (λ e. S.Kept sites.old sites.new × S.Shut image.now sites.old e)
             (S.Kept sites.old sites.new × S.Contended sites.old)
@@ -100,7 +100,7 @@ impl Running {
         requires { S.IsOf image.now sites.old }
         ensures image { S.IsOf image.now sites.new }
         ensures same { UnlessMade result (processor_of self.new ≡ processor_of self.old) }
-        ensures turn { Turned result image.now (in_phase Phase.MoveDone self.old) (processor_of self.new)
+        ensures turn { Turned result cpu image.now (in_phase Phase.MoveDone self.old) (processor_of self.new)
             (λ e. S.Took image.now sites.old e sites.new)
             (λ e. S.Kept sites.old sites.new × S.Shut image.now sites.old e)
             (S.Kept sites.old sites.new × S.Contended sites.old)

@@ -52,7 +52,7 @@ impl Running {
         requires { S.IsOf image.now sites.old }
         ensures image { S.IsOf image.now sites.new }
         ensures same { UnlessMade result (processor_of self.new ≡ processor_of self.old) }
-        ensures turn { Turned result image.now (about_to phase (Pending.DomInit domain parts.now) self.old) (processor_of self.new)
+        ensures turn { Turned result cpu image.now (about_to phase (Pending.DomInit domain parts.now) self.old) (processor_of self.new)
             (λ e. S.Took image.now sites.old e sites.new)
             (λ e. S.Kept sites.old sites.new × S.Shut image.now sites.old e)
             (S.Kept sites.old sites.new × S.Contended sites.old)
@@ -92,7 +92,7 @@ impl Running {
         requires { S.IsOf image.now sites.old }
         ensures image { S.IsOf image.now sites.new }
         ensures same { UnlessMade result (processor_of self.new ≡ processor_of self.old) }
-        ensures turn { Turned result image.now (about_to phase (Pending.DomAdd domain range attr) self.old) (processor_of self.new)
+        ensures turn { Turned result cpu image.now (about_to phase (Pending.DomAdd domain range attr) self.old) (processor_of self.new)
             (λ e. S.Took image.now sites.old e sites.new)
             (λ e. S.Kept sites.old sites.new × S.Shut image.now sites.old e)
             (S.Kept sites.old sites.new × S.Contended sites.old)
@@ -134,7 +134,7 @@ impl Running {
         requires { S.IsOf image.now sites.old }
         ensures image { S.IsOf image.now sites.new }
         ensures same { UnlessMade result (processor_of self.new ≡ processor_of self.old) }
-        ensures turn { Turned result image.now (about_to phase (Pending.DomRemove domain range attr) self.old) (processor_of self.new)
+        ensures turn { Turned result cpu image.now (about_to phase (Pending.DomRemove domain range attr) self.old) (processor_of self.new)
             (λ e. S.Took image.now sites.old e sites.new)
             (λ e. S.Kept sites.old sites.new × S.Shut image.now sites.old e)
             (S.Kept sites.old sites.new × S.Contended sites.old)
@@ -175,7 +175,7 @@ impl Running {
         requires { S.IsOf image.now sites.old }
         ensures image { S.IsOf image.now sites.new }
         ensures same { UnlessMade result (processor_of self.new ≡ processor_of self.old) }
-        ensures turn { Turned result image.now (about_to phase (Pending.DomMove domain who) self.old) (processor_of self.new)
+        ensures turn { Turned result cpu image.now (about_to phase (Pending.DomMove domain who) self.old) (processor_of self.new)
             (λ e. S.Took image.now sites.old e sites.new)
             (λ e. S.Kept sites.old sites.new × S.Shut image.now sites.old e)
             (S.Kept sites.old sites.new × S.Contended sites.old)
@@ -219,7 +219,7 @@ impl Running {
         requires fails { IsTrue (fails self.old.reply) }
         ensures image { S.IsOf image.now sites.new }
         ensures same { UnlessMade result (processor_of self.new ≡ processor_of self.old) }
-        ensures turn { Turned result image.now (about_to phase (Pending.DomMove domain who) self.old) (processor_of self.new)
+        ensures turn { Turned result cpu image.now (about_to phase (Pending.DomMove domain who) self.old) (processor_of self.new)
             (λ e. S.Took image.now sites.old e sites.new)
             (λ e. S.Kept sites.old sites.new × S.Shut image.now sites.old e)
             (S.Kept sites.old sites.new × S.Contended sites.old)

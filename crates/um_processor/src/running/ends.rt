@@ -1,9 +1,10 @@
 //! The ends of threads and of objects.
 
-ghost use Rattle.std.specs.Prelude.{◌≡◌, []};
+ghost use Rattle.std.specs.Prelude.{◌≡◌, [], false};
 ghost use Rattle.um_machine.specs.declared.pending.Pending.TheVariants as Pending;
 ghost use Rattle.um_processor.specs.Events.{about_to, with_ends};
-ghost use Rattle.um_processor.specs.Processors.{Turned, UnlessMade, cleaned, in_phase, processor_of};
+ghost use Rattle.um_processor.specs.Phases.{is_idle};
+ghost use Rattle.um_processor.specs.Processors.{OnMade, Turned, UnlessMade, cleaned, in_phase, processor_of};
 ghost use Rattle.um_fine.specs.Addresses.{row_named};
 
 use crate::phase::{Phase, Turn};
@@ -28,9 +29,10 @@ impl Running {
         requires sites { S.IsOf image.now sites.old }
         requires none { ends.old.items ≡ [] }
         ensures image { S.IsOf image.now sites.new }
-        ensures ends { UnlessMade result (ends.new ≡ ends.old) }
+        ensures ends { UnlessMade result (ends.new.items ≡ ends.old.items) }
         ensures same { UnlessMade result (processor_of self.new ≡ processor_of self.old) }
-        ensures turn { Turned result image.now (in_phase Phase.Exit self.old) (with_ends ends.new.items (processor_of self.new))
+        ensures runs { OnMade result (is_idle self.new.phase ≡ false) }
+        ensures turn { Turned result cpu image.now (in_phase Phase.Exit self.old) (with_ends ends.new.items (processor_of self.new))
             (λ e. S.Took image.now sites.old e sites.new)
             (λ e. S.Kept sites.old sites.new × S.Shut image.now sites.old e)
             (S.Kept sites.old sites.new × S.Contended sites.old)
@@ -67,9 +69,10 @@ impl Running {
         requires sites { S.IsOf image.now sites.old }
         requires none { ends.old.items ≡ [] }
         ensures image { S.IsOf image.now sites.new }
-        ensures ends { UnlessMade result (ends.new ≡ ends.old) }
+        ensures ends { UnlessMade result (ends.new.items ≡ ends.old.items) }
         ensures same { UnlessMade result (processor_of self.new ≡ processor_of self.old) }
-        ensures turn { Turned result image.now (about_to phase (Pending.Fatal reason cause) self.old) (with_ends ends.new.items (processor_of self.new))
+        ensures runs { OnMade result (is_idle self.new.phase ≡ false) }
+        ensures turn { Turned result cpu image.now (about_to phase (Pending.Fatal reason cause) self.old) (with_ends ends.new.items (processor_of self.new))
             (λ e. S.Took image.now sites.old e sites.new)
             (λ e. S.Kept sites.old sites.new × S.Shut image.now sites.old e)
             (S.Kept sites.old sites.new × S.Contended sites.old)
@@ -105,7 +108,7 @@ impl Running {
         requires { S.IsOf image.now sites.old }
         ensures image { S.IsOf image.now sites.new }
         ensures same { UnlessMade result (processor_of self.new ≡ processor_of self.old) }
-        ensures turn { Turned result image.now (about_to phase (Pending.Dooms from) self.old) (processor_of self.new)
+        ensures turn { Turned result cpu image.now (about_to phase (Pending.Dooms from) self.old) (processor_of self.new)
             (λ e. S.Took image.now sites.old e sites.new)
             (λ e. S.Kept sites.old sites.new × S.Shut image.now sites.old e)
             (S.Kept sites.old sites.new × S.Contended sites.old)
@@ -141,7 +144,8 @@ impl Running {
         requires { S.IsOf image.now sites.old }
         ensures image { S.IsOf image.now sites.new }
         ensures same { UnlessMade result (processor_of self.new ≡ processor_of self.old) }
-        ensures turn { Turned result image.now (about_to phase (Pending.DropPair who addr) self.old) (cleaned image.now (row_named image.now addr) cleans.new (processor_of self.new))
+        ensures runs { OnMade result (is_idle self.new.phase ≡ false) }
+        ensures turn { Turned result cpu image.now (about_to phase (Pending.DropPair who addr) self.old) (cleaned image.now (row_named image.now addr) cleans.new (processor_of self.new))
             (λ e. S.Took image.now sites.old e sites.new)
             (λ e. S.Kept sites.old sites.new × S.Shut image.now sites.old e)
             (S.Kept sites.old sites.new × S.Contended sites.old)

@@ -1,20 +1,22 @@
 //! The first fine step of a thread's next step.
 
-ghost use Rattle.std.specs.Prelude.{◌≡◌, ◌<◌, slice_get};
+ghost use Rattle.std.specs.Prelude.{◌≡◌, ◌<◌, ◌∷◌, [], slice_get, IfSome, MatchOption};
 ghost use Rattle.um_base.specs.declared.limits.TheConstants.{ROWS};
 ghost use Rattle.um_fine.specs.Addresses.{row_named};
 ghost use Rattle.um_fine.specs.Continues.{newborn};
 ghost use Rattle.um_fine.specs.Places.{but};
+ghost use Rattle.um_machine.specs.Limits.{IsSound};
+ghost use Rattle.um_processor.specs.Events.{rest_of};
 ghost use Rattle.um_processor.specs.Phases.{born, domain_named, first_of, first_phase, phase_of_amount, queue_of, row_of_amount, steps_behind};
 ghost use Rattle.um_processor.specs.Processors.{in_phase, processor_of, refilled};
 
 use crate::context::Context;
-use crate::newborn::Newborn;
+use crate::newborn::{NOBODY, Newborn};
 use crate::phase::Phase;
 use crate::running::Running;
-use um_base::{Addr, Image, Mode, ROWS, Row, ThreadIx};
+use um_base::{Addr, Image, ROWS};
 use um_machine::places::first_place;
-use um_machine::{Amount, Pending, Place};
+use um_machine::{Amount, Pending};
 use um_rules::rows::{own_row, row_at};
 
 /// The first phase of a copy: that of a message looks at its size.
@@ -97,20 +99,6 @@ pub fn domain_named(call: &Pending) -> u8
     }
 }
 
-/// Nobody's.
-const NOBODY: Newborn = Newborn {
-    thread: ThreadIx(0),
-    mode: Mode::User,
-    stack: Row(0),
-    priority: 0,
-    pool: None,
-    place: Place {
-        script: 0,
-        line: 0,
-        left: 0,
-    },
-};
-
 /// The thread that a step starts.
 fn newborn(image: &Image, context: &Context, step: &Pending) -> Newborn
     ensures { born result ≡ newborn image.now context.now step.now }
@@ -143,16 +131,23 @@ pub fn but(own: usize, row: u8) -> u8
 }
 
 impl Running {
+    /// The next step, behind the visits, if there is one.
+    #[tactic(auto, using(crate::proofs::Fronts::dropped_twice))]
+    pub fn next_step(&self) -> Option<Pending>
+        ensures step { let steps = steps_behind self.now.visited self.now.context.value.pending in MatchOption result (steps ≡ []) (λ step. steps ≡ step ∷ rest_of self.now) }
+        ensures sound { IfSome result IsSound }
+    {
+        if self.visited {
+            return self.context.second();
+        }
+        self.context.first()
+    }
+
     /// The next step, behind the visits.
     pub fn step(&self) -> Pending
         ensures { result ≡ first_of (steps_behind self.now.visited self.now.context.value.pending) }
     {
-        let step = if self.visited {
-            self.context.second()
-        } else {
-            self.context.first()
-        };
-        match step {
+        match self.next_step() {
             Some(step) => step,
             None => Pending::Resume,
         }

@@ -1,6 +1,7 @@
 //! The begin and the end of a turn.
 
 ghost use Rattle.std.specs.Prelude.{◌≡◌};
+ghost use Rattle.um_processor.specs.Events.{about_to_park};
 ghost use Rattle.um_processor.specs.Processors.{Turned, UnlessMade, in_phase, processor_of, turning};
 
 use crate::phase::{Phase, Turn};
@@ -26,7 +27,7 @@ impl Running {
         requires { S.IsOf image.now sites.old }
         ensures image { S.IsOf image.now sites.new }
         ensures same { UnlessMade result (processor_of self.new ≡ processor_of self.old) }
-        ensures turn { Turned result image.now (in_phase Phase.Idle self.old) (processor_of self.new)
+        ensures turn { Turned result cpu image.now (in_phase Phase.Idle self.old) (processor_of self.new)
             (λ e. S.Took image.now sites.old e sites.new)
             (λ e. S.Kept sites.old sites.new × S.Shut image.now sites.old e)
             (S.Kept sites.old sites.new × S.Contended sites.old)
@@ -48,11 +49,11 @@ impl Running {
     }
 
     /// The thread is put back.
-    pub fn park<S: Sites>(&mut self, image: &Image, cpu: u8, sites: &mut S) -> Turn
+    pub fn park<S: Sites>(&mut self, image: &Image, cpu: u8, phase: Phase, sites: &mut S) -> Turn
         requires { S.IsOf image.now sites.old }
         ensures image { S.IsOf image.now sites.new }
         ensures same { UnlessMade result (processor_of self.new ≡ processor_of self.old) }
-        ensures turn { Turned result image.now (in_phase Phase.Park self.old) (processor_of self.new)
+        ensures turn { Turned result cpu image.now (about_to_park phase self.old) (processor_of self.new)
             (λ e. S.Took image.now sites.old e sites.new)
             (λ e. S.Kept sites.old sites.new × S.Shut image.now sites.old e)
             (S.Kept sites.old sites.new × S.Contended sites.old)
@@ -73,7 +74,7 @@ impl Running {
         requires { S.IsOf image.now sites.old }
         ensures image { S.IsOf image.now sites.new }
         ensures same { UnlessMade result (processor_of self.new ≡ processor_of self.old) }
-        ensures turn { Turned result image.now (in_phase Phase.Done self.old) (processor_of self.new)
+        ensures turn { Turned result cpu image.now (in_phase Phase.Done self.old) (processor_of self.new)
             (λ e. S.Took image.now sites.old e sites.new)
             (λ e. S.Kept sites.old sites.new × S.Shut image.now sites.old e)
             (S.Kept sites.old sites.new × S.Contended sites.old)

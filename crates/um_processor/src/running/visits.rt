@@ -1,9 +1,9 @@
 //! The visits of rows before a thread's next step.
 
-ghost use Rattle.std.specs.Prelude.{◌≡◌, ◌∷◌, drop};
+ghost use Rattle.std.specs.Prelude.{◌≡◌, ◌∷◌, drop, false};
 ghost use Rattle.um_machine.specs.declared.pending.Pending.TheVariants as Pending;
-ghost use Rattle.um_processor.specs.Phases.{passed_to};
-ghost use Rattle.um_processor.specs.Processors.{Turned, UnlessMade, cleaned, in_phase, processor_of, visiting};
+ghost use Rattle.um_processor.specs.Phases.{is_idle, passed_to};
+ghost use Rattle.um_processor.specs.Processors.{OnMade, Turned, UnlessMade, cleaned, in_phase, processor_of, visiting};
 
 use crate::phase::{Phase, Turn};
 use crate::row_act::RowAct;
@@ -52,7 +52,7 @@ impl Running {
         requires { S.IsOf image.now sites.old }
         ensures image { S.IsOf image.now sites.new }
         ensures same { UnlessMade result (processor_of self.new ≡ processor_of self.old) }
-        ensures turn { Turned result image.now (in_phase Phase.Pass self.old) (processor_of self.new)
+        ensures turn { Turned result cpu image.now (in_phase Phase.Pass self.old) (processor_of self.new)
             (λ e. S.Took image.now sites.old e sites.new)
             (λ e. S.Kept sites.old sites.new × S.Shut image.now sites.old e)
             (S.Kept sites.old sites.new × S.Contended sites.old)
@@ -90,7 +90,8 @@ impl Running {
         requires { S.IsOf image.now sites.old }
         ensures image { S.IsOf image.now sites.new }
         ensures same { UnlessMade result (processor_of self.new ≡ processor_of self.old) }
-        ensures turn { Turned result image.now (in_phase Phase.Drop self.old) (cleaned image.now self.old.row cleans.new (processor_of self.new))
+        ensures runs { OnMade result (is_idle self.new.phase ≡ false) }
+        ensures turn { Turned result cpu image.now (in_phase Phase.Drop self.old) (cleaned image.now self.old.row cleans.new (processor_of self.new))
             (λ e. S.Took image.now sites.old e sites.new)
             (λ e. S.Kept sites.old sites.new × S.Shut image.now sites.old e)
             (S.Kept sites.old sites.new × S.Contended sites.old)

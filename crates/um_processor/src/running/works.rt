@@ -1,6 +1,6 @@
 //! The event of a call's work on an object.
 
-ghost use Rattle.std.specs.Prelude.{◌≡◌, ◌<◌, IsTrue};
+ghost use Rattle.std.specs.Prelude.{◌≡◌, ◌<◌, false, IsTrue};
 ghost use Rattle.um_base.specs.declared.limits.TheConstants.{THREADS};
 ghost use Rattle.um_fine.specs.Continues.{after_work};
 ghost use Rattle.um_machine.specs.Limits.{is_sound_ask};
@@ -8,7 +8,8 @@ ghost use Rattle.um_machine.specs.Order.{to_thread};
 ghost use Rattle.um_machine.specs.Table.{bytes_given};
 ghost use Rattle.um_machine.specs.declared.pending.Pending.TheVariants as Pending;
 ghost use Rattle.um_processor.specs.Events.{about_to, behind_event, rest_of, with_woken};
-ghost use Rattle.um_processor.specs.Processors.{Turned, UnlessMade, processor_of};
+ghost use Rattle.um_processor.specs.Phases.{is_idle};
+ghost use Rattle.um_processor.specs.Processors.{OnMade, Turned, UnlessMade, processor_of};
 
 use crate::phase::{Phase, Turn};
 use crate::running::Running;
@@ -72,7 +73,8 @@ impl Running {
         ensures image { S.IsOf image.now sites.new }
         ensures outcome { UnlessMade result (outcome.new ≡ outcome.old) }
         ensures same { UnlessMade result (processor_of self.new ≡ processor_of self.old) }
-        ensures turn { Turned result image.now (about_to phase (Pending.Work addr ask.now) self.old) (with_woken outcome.new.woken (processor_of self.new))
+        ensures runs { OnMade result (is_idle self.new.phase ≡ false) }
+        ensures turn { Turned result cpu image.now (about_to phase (Pending.Work addr ask.now) self.old) (with_woken outcome.new.woken (processor_of self.new))
             (λ e. S.Took image.now sites.old e sites.new)
             (λ e. S.Kept sites.old sites.new × S.Shut image.now sites.old e)
             (S.Kept sites.old sites.new × S.Contended sites.old)

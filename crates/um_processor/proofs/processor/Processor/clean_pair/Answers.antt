@@ -1,12 +1,13 @@
-use Rattle.std.proofs.Common.{◌≡◌, ℕ, ◌+◌, ◌<◌, ◌≤◌, Bool, true, ◌++◌, drop, refl, ap, sym, ◌∙◌, nat_le}
+use Rattle.std.proofs.Common.{◌≡◌, ℕ, ◌+◌, ◌≤◌, Bool, true, ◌++◌, drop, refl, ap, sym, ◌∙◌, nat_le}
 use Rattle.std.proofs.lemmas.Bool.{le-leb}
 use Rattle.std.proofs.lemmas.List.{append-nil}
 use Rattle.um_fine.specs.Places.{Todos, clean_pairs, cleaning, cleanings}
 use Rattle.um_processor.specs.Cleanings.{all_clean, behind_first}
+use Rattle.um_processor.specs.declared.cleaning.TheConstants.{MOST}
 use Rattle.um_processor.specs.declared.row_act.RowSaid.{RowSaid}
 use Rattle.um_processor.specs.Processors.{IsStuck}
 use Rattle.um_processor.proofs.Standings.{block_if}
-use Rattle.um_processor.proofs.Wholes.{cleanings-stood, pair-goes, pair-may}
+use Rattle.um_processor.proofs.Wholes.{cleanings-stood, pair-goes, pair-asks}
 use Rattle.um_processor.proofs.processor.Processor.clean_pair.Goals as goal
 
 pub returns-then-said-clause-turn : goal.returns-then-said-clause-turn
@@ -17,14 +18,13 @@ returns-then-said-clause-turn g c =
     let rest = drop 1 k.cleans in
     let after : c.advance.new.self ≡ clean_pairs c.args.who (c.args.row + 1) rest = c.advance.ensures.rest ∙ ap behind_first c.requires.first in
     let clean : all_clean (clean_pairs c.args.who (c.args.row + 1) rest) ≡ true = ap all_clean (sym after) ∙ c.advance.ensures.clean in
-    let room : cleanings k.cleans < 32 = rw c.len.ensures at c.if-len-ge-MOST.false in
     let pairs = clean_pairs c.args.who (c.args.row + 1) rest in
     let new : c.take_in.new.self ≡ pairs ++ block_if image c.args.row c.in-Made.said.cleans =
     c.take_in.ensures
     ∙ (ap (λ (t : Todos). t ++ cleaning image c.args.row) after ∙ ap (λ (b : Bool). pairs ++ block_if image c.args.row b) (sym c.if-said.true)) in (
       _,
       h.1,
-      pair-goes image c.args.cpu k.running c.requires.runs k.cleans _ rest k.ends.items _ c.args.who c.args.row _ _ h.0 _ c.requires.first room clean c.thread.ensures c.addr_of.ensures
+      pair-goes image c.args.cpu k.running c.requires.runs k.cleans _ rest k.ends.items _ c.args.who c.args.row _ _ h.0 _ c.requires.first clean c.thread.ensures c.addr_of.ensures
           (ap (λ (s : RowSaid). s.cleans) h.2)
           new,
     )
@@ -37,13 +37,12 @@ returns-else-said-clause-turn g c =
     let rest = drop 1 k.cleans in
     let after : c.advance.new.self ≡ clean_pairs c.args.who (c.args.row + 1) rest = c.advance.ensures.rest ∙ ap behind_first c.requires.first in
     let clean : all_clean (clean_pairs c.args.who (c.args.row + 1) rest) ≡ true = ap all_clean (sym after) ∙ c.advance.ensures.clean in
-    let room : cleanings k.cleans < 32 = rw c.len.ensures at c.if-len-ge-MOST.false in
     let pairs = clean_pairs c.args.who (c.args.row + 1) rest in
     let new : c.advance.new.self ≡ pairs ++ block_if image c.args.row c.in-Made.said.cleans =
     after ∙ (sym (append-nil pairs) ∙ ap (λ (b : Bool). pairs ++ block_if image c.args.row b) (sym c.if-said.false)) in (
       _,
       h.1,
-      pair-goes image c.args.cpu k.running c.requires.runs k.cleans _ rest k.ends.items _ c.args.who c.args.row _ _ h.0 _ c.requires.first room clean c.thread.ensures c.addr_of.ensures
+      pair-goes image c.args.cpu k.running c.requires.runs k.cleans _ rest k.ends.items _ c.args.who c.args.row _ _ h.0 _ c.requires.first clean c.thread.ensures c.addr_of.ensures
           (ap (λ (s : RowSaid). s.cleans) h.2)
           new,
     )
@@ -51,15 +50,14 @@ returns-else-said-clause-turn g c =
 pub returns-in-Busy-clause-turn : goal.returns-in-Busy-clause-turn
 returns-in-Busy-clause-turn g c =
     let h = c.in-Busy.ensures.said in
-    let k = c.args.self.now in
-    let room : cleanings k.cleans < 32 = rw c.len.ensures at c.if-len-ge-MOST.false in (
+    let k = c.args.self.now in (
       _,
       (h.1, h.2),
-      pair-may c.args.image.now c.args.cpu k.running c.requires.runs k.cleans _ k.ends.items _ c.args.who c.args.row _ _ h.0 c.requires.first room c.thread.ensures c.addr_of.ensures,
+      pair-asks c.args.image.now c.args.cpu k.running c.requires.runs k.cleans _ k.ends.items _ c.args.who c.args.row _ _ h.0 c.requires.first c.thread.ensures c.addr_of.ensures,
     )
 
 pub returns-then-len-ge-MOST-clause-turn : goal.returns-then-len-ge-MOST-clause-turn
 returns-then-len-ge-MOST-clause-turn g c =
     let k = c.args.self.now in
-    let many : 32 ≤ cleanings k.cleans = rw c.len.ensures at c.if-len-ge-MOST.true in
-    (refl, IsStuck.full (ap (λ (n : ℕ). nat_le 32 n) (cleanings-stood c.args.image.now c.args.cpu k.running c.requires.runs k.cleans k.ends.items _) ∙ le-leb 32 _ many))
+    let many : MOST ≤ cleanings k.cleans = rw c.len.ensures at c.if-len-ge-MOST.true in
+    (refl, IsStuck.full (ap (λ (n : ℕ). nat_le MOST n) (cleanings-stood c.args.image.now c.args.cpu k.running c.requires.runs k.cleans k.ends.items _) ∙ le-leb MOST _ many))

@@ -36,4 +36,4 @@ returns-in-Busy-clause-turn g c =
     let x = get_or c.as_slice.result.now 0 0 in
     let first : k.ends.items ≡ x ∷ remove k.ends.items 0 = first-removed k.ends.items 0 c.requires.ends ∙ (λ i. get_or (sym c.as_slice.ensures.value i) 0 0 ∷ remove k.ends.items 0) in
     let goes = end-goes c.args.image.now c.args.cpu k.running c.requires.runs k.cleans _ k.ends.items _ (drop k.told k.outcome.woken) x h.0 _ c.requires.cleans first refl refl in
-    (_, (h.1, h.2), goes.may)
+    (_, (h.1, h.2), goes.asks)

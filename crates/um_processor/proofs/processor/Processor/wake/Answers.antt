@@ -18,7 +18,7 @@ returns-in-Busy-clause-turn g c =
     let k = c.args.self.now in
     let next = next-told k.outcome.woken k.told _ c.requires.woken (rw c.as_slice.ensures.value at c.index-as_slice-self.is) in
     let goes = wake-goes c.args.image.now c.args.cpu k.running c.requires.runs k.cleans k.ends.items _ _ _ h.0 h.1 c.requires.cleans c.requires.ends next in
-    (_, (h.2, h.3), goes.may)
+    (_, (h.2, h.3), goes.asks)
 
 pub returns-then-who-ge-THREADS-clause-turn : goal.returns-then-who-ge-THREADS-clause-turn
 returns-then-who-ge-THREADS-clause-turn g c =

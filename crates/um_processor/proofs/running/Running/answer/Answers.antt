@@ -5,6 +5,7 @@ use Rattle.um_fine.specs.Context.{Context}
 use Rattle.um_fine.specs.Continues.{goes_on, reply_of}
 use Rattle.um_processor.specs.Events.{behind_event}
 use Rattle.um_processor.specs.Processors.{processor_of}
+use Rattle.um_processor.proofs.Runs.{runs-behind}
 use Rattle.um_processor.proofs.Released.{answered-goes}
 use Rattle.um_processor.proofs.running.Running.answer.Goals as goal
 
@@ -27,3 +28,6 @@ returns-in-Made-clause-turn g c =
           (search rules)
           (c.leaves.ensures ∙ ap (λ (own : Context). behind_event image c.args.phase own r) after),
     )
+
+pub returns-in-Made-clause-runs : goal.returns-in-Made-clause-runs
+returns-in-Made-clause-runs g c = runs-behind c.args.image.now c.args.phase _ c.args.self.now _ c.leaves.ensures

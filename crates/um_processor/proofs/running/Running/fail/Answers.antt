@@ -4,6 +4,7 @@ use Rattle.um_fine.specs.Context.{Context, as_thread}
 use Rattle.um_fine.specs.Continues.{ends_with}
 use Rattle.um_processor.specs.Events.{behind_event}
 use Rattle.um_processor.specs.Processors.{processor_of}
+use Rattle.um_processor.proofs.Runs.{runs-behind}
 use Rattle.um_processor.proofs.Released.{failed-goes}
 use Rattle.um_processor.proofs.running.Running.fail.Goals as goal
 
@@ -21,3 +22,6 @@ returns-in-Made-clause-turn g c =
           (search rules)
           (c.leaves.ensures ∙ ap (λ (own : Context). behind_event image c.args.phase own r) after),
     )
+
+pub returns-in-Made-clause-runs : goal.returns-in-Made-clause-runs
+returns-in-Made-clause-runs g c = runs-behind c.args.image.now c.args.phase _ c.args.self.now _ c.leaves.ensures

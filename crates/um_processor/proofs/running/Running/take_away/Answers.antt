@@ -1,6 +1,7 @@
 use Rattle.std.proofs.Common.{refl, ap, ◌∙◌}
 use Rattle.um_fine.specs.Context.{Context}
 use Rattle.um_processor.specs.declared.row_act.RowSaid.{RowSaid}
+use Rattle.um_processor.proofs.Runs.{runs-behind}
 use Rattle.um_processor.proofs.Shown.{taken-goes}
 use Rattle.um_processor.proofs.running.Running.take_away.Goals as goal
 
@@ -20,4 +21,7 @@ returns-in-Busy-clause-turn g c =
     let h = c.in-Busy.ensures.said in
     let thread = c.thread.ensures.value ∙ ap (λ (own : Context). own.thread) c.deref.ensures in
     let goes = taken-goes c.args.image.now c.args.cpu c.args.self.now c.args.phase c.args.who c.args.addr h.0 _ _ _ _ thread c.row_named.ensures.value refl refl in
-    (_, (h.1, h.2), goes.may)
+    (_, (h.1, h.2), goes.asks)
+
+pub returns-in-Made-clause-runs : goal.returns-in-Made-clause-runs
+returns-in-Made-clause-runs g c = runs-behind c.args.image.now c.args.phase _ c.args.self.now _ c.goes_on.ensures

@@ -10,7 +10,7 @@ returns-clause-said c =
     let s = c.self.inside.scheduler in let e = c.if-not-add.ensures.made refl in (
       c.self.inside.scheduler_steps,
       s,
-      scheduler-taken c.args.image.now _ _ c.self.view_is c.args.cpu _ (Unseen.Add (to_thread c.args.context.now.value.thread)) (Exchange.thread c.args.context.now.value None) (omega arith) (e.0) (e.1),
+      scheduler-taken c.args.image.now _ _ c.self.view_is c.args.cpu _ (Unseen.Add (to_thread c.args.context.now.value.thread)) (Exchange.thread c.args.context.now.value None) (omega arith) (e.0) (e.1) _ _ refl refl,
     )
 
 pub returns-then-not-add-clause-said : goal.returns-then-not-add-clause-said

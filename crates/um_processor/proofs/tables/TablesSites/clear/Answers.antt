@@ -16,7 +16,7 @@ returns-clause-said c =
     rw c.clear-buffer.ensures.left (
       d.steps,
       kept_in d,
-      cell-taken c.args.image.now _ _ c.self.view_is c.args.cpu (Site.object c.args.row.0) d.steps (Cell.object (kept_in d)) (Cell.object (kept_in (cleared d.steps))) (FineAct.Unseen Unseen.Wipe) Exchange.nothing (ap object_state here) (omega arith) refl refl,
+      cell-taken c.args.image.now _ _ c.self.view_is c.args.cpu (Site.object c.args.row.0) d.steps (Cell.object (kept_in d)) (Cell.object (kept_in (cleared d.steps))) (FineAct.Unseen Unseen.Wipe) Exchange.nothing (ap object_state here) (omega arith) refl refl _ _ refl refl,
       ap Exchange.charge (sym c.clear-buffer.ensures.cost),
     )
 

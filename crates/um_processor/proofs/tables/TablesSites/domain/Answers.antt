@@ -1,9 +1,13 @@
-use Rattle.std.proofs.Common.{arith, ◌≡◌, ap, refl, slice_index_or}
+use Rattle.std.proofs.Common.{arith, ◌≡◌, ◌∙◌, ap, refl, slice_index_or}
 use Rattle.std.proofs.lemmas.List.{get_or_read}
 use Rattle.um_words.specs.declared.dom_word.DomWord.{DomWord}
+use Rattle.um_fine.proofs.Filled.{filled-twice}
 use Rattle.um_fine.specs.Answers.{no_domain}
 use Rattle.um_fine.specs.Sites.{SiteState}
-use Rattle.um_processor.specs.DomainActs.{domain_made}
+use Rattle.um_fine.specs.Steps.{Exchange, Site}
+use Rattle.um_processor.specs.Asked.{asked}
+use Rattle.um_processor.specs.DomainActs.{domain_act, domain_made}
+use Rattle.um_processor.specs.Sited.{logged}
 use Rattle.um_processor.proofs.Tabled.{refused, taken}
 use Rattle.um_processor.proofs.tables.TablesSites.domain.Goals as goal
 
@@ -18,7 +22,15 @@ returns-clause-said c =
     let here : w ≡ slice_index_or c.self.inside.domains.items c.args.domain no_domain = get_or_read c.self.inside.domains.items _ _ (omega arith) c.index.ensures no_domain in
     let e = domain_made c.args.image.now c.args.cpu c.args.domain w c.args.act.now in
     let t = c.in-Some.ensures c.args.image.now c.args.cpu c.args.domain in
-    (w, taken c.args.image.now _ _ c.self.view_is e (SiteState.domain w) (SiteState.domain c.in-Some.next) (ap SiteState.domain here) t, ap word-in t.leaves)
+    let log = c.self.inside.log.items in (
+      w,
+      taken c.args.image.now _ _ c.self.view_is e (SiteState.domain w) (SiteState.domain c.in-Some.next) (ap SiteState.domain here) t
+          _
+          _
+          (c.note.ensures.events ∙ ap (logged log) c.event.ensures)
+          c.note.ensures.room,
+      ap word-in t.leaves,
+    )
 
 pub returns-in-None-clause-said : goal.returns-in-None-clause-said
 returns-in-None-clause-said c =
@@ -26,4 +38,5 @@ returns-in-None-clause-said c =
     let here : w ≡ slice_index_or c.self.inside.domains.items c.args.domain no_domain = get_or_read c.self.inside.domains.items _ _ (omega arith) c.index.ensures no_domain in
     let e = domain_made c.args.image.now c.args.cpu c.args.domain w c.args.act.now in
     let r = c.in-None.ensures c.args.image.now c.args.cpu c.args.domain in
-    (w, refl, refused _ _ c.self.view_is e (SiteState.domain w) (ap SiteState.domain here) r)
+    let fill = filled-twice c.args.image.now (SiteState.domain w) (asked c.args.cpu (Site.domain c.args.domain) (domain_act c.args.act.now) Exchange.nothing) in
+    (w, refl, refused c.args.image.now _ _ c.self.view_is e (SiteState.domain w) (ap SiteState.domain here) r fill tt)

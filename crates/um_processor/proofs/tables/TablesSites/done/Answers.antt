@@ -10,7 +10,7 @@ returns-clause-said c =
     let s = c.self.inside.scheduler in let e = c.if-not-done.ensures.made refl in (
       c.self.inside.scheduler_steps,
       s,
-      scheduler-taken c.args.image.now _ _ c.self.view_is c.args.cpu _ (Unseen.Done) (Exchange.nothing) (omega arith) (lt-ltb 0 _ e.0) (e.1),
+      scheduler-taken c.args.image.now _ _ c.self.view_is c.args.cpu _ (Unseen.Done) (Exchange.nothing) (omega arith) (lt-ltb 0 _ e.0) (e.1) _ _ refl refl,
     )
 
 pub returns-then-not-done-clause-said : goal.returns-then-not-done-clause-said

@@ -1,9 +1,12 @@
-use Rattle.std.proofs.Common.{arith, ap, refl}
+use Rattle.std.proofs.Common.{arith, ◌∙◌, Some, ap, refl}
 use Rattle.um_fine.specs.Cells.{Cell}
 use Rattle.um_fine.specs.Steps.{Exchange, Site}
-use Rattle.um_processor.specs.HeapActs.{heap_act}
+use Rattle.um_processor.specs.HeapActs.{heap_act, heap_event}
+use Rattle.um_processor.specs.Sited.{logged}
+use Rattle.um_processor.specs.declared.heap_act.HeapSaid.{HeapSaid}
 use Rattle.um_processor.proofs.Celled.{cell-ends, cell-taken}
 use Rattle.um_processor.proofs.HeapLemmas.{heap-takes}
+use Rattle.um_processor.proofs.Noted.{heap-event}
 use Rattle.um_processor.proofs.tables.TablesSites.heap.Goals as goal
 
 pub returns-clause-said : goal.returns-clause-said
@@ -11,7 +14,14 @@ returns-clause-said c =
     let h = c.self.inside.heap in (
       c.self.inside.heap_steps,
       h,
-      cell-taken c.args.image.now _ _ c.self.view_is c.args.cpu Site.heap c.self.inside.heap_steps (Cell.heap h) (Cell.heap c.make-said.new.self) (heap_act c.args.act.now) (Exchange.charge c.args.charge) refl (omega arith) (heap-takes c.args.image.now h (Exchange.charge c.args.charge) c.args.act.now) (ap Cell.heap c.make-said.ensures.leaves),
+      cell-taken c.args.image.now _ _ c.self.view_is c.args.cpu Site.heap c.self.inside.heap_steps (Cell.heap h) (Cell.heap c.make-said.new.self) (heap_act c.args.act.now) (Exchange.charge c.args.charge) refl (omega arith) (heap-takes c.args.image.now h (Exchange.charge c.args.charge) c.args.act.now) (ap Cell.heap c.make-said.ensures.leaves)
+          _
+          _
+          (c.note.ensures.events
+          ∙ ap (logged c.self.inside.log.items)
+          (c.event.ensures
+          ∙ (ap (λ (said : HeapSaid). Some (heap_event c.args.act.now said)) c.make-said.ensures.said ∙ heap-event c.args.image.now h (Exchange.charge c.args.charge) c.args.act.now)))
+          c.note.ensures.room,
       c.make-said.ensures.said,
     )
 

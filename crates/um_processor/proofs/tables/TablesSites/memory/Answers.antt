@@ -1,9 +1,12 @@
-use Rattle.std.proofs.Common.{arith, ap, refl}
+use Rattle.std.proofs.Common.{arith, ◌∙◌, Some, ap, refl}
 use Rattle.um_fine.specs.Cells.{Cell}
 use Rattle.um_fine.specs.Steps.{Site}
-use Rattle.um_processor.specs.MemoryActs.{memory_act, memory_sent}
+use Rattle.um_processor.specs.MemoryActs.{memory_act, memory_event, memory_sent}
+use Rattle.um_processor.specs.Sited.{logged}
+use Rattle.um_processor.specs.declared.memory_act.MemorySaid.{MemorySaid}
 use Rattle.um_processor.proofs.ByteLemmas.{memory-takes}
 use Rattle.um_processor.proofs.Celled.{cell-ends, cell-taken}
+use Rattle.um_processor.proofs.Noted.{memory-event}
 use Rattle.um_processor.proofs.tables.TablesSites.memory.Goals as goal
 
 pub returns-clause-said : goal.returns-clause-said
@@ -12,7 +15,14 @@ returns-clause-said c =
     let sent = memory_sent c.args.act.now c.args.buffer.now in (
       c.self.inside.memory_steps,
       m,
-      cell-taken c.args.image.now _ _ c.self.view_is c.args.cpu Site.memory c.self.inside.memory_steps (Cell.memory m) (Cell.memory c.make-said.new.self) (memory_act c.args.act.now) sent refl (omega arith) (memory-takes c.args.image.now m sent c.args.act.now) (ap Cell.memory c.make-said.ensures.leaves),
+      cell-taken c.args.image.now _ _ c.self.view_is c.args.cpu Site.memory c.self.inside.memory_steps (Cell.memory m) (Cell.memory c.make-said.new.self) (memory_act c.args.act.now) sent refl (omega arith) (memory-takes c.args.image.now m sent c.args.act.now) (ap Cell.memory c.make-said.ensures.leaves)
+          _
+          _
+          (c.note.ensures.events
+          ∙ ap (logged c.self.inside.log.items)
+          (c.event.ensures
+          ∙ (ap (λ (said : MemorySaid). Some (memory_event c.args.act.now said)) c.make-said.ensures.said ∙ memory-event c.args.image.now m sent c.args.act.now)))
+          c.note.ensures.room,
       record { said_is = c.make-said.ensures.said; taken = c.make-said.ensures.taken },
     )
 

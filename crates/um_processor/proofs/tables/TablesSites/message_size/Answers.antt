@@ -15,7 +15,7 @@ returns-clause-said c =
     let here : d ≡ slice_index_or c.self.inside.objects.items c.args.row.0 (cleared 0) = get_or_read c.self.inside.objects.items _ _ (omega arith) c.index_mut-cell.ensures.value (cleared 0) in (
       d.steps,
       kept_in d,
-      cell-taken c.args.image.now _ _ c.self.view_is c.args.cpu (Site.object c.args.row.0) d.steps (Cell.object (kept_in d)) (Cell.object (kept_in d)) (FineAct.Unseen Unseen.SizeLook) Exchange.nothing (ap object_state here) (omega arith) refl refl,
+      cell-taken c.args.image.now _ _ c.self.view_is c.args.cpu (Site.object c.args.row.0) d.steps (Cell.object (kept_in d)) (Cell.object (kept_in d)) (FineAct.Unseen Unseen.SizeLook) Exchange.nothing (ap object_state here) (omega arith) refl refl _ _ refl refl,
       ap Exchange.size (sym c.message_size-size.ensures),
     )
 

@@ -1,11 +1,12 @@
-use Rattle.std.proofs.Common.{arith, ◌≡◌, ap, refl, slice_index_or}
+use Rattle.std.proofs.Common.{arith, ◌≡◌, ◌∙◌, Some, ap, refl, slice_index_or}
 use Rattle.std.proofs.lemmas.List.{get_or_read}
 use Rattle.um_fine.specs.Cells.{Cell}
 use Rattle.um_fine.specs.Steps.{Exchange, Site}
 use Rattle.um_processor.specs.ObjectCells.{cleared, kept_in, named_as}
-use Rattle.um_processor.specs.Sited.{object_state}
+use Rattle.um_processor.specs.Sited.{logged, object_state}
 use Rattle.um_processor.proofs.Celled.{cell-ends, cell-taken, object-kept}
 use Rattle.um_base.specs.declared.act.Act.{Act}
+use Rattle.um_base.specs.declared.act.Event.{Event}
 use Rattle.um_words.specs.declared.fine.More.{More}
 use Rattle.um_processor.specs.Asked.{shown}
 use Rattle.um_processor.proofs.tables.TablesSites.name.Goals as goal
@@ -17,7 +18,11 @@ returns-clause-said c =
     rw c.name.ensures (
       d.steps,
       kept_in d,
-      cell-taken c.args.image.now _ _ c.self.view_is c.args.cpu (Site.object c.args.row.0) d.steps (Cell.object (kept_in d)) (Cell.object (kept_in (named_as d c.args.bytes.now))) (shown c.args.thread (Act.Named c.args.who) More.Nothing) (Exchange.bytes c.args.bytes.now) (ap object_state here) (omega arith) refl refl,
+      cell-taken c.args.image.now _ _ c.self.view_is c.args.cpu (Site.object c.args.row.0) d.steps (Cell.object (kept_in d)) (Cell.object (kept_in (named_as d c.args.bytes.now))) (shown c.args.thread (Act.Named c.args.who) More.Nothing) (Exchange.bytes c.args.bytes.now) (ap object_state here) (omega arith) refl refl
+          _
+          _
+          (c.note.ensures.events ∙ ap (λ (event : Event). logged c.self.inside.log.items (Some event)) c.named.ensures)
+          c.note.ensures.room,
     )
 
 pub returns-then-cell-ge-LAST-clause-said : goal.returns-then-cell-ge-LAST-clause-said

@@ -11,7 +11,7 @@ returns-clause-said c =
     let s = c.self.inside.scheduler in let e = c.in-Some.ensures in (
       c.self.inside.scheduler_steps,
       s,
-      scheduler-taken c.args.image.now _ _ c.self.view_is c.args.cpu _ (Unseen.Park (to_thread c.args.context.now.value.thread) false) (Exchange.thread c.args.context.now.value None) (omega arith) (e.0) (e.2 ∙ ap (λ (b : Bool). one_less (put_back s b c.args.context.now.value)) e.1),
+      scheduler-taken c.args.image.now _ _ c.self.view_is c.args.cpu _ (Unseen.Park (to_thread c.args.context.now.value.thread) false) (Exchange.thread c.args.context.now.value None) (omega arith) (e.0) (e.2 ∙ ap (λ (b : Bool). one_less (put_back s b c.args.context.now.value)) e.1) _ _ refl refl,
     )
 
 pub returns-in-None-clause-said : goal.returns-in-None-clause-said

@@ -10,7 +10,7 @@ returns-clause-said c =
     let s = c.self.inside.scheduler in let e = c.in-Some.ensures in (
       c.self.inside.scheduler_steps,
       s,
-      scheduler-taken c.args.image.now _ _ c.self.view_is c.args.cpu _ (Unseen.Wake c.args.who false) (Exchange.told c.args.told.now) (omega arith) (e.0) (e.2 ∙ ap (λ (b : Bool). awake s b c.args.who.0 c.args.told.now) e.1),
+      scheduler-taken c.args.image.now _ _ c.self.view_is c.args.cpu _ (Unseen.Wake c.args.who false) (Exchange.told c.args.told.now) (omega arith) (e.0) (e.2 ∙ ap (λ (b : Bool). awake s b c.args.who.0 c.args.told.now) e.1) _ _ refl refl,
     )
 
 pub returns-in-None-clause-said : goal.returns-in-None-clause-said

@@ -1,12 +1,15 @@
-use Rattle.std.proofs.Common.{arith, ◌≡◌, ap, refl, slice_index_or, sym}
+use Rattle.std.proofs.Common.{arith, ◌≡◌, ◌∙◌, Some, ap, refl, slice_index_or, sym}
 use Rattle.std.proofs.lemmas.List.{get_or_read}
 use Rattle.um_fine.specs.Cells.{Cell}
 use Rattle.um_fine.specs.Steps.{Exchange, Site}
 use Rattle.um_processor.specs.ObjectCells.{cleared, kept_in}
-use Rattle.um_processor.specs.Sited.{object_state}
+use Rattle.um_processor.specs.Sited.{logged, object_state}
 use Rattle.um_processor.proofs.Celled.{cell-ends, cell-taken, object-kept}
+use Rattle.um_base.specs.declared.act.Act.{Act}
+use Rattle.um_base.specs.declared.act.Event.{Event}
 use Rattle.um_machine.specs.Services.{Acted}
-use Rattle.um_machine.specs.Table.{buffer_cost}
+use Rattle.um_machine.specs.Table.{buffer_cost, replies_of}
+use Rattle.um_processor.specs.Asked.{by_thread}
 use Rattle.um_fine.specs.Answers.{no_outcome}
 use Rattle.um_fine.specs.Objects.{outcome_of}
 use Rattle.um_processor.specs.ObjectCells.{work_act}
@@ -22,7 +25,13 @@ returns-clause-said c =
       kept_in d,
       cell-taken c.args.image.now _ _ c.self.view_is c.args.cpu (Site.object c.args.row.0) d.steps (Cell.object (kept_in d)) (Cell.object (kept_in c.work.new.self)) (work_act c.args.addr who) (Exchange.asked who no_outcome) (ap object_state here) (omega arith) refl
           (rw c.work.ensures.buffer
-          (ap (λ (w : Acted). Cell.object (record { contents = w.contents; waiters = w.waiters; buffer = buffer_cost who.ask w.answer d.buffer })) (sym c.work.ensures.work))),
+          (ap (λ (w : Acted). Cell.object (record { contents = w.contents; waiters = w.waiters; buffer = buffer_cost who.ask w.answer d.buffer })) (sym c.work.ensures.work)))
+          _
+          _
+          (c.note.ensures.events
+          ∙ (ap (λ (event : Event). logged c.self.inside.log.items (Some event)) c.worked.ensures
+          ∙ ap (λ (w : Acted). logged c.self.inside.log.items (Some (by_thread who.thread (Act.Work c.args.addr w.answer (replies_of w.woken))))) (sym c.work.ensures.work)))
+          c.note.ensures.room,
       ap (λ (w : Acted). Exchange.asked who (outcome_of w)) c.work.ensures.work,
     )
 

@@ -1,0 +1,132 @@
+-- What comes of a step of a processor's thread, for the whole processor.
+use Rattle.std.proofs.Common.{◌≡◌, ◌≤◌, ℕ, Bool, true, false, List, [], ◌∷◌, ◌++◌, arith, length, refl, sym, subst, ap, ◌∙◌}
+use Rattle.std.proofs.lemmas.Bool.{false≢true}
+use Rattle.um_base.specs.declared.ask.Told.{Told}
+use Rattle.um_base.specs.declared.image.Image.{Image}
+use Rattle.um_base.specs.declared.names.ThreadIx.{ThreadIx}
+use Rattle.um_machine.specs.declared.pending.Pending.{Pending}
+use Rattle.um_machine.specs.Order.{Steps}
+use Rattle.um_fine.specs.Follows.{end_calls, wakes}
+use Rattle.um_fine.specs.Places.{Todos, cleaning}
+use Rattle.um_fine.specs.Processor.{Processor}
+use Rattle.um_fine.specs.Steps.{FineStep}
+use Rattle.um_processor.specs.declared.phase.Phase.{Phase}
+use Rattle.um_processor.specs.declared.phase.Turn.{Turn}
+use Rattle.um_processor.specs.declared.running.Running.{Running}
+use Rattle.um_processor.specs.Events.{about_to, about_to_park, at_event, rest_of, todo_after, with_ends, with_woken}
+use Rattle.um_processor.specs.Phases.{born, is_idle, showing, steps_behind}
+use Rattle.um_processor.specs.Processors.{AsksFor, Goes, IsStuck, OnMade, Turned, UnlessMade, cleaned, in_phase, processor_of, with_todo}
+use Rattle.um_processor.specs.Standing.{before, standing}
+use Rattle.um_processor.proofs.Standings.{block_if, cleaned-behind, front-of, stands}
+
+bare-todo : (todo : Todos) → before [] [] [] todo ≡ todo
+bare-todo [] = refl
+bare-todo (q ∷ todo) = refl
+
+-- where nothing stands before, a processor is that of its thread
+pub bare : (cleans : Todos) (ends : List ℕ) (woken : List (ThreadIx × Told)) (p : Processor) → cleans ≡ [] → ends ≡ [] → woken ≡ []
+    → standing cleans ends woken p ≡ p
+bare cleans ends woken p ec ee ew = (λ i. standing (ec i) (ee i) (ew i) p) ∙ ap (λ (t : Todos). record p { todo = t }) (bare-todo p.todo)
+
+module _ (r : Running) (runs : is_idle r.phase ≡ false) where
+  stood : (cleans : Todos) (ends : List ℕ) (woken : List (ThreadIx × Told))
+      → standing cleans ends woken (processor_of r) ≡ record (processor_of r) { todo = cleans ++ end_calls ends (wakes woken (processor_of r).todo) }
+  stood cleans ends woken = stands cleans ends woken (processor_of r) (front-of r.phase r runs)
+
+  -- with claims to end, with threads to wake, with an object to clean
+  pub ends-stand : (cleans : Todos) (ends : List ℕ) (woken : List (ThreadIx × Told)) → cleans ≡ [] → woken ≡ []
+      → standing cleans ends woken (processor_of r) ≡ with_ends ends (processor_of r)
+  ends-stand cleans ends woken ec ew = (λ i. standing (ec i) ends (ew i) (processor_of r)) ∙ stood [] ends []
+
+  pub woken-stand : (cleans : Todos) (ends : List ℕ) (woken : List (ThreadIx × Told)) → cleans ≡ [] → ends ≡ []
+      → standing cleans ends woken (processor_of r) ≡ with_woken woken (processor_of r)
+  woken-stand cleans ends woken ec ee = (λ i. standing (ec i) (ee i) woken (processor_of r)) ∙ stood [] [] woken
+
+  pub cleans-stand : (image : Image) (x : ℕ) (b : Bool) (cleans : Todos) (ends : List ℕ) (woken : List (ThreadIx × Told))
+      → cleans ≡ block_if image x b → ends ≡ [] → woken ≡ [] → standing cleans ends woken (processor_of r) ≡ cleaned image x b (processor_of r)
+  cleans-stand image x b cleans ends woken ec ee ew =
+      (λ i. standing (ec i) (ee i) (ew i) (processor_of r))
+      ∙ (stood (block_if image x b) [] []
+      ∙ sym (cleaned-behind image x (processor_of r) [] (processor_of r).todo b refl (front-of r.phase r runs)))
+
+module _ (t : Turn) (cpu : ℕ) (image : Image) (took shut : FineStep → Type 0) (late none : Type 0) where
+  -- what comes of a turn of an equal processor
+  pub turned-from : (p q z : Processor) → p ≡ q → Turned t cpu image q z took shut late none → Turned t cpu image p z took shut late none
+  turned-from p q z e h = subst (λ (x : Processor). Turned t cpu image x z took shut late none) (sym e) h
+
+  -- and of one that leaves an equal processor where a step was made
+  pub turned-as : (p z y : Processor) → OnMade t (y ≡ z) → Turned t cpu image p z took shut late none → Turned t cpu image p y took shut late none
+  turned-as p z y = by t
+    where
+      by : (u : Turn) → OnMade u (y ≡ z) → Turned u cpu image p z took shut late none → Turned u cpu image p y took shut late none
+      by Turn.Made e h = subst (λ (x : Processor). Turned Turn.Made cpu image p x took shut late none) (sym e) h
+      by Turn.Busy e h = h
+      by Turn.Changed e h = h
+      by Turn.Stuck e h = h
+
+-- the same of a step that was made, of one that was asked for, and of none
+pub goes-as : (cpu : ℕ) (image : Image) (p z y : Processor) (e : FineStep) → y ≡ z → Goes cpu image p e z → Goes cpu image p e y
+goes-as cpu image p z y e h goes = subst (λ (x : Processor). Goes cpu image p e x) (sym h) goes
+
+pub goes-from : (cpu : ℕ) (image : Image) (p q z : Processor) (e : FineStep) → p ≡ q → Goes cpu image q e z → Goes cpu image p e z
+goes-from cpu image p q z e h goes = subst (λ (x : Processor). Goes cpu image x e z) (sym h) goes
+
+pub asks-from : (cpu : ℕ) (image : Image) (p q : Processor) (e : FineStep) → p ≡ q → AsksFor cpu image q e → AsksFor cpu image p e
+asks-from cpu image p q e h asks = subst (λ (x : Processor). AsksFor cpu image x e) (sym h) asks
+
+pub stuck-from : (image : Image) (p q : Processor) → p ≡ q → IsStuck image q → IsStuck image p
+stuck-from image p q h stuck = subst (IsStuck image) (sym h) stuck
+
+pub on-made : {A B : Type 0} (t : Turn) → (A → B) → OnMade t A → OnMade t B
+on-made Turn.Made f h = f h
+on-made Turn.Busy f h = tt
+on-made Turn.Changed f h = tt
+on-made Turn.Stuck f h = tt
+
+pub always : {A : Type 0} (t : Turn) → A → OnMade t A
+always Turn.Made h = h
+always Turn.Busy h = tt
+always Turn.Changed h = tt
+always Turn.Stuck h = tt
+
+-- what is kept where no step was made
+pub kept : {A B : Type 0} (t : Turn) (f : A → B) (a b : A) → UnlessMade t (a ≡ b) → UnlessMade t (f a ≡ f b)
+kept Turn.Made f a b h = tt
+kept Turn.Busy f a b h = ap f h
+kept Turn.Changed f a b h = ap f h
+kept Turn.Stuck f a b h = ap f h
+
+pub kept-both : {A B C : Type 0} (t : Turn) (f : A → B → C) (a b : A) (x y : B) → UnlessMade t (a ≡ b) → UnlessMade t (x ≡ y) → UnlessMade t (f a x ≡ f b y)
+kept-both Turn.Made f a b x y h k = tt
+kept-both Turn.Busy f a b x y h k = λ i. f (h i) (k i)
+kept-both Turn.Changed f a b x y h k = λ i. f (h i) (k i)
+kept-both Turn.Stuck f a b x y h k = λ i. f (h i) (k i)
+
+-- a processor without a thread
+idle-is : (phase : Phase) (r : Running) → is_idle phase ≡ true → in_phase phase r ≡ in_phase Phase.Idle r
+idle-is Phase.Idle r h = refl
+idle-is phase r h = absurd (false≢true h)
+
+pub idle-whole : (r : Running) (cleans : Todos) (ends : List ℕ) (woken : List (ThreadIx × Told)) → is_idle r.phase ≡ true
+    → standing cleans ends woken (processor_of r) ≡ in_phase Phase.Idle r
+idle-whole r cleans ends woken h = ap (standing cleans ends woken) (idle-is r.phase r h)
+
+-- where nothing stands before, in a phase
+pub stood-in : (r : Running) (phase : Phase) (cleans : Todos) (ends : List ℕ) (woken : List (ThreadIx × Told)) → r.phase ≡ phase → cleans ≡ [] → ends ≡ [] → woken ≡ []
+    → standing cleans ends woken (processor_of r) ≡ in_phase phase r
+stood-in r phase cleans ends woken e ec ee ew = bare cleans ends woken (processor_of r) ec ee ew ∙ ap (λ (k : Phase). in_phase k r) e
+
+-- at the event of this step
+pub at-this : (phase : Phase) (r : Running) (s q : Pending) → s ≡ q → about_to phase s r ≡ about_to phase q r
+at-this phase r s q e = ap (λ (step : Pending). about_to phase step r) e
+
+-- at the event of its thread's next step, or without one
+pub at-none : (phase : Phase) (r : Running) → steps_behind r.visited r.context.value.pending ≡ [] → at_event phase r ≡ about_to_park phase r
+at-none phase r e = ap (λ (steps : Steps). with_todo r (showing steps (todo_after phase (born r.newborn)))) e
+
+pub at-step : (phase : Phase) (r : Running) (step : Pending) → steps_behind r.visited r.context.value.pending ≡ step ∷ rest_of r → at_event phase r ≡ about_to phase step r
+at-step phase r step e = ap (λ (steps : Steps). with_todo r (showing steps (todo_after phase (born r.newborn)))) e
+
+pub none_left : {A : Type 0} (xs : List A) → length xs ≤ 0 → xs ≡ []
+none_left [] h = refl
+none_left (x ∷ xs) h = absurd (omega arith)

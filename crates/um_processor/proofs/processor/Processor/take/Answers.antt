@@ -1,0 +1,29 @@
+use Rattle.std.proofs.Common.{ap, drop, ◌∙◌}
+use Rattle.um_processor.specs.Processors.{processor_of}
+use Rattle.um_processor.specs.Standing.{standing}
+use Rattle.um_processor.proofs.Lifted.{asks-from, bare, goes-as, goes-from, idle-whole, stuck-from}
+use Rattle.um_processor.proofs.processor.Processor.take.Goals as goal
+
+pub returns-in-Made-clause-turn : goal.returns-in-Made-clause-turn
+returns-in-Made-clause-turn g c =
+    let h = c.in-Made.ensures.turn in
+    let new = bare _ _ _ _ c.clears.ensures.cleans c.clears.ensures.ends c.clears.ensures.woken ∙ ap processor_of c.clears.ensures.running in
+    (h.0, h.1, goes-from c.args.cpu c.args.image.now _ _ _ h.0 (idle-whole c.args.self.now.running _ _ _ c.requires.idle) (goes-as c.args.cpu c.args.image.now _ _ _ h.0 new h.2))
+
+pub returns-in-Busy-clause-turn : goal.returns-in-Busy-clause-turn
+returns-in-Busy-clause-turn g c = let h = c.in-Busy.ensures.turn in (h.0, h.1, asks-from c.args.cpu c.args.image.now _ _ h.0 (idle-whole c.args.self.now.running _ _ _ c.requires.idle) h.2)
+
+pub returns-in-Changed-clause-turn : goal.returns-in-Changed-clause-turn
+returns-in-Changed-clause-turn g c = c.in-Changed.ensures.turn
+
+pub returns-in-Stuck-clause-turn : goal.returns-in-Stuck-clause-turn
+returns-in-Stuck-clause-turn g c = let h = c.in-Stuck.ensures.turn in (h.0, stuck-from c.args.image.now _ _ (idle-whole c.args.self.now.running _ _ _ c.requires.idle) h.1)
+
+pub returns-in-Busy-clause-same : goal.returns-in-Busy-clause-same
+returns-in-Busy-clause-same g c = let k = c.args.self.now in ap (standing k.cleans k.ends.items (drop k.told k.outcome.woken)) c.in-Busy.ensures.same
+
+pub returns-in-Changed-clause-same : goal.returns-in-Changed-clause-same
+returns-in-Changed-clause-same g c = let k = c.args.self.now in ap (standing k.cleans k.ends.items (drop k.told k.outcome.woken)) c.in-Changed.ensures.same
+
+pub returns-in-Stuck-clause-same : goal.returns-in-Stuck-clause-same
+returns-in-Stuck-clause-same g c = let k = c.args.self.now in ap (standing k.cleans k.ends.items (drop k.told k.outcome.woken)) c.in-Stuck.ensures.same

@@ -1,0 +1,211 @@
+//! A step of a processor, whatever it is.
+
+ghost use Rattle.std.specs.Prelude.{◌≡◌, ◌∷◌, [], drop, false, true, IsTrue};
+ghost use Rattle.um_processor.specs.Cleanings.{clean_todo};
+ghost use Rattle.um_processor.specs.Given.{IsGiven};
+ghost use Rattle.um_processor.specs.Phases.{is_idle, is_plain_phase};
+ghost use Rattle.um_processor.specs.Processors.{Turned, UnlessMade, in_phase};
+ghost use Rattle.um_processor.specs.Standing.{whole};
+ghost use Rattle.um_processor.specs.declared.phase.Phase.TheVariants as Phase;
+
+use crate::cleaning::CleanStep;
+use crate::phase::{Phase, Turn};
+use crate::processor::Processor;
+use crate::sites::Sites;
+use um_base::Image;
+
+impl Processor {
+    /// Nothing stands before its thread's next step any longer.
+    #[tactic(auto, using(std::proofs::lemmas::List::drop_all))]
+    fn clears(&mut self)
+        ensures cleans { self.new.cleans ≡ [] }
+        ensures ends { self.new.ends.items ≡ [] }
+        ensures woken { drop self.new.told self.new.outcome.woken ≡ [] }
+        ensures running { self.new.running ≡ self.old.running }
+    {
+        self.cleans.clear();
+        self.ends.clear();
+        self.told = self.outcome.woken.len();
+    }
+
+    /// The first ready thread is taken.
+    fn take<S: Sites>(&mut self, image: &Image, cpu: u8, sites: &mut S) -> Turn
+        requires sites { S.IsOf image.now sites.old }
+        requires idle { is_idle self.old.running.phase ≡ true }
+        ensures image { S.IsOf image.now sites.new }
+        ensures same { UnlessMade result (whole self.new ≡ whole self.old) }
+        ensures turn { Turned result cpu image.now (whole self.old) (whole self.new)
+            (λ e. S.Took image.now sites.old e sites.new)
+            (λ e. S.Kept sites.old sites.new × S.Shut image.now sites.old e)
+            (S.Kept sites.old sites.new × S.Contended sites.old)
+            (sites.new ≡ sites.old) }
+    {
+        match self.running.take(image, cpu, sites) {
+            Turn::Made => {
+                self.clears();
+                Turn::Made
+            }
+            Turn::Busy => Turn::Busy,
+            Turn::Changed => Turn::Changed,
+            Turn::Stuck => Turn::Stuck,
+        }
+    }
+
+    /// A step of cleaning.
+    fn clean<S: Sites>(&mut self, image: &Image, cpu: u8, step: CleanStep, sites: &mut S) -> Turn
+        requires sites { S.IsOf image.now sites.old }
+        requires runs { is_idle self.old.running.phase ≡ false }
+        requires first { self.old.cleans ≡ clean_todo step ∷ drop 1 self.old.cleans }
+        ensures image { S.IsOf image.now sites.new }
+        ensures same { UnlessMade result (whole self.new ≡ whole self.old) }
+        ensures turn { Turned result cpu image.now (whole self.old) (whole self.new)
+            (λ e. S.Took image.now sites.old e sites.new)
+            (λ e. S.Kept sites.old sites.new × S.Shut image.now sites.old e)
+            (S.Kept sites.old sites.new × S.Contended sites.old)
+            (sites.new ≡ sites.old) }
+    {
+        match step {
+            CleanStep::Pair { who, row } => self.clean_pair(image, cpu, who, row, sites),
+            CleanStep::Wipe(row) => self.wipe(image, cpu, row, sites),
+            CleanStep::Vacate(row) => self.vacate(image, cpu, row, sites),
+            CleanStep::Recycle(row) => self.recycle(image, cpu, row, sites),
+        }
+    }
+
+    /// The thread exits after its last line.
+    fn exit<S: Sites>(&mut self, image: &Image, cpu: u8, sites: &mut S) -> Turn
+        requires sites { S.IsOf image.now sites.old }
+        requires cleans { self.old.cleans ≡ [] }
+        requires ends { self.old.ends.items ≡ [] }
+        requires woken { drop self.old.told self.old.outcome.woken ≡ [] }
+        ensures image { S.IsOf image.now sites.new }
+        ensures same { UnlessMade result (whole self.new ≡ whole self.old) }
+        ensures turn { Turned result cpu image.now (in_phase Phase.Exit self.old.running) (whole self.new)
+            (λ e. S.Took image.now sites.old e sites.new)
+            (λ e. S.Kept sites.old sites.new × S.Shut image.now sites.old e)
+            (S.Kept sites.old sites.new × S.Contended sites.old)
+            (sites.new ≡ sites.old) }
+    {
+        self.running.exit(image, cpu, &mut self.ends, sites)
+    }
+
+    /// A row is visited to drop its permission. Where it comes to cleaning by that, its object is to be cleaned.
+    fn drop_permission<S: Sites>(&mut self, image: &Image, cpu: u8, sites: &mut S) -> Turn
+        requires sites { S.IsOf image.now sites.old }
+        requires cleans { self.old.cleans ≡ [] }
+        requires ends { self.old.ends.items ≡ [] }
+        requires woken { drop self.old.told self.old.outcome.woken ≡ [] }
+        ensures image { S.IsOf image.now sites.new }
+        ensures same { UnlessMade result (whole self.new ≡ whole self.old) }
+        ensures turn { Turned result cpu image.now (in_phase Phase.Drop self.old.running) (whole self.new)
+            (λ e. S.Took image.now sites.old e sites.new)
+            (λ e. S.Kept sites.old sites.new × S.Shut image.now sites.old e)
+            (S.Kept sites.old sites.new × S.Contended sites.old)
+            (sites.new ≡ sites.old) }
+    {
+        let row = self.running.row();
+        let mut cleans = false;
+        match self.running.drop_permission(image, cpu, &mut cleans, sites) {
+            Turn::Made => {
+                if cleans {
+                    self.cleans.take_in(image, row);
+                    return Turn::Made;
+                }
+                Turn::Made
+            }
+            Turn::Busy => Turn::Busy,
+            Turn::Changed => Turn::Changed,
+            Turn::Stuck => Turn::Stuck,
+        }
+    }
+
+    /// A step behind which no more is to be done before the next one.
+    fn go_plain<S: Sites>(&mut self, image: &Image, cpu: u8, sites: &mut S) -> Turn
+        requires sites { S.IsOf image.now sites.old }
+        requires given { IsGiven image.now }
+        requires plain { IsTrue (is_plain_phase self.old.running.phase) }
+        requires cleans { self.old.cleans ≡ [] }
+        requires ends { self.old.ends.items ≡ [] }
+        requires woken { drop self.old.told self.old.outcome.woken ≡ [] }
+        ensures image { S.IsOf image.now sites.new }
+        ensures same { UnlessMade result (whole self.new ≡ whole self.old) }
+        ensures turn { Turned result cpu image.now (whole self.old) (whole self.new)
+            (λ e. S.Took image.now sites.old e sites.new)
+            (λ e. S.Kept sites.old sites.new × S.Shut image.now sites.old e)
+            (S.Kept sites.old sites.new × S.Contended sites.old)
+            (sites.new ≡ sites.old) }
+    {
+        self.running.go(image, cpu, sites)
+    }
+
+    /// The thread's next step, in whatever phase it is.
+    fn go<S: Sites>(&mut self, image: &Image, cpu: u8, sites: &mut S) -> Turn
+        requires sites { S.IsOf image.now sites.old }
+        requires given { IsGiven image.now }
+        requires runs { is_idle self.old.running.phase ≡ false }
+        requires cleans { self.old.cleans ≡ [] }
+        requires ends { self.old.ends.items ≡ [] }
+        requires woken { drop self.old.told self.old.outcome.woken ≡ [] }
+        ensures image { S.IsOf image.now sites.new }
+        ensures same { UnlessMade result (whole self.new ≡ whole self.old) }
+        ensures turn { Turned result cpu image.now (whole self.old) (whole self.new)
+            (λ e. S.Took image.now sites.old e sites.new)
+            (λ e. S.Kept sites.old sites.new × S.Shut image.now sites.old e)
+            (S.Kept sites.old sites.new × S.Contended sites.old)
+            (sites.new ≡ sites.old) }
+    {
+        match self.running.phase() {
+            Phase::Access => self.show(image, cpu, Phase::Access, sites),
+            Phase::Start => self.show(image, cpu, Phase::Start, sites),
+            Phase::Show => self.show(image, cpu, Phase::Show, sites),
+            Phase::Exit => self.exit(image, cpu, sites),
+            Phase::Drop => self.drop_permission(image, cpu, sites),
+            _ => self.go_plain(image, cpu, sites),
+        }
+    }
+
+    /// The next step where no object is to be cleaned.
+    #[tactic(auto, using(crate::proofs::Lifted::none_left, std::proofs::lemmas::List::drop_all))]
+    fn step_behind<S: Sites>(&mut self, image: &Image, cpu: u8, sites: &mut S) -> Turn
+        requires sites { S.IsOf image.now sites.old }
+        requires given { IsGiven image.now }
+        requires runs { is_idle self.old.running.phase ≡ false }
+        requires cleans { self.old.cleans ≡ [] }
+        ensures image { S.IsOf image.now sites.new }
+        ensures same { UnlessMade result (whole self.new ≡ whole self.old) }
+        ensures turn { Turned result cpu image.now (whole self.old) (whole self.new)
+            (λ e. S.Took image.now sites.old e sites.new)
+            (λ e. S.Kept sites.old sites.new × S.Shut image.now sites.old e)
+            (S.Kept sites.old sites.new × S.Contended sites.old)
+            (sites.new ≡ sites.old) }
+    {
+        if self.ends.len() > 0 {
+            return self.end_call(image, cpu, sites);
+        }
+        if self.told < self.outcome.woken.len() {
+            return self.wake(image, cpu, sites);
+        }
+        self.go(image, cpu, sites)
+    }
+
+    /// Makes its next step: it takes a thread where it has none; else it cleans, then ends claims, then wakes, and then its thread goes on.
+    pub fn step<S: Sites>(&mut self, image: &Image, cpu: u8, sites: &mut S) -> Turn
+        requires sites { S.IsOf image.now sites.old }
+        requires given { IsGiven image.now }
+        ensures image { S.IsOf image.now sites.new }
+        ensures same { UnlessMade result (whole self.new ≡ whole self.old) }
+        ensures turn { Turned result cpu image.now (whole self.old) (whole self.new)
+            (λ e. S.Took image.now sites.old e sites.new)
+            (λ e. S.Kept sites.old sites.new × S.Shut image.now sites.old e)
+            (S.Kept sites.old sites.new × S.Contended sites.old)
+            (sites.new ≡ sites.old) }
+    {
+        if self.running.is_idle() {
+            return self.take(image, cpu, sites);
+        }
+        match self.cleans.next() {
+            Some(step) => self.clean(image, cpu, step, sites),
+            None => self.step_behind(image, cpu, sites),
+        }
+    }
+}
