@@ -1,0 +1,6 @@
+use Rattle.std.proofs.Common.{◌≡◌, length}
+use Rattle.um_opening.specs.Opened.{AreDomains}
+use Rattle.um_opening.proofs.words.domains.Given as goal
+
+abbrev pub invariant-loop-d : goal.invariant-loop-d
+invariant-loop-d l = record { words : AreDomains l.matrix l.d l.words.items; long : length l.words.items ≡ l.d }
