@@ -63,16 +63,18 @@ one-run image cpus (Some seed) h g l r =
 
 -- steps that are picked are a fine run
 module _ (image : Image) (cpus : ℕ) where
+  pub fine-more : (done : List FineStep) (e : FineStep) → IsFineRun image cpus done → MayFollow image cpus done e → IsFineRun image cpus (done ++ e ∷ [])
+  fine-more done e run follows =
+      record {
+        processors = runs_push same_cpu (λ k. eq-eqb k k refl) (λ j k h. eqb-true j k h) cpu_of (ByOneOf image cpus) (p_next image) p_start done e run.processors follows.makes;
+        sites = runs_push same_site same-itself same-sound site_of (SiteMay image) (s_next image) (s_start image) done e run.sites follows.takes;
+      }
+
   fine-on : (done firsts' : List FineStep) → IsFineRun image cpus done → (firsts : List ℕ) → ArePicked image cpus done firsts firsts' → IsFineRun image cpus (done ++ firsts')
   fine-on done [] run firsts picked = subst (IsFineRun image cpus) (sym (append-nil done)) run
   fine-on done (e ∷ steps) run [] picked = absurd picked
   fine-on done (e ∷ steps) run (first ∷ firsts) picked =
-      subst (IsFineRun image cpus) (append_assoc done (e ∷ []) steps)
-      (fine-on (done ++ e ∷ []) steps
-      (record {
-        processors = runs_push same_cpu (λ k. eq-eqb k k refl) (λ j k h. eqb-true j k h) cpu_of (ByOneOf image cpus) (p_next image) p_start done e run.processors picked.0.follows.makes;
-        sites = runs_push same_site same-itself same-sound site_of (SiteMay image) (s_next image) (s_start image) done e run.sites picked.0.follows.takes;
-      }) firsts picked.1)
+      subst (IsFineRun image cpus) (append_assoc done (e ∷ []) steps) (fine-on (done ++ e ∷ []) steps (fine-more done e run picked.0.follows) firsts picked.1)
 
   pub picked-fine : (pick : Option ℕ) (h : List FineStep) → IsPickedRun image cpus pick h → IsFineRun image cpus h
   picked-fine pick h run = fine-on [] h (record { processors = λ k. tt; sites = λ i. tt }) (preferred cpus pick (length h)) run.picked

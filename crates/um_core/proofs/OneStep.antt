@@ -16,7 +16,7 @@ use Rattle.um_words.specs.declared.thread_word.ThreadWord.{ThreadWord}
 use Rattle.um_words.specs.Rows.{has, is_last, left_of}
 use Rattle.um_fine.specs.Addresses.{address_of}
 use Rattle.um_fine.specs.Answers.{act_in, before_in, is_visit, is_word_read, left_in, row_in, thread_in}
-use Rattle.um_fine.specs.Asks.{CpuMay, begins, by_me, fits_step, has_room, is_dropped, me, moves, next_site, says, says_idle, says_show, shows, site_at}
+use Rattle.um_fine.specs.Asks.{CpuMay, begins, by_me, fits_step, has_room, is_dropped, made_by, me, moves, next_site, says, says_idle, says_show, shows, site_at}
 use Rattle.um_fine.specs.Cells.{Cell}
 use Rattle.um_fine.specs.Places.{Todo, Todos}
 use Rattle.um_fine.specs.Processor.{Processor, edit_of}
@@ -24,6 +24,7 @@ use Rattle.um_fine.specs.Scheduler.{Scheduler, first_ready, sched_moves}
 use Rattle.um_fine.specs.Sites.{SiteMay, SiteState, filled, is_sort, site_after, site_answers, site_moves, site_takes, word_of}
 use Rattle.um_fine.specs.Steps.{Exchange, FineStep, Site, Word}
 use Rattle.um_fine.specs.Threads.{unless_doomed}
+use Rattle.um_processor.specs.Sited.{IsSeen}
 use Rattle.um_core.specs.Moments.{AreSorted, MayStep}
 use Rattle.um_core.proofs.Filling.{filled-alike, gave, said}
 
@@ -285,22 +286,23 @@ module _ (image : Image) (p : Processor) where
       λ k. (and_parts _ _ (subst (λ a. IsTrue (site_takes (SiteState.row w) a)) (sym (sym (ap (λ b. if b then FineAct.Unseen Unseen.Visit else by_me image p (Act.Inherit (to_thread who) (address_of image x))) k) ∙ h)) takes)).1
   right todo s e h takes = tt
 
-  filled-of : (s : SiteState) (e : FineStep) → CpuMay image p e → filled image s e ≡ e → IsRight p.todo s e.act → Filled p.todo s e
-  filled-of s e may fills right =
+  filled-of : (s : SiteState) (e : FineStep) → made_by image p e ≡ e → IsTrue (fits_step image p p.todo e) → filled image s e ≡ e → IsRight p.todo s e.act → Filled p.todo s e
+  filled-of s e makes fit fills right =
       let a : site_answers image s e.moved e.act ≡ e.act = ap (λ (x : FineStep). x.act) fills in
       let m : site_moves image s e.act e.moved ≡ e.moved = ap (λ (x : FineStep). x.moved) fills in
       record {
-        says = ap (λ (x : FineStep). x.act) may.makes;
-        moves = ap (λ (x : FineStep). x.moved) may.makes;
+        says = ap (λ (x : FineStep). x.act) makes;
+        moves = ap (λ (x : FineStep). x.moved) makes;
         answers = a;
         gives = m;
         leaves = (λ i. word_of (site_after image s (sym a i) (sym m i))) ∙ ap (λ (x : FineStep). x.word) fills;
         right = right;
-        fit = (and_parts _ _ may.fit).0;
+        fit = fit;
       }
 
   lawful-of : (s : SiteState) (e : FineStep) → CpuMay image p e → SiteMay image s e → Filled p.todo s e
-  lawful-of s e may takes = filled-of s e may takes.filled_in (right p.todo s e (ap (λ (x : FineStep). x.act) may.makes) takes.takes)
+  lawful-of s e may takes =
+      filled-of s e may.makes (and_parts _ _ may.fit).0 takes.filled_in (right p.todo s e (ap (λ (x : FineStep). x.act) may.makes) takes.takes)
 
   pub one-step : (sites : Site → SiteState) → AreSorted sites → (e g : FineStep) → e.cpu ≡ g.cpu → MayStep image p sites e → MayStep image p sites g → e ≡ g
   one-step sites sorts e g cpu may may' =
@@ -314,9 +316,16 @@ module _ (image : Image) (p : Processor) where
       let site : e.site ≡ g.site = here ∙ sym there in
       λ i. record { cpu = cpu i; site = site i; act = both.0 i; word = word i; moved = both.1 i }
 
+  -- an inheritance that a processor asks for, where the row's word shows that it is due, is of a permission that is there
+  seen-right : (todo : Todos) (s : SiteState) (e : FineStep) → says image p todo e.act e.moved ≡ e.act → IsSeen s e.act → IsRight todo s e.act
+  seen-right (Todo.pass who x ∷ todo) (SiteState.row w) e h seen =
+      λ k. subst (IsSeen (SiteState.row w)) (sym (sym (ap (λ b. if b then FineAct.Unseen Unseen.Visit else by_me image p (Act.Inherit (to_thread who) (address_of image x))) k) ∙ h)) seen
+  seen-right todo s e h seen = tt
+
   -- where its site takes no step that a processor asks for, it takes none that the processor may make
-  pub refused-none : (s : SiteState) → IsTrue (is_sort (next_site image p) s) → (e : FineStep) → CpuMay image p e → filled image s e ≡ e → IsRight p.todo s e.act → site_takes s e.act ≡ false
-      → (g : FineStep) → CpuMay image p g → SiteMay image s g → ⊥
-  refused-none s sort e may fills right refused g may' takes' =
-      let both = same p.todo s e g sort (filled-of s e may fills right) (lawful-of s g may' takes') in
+  pub refused-none : (s : SiteState) → IsTrue (is_sort (next_site image p) s) → (e : FineStep) → made_by image p e ≡ e → IsTrue (fits_step image p p.todo e) → filled image s e ≡ e → IsSeen s e.act
+      → site_takes s e.act ≡ false → (g : FineStep) → CpuMay image p g → SiteMay image s g → ⊥
+  refused-none s sort e makes fit fills seen refused g may' takes' =
+      let right = seen-right p.todo s e (ap (λ (x : FineStep). x.act) makes) seen in
+      let both = same p.todo s e g sort (filled-of s e makes fit fills right) (lawful-of s g may' takes') in
       absurd (false≢true (sym refused ∙ (ap (site_takes s) both.0 ∙ takes'.takes)))

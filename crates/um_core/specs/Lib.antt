@@ -1,2 +1,4 @@
 pub mod Moments
 pub mod PickedRun
+pub mod Cores
+pub mod CoreSteps

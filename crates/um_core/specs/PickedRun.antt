@@ -22,6 +22,10 @@ pub record MayFollow (image : Image) (cpus : ℕ) (done : List FineStep) (e : Fi
   pub makes : ByOneOf image cpus (processor_after image done e.cpu) e
   pub takes : SiteMay image (site_after image done e.site) e
 
+-- no step of this processor may follow
+abbrev pub NoneFollows : Image → ℕ → List FineStep → ℕ → Type 0
+NoneFollows image cpus done k = (e : FineStep) → e.cpu ≡ k → MayFollow image cpus done e → ⊥
+
 -- the processor that comes so many behind one, round-robin
 abbrev pub behind : ℕ → ℕ → ℕ → ℕ
 behind cpus first n = (first + n) % cpus

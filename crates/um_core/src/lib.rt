@@ -2,5 +2,9 @@
 #![tactic(auto)]
 
 mod laws;
+mod processors;
+mod running;
 
 pub use laws::{every_moment, every_order};
+pub use processors::Core;
+pub use running::run;

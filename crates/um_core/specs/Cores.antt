@@ -1,0 +1,22 @@
+-- A core: what stands at all sites and the processors, and that both stand where a fine run has led, with the events that it has shown in the log.
+use Rattle.std.specs.Prelude.{◌≡◌, ℕ, ◌<◌, List, length, slice_index_or, IsTrue}
+use Rattle.um_base.specs.declared.image.Image.{Image}
+use Rattle.um_fine.specs.Erasure.{shown}
+use Rattle.um_fine.specs.FineRun.{IsFineRun}
+use Rattle.um_fine.specs.Processor.{Processor, idle}
+use Rattle.um_fine.specs.Sites.{is_site}
+use Rattle.um_fine.specs.Steps.{FineStep, Site}
+use Rattle.um_processor.specs.Sited.{IsSized, Sited, state_at}
+use Rattle.um_core.specs.PickedRun.{processor_after, site_after}
+
+pub record Core : Type 0 where
+  pub sites : Sited
+  pub processors : List Processor
+
+pub record Stands (image : Image) (cpus : ℕ) (done : List FineStep) (core : Core) : Type 0 where
+  pub run : IsFineRun image cpus done
+  pub at : (i : Site) → IsTrue (is_site i) → state_at core.sites i ≡ site_after image done i
+  pub processors : (k : ℕ) → k < cpus → slice_index_or core.processors k idle ≡ processor_after image done k
+  pub count : length core.processors ≡ cpus
+  pub sized : IsSized core.sites
+  pub log : core.sites.log ≡ shown done

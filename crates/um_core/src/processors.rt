@@ -1,0 +1,123 @@
+//! Processors over the sites that they share.
+
+ghost use Rattle.std.specs.Prelude.{◌≡◌, ◌<◌, ◌≤◌, ℕ, IfOk, IsTrue, List, [], false, length, map, replicate, true};
+ghost use Rattle.um_base.specs.Lawful.{IsLawful};
+ghost use Rattle.um_machine.specs.Memory.{rodata_of};
+ghost use Rattle.um_fine.specs.Opening.{s_start};
+ghost use Rattle.um_fine.specs.Processor.{idle};
+ghost use Rattle.um_fine.specs.Sites.{is_site};
+ghost use Rattle.um_fine.specs.Steps.{FineStep, Site};
+ghost use Rattle.um_processor.specs.Given.{IsGiven};
+ghost use Rattle.um_processor.specs.Sited.{IsSized, state_at};
+ghost use Rattle.um_processor.specs.Standing.{whole};
+ghost use Rattle.um_core.specs.CoreSteps.{AllHalt, FirstSteps, GoesOn, Halts, IsCoreOf, Steps, is_made};
+ghost use Rattle.um_core.specs.PickedRun.{NoneFollows};
+
+use std::alloc::Global;
+use std::marker::Model;
+use um_base::{Event, Image, Memory};
+use um_fine_bound::longest_fine_run;
+use um_opening::opening;
+use um_processor::{Processor, Tables, Turn};
+
+/// Processors of the fine machine, and the sites that they share, in tables.
+#[derive(Drop)]
+pub struct Core {
+    sites: Tables,
+    processors: Vec<Processor>,
+}
+
+impl Model for Core {
+    ghost use Rattle.std.specs.Prelude.{map};
+    ghost use Rattle.um_core.specs.Cores.{Core as Parts};
+    ghost use Rattle.um_processor.specs.Standing.{whole};
+
+    ghost Value = { Parts };
+
+    ghost view = { λ c. record { sites = c.sites; processors = map whole c.processors.items } };
+}
+
+/// So many processors without a thread.
+fn idle_processors(alloc: Global, cpus: u8) -> Result<Vec<Processor>, Memory>
+    ensures { IfOk result (λ all. map whole all.items ≡ replicate cpus idle) }
+{
+    let mut all = Vec::with_capacity(alloc, cpus as usize)?;
+    for _ in 0..cpus {
+        all.push(Processor::new(alloc)?)?;
+    }
+    Ok(all)
+}
+
+/// Whether a processor made a step in its turn.
+fn is_made(turn: Turn) -> bool
+    ensures { result ≡ is_made turn }
+{
+    match turn {
+        Turn::Made => true,
+        Turn::Busy | Turn::Changed | Turn::Stuck => false,
+    }
+}
+
+impl Core {
+    /// So many processors at the opening of an image, with room for so many events at least. All memory is taken here.
+    pub fn boot(alloc: Global, image: &Image, cpus: u8, most: usize) -> Result<Core, Memory>
+        requires lawful { IsLawful image.now }
+        ensures sites { IfOk result (λ core. (i : Site) → IsTrue (is_site i) → state_at core.sites i ≡ s_start image.now i) }
+        ensures sized { IfOk result (λ core. IsSized core.sites) }
+        ensures rodata { IfOk result (λ core. core.sites.rodata ≡ rodata_of image.now) }
+        ensures log { IfOk result (λ core. core.sites.log ≡ []) }
+        ensures room { IfOk result (λ core. most ≤ core.sites.most) }
+        ensures processors { IfOk result (λ core. core.processors ≡ replicate cpus idle) }
+    {
+        Ok(Core {
+            sites: opening(alloc, image, most)?,
+            processors: idle_processors(alloc, cpus)?,
+        })
+    }
+
+    /// A processor makes its next step, where it can make one now. Answers whether it did: the fine run so far goes on by that step, or no
+    /// step of that processor may follow it. It takes no memory.
+    pub fn step(&mut self, image: &Image, cpu: u8) -> bool
+        requires given { IsGiven image.now }
+        requires rodata { self.old.sites.rodata ≡ rodata_of image.now }
+        requires cpu { cpu < length self.old.processors }
+        ensures rodata { self.new.sites.rodata ≡ rodata_of image.now }
+        ensures steps { result ≡ true → Steps image.now cpu self.old self.new }
+        ensures same { result ≡ false → self.new ≡ self.old }
+        ensures halts { result ≡ false → Halts image.now self.old cpu }
+        ensures goes { (cpus : ℕ) (done : List FineStep) → IsCoreOf image.now cpus done self.old → cpu < cpus → result ≡ true → GoesOn image.now cpus done cpu self.new }
+        ensures none { (cpus : ℕ) (done : List FineStep) → IsCoreOf image.now cpus done self.old → cpu < cpus → result ≡ false → NoneFollows image.now cpus done cpu }
+    {
+        longest_fine_run();
+        let processor = &mut self.processors[cpu as usize];
+        let turn = processor.step(image, cpu, &mut self.sites);
+        is_made(turn)
+    }
+
+    /// The first processor that can make a step now makes it, from this one on, going round. Answers whether one did.
+    pub fn next(&mut self, image: &Image, first: u8) -> bool
+        requires given { IsGiven image.now }
+        requires rodata { self.old.sites.rodata ≡ rodata_of image.now }
+        requires few { length self.old.processors ≤ 8 }
+        ensures rodata { self.new.sites.rodata ≡ rodata_of image.now }
+        ensures steps { result ≡ true → FirstSteps image.now first self.old self.new }
+        ensures same { result ≡ false → self.new ≡ self.old }
+        ensures halts { result ≡ false → AllHalt image.now first self.old }
+    {
+        let cpus = self.processors.as_slice().len();
+        for n in 0..cpus {
+            let cpu = (first as usize + n) % cpus;
+            if self.step(image, cpu as u8) {
+                return true;
+            }
+        }
+        false
+    }
+
+    /// The events that its steps have shown, in their order.
+    pub fn into_events(self) -> Vec<Event>
+        ensures { result.items ≡ self.sites.log }
+    {
+        self.sites.into_events()
+    }
+}

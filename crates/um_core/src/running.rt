@@ -1,0 +1,66 @@
+//! A whole run of several processors.
+
+ghost use Rattle.std.specs.Prelude.{◌≡◌, ◌≤◌, IfOk, List, length};
+ghost use Rattle.um_base.specs.Lawful.{IsLawful};
+ghost use Rattle.um_base.specs.Weight.{weight};
+ghost use Rattle.um_machine.specs.Run.{IsComplete, IsRun};
+ghost use Rattle.um_machine.specs.State.{State};
+ghost use Rattle.um_reach.specs.Described.{IsDescribed};
+ghost use Rattle.um_fine.specs.Erasure.{shown};
+ghost use Rattle.um_fine.specs.Steps.{FineStep};
+ghost use Rattle.um_erasure.specs.Room.{CanRun};
+ghost use Rattle.um_core.specs.PickedRun.{IsPickedRun};
+
+use crate::laws::every_order;
+use crate::processors::Core;
+use std::alloc::Global;
+use um_base::{Event, Image, Memory};
+use um_fine_bound::longest_fine_run;
+use um_turns::Order;
+
+/// The events that so many processors show, in the order of a choice.
+fn picked(
+    alloc: Global,
+    image: &Image,
+    cpus: u8,
+    pick: Option<u64>,
+    most: usize,
+) -> Result<Vec<Event>, Memory>
+    requires described { IsDescribed image.now }
+    requires can { CanRun image.now cpus }
+    requires room { weight image.now ≤ most }
+    ensures { IfOk result (λ events. (steps : List FineStep) × IsPickedRun image.now cpus pick steps × (events.items ≡ shown steps)) }
+{
+    longest_fine_run();
+    let mut core = Core::boot(alloc, image, cpus, most)?;
+    let mut order = Order::new(pick);
+    let mut count: usize = 0;
+    'turns: while core.next(image, order.next(cpus)) {
+        count += 1;
+    }
+    Ok(core.into_events())
+}
+
+/// The events of a complete run of an image by so many processors of the fine machine, which are preferred one after another, or as
+/// numbers are drawn by a seed. All memory is taken before its first step: room for `most` events, which is no less than the image's weight.
+pub fn run(
+    alloc: Global,
+    image: &Image,
+    cpus: u8,
+    pick: Option<u64>,
+    most: usize,
+) -> Result<Vec<Event>, Memory>
+    requires lawful { IsLawful image.now }
+    requires some { 1 ≤ cpus }
+    requires few { cpus ≤ 8 }
+    requires room { weight image.now ≤ most }
+    ensures run { IfOk result (λ events. (last : State) × IsRun image.now events.items last × IsComplete last) }
+    ensures picked { IfOk result (λ events. (steps : List FineStep) × IsPickedRun image.now cpus pick steps × (events.items ≡ shown steps)) }
+    ensures few { IfOk result (λ events. length events.items ≤ weight image.now) }
+{
+    every_order();
+    longest_fine_run();
+    let _objects = image.objects.len();
+    let _domains = image.domains.len();
+    picked(alloc, image, cpus, pick, most)
+}
