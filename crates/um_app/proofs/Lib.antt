@@ -1,4 +1,6 @@
 mod CommandLemmas
 mod Ends
 mod InputLemmas
+mod Replays
+mod RunsOf
 mod OneAnswer

@@ -1,16 +1,21 @@
 -- A command writes one text of an input.
-use Rattle.std.proofs.Common.{◌≡◌, ◌∙◌, ℕ, List, refl, sym, ap, subst}
+use Rattle.std.proofs.Common.{◌≡◌, ◌∙◌, inl, inr, ℕ, List, refl, sym, ap, subst}
 use Rattle.std.specs.Prelude.{Option, Some}
+use Rattle.std.proofs.lemmas.Bool.Decides.{leb_tells}
 use Rattle.um_base.specs.declared.act.Event.{Event}
 use Rattle.um_base.specs.declared.image.Image.{Image}
 use Rattle.um_command.specs.declared.command.Command.{Command}
 use Rattle.um_command.specs.declared.command.Options.{Options}
+use Rattle.um_core.proofs.OneRun.{one-run as one-order}
+use Rattle.um_fine.specs.Erasure.{shown}
 use Rattle.um_image.proofs.TextLemmas.{one_image}
+use Rattle.um_machine.specs.Run.{IsRun}
 use Rattle.um_machine.specs.State.{State}
 use Rattle.um_trace.specs.Summary.{summary_text}
 use Rattle.um_trace.specs.Text.{text}
 use Rattle.um_turns.proofs.RunLemmas.{one-run}
 use Rattle.um_app.proofs.Ends.{all_of_it}
+use Rattle.um_app.proofs.Replays.{one-end}
 use Rattle.um_audit.proofs.LawLemmas.{one-verdict}
 use Rattle.um_audit.specs.Told.{verdict_text}
 use Rattle.um_app.specs.Audited.{IsAudit}
@@ -19,7 +24,15 @@ use Rattle.um_app.specs.Top.{Answers, IsOutput, IsRead, IsRunOf, Writes}
 
 -- the run of an image with these options, and its last state, are one
 same_run : (image : Image) (options : Options) (run run2 : List Event) (last last2 : State) → IsRunOf image options run last → IsRunOf image options run2 last2 → (run ≡ run2) × (last ≡ last2)
-same_run image options run run2 last last2 a b = one-run image options.cpus options.pick run run2 last last2 a.scheduled a.complete b.scheduled b.complete
+same_run image options run run2 last last2 a b =
+    elim (leb_tells options.cpus 1) [
+      | inl one ↦ one-run image options.cpus options.pick run run2 last last2 (a.ordered.alone one.1) a.complete (b.ordered.alone one.1) b.complete
+      | inr many ↦
+          let here = a.ordered.several many.1 in
+          let there = b.ordered.several many.1 in
+          let same : run ≡ run2 = here.2 ∙ (ap shown (one-order image options.cpus options.pick here.0 there.0 here.1 there.1) ∙ sym there.2) in
+          (same, one-end image a.described run last last2 a.is_run (subst (λ (events : List Event). IsRun image events last2) (sym same) b.is_run))
+    ]
 
 -- what is told of runs that are the same is the same
 same_told : (told : List Event → State → List ℕ) (run run2 : List Event) (last last2 : State) → (run ≡ run2) × (last ≡ last2) → told run last ≡ told run2 last2

@@ -2,5 +2,6 @@ pub mod Answered
 pub mod Audited
 pub mod Inputs
 pub mod Messages
+pub mod Ordered
 pub mod Top
 pub mod Upgraded

@@ -12,22 +12,23 @@ use Rattle.um_gen.specs.Description.{description}
 use Rattle.um_laws.specs.Obeys.{ObeysLaws}
 use Rattle.um_machine.specs.State.{State}
 use Rattle.um_machine.specs.Run.{IsRun, IsComplete}
+use Rattle.um_reach.specs.Described.{IsDescribed}
 use Rattle.um_trace.specs.Layout.{layout_text}
 use Rattle.um_trace.specs.Summary.{summary_text}
 use Rattle.um_trace.specs.Text.{text}
-use Rattle.um_turns.specs.Scheduled.{IsScheduled}
 use Rattle.um_app.specs.Audited.{IsAudit}
 use Rattle.um_app.specs.Inputs.{IsOf, ReadsAll}
+use Rattle.um_app.specs.Ordered.{IsOrdered}
 use Rattle.um_app.specs.Upgraded.{IsUpgrade}
 
--- One complete run of the access-matrix machine from an image, in the order of its processors: each event is that of the first
--- processor that can make one, from the one that is preferred at that turn on. It has at most as many events as the image's weight,
--- and obeys the laws of accesses, verdicts, origins, inheritances, service, lives and holds.
--- The image and the options name just one such run (`one_run` of um_turns).
+-- One complete run of the access-matrix machine from an image, in the order of its processors. It has at most as many events as the
+-- image's weight, and obeys the laws of accesses, verdicts, origins, inheritances, service, lives and holds.
+-- The image and the options name just one such run (`one_run` of um_turns, `every_order` of um_core).
 pub record IsRunOf (image : Image) (options : Options) (run : List Event) (last : State) : Type 0 where
+  pub described : IsDescribed image
   pub is_run : IsRun image run last
   pub complete : IsComplete last
-  pub scheduled : IsScheduled image options.cpus options.pick run last
+  pub ordered : IsOrdered image options run last
   pub few : length run ≤ weight image
   pub laws : ObeysLaws image run
 

@@ -1,27 +1,70 @@
 //! Runs of images on logical processors.
 
-ghost use Rattle.std.specs.Prelude.{◌≡◌, ◌≤◌, IfOk, List, length};
+ghost use Rattle.std.specs.Prelude.{◌≡◌, ◌<◌, ◌≤◌, IfOk, List, length};
 ghost use Rattle.um_base.specs.Lawful.{IsLawful};
 ghost use Rattle.um_base.specs.Weight.{weight};
 ghost use Rattle.um_command.specs.Words.{IsFew};
+ghost use Rattle.um_machine.specs.Run.{IsComplete, IsRun};
 ghost use Rattle.um_machine.specs.State.{State};
+ghost use Rattle.um_reach.specs.Described.{IsDescribed};
 ghost use Rattle.um_trace.specs.Text.{text};
 ghost use Rattle.um_turns.specs.Schedule.{opening_turn};
 ghost use Rattle.um_turns.specs.Scheduled.{FollowsAlone};
+ghost use Rattle.um_app.specs.Ordered.{IsShown};
 ghost use Rattle.um_app.specs.Top.{IsRunOf, NamesRun};
 
 use std::alloc::Global;
 use um_base::{Event, Image, Memory};
 use um_command::Options;
 use um_image::weight;
+use um_matrix::Matrix;
 use um_turns::{Ran, run};
 
-/// A complete run of an image, which obeys the laws, and the state that it leads to. Its weight is the room for its events.
-pub fn ran<'a>(alloc: Global, image: &'a Image, options: Options) -> Result<Ran<'a>, Memory>
+/// The state that the events of a run lead to.
+fn replayed<'a>(alloc: Global, image: &'a Image, events: &[Event]) -> Result<Matrix<'a>, Memory>
+    requires described { IsDescribed image.now }
+    requires run { (last : State) × IsRun image.now events.now last × IsComplete last }
+    ensures run { IfOk result (λ last. IsRun image.now events.now last) }
+    ensures complete { IfOk result (λ last. IsComplete last) }
+{
+    let mut last = Matrix::boot(alloc, image)?;
+    last.judge(events).unwrap();
+    Ok(last)
+}
+
+/// A complete run of an image on several processors, and the state that it leads to.
+fn played<'a>(alloc: Global, image: &'a Image, options: Options) -> Result<Ran<'a>, Memory>
+    requires described { IsDescribed image.now }
+    requires cpus { IsFew options }
+    ensures run { IfOk result (λ ran. IsRun image.now ran.events.items ran.last) }
+    ensures complete { IfOk result (λ ran. IsComplete ran.last) }
+    ensures shown { IfOk result (λ ran. IsShown image.now options ran.events.items) }
+    ensures few { IfOk result (λ ran. length ran.events.items ≤ weight image.now) }
+{
+    let room = weight(image) as usize;
+    let events = um_core::run(alloc, image, options.cpus, options.pick, room)?;
+    let last = replayed(alloc, image, events.as_slice())?;
+    Ok(Ran { events, last })
+}
+
+/// The run on several processors, whose steps are not all shown by an event.
+fn several<'a>(alloc: Global, image: &'a Image, options: Options) -> Result<Ran<'a>, Memory>
     requires lawful { IsLawful image.now }
     requires cpus { IsFew options }
+    requires many { 1 < options.cpus }
     ensures run { IfOk result (λ ran. IsRunOf image.now options ran.events.items ran.last) }
-    ensures alone { options.cpus ≡ 1 → IfOk result (λ ran. FollowsAlone (opening_turn image.now 1) ran.events.items) }
+    ensures names { IfOk result (λ ran. NamesRun image.now (text image.now ran.events.items ran.last) ran.events.items) }
+{
+    let _objects = image.objects.len();
+    played(alloc, image, options)
+}
+
+/// The run on one processor, whose turns are those of its threads.
+fn alone<'a>(alloc: Global, image: &'a Image, options: Options) -> Result<Ran<'a>, Memory>
+    requires lawful { IsLawful image.now }
+    requires one { options.cpus ≡ 1 }
+    ensures run { IfOk result (λ ran. IsRunOf image.now options ran.events.items ran.last) }
+    ensures alone { IfOk result (λ ran. FollowsAlone (opening_turn image.now 1) ran.events.items) }
     ensures names { IfOk result (λ ran. NamesRun image.now (text image.now ran.events.items ran.last) ran.events.items) }
 {
     let _objects = image.objects.len();
@@ -32,6 +75,20 @@ pub fn ran<'a>(alloc: Global, image: &'a Image, options: Options) -> Result<Ran<
         options.pick,
         weight(image) as usize,
     )
+}
+
+/// A complete run of an image, which obeys the laws, and the state that it leads to. Its weight is the room for its events.
+pub fn ran<'a>(alloc: Global, image: &'a Image, options: Options) -> Result<Ran<'a>, Memory>
+    requires lawful { IsLawful image.now }
+    requires cpus { IsFew options }
+    ensures run { IfOk result (λ ran. IsRunOf image.now options ran.events.items ran.last) }
+    ensures alone { options.cpus ≡ 1 → IfOk result (λ ran. FollowsAlone (opening_turn image.now 1) ran.events.items) }
+    ensures names { IfOk result (λ ran. NamesRun image.now (text image.now ran.events.items ran.last) ran.events.items) }
+{
+    if options.cpus == 1 {
+        return alone(alloc, image, options);
+    }
+    several(alloc, image, options)
 }
 
 /// The events of a complete run of an image by 1 to 8 processors, which are preferred one after another, or as a seed picks
