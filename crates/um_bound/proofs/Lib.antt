@@ -4,7 +4,7 @@ pub mod PlaceLemmas
 pub mod SettledLemmas
 pub mod ScriptLemmas
 pub mod NextLemmas
-mod IndexLemmas
+pub mod IndexLemmas
 mod LineLemmas
 mod StoreLemmas
 mod MadeLemmas

@@ -1,7 +1,7 @@
 -- A processor has no more objects to clean than there are dynamic rows: an object that is gone is a dynamic one, and one processor cleans it.
-use Rattle.std.proofs.Common.{◌≡◌, inl, inr, ℕ, zero, suc, ◌+◌, ◌-◌, ◌<◌, ◌≤◌, Bool, true, false, refl, sym, ap, ◌∙◌, arith}
-use Rattle.std.specs.Prelude.{◌&&◌, nat_lt, not}
-use Rattle.std.proofs.lemmas.Bool.{false≢true, ltb-false, ltb-true}
+use Rattle.std.proofs.Common.{◌≡◌, inl, inr, ℕ, ◌-◌, ◌<◌, ◌≤◌, Bool, true, false, refl, sym, ap, ◌∙◌, arith}
+use Rattle.std.specs.Prelude.{◌&&◌, not}
+use Rattle.std.proofs.lemmas.Bool.{false≢true}
 use Rattle.um_base.specs.declared.limits.TheConstants.{ROWS, STATIC_ROWS}
 use Rattle.um_machine.specs.declared.object.Status.{Status}
 use Rattle.um_machine.specs.Objects as Plain
@@ -11,30 +11,13 @@ use Rattle.um_reach.proofs.Guards.{IsRow}
 use Rattle.um_words.specs.Rows.{is_dying}
 use Rattle.um_fine.specs.Places.{cleanings}
 use Rattle.um_fine.specs.Processor.{Processor}
-use Rattle.um_erasure.specs.Fine.{Fine, one_if, row, total}
+use Rattle.um_erasure.specs.Fine.{Fine, one_if, row}
 use Rattle.um_erasure.specs.Lists.{counted, is_recycle}
 use Rattle.um_erasure.specs.Objects.{recyclers}
 use Rattle.um_erasure.proofs.FirstThreads.{one-most}
-use Rattle.um_erasure.proofs.HeldRows.{total-zero}
 use Rattle.um_erasure.proofs.MemorySteps.{part-total}
-use Rattle.um_erasure.proofs.Totals.{recycles-total}
+use Rattle.um_erasure.proofs.Totals.{recycles-total, total-late}
 use Rattle.um_core.proofs.LeftKnown.{IsLeft}
-
--- what is none below s and at most one each, added up
-total-late : (g : ℕ → ℕ) (n s : ℕ) → s ≤ n → ((k : ℕ) → k < s → g k ≡ 0) → ((k : ℕ) → k < n → g k ≤ 1) → total g n + s ≤ n
-total-late g zero s l none most = omega (arith, l)
-total-late g (suc n) s l none most = by (nat_lt n s) refl (λ below. total-late g n s below none (λ k r. most k (omega (arith, r))))
-  where
-    by : (b : Bool) → nat_lt n s ≡ b → (s ≤ n → total g n + s ≤ n) → total g n + g n + s ≤ suc n
-    by true e more =
-        let past = ltb-true n s e in
-        let before = total-zero g n (λ k r. none k (omega (arith, r, past))) in
-        let last = none n past in
-        omega (arith, before, last, l)
-    by false e more =
-        let before = more (ltb-false n s e) in
-        let last = most n (omega arith) in
-        omega (arith, before, last)
 
 gone-used : (s : Status) → Plain.is_gone s ≡ true → Plain.is_free s ≡ false
 gone-used Status.Gone h = refl

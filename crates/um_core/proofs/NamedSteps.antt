@@ -1,30 +1,26 @@
 -- A step that names a thread by its index names one that there is: the threads that calls name are those of objects, and the doomed are counted.
-use Rattle.std.proofs.Common.{◌≡◌, ◌<◌, ◌≤◌, ℕ, zero, suc, ◌+◌, ◌-◌, Bool, true, false, List, [], ◌∷◌, ◌++◌, map, Option, Some, None, refl, arith}
-use Rattle.std.specs.Prelude.{◌&&◌, ◌==◌, ℤ, if◌then◌else◌, nat_lt, slice_index_or, unwrap_or}
+use Rattle.std.proofs.Common.{◌≡◌, ℕ, ◌+◌, ◌-◌, Bool, true, false, [], ◌∷◌, ◌++◌, Option, Some, None, refl}
+use Rattle.std.specs.Prelude.{◌&&◌, ◌==◌, ℤ, if◌then◌else◌, nat_lt}
 use Rattle.std.specs.List.{list_all}
-use Rattle.std.specs.Option.{option_and_then}
-use Rattle.std.proofs.lemmas.Bool.{and_parts, eqb-true, leb-true, lt-ltb, ltb-true}
 use Rattle.um_base.specs.declared.act.Cause.{Cause}
 use Rattle.um_base.specs.declared.ask.Ask.{Ask}
 use Rattle.um_base.specs.declared.image.Image.{Image}
-use Rattle.um_base.specs.declared.image.ObjectDef.{ObjectDef}
-use Rattle.um_base.specs.declared.image.Setup.{Setup}
 use Rattle.um_base.specs.declared.instr.Instr.{Instr}
 use Rattle.um_base.specs.declared.instr.Options.{Options}
-use Rattle.um_base.specs.declared.limits.TheConstants.{STATIC_ROWS, STATIC_THREADS, THREADS}
+use Rattle.um_base.specs.declared.limits.TheConstants.{THREADS}
 use Rattle.um_base.specs.declared.names.Errno.{Errno}
 use Rattle.um_base.specs.declared.names.Kind.{Kind}
 use Rattle.um_base.specs.declared.names.Mode.{Mode}
 use Rattle.um_base.specs.declared.names.Policy.{Policy}
 use Rattle.um_base.specs.declared.names.Reply.{Reply}
 use Rattle.um_base.specs.declared.names.ThreadIx.{ThreadIx}
-use Rattle.um_base.specs.Lawful.{IsLawful, has_index, has_indices, index_after}
-use Rattle.um_base.specs.Places.{row_at, setup_at, setup_thread, thread_of_addr, thread_of_row}
+use Rattle.um_base.specs.Lawful.{IsLawful}
 use Rattle.um_machine.specs.declared.pending.Pending.{Pending}
 use Rattle.um_machine.specs.declared.thread.Thread.{Thread}
 use Rattle.um_machine.specs.Order.{Steps, answer_error, answer_zero, buffered, creates, end_steps, fatal_steps, new_mode, privileged, steps_of, to_addr, to_row, to_thread, work}
 use Rattle.um_machine.specs.State.{value_of}
 use Rattle.um_machine.specs.Table as T
+use Rattle.um_bound.proofs.IndexLemmas.{addr-below}
 
 abbrev pub names_thread : Pending → Bool
 names_thread (Pending.Own who) = nat_lt who.0 THREADS
@@ -37,43 +33,7 @@ names_thread q = true
 abbrev pub AreNamed : Steps → Type 0
 AreNamed steps = list_all names_thread steps ≡ true
 
--- The thread whose object is at an address of a lawful image.
-
-setup-below : (setup : Setup) (t : ℕ) → has_index setup t ≡ true → index_after setup t ≤ STATIC_THREADS → (t ≤ STATIC_THREADS) × (unwrap_or (setup_thread setup) 0 < STATIC_THREADS)
-setup-below (Setup.Thread index) t h le = let same = eqb-true index.0 t h in (omega (arith, le), omega (arith, same, le))
-setup-below Setup.Bare t h le = (le, omega arith)
-setup-below (Setup.ThreadStack range declared) t h le = (le, omega arith)
-setup-below (Setup.Sem count limit) t h le = (le, omega arith)
-setup-below Setup.Mutex t h le = (le, omega arith)
-setup-below (Setup.Msgq size most) t h le = (le, omega arith)
-setup-below (Setup.Stack entries) t h le = (le, omega arith)
-setup-below (Setup.Pipe size) t h le = (le, omega arith)
-
-indices-end : (os : List ObjectDef) (t : ℕ) → has_indices os t ≡ true → t ≤ STATIC_THREADS
-indices-end [] t h = leb-true t STATIC_THREADS h
-indices-end (o ∷ os) t h = let parts = and_parts _ _ h in (setup-below o.setup t parts.0 (indices-end os (index_after o.setup t) parts.1)).0
-
-index-below : (os : List ObjectDef) (t : ℕ) → has_indices os t ≡ true → (x : ℕ) → unwrap_or (setup_thread (slice_index_or (map (λ (o : ObjectDef). o.setup) os) x Setup.Bare)) 0 < STATIC_THREADS
-index-below [] t h x = omega arith
-index-below (o ∷ os) t h zero = let parts = and_parts _ _ h in (setup-below o.setup t parts.0 (indices-end os (index_after o.setup t) parts.1)).1
-index-below (o ∷ os) t h (suc x) = index-below os (index_after o.setup t) (and_parts _ _ h).1 x
-
-dynamic-below : (n : ℕ) (b : Bool) → nat_lt n THREADS ≡ b → unwrap_or (if b then Some n else None) 0 < THREADS
-dynamic-below n true h = ltb-true n THREADS h
-dynamic-below n false h = omega arith
-
-row-below : (n : ℕ) (static : Option ℕ) (b : Bool) → unwrap_or static 0 < STATIC_THREADS → unwrap_or (if b then static else if nat_lt n THREADS then Some n else None) 0 < THREADS
-row-below n static true h = omega (arith, h)
-row-below n static false h = dynamic-below n (nat_lt n THREADS) refl
-
 module _ (image : Image) (lawful : IsLawful image) where
-  addr-below : (a : ℕ) → nat_lt (thread_of_addr image a) THREADS ≡ true
-  addr-below a = lt-ltb (thread_of_addr image a) THREADS (by (row_at image a))
-    where
-      by : (row : Option ℕ) → unwrap_or (option_and_then (thread_of_row image) row) 0 < THREADS
-      by None = omega arith
-      by (Some x) = row-below (STATIC_THREADS + (x - STATIC_ROWS)) (setup_thread (setup_at image x)) (nat_lt x STATIC_ROWS) (index-below image.objects 0 lawful.indices x)
-
   -- The steps of a line.
 
   privileged-named : (mode : Mode) (steps : Steps) → AreNamed steps → AreNamed (privileged mode steps)
@@ -103,12 +63,12 @@ module _ (image : Image) (lawful : IsLawful image) where
   named-steps t me (Instr.DomainInit domain parts) = privileged-named me.mode _ refl
   named-steps t me (Instr.DomainAdd domain part) = privileged-named me.mode _ refl
   named-steps t me (Instr.DomainRemove domain part) = privileged-named me.mode _ refl
-  named-steps t me (Instr.DomainMove domain thread) = privileged-named me.mode _ (λ i. addr-below (value_of me.registers thread) i && true)
+  named-steps t me (Instr.DomainMove domain thread) = privileged-named me.mode _ (λ i. addr-below image lawful (value_of me.registers thread) i && true)
   named-steps t me (Instr.UserMode script) = privileged-named me.mode _ refl
   named-steps t me (Instr.AllGrant object) = privileged-named me.mode _ refl
   named-steps t me (Instr.Revoke object thread) = privileged-named me.mode _ refl
-  named-steps t me (Instr.NameSet thread addr) = λ i. addr-below (value_of me.registers thread) i && true
-  named-steps t me (Instr.Create thread stack size script priority options) = creates-named me.mode _ _ _ _ _ _ options _ (addr-below (value_of me.registers thread))
+  named-steps t me (Instr.NameSet thread addr) = λ i. addr-below image lawful (value_of me.registers thread) i && true
+  named-steps t me (Instr.Create thread stack size script priority options) = creates-named me.mode _ _ _ _ _ _ options _ (addr-below image lawful (value_of me.registers thread))
   named-steps t me (Instr.SemInit object count limit) = init-named _ _ _
   named-steps t me (Instr.MsgqInit object msg_size max_msgs) = buffered-named _ Kind.Msgq _ _ _
   named-steps t me (Instr.StackInit object entries) = buffered-named _ Kind.Stack _ _ _

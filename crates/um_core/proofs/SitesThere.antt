@@ -33,7 +33,7 @@ use Rattle.um_erasure.proofs.CallSteps.{Proper}
 use Rattle.um_erasure.proofs.ListWakes.{wakers}
 use Rattle.um_erasure.proofs.ObjectsKept.{found-below}
 use Rattle.um_erasure.proofs.StepsLeft.{offered-on}
-use Rattle.um_erasure.proofs.StuckEvents.{InImage, edit-in}
+use Rattle.um_erasure.proofs.StuckEvents.{InImage, edit-in, first-in}
 use Rattle.um_core.proofs.LeftKnown.{IsLeft}
 use Rattle.um_core.proofs.NamedSteps.{AreNamed, names_thread}
 
@@ -52,13 +52,6 @@ own-below image few t h = by (nat_lt t STATIC_THREADS)
     by : (b : Bool) → (if b then unwrap_or (position (is_thread_index t) image.objects) 0 else STATIC_ROWS + (t - STATIC_THREADS)) < ROWS
     by true = found (position (is_thread_index t) image.objects) refl
     by false = let l = ltb-true t THREADS h in omega (arith, l)
-
-first-in : (image : Image) (checked : List Bool) (q : Pending) (rest : Steps) → Proper image checked (q ∷ rest) → InImage (length image.domains) q
-first-in image checked (Pending.DomInit d parts) rest h = h.0
-first-in image checked (Pending.DomAdd d range attr) rest h = h.0
-first-in image checked (Pending.DomRemove d range attr) rest h = h.0
-first-in image checked (Pending.DomMove d who) rest h = h.0
-first-in image checked q rest h = tt
 
 module _ (f : Fine) (m : State) (is : IsLeft f m) (k : ℕ) (l : k < f.cpus) where
   abbrev p : Processor

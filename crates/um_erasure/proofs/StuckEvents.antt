@@ -87,7 +87,7 @@ InImage n (Pending.DomRemove d range attr) = d < n
 InImage n (Pending.DomMove d who) = d < n
 InImage n q = Unit {0}
 
-first-in : (image : Image) (checked : List Bool) (q : Pending) (rest : Steps) → Proper image checked (q ∷ rest) → InImage (length image.domains) q
+pub first-in : (image : Image) (checked : List Bool) (q : Pending) (rest : Steps) → Proper image checked (q ∷ rest) → InImage (length image.domains) q
 first-in image checked (Pending.DomInit d parts) rest h = h.0
 first-in image checked (Pending.DomAdd d range attr) rest h = h.0
 first-in image checked (Pending.DomRemove d range attr) rest h = h.0

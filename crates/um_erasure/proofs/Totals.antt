@@ -51,7 +51,7 @@ total-sole g (suc n) h = by (g n) refl (total-sole g n (λ a b l r. h a b (omega
     by false e before = let last = ap one_if e in omega (arith, before, last)
 
 -- numbers of at most one from s on, one of which is none
-total-late : (g : ℕ → ℕ) (n s : ℕ) → s ≤ n → ((k : ℕ) → k < s → g k ≡ 0) → ((k : ℕ) → k < n → g k ≤ 1) → total g n + s ≤ n
+pub total-late : (g : ℕ → ℕ) (n s : ℕ) → s ≤ n → ((k : ℕ) → k < s → g k ≡ 0) → ((k : ℕ) → k < n → g k ≤ 1) → total g n + s ≤ n
 total-late g zero s l none most = omega (arith, l)
 total-late g (suc n) s l none most = by (nat_lt n s) refl (λ below. total-late g n s below none (λ k r. most k (omega (arith, r))))
   where

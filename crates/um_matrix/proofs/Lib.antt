@@ -1,5 +1,5 @@
 mod AdvanceLemmas
-mod BootLemmas
+pub mod BootLemmas
 mod ByteLemmas
 pub mod OfferLemmas
 mod PairLemmas

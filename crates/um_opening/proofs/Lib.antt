@@ -1,5 +1,4 @@
 -- What the proofs of several functions cite.
 pub mod Fresh
-pub mod Limits
 pub mod Lists
 pub mod SitesAre

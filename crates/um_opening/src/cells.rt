@@ -60,7 +60,7 @@ fn kept_by(object: Object) -> ObjectCell
 }
 
 /// The cells of the objects that are described.
-#[tactic(auto, using(crate::proofs::Limits::in_limits))]
+#[tactic(auto, using(um_matrix::proofs::BootLemmas::in_limits))]
 fn described(alloc: Global, image: &Image) -> Result<Vec<ObjectCell>, Memory>
     requires { IsLawful image.now }
     ensures cells { IfOk result (λ cells. cells.items ++ replicate (ROWS - length cells.items) (cleared 0) ≡ map kept_by (objects_from image.now.boots 0 image.now.objects)) }

@@ -8,6 +8,7 @@ use um_base::{Ask, PIECE, Piece};
 use um_machine::Contents;
 
 /// As many bytes as a copy takes at most.
+#[inline]
 pub fn first_bytes(bytes: &[u8]) -> Piece
     ensures { result ≡ take PIECE bytes.now }
 {
@@ -20,6 +21,7 @@ pub fn first_bytes(bytes: &[u8]) -> Piece
 }
 
 /// The bytes that a call gives of its buffer.
+#[inline]
 pub fn bytes_given(buffer: &Piece, ask: &Ask) -> Piece
     ensures { result ≡ bytes_given buffer.now ask.now }
 {
@@ -30,6 +32,7 @@ pub fn bytes_given(buffer: &Piece, ask: &Ask) -> Piece
 }
 
 /// The bytes of a message, where a queue keeps them.
+#[inline]
 pub fn message_size(contents: &Contents) -> u32
     ensures { result ≡ message_size contents.now }
 {

@@ -9,6 +9,7 @@ use um_base::{Answer, Ask, Reply};
 use um_machine::Cost;
 
 /// A pool gets bytes back.
+#[inline]
 pub fn pay_back(pools: &mut [u32], cost: Option<Cost>)
     ensures { pools.new ≡ paid_back cost pools.old }
 {
@@ -21,6 +22,7 @@ pub fn pay_back(pools: &mut [u32], cost: Option<Cost>)
 }
 
 /// Bytes are taken from a pool.
+#[inline]
 pub fn pay_from(pools: &mut [u32], pool: Option<u8>, size: u32)
     ensures { pools.new ≡ paid_from pool size pools.old }
 {
@@ -33,6 +35,7 @@ pub fn pay_from(pools: &mut [u32], pool: Option<u8>, size: u32)
 }
 
 /// What a thread's pool pays.
+#[inline]
 pub fn cost_of(pool: Option<u8>, size: u32) -> Option<Cost>
     ensures { result ≡ cost_of pool size }
 {
@@ -43,6 +46,7 @@ pub fn cost_of(pool: Option<u8>, size: u32) -> Option<Cost>
 }
 
 /// What an object's buffer costs after an act.
+#[inline]
 pub fn buffer_cost(ask: &Ask, answer: Answer, before: Option<Cost>) -> Option<Cost>
     requires { IsTrue (is_sound_ask ask.now) }
     ensures { result ≡ buffer_cost ask.now answer before }

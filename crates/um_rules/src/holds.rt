@@ -9,6 +9,7 @@ use um_base::Image;
 use um_machine::Thread;
 
 /// Whether a thread holds an object: its call has checked it, or it is its own.
+#[inline]
 pub fn holds(image: &Image, x: usize, t: usize, thread: &Thread) -> bool
     requires thread { t < THREADS }
     requires row { x < ROWS }

@@ -7,6 +7,7 @@ ghost use Rattle.um_machine.specs.Objects.{has_kind, kind_number};
 use um_base::{Kind, STATIC_ROWS};
 
 /// The kind of the objects of a dynamic row.
+#[inline]
 pub fn dynamic_kind(x: usize) -> Kind
     ensures { result ≡ dynamic_kind x }
 {
@@ -27,6 +28,7 @@ pub fn dynamic_kind(x: usize) -> Kind
 }
 
 /// The place of a kind among the kinds.
+#[inline]
 pub fn kind_number(kind: Kind) -> u8
     ensures { result ≡ kind_number kind }
 {
@@ -42,6 +44,7 @@ pub fn kind_number(kind: Kind) -> u8
 }
 
 /// Whether an object of this kind is one that a check wants.
+#[inline]
 pub fn has_kind(want: Option<Kind>, have: Option<Kind>) -> bool
     ensures { result ≡ has_kind want have }
 {

@@ -7,6 +7,7 @@ use crate::order::value_of;
 use um_base::{Instr, Reply};
 
 /// What a register holds: 0 where there is no such one.
+#[inline]
 fn register(registers: &[u32], r: u8) -> u32
     ensures { result ≡ slice_index registers.now r }
 {
@@ -17,6 +18,7 @@ fn register(registers: &[u32], r: u8) -> u32
 }
 
 /// Writes a register, if it is one.
+#[inline]
 pub fn put_register(registers: &mut [u32], to: u8, value: u32)
     ensures { registers.new ≡ slice_set registers.old to value }
 {
@@ -26,6 +28,7 @@ pub fn put_register(registers: &mut [u32], to: u8, value: u32)
 }
 
 /// Writes what the begin of an instruction writes to a register.
+#[inline]
 pub fn put_begin(registers: &mut [u32], instr: &Instr)
     ensures { registers.new ≡ with_begin registers.old instr.now }
 {
@@ -43,6 +46,7 @@ pub fn put_begin(registers: &mut [u32], instr: &Instr)
 }
 
 /// Writes an answer to its register, where it has one and is a number, an address or NULL.
+#[inline]
 pub fn put_answer(registers: &mut [u32], to: Option<u8>, reply: Reply)
     ensures { registers.new ≡ with_answer registers.old to reply }
 {
