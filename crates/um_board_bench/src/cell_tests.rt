@@ -5,11 +5,11 @@ ghost use Rattle.um_cell.specs.Contents.{IsCell, KnowsFilled};
 
 use super::*;
 use crate::blank::empty_image;
-use crate::seen::LAST;
+use std::marker::Brand;
 use std::mem::size_of;
 use um_cell::{Cells, Held};
 use um_site::{are_unstepped, have_no_turn};
-use um_words::{CellWord, Content, FineAct, Moved, Unseen};
+use um_words::{Content, FineAct, Local, Unseen};
 
 /// The cell of the first row's object.
 const CELL: u16 = 168;
@@ -66,13 +66,13 @@ fn one_cell(rt: HostRuntime) -> Result<(), Memory> {
         return Ok(());
     };
     assert!(rt; busy.word == 1 && held.word == 0 && !held.contents.cleared);
-    if CellWord::read(held.word).number >= LAST {
-        return Ok(());
-    }
     held.contents.cleared = true;
     let wipe = FineAct::Unseen(Unseen::Wipe);
-    let nothing = Moved::Nothing;
-    let number = cells.put(&board, &mut first, held, &wipe, &nothing);
+    let Some(next) = AnyStep::step(CELL, held.word, &wipe) else {
+        assert!(rt; false, "a step of the first");
+        return Ok(());
+    };
+    let number = cells.put::<_, Brand>(&board, &mut first, held, next);
     assert!(rt; number == 1);
     let Ok(held) = cells.take(&board, &mut second, CELL) else {
         assert!(rt; false, "taken by the second");

@@ -4,13 +4,13 @@ use Rattle.atomic_table.specs.Table.{Me, rest}
 use Rattle.um_base.specs.declared.image.Image.{Image}
 use Rattle.um_words.specs.declared.fine.FineAct.{FineAct}
 use Rattle.um_words.specs.declared.made.Made.{Made}
-use Rattle.um_words.specs.declared.made.Moved.{Moved}
+use Rattle.um_words.specs.Exchanges.{Exchange}
 use Rattle.um_site.specs.declared.view.View.{View}
 use Rattle.um_words.specs.History.{by_site}
 use Rattle.um_site.specs.Cells.{ContentsAre}
 use Rattle.um_site.specs.Tells.{HasTurn, Took, taking}
 
-module _ {T : Type 0} (opens : Image → ℕ → T → Type 0) (follows : T → FineAct → Moved → T → Type 0) where
+module _ {T : Type 0} (opens : Image → ℕ → T → Type 0) (follows : T → FineAct → Exchange → T → Type 0) where
   -- of a list that begins with one place, and with another
   same_place : (l c d : List (ℕ × Option T)) (p q : ℕ × Option T) → l ≡ p ∷ c → l ≡ q ∷ d → p ≡ q
   same_place l c d p q a b = let e : p ∷ c ≡ q ∷ d = sym a ∙ b in cc

@@ -5,10 +5,8 @@ use lib.ListN.{get_elem?}
 use Rattle.atomic_table.specs.Table.{Me, rest}
 use Rattle.atomic_table.specs.Seated.{TableId}
 use Rattle.um_base.specs.declared.image.Image.{Image}
-use Rattle.um_words.specs.Steps.{WordMay, number}
-use Rattle.um_words.specs.declared.fine.FineAct.{FineAct}
+use Rattle.um_words.specs.Steps.{number}
 use Rattle.um_words.specs.declared.made.Made.{Made}
-use Rattle.um_words.specs.declared.made.Moved.{Moved}
 use Rattle.um_site.specs.declared.seat.Seat.{Seat}
 use Rattle.um_site.specs.declared.view.View.{View}
 use Rattle.um_site.specs.Cells.{AmongCells}
@@ -39,19 +37,9 @@ abbrev pub SameView : View → View → Type 0
 SameView v w =
     (w.image ≡ v.image) × (w.opening ≡ v.opening) × (w.name ≡ v.name) × (w.splits ≡ v.splits) × (w.made ≡ v.made) × (w.joined ≡ v.joined) × (w.children ≡ v.children) × (w.turn ≡ v.turn)
 
-abbrev pub made : ℕ → FineAct → ℕ → Moved → Made
-made cell act next moved = record { site = cell; act = act; word = next; moved = moved }
-
--- the seat may make this act next with what it moves, where it is lawful on the word of the take
-abbrev pub MayPut : {T : Type 0} → (Image → List ℕ → List Made → Made → Type 0) → Seat T → ℕ → ℕ → FineAct → Moved → Type 0
-MayPut goes s cell word act moved =
-    let v = s.token.me.0 in (next : ℕ) → WordMay cell word act next → goes v.image v.name v.made (made cell act next moved)
-
--- one step with this act was recorded, with the number n, on the word of the take, which had the turn's bit
-pub record HasPut {T : Type 0} (goes : Image → List ℕ → List Made → Made → Type 0) (me : Me (Option T) View) (cell word : ℕ) (act : FineAct) (moved : Moved) (n : ℕ) (me' : Me (Option T) View) : Type 0 where
-  pub next : ℕ
-  pub may : WordMay cell word act next
-  pub numbered : n ≡ number cell next
-  pub history : GoesOn goes me.0 (made cell act next moved) (word + 1)
-  pub now : me'.0 ≡ recording me.0 (made cell act next moved)
+-- one step was recorded, with the number n, on the word of the take, which had the turn's bit
+pub record HasPut {T : Type 0} (goes : Image → List ℕ → List Made → Made → Type 0) (me : Me (Option T) View) (word : ℕ) (m : Made) (n : ℕ) (me' : Me (Option T) View) : Type 0 where
+  pub numbered : n ≡ number m.site m.word
+  pub history : GoesOn goes me.0 m (word + 1)
+  pub now : me'.0 ≡ recording me.0 m
   pub slots : me'.1 ≡ rest me.1

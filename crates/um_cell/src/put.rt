@@ -4,42 +4,35 @@ ghost use Rattle.std.specs.Prelude.{◌≡◌, ℕ, None};
 ghost use Rattle.um_words.specs.Steps.{WordMay};
 ghost use Rattle.um_site.specs.Calls.{SameSeat};
 ghost use Rattle.um_site.specs.Tells.{HasTurn, returning};
-ghost use Rattle.um_cell.specs.Contents.{AtCell, KeepsKin, MayPut, HasPut};
+ghost use Rattle.um_cell.specs.Contents.{AtCell, HasPut, KeepsKin};
 ghost use Rattle.atomic_table.specs.Table.{rest};
 
 use crate::cells::Cells;
 use crate::held::Held;
-use std::marker::Brand;
-use um_site::{Board, Seat};
-use um_words::{Content, FineAct, Local, Made, Moved, step_number};
+use um_site::{Board, Seat, Step};
+use um_words::{Content, Local, step_number};
 
 impl<T: Content> Cells<T> {
-    /// Records a step of a cell, with what it moves, leaves what was made of the contents, and gives the turn back. It gives the number of the step.
-    pub fn put<L: Local>(
+    /// Records a step of a cell by which this word comes to stand, leaves what was made of the contents, and gives the turn back. The step
+    /// itself, with what it moves, stands in clauses alone, as `D::made`. It gives the number of the step.
+    pub fn put<L: Local, D: Step>(
         &self,
         board: &Board<T, L>,
         seat: &mut Seat<T>,
         held: Held<T>,
-        act: &FineAct,
-        moved: &Moved,
+        next: u64,
     ) -> u32
         requires at { AtCell board.now.table.shared.table_id seat.old self.now held.cell }
-        requires held { (old : T) × HasTurn T.opens T.follows seat.old.token.me held.cell held.word None old × T.follows old act.now moved.now held.contents }
-        requires lawful { (next : ℕ) × WordMay held.cell held.word act.now next }
-        requires goes { MayPut L.goes seat.old held.cell held.word act.now moved.now }
+        requires step { D.made ≡ record { site = held.cell; act = D.made.act; word = next; moved = D.made.moved } }
+        requires held { (old : T) × HasTurn T.opens T.follows seat.old.token.me held.cell held.word None old × T.follows old D.made.act D.made.moved held.contents }
+        requires lawful { WordMay held.cell held.word D.made.act next }
+        requires goes { L.goes seat.old.token.me.0.image seat.old.token.me.0.name seat.old.token.me.0.made D.made }
         ensures same { SameSeat seat.old seat.new }
         ensures kin { KeepsKin seat.old.token.me.0 seat.new.token.me.0 }
         ensures idle { seat.new.token.me.0.turn ≡ None }
-        ensures told { HasPut L.goes seat.old.token.me held.cell held.word act.now moved.now result seat.new.token.me }
+        ensures told { HasPut L.goes seat.old.token.me held.word D.made result seat.new.token.me }
     {
-        let Held {
-            cell,
-            word,
-            contents,
-        } = held;
-        let Some(next) = L::step(cell, word, act) else {
-            unreachable!();
-        };
+        let Held { cell, contents, .. } = held;
         let slot = (cell - 168) as usize;
         let emptied = board
             .table
@@ -48,13 +41,7 @@ impl<T: Content> Cells<T> {
         let None = emptied else {
             unreachable!();
         };
-        let made = Made {
-            site: cell,
-            act: *act,
-            word: next,
-            moved: *moved,
-        };
-        board.record::<Brand>(seat, &made);
+        board.record::<D>(seat, cell, next);
         step_number(cell, next)
     }
 

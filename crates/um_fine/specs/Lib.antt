@@ -1,4 +1,4 @@
-pub mod Context
+pub use Rattle.um_words.specs.Context
 pub mod Steps
 pub mod Addresses
 pub mod Answers

@@ -1,13 +1,11 @@
 -- Lists of steps in the same order, and the orders that logs have.
-use Rattle.std.specs.Prelude.{◌≡◌, ℕ, zero, suc, ◌+◌, ◌<◌, ◌≤◌, eqb, List, [], ◌∷◌, ◌++◌, length, drop, slice_index, slice_index_or, Vec}
+use Rattle.std.specs.Prelude.{◌≡◌, ℕ, zero, suc, ◌+◌, ◌<◌, ◌≤◌, eqb, List, [], ◌∷◌, ◌++◌, length, drop, slice_index, slice_index_or, None, Vec}
 use Rattle.std.specs.Global.{Global}
 use Rattle.um_fine.specs.Runs.{sublist, SameAt}
 use Rattle.um_merge.specs.declared.logged.Logged.{Logged}
-use Rattle.um_words.specs.declared.fine.FineAct.TheVariants as FineAct
-use Rattle.um_words.specs.declared.fine.Unseen.TheVariants as Unseen
 
 abbrev pub blank : Logged
-blank = record { cpu = 0; site = 0; number = 0; act = FineAct.Unseen Unseen.Done }
+blank = record { cpu = 0; site = 0; number = 0; event = None }
 
 abbrev pub cpu_of : Logged → ℕ
 cpu_of step = step.cpu

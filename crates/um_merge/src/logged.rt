@@ -1,6 +1,6 @@
 //! Steps as the processors that made them note them.
 
-use um_words::FineAct;
+use um_base::Event;
 
 /// How many processors there are at most.
 pub const PROCESSORS: usize = 8;
@@ -17,6 +17,6 @@ pub struct Logged {
     pub site: u16,
     /// Which of that site's steps it is, from 1 on.
     pub number: u32,
-    /// What it does.
-    pub act: FineAct,
+    /// What a trace shows of it.
+    pub event: Option<Event>,
 }

@@ -1,22 +1,19 @@
 //! Merges of small logs.
 
-ghost use Rattle.std.specs.Prelude.{◌≡◌};
-ghost use Rattle.um_words.specs.declared.fine.FineAct.TheVariants as FineAct;
-ghost use Rattle.um_words.specs.declared.fine.Unseen.TheVariants as Unseen;
+ghost use Rattle.std.specs.Prelude.{◌≡◌, None};
 
 use super::*;
 use std::test::Fail;
-use um_words::{FineAct, Unseen};
 
 /// A step that is told by its processor, its site and its number there.
 fn step(cpu: u8, site: u16, number: u32) -> Logged
-    ensures { result ≡ record { cpu = cpu; site = site; number = number; act = FineAct.Unseen Unseen.Done } }
+    ensures { result ≡ record { cpu = cpu; site = site; number = number; event = None } }
 {
     Logged {
         cpu,
         site,
         number,
-        act: FineAct::Unseen(Unseen::Done),
+        event: None,
     }
 }
 

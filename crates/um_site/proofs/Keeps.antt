@@ -16,7 +16,7 @@ use Rattle.um_base.specs.declared.image.Image.{Image}
 use Rattle.um_site.specs.declared.turn.Turn.{Turn}
 use Rattle.um_site.specs.declared.view.View.{View}
 use Rattle.um_words.specs.History.{Entry, made_of, is_by, is_at, by_seat, by_site, Words, IsHistory, Numbers, bare}
-use Rattle.um_site.specs.History.{Among, Has, Owns, Told, Fresh, Knows, Tidy, AllTidy, AllApart, Somewhere, AllOwned, AmongNames, Kept, opening_view, with_cells}
+use Rattle.um_site.specs.History.{Among, Has, Owns, Told, IsNoNewer, Fresh, Knows, Tidy, AllTidy, AllApart, Somewhere, AllOwned, AmongNames, Kept, opening_view, with_cells}
 use Rattle.um_site.specs.Tells.{with_got, with_made, NoOlder, GoesOn, Looked}
 
 -- the sublists of a history with one more step
@@ -91,14 +91,38 @@ in_range (x ∷ xs) (suc i) a e = let r = in_range xs i a e in omega arith
 
 -- what the views have to do with it
 
-pub fresh_rises : (words : List ℕ) (i w : ℕ) (got : List (ℕ × ℕ)) → i < length words → number i (get_or words i 0) ≤ number i w → Fresh words got → Fresh (set words i w) got
-fresh_rises words i w [] in' up f = tt
-fresh_rises words i w (e ∷ es) in' up f = (
+-- the word w of the site i gives way to the word z: its number rises, or it's the same word, a cell's turn aside
+pub record Rises (i w z : ℕ) : Type 0 where
+  pub up : number i w ≤ number i z
+  pub same : number i w ≡ number i z → bare i w ≡ bare i z
+
+pub rises_by_step : (i w z : ℕ) → number i w < number i z → Rises i w z
+rises_by_step i w z up = record { up = omega arith; same = λ e. absurd (omega arith) }
+
+same_number : (i w z : ℕ) → bare i w ≡ bare i z → number i w ≡ number i z
+same_number i w z same = sym (bare-number i w) ∙ ap (number i) same ∙ bare-number i z
+
+pub rises_by_turn : (i w z : ℕ) → bare i z ≡ bare i w → Rises i w z
+rises_by_turn i w z same = record { up = let e = same_number i w z (sym same) in omega arith; same = λ e. sym same }
+
+-- what was got is as old once the word gives way
+older_rises : (i g w z : ℕ) → number i g ≤ number i w → (number i g ≡ number i w → bare i g ≡ bare i w) → Rises i w z → (number i g ≤ number i z) × (number i g ≡ number i z → bare i g ≡ bare i z)
+older_rises i g w z old same r = let u = r.up in (omega arith, λ e. same (omega arith) ∙ r.same (omega arith))
+
+-- the word that stands there now is no newer than itself, also with another turn
+pub no_newer_here : (words : List ℕ) (i w g : ℕ) → i < length words → bare i g ≡ bare i w → IsNoNewer (set words i w) i g
+no_newer_here words i w g in' same = let here = get_or-set_same words i w 0 in' in let n = same_number i g w same in
+    record { older = rw here (omega arith); same = λ e. rw here same }
+
+pub fresh_rises : (words : List ℕ) (i w : ℕ) (got : List (ℕ × ℕ)) → i < length words → Rises i (get_or words i 0) w → Fresh words got → Fresh (set words i w) got
+fresh_rises words i w [] in' r f = tt
+fresh_rises words i w (e ∷ es) in' r f = (
   dite (ℕ_discrete e.0 i)
-      (λ q. let here = get_or-set_same words i w 0 in' in let was : number i e.1 ≤ number i (get_or words i 0) = subst (λ (j : ℕ). number j e.1 ≤ number j (get_or words j 0)) q f.0 in
-      subst (λ (j : ℕ). number j e.1 ≤ number j (get_or (set words i w) j 0)) (sym q) (rw here (omega arith)))
-      (λ ne. rw (get_or-set_other words i e.0 w 0 ne) f.0),
-  fresh_rises words i w es in' up f.1,
+      (λ q. let here = get_or-set_same words i w 0 in' in let was : IsNoNewer words i e.1 = subst (λ (j : ℕ). IsNoNewer words j e.1) q f.0 in
+      let k = older_rises i e.1 (get_or words i 0) w was.older was.same r in
+      subst (λ (j : ℕ). IsNoNewer (set words i w) j e.1) (sym q) (record { older = rw here k.0; same = rw here k.1 }))
+      (λ ne. let off = get_or-set_other words i e.0 w 0 ne in record { older = rw off f.0.older; same = rw off f.0.same }),
+  fresh_rises words i w es in' r f.1,
 )
 
 pub told_else : (h : List Entry) (n : List ℕ) (m : Made) (es : List (List ℕ × List Made)) → (Among es n → ⊥) → Told h es → Told (h ++ (n, m) ∷ []) es
@@ -106,29 +130,29 @@ told_else h n m [] not t = tt
 told_else h n m (e ∷ es) not t = (by_seat_else h n e.0 m (λ q. not (inl (sym q))) ∙ t.0, told_else h n m es (λ a. not (inr a)) t.1)
 
 module _ (image : Image) (opening : List ℕ) where
-  pub knows_own : (words : List ℕ) (h : List Entry) (v : View) (m : Made) → Knows image opening words h v → Tidy v → m.site < length words → number m.site (get_or words m.site 0) ≤ number m.site m.word
+  pub knows_own : (words : List ℕ) (h : List Entry) (v : View) (m : Made) → Knows image opening words h v → Tidy v → m.site < length words → number m.site (get_or words m.site 0) < number m.site m.word
       → Knows image opening (set words m.site m.word) (h ++ (v.name, m) ∷ []) (with_made v m)
   knows_own words h v m k t in' up = record {
     image_is = k.image_is;
     opening_is = k.opening_is;
     mine = by_seat_own h v.name m ∙ ap (λ l. l ++ m ∷ []) k.mine;
     theirs = told_else h v.name m v.joined t.own k.theirs;
-    fresh = (rw (get_or-set_same words m.site m.word 0 in') (omega arith), fresh_rises words m.site m.word v.got in' up k.fresh);
+    fresh = (no_newer_here words m.site m.word m.word in' refl, fresh_rises words m.site m.word v.got in' (rises_by_step m.site (get_or words m.site 0) m.word up) k.fresh);
   }
 
-  pub knows_else : (words : List ℕ) (h : List Entry) (n : List ℕ) (v : View) (m : Made) → Knows image opening words h v → (Has v n → ⊥) → m.site < length words → number m.site (get_or words m.site 0) ≤ number m.site m.word
+  pub knows_else : (words : List ℕ) (h : List Entry) (n : List ℕ) (v : View) (m : Made) → Knows image opening words h v → (Has v n → ⊥) → m.site < length words → number m.site (get_or words m.site 0) < number m.site m.word
       → Knows image opening (set words m.site m.word) (h ++ (n, m) ∷ []) v
   knows_else words h n v m k not in' up = record {
     image_is = k.image_is;
     opening_is = k.opening_is;
     mine = by_seat_else h n v.name m (λ q. not (inl (sym q))) ∙ k.mine;
     theirs = told_else h n m v.joined (λ a. not (inr a)) k.theirs;
-    fresh = fresh_rises words m.site m.word v.got in' up k.fresh;
+    fresh = fresh_rises words m.site m.word v.got in' (rises_by_step m.site (get_or words m.site 0) m.word up) k.fresh;
   }
 
 pub no_older : (words : List ℕ) (i : ℕ) (got : List (ℕ × ℕ)) → Fresh words got → NoOlder got i (get_or words i 0)
 no_older words i [] f = tt
-no_older words i (e ∷ es) f = ((λ q. subst (λ (j : ℕ). number j e.1 ≤ number j (get_or words j 0)) q f.0), no_older words i es f.1)
+no_older words i (e ∷ es) f = ((λ q. subst (λ (j : ℕ). number j e.1 ≤ number j (get_or words j 0)) q f.0.older), no_older words i es f.1)
 
 -- one seat's view changes, and keeps its names
 module _ (views : List View) (id : ℕ) (v v' : View) (at : get_elem? views id ≡ some v) (lives : v.live ≡ true) where
@@ -176,15 +200,15 @@ module _ (goes : Image → List ℕ → List Made → Made → Type 0) (image : 
 
   -- a seat gets a word, and its turn and its cells may change, and that word's turn
   pub turn_keeps : (words : List ℕ) (views : List View) (id : ℕ) (v : View) (i z g : ℕ) (t : Option Turn) (f : List ℕ) (h : List Entry) → Kept (goes image) image opening words h views → get_elem? views id ≡ some v → v.live ≡ true → i < length words
-      → bare i z ≡ bare i (get_or words i 0) → number i g ≤ number i (get_or words i 0) → Kept (goes image) image opening (set words i z) h (set views id (with_cells (with_got v i g) t f))
+      → bare i z ≡ bare i (get_or words i 0) → bare i g ≡ bare i (get_or words i 0) → Kept (goes image) image opening (set words i z) h (set views id (with_cells (with_got v i g) t f))
   turn_keeps words views id v i z g t f h r at lives in' same old = let k = r.know id v at lives in let v' : View = with_cells (with_got v i g) t f in
-      let up : number i (get_or words i 0) ≤ number i z = let a = bare-number i z in let b = bare-number i (get_or words i 0) in let c = ap (number i) same in omega arith in
+      let up = rises_by_turn i (get_or words i 0) z same in
       let still : (x : View) → Knows image opening words h x → Knows image opening (set words i z) h x = λ x kx. record { image_is = kx.image_is; opening_is = kx.opening_is; mine = kx.mine; theirs = kx.theirs; fresh = fresh_rises words i z x.got in' up kx.fresh } in
       record {
         stands = history_stays (goes image) opening words h i z r.stands in' same;
         know = λ j x jx lx. ⊎_elim
             (λ p. subst (Knows image opening (set words i z) h) p.1
-            (record { image_is = k.image_is; opening_is = k.opening_is; mine = k.mine; theirs = k.theirs; fresh = (rw (get_or-set_same words i z 0 in') (omega arith), fresh_rises words i z v.got in' up k.fresh) }))
+            (record { image_is = k.image_is; opening_is = k.opening_is; mine = k.mine; theirs = k.theirs; fresh = (no_newer_here words i z g in' (old ∙ sym same), fresh_rises words i z v.got in' up k.fresh) }))
             (λ p. still x (r.know j x p.1 lx))
             (at_set views id j v' x jx);
         tidy = tidy_set views id v v' at lives (let y = r.tidy id v at lives in record { own = y.own; distinct = y.distinct; later = y.later; below = y.below }) r.tidy;
@@ -195,7 +219,7 @@ module _ (goes : Image → List ℕ → List Made → Made → Type 0) (image : 
 
   -- the words and the history that a lawful step of the seat leaves
   pub step_keeps : (words : List ℕ) (views : List View) (id : ℕ) (v : View) (m : Made) (t : Option Turn) (f : List ℕ) (h : List Entry) → Kept (goes image) image opening words h views → get_elem? views id ≡ some v → v.live ≡ true → m.site < length words
-      → WordMay m.site (bare m.site (get_or words m.site 0)) m.act m.word → number m.site (get_or words m.site 0) ≤ number m.site m.word → goes v.image v.name v.made m
+      → WordMay m.site (bare m.site (get_or words m.site 0)) m.act m.word → number m.site (get_or words m.site 0) < number m.site m.word → goes v.image v.name v.made m
       → Kept (goes image) image opening (set words m.site m.word) (h ++ (v.name, m) ∷ []) (set views id (with_cells (with_made v m) t f)) × GoesOn goes v m (get_or words m.site 0)
   step_keeps words views id v m t f h r at lives in' e up may = let k = r.know id v at lives in let y = r.tidy id v at lives in let v' : View = with_cells (with_made v m) t f in let words' : List ℕ = set words m.site m.word in let h' : List Entry = h ++ (v.name, m) ∷ [] in
       let may' : goes image v.name (by_seat v.name h) m = subst (λ (z : Image × List Made). goes z.0 v.name z.1 m) (λ i. (k.image_is i, sym k.mine i)) may in

@@ -13,7 +13,7 @@ use Rattle.atomic_table.specs.Table.{State, Me, step, keeps, takes, gives, stepp
 use Rattle.atomic_table.proofs.Lists.{set_else, set_again, some_there}
 use Rattle.um_words.specs.declared.fine.FineAct.{FineAct}
 use Rattle.um_words.specs.declared.made.Made.{Made}
-use Rattle.um_words.specs.declared.made.Moved.{Moved}
+use Rattle.um_words.specs.Exchanges.{Exchange}
 use Rattle.um_words.specs.Steps.{WordMay, number}
 use Rattle.um_words.specs.WordFacts.{counts, free-turns}
 use Rattle.um_base.specs.declared.image.Image.{Image}
@@ -22,7 +22,7 @@ use Rattle.um_site.specs.declared.view.View.{View}
 use Rattle.um_words.specs.Sublists.{same_name, sub}
 use Rattle.um_words.specs.History.{Entry, made_of, is_at, is_by, by_seat, by_site, bare, IsHistory}
 use Rattle.um_site.specs.History.{Among, Told, Has, Knows, Tidy, AmongNames, opening_view, splitter, newborn, joiner, spent, shadow_of, IsClosed}
-use Rattle.um_site.specs.Cells.{AmongCells, Follow, ContentsAre, CellsAre, Rule, NoSteps, NoneOfThem}
+use Rattle.um_site.specs.Cells.{AmongCells, Follow, ContentsAre, CellsAre, Rule, NoSteps, NoneOfThem, IsClosedWithCells}
 use Rattle.um_site.specs.Tells.{with_got, with_made, GoesOn, Looked, looked, stepped_by, taking, recording, returning, took, reached, recorded_by, returned}
 use Rattle.um_site.proofs.Sublists.{same_itself}
 use Rattle.um_site.proofs.Bare.{bare-low, bare-high, bare-even, bare-number}
@@ -63,7 +63,7 @@ none_told : (i : ℕ) (h : List Entry) (es : List (List ℕ × List Made)) (n : 
 none_told i h [] n t none' a = absurd a
 none_told i h (e ∷ es) n t none' a = ⊎_elim (λ q. subst (λ (m : List ℕ). NoSteps i (by_seat m h)) q (subst (NoSteps i) (sym t.0) none'.0)) (λ b. none_told i h es n t.1 none'.1 b) a
 
-module _ {T : Type 0} (opens : Image → ℕ → T → Type 0) (follows : T → FineAct → Moved → T → Type 0) where
+module _ {T : Type 0} (opens : Image → ℕ → T → Type 0) (follows : T → FineAct → Exchange → T → Type 0) where
   Follow_push : (x0 : T) (ms : List Made) (x z : T) (m : Made) → Follow opens follows x0 ms x → follows x m.act m.moved z → Follow opens follows x0 (ms ++ m ∷ []) z
   Follow_push x0 [] x z m f e = (z, subst (λ (w : T). follows w m.act m.moved z) (sym f) e, refl)
   Follow_push x0 (n ∷ ms) x z m f e = (f.0, f.1, Follow_push f.0 ms x z m f.2 e)
@@ -81,7 +81,7 @@ module _ {T : Type 0} (opens : Image → ℕ → T → Type 0) (follows : T → 
     look_rule s r id v i at lives in' c = let w : ℕ = get_or s.words i 0 in let wide = r.1.stands.wide in let v' : View = with_got v i w in (
       (
         r.0,
-        turn_keeps goes image opening s.words s.views id v i w w v.turn v.filled r.0 r.1 at lives (omega arith) refl (omega arith),
+        turn_keeps goes image opening s.words s.views id v i w w v.turn v.filled r.0 r.1 at lives (omega arith) refl refl,
         subst (λ (l : List ℕ). CellsAre opens follows image l s.homes r.0 (set s.views id v')) (sym (set-get_or s.words i 0))
             (cells_alike opens follows image s.words s.homes r.0 s.views (set s.views id v') (alike_same s.views id v v' at lives lives refl refl) r.2),
       ),
@@ -97,7 +97,7 @@ module _ {T : Type 0} (opens : Image → ℕ → T → Type 0) (follows : T → 
     exchanges slots id me m made seen same lives in' low e may s r _ at _ = let x : ℕ = get_or s.words m.site 0 in let wide = r.1.stands.wide in let v' : View = with_made me.0 m in dite (ℕ_discrete x seen)
         (λ hit. let up = counts m.site seen m.act m.word e in
         let k = step_keeps goes image opening s.words s.views id me.0 m me.0.turn me.0.filled r.0 r.1 at lives (omega arith) (subst (λ (z : ℕ). WordMay m.site z m.act m.word) (sym (bare-low m.site x low ∙ hit)) e)
-        (subst (λ (z : ℕ). number m.site z ≤ number m.site m.word) (sym hit) (omega arith)) may in
+        (subst (λ (z : ℕ). number m.site z < number m.site m.word) (sym hit) (omega arith)) may in
         let c = cells_elsewhere opens follows image s.words s.homes r.0 (set s.views id v') me.0.name m low
         (cells_alike opens follows image s.words s.homes r.0 s.views (set s.views id v') (alike_same s.views id me.0 v' at lives lives refl refl) r.2) in (
           v',
@@ -120,7 +120,7 @@ module _ {T : Type 0} (opens : Image → ℕ → T → Type 0) (follows : T → 
     take_rule s r id v i at lives idle cell in' slot even c y = let w : ℕ = get_or s.words i 0 in let mine : Turn = record { site = i; word = w; past = by_site i r.0 } in
         subst (λ n. Holds (stepped s i n id c (taking v i w (by_site i r.0)) (takes (i - 168) y))) (sym (or_even w even)) (
           r.0,
-          turn_keeps goes image opening s.words s.views id v i (w + 1) w (Some mine) v.filled r.0 r.1 at lives in' (turn_bare i w cell even) (omega arith),
+          turn_keeps goes image opening s.words s.views id v i (w + 1) w (Some mine) v.filled r.0 r.1 at lives in' (turn_bare i w cell even) refl,
           take_cells opens follows image s.words s.homes s.views id v at lives r.0 i cell in' slot even idle r.2,
         )
 
@@ -164,14 +164,18 @@ module _ {T : Type 0} (opens : Image → ℕ → T → Type 0) (follows : T → 
           ((λ even. absurd (odd even)), λ _. (refl, l.1)),
         ))
 
+    -- while the first seat has no turn and no other is out, nobody has a cell's turn
+    is_free : (s : State (Option T) View) (r : Holds s) (id : ℕ) (v : View) (i : ℕ) → get_elem? s.views id ≡ some v → v.live ≡ true → v.name ≡ [] → v.children ≡ [] → v.turn ≡ None → 168 ≤ i → i < length s.words → get_or s.words i 0 % 2 ≡ 0
+    is_free s r id v i at lives first nil idle cell in' = dite (ℕ_discrete (get_or s.words i 0 % 2) 0) (λ e. e)
+        (λ odd. let b = r.2.held i cell in' (omega arith) in let same = alone (goes image) image opening s.words s.views r.0 r.1 id v at lives first nil b.0 b.1 b.3 b.4 in
+        let e : None ≡ Some b.2 = sym idle ∙ (ap (λ (z : View). z.turn) (sym same) ∙ b.5) in absurd (cc))
+
     -- The first seat, while no other is out, takes the turn of a cell that has taken no step.
     pub reach_allowed : (slots id : ℕ) (me : Me (Option T) View) (i : ℕ) → me.0.live ≡ true → me.0.name ≡ [] → length me.0.children ≡ 0 → me.0.turn ≡ None → 168 ≤ i → i < length opening → i < 168 + slots
         → NoSteps i me.0.made → NoneOfThem i me.0.joined → Allows Holds slots id me i (λ n. bit_or n 1) (reached (step slots i 1 0 none) me)
     reach_allowed slots id me i lives first none_out idle cell in' slot mine theirs s r count at _ = let w : ℕ = get_or s.words i 0 in let v = me.0 in let h = r.0 in
         let k = r.1.know id v at lives in let wide = r.1.stands.wide in let nil : v.children ≡ [] = no_items v.children none_out in
-        let even : w % 2 ≡ 0 = dite (ℕ_discrete (w % 2) 0) (λ e. e)
-        (λ odd. let b = r.2.held i cell (omega arith) (omega arith) in let same = alone (goes image) image opening s.words s.views h r.1 id v at lives first nil b.0 b.1 b.3 b.4 in
-        let e : None ≡ Some b.2 = sym idle ∙ (ap (λ (z : View). z.turn) (sym same) ∙ b.5) in absurd (cc)) in
+        let even : w % 2 ≡ 0 = is_free s r id v i at lives first nil idle cell (omega arith) in
         let b = r.2.home (i - 168) (omega arith) (omega arith) (subst (λ n. get_or s.words n 0 % 2 ≡ 0) (sym (cell_slot i cell)) even) in
         let none' : by_site i h ≡ [] = no_steps i h (λ n. ⊎_elim (λ e. subst (NoSteps i) (sym e) tt)
         (λ has. ⊎_elim (λ q. subst (λ (m : List ℕ). NoSteps i (by_seat m h)) q (subst (NoSteps i) (sym k.mine) mine)) (λ a. none_told i h v.joined n k.theirs theirs a) has)
@@ -191,7 +195,7 @@ module _ {T : Type 0} (opens : Image → ℕ → T → Type 0) (follows : T → 
         let cell : 168 ≤ i = subst (λ n. 168 ≤ n) here u.cell in let in' : i < length s.words = subst (λ n. n < length s.words) here u.inside in
         let stands : get_or s.words i 0 ≡ t.word + 1 = ap (λ j. get_or s.words j 0) (sym here) ∙ u.taken in
         let plain : bare i (get_or s.words i 0) ≡ t.word = ap (bare i) stands ∙ (turn_bare i t.word cell u.free ∙ bare-even i t.word (λ far. u.free)) in
-        let up : number i (get_or s.words i 0) ≤ number i m.word = let a = ap (number i) stands in let b = turn_number i t.word cell u.free in let d = counts i t.word m.act m.word e in omega arith in
+        let up : number i (get_or s.words i 0) < number i m.word = let a = ap (number i) stands in let b = turn_number i t.word cell u.free in let d = counts i t.word m.act m.word e in omega arith in
         let g = step_keeps goes image opening s.words s.views id v m None v.filled h r.1 at lives in' (subst (λ (n : ℕ). WordMay i n m.act m.word) (sym plain) e) up may in
         let h' : List Entry = h ++ (v.name, m) ∷ [] in
         let was' : ContentsAre opens follows image i (by_site i h) (Some x) = subst (λ (q : Image × List Made). ContentsAre opens follows q.0 i q.1 (Some x)) (λ j. (k.image_is j, (sym u.past ∙ ap (λ n. by_site n h) here) j)) was in
@@ -213,7 +217,6 @@ module _ {T : Type 0} (opens : Image → ℕ → T → Type 0) (follows : T → 
     return_turn slots id me t y c filled lives has carried was more s r _ at _ = let v = me.0 in let h = r.0 in let i : ℕ = t.site in
         let u = r.2.turns id v at lives t has in let k = r.1.know id v at lives in
         let same : bare i t.word ≡ bare i (get_or s.words i 0) = sym (turn_bare i t.word u.cell u.free) ∙ ap (bare i) (sym u.taken) in
-        let old : number i t.word ≤ number i (get_or s.words i 0) = let a = ap (number i) u.taken in let b = turn_number i t.word u.cell u.free in omega arith in
         let now : ContentsAre opens follows image i (by_site i h) y = subst (λ (q : Image × List Made). ContentsAre opens follows q.0 i q.1 y) (λ j. (k.image_is j, sym u.past j)) was in
         let v' : View = returning v i t.word filled in (
           v',
@@ -221,7 +224,7 @@ module _ {T : Type 0} (opens : Image → ℕ → T → Type 0) (follows : T → 
           tt,
           subst (λ (l : List (ℕ × Option T)). Holds (stepped s i t.word id l v' gives)) (sym carried) (
             h,
-            turn_keeps goes image opening s.words s.views id v i t.word t.word None filled h r.1 at lives u.inside same old,
+            turn_keeps goes image opening s.words s.views id v i t.word t.word None filled h r.1 at lives u.inside same same,
             give_cells opens follows image s.words s.homes s.views id v at lives h h t t.word y v' has u.free (λ j ne. refl) now refl more r.2,
           ),
           (refl, refl),
@@ -252,6 +255,22 @@ module _ {T : Type 0} (opens : Image → ℕ → T → Type 0) (follows : T → 
         subst (λ (l : List ℕ). IsClosed goes v l) e
         (subst (λ (z : Image × List ℕ). (h : List Entry) × IsHistory (goes z.0) z.1 s.words h × Knows z.0 z.1 s.words h v × Tidy v × ((n : List ℕ) → (by_seat n h ≡ []) ⊎ Has v n)) (λ i. (sym k.image_is i, sym k.opening_is i))
         (h, r.1.stands, k, r.1.tidy id v at lives, all_told (goes image) image opening s.words s.views h r.1 id v at lives first nil))
+
+    pub closes_cells : (id : ℕ) (v : View) (ws : List ℕ) (xs : List (Option T)) → v.live ≡ true → v.name ≡ [] → length v.children ≡ 0 → v.turn ≡ None → Final (Seen Holds id v) ws xs → IsClosedWithCells opens follows goes v ws
+    closes_cells id v ws xs lives first none_out idle (s, seen, e, _, _) = let r = seen.0 in let h = r.0 in let at = seen.1 in let k = r.1.know id v at lives in let o = own_words goes image opening s.words h v k r.1.stands in
+        let nil : v.children ≡ [] = no_items v.children none_out in
+        subst (λ (l : List ℕ). IsClosedWithCells opens follows goes v l) e (record {
+          history = h;
+          stands = o.0;
+          knows = o.1;
+          tidy = r.1.tidy id v at lives;
+          only = all_told (goes image) image opening s.words s.views h r.1 id v at lives first nil;
+          contents = λ i a. let f = r.2.filled id v at lives i a in let cell : 168 ≤ i = f.0 in let in' : i < length s.words = f.1 in let slot : i < 168 + length s.homes = f.2 in
+              let even = is_free s r id v i at lives first nil idle cell in' in
+              let b = r.2.home (i - 168) (omega arith) (omega arith) (subst (λ n. get_or s.words n 0 % 2 ≡ 0) (sym (cell_slot i cell)) even) in
+              let y = subst (λ n. ContentsAre opens follows image n (by_site n h) b.0) (cell_slot i cell) (b.2 id v at lives (subst (AmongCells v.filled) (sym (cell_slot i cell)) a)) in
+              (b.0, subst (λ (im : Image). ContentsAre opens follows im i (by_site i h) b.0) (sym k.image_is) y);
+        })
 
     abbrev pub nothing : Option T
     nothing = None

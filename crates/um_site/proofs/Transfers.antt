@@ -8,7 +8,7 @@ use lib.ListN.{get_elem?}
 use Rattle.atomic_table.proofs.Lists.{at_set, at_longer, set_here, set_else}
 use Rattle.um_words.specs.declared.fine.FineAct.{FineAct}
 use Rattle.um_words.specs.declared.made.Made.{Made}
-use Rattle.um_words.specs.declared.made.Moved.{Moved}
+use Rattle.um_words.specs.Exchanges.{Exchange}
 use Rattle.um_base.specs.declared.image.Image.{Image}
 use Rattle.um_site.specs.declared.turn.Turn.{Turn}
 use Rattle.um_site.specs.declared.view.View.{View}
@@ -89,7 +89,7 @@ alike_join views id v other w at lives bt lives' none ne = let mid : List View =
     (alike_set views id v (joiner v w) at lives (λ l t has. has) (λ t has. (lives, has)) (λ l i a. ⊎_elim (λ b. (id, v, at, lives, b)) (λ b. (other, w, bt, lives', b)) (among_both v.filled w.filled i a)))
     (alike_set mid other w spent (set_else views id other (joiner v w) ne ∙ bt) lives' (λ l t has. absurd (cc)) (λ t has. absurd (no_turn t (sym none ∙ has))) (λ l i a. absurd (cc)))
 
-module _ {T : Type 0} (opens : Image → ℕ → T → Type 0) (follows : T → FineAct → Moved → T → Type 0) (image : Image) where
+module _ {T : Type 0} (opens : Image → ℕ → T → Type 0) (follows : T → FineAct → Exchange → T → Type 0) (image : Image) where
   pub cells_alike : (words : List ℕ) (homes : List (found.Option (Option T))) (h : List Entry) (views views' : List View) → IsAlike views views' → CellsAre opens follows image words homes h views → CellsAre opens follows image words homes h views'
   cells_alike words homes h views views' s c = record {
     home = λ k here inside even. let y = c.home k here inside even in (y.0, y.1, λ j x jx lx a. let f = s.filled j x jx lx (168 + k) a in y.2 f.0 f.1 f.2 f.3 f.4);

@@ -8,7 +8,7 @@ use lib.ListN.{get_elem?}
 use Rattle.atomic_table.proofs.Lists.{at_set, set_here, set_else}
 use Rattle.um_words.specs.declared.fine.FineAct.{FineAct}
 use Rattle.um_words.specs.declared.made.Made.{Made}
-use Rattle.um_words.specs.declared.made.Moved.{Moved}
+use Rattle.um_words.specs.Exchanges.{Exchange}
 use Rattle.um_base.specs.declared.image.Image.{Image}
 use Rattle.um_site.specs.declared.turn.Turn.{Turn}
 use Rattle.um_site.specs.declared.view.View.{View}
@@ -29,7 +29,7 @@ no_turn v t a b = let e : None ≡ Some t = sym a ∙ b in cc
 slot_of : (k : ℕ) → 168 + k - 168 ≡ k
 slot_of k = omega arith
 
-module _ {T : Type 0} (opens : Image → ℕ → T → Type 0) (follows : T → FineAct → Moved → T → Type 0) (image : Image) (words : List ℕ) (homes : List (found.Option (Option T))) (views : List View) where
+module _ {T : Type 0} (opens : Image → ℕ → T → Type 0) (follows : T → FineAct → Exchange → T → Type 0) (image : Image) (words : List ℕ) (homes : List (found.Option (Option T))) (views : List View) where
   -- the word of a turn that is out is odd
   is_odd : (h : List Entry) (t : Turn) → IsTurn words (length homes) h t → get_or words t.site 0 % 2 ≡ 1
   is_odd h t u = ap (λ w. w % 2) u.taken ∙ odd_next t.word u.free

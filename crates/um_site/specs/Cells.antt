@@ -6,11 +6,11 @@ use lib.ListN.{get_elem?}
 use Rattle.um_base.specs.declared.image.Image.{Image}
 use Rattle.um_words.specs.declared.fine.FineAct.{FineAct}
 use Rattle.um_words.specs.declared.made.Made.{Made}
-use Rattle.um_words.specs.declared.made.Moved.{Moved}
+use Rattle.um_words.specs.Exchanges.{Exchange}
 use Rattle.um_site.specs.declared.turn.Turn.{Turn}
 use Rattle.um_site.specs.declared.view.View.{View}
-use Rattle.um_words.specs.History.{Entry, by_site}
-use Rattle.um_site.specs.History.{Kept}
+use Rattle.um_words.specs.History.{Entry, IsHistory, by_seat, by_site}
+use Rattle.um_site.specs.History.{Has, Kept, Knows, Tidy}
 
 abbrev pub AmongCells : List ℕ → ℕ → Type 0
 AmongCells [] i = ⊥
@@ -35,7 +35,7 @@ pub record IsTurn (words : List ℕ) (slots : ℕ) (h : List Entry) (t : Turn) :
   pub taken : slice_index words t.site ≡ t.word + 1
   pub past : by_site t.site h ≡ t.past
 
-module _ {T : Type 0} (opens : Image → ℕ → T → Type 0) (follows : T → FineAct → Moved → T → Type 0) where
+module _ {T : Type 0} (opens : Image → ℕ → T → Type 0) (follows : T → FineAct → Exchange → T → Type 0) where
   -- the contents x become z by these steps
   abbrev pub Follow : T → List Made → T → Type 0
   Follow x [] z = x ≡ z
@@ -59,3 +59,12 @@ module _ {T : Type 0} (opens : Image → ℕ → T → Type 0) (follows : T → 
   -- the rule of a board: one history for the words, the seats and the contents of the cells
   abbrev pub Rule : (List ℕ → List Made → Made → Type 0) → Image → List ℕ → List ℕ → List (found.Option (Option T)) → List View → Type 0
   Rule goes image opening words homes views = (h : List Entry) × Kept goes image opening words h views × CellsAre image words homes h views
+
+  -- the words of a board that was closed, and what the first seat has: one history, whose steps stand in the seat's lists and nowhere else, and whose cells' contents follow from their steps where the seat knows them as filled
+  pub record IsClosedWithCells (goes : Image → List ℕ → List Made → Made → Type 0) (v : View) (words : List ℕ) : Type 0 where
+    pub history : List Entry
+    pub stands : IsHistory (goes v.image) v.opening words history
+    pub knows : Knows v.image v.opening words history v
+    pub tidy : Tidy v
+    pub only : (n : List ℕ) → (by_seat n history ≡ []) ⊎ Has v n
+    pub contents : (i : ℕ) → AmongCells v.filled i → (y : Option T) × ContentsAre v.image i (by_site i history) y

@@ -3,7 +3,7 @@ use Rattle.std.specs.Prelude.{◌≡◌, ℕ, ◌+◌, ◌<◌, ◌≤◌, ◌�
 use mathlib.Core.Option.{some}
 use lib.ListN.{get_elem?}
 use Rattle.um_words.specs.Sublists.{same_name}
-use Rattle.um_words.specs.History.{Entry, by_seat, IsHistory}
+use Rattle.um_words.specs.History.{Entry, bare, by_seat, IsHistory}
 use Rattle.um_words.specs.Steps.{number}
 use Rattle.um_words.specs.declared.made.Made.{Made}
 use Rattle.um_base.specs.declared.image.Image.{Image}
@@ -43,10 +43,15 @@ abbrev pub Told : List Entry → List (List ℕ × List Made) → Type 0
 Told h [] = Unit {0}
 Told h (e ∷ es) = (by_seat e.0 h ≡ e.1) × Told h es
 
--- each word that was got is no newer than the word that stands
+-- a word that was got is no newer than the word that stands, and that word, a cell's turn aside, where it is as new
+pub record IsNoNewer (words : List ℕ) (i w : ℕ) : Type 0 where
+  pub older : number i w ≤ number i (slice_index words i)
+  pub same : number i w ≡ number i (slice_index words i) → bare i w ≡ bare i (slice_index words i)
+
+-- each word that was got is so
 abbrev pub Fresh : List ℕ → List (ℕ × ℕ) → Type 0
 Fresh words [] = Unit {0}
-Fresh words (e ∷ es) = (number e.0 e.1 ≤ number e.0 (slice_index words e.0)) × Fresh words es
+Fresh words (e ∷ es) = IsNoNewer words e.0 e.1 × Fresh words es
 
 -- what a view that isn't spent has to do with the history
 pub record Knows (image : Image) (opening words : List ℕ) (h : List Entry) (v : View) : Type 0 where

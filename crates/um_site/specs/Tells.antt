@@ -4,7 +4,7 @@ use Rattle.atomic_table.specs.Table.{Me, Step, rest}
 use Rattle.um_words.specs.Steps.{WordMay, number}
 use Rattle.um_words.specs.declared.fine.FineAct.{FineAct}
 use Rattle.um_words.specs.declared.made.Made.{Made}
-use Rattle.um_words.specs.declared.made.Moved.{Moved}
+use Rattle.um_words.specs.Exchanges.{Exchange}
 use Rattle.um_base.specs.declared.image.Image.{Image}
 use Rattle.um_site.specs.declared.turn.Turn.{Turn}
 use Rattle.um_site.specs.declared.view.View.{View}
@@ -13,7 +13,7 @@ use Rattle.um_site.specs.History.{Knows, with_cells}
 use Rattle.um_site.specs.Cells.{ContentsAre}
 
 abbrev pub made : ℕ → FineAct → ℕ → Made
-made i act next = record { site = i; act = act; word = next; moved = Moved.Nothing }
+made i act next = record { site = i; act = act; word = next; moved = Exchange.nothing }
 
 abbrev pub with_got : View → ℕ → ℕ → View
 with_got v i w = record v { got = (i, w) ∷ v.got }
@@ -67,7 +67,7 @@ recording v m = with_cells (with_made v m) None v.filled
 abbrev pub returning : View → ℕ → ℕ → List ℕ → View
 returning v i w filled = with_cells (with_got v i w) None filled
 
-module _ {T : Type 0} (opens : Image → ℕ → T → Type 0) (follows : T → FineAct → Moved → T → Type 0) (goes : Image → List ℕ → List Made → Made → Type 0) where
+module _ {T : Type 0} (opens : Image → ℕ → T → Type 0) (follows : T → FineAct → Exchange → T → Type 0) (goes : Image → List ℕ → List Made → Made → Type 0) where
   -- the turn was free at the word r, in one history, and the slot had the contents that the cell's steps in it leave, which are as many as the word says
   pub record Took (v : View) (i r : ℕ) (y : Option T) (w : View) : Type 0 where
     pub newer : NoOlder v.got i r
@@ -100,7 +100,7 @@ module _ {T : Type 0} where
   returned filled st me r me' = (me'.1 ≡ rest me.1) × (me'.0 ≡ returning me.0 st.word r filled)
 
 -- The seat has the turn of this cell since it was taken at this word, when its contents were x. Its slot has y now.
-pub record HasTurn {T : Type 0} (opens : Image → ℕ → T → Type 0) (follows : T → FineAct → Moved → T → Type 0) (me : Me (Option T) View) (cell word : ℕ) (y : Option T) (x : T) : Type 0 where
+pub record HasTurn {T : Type 0} (opens : Image → ℕ → T → Type 0) (follows : T → FineAct → Exchange → T → Type 0) (me : Me (Option T) View) (cell word : ℕ) (y : Option T) (x : T) : Type 0 where
   pub turn : Turn
   pub has : me.0.turn ≡ Some turn
   pub site : turn.site ≡ cell

@@ -2,8 +2,9 @@
 
 ghost use Rattle.std.specs.Prelude.{◌≡◌, ◌≢◌, ℕ, ◌+◌, ◌%◌, ◌<◌, ◌≤◌, ◌^◌, true, false, [], length, slice_index, IfOk, IfErr, ◌⊎◌, MatchResult, Option, Some, None};
 ghost use Rattle.um_words.specs.Steps.{number, WordMay};
-ghost use Rattle.um_site.specs.Tells.{made, last_got, Looked, StandsWithFact, Steps, stepped_by};
+ghost use Rattle.um_site.specs.Tells.{made, last_got, with_made, GoesOn, Looked, StandsWithFact, Steps, stepped_by};
 ghost use Rattle.um_site.specs.History.{opening_view, splitter, newborn, joiner, AmongNames, IsClosed, IsClosedWithFact, shadow_of};
+ghost use Rattle.um_site.specs.Cells.{IsClosedWithCells};
 ghost use Rattle.std.specs.Mem.Slots.{slots_items, slots_len, IsFull};
 ghost use Rattle.atomic_table.specs.Table.{step};
 ghost use mathlib.Core.Option.{none};
@@ -92,28 +93,82 @@ impl<T: Content, L: Local> Board<T, L> {
 
     /// Where `seen` still stands at the site, `word` takes its place. The word that stood there is given.
     #[inline(always)]
-    fn exchange<D: Step>(
+    fn exchange<D: Step>(&self, seat: &mut Seat<T>, site: u16, seen: u64, word: u64) -> u64
+        requires here { seat.old.token.table_id ≡ self.now.table.shared.table_id }
+        requires site { site < self.now.table.shared.table_id.words }
+        requires low { site < 168 }
+        requires step { D.made ≡ made site D.made.act word }
+        requires lawful { WordMay site seen D.made.act word }
+        requires goes { L.goes seat.old.token.me.0.image seat.old.token.me.0.name seat.old.token.me.0.made D.made }
+        ensures same { (seat.new.token.table_id ≡ seat.old.token.table_id) × (seat.new.token.id ≡ seat.old.token.id) }
+        ensures counts { (seat.new.split ≡ seat.old.split) × (seat.new.joined ≡ seat.old.joined) × (seat.new.first ≡ seat.old.first) }
+        ensures told { stepped_by L.goes D.made (step 0 site seen word none) seat.old.token.me result seat.new.token.me }
+    {
+        self.table
+            .shared
+            .compare_exchange::<Exchange<L, D>>(&mut seat.token, site as usize, seen, word)
+    }
+
+    /// One recorded step of a row, of a thread or of a domain, which leaves this word: the step itself stands in clauses alone, as `D::made`.
+    /// It gives its number, or the word that stands where that isn't `seen`.
+    #[inline(always)]
+    pub fn step_to<D: Step>(
+        &self,
+        seat: &mut Seat<T>,
+        site: u16,
+        seen: u64,
+        word: u64,
+    ) -> Result<u32, Changed>
+        requires here { seat.old.token.table_id ≡ self.now.table.shared.table_id }
+        requires site { site < self.now.table.shared.table_id.words }
+        requires no_cell { site < 168 }
+        requires seen { last_got seat.old.token.me.0.got site ≡ Some seen }
+        requires step { D.made ≡ made site D.made.act word }
+        requires lawful { WordMay site seen D.made.act word }
+        requires goes { L.goes seat.old.token.me.0.image seat.old.token.me.0.name seat.old.token.me.0.made D.made }
+        ensures same { (seat.new.token.table_id ≡ seat.old.token.table_id) × (seat.new.token.id ≡ seat.old.token.id) }
+        ensures told { MatchResult result
+            (λ n. (n ≡ number site word) × GoesOn L.goes seat.old.token.me.0 D.made seen × (seat.new.token.me.0 ≡ with_made seat.old.token.me.0 D.made))
+            (λ e. (e.seen ≢ seen) × Looked L.goes seat.old.token.me.0 site e.seen seat.new.token.me.0) }
+        ensures counts { (seat.new.split ≡ seat.old.split) × (seat.new.joined ≡ seat.old.joined) × (seat.new.first ≡ seat.old.first) }
+        ensures slots { seat.new.token.me.1 ≡ seat.old.token.me.1 }
+        ensures kin { (seat.new.token.me.0.name ≡ seat.old.token.me.0.name) × (seat.new.token.me.0.children ≡ seat.old.token.me.0.children) × (seat.new.token.me.0.turn ≡ seat.old.token.me.0.turn) × (seat.new.token.me.0.filled ≡ seat.old.token.me.0.filled) }
+        ensures last { IfErr result (λ e. last_got seat.new.token.me.0.got site ≡ Some (e.seen)) }
+    {
+        let found = self.exchange::<D>(seat, site, seen, word);
+        if found == seen {
+            Ok(step_number(site, word))
+        } else {
+            Err(Changed { seen: found })
+        }
+    }
+
+    /// The same, where the step's act is at hand.
+    #[inline(always)]
+    fn step_by<D: Step>(
         &self,
         seat: &mut Seat<T>,
         site: u16,
         seen: u64,
         word: u64,
         act: &FineAct,
-    ) -> u64
+    ) -> Result<u32, Changed>
         requires here { seat.old.token.table_id ≡ self.now.table.shared.table_id }
         requires site { site < self.now.table.shared.table_id.words }
-        requires low { site < 168 }
+        requires no_cell { site < 168 }
+        requires seen { last_got seat.old.token.me.0.got site ≡ Some seen }
         requires step { D.made ≡ made site act.now word }
         requires lawful { WordMay site seen act.now word }
         requires goes { L.goes seat.old.token.me.0.image seat.old.token.me.0.name seat.old.token.me.0.made (made site act.now word) }
         ensures same { (seat.new.token.table_id ≡ seat.old.token.table_id) × (seat.new.token.id ≡ seat.old.token.id) }
+        ensures told { MatchResult result (λ n. Steps L.goes seat.old.token.me.0 site act.now seen n seat.new.token.me.0) (λ e. (e.seen ≢ seen) × Looked L.goes seat.old.token.me.0 site e.seen seat.new.token.me.0) }
         ensures counts { (seat.new.split ≡ seat.old.split) × (seat.new.joined ≡ seat.old.joined) × (seat.new.first ≡ seat.old.first) }
-        ensures told { stepped_by L.goes (made site act.now word) (step 0 site seen word none) seat.old.token.me result seat.new.token.me }
+        ensures slots { seat.new.token.me.1 ≡ seat.old.token.me.1 }
+        ensures kin { (seat.new.token.me.0.name ≡ seat.old.token.me.0.name) × (seat.new.token.me.0.children ≡ seat.old.token.me.0.children) × (seat.new.token.me.0.turn ≡ seat.old.token.me.0.turn) × (seat.new.token.me.0.filled ≡ seat.old.token.me.0.filled) }
+        ensures last { IfErr result (λ e. last_got seat.new.token.me.0.got site ≡ Some (e.seen)) }
     {
         let _ = act;
-        self.table
-            .shared
-            .compare_exchange::<Exchange<L, D>>(&mut seat.token, site as usize, seen, word)
+        self.step_to::<D>(seat, site, seen, word)
     }
 
     /// One recorded step of a row, of a thread or of a domain. It gives its number, or the word that stands where that isn't `seen`.
@@ -141,12 +196,7 @@ impl<T: Content, L: Local> Board<T, L> {
         let Some(word) = L::step(site, seen, act) else {
             unreachable!();
         };
-        let found = self.exchange::<Brand>(seat, site, seen, word, act);
-        if found == seen {
-            Ok(step_number(site, word))
-        } else {
-            Err(Changed { seen: found })
-        }
+        self.step_by::<Brand>(seat, site, seen, word, act)
     }
 
     /// Splits a new seat off.
@@ -200,6 +250,7 @@ impl<T: Content, L: Local> Board<T, L> {
         requires words { 0 < self.table.shared.table_id.words }
         ensures closed { IfOk result (λ c. (c.token.me.0 ≡ shadow_of seat.token.me.0) × IsFull c.table.words × IsClosed L.goes seat.token.me.0 (slots_items c.table.words)) }
         ensures fact { IfOk result (λ c. L.fact seat.token.me.0.image seat.token.me.0.opening [] → IsClosedWithFact L.goes L.fact seat.token.me.0 (slots_items c.table.words)) }
+        ensures cells { IfOk result (λ c. seat.token.me.0.turn ≡ None → IsClosedWithCells T.opens T.follows L.goes seat.token.me.0 (slots_items c.table.words)) }
         ensures sites { IfOk result (λ c. slots_len c.table.words ≡ self.table.shared.table_id.words) }
         ensures back { IfErr result (λ e. (e.board ≡ self) × (e.seat ≡ seat)) }
         ensures out { IfErr result (λ e. (0 < e.seats) × ((seat.first ≡ false) ⊎ (seat.split ≢ seat.joined))) }

@@ -15,9 +15,9 @@ pub trait Step {
 impl Step for Brand {
     ghost use Rattle.um_words.specs.declared.fine.FineAct.{FineAct};
     ghost use Rattle.um_words.specs.declared.fine.Unseen.{Unseen};
-    ghost use Rattle.um_words.specs.declared.made.Moved.{Moved};
+    ghost use Rattle.um_words.specs.Exchanges.{Exchange};
 
-    ghost made = { record { site = 0; act = FineAct.Unseen Unseen.Done; word = 0; moved = Moved.Nothing } };
+    ghost made = { record { site = 0; act = FineAct.Unseen Unseen.Done; word = 0; moved = Exchange.nothing } };
 }
 
 /// A look at a word.

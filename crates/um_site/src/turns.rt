@@ -11,7 +11,7 @@ ghost use mathlib.Core.Option.{none};
 use crate::board::Board;
 use crate::plays::{Fill, Reach, Record, Return, Step, Take};
 use crate::seat::Seat;
-use um_words::{Content, Local, Made};
+use um_words::{Content, Local};
 
 impl<T: Content, L: Local> Board<T, L> {
     /// Takes the turn of a cell that has its contents, in one step. It gives the word that stood there: where that is odd, another seat has the turn.
@@ -43,20 +43,21 @@ impl<T: Content, L: Local> Board<T, L> {
             .fetch_or::<Reach>(&mut seat.token, cell as usize, 1)
     }
 
-    /// Records a step of the cell whose turn the seat has, and gives the turn back with what stands in its slot.
+    /// Records a step of the cell whose turn the seat has, by which this word comes to stand, and gives the turn back with what stands in its
+    /// slot. The step itself stands in clauses alone, as `D::made`.
     #[inline(always)]
-    pub fn record<D: Step>(&self, seat: &mut Seat<T>, made: &Made)
+    pub fn record<D: Step>(&self, seat: &mut Seat<T>, cell: u16, word: u64)
         requires here { seat.old.token.table_id ≡ self.now.table.shared.table_id }
-        requires site { made.now.site < self.now.table.shared.table_id.words }
-        requires step { D.made ≡ made.now }
-        requires held { (word : ℕ) × (old : T) × (new : T) × HasTurn T.opens T.follows seat.old.token.me made.now.site word (Some new) old × WordMay made.now.site word made.now.act made.now.word × T.follows old made.now.act made.now.moved new }
-        requires goes { L.goes seat.old.token.me.0.image seat.old.token.me.0.name seat.old.token.me.0.made made.now }
+        requires site { cell < self.now.table.shared.table_id.words }
+        requires step { D.made ≡ record { site = cell; act = D.made.act; word = word; moved = D.made.moved } }
+        requires held { (before : ℕ) × (old : T) × (new : T) × HasTurn T.opens T.follows seat.old.token.me cell before (Some new) old × WordMay cell before D.made.act word × T.follows old D.made.act D.made.moved new }
+        requires goes { L.goes seat.old.token.me.0.image seat.old.token.me.0.name seat.old.token.me.0.made D.made }
         ensures same { SameSeat seat.old seat.new }
-        ensures told { recorded_by T.opens T.follows L.goes made.now (step 0 made.now.site made.now.word 0 none) seat.old.token.me made.now.word seat.new.token.me }
+        ensures told { recorded_by T.opens T.follows L.goes D.made (step 0 cell word 0 none) seat.old.token.me word seat.new.token.me }
     {
         self.table
             .shared
-            .store::<Record<L, D>>(&mut seat.token, made.site as usize, made.word);
+            .store::<Record<L, D>>(&mut seat.token, cell as usize, word);
     }
 
     /// Gives a turn back without a step, with the contents that the cell's steps left.

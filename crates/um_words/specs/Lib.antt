@@ -3,6 +3,8 @@ pub mod BitLists
 pub mod Packed
 pub mod Inverse
 pub mod Extra
+pub mod Context
+pub mod Exchanges
 pub mod Rows
 pub mod Threads
 pub mod Domains

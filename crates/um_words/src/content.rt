@@ -5,13 +5,13 @@ pub trait Content {
     ghost use Rattle.std.specs.Prelude.{ℕ};
     ghost use Rattle.um_base.specs.declared.image.Image.{Image};
     ghost use Rattle.um_words.specs.declared.fine.FineAct.{FineAct};
-    ghost use Rattle.um_words.specs.declared.made.Moved.{Moved};
+    ghost use Rattle.um_words.specs.Exchanges.{Exchange};
 
     /// These are the contents with which the cell at this site opens.
     ghost opens: { Image → ℕ → Self → Type 0 };
 
     /// A step by this act, with what it moves, makes the second contents of the first.
-    ghost follows: { Self → FineAct → Moved → Self → Type 0 };
+    ghost follows: { Self → FineAct → Exchange → Self → Type 0 };
 }
 
 /// Contents that say nothing, of a board without cells.

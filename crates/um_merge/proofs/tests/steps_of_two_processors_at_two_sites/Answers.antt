@@ -1,14 +1,12 @@
-use Rattle.std.proofs.Common.{arith, ◌≡◌, ℕ, zero, suc, ◌≤◌, eqb, List, [], ◌∷◌, length, vec_capacity, refl, sym}
+use Rattle.std.proofs.Common.{arith, ◌≡◌, ℕ, zero, suc, ◌≤◌, eqb, List, [], ◌∷◌, length, None, vec_capacity, refl, sym}
 use Rattle.std.proofs.lemmas.Bool.{ne_eqb}
 use Rattle.um_fine.specs.Runs.{sublist}
 use Rattle.um_merge.specs.Merged.{Log, AreNumbered, IsOrder, cpu_of, site_of, log_at}
 use Rattle.um_merge.specs.declared.logged.Logged.{Logged}
-use Rattle.um_words.specs.declared.fine.FineAct.TheVariants as FineAct
-use Rattle.um_words.specs.declared.fine.Unseen.TheVariants as Unseen
 use Rattle.um_merge.proofs.tests.steps_of_two_processors_at_two_sites.Goals as goal
 
 abbrev step : ℕ → ℕ → ℕ → Logged
-step cpu site number = record { cpu = cpu; site = site; number = number; act = FineAct.Unseen Unseen.Done }
+step cpu site number = record { cpu = cpu; site = site; number = number; event = None }
 
 abbrev order : List Logged
 order = step 1 5 1 ∷ step 0 5 2 ∷ step 0 6 1 ∷ step 1 6 2 ∷ []

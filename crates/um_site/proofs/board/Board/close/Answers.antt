@@ -1,5 +1,5 @@
 use Rattle.std.proofs.Common.{◌≡◌, true, false, length, not, Bool, refl, ap, sym, arith}
-use Rattle.um_site.proofs.Moves.{shadows, closes}
+use Rattle.um_site.proofs.Moves.{shadows, closes, closes_cells}
 use Rattle.um_site.proofs.board.Board.close.Goals as goal
 
 pub split_seat-shadow-requires : goal.split_seat-shadow-requires
@@ -22,3 +22,10 @@ returns-clause-closed g c = let key = c.args.self.table.shared.key in let v = c.
 
 pub returns-clause-fact : goal.returns-clause-fact
 returns-clause-fact g c = let v = c.args.seat.token.me.0 in let is = (returns-clause-closed g c).2 in λ first. (is.0, is.1, is.2, g.met.L.Local.fact_holds v.image v.opening _ is.0 first is.1)
+
+pub returns-clause-cells : goal.returns-clause-cells
+returns-clause-cells g c = let key = c.args.self.table.shared.key in let v = c.args.seat.token.me.0 in let is = ap (λ m. m.0) c.split_seat-shadow.ensures.2 in
+    let first : c.args.seat.first ≡ true = not_false c.args.seat.first c.if-not-seat.false in
+    let fin = c.close_with-table.ensures.values.2 in
+    let none : length v.children ≡ 0 = let a = c.args.seat.counted in let b = c.if-seat.false in omega arith in
+    λ idle. closes_cells g.T.Content.opens g.T.Content.follows g.L.Local.goes key.0.value key.1.value.items _ v _ _ c.args.seat.live (c.args.seat.is_first first) none idle (rw is at fin)
