@@ -1,7 +1,7 @@
 -- The steps before a thread's next step: what each leaves.
 use Rattle.std.proofs.Common.{◌≡◌, ℕ, ◌+◌, Bool, true, false, List, [], ◌∷◌, ◌++◌, refl, sym, ap, ◌∙◌, append_assoc}
 use Rattle.std.proofs.lemmas.List.{append-nil}
-use Rattle.std.specs.Prelude.{◌&&◌, not, nat_lt, if◌then◌else◌, Option}
+use Rattle.std.specs.Prelude.{◌≢◌, ◌&&◌, not, nat_lt, if◌then◌else◌, Option}
 use Rattle.um_base.specs.declared.act.Act.{Act}
 use Rattle.um_base.specs.declared.act.Leftover.{Leftover}
 use Rattle.um_base.specs.declared.ask.Told.{Told}
@@ -36,7 +36,7 @@ use Rattle.um_processor.specs.Cleanings.{all_clean}
 use Rattle.um_processor.specs.HeapActs.{heap_made}
 use Rattle.um_processor.specs.ObjectCells.{cleared_made}
 use Rattle.um_processor.specs.Phases.{born, is_idle, showing, steps_behind, todo_in}
-use Rattle.um_processor.specs.Processors.{AsksFor, Goes, cleaned, todo_of}
+use Rattle.um_processor.specs.Processors.{AsksFor, Goes, cleaned, processor_of, todo_of}
 use Rattle.um_processor.specs.RowActs.{row_made}
 use Rattle.um_processor.specs.SchedulerActs.{woken_made}
 use Rattle.um_processor.specs.Standing.{before, standing}
@@ -81,6 +81,26 @@ pub stands : (cleans : Todos) (ends : List ℕ) (woken : List (ThreadIx × Told)
 stands cleans ends woken p f =
     ap (λ (t : Todos). record p { todo = before cleans ends woken t }) f.is
     ∙ sym (ap (λ (t : Todos). record p { todo = cleans ++ end_calls ends (wakes woken t) }) f.is)
+
+-- A processor without a thread has nothing to do, whatever stood before its last step; and one with a thread has something to do.
+pub none_idle : (cleans : Todos) (ends : List ℕ) (woken : List (ThreadIx × Told)) (r : Running) → is_idle r.phase ≡ true
+    → before cleans ends woken (todo_of r.phase r) ≡ []
+none_idle cleans ends woken r h = none r.phase h
+  where
+    none : (phase : Phase) → is_idle phase ≡ true → before cleans ends woken (todo_of phase r) ≡ []
+    none Phase.Idle h = refl
+    none phase h = absurd (cc)
+
+some-behind : (cleans todo : Todos) → Front todo → cleans ++ todo ≢ []
+some-behind [] todo f h = let e : f.first ∷ f.rest ≡ [] = sym f.is ∙ h in absurd (cc)
+some-behind (q ∷ cleans) todo f h = absurd (cc)
+
+pub some_busy : (cleans : Todos) (ends : List ℕ) (woken : List (ThreadIx × Told)) (r : Running) → is_idle r.phase ≡ false
+    → before cleans ends woken (todo_of r.phase r) ≢ []
+some_busy cleans ends woken r h e =
+    let f = front-of r.phase r h in
+    some-behind cleans (end_calls ends (wakes woken (todo_of r.phase r))) (front-before ends woken (todo_of r.phase r) f)
+    (sym (ap (λ (p : Processor). p.todo) (stands cleans ends woken (record (processor_of r) { todo = todo_of r.phase r }) f)) ∙ e)
 
 fills : (image : Image) (c : Context) (todo : Todos) → Front todo → filled_up image c todo ≡ todo
 fills image c todo f = ap (filled_up image c) f.is ∙ sym f.is

@@ -1,6 +1,6 @@
 //! The contents of the memory's cell.
 
-ghost use Rattle.std.specs.Prelude.{◌≡◌, ◌+◌, ◌<◌, ◌≤◌, ◌^◌, length, replicate, slice_index, take, ℕ, IsTrue};
+ghost use Rattle.std.specs.Prelude.{◌≡◌, ◌+◌, ◌<◌, ◌≤◌, ◌^◌, length, replicate, slice_index, ℕ, IsTrue};
 ghost use Rattle.um_base.specs.declared.act.Act.{Act};
 ghost use Rattle.um_base.specs.declared.limits.TheConstants.{AREA_SIZE};
 ghost use Rattle.um_base.specs.Places.{setup_at};
@@ -14,8 +14,9 @@ ghost use Rattle.um_processor.specs.MemoryActs.{has_room, memory_answered, memor
 use crate::memory_act::{MemoryAct, MemorySaid};
 use std::marker::Model;
 use um_base::{
-    AREA_SIZE, Found, Image, PARTITION_AREA, PIECE, Piece, RODATA, Range, Row, STACK_AREA, Setup,
+    AREA_SIZE, Found, Image, PARTITION_AREA, Piece, RODATA, Range, Row, STACK_AREA, Setup,
 };
+use um_rules::buffers::first_bytes;
 use um_rules::bytes::{le_value, part, put, write};
 use um_rules::rows::setup_at;
 
@@ -45,18 +46,6 @@ impl Model for Bytes {
     ghost view = { λ m. record { memory = m.memory.items; stacks = m.stacks.items } };
 
     ghost invariant = { λ m. length m.stacks.items ≤ AREA_SIZE };
-}
-
-/// As many bytes as a copy takes at most.
-fn first_bytes(bytes: &[u8]) -> Piece
-    ensures { result ≡ take PIECE bytes.now }
-{
-    let front = part(bytes, 0, PIECE);
-    let mut piece = Piece::new();
-    for i in 0..front.len() {
-        piece.push(front[i]);
-    }
-    piece
 }
 
 /// The first byte, or zero.

@@ -8,8 +8,6 @@ mod leaves;
 mod lines;
 mod objects;
 mod reads;
-#[cfg(test)]
-mod tests;
 
 ghost use Rattle.std.specs.Prelude.{◌≡◌, ◌<◌, drop};
 ghost use Rattle.um_base.specs.declared.limits.TheConstants.{THREADS};

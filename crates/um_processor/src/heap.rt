@@ -2,10 +2,7 @@
 
 ghost use Rattle.std.specs.Prelude.{◌≡◌, ◌<◌, IfSome, None, if◌then◌else◌};
 ghost use Rattle.um_base.specs.declared.act.Act.{Act};
-ghost use Rattle.um_base.specs.Places.{dynamic_kind};
 ghost use Rattle.um_base.specs.declared.limits.TheConstants.{ROWS};
-ghost use Rattle.um_machine.specs.Objects.{kind_number};
-ghost use Rattle.um_machine.specs.Table.{paid_back};
 ghost use Rattle.um_fine.specs.Addresses.{address_or, row_named};
 ghost use Rattle.um_fine.specs.Answers.{act_in};
 ghost use Rattle.um_fine.specs.Heap.{can_pay, heap_after, heap_says, is_open, least_open, paid};
@@ -17,6 +14,8 @@ use crate::slots::{get_or, put};
 use std::marker::Model;
 use um_base::{Addr, Image, Kind, ROWS, STATIC_ROWS};
 use um_machine::Cost;
+use um_rules::costs::pay_back;
+use um_rules::kinds::{dynamic_kind, kind_number};
 use um_rules::rows::{addr_of, row_at};
 
 /// What is left in each pool, which dynamic addresses are free, and what each object cost.
@@ -55,46 +54,6 @@ fn pay(pools: &mut [u32], charge: Option<Cost>)
         let pool = cost.pool as usize;
         let left = get_or(pools, pool, 0).saturating_sub(cost.bytes);
         put(pools, pool, left);
-    }
-}
-
-/// The pool gets bytes back.
-fn pay_back(pools: &mut [u32], charge: Option<Cost>)
-    ensures { pools.new ≡ paid_back charge pools.old }
-{
-    if let Some(cost) = charge {
-        let pool = cost.pool as usize;
-        let left = get_or(pools, pool, 0).saturating_add(cost.bytes);
-        put(pools, pool, left);
-    }
-}
-
-/// The kind of a dynamic row.
-fn dynamic_kind(x: usize) -> Kind
-    ensures { result ≡ dynamic_kind x }
-{
-    match x.saturating_sub(STATIC_ROWS) {
-        0..4 => Kind::Thread,
-        4..12 => Kind::Sem,
-        12..16 => Kind::Mutex,
-        16..24 => Kind::Msgq,
-        24..28 => Kind::Stack,
-        _ => Kind::Pipe,
-    }
-}
-
-/// The number of a kind.
-fn kind_number(kind: Kind) -> u8
-    ensures { result ≡ kind_number kind }
-{
-    match kind {
-        Kind::Thread => 0,
-        Kind::ThreadStack => 1,
-        Kind::Sem => 2,
-        Kind::Mutex => 3,
-        Kind::Msgq => 4,
-        Kind::Stack => 5,
-        Kind::Pipe => 6,
     }
 }
 

@@ -15,13 +15,13 @@ mod object_cell;
 mod parked;
 mod phase;
 mod processor;
-mod registers;
 mod row_act;
 mod running;
 mod said;
 mod scheduler;
 mod sites;
 mod slots;
+mod table_parts;
 mod tables;
 mod thread_act;
 
@@ -29,9 +29,10 @@ pub use bytes::Bytes;
 pub use cleaning::{CleanStage, CleanStep, Cleaning, Gone};
 pub use context::Context;
 pub use domain_act::DomainAct;
-pub use domain_cell::DomainCell;
+pub use domain_cell::{DomainCell, edited, parts_or_none};
 pub use heap::Heap;
 pub use heap_act::{HeapAct, HeapSaid};
+pub use log::{is_full, named, note, resumed, worked};
 pub use memory_act::{MemoryAct, MemorySaid};
 pub use newborn::Newborn;
 pub use object_cell::ObjectCell;
@@ -43,8 +44,6 @@ pub use running::Running;
 pub use said::Said;
 pub use scheduler::Scheduler;
 pub use sites::Sites;
+pub use table_parts::TableParts;
 pub use tables::Tables;
 pub use thread_act::ThreadAct;
-
-#[cfg(test)]
-mod tests;

@@ -8,9 +8,10 @@ ghost use Rattle.um_machine.specs.Table.{buffer_cost, message_size};
 ghost use Rattle.um_service.specs.Left.{left};
 ghost use Rattle.um_processor.specs.ObjectCells.{cleared, named_as};
 
-use um_base::{Answer, Ask, Piece, Reply, Waiter};
+use um_base::{Piece, Waiter};
 use um_machine::{Contents, Cost, Waiters};
-use um_rules::order::rounded;
+use um_rules::buffers::message_size;
+use um_rules::costs::buffer_cost;
 use um_service::{Outcome, act};
 
 /// What an object keeps, who waits on it and what its buffer cost, and how many steps the cell has taken, below 2^28.
@@ -20,35 +21,6 @@ pub struct ObjectCell {
     pub waiters: Waiters,
     pub buffer: Option<Cost>,
     pub steps: u32,
-}
-
-/// What an object's buffer costs after an act.
-fn buffer_cost(ask: &Ask, answer: Answer, before: Option<Cost>) -> Option<Cost>
-    requires { IsTrue (is_sound_ask ask.now) }
-    ensures { result ≡ buffer_cost ask.now answer before }
-{
-    match answer {
-        Answer::Now(Reply::Num(_)) => match ask {
-            Ask::MsgqInit {
-                msg_size,
-                max_msgs,
-                pool,
-            } => Some(Cost {
-                pool: *pool,
-                bytes: rounded(*msg_size * *max_msgs),
-            }),
-            Ask::StackInit { entries, pool } => Some(Cost {
-                pool: *pool,
-                bytes: rounded(4 * *entries),
-            }),
-            Ask::PipeInit { size, pool } => Some(Cost {
-                pool: *pool,
-                bytes: rounded(*size),
-            }),
-            _ => before,
-        },
-        _ => before,
-    }
 }
 
 impl ObjectCell {
@@ -87,10 +59,7 @@ impl ObjectCell {
     pub fn message_size(&self) -> u32
         ensures { result ≡ message_size self.now.contents }
     {
-        match &self.contents {
-            Contents::Msgq(queue) => queue.size(),
-            _ => 0,
-        }
+        message_size(&self.contents)
     }
 
     /// The contents are cleared. Answers what the buffer cost.

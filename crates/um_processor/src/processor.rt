@@ -5,7 +5,7 @@ mod cleans;
 mod events;
 mod steps;
 
-ghost use Rattle.std.specs.Prelude.{◌≡◌, IfOk};
+ghost use Rattle.std.specs.Prelude.{◌≡◌, ◌≢◌, [], false, true, IfOk};
 ghost use Rattle.um_fine.specs.Processor.{idle};
 ghost use Rattle.um_processor.specs.Standing.{whole};
 
@@ -42,5 +42,14 @@ impl Processor {
             outcome: Outcome::new(),
             told: 0,
         })
+    }
+
+    /// Whether it has no thread: then it has nothing to clean, no claim to end and nobody to wake.
+    #[tactic(auto, using(crate::proofs::Standings::none_idle, crate::proofs::Standings::some_busy))]
+    pub fn is_idle(&self) -> bool
+        ensures idle { result ≡ true → (whole self.now).todo ≡ [] }
+        ensures busy { result ≡ false → (whole self.now).todo ≢ [] }
+    {
+        self.running.is_idle()
     }
 }

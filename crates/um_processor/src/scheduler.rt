@@ -221,4 +221,18 @@ impl Scheduler {
         join(&mut self.ready, thread, true);
         true
     }
+
+    /// How many threads are ready.
+    pub fn ready(&self) -> u8
+        ensures { result ≡ length self.now.ready }
+    {
+        self.ready.len() as u8
+    }
+
+    /// How many threads run.
+    pub fn running(&self) -> u8
+        ensures { result ≡ self.now.running }
+    {
+        self.running
+    }
 }

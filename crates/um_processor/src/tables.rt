@@ -18,6 +18,7 @@ use crate::row_act::{RowAct, RowSaid};
 use crate::said::Said;
 use crate::scheduler::Scheduler;
 use crate::sites::Sites;
+use crate::table_parts::TableParts;
 use crate::thread_act::ThreadAct;
 use std::marker::Model;
 use um_base::{Addr, Event, Image, Parts, Piece, Reply, Row, ThreadIx, Told, Waiter};
@@ -115,6 +116,29 @@ impl Tables {
         ensures { result.items ≡ self.log }
     {
         self.log
+    }
+
+    /// What the sites keep, and no tables any longer.
+    pub fn into_parts(self) -> TableParts
+        ensures rows { result.rows.items ≡ self.rows }
+        ensures threads { result.threads.items ≡ self.threads }
+        ensures domains { result.domains.items ≡ self.domains }
+        ensures cells { result.domain_cells.items ≡ self.domain_cells }
+        ensures objects { result.objects.items ≡ self.objects }
+        ensures memory { result.memory ≡ self.memory }
+        ensures heap { result.heap ≡ self.heap }
+        ensures scheduler { result.scheduler ≡ self.scheduler }
+    {
+        TableParts {
+            rows: self.rows,
+            threads: self.threads,
+            domains: self.domains,
+            domain_cells: self.domain_cells,
+            objects: self.objects,
+            memory: self.memory,
+            heap: self.heap,
+            scheduler: self.scheduler,
+        }
     }
 }
 

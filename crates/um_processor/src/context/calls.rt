@@ -8,10 +8,10 @@ ghost use Rattle.um_fine.specs.Addresses.{row_named};
 ghost use Rattle.um_fine.specs.Continues.{after_work, goes_on, reply_of, resumed, with_claim};
 
 use crate::context::Context;
-use crate::registers::put_answer;
 use um_base::{Addr, Answer, Ask, Errno, Image, Piece, Reply, Told};
 use um_machine::{Pending, Refusal};
 use um_rules::order::{after_error, refused};
+use um_rules::registers::put_answer;
 use um_rules::rows::row_at;
 
 /// The row at an address that was checked.

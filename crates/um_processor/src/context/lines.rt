@@ -12,11 +12,11 @@ ghost use Rattle.um_fine.specs.Continues.{begun};
 ghost use Rattle.um_processor.specs.Given.{IsGiven};
 
 use crate::context::Context;
-use crate::registers::put_begin;
 use um_base::{Image, Instr, Mode};
 use um_machine::Thread;
 use um_machine::places::{first_place, instruction_at};
 use um_rules::order;
+use um_rules::registers::put_begin;
 
 /// A thread of this index begins an instruction.
 fn begin(image: &Image, t: usize, me: &mut Thread, instr: &Instr)

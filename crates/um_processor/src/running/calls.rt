@@ -11,13 +11,14 @@ ghost use Rattle.um_processor.specs.Processors.{OnMade, Turned, UnlessMade, proc
 use crate::phase::{Phase, Turn};
 use crate::row_act::RowAct;
 use crate::running::Running;
-use crate::running::kinds::{has_kind, kind_of};
+use crate::running::kinds::kind_of;
 use crate::said::Said;
 use crate::sites::Sites;
 use crate::thread_act::ThreadAct;
 use arrayvec::ArrayVec;
 use um_base::{Addr, Errno, Image, Kind, Reply, Row, ThreadIx, Want};
 use um_machine::Refusal;
+use um_rules::kinds::has_kind;
 use um_rules::rows::row_at;
 
 impl Running {

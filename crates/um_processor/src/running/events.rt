@@ -3,7 +3,6 @@
 ghost use Rattle.std.specs.Prelude.{◌≡◌, ◌<◌, drop};
 ghost use Rattle.um_base.specs.Places.{own_row};
 ghost use Rattle.um_fine.specs.Continues.{goes_on};
-ghost use Rattle.um_machine.specs.Table.{cost_of};
 ghost use Rattle.um_machine.specs.declared.pending.Pending.TheVariants as Pending;
 ghost use Rattle.um_processor.specs.Events.{about_to, behind_event, rest_of};
 ghost use Rattle.um_processor.specs.Processors.{Turned, UnlessMade, processor_of};
@@ -17,7 +16,7 @@ use crate::said::Said;
 use crate::sites::Sites;
 use crate::thread_act::ThreadAct;
 use um_base::{Addr, Image, Mode, ROWS, Row, STATIC_ROWS, STATIC_THREADS, THREADS, ThreadIx};
-use um_machine::Cost;
+use um_rules::costs::cost_of;
 use um_rules::rows;
 
 /// The row of a thread's own object, which may be past the last row where there is no such thread.
@@ -29,16 +28,6 @@ fn own_row(image: &Image, who: ThreadIx) -> usize
         rows::own_row(image, t)
     } else {
         STATIC_ROWS + (t - STATIC_THREADS)
-    }
-}
-
-/// What a pool pays for so many bytes.
-pub fn cost_of(pool: Option<u8>, size: u32) -> Option<Cost>
-    ensures { result ≡ cost_of pool size }
-{
-    match pool {
-        None => None,
-        Some(pool) => Some(Cost { pool, bytes: size }),
     }
 }
 

@@ -13,11 +13,11 @@ ghost use Rattle.um_processor.specs.Processors.{Turned, UnlessMade, processor_of
 use crate::heap_act::HeapAct;
 use crate::phase::{Phase, Turn};
 use crate::running::Running;
-use crate::running::events::cost_of;
 use crate::said::Said;
 use crate::sites::Sites;
 use crate::thread_act::ThreadAct;
 use um_base::{Addr, Image, Kind, ThreadIx};
+use um_rules::costs::cost_of;
 
 impl Running {
     /// Goes on with the new object at this address, where there is one.

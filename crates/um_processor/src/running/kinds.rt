@@ -1,31 +1,10 @@
 //! The kinds of objects that the rows have.
 
 ghost use Rattle.std.specs.Prelude.{◌≡◌};
-ghost use Rattle.um_base.specs.Places.{dynamic_kind};
 ghost use Rattle.um_fine.specs.Processor.{kind_of};
-ghost use Rattle.um_machine.specs.Objects.{has_kind, kind_number};
 
 use um_base::{Image, Kind, STATIC_ROWS};
-
-/// The kind of the objects of a dynamic row.
-fn dynamic_kind(x: usize) -> Kind
-    ensures { result ≡ dynamic_kind x }
-{
-    let j = x.saturating_sub(STATIC_ROWS);
-    if j < 4 {
-        Kind::Thread
-    } else if j < 12 {
-        Kind::Sem
-    } else if j < 16 {
-        Kind::Mutex
-    } else if j < 24 {
-        Kind::Msgq
-    } else if j < 28 {
-        Kind::Stack
-    } else {
-        Kind::Pipe
-    }
-}
+use um_rules::kinds::dynamic_kind;
 
 /// The kind of the object of a row, whether it stands or not.
 pub fn kind_of(image: &Image, x: usize) -> Option<Kind>
@@ -40,33 +19,5 @@ pub fn kind_of(image: &Image, x: usize) -> Option<Kind>
                 Some(dynamic_kind(x))
             }
         }
-    }
-}
-
-/// The place of a kind among the kinds.
-fn kind_number(kind: Kind) -> u8
-    ensures { result ≡ kind_number kind }
-{
-    match kind {
-        Kind::Thread => 0,
-        Kind::ThreadStack => 1,
-        Kind::Sem => 2,
-        Kind::Mutex => 3,
-        Kind::Msgq => 4,
-        Kind::Stack => 5,
-        Kind::Pipe => 6,
-    }
-}
-
-/// Whether an object of this kind is one that a check wants.
-pub fn has_kind(want: Option<Kind>, have: Option<Kind>) -> bool
-    ensures { result ≡ has_kind want have }
-{
-    match want {
-        None => true,
-        Some(want) => match have {
-            None => false,
-            Some(have) => kind_number(want) == kind_number(have),
-        },
     }
 }

@@ -17,17 +17,8 @@ use crate::running::next::row_named;
 use crate::said::Said;
 use crate::sites::Sites;
 use um_base::{Addr, Answer, Ask, Image, Piece, Row, ThreadIx, Waiter};
+use um_rules::buffers::bytes_given;
 use um_service::Outcome;
-
-/// The bytes that a call gives of its buffer.
-fn bytes_given(buffer: &Piece, ask: &Ask) -> Piece
-    ensures { result ≡ bytes_given buffer.now ask.now }
-{
-    match ask {
-        Ask::MsgqPut { .. } | Ask::PipeWrite { .. } => *buffer,
-        _ => Piece::new(),
-    }
-}
 
 impl Running {
     /// The thread as the caller of a call.

@@ -1,6 +1,6 @@
 use Rattle.std.proofs.Common.{◌≡◌}
 use Rattle.um_machine.specs.Memory.{rodata_of}
-use Rattle.um_processor.proofs.tests.events.a_log.Given as goal
+use Rattle.um_processing.proofs.tests.events.a_log.Given as goal
 
 abbrev pub invariant-loop-act : goal.invariant-loop-act
 invariant-loop-act g l = l.sites.rodata ≡ rodata_of l.image

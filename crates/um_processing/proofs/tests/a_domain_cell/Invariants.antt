@@ -1,6 +1,6 @@
 use Rattle.std.proofs.Common.{◌≡◌}
 use Rattle.um_machine.specs.Memory.{rodata_of}
-use Rattle.um_processor.proofs.tests.a_domain_cell.Given as goal
+use Rattle.um_processing.proofs.tests.a_domain_cell.Given as goal
 
 abbrev pub invariant-loop-call : goal.invariant-loop-call
 invariant-loop-call g l = l.sites.rodata ≡ rodata_of l.image

@@ -1,9 +1,9 @@
 //! Steps at the memory's cell.
 
 use super::image;
-use crate::{MemoryAct, Said, Sites};
 use std::test::Fail;
 use um_base::{Addr, Found, Piece, ThreadIx};
+use um_processor::{MemoryAct, Said, Sites};
 
 /// Bytes are stored, loaded, copied in, and read as a text as far as the thread may read.
 #[test]

@@ -3,7 +3,7 @@ use Rattle.std.specs.List.{All}
 use Rattle.std.proofs.lemmas.List.Elements.{All-replicate}
 use Rattle.um_words.specs.declared.thread_word.ThreadWord.{ThreadWord}
 use Rattle.um_processor.specs.Sited.{in_domains}
-use Rattle.um_processor.proofs.tests.tables.Goals as goal
+use Rattle.um_processing.proofs.tests.tables.Goals as goal
 
 -- words of one domain, put behind none
 all-alike : (ws before : List ThreadWord) (n : ℕ) (w : ThreadWord) → ws ≡ take 32 before ++ replicate n w → before ≡ [] → w.domain ≡ 0 → All in_domains ws

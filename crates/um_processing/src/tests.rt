@@ -1,5 +1,6 @@
 //! Steps over tables: a row, a thread, a domain, and turns of a thread.
 
+mod contexts;
 mod events;
 mod memory;
 
@@ -7,7 +8,6 @@ ghost use Rattle.std.specs.Prelude.{◌≡◌, [], IfOk, length};
 ghost use Rattle.um_base.specs.declared.limits.TheConstants.{ROWS};
 ghost use Rattle.um_machine.specs.Memory.{rodata_of};
 
-use super::*;
 use std::alloc::Global;
 use std::test::Fail;
 use um_base::{
@@ -16,6 +16,10 @@ use um_base::{
     Waiter,
 };
 use um_machine::{Cost, Life, Pending};
+use um_processor::{
+    Bytes, Context, DomainAct, DomainCell, Heap, HeapAct, ObjectCell, RowAct, Said, Scheduler,
+    Sites, Tables, ThreadAct,
+};
 use um_service::Outcome;
 use um_words::{DomWord, Permissions, RowWord, Stage, ThreadWord};
 

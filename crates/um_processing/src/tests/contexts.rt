@@ -1,36 +1,17 @@
 //! A thread's own part along a call.
 
-use super::*;
-use crate::newborn::Newborn;
-use std::alloc::Global;
+use super::image;
 use std::test::Fail;
 use um_base::{
-    Addr, Answer, Ask, BoundedVec, Cause, Errno, Image, Instr, Mode, Mpu, Piece, Policy, Reply,
-    Row, Term, ThreadIx, Timeout, Told,
+    Addr, Answer, Ask, Cause, Errno, Instr, Mode, Piece, Reply, Row, Term, ThreadIx, Timeout, Told,
 };
 use um_machine::{Pending, Place, Refusal};
+use um_processor::{Context, Newborn};
 
 /// The address of the first dynamic row, 96.
 const SEM: Addr = Addr(0x4800_0000);
 
 const WAITS: Timeout = Timeout::Forever;
-
-/// An image without anything.
-fn image(alloc: Global) -> Image {
-    Image {
-        mpu: Mpu::V8,
-        regions: 8,
-        policy: Policy::Abort,
-        rodata: None,
-        rodata_bytes: BoundedVec::new(alloc),
-        pools: BoundedVec::new(alloc),
-        partitions: BoundedVec::new(alloc),
-        domains: BoundedVec::new(alloc),
-        objects: BoundedVec::new(alloc),
-        boots: BoundedVec::new(alloc),
-        scripts: BoundedVec::new(alloc),
-    }
-}
 
 /// The take of a semaphore that waits: the thread holds the semaphore from the check to the answer, and then is at rest.
 #[test]

@@ -1,9 +1,9 @@
 //! The events that tables log.
 
 use super::{EVENTS, image};
-use crate::{HeapAct, RowAct, Said, Sites};
 use std::test::Fail;
 use um_base::{Act, Addr, Errno, Event, Kind, Mode, Row, ThreadIx, Want};
+use um_processor::{HeapAct, RowAct, Said, Sites};
 
 /// A permission is passed on, which a second look finds, and another thread's check is refused. An address isn't paid for, until the log is full.
 #[test]

@@ -1,0 +1,22 @@
+//! What tables keep, each part by itself.
+
+use crate::bytes::Bytes;
+use crate::domain_cell::DomainCell;
+use crate::heap::Heap;
+use crate::object_cell::ObjectCell;
+use crate::scheduler::Scheduler;
+use um_words::{DomWord, RowWord, ThreadWord};
+
+/// The words of all rows, thread indices and domains, the cells of domains and of objects, each by its number, and the contents of the
+/// memory, the heap and the scheduler, without the steps that these three have taken.
+#[derive(Drop)]
+pub struct TableParts {
+    pub rows: Vec<RowWord>,
+    pub threads: Vec<ThreadWord>,
+    pub domains: Vec<DomWord>,
+    pub domain_cells: Vec<DomainCell>,
+    pub objects: Vec<ObjectCell>,
+    pub memory: Bytes,
+    pub heap: Heap,
+    pub scheduler: Scheduler,
+}
