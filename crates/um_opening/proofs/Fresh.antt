@@ -4,7 +4,7 @@ use Rattle.std.specs.Prelude.{IsTrue, Some, None, if◌then◌else◌, map, nat_
 use Rattle.std.specs.List.{All, list_all}
 use Rattle.std.proofs.lemmas.Bool.{and_parts, eqb-true, false≢true}
 use Rattle.std.proofs.lemmas.Bool.Decides.{nat_tests}
-use Rattle.std.proofs.lemmas.List.{length-map}
+use Rattle.std.proofs.lemmas.List.{length-map, length-replicate, length-set}
 use Rattle.std.proofs.lemmas.List.Elements.{All-replicate, All-same, All-set}
 use Rattle.um_base.specs.declared.image.Boot.{Boot}
 use Rattle.um_base.specs.declared.image.DomainDef.{DomainDef}
@@ -160,6 +160,22 @@ small-index image x lawful = by (nat_lt x STATIC_ROWS) (nat_lt (STATIC_THREADS +
 pub opening-image : (image : Image) → (opening image).image ≡ image
 opening-image image = (opening-alike image).0 ∙ blank-image image
 
+pub opening-domains : (image : Image) → length (opening image).domains ≡ length image.domains
+opening-domains image = ap length (opening-alike image).2 ∙ many-domains image
+
+booted-long : (boots : List Boot) (s : State) → length (booted boots s).threads ≡ length s.threads
+booted-long [] s = refl
+booted-long (boot ∷ boots) s =
+    let t = index_or (thread_of_row s.image boot.thread.0) in
+    let me = boot_thread s.image boot in
+    booted-long boots (booted_one boot s) ∙ ap length (granted-threads t (boot.thread ∷ boot.grants) (with_thread s t me)) ∙ length-set s.threads t me
+
+-- there are as many threads as indices
+pub opening-threads : (image : Image) → length (opening image).threads ≡ THREADS
+unfolding blank
+opening-threads image =
+    booted-long image.boots (loaded image.partitions (blank image)) ∙ ap length (loaded-threads image.partitions (blank image)) ∙ length-replicate THREADS nobody
+
 pub opening-fresh : (image : Image) → IsLawful image → IsFresh (opening image)
 opening-fresh image lawful =
     let alike = opening-alike image in
@@ -167,7 +183,7 @@ opening-fresh image lawful =
     record {
       rest = opening-all image rests (λ other boot h. refl) refl lawful.boots;
       named = λ few.
-          let many : length (opening image).domains ≡ length image.domains = ap length alike.2 ∙ many-domains image in
+          let many = opening-domains image in
           opening-all image in_a_domain (λ other boot h. let within = boot-domain image boot h in omega (arith, many, few, within)) (omega arith) lawful.boots;
       boots = subst (λ (i : Image). All (λ (boot : Boot). index_or (thread_of_row i boot.thread.0) < THREADS) i.boots) same (λ k d h. small-index image (slice_index_or image.boots k d).thread.0 lawful.indices);
       objects = alike.1 ∙ blank-objects image ∙ ap (λ (i : Image). objects_from i.boots 0 i.objects) same;

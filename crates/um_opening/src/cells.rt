@@ -1,6 +1,6 @@
 //! The contents of all cells, as a state of the machine has them.
 
-ghost use Rattle.std.specs.Prelude.{◌≡◌, ◌<◌, ◌≤◌, ◌-◌, ◌++◌, IfOk, length, map, replicate};
+ghost use Rattle.std.specs.Prelude.{◌≡◌, ◌<◌, ◌≤◌, ◌-◌, ◌++◌, IfOk, length, map, replicate, vec_capacity};
 ghost use Rattle.std.specs.List.{All};
 ghost use Rattle.um_base.specs.declared.limits.TheConstants.{DOMAINS, ROWS, THREADS};
 ghost use Rattle.um_base.specs.declared.image.Boot.{Boot};
@@ -65,10 +65,11 @@ fn described(alloc: Global, image: &Image) -> Result<Vec<ObjectCell>, Memory>
     requires { IsLawful image.now }
     ensures cells { IfOk result (λ cells. cells.items ++ replicate (ROWS - length cells.items) (cleared 0) ≡ map kept_by (objects_from image.now.boots 0 image.now.objects)) }
     ensures few { IfOk result (λ cells. length cells.items ≤ ROWS) }
+    ensures room { IfOk result (λ cells. ROWS ≤ vec_capacity cells) }
 {
     let mut cells = Vec::with_capacity(alloc, ROWS)?;
     for (x, object) in image.objects.as_slice().iter().enumerate() {
-        cells.push(kept_by(opening_object(image.boots.as_slice(), x, object)))?;
+        cells.push_reserved(kept_by(opening_object(image.boots.as_slice(), x, object)));
     }
     Ok(cells)
 }
@@ -82,7 +83,7 @@ pub fn objects(alloc: Global, image: &Image) -> Result<Vec<ObjectCell>, Memory>
     let mut cells = described(alloc, image)?;
     let missing = ROWS - cells.len();
     for _ in 0..missing {
-        cells.push(ObjectCell::empty())?;
+        cells.push_reserved(ObjectCell::empty());
     }
     Ok(cells)
 }
