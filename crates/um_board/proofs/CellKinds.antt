@@ -1,0 +1,96 @@
+-- The contents of a cell are of the kind that its site has, and of the board's image, since its steps keep both.
+use Rattle.std.proofs.Common.{◌≡◌, ℕ, ◌+◌, ◌==◌, ◌<◌, ◌≤◌, Bool, true, false, List, [], ◌∷◌, Option, Some, None, nat_lt, if◌then◌else◌, refl, sym, ap, ◌∙◌, subst, arith}
+use Rattle.std.proofs.lemmas.Bool.{lt-ltb}
+use Rattle.std.proofs.lemmas.Bool.Decides.{nat_tests}
+use Rattle.atomic_table.specs.Seated.{TableId}
+use Rattle.atomic_table.specs.Table.{rest}
+use Rattle.um_base.specs.declared.image.Image.{Image}
+use Rattle.um_words.specs.declared.fine.FineAct.{FineAct}
+use Rattle.um_words.specs.declared.kind.CellKind.{CellKind}
+use Rattle.um_words.specs.declared.made.Made.{Made}
+use Rattle.um_words.specs.Packed.{cell_of}
+use Rattle.um_words.specs.Steps.{cell_kind_at}
+use Rattle.um_fine.specs.Cells.{Cell, cell_after, cell_word, quiet_word}
+use Rattle.um_fine.specs.Steps.{Exchange}
+use Rattle.um_site.specs.Calls.{SameSeat}
+use Rattle.um_site.specs.Cells.{AmongCells, ContentsAre, Follow}
+use Rattle.um_site.specs.Tells.{HasTurn, taking}
+use Rattle.um_site.specs.declared.seat.Seat.{Seat}
+use Rattle.um_site.specs.declared.view.View.{View}
+use Rattle.um_cell.specs.declared.cells.Cells.{Cells}
+use Rattle.um_board.specs.Contents.{Follows, Known, Opens}
+use Rattle.um_board.specs.Turned.{InTurn, IsPlaced, kind_of}
+use Rattle.um_board.proofs.Keeping.{taken-turn}
+use Rattle.um_board.proofs.OpeningKinds.{kind-opens}
+
+kind-after : (image : Image) (c : Cell) (act : FineAct) (moved : Exchange) → kind_of (cell_after image c act moved) ≡ kind_of c
+kind-after image (Cell.object o) act moved = refl
+kind-after image (Cell.parts d) act moved = refl
+kind-after image (Cell.memory m) act moved = refl
+kind-after image (Cell.heap h) act moved = refl
+kind-after image (Cell.scheduler s) act moved = refl
+
+kind-follow : (x z : Known) (ms : List Made) → Follow Opens Follows x ms z → (z.image ≡ x.image) × (kind_of z.cell ≡ kind_of x.cell)
+kind-follow x z [] f = (ap (λ (k : Known). k.image) (sym f), ap (λ (k : Known). kind_of k.cell) (sym f))
+kind-follow x z (m ∷ ms) f =
+    let e = kind-follow f.0 z ms f.2 in (
+      e.0 ∙ f.1.of,
+      e.1 ∙ (ap kind_of f.1.leaves ∙ kind-after x.image x.cell m.act m.moved),
+    )
+
+known_in : Known → Option Known → Known
+known_in c (Some x) = x
+known_in c None = c
+
+pub contents-known : (image : Image) (i : ℕ) (c : Known) (ms : List Made) → 168 ≤ i → i < 307 → ContentsAre Opens Follows image i ms (Some c) → (c.image ≡ image) × (kind_of c.cell ≡ cell_kind_at i)
+unfolding known_in
+contents-known image i c ms low high k =
+    let is : c ≡ k.0 = ap (known_in c) k.2 in
+    let f = kind-follow k.1 k.0 ms k.4 in (
+      ap (λ (x : Known). x.image) is ∙ (f.0 ∙ k.3.of),
+      ap (λ (x : Known). kind_of x.cell) is ∙ (f.1 ∙ kind-opens image i k.1 low high k.3),
+    )
+
+-- the kinds of the sites of objects and of domains
+pub object-kind : (x : ℕ) → x < 128 → cell_kind_at (168 + x) ≡ CellKind.Object
+object-kind x low = ap (λ (b : Bool). if b then CellKind.Object else (if nat_lt (168 + x) 304 then CellKind.Domain else if (168 + x) == 304 then CellKind.Memory else if (168 + x) == 305 then CellKind.Heap else if (168 + x) == 306 then CellKind.Scheduler else CellKind.Unused)) (lt-ltb (168 + x) 296 (omega arith))
+
+pub parts-kind : (d : ℕ) → d < 8 → cell_kind_at (296 + d) ≡ CellKind.Domain
+parts-kind d low =
+    let a : nat_lt (296 + d) 296 ≡ false = grind (arith, nat_tests) in
+    let b : nat_lt (296 + d) 304 ≡ true = lt-ltb (296 + d) 304 (omega arith) in
+    λ i. if a i then CellKind.Object else if b i then CellKind.Domain else if (296 + d) == 304 then CellKind.Memory else if (296 + d) == 305 then CellKind.Heap else if (296 + d) == 306 then CellKind.Scheduler else CellKind.Unused
+
+-- a turn was taken
+pub in-turn : (image : Image) (board : TableId) (cells : Cells Known) (rodata : List ℕ) (s t : Seat Known) (site word number ready running : ℕ) (c : Known) (past : List Made)
+    → IsPlaced image board cells rodata s → 168 ≤ site → site < 307 → SameSeat s t → HasTurn Opens Follows t.token.me site word None c → t.token.me.0 ≡ taking s.token.me.0 site word past
+    → rest t.token.me.1 ≡ s.token.me.1 → cell_of word ≡ quiet_word ready running number → ((n : ℕ) → cell_word c.cell n ≡ quiet_word ready running n) → number < 268435455
+    → InTurn image board cells rodata t site word number c
+in-turn image board cells rodata s t site word number ready running c past p low high same turn now slots says counts room =
+    let k = (taken-turn s t site word past [] same now).keeps in
+    let image_is : t.token.me.0.image ≡ image = ap (λ (v : View). v.image) now ∙ p.seated.image_is in
+    let known = contents-known t.token.me.0.image site c turn.turn.past low high turn.contents in
+    record {
+      here = k.board ∙ p.seated.here;
+      words = p.seated.words;
+      first = p.seated.first;
+      count = p.seated.count;
+      filled = λ i h. subst (λ f. AmongCells f i) (sym k.filled) (p.seated.filled i h);
+      image_is = image_is;
+      rodata_is = p.rodata_is;
+      low = low;
+      high = high;
+      turn = turn;
+      rest_is = slots ∙ p.seated.empty;
+      of = known.0 ∙ image_is;
+      kind = known.1;
+      says = says ∙ sym (counts number);
+      room = room;
+    }
+
+-- what was taken is of the kind that its site has, and is what was there
+pub kind-here : (a b : Known) (k j : CellKind) → a ≡ b → kind_of b.cell ≡ k → k ≡ j → kind_of a.cell ≡ j
+kind-here a b k j is kind at = ap (λ (x : Known). kind_of x.cell) is ∙ (kind ∙ at)
+
+pub cell-here : (a b : Known) (k : Cell) → a ≡ b → a.cell ≡ k → b.cell ≡ k
+cell-here a b k is at = sym (ap (λ (x : Known). x.cell) is) ∙ at

@@ -1,0 +1,176 @@
+-- What a seat keeps, when it looks and steps: one thing after another.
+use Rattle.std.proofs.Common.{◌≡◌, ℕ, List, [], ◌∷◌, ◌++◌, None, Option, refl, sym, ap, ◌∙◌, subst, append_assoc}
+use Rattle.atomic_table.specs.Seated.{TableId}
+use Rattle.atomic_table.specs.Table.{rest}
+use Rattle.um_base.specs.declared.act.Event.{Event}
+use Rattle.um_base.specs.declared.image.Image.{Image}
+use Rattle.um_site.specs.Calls.{SameSeat}
+use Rattle.um_site.specs.Cells.{AmongCells}
+use Rattle.um_site.specs.Tells.{recording, returning, taking, with_got, with_made}
+use Rattle.um_site.specs.declared.seat.Seat.{Seat}
+use Rattle.um_site.specs.declared.view.View.{View}
+use Rattle.um_words.specs.declared.made.Made.{Made}
+use Rattle.um_cell.specs.declared.cells.Cells.{Cells}
+use Rattle.um_fine.specs.Sites.{site_number}
+use Rattle.um_fine.specs.Steps.{FineStep}
+use Rattle.um_merge.specs.declared.logged.Logged.{Logged}
+use Rattle.um_processor.specs.Asked.{event_of}
+use Rattle.um_board.specs.Contents.{Known}
+use Rattle.um_board.specs.Noted.{logged_of, made_of, number_of}
+use Rattle.um_board.specs.ReadBack.{IsReadBack}
+use Rattle.um_board.specs.Seated.{KeepsPlace, Noted, Unnoted}
+use Rattle.um_board.specs.Turned.{InTurn, IsPlaced}
+
+pub keeps-same : (s : Seat Known) → KeepsPlace s s
+keeps-same s = record { board = refl; place = refl; split = refl; joined = refl; first = refl; opening = refl; name = refl; splits = refl; children = refl; lists = refl; filled = refl }
+
+pub keeps-then : (s t u : Seat Known) → KeepsPlace s t → KeepsPlace t u → KeepsPlace s u
+keeps-then s t u a b =
+    record {
+      board = b.board ∙ a.board;
+      place = b.place ∙ a.place;
+      split = b.split ∙ a.split;
+      joined = b.joined ∙ a.joined;
+      first = b.first ∙ a.first;
+      opening = b.opening ∙ a.opening;
+      name = b.name ∙ a.name;
+      splits = b.splits ∙ a.splits;
+      children = b.children ∙ a.children;
+      lists = b.lists ∙ a.lists;
+      filled = b.filled ∙ a.filled;
+    }
+
+-- the seat has this view now, which has what the one before had
+pub keeps-by : (s t : Seat Known) (v : View) → SameSeat s t → t.token.me.0 ≡ v → v.opening ≡ s.token.me.0.opening → v.name ≡ s.token.me.0.name → v.splits ≡ s.token.me.0.splits
+    → v.children ≡ s.token.me.0.children → v.joined ≡ s.token.me.0.joined → v.filled ≡ s.token.me.0.filled → KeepsPlace s t
+keeps-by s t v same is opening name splits children lists filled =
+    record {
+      board = same.0;
+      place = same.1;
+      split = same.2;
+      joined = same.3;
+      first = same.4;
+      opening = ap (λ (w : View). w.opening) is ∙ opening;
+      name = ap (λ (w : View). w.name) is ∙ name;
+      splits = ap (λ (w : View). w.splits) is ∙ splits;
+      children = ap (λ (w : View). w.children) is ∙ children;
+      lists = ap (λ (w : View). w.joined) is ∙ lists;
+      filled = ap (λ (w : View). w.filled) is ∙ filled;
+    }
+
+pub unnoted-same : (s : Seat Known) (log : List Logged) → Unnoted s log s log
+unnoted-same s log = record { keeps = keeps-same s; made = refl; log = refl; got = ([], refl) }
+
+-- a look
+pub looked-at : (s t : Seat Known) (i w : ℕ) (log : List Logged) → SameSeat s t → t.token.me.0 ≡ with_got s.token.me.0 i w → Unnoted s log t log
+looked-at s t i w log same is =
+    record {
+      keeps = keeps-by s t (with_got s.token.me.0 i w) same is refl refl refl refl refl refl;
+      made = ap (λ (v : View). v.made) is;
+      log = refl;
+      got = ((i, w) ∷ [], ap (λ (v : View). v.got) is);
+    }
+
+-- a turn was taken
+pub taken-turn : (s t : Seat Known) (i w : ℕ) (past : List Made) (log : List Logged) → SameSeat s t → t.token.me.0 ≡ taking s.token.me.0 i w past → Unnoted s log t log
+taken-turn s t i w past log same is =
+    record {
+      keeps = keeps-by s t (taking s.token.me.0 i w past) same is refl refl refl refl refl refl;
+      made = ap (λ (v : View). v.made) is;
+      log = refl;
+      got = ((i, w) ∷ [], ap (λ (v : View). v.got) is);
+    }
+
+-- a turn was given back
+pub gave-turn : (s t : Seat Known) (i w : ℕ) (log : List Logged) → SameSeat s t → t.token.me.0 ≡ returning s.token.me.0 i w s.token.me.0.filled → Unnoted s log t log
+gave-turn s t i w log same is =
+    record {
+      keeps = keeps-by s t (returning s.token.me.0 i w s.token.me.0.filled) same is refl refl refl refl refl refl;
+      made = ap (λ (v : View). v.made) is;
+      log = refl;
+      got = ((i, w) ∷ [], ap (λ (v : View). v.got) is);
+    }
+
+-- a step was recorded
+pub stepped : (s t : Seat Known) (e : FineStep) (log new : List Logged) → SameSeat s t → t.token.me.0 ≡ with_made s.token.me.0 (made_of e) → new ≡ log ++ logged_of e ∷ [] → IsReadBack e → Noted s log e t new
+stepped s t e log new same is l back =
+    record {
+      keeps = keeps-by s t (with_made s.token.me.0 (made_of e)) same is refl refl refl refl refl refl;
+      made = ap (λ (v : View). v.made) is;
+      log = l;
+      back = back;
+      got = ([], ap (λ (v : View). v.got) is);
+    }
+
+-- a step of a cell was recorded, and the turn given back
+pub put-turn : (s t : Seat Known) (e : FineStep) (log new : List Logged) → SameSeat s t → t.token.me.0 ≡ recording s.token.me.0 (made_of e) → new ≡ log ++ logged_of e ∷ [] → IsReadBack e → Noted s log e t new
+put-turn s t e log new same is l back =
+    record {
+      keeps = keeps-by s t (recording s.token.me.0 (made_of e)) same is refl refl refl refl refl refl;
+      made = ap (λ (v : View). v.made) is;
+      log = l;
+      back = back;
+      got = ([], ap (λ (v : View). v.got) is);
+    }
+
+-- the step as its processor notes it
+pub logged-is : (e : FineStep) (cpu site number : ℕ) (event : Option Event) → e.cpu ≡ cpu → site_number e.site ≡ site → number ≡ number_of e.word → event ≡ event_of e.act
+    → record { cpu = cpu; site = site; number = number; event = event } ≡ logged_of e
+logged-is e cpu site number event at here n shows = λ i. record { cpu = sym at i; site = sym here i; number = n i; event = shows i }
+
+pub unnoted-then : (s t u : Seat Known) (a b c : List Logged) → Unnoted s a t b → Unnoted t b u c → Unnoted s a u c
+unnoted-then s t u a b c x y =
+    record {
+      keeps = keeps-then s t u x.keeps y.keeps;
+      made = y.made ∙ x.made;
+      log = y.log ∙ x.log;
+      got = (y.got.0 ++ x.got.0, y.got.1 ∙ (ap (λ g. y.got.0 ++ g) x.got.1 ∙ sym (append_assoc y.got.0 x.got.0 s.token.me.0.got)));
+    }
+
+pub noted-then : (s t u : Seat Known) (a b c : List Logged) (e : FineStep) → Unnoted s a t b → Noted t b e u c → Noted s a e u c
+noted-then s t u a b c e x y =
+    record {
+      keeps = keeps-then s t u x.keeps y.keeps;
+      made = y.made ∙ ap (λ m. m ++ made_of e ∷ []) x.made;
+      log = y.log ∙ ap (λ l. l ++ logged_of e ∷ []) x.log;
+      back = y.back;
+      got = (
+        y.got.0 ++ x.got.0,
+        y.got.1 ∙ ap (λ g. ((made_of e).site, (made_of e).word) ∷ g) (ap (λ g. y.got.0 ++ g) x.got.1 ∙ sym (append_assoc y.got.0 x.got.0 s.token.me.0.got)),
+      );
+    }
+
+module _ (image : Image) (board : TableId) (cells : Cells Known) (rodata : List ℕ) where
+  pub placed-then : (s t : Seat Known) → IsPlaced image board cells rodata s → KeepsPlace s t → t.token.me.0.image ≡ s.token.me.0.image → t.token.me.0.turn ≡ None → t.token.me.1 ≡ []
+      → IsPlaced image board cells rodata t
+  placed-then s t p k same idle empty =
+      record {
+        seated = record {
+          here = k.board ∙ p.seated.here;
+          words = p.seated.words;
+          first = p.seated.first;
+          count = p.seated.count;
+          filled = λ i h. subst (λ f. AmongCells f i) (sym k.filled) (p.seated.filled i h);
+          image_is = same ∙ p.seated.image_is;
+          idle = idle;
+          empty = empty;
+        };
+        rodata_is = p.rodata_is;
+      }
+
+  pub placed-again : (s t : Seat Known) (site word number : ℕ) (c : Known) → InTurn image board cells rodata s site word number c → KeepsPlace s t → t.token.me.0.image ≡ s.token.me.0.image
+      → t.token.me.0.turn ≡ None → t.token.me.1 ≡ rest s.token.me.1 → IsPlaced image board cells rodata t
+  placed-again s t site word number c p k same idle empty =
+      record {
+        seated = record {
+          here = k.board ∙ p.here;
+          words = p.words;
+          first = p.first;
+          count = p.count;
+          filled = λ i h. subst (λ f. AmongCells f i) (sym k.filled) (p.filled i h);
+          image_is = same ∙ p.image_is;
+          idle = idle;
+          empty = empty ∙ p.rest_is;
+        };
+        rodata_is = p.rodata_is;
+      }

@@ -1,0 +1,231 @@
+-- A step that the word of a row, of a thread or of a domain takes is lawful at its site.
+use Rattle.std.proofs.Common.{◌≡◌, ℕ, ◌+◌, ◌%◌, ◌<◌, Bool, true, false, None, Some, nat_lt, if◌then◌else◌, IsTrue, refl, sym, ap, ◌∙◌, subst, arith}
+use Rattle.std.proofs.lemmas.Bool.{and_parts, ltb-true, lt-ltb}
+use Rattle.std.proofs.lemmas.Bool.Decides.{nat_tests}
+use Rattle.um_base.specs.declared.act.Act.{Act}
+use Rattle.um_base.specs.declared.image.Image.{Image}
+use Rattle.um_words.specs.declared.fine.FineAct.{FineAct}
+use Rattle.um_words.specs.declared.fine.Unseen.{Unseen}
+use Rattle.um_words.specs.declared.kind.WordKind.{WordKind}
+use Rattle.um_words.specs.declared.row_word.RowWord.{RowWord}
+use Rattle.um_words.specs.declared.thread_word.ThreadWord.{ThreadWord}
+use Rattle.um_words.specs.declared.dom_word.DomWord.{DomWord}
+use Rattle.um_words.specs.BitLists.{length-bits}
+use Rattle.um_words.specs.Domains.{DomainMay, counted_domain, domain_after, domain_after_act, domain_after_unseen, domain_takes, domain_takes_act, domain_takes_unseen, writes}
+use Rattle.um_words.specs.WordFacts.{KeepsDomain}
+use Rattle.um_words.specs.Packed.{FitsDomain, FitsRow, FitsThread, domain_in, domain_of, is_domain, is_thread, packed_domain, packed_row, packed_thread, row_of, thread_in, thread_of}
+use Rattle.um_words.specs.RowFacts.{row-fits}
+use Rattle.um_words.specs.Rows.{RowMay, counted_row, row_after}
+use Rattle.um_words.specs.Steps.{DomainStep, RowStep, StepIn, ThreadStep, WordMay, cell_kind_at, kind_at, number, number_in}
+use Rattle.um_words.specs.Threads.{ThreadMay, counted_thread, thread_after, thread_after_act}
+use Rattle.um_fine.proofs.Words.{domain-may, row-may, thread-may}
+use Rattle.um_fine.specs.Answers.{no_domain, no_row, no_thread}
+use Rattle.um_fine.proofs.Keys.{number-back}
+use Rattle.um_fine.specs.Sites.{SiteState, is_site, site_number, site_numbered}
+use Rattle.um_fine.specs.Steps.{FineStep, Site, Word}
+use Rattle.um_processor.specs.Asked.{Takes}
+use Rattle.um_processor.specs.RowActs.{row_made, row_said}
+use Rattle.um_processor.specs.declared.row_act.RowAct.{RowAct}
+use Rattle.um_processor.specs.declared.row_act.RowSaid.{RowSaid}
+use Rattle.um_board.specs.Noted.{packed}
+use Rattle.um_board.specs.ReadBack.{IsReadBack, unpacked}
+
+kind-by : (a b c : Bool) (site : ℕ) → WordKind
+kind-by a b c site = if a then WordKind.Row else if b then WordKind.Thread else if c then WordKind.Domain else WordKind.Cell (cell_kind_at site)
+
+row-kind : (site : ℕ) → site < 128 → kind_at site ≡ WordKind.Row
+unfolding kind-by
+row-kind site low = ap (λ (a : Bool). kind-by a (nat_lt site 160) (nat_lt site 168) site) (lt-ltb site 128 low)
+
+thread-kind : (t : ℕ) → t < 32 → kind_at (128 + t) ≡ WordKind.Thread
+unfolding kind-by
+thread-kind t low =
+    let a : nat_lt (128 + t) 128 ≡ false = grind (arith, nat_tests) in
+    ap (λ (b : Bool). kind-by b (nat_lt (128 + t) 160) (nat_lt (128 + t) 168) (128 + t)) a
+    ∙ ap (λ (b : Bool). kind-by false b (nat_lt (128 + t) 168) (128 + t)) (lt-ltb (128 + t) 160 (omega arith))
+
+domain-kind : (d : ℕ) → d < 8 → kind_at (160 + d) ≡ WordKind.Domain
+unfolding kind-by
+domain-kind d low =
+    let a : nat_lt (160 + d) 128 ≡ false = grind (arith, nat_tests) in
+    let b : nat_lt (160 + d) 160 ≡ false = grind (arith, nat_tests) in
+    ap (λ (x : Bool). kind-by x (nat_lt (160 + d) 160) (nat_lt (160 + d) 168) (160 + d)) a
+    ∙ (ap (λ (x : Bool). kind-by false x (nat_lt (160 + d) 168) (160 + d)) b
+    ∙ ap (λ (x : Bool). kind-by false false x (160 + d)) (lt-ltb (160 + d) 168 (omega arith)))
+
+row_in : SiteState → RowWord
+row_in (SiteState.row w) = w
+row_in _ = no_row
+
+row_word_in : Word → RowWord
+row_word_in (Word.row w) = w
+row_word_in _ = no_row
+
+module _ (image : Image) (e : FineStep) where
+  -- the word that is left, and that it is the step's
+  row-left : (w z : RowWord) → Takes image (SiteState.row w) e (SiteState.row z) → (e.word ≡ Word.row z) × RowMay w e.act z × (z ≡ counted_row (row_after w e.act))
+  unfolding row_in row_word_in
+  row-left w z t =
+      let m = row-may image e w t.may in
+      let left : z ≡ counted_row (row_after w e.act) = ap row_in t.leaves in
+      let is : m.0 ≡ z = m.2.leaves ∙ sym left in
+      (m.1 ∙ ap Word.row is, subst (λ (x : RowWord). RowMay w e.act x) is m.2, left)
+
+  pub row-word : (w z : RowWord) → Takes image (SiteState.row w) e (SiteState.row z) → e.word ≡ Word.row z
+  row-word w z t = (row-left w z t).0
+
+  pub row-lawful : (site seen : ℕ) (z : RowWord) → site < 128 → Takes image (SiteState.row (row_of seen)) e (SiteState.row z) → (next : ℕ) → next ≡ packed_row z → WordMay site seen e.act next
+  row-lawful site seen z low t next is =
+      let step : RowStep seen e.act next = record { left = z; may = (row-left (row_of seen) z t).1; is = is } in
+      record { step = subst (λ (k : WordKind). StepIn k seen e.act next) (sym (row-kind site low)) step }
+
+  pub row-packs : (seen : ℕ) (z : RowWord) → Takes image (SiteState.row (row_of seen)) e (SiteState.row z) → FitsRow z
+  row-packs seen z t =
+      let l = row-left (row_of seen) z t in
+      subst FitsRow (sym l.2) (row-fits (row_of seen) (length-bits 32 (seen % 4294967296)) (omega arith) l.1.room e.act l.1.takes)
+
+-- the word that was read is the one that stands
+pub row-read : (image : Image) (cpu x : ℕ) (v w : RowWord) (act : RowAct) (z : RowWord) (said : RowSaid) → v ≡ w
+    → Takes image (SiteState.row v) (row_made image cpu x v act) (SiteState.row z) × (said ≡ row_said (row_made image cpu x v act))
+    → Takes image (SiteState.row w) (row_made image cpu x w act) (SiteState.row z) × (said ≡ row_said (row_made image cpu x w act))
+row-read image cpu x v w act z said is t =
+    subst (λ (r : RowWord). Takes image (SiteState.row r) (row_made image cpu x r act) (SiteState.row z) × (said ≡ row_said (row_made image cpu x r act))) is t
+
+pub row-number : (site word : ℕ) (z : RowWord) → site < 128 → row_of word ≡ z → number site word ≡ z.number
+unfolding number
+row-number site word z low is = ap (λ (k : WordKind). number_in k word) (row-kind site low) ∙ ap (λ (r : RowWord). r.number) is
+
+-- the same of a thread's word
+
+thread_in_state : SiteState → ThreadWord
+thread_in_state (SiteState.thread w) = w
+thread_in_state _ = no_thread
+
+thread-kept : (w : ThreadWord) (act : FineAct) → (thread_after w act).number ≡ w.number
+thread-kept w (FineAct.Shown event more) = by event.act
+  where
+    by : (act : Act) → (thread_after_act w more act).number ≡ w.number
+    by Act.Exit = refl
+    by (Act.Fatal reason cause) = refl
+    by (Act.Doom who) = refl
+    by (Act.DomMove d who reply) = refl
+    by (Act.Start who) = refl
+    by Act.EnterUser = refl
+    by act = refl
+thread-kept w (FineAct.Unseen Unseen.Hold) = refl
+thread-kept w (FineAct.Unseen Unseen.LetGo) = refl
+thread-kept w (FineAct.Unseen unseen) = refl
+
+module _ (image : Image) (e : FineStep) where
+  thread-left : (w z : ThreadWord) → Takes image (SiteState.thread w) e (SiteState.thread z) → (e.word ≡ Word.thread z) × ThreadMay w e.act z × (z ≡ counted_thread (thread_after w e.act))
+  unfolding thread_in_state
+  thread-left w z t =
+      let m = thread-may image e w t.may in
+      let left : z ≡ counted_thread (thread_after w e.act) = ap thread_in_state t.leaves in
+      let is : m.0 ≡ z = m.2.leaves ∙ sym left in
+      (m.1 ∙ ap Word.thread is, subst (λ (x : ThreadWord). ThreadMay w e.act x) is m.2, left)
+
+  pub thread-word : (w z : ThreadWord) → Takes image (SiteState.thread w) e (SiteState.thread z) → e.word ≡ Word.thread z
+  thread-word w z t = (thread-left w z t).0
+
+  pub thread-lawful : (t seen : ℕ) (w z : ThreadWord) → t < 32 → thread_of seen ≡ Some w → Takes image (SiteState.thread w) e (SiteState.thread z) → (next : ℕ) → next ≡ packed_thread z
+      → WordMay (128 + t) seen e.act next
+  thread-lawful t seen w z low reads takes next is =
+      let step : ThreadStep seen e.act next = record { found = w; reads = reads; left = z; may = (thread-left w z takes).1; is = is } in
+      record { step = subst (λ (k : WordKind). StepIn k seen e.act next) (sym (thread-kind t low)) step }
+
+  pub thread-packs : (w z : ThreadWord) → z.domain < 8 → Takes image (SiteState.thread w) e (SiteState.thread z) → FitsThread z
+  thread-packs w z domain t =
+      let l = thread-left w z t in
+      let n : z.number ≡ w.number + 1 = ap (λ (x : ThreadWord). x.number) l.2 ∙ ap (λ n. n + 1) (thread-kept w e.act) in
+      let room = l.1.room in
+      record { domain = domain; number = omega arith }
+
+domain_in_state : SiteState → DomWord
+domain_in_state (SiteState.domain w) = w
+domain_in_state _ = no_domain
+
+module _ (image : Image) (e : FineStep) where
+  domain-left : (w z : DomWord) → Takes image (SiteState.domain w) e (SiteState.domain z) → (e.word ≡ Word.domain z) × DomainMay w e.act z × (z ≡ counted_domain (domain_after w e.act))
+  unfolding domain_in_state
+  domain-left w z t =
+      let m = domain-may image e w t.may in
+      let left : z ≡ counted_domain (domain_after w e.act) = ap domain_in_state t.leaves in
+      let is : m.0 ≡ z = m.2.leaves ∙ sym left in
+      (m.1 ∙ ap Word.domain is, subst (λ (x : DomWord). DomainMay w e.act x) is m.2, left)
+
+  pub domain-word : (w z : DomWord) → Takes image (SiteState.domain w) e (SiteState.domain z) → e.word ≡ Word.domain z
+  domain-word w z t = (domain-left w z t).0
+
+  pub domain-lawful : (d seen : ℕ) (w z : DomWord) → d < 8 → domain_of seen ≡ Some w → Takes image (SiteState.domain w) e (SiteState.domain z) → (next : ℕ) → next ≡ packed_domain z
+      → WordMay (160 + d) seen e.act next
+  domain-lawful d seen w z low reads takes next is =
+      let step : DomainStep seen e.act next = record { found = w; reads = reads; left = z; may = (domain-left w z takes).1; is = is } in
+      record { step = subst (λ (k : WordKind). StepIn k seen e.act next) (sym (domain-kind d low)) step }
+
+module _ (w : DomWord) (fits : FitsDomain w) where
+  writing : IsTrue (writes w) → w.version + 1 < 1048576
+  writing h = let p : w.version < 1048575 = ltb-true w.version 1048575 (and_parts _ _ h).1 in omega arith
+
+  domain-act : (act : Act) → IsTrue (domain_takes_act w act) → KeepsDomain w (domain_after_act w act)
+  domain-act (Act.DomInit d reply) h = record { readers = fits.readers; version = writing h; number = refl }
+  domain-act (Act.DomAdd d range attr reply) h = record { readers = fits.readers; version = writing h; number = refl }
+  domain-act (Act.DomRemove d range attr reply) h = record { readers = fits.readers; version = writing h; number = refl }
+  domain-act (Act.DomMove d who reply) h = let f = fits.readers in record { readers = omega arith; version = fits.version; number = refl }
+  domain-act act h = absurd (cc)
+
+  domain-unseen : (unseen : Unseen) → IsTrue (domain_takes_unseen w unseen) → KeepsDomain w (domain_after_unseen w unseen)
+  domain-unseen Unseen.ReadClaim h = let p : w.readers < 127 = ltb-true w.readers 127 (and_parts _ _ h).1 in record { readers = omega arith; version = fits.version; number = refl }
+  domain-unseen Unseen.ReadDone h = let f = fits.readers in record { readers = omega arith; version = fits.version; number = refl }
+  domain-unseen Unseen.WriteClaim h = record { readers = fits.readers; version = fits.version; number = refl }
+  domain-unseen unseen h = absurd (cc)
+
+  domain-keeps : (act : FineAct) → IsTrue (domain_takes w act) → KeepsDomain w (domain_after w act)
+  domain-keeps (FineAct.Shown event more) h = domain-act event.act h
+  domain-keeps (FineAct.Unseen unseen) h = domain-unseen unseen h
+
+pub domain-packs : (image : Image) (e : FineStep) (w z : DomWord) → FitsDomain w → Takes image (SiteState.domain w) e (SiteState.domain z) → FitsDomain z
+domain-packs image e w z fits t =
+    let l = domain-left image e w z t in
+    let k = domain-keeps w fits e.act l.1.takes in
+    let room = l.1.room in
+    let n = k.number in
+    subst FitsDomain (sym l.2) (record { readers = k.readers; version = k.version; number = omega arith })
+
+-- the step number in a word of a thread, and of a domain
+
+thread-read : (w : ℕ) (t : ThreadWord) → thread_of w ≡ Some t → thread_in w ≡ t
+thread-read w t e = elim (is_thread w) as (λ b. (if b then Some (thread_in w) else None) ≡ Some t → thread_in w ≡ t) [ true ↦ λ q. cc | false ↦ λ q. absurd (cc) ] e
+
+domain-read : (w : ℕ) (d : DomWord) → domain_of w ≡ Some d → domain_in w ≡ d
+domain-read w d e = elim (is_domain w) as (λ b. (if b then Some (domain_in w) else None) ≡ Some d → domain_in w ≡ d) [ true ↦ λ q. cc | false ↦ λ q. absurd (cc) ] e
+
+pub thread-number : (t word : ℕ) (z : ThreadWord) → t < 32 → thread_of word ≡ Some z → number (128 + t) word ≡ z.number
+unfolding number
+thread-number t word z low is = ap (λ (k : WordKind). number_in k word) (thread-kind t low) ∙ ap (λ (r : ThreadWord). r.number) (thread-read word z is)
+
+pub domain-number : (d word : ℕ) (z : DomWord) → d < 8 → domain_of word ≡ Some z → number (160 + d) word ≡ z.number
+unfolding number
+domain-number d word z low is = ap (λ (k : WordKind). number_in k word) (domain-kind d low) ∙ ap (λ (r : DomWord). r.number) (domain-read word z is)
+
+-- Steps are read back from the board.
+
+module _ (e : FineStep) where
+  back-at : (i : Site) → e.site ≡ i → IsTrue (is_site i) → unpacked i (packed e.word) ≡ e.word → IsReadBack e
+  back-at i at there word =
+      record {
+        site = subst (λ (j : Site). site_numbered (site_number j) ≡ j) (sym at) (number-back i there);
+        word = subst (λ (j : Site). unpacked j (packed e.word) ≡ e.word) (sym at) word;
+      }
+
+  pub row-reads-back : (x word : ℕ) (z : RowWord) → e.site ≡ Site.row x → x < 128 → e.word ≡ Word.row z → word ≡ packed_row z → row_of word ≡ z → IsReadBack e
+  row-reads-back x word z at low is left back =
+      back-at (Site.row x) at (lt-ltb x 128 low) (ap (λ n. Word.row (row_of n)) (ap packed is ∙ sym left) ∙ (ap Word.row back ∙ sym is))
+
+  pub thread-reads-back : (t word : ℕ) (z : ThreadWord) → e.site ≡ Site.thread t → t < 32 → e.word ≡ Word.thread z → word ≡ packed_thread z → thread_of word ≡ Some z → IsReadBack e
+  thread-reads-back t word z at low is left back =
+      back-at (Site.thread t) at (lt-ltb t 32 low) (ap (λ n. Word.thread (thread_in n)) (ap packed is ∙ sym left) ∙ (ap Word.thread (thread-read word z back) ∙ sym is))
+
+  pub domain-reads-back : (d word : ℕ) (z : DomWord) → e.site ≡ Site.domain d → d < 8 → e.word ≡ Word.domain z → word ≡ packed_domain z → domain_of word ≡ Some z → IsReadBack e
+  domain-reads-back d word z at low is left back =
+      back-at (Site.domain d) at (lt-ltb d 8 low) (ap (λ n. Word.domain (domain_in n)) (ap packed is ∙ sym left) ∙ (ap Word.domain (domain-read word z back) ∙ sym is))

@@ -1,0 +1,53 @@
+use Rattle.std.proofs.Common.{◌≡◌, ◌+◌, ap, refl, sym, ◌∙◌}
+use Rattle.um_fine.specs.Answers.{domain_in}
+use Rattle.um_fine.specs.Steps.{Exchange}
+use Rattle.um_processor.specs.DomainActs.{domain_made}
+use Rattle.um_board.specs.Noted.{number_of, packed}
+use Rattle.um_board.proofs.Keeping.{noted-then, unnoted-then}
+use Rattle.um_board.proofs.WordSteps.{domain-lawful, domain-number, domain-packs, domain-reads-back, domain-word}
+use Rattle.um_board.proofs.sites.SeatedSites.domain.Goals as goal
+
+pub pack-requires : goal.pack-requires
+pack-requires c =
+    let t = c.in-Some-make.ensures c.args.image.now c.args.cpu c.args.domain in
+    domain-packs c.args.image.now (domain_made c.args.image.now c.args.cpu c.args.domain c.in-Some.word c.args.act.now) _ _ c.in-Some.ensures.fits t
+
+pub step-requires-clause-step : goal.step-requires-clause-step
+step-requires-clause-step c =
+    let e = domain_made c.args.image.now c.args.cpu c.args.domain c.in-Some.word c.args.act.now in
+    let t = c.in-Some-make.ensures c.args.image.now c.args.cpu c.args.domain in
+    let left : packed e.word ≡ c.pack.result = ap packed (domain-word c.args.image.now e _ _ t) ∙ sym c.pack.ensures.value in
+    λ i. record { site = 160 + c.args.domain; act = e.act; word = left i; moved = Exchange.nothing }
+
+pub step-requires-clause-numbered : goal.step-requires-clause-numbered
+step-requires-clause-numbered c =
+    let e = domain_made c.args.image.now c.args.cpu c.args.domain c.in-Some.word c.args.act.now in
+    let t = c.in-Some-make.ensures c.args.image.now c.args.cpu c.args.domain in
+    domain-number c.args.domain _ _ c.requires.domain c.pack.ensures.back ∙ ap number_of (sym (domain-word c.args.image.now e _ _ t))
+
+pub step-requires-clause-back : goal.step-requires-clause-back
+step-requires-clause-back c =
+    let e = domain_made c.args.image.now c.args.cpu c.args.domain c.in-Some.word c.args.act.now in
+    let t = c.in-Some-make.ensures c.args.image.now c.args.cpu c.args.domain in
+    domain-reads-back e c.args.domain _ _ refl c.requires.domain (domain-word c.args.image.now e _ _ t) c.pack.ensures.value c.pack.ensures.back
+
+pub step-requires-clause-event : goal.step-requires-clause-event
+step-requires-clause-event c = c.event-event.ensures
+
+pub step-requires-clause-lawful : goal.step-requires-clause-lawful
+step-requires-clause-lawful c =
+    let e = domain_made c.args.image.now c.args.cpu c.args.domain c.in-Some.word c.args.act.now in
+    let t = c.in-Some-make.ensures c.args.image.now c.args.cpu c.args.domain in
+    domain-lawful c.args.image.now e c.args.domain c.look-seen.result _ _ c.requires.domain (sym c.in-Some.ensures.value) t _ c.pack.ensures.value
+
+pub returns-clause-said : goal.returns-clause-said
+returns-clause-said c =
+    let e = domain_made c.args.image.now c.args.cpu c.args.domain c.in-Some.word c.args.act.now in
+    let t = c.in-Some-make.ensures c.args.image.now c.args.cpu c.args.domain in
+    (c.in-Some.word, noted-then _ _ _ _ _ _ e c.look-seen.ensures.unnoted (c.if-not-step.ensures.made refl), sym (ap domain_in (domain-word c.args.image.now e _ _ t)))
+
+pub returns-in-None-make-clause-said : goal.returns-in-None-make-clause-said
+returns-in-None-make-clause-said c = (c.in-Some.word, c.look-seen.ensures.unnoted, tt)
+
+pub returns-then-not-step-clause-said : goal.returns-then-not-step-clause-said
+returns-then-not-step-clause-said c = (unnoted-then _ _ _ _ _ _ c.look-seen.ensures.unnoted (c.if-not-step.ensures.changed refl), tt)

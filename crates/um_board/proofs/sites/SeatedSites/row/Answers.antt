@@ -1,0 +1,56 @@
+use Rattle.std.proofs.Common.{◌≡◌, ap, refl, sym, ◌∙◌}
+use Rattle.um_words.specs.Packed.{row_of}
+use Rattle.um_fine.specs.Steps.{Exchange}
+use Rattle.um_processor.specs.RowActs.{row_event, row_made}
+use Rattle.um_processor.proofs.Noted.{row-event}
+use Rattle.um_board.specs.Noted.{number_of, packed}
+use Rattle.um_board.proofs.Keeping.{noted-then, unnoted-then}
+use Rattle.um_board.proofs.WordSteps.{row-lawful, row-number, row-packs, row-reads-back, row-read, row-word}
+use Rattle.um_board.proofs.sites.SeatedSites.row.Goals as goal
+
+pub pack-requires : goal.pack-requires
+pack-requires c =
+    let t = row-read c.args.image.now c.args.cpu c.args.row.0 _ _ c.args.act.now _ _ c.read-word.ensures.value (c.in-Some.ensures c.args.image.now c.args.cpu c.args.row.0) in
+    row-packs c.args.image.now (row_made c.args.image.now c.args.cpu c.args.row.0 (row_of c.look-seen.result) c.args.act.now) _ _ t.0
+
+pub step-requires-clause-step : goal.step-requires-clause-step
+step-requires-clause-step c =
+    let e = row_made c.args.image.now c.args.cpu c.args.row.0 (row_of c.look-seen.result) c.args.act.now in
+    let t = row-read c.args.image.now c.args.cpu c.args.row.0 _ _ c.args.act.now _ _ c.read-word.ensures.value (c.in-Some.ensures c.args.image.now c.args.cpu c.args.row.0) in
+    let left : packed e.word ≡ c.pack.result = ap packed (row-word c.args.image.now e _ _ t.0) ∙ sym c.pack.ensures.value in
+    λ i. record { site = c.args.row.0; act = e.act; word = left i; moved = Exchange.nothing }
+
+pub step-requires-clause-numbered : goal.step-requires-clause-numbered
+step-requires-clause-numbered c =
+    let e = row_made c.args.image.now c.args.cpu c.args.row.0 (row_of c.look-seen.result) c.args.act.now in
+    let t = row-read c.args.image.now c.args.cpu c.args.row.0 _ _ c.args.act.now _ _ c.read-word.ensures.value (c.in-Some.ensures c.args.image.now c.args.cpu c.args.row.0) in
+    row-number c.args.row.0 _ _ c.requires.row c.pack.ensures.back ∙ ap number_of (sym (row-word c.args.image.now e _ _ t.0))
+
+pub step-requires-clause-back : goal.step-requires-clause-back
+step-requires-clause-back c =
+    let e = row_made c.args.image.now c.args.cpu c.args.row.0 (row_of c.look-seen.result) c.args.act.now in
+    let t = row-read c.args.image.now c.args.cpu c.args.row.0 _ _ c.args.act.now _ _ c.read-word.ensures.value (c.in-Some.ensures c.args.image.now c.args.cpu c.args.row.0) in
+    row-reads-back e c.args.row.0 _ _ refl c.requires.row (row-word c.args.image.now e _ _ t.0) c.pack.ensures.value c.pack.ensures.back
+
+pub step-requires-clause-event : goal.step-requires-clause-event
+step-requires-clause-event c =
+    let t = row-read c.args.image.now c.args.cpu c.args.row.0 _ _ c.args.act.now _ _ c.read-word.ensures.value (c.in-Some.ensures c.args.image.now c.args.cpu c.args.row.0) in
+    c.event-event.ensures ∙ (ap (row_event c.args.act.now) t.1 ∙ row-event c.args.image.now c.args.cpu c.args.row.0 (row_of c.look-seen.result) c.args.act.now)
+
+pub step-requires-clause-lawful : goal.step-requires-clause-lawful
+step-requires-clause-lawful c =
+    let e = row_made c.args.image.now c.args.cpu c.args.row.0 (row_of c.look-seen.result) c.args.act.now in
+    let t = row-read c.args.image.now c.args.cpu c.args.row.0 _ _ c.args.act.now _ _ c.read-word.ensures.value (c.in-Some.ensures c.args.image.now c.args.cpu c.args.row.0) in
+    row-lawful c.args.image.now e c.args.row.0 c.look-seen.result _ c.requires.row t.0 _ c.pack.ensures.value
+
+pub returns-clause-said : goal.returns-clause-said
+returns-clause-said c =
+    let e = row_made c.args.image.now c.args.cpu c.args.row.0 (row_of c.look-seen.result) c.args.act.now in
+    let t = row-read c.args.image.now c.args.cpu c.args.row.0 _ _ c.args.act.now _ _ c.read-word.ensures.value (c.in-Some.ensures c.args.image.now c.args.cpu c.args.row.0) in
+    (row_of c.look-seen.result, noted-then _ _ _ _ _ _ e c.look-seen.ensures.unnoted (c.if-not-step.ensures.made refl), t.1)
+
+pub returns-in-None-clause-said : goal.returns-in-None-clause-said
+returns-in-None-clause-said c = (c.read-word.result, c.look-seen.ensures.unnoted, tt)
+
+pub returns-then-not-step-clause-said : goal.returns-then-not-step-clause-said
+returns-then-not-step-clause-said c = (unnoted-then _ _ _ _ _ _ c.look-seen.ensures.unnoted (c.if-not-step.ensures.changed refl), tt)

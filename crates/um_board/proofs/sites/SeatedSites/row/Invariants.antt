@@ -1,0 +1,6 @@
+use Rattle.um_words.specs.Packed.{row_of}
+use Rattle.um_processor.specs.RowActs.{row_made}
+use Rattle.um_board.proofs.sites.SeatedSites.row.Given as goal
+
+abbrev pub ghosts-step : goal.ghosts-step
+ghosts-step a = record { step = row_made a.image.now a.cpu a.which (row_of a.seen) a.about.now }

@@ -1,0 +1,59 @@
+use Rattle.std.proofs.Common.{◌≡◌, ◌+◌, ap, refl, sym, ◌∙◌}
+use Rattle.um_words.specs.declared.thread_word.ThreadWord.{ThreadWord}
+use Rattle.um_fine.specs.Answers.{thread_in}
+use Rattle.um_fine.specs.Steps.{Exchange}
+use Rattle.um_processor.specs.ThreadActs.{thread_event, thread_made}
+use Rattle.um_processor.proofs.Noted.{thread-event}
+use Rattle.um_board.specs.Noted.{number_of, packed}
+use Rattle.um_board.proofs.Keeping.{noted-then, unnoted-then}
+use Rattle.um_board.proofs.WordSteps.{thread-lawful, thread-number, thread-packs, thread-reads-back, thread-word}
+use Rattle.um_board.proofs.sites.SeatedSites.thread.Goals as goal
+
+pub pack-requires : goal.pack-requires
+pack-requires c =
+    let t = c.in-Some-make.ensures.made c.args.image.now c.args.cpu c.args.thread.0 in
+    thread-packs c.args.image.now (thread_made c.args.image.now c.args.cpu c.args.thread.0 c.in-Some.word c.args.act.now) _ _ (c.in-Some-make.ensures.domain c.in-Some.ensures.fits.domain) t
+
+pub step-requires-clause-step : goal.step-requires-clause-step
+step-requires-clause-step c =
+    let e = thread_made c.args.image.now c.args.cpu c.args.thread.0 c.in-Some.word c.args.act.now in
+    let t = c.in-Some-make.ensures.made c.args.image.now c.args.cpu c.args.thread.0 in
+    let left : packed e.word ≡ c.pack.result = ap packed (thread-word c.args.image.now e _ _ t) ∙ sym c.pack.ensures.value in
+    λ i. record { site = 128 + c.args.thread.0; act = e.act; word = left i; moved = Exchange.nothing }
+
+pub step-requires-clause-numbered : goal.step-requires-clause-numbered
+step-requires-clause-numbered c =
+    let e = thread_made c.args.image.now c.args.cpu c.args.thread.0 c.in-Some.word c.args.act.now in
+    let t = c.in-Some-make.ensures.made c.args.image.now c.args.cpu c.args.thread.0 in
+    thread-number c.args.thread.0 _ _ c.requires.thread c.pack.ensures.back ∙ ap number_of (sym (thread-word c.args.image.now e _ _ t))
+
+pub step-requires-clause-back : goal.step-requires-clause-back
+step-requires-clause-back c =
+    let e = thread_made c.args.image.now c.args.cpu c.args.thread.0 c.in-Some.word c.args.act.now in
+    let t = c.in-Some-make.ensures.made c.args.image.now c.args.cpu c.args.thread.0 in
+    thread-reads-back e c.args.thread.0 _ _ refl c.requires.thread (thread-word c.args.image.now e _ _ t) c.pack.ensures.value c.pack.ensures.back
+
+pub step-requires-clause-event : goal.step-requires-clause-event
+step-requires-clause-event c =
+    let e = thread_made c.args.image.now c.args.cpu c.args.thread.0 c.in-Some.word c.args.act.now in
+    let t = c.in-Some-make.ensures.made c.args.image.now c.args.cpu c.args.thread.0 in
+    c.event-event.ensures
+    ∙ (ap (λ (w : ThreadWord). thread_event c.args.act.now w) (sym (ap thread_in (thread-word c.args.image.now e _ _ t))) ∙ thread-event c.args.image.now c.args.cpu c.args.thread.0 c.in-Some.word c.args.act.now)
+
+pub step-requires-clause-lawful : goal.step-requires-clause-lawful
+step-requires-clause-lawful c =
+    let e = thread_made c.args.image.now c.args.cpu c.args.thread.0 c.in-Some.word c.args.act.now in
+    let t = c.in-Some-make.ensures.made c.args.image.now c.args.cpu c.args.thread.0 in
+    thread-lawful c.args.image.now e c.args.thread.0 c.look-seen.result _ _ c.requires.thread (sym c.in-Some.ensures.value) t _ c.pack.ensures.value
+
+pub returns-clause-said : goal.returns-clause-said
+returns-clause-said c =
+    let e = thread_made c.args.image.now c.args.cpu c.args.thread.0 c.in-Some.word c.args.act.now in
+    let t = c.in-Some-make.ensures.made c.args.image.now c.args.cpu c.args.thread.0 in
+    (c.in-Some.word, noted-then _ _ _ _ _ _ e c.look-seen.ensures.unnoted (c.if-not-step.ensures.made refl), sym (ap thread_in (thread-word c.args.image.now e _ _ t)))
+
+pub returns-in-None-make-clause-said : goal.returns-in-None-make-clause-said
+returns-in-None-make-clause-said c = (c.in-Some.word, c.look-seen.ensures.unnoted, tt)
+
+pub returns-then-not-step-clause-said : goal.returns-then-not-step-clause-said
+returns-then-not-step-clause-said c = (unnoted-then _ _ _ _ _ _ c.look-seen.ensures.unnoted (c.if-not-step.ensures.changed refl), tt)

@@ -1,0 +1,5 @@
+use Rattle.um_processor.specs.ThreadActs.{thread_made}
+use Rattle.um_board.proofs.sites.SeatedSites.thread.Given as goal
+
+abbrev pub ghosts-step : goal.ghosts-step
+ghosts-step a = record { step = thread_made a.image.now a.cpu a.which a.about.now.0 a.about.now.1.now }

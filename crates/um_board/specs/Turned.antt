@@ -1,0 +1,47 @@
+-- A processor's place at a board, and there the turn of a cell with its contents.
+use Rattle.std.specs.Prelude.{◌≡◌, ℕ, ◌<◌, ◌≤◌, List, [], None}
+use Rattle.atomic_table.specs.Seated.{TableId}
+use Rattle.atomic_table.specs.Table.{rest}
+use Rattle.um_base.specs.declared.image.Image.{Image}
+use Rattle.um_machine.specs.Memory.{rodata_of}
+use Rattle.um_words.specs.declared.kind.CellKind.{CellKind}
+use Rattle.um_words.specs.Packed.{cell_of}
+use Rattle.um_words.specs.Steps.{cell_kind_at}
+use Rattle.um_fine.specs.Cells.{Cell, cell_word}
+use Rattle.um_site.specs.declared.seat.Seat.{Seat}
+use Rattle.um_site.specs.Tells.{HasTurn}
+use Rattle.um_cell.specs.declared.cells.Cells.{Cells}
+use Rattle.um_cell.specs.Contents.{KnowsFilled}
+use Rattle.um_board.specs.Contents.{Follows, Known, Opens}
+use Rattle.um_board.specs.Seated.{CELLS, FIRST_CELL, IsSeated, WORDS}
+
+-- The seat is at this board of the image, whose read-only data these are.
+pub record IsPlaced (image : Image) (board : TableId) (cells : Cells Known) (rodata : List ℕ) (seat : Seat Known) : Type 0 where
+  pub seated : IsSeated image board cells seat
+  pub rodata_is : rodata ≡ rodata_of image
+
+abbrev pub kind_of : Cell → CellKind
+kind_of (Cell.object o) = CellKind.Object
+kind_of (Cell.parts d) = CellKind.Domain
+kind_of (Cell.memory m) = CellKind.Memory
+kind_of (Cell.heap h) = CellKind.Heap
+kind_of (Cell.scheduler s) = CellKind.Scheduler
+
+-- The same, but the seat has the turn of the cell at this site: its contents are of the site's kind, its word says how many steps the cell
+-- has taken and what its contents count, and it can take one more.
+pub record InTurn (image : Image) (board : TableId) (cells : Cells Known) (rodata : List ℕ) (seat : Seat Known) (site word number : ℕ) (c : Known) : Type 0 where
+  pub here : seat.token.table_id ≡ board
+  pub words : board.words ≡ WORDS
+  pub first : cells.first ≡ FIRST_CELL
+  pub count : cells.count ≡ CELLS
+  pub filled : KnowsFilled cells seat.token.me.0
+  pub image_is : seat.token.me.0.image ≡ image
+  pub rodata_is : rodata ≡ rodata_of image
+  pub low : FIRST_CELL ≤ site
+  pub high : site < WORDS
+  pub turn : HasTurn Opens Follows seat.token.me site word None c
+  pub rest_is : rest seat.token.me.1 ≡ []
+  pub of : c.image ≡ image
+  pub kind : kind_of c.cell ≡ cell_kind_at site
+  pub says : cell_of word ≡ cell_word c.cell number
+  pub room : number < 268435455

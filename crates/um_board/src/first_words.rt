@@ -1,0 +1,141 @@
+//! The words with which the board of an image opens.
+
+ghost use Rattle.std.specs.Prelude.{◌≡◌, ℕ, ◌+◌, ◌%◌, ◌<◌, ◌≤◌, IfOk, length, slice_index};
+ghost use Rattle.um_base.specs.Lawful.{IsLawful};
+ghost use Rattle.um_base.specs.declared.limits.TheConstants.{DOMAINS, ROWS, THREADS};
+ghost use Rattle.um_machine.specs.Run.{opening};
+ghost use Rattle.um_words.specs.Steps.{number};
+ghost use Rattle.um_opening.specs.Opened.{AreDomains, AreRows, AreThreads};
+ghost use Rattle.um_board.specs.Opening.{AreOpening, opening_word};
+
+use std::alloc::Global;
+use um_base::{Image, Memory};
+use um_words::{CellWord, DomWord, RowWord, ThreadWord};
+
+/// How many words a board has.
+const WORDS: u16 = 307;
+
+/// The site of the scheduler, which is the last one.
+const SCHEDULER: u16 = 306;
+
+/// The word of a row.
+fn row_word(image: &Image, rows: &[RowWord], row: u16) -> u64
+    requires site { row < ROWS }
+    requires all { length rows.now ≡ ROWS }
+    requires rows { AreRows (opening image.now) ROWS rows.now }
+    ensures value { result ≡ opening_word image.now row }
+    ensures unstepped { number row result ≡ 0 }
+{
+    rows[row as usize].pack()
+}
+
+/// The word of a thread.
+fn thread_word(image: &Image, threads: &[ThreadWord], site: u16, thread: u16) -> u64
+    requires lawful { IsLawful image.now }
+    requires few { length image.now.domains ≤ DOMAINS }
+    requires index { thread < THREADS }
+    requires site { 128 + thread ≡ site }
+    requires all { length threads.now ≡ THREADS }
+    requires threads { AreThreads (opening image.now) THREADS threads.now }
+    ensures value { result ≡ opening_word image.now site }
+    ensures unstepped { number site result ≡ 0 }
+{
+    threads[thread as usize].pack()
+}
+
+/// The word of a domain.
+fn domain_word(image: &Image, domains: &[DomWord], site: u16, domain: u16) -> u64
+    requires index { domain < DOMAINS }
+    requires site { 160 + domain ≡ site }
+    requires all { length domains.now ≡ DOMAINS }
+    requires domains { AreDomains (opening image.now) DOMAINS domains.now }
+    ensures value { result ≡ opening_word image.now site }
+    ensures unstepped { number site result ≡ 0 }
+{
+    domains[domain as usize].pack()
+}
+
+/// The word of a cell but the scheduler's.
+fn cell_word(image: &Image, site: u16) -> u64
+    requires site { (168 ≤ site) × (site < 306) }
+    ensures value { result ≡ opening_word image.now site }
+    ensures unstepped { number site result ≡ 0 }
+    ensures free { result % 2 ≡ 0 }
+{
+    let _ = image;
+    0
+}
+
+/// The word of the scheduler: the boot threads are ready.
+fn scheduler_word(image: &Image) -> u64
+    ensures value { result ≡ opening_word image.now 306 }
+    ensures unstepped { number 306 result ≡ 0 }
+    ensures free { result % 2 ≡ 0 }
+{
+    let word = CellWord {
+        turn: false,
+        ready: image.boots.len() as u8,
+        running: 0,
+        owed: 0,
+        number: 0,
+    };
+    word.pack()
+}
+
+/// The word of a site.
+fn word_at(
+    image: &Image,
+    rows: &[RowWord],
+    threads: &[ThreadWord],
+    domains: &[DomWord],
+    site: u16,
+) -> u64
+    requires lawful { IsLawful image.now }
+    requires few { length image.now.domains ≤ DOMAINS }
+    requires site { site < 307 }
+    requires rows { AreRows (opening image.now) ROWS rows.now }
+    requires threads { AreThreads (opening image.now) THREADS threads.now }
+    requires domains { AreDomains (opening image.now) DOMAINS domains.now }
+    requires all { (length rows.now ≡ ROWS) × (length threads.now ≡ THREADS) × (length domains.now ≡ DOMAINS) }
+    ensures value { result ≡ opening_word image.now site }
+    ensures unstepped { number site result ≡ 0 }
+    ensures free { 168 ≤ site → result % 2 ≡ 0 }
+{
+    if site < 128 {
+        row_word(image, rows, site)
+    } else if site < 160 {
+        thread_word(image, threads, site, site - 128)
+    } else if site < 168 {
+        domain_word(image, domains, site, site - 160)
+    } else if site == SCHEDULER {
+        scheduler_word(image)
+    } else {
+        cell_word(image, site)
+    }
+}
+
+/// The words of all sites, which have taken no step.
+pub fn first_words(
+    alloc: Global,
+    image: &Image,
+    rows: &[RowWord],
+    threads: &[ThreadWord],
+    domains: &[DomWord],
+) -> Result<Vec<u64>, Memory>
+    requires lawful { IsLawful image.now }
+    requires rows { AreRows (opening image.now) ROWS rows.now }
+    requires threads { AreThreads (opening image.now) THREADS threads.now }
+    requires domains { AreDomains (opening image.now) DOMAINS domains.now }
+    requires all { (length rows.now ≡ ROWS) × (length threads.now ≡ THREADS) × (length domains.now ≡ DOMAINS) }
+    ensures words { IfOk result (λ words. AreOpening image.now words.items) }
+    ensures unstepped { IfOk result (λ words. (i : ℕ) → i < length words.items → number i (slice_index words.items i) ≡ 0) }
+    ensures free { IfOk result (λ words. (i : ℕ) → 168 ≤ i → i < length words.items → slice_index words.items i % 2 ≡ 0) }
+{
+    // no more domains than have words
+    let _few = image.domains.len();
+    let mut words = Vec::with_capacity(alloc, WORDS as usize)?;
+    for site in 0..WORDS {
+        words.push(word_at(image, rows, threads, domains, site))?;
+    }
+    Ok(words)
+}

@@ -1,0 +1,16 @@
+//! The sites of the fine machine on a board of shared words: what its cells have in them, how it opens, and how a processor makes its
+//! steps there.
+#![tactic(auto)]
+
+mod contents;
+mod fine;
+mod first_board;
+mod first_contents;
+mod first_words;
+mod seated;
+mod sites;
+
+pub use contents::{Contents, Kept};
+pub use fine::{AsMade, Fine};
+pub use first_board::opening;
+pub use seated::{Seated, Turn};

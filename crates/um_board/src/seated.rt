@@ -1,0 +1,306 @@
+//! A processor's place at a board, and how it makes a step there.
+
+ghost use Rattle.std.specs.Prelude.{◌≡◌, ◌+◌, ◌<◌, ◌≤◌, ◌++◌, ◌∷◌, ℕ, [], Option, Some, None, false, true, length, vec_capacity, MatchOption, IsTrue};
+ghost use Rattle.atomic_table.specs.Seated.{TableId};
+ghost use Rattle.um_machine.specs.Memory.{rodata_of};
+ghost use Rattle.um_words.specs.Packed.{cell_of};
+ghost use Rattle.um_words.specs.Steps.{WordMay, number};
+ghost use Rattle.um_fine.specs.Cells.{Cell, cell_word, quiet_word};
+ghost use Rattle.um_fine.specs.Sites.{SiteState, is_site, site_number};
+ghost use Rattle.um_fine.specs.Steps.{Exchange};
+ghost use Rattle.um_site.specs.Tells.{NoOlder, last_got};
+ghost use Rattle.um_processor.specs.Asked.{Takes, event_of};
+ghost use Rattle.um_processor.specs.Sited.{MatchSaid};
+ghost use Rattle.um_board.specs.Noted.{made_of, number_of, packed};
+ghost use Rattle.um_board.specs.ReadBack.{IsReadBack};
+ghost use Rattle.um_board.specs.Seated.{IsSeated, Noted, Unnoted};
+ghost use Rattle.um_board.specs.Turned.{InTurn, IsPlaced};
+
+use crate::contents::Contents;
+use crate::fine::{AsMade, Fine};
+use std::snapshot::Snapshot;
+use um_base::{Act, Event, Image};
+use um_cell::{Cells, Held};
+use um_merge::Logged;
+use um_processor::Said;
+use um_site::{Board, Seat};
+use um_words::{AnyStep, CellWord, step_number};
+
+/// The greatest step number: there a cell takes no step.
+const LAST: u32 = 0xfff_ffff;
+
+/// The site of the scheduler.
+const SCHEDULER: u16 = 306;
+
+/// A processor's place at a board: its seat, and the log of the steps that it has made, in room that is reserved.
+#[derive(Drop)]
+pub struct Seated<'a> {
+    pub board: &'a Board<Contents, AnyStep>,
+    pub cells: &'a Cells<Contents>,
+    /// The bytes of the image's read-only data, which no step changes.
+    pub rodata: &'a [u8],
+    pub seat: Seat<Contents>,
+    pub log: Vec<Logged>,
+}
+
+/// The contents of a cell of which a seat has the turn.
+#[derive(Drop)]
+pub struct Turn {
+    /// The word at which the turn was taken.
+    pub word: u64,
+    /// How many steps the cell has taken.
+    pub number: u32,
+    /// What they were when the turn was taken, which stands in clauses alone.
+    pub before: Snapshot<Contents>,
+    pub contents: Contents,
+}
+
+/// One more step behind the others. It takes no memory.
+fn note(log: &mut Vec<Logged>, cpu: u8, site: u16, number: u32, event: &Option<Event>)
+    requires { length log.old.items < vec_capacity log.old }
+    ensures { log.new.items ≡ log.old.items ++ record { cpu = cpu; site = site; number = number; event = event.now } ∷ [] }
+{
+    let event = match event {
+        None => None,
+        Some(event) => {
+            let thread = event.thread;
+            let act: Act = event.act;
+            Some(Event { thread, act })
+        }
+    };
+    log.push_reserved(Logged {
+        cpu,
+        site,
+        number,
+        event,
+    });
+}
+
+/// How many steps a cell has taken by its word, where this word counts these threads and the cell can take one more.
+fn steps_of(word: u64, ready: u8, running: u8) -> Option<u32>
+    ensures { MatchOption result (Unit {0}) (λ n. (cell_of word ≡ quiet_word ready running n) × (n < 268435455)) }
+{
+    let word = CellWord::read(word);
+    if word.turn
+        || word.ready != ready
+        || word.running != running
+        || word.owed != 0
+        || word.number >= LAST
+    {
+        return None;
+    }
+    Some(word.number)
+}
+
+impl<'a> Seated<'a> {
+    /// A place at this board, with a log that has nothing in it.
+    pub fn new(
+        board: &'a Board<Contents, AnyStep>,
+        cells: &'a Cells<Contents>,
+        rodata: &'a [u8],
+        seat: Seat<Contents>,
+        log: Vec<Logged>,
+    ) -> Seated<'a>
+        ensures seat { result.seat ≡ seat }
+        ensures log { result.log ≡ log }
+        ensures board { (result.board.now ≡ board.now) × (result.cells.now ≡ cells.now) × (result.rodata.now ≡ rodata.now) }
+    {
+        Seated {
+            board,
+            cells,
+            rodata,
+            seat,
+            log,
+        }
+    }
+
+    /// Whether the log has no room for one more step.
+    pub(crate) fn is_full(&self) -> bool
+        ensures { result ≡ false → length self.now.log.items < vec_capacity self.now.log }
+    {
+        self.log.capacity() <= self.log.len()
+    }
+
+    /// The word of a site, as it stands.
+    pub(crate) fn look(&mut self, image: &Image, site: u16) -> u64
+        requires image { IsPlaced image.now self.old.board.now.table.shared.table_id self.old.cells.now self.old.rodata.now self.old.seat }
+        requires site { site < 307 }
+        ensures image { IsPlaced image.now self.new.board.now.table.shared.table_id self.new.cells.now self.new.rodata.now self.new.seat }
+        ensures unnoted { Unnoted self.old.seat self.old.log.items self.new.seat self.new.log.items }
+        ensures got { self.new.seat.token.me.0.got ≡ (site, result) ∷ self.old.seat.token.me.0.got }
+        ensures last { last_got self.new.seat.token.me.0.got site ≡ Some result }
+        ensures newest { NoOlder self.old.seat.token.me.0.got site result }
+        ensures log { self.new.log ≡ self.old.log }
+    {
+        self.board.look(&mut self.seat, site)
+    }
+
+    /// The word of the scheduler's cell, as it stands: no older than any that the seat has got or left there.
+    pub fn look_scheduler(&mut self, image: &Image) -> u64
+        requires image { IsPlaced image.now self.old.board.now.table.shared.table_id self.old.cells.now self.old.rodata.now self.old.seat }
+        ensures image { IsPlaced image.now self.new.board.now.table.shared.table_id self.new.cells.now self.new.rodata.now self.new.seat }
+        ensures unnoted { Unnoted self.old.seat self.old.log.items self.new.seat self.new.log.items }
+        ensures got { self.new.seat.token.me.0.got ≡ (306, result) ∷ self.old.seat.token.me.0.got }
+        ensures newest { NoOlder self.old.seat.token.me.0.got 306 result }
+    {
+        self.look(image, SCHEDULER)
+    }
+
+    /// A step of a row, of a thread or of a domain, which is such a one of its sort, by which the next word takes the place of the one that was
+    /// seen, and its note. Answers whether it was made: else another word stands there. What it is about, the step is picked by.
+    #[inline(always)]
+    pub(crate) fn step<D: Fine, A>(
+        &mut self,
+        image: &Image,
+        cpu: u8,
+        which: u8,
+        site: u16,
+        seen: u64,
+        next: u64,
+        event: &Option<Event>,
+        about: &A,
+    ) -> bool
+        requires image { IsPlaced image.now self.old.board.now.table.shared.table_id self.old.cells.now self.old.rodata.now self.old.seat }
+        requires site { site < 168 }
+        requires room { length self.old.log.items < vec_capacity self.old.log }
+        requires seen { last_got self.old.seat.token.me.0.got site ≡ Some seen }
+        requires step { made_of D.step ≡ record { site = site; act = D.step.act; word = next; moved = Exchange.nothing } }
+        requires numbered { number site next ≡ number_of D.step.word }
+        requires back { IsReadBack D.step }
+        requires cpu { D.step.cpu ≡ cpu }
+        requires event { event.now ≡ event_of D.step.act }
+        requires lawful { WordMay site seen D.step.act next }
+        ensures image { IsPlaced image.now self.new.board.now.table.shared.table_id self.new.cells.now self.new.rodata.now self.new.seat }
+        ensures made { result ≡ true → Noted self.old.seat self.old.log.items D.step self.new.seat self.new.log.items }
+        ensures changed { result ≡ false → Unnoted self.old.seat self.old.log.items self.new.seat self.new.log.items }
+    {
+        let _ = which;
+        let _ = about;
+        match self
+            .board
+            .step_to::<AsMade<D>>(&mut self.seat, site, seen, next)
+        {
+            Err(_) => false,
+            Ok(number) => {
+                note(&mut self.log, cpu, site, number, event);
+                true
+            }
+        }
+    }
+
+    /// The turn of a cell with its contents, where no other seat has it, and the cell can take a step that the log has room for.
+    pub(crate) fn turn(&mut self, image: &Image, site: u16) -> Said<Turn>
+        requires image { IsPlaced image.now self.old.board.now.table.shared.table_id self.old.cells.now self.old.rodata.now self.old.seat }
+        requires site { (168 ≤ site) × (site < 307) }
+        ensures unnoted { Unnoted self.old.seat self.old.log.items self.new.seat self.new.log.items }
+        ensures turn { MatchSaid result
+            (λ t. (t.contents ≡ t.before.value) × InTurn image.now self.new.board.now.table.shared.table_id self.new.cells.now self.new.rodata.now self.new.seat site t.word t.number t.before.value × (length self.new.log.items < vec_capacity self.new.log))
+            (IsPlaced image.now self.new.board.now.table.shared.table_id self.new.cells.now self.new.rodata.now self.new.seat)
+            (IsPlaced image.now self.new.board.now.table.shared.table_id self.new.cells.now self.new.rodata.now self.new.seat) }
+    {
+        if self.is_full() {
+            return Said::Changed;
+        }
+        let held = match self.cells.take(self.board, &mut self.seat, site) {
+            Err(_) => return Said::Changed,
+            Ok(held) => held,
+        };
+        let (ready, running) = held.contents.counts();
+        match steps_of(held.word, ready, running) {
+            None => {
+                self.cells.put_quiet(self.board, &mut self.seat, held);
+                Said::Busy
+            }
+            Some(number) => {
+                let Held { word, contents, .. } = held;
+                Said::Made(Turn {
+                    word,
+                    number,
+                    before: Snapshot::of(&contents),
+                    contents,
+                })
+            }
+        }
+    }
+
+    /// The turn is given back with the contents as they were.
+    pub(crate) fn put_back(
+        &mut self,
+        image: &Image,
+        site: u16,
+        word: u64,
+        number: u32,
+        contents: Contents,
+    )
+        requires turn { InTurn image.now self.old.board.now.table.shared.table_id self.old.cells.now self.old.rodata.now self.old.seat site word number contents }
+        ensures image { IsPlaced image.now self.new.board.now.table.shared.table_id self.new.cells.now self.new.rodata.now self.new.seat }
+        ensures unnoted { Unnoted self.old.seat self.old.log.items self.new.seat self.new.log.items }
+    {
+        let _ = image;
+        let _ = number;
+        let held = Held {
+            cell: site,
+            word,
+            contents,
+        };
+        self.cells.put_quiet(self.board, &mut self.seat, held);
+    }
+
+    /// A step of a cell, which is such a one of its sort, by which these are its contents, and its note; the turn is given back. What it is
+    /// about, the step is picked by.
+    #[inline(always)]
+    pub(crate) fn leave<D: Fine, A>(
+        &mut self,
+        image: &Image,
+        cpu: u8,
+        site: u16,
+        which: u8,
+        word: u64,
+        number: u32,
+        before: &Snapshot<Contents>,
+        contents: Contents,
+        event: &Option<Event>,
+        about: &A,
+    )
+        requires turn { InTurn image.now self.old.board.now.table.shared.table_id self.old.cells.now self.old.rodata.now self.old.seat site word number before.now.value }
+        requires room { length self.old.log.items < vec_capacity self.old.log }
+        requires takes { Takes image.now (SiteState.cell number before.now.value.cell) D.step (SiteState.cell (number + 1) contents.cell) }
+        requires of { contents.image ≡ image.now }
+        requires site { site_number D.step.site ≡ site }
+        requires there { IsTrue (is_site D.step.site) }
+        requires cpu { D.step.cpu ≡ cpu }
+        requires event { event.now ≡ event_of D.step.act }
+        ensures image { IsPlaced image.now self.new.board.now.table.shared.table_id self.new.cells.now self.new.rodata.now self.new.seat }
+        ensures made { Noted self.old.seat self.old.log.items D.step self.new.seat self.new.log.items }
+    {
+        let _ = image;
+        let _ = which;
+        let _ = before;
+        let _ = about;
+        let (ready, running) = contents.counts();
+        let next = CellWord {
+            turn: false,
+            ready,
+            running,
+            owed: 0,
+            number: number + 1,
+        }
+        .pack();
+        let held = Held {
+            cell: site,
+            word,
+            contents,
+        };
+        let number = self
+            .cells
+            .put::<_, AsMade<D>>(self.board, &mut self.seat, held, next);
+        note(&mut self.log, cpu, site, number, event);
+    }
+
+    /// The seat with the log of its steps.
+    pub fn into_parts(self) -> (Seat<Contents>, Vec<Logged>)
+        ensures { (result.0 ≡ self.entry.seat) × (result.1 ≡ self.entry.log) }
+    {
+        (self.seat, self.log)
+    }
+}

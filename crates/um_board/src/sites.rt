@@ -1,0 +1,576 @@
+//! The sites of a board, as a processor shares them with others.
+
+use crate::contents::{Contents, Kept};
+use crate::seated::{Seated, Turn};
+use std::marker::Brand;
+use std::snapshot::Snapshot;
+use um_base::{Addr, Image, Parts, Piece, Reply, Row, ThreadIx, Told, Waiter};
+use um_machine::{Cost, Pending};
+use um_processor::{
+    Context, DomainAct, HeapAct, HeapSaid, MemoryAct, MemorySaid, RowAct, RowSaid, Said, Sites,
+    ThreadAct, edited, named, parts_or_none, resumed, worked,
+};
+use um_service::Outcome;
+use um_words::{CellWord, DomWord, RowWord, ThreadWord};
+
+/// The sites of the cells that there is one of.
+const MEMORY: u16 = 304;
+
+const HEAP: u16 = 305;
+
+const SCHEDULER: u16 = 306;
+
+/// The first site of each other sort: rows come first.
+const THREADS_FROM: u16 = 128;
+
+const DOMAINS_FROM: u16 = 160;
+
+const OBJECTS_FROM: u16 = 168;
+
+const PARTS_FROM: u16 = 296;
+
+impl Sites for Seated<'_> {
+    ghost use Rattle.std.specs.Prelude.{◌≡◌};
+    ghost use Rattle.um_base.specs.declared.image.Image.{Image};
+    ghost use Rattle.um_board.specs.Seated.{Noted, Unnoted};
+    ghost use Rattle.um_board.specs.Turned.{IsPlaced};
+
+    ghost IsOf = { λ image s. IsPlaced image s.board.now.table.shared.table_id s.cells.now s.rodata.now s.seat };
+
+    ghost Took = { λ image old e new. Noted old.seat old.log.items e new.seat new.log.items };
+
+    ghost Kept = { λ old new. Unnoted old.seat old.log.items new.seat new.log.items };
+
+    ghost Shut = { λ image s e. Unit {0} };
+
+    ghost Contended = { λ s. Unit {0} };
+
+    fn row(&mut self, image: &Image, cpu: u8, row: Row, act: &RowAct) -> Said<RowSaid> {
+        if self.is_full() {
+            return Said::Changed;
+        }
+        let site = row.0 as u16;
+        let seen = self.look(image, site);
+        let word = RowWord::read(seen);
+        let (next, said) = match act.make(&word) {
+            None => return Said::Busy,
+            Some(made) => made,
+        };
+        let event = act.event(&said);
+        if !self.step::<Brand, _>(image, cpu, row.0, site, seen, next.pack(), &event, act) {
+            return Said::Changed;
+        }
+        Said::Made(said)
+    }
+
+    fn thread(
+        &mut self,
+        image: &Image,
+        cpu: u8,
+        thread: ThreadIx,
+        act: &ThreadAct,
+    ) -> Said<ThreadWord> {
+        if self.is_full() {
+            return Said::Changed;
+        }
+        let site = THREADS_FROM + thread.0 as u16;
+        let seen = self.look(image, site);
+        let word = match ThreadWord::unpack(seen) {
+            None => return Said::Changed,
+            Some(word) => word,
+        };
+        let next = match act.make(&word) {
+            None => return Said::Busy,
+            Some(next) => next,
+        };
+        let event = act.event(&next);
+        if !self.step::<Brand, _>(
+            image,
+            cpu,
+            thread.0,
+            site,
+            seen,
+            next.pack(),
+            &event,
+            &(word, act),
+        ) {
+            return Said::Changed;
+        }
+        Said::Made(next)
+    }
+
+    fn domain(&mut self, image: &Image, cpu: u8, domain: u8, act: &DomainAct) -> Said<DomWord> {
+        if self.is_full() {
+            return Said::Changed;
+        }
+        let site = DOMAINS_FROM + domain as u16;
+        let seen = self.look(image, site);
+        let word = match DomWord::unpack(seen) {
+            None => return Said::Changed,
+            Some(word) => word,
+        };
+        let next = match act.make(&word) {
+            None => return Said::Busy,
+            Some(next) => next,
+        };
+        let event = act.event();
+        if !self.step::<Brand, _>(
+            image,
+            cpu,
+            domain,
+            site,
+            seen,
+            next.pack(),
+            &event,
+            &(word, act),
+        ) {
+            return Said::Changed;
+        }
+        Said::Made(next)
+    }
+
+    fn load_parts(&mut self, image: &Image, cpu: u8, domain: u8, parts: &mut Parts) -> Said<()> {
+        let site = PARTS_FROM + domain as u16;
+        let turn = match self.turn(image, site) {
+            Said::Busy => return Said::Busy,
+            Said::Changed => return Said::Changed,
+            Said::Made(turn) => turn,
+        };
+        let Turn {
+            word,
+            number,
+            before,
+            contents,
+        } = turn;
+        let cell = contents.into_parts();
+        *parts = parts_or_none(&cell.parts);
+        let left = Contents::new(image, Kept::Parts(cell));
+        self.leave::<Brand, _>(
+            image,
+            cpu,
+            site,
+            domain,
+            word,
+            number,
+            &before,
+            left,
+            &None,
+            &(),
+        );
+        Said::Made(())
+    }
+
+    fn edit(&mut self, image: &Image, cpu: u8, domain: u8, call: &Pending) -> Said<Reply> {
+        let site = PARTS_FROM + domain as u16;
+        let turn = match self.turn(image, site) {
+            Said::Busy => return Said::Busy,
+            Said::Changed => return Said::Changed,
+            Said::Made(turn) => turn,
+        };
+        let Turn {
+            word,
+            number,
+            before,
+            contents,
+        } = turn;
+        let mut cell = contents.into_parts();
+        let (parts, reply) = edited(image, call, &cell.parts);
+        cell.parts = parts;
+        let left = Contents::new(image, Kept::Parts(cell));
+        self.leave::<Brand, _>(
+            image, cpu, site, domain, word, number, &before, left, &None, call,
+        );
+        Said::Made(reply)
+    }
+
+    fn work(
+        &mut self,
+        image: &Image,
+        cpu: u8,
+        row: Row,
+        addr: Addr,
+        who: &Waiter,
+        outcome: &mut Outcome,
+    ) -> Said<()> {
+        let site = OBJECTS_FROM + row.0 as u16;
+        let turn = match self.turn(image, site) {
+            Said::Busy => return Said::Busy,
+            Said::Changed => return Said::Changed,
+            Said::Made(turn) => turn,
+        };
+        let Turn {
+            word,
+            number,
+            before,
+            contents,
+        } = turn;
+        let mut cell = contents.into_object();
+        cell.work(who, outcome);
+        let event = Some(worked(addr, who, outcome));
+        let left = Contents::new(image, Kept::Object(cell));
+        self.leave::<Brand, _>(
+            image,
+            cpu,
+            site,
+            row.0,
+            word,
+            number,
+            &before,
+            left,
+            &event,
+            &(addr, who),
+        );
+        Said::Made(())
+    }
+
+    fn name(
+        &mut self,
+        image: &Image,
+        cpu: u8,
+        row: Row,
+        thread: ThreadIx,
+        who: ThreadIx,
+        bytes: &Piece,
+    ) -> Said<()> {
+        let site = OBJECTS_FROM + row.0 as u16;
+        let turn = match self.turn(image, site) {
+            Said::Busy => return Said::Busy,
+            Said::Changed => return Said::Changed,
+            Said::Made(turn) => turn,
+        };
+        let Turn {
+            word,
+            number,
+            before,
+            contents,
+        } = turn;
+        let mut cell = contents.into_object();
+        cell.name(bytes);
+        let event = Some(named(thread, who));
+        let left = Contents::new(image, Kept::Object(cell));
+        self.leave::<Brand, _>(
+            image,
+            cpu,
+            site,
+            row.0,
+            word,
+            number,
+            &before,
+            left,
+            &event,
+            &(thread, who, bytes),
+        );
+        Said::Made(())
+    }
+
+    fn message_size(&mut self, image: &Image, cpu: u8, row: Row) -> Said<u32> {
+        let site = OBJECTS_FROM + row.0 as u16;
+        let turn = match self.turn(image, site) {
+            Said::Busy => return Said::Busy,
+            Said::Changed => return Said::Changed,
+            Said::Made(turn) => turn,
+        };
+        let Turn {
+            word,
+            number,
+            before,
+            contents,
+        } = turn;
+        let cell = contents.into_object();
+        let size = cell.message_size();
+        let left = Contents::new(image, Kept::Object(cell));
+        self.leave::<Brand, _>(
+            image,
+            cpu,
+            site,
+            row.0,
+            word,
+            number,
+            &before,
+            left,
+            &None,
+            &(),
+        );
+        Said::Made(size)
+    }
+
+    fn clear(&mut self, image: &Image, cpu: u8, row: Row) -> Said<Option<Cost>> {
+        let site = OBJECTS_FROM + row.0 as u16;
+        let turn = match self.turn(image, site) {
+            Said::Busy => return Said::Busy,
+            Said::Changed => return Said::Changed,
+            Said::Made(turn) => turn,
+        };
+        let Turn {
+            word,
+            number,
+            before,
+            contents,
+        } = turn;
+        let mut cell = contents.into_object();
+        let buffer = cell.clear();
+        let left = Contents::new(image, Kept::Object(cell));
+        self.leave::<Brand, _>(
+            image,
+            cpu,
+            site,
+            row.0,
+            word,
+            number,
+            &before,
+            left,
+            &None,
+            &(),
+        );
+        Said::Made(buffer)
+    }
+
+    fn memory(
+        &mut self,
+        image: &Image,
+        cpu: u8,
+        act: &MemoryAct,
+        buffer: &mut Piece,
+    ) -> Said<MemorySaid> {
+        let turn = match self.turn(image, MEMORY) {
+            Said::Busy => return Said::Busy,
+            Said::Changed => return Said::Changed,
+            Said::Made(turn) => turn,
+        };
+        let Turn {
+            word,
+            number,
+            before,
+            contents,
+        } = turn;
+        let sent = Snapshot::of(buffer);
+        let mut cell = contents.into_memory();
+        let said = cell.make(image, self.rodata, act, buffer);
+        let event = act.event(&said);
+        let left = Contents::new(image, Kept::Memory(cell));
+        self.leave::<Brand, _>(
+            image,
+            cpu,
+            MEMORY,
+            0,
+            word,
+            number,
+            &before,
+            left,
+            &event,
+            &(act, sent),
+        );
+        Said::Made(said)
+    }
+
+    fn heap(
+        &mut self,
+        image: &Image,
+        cpu: u8,
+        act: &HeapAct,
+        charge: Option<Cost>,
+    ) -> Said<HeapSaid> {
+        let turn = match self.turn(image, HEAP) {
+            Said::Busy => return Said::Busy,
+            Said::Changed => return Said::Changed,
+            Said::Made(turn) => turn,
+        };
+        let Turn {
+            word,
+            number,
+            before,
+            contents,
+        } = turn;
+        let mut cell = contents.into_heap();
+        let said = cell.make(image, act, charge);
+        let event = act.event(&said);
+        let left = Contents::new(image, Kept::Heap(cell));
+        self.leave::<Brand, _>(
+            image,
+            cpu,
+            HEAP,
+            0,
+            word,
+            number,
+            &before,
+            left,
+            &event,
+            &(act, charge),
+        );
+        Said::Made(said)
+    }
+
+    fn take(
+        &mut self,
+        image: &Image,
+        cpu: u8,
+        context: &mut Box<Context>,
+        told: &mut Told,
+    ) -> Said<bool> {
+        let seen = self.look(image, SCHEDULER);
+        if CellWord::read(seen).ready == 0 {
+            return Said::Busy;
+        }
+        let turn = match self.turn(image, SCHEDULER) {
+            Said::Busy => return Said::Busy,
+            Said::Changed => return Said::Changed,
+            Said::Made(turn) => turn,
+        };
+        let Turn {
+            word,
+            number,
+            before,
+            contents,
+        } = turn;
+        let mut cell = contents.into_scheduler();
+        let woken = match cell.take(context, told) {
+            None => {
+                let same = Contents::new(image, Kept::Scheduler(cell));
+                self.put_back(image, SCHEDULER, word, number, same);
+                return Said::Busy;
+            }
+            Some(woken) => woken,
+        };
+        let event = resumed(context.thread(), woken);
+        let left = Contents::new(image, Kept::Scheduler(cell));
+        self.leave::<Brand, _>(
+            image,
+            cpu,
+            SCHEDULER,
+            0,
+            word,
+            number,
+            &before,
+            left,
+            &event,
+            &(),
+        );
+        Said::Made(woken)
+    }
+
+    fn wake(&mut self, image: &Image, cpu: u8, who: ThreadIx, told: &Told) -> Said<()> {
+        let turn = match self.turn(image, SCHEDULER) {
+            Said::Busy => return Said::Busy,
+            Said::Changed => return Said::Changed,
+            Said::Made(turn) => turn,
+        };
+        let Turn {
+            word,
+            number,
+            before,
+            contents,
+        } = turn;
+        let mut cell = contents.into_scheduler();
+        let _ready = match cell.wake(who, told) {
+            None => {
+                let same = Contents::new(image, Kept::Scheduler(cell));
+                self.put_back(image, SCHEDULER, word, number, same);
+                return Said::Busy;
+            }
+            Some(ready) => ready,
+        };
+        let left = Contents::new(image, Kept::Scheduler(cell));
+        self.leave::<Brand, _>(
+            image,
+            cpu,
+            SCHEDULER,
+            0,
+            word,
+            number,
+            &before,
+            left,
+            &None,
+            &(who, told),
+        );
+        Said::Made(())
+    }
+
+    fn add(&mut self, image: &Image, cpu: u8, context: &mut Box<Context>) -> Said<()> {
+        let turn = match self.turn(image, SCHEDULER) {
+            Said::Busy => return Said::Busy,
+            Said::Changed => return Said::Changed,
+            Said::Made(turn) => turn,
+        };
+        let Turn {
+            word,
+            number,
+            before,
+            contents,
+        } = turn;
+        let given = Snapshot::of(context);
+        let mut cell = contents.into_scheduler();
+        if !cell.add(context) {
+            let same = Contents::new(image, Kept::Scheduler(cell));
+            self.put_back(image, SCHEDULER, word, number, same);
+            return Said::Busy;
+        }
+        let left = Contents::new(image, Kept::Scheduler(cell));
+        self.leave::<Brand, _>(
+            image, cpu, SCHEDULER, 0, word, number, &before, left, &None, &given,
+        );
+        Said::Made(())
+    }
+
+    fn park(&mut self, image: &Image, cpu: u8, context: &mut Box<Context>) -> Said<()> {
+        let turn = match self.turn(image, SCHEDULER) {
+            Said::Busy => return Said::Busy,
+            Said::Changed => return Said::Changed,
+            Said::Made(turn) => turn,
+        };
+        let Turn {
+            word,
+            number,
+            before,
+            contents,
+        } = turn;
+        let given = Snapshot::of(context);
+        let mut cell = contents.into_scheduler();
+        let _ready = match cell.park(context) {
+            None => {
+                let same = Contents::new(image, Kept::Scheduler(cell));
+                self.put_back(image, SCHEDULER, word, number, same);
+                return Said::Busy;
+            }
+            Some(ready) => ready,
+        };
+        let left = Contents::new(image, Kept::Scheduler(cell));
+        self.leave::<Brand, _>(
+            image, cpu, SCHEDULER, 0, word, number, &before, left, &None, &given,
+        );
+        Said::Made(())
+    }
+
+    fn done(&mut self, image: &Image, cpu: u8) -> Said<()> {
+        let turn = match self.turn(image, SCHEDULER) {
+            Said::Busy => return Said::Busy,
+            Said::Changed => return Said::Changed,
+            Said::Made(turn) => turn,
+        };
+        let Turn {
+            word,
+            number,
+            before,
+            contents,
+        } = turn;
+        let mut cell = contents.into_scheduler();
+        if !cell.done() {
+            let same = Contents::new(image, Kept::Scheduler(cell));
+            self.put_back(image, SCHEDULER, word, number, same);
+            return Said::Busy;
+        }
+        let left = Contents::new(image, Kept::Scheduler(cell));
+        self.leave::<Brand, _>(
+            image,
+            cpu,
+            SCHEDULER,
+            0,
+            word,
+            number,
+            &before,
+            left,
+            &None,
+            &(),
+        );
+        Said::Made(())
+    }
+}
