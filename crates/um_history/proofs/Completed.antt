@@ -1,0 +1,112 @@
+-- Where each processor saw behind its last step that no thread is ready, none can make another step: what any list in the order of the logs shows
+-- is a complete run.
+use Rattle.std.proofs.Common.{◌≡◌, ℕ, ◌<◌, ◌≤◌, false, List, [], length, map, Some, None, sym, ap, ◌∙◌, subst, arith}
+use Rattle.std.specs.Prelude.{IsTrue}
+use Rattle.std.proofs.lemmas.Bool.{and_parts}
+use Rattle.um_base.specs.Weight.{weight}
+use Rattle.um_base.specs.declared.act.Act.{Act}
+use Rattle.um_base.specs.declared.act.Event.{Event}
+use Rattle.um_base.specs.declared.image.Image.{Image}
+use Rattle.um_machine.specs.Run.{IsComplete, Runs, opening}
+use Rattle.um_machine.specs.State.{State}
+use Rattle.um_reach.specs.Described.{IsDescribed}
+use Rattle.um_words.specs.CellActs.{is_resume}
+use Rattle.um_words.specs.declared.fine.FineAct.{FineAct}
+use Rattle.um_fine.specs.Asks.{CpuMay, says, says_idle, site_at}
+use Rattle.um_fine.specs.Cells.{Cell}
+use Rattle.um_fine.specs.Erasure.{shown}
+use Rattle.um_fine.specs.FineRun.{IsFineRun, SameOrder, cpu_of, same_cpu}
+use Rattle.um_fine.specs.Follows.{p_next}
+use Rattle.um_fine.specs.Opening.{s_start}
+use Rattle.um_fine.specs.Processor.{Processor, idle}
+use Rattle.um_fine.specs.Runs.{ends, sublist}
+use Rattle.um_fine.specs.Scheduler.{Scheduler, has_ready, sched_takes}
+use Rattle.um_fine.specs.Sites.{SiteMay, SiteState, s_next}
+use Rattle.um_fine.specs.Steps.{Exchange, FineStep, Site}
+use Rattle.um_fine.specs.Places.{Todos}
+use Rattle.um_merge.specs.Merged as Merged
+use Rattle.um_merge.specs.Merged.{HaveOrder, IsOrder, Log}
+use Rattle.um_merge.specs.declared.logged.Logged.{Logged}
+use Rattle.um_site.specs.declared.view.View.{View}
+use Rattle.um_erasure.specs.After.{left_by}
+use Rattle.um_erasure.specs.Room.{CanCount, CanRun, IsStuck}
+use Rattle.um_core.proofs.Counts.{can-count}
+use Rattle.um_board.specs.Noted.{logged_of}
+use Rattle.um_history.specs.Fine.{IsFineOf, events_of}
+use Rattle.um_history.specs.Played.{IsPlayed, SawNone}
+use Rattle.um_history.proofs.Fine.{is-fine-of, steps_of_all}
+use Rattle.um_history.proofs.Granted.{granted}
+use Rattle.um_history.proofs.NoneReady.{none-ready}
+use Rattle.um_history.proofs.OpeningRuns.{OpensWell}
+use Rattle.um_history.proofs.Ordered.{fine-same, is-order, lifted, noted-long, shown-noted}
+
+-- a processor without steps to go on with asks only for the first ready thread
+idle-needs : (image : Image) (p : Processor) (s : Scheduler) (moved : Exchange) → IsTrue (sched_takes s (says_idle image p moved)) → IsTrue (has_ready s s.ready)
+idle-needs image p s (Exchange.thread c None) h = h
+idle-needs image p s (Exchange.thread c (Some told)) h = (and_parts (is_resume Act.Resume) (has_ready s s.ready) h).1
+idle-needs image p s moved h = h
+
+none-taken : (s : Scheduler) → s.ready ≡ [] → IsTrue (has_ready s s.ready) → ⊥
+none-taken s none h = let off : has_ready s s.ready ≡ false = ap (has_ready s) none in cc
+
+refuses : (image : Image) (p : Processor) (n : ℕ) (s : Scheduler) (e : FineStep) → p.todo ≡ [] → s.ready ≡ [] → CpuMay image p e → SiteMay image (SiteState.cell n (Cell.scheduler s)) e → ⊥
+refuses image p n s e done none makes may =
+    let act : e.act ≡ says_idle image p e.moved = sym (ap (λ (g : FineStep). g.act) makes.makes) ∙ ap (λ (todo : Todos). says image p todo e.act e.moved) done in
+    none-taken s none (idle-needs image p s e.moved (subst (λ (a : FineAct). IsTrue (sched_takes s a)) act (and_parts _ _ may.takes).1))
+
+module _ (image : Image) (cpus : ℕ) (g : List FineStep) where
+  -- no processor has steps to go on with, and no thread is ready
+  pub stuck-at : ((k : ℕ) → k < cpus → ((left_by image cpus g).processors k).todo ≡ [])
+      → ((n : ℕ) × (s : Scheduler) × ((left_by image cpus g).sites Site.scheduler ≡ SiteState.cell n (Cell.scheduler s)) × (s.ready ≡ []))
+      → IsStuck (left_by image cpus g)
+  stuck-at done (n, s, state, none) e by takes =
+      let p = (left_by image cpus g).processors e.cpu in
+      let at : e.site ≡ Site.scheduler = sym (ap (λ (z : FineStep). z.site) by.may.makes) ∙ ap (site_at image p) (done e.cpu by.named) in
+      let there : SiteMay image ((left_by image cpus g).sites Site.scheduler) e = subst (λ (i : Site). SiteMay image ((left_by image cpus g).sites i) e) at takes in
+      refuses image p n s e (done e.cpu by.named) none by.may (subst (λ (z : SiteState). SiteMay image z e) state there)
+
+module _ (image : Image) (cpus : ℕ) (v : View) (words : List ℕ) (logs : List Log) (steps : ℕ → List FineStep) (described : IsDescribed image) (can : CanRun image cpus) (well : OpensWell image) (played : IsPlayed image cpus v words logs steps)
+    (longest : (run : List FineStep) → IsFineRun image cpus run → length run ≤ weight image) where
+  abbrev pub g : List FineStep
+  g = steps_of_all image cpus v words logs steps played well (granted image cpus described can)
+
+  pub fine : IsFineOf image cpus words steps g
+  fine = is-fine-of image cpus v words logs steps played well (granted image cpus described can)
+
+  ordered : IsOrder logs (map logged_of g)
+  ordered = is-order image cpus words steps g fine logs played.logs_are (λ k less. (played.lists k less).2.log_is)
+
+  pub have-order : HaveOrder logs (weight image)
+  have-order = let few = longest g fine.run in (map logged_of g, ordered, omega (arith, few, noted-long g))
+
+  -- what a list in the order of the logs is noted of
+  pub noted-of : (list : List Logged) → ((order : List Logged) → IsOrder logs order → Merged.SameOrder list order)
+      → (h : List FineStep) × (map logged_of h ≡ list) × SameOrder g h × IsFineRun image cpus h
+  noted-of list same =
+      let (h, is, order) = lifted g fine.sited list (same (map logged_of g) ordered) in
+      (h, is, order, fine-same image cpus g h order fine.run)
+
+  -- and what it shows
+  pub noted-run : ((run : List FineStep) → IsFineRun image cpus run → (last : State) × Runs (opening image) (shown run) last) → (list : List Logged) → ((order : List Logged) → IsOrder logs order → Merged.SameOrder list order)
+      → (h : List FineStep) × (map logged_of h ≡ list) × IsFineRun image cpus h × ((k : ℕ) → k < cpus → sublist same_cpu cpu_of k h ≡ steps k) × (last : State) × Runs (opening image) (events_of list) last
+  noted-run runs list same =
+      let (h, is, order, run) = noted-of list same in
+      let end = runs h run in
+      (h, is, run, (λ k less. sym (order.processors k) ∙ fine.own k less), end.0, subst (λ (events : List Event). Runs (opening image) events end.0) (sym (shown-noted h) ∙ ap events_of is) end.1)
+
+  module _ (saw : (k : ℕ) → k < cpus → SawNone image v.got (steps k))
+      (completes : (run : List FineStep) → IsFineRun image cpus run → IsStuck (left_by image cpus run) → CanCount (left_by image cpus run) → (last : State) × Runs (opening image) (shown run) last × IsComplete last) where
+    all-stuck : (h : List FineStep) → SameOrder g h → IsStuck (left_by image cpus h)
+    all-stuck h same =
+        let (n, s, state, none) = none-ready image cpus v words logs steps played well can.some saw in
+        stuck-at image cpus h
+        (λ k less. ap (λ (l : List FineStep). (ends (p_next image) idle l).todo) (sym (same.processors k) ∙ fine.own k less) ∙ (saw k less).done)
+        (n, s, ap (ends (s_next image) (s_start image Site.scheduler)) (sym (same.sites Site.scheduler)) ∙ state, none)
+
+    pub complete : (list : List Logged) → ((order : List Logged) → IsOrder logs order → Merged.SameOrder list order) → (last : State) × Runs (opening image) (events_of list) last × IsComplete last
+    complete list same =
+        let (h, is, order, run) = noted-of list same in
+        let few = longest h run in
+        let light = described.lawful.light in
+        let end = completes h run (all-stuck h order) (can-count image h (omega (arith, few, light)) cpus) in
+        subst (λ (events : List Event). (last : State) × Runs (opening image) events last × IsComplete last) (sym (shown-noted h) ∙ ap events_of is) end

@@ -1,0 +1,130 @@
+-- Where each processor saw behind its last step that no thread is ready, the scheduler's cell has none.
+use Rattle.std.proofs.Common.{◌≡◌, ℕ, ◌-◌, ◌<◌, ◌≤◌, ◌/◌, ◌%◌, List, [], ◌∷◌, ◌⊎◌, inl, inr, ⊎_elim, length, map, refl, sym, ap, ◌∙◌, subst, arith}
+use Rattle.std.specs.Prelude.{slice_index}
+use Rattle.std.proofs.lemmas.Bool.{false≢true}
+use Rattle.um_base.specs.declared.image.Image.{Image}
+use Rattle.um_words.specs.History.{Entry, Words, bare, by_seat, is_at, is_by}
+use Rattle.um_words.specs.History as History
+use Rattle.um_words.specs.Packed.{cell_of, packed_cell}
+use Rattle.um_words.specs.Steps.{number}
+use Rattle.um_words.specs.Sublists.{sub}
+use Rattle.um_words.specs.declared.cell_word.CellWord.{CellWord}
+use Rattle.um_words.specs.declared.made.Made.{Made}
+use Rattle.um_fine.specs.Cells.{Cell, cell_word}
+use Rattle.um_fine.specs.FineRun.{site_of}
+use Rattle.um_fine.specs.Opening.{s_start}
+use Rattle.um_fine.specs.Runs.{state_at}
+use Rattle.um_fine.specs.Scheduler.{Scheduler}
+use Rattle.um_fine.specs.Sites.{SiteState, s_next, same_site, word_of}
+use Rattle.um_fine.specs.Steps.{FineStep, Site}
+use Rattle.um_site.specs.History.{Fresh, IsNoNewer}
+use Rattle.um_site.specs.declared.view.View.{View}
+use Rattle.um_site.proofs.Bare.{bare-high, bare-number}
+use Rattle.um_site.proofs.Sublists.{same_itself}
+use Rattle.um_merge.specs.Merged.{Log}
+use Rattle.um_board.specs.Noted.{made_of, packed}
+use Rattle.um_history.specs.Played.{Each, IsPlayed, SawNone, WasGot}
+use Rattle.um_history.proofs.CellRuns.{CellKnown, cell-reads}
+use Rattle.um_history.proofs.Lists.{each-both, each-keyed, each-map, each-sub}
+use Rattle.um_history.proofs.OpeningRuns.{OpensWell}
+use Rattle.um_history.proofs.Played.{all, history, list-of, names-of, scheduler-left, sites-tested, words-left}
+
+fresh-got : (words : List ℕ) (got : List (ℕ × ℕ)) (i w : ℕ) → Fresh words got → WasGot got i w → IsNoNewer words i w
+fresh-got words [] i w fresh was = absurd was
+fresh-got words (e ∷ es) i w fresh (inl is) = subst (λ (j : ℕ). IsNoNewer words j w) is.0 (subst (IsNoNewer words e.0) is.1 fresh.0)
+fresh-got words (e ∷ es) i w fresh (inr behind) = fresh-got words es i w fresh.1 behind
+
+-- the word that stands is that of the last step, or the first one
+last-has : (P : Entry → Type 0) (i : ℕ) (l : List Entry) (w z : ℕ) → Each P l → Words i w (map History.made_of l) z → (w ≡ z) ⊎ ((e : Entry) × P e × (e.1.word ≡ z))
+last-has P i [] w z each words = inl words
+last-has P i (e ∷ l) w z each words = inr (⊎_elim (λ is. (e, each.0, is)) (λ later. later) (last-has P i l e.1.word z each.1 words.1))
+
+same-images : {X Y Z : Type 0} (f : X → Z) (g : Y → Z) (Q : Z → Type 0) (xs : List X) (ys : List Y) → map f xs ≡ map g ys → Each (λ y. Q (g y)) ys → Each (λ x. Q (f x)) xs
+same-images f g Q [] ys same each = tt
+same-images f g Q (x ∷ xs) [] same each = absurd (cc)
+same-images f g Q (x ∷ xs) (y ∷ ys) same each =
+    let first : g y ≡ f x = cc in
+    let rest : map f xs ≡ map g ys = cc in
+    (subst Q first each.0, same-images f g Q xs ys rest each.1)
+
+no-length : (xs : List ℕ) → length xs ≡ 0 → xs ≡ []
+no-length [] e = refl
+no-length (x ∷ xs) e = absurd (omega arith)
+
+-- a cell's word without its turn has the ready threads
+ready-kept : (w z : ℕ) → w - w % 2 ≡ z → w / 2 % 256 ≡ z / 2 % 256
+ready-kept w z e = let h : w / 2 ≡ z / 2 = omega arith in ap (λ n. n % 256) h
+
+module _ (image : Image) (cpus : ℕ) (v : View) (words : List ℕ) (logs : List Log) (steps : ℕ → List FineStep) (played : IsPlayed image cpus v words logs steps) (well : OpensWell image)
+    (some : 0 < cpus) (saw : (k : ℕ) → k < cpus → SawNone image v.got (steps k)) where
+  abbrev entries : List Entry
+  entries = history image cpus v words logs steps played
+
+  abbrev stands : ℕ
+  stands = slice_index words 306
+
+  -- some processor saw no word of the scheduler older than this step leaves
+  abbrev Seen : Entry → Type 0
+  Seen e = (k : ℕ) × (less : k < cpus) × (e.1.site ≡ 306 → number 306 e.1.word ≤ number 306 (saw k less).word)
+
+  seen-by : (n : List ℕ) → Each Seen (sub (is_by n) entries)
+  seen-by n = ⊎_elim
+      (λ none. subst (Each Seen) (sym none) tt)
+      (λ (k, less, is).
+      let Q : Made → Type 0 = λ (m : Made). m.site ≡ 306 → number 306 m.word ≤ number 306 (saw k less).word in
+      let list : map History.made_of (sub (is_by n) entries) ≡ map made_of (steps k) = ap (λ (m : List ℕ). by_seat m entries) is ∙ list-of image cpus v words logs steps played k less in
+      each-map (λ (e : Entry). Q e.1) Seen (λ e q. (k, less, q)) (sub (is_by n) entries) (same-images History.made_of made_of Q (sub (is_by n) entries) (steps k) list (saw k less).newest))
+      (names-of image cpus v words logs steps played n)
+
+  seen : Each Seen entries
+  seen = each-keyed is_by (λ (e : Entry). e.0) (λ e. same_itself e.0) Seen entries seen-by
+
+  -- some processor saw the word that stands
+  abbrev SawLast : Type 0
+  SawLast = (k : ℕ) × (less : k < cpus) × (number 306 stands ≤ number 306 (saw k less).word)
+
+  wide : length words ≡ 307
+  wide = played.closed.stands.wide ∙ played.opening.count
+
+  saw-last : SawLast
+  saw-last = ⊎_elim
+      (λ first.
+      let opened = played.closed.stands.opened 306 (omega (arith, played.opening.count)) in
+      let same : number 306 stands ≡ number 306 (slice_index v.opening 306) = sym (bare-number 306 stands) ∙ sym (ap (number 306) first) in
+      (0, some, omega (arith, same, opened)))
+      (λ (e, ((k, less, newer), at), is).
+      let same : number 306 stands ≡ number 306 e.1.word = sym (bare-number 306 stands) ∙ sym (ap (number 306) is) in
+      let later = newer at in
+      (k, less, omega (arith, same, later)))
+      (last-has (λ (e : Entry). Seen e × (e.1.site ≡ 306)) 306 (sub (is_at 306) entries) (slice_index v.opening 306) (bare 306 stands)
+      (each-both Seen (λ (e : Entry). e.1.site ≡ 306) (sub (is_at 306) entries) (each-sub (is_at 306) Seen entries seen) (sites-tested image cpus v words logs steps played 306)) (played.closed.stands.sites 306 (omega (arith, wide))))
+
+  -- the scheduler's word that stands has no ready thread
+  none-stands : bare 306 stands / 2 % 256 ≡ 0
+  none-stands =
+      let (k, less, newest) = saw-last in
+      let s = saw k less in
+      let new = fresh-got words v.got 306 s.word played.closed.knows.fresh s.seen in
+      let older = new.older in
+      let same : bare 306 s.word ≡ bare 306 stands = new.same (omega (arith, older, newest)) in
+      sym (ready-kept s.word (bare 306 stands) (sym (bare-high 306 s.word (omega arith)) ∙ same)) ∙ s.none
+
+  abbrev pub scheduler_left : SiteState
+  scheduler_left = state_at same_site site_of (s_next image) (s_start image) (all image cpus v words logs steps played) Site.scheduler
+
+  none-in : (state : SiteState) → CellKnown image Site.scheduler state [] → packed (word_of state) ≡ bare 306 stands → (n : ℕ) × (s : Scheduler) × (state ≡ SiteState.cell n (Cell.scheduler s)) × (s.ready ≡ [])
+  none-in (SiteState.cell n (Cell.scheduler s)) known word =
+      let count : (cell_of (packed_cell (cell_word (Cell.scheduler s) n))).ready ≡ length s.ready = ap (λ (w : CellWord). w.ready) (cell-reads Site.scheduler n (Cell.scheduler s) known.0) in
+      let none : (cell_of (packed_cell (cell_word (Cell.scheduler s) n))).ready ≡ 0 = ap (λ (w : ℕ). w / 2 % 256) word ∙ none-stands in
+      (n, s, refl, no-length s.ready (sym count ∙ none))
+  none-in (SiteState.cell n (Cell.object o)) known word = absurd (false≢true known.0.sort)
+  none-in (SiteState.cell n (Cell.parts p)) known word = absurd (false≢true known.0.sort)
+  none-in (SiteState.cell n (Cell.memory m)) known word = absurd (false≢true known.0.sort)
+  none-in (SiteState.cell n (Cell.heap h)) known word = absurd (false≢true known.0.sort)
+  none-in (SiteState.row w) known word = absurd known
+  none-in (SiteState.thread w) known word = absurd known
+  none-in (SiteState.domain w) known word = absurd known
+
+  -- no thread is ready
+  pub none-ready : (n : ℕ) × (s : Scheduler) × (scheduler_left ≡ SiteState.cell n (Cell.scheduler s)) × (s.ready ≡ [])
+  none-ready = none-in scheduler_left (scheduler-left image cpus v words logs steps played well) (words-left image cpus v words logs steps played well 306 (omega arith))

@@ -1,0 +1,74 @@
+-- What a described image has at its opening fits the words of the sites.
+use Rattle.std.proofs.Common.{◌≡◌, ℕ, ◌+◌, ◌<◌, ◌≤◌, ◌⊎◌, suc, inl, inr, ⊎_elim, Bool, true, false, List, [], ◌∷◌, length, refl, ap, arith}
+use Rattle.std.specs.Prelude.{IsTrue}
+use Rattle.um_base.specs.declared.image.Image.{Image}
+use Rattle.um_base.specs.declared.limits.TheConstants.{THREADS}
+use Rattle.um_machine.specs.declared.thread.Thread.{Thread}
+use Rattle.um_machine.specs.Objects.{thread_holds}
+use Rattle.um_machine.specs.Run.{opening}
+use Rattle.um_machine.specs.State.{is_started, thread_at}
+use Rattle.um_reach.specs.Described.{IsDescribed}
+use Rattle.um_fine.specs.Opening.{count, indexed}
+use Rattle.um_fine.specs.Scheduler.{parked_at, told_at}
+use Rattle.um_erasure.specs.Fine.{scheduler}
+use Rattle.um_erasure.specs.Room.{CanRun}
+use Rattle.um_erasure.specs.Threads.{is_ready_there, occurs}
+use Rattle.um_erasure.proofs.DomainsKnown.{started-placed}
+use Rattle.um_erasure.proofs.First.{first}
+use Rattle.um_erasure.proofs.FirstBounds.{bounded-first}
+use Rattle.um_erasure.proofs.FirstLawful.{opens-described}
+use Rattle.um_erasure.proofs.FirstThreads.{one-most, opening-is, threads-long}
+use Rattle.um_erasure.proofs.Reachable.{opening-wide}
+use Rattle.um_erasure.proofs.Totals.{occurs-total, total-most}
+use Rattle.um_history.proofs.OpeningRuns.{OpensWell}
+
+count-most : (bs : List Bool) → count bs ≤ length bs
+count-most [] = omega arith
+count-most (true ∷ bs) = let l = count-most bs in omega (arith, l)
+count-most (false ∷ bs) = let l = count-most bs in omega (arith, l)
+
+indexed-long : {A B : Type 0} (f : ℕ → A → B) (i : ℕ) (xs : List A) → length (indexed f i xs) ≡ length xs
+indexed-long f i [] = refl
+indexed-long f i (x ∷ xs) = ap suc (indexed-long f (i + 1) xs)
+
+module _ (image : Image) (cpus : ℕ) (described : IsDescribed image) (can : CanRun image cpus) where
+  -- a thread that was not started is in the first domain
+  abbrev Still : Thread → Type 0
+  Still me = IsTrue (is_started me.life) ⊎ (me.domain ≡ 0)
+
+  still : (t : ℕ) → Still (thread_at (opening image) t)
+  still t = opening-is Still (inr refl) (λ i boot. inl refl) image t
+
+  domains : (t : ℕ) → (thread_at (opening image) t).domain < 8
+  domains t = ⊎_elim
+      (λ started. let few = can.domains in let in-image = started-placed image cpus described (opening image) ([], refl) t started in omega (arith, few, in-image))
+      (λ none. omega (arith, none))
+      (still t)
+
+  claims : (x : ℕ) → count (indexed (thread_holds (opening image).image x) 0 (opening image).threads) < 128
+  claims x =
+      let most = count-most (indexed (thread_holds (opening image).image x) 0 (opening image).threads) in
+      let long = indexed-long (thread_holds (opening image).image x) 0 (opening image).threads in
+      let all = threads-long image in
+      omega (arith, most, long, all)
+
+  once : (t : ℕ) → t < THREADS → occurs t (scheduler (first image cpus)).ready ≤ 1
+  once t few =
+      let there = ((opens-described image described cpus).threads t few).ready.ready in
+      let most = one-most (is_ready_there (parked_at (scheduler (first image cpus)) t) (told_at (scheduler (first image cpus)) t)) in
+      omega (arith, there, most)
+
+  ready-few : length (scheduler (first image cpus)).ready ≤ THREADS
+  ready-few =
+      let all = occurs-total THREADS (scheduler (first image cpus)).ready (bounded-first image described cpus).ready in
+      let most = total-most (λ t. occurs t (scheduler (first image cpus)).ready) THREADS once in
+      omega (arith, all, most)
+
+  pub opens-well : OpensWell image
+  opens-well =
+      record {
+        flags = (opening-wide image described.few).flags;
+        claims = claims;
+        domains = domains;
+        ready = let few = ready-few in omega (arith, few);
+      }

@@ -1,0 +1,71 @@
+-- What processors that step on a board have at their end, each at a seat of its own, and what the closed board says of them together.
+use Rattle.std.specs.Prelude.{◌≡◌, ℕ, ◌<◌, ◌≤◌, ◌⊎◌, List, [], ◌∷◌, length, map}
+use Rattle.um_base.specs.declared.image.Image.{Image}
+use Rattle.um_words.specs.Packed.{cell_of}
+use Rattle.um_words.specs.Steps.{number}
+use Rattle.um_words.specs.declared.made.Made.{Made}
+use Rattle.um_fine.specs.Follows.{p_next}
+use Rattle.um_fine.specs.Processor.{idle}
+use Rattle.um_fine.specs.Runs.{Run, ends}
+use Rattle.um_fine.specs.Sites.{site_number}
+use Rattle.um_fine.specs.Steps.{FineStep}
+use Rattle.um_merge.specs.Merged.{Log, log_at}
+use Rattle.um_merge.specs.declared.logged.Logged.{Logged}
+use Rattle.um_processor.specs.Processors.{AsksFor}
+use Rattle.um_site.specs.Cells.{AmongCells, IsClosedWithCells}
+use Rattle.um_site.specs.History.{Among}
+use Rattle.um_site.specs.declared.view.View.{View}
+use Rattle.um_board.specs.Contents.{Follows, Opens}
+use Rattle.um_board.specs.Noted.{logged_of, made_of, packed}
+use Rattle.um_board.specs.Opening.{AreOpening}
+use Rattle.um_board.specs.ReadBack.{IsReadBack}
+
+-- it holds of each one
+abbrev pub Each : {X : Type 0} → (X → Type 0) → List X → Type 0
+Each P [] = Unit {0}
+Each P (x ∷ xs) = P x × Each P xs
+
+-- The processor k has made these steps, each as it asks for it behind those before: they stand in the list of its seat, and in its log.
+pub record Played (image : Image) (k : ℕ) (made : List Made) (log : List Logged) (steps : List FineStep) : Type 0 where
+  pub made_is : made ≡ map made_of steps
+  pub log_is : log ≡ map logged_of steps
+  pub run : Run (AsksFor k image) (p_next image) idle steps
+  pub whole : Each IsReadBack steps
+
+-- the scheduler's site
+abbrev pub SCHEDULER : ℕ
+SCHEDULER = 306
+
+-- the word was got or left at the site
+abbrev pub WasGot : List (ℕ × ℕ) → ℕ → ℕ → Type 0
+WasGot [] i w = ⊥
+WasGot (e ∷ es) i w = ((e.0 ≡ i) × (e.1 ≡ w)) ⊎ WasGot es i w
+
+-- The processor that has made these steps has no other one to make than to take a thread, and behind its last step it saw that no thread is ready.
+pub record SawNone (image : Image) (got : List (ℕ × ℕ)) (steps : List FineStep) : Type 0 where
+  pub done : (ends (p_next image) idle steps).todo ≡ []
+  pub word : ℕ
+  pub seen : WasGot got SCHEDULER word
+  pub none : (cell_of word).ready ≡ 0
+  pub newest : Each (λ (e : FineStep). site_number e.site ≡ SCHEDULER → number SCHEDULER (packed e.word) ≤ number SCHEDULER word) steps
+
+-- the list stands under this name
+abbrev pub StandsUnder : List (List ℕ × List Made) → List ℕ → List Made → Type 0
+StandsUnder [] n made = ⊥
+StandsUnder (e ∷ es) n made = ((e.0 ≡ n) × (e.1 ≡ made)) ⊎ StandsUnder es n made
+
+-- any step may follow
+abbrev pub Any : Image → List ℕ → List Made → Made → Type 0
+Any image name made m = Unit {0}
+
+-- The board of an image is closed with these words, as its first seat knows, which made no step itself. So many processors have made these steps,
+-- and have these logs.
+pub record IsPlayed (image : Image) (cpus : ℕ) (v : View) (words : List ℕ) (logs : List Log) (steps : ℕ → List FineStep) : Type 0 where
+  pub image_is : v.image ≡ image
+  pub opening : AreOpening image v.opening
+  pub filled : (i : ℕ) → 168 ≤ i → i < 307 → AmongCells v.filled i
+  pub closed : IsClosedWithCells Opens Follows Any v words
+  pub first : v.made ≡ []
+  pub names : (n : List ℕ) → Among v.joined n → (k : ℕ) × (k < cpus) × (n ≡ k ∷ [])
+  pub lists : (k : ℕ) → k < cpus → (made : List Made) × StandsUnder v.joined (k ∷ []) made × Played image k made (log_at logs k) (steps k)
+  pub logs_are : length logs ≡ cpus
