@@ -1,0 +1,11 @@
+use Rattle.um_processor.specs.Standing.{whole}
+use Rattle.um_cpu.proofs.Advances.{plays-out}
+use Rattle.um_cpu.proofs.turning.turns.Goals as goal
+
+pub returns-in-Quiet-clause-plays : goal.returns-in-Quiet-clause-plays
+returns-in-Quiet-clause-plays g c =
+    let first = c.args.cpu.now in
+    let before = c.loop.cpu in
+    let last = c.step.new.self in
+    plays-out c.args.image.now first.number (whole first.processor) (whole before.processor) (whole last.processor) first.place.seat first.place.log.items
+    before.place.seat before.place.log.items last.place.seat last.place.log.items c.in-Quiet.word c.loop.invariant.reaches c.in-Quiet.ensures.rests.0

@@ -1,0 +1,63 @@
+-- What a processor on a board has made, and what its turns add to that.
+use Rattle.std.specs.Prelude.{◌≡◌, ℕ, ◌≤◌, List, [], ◌∷◌, ◌++◌, length}
+use Rattle.um_base.specs.declared.image.Image.{Image}
+use Rattle.um_words.specs.Packed.{cell_of}
+use Rattle.um_fine.specs.Follows.{p_next}
+use Rattle.um_fine.specs.Processor.{Processor, idle}
+use Rattle.um_fine.specs.Runs.{ends}
+use Rattle.um_fine.specs.Sites.{site_number}
+use Rattle.um_fine.specs.Steps.{FineStep}
+use Rattle.um_merge.specs.declared.logged.Logged.{Logged}
+use Rattle.um_site.specs.Tells.{NoOlder}
+use Rattle.um_site.specs.declared.seat.Seat.{Seat}
+use Rattle.um_board.specs.Contents.{Known}
+use Rattle.um_board.specs.Noted.{packed}
+use Rattle.um_history.specs.Played.{Each, Played, SCHEDULER, SawNone, WasGot}
+use Rattle.um_cpu.specs.declared.turn.Turn.{Turn}
+
+-- the word that the step left was got at its site
+abbrev pub IsLeft : Seat Known → FineStep → Type 0
+IsLeft seat e = WasGot seat.token.me.0.got (site_number e.site) (packed e.word)
+
+-- The processor k has made these steps at its seat, and stands where they lead.
+pub record HasMade (image : Image) (k : ℕ) (p : Processor) (seat : Seat Known) (log : List Logged) (steps : List FineStep) : Type 0 where
+  pub played : Played image k seat.token.me.0.made log steps
+  pub stands : p ≡ ends (p_next image) idle steps
+  pub known : Each (IsLeft seat) steps
+
+-- it has made one more step at most
+pub record GoesOn (image : Image) (k : ℕ) (p : Processor) (seat : Seat Known) (log : List Logged) (steps : List FineStep) : Type 0 where
+  pub more : List FineStep
+  pub few : length more ≤ 1
+  pub made : HasMade image k p seat log (steps ++ more)
+
+-- whatever it has made before, it goes on from there
+abbrev pub Advances : Image → ℕ → Processor → Seat Known → List Logged → Processor → Seat Known → List Logged → Type 0
+Advances image k p s old q t new = (steps : List FineStep) → HasMade image k p s old steps → GoesOn image k q t new steps
+
+-- whatever it has made before, it has made some steps now
+abbrev pub Reaches : Image → ℕ → Processor → Seat Known → List Logged → Processor → Seat Known → List Logged → Type 0
+Reaches image k p s old q t new = (steps : List FineStep) → HasMade image k p s old steps → (all : List FineStep) × HasMade image k q t new all
+
+-- the same, and behind the last one it saw that no thread is ready
+abbrev pub Plays : Image → ℕ → Processor → Seat Known → List Logged → Processor → Seat Known → List Logged → Type 0
+Plays image k p s old q t new = (steps : List FineStep) → HasMade image k p s old steps → (all : List FineStep) × HasMade image k q t new all × SawNone image t.token.me.0.got all
+
+-- by this word of the scheduler no thread runs, and nothing is owed
+abbrev pub NoneLeft : ℕ → Type 0
+NoneLeft word = ((cell_of word).running ≡ 0) × ((cell_of word).owed ≡ 0)
+
+-- The processor has no thread, and its seat has looked at the scheduler's word, by which none is ready. It has made no step.
+pub record Rests (p q : Processor) (s : Seat Known) (old : List Logged) (t : Seat Known) (new : List Logged) (word : ℕ) : Type 0 where
+  pub idle : p.todo ≡ []
+  pub same : q ≡ p
+  pub made : t.token.me.0.made ≡ s.token.me.0.made
+  pub log : new ≡ old
+  pub got : t.token.me.0.got ≡ (SCHEDULER, word) ∷ s.token.me.0.got
+  pub newest : NoOlder s.token.me.0.got SCHEDULER word
+  pub none : (cell_of word).ready ≡ 0
+
+abbrev pub OnRest : Turn → (ℕ → Type 0) → Type 0
+OnRest Turn.Did holds = Unit {0}
+OnRest (Turn.Idle word) holds = holds word
+OnRest (Turn.Quiet word) holds = holds word × NoneLeft word

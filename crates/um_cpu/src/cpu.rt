@@ -1,0 +1,63 @@
+//! A processor at its place at a board.
+
+ghost use Rattle.std.specs.Prelude.{◌≡◌};
+ghost use Rattle.um_processor.specs.Given.{IsGiven};
+ghost use Rattle.um_processor.specs.Standing.{whole};
+ghost use Rattle.um_board.specs.Seated.{KeepsPlace};
+ghost use Rattle.um_board.specs.Turned.{IsPlaced};
+ghost use Rattle.um_cpu.specs.Cpus.{Advances, OnRest, Rests};
+
+use crate::turn::Turn;
+use um_base::Image;
+use um_board::Seated;
+use um_processor::Processor;
+use um_words::CellWord;
+
+/// A processor by its number, at its place at a board.
+#[derive(Drop)]
+pub struct Cpu<'a> {
+    pub number: u8,
+    pub processor: Processor,
+    pub place: Seated<'a>,
+}
+
+impl<'a> Cpu<'a> {
+    /// It asks once for its next step, and makes it where it can.
+    fn ask(&mut self, image: &Image)
+        requires given { IsGiven image.now }
+        requires place { IsPlaced image.now self.old.place.board.now.table.shared.table_id self.old.place.cells.now self.old.place.rodata.now self.old.place.seat }
+        ensures number { self.new.number ≡ self.old.number }
+        ensures place { IsPlaced image.now self.new.place.board.now.table.shared.table_id self.new.place.cells.now self.new.place.rodata.now self.new.place.seat }
+        ensures keeps { KeepsPlace self.old.place.seat self.new.place.seat }
+        ensures goes { Advances image.now self.old.number (whole self.old.processor) self.old.place.seat self.old.place.log.items (whole self.new.processor) self.new.place.seat self.new.place.log.items }
+    {
+        let _ = self.processor.step(image, self.number, &mut self.place);
+    }
+
+    /// It makes its next step at most, for which it asks once. Where it has no thread it looks first whether one is ready, and asks for nothing
+    /// where none is.
+    pub fn step(&mut self, image: &Image) -> Turn
+        requires given { IsGiven image.now }
+        requires place { IsPlaced image.now self.old.place.board.now.table.shared.table_id self.old.place.cells.now self.old.place.rodata.now self.old.place.seat }
+        ensures number { self.new.number ≡ self.old.number }
+        ensures place { IsPlaced image.now self.new.place.board.now.table.shared.table_id self.new.place.cells.now self.new.place.rodata.now self.new.place.seat }
+        ensures keeps { KeepsPlace self.old.place.seat self.new.place.seat }
+        ensures goes { Advances image.now self.old.number (whole self.old.processor) self.old.place.seat self.old.place.log.items (whole self.new.processor) self.new.place.seat self.new.place.log.items }
+        ensures rests { OnRest result (Rests (whole self.old.processor) (whole self.new.processor) self.old.place.seat self.old.place.log.items self.new.place.seat self.new.place.log.items) }
+    {
+        if !self.processor.is_idle() {
+            self.ask(image);
+            return Turn::Did;
+        }
+        let word = self.place.look_scheduler(image);
+        let says = CellWord::read(word);
+        if says.ready > 0 {
+            self.ask(image);
+            return Turn::Did;
+        }
+        if says.running == 0 && says.owed == 0 {
+            return Turn::Quiet { word };
+        }
+        Turn::Idle { word }
+    }
+}
