@@ -1,3 +1,5 @@
 pub mod Advances
+pub mod Crosses
 pub mod Gathers
+pub mod Shows
 pub mod SplitOff

@@ -60,7 +60,8 @@ pub record HasLeft (image : Image) (v : View) (log : List Logged) (k : ℕ) : Ty
   pub played : Played image k made log steps
   pub saw : SawNone image v.got steps
 
--- What the first seat of a board knows, which has split off so many seats of processors, when those from this one on are joined in, and these are their logs.
+-- What the first seat of a board knows, which has split off so many seats of processors, when those from this one on are joined in, and these are
+-- their logs.
 pub record HasGathered (image : Image) (v : View) (from cpus : ℕ) (logs : List Log) : Type 0 where
   pub image_is : v.image ≡ image
   pub opening : AreOpening image v.opening

@@ -1,14 +1,15 @@
-//! Processors of the fine machine, each at a seat of its own at one board of shared words: their turns, and how their seats are taken in.
+//! Processors of the fine machine as threads, on one board of shared words.
 #![tactic(auto)]
 
 mod cpu;
-mod gathering;
-mod seating;
+mod events;
+mod rodata;
+mod run;
+mod seats;
 mod turn;
-mod turning;
+mod turns;
 
 pub use cpu::Cpu;
-pub use gathering::gather;
-pub use seating::seats;
+pub use events::{Ran, run_events};
+pub use run::{Ended, run_cpus};
 pub use turn::Turn;
-pub use turning::turns;

@@ -4,7 +4,7 @@ use Rattle.um_merge.specs.Merged.{Log}
 use Rattle.um_cpu.specs.Ended.{EachAt, Ends, Gathered}
 use Rattle.um_cpu.specs.declared.cpu.Cpu.{Cpu}
 use Rattle.um_cpu.proofs.SplitOff.{each-but-last, gathered-on, the-last}
-use Rattle.um_cpu.proofs.gathering.gather.Goals as goal
+use Rattle.um_cpu.proofs.run.gather.Goals as goal
 
 pub cpus-preserved : goal.cpus-preserved
 cpus-preserved c =

@@ -28,7 +28,7 @@ fn wait() {
 
 /// A processor takes its turns until it has no thread and none is ready, none runs, and nothing is owed. Before each turn it can be held, by
 /// its number and by how many turns it has taken.
-pub fn turns<R: Wait, G: Gate>(rt: &R, image: &Image, cpu: &mut Cpu<'_>, gate: &G)
+pub(crate) fn turns<R: Wait, G: Gate>(rt: &R, image: &Image, cpu: &mut Cpu<'_>, gate: &G)
     requires given { IsGiven image.now }
     requires place { IsPlaced image.now cpu.old.place.board.now.table.shared.table_id cpu.old.place.cells.now cpu.old.place.rodata.now cpu.old.place.seat }
     ensures number { cpu.new.number ≡ cpu.old.number }

@@ -3,7 +3,7 @@ use Rattle.um_board.specs.Seated.{KeepsPlace}
 use Rattle.um_board.specs.Turned.{IsPlaced}
 use Rattle.um_cpu.specs.Cpus.{Reaches}
 use Rattle.std.proofs.Common.{◌≡◌}
-use Rattle.um_cpu.proofs.turning.turns.Given as goal
+use Rattle.um_cpu.proofs.turns.turns.Given as goal
 
 -- what the processor has so far
 abbrev pub invariant-loop : goal.invariant-loop

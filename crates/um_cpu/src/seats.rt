@@ -46,7 +46,7 @@ fn seat_of<'a>(
 }
 
 /// So many processors without a thread, at seats of their own, each with room for so many steps in its log. All memory is taken here.
-pub fn seats<'a>(
+pub(crate) fn seats<'a>(
     alloc: Global,
     image: &Image,
     board: &'a Board<Contents, AnyStep>,

@@ -2,7 +2,7 @@ use Rattle.std.proofs.Common.{ℕ, List, [], ◌∷◌, length, length-append, a
 use Rattle.um_cpu.specs.Ended.{Begins, EachAt}
 use Rattle.um_cpu.specs.declared.cpu.Cpu.{Cpu}
 use Rattle.um_cpu.proofs.SplitOff.{each-more}
-use Rattle.um_cpu.proofs.seating.seats.Goals as goal
+use Rattle.um_cpu.proofs.seats.seats.Goals as goal
 
 pub loop-number-preserved : goal.loop-number-preserved
 loop-number-preserved c =

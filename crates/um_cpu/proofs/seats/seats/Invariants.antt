@@ -1,7 +1,7 @@
 use Rattle.std.proofs.Common.{◌≡◌, ◌≤◌, [], length, vec_capacity}
 use Rattle.um_board.specs.Seated.{IsSeated}
 use Rattle.um_cpu.specs.Ended.{Begins, EachAt, Gathered}
-use Rattle.um_cpu.proofs.seating.seats.Given as goal
+use Rattle.um_cpu.proofs.seats.seats.Given as goal
 
 -- so many processors have their seats
 abbrev pub invariant-loop-number : goal.invariant-loop-number

@@ -1,6 +1,6 @@
 use Rattle.um_processor.specs.Standing.{whole}
 use Rattle.um_cpu.proofs.Advances.{plays-out}
-use Rattle.um_cpu.proofs.turning.turns.Goals as goal
+use Rattle.um_cpu.proofs.turns.turns.Goals as goal
 
 pub returns-in-Quiet-clause-plays : goal.returns-in-Quiet-clause-plays
 returns-in-Quiet-clause-plays g c =

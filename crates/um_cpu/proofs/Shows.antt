@@ -1,0 +1,46 @@
+-- What the logs of processors that have played say of a list of their steps: each step is at a site, and its events are those of a fine run.
+use Rattle.std.proofs.Common.{◌≡◌, ℕ, zero, suc, ◌<◌, ◌≤◌, Bool, true, false, List, [], ◌∷◌, length, map, sym, ap, ◌∙◌, subst, arith, cond}
+use Rattle.std.specs.Prelude.{IsTrue, Option, Some, None}
+use Rattle.um_base.specs.declared.act.Event.{Event}
+use Rattle.um_base.specs.declared.image.Image.{Image}
+use Rattle.um_fine.specs.FineRun.{cpu_of, same_cpu}
+use Rattle.um_fine.specs.Runs.{sub, sublist}
+use Rattle.um_fine.specs.Sites.{is_site}
+use Rattle.um_fine.specs.Steps.{FineStep}
+use Rattle.um_fine.proofs.Keys.{number-bound}
+use Rattle.um_merge.specs.Merged.{AreAtSites, ArePlaced, Log, log_at}
+use Rattle.um_merge.specs.declared.logged.Logged.{Logged}
+use Rattle.um_site.specs.declared.view.View.{View}
+use Rattle.um_board.specs.Noted.{logged_of}
+use Rattle.um_history.specs.Fine.{IsFineOf, event_on, events_of}
+use Rattle.um_history.specs.Played.{Each, IsPlayed}
+
+abbrev Sited : FineStep → Type 0
+Sited e = IsTrue (is_site e.site)
+
+-- each step of a sublist is at a site where each of the list is
+sited-sub : (p : FineStep → Bool) (g : List FineStep) → Each Sited g → Each Sited (sub p g)
+sited-sub p [] e = tt
+sited-sub p (x ∷ xs) e = elim (p x) as (λ b. Each Sited (cond b (x ∷ sub p xs) (sub p xs))) [ true ↦ (e.0, sited-sub p xs e.1) | false ↦ sited-sub p xs e.1 ]
+
+noted-placed : (g : List FineStep) → Each Sited g → ArePlaced (map logged_of g)
+noted-placed [] e k less = absurd (omega (arith, less))
+noted-placed (x ∷ xs) e zero less = let bound = number-bound x.site e.0 in omega (arith, bound)
+noted-placed (x ∷ xs) e (suc k) less = noted-placed xs e.1 k (omega (arith, less))
+
+-- each step of a log is at a site
+pub at-sites : (image : Image) (cpus : ℕ) (v : View) (words : List ℕ) (logs : List Log) (steps : ℕ → List FineStep) → IsPlayed image cpus v words logs steps
+    → (g : List FineStep) → IsFineOf image cpus words steps g → AreAtSites logs
+at-sites image cpus v words logs steps played g fine k there =
+    let less : k < cpus = (let same = played.logs_are in omega (arith, same, there)) in
+    let log : map logged_of (sublist same_cpu cpu_of k g) ≡ log_at logs k = ap (map logged_of) (fine.own k less) ∙ sym (played.lists k less).2.log_is in
+    subst ArePlaced log (noted-placed (sublist same_cpu cpu_of k g) (sited-sub (λ (e : FineStep). same_cpu e.cpu k) g fine.sited))
+
+-- no list shows more events than it has steps
+pub shows-few : (steps : List Logged) → length (events_of steps) ≤ length steps
+shows-few [] = omega arith
+shows-few (step ∷ steps) = by step.event (shows-few steps)
+  where
+    by : (event : Option Event) → length (events_of steps) ≤ length steps → length (event_on event (events_of steps)) ≤ suc (length steps)
+    by None few = omega (arith, few)
+    by (Some event) few = omega (arith, few)

@@ -1,0 +1,67 @@
+use Rattle.std.proofs.Common.{List, length, vec_capacity, arith, sym, ap, ◌∙◌, subst}
+use Rattle.um_base.specs.declared.act.Event.{Event}
+use Rattle.um_machine.specs.Run.{IsComplete, IsRun}
+use Rattle.um_machine.specs.State.{State}
+use Rattle.um_reach.specs.Described.{IsDescribed}
+use Rattle.um_merge.specs.Merged.{AreAtSites, HaveOrder, IsOrder, Log}
+use Rattle.um_erasure.specs.Room.{CanRun}
+use Rattle.um_history.specs.Fine.{events_of}
+use Rattle.um_history.proofs.Ordered.{noted-long, shown-noted}
+use Rattle.um_cpu.proofs.Shows.{at-sites, shows-few}
+use Rattle.um_cpu.proofs.events.run_events.Goals as goal
+
+pub merge-requires-clause-sites : goal.merge-requires-clause-sites
+merge-requires-clause-sites g c =
+    let image = c.args.image.now in
+    let described : IsDescribed image = record { lawful = c.requires.lawful; few = omega (arith, c.len-objects.ensures.value, c.len-objects.ensures.few) } in
+    let can : CanRun image c.args.cpus = record { domains = omega (arith, c.len-domains.ensures.value, c.len-domains.ensures.few); some = omega (arith, c.requires.some); few = c.requires.few } in
+    let ended = c.in_ok-logs.ensures in
+    let fine = c.every_played_board.ensures.fine image c.args.cpus ended.view _ _ ended.steps described can ended.played in
+    subst AreAtSites (sym c.as_slice.ensures.value) (at-sites image c.args.cpus ended.view _ _ ended.steps ended.played fine.0 fine.1)
+
+pub merge-requires-clause-fits : goal.merge-requires-clause-fits
+merge-requires-clause-fits g c =
+    let image = c.args.image.now in
+    let described : IsDescribed image = record { lawful = c.requires.lawful; few = omega (arith, c.len-objects.ensures.value, c.len-objects.ensures.few) } in
+    let can : CanRun image c.args.cpus = record { domains = omega (arith, c.len-domains.ensures.value, c.len-domains.ensures.few); some = omega (arith, c.requires.some); few = c.requires.few } in
+    let ended = c.in_ok-logs.ensures in
+    let order = c.every_played_board.ensures.order image c.args.cpus ended.view _ _ ended.steps described can ended.played in
+    let long = order.2 in
+    let room = c.in_ok-steps.ensures.capacity in
+    let most = c.requires.room in
+    subst (λ (l : List Log). HaveOrder l (vec_capacity c.in_ok-steps.steps)) (sym c.as_slice.ensures.value) (order.0, order.1, omega (arith, long, room, most))
+
+pub returns-clause-run : goal.returns-clause-run
+returns-clause-run g c =
+    let image = c.args.image.now in
+    let described : IsDescribed image = record { lawful = c.requires.lawful; few = omega (arith, c.len-objects.ensures.value, c.len-objects.ensures.few) } in
+    let can : CanRun image c.args.cpus = record { domains = omega (arith, c.len-domains.ensures.value, c.len-domains.ensures.few); some = omega (arith, c.requires.some); few = c.requires.few } in
+    let ended = c.in_ok-logs.ensures in
+    let last = c.every_played_board.ensures.complete image c.args.cpus ended.view _ _ ended.steps described can ended.played ended.saw c.merge.new.room.items
+    (λ order is. c.merge.ensures order (subst (λ (l : List Log). IsOrder l order) (sym c.as_slice.ensures.value) is)) in
+    subst (λ (l : List Event). (last : State) × IsRun image l last × IsComplete last) (sym (c.in-Ok.ensures ∙ ap events_of c.as_slice-2.ensures.value)) last
+
+pub returns-clause-fine : goal.returns-clause-fine
+returns-clause-fine g c =
+    let image = c.args.image.now in
+    let described : IsDescribed image = record { lawful = c.requires.lawful; few = omega (arith, c.len-objects.ensures.value, c.len-objects.ensures.few) } in
+    let can : CanRun image c.args.cpus = record { domains = omega (arith, c.len-domains.ensures.value, c.len-domains.ensures.few); some = omega (arith, c.requires.some); few = c.requires.few } in
+    let ended = c.in_ok-logs.ensures in
+    let run = c.every_played_board.ensures.run image c.args.cpus ended.view _ _ ended.steps described can ended.played c.merge.new.room.items
+    (λ order is. c.merge.ensures order (subst (λ (l : List Log). IsOrder l order) (sym c.as_slice.ensures.value) is)) in
+    (run.0, run.2, c.in-Ok.ensures ∙ ap events_of c.as_slice-2.ensures.value ∙ ap events_of (sym run.1) ∙ shown-noted run.0)
+
+pub returns-clause-few : goal.returns-clause-few
+returns-clause-few g c =
+    let image = c.args.image.now in
+    let described : IsDescribed image = record { lawful = c.requires.lawful; few = omega (arith, c.len-objects.ensures.value, c.len-objects.ensures.few) } in
+    let can : CanRun image c.args.cpus = record { domains = omega (arith, c.len-domains.ensures.value, c.len-domains.ensures.few); some = omega (arith, c.requires.some); few = c.requires.few } in
+    let ended = c.in_ok-logs.ensures in
+    let run = c.every_played_board.ensures.run image c.args.cpus ended.view _ _ ended.steps described can ended.played c.merge.new.room.items
+    (λ order is. c.merge.ensures order (subst (λ (l : List Log). IsOrder l order) (sym c.as_slice.ensures.value) is)) in
+    let shown = ap length (c.in-Ok.ensures ∙ ap events_of c.as_slice-2.ensures.value) in
+    let few = shows-few c.merge.new.room.items in
+    let noted = ap length run.1 in
+    let long = noted-long run.0 in
+    let most = c.longest_fine_run.ensures image c.args.cpus run.0 described run.2 in
+    omega (arith, shown, few, noted, long, most)

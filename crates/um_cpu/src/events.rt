@@ -1,0 +1,77 @@
+//! The events that processors on a board show.
+
+ghost use Rattle.std.specs.Prelude.{◌≡◌, ◌≤◌, IfOk, List, length};
+ghost use Rattle.um_base.specs.Lawful.{IsLawful};
+ghost use Rattle.um_base.specs.Weight.{weight};
+ghost use Rattle.um_machine.specs.Run.{IsComplete, IsRun};
+ghost use Rattle.um_machine.specs.State.{State};
+ghost use Rattle.um_fine.specs.Erasure.{shown};
+ghost use Rattle.um_fine.specs.FineRun.{IsFineRun};
+ghost use Rattle.um_fine.specs.Steps.{FineStep};
+ghost use Rattle.um_history.specs.Fine.{events_of};
+
+use crate::run::{Ended, run_cpus};
+use std::alloc::Global;
+use std::sync::Wait;
+use std::thread::Threads;
+use um_base::{Event, Image, Memory};
+use um_board::Contents;
+use um_fine_bound::longest_fine_run;
+use um_history::every_played_board;
+use um_io::Gate;
+use um_merge::{Logged, merge};
+use um_site::Closed;
+
+/// What processors have shown, and the board that they leave.
+pub struct Ran {
+    pub events: Vec<Event>,
+    pub closed: Closed<Contents>,
+}
+
+/// The events of steps, in their order.
+fn events_in(alloc: Global, steps: &[Logged]) -> Result<Vec<Event>, Memory>
+    ensures { IfOk result (λ events. events.items ≡ events_of steps.now) }
+{
+    let mut events = Vec::new(alloc);
+    for step in steps {
+        if let Some(event) = step.event {
+            events.push(event)?;
+        }
+    }
+    Ok(events)
+}
+
+/// Runs so many processors on a board of the image, each in a thread of its own where one can be made, and puts their steps into one list. Its
+/// events are a complete run. There is room for `most` steps in the log of each and in the list, which is no less than the image's weight. A
+/// gate can hold each processor before its turns.
+pub fn run_events<R: Threads + Wait + Sync, G: Gate + Sync>(
+    rt: &R,
+    alloc: Global,
+    image: &Image,
+    cpus: u8,
+    most: usize,
+    gate: &G,
+) -> Result<Ran, Memory>
+    requires lawful { IsLawful image.now }
+    requires some { 1 ≤ cpus }
+    requires few { cpus ≤ 8 }
+    requires room { weight image.now ≤ most }
+    ensures run { IfOk result (λ ran. (last : State) × IsRun image.now ran.events.items last × IsComplete last) }
+    ensures fine { IfOk result (λ ran. (steps : List FineStep) × IsFineRun image.now cpus steps × (ran.events.items ≡ shown steps)) }
+    ensures few { IfOk result (λ ran. length ran.events.items ≤ weight image.now) }
+{
+    every_played_board();
+    longest_fine_run();
+    let _objects = image.objects.len();
+    let _domains = image.domains.len();
+    let mut steps = Vec::with_capacity(alloc, most)?;
+    let Ended { logs, closed } = run_cpus(rt, alloc, image, cpus, most, gate)?;
+    merge(logs.as_slice(), &mut steps);
+    match events_in(alloc, steps.as_slice()) {
+        Err(memory) => {
+            closed.free();
+            Err(memory)
+        }
+        Ok(events) => Ok(Ran { events, closed }),
+    }
+}

@@ -1,0 +1,138 @@
+//! Processors as threads on one board.
+
+ghost use Rattle.std.specs.Prelude.{◌≡◌, ◌≤◌, ℕ, [], IfOk, length, vec_capacity};
+ghost use Rattle.std.specs.Mem.Slots.{slots_items};
+ghost use Rattle.um_base.specs.Lawful.{IsLawful};
+ghost use Rattle.um_processor.specs.Given.{IsGiven};
+ghost use Rattle.um_cpu.specs.Ended.{Begins, EachAt, Ends, Gathered, HasEnded};
+
+use crate::cpu::Cpu;
+use crate::rodata::rodata;
+use crate::seats::seats;
+use crate::turns::turns;
+use std::alloc::Global;
+use std::sync::Wait;
+use std::thread;
+use std::thread::Threads;
+use um_base::{Image, Memory};
+use um_board::{Contents, opening};
+use um_io::Gate;
+use um_merge::{Logged, PROCESSORS};
+use um_site::{Board, Closed, Seat};
+use um_words::AnyStep;
+
+/// What is left of processors that have ended.
+pub struct Ended {
+    /// The steps of the processors 0, 1, ..
+    pub logs: Vec<Vec<Logged>>,
+    pub closed: Closed<Contents>,
+}
+
+/// The processor of this number takes its turns.
+fn play<R: Wait, G: Gate>(
+    rt: &R,
+    image: &Image,
+    board: &Board<Contents, AnyStep>,
+    number: usize,
+    cpu: &mut Cpu<'_>,
+    gate: &G,
+)
+    requires given { IsGiven image.now }
+    requires begins { Begins image.now board.now.table.shared.table_id number cpu.old }
+    ensures { Ends image.now board.now.table.shared.table_id number cpu.new }
+{
+    let _ = board;
+    let _ = number;
+    turns(rt, image, cpu, gate);
+}
+
+/// Each processor takes its turns, in a thread of its own where one can be made.
+fn run_all<R: Threads + Wait + Sync, G: Gate + Sync>(
+    rt: &R,
+    image: &Image,
+    board: &Board<Contents, AnyStep>,
+    cpus: &mut [Cpu<'_>],
+    gate: &G,
+)
+    requires given { IsGiven image.now }
+    requires begins { EachAt (Begins image.now board.now.table.shared.table_id) cpus.old }
+    ensures ends { EachAt (Ends image.now board.now.table.shared.table_id) cpus.new }
+    ensures count { length cpus.new ≡ length cpus.old }
+{
+    thread::for_each_mut(
+        rt,
+        cpus,
+        PROCESSORS,
+        &|k, cpu: &mut Cpu<'_>|
+            requires { IsGiven image.now × Begins image.now board.now.table.shared.table_id k cpu.now }
+            ensures { Ends image.entry.now board.entry.now.table.shared.table_id k cpu.exit.now }
+        { play(rt, image, board, k, cpu, gate) },
+    );
+}
+
+/// The seats of the processors are taken in, with their logs, for which there is room.
+fn gather(
+    image: &Image,
+    board: &Board<Contents, AnyStep>,
+    seat: &mut Seat<Contents>,
+    cpus: &mut Vec<Cpu<'_>>,
+    logs: &mut Vec<Vec<Logged>>,
+)
+    requires ends { EachAt (Ends image.now board.now.table.shared.table_id) cpus.old.items }
+    requires seat { Gathered image.now board.now.table.shared.table_id seat.old (length cpus.old.items) (length cpus.old.items) [] }
+    requires few { length cpus.old.items ≤ 8 }
+    requires empty { logs.old.items ≡ [] }
+    requires room { length cpus.old.items ≤ vec_capacity logs.old }
+    ensures { Gathered image.now board.now.table.shared.table_id seat.new 0 (length cpus.old.items) logs.new.items }
+{
+    let _ = image;
+    'cpus: while let Some(cpu) = cpus.pop() {
+        let Cpu {
+            number: _,
+            processor: _,
+            place,
+        } = cpu;
+        let (own, log) = place.into_parts();
+        board.join(seat, own);
+        logs.push_reserved(log);
+    }
+    logs.reverse();
+}
+
+/// Runs so many processors on a board of the image to their end, each in a thread of its own where one can be made, with room for so many
+/// steps in the log of each. All memory is taken before the first step, but what the board takes where it is closed. A gate can hold each
+/// processor before its turns.
+pub fn run_cpus<R: Threads + Wait + Sync, G: Gate + Sync>(
+    rt: &R,
+    alloc: Global,
+    image: &Image,
+    cpus: u8,
+    most: usize,
+    gate: &G,
+) -> Result<Ended, Memory>
+    requires lawful { IsLawful image.now }
+    requires some { 1 ≤ cpus }
+    requires few { cpus ≤ 8 }
+    ensures { IfOk result (λ e. HasEnded image.now cpus (slots_items e.closed.table.words) e.logs.items) }
+{
+    let bytes = rodata(alloc, image)?;
+    let mut logs = Vec::with_capacity(alloc, cpus as usize)?;
+    let (board, mut seat, cells) = opening(alloc, image)?;
+    let mut all = seats(
+        alloc,
+        image,
+        &board,
+        &cells,
+        bytes.as_slice(),
+        &mut seat,
+        cpus,
+        most,
+    )?;
+    run_all(rt, image, &board, all.as_mut_slice(), gate);
+    gather(image, &board, &mut seat, &mut all, &mut logs);
+    drop(all);
+    let Ok(closed) = board.close(seat) else {
+        unreachable!()
+    };
+    Ok(Ended { logs, closed })
+}
