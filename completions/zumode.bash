@@ -4,6 +4,7 @@
 
 declare -gA _zumode_options=(
   [sim]="--cpus --pick"
+  [run]="--cpus"
   [summary]="--cpus --pick"
   [layout]=""
   [gen]=""

@@ -4,6 +4,7 @@
 
 complete -c zumode -f
 complete -c zumode -n __fish_use_subcommand -a sim -d 'Run the description, and print its events and the dump'
+complete -c zumode -n __fish_use_subcommand -a run -d 'Run the description on threads, and print its events and the dump'
 complete -c zumode -n __fish_use_subcommand -a summary -d 'Run the description, and print counts'
 complete -c zumode -n __fish_use_subcommand -a layout -d 'Print the addresses of memory and objects'
 complete -c zumode -n __fish_use_subcommand -a gen -d 'Print the generated description of a number'
@@ -16,6 +17,6 @@ function __zumode_may_have --argument-names option
     contains -- $words[2] $argv[2..]; and not contains -- $option $words; and not contains -- $words[-1] --cpus --pick
 end
 
-complete -c zumode -n '__zumode_may_have --cpus sim summary' -a --cpus -d 'Logical processors'
+complete -c zumode -n '__zumode_may_have --cpus sim run summary' -a --cpus -d 'Logical processors'
 complete -c zumode -n '__zumode_may_have --pick sim summary' -a --pick -d 'Number by which the order is drawn'
 complete -c zumode -n 'test (commandline -opc)[-1] = --cpus' -a '1 2 3 4 5 6 7 8'

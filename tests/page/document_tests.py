@@ -10,7 +10,7 @@ SCHEMA = TOP / "schema" / "zumode.schema.json"
 POINTER = "#:schema ../schema/zumode.schema.json"
 FORM_FAULTS = {"MissingKey", "WrongType", "UnknownKey", "BadName"}
 MOST_PICTURE_BYTES = 200_000
-COMMANDS = ["audit", "gen", "layout", "sim", "summary", "upgrade"]
+COMMANDS = ["audit", "gen", "layout", "run", "sim", "summary", "upgrade"]
 
 
 def validator():
@@ -99,6 +99,7 @@ def bash_completes() -> None:
     same("zumode sim --", completed_by_bash("sim", "--"), ["--cpus", "--pick"])
     same("zumode sim --cpus", completed_by_bash("sim", "--cpus", ""), list("12345678"))
     same("zumode summary --cpus 4 --", completed_by_bash("summary", "--cpus", "4", "--"), ["--pick"])
+    same("zumode run --", completed_by_bash("run", "--"), ["--cpus"])
     same("zumode layout --", completed_by_bash("layout", "--"), [])
 
 
@@ -114,6 +115,7 @@ def fish_completes() -> None:
     same("zumode", sorted(completed_by_fish("zumode ")), COMMANDS)
     same("zumode sim --", completed_by_fish("zumode sim --"), ["--cpus", "--pick"])
     same("zumode sim --cpus", completed_by_fish("zumode sim --cpus "), list("12345678"))
+    same("zumode run --", completed_by_fish("zumode run --"), ["--cpus"])
     same("zumode layout", completed_by_fish("zumode layout "), [])
 
 
@@ -134,6 +136,7 @@ def zsh_completes() -> None:
 
     same("zumode", offered(""), COMMANDS)
     same("zumode sim", offered("sim", ""), ["--cpus", "--pick"])
+    same("zumode run", offered("run", ""), ["--cpus"])
     same("zumode layout", offered("layout", ""), [])
 
 

@@ -14,6 +14,7 @@ not-none o command is e = cc
 
 pub answers-reading : (command : Command) (before now : Option (List ℕ)) (written : List ℕ) → IsTrue (is_reading command) → IsRead command before now written → Answers command before now written
 answers-reading (Command.Sim options) before now written reading read = read
+answers-reading (Command.Run cpus) before now written reading read = read
 answers-reading (Command.Summary options) before now written reading read = read
 answers-reading Command.Layout before now written reading read = read
 answers-reading Command.Upgrade before now written reading read = read

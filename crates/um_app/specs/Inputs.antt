@@ -20,6 +20,11 @@ abbrev pub is_reading : Command → Bool
 is_reading (Command.Gen number) = false
 is_reading _ = true
 
+-- whether a command answers on one thread, and so has just one answer to an input
+abbrev pub is_serial : Command → Bool
+is_serial (Command.Run cpus) = false
+is_serial _ = true
+
 -- the description in an input: all of it, and for `audit` what stands before the first line `=====`
 abbrev pub description_in : Command → List ℕ → List ℕ
 description_in Command.Audit input = description_part input

@@ -19,6 +19,7 @@ use Rattle.um_trace.specs.Text.{text}
 use Rattle.um_app.specs.Audited.{IsAudit}
 use Rattle.um_app.specs.Inputs.{IsOf, ReadsAll}
 use Rattle.um_app.specs.Ordered.{IsOrdered}
+use Rattle.um_app.specs.Threaded.{IsThreadRun}
 use Rattle.um_app.specs.Upgraded.{IsUpgrade}
 
 -- One complete run of the access-matrix machine from an image, in the order of its processors. It has at most as many events as the
@@ -45,9 +46,15 @@ IsRunText image options written =
 abbrev pub IsRunSummary : Image → Options → List ℕ → Type 0
 IsRunSummary image options written = (run : List Event) × (last : State) × IsRunOf image options run last × (written ≡ summary_text image run last)
 
+-- the bytes are the text of a run whose processors are threads, and of no other run of the image
+abbrev pub IsThreadRunText : Image → ℕ → List ℕ → Type 0
+IsThreadRunText image cpus written =
+    (run : List Event) × (last : State) × IsThreadRun image cpus run last × (written ≡ text image run last) × NamesRun image written run
+
 -- what a command writes of the image that it reads, and of the trace behind it
 abbrev pub Writes : Command → Image → List ℕ → List ℕ → Type 0
 Writes (Command.Sim options) image trace written = IsRunText image options written
+Writes (Command.Run cpus) image trace written = IsThreadRunText image cpus written
 Writes (Command.Summary options) image trace written = IsRunSummary image options written
 Writes Command.Layout image trace written = written ≡ layout_text image
 Writes (Command.Gen number) image trace written = written ≡ description number

@@ -1,6 +1,6 @@
 //! What a command answers to an input.
 
-ghost use Rattle.std.specs.Prelude.{◌≡◌, ◌≤◌, ◌<◌, ◌-◌, ◌^◌, IfOk, IfSome, IfNone, Some, None, List, ℕ, false, length, string_bytes};
+ghost use Rattle.std.specs.Prelude.{◌≡◌, ◌≤◌, ◌<◌, ◌-◌, ◌^◌, IfOk, IfSome, IfNone, Some, None, List, ℕ, false, true, length, string_bytes};
 ghost use Rattle.um_base.specs.Lawful.{IsLawful};
 ghost use Rattle.um_command.specs.declared.command.Command.{Command};
 ghost use Rattle.um_command.specs.Words.{IsFew, HasFew};
@@ -9,17 +9,21 @@ ghost use Rattle.um_image.specs.Meaning.{Describes, Refuses};
 ghost use Rattle.um_trace.specs.Layout.{layout_text};
 ghost use Rattle.um_app.specs.Answered.{Answered};
 ghost use Rattle.um_app.specs.Audited.{IsAudit};
-ghost use Rattle.um_app.specs.Inputs.{description_in, most_described, most_read, trace_in};
+ghost use Rattle.um_app.specs.Inputs.{description_in, is_serial, most_described, most_read, trace_in};
 ghost use Rattle.um_app.specs.Messages.{no_trace_line, refused_line};
 ghost use Rattle.um_app.specs.Top.{IsRunText, IsRunSummary, Writes};
 ghost use Rattle.um_app.specs.Upgraded.{IsUpgrade};
 
 use crate::sim::ran;
+use crate::threads::thread_text;
 use std::alloc::Global;
+use std::sync::Wait;
+use std::thread::Threads;
 use um_audit::Parts;
 use um_base::{Image, Memory};
 use um_command::{Command, Options};
 use um_image::{ImageFault, fault_text, print_image, read_image};
+use um_io::Gate;
 use um_trace::SUMMARY_ROOM;
 
 /// How many bytes a description has at most.
@@ -91,6 +95,7 @@ fn verdict(alloc: Global, image: &Image, trace: &[u8]) -> Result<Vec<u8>, Memory
 
 /// What a command writes of an image, and of the trace behind it.
 fn written(alloc: Global, command: Command, image: &Image, trace: &[u8]) -> Result<Vec<u8>, Memory>
+    requires serial { is_serial command ≡ true }
     requires described { (source : List ℕ) × Describes source image.now }
     requires lawful { IsLawful image.now }
     requires cpus { HasFew command }
@@ -99,6 +104,7 @@ fn written(alloc: Global, command: Command, image: &Image, trace: &[u8]) -> Resu
 {
     match command {
         Command::Sim(options) => run_text(alloc, image, options),
+        Command::Run { .. } => unreachable!(),
         Command::Summary(options) => run_summary(alloc, image, options),
         Command::Layout => addresses(alloc, image),
         Command::Gen { number } => um_gen::generate(alloc, number),
@@ -156,8 +162,21 @@ fn without_trace(alloc: Global) -> Answer
     }
 }
 
-/// The answer to a description and the trace behind it.
+/// The answer to a description that is refused with this fault, or for whose reading there was no memory.
+fn not_read(alloc: Global, fault: &ImageFault) -> Answer
+    ensures { (command : Command) (input trace : List ℕ) → length (description_in command input) ≤ most_described
+        → trace_in command input ≡ Some trace → (¬ (fault.now ≡ ImageFault.Memory) → Refuses (description_in command input) fault.now) → Answered command result input }
+{
+    if is_memory(fault) {
+        Answer::NoMemory
+    } else {
+        refused(alloc, fault)
+    }
+}
+
+/// The answer to a description and the trace behind it, of a command that makes it on one thread.
 fn answer_of(alloc: Global, command: Command, description: &[u8], trace: &[u8]) -> Answer
+    requires serial { is_serial command ≡ true }
     requires few { HasFew command }
     requires short { length trace.now < 2 ^ 32 - 1 }
     ensures { (input : List ℕ) → description.now ≡ description_in command input → trace_in command input ≡ Some trace.now
@@ -168,13 +187,48 @@ fn answer_of(alloc: Global, command: Command, description: &[u8], trace: &[u8]) 
             Ok(text) => Answer::Text(text),
             Err(Memory) => Answer::NoMemory,
         },
-        Err(fault) => {
-            if is_memory(&fault) {
-                Answer::NoMemory
-            } else {
-                refused(alloc, &fault)
-            }
-        }
+        Err(fault) => not_read(alloc, &fault),
+    }
+}
+
+/// What `run` writes of an image.
+fn thread_written<R: Threads + Wait + Sync, G: Gate + Sync>(
+    rt: &R,
+    alloc: Global,
+    cpus: u8,
+    image: &Image,
+    trace: &[u8],
+    gate: &G,
+) -> Result<Vec<u8>, Memory>
+    requires lawful { IsLawful image.now }
+    requires some { 1 ≤ cpus }
+    requires few { cpus ≤ 8 }
+    ensures { IfOk result (λ text. Writes (Command.Run cpus) image.now trace.now text.items) }
+{
+    let _ = trace;
+    thread_text(rt, alloc, image, cpus, gate)
+}
+
+/// The answer of `run` to a description.
+fn thread_answer_of<R: Threads + Wait + Sync, G: Gate + Sync>(
+    rt: &R,
+    alloc: Global,
+    cpus: u8,
+    description: &[u8],
+    trace: &[u8],
+    gate: &G,
+) -> Answer
+    requires some { 1 ≤ cpus }
+    requires few { cpus ≤ 8 }
+    ensures { (input : List ℕ) → description.now ≡ description_in (Command.Run cpus) input → trace_in (Command.Run cpus) input ≡ Some trace.now
+        → length description.now ≤ most_described → Answered (Command.Run cpus) result input }
+{
+    match read_image(alloc, description) {
+        Ok(image) => match thread_written(rt, alloc, cpus, &image, trace, gate) {
+            Ok(text) => Answer::Text(text),
+            Err(Memory) => Answer::NoMemory,
+        },
+        Err(fault) => not_read(alloc, &fault),
     }
 }
 
@@ -194,8 +248,9 @@ fn parts(command: Command, input: &[u8]) -> Parts<'_>
     }
 }
 
-/// The answer to an input. All memory of a command is taken here.
+/// The answer to an input, of a command that makes it on one thread. All memory of a command is taken here.
 pub fn answer_to(alloc: Global, command: Command, input: &[u8]) -> Answer
+    requires serial { is_serial command ≡ true }
     requires few { HasFew command }
     requires short { length input.now ≤ most_read command }
     ensures { Answered command result input.now }
@@ -208,4 +263,23 @@ pub fn answer_to(alloc: Global, command: Command, input: &[u8]) -> Answer
         Some(trace) => answer_of(alloc, command, parts.description, trace),
         None => without_trace(alloc),
     }
+}
+
+/// The answer of `run` to an input. All memory is taken here.
+pub fn thread_answer_to<R: Threads + Wait + Sync, G: Gate + Sync>(
+    rt: &R,
+    alloc: Global,
+    command: Command,
+    cpus: u8,
+    input: &[u8],
+    gate: &G,
+) -> Answer
+    requires run { command ≡ Command.Run cpus }
+    requires some { 1 ≤ cpus }
+    requires few { cpus ≤ 8 }
+    requires short { length input.now ≤ most_read command }
+    ensures { Answered command result input.now }
+{
+    let _ = command;
+    thread_answer_of(rt, alloc, cpus, input, &[], gate)
 }

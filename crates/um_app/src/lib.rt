@@ -7,9 +7,10 @@ mod sim;
 mod status;
 #[cfg(test)]
 mod tests;
+mod threads;
 mod top;
 
 pub use laws::one_answer;
 pub use sim::sim_events;
 pub use status::Status;
-pub use top::zumode;
+pub use top::{serial, zumode};

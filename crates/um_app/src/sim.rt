@@ -21,7 +21,7 @@ use um_matrix::Matrix;
 use um_turns::{Ran, run};
 
 /// The state that the events of a run lead to.
-fn replayed<'a>(alloc: Global, image: &'a Image, events: &[Event]) -> Result<Matrix<'a>, Memory>
+pub fn replayed<'a>(alloc: Global, image: &'a Image, events: &[Event]) -> Result<Matrix<'a>, Memory>
     requires described { IsDescribed image.now }
     requires run { (last : State) × IsRun image.now events.now last × IsComplete last }
     ensures run { IfOk result (λ last. IsRun image.now events.now last) }

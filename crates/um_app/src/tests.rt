@@ -9,7 +9,9 @@ ghost use Rattle.std.specs.Prelude.{◌≤◌};
 
 use super::*;
 use std::alloc::Global;
+use std::sync::Wait;
 use std::test::Fail;
+use std::thread::Threads;
 use um_io::{MemSink, MemSource, NoGate};
 
 /// A description up to the lines of its script.
@@ -77,7 +79,12 @@ fn words_of(alloc: Global, line: &str) -> Result<Vec<String>, Fail> {
 }
 
 /// A command over memory.
-pub fn call(rt: &HostRuntime, line: &str, input: Vec<u8>, manner: Manner) -> Result<Ended, Fail> {
+pub fn call<R: AllocGlobal + Threads + Wait + Sync>(
+    rt: &R,
+    line: &str,
+    input: Vec<u8>,
+    manner: Manner,
+) -> Result<Ended, Fail> {
     let alloc = rt.alloc();
     let Manner {
         piece,

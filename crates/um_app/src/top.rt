@@ -1,6 +1,6 @@
 //! The top call.
 
-ghost use Rattle.std.specs.Prelude.{◌≡◌, ◌≢◌, ◌↔◌, ◌<◌, ◌≤◌, ◌⊎◌, IsTrue, List, ℕ, map, Some, None, length, string_bytes};
+ghost use Rattle.std.specs.Prelude.{◌≡◌, ◌≢◌, ◌↔◌, ◌<◌, ◌≤◌, ◌⊎◌, IsTrue, List, ℕ, false, true, map, Some, None, length, string_bytes};
 ghost use Rattle.std.specs.Io.KnownBytes.{Appends};
 ghost use Rattle.um_base.specs.declared.image.Image.{Image};
 ghost use Rattle.um_command.specs.declared.command.Command.{Command};
@@ -9,13 +9,15 @@ ghost use Rattle.um_gen.specs.Description.{description};
 ghost use Rattle.um_io.specs.Bytes.{AppendsFront};
 ghost use Rattle.um_io.specs.Causes.{Rose};
 ghost use Rattle.um_app.specs.Answered.{IsRefusal};
-ghost use Rattle.um_app.specs.Inputs.{IsOf, IsTooLong, ReadsAll, ReadsTooLong, ReadsWithin, is_reading, most_read};
+ghost use Rattle.um_app.specs.Inputs.{IsOf, IsTooLong, ReadsAll, ReadsTooLong, ReadsWithin, is_reading, is_serial, most_read};
 ghost use Rattle.um_app.specs.Messages.{line_of, refused_line};
 ghost use Rattle.um_app.specs.Top.{Answers, IsRead, Tells};
 
-use crate::answer::{Answer, answer_to};
+use crate::answer::{Answer, answer_to, thread_answer_to};
 use crate::status::Status;
 use std::alloc::Global;
+use std::sync::Wait;
+use std::thread::Threads;
 use um_command::{Command, read_command};
 use um_io::{Gate, ReadAll, Sink, Source, read_all, write_all};
 
@@ -86,6 +88,7 @@ fn described<S: Source, O: Sink, E: Sink>(
     err: &mut E,
 ) -> Status
     requires few { HasFew command }
+    requires serial { is_serial command ≡ true }
     requires reading { IsTrue (is_reading command) }
     ensures done { result ≡ Status.Done → (written : List ℕ)
         × IsRead command (S.left source.old) (S.left source.new) written
@@ -135,6 +138,67 @@ fn described<S: Source, O: Sink, E: Sink>(
     }
 }
 
+/// The same of `run`, whose processors are threads.
+fn threaded<R: AllocGlobal + Threads + Wait + Sync, S: Source, O: Sink, E: Sink, G: Gate + Sync>(
+    rt: &R,
+    command: Command,
+    cpus: u8,
+    source: &mut S,
+    out: &mut O,
+    err: &mut E,
+    gate: &G,
+) -> Status
+    requires run { command ≡ Command.Run cpus }
+    requires some { 1 ≤ cpus }
+    requires few { cpus ≤ 8 }
+    ensures done { result ≡ Status.Done → (written : List ℕ)
+        × IsRead command (S.left source.old) (S.left source.new) written
+        × Appends (O.taken out.old) (O.taken out.new) written }
+    ensures done_quiet { result ≡ Status.Done → err.new ≡ err.old }
+    ensures complete { (input : List ℕ) → S.left source.old ≡ Some input → length input ≤ most_read command
+        → (image : Image) (trace : List ℕ) → IsOf command input image trace
+        → ¬ Rose (S.faults source.old) (S.faults source.new) → ¬ Rose (O.faults out.old) (O.faults out.new)
+        → (result ≡ Status.Done) ⊎ (result ≡ Status.NoMemory) }
+    ensures no_usage { result ≢ Status.Usage }
+    ensures read_fault { result ≡ Status.ReadFault → Rose (S.faults source.old) (S.faults source.new) }
+    ensures too_long { result ≡ Status.TooLong → ReadsTooLong command (S.left source.old) (S.left source.new) }
+    ensures exceeds { (input : List ℕ) → S.left source.old ≡ Some input → IsTooLong command input
+        → ¬ Rose (S.faults source.old) (S.faults source.new) → (result ≡ Status.TooLong) ⊎ (result ≡ Status.NoMemory) }
+    ensures within { result ≢ Status.TooLong → result ≢ Status.NoMemory → ReadsWithin command (S.left source.old) (S.left source.new) }
+    ensures refused { result ≡ Status.Refused → (input line : List ℕ) × ReadsAll command (S.left source.old) (S.left source.new) input
+        × IsRefusal command input line × Tells (E.taken err.old) (E.taken err.new) (E.faults err.old) (E.faults err.new) line }
+    ensures refuses { (input line : List ℕ) → S.left source.old ≡ Some input → length input ≤ most_read command → IsRefusal command input line
+        → ¬ Rose (S.faults source.old) (S.faults source.new) → (result ≡ Status.Refused) ⊎ (result ≡ Status.NoMemory) }
+    ensures write_fault { result ≡ Status.WriteFault → Rose (O.faults out.old) (O.faults out.new) }
+    ensures front { result ≡ Status.WriteFault → (written : List ℕ)
+        × IsRead command (S.left source.old) (S.left source.new) written
+        × AppendsFront (O.taken out.old) (O.taken out.new) written × (O.room out.old < length written) }
+    ensures nothing_written { result ≢ Status.Done → result ≢ Status.WriteFault → out.new ≡ out.old }
+    ensures told { result ≢ Status.Done → result ≢ Status.Refused
+        → Tells (E.taken err.old) (E.taken err.new) (E.faults err.old) (E.faults err.new) (line_of result) }
+    ensures source_most { S.most source.new ≡ S.most source.old }
+{
+    let input = match read_all(rt.alloc(), source, limit(command)) {
+        Ok(input) => input,
+        Err(ReadAll::Fault) => return told(err, Status::ReadFault),
+        Err(ReadAll::TooLong) => return told(err, Status::TooLong),
+        Err(ReadAll::Memory) => return told(err, Status::NoMemory),
+    };
+    match thread_answer_to(rt, rt.alloc(), command, cpus, &input, gate) {
+        Answer::Text(text) => {
+            let status = write_text(out, &text);
+            tell_status(err, status);
+            status
+        }
+        Answer::Refused(line) => {
+            tell(err, line.as_str());
+            Status::Refused
+        }
+        Answer::TooLong => told(err, Status::TooLong),
+        Answer::NoMemory => told(err, Status::NoMemory),
+    }
+}
+
 /// The generated description of a number: nothing is read.
 fn generated<O: Sink>(alloc: Global, number: u64, out: &mut O) -> Status
     ensures some { (result ≡ Status.Done) ⊎ ((result ≡ Status.WriteFault) ⊎ (result ≡ Status.NoMemory)) }
@@ -149,19 +213,19 @@ fn generated<O: Sink>(alloc: Global, number: u64, out: &mut O) -> Status
     }
 }
 
-/// Runs a command: `sim`, `summary`, `layout` and `upgrade` read a description from `source`, and write of it to `out` the text of a
-/// run, its counts, the addresses, or its canonical form; `audit` reads a description, a line `=====` and a trace, and writes its
+/// Runs a command but `run`: `sim`, `summary`, `layout` and `upgrade` read a description from `source`, and write of it to `out` the text of
+/// a run, its counts, the addresses, or its canonical form; `audit` reads a description, a line `=====` and a trace, and writes its
 /// verdict on the trace; `gen` writes a generated description. A status other than `Done` has its line on `err`. All memory is taken
-/// before the first byte is written. The gate has no part in it yet.
-pub fn zumode<R: AllocGlobal, S: Source, O: Sink, E: Sink, G: Gate>(
+/// before the first byte is written. It waits for nobody.
+pub fn serial<R: AllocGlobal, S: Source, O: Sink, E: Sink>(
     rt: &R,
     words: &[String],
     source: &mut S,
     out: &mut O,
     err: &mut E,
-    gate: &G,
 ) -> Status
-    // The headline: the words are a command, what was read describes an image, and all that was written is, for `sim`, the text of
+    requires { (cpus : ℕ) → command_of (map string_bytes words.now) ≡ Some (Command.Run cpus) → ⊥ }
+    // The headline: the words are a command, what was read describes an image, and all that was written is, for `sim` and `run`, the text of
     // one complete run of it; for the other commands, what they write.
     ensures done { result ≡ Status.Done → (command : Command) × (command_of (map string_bytes words.now) ≡ Some command)
         × (written : List ℕ) × Answers command (S.left source.old) (S.left source.new) written
@@ -206,7 +270,6 @@ pub fn zumode<R: AllocGlobal, S: Source, O: Sink, E: Sink, G: Gate>(
         → Tells (E.taken err.old) (E.taken err.new) (E.faults err.old) (E.faults err.new) (line_of result) }
     ensures source_most { S.most source.new ≡ S.most source.old }
 {
-    let _ = gate;
     match read_command(words) {
         None => told(err, Status::Usage),
         Some(Command::Gen { number }) => {
@@ -215,5 +278,70 @@ pub fn zumode<R: AllocGlobal, S: Source, O: Sink, E: Sink, G: Gate>(
             status
         }
         Some(command) => described(rt.alloc(), command, source, out, err),
+    }
+}
+
+/// Runs a command: `run` reads a description from `source`, has so many threads as its processors make a run of it on a board of
+/// words that they share, and writes the text of that run to `out`; what the other commands do, [`serial`] says. The gate is asked before
+/// each step of a processor.
+pub fn zumode<R: AllocGlobal + Threads + Wait + Sync, S: Source, O: Sink, E: Sink, G: Gate + Sync>(
+    rt: &R,
+    words: &[String],
+    source: &mut S,
+    out: &mut O,
+    err: &mut E,
+    gate: &G,
+) -> Status
+    // The headline: the words are a command, what was read describes an image, and all that was written is, for `sim` and `run`, the text of
+    // one complete run of it; for the other commands, what they write.
+    ensures done { result ≡ Status.Done → (command : Command) × (command_of (map string_bytes words.now) ≡ Some command)
+        × (written : List ℕ) × Answers command (S.left source.old) (S.left source.new) written
+        × Appends (O.taken out.old) (O.taken out.new) written }
+    ensures done_quiet { result ≡ Status.Done → err.new ≡ err.old }
+
+    // A described image is answered, and a number, or memory ran out, unless the source or the sink failed.
+    ensures complete { (command : Command) → command_of (map string_bytes words.now) ≡ Some command → IsTrue (is_reading command)
+        → (input : List ℕ) → S.left source.old ≡ Some input → length input ≤ most_read command
+        → (image : Image) (trace : List ℕ) → IsOf command input image trace
+        → ¬ Rose (S.faults source.old) (S.faults source.new) → ¬ Rose (O.faults out.old) (O.faults out.new)
+        → (result ≡ Status.Done) ⊎ (result ≡ Status.NoMemory) }
+    ensures generates { (number : ℕ) → command_of (map string_bytes words.now) ≡ Some (Command.Gen number)
+        → ¬ Rose (O.faults out.old) (O.faults out.new) → (result ≡ Status.Done) ⊎ (result ≡ Status.NoMemory) }
+
+    // When each other answer comes.
+    ensures usage { (result ≡ Status.Usage) ↔ (command_of (map string_bytes words.now) ≡ None) }
+    ensures nothing_read { result ≡ Status.Usage → source.new ≡ source.old }
+    ensures reads_none { (number : ℕ) → command_of (map string_bytes words.now) ≡ Some (Command.Gen number) → source.new ≡ source.old }
+    ensures read_fault { result ≡ Status.ReadFault → Rose (S.faults source.old) (S.faults source.new) }
+    ensures too_long { result ≡ Status.TooLong → (command : Command) × (command_of (map string_bytes words.now) ≡ Some command)
+        × ReadsTooLong command (S.left source.old) (S.left source.new) }
+    ensures exceeds { (command : Command) → command_of (map string_bytes words.now) ≡ Some command → IsTrue (is_reading command)
+        → (input : List ℕ) → S.left source.old ≡ Some input → IsTooLong command input → ¬ Rose (S.faults source.old) (S.faults source.new)
+        → (result ≡ Status.TooLong) ⊎ (result ≡ Status.NoMemory) }
+    ensures within { (command : Command) → command_of (map string_bytes words.now) ≡ Some command → IsTrue (is_reading command)
+        → result ≢ Status.TooLong → result ≢ Status.NoMemory → ReadsWithin command (S.left source.old) (S.left source.new) }
+    ensures refused { result ≡ Status.Refused → (command : Command) × (command_of (map string_bytes words.now) ≡ Some command)
+        × (input line : List ℕ) × ReadsAll command (S.left source.old) (S.left source.new) input
+        × IsRefusal command input line × Tells (E.taken err.old) (E.taken err.new) (E.faults err.old) (E.faults err.new) line }
+    ensures refuses { (command : Command) → command_of (map string_bytes words.now) ≡ Some command → IsTrue (is_reading command)
+        → (input line : List ℕ) → S.left source.old ≡ Some input → length input ≤ most_read command → IsRefusal command input line
+        → ¬ Rose (S.faults source.old) (S.faults source.new) → (result ≡ Status.Refused) ⊎ (result ≡ Status.NoMemory) }
+    ensures write_fault { result ≡ Status.WriteFault → Rose (O.faults out.old) (O.faults out.new) }
+    ensures front { result ≡ Status.WriteFault → (command : Command) × (command_of (map string_bytes words.now) ≡ Some command)
+        × (written : List ℕ) × Answers command (S.left source.old) (S.left source.new) written
+        × AppendsFront (O.taken out.old) (O.taken out.new) written × (O.room out.old < length written) }
+
+    // What stays as it was, and the line on standard error.
+    ensures nothing_written { result ≢ Status.Done → result ≢ Status.WriteFault → out.new ≡ out.old }
+    ensures told { result ≢ Status.Done → result ≢ Status.Refused
+        → Tells (E.taken err.old) (E.taken err.new) (E.faults err.old) (E.faults err.new) (line_of result) }
+    ensures source_most { S.most source.new ≡ S.most source.old }
+{
+    match read_command(words) {
+        Some(command) => match command {
+            Command::Run { cpus } => threaded(rt, command, cpus, source, out, err, gate),
+            _ => serial(rt, words, source, out, err),
+        },
+        None => serial(rt, words, source, out, err),
     }
 }

@@ -1,6 +1,6 @@
 -- Which words are which command. A word is a list of bytes.
 use Rattle.std.specs.Prelude.{ℕ, ◌+◌, ◌-◌, ◌*◌, ◌^◌, ◌≤◌, List, [], ◌∷◌, length, codes, bytes_eq, Bool, true, false, ◌&&◌, ◌||◌, if◌then◌else◌, Option, Some, None}
-use Rattle.std.specs.Option.{option_map}
+use Rattle.std.specs.Option.{option_and_then, option_map}
 use Rattle.std.specs.List.{list_all}
 use Rattle.um_base.specs.Lawful.{is_within}
 use Rattle.um_command.specs.declared.command.Command.{Command}
@@ -63,6 +63,14 @@ both None pick = None
 abbrev pub options_of : List (List ℕ) → Option Options
 options_of words = if are_options words then both (cpus_of (behind (codes "--cpus") words)) (pick_of (behind (codes "--pick") words)) else None
 
+-- `run` with its options: it has no pick
+abbrev pub threads_with : Option ℕ → ℕ → Option Command
+threads_with None cpus = Some (Command.Run cpus)
+threads_with (Some pick) cpus = None
+
+abbrev pub threads_of : List (List ℕ) → Option Command
+threads_of words = option_and_then (λ (options : Options). threads_with options.pick options.cpus) (options_of words)
+
 -- a command with no words behind it
 abbrev pub alone : Command → List (List ℕ) → Option Command
 alone command [] = Some command
@@ -78,6 +86,7 @@ abbrev pub command_of : List (List ℕ) → Option Command
 command_of [] = None
 command_of (name ∷ words) =
     if bytes_eq name (codes "sim") then option_map Command.Sim (options_of words)
+    else if bytes_eq name (codes "run") then threads_of words
     else if bytes_eq name (codes "layout") then alone Command.Layout words
     else if bytes_eq name (codes "gen") then generation_of words
     else if bytes_eq name (codes "summary") then option_map Command.Summary (options_of words)
@@ -92,6 +101,7 @@ IsFew options = (1 ≤ options.cpus) × (options.cpus ≤ 8)
 -- where a command has options
 abbrev pub HasFew : Command → Type 0
 HasFew (Command.Sim options) = IsFew options
+HasFew (Command.Run cpus) = (1 ≤ cpus) × (cpus ≤ 8)
 HasFew Command.Layout = Unit {0}
 HasFew (Command.Gen number) = Unit {0}
 HasFew (Command.Summary options) = IsFew options

@@ -12,8 +12,10 @@ pub struct Options {
 /// What the program is asked to do.
 #[derive(Clone, Copy, Debug, PartialEq, Eq)]
 pub enum Command {
-    /// Run a description.
+    /// Run a description on logical processors.
     Sim(Options),
+    /// Run a description on so many processors that are threads, 1 to 8.
+    Run { cpus: u8 },
     /// Tell the addresses.
     Layout,
     /// Generate the description of this number.

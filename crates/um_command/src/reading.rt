@@ -102,6 +102,18 @@ fn generation(words: &[String]) -> Option<Command>
     }
 }
 
+/// `run`, with its processors. It has no pick.
+fn threads(words: &[String]) -> Option<Command>
+    ensures command { result ≡ spec.threads_of (map string_bytes words.now) }
+    ensures processors { IfSome result spec.HasFew }
+{
+    let options = options(words)?;
+    match options.pick {
+        None => Some(Command::Run { cpus: options.cpus }),
+        Some(_) => None,
+    }
+}
+
 /// The command that the program's words are, its own name left out.
 pub fn read_command(words: &[String]) -> Option<Command>
     ensures command { result ≡ spec.command_of (map string_bytes words.now) }
@@ -111,6 +123,7 @@ pub fn read_command(words: &[String]) -> Option<Command>
         [] => None,
         [name, rest @ ..] => match name.as_str() {
             "sim" => Some(Command::Sim(options(rest)?)),
+            "run" => threads(rest),
             "layout" => alone(Command::Layout, rest),
             "gen" => generation(rest),
             "summary" => Some(Command::Summary(options(rest)?)),

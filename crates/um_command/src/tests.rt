@@ -27,7 +27,9 @@ fn commands(rt: HostRuntime) -> Result<(), Fail> {
         cpus: 4,
         pick: Some(18_446_744_073_709_551_615),
     };
-    let cases: [(&[&str], Option<Command>); 11] = [
+    let cases: [(&[&str], Option<Command>); 13] = [
+        (&["run"], Some(Command::Run { cpus: 1 })),
+        (&["run", "--cpus", "4"], Some(Command::Run { cpus: 4 })),
         (&["sim"], sim(1, None)),
         (&["sim", "--cpus", "8"], sim(8, None)),
         (&["sim", "--pick", "7", "--cpus", "08"], sim(8, Some(7))),
@@ -51,7 +53,7 @@ fn commands(rt: HostRuntime) -> Result<(), Fail> {
 
 #[test]
 fn no_commands(rt: HostRuntime) -> Result<(), Fail> {
-    let cases: [&[&str]; 28] = [
+    let cases: [&[&str]; 29] = [
         &[],
         &["sim", "--cpus", "9"],
         &["sim", "--cpus", "0"],
@@ -74,8 +76,9 @@ fn no_commands(rt: HostRuntime) -> Result<(), Fail> {
         &["audit", "x"],
         &["audit", "--cpus", "1"],
         &["layout", "--cpus", "1"],
-        &["run"],
+        &["run", "1"],
         &["run", "--pick", "1"],
+        &["run", "--cpus", "2", "--pick", "1"],
         &["Sim"],
         &["sim "],
         &["--cpus", "1", "sim"],

@@ -3,10 +3,12 @@
 use super::{Ended, HEAD, LAST_BYTE, call, last_byte, smooth};
 use crate::Status;
 use std::alloc::Global;
+use std::sync::Wait;
 use std::test::Fail;
+use std::thread::Threads;
 
 /// The input of an audit: the description, the line between, and a trace.
-fn audited(rt: &HostRuntime, trace: &[u8]) -> Result<Ended, Fail> {
+fn audited<R: AllocGlobal + Threads + Wait + Sync>(rt: &R, trace: &[u8]) -> Result<Ended, Fail> {
     let alloc = rt.alloc();
     let mut input = last_byte(alloc)?;
     input.extend_from_slice(b"=====\n".as_slice())?;

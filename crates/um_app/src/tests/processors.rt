@@ -3,7 +3,9 @@
 use super::{Ended, call, smooth};
 use crate::{Status, sim_events};
 use std::alloc::Global;
+use std::sync::Wait;
 use std::test::Fail;
+use std::thread::Threads;
 use um_base::ThreadIx;
 use um_image::read_image;
 
@@ -58,7 +60,12 @@ fn count_of(text: &[u8], line: &str) -> usize {
 }
 
 /// A run on two processors.
-fn run_of(rt: &HostRuntime, alloc: Global, input: &str, pick: u32) -> Result<Ended, Fail> {
+fn run_of<R: AllocGlobal + Threads + Wait + Sync>(
+    rt: &R,
+    alloc: Global,
+    input: &str,
+    pick: u32,
+) -> Result<Ended, Fail> {
     let words = format!(in alloc; "sim --cpus 2 --pick {pick}")?;
     call(
         rt,

@@ -3,7 +3,9 @@
 use super::{Ended, LAST_BYTE, call, last_byte, smooth};
 use crate::Status;
 use std::alloc::Global;
+use std::sync::Wait;
 use std::test::Fail;
+use std::thread::Threads;
 
 /// The top of a description.
 const TOP: &str = "version = 1
@@ -104,7 +106,7 @@ fn words_that_are_no_command(rt: HostRuntime) -> Result<(), Fail> {
         "gen",
         "gen 18446744073709551616",
         "layout layout",
-        "run",
+        "run --pick 1",
     ] {
         let ended = call(&rt, words, last_byte(alloc)?, smooth(alloc, 64))?;
         assert_eq!(rt; ended.status, Status::Usage);
@@ -129,7 +131,11 @@ fn a_description_without_a_thread(rt: HostRuntime) -> Result<(), Fail> {
 }
 
 /// The counts of the run of a generated description.
-fn counts_of(rt: &HostRuntime, alloc: Global, words: &str) -> Result<Ended, Fail> {
+fn counts_of<R: AllocGlobal + Threads + Wait + Sync>(
+    rt: &R,
+    alloc: Global,
+    words: &str,
+) -> Result<Ended, Fail> {
     let made = call(rt, words, Vec::new(alloc), smooth(alloc, 4096))?;
     let input = made.out.bytes().to_vec(alloc)?;
     call(rt, "summary --cpus 2 --pick 3", input, smooth(alloc, 4096))

@@ -5,6 +5,5 @@ use Rattle.um_app.proofs.answer.answer_of.Goals as goal
 
 pub returns : goal.returns
 returns c = λ input is traced short.
-    let refuses : Refuses c.args.description.now c.in-Err.fault = c.in-Err.ensures.refused (c.is_memory.ensures c.if-is_memory.false) in
-    c.refused.ensures c.args.command input c.args.trace.now (subst (λ (text : List ℕ). length text ≤ most_described) is short) traced
-    (subst (λ (text : List ℕ). Refuses text c.in-Err.fault) is refuses)
+    c.not_read.ensures c.args.command input c.args.trace.now (subst (λ (text : List ℕ). length text ≤ most_described) is short) traced
+    (λ known. subst (λ (text : List ℕ). Refuses text c.in-Err.fault) is (c.in-Err.ensures.refused known))
