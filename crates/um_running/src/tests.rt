@@ -1,0 +1,73 @@
+//! The top call over memory, with a gate.
+
+mod described;
+mod gates;
+mod outside;
+mod runs;
+
+ghost use Rattle.std.specs.Prelude.{◌≤◌};
+
+use std::alloc::Global;
+use std::sync::Wait;
+use std::test::Fail;
+use std::thread::Threads;
+use um_app::{Status, zumode};
+use um_io::{Gate, MemSink, MemSource};
+
+/// What a call answered and wrote.
+#[derive(Drop)]
+pub struct Ended {
+    pub status: Status,
+    pub out: MemSink,
+    pub err: MemSink,
+}
+
+/// The words of a line, which stand one space apart.
+fn words_of(alloc: Global, line: &str) -> Result<Vec<String>, Fail> {
+    let mut words = Vec::new(alloc);
+    for word in line.split(' ') {
+        words.push(String::from_str(alloc, word)?)?;
+    }
+    Ok(words)
+}
+
+/// A source of a description, which gives so many bytes a call. The calls of these numbers fail.
+pub fn source_of(
+    alloc: Global,
+    description: &str,
+    piece: u32,
+    fails: Vec<u32>,
+) -> Result<MemSource, Fail>
+    requires { 1 ≤ piece }
+{
+    let bytes = description.as_bytes().to_vec(alloc)?;
+    Ok(MemSource::new(bytes, piece, fails))
+}
+
+/// A command between a source and a sink.
+pub fn call<R: AllocGlobal + Threads + Wait + Sync, G: Gate + Sync>(
+    rt: &R,
+    line: &str,
+    mut source: MemSource,
+    mut out: MemSink,
+    gate: &G,
+) -> Result<Ended, Fail> {
+    let alloc = rt.alloc();
+    let words = words_of(alloc, line)?;
+    let mut err = MemSink::new(alloc, 4096, Vec::new(alloc))?;
+    let status = zumode(rt, &words, &mut source, &mut out, &mut err, gate);
+    Ok(Ended { status, out, err })
+}
+
+/// A command on a description, where nothing fails.
+pub fn answered<R: AllocGlobal + Threads + Wait + Sync, G: Gate + Sync>(
+    rt: &R,
+    line: &str,
+    description: &str,
+    gate: &G,
+) -> Result<Ended, Fail> {
+    let alloc = rt.alloc();
+    let source = source_of(alloc, description, 4096, Vec::new(alloc))?;
+    let out = MemSink::new(alloc, 4096, Vec::new(alloc))?;
+    call(rt, line, source, out, gate)
+}

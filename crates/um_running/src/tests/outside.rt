@@ -1,0 +1,54 @@
+//! Sources and sinks that fail at one of their calls.
+
+use super::described::REALISTIC;
+use super::{answered, call, source_of};
+use std::test::Fail;
+use um_app::Status;
+use um_io::{MemSink, NoGate};
+
+/// The number of a call that isn't reached.
+const NEVER: u32 = 1000;
+
+#[test]
+fn a_read_fails(rt: HostRuntime) -> Result<(), Fail> {
+    let alloc = rt.alloc();
+    for k in 0..21 {
+        let source = source_of(alloc, REALISTIC, 7, vec![in alloc; k]?)?;
+        let out = MemSink::new(alloc, 100, Vec::new(alloc))?;
+        let ended = call(&rt, "sim", source, out, &NoGate)?;
+        assert_eq!(rt; ended.status, Status::ReadFault, "read {k}");
+        assert_eq!(rt; ended.out.bytes().len(), 0);
+        assert_eq!(rt; ended.err.bytes(), b"zumode: read fault\n".as_slice());
+    }
+    Ok(())
+}
+
+#[test]
+fn a_write_fails(rt: HostRuntime) -> Result<(), Fail> {
+    let alloc = rt.alloc();
+    let whole = answered(&rt, "sim", REALISTIC, &NoGate)?;
+    assert_eq!(rt; whole.status, Status::Done);
+    for k in 0..21 {
+        let source = source_of(alloc, REALISTIC, 7, Vec::new(alloc))?;
+        let out = MemSink::new(alloc, 100, vec![in alloc; k]?)?;
+        let ended = call(&rt, "sim", source, out, &NoGate)?;
+        assert_eq!(rt; ended.status, Status::WriteFault, "write {k}");
+        assert!(rt; whole.out.bytes().starts_with(ended.out.bytes()));
+        assert_eq!(rt; ended.out.bytes().len(), 100 * (k as usize));
+        assert_eq!(rt; ended.err.bytes(), b"zumode: write fault\n".as_slice());
+    }
+    Ok(())
+}
+
+#[test]
+fn a_call_that_fails_is_not_reached(rt: HostRuntime) -> Result<(), Fail> {
+    let alloc = rt.alloc();
+    let whole = answered(&rt, "sim", REALISTIC, &NoGate)?;
+    let source = source_of(alloc, REALISTIC, 7, vec![in alloc; NEVER]?)?;
+    let out = MemSink::new(alloc, 100, vec![in alloc; NEVER]?)?;
+    let ended = call(&rt, "sim", source, out, &NoGate)?;
+    assert_eq!(rt; ended.status, Status::Done);
+    assert_eq!(rt; ended.out.bytes(), whole.out.bytes());
+    assert_eq!(rt; ended.err.bytes().len(), 0);
+    Ok(())
+}

@@ -1,0 +1,88 @@
+//! Runs by what holds of every order.
+
+ghost use Rattle.um_base.specs.Lawful.{IsLawful};
+
+use super::answered;
+use super::described::{INHERITANCE, LAST_BYTE, LAST_RELEASE};
+use super::gates::Meeting;
+use std::alloc::Global;
+use std::sync::Wait;
+use std::test::Fail;
+use std::thread::Threads;
+use um_app::Status;
+use um_base::Image;
+use um_cpu::{Ran, run_events};
+use um_image::{read_image, weight};
+use um_io::NoGate;
+use um_matrix::Matrix;
+
+/// How often a description is run. In the run of number k processor 1 begins when processor 0 has come to step k.
+const RUNS: u64 = 20;
+
+/// How often these words stand in a text.
+fn count_of(text: &[u8], words: &str) -> usize {
+    let mut count: usize = 0;
+    for k in 0..text.len() {
+        if text[k..].starts_with(words.as_bytes()) {
+            count = count.saturating_add(1);
+        }
+    }
+    count
+}
+
+#[test]
+fn one_thread_writes_what_sim_writes(rt: HostRuntime) -> Result<(), Fail> {
+    for description in [LAST_BYTE, INHERITANCE] {
+        let run = answered(&rt, "run --cpus 1", description, &NoGate)?;
+        let sim = answered(&rt, "sim", description, &NoGate)?;
+        assert_eq!(rt; run.status, Status::Done);
+        assert_eq!(rt; sim.status, Status::Done);
+        assert_eq!(rt; run.out.bytes(), sim.out.bytes());
+    }
+    Ok(())
+}
+
+#[test]
+fn one_of_two_releases_is_the_last_one(rt: HostRuntime) -> Result<(), Fail> {
+    for k in 0..RUNS {
+        let gate = Meeting::behind(k);
+        let ended = answered(&rt, "run --cpus 2", LAST_RELEASE, &gate)?;
+        assert_eq!(rt; ended.status, Status::Done);
+        assert!(rt; gate.has_met());
+        let text = ended.out.bytes();
+        let both = count_of(text, "check #16 any any ok\n") == 3;
+        if both {
+            assert_eq!(rt; count_of(text, " #16 gone\n"), 1);
+            assert_eq!(rt; count_of(text, " recycle #16\n"), 1);
+        }
+    }
+    Ok(())
+}
+
+/// Whether the events of a run on two processors are those of a complete run.
+fn is_complete<R: Threads + Wait + Sync>(
+    rt: &R,
+    alloc: Global,
+    image: &Image,
+    gate: &Meeting,
+) -> Result<bool, Fail>
+    requires { IsLawful image.now }
+{
+    let Ran { events, closed } = run_events(rt, alloc, image, 2, weight(image) as usize, gate)?;
+    closed.free();
+    let mut judge = Matrix::boot(alloc, image)?;
+    Ok(judge.judge(events.as_slice()).is_ok() && judge.is_final())
+}
+
+#[test]
+fn a_judge_accepts_the_events(rt: HostRuntime) -> Result<(), Fail> {
+    let alloc = rt.alloc();
+    let image = match read_image(alloc, LAST_RELEASE.as_bytes()) {
+        Ok(image) => image,
+        Err(_) => return Err(Fail::new("refused")),
+    };
+    for k in 0..RUNS {
+        assert!(rt; is_complete(&rt, alloc, &image, &Meeting::behind(k))?);
+    }
+    Ok(())
+}
