@@ -19,7 +19,7 @@ use Rattle.um_app.proofs.Replays.{one-end}
 use Rattle.um_audit.proofs.LawLemmas.{one-verdict}
 use Rattle.um_audit.specs.Told.{verdict_text}
 use Rattle.um_app.specs.Audited.{IsAudit}
-use Rattle.um_app.specs.Inputs.{description_in, is_serial, trace_in}
+use Rattle.um_app.specs.Inputs.{description_in, is_serial}
 use Rattle.um_app.specs.Top.{Answers, IsOutput, IsRead, IsRunOf, Writes}
 
 -- the run of an image with these options, and its last state, are one

@@ -1,5 +1,5 @@
 -- The events of a run lead to one state, and none of them is refused on the way.
-use Rattle.std.proofs.Common.{◌≡◌, ℕ, zero, suc, List, [], ◌∷◌, Ok, Err, take, refl, sym, subst, Some, slice_get}
+use Rattle.std.proofs.Common.{◌≡◌, ℕ, zero, suc, List, [], ◌∷◌, Ok, Err, take, refl, subst, Some, slice_get}
 use Rattle.std.specs.Prelude.{IfErr, IsOk, Result}
 use Rattle.um_base.specs.declared.act.Event.{Event}
 use Rattle.um_base.specs.declared.image.Image.{Image}

@@ -1,22 +1,20 @@
 -- What is told of a run makes it the run of an image with its options, and its text names it.
-use Rattle.std.proofs.Common.{◌≡◌, ℕ, ◌≤◌, ◌<◌, List, arith, length, sym, Ok, Err}
+use Rattle.std.proofs.Common.{◌≤◌, ◌<◌, List, arith, length, sym, Ok, Err}
 use Rattle.std.specs.Prelude.{IfOk, Result}
 use Rattle.std.proofs.lemmas.Result.{IfOk-weaker}
 use Rattle.um_base.specs.Weight.{weight}
+use Rattle.um_base.specs.declared.act.Event.{Event}
 use Rattle.um_base.specs.declared.image.Image.{Image}
 use Rattle.um_command.specs.declared.command.Options.{Options}
-use Rattle.um_fine.specs.Erasure.{shown}
-use Rattle.um_fine.specs.FineRun.{IsFineRun}
-use Rattle.um_fine.specs.Steps.{FineStep}
 use Rattle.um_laws.proofs.ObeyLemmas.{obeys}
 use Rattle.um_machine.specs.Run.{IsComplete, IsRun}
+use Rattle.um_machine.specs.State.{State}
 use Rattle.um_reach.specs.Described.{IsDescribed}
 use Rattle.um_texts.proofs.RunLemmas.{texts_differ}
 use Rattle.um_trace.specs.Text.{text}
 use Rattle.um_turns.specs.Scheduled.{IsScheduled}
 use Rattle.um_turns.specs.declared.running.Ran.{Ran}
 use Rattle.um_app.specs.Ordered.{IsOrdered, IsShown}
-use Rattle.um_app.specs.Threaded.{IsThreadRun}
 use Rattle.um_app.specs.Top.{IsRunOf, NamesRun}
 
 -- what is told of a run makes it one of the image, and so it obeys the laws
@@ -26,14 +24,6 @@ pub run_of : {E : Type 0} (image : Image) (options : Options) → IsDescribed im
 run_of image options given (Ok ran) run complete ordered few =
     record { described = given; is_run = run; complete = complete; ordered = ordered; few = few; laws = obeys image ran.events.items ran.last given run }
 run_of image options given (Err e) run complete ordered few = run
-
--- the same of processors that are threads
-pub thread_run_of : {E : Type 0} (image : Image) (cpus : ℕ) → IsDescribed image → (result : Result Ran E) → IfOk result (λ (ran : Ran). IsRun image ran.events.items ran.last) → IfOk result (λ (ran : Ran). IsComplete ran.last)
-    → IfOk result (λ (ran : Ran). (steps : List FineStep) × IsFineRun image cpus steps × (ran.events.items ≡ shown steps)) → IfOk result (λ (ran : Ran). length ran.events.items ≤ weight image)
-    → IfOk result (λ (ran : Ran). IsThreadRun image cpus ran.events.items ran.last)
-thread_run_of image cpus given (Ok ran) run complete fine few =
-    record { described = given; is_run = run; complete = complete; fine = fine; few = few; laws = obeys image ran.events.items ran.last given run }
-thread_run_of image cpus given (Err e) run complete fine few = run
 
 -- the order of one processor, and of several
 pub alone : {E : Type 0} (image : Image) (options : Options) → options.cpus ≤ 1 → (result : Result Ran E) → IfOk result (λ (ran : Ran). IsScheduled image options.cpus options.pick ran.events.items ran.last)
@@ -47,7 +37,10 @@ several image options many result = IfOk-weaker result (λ (ran : Ran). IsShown 
     (λ ran shown. record { alone = λ one. absurd (omega (arith, one, many)); several = λ more. shown })
 
 -- and its text names it
+pub names_run : (image : Image) → IsDescribed image → (run : List Event) (last : State) → IsRun image run last → NamesRun image (text image run last) run
+names_run image given run last is_run = λ other last2 is same. sym (texts_differ image given.lawful given.few run other last last2 is_run is same)
+
 pub names : {E : Type 0} (image : Image) → IsDescribed image → (result : Result Ran E) → IfOk result (λ (ran : Ran). IsRun image ran.events.items ran.last)
     → IfOk result (λ (ran : Ran). NamesRun image (text image ran.events.items ran.last) ran.events.items)
 names image given result = IfOk-weaker result (λ (ran : Ran). IsRun image ran.events.items ran.last) (λ (ran : Ran). NamesRun image (text image ran.events.items ran.last) ran.events.items)
-    (λ ran run. λ other last2 is same. sym (texts_differ image given.lawful given.few ran.events.items other ran.last last2 run is same))
+    (λ ran run. names_run image given ran.events.items ran.last run)

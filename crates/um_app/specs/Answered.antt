@@ -27,3 +27,8 @@ Answered command (Answer.Text bytes) input = IsOutput command input bytes.items
 Answered command (Answer.Refused line) input = IsRefusal command input (string_bytes line)
 Answered command Answer.TooLong input = most_described < length (description_in command input)
 Answered command Answer.NoMemory input = Unit {0}
+
+-- nothing is written
+abbrev pub IsSilent : Answer → Type 0
+IsSilent (Answer.Text bytes) = ⊥
+IsSilent answer = Unit {0}

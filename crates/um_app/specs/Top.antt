@@ -1,5 +1,5 @@
 -- What the top call writes.
-use Rattle.std.specs.Prelude.{◌≡◌, ℕ, ◌≤◌, ◌⊎◌, List, length, Option}
+use Rattle.std.specs.Prelude.{◌≡◌, ℕ, ◌≤◌, ◌⊎◌, List, [], length, Option, Some}
 use Rattle.std.specs.Io.KnownBytes.{Appends}
 use Rattle.um_base.specs.declared.act.Event.{Event}
 use Rattle.um_base.specs.declared.image.Image.{Image}
@@ -9,10 +9,12 @@ use Rattle.um_io.specs.Causes.{Rose}
 use Rattle.um_command.specs.declared.command.Command.{Command}
 use Rattle.um_command.specs.declared.command.Options.{Options}
 use Rattle.um_gen.specs.Description.{description}
+use Rattle.um_board.specs.Contents.{Known}
 use Rattle.um_laws.specs.Obeys.{ObeysLaws}
 use Rattle.um_machine.specs.State.{State}
 use Rattle.um_machine.specs.Run.{IsRun, IsComplete}
 use Rattle.um_reach.specs.Described.{IsDescribed}
+use Rattle.um_site.specs.declared.closed.Closed.{Closed}
 use Rattle.um_trace.specs.Layout.{layout_text}
 use Rattle.um_trace.specs.Summary.{summary_text}
 use Rattle.um_trace.specs.Text.{text}
@@ -46,15 +48,15 @@ IsRunText image options written =
 abbrev pub IsRunSummary : Image → Options → List ℕ → Type 0
 IsRunSummary image options written = (run : List Event) × (last : State) × IsRunOf image options run last × (written ≡ summary_text image run last)
 
--- the bytes are the text of a run whose processors are threads, and of no other run of the image
-abbrev pub IsThreadRunText : Image → ℕ → List ℕ → Type 0
-IsThreadRunText image cpus written =
-    (run : List Event) × (last : State) × IsThreadRun image cpus run last × (written ≡ text image run last) × NamesRun image written run
+-- the bytes are the text of a run that threads made on this board, and of no other run of the image
+abbrev pub IsThreadRunText : Image → ℕ → Closed Known → List ℕ → Type 0
+IsThreadRunText image cpus closed written =
+    (run : List Event) × (last : State) × IsThreadRun image cpus closed run last × (written ≡ text image run last) × NamesRun image written run
 
 -- what a command writes of the image that it reads, and of the trace behind it
 abbrev pub Writes : Command → Image → List ℕ → List ℕ → Type 0
 Writes (Command.Sim options) image trace written = IsRunText image options written
-Writes (Command.Run cpus) image trace written = IsThreadRunText image cpus written
+Writes (Command.Run cpus) image trace written = (closed : Closed Known) × IsThreadRunText image cpus closed written
 Writes (Command.Summary options) image trace written = IsRunSummary image options written
 Writes Command.Layout image trace written = written ≡ layout_text image
 Writes (Command.Gen number) image trace written = written ≡ description number
@@ -73,6 +75,20 @@ pub record IsRead (command : Command) (before now : Option (List ℕ)) (written 
   pub input : List ℕ
   pub read : ReadsAll command before now input
   pub output : IsOutput command input written
+
+-- The input describes an image, of which `run` writes these bytes: the text of a run that threads made on this board.
+pub record IsThreadOutput (cpus : ℕ) (input : List ℕ) (closed : Closed Known) (written : List ℕ) : Type 0 where
+  pub image : Image
+  pub is_of : IsOf (Command.Run cpus) input image []
+  pub text : IsThreadRunText image cpus closed written
+
+-- Of a source that was read to its end, `run` writes these bytes, and leaves the board on which its processors made the run.
+pub record HasRan (cpus : ℕ) (before now : Option (List ℕ)) (ran : Option (Closed Known)) (written : List ℕ) : Type 0 where
+  pub input : List ℕ
+  pub read : ReadsAll (Command.Run cpus) before now input
+  pub closed : Closed Known
+  pub left : ran ≡ Some closed
+  pub output : IsThreadOutput cpus input closed written
 
 -- what a command writes: of a source that was read to its end, or the generated description, for which nothing is read
 abbrev pub Answers : Command → Option (List ℕ) → Option (List ℕ) → List ℕ → Type 0

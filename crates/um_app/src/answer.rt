@@ -1,21 +1,21 @@
 //! What a command answers to an input.
 
-ghost use Rattle.std.specs.Prelude.{◌≡◌, ◌≤◌, ◌<◌, ◌-◌, ◌^◌, IfOk, IfSome, IfNone, Some, None, List, ℕ, false, true, length, string_bytes};
+ghost use Rattle.std.specs.Prelude.{◌≡◌, ◌≤◌, ◌<◌, ◌-◌, ◌^◌, IfOk, IfErr, IfSome, IfNone, Some, None, List, ℕ, false, true, length, string_bytes};
 ghost use Rattle.um_base.specs.Lawful.{IsLawful};
 ghost use Rattle.um_command.specs.declared.command.Command.{Command};
 ghost use Rattle.um_command.specs.Words.{IsFew, HasFew};
 ghost use Rattle.um_document.specs.declared.fault.ImageFault.TheVariants as ImageFault;
 ghost use Rattle.um_image.specs.Meaning.{Describes, Refuses};
 ghost use Rattle.um_trace.specs.Layout.{layout_text};
-ghost use Rattle.um_app.specs.Answered.{Answered};
+ghost use Rattle.um_app.specs.Answered.{Answered, IsSilent};
 ghost use Rattle.um_app.specs.Audited.{IsAudit};
 ghost use Rattle.um_app.specs.Inputs.{description_in, is_serial, most_described, most_read, trace_in};
 ghost use Rattle.um_app.specs.Messages.{no_trace_line, refused_line};
-ghost use Rattle.um_app.specs.Top.{IsRunText, IsRunSummary, Writes};
+ghost use Rattle.um_app.specs.Top.{IsOutput, IsRunText, IsRunSummary, IsThreadOutput, Writes};
 ghost use Rattle.um_app.specs.Upgraded.{IsUpgrade};
 
 use crate::sim::ran;
-use crate::threads::thread_text;
+use crate::threads::{ThreadText, thread_text};
 use std::alloc::Global;
 use std::sync::Wait;
 use std::thread::Threads;
@@ -134,8 +134,9 @@ fn is_memory(fault: &ImageFault) -> bool
 
 /// The answer to an input whose description is refused with this fault.
 fn refused(alloc: Global, fault: &ImageFault) -> Answer
-    ensures { (command : Command) (input trace : List ℕ) → length (description_in command input) ≤ most_described
+    ensures answered { (command : Command) (input trace : List ℕ) → length (description_in command input) ≤ most_described
         → trace_in command input ≡ Some trace → Refuses (description_in command input) fault.now → Answered command result input }
+    ensures silent { IsSilent result }
 {
     match line_of_fault(alloc, fault) {
         Ok(line) => Answer::Refused(line),
@@ -164,8 +165,9 @@ fn without_trace(alloc: Global) -> Answer
 
 /// The answer to a description that is refused with this fault, or for whose reading there was no memory.
 fn not_read(alloc: Global, fault: &ImageFault) -> Answer
-    ensures { (command : Command) (input trace : List ℕ) → length (description_in command input) ≤ most_described
+    ensures answered { (command : Command) (input trace : List ℕ) → length (description_in command input) ≤ most_described
         → trace_in command input ≡ Some trace → (¬ (fault.now ≡ ImageFault.Memory) → Refuses (description_in command input) fault.now) → Answered command result input }
+    ensures silent { IsSilent result }
 {
     if is_memory(fault) {
         Answer::NoMemory
@@ -184,47 +186,6 @@ fn answer_of(alloc: Global, command: Command, description: &[u8], trace: &[u8]) 
 {
     match read_image(alloc, description) {
         Ok(image) => match written(alloc, command, &image, trace) {
-            Ok(text) => Answer::Text(text),
-            Err(Memory) => Answer::NoMemory,
-        },
-        Err(fault) => not_read(alloc, &fault),
-    }
-}
-
-/// What `run` writes of an image.
-fn thread_written<R: Threads + Wait + Sync, G: Gate + Sync>(
-    rt: &R,
-    alloc: Global,
-    cpus: u8,
-    image: &Image,
-    trace: &[u8],
-    gate: &G,
-) -> Result<Vec<u8>, Memory>
-    requires lawful { IsLawful image.now }
-    requires some { 1 ≤ cpus }
-    requires few { cpus ≤ 8 }
-    ensures { IfOk result (λ text. Writes (Command.Run cpus) image.now trace.now text.items) }
-{
-    let _ = trace;
-    thread_text(rt, alloc, image, cpus, gate)
-}
-
-/// The answer of `run` to a description.
-fn thread_answer_of<R: Threads + Wait + Sync, G: Gate + Sync>(
-    rt: &R,
-    alloc: Global,
-    cpus: u8,
-    description: &[u8],
-    trace: &[u8],
-    gate: &G,
-) -> Answer
-    requires some { 1 ≤ cpus }
-    requires few { cpus ≤ 8 }
-    ensures { (input : List ℕ) → description.now ≡ description_in (Command.Run cpus) input → trace_in (Command.Run cpus) input ≡ Some trace.now
-        → length description.now ≤ most_described → Answered (Command.Run cpus) result input }
-{
-    match read_image(alloc, description) {
-        Ok(image) => match thread_written(rt, alloc, cpus, &image, trace, gate) {
             Ok(text) => Answer::Text(text),
             Err(Memory) => Answer::NoMemory,
         },
@@ -265,21 +226,26 @@ pub fn answer_to(alloc: Global, command: Command, input: &[u8]) -> Answer
     }
 }
 
-/// The answer of `run` to an input. All memory is taken here.
+/// What `run` writes of an input, with the board that its processors leave, or its answer where it writes nothing. All memory is taken here.
 pub fn thread_answer_to<R: Threads + Wait + Sync, G: Gate + Sync>(
     rt: &R,
     alloc: Global,
-    command: Command,
     cpus: u8,
     input: &[u8],
     gate: &G,
-) -> Answer
-    requires run { command ≡ Command.Run cpus }
+) -> Result<ThreadText, Answer>
     requires some { 1 ≤ cpus }
     requires few { cpus ≤ 8 }
-    requires short { length input.now ≤ most_read command }
-    ensures { Answered command result input.now }
+    requires short { length input.now ≤ most_described }
+    ensures output { IfOk result (λ made. IsOutput (Command.Run cpus) input.now made.text.items) }
+    ensures played { IfOk result (λ made. IsThreadOutput cpus input.now made.closed made.text.items) }
+    ensures answered { IfErr result (λ answer. Answered (Command.Run cpus) answer input.now × IsSilent answer) }
 {
-    let _ = command;
-    thread_answer_of(rt, alloc, cpus, input, &[], gate)
+    match read_image(alloc, input) {
+        Ok(image) => match thread_text(rt, alloc, &image, cpus, gate) {
+            Ok(made) => Ok(made),
+            Err(Memory) => Err(Answer::NoMemory),
+        },
+        Err(fault) => Err(not_read(alloc, &fault)),
+    }
 }

@@ -95,7 +95,19 @@ pub fn call<R: AllocGlobal + Threads + Wait + Sync>(
     let mut source = MemSource::new(input, piece, reads);
     let mut out = MemSink::new(alloc, piece, writes)?;
     let mut err = MemSink::new(alloc, piece, Vec::new(alloc))?;
-    let status = zumode(rt, &words, &mut source, &mut out, &mut err, &NoGate);
+    let mut ran = None;
+    let status = zumode(
+        rt,
+        &words,
+        &mut source,
+        &mut out,
+        &mut err,
+        &NoGate,
+        &mut ran,
+    );
+    if let Some(closed) = ran {
+        closed.free();
+    }
     Ok(Ended { status, out, err })
 }
 

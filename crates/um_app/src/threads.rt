@@ -1,13 +1,9 @@
 //! Runs whose processors are threads.
 
-ghost use Rattle.std.specs.Prelude.{◌≡◌, ◌≤◌, IfOk, List, length};
+ghost use Rattle.std.specs.Prelude.{◌≡◌, ◌≤◌, IfOk, length};
 ghost use Rattle.um_base.specs.Lawful.{IsLawful};
 ghost use Rattle.um_base.specs.Weight.{weight};
 ghost use Rattle.um_machine.specs.Run.{IsComplete, IsRun};
-ghost use Rattle.um_reach.specs.Described.{IsDescribed};
-ghost use Rattle.um_fine.specs.Erasure.{shown};
-ghost use Rattle.um_fine.specs.FineRun.{IsFineRun};
-ghost use Rattle.um_fine.specs.Steps.{FineStep};
 ghost use Rattle.um_trace.specs.Text.{text};
 ghost use Rattle.um_app.specs.Threaded.{IsThreadRun};
 ghost use Rattle.um_app.specs.Top.{IsThreadRunText, NamesRun};
@@ -16,70 +12,98 @@ use crate::sim::replayed;
 use std::alloc::Global;
 use std::sync::Wait;
 use std::thread::Threads;
-use um_base::{Image, Memory};
-use um_cpu::run_events;
+use um_base::{Event, Image, Memory};
+use um_board::Contents;
+use um_cpu::{Ran, run_events};
 use um_image::weight;
 use um_io::Gate;
-use um_turns::Ran;
+use um_matrix::Matrix;
+use um_site::Closed;
 
-/// A complete run of an image whose processors are threads, and the state that it leads to.
-fn played<'a, R: Threads + Wait + Sync, G: Gate + Sync>(
-    rt: &R,
-    alloc: Global,
-    image: &'a Image,
-    cpus: u8,
-    gate: &G,
-) -> Result<Ran<'a>, Memory>
-    requires described { IsDescribed image.now }
-    requires lawful { IsLawful image.now }
-    requires some { 1 ≤ cpus }
-    requires few { cpus ≤ 8 }
-    ensures run { IfOk result (λ ran. IsRun image.now ran.events.items ran.last) }
-    ensures complete { IfOk result (λ ran. IsComplete ran.last) }
-    ensures fine { IfOk result (λ ran. (steps : List FineStep) × IsFineRun image.now cpus steps × (ran.events.items ≡ shown steps)) }
-    ensures few { IfOk result (λ ran. length ran.events.items ≤ weight image.now) }
-{
-    let most = weight(image) as usize;
-    let ran = run_events(rt, alloc, image, cpus, most, gate)?;
-    let um_cpu::Ran { events, closed } = ran;
-    closed.free();
-    let last = replayed(alloc, image, events.as_slice())?;
-    Ok(Ran { events, last })
+/// A complete run of an image whose processors are threads, the state that it leads to, and the board on which it was made.
+struct ThreadRun<'a> {
+    events: Vec<Event>,
+    last: Matrix<'a>,
+    closed: Closed<Contents>,
 }
 
-/// The same, as the run that a command tells of.
-fn threaded<'a, R: Threads + Wait + Sync, G: Gate + Sync>(
+/// What `run` writes of an image, and the board on which the run was made.
+pub struct ThreadText {
+    pub text: Vec<u8>,
+    pub closed: Closed<Contents>,
+}
+
+/// A complete run of an image whose processors are threads.
+fn thread_run<'a, R: Threads + Wait + Sync, G: Gate + Sync>(
     rt: &R,
     alloc: Global,
     image: &'a Image,
     cpus: u8,
     gate: &G,
-) -> Result<Ran<'a>, Memory>
+) -> Result<ThreadRun<'a>, Memory>
     requires lawful { IsLawful image.now }
     requires some { 1 ≤ cpus }
     requires few { cpus ≤ 8 }
-    ensures run { IfOk result (λ ran. IsThreadRun image.now cpus ran.events.items ran.last) }
-    ensures names { IfOk result (λ ran. NamesRun image.now (text image.now ran.events.items ran.last) ran.events.items) }
+    ensures run { IfOk result (λ made. IsThreadRun image.now cpus made.closed made.events.items made.last) }
+    ensures names { IfOk result (λ made. NamesRun image.now (text image.now made.events.items made.last) made.events.items) }
 {
     let _objects = image.objects.len();
-    played(rt, alloc, image, cpus, gate)
+    let most = weight(image) as usize;
+    let ran = run_events(rt, alloc, image, cpus, most, gate)?;
+    let Ran { events, closed } = ran;
+    match replayed(alloc, image, events.as_slice()) {
+        Ok(last) => Ok(ThreadRun {
+            events,
+            last,
+            closed,
+        }),
+        Err(memory) => {
+            closed.free();
+            Err(memory)
+        }
+    }
 }
 
-/// The text of a run of an image whose processors are threads. The gate is asked before each of their steps.
+/// The text of a run that leads to this state.
+fn text_of(
+    alloc: Global,
+    image: &Image,
+    events: &[Event],
+    last: &Matrix<'_>,
+) -> Result<Vec<u8>, Memory>
+    requires lawful { IsLawful image.now }
+    requires run { IsRun image.now events.now last.now }
+    requires few { length events.now ≤ weight image.now }
+    ensures { IfOk result (λ written. written.items ≡ text image.now events.now last.now) }
+{
+    let mut text = Vec::with_capacity(alloc, um_trace::text_room(events))?;
+    um_trace::trace_text(image, events, last, &mut text);
+    Ok(text)
+}
+
+/// The text of a run of an image whose processors are threads, and the board on which they made it. The gate is asked before each of their turns.
 pub fn thread_text<R: Threads + Wait + Sync, G: Gate + Sync>(
     rt: &R,
     alloc: Global,
     image: &Image,
     cpus: u8,
     gate: &G,
-) -> Result<Vec<u8>, Memory>
+) -> Result<ThreadText, Memory>
     requires lawful { IsLawful image.now }
     requires some { 1 ≤ cpus }
     requires few { cpus ≤ 8 }
-    ensures { IfOk result (λ text. IsThreadRunText image.now cpus text.items) }
+    ensures { IfOk result (λ made. IsThreadRunText image.now cpus made.closed made.text.items) }
 {
-    let ran = threaded(rt, alloc, image, cpus, gate)?;
-    let mut text = Vec::with_capacity(alloc, um_trace::text_room(&ran.events))?;
-    um_trace::trace_text(image, &ran.events, &ran.last, &mut text);
-    Ok(text)
+    let ThreadRun {
+        events,
+        last,
+        closed,
+    } = thread_run(rt, alloc, image, cpus, gate)?;
+    match text_of(alloc, image, &events, &last) {
+        Ok(text) => Ok(ThreadText { text, closed }),
+        Err(memory) => {
+            closed.free();
+            Err(memory)
+        }
+    }
 }

@@ -11,15 +11,18 @@ ghost use Rattle.um_io.specs.Causes.{Rose};
 ghost use Rattle.um_app.specs.Answered.{IsRefusal};
 ghost use Rattle.um_app.specs.Inputs.{IsOf, IsTooLong, ReadsAll, ReadsTooLong, ReadsWithin, is_reading, is_serial, most_read};
 ghost use Rattle.um_app.specs.Messages.{line_of, refused_line};
-ghost use Rattle.um_app.specs.Top.{Answers, IsRead, Tells};
+ghost use Rattle.um_app.specs.Top.{Answers, HasRan, IsRead, Tells};
 
 use crate::answer::{Answer, answer_to, thread_answer_to};
 use crate::status::Status;
+use crate::threads::ThreadText;
 use std::alloc::Global;
 use std::sync::Wait;
 use std::thread::Threads;
+use um_board::Contents;
 use um_command::{Command, read_command};
 use um_io::{Gate, ReadAll, Sink, Source, read_all, write_all};
+use um_site::Closed;
 
 /// How many bytes a description has at most.
 const MOST_DESCRIBED: u32 = 0x10_0000;
@@ -138,64 +141,87 @@ fn described<S: Source, O: Sink, E: Sink>(
     }
 }
 
+/// The board of a run is kept where the run's text was written whole.
+fn leave(ran: &mut Option<Closed<Contents>>, closed: Closed<Contents>, status: Status)
+    requires none { ran.old ≡ None }
+    ensures done { status ≡ Status.Done → ran.new ≡ Some closed }
+    ensures other { status ≢ Status.Done → ran.new ≡ None }
+{
+    if status == Status::Done {
+        match ran.replace(closed) {
+            Some(_) => unreachable!(),
+            None => {}
+        }
+    } else {
+        closed.free();
+    }
+}
+
 /// The same of `run`, whose processors are threads.
 fn threaded<R: AllocGlobal + Threads + Wait + Sync, S: Source, O: Sink, E: Sink, G: Gate + Sync>(
     rt: &R,
-    command: Command,
     cpus: u8,
     source: &mut S,
     out: &mut O,
     err: &mut E,
     gate: &G,
+    ran: &mut Option<Closed<Contents>>,
 ) -> Status
-    requires run { command ≡ Command.Run cpus }
+    requires none { ran.old ≡ None }
     requires some { 1 ≤ cpus }
     requires few { cpus ≤ 8 }
     ensures done { result ≡ Status.Done → (written : List ℕ)
-        × IsRead command (S.left source.old) (S.left source.new) written
+        × IsRead (Command.Run cpus) (S.left source.old) (S.left source.new) written
         × Appends (O.taken out.old) (O.taken out.new) written }
+    ensures ran { result ≡ Status.Done → (written : List ℕ)
+        × HasRan cpus (S.left source.old) (S.left source.new) ran.new written
+        × Appends (O.taken out.old) (O.taken out.new) written }
+    ensures unplayed { result ≢ Status.Done → ran.new ≡ None }
     ensures done_quiet { result ≡ Status.Done → err.new ≡ err.old }
-    ensures complete { (input : List ℕ) → S.left source.old ≡ Some input → length input ≤ most_read command
-        → (image : Image) (trace : List ℕ) → IsOf command input image trace
+    ensures complete { (input : List ℕ) → S.left source.old ≡ Some input → length input ≤ most_read (Command.Run cpus)
+        → (image : Image) (trace : List ℕ) → IsOf (Command.Run cpus) input image trace
         → ¬ Rose (S.faults source.old) (S.faults source.new) → ¬ Rose (O.faults out.old) (O.faults out.new)
         → (result ≡ Status.Done) ⊎ (result ≡ Status.NoMemory) }
     ensures no_usage { result ≢ Status.Usage }
     ensures read_fault { result ≡ Status.ReadFault → Rose (S.faults source.old) (S.faults source.new) }
-    ensures too_long { result ≡ Status.TooLong → ReadsTooLong command (S.left source.old) (S.left source.new) }
-    ensures exceeds { (input : List ℕ) → S.left source.old ≡ Some input → IsTooLong command input
+    ensures too_long { result ≡ Status.TooLong → ReadsTooLong (Command.Run cpus) (S.left source.old) (S.left source.new) }
+    ensures exceeds { (input : List ℕ) → S.left source.old ≡ Some input → IsTooLong (Command.Run cpus) input
         → ¬ Rose (S.faults source.old) (S.faults source.new) → (result ≡ Status.TooLong) ⊎ (result ≡ Status.NoMemory) }
-    ensures within { result ≢ Status.TooLong → result ≢ Status.NoMemory → ReadsWithin command (S.left source.old) (S.left source.new) }
-    ensures refused { result ≡ Status.Refused → (input line : List ℕ) × ReadsAll command (S.left source.old) (S.left source.new) input
-        × IsRefusal command input line × Tells (E.taken err.old) (E.taken err.new) (E.faults err.old) (E.faults err.new) line }
-    ensures refuses { (input line : List ℕ) → S.left source.old ≡ Some input → length input ≤ most_read command → IsRefusal command input line
+    ensures within { result ≢ Status.TooLong → result ≢ Status.NoMemory → ReadsWithin (Command.Run cpus) (S.left source.old) (S.left source.new) }
+    ensures refused { result ≡ Status.Refused → (input line : List ℕ) × ReadsAll (Command.Run cpus) (S.left source.old) (S.left source.new) input
+        × IsRefusal (Command.Run cpus) input line × Tells (E.taken err.old) (E.taken err.new) (E.faults err.old) (E.faults err.new) line }
+    ensures refuses { (input line : List ℕ) → S.left source.old ≡ Some input → length input ≤ most_read (Command.Run cpus) → IsRefusal (Command.Run cpus) input line
         → ¬ Rose (S.faults source.old) (S.faults source.new) → (result ≡ Status.Refused) ⊎ (result ≡ Status.NoMemory) }
     ensures write_fault { result ≡ Status.WriteFault → Rose (O.faults out.old) (O.faults out.new) }
     ensures front { result ≡ Status.WriteFault → (written : List ℕ)
-        × IsRead command (S.left source.old) (S.left source.new) written
+        × IsRead (Command.Run cpus) (S.left source.old) (S.left source.new) written
         × AppendsFront (O.taken out.old) (O.taken out.new) written × (O.room out.old < length written) }
     ensures nothing_written { result ≢ Status.Done → result ≢ Status.WriteFault → out.new ≡ out.old }
     ensures told { result ≢ Status.Done → result ≢ Status.Refused
         → Tells (E.taken err.old) (E.taken err.new) (E.faults err.old) (E.faults err.new) (line_of result) }
     ensures source_most { S.most source.new ≡ S.most source.old }
 {
-    let input = match read_all(rt.alloc(), source, limit(command)) {
+    let input = match read_all(rt.alloc(), source, MOST_DESCRIBED) {
         Ok(input) => input,
         Err(ReadAll::Fault) => return told(err, Status::ReadFault),
         Err(ReadAll::TooLong) => return told(err, Status::TooLong),
         Err(ReadAll::Memory) => return told(err, Status::NoMemory),
     };
-    match thread_answer_to(rt, rt.alloc(), command, cpus, &input, gate) {
-        Answer::Text(text) => {
+    match thread_answer_to(rt, rt.alloc(), cpus, &input, gate) {
+        Ok(made) => {
+            let ThreadText { text, closed } = made;
             let status = write_text(out, &text);
             tell_status(err, status);
+            leave(ran, closed, status);
             status
         }
-        Answer::Refused(line) => {
+        Err(Answer::Text(_)) => unreachable!(),
+        Err(Answer::Refused(line)) => {
             tell(err, line.as_str());
             Status::Refused
         }
-        Answer::TooLong => told(err, Status::TooLong),
-        Answer::NoMemory => told(err, Status::NoMemory),
+        Err(Answer::TooLong) => told(err, Status::TooLong),
+        Err(Answer::NoMemory) => told(err, Status::NoMemory),
     }
 }
 
@@ -282,8 +308,8 @@ pub fn serial<R: AllocGlobal, S: Source, O: Sink, E: Sink>(
 }
 
 /// Runs a command: `run` reads a description from `source`, has so many threads as its processors make a run of it on a board of
-/// words that they share, and writes the text of that run to `out`; what the other commands do, [`serial`] says. The gate is asked before
-/// each step of a processor.
+/// words that they share, writes the text of that run to `out`, and then leaves the closed board in `ran`; what the other commands do,
+/// [`serial`] says. The gate is asked before each turn of a processor.
 pub fn zumode<R: AllocGlobal + Threads + Wait + Sync, S: Source, O: Sink, E: Sink, G: Gate + Sync>(
     rt: &R,
     words: &[String],
@@ -291,13 +317,22 @@ pub fn zumode<R: AllocGlobal + Threads + Wait + Sync, S: Source, O: Sink, E: Sin
     out: &mut O,
     err: &mut E,
     gate: &G,
+    ran: &mut Option<Closed<Contents>>,
 ) -> Status
+    requires none { ran.old ≡ None }
     // The headline: the words are a command, what was read describes an image, and all that was written is, for `sim` and `run`, the text of
     // one complete run of it; for the other commands, what they write.
     ensures done { result ≡ Status.Done → (command : Command) × (command_of (map string_bytes words.now) ≡ Some command)
         × (written : List ℕ) × Answers command (S.left source.old) (S.left source.new) written
         × Appends (O.taken out.old) (O.taken out.new) written }
     ensures done_quiet { result ≡ Status.Done → err.new ≡ err.old }
+
+    // Behind a whole text of `run`, the board is left on which threads made the run that the text tells; and else no board is.
+    ensures ran { (cpus : ℕ) → command_of (map string_bytes words.now) ≡ Some (Command.Run cpus) → result ≡ Status.Done → (written : List ℕ)
+        × HasRan cpus (S.left source.old) (S.left source.new) ran.new written
+        × Appends (O.taken out.old) (O.taken out.new) written }
+    ensures unplayed { result ≢ Status.Done → ran.new ≡ None }
+    ensures alone { ((cpus : ℕ) → command_of (map string_bytes words.now) ≡ Some (Command.Run cpus) → ⊥) → ran.new ≡ None }
 
     // A described image is answered, and a number, or memory ran out, unless the source or the sink failed.
     ensures complete { (command : Command) → command_of (map string_bytes words.now) ≡ Some command → IsTrue (is_reading command)
@@ -339,7 +374,7 @@ pub fn zumode<R: AllocGlobal + Threads + Wait + Sync, S: Source, O: Sink, E: Sin
 {
     match read_command(words) {
         Some(command) => match command {
-            Command::Run { cpus } => threaded(rt, command, cpus, source, out, err, gate),
+            Command::Run { cpus } => threaded(rt, cpus, source, out, err, gate, ran),
             _ => serial(rt, words, source, out, err),
         },
         None => serial(rt, words, source, out, err),

@@ -25,7 +25,20 @@ fn main(rt: HostRuntime) -> ExitCode {
         Ok(words) => {
             let mut source = StdSource::new(rt.stdin());
             let mut out = StdSink::new(rt.stdout());
-            um_app::zumode(&rt, &words, &mut source, &mut out, &mut err, &NoGate)
+            let mut ran = None;
+            let status = um_app::zumode(
+                &rt,
+                &words,
+                &mut source,
+                &mut out,
+                &mut err,
+                &NoGate,
+                &mut ran,
+            );
+            if let Some(closed) = ran {
+                closed.free();
+            }
+            status
         }
         Err(status) => {
             let _ = write_all(&mut err, status.line().as_bytes());

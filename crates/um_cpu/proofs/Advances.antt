@@ -1,7 +1,8 @@
 -- How a processor goes on at its seat.
-use Rattle.std.proofs.Common.{◌≡◌, ℕ, List, [], ◌∷◌, ◌++◌, refl, sym, ap, ◌∙◌, subst, arith}
+use Rattle.std.proofs.Common.{◌≡◌, ℕ, ◌<◌, inl, List, [], ◌∷◌, ◌++◌, refl, sym, ap, ◌∙◌, subst, arith}
 use Rattle.std.proofs.lemmas.List.{append-nil}
 use Rattle.um_base.specs.declared.image.Image.{Image}
+use Rattle.um_words.specs.Packed.{cell_of}
 use Rattle.um_words.specs.declared.made.Made.{Made}
 use Rattle.um_fine.specs.Follows.{p_next}
 use Rattle.um_fine.specs.Processor.{Processor, idle}
@@ -10,13 +11,14 @@ use Rattle.um_fine.specs.Steps.{FineStep}
 use Rattle.um_merge.specs.declared.logged.Logged.{Logged}
 use Rattle.um_processor.specs.Processors.{AsksFor, Goes, Turned, UnlessMade}
 use Rattle.um_processor.specs.declared.phase.Turn.{Turn}
+use Rattle.um_site.specs.Tells.{NoOlder}
 use Rattle.um_site.specs.declared.seat.Seat.{Seat}
 use Rattle.um_board.specs.Contents.{Known}
 use Rattle.um_board.specs.Noted.{logged_of, made_of}
 use Rattle.um_board.specs.Seated.{KeepsPlace, Noted, Unnoted}
-use Rattle.um_history.specs.Played.{SCHEDULER, SawNone}
-use Rattle.um_history.proofs.Playing.{Playing, ends-on, plays-looked, plays-none, plays-on, saw-none}
-use Rattle.um_cpu.specs.Cpus.{Advances, HasMade, Plays, Reaches, Rests}
+use Rattle.um_history.specs.Played.{SCHEDULER, SawNone, WasGot}
+use Rattle.um_history.proofs.Playing.{Playing, ends-on, got-behind, plays-looked, plays-none, plays-on, saw-none}
+use Rattle.um_cpu.specs.Cpus.{Advances, HasMade, Plays, Reaches, Rests, SawReady}
 
 -- a seat that keeps its place twice keeps it
 pub keeps_on : (s t u : Seat Known) → KeepsPlace s t → KeepsPlace t u → KeepsPlace s u
@@ -113,6 +115,18 @@ module _ (image : Image) (k : ℕ) where
   turned-keeps Turn.Changed p q s old t new shut late none unnoted turned = turned.0.keeps
   turned-keeps Turn.Stuck p q s old t new shut late none unnoted turned = (unnoted turned.0).keeps
 
+  -- a turn forgets no word that the seat got
+  pub turned-got : (turn : Turn) (p q : Processor) (s : Seat Known) (old : List Logged) (t : Seat Known) (new : List Logged) (shut : FineStep → Type 0) (late none : Type 0)
+      → (none → Unnoted s old t new)
+      → Turned turn k image p q (λ e. Noted s old e t new) (λ e. Unnoted s old t new × shut e) (Unnoted s old t new × late) none
+      → (more : List (ℕ × ℕ)) × (t.token.me.0.got ≡ more ++ s.token.me.0.got)
+  turned-got Turn.Made p q s old t new shut late none unnoted turned =
+      let made = made_of turned.0 in
+      ((made.site, made.word) ∷ turned.1.got.0, turned.1.got.1)
+  turned-got Turn.Busy p q s old t new shut late none unnoted turned = turned.1.0.got
+  turned-got Turn.Changed p q s old t new shut late none unnoted turned = turned.0.got
+  turned-got Turn.Stuck p q s old t new shut late none unnoted turned = (unnoted turned.0).got
+
   -- a processor without a thread that sees none ready
   pub rests-saw : (p q : Processor) (s : Seat Known) (old : List Logged) (t : Seat Known) (new : List Logged) (word : ℕ) (steps : List FineStep)
       → HasMade image k p s old steps → Rests p q s old t new word → SawNone image t.token.me.0.got steps
@@ -149,3 +163,10 @@ module _ (image : Image) (k : ℕ) where
 -- no step and no look
 pub unnoted-itself : (s : Seat Known) (log : List Logged) → Unnoted s log s log
 unnoted-itself s log = record { keeps = keeps_itself s; made = refl; log = refl; got = ([], refl) }
+
+-- a seat that has seen a ready thread still has that word, whatever it got since
+pub saw-ready : (s t u : Seat Known) (word : ℕ) → t.token.me.0.got ≡ (SCHEDULER, word) ∷ s.token.me.0.got → NoOlder s.token.me.0.got SCHEDULER word → 0 < (cell_of word).ready
+    → (more : List (ℕ × ℕ)) × (u.token.me.0.got ≡ more ++ t.token.me.0.got) → SawReady s u
+saw-ready s t u word looked newest ready (more, got) =
+    let here : WasGot t.token.me.0.got SCHEDULER word = subst (λ (l : List (ℕ × ℕ)). WasGot l SCHEDULER word) (sym looked) (inl (refl, refl)) in
+    (word, subst (λ (l : List (ℕ × ℕ)). WasGot l SCHEDULER word) (sym got) (got-behind more t.token.me.0.got SCHEDULER word here), newest, ready)

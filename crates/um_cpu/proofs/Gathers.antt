@@ -1,6 +1,7 @@
 -- What a first seat knows when a processor's seat is split off, and when it is joined in.
 use Rattle.std.proofs.Common.{◌≡◌, ℕ, zero, suc, ◌+◌, ◌<◌, List, [], ◌∷◌, ◌++◌, ◌⊎◌, length, inl, inr, ⊎_elim, refl, sym, ap, ◌∙◌, subst, arith}
 use Rattle.std.proofs.lemmas.Bool.Decides.{leb_tells}
+use Rattle.std.specs.Mem.Slots.{slots_items}
 use Rattle.atomic_table.specs.Seated.{TableId}
 use Rattle.um_base.specs.declared.image.Image.{Image}
 use Rattle.um_fine.specs.Steps.{FineStep}
@@ -8,10 +9,11 @@ use Rattle.um_words.specs.declared.made.Made.{Made}
 use Rattle.um_merge.specs.Merged.{Log, log_at}
 use Rattle.um_merge.specs.declared.logged.Logged.{Logged}
 use Rattle.um_site.specs.Cells.{AmongCells, IsClosedWithCells}
-use Rattle.um_site.specs.History.{Among, AmongNames, child, joiner, splitter}
+use Rattle.um_site.specs.History.{Among, AmongNames, child, joiner, shadow_of, splitter}
+use Rattle.um_site.specs.declared.closed.Closed.{Closed}
 use Rattle.um_site.specs.declared.view.View.{View}
 use Rattle.um_site.proofs.Joining.{names_left, still_among}
-use Rattle.um_board.specs.Contents.{Follows, Opens}
+use Rattle.um_board.specs.Contents.{Follows, Known, Opens}
 use Rattle.um_history.specs.Played.{Any, Played, SCHEDULER, SawNone, StandsUnder}
 use Rattle.um_history.proofs.Chosen.{chosen}
 use Rattle.um_history.proofs.Joins.{among-parts, stands-before, stands-behind}
@@ -131,7 +133,8 @@ module _ (image : Image) (board : TableId) (v : View) (n cpus : ℕ) (logs : Lis
       }
 
 -- all are joined in, and the board is closed
-module _ (image : Image) (v : View) (cpus : ℕ) (words : List ℕ) (logs : List Log) (gathered : HasGathered image v 0 cpus logs) (closed : IsClosedWithCells Opens Follows Any v words) where
+module _ (image : Image) (v : View) (cpus : ℕ) (board : Closed Known) (logs : List Log) (seen : board.token.me.0 ≡ shadow_of v) (gathered : HasGathered image v 0 cpus logs)
+    (closed : IsClosedWithCells Opens Follows Any v (slots_items board.table.words)) where
   abbrev Left : ℕ → List FineStep → Type 0
   Left k steps = ((made : List Made) × StandsUnder v.joined (k ∷ []) made × Played image k made (log_at logs k) steps) × SawNone image v.got steps
 
@@ -142,10 +145,11 @@ module _ (image : Image) (v : View) (cpus : ℕ) (words : List ℕ) (logs : List
       let it = subst (λ (m : ℕ). HasLeft image v (log_at logs k) m) same (gathered.left k (omega (arith, all, less))) in
       (it.steps, ((it.made, it.stands, it.played), it.saw))
 
-  pub has-ended : HasEnded image cpus words logs
+  pub has-ended : HasEnded image cpus board logs
   has-ended = let pick = chosen cpus Left left-here in
       record {
         view = v;
+        seen = seen;
         steps = pick.0;
         played = record {
           image_is = gathered.image_is;
@@ -161,5 +165,6 @@ module _ (image : Image) (v : View) (cpus : ℕ) (words : List ℕ) (logs : List
       }
 
 -- the same, where so many are all
-pub all-ended : (image : Image) (v : View) (n cpus : ℕ) (words : List ℕ) (logs : List Log) → n ≡ cpus → HasGathered image v 0 n logs → IsClosedWithCells Opens Follows Any v words → HasEnded image cpus words logs
-all-ended image v n cpus words logs same gathered closed = subst (λ (m : ℕ). HasEnded image m words logs) same (has-ended image v n words logs gathered closed)
+pub all-ended : (image : Image) (v : View) (n cpus : ℕ) (board : Closed Known) (logs : List Log) → n ≡ cpus → board.token.me.0 ≡ shadow_of v → HasGathered image v 0 n logs
+    → IsClosedWithCells Opens Follows Any v (slots_items board.table.words) → HasEnded image cpus board logs
+all-ended image v n cpus board logs same seen gathered closed = subst (λ (m : ℕ). HasEnded image m board logs) same (has-ended image v n board logs seen gathered closed)

@@ -1,6 +1,8 @@
--- What the logs of processors that have played say of a list of their steps: each step is at a site, and its events are those of a fine run.
+-- What the logs of processors that have played say of a list of their steps: each step is at a site, its events are those of a fine run, and that run is
+-- what the closed board has.
 use Rattle.std.proofs.Common.{◌≡◌, ℕ, zero, suc, ◌<◌, ◌≤◌, Bool, true, false, List, [], ◌∷◌, length, map, sym, ap, ◌∙◌, subst, arith, cond}
 use Rattle.std.specs.Prelude.{IsTrue, Option, Some, None}
+use Rattle.std.specs.Mem.Slots.{slots_items}
 use Rattle.um_base.specs.declared.act.Event.{Event}
 use Rattle.um_base.specs.declared.image.Image.{Image}
 use Rattle.um_fine.specs.FineRun.{cpu_of, same_cpu}
@@ -10,10 +12,15 @@ use Rattle.um_fine.specs.Steps.{FineStep}
 use Rattle.um_fine.proofs.Keys.{number-bound}
 use Rattle.um_merge.specs.Merged.{AreAtSites, ArePlaced, Log, log_at}
 use Rattle.um_merge.specs.declared.logged.Logged.{Logged}
+use Rattle.um_words.specs.declared.made.Made.{Made}
+use Rattle.um_site.specs.History.{Among, Distinct, shadow_of}
+use Rattle.um_site.specs.declared.closed.Closed.{Closed}
 use Rattle.um_site.specs.declared.view.View.{View}
-use Rattle.um_board.specs.Noted.{logged_of}
+use Rattle.um_board.specs.Contents.{Known}
+use Rattle.um_board.specs.Noted.{logged_of, made_of}
 use Rattle.um_history.specs.Fine.{IsFineOf, event_on, events_of}
-use Rattle.um_history.specs.Played.{Each, IsPlayed}
+use Rattle.um_history.specs.Played.{Each, IsPlayed, StandsUnder}
+use Rattle.um_cpu.specs.OnBoard.{HasRun}
 
 abbrev Sited : FineStep → Type 0
 Sited e = IsTrue (is_site e.site)
@@ -44,3 +51,22 @@ shows-few (step ∷ steps) = by step.event (shows-few steps)
     by : (event : Option Event) → length (events_of steps) ≤ length steps → length (event_on event (events_of steps)) ≤ suc (length steps)
     by None few = omega (arith, few)
     by (Some event) few = omega (arith, few)
+
+-- the closed board has the fine run that has the steps of each processor
+pub left-on : (image : Image) (cpus : ℕ) (closed : Closed Known) (v : View) (logs : List Log) (steps : ℕ → List FineStep) → closed.token.me.0 ≡ shadow_of v
+    → IsPlayed image cpus v (slots_items closed.table.words) logs steps → (g : List FineStep) → IsFineOf image cpus (slots_items closed.table.words) steps g → HasRun image cpus closed g
+left-on image cpus closed v logs steps seen played g fine =
+    record {
+      image_is = ap (λ (w : View). w.image) seen ∙ played.image_is;
+      run = fine.run;
+      lists = λ k less.
+          let (made, stands, own) = played.lists k less in
+          let same : made ≡ map made_of (sublist same_cpu cpu_of k g) = own.made_is ∙ ap (map made_of) (sym (fine.own k less)) in
+          subst (λ (l : List (List ℕ × List Made)). StandsUnder l (k ∷ []) (map made_of (sublist same_cpu cpu_of k g))) (sym (ap (λ (w : View). w.joined) seen))
+          (subst (λ (m : List Made). StandsUnder v.joined (k ∷ []) m) same stands);
+      others = λ n among. played.names n (subst (λ (l : List (List ℕ × List Made)). Among l n) (ap (λ (w : View). w.joined) seen) among);
+      once = subst Distinct (sym (ap (λ (w : View). w.joined) seen)) played.closed.tidy.distinct;
+      first = ap (λ (w : View). w.made) seen ∙ played.first;
+      numbered = fine.numbered;
+      words_are = fine.words_are;
+    }

@@ -1,5 +1,5 @@
 -- What a processor on a board has made, and what its turns add to that.
-use Rattle.std.specs.Prelude.{◌≡◌, ℕ, ◌≤◌, List, [], ◌∷◌, ◌++◌, length}
+use Rattle.std.specs.Prelude.{◌≡◌, ◌≢◌, ℕ, ◌<◌, ◌≤◌, ◌⊎◌, List, [], ◌∷◌, ◌++◌, length}
 use Rattle.um_base.specs.declared.image.Image.{Image}
 use Rattle.um_words.specs.Packed.{cell_of}
 use Rattle.um_fine.specs.Follows.{p_next}
@@ -57,7 +57,16 @@ pub record Rests (p q : Processor) (s : Seat Known) (old : List Logged) (t : Sea
   pub newest : NoOlder s.token.me.0.got SCHEDULER word
   pub none : (cell_of word).ready ≡ 0
 
-abbrev pub OnRest : Turn → (ℕ → Type 0) → Type 0
-OnRest Turn.Did holds = Unit {0}
-OnRest (Turn.Idle word) holds = holds word
-OnRest (Turn.Quiet word) holds = holds word × NoneLeft word
+-- the seat has looked at the scheduler's word, by which a thread is ready
+abbrev pub SawReady : Seat Known → Seat Known → Type 0
+SawReady s t = (word : ℕ) × WasGot t.token.me.0.got SCHEDULER word × NoOlder s.token.me.0.got SCHEDULER word × (0 < (cell_of word).ready)
+
+-- The processor had a step to go on with, or its seat saw that a thread is ready.
+abbrev pub HadWork : Processor → Seat Known → Seat Known → Type 0
+HadWork p s t = (p.todo ≢ []) ⊎ SawReady s t
+
+-- what a turn tells: that there was something to do, or that there was nothing by this word of the scheduler
+abbrev pub Tells : Turn → Type 0 → (ℕ → Type 0) → Type 0
+Tells Turn.Did worked rests = worked
+Tells (Turn.Idle word) worked rests = rests word × ¬ NoneLeft word
+Tells (Turn.Quiet word) worked rests = rests word × NoneLeft word

@@ -1,5 +1,6 @@
 -- Processors at seats that one seat of a board has split off, and what there is of them when they have ended.
 use Rattle.std.specs.Prelude.{◌≡◌, ℕ, ◌+◌, ◌<◌, ◌≤◌, List, [], ◌∷◌, length, slice_index_or, None, true}
+use Rattle.std.specs.Mem.Slots.{slots_items}
 use Rattle.atomic_table.specs.Seated.{TableId}
 use Rattle.um_base.specs.declared.image.Image.{Image}
 use Rattle.um_fine.specs.Processor.{idle}
@@ -9,7 +10,8 @@ use Rattle.um_merge.specs.declared.logged.Logged.{Logged}
 use Rattle.um_processor.specs.Standing.{whole}
 use Rattle.um_words.specs.declared.made.Made.{Made}
 use Rattle.um_site.specs.Cells.{AmongCells}
-use Rattle.um_site.specs.History.{Among, AmongNames}
+use Rattle.um_site.specs.History.{Among, AmongNames, shadow_of}
+use Rattle.um_site.specs.declared.closed.Closed.{Closed}
 use Rattle.um_site.specs.declared.seat.Seat.{Seat}
 use Rattle.um_site.specs.declared.view.View.{View}
 use Rattle.um_board.specs.Contents.{Known}
@@ -82,9 +84,10 @@ pub record Gathered (image : Image) (board : TableId) (seat : Seat Known) (from 
   pub joined : seat.joined ≡ length logs
   pub knows : HasGathered image seat.token.me.0 from cpus logs
 
--- the board of an image is closed, on which so many processors have played to the end
-pub record HasEnded (image : Image) (cpus : ℕ) (words : List ℕ) (logs : List Log) : Type 0 where
+-- The board of an image is closed, on which so many processors have played to the end: what its first seat knew is what it still has.
+pub record HasEnded (image : Image) (cpus : ℕ) (closed : Closed Known) (logs : List Log) : Type 0 where
   pub view : View
+  pub seen : closed.token.me.0 ≡ shadow_of view
   pub steps : ℕ → List FineStep
-  pub played : IsPlayed image cpus view words logs steps
+  pub played : IsPlayed image cpus view (slots_items closed.table.words) logs steps
   pub saw : (k : ℕ) → k < cpus → SawNone image view.got (steps k)

@@ -1,2 +1,3 @@
 pub mod Cpus
 pub mod Ended
+pub mod OnBoard

@@ -1,11 +1,11 @@
 //! A processor at its place at a board.
 
-ghost use Rattle.std.specs.Prelude.{◌≡◌};
+ghost use Rattle.std.specs.Prelude.{◌≡◌, ◌++◌, List, ℕ};
 ghost use Rattle.um_processor.specs.Given.{IsGiven};
 ghost use Rattle.um_processor.specs.Standing.{whole};
 ghost use Rattle.um_board.specs.Seated.{KeepsPlace};
 ghost use Rattle.um_board.specs.Turned.{IsPlaced};
-ghost use Rattle.um_cpu.specs.Cpus.{Advances, OnRest, Rests};
+ghost use Rattle.um_cpu.specs.Cpus.{Advances, HadWork, Rests, Tells};
 
 use crate::turn::Turn;
 use um_base::Image;
@@ -30,6 +30,7 @@ impl<'a> Cpu<'a> {
         ensures place { IsPlaced image.now self.new.place.board.now.table.shared.table_id self.new.place.cells.now self.new.place.rodata.now self.new.place.seat }
         ensures keeps { KeepsPlace self.old.place.seat self.new.place.seat }
         ensures goes { Advances image.now self.old.number (whole self.old.processor) self.old.place.seat self.old.place.log.items (whole self.new.processor) self.new.place.seat self.new.place.log.items }
+        ensures got { (more : List (ℕ × ℕ)) × (self.new.place.seat.token.me.0.got ≡ more ++ self.old.place.seat.token.me.0.got) }
     {
         let _ = self.processor.step(image, self.number, &mut self.place);
     }
@@ -43,7 +44,8 @@ impl<'a> Cpu<'a> {
         ensures place { IsPlaced image.now self.new.place.board.now.table.shared.table_id self.new.place.cells.now self.new.place.rodata.now self.new.place.seat }
         ensures keeps { KeepsPlace self.old.place.seat self.new.place.seat }
         ensures goes { Advances image.now self.old.number (whole self.old.processor) self.old.place.seat self.old.place.log.items (whole self.new.processor) self.new.place.seat self.new.place.log.items }
-        ensures rests { OnRest result (Rests (whole self.old.processor) (whole self.new.processor) self.old.place.seat self.old.place.log.items self.new.place.seat self.new.place.log.items) }
+        ensures told { Tells result (HadWork (whole self.old.processor) self.old.place.seat self.new.place.seat)
+            (Rests (whole self.old.processor) (whole self.new.processor) self.old.place.seat self.old.place.log.items self.new.place.seat self.new.place.log.items) }
     {
         if !self.processor.is_idle() {
             self.ask(image);

@@ -6,9 +6,9 @@ ghost use Rattle.um_base.specs.Weight.{weight};
 ghost use Rattle.um_machine.specs.Run.{IsComplete, IsRun};
 ghost use Rattle.um_machine.specs.State.{State};
 ghost use Rattle.um_fine.specs.Erasure.{shown};
-ghost use Rattle.um_fine.specs.FineRun.{IsFineRun};
 ghost use Rattle.um_fine.specs.Steps.{FineStep};
 ghost use Rattle.um_history.specs.Fine.{events_of};
+ghost use Rattle.um_cpu.specs.OnBoard.{HasRun};
 
 use crate::run::{Ended, run_cpus};
 use std::alloc::Global;
@@ -41,8 +41,8 @@ fn events_in(alloc: Global, steps: &[Logged]) -> Result<Vec<Event>, Memory>
     Ok(events)
 }
 
-/// Runs so many processors on a board of the image, each in a thread of its own where one can be made, and puts their steps into one list. Its
-/// events are a complete run. There is room for `most` steps in the log of each and in the list, which is no less than the image's weight. A
+/// Runs so many processors on a board of the image, each in a thread of its own where one can be made, and puts the steps that they have made there
+/// into one list. Its events are a complete run. There is room for `most` steps in the log of each and in the list, which is no less than the image's weight. A
 /// gate can hold each processor before its turns.
 pub fn run_events<R: Threads + Wait + Sync, G: Gate + Sync>(
     rt: &R,
@@ -57,7 +57,7 @@ pub fn run_events<R: Threads + Wait + Sync, G: Gate + Sync>(
     requires few { cpus ≤ 8 }
     requires room { weight image.now ≤ most }
     ensures run { IfOk result (λ ran. (last : State) × IsRun image.now ran.events.items last × IsComplete last) }
-    ensures fine { IfOk result (λ ran. (steps : List FineStep) × IsFineRun image.now cpus steps × (ran.events.items ≡ shown steps)) }
+    ensures board { IfOk result (λ ran. (steps : List FineStep) × HasRun image.now cpus ran.closed steps × (ran.events.items ≡ shown steps)) }
     ensures few { IfOk result (λ ran. length ran.events.items ≤ weight image.now) }
 {
     every_played_board();

@@ -1,7 +1,6 @@
 //! Processors as threads on one board.
 
 ghost use Rattle.std.specs.Prelude.{◌≡◌, ◌≤◌, ℕ, [], IfOk, length, vec_capacity};
-ghost use Rattle.std.specs.Mem.Slots.{slots_items};
 ghost use Rattle.um_base.specs.Lawful.{IsLawful};
 ghost use Rattle.um_processor.specs.Given.{IsGiven};
 ghost use Rattle.um_cpu.specs.Ended.{Begins, EachAt, Ends, Gathered, HasEnded};
@@ -113,7 +112,7 @@ pub fn run_cpus<R: Threads + Wait + Sync, G: Gate + Sync>(
     requires lawful { IsLawful image.now }
     requires some { 1 ≤ cpus }
     requires few { cpus ≤ 8 }
-    ensures { IfOk result (λ e. HasEnded image.now cpus (slots_items e.closed.table.words) e.logs.items) }
+    ensures { IfOk result (λ e. HasEnded image.now cpus e.closed e.logs.items) }
 {
     let bytes = rodata(alloc, image)?;
     let mut logs = Vec::with_capacity(alloc, cpus as usize)?;

@@ -1,6 +1,6 @@
 -- Where each processor saw behind its last step that no thread is ready, none can make another step: what any list in the order of the logs shows
 -- is a complete run.
-use Rattle.std.proofs.Common.{◌≡◌, ℕ, ◌<◌, ◌≤◌, false, List, [], length, map, Some, None, sym, ap, ◌∙◌, subst, arith}
+use Rattle.std.proofs.Common.{◌≡◌, ℕ, ◌<◌, ◌≤◌, false, eqb, List, [], length, map, Some, None, sym, ap, ◌∙◌, subst, arith}
 use Rattle.std.specs.Prelude.{IsTrue}
 use Rattle.std.proofs.lemmas.Bool.{and_parts}
 use Rattle.um_base.specs.Weight.{weight}
@@ -15,7 +15,7 @@ use Rattle.um_words.specs.declared.fine.FineAct.{FineAct}
 use Rattle.um_fine.specs.Asks.{CpuMay, says, says_idle, site_at}
 use Rattle.um_fine.specs.Cells.{Cell}
 use Rattle.um_fine.specs.Erasure.{shown}
-use Rattle.um_fine.specs.FineRun.{IsFineRun, SameOrder, cpu_of, same_cpu}
+use Rattle.um_fine.specs.FineRun.{IsFineRun, SameOrder}
 use Rattle.um_fine.specs.Follows.{p_next}
 use Rattle.um_fine.specs.Opening.{s_start}
 use Rattle.um_fine.specs.Processor.{Processor, idle}
@@ -38,7 +38,7 @@ use Rattle.um_history.proofs.Fine.{is-fine-of, steps_of_all}
 use Rattle.um_history.proofs.Granted.{granted}
 use Rattle.um_history.proofs.NoneReady.{none-ready}
 use Rattle.um_history.proofs.OpeningRuns.{OpensWell}
-use Rattle.um_history.proofs.Ordered.{fine-same, is-order, lifted, noted-long, shown-noted}
+use Rattle.um_history.proofs.Ordered.{fine-of-same, is-order, lifted, noted-long, shown-noted}
 
 -- a processor without steps to go on with asks only for the first ready thread
 idle-needs : (image : Image) (p : Processor) (s : Scheduler) (moved : Exchange) → IsTrue (sched_takes s (says_idle image p moved)) → IsTrue (has_ready s s.ready)
@@ -80,19 +80,20 @@ module _ (image : Image) (cpus : ℕ) (v : View) (words : List ℕ) (logs : List
   have-order = let few = longest g fine.run in (map logged_of g, ordered, omega (arith, few, noted-long g))
 
   -- what a list in the order of the logs is noted of
-  pub noted-of : (list : List Logged) → ((order : List Logged) → IsOrder logs order → Merged.SameOrder list order)
-      → (h : List FineStep) × (map logged_of h ≡ list) × SameOrder g h × IsFineRun image cpus h
+  noted-of : (list : List Logged) → ((order : List Logged) → IsOrder logs order → Merged.SameOrder list order)
+      → (h : List FineStep) × (map logged_of h ≡ list) × SameOrder g h × IsFineOf image cpus words steps h
   noted-of list same =
-      let (h, is, order) = lifted g fine.sited list (same (map logged_of g) ordered) in
-      (h, is, order, fine-same image cpus g h order fine.run)
+      let order = same (map logged_of g) ordered in
+      let (h, is, alike, sited) = lifted g fine.sited list order in
+      (h, is, alike, fine-of-same image cpus words steps g h fine alike sited (λ n. ap (sublist eqb Merged.site_of n) is ∙ order.1 n))
 
   -- and what it shows
   pub noted-run : ((run : List FineStep) → IsFineRun image cpus run → (last : State) × Runs (opening image) (shown run) last) → (list : List Logged) → ((order : List Logged) → IsOrder logs order → Merged.SameOrder list order)
-      → (h : List FineStep) × (map logged_of h ≡ list) × IsFineRun image cpus h × ((k : ℕ) → k < cpus → sublist same_cpu cpu_of k h ≡ steps k) × (last : State) × Runs (opening image) (events_of list) last
+      → (h : List FineStep) × (map logged_of h ≡ list) × IsFineOf image cpus words steps h × (last : State) × Runs (opening image) (events_of list) last
   noted-run runs list same =
-      let (h, is, order, run) = noted-of list same in
-      let end = runs h run in
-      (h, is, run, (λ k less. sym (order.processors k) ∙ fine.own k less), end.0, subst (λ (events : List Event). Runs (opening image) events end.0) (sym (shown-noted h) ∙ ap events_of is) end.1)
+      let (h, is, _, of) = noted-of list same in
+      let end = runs h of.run in
+      (h, is, of, end.0, subst (λ (events : List Event). Runs (opening image) events end.0) (sym (shown-noted h) ∙ ap events_of is) end.1)
 
   module _ (saw : (k : ℕ) → k < cpus → SawNone image v.got (steps k))
       (completes : (run : List FineStep) → IsFineRun image cpus run → IsStuck (left_by image cpus run) → CanCount (left_by image cpus run) → (last : State) × Runs (opening image) (shown run) last × IsComplete last) where
@@ -105,7 +106,8 @@ module _ (image : Image) (cpus : ℕ) (v : View) (words : List ℕ) (logs : List
 
     pub complete : (list : List Logged) → ((order : List Logged) → IsOrder logs order → Merged.SameOrder list order) → (last : State) × Runs (opening image) (events_of list) last × IsComplete last
     complete list same =
-        let (h, is, order, run) = noted-of list same in
+        let (h, is, order, of) = noted-of list same in
+        let run = of.run in
         let few = longest h run in
         let light = described.lawful.light in
         let end = completes h run (all-stuck h order) (can-count image h (omega (arith, few, light)) cpus) in

@@ -1,5 +1,5 @@
 -- A list of records in the same order as those of richer steps is the records of those steps in that order.
-use Rattle.std.proofs.Common.{◌≡◌, ℕ, ◌+◌, true, false, cond, eqb, List, [], ◌∷◌, ◌++◌, sym, refl, ap, ◌∙◌, subst, map}
+use Rattle.std.proofs.Common.{◌≡◌, ℕ, true, false, cond, eqb, List, [], ◌∷◌, ◌++◌, sym, refl, ap, ◌∙◌, subst, map}
 use Rattle.um_fine.specs.Runs.{has_key, sublist, SameAt}
 use Rattle.um_fine.proofs.Subs.{sub-append}
 use Rattle.um_merge.proofs.Orders.{first_of, sublist_moves, sublist_head}

@@ -7,17 +7,17 @@ use Rattle.um_base.specs.declared.act.Event.{Event}
 use Rattle.um_base.specs.declared.image.Image.{Image}
 use Rattle.um_words.specs.declared.fine.FineAct.{FineAct}
 use Rattle.um_fine.specs.Erasure.{shown, shown_by}
-use Rattle.um_fine.specs.FineRun.{ByOneOf, IsFineRun, SameOrder, cpu_of, p_start, site_of}
+use Rattle.um_fine.specs.FineRun.{ByOneOf, IsFineRun, SameOrder, p_start, site_of}
 use Rattle.um_fine.specs.Follows.{p_next}
 use Rattle.um_fine.specs.Opening.{s_start}
-use Rattle.um_fine.specs.Runs.{Run, SameAt, sublist}
-use Rattle.um_fine.specs.Sites.{SiteMay, is_site, s_next, same_site, site_number}
+use Rattle.um_fine.specs.Runs.{Run, SameAt, ends, sublist}
+use Rattle.um_fine.specs.Sites.{SiteMay, is_site, s_next, same_site, site_number, site_numbered, word_of}
 use Rattle.um_fine.specs.Steps.{FineStep, Site}
 use Rattle.um_merge.specs.Merged as Merged
-use Rattle.um_merge.specs.Merged.{IsOrder, Log, log_at}
+use Rattle.um_merge.specs.Merged.{AreNumbered, IsOrder, Log, log_at}
 use Rattle.um_merge.specs.declared.logged.Logged.{Logged}
 use Rattle.um_processor.specs.Asked.{event_of}
-use Rattle.um_board.specs.Noted.{logged_of}
+use Rattle.um_board.specs.Noted.{logged_of, packed}
 use Rattle.um_history.specs.Fine.{IsFineOf, event_on, events_of}
 use Rattle.um_history.specs.Played.{Each}
 use Rattle.um_history.proofs.Lifts.{lift, sublist_map}
@@ -50,7 +50,7 @@ module _ (g h : List FineStep) (same : SameAt eqb (λ (e : FineStep). site_numbe
   abbrev at : ℕ → FineStep → Bool
   at n e = eqb (site_number e.site) n
 
-  sited-too : Each Sited h
+  pub sited-too : Each Sited h
   sited-too = each-keyed at (λ (e : FineStep). site_number e.site) (λ e. eq-eqb (site_number e.site) (site_number e.site) refl) Sited h
       (λ n. subst (Each Sited) (sym (subs-are (at n) g) ∙ same n ∙ subs-are (at n) h) (each-sub (at n) Sited g sited))
 
@@ -80,11 +80,24 @@ fine-same image cpus g h same run =
       sites = λ i. subst (Run (SiteMay image) (s_next image) (s_start image i)) (same.sites i) (run.sites i);
     }
 
--- A list in the same order as what was noted of these steps is noted of steps in the same order as they.
-pub lifted : (g : List FineStep) → Each Sited g → (list : List Logged) → Merged.SameOrder list (map logged_of g) → (h : List FineStep) × (map logged_of h ≡ list) × SameOrder g h
+-- A list in the same order as what was noted of these steps is noted of steps in the same order as they, at sites that there are.
+pub lifted : (g : List FineStep) → Each Sited g → (list : List Logged) → Merged.SameOrder list (map logged_of g) → (h : List FineStep) × (map logged_of h ≡ list) × SameOrder g h × Each Sited h
 lifted g sited list (cpus, sites) =
     let l = lift logged_of Merged.cpu_of Merged.site_of list g (λ k. sym (cpus k)) (λ k. sym (sites k)) in
-    (l.0, l.1, record { processors = l.2; sites = sites-same g l.0 l.3 sited })
+    (l.0, l.1, record { processors = l.2; sites = sites-same g l.0 l.3 sited }, sited-too g l.0 l.3 sited)
+
+-- It has the steps of the same processors, numbers those of each site as they are numbered, and leaves the same words.
+pub fine-of-same : (image : Image) (cpus : ℕ) (words : List ℕ) (steps : ℕ → List FineStep) (g h : List FineStep) → IsFineOf image cpus words steps g → SameOrder g h → Each Sited h
+    → SameAt eqb Merged.site_of (map logged_of h) (map logged_of g) → IsFineOf image cpus words steps h
+fine-of-same image cpus words steps g h fine same sited sites =
+    record {
+      run = fine-same image cpus g h same fine.run;
+      own = λ k less. sym (same.processors k) ∙ fine.own k less;
+      others = λ k far. sym (same.processors k) ∙ fine.others k far;
+      sited = sited;
+      numbered = λ n. subst (AreNumbered 0) (sym (sites n)) (fine.numbered n);
+      words_are = λ i near. ap (λ (l : List FineStep). packed (word_of (ends (s_next image) (s_start image (site_numbered i)) l))) (sym (same.sites (site_numbered i))) ∙ fine.words_are i near;
+    }
 
 module _ (image : Image) (cpus : ℕ) (words : List ℕ) (steps : ℕ → List FineStep) (g : List FineStep) (fine : IsFineOf image cpus words steps g) (logs : List Log) (as-many : length logs ≡ cpus)
     (noted : (k : ℕ) → k < cpus → log_at logs k ≡ map logged_of (steps k)) where

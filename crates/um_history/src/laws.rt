@@ -6,8 +6,6 @@ ghost use Rattle.um_base.specs.declared.image.Image.{Image};
 ghost use Rattle.um_machine.specs.Run.{IsComplete, Runs, opening};
 ghost use Rattle.um_machine.specs.State.{State};
 ghost use Rattle.um_reach.specs.Described.{IsDescribed};
-ghost use Rattle.um_fine.specs.FineRun.{IsFineRun, cpu_of, same_cpu};
-ghost use Rattle.um_fine.specs.Runs.{sublist};
 ghost use Rattle.um_fine.specs.Steps.{FineStep};
 ghost use Rattle.um_merge.specs.Merged.{HaveOrder, IsOrder, Log, SameOrder};
 ghost use Rattle.um_merge.specs.declared.logged.Logged.{Logged};
@@ -25,8 +23,8 @@ use um_fine_bound::longest_fine_run;
 ///
 /// - The board's history is one fine run that has the steps of each processor in their order, and no others.
 /// - The logs have an order, of no more steps than the image's weight.
-/// - A list of steps that is in the same order as each order of the logs is noted of a fine run of the same processors' steps. What it shows is a
-///   run of the access-matrix machine.
+/// - A list of steps that is in the same order as each order of the logs is noted of a fine run of the same processors' steps, which leaves the
+///   same words. What it shows is a run of the access-matrix machine.
 /// - Where each processor saw behind its last step that no thread is ready, and has no step to go on with, that is a complete run.
 pub fn every_played_board()
     ensures fine { (image : Image) (cpus : ℕ) (v : View) (words : List ℕ) (logs : List Log) (steps : ℕ → List FineStep) → IsDescribed image → CanRun image cpus
@@ -35,8 +33,7 @@ pub fn every_played_board()
         → IsPlayed image cpus v words logs steps → HaveOrder logs (weight image) }
     ensures run { (image : Image) (cpus : ℕ) (v : View) (words : List ℕ) (logs : List Log) (steps : ℕ → List FineStep) → IsDescribed image → CanRun image cpus
         → IsPlayed image cpus v words logs steps → (list : List Logged) → ((order : List Logged) → IsOrder logs order → SameOrder list order)
-        → (g : List FineStep) × (map logged_of g ≡ list) × IsFineRun image cpus g × ((k : ℕ) → k < cpus → sublist same_cpu cpu_of k g ≡ steps k)
-        × (last : State) × Runs (opening image) (events_of list) last }
+        → (g : List FineStep) × (map logged_of g ≡ list) × IsFineOf image cpus words steps g × (last : State) × Runs (opening image) (events_of list) last }
     ensures complete { (image : Image) (cpus : ℕ) (v : View) (words : List ℕ) (logs : List Log) (steps : ℕ → List FineStep) → IsDescribed image → CanRun image cpus
         → IsPlayed image cpus v words logs steps → ((k : ℕ) → k < cpus → SawNone image v.got (steps k))
         → (list : List Logged) → ((order : List Logged) → IsOrder logs order → SameOrder list order)

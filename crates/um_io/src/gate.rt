@@ -1,7 +1,7 @@
 //! A place where processors may be held, for tests.
 
-/// Where a test may hold a processor before one of its steps, whose number counts from 0. No run calls it yet. It can be shared
-/// between threads, and means nothing to a run but that the step comes after it.
+/// Where a test may hold a processor before one of its turns, whose number counts from 0. In a turn a processor makes one step, or looks
+/// whether there is one. A gate can be shared between threads, and means nothing to a run but that the turn comes after it.
 pub trait Gate {
     fn pause(&self, cpu: u32, step: u64);
 }

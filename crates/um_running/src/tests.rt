@@ -20,6 +20,8 @@ pub struct Ended {
     pub status: Status,
     pub out: MemSink,
     pub err: MemSink,
+    /// Whether a board was left.
+    pub board: bool,
 }
 
 /// The words of a line, which stand one space apart.
@@ -55,8 +57,18 @@ pub fn call<R: AllocGlobal + Threads + Wait + Sync, G: Gate + Sync>(
     let alloc = rt.alloc();
     let words = words_of(alloc, line)?;
     let mut err = MemSink::new(alloc, 4096, Vec::new(alloc))?;
-    let status = zumode(rt, &words, &mut source, &mut out, &mut err, gate);
-    Ok(Ended { status, out, err })
+    let mut ran = None;
+    let status = zumode(rt, &words, &mut source, &mut out, &mut err, gate, &mut ran);
+    let board = ran.is_some();
+    if let Some(closed) = ran {
+        closed.free();
+    }
+    Ok(Ended {
+        status,
+        out,
+        err,
+        board,
+    })
 }
 
 /// A command on a description, where nothing fails.

@@ -38,6 +38,8 @@ fn one_thread_writes_what_sim_writes(rt: HostRuntime) -> Result<(), Fail> {
         assert_eq!(rt; run.status, Status::Done);
         assert_eq!(rt; sim.status, Status::Done);
         assert_eq!(rt; run.out.bytes(), sim.out.bytes());
+        assert!(rt; run.board);
+        assert!(rt; !sim.board);
     }
     Ok(())
 }

@@ -1,10 +1,18 @@
-use Rattle.std.proofs.Common.{ℕ, ◌≤◌, length, refl, sym, subst}
+use Rattle.std.proofs.Common.{[], refl}
 use Rattle.um_command.specs.declared.command.Command.{Command}
-use Rattle.um_app.specs.Answered.{Answered}
-use Rattle.um_app.specs.Inputs.{most_read}
+use Rattle.um_app.specs.Inputs.{IsOf}
 use Rattle.um_app.proofs.answer.thread_answer_to.Goals as goal
 
-pub returns : goal.returns
-returns g c =
-    subst (λ (command : Command). Answered command c.thread_answer_of.result c.args.input.now) (sym c.requires.run)
-    (c.thread_answer_of.ensures c.args.input.now refl refl (subst (λ (command : Command). length c.args.input.now ≤ most_read command) c.requires.run c.requires.short))
+pub returns-in-Ok-thread_text-clause-output : goal.returns-in-Ok-thread_text-clause-output
+returns-in-Ok-thread_text-clause-output g c =
+    let is_of : IsOf (Command.Run c.args.cpus) c.args.input.now c.in-Ok.image [] = record { short = c.requires.short; described = c.in-Ok.ensures.ok; traced = refl } in
+    record { image = c.in-Ok.image; trace = []; is_of = is_of; writes = (c.in-Ok-thread_text.made.closed, c.in-Ok-thread_text.ensures) }
+
+pub returns-in-Ok-thread_text-clause-played : goal.returns-in-Ok-thread_text-clause-played
+returns-in-Ok-thread_text-clause-played g c =
+    let is_of : IsOf (Command.Run c.args.cpus) c.args.input.now c.in-Ok.image [] = record { short = c.requires.short; described = c.in-Ok.ensures.ok; traced = refl } in
+    record { image = c.in-Ok.image; is_of = is_of; text = c.in-Ok-thread_text.ensures }
+
+pub returns-clause-answered : goal.returns-clause-answered
+returns-clause-answered g c =
+    (c.not_read.ensures.answered (Command.Run c.args.cpus) c.args.input.now [] c.requires.short refl c.in-Err.ensures.refused, c.not_read.ensures.silent)

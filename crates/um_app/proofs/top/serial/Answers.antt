@@ -1,6 +1,5 @@
 use Rattle.std.proofs.Common.{◌≡◌, ◌∙◌, sym, rules, Some, map}
-use Rattle.std.specs.Prelude.{IsTrue, Option, string_bytes}
-use Rattle.um_command.specs.declared.command.Command.{Command}
+use Rattle.std.specs.Prelude.{IsTrue, string_bytes}
 use Rattle.um_command.specs.Words.{command_of}
 use Rattle.um_app.specs.Inputs.{is_reading}
 use Rattle.um_app.proofs.CommandLemmas.{not-generated, not-none, same-command, answers-reading}

@@ -7,7 +7,7 @@ use Rattle.um_merge.specs.Merged.{AreAtSites, HaveOrder, IsOrder, Log}
 use Rattle.um_erasure.specs.Room.{CanRun}
 use Rattle.um_history.specs.Fine.{events_of}
 use Rattle.um_history.proofs.Ordered.{noted-long, shown-noted}
-use Rattle.um_cpu.proofs.Shows.{at-sites, shows-few}
+use Rattle.um_cpu.proofs.Shows.{at-sites, left-on, shows-few}
 use Rattle.um_cpu.proofs.events.run_events.Goals as goal
 
 pub merge-requires-clause-sites : goal.merge-requires-clause-sites
@@ -41,15 +41,15 @@ returns-clause-run g c =
     (λ order is. c.merge.ensures order (subst (λ (l : List Log). IsOrder l order) (sym c.as_slice.ensures.value) is)) in
     subst (λ (l : List Event). (last : State) × IsRun image l last × IsComplete last) (sym (c.in-Ok.ensures ∙ ap events_of c.as_slice-2.ensures.value)) last
 
-pub returns-clause-fine : goal.returns-clause-fine
-returns-clause-fine g c =
+pub returns-clause-board : goal.returns-clause-board
+returns-clause-board g c =
     let image = c.args.image.now in
     let described : IsDescribed image = record { lawful = c.requires.lawful; few = omega (arith, c.len-objects.ensures.value, c.len-objects.ensures.few) } in
     let can : CanRun image c.args.cpus = record { domains = omega (arith, c.len-domains.ensures.value, c.len-domains.ensures.few); some = omega (arith, c.requires.some); few = c.requires.few } in
     let ended = c.in_ok-logs.ensures in
     let run = c.every_played_board.ensures.run image c.args.cpus ended.view _ _ ended.steps described can ended.played c.merge.new.room.items
     (λ order is. c.merge.ensures order (subst (λ (l : List Log). IsOrder l order) (sym c.as_slice.ensures.value) is)) in
-    (run.0, run.2, c.in-Ok.ensures ∙ ap events_of c.as_slice-2.ensures.value ∙ ap events_of (sym run.1) ∙ shown-noted run.0)
+    (run.0, left-on image c.args.cpus _ ended.view _ ended.steps ended.seen ended.played run.0 run.2, c.in-Ok.ensures ∙ ap events_of c.as_slice-2.ensures.value ∙ ap events_of (sym run.1) ∙ shown-noted run.0)
 
 pub returns-clause-few : goal.returns-clause-few
 returns-clause-few g c =
@@ -63,5 +63,5 @@ returns-clause-few g c =
     let few = shows-few c.merge.new.room.items in
     let noted = ap length run.1 in
     let long = noted-long run.0 in
-    let most = c.longest_fine_run.ensures image c.args.cpus run.0 described run.2 in
+    let most = c.longest_fine_run.ensures image c.args.cpus run.0 described run.2.run in
     omega (arith, shown, few, noted, long, most)

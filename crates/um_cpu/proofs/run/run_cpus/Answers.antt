@@ -1,6 +1,5 @@
 use Rattle.std.proofs.Common.{◌≡◌, ◌++◌, List, ap, arith, drop, length, length-append, take}
 use Rattle.std.proofs.lemmas.List.{length-take}
-use Rattle.std.specs.Mem.Slots.{slots_items}
 use Rattle.um_processor.specs.Given.{IsGiven}
 use Rattle.um_cpu.specs.declared.cpu.Cpu.{Cpu}
 use Rattle.um_cpu.proofs.Gathers.{all-ended}
@@ -24,4 +23,4 @@ returns g c =
     let many = c.in_ok-all.ensures.count in
     omega (arith, taken, long, count, value, all.ok.0, many)
     ) in
-    all-ended c.args.image.now c.gather.new.seat.token.me.0 (length (take all.len (new ++ rest))) c.args.cpus (slots_items c.in-Ok.closed.table.words) c.gather.new.logs.items same it.knows (c.in-Ok.ensures.cells it.knows.turn)
+    all-ended c.args.image.now c.gather.new.seat.token.me.0 (length (take all.len (new ++ rest))) c.args.cpus c.in-Ok.closed c.gather.new.logs.items same c.in-Ok.ensures.closed.0 it.knows (c.in-Ok.ensures.cells it.knows.turn)

@@ -8,4 +8,4 @@ returns-in-Quiet-clause-plays g c =
     let before = c.loop.cpu in
     let last = c.step.new.self in
     plays-out c.args.image.now first.number (whole first.processor) (whole before.processor) (whole last.processor) first.place.seat first.place.log.items
-    before.place.seat before.place.log.items last.place.seat last.place.log.items c.in-Quiet.word c.loop.invariant.reaches c.in-Quiet.ensures.rests.0
+    before.place.seat before.place.log.items last.place.seat last.place.log.items c.in-Quiet.word c.loop.invariant.reaches c.in-Quiet.ensures.told.0
