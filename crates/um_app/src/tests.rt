@@ -1,8 +1,6 @@
 //! The top call over memory.
 
 mod audits;
-mod outside;
-mod processors;
 mod texts;
 
 ghost use Rattle.std.specs.Prelude.{◌≤◌};
@@ -50,25 +48,6 @@ pub struct Ended {
     pub err: MemSink,
 }
 
-/// How sources and sinks behave: so many bytes a call, and the calls that fail.
-#[derive(Drop)]
-pub struct Manner {
-    pub piece: u32,
-    pub reads: Vec<u32>,
-    pub writes: Vec<u32>,
-    ghost some: { 1 ≤ piece },
-}
-
-pub fn smooth(alloc: Global, piece: u32) -> Manner
-    requires { 1 ≤ piece }
-{
-    Manner {
-        piece,
-        reads: Vec::new(alloc),
-        writes: Vec::new(alloc),
-    }
-}
-
 /// The words of a line, which stand one space apart.
 fn words_of(alloc: Global, line: &str) -> Result<Vec<String>, Fail> {
     let mut words = Vec::new(alloc);
@@ -78,22 +57,19 @@ fn words_of(alloc: Global, line: &str) -> Result<Vec<String>, Fail> {
     Ok(words)
 }
 
-/// A command over memory.
+/// A command over memory, with so many bytes a call.
 pub fn call<R: AllocGlobal + Threads + Wait + Sync>(
     rt: &R,
     line: &str,
     input: Vec<u8>,
-    manner: Manner,
-) -> Result<Ended, Fail> {
+    piece: u32,
+) -> Result<Ended, Fail>
+    requires { 1 ≤ piece }
+{
     let alloc = rt.alloc();
-    let Manner {
-        piece,
-        reads,
-        writes,
-    } = manner;
     let words = words_of(alloc, line)?;
-    let mut source = MemSource::new(input, piece, reads);
-    let mut out = MemSink::new(alloc, piece, writes)?;
+    let mut source = MemSource::new(input, piece, Vec::new(alloc));
+    let mut out = MemSink::new(alloc, piece, Vec::new(alloc))?;
     let mut err = MemSink::new(alloc, piece, Vec::new(alloc))?;
     let mut ran = None;
     let status = zumode(

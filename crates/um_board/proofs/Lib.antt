@@ -1,7 +1,9 @@
--- What the proofs of several functions cite: of cells and their kinds, of steps, of what a seat keeps; of the opening words and cells, as tables have them.
+-- What the proofs of several functions cite: of cells and their kinds, of steps, of what a seat keeps, sees and may do next; of the opening words and cells, as tables have them.
 pub mod CellKinds
 pub mod CellSteps
 pub mod Keeping
+pub mod NextRuns
+pub mod Saws
 pub mod OpeningKinds
 pub mod WordSteps
 pub mod FirstWords

@@ -1,7 +1,9 @@
 pub mod Contents
 pub mod Kept
+pub mod NextSteps
 pub mod Noted
 pub mod Opening
 pub mod ReadBack
+pub mod Saw
 pub mod Seated
 pub mod Turned

@@ -7,10 +7,12 @@ mod fine;
 mod first_board;
 mod first_contents;
 mod first_words;
+mod next_step;
 mod seated;
 mod sites;
 
 pub use contents::{Contents, Kept};
 pub use fine::{AsMade, Fine};
 pub use first_board::opening;
+pub use next_step::NextStep;
 pub use seated::{Seated, Turn};

@@ -1,6 +1,6 @@
 //! A processor's place at a board, and how it makes a step there.
 
-ghost use Rattle.std.specs.Prelude.{◌≡◌, ◌+◌, ◌<◌, ◌≤◌, ◌++◌, ◌∷◌, ℕ, [], Option, Some, None, false, true, length, vec_capacity, MatchOption, IsTrue};
+ghost use Rattle.std.specs.Prelude.{◌≡◌, ◌≢◌, ◌+◌, ◌<◌, ◌≤◌, ◌++◌, ◌∷◌, ℕ, [], Option, Some, None, false, true, length, vec_capacity, MatchOption, IsTrue};
 ghost use Rattle.atomic_table.specs.Seated.{TableId};
 ghost use Rattle.um_machine.specs.Memory.{rodata_of};
 ghost use Rattle.um_words.specs.Packed.{cell_of};
@@ -10,21 +10,22 @@ ghost use Rattle.um_fine.specs.Sites.{SiteState, is_site, site_number};
 ghost use Rattle.um_fine.specs.Steps.{Exchange};
 ghost use Rattle.um_site.specs.Tells.{NoOlder, last_got};
 ghost use Rattle.um_processor.specs.Asked.{Takes, event_of};
-ghost use Rattle.um_processor.specs.Sited.{MatchSaid};
+ghost use Rattle.um_board.specs.NextSteps.{IsNext};
 ghost use Rattle.um_board.specs.Noted.{made_of, number_of, packed};
 ghost use Rattle.um_board.specs.ReadBack.{IsReadBack};
+ghost use Rattle.um_board.specs.Saw.{GotSince, Hinders};
 ghost use Rattle.um_board.specs.Seated.{IsSeated, Noted, Unnoted};
 ghost use Rattle.um_board.specs.Turned.{InTurn, IsPlaced};
 
 use crate::contents::Contents;
 use crate::fine::{AsMade, Fine};
+use crate::next_step::NextStep;
 use std::snapshot::Snapshot;
 use um_base::{Act, Event, Image};
 use um_cell::{Cells, Held};
 use um_merge::Logged;
-use um_processor::Said;
 use um_site::{Board, Seat};
-use um_words::{AnyStep, CellWord, step_number};
+use um_words::{CellWord, step_number};
 
 /// The greatest step number: there a cell takes no step.
 const LAST: u32 = 0xfff_ffff;
@@ -35,7 +36,7 @@ const SCHEDULER: u16 = 306;
 /// A processor's place at a board: its seat, and the log of the steps that it has made, in room that is reserved.
 #[derive(Drop)]
 pub struct Seated<'a> {
-    pub board: &'a Board<Contents, AnyStep>,
+    pub board: &'a Board<Contents, NextStep>,
     pub cells: &'a Cells<Contents>,
     /// The bytes of the image's read-only data, which no step changes.
     pub rodata: &'a [u8],
@@ -78,7 +79,7 @@ fn note(log: &mut Vec<Logged>, cpu: u8, site: u16, number: u32, event: &Option<E
 
 /// How many steps a cell has taken by its word, where this word counts these threads and the cell can take one more.
 fn steps_of(word: u64, ready: u8, running: u8) -> Option<u32>
-    ensures { MatchOption result (Unit {0}) (λ n. (cell_of word ≡ quiet_word ready running n) × (n < 268435455)) }
+    ensures { MatchOption result ((n : ℕ) → n < 268435455 → cell_of word ≢ quiet_word ready running n) (λ n. (cell_of word ≡ quiet_word ready running n) × (n < 268435455)) }
 {
     let word = CellWord::read(word);
     if word.turn
@@ -95,7 +96,7 @@ fn steps_of(word: u64, ready: u8, running: u8) -> Option<u32>
 impl<'a> Seated<'a> {
     /// A place at this board, with a log that has nothing in it.
     pub fn new(
-        board: &'a Board<Contents, AnyStep>,
+        board: &'a Board<Contents, NextStep>,
         cells: &'a Cells<Contents>,
         rodata: &'a [u8],
         seat: Seat<Contents>,
@@ -116,7 +117,8 @@ impl<'a> Seated<'a> {
 
     /// Whether the log has no room for one more step.
     pub(crate) fn is_full(&self) -> bool
-        ensures { result ≡ false → length self.now.log.items < vec_capacity self.now.log }
+        ensures room { result ≡ false → length self.now.log.items < vec_capacity self.now.log }
+        ensures full { result ≡ true → vec_capacity self.now.log ≤ length self.now.log.items }
     {
         self.log.capacity() <= self.log.len()
     }
@@ -142,6 +144,7 @@ impl<'a> Seated<'a> {
         ensures unnoted { Unnoted self.old.seat self.old.log.items self.new.seat self.new.log.items }
         ensures got { self.new.seat.token.me.0.got ≡ (306, result) ∷ self.old.seat.token.me.0.got }
         ensures newest { NoOlder self.old.seat.token.me.0.got 306 result }
+        ensures log { self.new.log ≡ self.old.log }
     {
         self.look(image, SCHEDULER)
     }
@@ -170,9 +173,11 @@ impl<'a> Seated<'a> {
         requires cpu { D.step.cpu ≡ cpu }
         requires event { event.now ≡ event_of D.step.act }
         requires lawful { WordMay site seen D.step.act next }
+        requires goes { IsNext image.now self.old.seat.token.me.0.name self.old.seat.token.me.0.made D.step }
         ensures image { IsPlaced image.now self.new.board.now.table.shared.table_id self.new.cells.now self.new.rodata.now self.new.seat }
         ensures made { result ≡ true → Noted self.old.seat self.old.log.items D.step self.new.seat self.new.log.items }
         ensures changed { result ≡ false → Unnoted self.old.seat self.old.log.items self.new.seat self.new.log.items }
+        ensures moved { result ≡ false → (z : ℕ) × (z ≢ seen) × (self.new.seat.token.me.0.got ≡ (site, z) ∷ self.old.seat.token.me.0.got) }
     {
         let _ = which;
         let _ = about;
@@ -189,31 +194,33 @@ impl<'a> Seated<'a> {
     }
 
     /// The turn of a cell with its contents, where no other seat has it, and the cell can take a step that the log has room for.
-    pub(crate) fn turn(&mut self, image: &Image, site: u16) -> Said<Turn>
+    pub(crate) fn turn(&mut self, image: &Image, site: u16) -> Option<Turn>
         requires image { IsPlaced image.now self.old.board.now.table.shared.table_id self.old.cells.now self.old.rodata.now self.old.seat }
         requires site { (168 ≤ site) × (site < 307) }
         ensures unnoted { Unnoted self.old.seat self.old.log.items self.new.seat self.new.log.items }
-        ensures turn { MatchSaid result
-            (λ t. (t.contents ≡ t.before.value) × InTurn image.now self.new.board.now.table.shared.table_id self.new.cells.now self.new.rodata.now self.new.seat site t.word t.number t.before.value × (length self.new.log.items < vec_capacity self.new.log))
+        ensures turn { MatchOption result
             (IsPlaced image.now self.new.board.now.table.shared.table_id self.new.cells.now self.new.rodata.now self.new.seat)
-            (IsPlaced image.now self.new.board.now.table.shared.table_id self.new.cells.now self.new.rodata.now self.new.seat) }
+            (λ t. (t.contents ≡ t.before.value) × InTurn image.now self.new.board.now.table.shared.table_id self.new.cells.now self.new.rodata.now self.new.seat site t.word t.number t.before.value × (length self.new.log.items < vec_capacity self.new.log)) }
+        ensures saw { MatchOption result
+            (Hinders (vec_capacity self.old.log) self.old.log.items self.old.seat.token.me.0.got self.new.seat.token.me.0.got site)
+            (λ t. GotSince self.old.seat.token.me.0.got self.new.seat.token.me.0.got site t.word) }
     {
         if self.is_full() {
-            return Said::Changed;
+            return None;
         }
         let held = match self.cells.take(self.board, &mut self.seat, site) {
-            Err(_) => return Said::Changed,
+            Err(_) => return None,
             Ok(held) => held,
         };
         let (ready, running) = held.contents.counts();
         match steps_of(held.word, ready, running) {
             None => {
                 self.cells.put_quiet(self.board, &mut self.seat, held);
-                Said::Busy
+                None
             }
             Some(number) => {
                 let Held { word, contents, .. } = held;
-                Said::Made(Turn {
+                Some(Turn {
                     word,
                     number,
                     before: Snapshot::of(&contents),
@@ -270,6 +277,7 @@ impl<'a> Seated<'a> {
         requires there { IsTrue (is_site D.step.site) }
         requires cpu { D.step.cpu ≡ cpu }
         requires event { event.now ≡ event_of D.step.act }
+        requires goes { IsNext image.now self.old.seat.token.me.0.name self.old.seat.token.me.0.made D.step }
         ensures image { IsPlaced image.now self.new.board.now.table.shared.table_id self.new.cells.now self.new.rodata.now self.new.seat }
         ensures made { Noted self.old.seat self.old.log.items D.step self.new.seat self.new.log.items }
     {

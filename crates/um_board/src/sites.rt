@@ -30,8 +30,11 @@ const OBJECTS_FROM: u16 = 168;
 const PARTS_FROM: u16 = 296;
 
 impl Sites for Seated<'_> {
-    ghost use Rattle.std.specs.Prelude.{◌≡◌};
+    ghost use Rattle.std.specs.Prelude.{◌≡◌, vec_capacity};
     ghost use Rattle.um_base.specs.declared.image.Image.{Image};
+    ghost use Rattle.um_fine.specs.Sites.{site_number};
+    ghost use Rattle.um_board.specs.NextSteps.{IsNext};
+    ghost use Rattle.um_board.specs.Saw.{Hinders, SawShut};
     ghost use Rattle.um_board.specs.Seated.{Noted, Unnoted};
     ghost use Rattle.um_board.specs.Turned.{IsPlaced};
 
@@ -41,9 +44,11 @@ impl Sites for Seated<'_> {
 
     ghost Kept = { λ old new. Unnoted old.seat old.log.items new.seat new.log.items };
 
-    ghost Shut = { λ image s e. Unit {0} };
+    ghost May = { λ image s e. IsNext image s.seat.token.me.0.name s.seat.token.me.0.made e };
 
-    ghost Contended = { λ s. Unit {0} };
+    ghost Shut = { λ image old e new. SawShut old.seat.token.me.0.got new.seat.token.me.0.got e };
+
+    ghost Contended = { λ image old site new. Hinders (vec_capacity old.log) old.log.items old.seat.token.me.0.got new.seat.token.me.0.got (site_number site) };
 
     fn row(&mut self, image: &Image, cpu: u8, row: Row, act: &RowAct) -> Said<RowSaid> {
         if self.is_full() {
@@ -131,10 +136,8 @@ impl Sites for Seated<'_> {
 
     fn load_parts(&mut self, image: &Image, cpu: u8, domain: u8, parts: &mut Parts) -> Said<()> {
         let site = PARTS_FROM + domain as u16;
-        let turn = match self.turn(image, site) {
-            Said::Busy => return Said::Busy,
-            Said::Changed => return Said::Changed,
-            Said::Made(turn) => turn,
+        let Some(turn) = self.turn(image, site) else {
+            return Said::Changed;
         };
         let Turn {
             word,
@@ -162,10 +165,8 @@ impl Sites for Seated<'_> {
 
     fn edit(&mut self, image: &Image, cpu: u8, domain: u8, call: &Pending) -> Said<Reply> {
         let site = PARTS_FROM + domain as u16;
-        let turn = match self.turn(image, site) {
-            Said::Busy => return Said::Busy,
-            Said::Changed => return Said::Changed,
-            Said::Made(turn) => turn,
+        let Some(turn) = self.turn(image, site) else {
+            return Said::Changed;
         };
         let Turn {
             word,
@@ -193,10 +194,8 @@ impl Sites for Seated<'_> {
         outcome: &mut Outcome,
     ) -> Said<()> {
         let site = OBJECTS_FROM + row.0 as u16;
-        let turn = match self.turn(image, site) {
-            Said::Busy => return Said::Busy,
-            Said::Changed => return Said::Changed,
-            Said::Made(turn) => turn,
+        let Some(turn) = self.turn(image, site) else {
+            return Said::Changed;
         };
         let Turn {
             word,
@@ -233,10 +232,8 @@ impl Sites for Seated<'_> {
         bytes: &Piece,
     ) -> Said<()> {
         let site = OBJECTS_FROM + row.0 as u16;
-        let turn = match self.turn(image, site) {
-            Said::Busy => return Said::Busy,
-            Said::Changed => return Said::Changed,
-            Said::Made(turn) => turn,
+        let Some(turn) = self.turn(image, site) else {
+            return Said::Changed;
         };
         let Turn {
             word,
@@ -265,10 +262,8 @@ impl Sites for Seated<'_> {
 
     fn message_size(&mut self, image: &Image, cpu: u8, row: Row) -> Said<u32> {
         let site = OBJECTS_FROM + row.0 as u16;
-        let turn = match self.turn(image, site) {
-            Said::Busy => return Said::Busy,
-            Said::Changed => return Said::Changed,
-            Said::Made(turn) => turn,
+        let Some(turn) = self.turn(image, site) else {
+            return Said::Changed;
         };
         let Turn {
             word,
@@ -296,10 +291,8 @@ impl Sites for Seated<'_> {
 
     fn clear(&mut self, image: &Image, cpu: u8, row: Row) -> Said<Option<Cost>> {
         let site = OBJECTS_FROM + row.0 as u16;
-        let turn = match self.turn(image, site) {
-            Said::Busy => return Said::Busy,
-            Said::Changed => return Said::Changed,
-            Said::Made(turn) => turn,
+        let Some(turn) = self.turn(image, site) else {
+            return Said::Changed;
         };
         let Turn {
             word,
@@ -332,10 +325,8 @@ impl Sites for Seated<'_> {
         act: &MemoryAct,
         buffer: &mut Piece,
     ) -> Said<MemorySaid> {
-        let turn = match self.turn(image, MEMORY) {
-            Said::Busy => return Said::Busy,
-            Said::Changed => return Said::Changed,
-            Said::Made(turn) => turn,
+        let Some(turn) = self.turn(image, MEMORY) else {
+            return Said::Changed;
         };
         let Turn {
             word,
@@ -370,10 +361,8 @@ impl Sites for Seated<'_> {
         act: &HeapAct,
         charge: Option<Cost>,
     ) -> Said<HeapSaid> {
-        let turn = match self.turn(image, HEAP) {
-            Said::Busy => return Said::Busy,
-            Said::Changed => return Said::Changed,
-            Said::Made(turn) => turn,
+        let Some(turn) = self.turn(image, HEAP) else {
+            return Said::Changed;
         };
         let Turn {
             word,
@@ -411,10 +400,8 @@ impl Sites for Seated<'_> {
         if CellWord::read(seen).ready == 0 {
             return Said::Busy;
         }
-        let turn = match self.turn(image, SCHEDULER) {
-            Said::Busy => return Said::Busy,
-            Said::Changed => return Said::Changed,
-            Said::Made(turn) => turn,
+        let Some(turn) = self.turn(image, SCHEDULER) else {
+            return Said::Changed;
         };
         let Turn {
             word,
@@ -449,10 +436,8 @@ impl Sites for Seated<'_> {
     }
 
     fn wake(&mut self, image: &Image, cpu: u8, who: ThreadIx, told: &Told) -> Said<()> {
-        let turn = match self.turn(image, SCHEDULER) {
-            Said::Busy => return Said::Busy,
-            Said::Changed => return Said::Changed,
-            Said::Made(turn) => turn,
+        let Some(turn) = self.turn(image, SCHEDULER) else {
+            return Said::Changed;
         };
         let Turn {
             word,
@@ -486,10 +471,8 @@ impl Sites for Seated<'_> {
     }
 
     fn add(&mut self, image: &Image, cpu: u8, context: &mut Box<Context>) -> Said<()> {
-        let turn = match self.turn(image, SCHEDULER) {
-            Said::Busy => return Said::Busy,
-            Said::Changed => return Said::Changed,
-            Said::Made(turn) => turn,
+        let Some(turn) = self.turn(image, SCHEDULER) else {
+            return Said::Changed;
         };
         let Turn {
             word,
@@ -512,10 +495,8 @@ impl Sites for Seated<'_> {
     }
 
     fn park(&mut self, image: &Image, cpu: u8, context: &mut Box<Context>) -> Said<()> {
-        let turn = match self.turn(image, SCHEDULER) {
-            Said::Busy => return Said::Busy,
-            Said::Changed => return Said::Changed,
-            Said::Made(turn) => turn,
+        let Some(turn) = self.turn(image, SCHEDULER) else {
+            return Said::Changed;
         };
         let Turn {
             word,
@@ -541,10 +522,8 @@ impl Sites for Seated<'_> {
     }
 
     fn done(&mut self, image: &Image, cpu: u8) -> Said<()> {
-        let turn = match self.turn(image, SCHEDULER) {
-            Said::Busy => return Said::Busy,
-            Said::Changed => return Said::Changed,
-            Said::Made(turn) => turn,
+        let Some(turn) = self.turn(image, SCHEDULER) else {
+            return Said::Changed;
         };
         let Turn {
             word,

@@ -5,7 +5,7 @@ use Rattle.std.proofs.lemmas.List.{get_or-map, map-set, set-get_or}
 use Rattle.um_base.specs.declared.image.Image.{Image}
 use Rattle.um_fine.specs.Follows.{p_next}
 use Rattle.um_fine.specs.Processor.{Processor, idle}
-use Rattle.um_fine.specs.Steps.{FineStep}
+use Rattle.um_fine.specs.Steps.{FineStep, Site}
 use Rattle.um_processor.specs.declared.phase.Turn.{Turn}
 use Rattle.um_processor.specs.declared.processor.Processor.{Processor as Kept}
 use Rattle.um_processor.specs.Processors.{AsksFor, IsStuck, Turned, UnlessMade}
@@ -33,7 +33,7 @@ module _ (image : Image) (k : ℕ) (kept : List Kept) (before after : Sited) (p 
   abbrev pub Tells : Turn → Type 0
   Tells turn =
       Turned turn k image (whole p) (whole z) (λ e. WasMade image before e after) (λ e. (after ≡ before) × IsShut image (state_at before e.site) e)
-      ((after ≡ before) × IsFull before) (after ≡ before)
+      (λ (site : Site). (after ≡ before) × IsFull before) (after ≡ before)
 
   pub turn-steps : (turn : Turn) → Tells turn → is_made turn ≡ true → Steps image k (core_of before kept) (core_of after (slice_set kept k z))
   turn-steps Turn.Made (e, taken, goes) h =

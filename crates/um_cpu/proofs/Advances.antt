@@ -1,24 +1,30 @@
 -- How a processor goes on at its seat.
-use Rattle.std.proofs.Common.{◌≡◌, ℕ, ◌<◌, inl, List, [], ◌∷◌, ◌++◌, refl, sym, ap, ◌∙◌, subst, arith}
+use Rattle.std.proofs.Common.{◌≡◌, ℕ, ◌<◌, List, [], ◌∷◌, ◌++◌, map, refl, sym, ap, ◌∙◌, subst, arith}
 use Rattle.std.proofs.lemmas.List.{append-nil}
 use Rattle.um_base.specs.declared.image.Image.{Image}
-use Rattle.um_words.specs.Packed.{cell_of}
 use Rattle.um_words.specs.declared.made.Made.{Made}
 use Rattle.um_fine.specs.Follows.{p_next}
 use Rattle.um_fine.specs.Processor.{Processor, idle}
 use Rattle.um_fine.specs.Runs.{ends}
-use Rattle.um_fine.specs.Steps.{FineStep}
+use Rattle.um_fine.specs.Sites.{site_number}
+use Rattle.um_fine.specs.Steps.{FineStep, Site}
 use Rattle.um_merge.specs.declared.logged.Logged.{Logged}
-use Rattle.um_processor.specs.Processors.{AsksFor, Goes, Turned, UnlessMade}
+use Rattle.um_processor.specs.Processors.{AsksFor, Goes, MayNext, Turned, UnlessMade}
 use Rattle.um_processor.specs.declared.phase.Turn.{Turn}
-use Rattle.um_site.specs.Tells.{NoOlder}
 use Rattle.um_site.specs.declared.seat.Seat.{Seat}
 use Rattle.um_board.specs.Contents.{Known}
+use Rattle.um_board.specs.NextSteps.{IsNext, stands_at}
 use Rattle.um_board.specs.Noted.{logged_of, made_of}
+use Rattle.um_board.specs.ReadBack.{IsReadBack, fine_at}
+use Rattle.um_board.specs.Saw.{Hinders, SawShut}
 use Rattle.um_board.specs.Seated.{KeepsPlace, Noted, Unnoted}
-use Rattle.um_history.specs.Played.{SCHEDULER, SawNone, WasGot}
-use Rattle.um_history.proofs.Playing.{Playing, ends-on, got-behind, plays-looked, plays-none, plays-on, saw-none}
-use Rattle.um_cpu.specs.Cpus.{Advances, HasMade, Plays, Reaches, Rests, SawReady}
+use Rattle.um_board.specs.declared.seated.Seated.{Seated}
+use Rattle.um_board.proofs.NextRuns.{read-back}
+use Rattle.um_history.specs.Played.{Each, SCHEDULER, SawNone}
+use Rattle.um_history.proofs.Granted.{own-steps-of}
+use Rattle.um_history.proofs.Lists.{each-both}
+use Rattle.um_history.proofs.Playing.{Playing, ends-on, plays-looked, plays-none, plays-on, saw-none}
+use Rattle.um_cpu.specs.Cpus.{Advances, HasAsked, HasMade, Plays, Reaches, Rests, Stands}
 
 -- a seat that keeps its place twice keeps it
 pub keeps_on : (s t u : Seat Known) → KeepsPlace s t → KeepsPlace t u → KeepsPlace s u
@@ -97,9 +103,9 @@ module _ (image : Image) (k : ℕ) where
   looked-first p q s old t between u new unnoted goes steps made = goes steps (looked-on p p s old t between steps made unnoted refl)
 
   -- what comes of a turn
-  pub turned-on : (turn : Turn) (p q : Processor) (s : Seat Known) (old : List Logged) (t : Seat Known) (new : List Logged) (shut : FineStep → Type 0) (late none : Type 0)
+  pub turned-on : (turn : Turn) (p q : Processor) (s : Seat Known) (old : List Logged) (t : Seat Known) (new : List Logged) (shut : FineStep → Type 0) (late : Site → Type 0) (none : Type 0)
       → UnlessMade turn (q ≡ p) → (none → Unnoted s old t new)
-      → Turned turn k image p q (λ e. Noted s old e t new) (λ e. Unnoted s old t new × shut e) (Unnoted s old t new × late) none → Advances image k p s old q t new
+      → Turned turn k image p q (λ e. Noted s old e t new) (λ e. Unnoted s old t new × shut e) (λ site. Unnoted s old t new × late site) none → Advances image k p s old q t new
   turned-on Turn.Made p q s old t new shut late none same unnoted turned =
       λ steps made. record { more = turned.0 ∷ []; few = omega arith; made = made-on p q s old t new steps turned.0 made turned.1 turned.2 }
   turned-on Turn.Busy p q s old t new shut late none same unnoted turned = looks-on p q s old t new turned.1.0 same
@@ -107,25 +113,24 @@ module _ (image : Image) (k : ℕ) where
   turned-on Turn.Stuck p q s old t new shut late none same unnoted turned = looks-on p q s old t new (unnoted turned.0) same
 
   -- a turn keeps the seat's place
-  pub turned-keeps : (turn : Turn) (p q : Processor) (s : Seat Known) (old : List Logged) (t : Seat Known) (new : List Logged) (shut : FineStep → Type 0) (late none : Type 0)
+  pub turned-keeps : (turn : Turn) (p q : Processor) (s : Seat Known) (old : List Logged) (t : Seat Known) (new : List Logged) (shut : FineStep → Type 0) (late : Site → Type 0) (none : Type 0)
       → (none → Unnoted s old t new)
-      → Turned turn k image p q (λ e. Noted s old e t new) (λ e. Unnoted s old t new × shut e) (Unnoted s old t new × late) none → KeepsPlace s t
+      → Turned turn k image p q (λ e. Noted s old e t new) (λ e. Unnoted s old t new × shut e) (λ site. Unnoted s old t new × late site) none → KeepsPlace s t
   turned-keeps Turn.Made p q s old t new shut late none unnoted turned = turned.1.keeps
   turned-keeps Turn.Busy p q s old t new shut late none unnoted turned = turned.1.0.keeps
   turned-keeps Turn.Changed p q s old t new shut late none unnoted turned = turned.0.keeps
   turned-keeps Turn.Stuck p q s old t new shut late none unnoted turned = (unnoted turned.0).keeps
 
-  -- a turn forgets no word that the seat got
-  pub turned-got : (turn : Turn) (p q : Processor) (s : Seat Known) (old : List Logged) (t : Seat Known) (new : List Logged) (shut : FineStep → Type 0) (late none : Type 0)
-      → (none → Unnoted s old t new)
-      → Turned turn k image p q (λ e. Noted s old e t new) (λ e. Unnoted s old t new × shut e) (Unnoted s old t new × late) none
-      → (more : List (ℕ × ℕ)) × (t.token.me.0.got ≡ more ++ s.token.me.0.got)
-  turned-got Turn.Made p q s old t new shut late none unnoted turned =
-      let made = made_of turned.0 in
-      ((made.site, made.word) ∷ turned.1.got.0, turned.1.got.1)
-  turned-got Turn.Busy p q s old t new shut late none unnoted turned = turned.1.0.got
-  turned-got Turn.Changed p q s old t new shut late none unnoted turned = turned.0.got
-  turned-got Turn.Stuck p q s old t new shut late none unnoted turned = (unnoted turned.0).got
+  -- what its asking came to
+  pub asked-of : (turn : Turn) (p q : Processor) (s : Seat Known) (room : ℕ) (old : List Logged) (t : Seat Known) (new : List Logged) (none : Type 0) → (none → Unnoted s old t new)
+      → Turned turn k image p q (λ e. Noted s old e t new) (λ e. Unnoted s old t new × SawShut s.token.me.0.got t.token.me.0.got e)
+      (λ site. Unnoted s old t new × Hinders room old s.token.me.0.got t.token.me.0.got (site_number site))
+      none
+      → HasAsked image k p q s room old t new
+  asked-of Turn.Made p q s room old t new none unnoted turned = record { turn = Turn.Made; turned = turned }
+  asked-of Turn.Busy p q s room old t new none unnoted turned = record { turn = Turn.Busy; turned = turned }
+  asked-of Turn.Changed p q s room old t new none unnoted turned = record { turn = Turn.Changed; turned = turned }
+  asked-of Turn.Stuck p q s room old t new none unnoted turned = record { turn = Turn.Stuck; turned = (unnoted turned.0, turned.1) }
 
   -- a processor without a thread that sees none ready
   pub rests-saw : (p q : Processor) (s : Seat Known) (old : List Logged) (t : Seat Known) (new : List Logged) (word : ℕ) (steps : List FineStep)
@@ -161,12 +166,35 @@ module _ (image : Image) (k : ℕ) where
       (was.0, rests-on q x t between u new word was.0 was.1 rests, rests-saw q x t between u new word was.0 was.1 rests)
 
 -- no step and no look
-pub unnoted-itself : (s : Seat Known) (log : List Logged) → Unnoted s log s log
+unnoted-itself : (s : Seat Known) (log : List Logged) → Unnoted s log s log
 unnoted-itself s log = record { keeps = keeps_itself s; made = refl; log = refl; got = ([], refl) }
 
--- a seat that has seen a ready thread still has that word, whatever it got since
-pub saw-ready : (s t u : Seat Known) (word : ℕ) → t.token.me.0.got ≡ (SCHEDULER, word) ∷ s.token.me.0.got → NoOlder s.token.me.0.got SCHEDULER word → 0 < (cell_of word).ready
-    → (more : List (ℕ × ℕ)) × (u.token.me.0.got ≡ more ++ t.token.me.0.got) → SawReady s u
-saw-ready s t u word looked newest ready (more, got) =
-    let here : WasGot t.token.me.0.got SCHEDULER word = subst (λ (l : List (ℕ × ℕ)). WasGot l SCHEDULER word) (sym looked) (inl (refl, refl)) in
-    (word, subst (λ (l : List (ℕ × ℕ)). WasGot l SCHEDULER word) (sym got) (got-behind more t.token.me.0.got SCHEDULER word here), newest, ready)
+pub unnoted-there : (s t : Seated) → t ≡ s → Unnoted s.seat s.log.items t.seat t.log.items
+unnoted-there s t same = subst (λ (x : Seated). Unnoted s.seat s.log.items x.seat x.log.items) (sym same) (unnoted-itself s.seat s.log.items)
+
+-- The processor of a seat that has made some steps asks for the next one, which the board's rule lets it make.
+
+listed : (k : ℕ) (made : List Made) (steps : List FineStep) → made ≡ map made_of steps → Each (λ (e : FineStep). (e.cpu ≡ k) × IsReadBack e) steps → map (fine_at k) made ≡ steps
+listed k made steps is each = ap (map (fine_at k)) is ∙ back steps each
+  where
+    back : (l : List FineStep) → Each (λ (e : FineStep). (e.cpu ≡ k) × IsReadBack e) l → map (fine_at k) (map made_of l) ≡ l
+    back [] all = refl
+    back (e ∷ l) all = λ i. read-back k e all.0.0 all.0.1 i ∷ back l all.1 i
+
+module _ (image : Image) (k : ℕ) where
+  pub stands-next : (p : Processor) (s : Seat Known) (log : List Logged) → Stands image k p s log → MayNext k image p (IsNext image s.token.me.0.name s.token.me.0.made)
+  stands-next p s log stands e asks =
+      let made = stands.made in
+      let steps = stands.steps in
+      let own = each-both (λ (e : FineStep). e.cpu ≡ k) IsReadBack steps (own-steps-of image k idle steps made.played.run) made.played.whole in
+      let there : p ≡ stands_at image k s.token.me.0.made = made.stands ∙ ap (ends (p_next image) idle) (sym (listed k s.token.me.0.made steps made.played.made_is own)) in
+      record { k = k; few = stands.few; named = stands.named; asks = subst (λ (x : Processor). AsksFor k image x e) there asks }
+
+  pub stands-on : (p q : Processor) (s : Seat Known) (old : List Logged) (t : Seat Known) (new : List Logged) → Stands image k p s old → KeepsPlace s t → Advances image k p s old q t new
+      → Stands image k q t new
+  stands-on p q s old t new stands keeps goes =
+      let on = goes stands.steps stands.made in
+      record { few = stands.few; named = keeps.name ∙ stands.named; steps = stands.steps ++ on.more; made = on.made }
+
+  pub stands-first : (p : Processor) (s : Seat Known) (log : List Logged) → k < 8 → s.token.me.0.name ≡ k ∷ [] → p ≡ idle → s.token.me.0.made ≡ [] → log ≡ [] → Stands image k p s log
+  stands-first p s log few named fresh none empty = record { few = few; named = named; steps = []; made = has-none image k p s log fresh none empty }

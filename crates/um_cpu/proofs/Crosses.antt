@@ -8,8 +8,8 @@ use Rattle.um_board.specs.contracts.contents.Contents.TheInside as Inside
 use Rattle.um_board.specs.contracts.seated.Seated as Seated
 use Rattle.um_cpu.specs.contracts.cpu.Cpu as Cpu
 use Rattle.um_board.specs.contracts.contents.ContentsContent.TheImpl as Content
-use Rattle.um_words.specs.contracts.local.AnyStepLocal.TheImpl as Local
-use Rattle.um_words.specs.contracts.local.AnyStep as AnyStep
+use Rattle.um_board.specs.contracts.next_step.NextStepLocal.TheImpl as Local
+use Rattle.um_board.specs.contracts.next_step.NextStep as NextStep
 use Rattle.um_site.specs.contracts.board.Board as BoardRow
 use Rattle.um_cell.specs.contracts.cells.Cells as CellsRow
 use Rattle.um_board.proofs.contents.Kept.TheSendSync as Kept
@@ -31,8 +31,8 @@ contents_send = record { owned = λ d vs x. (inside_send.owned x.0 vs, tt); leav
 pub contents_sync : IsSync Contents.the_row
 contents_sync = record { shared = λ d b o κ x. (inside_sync.shared x.0 b o κ, tt) }
 
-pub board_sync : IsSync (BoardRow.the_row Contents.the_row AnyStep.the_row Content.ghosts Local.ghosts)
-board_sync = Board.the_sync Contents.the_row AnyStep.the_row Content.ghosts Local.ghosts contents_send
+pub board_sync : IsSync (BoardRow.the_row Contents.the_row NextStep.the_row Content.ghosts Local.ghosts)
+board_sync = Board.the_sync Contents.the_row NextStep.the_row Content.ghosts Local.ghosts contents_send
 
 pub cells_sync : IsSync (CellsRow.the_row Contents.the_row)
 cells_sync = Cells.the_sync Contents.the_row

@@ -14,10 +14,11 @@ use Rattle.um_site.specs.declared.closed.Closed.{Closed}
 use Rattle.um_site.specs.declared.view.View.{View}
 use Rattle.um_site.proofs.Joining.{names_left, still_among}
 use Rattle.um_board.specs.Contents.{Follows, Known, Opens}
-use Rattle.um_history.specs.Played.{Any, Played, SCHEDULER, SawNone, StandsUnder}
+use Rattle.um_history.specs.Played.{Played, SCHEDULER, SawNone, StandsUnder}
 use Rattle.um_history.proofs.Chosen.{chosen}
 use Rattle.um_history.proofs.Joins.{among-parts, stands-before, stands-behind}
-use Rattle.um_history.proofs.Playing.{got-before, got-behind}
+use Rattle.um_board.specs.NextSteps.{NextGoes}
+use Rattle.um_board.proofs.Saws.{got-before, got-behind}
 use Rattle.um_cpu.specs.Ended.{Ends, HasEnded, HasGathered, HasLeft}
 use Rattle.um_cpu.specs.declared.cpu.Cpu.{Cpu}
 
@@ -134,7 +135,7 @@ module _ (image : Image) (board : TableId) (v : View) (n cpus : ℕ) (logs : Lis
 
 -- all are joined in, and the board is closed
 module _ (image : Image) (v : View) (cpus : ℕ) (board : Closed Known) (logs : List Log) (seen : board.token.me.0 ≡ shadow_of v) (gathered : HasGathered image v 0 cpus logs)
-    (closed : IsClosedWithCells Opens Follows Any v (slots_items board.table.words)) where
+    (closed : IsClosedWithCells Opens Follows NextGoes v (slots_items board.table.words)) where
   abbrev Left : ℕ → List FineStep → Type 0
   Left k steps = ((made : List Made) × StandsUnder v.joined (k ∷ []) made × Played image k made (log_at logs k) steps) × SawNone image v.got steps
 
@@ -166,5 +167,5 @@ module _ (image : Image) (v : View) (cpus : ℕ) (board : Closed Known) (logs : 
 
 -- the same, where so many are all
 pub all-ended : (image : Image) (v : View) (n cpus : ℕ) (board : Closed Known) (logs : List Log) → n ≡ cpus → board.token.me.0 ≡ shadow_of v → HasGathered image v 0 n logs
-    → IsClosedWithCells Opens Follows Any v (slots_items board.table.words) → HasEnded image cpus board logs
+    → IsClosedWithCells Opens Follows NextGoes v (slots_items board.table.words) → HasEnded image cpus board logs
 all-ended image v n cpus board logs same seen gathered closed = subst (λ (m : ℕ). HasEnded image m board logs) same (has-ended image v n board logs seen gathered closed)

@@ -1,5 +1,5 @@
 -- A processor's seat when it is split off, and behind its last turn.
-use Rattle.std.proofs.Common.{◌≡◌, ℕ, ◌+◌, List, [], ◌∷◌, ◌++◌, length, length-append, inl, inr, refl, sym, ap, ◌∙◌, subst, arith}
+use Rattle.std.proofs.Common.{◌≡◌, ℕ, ◌+◌, ◌<◌, List, [], ◌∷◌, ◌++◌, length, length-append, inl, inr, refl, sym, ap, ◌∙◌, subst, arith}
 use Rattle.std.specs.Prelude.{reverse}
 use Rattle.std.proofs.lemmas.Bool.Decides.{leb_tells}
 use Rattle.std.proofs.lemmas.List.{get_or_append_left, get_or_at, reverse-append}
@@ -61,9 +61,9 @@ module _ (image : Image) (board : TableId) (cells : Cells Known) (s own : Seat K
         empty = none;
       }
 
-  pub begins-there : (c : Cpu) (rodata : List ℕ) → c.number ≡ n → c.place.board.now.table.shared.table_id ≡ board → c.place.cells.now ≡ cells → c.place.rodata.now ≡ rodata → rodata ≡ rodata_of image
+  pub begins-there : (c : Cpu) (rodata : List ℕ) → n < 8 → c.number ≡ n → c.place.board.now.table.shared.table_id ≡ board → c.place.cells.now ≡ cells → c.place.rodata.now ≡ rodata → rodata ≡ rodata_of image
       → c.place.seat ≡ own → c.place.log.items ≡ [] → whole c.processor ≡ idle → own.split ≡ 0 → own.joined ≡ 0 → Begins image board n c
-  begins-there c rodata number at-board at-cells is-rodata rodata-is is-own log fresh split joined =
+  begins-there c rodata few number at-board at-cells is-rodata rodata-is is-own log fresh split joined =
       record {
         sits = record {
           number = number;
@@ -76,6 +76,7 @@ module _ (image : Image) (board : TableId) (cells : Cells Known) (s own : Seat K
           children = ap (λ (x : Seat Known). x.token.me.0.children) is-own ∙ ap (λ (v : View). v.children) born;
           lists = ap (λ (x : Seat Known). x.token.me.0.joined) is-own ∙ ap (λ (v : View). v.joined) born;
         };
+        few = few;
         idle_is = fresh;
         made = ap (λ (x : Seat Known). x.token.me.0.made) is-own ∙ ap (λ (v : View). v.made) born;
         log = log;

@@ -6,13 +6,17 @@ use Rattle.um_fine.specs.Follows.{p_next}
 use Rattle.um_fine.specs.Processor.{Processor, idle}
 use Rattle.um_fine.specs.Runs.{ends}
 use Rattle.um_fine.specs.Sites.{site_number}
-use Rattle.um_fine.specs.Steps.{FineStep}
+use Rattle.um_fine.specs.Steps.{FineStep, Site}
 use Rattle.um_merge.specs.declared.logged.Logged.{Logged}
+use Rattle.um_processor.specs.Processors.{Turned}
+use Rattle.um_processor.specs.declared.phase.Turn as Asked
 use Rattle.um_site.specs.Tells.{NoOlder}
 use Rattle.um_site.specs.declared.seat.Seat.{Seat}
 use Rattle.um_board.specs.Contents.{Known}
 use Rattle.um_board.specs.Noted.{packed}
-use Rattle.um_history.specs.Played.{Each, Played, SCHEDULER, SawNone, WasGot}
+use Rattle.um_board.specs.Saw.{Hinders, SawShut, WasGot}
+use Rattle.um_board.specs.Seated.{Noted, Unnoted}
+use Rattle.um_history.specs.Played.{Each, Played, SCHEDULER, SawNone}
 use Rattle.um_cpu.specs.declared.turn.Turn.{Turn}
 
 -- the word that the step left was got at its site
@@ -24,6 +28,13 @@ pub record HasMade (image : Image) (k : ℕ) (p : Processor) (seat : Seat Known)
   pub played : Played image k seat.token.me.0.made log steps
   pub stands : p ≡ ends (p_next image) idle steps
   pub known : Each (IsLeft seat) steps
+
+-- The processor k, which is one of eight, has made some steps at the seat of its name.
+pub record Stands (image : Image) (k : ℕ) (p : Processor) (seat : Seat Known) (log : List Logged) : Type 0 where
+  pub few : k < 8
+  pub named : seat.token.me.0.name ≡ k ∷ []
+  pub steps : List FineStep
+  pub made : HasMade image k p seat log steps
 
 -- it has made one more step at most
 pub record GoesOn (image : Image) (k : ℕ) (p : Processor) (seat : Seat Known) (log : List Logged) (steps : List FineStep) : Type 0 where
@@ -57,15 +68,29 @@ pub record Rests (p q : Processor) (s : Seat Known) (old : List Logged) (t : Sea
   pub newest : NoOlder s.token.me.0.got SCHEDULER word
   pub none : (cell_of word).ready ≡ 0
 
--- the seat has looked at the scheduler's word, by which a thread is ready
-abbrev pub SawReady : Seat Known → Seat Known → Type 0
-SawReady s t = (word : ℕ) × WasGot t.token.me.0.got SCHEDULER word × NoOlder s.token.me.0.got SCHEDULER word × (0 < (cell_of word).ready)
+-- It asked once for its next step. The step was made; or its site refuses it, by a word that the seat got meanwhile; or none was made there, for what
+-- the seat saw there or for want of room in the log; or there is no step that it could ask for.
+pub record HasAsked (image : Image) (k : ℕ) (p q : Processor) (s : Seat Known) (room : ℕ) (old : List Logged) (t : Seat Known) (new : List Logged) : Type 0 where
+  pub turn : Asked.Turn
+  pub turned : Turned turn k image p q (λ (e : FineStep). Noted s old e t new)
+      (λ (e : FineStep). Unnoted s old t new × SawShut s.token.me.0.got t.token.me.0.got e)
+      (λ (site : Site). Unnoted s old t new × Hinders room old s.token.me.0.got t.token.me.0.got (site_number site))
+      (Unnoted s old t new)
 
--- The processor had a step to go on with, or its seat saw that a thread is ready.
-abbrev pub HadWork : Processor → Seat Known → Seat Known → Type 0
-HadWork p s t = (p.todo ≢ []) ⊎ SawReady s t
+-- The seat has looked at the scheduler's word, by which a thread is ready, and has done nothing else.
+pub record SawReady (s t : Seat Known) : Type 0 where
+  pub word : ℕ
+  pub got : t.token.me.0.got ≡ (SCHEDULER, word) ∷ s.token.me.0.got
+  pub newest : NoOlder s.token.me.0.got SCHEDULER word
+  pub ready : 0 < (cell_of word).ready
 
--- what a turn tells: that there was something to do, or that there was nothing by this word of the scheduler
+-- The processor had a step to go on with, and asked for it; or its seat saw first that a thread is ready, and then it asked for one.
+abbrev pub HadWork : Image → ℕ → Processor → Processor → Seat Known → ℕ → List Logged → Seat Known → List Logged → Type 0
+HadWork image k p q s room old t new =
+    ((p.todo ≢ []) × HasAsked image k p q s room old t new)
+    ⊎ ((seen : Seat Known) × Unnoted s old seen old × SawReady s seen × HasAsked image k p q seen room old t new)
+
+-- what a turn tells: that there was something to do, for which it asked, or that there was nothing by this word of the scheduler
 abbrev pub Tells : Turn → Type 0 → (ℕ → Type 0) → Type 0
 Tells Turn.Did worked rests = worked
 Tells (Turn.Idle word) worked rests = rests word × ¬ NoneLeft word

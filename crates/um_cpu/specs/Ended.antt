@@ -35,6 +35,7 @@ pub record Sits (image : Image) (board : TableId) (k : ℕ) (c : Cpu) : Type 0 w
 -- before its first turn
 pub record Begins (image : Image) (board : TableId) (k : ℕ) (c : Cpu) : Type 0 where
   pub sits : Sits image board k c
+  pub few : k < 8
   pub idle_is : whole c.processor ≡ idle
   pub made : c.place.seat.token.me.0.made ≡ []
   pub log : c.place.log.items ≡ []

@@ -1,11 +1,11 @@
 //! A processor at its place at a board.
 
-ghost use Rattle.std.specs.Prelude.{◌≡◌, ◌++◌, List, ℕ};
+ghost use Rattle.std.specs.Prelude.{◌≡◌, vec_capacity};
 ghost use Rattle.um_processor.specs.Given.{IsGiven};
 ghost use Rattle.um_processor.specs.Standing.{whole};
 ghost use Rattle.um_board.specs.Seated.{KeepsPlace};
 ghost use Rattle.um_board.specs.Turned.{IsPlaced};
-ghost use Rattle.um_cpu.specs.Cpus.{Advances, HadWork, Rests, Tells};
+ghost use Rattle.um_cpu.specs.Cpus.{Advances, HadWork, HasAsked, Rests, Stands, Tells};
 
 use crate::turn::Turn;
 use um_base::Image;
@@ -26,25 +26,29 @@ impl<'a> Cpu<'a> {
     fn ask(&mut self, image: &Image)
         requires given { IsGiven image.now }
         requires place { IsPlaced image.now self.old.place.board.now.table.shared.table_id self.old.place.cells.now self.old.place.rodata.now self.old.place.seat }
+        requires stands { Stands image.now self.old.number (whole self.old.processor) self.old.place.seat self.old.place.log.items }
         ensures number { self.new.number ≡ self.old.number }
         ensures place { IsPlaced image.now self.new.place.board.now.table.shared.table_id self.new.place.cells.now self.new.place.rodata.now self.new.place.seat }
         ensures keeps { KeepsPlace self.old.place.seat self.new.place.seat }
         ensures goes { Advances image.now self.old.number (whole self.old.processor) self.old.place.seat self.old.place.log.items (whole self.new.processor) self.new.place.seat self.new.place.log.items }
-        ensures got { (more : List (ℕ × ℕ)) × (self.new.place.seat.token.me.0.got ≡ more ++ self.old.place.seat.token.me.0.got) }
+        ensures asked { HasAsked image.now self.old.number (whole self.old.processor) (whole self.new.processor) self.old.place.seat (vec_capacity self.old.place.log) self.old.place.log.items self.new.place.seat self.new.place.log.items }
+        ensures stands { Stands image.now self.new.number (whole self.new.processor) self.new.place.seat self.new.place.log.items }
     {
         let _ = self.processor.step(image, self.number, &mut self.place);
     }
 
-    /// It makes its next step at most, for which it asks once. Where it has no thread it looks first whether one is ready, and asks for nothing
-    /// where none is.
+    /// It makes its next step at most, for which it asks once; where that wasn't made, its seat has got the word by which its site refused it, or
+    /// that another was there. Where it has no thread it looks first whether one is ready, and asks for nothing where none is.
     pub fn step(&mut self, image: &Image) -> Turn
         requires given { IsGiven image.now }
         requires place { IsPlaced image.now self.old.place.board.now.table.shared.table_id self.old.place.cells.now self.old.place.rodata.now self.old.place.seat }
+        requires stands { Stands image.now self.old.number (whole self.old.processor) self.old.place.seat self.old.place.log.items }
         ensures number { self.new.number ≡ self.old.number }
         ensures place { IsPlaced image.now self.new.place.board.now.table.shared.table_id self.new.place.cells.now self.new.place.rodata.now self.new.place.seat }
         ensures keeps { KeepsPlace self.old.place.seat self.new.place.seat }
         ensures goes { Advances image.now self.old.number (whole self.old.processor) self.old.place.seat self.old.place.log.items (whole self.new.processor) self.new.place.seat self.new.place.log.items }
-        ensures told { Tells result (HadWork (whole self.old.processor) self.old.place.seat self.new.place.seat)
+        ensures stands { Stands image.now self.new.number (whole self.new.processor) self.new.place.seat self.new.place.log.items }
+        ensures told { Tells result (HadWork image.now self.old.number (whole self.old.processor) (whole self.new.processor) self.old.place.seat (vec_capacity self.old.place.log) self.old.place.log.items self.new.place.seat self.new.place.log.items)
             (Rests (whole self.old.processor) (whole self.new.processor) self.old.place.seat self.old.place.log.items self.new.place.seat self.new.place.log.items) }
     {
         if !self.processor.is_idle() {

@@ -14,11 +14,10 @@ use std::sync::Wait;
 use std::thread;
 use std::thread::Threads;
 use um_base::{Image, Memory};
-use um_board::{Contents, opening};
+use um_board::{Contents, NextStep, opening};
 use um_io::Gate;
 use um_merge::{Logged, PROCESSORS};
 use um_site::{Board, Closed, Seat};
-use um_words::AnyStep;
 
 /// What is left of processors that have ended.
 pub struct Ended {
@@ -31,7 +30,7 @@ pub struct Ended {
 fn play<R: Wait, G: Gate>(
     rt: &R,
     image: &Image,
-    board: &Board<Contents, AnyStep>,
+    board: &Board<Contents, NextStep>,
     number: usize,
     cpu: &mut Cpu<'_>,
     gate: &G,
@@ -49,7 +48,7 @@ fn play<R: Wait, G: Gate>(
 fn run_all<R: Threads + Wait + Sync, G: Gate + Sync>(
     rt: &R,
     image: &Image,
-    board: &Board<Contents, AnyStep>,
+    board: &Board<Contents, NextStep>,
     cpus: &mut [Cpu<'_>],
     gate: &G,
 )
@@ -72,7 +71,7 @@ fn run_all<R: Threads + Wait + Sync, G: Gate + Sync>(
 /// The seats of the processors are taken in, with their logs, for which there is room.
 fn gather(
     image: &Image,
-    board: &Board<Contents, AnyStep>,
+    board: &Board<Contents, NextStep>,
     seat: &mut Seat<Contents>,
     cpus: &mut Vec<Cpu<'_>>,
     logs: &mut Vec<Vec<Logged>>,

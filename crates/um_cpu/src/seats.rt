@@ -1,6 +1,6 @@
 //! A seat for each processor.
 
-ghost use Rattle.std.specs.Prelude.{◌≡◌, ◌+◌, [], IfOk, length};
+ghost use Rattle.std.specs.Prelude.{◌≡◌, ◌+◌, ◌<◌, ◌≤◌, [], IfOk, length};
 ghost use Rattle.um_machine.specs.Memory.{rodata_of};
 ghost use Rattle.um_board.specs.Opening.{AreOpening, IsFirst};
 ghost use Rattle.um_board.specs.Seated.{IsSeated};
@@ -9,17 +9,16 @@ ghost use Rattle.um_cpu.specs.Ended.{Begins, EachAt, Gathered};
 use crate::cpu::Cpu;
 use std::alloc::Global;
 use um_base::{Image, Memory};
-use um_board::{Contents, Seated};
+use um_board::{Contents, NextStep, Seated};
 use um_cell::Cells;
 use um_processor::Processor;
 use um_site::{Board, Seat};
-use um_words::AnyStep;
 
 /// A processor without a thread, at a seat that is split off, with room for so many steps in its log.
 fn seat_of<'a>(
     alloc: Global,
     image: &Image,
-    board: &'a Board<Contents, AnyStep>,
+    board: &'a Board<Contents, NextStep>,
     cells: &'a Cells<Contents>,
     rodata: &'a [u8],
     seat: &mut Seat<Contents>,
@@ -29,6 +28,7 @@ fn seat_of<'a>(
     requires seated { IsSeated image.now board.now.table.shared.table_id cells.now seat.old }
     requires rodata { rodata.now ≡ rodata_of image.now }
     requires gathered { Gathered image.now board.now.table.shared.table_id seat.old number number [] }
+    requires few { number < 8 }
     ensures seated { IfOk result (λ cpu. IsSeated image.now board.now.table.shared.table_id cells.now seat.new) }
     ensures gathered { IfOk result (λ cpu. Gathered image.now board.now.table.shared.table_id seat.new (number + 1) (number + 1) []) }
     ensures begins { IfOk result (λ cpu. Begins image.now board.now.table.shared.table_id number cpu) }
@@ -49,7 +49,7 @@ fn seat_of<'a>(
 pub(crate) fn seats<'a>(
     alloc: Global,
     image: &Image,
-    board: &'a Board<Contents, AnyStep>,
+    board: &'a Board<Contents, NextStep>,
     cells: &'a Cells<Contents>,
     rodata: &'a [u8],
     seat: &mut Seat<Contents>,
@@ -60,6 +60,7 @@ pub(crate) fn seats<'a>(
     requires rodata { rodata.now ≡ rodata_of image.now }
     requires first { IsFirst seat.old }
     requires opening { AreOpening image.now seat.old.token.me.0.opening }
+    requires few { cpus ≤ 8 }
     ensures count { IfOk result (λ all. length all.items ≡ cpus) }
     ensures begins { IfOk result (λ all. EachAt (Begins image.now board.now.table.shared.table_id) all.items) }
     ensures gathered { IfOk result (λ all. Gathered image.now board.now.table.shared.table_id seat.new cpus cpus []) }

@@ -5,7 +5,7 @@ ghost use Rattle.um_processor.specs.Given.{IsGiven};
 ghost use Rattle.um_processor.specs.Standing.{whole};
 ghost use Rattle.um_board.specs.Seated.{KeepsPlace};
 ghost use Rattle.um_board.specs.Turned.{IsPlaced};
-ghost use Rattle.um_cpu.specs.Cpus.{Plays};
+ghost use Rattle.um_cpu.specs.Cpus.{Plays, Stands};
 
 use crate::cpu::Cpu;
 use crate::turn::Turn;
@@ -31,6 +31,7 @@ fn wait() {
 pub(crate) fn turns<R: Wait, G: Gate>(rt: &R, image: &Image, cpu: &mut Cpu<'_>, gate: &G)
     requires given { IsGiven image.now }
     requires place { IsPlaced image.now cpu.old.place.board.now.table.shared.table_id cpu.old.place.cells.now cpu.old.place.rodata.now cpu.old.place.seat }
+    requires stands { Stands image.now cpu.old.number (whole cpu.old.processor) cpu.old.place.seat cpu.old.place.log.items }
     ensures number { cpu.new.number ≡ cpu.old.number }
     ensures place { IsPlaced image.now cpu.new.place.board.now.table.shared.table_id cpu.new.place.cells.now cpu.new.place.rodata.now cpu.new.place.seat }
     ensures keeps { KeepsPlace cpu.old.place.seat cpu.new.place.seat }

@@ -139,8 +139,8 @@ fn variable_limits(partition: usize, variables: &[VariableEntry]) -> Option<Flaw
 }
 
 #[tactic(auto, using(crate::proofs::Firsts::first_or), unfolding(crate::specs::Limits::contents_limits))]
-fn whole_limit(i: usize, size: i64, data: &Text) -> Option<Flaw>
-    ensures { result ≡ first_of (limits.contents_limits i (PartitionContents.Whole size data.now)) }
+fn whole_limit(i: usize, size: i64, text: &Text) -> Option<Flaw>
+    ensures { result ≡ first_of (limits.contents_limits i (PartitionContents.Whole size text.now)) }
 {
     outside(
         Key::Size,
@@ -153,7 +153,7 @@ fn whole_limit(i: usize, size: i64, data: &Text) -> Option<Flaw>
         Key::Data,
         size,
         Place::Field(Section::Partition, i, Key::Data),
-        data.len(),
+        text.len(),
     ))
 }
 

@@ -6,7 +6,7 @@ use Rattle.um_words.specs.declared.made.Made.{Made}
 use Rattle.um_fine.specs.Sites.{site_numbered}
 use Rattle.um_fine.specs.Steps.{FineStep}
 use Rattle.um_board.specs.Noted.{made_of}
-use Rattle.um_board.specs.ReadBack.{IsReadBack, unpacked}
+use Rattle.um_board.specs.ReadBack.{IsReadBack, fine_at, unpacked}
 use Rattle.um_history.specs.Played.{Each}
 
 abbrev pub name_cpu : List ℕ → ℕ
@@ -14,9 +14,7 @@ name_cpu [] = 0
 name_cpu (k ∷ rest) = k
 
 abbrev pub fine_of : Entry → FineStep
-fine_of e =
-    let site = site_numbered e.1.site in
-    record { cpu = name_cpu e.0; site = site; act = e.1.act; word = unpacked site e.1.word; moved = e.1.moved }
+fine_of e = fine_at (name_cpu e.0) e.1
 
 -- a step that was read back is the one that was recorded
 pub entry-is : (k : ℕ) (e : Entry) (s : FineStep) → e.0 ≡ k ∷ [] → e.1 ≡ made_of s → s.cpu ≡ k → IsReadBack s → fine_of e ≡ s

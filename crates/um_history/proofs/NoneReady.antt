@@ -23,7 +23,8 @@ use Rattle.um_site.proofs.Bare.{bare-high, bare-number}
 use Rattle.um_site.proofs.Sublists.{same_itself}
 use Rattle.um_merge.specs.Merged.{Log}
 use Rattle.um_board.specs.Noted.{made_of, packed}
-use Rattle.um_history.specs.Played.{Each, IsPlayed, SawNone, WasGot}
+use Rattle.um_board.specs.Saw.{WasGot}
+use Rattle.um_history.specs.Played.{Each, IsPlayed, SawNone}
 use Rattle.um_history.proofs.CellRuns.{CellKnown, cell-reads}
 use Rattle.um_history.proofs.Lists.{each-both, each-keyed, each-map, each-sub}
 use Rattle.um_history.proofs.OpeningRuns.{OpensWell}

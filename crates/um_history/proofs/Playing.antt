@@ -15,7 +15,9 @@ use Rattle.um_processor.specs.Processors.{AsksFor}
 use Rattle.um_site.specs.Tells.{NoOlder}
 use Rattle.um_board.specs.Noted.{logged_of, made_of, packed}
 use Rattle.um_board.specs.ReadBack.{IsReadBack}
-use Rattle.um_history.specs.Played.{Each, Played, SCHEDULER, SawNone, WasGot}
+use Rattle.um_board.specs.Saw.{WasGot}
+use Rattle.um_board.proofs.Saws.{got-behind}
+use Rattle.um_history.specs.Played.{Each, Played, SCHEDULER, SawNone}
 use Rattle.um_history.proofs.Lists.{each-map}
 
 -- what a processor's seat has while it plays
@@ -32,15 +34,6 @@ each-push P (y ∷ ys) x e p = (e.0, each-push P ys x e.1 p)
 map-push : {X Y : Type 0} (f : X → Y) (xs : List X) (x : X) → map f (xs ++ x ∷ []) ≡ map f xs ++ f x ∷ []
 map-push f [] x = refl
 map-push f (y ∷ ys) x = ap (λ l. f y ∷ l) (map-push f ys x)
-
-pub got-behind : (more got : List (ℕ × ℕ)) (i w : ℕ) → WasGot got i w → WasGot (more ++ got) i w
-got-behind [] got i w was = was
-got-behind (e ∷ more) got i w was = inr (got-behind more got i w was)
-
-pub got-before : (got more : List (ℕ × ℕ)) (i w : ℕ) → WasGot got i w → WasGot (got ++ more) i w
-got-before [] more i w was = absurd was
-got-before (e ∷ got) more i w (inl is) = inl is
-got-before (e ∷ got) more i w (inr behind) = inr (got-before got more i w behind)
 
 -- a word that is no older than any that was got is no older than this one
 no-older : (got : List (ℕ × ℕ)) (i j w z : ℕ) → NoOlder got i z → WasGot got j w → j ≡ i → number i w ≤ number i z

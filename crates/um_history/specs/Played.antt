@@ -16,9 +16,11 @@ use Rattle.um_site.specs.Cells.{AmongCells, IsClosedWithCells}
 use Rattle.um_site.specs.History.{Among}
 use Rattle.um_site.specs.declared.view.View.{View}
 use Rattle.um_board.specs.Contents.{Follows, Opens}
+use Rattle.um_board.specs.NextSteps.{NextGoes}
 use Rattle.um_board.specs.Noted.{logged_of, made_of, packed}
 use Rattle.um_board.specs.Opening.{AreOpening}
 use Rattle.um_board.specs.ReadBack.{IsReadBack}
+use Rattle.um_board.specs.Saw.{WasGot}
 
 -- it holds of each one
 abbrev pub Each : {X : Type 0} → (X → Type 0) → List X → Type 0
@@ -36,11 +38,6 @@ pub record Played (image : Image) (k : ℕ) (made : List Made) (log : List Logge
 abbrev pub SCHEDULER : ℕ
 SCHEDULER = 306
 
--- the word was got or left at the site
-abbrev pub WasGot : List (ℕ × ℕ) → ℕ → ℕ → Type 0
-WasGot [] i w = ⊥
-WasGot (e ∷ es) i w = ((e.0 ≡ i) × (e.1 ≡ w)) ⊎ WasGot es i w
-
 -- The processor that has made these steps has no other one to make than to take a thread, and behind its last step it saw that no thread is ready.
 pub record SawNone (image : Image) (got : List (ℕ × ℕ)) (steps : List FineStep) : Type 0 where
   pub done : (ends (p_next image) idle steps).todo ≡ []
@@ -54,17 +51,13 @@ abbrev pub StandsUnder : List (List ℕ × List Made) → List ℕ → List Made
 StandsUnder [] n made = ⊥
 StandsUnder (e ∷ es) n made = ((e.0 ≡ n) × (e.1 ≡ made)) ⊎ StandsUnder es n made
 
--- any step may follow
-abbrev pub Any : Image → List ℕ → List Made → Made → Type 0
-Any image name made m = Unit {0}
-
--- The board of an image is closed with these words, as its first seat knows, which made no step itself. So many processors have made these steps,
--- and have these logs.
+-- The board of an image is closed with these words, as its first seat knows, which made no step itself: its rule let each processor make the steps
+-- alone that it asked for. So many processors have made these steps, and have these logs.
 pub record IsPlayed (image : Image) (cpus : ℕ) (v : View) (words : List ℕ) (logs : List Log) (steps : ℕ → List FineStep) : Type 0 where
   pub image_is : v.image ≡ image
   pub opening : AreOpening image v.opening
   pub filled : (i : ℕ) → 168 ≤ i → i < 307 → AmongCells v.filled i
-  pub closed : IsClosedWithCells Opens Follows Any v words
+  pub closed : IsClosedWithCells Opens Follows NextGoes v words
   pub first : v.made ≡ []
   pub names : (n : List ℕ) → Among v.joined n → (k : ℕ) × (k < cpus) × (n ≡ k ∷ [])
   pub lists : (k : ℕ) → k < cpus → (made : List Made) × StandsUnder v.joined (k ∷ []) made × Played image k made (log_at logs k) (steps k)

@@ -1,15 +1,17 @@
-//! The law over every board on which processors have played.
+//! The laws over every board on which processors play, and have played.
 
 ghost use Rattle.std.specs.Prelude.{◌≡◌, ℕ, ◌<◌, List, map};
 ghost use Rattle.um_base.specs.Weight.{weight};
 ghost use Rattle.um_base.specs.declared.image.Image.{Image};
 ghost use Rattle.um_machine.specs.Run.{IsComplete, Runs, opening};
 ghost use Rattle.um_machine.specs.State.{State};
+ghost use Rattle.um_words.specs.History.{Entry, IsHistory};
 ghost use Rattle.um_reach.specs.Described.{IsDescribed};
 ghost use Rattle.um_fine.specs.Steps.{FineStep};
 ghost use Rattle.um_merge.specs.Merged.{HaveOrder, IsOrder, Log, SameOrder};
 ghost use Rattle.um_merge.specs.declared.logged.Logged.{Logged};
 ghost use Rattle.um_site.specs.declared.view.View.{View};
+ghost use Rattle.um_board.specs.NextSteps.{AreLocalRuns, NextGoes};
 ghost use Rattle.um_board.specs.Noted.{logged_of};
 ghost use Rattle.um_erasure.specs.Room.{CanRun};
 ghost use Rattle.um_history.specs.Fine.{IsFineOf, events_of};
@@ -17,6 +19,12 @@ ghost use Rattle.um_history.specs.Played.{IsPlayed, SawNone};
 
 use um_erasure::every_fine_run;
 use um_fine_bound::longest_fine_run;
+
+/// The law over every board of an image at every moment, where its rule lets each seat make its processor's next steps alone: the list of each seat is a
+/// local run of its processor, and only seats of the first eight have made any step.
+pub fn every_board()
+    ensures { (image : Image) (opening words : List ℕ) (h : List Entry) → IsHistory (NextGoes image) opening words h → AreLocalRuns image h }
+{}
 
 /// The law over every closed board of an image that a description gives, on which one to eight processors have played, each at a seat of its own. The
 /// image has no more domains than there are words for.

@@ -6,16 +6,17 @@ use Rattle.um_base.specs.declared.image.Image.{Image}
 use Rattle.um_base.specs.declared.names.ThreadIx.{ThreadIx}
 use Rattle.um_machine.specs.declared.pending.Pending.{Pending}
 use Rattle.um_machine.specs.Order.{Steps}
+use Rattle.um_fine.specs.Asks.{next_site}
 use Rattle.um_fine.specs.Follows.{end_calls, wakes}
-use Rattle.um_fine.specs.Places.{Todos, cleaning}
+use Rattle.um_fine.specs.Places.{Todos}
 use Rattle.um_fine.specs.Processor.{Processor}
-use Rattle.um_fine.specs.Steps.{FineStep}
+use Rattle.um_fine.specs.Steps.{FineStep, Site}
 use Rattle.um_processor.specs.declared.phase.Phase.{Phase}
 use Rattle.um_processor.specs.declared.phase.Turn.{Turn}
 use Rattle.um_processor.specs.declared.running.Running.{Running}
 use Rattle.um_processor.specs.Events.{about_to, about_to_park, at_event, rest_of, todo_after, with_ends, with_woken}
 use Rattle.um_processor.specs.Phases.{born, is_idle, showing, steps_behind}
-use Rattle.um_processor.specs.Processors.{AsksFor, Goes, IsStuck, OnMade, Turned, UnlessMade, cleaned, in_phase, processor_of, with_todo}
+use Rattle.um_processor.specs.Processors.{AsksFor, Goes, IsStuck, MayNext, OnMade, Turned, UnlessMade, cleaned, in_phase, processor_of, with_todo}
 use Rattle.um_processor.specs.Standing.{before, standing}
 use Rattle.um_processor.proofs.Standings.{block_if, cleaned-behind, front-of, stands}
 
@@ -49,7 +50,7 @@ module _ (r : Running) (runs : is_idle r.phase ≡ false) where
       ∙ (stood (block_if image x b) [] []
       ∙ sym (cleaned-behind image x (processor_of r) [] (processor_of r).todo b refl (front-of r.phase r runs)))
 
-module _ (t : Turn) (cpu : ℕ) (image : Image) (took shut : FineStep → Type 0) (late none : Type 0) where
+module _ (t : Turn) (cpu : ℕ) (image : Image) (took shut : FineStep → Type 0) (late : Site → Type 0) (none : Type 0) where
   -- what comes of a turn of an equal processor
   pub turned-from : (p q z : Processor) → p ≡ q → Turned t cpu image q z took shut late none → Turned t cpu image p z took shut late none
   turned-from p q z e h = subst (λ (x : Processor). Turned t cpu image x z took shut late none) (sym e) h
@@ -73,6 +74,13 @@ goes-from cpu image p q z e h goes = subst (λ (x : Processor). Goes cpu image x
 
 pub asks-from : (cpu : ℕ) (image : Image) (p q : Processor) (e : FineStep) → p ≡ q → AsksFor cpu image q e → AsksFor cpu image p e
 asks-from cpu image p q e h asks = subst (λ (x : Processor). AsksFor cpu image x e) (sym h) asks
+
+-- what an equal processor may make
+pub may-from : (cpu : ℕ) (image : Image) (p q : Processor) (may : FineStep → Type 0) → p ≡ q → MayNext cpu image p may → MayNext cpu image q may
+may-from cpu image p q may h goes = subst (λ (x : Processor). MayNext cpu image x may) h goes
+
+pub late-from : (image : Image) (p q : Processor) (late : Site → Type 0) → p ≡ q → late (next_site image q) → late (next_site image p)
+late-from image p q late h said = subst (λ (x : Processor). late (next_site image x)) (sym h) said
 
 pub stuck-from : (image : Image) (p q : Processor) → p ≡ q → IsStuck image q → IsStuck image p
 stuck-from image p q h stuck = subst (IsStuck image) (sym h) stuck

@@ -9,7 +9,7 @@ use Rattle.um_machine.specs.declared.pending.Pending.{Pending}
 use Rattle.um_machine.specs.Order.{Steps}
 use Rattle.um_fine.specs.Context.{Context}
 use Rattle.um_fine.specs.Follows.{filled_up}
-use Rattle.um_fine.specs.Places.{Todo, Todos, but, drops, end_of_turn, fine_steps, next_steps, passes}
+use Rattle.um_fine.specs.Places.{Todo, Todos, but, drops, end_of_turn, fine_steps, next_steps}
 use Rattle.um_fine.specs.Processor.{Processor}
 use Rattle.um_processor.specs.declared.phase.Phase.{Phase}
 use Rattle.um_processor.specs.declared.running.Running.{Running}

@@ -10,7 +10,7 @@ use Rattle.um_fine.specs.Follows.{p_next}
 use Rattle.um_fine.specs.Places.{Todo, Todos, cleaning, cleanings, next_steps, turn, with_cleaning}
 use Rattle.um_fine.specs.Processor.{Processor}
 use Rattle.um_fine.specs.Sites.{is_site}
-use Rattle.um_fine.specs.Steps.{FineStep}
+use Rattle.um_fine.specs.Steps.{FineStep, Site}
 use Rattle.um_processor.specs.Parked.{some_if}
 use Rattle.um_processor.specs.Phases.{born, passed_to, phase_of, steps_behind, todo_in}
 use Rattle.um_processor.specs.declared.cleaning.TheConstants.{MOST}
@@ -118,11 +118,16 @@ pub data IsStuck (image : Image) (p : Processor) : Type 0 where
   no_thread : has_thread p.todo ≡ false → IsStuck image p
   full : nat_le MOST (cleanings p.todo) ≡ true → IsStuck image p
 
--- What comes of a turn of the processor of this number, by what the sites say of a step that was made, of one that is refused, of one that came too late, and of none.
-abbrev pub Turned : Turn → ℕ → Image → Processor → Processor → (FineStep → Type 0) → (FineStep → Type 0) → Type 0 → Type 0 → Type 0
+-- each step that the processor of this number may ask for is one that it may make
+abbrev pub MayNext : ℕ → Image → Processor → (FineStep → Type 0) → Type 0
+MayNext cpu image p may = (e : FineStep) → AsksFor cpu image p e → may e
+
+-- What comes of a turn of the processor of this number, by what the sites say of a step that was made, of one that is refused, of none at the site of
+-- its next one since others are there, and of none since it has none.
+abbrev pub Turned : Turn → ℕ → Image → Processor → Processor → (FineStep → Type 0) → (FineStep → Type 0) → (Site → Type 0) → Type 0 → Type 0
 Turned Turn.Made cpu image p z took shut late none = (e : FineStep) × took e × Goes cpu image p e z
 Turned Turn.Busy cpu image p z took shut late none = (e : FineStep) × shut e × AsksFor cpu image p e
-Turned Turn.Changed cpu image p z took shut late none = late
+Turned Turn.Changed cpu image p z took shut late none = late (next_site image p)
 Turned Turn.Stuck cpu image p z took shut late none = none × IsStuck image p
 
 -- where a step was made, and where none was

@@ -154,9 +154,11 @@ impl Sites for Tables {
 
     ghost Kept = { λ old new. new ≡ old };
 
-    ghost Shut = { λ image old e. IsShut image (state_at old e.site) e };
+    ghost May = { λ image s e. Unit {0} };
 
-    ghost Contended = { IsFull };
+    ghost Shut = { λ image old e new. IsShut image (state_at old e.site) e };
+
+    ghost Contended = { λ image old site new. IsFull old };
 
     fn row(&mut self, image: &Image, cpu: u8, row: Row, act: &RowAct) -> Said<RowSaid> {
         if is_full(&self.log) {

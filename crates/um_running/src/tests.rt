@@ -2,7 +2,9 @@
 
 mod described;
 mod gates;
+mod lines;
 mod outside;
+mod picks;
 mod runs;
 
 ghost use Rattle.std.specs.Prelude.{◌≤◌};

@@ -1,6 +1,6 @@
 //! Audits of the run of a store to the last byte of a partition, and a load past it.
 
-use super::{Ended, HEAD, LAST_BYTE, call, last_byte, smooth};
+use super::{Ended, HEAD, LAST_BYTE, call, last_byte};
 use crate::Status;
 use std::alloc::Global;
 use std::sync::Wait;
@@ -13,7 +13,7 @@ fn audited<R: AllocGlobal + Threads + Wait + Sync>(rt: &R, trace: &[u8]) -> Resu
     let mut input = last_byte(alloc)?;
     input.extend_from_slice(b"=====\n".as_slice())?;
     input.extend_from_slice(trace)?;
-    call(rt, "audit", input, smooth(alloc, 4096))
+    call(rt, "audit", input, 4096)
 }
 
 /// The text of the run without its line of this number, counted from 1.
@@ -88,7 +88,7 @@ fn inputs_without_a_verdict(rt: HostRuntime) -> Result<(), Fail> {
         (&long, Status::TooLong, "zumode: input too long\n"),
     ];
     for (input, status, line) in cases {
-        let ended = call(&rt, "audit", input.to_vec(alloc)?, smooth(alloc, 4096))?;
+        let ended = call(&rt, "audit", input.to_vec(alloc)?, 4096)?;
         assert_eq!(rt; ended.status, status);
         assert_eq!(rt; ended.out.bytes().len(), 0);
         assert_eq!(rt; ended.err.bytes(), line.as_bytes());

@@ -3,7 +3,7 @@
 ghost use Rattle.std.specs.Prelude.{◌≡◌, ◌<◌, ◌∷◌, drop, false};
 ghost use Rattle.um_fine.specs.Places.{Todo};
 ghost use Rattle.um_processor.specs.Phases.{is_idle};
-ghost use Rattle.um_processor.specs.Processors.{Turned, UnlessMade};
+ghost use Rattle.um_processor.specs.Processors.{MayNext, Turned, UnlessMade};
 ghost use Rattle.um_processor.specs.Standing.{whole};
 
 use crate::cleaning::MOST;
@@ -29,12 +29,13 @@ impl Processor {
         requires sites { S.IsOf image.now sites.old }
         requires runs { is_idle self.old.running.phase ≡ false }
         requires first { self.old.cleans ≡ Todo.clean_pair who row ∷ drop 1 self.old.cleans }
+        requires goes { MayNext cpu image.now (whole self.old) (S.May image.now sites.old) }
         ensures image { S.IsOf image.now sites.new }
         ensures same { UnlessMade result (whole self.new ≡ whole self.old) }
         ensures turn { Turned result cpu image.now (whole self.old) (whole self.new)
             (λ e. S.Took image.now sites.old e sites.new)
-            (λ e. S.Kept sites.old sites.new × S.Shut image.now sites.old e)
-            (S.Kept sites.old sites.new × S.Contended sites.old)
+            (λ e. S.Kept sites.old sites.new × S.Shut image.now sites.old e sites.new)
+            (λ site. S.Kept sites.old sites.new × S.Contended image.now sites.old site sites.new)
             (sites.new ≡ sites.old) }
     {
         let x = row as usize;
@@ -68,12 +69,13 @@ impl Processor {
         requires sites { S.IsOf image.now sites.old }
         requires runs { is_idle self.old.running.phase ≡ false }
         requires first { self.old.cleans ≡ Todo.wipe row ∷ drop 1 self.old.cleans }
+        requires goes { MayNext cpu image.now (whole self.old) (S.May image.now sites.old) }
         ensures image { S.IsOf image.now sites.new }
         ensures same { UnlessMade result (whole self.new ≡ whole self.old) }
         ensures turn { Turned result cpu image.now (whole self.old) (whole self.new)
             (λ e. S.Took image.now sites.old e sites.new)
-            (λ e. S.Kept sites.old sites.new × S.Shut image.now sites.old e)
-            (S.Kept sites.old sites.new × S.Contended sites.old)
+            (λ e. S.Kept sites.old sites.new × S.Shut image.now sites.old e sites.new)
+            (λ site. S.Kept sites.old sites.new × S.Contended image.now sites.old site sites.new)
             (sites.new ≡ sites.old) }
     {
         if row as usize >= ROWS {
@@ -95,12 +97,13 @@ impl Processor {
         requires sites { S.IsOf image.now sites.old }
         requires runs { is_idle self.old.running.phase ≡ false }
         requires first { self.old.cleans ≡ Todo.vacate row ∷ drop 1 self.old.cleans }
+        requires goes { MayNext cpu image.now (whole self.old) (S.May image.now sites.old) }
         ensures image { S.IsOf image.now sites.new }
         ensures same { UnlessMade result (whole self.new ≡ whole self.old) }
         ensures turn { Turned result cpu image.now (whole self.old) (whole self.new)
             (λ e. S.Took image.now sites.old e sites.new)
-            (λ e. S.Kept sites.old sites.new × S.Shut image.now sites.old e)
-            (S.Kept sites.old sites.new × S.Contended sites.old)
+            (λ e. S.Kept sites.old sites.new × S.Shut image.now sites.old e sites.new)
+            (λ site. S.Kept sites.old sites.new × S.Contended image.now sites.old site sites.new)
             (sites.new ≡ sites.old) }
     {
         if row as usize >= ROWS {
@@ -121,12 +124,13 @@ impl Processor {
         requires sites { S.IsOf image.now sites.old }
         requires runs { is_idle self.old.running.phase ≡ false }
         requires first { self.old.cleans ≡ Todo.recycle row ∷ drop 1 self.old.cleans }
+        requires goes { MayNext cpu image.now (whole self.old) (S.May image.now sites.old) }
         ensures image { S.IsOf image.now sites.new }
         ensures same { UnlessMade result (whole self.new ≡ whole self.old) }
         ensures turn { Turned result cpu image.now (whole self.old) (whole self.new)
             (λ e. S.Took image.now sites.old e sites.new)
-            (λ e. S.Kept sites.old sites.new × S.Shut image.now sites.old e)
-            (S.Kept sites.old sites.new × S.Contended sites.old)
+            (λ e. S.Kept sites.old sites.new × S.Shut image.now sites.old e sites.new)
+            (λ site. S.Kept sites.old sites.new × S.Contended image.now sites.old site sites.new)
             (sites.new ≡ sites.old) }
     {
         let act = HeapAct::Recycle {

@@ -4,7 +4,7 @@ ghost use Rattle.std.specs.Prelude.{◌≡◌, [], drop, IsTrue};
 ghost use Rattle.um_machine.specs.Limits.{IsSound, is_sound_ask};
 ghost use Rattle.um_machine.specs.declared.pending.Pending.TheVariants as Pending;
 ghost use Rattle.um_processor.specs.Events.{about_to, about_to_park, at_event};
-ghost use Rattle.um_processor.specs.Processors.{Turned, UnlessMade};
+ghost use Rattle.um_processor.specs.Processors.{MayNext, Turned, UnlessMade};
 ghost use Rattle.um_processor.specs.Standing.{whole};
 ghost use Rattle.um_processor.specs.Subjects.{ends_claims, is_plain};
 
@@ -30,12 +30,13 @@ impl Processor {
         requires cleans { self.old.cleans ≡ [] }
         requires ends { self.old.ends.items ≡ [] }
         requires woken { drop self.old.told self.old.outcome.woken ≡ [] }
+        requires goes { MayNext cpu image.now (about_to phase step.now self.old.running) (S.May image.now sites.old) }
         ensures image { S.IsOf image.now sites.new }
         ensures same { UnlessMade result (whole self.new ≡ whole self.old) }
         ensures turn { Turned result cpu image.now (about_to phase step.now self.old.running) (whole self.new)
             (λ e. S.Took image.now sites.old e sites.new)
-            (λ e. S.Kept sites.old sites.new × S.Shut image.now sites.old e)
-            (S.Kept sites.old sites.new × S.Contended sites.old)
+            (λ e. S.Kept sites.old sites.new × S.Shut image.now sites.old e sites.new)
+            (λ site. S.Kept sites.old sites.new × S.Contended image.now sites.old site sites.new)
             (sites.new ≡ sites.old) }
     {
         self.running.show(image, cpu, phase, step, sites)
@@ -55,12 +56,13 @@ impl Processor {
         requires cleans { self.old.cleans ≡ [] }
         requires ends { self.old.ends.items ≡ [] }
         requires woken { drop self.old.told self.old.outcome.woken ≡ [] }
+        requires goes { MayNext cpu image.now (about_to phase step.now self.old.running) (S.May image.now sites.old) }
         ensures image { S.IsOf image.now sites.new }
         ensures same { UnlessMade result (whole self.new ≡ whole self.old) }
         ensures turn { Turned result cpu image.now (about_to phase step.now self.old.running) (whole self.new)
             (λ e. S.Took image.now sites.old e sites.new)
-            (λ e. S.Kept sites.old sites.new × S.Shut image.now sites.old e)
-            (S.Kept sites.old sites.new × S.Contended sites.old)
+            (λ e. S.Kept sites.old sites.new × S.Shut image.now sites.old e sites.new)
+            (λ site. S.Kept sites.old sites.new × S.Contended image.now sites.old site sites.new)
             (sites.new ≡ sites.old) }
     {
         match step {
@@ -92,12 +94,13 @@ impl Processor {
         requires cleans { self.old.cleans ≡ [] }
         requires ends { self.old.ends.items ≡ [] }
         requires woken { drop self.old.told self.old.outcome.woken ≡ [] }
+        requires goes { MayNext cpu image.now (about_to phase (Pending.Work addr ask.now) self.old.running) (S.May image.now sites.old) }
         ensures image { S.IsOf image.now sites.new }
         ensures same { UnlessMade result (whole self.new ≡ whole self.old) }
         ensures turn { Turned result cpu image.now (about_to phase (Pending.Work addr ask.now) self.old.running) (whole self.new)
             (λ e. S.Took image.now sites.old e sites.new)
-            (λ e. S.Kept sites.old sites.new × S.Shut image.now sites.old e)
-            (S.Kept sites.old sites.new × S.Contended sites.old)
+            (λ e. S.Kept sites.old sites.new × S.Shut image.now sites.old e sites.new)
+            (λ site. S.Kept sites.old sites.new × S.Contended image.now sites.old site sites.new)
             (sites.new ≡ sites.old) }
     {
         match self
@@ -128,12 +131,13 @@ impl Processor {
         requires cleans { self.old.cleans ≡ [] }
         requires ends { self.old.ends.items ≡ [] }
         requires woken { drop self.old.told self.old.outcome.woken ≡ [] }
+        requires goes { MayNext cpu image.now (about_to phase (Pending.DropPair who addr) self.old.running) (S.May image.now sites.old) }
         ensures image { S.IsOf image.now sites.new }
         ensures same { UnlessMade result (whole self.new ≡ whole self.old) }
         ensures turn { Turned result cpu image.now (about_to phase (Pending.DropPair who addr) self.old.running) (whole self.new)
             (λ e. S.Took image.now sites.old e sites.new)
-            (λ e. S.Kept sites.old sites.new × S.Shut image.now sites.old e)
-            (S.Kept sites.old sites.new × S.Contended sites.old)
+            (λ e. S.Kept sites.old sites.new × S.Shut image.now sites.old e sites.new)
+            (λ site. S.Kept sites.old sites.new × S.Contended image.now sites.old site sites.new)
             (sites.new ≡ sites.old) }
     {
         let mut cleans = false;
@@ -168,12 +172,13 @@ impl Processor {
         requires cleans { self.old.cleans ≡ [] }
         requires ends { self.old.ends.items ≡ [] }
         requires woken { drop self.old.told self.old.outcome.woken ≡ [] }
+        requires goes { MayNext cpu image.now (about_to phase step.now self.old.running) (S.May image.now sites.old) }
         ensures image { S.IsOf image.now sites.new }
         ensures same { UnlessMade result (whole self.new ≡ whole self.old) }
         ensures turn { Turned result cpu image.now (about_to phase step.now self.old.running) (whole self.new)
             (λ e. S.Took image.now sites.old e sites.new)
-            (λ e. S.Kept sites.old sites.new × S.Shut image.now sites.old e)
-            (S.Kept sites.old sites.new × S.Contended sites.old)
+            (λ e. S.Kept sites.old sites.new × S.Shut image.now sites.old e sites.new)
+            (λ site. S.Kept sites.old sites.new × S.Contended image.now sites.old site sites.new)
             (sites.new ≡ sites.old) }
     {
         match step {
@@ -196,12 +201,13 @@ impl Processor {
         requires cleans { self.old.cleans ≡ [] }
         requires ends { self.old.ends.items ≡ [] }
         requires woken { drop self.old.told self.old.outcome.woken ≡ [] }
+        requires goes { MayNext cpu image.now (about_to_park phase self.old.running) (S.May image.now sites.old) }
         ensures image { S.IsOf image.now sites.new }
         ensures same { UnlessMade result (whole self.new ≡ whole self.old) }
         ensures turn { Turned result cpu image.now (about_to_park phase self.old.running) (whole self.new)
             (λ e. S.Took image.now sites.old e sites.new)
-            (λ e. S.Kept sites.old sites.new × S.Shut image.now sites.old e)
-            (S.Kept sites.old sites.new × S.Contended sites.old)
+            (λ e. S.Kept sites.old sites.new × S.Shut image.now sites.old e sites.new)
+            (λ site. S.Kept sites.old sites.new × S.Contended image.now sites.old site sites.new)
             (sites.new ≡ sites.old) }
     {
         self.running.park(image, cpu, phase, sites)
@@ -213,12 +219,13 @@ impl Processor {
         requires cleans { self.old.cleans ≡ [] }
         requires ends { self.old.ends.items ≡ [] }
         requires woken { drop self.old.told self.old.outcome.woken ≡ [] }
+        requires goes { MayNext cpu image.now (at_event phase self.old.running) (S.May image.now sites.old) }
         ensures image { S.IsOf image.now sites.new }
         ensures same { UnlessMade result (whole self.new ≡ whole self.old) }
         ensures turn { Turned result cpu image.now (at_event phase self.old.running) (whole self.new)
             (λ e. S.Took image.now sites.old e sites.new)
-            (λ e. S.Kept sites.old sites.new × S.Shut image.now sites.old e)
-            (S.Kept sites.old sites.new × S.Contended sites.old)
+            (λ e. S.Kept sites.old sites.new × S.Shut image.now sites.old e sites.new)
+            (λ site. S.Kept sites.old sites.new × S.Contended image.now sites.old site sites.new)
             (sites.new ≡ sites.old) }
     {
         match self.running.next_step() {

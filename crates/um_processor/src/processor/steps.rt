@@ -4,7 +4,7 @@ ghost use Rattle.std.specs.Prelude.{◌≡◌, ◌∷◌, [], drop, false, true,
 ghost use Rattle.um_processor.specs.Cleanings.{clean_todo};
 ghost use Rattle.um_processor.specs.Given.{IsGiven};
 ghost use Rattle.um_processor.specs.Phases.{is_idle, is_plain_phase};
-ghost use Rattle.um_processor.specs.Processors.{Turned, UnlessMade, in_phase};
+ghost use Rattle.um_processor.specs.Processors.{MayNext, Turned, UnlessMade, in_phase};
 ghost use Rattle.um_processor.specs.Standing.{whole};
 ghost use Rattle.um_processor.specs.declared.phase.Phase.TheVariants as Phase;
 
@@ -32,12 +32,13 @@ impl Processor {
     fn take<S: Sites>(&mut self, image: &Image, cpu: u8, sites: &mut S) -> Turn
         requires sites { S.IsOf image.now sites.old }
         requires idle { is_idle self.old.running.phase ≡ true }
+        requires goes { MayNext cpu image.now (whole self.old) (S.May image.now sites.old) }
         ensures image { S.IsOf image.now sites.new }
         ensures same { UnlessMade result (whole self.new ≡ whole self.old) }
         ensures turn { Turned result cpu image.now (whole self.old) (whole self.new)
             (λ e. S.Took image.now sites.old e sites.new)
-            (λ e. S.Kept sites.old sites.new × S.Shut image.now sites.old e)
-            (S.Kept sites.old sites.new × S.Contended sites.old)
+            (λ e. S.Kept sites.old sites.new × S.Shut image.now sites.old e sites.new)
+            (λ site. S.Kept sites.old sites.new × S.Contended image.now sites.old site sites.new)
             (sites.new ≡ sites.old) }
     {
         match self.running.take(image, cpu, sites) {
@@ -56,12 +57,13 @@ impl Processor {
         requires sites { S.IsOf image.now sites.old }
         requires runs { is_idle self.old.running.phase ≡ false }
         requires first { self.old.cleans ≡ clean_todo step ∷ drop 1 self.old.cleans }
+        requires goes { MayNext cpu image.now (whole self.old) (S.May image.now sites.old) }
         ensures image { S.IsOf image.now sites.new }
         ensures same { UnlessMade result (whole self.new ≡ whole self.old) }
         ensures turn { Turned result cpu image.now (whole self.old) (whole self.new)
             (λ e. S.Took image.now sites.old e sites.new)
-            (λ e. S.Kept sites.old sites.new × S.Shut image.now sites.old e)
-            (S.Kept sites.old sites.new × S.Contended sites.old)
+            (λ e. S.Kept sites.old sites.new × S.Shut image.now sites.old e sites.new)
+            (λ site. S.Kept sites.old sites.new × S.Contended image.now sites.old site sites.new)
             (sites.new ≡ sites.old) }
     {
         match step {
@@ -78,12 +80,13 @@ impl Processor {
         requires cleans { self.old.cleans ≡ [] }
         requires ends { self.old.ends.items ≡ [] }
         requires woken { drop self.old.told self.old.outcome.woken ≡ [] }
+        requires goes { MayNext cpu image.now (in_phase Phase.Exit self.old.running) (S.May image.now sites.old) }
         ensures image { S.IsOf image.now sites.new }
         ensures same { UnlessMade result (whole self.new ≡ whole self.old) }
         ensures turn { Turned result cpu image.now (in_phase Phase.Exit self.old.running) (whole self.new)
             (λ e. S.Took image.now sites.old e sites.new)
-            (λ e. S.Kept sites.old sites.new × S.Shut image.now sites.old e)
-            (S.Kept sites.old sites.new × S.Contended sites.old)
+            (λ e. S.Kept sites.old sites.new × S.Shut image.now sites.old e sites.new)
+            (λ site. S.Kept sites.old sites.new × S.Contended image.now sites.old site sites.new)
             (sites.new ≡ sites.old) }
     {
         self.running.exit(image, cpu, &mut self.ends, sites)
@@ -95,12 +98,13 @@ impl Processor {
         requires cleans { self.old.cleans ≡ [] }
         requires ends { self.old.ends.items ≡ [] }
         requires woken { drop self.old.told self.old.outcome.woken ≡ [] }
+        requires goes { MayNext cpu image.now (in_phase Phase.Drop self.old.running) (S.May image.now sites.old) }
         ensures image { S.IsOf image.now sites.new }
         ensures same { UnlessMade result (whole self.new ≡ whole self.old) }
         ensures turn { Turned result cpu image.now (in_phase Phase.Drop self.old.running) (whole self.new)
             (λ e. S.Took image.now sites.old e sites.new)
-            (λ e. S.Kept sites.old sites.new × S.Shut image.now sites.old e)
-            (S.Kept sites.old sites.new × S.Contended sites.old)
+            (λ e. S.Kept sites.old sites.new × S.Shut image.now sites.old e sites.new)
+            (λ site. S.Kept sites.old sites.new × S.Contended image.now sites.old site sites.new)
             (sites.new ≡ sites.old) }
     {
         let row = self.running.row();
@@ -127,12 +131,13 @@ impl Processor {
         requires cleans { self.old.cleans ≡ [] }
         requires ends { self.old.ends.items ≡ [] }
         requires woken { drop self.old.told self.old.outcome.woken ≡ [] }
+        requires goes { MayNext cpu image.now (whole self.old) (S.May image.now sites.old) }
         ensures image { S.IsOf image.now sites.new }
         ensures same { UnlessMade result (whole self.new ≡ whole self.old) }
         ensures turn { Turned result cpu image.now (whole self.old) (whole self.new)
             (λ e. S.Took image.now sites.old e sites.new)
-            (λ e. S.Kept sites.old sites.new × S.Shut image.now sites.old e)
-            (S.Kept sites.old sites.new × S.Contended sites.old)
+            (λ e. S.Kept sites.old sites.new × S.Shut image.now sites.old e sites.new)
+            (λ site. S.Kept sites.old sites.new × S.Contended image.now sites.old site sites.new)
             (sites.new ≡ sites.old) }
     {
         self.running.go(image, cpu, sites)
@@ -146,12 +151,13 @@ impl Processor {
         requires cleans { self.old.cleans ≡ [] }
         requires ends { self.old.ends.items ≡ [] }
         requires woken { drop self.old.told self.old.outcome.woken ≡ [] }
+        requires goes { MayNext cpu image.now (whole self.old) (S.May image.now sites.old) }
         ensures image { S.IsOf image.now sites.new }
         ensures same { UnlessMade result (whole self.new ≡ whole self.old) }
         ensures turn { Turned result cpu image.now (whole self.old) (whole self.new)
             (λ e. S.Took image.now sites.old e sites.new)
-            (λ e. S.Kept sites.old sites.new × S.Shut image.now sites.old e)
-            (S.Kept sites.old sites.new × S.Contended sites.old)
+            (λ e. S.Kept sites.old sites.new × S.Shut image.now sites.old e sites.new)
+            (λ site. S.Kept sites.old sites.new × S.Contended image.now sites.old site sites.new)
             (sites.new ≡ sites.old) }
     {
         match self.running.phase() {
@@ -171,12 +177,13 @@ impl Processor {
         requires given { IsGiven image.now }
         requires runs { is_idle self.old.running.phase ≡ false }
         requires cleans { self.old.cleans ≡ [] }
+        requires goes { MayNext cpu image.now (whole self.old) (S.May image.now sites.old) }
         ensures image { S.IsOf image.now sites.new }
         ensures same { UnlessMade result (whole self.new ≡ whole self.old) }
         ensures turn { Turned result cpu image.now (whole self.old) (whole self.new)
             (λ e. S.Took image.now sites.old e sites.new)
-            (λ e. S.Kept sites.old sites.new × S.Shut image.now sites.old e)
-            (S.Kept sites.old sites.new × S.Contended sites.old)
+            (λ e. S.Kept sites.old sites.new × S.Shut image.now sites.old e sites.new)
+            (λ site. S.Kept sites.old sites.new × S.Contended image.now sites.old site sites.new)
             (sites.new ≡ sites.old) }
     {
         if self.ends.len() > 0 {
@@ -192,12 +199,13 @@ impl Processor {
     pub fn step<S: Sites>(&mut self, image: &Image, cpu: u8, sites: &mut S) -> Turn
         requires sites { S.IsOf image.now sites.old }
         requires given { IsGiven image.now }
+        requires goes { MayNext cpu image.now (whole self.old) (S.May image.now sites.old) }
         ensures image { S.IsOf image.now sites.new }
         ensures same { UnlessMade result (whole self.new ≡ whole self.old) }
         ensures turn { Turned result cpu image.now (whole self.old) (whole self.new)
             (λ e. S.Took image.now sites.old e sites.new)
-            (λ e. S.Kept sites.old sites.new × S.Shut image.now sites.old e)
-            (S.Kept sites.old sites.new × S.Contended sites.old)
+            (λ e. S.Kept sites.old sites.new × S.Shut image.now sites.old e sites.new)
+            (λ site. S.Kept sites.old sites.new × S.Contended image.now sites.old site sites.new)
             (sites.new ≡ sites.old) }
     {
         if self.running.is_idle() {

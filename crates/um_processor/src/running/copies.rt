@@ -5,7 +5,7 @@ ghost use Rattle.um_fine.specs.Asks.{amount};
 ghost use Rattle.um_machine.specs.declared.pending.Pending.TheVariants as Pending;
 ghost use Rattle.um_processor.specs.declared.phase.Phase.TheVariants as Phase;
 ghost use Rattle.um_processor.specs.Events.{about_to};
-ghost use Rattle.um_processor.specs.Processors.{Turned, UnlessMade, in_phase, processor_of};
+ghost use Rattle.um_processor.specs.Processors.{MayNext, Turned, UnlessMade, in_phase, processor_of};
 
 use crate::memory_act::MemoryAct;
 use crate::phase::{Phase, Turn};
@@ -36,13 +36,14 @@ impl Running {
         amount: &Amount,
         sites: &mut S,
     ) -> Turn
-        requires { S.IsOf image.now sites.old }
+        requires sites { S.IsOf image.now sites.old }
+        requires goes { MayNext cpu image.now (about_to phase (Pending.Probe addr amount.now) self.old) (S.May image.now sites.old) }
         ensures image { S.IsOf image.now sites.new }
         ensures same { UnlessMade result (processor_of self.new ≡ processor_of self.old) }
         ensures turn { Turned result cpu image.now (about_to phase (Pending.Probe addr amount.now) self.old) (processor_of self.new)
             (λ e. S.Took image.now sites.old e sites.new)
-            (λ e. S.Kept sites.old sites.new × S.Shut image.now sites.old e)
-            (S.Kept sites.old sites.new × S.Contended sites.old)
+            (λ e. S.Kept sites.old sites.new × S.Shut image.now sites.old e sites.new)
+            (λ site. S.Kept sites.old sites.new × S.Contended image.now sites.old site sites.new)
             (sites.new ≡ sites.old) }
     {
         let thread = ThreadIx(self.context.thread());
@@ -77,13 +78,14 @@ impl Running {
         amount: &Amount,
         sites: &mut S,
     ) -> Turn
-        requires { S.IsOf image.now sites.old }
+        requires sites { S.IsOf image.now sites.old }
+        requires goes { MayNext cpu image.now (about_to phase (Pending.CopyIn addr amount.now) self.old) (S.May image.now sites.old) }
         ensures image { S.IsOf image.now sites.new }
         ensures same { UnlessMade result (processor_of self.new ≡ processor_of self.old) }
         ensures turn { Turned result cpu image.now (about_to phase (Pending.CopyIn addr amount.now) self.old) (processor_of self.new)
             (λ e. S.Took image.now sites.old e sites.new)
-            (λ e. S.Kept sites.old sites.new × S.Shut image.now sites.old e)
-            (S.Kept sites.old sites.new × S.Contended sites.old)
+            (λ e. S.Kept sites.old sites.new × S.Shut image.now sites.old e sites.new)
+            (λ site. S.Kept sites.old sites.new × S.Contended image.now sites.old site sites.new)
             (sites.new ≡ sites.old) }
     {
         let thread = ThreadIx(self.context.thread());
@@ -117,13 +119,14 @@ impl Running {
         addr: Addr,
         sites: &mut S,
     ) -> Turn
-        requires { S.IsOf image.now sites.old }
+        requires sites { S.IsOf image.now sites.old }
+        requires goes { MayNext cpu image.now (about_to phase (Pending.CopyOut addr) self.old) (S.May image.now sites.old) }
         ensures image { S.IsOf image.now sites.new }
         ensures same { UnlessMade result (processor_of self.new ≡ processor_of self.old) }
         ensures turn { Turned result cpu image.now (about_to phase (Pending.CopyOut addr) self.old) (processor_of self.new)
             (λ e. S.Took image.now sites.old e sites.new)
-            (λ e. S.Kept sites.old sites.new × S.Shut image.now sites.old e)
-            (S.Kept sites.old sites.new × S.Contended sites.old)
+            (λ e. S.Kept sites.old sites.new × S.Shut image.now sites.old e sites.new)
+            (λ site. S.Kept sites.old sites.new × S.Contended image.now sites.old site sites.new)
             (sites.new ≡ sites.old) }
     {
         let thread = ThreadIx(self.context.thread());
@@ -157,13 +160,14 @@ impl Running {
         addr: Addr,
         sites: &mut S,
     ) -> Turn
-        requires { S.IsOf image.now sites.old }
+        requires sites { S.IsOf image.now sites.old }
+        requires goes { MayNext cpu image.now (about_to phase (Pending.CopyStr addr) self.old) (S.May image.now sites.old) }
         ensures image { S.IsOf image.now sites.new }
         ensures same { UnlessMade result (processor_of self.new ≡ processor_of self.old) }
         ensures turn { Turned result cpu image.now (about_to phase (Pending.CopyStr addr) self.old) (processor_of self.new)
             (λ e. S.Took image.now sites.old e sites.new)
-            (λ e. S.Kept sites.old sites.new × S.Shut image.now sites.old e)
-            (S.Kept sites.old sites.new × S.Contended sites.old)
+            (λ e. S.Kept sites.old sites.new × S.Shut image.now sites.old e sites.new)
+            (λ site. S.Kept sites.old sites.new × S.Contended image.now sites.old site sites.new)
             (sites.new ≡ sites.old) }
     {
         let thread = ThreadIx(self.context.thread());

@@ -1,7 +1,7 @@
 //! The steps before the event of a domain's call.
 
 ghost use Rattle.std.specs.Prelude.{◌≡◌};
-ghost use Rattle.um_processor.specs.Processors.{Turned, UnlessMade, in_phase, processor_of};
+ghost use Rattle.um_processor.specs.Processors.{MayNext, Turned, UnlessMade, in_phase, processor_of};
 
 use crate::domain_act::DomainAct;
 use crate::phase::{Phase, Turn};
@@ -14,13 +14,14 @@ use um_base::{DOMAINS, Errno, Image, Reply};
 impl Running {
     /// The domain of a call is claimed to be edited.
     pub fn claim_to_write<S: Sites>(&mut self, image: &Image, cpu: u8, sites: &mut S) -> Turn
-        requires { S.IsOf image.now sites.old }
+        requires sites { S.IsOf image.now sites.old }
+        requires goes { MayNext cpu image.now (in_phase Phase.WriteClaim self.old) (S.May image.now sites.old) }
         ensures image { S.IsOf image.now sites.new }
         ensures same { UnlessMade result (processor_of self.new ≡ processor_of self.old) }
         ensures turn { Turned result cpu image.now (in_phase Phase.WriteClaim self.old) (processor_of self.new)
             (λ e. S.Took image.now sites.old e sites.new)
-            (λ e. S.Kept sites.old sites.new × S.Shut image.now sites.old e)
-            (S.Kept sites.old sites.new × S.Contended sites.old)
+            (λ e. S.Kept sites.old sites.new × S.Shut image.now sites.old e sites.new)
+            (λ site. S.Kept sites.old sites.new × S.Contended image.now sites.old site sites.new)
             (sites.new ≡ sites.old) }
     {
         let domain = domain_named(&self.step());
@@ -39,13 +40,14 @@ impl Running {
 
     /// Its partitions become what the call makes of them.
     pub fn edit<S: Sites>(&mut self, image: &Image, cpu: u8, sites: &mut S) -> Turn
-        requires { S.IsOf image.now sites.old }
+        requires sites { S.IsOf image.now sites.old }
+        requires goes { MayNext cpu image.now (in_phase Phase.Edit self.old) (S.May image.now sites.old) }
         ensures image { S.IsOf image.now sites.new }
         ensures same { UnlessMade result (processor_of self.new ≡ processor_of self.old) }
         ensures turn { Turned result cpu image.now (in_phase Phase.Edit self.old) (processor_of self.new)
             (λ e. S.Took image.now sites.old e sites.new)
-            (λ e. S.Kept sites.old sites.new × S.Shut image.now sites.old e)
-            (S.Kept sites.old sites.new × S.Contended sites.old)
+            (λ e. S.Kept sites.old sites.new × S.Shut image.now sites.old e sites.new)
+            (λ site. S.Kept sites.old sites.new × S.Contended image.now sites.old site sites.new)
             (sites.new ≡ sites.old) }
     {
         let call = self.step();
@@ -66,13 +68,14 @@ impl Running {
 
     /// The domain to which a thread moves is claimed. It takes none where it isn't initialised.
     pub fn claim_to_move<S: Sites>(&mut self, image: &Image, cpu: u8, sites: &mut S) -> Turn
-        requires { S.IsOf image.now sites.old }
+        requires sites { S.IsOf image.now sites.old }
+        requires goes { MayNext cpu image.now (in_phase Phase.MoveClaim self.old) (S.May image.now sites.old) }
         ensures image { S.IsOf image.now sites.new }
         ensures same { UnlessMade result (processor_of self.new ≡ processor_of self.old) }
         ensures turn { Turned result cpu image.now (in_phase Phase.MoveClaim self.old) (processor_of self.new)
             (λ e. S.Took image.now sites.old e sites.new)
-            (λ e. S.Kept sites.old sites.new × S.Shut image.now sites.old e)
-            (S.Kept sites.old sites.new × S.Contended sites.old)
+            (λ e. S.Kept sites.old sites.new × S.Shut image.now sites.old e sites.new)
+            (λ site. S.Kept sites.old sites.new × S.Contended image.now sites.old site sites.new)
             (sites.new ≡ sites.old) }
     {
         let domain = domain_named(&self.step());
@@ -97,13 +100,14 @@ impl Running {
 
     /// The claim of the domain to which a thread moves ends.
     pub fn end_move<S: Sites>(&mut self, image: &Image, cpu: u8, sites: &mut S) -> Turn
-        requires { S.IsOf image.now sites.old }
+        requires sites { S.IsOf image.now sites.old }
+        requires goes { MayNext cpu image.now (in_phase Phase.MoveDone self.old) (S.May image.now sites.old) }
         ensures image { S.IsOf image.now sites.new }
         ensures same { UnlessMade result (processor_of self.new ≡ processor_of self.old) }
         ensures turn { Turned result cpu image.now (in_phase Phase.MoveDone self.old) (processor_of self.new)
             (λ e. S.Took image.now sites.old e sites.new)
-            (λ e. S.Kept sites.old sites.new × S.Shut image.now sites.old e)
-            (S.Kept sites.old sites.new × S.Contended sites.old)
+            (λ e. S.Kept sites.old sites.new × S.Shut image.now sites.old e sites.new)
+            (λ site. S.Kept sites.old sites.new × S.Contended image.now sites.old site sites.new)
             (sites.new ≡ sites.old) }
     {
         let domain = domain_named(&self.step());

@@ -4,7 +4,7 @@ ghost use Rattle.std.specs.Prelude.{◌≡◌, [], false};
 ghost use Rattle.um_machine.specs.declared.pending.Pending.TheVariants as Pending;
 ghost use Rattle.um_processor.specs.Events.{about_to, with_ends};
 ghost use Rattle.um_processor.specs.Phases.{is_idle};
-ghost use Rattle.um_processor.specs.Processors.{OnMade, Turned, UnlessMade, cleaned, in_phase, processor_of};
+ghost use Rattle.um_processor.specs.Processors.{MayNext, OnMade, Turned, UnlessMade, cleaned, in_phase, processor_of};
 ghost use Rattle.um_fine.specs.Addresses.{row_named};
 
 use crate::phase::{Phase, Turn};
@@ -28,14 +28,15 @@ impl Running {
     ) -> Turn
         requires sites { S.IsOf image.now sites.old }
         requires none { ends.old.items ≡ [] }
+        requires goes { MayNext cpu image.now (in_phase Phase.Exit self.old) (S.May image.now sites.old) }
         ensures image { S.IsOf image.now sites.new }
         ensures ends { UnlessMade result (ends.new.items ≡ ends.old.items) }
         ensures same { UnlessMade result (processor_of self.new ≡ processor_of self.old) }
         ensures runs { OnMade result (is_idle self.new.phase ≡ false) }
         ensures turn { Turned result cpu image.now (in_phase Phase.Exit self.old) (with_ends ends.new.items (processor_of self.new))
             (λ e. S.Took image.now sites.old e sites.new)
-            (λ e. S.Kept sites.old sites.new × S.Shut image.now sites.old e)
-            (S.Kept sites.old sites.new × S.Contended sites.old)
+            (λ e. S.Kept sites.old sites.new × S.Shut image.now sites.old e sites.new)
+            (λ site. S.Kept sites.old sites.new × S.Contended image.now sites.old site sites.new)
             (sites.new ≡ sites.old) }
     {
         let thread = ThreadIx(self.context.thread());
@@ -68,14 +69,15 @@ impl Running {
     ) -> Turn
         requires sites { S.IsOf image.now sites.old }
         requires none { ends.old.items ≡ [] }
+        requires goes { MayNext cpu image.now (about_to phase (Pending.Fatal reason cause) self.old) (S.May image.now sites.old) }
         ensures image { S.IsOf image.now sites.new }
         ensures ends { UnlessMade result (ends.new.items ≡ ends.old.items) }
         ensures same { UnlessMade result (processor_of self.new ≡ processor_of self.old) }
         ensures runs { OnMade result (is_idle self.new.phase ≡ false) }
         ensures turn { Turned result cpu image.now (about_to phase (Pending.Fatal reason cause) self.old) (with_ends ends.new.items (processor_of self.new))
             (λ e. S.Took image.now sites.old e sites.new)
-            (λ e. S.Kept sites.old sites.new × S.Shut image.now sites.old e)
-            (S.Kept sites.old sites.new × S.Contended sites.old)
+            (λ e. S.Kept sites.old sites.new × S.Shut image.now sites.old e sites.new)
+            (λ site. S.Kept sites.old sites.new × S.Contended image.now sites.old site sites.new)
             (sites.new ≡ sites.old) }
     {
         let thread = ThreadIx(self.context.thread());
@@ -105,13 +107,14 @@ impl Running {
         from: u8,
         sites: &mut S,
     ) -> Turn
-        requires { S.IsOf image.now sites.old }
+        requires sites { S.IsOf image.now sites.old }
+        requires goes { MayNext cpu image.now (about_to phase (Pending.Dooms from) self.old) (S.May image.now sites.old) }
         ensures image { S.IsOf image.now sites.new }
         ensures same { UnlessMade result (processor_of self.new ≡ processor_of self.old) }
         ensures turn { Turned result cpu image.now (about_to phase (Pending.Dooms from) self.old) (processor_of self.new)
             (λ e. S.Took image.now sites.old e sites.new)
-            (λ e. S.Kept sites.old sites.new × S.Shut image.now sites.old e)
-            (S.Kept sites.old sites.new × S.Contended sites.old)
+            (λ e. S.Kept sites.old sites.new × S.Shut image.now sites.old e sites.new)
+            (λ site. S.Kept sites.old sites.new × S.Contended image.now sites.old site sites.new)
             (sites.new ≡ sites.old) }
     {
         if from as usize >= THREADS {
@@ -141,14 +144,15 @@ impl Running {
         cleans: &mut bool,
         sites: &mut S,
     ) -> Turn
-        requires { S.IsOf image.now sites.old }
+        requires sites { S.IsOf image.now sites.old }
+        requires goes { MayNext cpu image.now (about_to phase (Pending.DropPair who addr) self.old) (S.May image.now sites.old) }
         ensures image { S.IsOf image.now sites.new }
         ensures same { UnlessMade result (processor_of self.new ≡ processor_of self.old) }
         ensures runs { OnMade result (is_idle self.new.phase ≡ false) }
         ensures turn { Turned result cpu image.now (about_to phase (Pending.DropPair who addr) self.old) (cleaned image.now (row_named image.now addr) cleans.new (processor_of self.new))
             (λ e. S.Took image.now sites.old e sites.new)
-            (λ e. S.Kept sites.old sites.new × S.Shut image.now sites.old e)
-            (S.Kept sites.old sites.new × S.Contended sites.old)
+            (λ e. S.Kept sites.old sites.new × S.Shut image.now sites.old e sites.new)
+            (λ site. S.Kept sites.old sites.new × S.Contended image.now sites.old site sites.new)
             (sites.new ≡ sites.old) }
     {
         let row = Row(row_named(image, addr));

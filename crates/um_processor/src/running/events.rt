@@ -5,7 +5,7 @@ ghost use Rattle.um_base.specs.Places.{own_row};
 ghost use Rattle.um_fine.specs.Continues.{goes_on};
 ghost use Rattle.um_machine.specs.declared.pending.Pending.TheVariants as Pending;
 ghost use Rattle.um_processor.specs.Events.{about_to, behind_event, rest_of};
-ghost use Rattle.um_processor.specs.Processors.{Turned, UnlessMade, processor_of};
+ghost use Rattle.um_processor.specs.Processors.{MayNext, Turned, UnlessMade, processor_of};
 
 use crate::heap_act::HeapAct;
 use crate::phase::{Phase, Turn};
@@ -70,13 +70,14 @@ impl Running {
         addr: Addr,
         sites: &mut S,
     ) -> Turn
-        requires { S.IsOf image.now sites.old }
+        requires sites { S.IsOf image.now sites.old }
+        requires goes { MayNext cpu image.now (about_to phase (Pending.Grant who addr) self.old) (S.May image.now sites.old) }
         ensures image { S.IsOf image.now sites.new }
         ensures same { UnlessMade result (processor_of self.new ≡ processor_of self.old) }
         ensures turn { Turned result cpu image.now (about_to phase (Pending.Grant who addr) self.old) (processor_of self.new)
             (λ e. S.Took image.now sites.old e sites.new)
-            (λ e. S.Kept sites.old sites.new × S.Shut image.now sites.old e)
-            (S.Kept sites.old sites.new × S.Contended sites.old)
+            (λ e. S.Kept sites.old sites.new × S.Shut image.now sites.old e sites.new)
+            (λ site. S.Kept sites.old sites.new × S.Contended image.now sites.old site sites.new)
             (sites.new ≡ sites.old) }
     {
         let row = Row(row_named(image, addr));
@@ -101,13 +102,14 @@ impl Running {
         who: ThreadIx,
         sites: &mut S,
     ) -> Turn
-        requires { S.IsOf image.now sites.old }
+        requires sites { S.IsOf image.now sites.old }
+        requires goes { MayNext cpu image.now (about_to phase (Pending.Own who) self.old) (S.May image.now sites.old) }
         ensures image { S.IsOf image.now sites.new }
         ensures same { UnlessMade result (processor_of self.new ≡ processor_of self.old) }
         ensures turn { Turned result cpu image.now (about_to phase (Pending.Own who) self.old) (processor_of self.new)
             (λ e. S.Took image.now sites.old e sites.new)
-            (λ e. S.Kept sites.old sites.new × S.Shut image.now sites.old e)
-            (S.Kept sites.old sites.new × S.Contended sites.old)
+            (λ e. S.Kept sites.old sites.new × S.Shut image.now sites.old e sites.new)
+            (λ site. S.Kept sites.old sites.new × S.Contended image.now sites.old site sites.new)
             (sites.new ≡ sites.old) }
     {
         let x = own_row(image, who);
@@ -135,13 +137,14 @@ impl Running {
         addr: Addr,
         sites: &mut S,
     ) -> Turn
-        requires { S.IsOf image.now sites.old }
+        requires sites { S.IsOf image.now sites.old }
+        requires goes { MayNext cpu image.now (about_to phase (Pending.Publish addr) self.old) (S.May image.now sites.old) }
         ensures image { S.IsOf image.now sites.new }
         ensures same { UnlessMade result (processor_of self.new ≡ processor_of self.old) }
         ensures turn { Turned result cpu image.now (about_to phase (Pending.Publish addr) self.old) (processor_of self.new)
             (λ e. S.Took image.now sites.old e sites.new)
-            (λ e. S.Kept sites.old sites.new × S.Shut image.now sites.old e)
-            (S.Kept sites.old sites.new × S.Contended sites.old)
+            (λ e. S.Kept sites.old sites.new × S.Shut image.now sites.old e sites.new)
+            (λ site. S.Kept sites.old sites.new × S.Contended image.now sites.old site sites.new)
             (sites.new ≡ sites.old) }
     {
         let row = Row(row_named(image, addr));
@@ -166,13 +169,14 @@ impl Running {
         addr: Addr,
         sites: &mut S,
     ) -> Turn
-        requires { S.IsOf image.now sites.old }
+        requires sites { S.IsOf image.now sites.old }
+        requires goes { MayNext cpu image.now (about_to phase (Pending.Born addr) self.old) (S.May image.now sites.old) }
         ensures image { S.IsOf image.now sites.new }
         ensures same { UnlessMade result (processor_of self.new ≡ processor_of self.old) }
         ensures turn { Turned result cpu image.now (about_to phase (Pending.Born addr) self.old) (processor_of self.new)
             (λ e. S.Took image.now sites.old e sites.new)
-            (λ e. S.Kept sites.old sites.new × S.Shut image.now sites.old e)
-            (S.Kept sites.old sites.new × S.Contended sites.old)
+            (λ e. S.Kept sites.old sites.new × S.Shut image.now sites.old e sites.new)
+            (λ site. S.Kept sites.old sites.new × S.Contended image.now sites.old site sites.new)
             (sites.new ≡ sites.old) }
     {
         let row = Row(row_named(image, addr));
@@ -197,13 +201,14 @@ impl Running {
         who: ThreadIx,
         sites: &mut S,
     ) -> Turn
-        requires { S.IsOf image.now sites.old }
+        requires sites { S.IsOf image.now sites.old }
+        requires goes { MayNext cpu image.now (about_to phase (Pending.Named who) self.old) (S.May image.now sites.old) }
         ensures image { S.IsOf image.now sites.new }
         ensures same { UnlessMade result (processor_of self.new ≡ processor_of self.old) }
         ensures turn { Turned result cpu image.now (about_to phase (Pending.Named who) self.old) (processor_of self.new)
             (λ e. S.Took image.now sites.old e sites.new)
-            (λ e. S.Kept sites.old sites.new × S.Shut image.now sites.old e)
-            (S.Kept sites.old sites.new × S.Contended sites.old)
+            (λ e. S.Kept sites.old sites.new × S.Shut image.now sites.old e sites.new)
+            (λ site. S.Kept sites.old sites.new × S.Contended image.now sites.old site sites.new)
             (sites.new ≡ sites.old) }
     {
         let x = own_row(image, who);
@@ -231,13 +236,14 @@ impl Running {
         size: u32,
         sites: &mut S,
     ) -> Turn
-        requires { S.IsOf image.now sites.old }
+        requires sites { S.IsOf image.now sites.old }
+        requires goes { MayNext cpu image.now (about_to phase (Pending.Unbuffer size) self.old) (S.May image.now sites.old) }
         ensures image { S.IsOf image.now sites.new }
         ensures same { UnlessMade result (processor_of self.new ≡ processor_of self.old) }
         ensures turn { Turned result cpu image.now (about_to phase (Pending.Unbuffer size) self.old) (processor_of self.new)
             (λ e. S.Took image.now sites.old e sites.new)
-            (λ e. S.Kept sites.old sites.new × S.Shut image.now sites.old e)
-            (S.Kept sites.old sites.new × S.Contended sites.old)
+            (λ e. S.Kept sites.old sites.new × S.Shut image.now sites.old e sites.new)
+            (λ site. S.Kept sites.old sites.new × S.Contended image.now sites.old site sites.new)
             (sites.new ≡ sites.old) }
     {
         let charge = cost_of(self.context.pool(), size);
@@ -266,13 +272,14 @@ impl Running {
         mode: Mode,
         sites: &mut S,
     ) -> Turn
-        requires { S.IsOf image.now sites.old }
+        requires sites { S.IsOf image.now sites.old }
+        requires goes { MayNext cpu image.now (about_to phase (Pending.Start who script stack priority mode) self.old) (S.May image.now sites.old) }
         ensures image { S.IsOf image.now sites.new }
         ensures same { UnlessMade result (processor_of self.new ≡ processor_of self.old) }
         ensures turn { Turned result cpu image.now (about_to phase (Pending.Start who script stack priority mode) self.old) (processor_of self.new)
             (λ e. S.Took image.now sites.old e sites.new)
-            (λ e. S.Kept sites.old sites.new × S.Shut image.now sites.old e)
-            (S.Kept sites.old sites.new × S.Contended sites.old)
+            (λ e. S.Kept sites.old sites.new × S.Shut image.now sites.old e sites.new)
+            (λ site. S.Kept sites.old sites.new × S.Contended image.now sites.old site sites.new)
             (sites.new ≡ sites.old) }
     {
         if who.0 as usize >= THREADS {

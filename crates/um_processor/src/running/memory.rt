@@ -5,7 +5,7 @@ ghost use Rattle.um_machine.specs.declared.pending.Pending.TheVariants as Pendin
 ghost use Rattle.um_processor.specs.declared.memory_act.MemoryAct.TheVariants as MemoryAct;
 ghost use Rattle.um_processor.specs.Accesses.{behind_access, behind_load};
 ghost use Rattle.um_processor.specs.Events.{about_to, behind_event, rest_of};
-ghost use Rattle.um_processor.specs.Processors.{Turned, UnlessMade, processor_of};
+ghost use Rattle.um_processor.specs.Processors.{MayNext, Turned, UnlessMade, processor_of};
 
 use crate::memory_act::MemoryAct;
 use crate::phase::{Phase, Turn};
@@ -74,13 +74,14 @@ impl Running {
         size: u32,
         sites: &mut S,
     ) -> Turn
-        requires { S.IsOf image.now sites.old }
+        requires sites { S.IsOf image.now sites.old }
+        requires goes { MayNext cpu image.now (about_to phase (Pending.Load to addr size) self.old) (S.May image.now sites.old) }
         ensures image { S.IsOf image.now sites.new }
         ensures same { UnlessMade result (processor_of self.new ≡ processor_of self.old) }
         ensures turn { Turned result cpu image.now (about_to phase (Pending.Load to addr size) self.old) (processor_of self.new)
             (λ e. S.Took image.now sites.old e sites.new)
-            (λ e. S.Kept sites.old sites.new × S.Shut image.now sites.old e)
-            (S.Kept sites.old sites.new × S.Contended sites.old)
+            (λ e. S.Kept sites.old sites.new × S.Shut image.now sites.old e sites.new)
+            (λ site. S.Kept sites.old sites.new × S.Contended image.now sites.old site sites.new)
             (sites.new ≡ sites.old) }
     {
         if size > 4 {
@@ -112,13 +113,14 @@ impl Running {
         value: u32,
         sites: &mut S,
     ) -> Turn
-        requires { S.IsOf image.now sites.old }
+        requires sites { S.IsOf image.now sites.old }
+        requires goes { MayNext cpu image.now (about_to phase (Pending.Store addr size value) self.old) (S.May image.now sites.old) }
         ensures image { S.IsOf image.now sites.new }
         ensures same { UnlessMade result (processor_of self.new ≡ processor_of self.old) }
         ensures turn { Turned result cpu image.now (about_to phase (Pending.Store addr size value) self.old) (processor_of self.new)
             (λ e. S.Took image.now sites.old e sites.new)
-            (λ e. S.Kept sites.old sites.new × S.Shut image.now sites.old e)
-            (S.Kept sites.old sites.new × S.Contended sites.old)
+            (λ e. S.Kept sites.old sites.new × S.Shut image.now sites.old e sites.new)
+            (λ site. S.Kept sites.old sites.new × S.Contended image.now sites.old site sites.new)
             (sites.new ≡ sites.old) }
     {
         let thread = ThreadIx(self.context.thread());
@@ -150,13 +152,14 @@ impl Running {
         addr: Addr,
         sites: &mut S,
     ) -> Turn
-        requires { S.IsOf image.now sites.old }
+        requires sites { S.IsOf image.now sites.old }
+        requires goes { MayNext cpu image.now (about_to phase (Pending.Fetch addr) self.old) (S.May image.now sites.old) }
         ensures image { S.IsOf image.now sites.new }
         ensures same { UnlessMade result (processor_of self.new ≡ processor_of self.old) }
         ensures turn { Turned result cpu image.now (about_to phase (Pending.Fetch addr) self.old) (processor_of self.new)
             (λ e. S.Took image.now sites.old e sites.new)
-            (λ e. S.Kept sites.old sites.new × S.Shut image.now sites.old e)
-            (S.Kept sites.old sites.new × S.Contended sites.old)
+            (λ e. S.Kept sites.old sites.new × S.Shut image.now sites.old e sites.new)
+            (λ site. S.Kept sites.old sites.new × S.Contended image.now sites.old site sites.new)
             (sites.new ≡ sites.old) }
     {
         let thread = ThreadIx(self.context.thread());
@@ -183,13 +186,14 @@ impl Running {
         stack: Row,
         sites: &mut S,
     ) -> Turn
-        requires { S.IsOf image.now sites.old }
+        requires sites { S.IsOf image.now sites.old }
+        requires goes { MayNext cpu image.now (about_to phase (Pending.Erase stack) self.old) (S.May image.now sites.old) }
         ensures image { S.IsOf image.now sites.new }
         ensures same { UnlessMade result (processor_of self.new ≡ processor_of self.old) }
         ensures turn { Turned result cpu image.now (about_to phase (Pending.Erase stack) self.old) (processor_of self.new)
             (λ e. S.Took image.now sites.old e sites.new)
-            (λ e. S.Kept sites.old sites.new × S.Shut image.now sites.old e)
-            (S.Kept sites.old sites.new × S.Contended sites.old)
+            (λ e. S.Kept sites.old sites.new × S.Shut image.now sites.old e sites.new)
+            (λ site. S.Kept sites.old sites.new × S.Contended image.now sites.old site sites.new)
             (sites.new ≡ sites.old) }
     {
         let thread = ThreadIx(self.context.thread());

@@ -1,7 +1,7 @@
 //! The steps round the event of a start.
 
 ghost use Rattle.std.specs.Prelude.{◌≡◌};
-ghost use Rattle.um_processor.specs.Processors.{Turned, UnlessMade, in_phase, processor_of};
+ghost use Rattle.um_processor.specs.Processors.{MayNext, Turned, UnlessMade, in_phase, processor_of};
 
 use crate::phase::{Phase, Turn};
 use crate::running::Running;
@@ -13,13 +13,14 @@ use um_base::{Image, THREADS, ThreadIx};
 impl Running {
     /// The creator is held, and its domain known.
     pub fn hold_creator<S: Sites>(&mut self, image: &Image, cpu: u8, sites: &mut S) -> Turn
-        requires { S.IsOf image.now sites.old }
+        requires sites { S.IsOf image.now sites.old }
+        requires goes { MayNext cpu image.now (in_phase Phase.StartHold self.old) (S.May image.now sites.old) }
         ensures image { S.IsOf image.now sites.new }
         ensures same { UnlessMade result (processor_of self.new ≡ processor_of self.old) }
         ensures turn { Turned result cpu image.now (in_phase Phase.StartHold self.old) (processor_of self.new)
             (λ e. S.Took image.now sites.old e sites.new)
-            (λ e. S.Kept sites.old sites.new × S.Shut image.now sites.old e)
-            (S.Kept sites.old sites.new × S.Contended sites.old)
+            (λ e. S.Kept sites.old sites.new × S.Shut image.now sites.old e sites.new)
+            (λ site. S.Kept sites.old sites.new × S.Contended image.now sites.old site sites.new)
             (sites.new ≡ sites.old) }
     {
         let thread = ThreadIx(self.context.thread());
@@ -36,13 +37,14 @@ impl Running {
 
     /// The creator is let go.
     pub fn let_creator_go<S: Sites>(&mut self, image: &Image, cpu: u8, sites: &mut S) -> Turn
-        requires { S.IsOf image.now sites.old }
+        requires sites { S.IsOf image.now sites.old }
+        requires goes { MayNext cpu image.now (in_phase Phase.StartLetGo self.old) (S.May image.now sites.old) }
         ensures image { S.IsOf image.now sites.new }
         ensures same { UnlessMade result (processor_of self.new ≡ processor_of self.old) }
         ensures turn { Turned result cpu image.now (in_phase Phase.StartLetGo self.old) (processor_of self.new)
             (λ e. S.Took image.now sites.old e sites.new)
-            (λ e. S.Kept sites.old sites.new × S.Shut image.now sites.old e)
-            (S.Kept sites.old sites.new × S.Contended sites.old)
+            (λ e. S.Kept sites.old sites.new × S.Shut image.now sites.old e sites.new)
+            (λ site. S.Kept sites.old sites.new × S.Contended image.now sites.old site sites.new)
             (sites.new ≡ sites.old) }
     {
         let thread = ThreadIx(self.context.thread());
@@ -58,13 +60,14 @@ impl Running {
 
     /// The new thread gets ready.
     pub fn add<S: Sites>(&mut self, image: &Image, cpu: u8, sites: &mut S) -> Turn
-        requires { S.IsOf image.now sites.old }
+        requires sites { S.IsOf image.now sites.old }
+        requires goes { MayNext cpu image.now (in_phase Phase.Add self.old) (S.May image.now sites.old) }
         ensures image { S.IsOf image.now sites.new }
         ensures same { UnlessMade result (processor_of self.new ≡ processor_of self.old) }
         ensures turn { Turned result cpu image.now (in_phase Phase.Add self.old) (processor_of self.new)
             (λ e. S.Took image.now sites.old e sites.new)
-            (λ e. S.Kept sites.old sites.new × S.Shut image.now sites.old e)
-            (S.Kept sites.old sites.new × S.Contended sites.old)
+            (λ e. S.Kept sites.old sites.new × S.Shut image.now sites.old e sites.new)
+            (λ site. S.Kept sites.old sites.new × S.Contended image.now sites.old site sites.new)
             (sites.new ≡ sites.old) }
     {
         if self.newborn.thread.0 as usize >= THREADS {

@@ -3,7 +3,7 @@
 ghost use Rattle.std.specs.Prelude.{◌≡◌, ◌∷◌, drop, false};
 ghost use Rattle.um_machine.specs.declared.pending.Pending.TheVariants as Pending;
 ghost use Rattle.um_processor.specs.Phases.{is_idle, passed_to};
-ghost use Rattle.um_processor.specs.Processors.{OnMade, Turned, UnlessMade, cleaned, in_phase, processor_of, visiting};
+ghost use Rattle.um_processor.specs.Processors.{MayNext, OnMade, Turned, UnlessMade, cleaned, in_phase, processor_of, visiting};
 
 use crate::phase::{Phase, Turn};
 use crate::row_act::RowAct;
@@ -49,13 +49,14 @@ impl Running {
 
     /// The permission on the object of a row is passed on, where the other thread hasn't it.
     pub fn pass<S: Sites>(&mut self, image: &Image, cpu: u8, sites: &mut S) -> Turn
-        requires { S.IsOf image.now sites.old }
+        requires sites { S.IsOf image.now sites.old }
+        requires goes { MayNext cpu image.now (in_phase Phase.Pass self.old) (S.May image.now sites.old) }
         ensures image { S.IsOf image.now sites.new }
         ensures same { UnlessMade result (processor_of self.new ≡ processor_of self.old) }
         ensures turn { Turned result cpu image.now (in_phase Phase.Pass self.old) (processor_of self.new)
             (λ e. S.Took image.now sites.old e sites.new)
-            (λ e. S.Kept sites.old sites.new × S.Shut image.now sites.old e)
-            (S.Kept sites.old sites.new × S.Contended sites.old)
+            (λ e. S.Kept sites.old sites.new × S.Shut image.now sites.old e sites.new)
+            (λ site. S.Kept sites.old sites.new × S.Contended image.now sites.old site sites.new)
             (sites.new ≡ sites.old) }
     {
         let x = self.row as usize;
@@ -87,14 +88,15 @@ impl Running {
         cleans: &mut bool,
         sites: &mut S,
     ) -> Turn
-        requires { S.IsOf image.now sites.old }
+        requires sites { S.IsOf image.now sites.old }
+        requires goes { MayNext cpu image.now (in_phase Phase.Drop self.old) (S.May image.now sites.old) }
         ensures image { S.IsOf image.now sites.new }
         ensures same { UnlessMade result (processor_of self.new ≡ processor_of self.old) }
         ensures runs { OnMade result (is_idle self.new.phase ≡ false) }
         ensures turn { Turned result cpu image.now (in_phase Phase.Drop self.old) (cleaned image.now self.old.row cleans.new (processor_of self.new))
             (λ e. S.Took image.now sites.old e sites.new)
-            (λ e. S.Kept sites.old sites.new × S.Shut image.now sites.old e)
-            (S.Kept sites.old sites.new × S.Contended sites.old)
+            (λ e. S.Kept sites.old sites.new × S.Shut image.now sites.old e sites.new)
+            (λ site. S.Kept sites.old sites.new × S.Contended image.now sites.old site sites.new)
             (sites.new ≡ sites.old) }
     {
         let x = self.row as usize;

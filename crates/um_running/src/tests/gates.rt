@@ -1,6 +1,7 @@
 //! Processors that are held at gates, which shows that each is a thread of its own.
 
 use super::described::GRANT_RACE;
+use super::lines::place_of;
 use super::{Ended, answered};
 use std::hint::spin_loop;
 use std::sync::Wait;
@@ -98,16 +99,6 @@ impl Gate for Meeting {
 /// The race of a grant and a check on two processors.
 fn race<R: AllocGlobal + Threads + Wait + Sync>(rt: &R, gate: &Meeting) -> Result<Ended, Fail> {
     answered(rt, "run --cpus 2", GRANT_RACE, gate)
-}
-
-/// Where a line stands in a text, if it does: the number of bytes before it.
-fn place_of(text: &[u8], line: &str) -> Option<usize> {
-    for k in 0..text.len() {
-        if text[k..].starts_with(line.as_bytes()) {
-            return Some(k);
-        }
-    }
-    None
 }
 
 #[test]

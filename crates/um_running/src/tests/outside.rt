@@ -41,6 +41,27 @@ fn a_write_fails(rt: HostRuntime) -> Result<(), Fail> {
 }
 
 #[test]
+fn a_write_of_a_run_fails(rt: HostRuntime) -> Result<(), Fail> {
+    let alloc = rt.alloc();
+    let whole = answered(&rt, "run --cpus 1", REALISTIC, &NoGate)?;
+    assert_eq!(rt; whole.status, Status::Done);
+    assert!(rt; whole.board);
+    for k in 0..21 {
+        let source = source_of(alloc, REALISTIC, 7, Vec::new(alloc))?;
+        let out = MemSink::new(alloc, 100, vec![in alloc; k]?)?;
+        let ended = call(&rt, "run --cpus 1", source, out, &NoGate)?;
+        assert_eq!(rt; ended.status, Status::WriteFault, "write {k}");
+        assert!(rt; whole.out.bytes().starts_with(ended.out.bytes()));
+        assert!(rt;
+            !ended.board,
+            "the board is left, although write {k} failed"
+        );
+        assert_eq!(rt; ended.err.bytes(), b"zumode: write fault\n".as_slice());
+    }
+    Ok(())
+}
+
+#[test]
 fn a_call_that_fails_is_not_reached(rt: HostRuntime) -> Result<(), Fail> {
     let alloc = rt.alloc();
     let whole = answered(&rt, "sim", REALISTIC, &NoGate)?;

@@ -5,6 +5,7 @@ ghost use Rattle.um_base.specs.Lawful.{IsLawful};
 use super::answered;
 use super::described::{INHERITANCE, LAST_BYTE, LAST_RELEASE};
 use super::gates::Meeting;
+use super::lines::count_of;
 use std::alloc::Global;
 use std::sync::Wait;
 use std::test::Fail;
@@ -18,17 +19,6 @@ use um_matrix::Matrix;
 
 /// How often a description is run. In the run of number k processor 1 begins when processor 0 has come to step k.
 const RUNS: u64 = 20;
-
-/// How often these words stand in a text.
-fn count_of(text: &[u8], words: &str) -> usize {
-    let mut count: usize = 0;
-    for k in 0..text.len() {
-        if text[k..].starts_with(words.as_bytes()) {
-            count = count.saturating_add(1);
-        }
-    }
-    count
-}
 
 #[test]
 fn one_thread_writes_what_sim_writes(rt: HostRuntime) -> Result<(), Fail> {

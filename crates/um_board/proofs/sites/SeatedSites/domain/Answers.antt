@@ -1,10 +1,14 @@
 use Rattle.std.proofs.Common.{◌≡◌, ◌+◌, ap, refl, sym, ◌∙◌}
 use Rattle.um_fine.specs.Answers.{domain_in}
-use Rattle.um_fine.specs.Steps.{Exchange}
+use Rattle.um_fine.specs.Steps.{Exchange, Word}
 use Rattle.um_processor.specs.DomainActs.{domain_made}
 use Rattle.um_board.specs.Noted.{number_of, packed}
 use Rattle.um_board.proofs.Keeping.{noted-then, unnoted-then}
 use Rattle.um_board.proofs.WordSteps.{domain-lawful, domain-number, domain-packs, domain-reads-back, domain-word}
+use Rattle.um_fine.specs.Sites.{SiteState}
+use Rattle.um_board.specs.Saw.{Hinders, SawShut}
+use Rattle.um_board.proofs.Saws.{got-one, moved-on, some-domain}
+use Rattle.um_board.proofs.NextRuns.{next-then}
 use Rattle.um_board.proofs.sites.SeatedSites.domain.Goals as goal
 
 pub pack-requires : goal.pack-requires
@@ -40,6 +44,9 @@ step-requires-clause-lawful c =
     let t = c.in-Some-make.ensures c.args.image.now c.args.cpu c.args.domain in
     domain-lawful c.args.image.now e c.args.domain c.look-seen.result _ _ c.requires.domain (sym c.in-Some.ensures.value) t _ c.pack.ensures.value
 
+pub step-requires-clause-goes : goal.step-requires-clause-goes
+step-requires-clause-goes c = next-then _ _ _ _ _ _ c.look-seen.ensures.unnoted (c.requires.goes c.in-Some.word)
+
 pub returns-clause-said : goal.returns-clause-said
 returns-clause-said c =
     let e = domain_made c.args.image.now c.args.cpu c.args.domain c.in-Some.word c.args.act.now in
@@ -47,7 +54,17 @@ returns-clause-said c =
     (c.in-Some.word, noted-then _ _ _ _ _ _ e c.look-seen.ensures.unnoted (c.if-not-step.ensures.made refl), sym (ap domain_in (domain-word c.args.image.now e _ _ t)))
 
 pub returns-in-None-make-clause-said : goal.returns-in-None-make-clause-said
-returns-in-None-make-clause-said c = (c.in-Some.word, c.look-seen.ensures.unnoted, tt)
+returns-in-None-make-clause-said c =
+    let w = c.in-Some.word in
+    let got = got-one _ _ _ _ c.look-seen.ensures.got in
+    let shut = SawShut.refused (SiteState.domain w) c.look-seen.result got (ap Word.domain (some-domain c.look-seen.result w c.in-Some.ensures.value)) (c.in-None-make.ensures c.args.image.now c.args.cpu c.args.domain) in
+    (w, c.look-seen.ensures.unnoted, shut)
+
+pub returns-in-None-clause-said : goal.returns-in-None-clause-said
+returns-in-None-clause-said c =
+    (c.look-seen.ensures.unnoted, Hinders.no_domain c.look-seen.result (got-one _ _ _ _ c.look-seen.ensures.got) (sym c.in-None.ensures.value))
 
 pub returns-then-not-step-clause-said : goal.returns-then-not-step-clause-said
-returns-then-not-step-clause-said c = (unnoted-then _ _ _ _ _ _ c.look-seen.ensures.unnoted (c.if-not-step.ensures.changed refl), tt)
+returns-then-not-step-clause-said c =
+    let m = c.if-not-step.ensures.moved refl in
+    (unnoted-then _ _ _ _ _ _ c.look-seen.ensures.unnoted (c.if-not-step.ensures.changed refl), moved-on _ _ _ _ _ _ _ m.0 c.look-seen.ensures.got m.2 m.1)

@@ -6,17 +6,22 @@ use Rattle.um_board.proofs.CellSteps.{noted-at}
 use Rattle.um_base.specs.declared.act.Act.{Act}
 use Rattle.um_words.specs.declared.fine.More.{More}
 use Rattle.um_processor.specs.Asked.{shown}
-use Rattle.um_processor.specs.ObjectCells.{cleared, kept_in}
+use Rattle.um_processor.specs.ObjectCells.{kept_in}
+use Rattle.um_board.proofs.Saws.{next-at}
 use Rattle.um_board.proofs.sites.SeatedSites.name.Goals as goal
+
+pub leave-requires-clause-goes : goal.leave-requires-clause-goes
+leave-requires-clause-goes c =
+    let t = c.in-Some.ensures.turn in
+    let d = c.into_object-cell.result.value in
+    let k : c.in-Some.turn.before.value.cell ≡ Cell.object (kept_in d) = cell-here _ _ _ t.0 c.into_object-cell.ensures in
+    next-at c.args.image.now c.args.cpu (Site.object c.args.row.0) c.in-Some.turn.number c.in-Some.turn.before.value.cell (Cell.object (kept_in d)) (shown c.args.thread (Act.Named c.args.who) More.Nothing) (Exchange.bytes c.args.bytes.now) _ _ _ _ k c.in-Some.ensures.unnoted (c.requires.goes c.in-Some.turn.number (kept_in d))
 
 pub returns-clause-said : goal.returns-clause-said
 returns-clause-said c =
-    let t = c.in-Made.ensures.turn in
+    let t = c.in-Some.ensures.turn in
     let d = c.into_object-cell.result.value in
-    let k : c.in-Made.turn.before.value.cell ≡ Cell.object (kept_in d) = cell-here _ _ _ t.0 c.into_object-cell.ensures in
+    let k : c.in-Some.turn.before.value.cell ≡ Cell.object (kept_in d) = cell-here _ _ _ t.0 c.into_object-cell.ensures in
     let was : c.deref_mut.result.now ≡ d = search rules in
     let now : c.new-left.result.cell ≡ Cell.object (kept_in c.name.new.self) = search rules in
-    (c.in-Made.turn.number, kept_in d, noted-at c.args.image.now c.args.cpu (Site.object c.args.row.0) c.in-Made.turn.number c.in-Made.turn.before.value.cell (Cell.object (kept_in d)) (shown c.args.thread (Act.Named c.args.who) More.Nothing) (Exchange.bytes c.args.bytes.now) _ _ _ _ _ _ k c.in-Made.ensures.unnoted c.leave.ensures.made)
-
-pub returns-in-Busy-clause-said : goal.returns-in-Busy-clause-said
-returns-in-Busy-clause-said c = (0, kept_in (cleared 0), c.in-Busy.ensures.unnoted, tt)
+    (c.in-Some.turn.number, kept_in d, noted-at c.args.image.now c.args.cpu (Site.object c.args.row.0) c.in-Some.turn.number c.in-Some.turn.before.value.cell (Cell.object (kept_in d)) (shown c.args.thread (Act.Named c.args.who) More.Nothing) (Exchange.bytes c.args.bytes.now) _ _ _ _ _ _ k c.in-Some.ensures.unnoted c.leave.ensures.made)

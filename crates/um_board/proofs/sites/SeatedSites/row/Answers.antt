@@ -1,11 +1,15 @@
 use Rattle.std.proofs.Common.{◌≡◌, ap, refl, sym, ◌∙◌}
 use Rattle.um_words.specs.Packed.{row_of}
-use Rattle.um_fine.specs.Steps.{Exchange}
+use Rattle.um_fine.specs.Steps.{Exchange, Word}
 use Rattle.um_processor.specs.RowActs.{row_event, row_made}
 use Rattle.um_processor.proofs.Noted.{row-event}
 use Rattle.um_board.specs.Noted.{number_of, packed}
 use Rattle.um_board.proofs.Keeping.{noted-then, unnoted-then}
 use Rattle.um_board.proofs.WordSteps.{row-lawful, row-number, row-packs, row-reads-back, row-read, row-word}
+use Rattle.um_fine.specs.Sites.{SiteState}
+use Rattle.um_board.specs.Saw.{SawShut}
+use Rattle.um_board.proofs.Saws.{got-one, moved-on}
+use Rattle.um_board.proofs.NextRuns.{next-then}
 use Rattle.um_board.proofs.sites.SeatedSites.row.Goals as goal
 
 pub pack-requires : goal.pack-requires
@@ -43,6 +47,9 @@ step-requires-clause-lawful c =
     let t = row-read c.args.image.now c.args.cpu c.args.row.0 _ _ c.args.act.now _ _ c.read-word.ensures.value (c.in-Some.ensures c.args.image.now c.args.cpu c.args.row.0) in
     row-lawful c.args.image.now e c.args.row.0 c.look-seen.result _ c.requires.row t.0 _ c.pack.ensures.value
 
+pub step-requires-clause-goes : goal.step-requires-clause-goes
+step-requires-clause-goes c = next-then _ _ _ _ _ _ c.look-seen.ensures.unnoted (c.requires.goes (row_of c.look-seen.result))
+
 pub returns-clause-said : goal.returns-clause-said
 returns-clause-said c =
     let e = row_made c.args.image.now c.args.cpu c.args.row.0 (row_of c.look-seen.result) c.args.act.now in
@@ -50,7 +57,13 @@ returns-clause-said c =
     (row_of c.look-seen.result, noted-then _ _ _ _ _ _ e c.look-seen.ensures.unnoted (c.if-not-step.ensures.made refl), t.1)
 
 pub returns-in-None-clause-said : goal.returns-in-None-clause-said
-returns-in-None-clause-said c = (c.read-word.result, c.look-seen.ensures.unnoted, tt)
+returns-in-None-clause-said c =
+    let w = c.read-word.result in
+    let got = got-one _ _ _ _ c.look-seen.ensures.got in
+    let shut = SawShut.refused (SiteState.row w) c.look-seen.result got (ap Word.row (sym c.read-word.ensures.value)) (c.in-None.ensures c.args.image.now c.args.cpu c.args.row.0) in
+    (w, c.look-seen.ensures.unnoted, shut)
 
 pub returns-then-not-step-clause-said : goal.returns-then-not-step-clause-said
-returns-then-not-step-clause-said c = (unnoted-then _ _ _ _ _ _ c.look-seen.ensures.unnoted (c.if-not-step.ensures.changed refl), tt)
+returns-then-not-step-clause-said c =
+    let m = c.if-not-step.ensures.moved refl in
+    (unnoted-then _ _ _ _ _ _ c.look-seen.ensures.unnoted (c.if-not-step.ensures.changed refl), moved-on _ _ _ _ _ _ _ m.0 c.look-seen.ensures.got m.2 m.1)

@@ -1,12 +1,16 @@
 use Rattle.std.proofs.Common.{◌≡◌, ◌+◌, ap, refl, sym, ◌∙◌}
 use Rattle.um_words.specs.declared.thread_word.ThreadWord.{ThreadWord}
 use Rattle.um_fine.specs.Answers.{thread_in}
-use Rattle.um_fine.specs.Steps.{Exchange}
+use Rattle.um_fine.specs.Steps.{Exchange, Word}
 use Rattle.um_processor.specs.ThreadActs.{thread_event, thread_made}
 use Rattle.um_processor.proofs.Noted.{thread-event}
 use Rattle.um_board.specs.Noted.{number_of, packed}
 use Rattle.um_board.proofs.Keeping.{noted-then, unnoted-then}
 use Rattle.um_board.proofs.WordSteps.{thread-lawful, thread-number, thread-packs, thread-reads-back, thread-word}
+use Rattle.um_fine.specs.Sites.{SiteState}
+use Rattle.um_board.specs.Saw.{Hinders, SawShut}
+use Rattle.um_board.proofs.Saws.{got-one, moved-on, some-thread}
+use Rattle.um_board.proofs.NextRuns.{next-then}
 use Rattle.um_board.proofs.sites.SeatedSites.thread.Goals as goal
 
 pub pack-requires : goal.pack-requires
@@ -46,6 +50,9 @@ step-requires-clause-lawful c =
     let t = c.in-Some-make.ensures.made c.args.image.now c.args.cpu c.args.thread.0 in
     thread-lawful c.args.image.now e c.args.thread.0 c.look-seen.result _ _ c.requires.thread (sym c.in-Some.ensures.value) t _ c.pack.ensures.value
 
+pub step-requires-clause-goes : goal.step-requires-clause-goes
+step-requires-clause-goes c = next-then _ _ _ _ _ _ c.look-seen.ensures.unnoted (c.requires.goes c.in-Some.word)
+
 pub returns-clause-said : goal.returns-clause-said
 returns-clause-said c =
     let e = thread_made c.args.image.now c.args.cpu c.args.thread.0 c.in-Some.word c.args.act.now in
@@ -53,7 +60,17 @@ returns-clause-said c =
     (c.in-Some.word, noted-then _ _ _ _ _ _ e c.look-seen.ensures.unnoted (c.if-not-step.ensures.made refl), sym (ap thread_in (thread-word c.args.image.now e _ _ t)))
 
 pub returns-in-None-make-clause-said : goal.returns-in-None-make-clause-said
-returns-in-None-make-clause-said c = (c.in-Some.word, c.look-seen.ensures.unnoted, tt)
+returns-in-None-make-clause-said c =
+    let w = c.in-Some.word in
+    let got = got-one _ _ _ _ c.look-seen.ensures.got in
+    let shut = SawShut.refused (SiteState.thread w) c.look-seen.result got (ap Word.thread (some-thread c.look-seen.result w c.in-Some.ensures.value)) (c.in-None-make.ensures.made c.args.image.now c.args.cpu c.args.thread.0) in
+    (w, c.look-seen.ensures.unnoted, shut)
+
+pub returns-in-None-clause-said : goal.returns-in-None-clause-said
+returns-in-None-clause-said c =
+    (c.look-seen.ensures.unnoted, Hinders.no_thread c.look-seen.result (got-one _ _ _ _ c.look-seen.ensures.got) (sym c.in-None.ensures.value))
 
 pub returns-then-not-step-clause-said : goal.returns-then-not-step-clause-said
-returns-then-not-step-clause-said c = (unnoted-then _ _ _ _ _ _ c.look-seen.ensures.unnoted (c.if-not-step.ensures.changed refl), tt)
+returns-then-not-step-clause-said c =
+    let m = c.if-not-step.ensures.moved refl in
+    (unnoted-then _ _ _ _ _ _ c.look-seen.ensures.unnoted (c.if-not-step.ensures.changed refl), moved-on _ _ _ _ _ _ _ m.0 c.look-seen.ensures.got m.2 m.1)

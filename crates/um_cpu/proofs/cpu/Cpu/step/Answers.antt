@@ -1,7 +1,11 @@
-use Rattle.std.proofs.Common.{◌<◌, inr, refl, subst}
+use Rattle.std.proofs.Common.{◌<◌, ℕ, List, inr, refl, subst}
+use Rattle.std.specs.Prelude.{vec_capacity}
 use Rattle.um_words.specs.declared.cell_word.CellWord.{CellWord}
 use Rattle.um_processor.specs.Standing.{whole}
-use Rattle.um_cpu.proofs.Advances.{looked-first, looks-on, saw-ready}
+use Rattle.um_merge.specs.declared.logged.Logged.{Logged}
+use Rattle.um_board.specs.Seated.{Unnoted}
+use Rattle.um_cpu.specs.Cpus.{HasAsked}
+use Rattle.um_cpu.proofs.Advances.{looked-first, looks-on, stands-on}
 use Rattle.um_cpu.proofs.cpu.Cpu.step.Goals as goal
 
 pub returns-then-says-gt0-clause-goes : goal.returns-then-says-gt0-clause-goes
@@ -24,8 +28,30 @@ returns-clause-goes c =
     let seen = c.look_scheduler-word.new.self in
     looks-on c.args.image.now old.number (whole old.processor) (whole old.processor) old.place.seat old.place.log.items seen.seat seen.log.items c.look_scheduler-word.ensures.unnoted refl
 
+pub returns-then-says-eq0-2-clause-stands : goal.returns-then-says-eq0-2-clause-stands
+returns-then-says-eq0-2-clause-stands c =
+    let old = c.args.self.now in
+    let seen = c.look_scheduler-word.new.self in
+    stands-on c.args.image.now old.number (whole old.processor) (whole old.processor) old.place.seat old.place.log.items seen.seat seen.log.items c.requires.stands
+    c.look_scheduler-word.ensures.unnoted.keeps
+    (returns-then-says-eq0-2-clause-goes c)
+
+pub returns-clause-stands : goal.returns-clause-stands
+returns-clause-stands c =
+    let old = c.args.self.now in
+    let seen = c.look_scheduler-word.new.self in
+    stands-on c.args.image.now old.number (whole old.processor) (whole old.processor) old.place.seat old.place.log.items seen.seat seen.log.items c.requires.stands
+    c.look_scheduler-word.ensures.unnoted.keeps
+    (returns-clause-goes c)
+
 pub returns-then-says-gt0-clause-told : goal.returns-then-says-gt0-clause-told
 returns-then-says-gt0-clause-told c =
+    let old = c.args.self.now in
     let looked = c.look_scheduler-word in
     let ready = subst (λ (w : CellWord). 0 < w.ready) c.read-says.ensures.value c.if-says-gt0.true in
-    inr (saw-ready c.args.self.now.place.seat looked.new.self.seat c.ask-then-says-gt0.new.self.place.seat looked.result looked.ensures.got looked.ensures.newest ready c.ask-then-says-gt0.ensures.got)
+    let new = c.ask-then-says-gt0.new.self in
+    let asked = subst (λ (q : ℕ × List Logged). HasAsked c.args.image.now old.number (whole old.processor) (whole new.processor) looked.new.self.seat q.0 q.1 new.place.seat new.place.log.items)
+    (λ i. (vec_capacity (looked.ensures.log i), (looked.ensures.log i).items))
+    c.ask-then-says-gt0.ensures.asked in
+    let unnoted = subst (λ (l : List Logged). Unnoted old.place.seat old.place.log.items looked.new.self.seat l) (λ i. (looked.ensures.log i).items) looked.ensures.unnoted in
+    inr (looked.new.self.seat, unnoted, record { word = looked.result; got = looked.ensures.got; newest = looked.ensures.newest; ready = ready }, asked)

@@ -1,7 +1,9 @@
 use Rattle.std.proofs.Common.{ap, drop, ◌∙◌}
-use Rattle.um_processor.specs.Processors.{processor_of}
-use Rattle.um_processor.specs.Standing.{standing}
-use Rattle.um_processor.proofs.Lifted.{asks-from, bare, goes-as, goes-from, idle-whole, stuck-from}
+use Rattle.um_fine.specs.Steps.{Site}
+use Rattle.um_processor.specs.Processors.{in_phase, processor_of}
+use Rattle.um_processor.specs.Standing.{standing, whole}
+use Rattle.um_processor.specs.declared.phase.Phase.{Phase}
+use Rattle.um_processor.proofs.Lifted.{asks-from, bare, goes-as, goes-from, idle-whole, late-from, stuck-from}
 use Rattle.um_processor.proofs.processor.Processor.take.Goals as goal
 
 pub returns-in-Made-clause-turn : goal.returns-in-Made-clause-turn
@@ -14,7 +16,11 @@ pub returns-in-Busy-clause-turn : goal.returns-in-Busy-clause-turn
 returns-in-Busy-clause-turn g c = let h = c.in-Busy.ensures.turn in (h.0, h.1, asks-from c.args.cpu c.args.image.now _ _ h.0 (idle-whole c.args.self.now.running _ _ _ c.requires.idle) h.2)
 
 pub returns-in-Changed-clause-turn : goal.returns-in-Changed-clause-turn
-returns-in-Changed-clause-turn g c = c.in-Changed.ensures.turn
+returns-in-Changed-clause-turn g c =
+    late-from c.args.image.now (whole c.args.self.now) (in_phase Phase.Idle c.args.self.now.running)
+    (λ (site : Site). g.S.Sites.Kept c.args.sites.now c.take.new.sites × g.S.Sites.Contended c.args.image.now c.args.sites.now site c.take.new.sites)
+    (idle-whole c.args.self.now.running _ _ _ c.requires.idle)
+    c.in-Changed.ensures.turn
 
 pub returns-in-Stuck-clause-turn : goal.returns-in-Stuck-clause-turn
 returns-in-Stuck-clause-turn g c = let h = c.in-Stuck.ensures.turn in (h.0, stuck-from c.args.image.now _ _ (idle-whole c.args.self.now.running _ _ _ c.requires.idle) h.1)

@@ -1,0 +1,31 @@
+-- Which step may come next at a seat of a board: the one that its processor asks for, behind those that stand in its list.
+use Rattle.std.specs.Prelude.{◌≡◌, ℕ, ◌<◌, List, [], ◌∷◌, map}
+use Rattle.um_base.specs.declared.image.Image.{Image}
+use Rattle.um_words.specs.History.{Entry, by_seat}
+use Rattle.um_words.specs.declared.made.Made.{Made}
+use Rattle.um_fine.specs.Follows.{p_next}
+use Rattle.um_fine.specs.Processor.{Processor, idle}
+use Rattle.um_fine.specs.Runs.{Run, ends}
+use Rattle.um_fine.specs.Steps.{FineStep}
+use Rattle.um_processor.specs.Processors.{AsksFor}
+use Rattle.um_board.specs.ReadBack.{fine_at}
+
+-- where the processor k stands behind the steps of its list
+abbrev pub stands_at : Image → ℕ → List Made → Processor
+stands_at image k made = ends (p_next image) idle (map (fine_at k) made)
+
+-- The seat of this name is that of one of the first eight processors, which asks for this step behind those of the list.
+pub record IsNext (image : Image) (name : List ℕ) (made : List Made) (e : FineStep) : Type 0 where
+  pub k : ℕ
+  pub few : k < 8
+  pub named : name ≡ k ∷ []
+  pub asks : AsksFor k image (stands_at image k made) e
+
+-- the same of a step as it stands in the list of a seat
+abbrev pub NextGoes : Image → List ℕ → List Made → Made → Type 0
+NextGoes image name made m = (k : ℕ) × (k < 8) × (name ≡ k ∷ []) × AsksFor k image (stands_at image k made) (fine_at k m)
+
+-- The steps of each of the first eight seats are a local run of its processor, and no other seat has made any.
+pub record AreLocalRuns (image : Image) (h : List Entry) : Type 0 where
+  pub run : (k : ℕ) → k < 8 → Run (AsksFor k image) (p_next image) idle (map (fine_at k) (by_seat (k ∷ []) h))
+  pub others : (n : List ℕ) → ((k : ℕ) → k < 8 → ¬ (n ≡ k ∷ [])) → by_seat n h ≡ []

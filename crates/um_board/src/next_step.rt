@@ -1,0 +1,21 @@
+//! The local machines of a board whose seats are those of processors.
+
+use um_words::{FineAct, Local, word_step};
+
+/// The local machines of which each processor makes the steps alone that it asks for, one after another.
+pub struct NextStep;
+
+impl Local for NextStep {
+    ghost use Rattle.um_board.specs.NextSteps.{NextGoes};
+
+    ghost goes = { NextGoes };
+
+    ghost fact = { λ image words history. Unit {0} };
+
+    ghost fact_holds = { λ image opening words history first stands. tt };
+
+    #[inline(always)]
+    fn step(site: u16, word: u64, act: &FineAct) -> Option<u64> {
+        word_step(site, word, act)
+    }
+}
