@@ -34,7 +34,9 @@ use Rattle.um_core.proofs.Counts.{can-count}
 use Rattle.um_board.specs.Noted.{logged_of}
 use Rattle.um_history.specs.Fine.{IsFineOf, events_of}
 use Rattle.um_history.specs.Played.{IsPlayed, SawNone}
-use Rattle.um_history.proofs.Fine.{is-fine-of, steps_of_all}
+use Rattle.um_history.proofs.Fine.{is-fine-of}
+use Rattle.um_history.proofs.Moments.{all}
+use Rattle.um_history.proofs.Played.{history, of-played, own-steps}
 use Rattle.um_history.proofs.Granted.{granted}
 use Rattle.um_history.proofs.NoneReady.{none-ready}
 use Rattle.um_history.proofs.OpeningRuns.{OpensWell}
@@ -68,10 +70,12 @@ module _ (image : Image) (cpus : ℕ) (g : List FineStep) where
 module _ (image : Image) (cpus : ℕ) (v : View) (words : List ℕ) (logs : List Log) (steps : ℕ → List FineStep) (described : IsDescribed image) (can : CanRun image cpus) (well : OpensWell image) (played : IsPlayed image cpus v words logs steps)
     (longest : (run : List FineStep) → IsFineRun image cpus run → length run ≤ weight image) where
   abbrev pub g : List FineStep
-  g = steps_of_all image cpus v words logs steps played well (granted image cpus described can)
+  g = all image cpus words (history image cpus v words logs steps played) (of-played image cpus v words logs steps played)
 
   pub fine : IsFineOf image cpus words steps g
-  fine = is-fine-of image cpus v words logs steps played well (granted image cpus described can)
+  fine =
+      is-fine-of image cpus words (history image cpus v words logs steps played) (of-played image cpus v words logs steps played) can.few well (granted image cpus described can) steps
+      (own-steps image cpus v words logs steps played)
 
   ordered : IsOrder logs (map logged_of g)
   ordered = is-order image cpus words steps g fine logs played.logs_are (λ k less. (played.lists k less).2.log_is)

@@ -1,6 +1,7 @@
 -- Each site's steps in the history of a closed board are a run of the site: Entries has them as fine steps, SiteRuns the induction, WordRuns a step
 -- of a row, of a thread and of a domain, CellRuns one of a cell, OpeningRuns where they begin, and Openings that a described image begins so.
--- Played has the sublists of the history by processor and by site, Granted that they are a fine run, Fine that list with its step numbers. Lifts
+-- Moments has the sublists of the history by processor and by site, Granted that they are a fine run, Fine that list with its step numbers, Played
+-- that history of a closed board, and AtMoment that of any. Lifts
 -- and Ordered are of the logs' order, NoneReady and Completed of the end. Of a caller's use: Playing, what a processor's seat has while it plays,
 -- Joins, lists under names when seats are joined, and Chosen, one list of steps for each processor. Lists and Numbers are facts of lists and of the
 -- sites' numbers.
@@ -12,7 +13,9 @@ pub mod WordRuns
 pub mod CellRuns
 pub mod OpeningRuns
 pub mod Granted
+pub mod Moments
 pub mod Played
+pub mod AtMoment
 pub mod Lifts
 pub mod Fine
 pub mod Ordered

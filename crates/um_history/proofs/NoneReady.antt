@@ -24,11 +24,12 @@ use Rattle.um_site.proofs.Sublists.{same_itself}
 use Rattle.um_merge.specs.Merged.{Log}
 use Rattle.um_board.specs.Noted.{made_of, packed}
 use Rattle.um_board.specs.Saw.{WasGot}
-use Rattle.um_history.specs.Played.{Each, IsPlayed, SawNone}
+use Rattle.um_history.specs.Played.{Each, IsHistoryOf, IsPlayed, SawNone}
 use Rattle.um_history.proofs.CellRuns.{CellKnown, cell-reads}
 use Rattle.um_history.proofs.Lists.{each-both, each-keyed, each-map, each-sub}
 use Rattle.um_history.proofs.OpeningRuns.{OpensWell}
-use Rattle.um_history.proofs.Played.{all, history, list-of, names-of, scheduler-left, sites-tested, words-left}
+use Rattle.um_history.proofs.Moments.{all, names-of, scheduler-left, sites-tested, words-left}
+use Rattle.um_history.proofs.Played.{history, list-of, of-played}
 
 fresh-got : (words : List ℕ) (got : List (ℕ × ℕ)) (i w : ℕ) → Fresh words got → WasGot got i w → IsNoNewer words i w
 fresh-got words [] i w fresh was = absurd was
@@ -61,6 +62,9 @@ module _ (image : Image) (cpus : ℕ) (v : View) (words : List ℕ) (logs : List
   abbrev entries : List Entry
   entries = history image cpus v words logs steps played
 
+  abbrev of : IsHistoryOf image cpus words entries
+  of = of-played image cpus v words logs steps played
+
   abbrev stands : ℕ
   stands = slice_index words 306
 
@@ -75,7 +79,7 @@ module _ (image : Image) (cpus : ℕ) (v : View) (words : List ℕ) (logs : List
       let Q : Made → Type 0 = λ (m : Made). m.site ≡ 306 → number 306 m.word ≤ number 306 (saw k less).word in
       let list : map History.made_of (sub (is_by n) entries) ≡ map made_of (steps k) = ap (λ (m : List ℕ). by_seat m entries) is ∙ list-of image cpus v words logs steps played k less in
       each-map (λ (e : Entry). Q e.1) Seen (λ e q. (k, less, q)) (sub (is_by n) entries) (same-images History.made_of made_of Q (sub (is_by n) entries) (steps k) list (saw k less).newest))
-      (names-of image cpus v words logs steps played n)
+      (names-of image cpus words entries of n)
 
   seen : Each Seen entries
   seen = each-keyed is_by (λ (e : Entry). e.0) (λ e. same_itself e.0) Seen entries seen-by
@@ -98,7 +102,7 @@ module _ (image : Image) (cpus : ℕ) (v : View) (words : List ℕ) (logs : List
       let later = newer at in
       (k, less, omega (arith, same, later)))
       (last-has (λ (e : Entry). Seen e × (e.1.site ≡ 306)) 306 (sub (is_at 306) entries) (slice_index v.opening 306) (bare 306 stands)
-      (each-both Seen (λ (e : Entry). e.1.site ≡ 306) (sub (is_at 306) entries) (each-sub (is_at 306) Seen entries seen) (sites-tested image cpus v words logs steps played 306)) (played.closed.stands.sites 306 (omega (arith, wide))))
+      (each-both Seen (λ (e : Entry). e.1.site ≡ 306) (sub (is_at 306) entries) (each-sub (is_at 306) Seen entries seen) (sites-tested image cpus words entries of 306)) (played.closed.stands.sites 306 (omega (arith, wide))))
 
   -- the scheduler's word that stands has no ready thread
   none-stands : bare 306 stands / 2 % 256 ≡ 0
@@ -111,7 +115,7 @@ module _ (image : Image) (cpus : ℕ) (v : View) (words : List ℕ) (logs : List
       sym (ready-kept s.word (bare 306 stands) (sym (bare-high 306 s.word (omega arith)) ∙ same)) ∙ s.none
 
   abbrev pub scheduler_left : SiteState
-  scheduler_left = state_at same_site site_of (s_next image) (s_start image) (all image cpus v words logs steps played) Site.scheduler
+  scheduler_left = state_at same_site site_of (s_next image) (s_start image) (all image cpus words entries of) Site.scheduler
 
   none-in : (state : SiteState) → CellKnown image Site.scheduler state [] → packed (word_of state) ≡ bare 306 stands → (n : ℕ) × (s : Scheduler) × (state ≡ SiteState.cell n (Cell.scheduler s)) × (s.ready ≡ [])
   none-in (SiteState.cell n (Cell.scheduler s)) known word =
@@ -128,4 +132,4 @@ module _ (image : Image) (cpus : ℕ) (v : View) (words : List ℕ) (logs : List
 
   -- no thread is ready
   pub none-ready : (n : ℕ) × (s : Scheduler) × (scheduler_left ≡ SiteState.cell n (Cell.scheduler s)) × (s.ready ≡ [])
-  none-ready = none-in scheduler_left (scheduler-left image cpus v words logs steps played well) (words-left image cpus v words logs steps played well 306 (omega arith))
+  none-ready = none-in scheduler_left (scheduler-left image cpus words entries of well) (words-left image cpus words entries of well 306 (omega arith))

@@ -23,7 +23,7 @@ use Rattle.um_history.specs.Played.{Each}
 use Rattle.um_history.proofs.Lifts.{lift, sublist_map}
 use Rattle.um_history.proofs.Lists.{each-keyed, each-map, each-sub, sub-none, sub-same}
 use Rattle.um_history.proofs.Numbers.{names-compare, no-name}
-use Rattle.um_history.proofs.Played.{subs-are}
+use Rattle.um_history.proofs.Moments.{subs-are}
 
 no-log : (logs : List Log) (k : ℕ) → length logs ≤ k → log_at logs k ≡ []
 no-log [] k far = refl

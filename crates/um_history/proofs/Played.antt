@@ -1,201 +1,56 @@
--- The history of a closed board whose processors have played: every step in it is of one of them and at a site that there is, and as fine steps
--- they are a fine run.
-use Rattle.std.proofs.Common.{◌≡◌, ℕ, ◌<◌, ◌≤◌, Bool, true, false, cond, eqb, List, [], ◌∷◌, ◌⊎◌, inl, inr, ⊎_elim, length, map, refl, sym, ap, ◌∙◌, subst, arith, eq-eqb}
-use Rattle.std.specs.Prelude.{IsTrue, slice_index, Option, ◌&&◌}
-use Rattle.std.proofs.lemmas.Bool.{eqb-true}
-use mathlib.Core.Logic.{dite}
-use native.Mathlib.Decide.{dec_lt}
+-- The history of a closed board whose processors have played, as one of a moment, with the steps of each.
+use Rattle.std.proofs.Common.{◌≡◌, ℕ, ◌<◌, List, [], ◌∷◌, ◌⊎◌, inl, inr, ⊎_elim, map, sym, ap, ◌∙◌, subst}
+use Rattle.std.specs.Prelude.{Option}
 use Rattle.um_base.specs.declared.image.Image.{Image}
-use Rattle.um_words.specs.History.{Entry, Words, bare, by_seat, by_site, is_at, is_by}
-use Rattle.um_words.specs.History as History
-use Rattle.um_words.specs.Sublists.{same_name, sub}
+use Rattle.um_words.specs.History.{Entry, IsHistory, by_seat, by_site}
 use Rattle.um_words.specs.declared.made.Made.{Made}
-use Rattle.um_fine.specs.FineRun.{cpu_of, same_cpu, site_of}
-use Rattle.um_fine.specs.Follows.{p_next}
-use Rattle.um_fine.specs.Opening.{s_start}
+use Rattle.um_fine.specs.FineRun.{cpu_of, same_cpu}
 use Rattle.um_fine.specs.Processor.{idle}
-use Rattle.um_fine.specs.Runs.{Run, ends, state_at, sublist}
-use Rattle.um_fine.specs.Runs as Runs
-use Rattle.um_fine.specs.Sites.{SiteMay, is_site, s_next, same_site, site_number, site_numbered, word_of}
-use Rattle.um_fine.specs.Steps.{FineStep, Site}
-use Rattle.um_fine.proofs.Keys.{number-back, number-bound}
+use Rattle.um_fine.specs.Runs.{sublist}
+use Rattle.um_fine.specs.Steps.{FineStep}
+use Rattle.um_merge.specs.Merged.{Log}
 use Rattle.um_site.specs.Cells.{ContentsAre}
 use Rattle.um_site.specs.History.{Told}
 use Rattle.um_site.specs.declared.view.View.{View}
-use Rattle.um_site.proofs.Sublists.{same_itself, same_sound}
-use Rattle.um_merge.specs.Merged.{Log}
 use Rattle.um_board.specs.Contents.{Follows, Known, Opens}
-use Rattle.um_board.specs.Noted.{made_of, packed}
-use Rattle.um_history.specs.Played.{Each, IsPlayed, StandsUnder}
-use Rattle.um_history.proofs.CellRuns.{CellKnown, is_cell}
-use Rattle.um_history.proofs.Granted.{AreAsked, IsAsked, asked-of, own-steps-of}
-use Rattle.um_history.proofs.Entries.{entries-are, fine_of, name_cpu}
-use Rattle.um_history.proofs.Lists.{each-both, each-keyed, each-map, each-tested, none-mapped, sub-map, sub-none, sub-same}
-use Rattle.um_history.proofs.Numbers.{no-site, numbered-is, number-of-numbered, sites-compare}
-use Rattle.um_history.proofs.OpeningRuns.{OpensWell, opening-runs, scheduler-known}
-use Rattle.um_history.proofs.SiteRuns.{Ran}
-
--- both definitions of a sublist give one
-pub subs-are : {X : Type 0} (p : X → Bool) (xs : List X) → Runs.sub p xs ≡ sub p xs
-subs-are p [] = refl
-subs-are p (x ∷ xs) = λ i. cond (p x) (x ∷ subs-are p xs i) (subs-are p xs i)
+use Rattle.um_board.specs.NextSteps.{NextGoes}
+use Rattle.um_board.specs.Noted.{made_of}
+use Rattle.um_board.specs.ReadBack.{fine_at}
+use Rattle.um_history.specs.Played.{IsHistoryOf, IsPlayed, StandsUnder}
+use Rattle.um_history.proofs.Entries.{listed}
+use Rattle.um_history.proofs.Granted.{own-steps-of}
+use Rattle.um_history.proofs.Lists.{each-both}
+use Rattle.um_history.proofs.Moments as Moments
+use Rattle.um_history.proofs.Moments.{all}
 
 pub told-under : (h : List Entry) (lists : List (List ℕ × List Made)) (n : List ℕ) (made : List Made) → Told h lists → StandsUnder lists n made → by_seat n h ≡ made
 told-under h [] n made told stands = absurd stands
 told-under h (e ∷ es) n made told (inl is) = ap (λ (k : List ℕ). by_seat k h) (sym is.0) ∙ told.0 ∙ is.1
 told-under h (e ∷ es) n made told (inr in-rest) = told-under h es n made told.1 in-rest
 
-one-name : (j k : ℕ) → same_name (j ∷ []) (k ∷ []) ≡ same_cpu j k
-one-name j k = by (eqb j k)
-  where
-    by : (b : Bool) → (b && true) ≡ b
-    by true = refl
-    by false = refl
-
 module _ (image : Image) (cpus : ℕ) (v : View) (words : List ℕ) (logs : List Log) (steps : ℕ → List FineStep) (played : IsPlayed image cpus v words logs steps) where
   abbrev pub history : List Entry
   history = played.closed.history
 
-  -- the list of all steps
-  abbrev pub all : List FineStep
-  all = map fine_of history
-
-  long : length words ≡ 307
-  long = played.closed.stands.wide ∙ played.opening.count
-
-  -- Every step is of a processor, and at a site that there is.
-
-  abbrev OfOne : Entry → Type 0
-  OfOne e = (k : ℕ) × (k < cpus) × (e.0 ≡ k ∷ [])
-
-  names-tested : (n : List ℕ) → Each (λ (e : Entry). e.0 ≡ n) (sub (is_by n) history)
-  names-tested n = each-map (λ (e : Entry). is_by n e ≡ true) (λ (e : Entry). e.0 ≡ n) (λ e t. same_sound e.0 n t) (sub (is_by n) history) (each-tested (is_by n) history)
-
-  none-each : (P : Entry → Type 0) (l : List Entry) → l ≡ [] → Each P l
-  none-each P l none = subst (Each P) (sym none) tt
-
-  nobody : (n : List ℕ) → by_seat n history ≡ [] → sub (is_by n) history ≡ []
-  nobody n none = none-mapped History.made_of (sub (is_by n) history) none
-
   first-none : (n : List ℕ) → v.name ≡ n → by_seat n history ≡ []
   first-none n is = ap (λ (m : List ℕ). by_seat m history) (sym is) ∙ played.closed.knows.mine ∙ played.first
 
-  -- a name is that of a processor, or nothing in the history is under it
-  pub names-of : (n : List ℕ) → (sub (is_by n) history ≡ []) ⊎ ((k : ℕ) × (k < cpus) × (n ≡ k ∷ []))
-  names-of n = ⊎_elim
-      (λ none. inl (nobody n none))
-      (λ has. ⊎_elim (λ is. inl (nobody n (first-none n is))) (λ among. inr (played.names n among)) has)
-      (played.closed.only n)
-
-  owned : (n : List ℕ) → Each OfOne (sub (is_by n) history)
-  owned n = ⊎_elim
-      (λ none. none-each OfOne (sub (is_by n) history) none)
-      (λ k. each-map (λ (e : Entry). e.0 ≡ n) OfOne (λ e is. (k.0, k.1, is ∙ k.2)) (sub (is_by n) history) (names-tested n))
-      (names-of n)
-
-  pub all-owned : Each OfOne history
-  all-owned = each-keyed is_by (λ (e : Entry). e.0) (λ e. same_itself e.0) OfOne history owned
-
-  abbrev Placed : Entry → Type 0
-  Placed e = e.1.site < 307
-
-  pub sites-tested : (i : ℕ) → Each (λ (e : Entry). e.1.site ≡ i) (sub (is_at i) history)
-  sites-tested i = each-map (λ (e : Entry). is_at i e ≡ true) (λ (e : Entry). e.1.site ≡ i) (λ e t. eqb-true e.1.site i t) (sub (is_at i) history) (each-tested (is_at i) history)
-
-  placed : (i : ℕ) → Each Placed (sub (is_at i) history)
-  placed i = dite (dec_lt i 307)
-      (λ near. each-map (λ (e : Entry). e.1.site ≡ i) Placed (λ e is. omega (arith, is, near)) (sub (is_at i) history) (sites-tested i))
-      (λ far. none-each Placed (sub (is_at i) history) (none-mapped History.made_of (sub (is_at i) history) (played.closed.stands.inside i (omega (arith, far, long)))))
-
-  pub all-placed : Each Placed history
-  all-placed = each-keyed is_at (λ (e : Entry). e.1.site) (λ e. eq-eqb e.1.site e.1.site refl) Placed history placed
-
-  -- The sublists.
-
-  cpu-test : (k : ℕ) (e : Entry) → OfOne e → same_cpu (name_cpu e.0) k ≡ is_by (k ∷ []) e
-  cpu-test k e (j, less, is) = ap (λ (n : List ℕ). same_cpu (name_cpu n) k) is ∙ sym (one-name j k) ∙ ap (λ (n : List ℕ). same_name n (k ∷ [])) (sym is)
-
-  pub cpu-sublist : (k : ℕ) → sublist same_cpu cpu_of k all ≡ map fine_of (sub (is_by (k ∷ [])) history)
-  cpu-sublist k =
-      subs-are (λ (e : FineStep). same_cpu e.cpu k) all
-      ∙ sub-map fine_of (λ (e : FineStep). same_cpu e.cpu k) history
-      ∙ ap (map fine_of) (sub-same (λ (e : Entry). same_cpu (name_cpu e.0) k) (is_by (k ∷ [])) history (each-map OfOne (λ (e : Entry). same_cpu (name_cpu e.0) k ≡ is_by (k ∷ []) e) (cpu-test k) history all-owned))
-
-  pub site-sublist : (i : Site) → IsTrue (is_site i) → sublist same_site site_of i all ≡ map fine_of (sub (is_at (site_number i)) history)
-  site-sublist i there =
-      subs-are (λ (e : FineStep). same_site e.site i) all
-      ∙ sub-map fine_of (λ (e : FineStep). same_site e.site i) history
-      ∙ ap (map fine_of) (sub-same (λ (e : Entry). same_site (site_numbered e.1.site) i) (is_at (site_number i)) history
-      (each-map Placed (λ (e : Entry). same_site (site_numbered e.1.site) i ≡ is_at (site_number i) e) (λ e near. sites-compare i e.1.site there near) history all-placed))
-
-  pub no-sublist : (i : Site) → is_site i ≡ false → sublist same_site site_of i all ≡ []
-  no-sublist i none =
-      subs-are (λ (e : FineStep). same_site e.site i) all
-      ∙ sub-map fine_of (λ (e : FineStep). same_site e.site i) history
-      ∙ ap (map fine_of) (sub-none (λ (e : Entry). same_site (site_numbered e.1.site) i) history
-      (each-map Placed (λ (e : Entry). same_site (site_numbered e.1.site) i ≡ false) (λ e near. no-site i e.1.site none near) history all-placed))
-
-  -- The processors.
+  pub of-played : IsHistoryOf image cpus words history
+  of-played =
+      record {
+        opening = v.opening;
+        opens = played.opening;
+        stands = subst (λ (i : Image). IsHistory (NextGoes i) v.opening words history) played.image_is played.closed.stands;
+        owned = λ n. ⊎_elim inl (λ has. ⊎_elim (λ is. inl (first-none n is)) (λ among. inr (played.names n among)) has) (played.closed.only n);
+        contents = λ n far near. subst (λ (i : Image). (y : Option Known) × ContentsAre Opens Follows i n (by_site n history) y) played.image_is (played.closed.contents n (played.filled n far near));
+      }
 
   -- what stands under the name of a processor
   pub list-of : (k : ℕ) → k < cpus → by_seat (k ∷ []) history ≡ map made_of (steps k)
   list-of k less = let (made, stands, mine) = played.lists k less in told-under history v.joined (k ∷ []) made played.closed.knows.theirs stands ∙ mine.made_is
 
-  pub own-steps : (k : ℕ) → k < cpus → sublist same_cpu cpu_of k all ≡ steps k
+  pub own-steps : (k : ℕ) → k < cpus → sublist same_cpu cpu_of k (all image cpus words history of-played) ≡ steps k
   own-steps k less =
       let mine = (played.lists k less).2 in
-      cpu-sublist k ∙ entries-are k (sub (is_by (k ∷ [])) history) (steps k) (list-of k less) (names-tested (k ∷ [])) (each-both (λ (s : FineStep). s.cpu ≡ k) _ (steps k) (own-steps-of image k idle (steps k) mine.run) mine.whole)
-
-  pub no-others : (k : ℕ) → cpus ≤ k → sublist same_cpu cpu_of k all ≡ []
-  no-others k far = cpu-sublist k ∙ ap (map fine_of) (⊎_elim
-      (λ none. none)
-      (λ (j, less, is). let same : k ≡ j = ap name_cpu is in absurd (omega (arith, same, less, far)))
-      (names-of (k ∷ [])))
-
-  pub all-asked : AreAsked image cpus all
-  all-asked k = dite (dec_lt k cpus)
-      (λ less. subst (Run (IsAsked image cpus) (p_next image) idle) (sym (own-steps k less)) (asked-of image cpus k less idle (steps k) (played.lists k less).2.run))
-      (λ far. subst (Run (IsAsked image cpus) (p_next image) idle) (sym (no-others k (omega (arith, far)))) tt)
-
-  -- The sites.
-
-  module _ (well : OpensWell image) where
-    contents : (n : ℕ) → 168 ≤ n → n < 307 → (y : Option Known) × ContentsAre Opens Follows image n (by_site n history) y
-    contents n far near = subst (λ (i : Image). (y : Option Known) × ContentsAre Opens Follows i n (by_site n history) y) played.image_is (played.closed.contents n (played.filled n far near))
-
-    cell-far : (i : Site) → IsTrue (is_cell i) → 168 ≤ site_number i
-    cell-far (Site.row x) cell = absurd (cc)
-    cell-far (Site.thread t) cell = absurd (cc)
-    cell-far (Site.domain d) cell = absurd (cc)
-    cell-far (Site.object x) cell = omega arith
-    cell-far (Site.parts d) cell = omega arith
-    cell-far Site.memory cell = omega arith
-    cell-far Site.heap cell = omega arith
-    cell-far Site.scheduler cell = omega arith
-
-    pub site-ran : (i : Site) → IsTrue (is_site i) → Ran image (s_start image i) (sublist same_site site_of i all) (bare (site_number i) (slice_index words (site_number i)))
-    site-ran i there =
-        let n = site_number i in
-        let near : n < 307 = number-bound i there in
-        let opens : slice_index v.opening n ≡ packed (word_of (s_start image i)) = played.opening.each n near ∙ ap (λ (j : Site). packed (word_of (s_start image j))) (number-back i there) in
-        let goes = subst (λ (w : ℕ). Words n w (by_site n history) (bare n (slice_index words n))) opens (played.closed.stands.sites n (omega (arith, near, long))) in
-        subst (λ (l : List FineStep). Ran image (s_start image i) l (bare n (slice_index words n))) (sym (site-sublist i there))
-        (opening-runs image well i there (sub (is_at n) history) (bare n (slice_index words n)) (sites-tested n) goes (λ cell. contents n (cell-far i cell) near))
-
-    pub sites-run : (i : Site) → Run (SiteMay image) (s_next image) (s_start image i) (sublist same_site site_of i all)
-    sites-run i = by (is_site i) refl
-      where
-        by : (b : Bool) → is_site i ≡ b → Run (SiteMay image) (s_next image) (s_start image i) (sublist same_site site_of i all)
-        by true there = (site-ran i there).run
-        by false none = subst (Run (SiteMay image) (s_next image) (s_start image i)) (sym (no-sublist i none)) tt
-
-    pub words-left : (n : ℕ) → n < 307 → packed (word_of (state_at same_site site_of (s_next image) (s_start image) all (site_numbered n))) ≡ bare n (slice_index words n)
-    words-left n near =
-        (site-ran (site_numbered n) (numbered-is n near)).word ∙ ap (λ (m : ℕ). bare m (slice_index words m)) (number-of-numbered n near)
-
-    pub scheduler-left : CellKnown image Site.scheduler (state_at same_site site_of (s_next image) (s_start image) all Site.scheduler) []
-    scheduler-left =
-        let opens : slice_index v.opening 306 ≡ packed (word_of (s_start image Site.scheduler)) = played.opening.each 306 (omega arith) in
-        let goes = subst (λ (w : ℕ). Words 306 w (by_site 306 history) (bare 306 (slice_index words 306))) opens (played.closed.stands.sites 306 (omega (arith, long))) in
-        subst (λ (l : List FineStep). CellKnown image Site.scheduler (ends (s_next image) (s_start image Site.scheduler) l) []) (sym (site-sublist Site.scheduler refl))
-        (scheduler-known image well (sub (is_at 306) history) (bare 306 (slice_index words 306)) (sites-tested 306) goes (contents 306 (omega arith) (omega arith)))
+      Moments.own-steps image cpus words history of-played k
+      ∙ (ap (map (fine_at k)) (list-of k less) ∙ listed k (steps k) (each-both (λ (s : FineStep). s.cpu ≡ k) _ (steps k) (own-steps-of image k idle (steps k) mine.run) mine.whole))

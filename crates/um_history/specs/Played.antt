@@ -1,7 +1,10 @@
 -- What processors that step on a board have at their end, each at a seat of its own, and what the closed board says of them together.
-use Rattle.std.specs.Prelude.{◌≡◌, ℕ, ◌<◌, ◌≤◌, ◌⊎◌, List, [], ◌∷◌, length, map}
+use Rattle.std.specs.Prelude.{◌≡◌, ℕ, ◌<◌, ◌≤◌, ◌⊎◌, List, [], ◌∷◌, length, map, true, Option}
+use mathlib.Core.Option as found
+use lib.ListN.{get_elem?}
 use Rattle.um_base.specs.declared.image.Image.{Image}
 use Rattle.um_words.specs.Packed.{cell_of}
+use Rattle.um_words.specs.History.{Entry, IsHistory, by_seat, by_site}
 use Rattle.um_words.specs.Steps.{number}
 use Rattle.um_words.specs.declared.made.Made.{Made}
 use Rattle.um_fine.specs.Follows.{p_next}
@@ -12,10 +15,10 @@ use Rattle.um_fine.specs.Steps.{FineStep}
 use Rattle.um_merge.specs.Merged.{Log, log_at}
 use Rattle.um_merge.specs.declared.logged.Logged.{Logged}
 use Rattle.um_processor.specs.Processors.{AsksFor}
-use Rattle.um_site.specs.Cells.{AmongCells, IsClosedWithCells}
+use Rattle.um_site.specs.Cells.{AmongCells, ContentsAre, IsClosedWithCells, Rule}
 use Rattle.um_site.specs.History.{Among}
 use Rattle.um_site.specs.declared.view.View.{View}
-use Rattle.um_board.specs.Contents.{Follows, Opens}
+use Rattle.um_board.specs.Contents.{Follows, Known, Opens}
 use Rattle.um_board.specs.NextSteps.{NextGoes}
 use Rattle.um_board.specs.Noted.{logged_of, made_of, packed}
 use Rattle.um_board.specs.Opening.{AreOpening}
@@ -50,6 +53,27 @@ pub record SawNone (image : Image) (got : List (ℕ × ℕ)) (steps : List FineS
 abbrev pub StandsUnder : List (List ℕ × List Made) → List ℕ → List Made → Type 0
 StandsUnder [] n made = ⊥
 StandsUnder (e ∷ es) n made = ((e.0 ≡ n) × (e.1 ≡ made)) ⊎ StandsUnder es n made
+
+-- What a board of an image has at some moment, on which so many processors play: a history in which each seat makes its processor's next steps alone,
+-- and after which the words stand and the cells have their contents.
+pub record IsHistoryOf (image : Image) (cpus : ℕ) (words : List ℕ) (h : List Entry) : Type 0 where
+  pub opening : List ℕ
+  pub opens : AreOpening image opening
+  pub stands : IsHistory (NextGoes image) opening words h
+  pub owned : (n : List ℕ) → (by_seat n h ≡ []) ⊎ ((k : ℕ) × (k < cpus) × (n ≡ k ∷ []))
+  pub contents : (i : ℕ) → 168 ≤ i → i < 307 → (y : Option Known) × ContentsAre Opens Follows image i (by_site i h) y
+
+-- A board of the image at some moment, with these words, slots and views of seats: its rule, by which each seat makes its processor's next steps alone,
+-- holds; and some seat knows that all cells have their contents.
+pub record IsMoment (image : Image) (words : List ℕ) (homes : List (found.Option (Option Known))) (views : List View) : Type 0 where
+  pub opening : List ℕ
+  pub opens : AreOpening image opening
+  pub rule : Rule Opens Follows (NextGoes image) image opening words homes views
+  pub seat : ℕ
+  pub view : View
+  pub there : get_elem? views seat ≡ found.some view
+  pub live : view.live ≡ true
+  pub filled : (i : ℕ) → 168 ≤ i → i < 307 → AmongCells view.filled i
 
 -- The board of an image is closed with these words, as its first seat knows, which made no step itself: its rule let each processor make the steps
 -- alone that it asked for. So many processors have made these steps, and have these logs.

@@ -1,30 +1,41 @@
 //! The laws over every board on which processors play, and have played.
 
-ghost use Rattle.std.specs.Prelude.{◌≡◌, ℕ, ◌<◌, List, map};
+ghost use Rattle.std.specs.Prelude.{◌≡◌, ℕ, ◌<◌, ◌≤◌, List, [], ◌∷◌, Option, length, map};
+ghost use mathlib.Core.Option as found;
 ghost use Rattle.um_base.specs.Weight.{weight};
 ghost use Rattle.um_base.specs.declared.image.Image.{Image};
 ghost use Rattle.um_machine.specs.Run.{IsComplete, Runs, opening};
 ghost use Rattle.um_machine.specs.State.{State};
-ghost use Rattle.um_words.specs.History.{Entry, IsHistory};
+ghost use Rattle.um_words.specs.History.{by_seat};
 ghost use Rattle.um_reach.specs.Described.{IsDescribed};
+ghost use Rattle.um_fine.specs.Erasure.{shown};
 ghost use Rattle.um_fine.specs.Steps.{FineStep};
 ghost use Rattle.um_merge.specs.Merged.{HaveOrder, IsOrder, Log, SameOrder};
 ghost use Rattle.um_merge.specs.declared.logged.Logged.{Logged};
 ghost use Rattle.um_site.specs.declared.view.View.{View};
-ghost use Rattle.um_board.specs.NextSteps.{AreLocalRuns, NextGoes};
+ghost use Rattle.um_board.specs.Contents.{Known};
 ghost use Rattle.um_board.specs.Noted.{logged_of};
+ghost use Rattle.um_board.specs.ReadBack.{fine_at};
+ghost use Rattle.um_erasure.specs.After.{left_by};
+ghost use Rattle.um_erasure.specs.Relation.{Rel};
 ghost use Rattle.um_erasure.specs.Room.{CanRun};
 ghost use Rattle.um_history.specs.Fine.{IsFineOf, events_of};
-ghost use Rattle.um_history.specs.Played.{IsPlayed, SawNone};
+ghost use Rattle.um_history.specs.Played.{IsMoment, IsPlayed, SawNone};
 
 use um_erasure::every_fine_run;
 use um_fine_bound::longest_fine_run;
 
-/// The law over every board of an image at every moment, where its rule lets each seat make its processor's next steps alone: the list of each seat is a
-/// local run of its processor, and only seats of the first eight have made any step.
+/// The law over every board of an image that a description gives, at every moment, where its rule lets each seat make its processor's next steps alone: its
+/// history is one fine run of at most eight processors, whose steps are those in the lists of the first eight seats, and which has left the words. It
+/// has no more steps than the image's weight; what it shows is a run of the access-matrix machine, to whose last state it is related.
 pub fn every_board()
-    ensures { (image : Image) (opening words : List ℕ) (h : List Entry) → IsHistory (NextGoes image) opening words h → AreLocalRuns image h }
-{}
+    ensures { (image : Image) (words : List ℕ) (homes : List (found.Option (Option Known))) (views : List View) → IsDescribed image → CanRun image 8
+        → (m : IsMoment image words homes views) → (g : List FineStep) × IsFineOf image 8 words (λ k. map (fine_at k) (by_seat (k ∷ []) m.rule.0)) g
+        × (length g ≤ weight image) × (last : State) × Runs (opening image) (shown g) last × Rel (left_by image 8 g) last }
+{
+    every_fine_run();
+    longest_fine_run();
+}
 
 /// The law over every closed board of an image that a description gives, on which one to eight processors have played, each at a seat of its own. The
 /// image has no more domains than there are words for.

@@ -1,5 +1,4 @@
-//! What a board of processors says at every moment: the list of each is a local run; and when it is closed: all steps are one fine run, which their
-//! logs tell.
+//! What processors have made on a board is one fine run at every moment; and when the board is closed, their logs tell it.
 #![tactic(auto)]
 
 mod laws;

@@ -286,6 +286,7 @@ module _ {T : Type 0} (opens : Image → ℕ → T → Type 0) (follows : T → 
         held = λ i cell inside odd. absurd (let e = free i cell inside in omega arith);
         turns = λ id v at lives t has. absurd (no_turn t (ap (λ (z : View). z.turn) (is id first v at).1 ∙ has));
         one = λ i j v w iv jw lv lw t u ht hu same. (is i first v iv).0 ∙ sym (is j first w jw).0;
+        known = λ i j v w iv jw lv lw t has a. absurd (no_turn t (ap (λ (z : View). z.turn) (is i first v iv).1 ∙ has));
         filled = λ id v at lives i a. absurd (subst (λ (z : View). AmongCells z.filled i) (sym (is id first v at).1) a);
       },
     )

@@ -96,6 +96,7 @@ module _ {T : Type 0} (opens : Image → ℕ → T → Type 0) (follows : T → 
     held = λ i cell inside odd. let w = c.held i cell inside odd in let f = s.forth w.0 w.1 w.3 w.4 w.2 w.5 in (w.0, f.0, w.2, f.1, f.2, f.3, w.6);
     turns = λ j x jx lx t has. let b = s.back j x jx lx t has in c.turns j b.0 b.1 b.2 t b.3;
     one = λ i j x y ix jy lx ly t u ht hu same. let b = s.back i x ix lx t ht in let d = s.back j y jy ly u hu in c.one i j b.0 d.0 b.1 d.1 b.2 d.2 t u b.3 d.3 same;
+    known = λ i j x y ix jy lx ly t has a. let b = s.back i x ix lx t has in let f = s.filled j y jy ly t.site a in c.known i f.0 b.0 f.1 b.1 f.2 b.2 f.3 t b.3 f.4;
     filled = λ j x jx lx i a. let f = s.filled j x jx lx i a in c.filled f.0 f.1 f.2 f.3 i f.4;
   }
 
@@ -111,5 +112,6 @@ module _ {T : Type 0} (opens : Image → ℕ → T → Type 0) (follows : T → 
         turns = λ id v at lives t has. let u = c.turns id v at lives t has in
             record { cell = u.cell; inside = let a = u.inside in omega arith; slot = u.slot; free = u.free; taken = word t.site u.cell ∙ u.taken; past = steps t.site u.cell ∙ u.past };
         one = c.one;
+        known = c.known;
         filled = λ id v at lives i a. let f = c.filled id v at lives i a in (f.0, let g = f.1 in omega arith, f.2);
       }

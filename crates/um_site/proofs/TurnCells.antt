@@ -79,6 +79,19 @@ module _ {T : Type 0} (opens : Image → ℕ → T → Type 0) (follows : T → 
               (λ q. c.one j k x y p.1 q.1 lx ly t u ht hu same)
               (at_set views id k v' y ky))
               (at_set views id j v' x jx);
+          known = λ j k x y jx ky lx ly t has a. ⊎_elim
+              (λ p.
+              let is : mine ≡ t = same_turn v' mine t refl (subst (λ (z : View). z.turn ≡ Some t) (sym p.1) has) in
+              let here : 168 + (i - 168) ≡ i = omega arith in
+              let b = c.home (i - 168) (omega arith) (omega arith) (subst (λ n. get_or words n 0 % 2 ≡ 0) (sym here) even) in
+              let a' : AmongCells y.filled (168 + (i - 168)) = subst (AmongCells y.filled) (ap (λ (z : Turn). z.site) (sym is) ∙ sym here) a in
+              let now = ⊎_elim (λ q. b.2 id v at lives (subst (λ (z : View). AmongCells z.filled (168 + (i - 168))) (sym q.1) a')) (λ q. b.2 k y q.1 ly a') (at_set views id k v' y ky) in
+              subst (λ (r : Turn). (z : Option T) × ContentsAre opens follows image r.site r.past z) is (b.0, subst (λ n. ContentsAre opens follows image n (by_site n h) b.0) here now))
+              (λ p. ⊎_elim
+              (λ q. c.known j id x v p.1 at lx lives t has (subst (λ (z : View). AmongCells z.filled t.site) (sym q.1) a))
+              (λ q. c.known j k x y p.1 q.1 lx ly t has a)
+              (at_set views id k v' y ky))
+              (at_set views id j v' x jx);
           filled = λ j x jx lx k a. let f : (168 ≤ k) × (k < length words) × (k < 168 + length homes) = ⊎_elim (λ p. c.filled id v at lives k (subst (λ (z : View). AmongCells z.filled k) (sym p.1) a)) (λ p. c.filled j x p.1 lx k a) (at_set views id j v' x jx) in
               (f.0, let g = f.1 in omega arith, let g = f.2 in omega arith);
         }
@@ -125,6 +138,13 @@ module _ {T : Type 0} (opens : Image → ℕ → T → Type 0) (follows : T → 
               (λ p. ⊎_elim
               (λ q. absurd (no_turn v' s idle (subst (λ (e : View). e.turn ≡ Some s) (sym q.1) hs)))
               (λ q. c.one j k x w p.1 q.1 lx lw r s hr hs same)
+              (at_set views id k v' w kw))
+              (at_set views id j v' x jx);
+          known = λ j k x w jx kw lx lw r hr a. ⊎_elim
+              (λ p. absurd (no_turn v' r idle (subst (λ (e : View). e.turn ≡ Some r) (sym p.1) hr)))
+              (λ p. let ne : r.site ≢ i = λ q. p.0 (c.one j id x v p.1 at lx lives r t hr has q) in ⊎_elim
+              (λ q. ⊎_elim (λ same. absurd (ne same)) (λ d. c.known j id x v p.1 at lx lives r hr d) (more r.site (subst (λ (e : View). AmongCells e.filled r.site) (sym q.1) a)))
+              (λ q. c.known j k x w p.1 q.1 lx lw r hr a)
               (at_set views id k v' w kw))
               (at_set views id j v' x jx);
           filled = λ j x jx lx k a.

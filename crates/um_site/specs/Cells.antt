@@ -45,7 +45,8 @@ module _ {T : Type 0} (opens : Image → ℕ → T → Type 0) (follows : T → 
   abbrev pub ContentsAre : Image → ℕ → List Made → Option T → Type 0
   ContentsAre image i ms y = (x : T) × (first : T) × (y ≡ Some x) × opens image i first × Follow first ms x
 
-  -- Where nobody has a cell's turn its slot is at home, and has its contents where a seat knows the cell as filled. Else exactly one seat has the turn.
+  -- Where nobody has a cell's turn its slot is at home, and has its contents where a seat knows the cell as filled. Else exactly one seat has the turn;
+  -- and where a seat knows the cell as filled, it has the contents that its steps so far leave.
   pub record CellsAre (image : Image) (words : List ℕ) (homes : List (found.Option (Option T))) (h : List Entry) (views : List View) : Type 0 where
     pub home : (k : ℕ) → k < length homes → 168 + k < length words → slice_index words (168 + k) % 2 ≡ 0
         → (y : Option T) × (get_elem? homes k ≡ some (some y)) × ((id : ℕ) (v : View) → get_elem? views id ≡ some v → v.live ≡ true → AmongCells v.filled (168 + k) → ContentsAre image (168 + k) (by_site (168 + k) h) y)
@@ -54,6 +55,8 @@ module _ {T : Type 0} (opens : Image → ℕ → T → Type 0) (follows : T → 
     pub turns : (id : ℕ) (v : View) → get_elem? views id ≡ some v → v.live ≡ true → (t : Turn) → v.turn ≡ Some t → IsTurn words (length homes) h t
     pub one : (i j : ℕ) (v w : View) → get_elem? views i ≡ some v → get_elem? views j ≡ some w → v.live ≡ true → w.live ≡ true
         → (t u : Turn) → v.turn ≡ Some t → w.turn ≡ Some u → t.site ≡ u.site → i ≡ j
+    pub known : (i j : ℕ) (v w : View) → get_elem? views i ≡ some v → get_elem? views j ≡ some w → v.live ≡ true → w.live ≡ true
+        → (t : Turn) → v.turn ≡ Some t → AmongCells w.filled t.site → (y : Option T) × ContentsAre image t.site t.past y
     pub filled : (id : ℕ) (v : View) → get_elem? views id ≡ some v → v.live ≡ true → (i : ℕ) → AmongCells v.filled i → (168 ≤ i) × (i < length words) × (i < 168 + length homes)
 
   -- the rule of a board: one history for the words, the seats and the contents of the cells

@@ -1,5 +1,18 @@
-use Rattle.um_board.proofs.NextRuns.{local-runs}
+use Rattle.std.specs.Prelude.{[], ◌∷◌, map}
+use Rattle.um_words.specs.History.{by_seat}
+use Rattle.um_board.specs.ReadBack.{fine_at}
+use Rattle.um_history.proofs.AtMoment.{history, of-moment}
+use Rattle.um_history.proofs.Fine.{is-fine-of}
+use Rattle.um_history.proofs.Granted.{granted}
+use Rattle.um_history.proofs.Moments.{all, own-steps}
+use Rattle.um_history.proofs.Openings.{opens-well}
 use Rattle.um_history.proofs.laws.every_board.Goals as goal
 
 pub returns : goal.returns
-returns c = local-runs
+returns c = λ image words homes views described can m.
+    let h = history image words homes views m in
+    let of = of-moment image words homes views m in
+    let g = all image 8 words h of in
+    let fine = is-fine-of image 8 words h of can.few (opens-well image 8 described can) (granted image 8 described can) (λ k. map (fine_at k) (by_seat (k ∷ []) h)) (λ k less. own-steps image 8 words h of k) in
+    let shows = c.every_fine_run.ensures.run image 8 g described fine.run in
+    (g, fine, c.longest_fine_run.ensures image 8 g described fine.run, shows.0, shows.1, shows.2)
