@@ -34,7 +34,13 @@ module _ {T : Type 0} (opens : Image → ℕ → T → Type 0) (follows : T → 
     pub taken_held : (goes : Image → List ℕ → List Made → Made → Type 0) (y : Option T) (x : T) (c : List (ℕ × Option T)) → Took opens follows goes v i r y me.0 → me.1 ≡ (i - 168, y) ∷ c → me.1 ≡ (slot, Some x) ∷ rest me.1 → me' ≡ (me.0, (slot, None) ∷ rest me.1)
         → HasTurn opens follows me' i r None x
     taken_held goes y x c took there at new = let same = same_place me.1 c (rest me.1) (i - 168, y) (slot, Some x) there at in
-        turn_held (by_site i took.history) (Some x) None x took.now at (sym (ap (λ p. p.0) same)) new (subst (ContentsAre opens follows v.image i (by_site i took.history)) (ap (λ p. p.1) same) took.contents)
+        turn_held (by_site i took.moment.history) (Some x) None x took.now at (sym (ap (λ p. p.0) same)) new (subst (ContentsAre opens follows v.image i (by_site i took.moment.history)) (ap (λ p. p.1) same) took.contents)
+
+    -- the contents that were taken are those that the slot had
+    pub took_some : (goes : Image → List ℕ → List Made → Made → Type 0) (y : Option T) (x : T) (c : List (ℕ × Option T)) → Took opens follows goes v i r y me.0 → me.1 ≡ (i - 168, y) ∷ c → me.1 ≡ (slot, Some x) ∷ rest me.1 → me' ≡ (me.0, (slot, None) ∷ rest me.1)
+        → Took opens follows goes v i r (Some x) me'.0
+    took_some goes y x c took there at new = let same = same_place me.1 c (rest me.1) (i - 168, y) (slot, Some x) there at in
+        subst (λ (p : Option T × View). Took opens follows goes v i r p.0 p.1) (λ j. ((same j).1, (sym new j).0)) took
 
     -- of a cell that is opened
     pub opened_held : (old : Option T) (x : T) (c : List (ℕ × Option T)) (y : Option T) → me.0 ≡ taking v i r [] → me.1 ≡ (i - 168, y) ∷ c → me.1 ≡ (slot, old) ∷ rest me.1 → me' ≡ (me.0, (slot, Some x) ∷ rest me.1) → opens v.image i x

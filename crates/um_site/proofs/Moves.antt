@@ -21,8 +21,8 @@ use Rattle.um_site.specs.declared.turn.Turn.{Turn}
 use Rattle.um_site.specs.declared.view.View.{View}
 use Rattle.um_words.specs.Sublists.{same_name, sub}
 use Rattle.um_words.specs.History.{Entry, made_of, is_at, is_by, by_seat, by_site, bare, IsHistory}
-use Rattle.um_site.specs.History.{Among, Told, Has, Knows, Tidy, AmongNames, opening_view, splitter, newborn, joiner, spent, shadow_of, IsClosed}
-use Rattle.um_site.specs.Cells.{AmongCells, Follow, ContentsAre, CellsAre, Rule, NoSteps, NoneOfThem, IsClosedWithCells}
+use Rattle.um_site.specs.History.{Among, Told, Has, Kept, Knows, Tidy, AmongNames, opening_view, splitter, newborn, joiner, spent, shadow_of, IsClosed}
+use Rattle.um_site.specs.Cells.{AmongCells, Follow, ContentsAre, CellsAre, Moment, Rule, NoSteps, NoneOfThem, IsClosedWithCells}
 use Rattle.um_site.specs.Tells.{with_got, with_made, GoesOn, Looked, looked, stepped_by, taking, recording, returning, took, reached, recorded_by, returned}
 use Rattle.um_site.proofs.Sublists.{same_itself}
 use Rattle.um_site.proofs.Bare.{bare-low, bare-high, bare-even, bare-number}
@@ -88,8 +88,26 @@ module _ {T : Type 0} (opens : Image → ℕ → T → Type 0) (follows : T → 
       look_tells goes image opening s.words s.views id v i r.0 r.1 at lives (omega arith),
     )
 
-    pub looks : (slots id : ℕ) (me : Me (Option T) View) (i : ℕ) → me.0.live ≡ true → i < length opening → Allows Holds slots id me i (λ n. n) (looked goes (step slots i 0 0 none) me)
-    looks slots id me i lives in' s r _ at _ = let k = look_rule s r id me.0 i at lives in' me.1 in (with_got me.0 i (get_or s.words i 0), keeps, tt, k.0, (refl, k.1))
+    -- the moment of a look, in the words of the seat that looks
+    abbrev moment_of : (s : State (Option T) View) (r : Holds s) (id : ℕ) (v : View) (i : ℕ) → get_elem? s.views id ≡ some v → v.live ≡ true → i < length s.words → Moment opens follows goes v i (get_or s.words i 0)
+    moment_of s r id v i at lives in' = let k = r.1.know id v at lives in
+        record {
+          words = s.words;
+          homes = s.homes;
+          views = s.views;
+          history = r.0;
+          kept = subst (λ (z : Image × List ℕ). Kept (goes z.0) z.0 z.1 s.words r.0 s.views) (λ j. (sym k.image_is j, sym k.opening_is j)) r.1;
+          cells = subst (λ (im : Image). CellsAre opens follows im s.words s.homes r.0 s.views) (sym k.image_is) r.2;
+          seat = id;
+          there = at;
+          live = lives;
+          inside = in';
+          word = refl;
+        }
+
+    pub looks : (slots id : ℕ) (me : Me (Option T) View) (i : ℕ) → me.0.live ≡ true → i < length opening → Allows Holds slots id me i (λ n. n) (looked opens follows goes (step slots i 0 0 none) me)
+    looks slots id me i lives in' s r _ at _ = let k = look_rule s r id me.0 i at lives in' me.1 in let wide = r.1.stands.wide in
+        (with_got me.0 i (get_or s.words i 0), keeps, tt, k.0, (refl, k.1, moment_of s r id me.0 i at lives (omega arith)))
 
     pub exchanges : (slots id : ℕ) (me : Me (Option T) View) (m made : Made) (seen : ℕ) → made ≡ m → me.0.live ≡ true → m.site < length opening → m.site < 168
         → WordMay m.site seen m.act m.word → goes me.0.image me.0.name me.0.made m
@@ -130,7 +148,6 @@ module _ {T : Type 0} (opens : Image → ℕ → T → Type 0) (follows : T → 
         let f = r.2.filled id v at lives i full in let cell : 168 ≤ i = f.0 in let in' : i < length s.words = f.1 in let slot : i < 168 + length s.homes = f.2 in
         let k = r.1.know id v at lives in let wide = r.1.stands.wide in dite (ℕ_discrete (w % 2) 0)
         (λ even. let b = r.2.home (i - 168) (omega arith) (omega arith) (subst (λ n. get_or s.words n 0 % 2 ≡ 0) (sym (cell_slot i cell)) even) in
-        let o = own_words goes image opening s.words h v k r.1.stands in
         let y = subst (λ n. ContentsAre opens follows image n (by_site n h) b.0) (cell_slot i cell) (b.2 id v at lives (subst (AmongCells v.filled) (sym (cell_slot i cell)) full)) in (
           taking v i w (by_site i h),
           takes (i - 168) b.0,
@@ -142,12 +159,7 @@ module _ {T : Type 0} (opens : Image → ℕ → T → Type 0) (follows : T → 
               refl,
               record {
                 newer = no_older s.words i v.got k.fresh;
-                words = s.words;
-                history = h;
-                stands = o.0;
-                knows = o.1;
-                inside = in';
-                word = refl;
+                moment = moment_of s r id v i at lives in';
                 counted = let n = (words_numbers i (get_or opening i 0) (by_site i h) (bare i w) (r.1.stands.sites i in')).1 in let z = r.1.stands.opened i (omega arith) in let e = bare-number i w in omega arith;
                 contents = subst (λ (im : Image). ContentsAre opens follows im i (by_site i h) b.0) (sym k.image_is) y;
                 now = refl;

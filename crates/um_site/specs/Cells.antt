@@ -63,6 +63,20 @@ module _ {T : Type 0} (opens : Image → ℕ → T → Type 0) (follows : T → 
   abbrev pub Rule : (List ℕ → List Made → Made → Type 0) → Image → List ℕ → List ℕ → List (found.Option (Option T)) → List View → Type 0
   Rule goes image opening words homes views = (h : List Entry) × Kept goes image opening words h views × CellsAre image words homes h views
 
+  -- At some moment the board's rule held, with the word w at the site i; the seat that knew v then was not joined into another.
+  pub record Moment (goes : Image → List ℕ → List Made → Made → Type 0) (v : View) (i w : ℕ) : Type 0 where
+    pub words : List ℕ
+    pub homes : List (found.Option (Option T))
+    pub views : List View
+    pub history : List Entry
+    pub kept : Kept (goes v.image) v.image v.opening words history views
+    pub cells : CellsAre v.image words homes history views
+    pub seat : ℕ
+    pub there : get_elem? views seat ≡ some v
+    pub live : v.live ≡ true
+    pub inside : i < length words
+    pub word : slice_index words i ≡ w
+
   -- the words of a board that was closed, and what the first seat has: one history, whose steps stand in the seat's lists and nowhere else, and whose cells' contents follow from their steps where the seat knows them as filled
   pub record IsClosedWithCells (goes : Image → List ℕ → List Made → Made → Type 0) (v : View) (words : List ℕ) : Type 0 where
     pub history : List Entry

@@ -10,7 +10,7 @@ use Rattle.um_site.specs.declared.turn.Turn.{Turn}
 use Rattle.um_site.specs.declared.view.View.{View}
 use Rattle.um_words.specs.History.{Entry, by_site, IsHistory}
 use Rattle.um_site.specs.History.{Knows, with_cells}
-use Rattle.um_site.specs.Cells.{ContentsAre}
+use Rattle.um_site.specs.Cells.{ContentsAre, Moment}
 
 abbrev pub made : ℕ → FineAct → ℕ → Made
 made i act next = record { site = i; act = act; word = next; moved = Exchange.nothing }
@@ -49,9 +49,6 @@ module _ (goes : Image → List ℕ → List Made → Made → Type 0) where
   Steps v i act seen n w = (next : ℕ) × WordMay i seen act next × (n ≡ number i next) × GoesOn v (made i act next) seen × (w ≡ with_made v (made i act next))
 
   module _ {S : Type 0} where
-    abbrev pub looked : Step S → Me S View → ℕ → Me S View → Type 0
-    looked st me r me' = (me'.1 ≡ me.1) × Looked me.0 st.word r me'.0
-
     abbrev pub stepped_by : Made → Step S → Me S View → ℕ → Me S View → Type 0
     stepped_by m st me r me' = (me'.1 ≡ me.1) × (r ≡ st.first → GoesOn me.0 m st.first × (me'.0 ≡ with_made me.0 m)) × (r ≢ st.first → Looked me.0 st.word r me'.0)
 
@@ -68,18 +65,17 @@ abbrev pub returning : View → ℕ → ℕ → List ℕ → View
 returning v i w filled = with_cells (with_got v i w) None filled
 
 module _ {T : Type 0} (opens : Image → ℕ → T → Type 0) (follows : T → FineAct → Exchange → T → Type 0) (goes : Image → List ℕ → List Made → Made → Type 0) where
-  -- the turn was free at the word r, in one history, and the slot had the contents that the cell's steps in it leave, which are as many as the word says
+  -- the site was looked at, at some moment
+  abbrev pub looked : {S : Type 0} → Step S → Me S View → ℕ → Me S View → Type 0
+  looked st me r me' = (me'.1 ≡ me.1) × Looked goes me.0 st.word r me'.0 × Moment opens follows goes me.0 st.word r
+
+  -- the turn was free at the word r at some moment, and the slot had the contents that the cell's steps leave, which are as many as the word says
   pub record Took (v : View) (i r : ℕ) (y : Option T) (w : View) : Type 0 where
     pub newer : NoOlder v.got i r
-    pub words : List ℕ
-    pub history : List Entry
-    pub stands : IsHistory (goes v.image) v.opening words history
-    pub knows : Knows v.image v.opening words history v
-    pub inside : i < length words
-    pub word : slice_index words i ≡ r
-    pub counted : number i r ≡ length (by_site i history)
-    pub contents : ContentsAre opens follows v.image i (by_site i history) y
-    pub now : w ≡ taking v i r (by_site i history)
+    pub moment : Moment opens follows goes v i r
+    pub counted : number i r ≡ length (by_site i moment.history)
+    pub contents : ContentsAre opens follows v.image i (by_site i moment.history) y
+    pub now : w ≡ taking v i r (by_site i moment.history)
 
   abbrev pub took : Step (Option T) → Me (Option T) View → ℕ → Me (Option T) View → Type 0
   took st me r me' =

@@ -4,7 +4,7 @@ ghost use Rattle.std.specs.Prelude.{◌≡◌, ◌≢◌, ℕ, ◌+◌, ◌%◌,
 ghost use Rattle.um_words.specs.Steps.{number, WordMay};
 ghost use Rattle.um_site.specs.Tells.{made, last_got, with_made, GoesOn, Looked, StandsWithFact, Steps, stepped_by};
 ghost use Rattle.um_site.specs.History.{opening_view, splitter, newborn, joiner, AmongNames, IsClosed, IsClosedWithFact, shadow_of};
-ghost use Rattle.um_site.specs.Cells.{IsClosedWithCells};
+ghost use Rattle.um_site.specs.Cells.{IsClosedWithCells, Moment};
 ghost use Rattle.std.specs.Mem.Slots.{slots_items, slots_len, IsFull};
 ghost use Rattle.atomic_table.specs.Table.{step};
 ghost use mathlib.Core.Option.{none};
@@ -80,6 +80,7 @@ impl<T: Content, L: Local> Board<T, L> {
         requires site { site < self.now.table.shared.table_id.words }
         ensures same { (seat.new.token.table_id ≡ seat.old.token.table_id) × (seat.new.token.id ≡ seat.old.token.id) }
         ensures told { Looked L.goes seat.old.token.me.0 site result seat.new.token.me.0 }
+        ensures moment { Moment T.opens T.follows L.goes seat.old.token.me.0 site result }
         ensures counts { (seat.new.split ≡ seat.old.split) × (seat.new.joined ≡ seat.old.joined) × (seat.new.first ≡ seat.old.first) }
         ensures slots { seat.new.token.me.1 ≡ seat.old.token.me.1 }
         ensures kin { (seat.new.token.me.0.name ≡ seat.old.token.me.0.name) × (seat.new.token.me.0.children ≡ seat.old.token.me.0.children) × (seat.new.token.me.0.turn ≡ seat.old.token.me.0.turn) × (seat.new.token.me.0.filled ≡ seat.old.token.me.0.filled) }

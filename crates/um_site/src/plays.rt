@@ -25,10 +25,10 @@ pub struct Look<L> {
     local: PhantomData<L>,
 }
 
-impl<T, L: Local> Play<Option<T>, View> for Look<L> {
+impl<T: Content, L: Local> Play<Option<T>, View> for Look<L> {
     ghost use Rattle.um_site.specs.Tells.{looked};
 
-    ghost then = { looked L.goes };
+    ghost then = { looked T.opens T.follows L.goes };
 }
 
 /// An exchange of a word, by which the step is made or the word that stands is seen.
