@@ -62,11 +62,11 @@ parts-kind d low =
     λ i. if a i then CellKind.Object else if b i then CellKind.Domain else if (296 + d) == 304 then CellKind.Memory else if (296 + d) == 305 then CellKind.Heap else if (296 + d) == 306 then CellKind.Scheduler else CellKind.Unused
 
 -- a turn was taken
-pub in-turn : (image : Image) (board : TableId) (cells : Cells Known) (rodata : List ℕ) (s t : Seat Known) (site word number ready running : ℕ) (c : Known) (past : List Made)
-    → IsPlaced image board cells rodata s → 168 ≤ site → site < 307 → SameSeat s t → HasTurn Opens Follows t.token.me site word None c → t.token.me.0 ≡ taking s.token.me.0 site word past
+pub in-turn : (image : Image) (board : TableId) (cells : Cells Known) (rodata : List ℕ) (s t : Seat Known) (most site word number ready running : ℕ) (c : Known) (past : List Made)
+    → IsPlaced image board cells rodata s most → 168 ≤ site → site < 307 → SameSeat s t → HasTurn Opens Follows t.token.me site word None c → t.token.me.0 ≡ taking s.token.me.0 site word past
     → rest t.token.me.1 ≡ s.token.me.1 → cell_of word ≡ quiet_word ready running number → ((n : ℕ) → cell_word c.cell n ≡ quiet_word ready running n) → number < 268435455
-    → InTurn image board cells rodata t site word number c
-in-turn image board cells rodata s t site word number ready running c past p low high same turn now slots says counts room =
+    → InTurn image board cells rodata t most site word number c
+in-turn image board cells rodata s t most site word number ready running c past p low high same turn now slots says counts room =
     let k = (taken-turn s t site word past [] same now).keeps in
     let image_is : t.token.me.0.image ≡ image = ap (λ (v : View). v.image) now ∙ p.seated.image_is in
     let known = contents-known t.token.me.0.image site c turn.turn.past low high turn.contents in
@@ -78,6 +78,7 @@ in-turn image board cells rodata s t site word number ready running c past p low
       filled = λ i h. subst (λ f. AmongCells f i) (sym k.filled) (p.seated.filled i h);
       image_is = image_is;
       rodata_is = p.rodata_is;
+      enough = p.enough;
       low = low;
       high = high;
       turn = turn;

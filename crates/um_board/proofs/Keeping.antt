@@ -22,7 +22,7 @@ use Rattle.um_board.specs.Seated.{KeepsPlace, Noted, Unnoted}
 use Rattle.um_board.specs.Turned.{InTurn, IsPlaced}
 
 pub keeps-same : (s : Seat Known) → KeepsPlace s s
-keeps-same s = record { board = refl; place = refl; split = refl; joined = refl; first = refl; opening = refl; name = refl; splits = refl; children = refl; lists = refl; filled = refl }
+keeps-same s = record { board = refl; place = refl; split = refl; joined = refl; first = refl; image = refl; opening = refl; name = refl; splits = refl; children = refl; lists = refl; filled = refl }
 
 pub keeps-then : (s t u : Seat Known) → KeepsPlace s t → KeepsPlace t u → KeepsPlace s u
 keeps-then s t u a b =
@@ -32,6 +32,7 @@ keeps-then s t u a b =
       split = b.split ∙ a.split;
       joined = b.joined ∙ a.joined;
       first = b.first ∙ a.first;
+      image = b.image ∙ a.image;
       opening = b.opening ∙ a.opening;
       name = b.name ∙ a.name;
       splits = b.splits ∙ a.splits;
@@ -41,15 +42,16 @@ keeps-then s t u a b =
     }
 
 -- the seat has this view now, which has what the one before had
-pub keeps-by : (s t : Seat Known) (v : View) → SameSeat s t → t.token.me.0 ≡ v → v.opening ≡ s.token.me.0.opening → v.name ≡ s.token.me.0.name → v.splits ≡ s.token.me.0.splits
+pub keeps-by : (s t : Seat Known) (v : View) → SameSeat s t → t.token.me.0 ≡ v → v.image ≡ s.token.me.0.image → v.opening ≡ s.token.me.0.opening → v.name ≡ s.token.me.0.name → v.splits ≡ s.token.me.0.splits
     → v.children ≡ s.token.me.0.children → v.joined ≡ s.token.me.0.joined → v.filled ≡ s.token.me.0.filled → KeepsPlace s t
-keeps-by s t v same is opening name splits children lists filled =
+keeps-by s t v same is image opening name splits children lists filled =
     record {
       board = same.0;
       place = same.1;
       split = same.2;
       joined = same.3;
       first = same.4;
+      image = ap (λ (w : View). w.image) is ∙ image;
       opening = ap (λ (w : View). w.opening) is ∙ opening;
       name = ap (λ (w : View). w.name) is ∙ name;
       splits = ap (λ (w : View). w.splits) is ∙ splits;
@@ -65,7 +67,7 @@ unnoted-same s log = record { keeps = keeps-same s; made = refl; log = refl; got
 pub looked-at : (s t : Seat Known) (i w : ℕ) (log : List Logged) → SameSeat s t → t.token.me.0 ≡ with_got s.token.me.0 i w → Unnoted s log t log
 looked-at s t i w log same is =
     record {
-      keeps = keeps-by s t (with_got s.token.me.0 i w) same is refl refl refl refl refl refl;
+      keeps = keeps-by s t (with_got s.token.me.0 i w) same is refl refl refl refl refl refl refl;
       made = ap (λ (v : View). v.made) is;
       log = refl;
       got = ((i, w) ∷ [], ap (λ (v : View). v.got) is);
@@ -75,7 +77,7 @@ looked-at s t i w log same is =
 pub taken-turn : (s t : Seat Known) (i w : ℕ) (past : List Made) (log : List Logged) → SameSeat s t → t.token.me.0 ≡ taking s.token.me.0 i w past → Unnoted s log t log
 taken-turn s t i w past log same is =
     record {
-      keeps = keeps-by s t (taking s.token.me.0 i w past) same is refl refl refl refl refl refl;
+      keeps = keeps-by s t (taking s.token.me.0 i w past) same is refl refl refl refl refl refl refl;
       made = ap (λ (v : View). v.made) is;
       log = refl;
       got = ((i, w) ∷ [], ap (λ (v : View). v.got) is);
@@ -85,7 +87,7 @@ taken-turn s t i w past log same is =
 pub gave-turn : (s t : Seat Known) (i w : ℕ) (log : List Logged) → SameSeat s t → t.token.me.0 ≡ returning s.token.me.0 i w s.token.me.0.filled → Unnoted s log t log
 gave-turn s t i w log same is =
     record {
-      keeps = keeps-by s t (returning s.token.me.0 i w s.token.me.0.filled) same is refl refl refl refl refl refl;
+      keeps = keeps-by s t (returning s.token.me.0 i w s.token.me.0.filled) same is refl refl refl refl refl refl refl;
       made = ap (λ (v : View). v.made) is;
       log = refl;
       got = ((i, w) ∷ [], ap (λ (v : View). v.got) is);
@@ -95,7 +97,7 @@ gave-turn s t i w log same is =
 pub stepped : (s t : Seat Known) (e : FineStep) (log new : List Logged) → SameSeat s t → t.token.me.0 ≡ with_made s.token.me.0 (made_of e) → new ≡ log ++ logged_of e ∷ [] → IsReadBack e → Noted s log e t new
 stepped s t e log new same is l back =
     record {
-      keeps = keeps-by s t (with_made s.token.me.0 (made_of e)) same is refl refl refl refl refl refl;
+      keeps = keeps-by s t (with_made s.token.me.0 (made_of e)) same is refl refl refl refl refl refl refl;
       made = ap (λ (v : View). v.made) is;
       log = l;
       back = back;
@@ -106,7 +108,7 @@ stepped s t e log new same is l back =
 pub put-turn : (s t : Seat Known) (e : FineStep) (log new : List Logged) → SameSeat s t → t.token.me.0 ≡ recording s.token.me.0 (made_of e) → new ≡ log ++ logged_of e ∷ [] → IsReadBack e → Noted s log e t new
 put-turn s t e log new same is l back =
     record {
-      keeps = keeps-by s t (recording s.token.me.0 (made_of e)) same is refl refl refl refl refl refl;
+      keeps = keeps-by s t (recording s.token.me.0 (made_of e)) same is refl refl refl refl refl refl refl;
       made = ap (λ (v : View). v.made) is;
       log = l;
       back = back;
@@ -141,9 +143,9 @@ noted-then s t u a b c e x y =
     }
 
 module _ (image : Image) (board : TableId) (cells : Cells Known) (rodata : List ℕ) where
-  pub placed-then : (s t : Seat Known) → IsPlaced image board cells rodata s → KeepsPlace s t → t.token.me.0.image ≡ s.token.me.0.image → t.token.me.0.turn ≡ None → t.token.me.1 ≡ []
-      → IsPlaced image board cells rodata t
-  placed-then s t p k same idle empty =
+  pub placed-then : (s t : Seat Known) (room : ℕ) → IsPlaced image board cells rodata s room → KeepsPlace s t → t.token.me.0.image ≡ s.token.me.0.image → t.token.me.0.turn ≡ None → t.token.me.1 ≡ []
+      → IsPlaced image board cells rodata t room
+  placed-then s t room p k same idle empty =
       record {
         seated = record {
           here = k.board ∙ p.seated.here;
@@ -156,11 +158,12 @@ module _ (image : Image) (board : TableId) (cells : Cells Known) (rodata : List 
           empty = empty;
         };
         rodata_is = p.rodata_is;
+        enough = p.enough;
       }
 
-  pub placed-again : (s t : Seat Known) (site word number : ℕ) (c : Known) → InTurn image board cells rodata s site word number c → KeepsPlace s t → t.token.me.0.image ≡ s.token.me.0.image
-      → t.token.me.0.turn ≡ None → t.token.me.1 ≡ rest s.token.me.1 → IsPlaced image board cells rodata t
-  placed-again s t site word number c p k same idle empty =
+  pub placed-again : (s t : Seat Known) (room site word number : ℕ) (c : Known) → InTurn image board cells rodata s room site word number c → KeepsPlace s t → t.token.me.0.image ≡ s.token.me.0.image
+      → t.token.me.0.turn ≡ None → t.token.me.1 ≡ rest s.token.me.1 → IsPlaced image board cells rodata t room
+  placed-again s t room site word number c p k same idle empty =
       record {
         seated = record {
           here = k.board ∙ p.here;
@@ -173,4 +176,9 @@ module _ (image : Image) (board : TableId) (cells : Cells Known) (rodata : List 
           empty = empty ∙ p.rest_is;
         };
         rodata_is = p.rodata_is;
+        enough = p.enough;
       }
+
+  -- and in a log with the same room
+  pub placed-room : (t : Seat Known) (a b : ℕ) → b ≡ a → IsPlaced image board cells rodata t a → IsPlaced image board cells rodata t b
+  placed-room t a b same p = subst (λ (room : ℕ). IsPlaced image board cells rodata t room) (sym same) p

@@ -1,5 +1,5 @@
 -- What a seat saw where no step was made, and what its processor may do next when it has looked.
-use Rattle.std.proofs.Common.{◌≡◌, ◌≢◌, ℕ, ◌&&◌, Bool, true, false, List, [], ◌∷◌, ◌++◌, inl, inr, refl, sym, ap, ◌∙◌, subst, append_assoc}
+use Rattle.std.proofs.Common.{◌≡◌, ◌≢◌, ℕ, ◌&&◌, Bool, true, false, List, [], ◌∷◌, ◌++◌, inl, inr, refl, sym, ap, ◌∙◌, subst, arith, append_assoc}
 use Rattle.std.specs.Prelude.{nat_lt, if◌then◌else◌, Some, None}
 use Rattle.um_base.specs.declared.image.Image.{Image}
 use Rattle.um_words.specs.Packed.{cell_of, domain_in, domain_of, is_domain, is_thread, thread_in, thread_of}
@@ -9,17 +9,16 @@ use Rattle.um_words.specs.declared.fine.FineAct.{FineAct}
 use Rattle.um_words.specs.declared.fine.Unseen.{Unseen}
 use Rattle.um_machine.specs.Order.{to_thread}
 use Rattle.um_fine.specs.Cells.{Cell, cell_says, cell_takes, cell_word}
-use Rattle.um_fine.specs.Scheduler.{Scheduler}
+use Rattle.um_fine.specs.Scheduler.{Scheduler, has_ready, sched_takes}
 use Rattle.um_fine.specs.Sites.{SiteState}
 use Rattle.um_fine.specs.Steps.{Exchange, Site, Word}
 use Rattle.um_merge.specs.declared.logged.Logged.{Logged}
 use Rattle.um_processor.specs.Asked.{cell_made}
 use Rattle.um_processor.specs.SchedulerActs.{taken_made}
-use Rattle.um_processor.proofs.Scheduled.{next-takes}
 use Rattle.um_site.specs.declared.seat.Seat.{Seat}
 use Rattle.um_board.specs.Contents.{Known}
 use Rattle.um_board.specs.NextSteps.{IsNext}
-use Rattle.um_board.specs.Saw.{GotSince, Hinders, SawShut, WasGot}
+use Rattle.um_board.specs.Saw.{Got, GotSince, Hinders, OthersAt, SawAt, SawCell, SawShut, WasGot}
 use Rattle.um_board.specs.Seated.{Unnoted}
 use Rattle.um_board.proofs.NextRuns.{next-then}
 
@@ -46,20 +45,37 @@ pub got-first : (old mid new looked : List (ℕ × ℕ)) (i w : ℕ) → mid ≡
 got-first old mid new looked i w first (own, is, was) =
     (own ++ looked, is ∙ (ap (λ g. own ++ g) first ∙ sym (append_assoc own looked old)), got-before own looked i w was)
 
--- the same cause, where the seat looked before
-pub hinders-first : (room : ℕ) (log : List Logged) (old mid new looked : List (ℕ × ℕ)) (i : ℕ) → mid ≡ looked ++ old → Hinders room log mid new i → Hinders room log old new i
-hinders-first room log old mid new looked i first (Hinders.full full) = Hinders.full full
-hinders-first room log old mid new looked i first (Hinders.out w cell got out) = Hinders.out w cell (got-first old mid new looked i w first got) out
-hinders-first room log old mid new looked i first (Hinders.moved w z got now other) =
-    Hinders.moved w z (got-first old mid new looked i w first got) (got-first old mid new looked i z first now) other
-hinders-first room log old mid new looked i first (Hinders.no_thread w got none) = Hinders.no_thread w (got-first old mid new looked i w first got) none
-hinders-first room log old mid new looked i first (Hinders.no_domain w got none) = Hinders.no_domain w (got-first old mid new looked i w first got) none
-hinders-first room log old mid new looked i first (Hinders.worn w c cell got counts) = Hinders.worn w c cell (got-first old mid new looked i w first got) counts
+-- the same moment, where the seat looked before
+abbrev pub saw-first : (s mid : Seat Known) (a b : List Logged) (i w : ℕ) → Unnoted s a mid b → SawAt mid i w → SawAt s i w
+saw-first s mid a b i w u saw =
+    let k = u.keeps in
+    let of = saw.of in
+    record {
+      view = saw.view;
+      of = record { image = of.image ∙ k.image; opening = of.opening ∙ k.opening; name = of.name ∙ k.name; made = of.made ∙ u.made; filled = of.filled ∙ k.filled };
+      moment = saw.moment;
+    }
+
+pub cell-first : (s mid : Seat Known) (a b : List Logged) (i w : ℕ) (c : Known) → Unnoted s a mid b → SawCell mid i w c → SawCell s i w c
+cell-first s mid a b i w c u saw = record { saw = saw-first s mid a b i w u saw.saw; free = saw.free; contents = saw.contents }
+
+others-first : (s mid t : Seat Known) (a b : List Logged) (i : ℕ) → Unnoted s a mid b → OthersAt mid t i → OthersAt s t i
+others-first s mid t a b i u (OthersAt.out w cell got out) = OthersAt.out w cell (got-first _ _ _ u.got.0 i w u.got.1 got) out
+others-first s mid t a b i u (OthersAt.moved w z got now other) = OthersAt.moved w z (got-first _ _ _ u.got.0 i w u.got.1 got) (got-first _ _ _ u.got.0 i z u.got.1 now) other
+
+-- the same cause
+pub hinders-first : (room : ℕ) (log : List Logged) (s mid t : Seat Known) (a b : List Logged) (i : ℕ) → Unnoted s a mid b → Hinders room log mid t i → Hinders room log s t i
+hinders-first room log s mid t a b i u (Hinders.others others) = Hinders.others (others-first s mid t a b i u others)
+hinders-first room log s mid t a b i u (Hinders.full w saw full) = Hinders.full w (saw-first s mid a b i w u saw) full
+hinders-first room log s mid t a b i u (Hinders.no_thread n w less is saw none) = Hinders.no_thread n w less is (saw-first s mid a b i w u saw) none
+hinders-first room log s mid t a b i u (Hinders.no_domain n w less is saw none) = Hinders.no_domain n w less is (saw-first s mid a b i w u saw) none
+hinders-first room log s mid t a b i u (Hinders.worn w c cell saw counts) = Hinders.worn w c cell (cell-first s mid a b i w c u saw) counts
 
 -- another word stood at the site than the one that was looked at
-pub moved-on : (room : ℕ) (log : List Logged) (old mid new : List (ℕ × ℕ)) (i w z : ℕ) → mid ≡ (i, w) ∷ old → new ≡ (i, z) ∷ mid → z ≢ w → Hinders room log old new i
-moved-on room log old mid new i w z looked now other =
-    Hinders.moved w z (got-more old mid new ((i, z) ∷ []) i w now (got-one old mid i w looked)) (got-first old mid new ((i, w) ∷ []) i z looked (got-one mid new i z now)) other
+pub moved-on : (room : ℕ) (log : List Logged) (s mid t : Seat Known) (i w z : ℕ) → mid.token.me.0.got ≡ (i, w) ∷ s.token.me.0.got → t.token.me.0.got ≡ (i, z) ∷ mid.token.me.0.got → z ≢ w
+    → Hinders room log s t i
+moved-on room log s mid t i w z looked now other =
+    Hinders.others (OthersAt.moved w z (got-more _ _ _ ((i, z) ∷ []) i w now (got-one _ _ i w looked)) (got-first _ _ _ ((i, w) ∷ []) i z looked (got-one _ _ i z now)) other)
 
 -- Words as they are read.
 
@@ -79,24 +95,27 @@ some-domain w d = by (is_domain w)
 
 -- Steps that a cell refuses.
 
-and-no : (b : Bool) → (b && false) ≡ false
+pub and-no : (b : Bool) → (b && false) ≡ false
 and-no true = refl
 and-no false = refl
 
-pub cell-shut : (image : Image) (cpu n w : ℕ) (c : Cell) (s : Scheduler) (u : Unseen) (moved : Exchange) (old new : List (ℕ × ℕ)) → c ≡ Cell.scheduler s → cell_of w ≡ cell_word c n
-    → GotSince old new 306 w → cell_takes (Cell.scheduler s) (cell_says image (Cell.scheduler s) moved (FineAct.Unseen u)) ≡ false
-    → SawShut old new (cell_made image cpu Site.scheduler n (Cell.scheduler s) (FineAct.Unseen u) moved)
-cell-shut image cpu n w c s u moved old new is says got denied =
-    SawShut.refused (SiteState.cell n (Cell.scheduler s)) w got (ap Word.cell (says ∙ ap (λ (x : Cell). cell_word x n) is))
-    (ap (λ (b : Bool). nat_lt n 268435455 && b) denied ∙ and-no (nat_lt n 268435455))
+pub cell-shut : (image : Image) (cpu n w : ℕ) (c : Known) (z : Scheduler) (u : Unseen) (moved : Exchange) (s t : Seat Known) → c.cell ≡ Cell.scheduler z → cell_of w ≡ cell_word c.cell n
+    → Got s t 306 w → SawCell s 306 w c → cell_takes (Cell.scheduler z) (cell_says image (Cell.scheduler z) moved (FineAct.Unseen u)) ≡ false
+    → SawShut s t (cell_made image cpu Site.scheduler n (Cell.scheduler z) (FineAct.Unseen u) moved)
+cell-shut image cpu n w c z u moved s t is says got saw denied =
+    SawShut.cell_refused n w c (omega arith) got saw says
+    (ap (λ (x : Cell). nat_lt n 268435455 && cell_takes x (cell_says image (Cell.scheduler z) moved (FineAct.Unseen u))) is
+    ∙ ap (λ (b : Bool). nat_lt n 268435455 && b) denied ∙ and-no (nat_lt n 268435455))
 
 -- a scheduler without threads
 abbrev pub nobody : Scheduler
 nobody = record { ready = []; parked = []; told = []; running = 0 }
 
-pub none-shut : (image : Image) (cpu w : ℕ) (old new : List (ℕ × ℕ)) → GotSince old new 306 w → (cell_of w).ready ≡ 0 → SawShut old new (taken_made image cpu 0 nobody)
-none-shut image cpu w old new got none =
-    SawShut.none_ready 0 w nobody refl got none (next-takes nobody (to_thread 0))
+no-ready : (z : Scheduler) → z.ready ≡ [] → sched_takes z (FineAct.Unseen (Unseen.Next (to_thread 0))) ≡ false
+no-ready z none = ap (has_ready z) none
+
+pub none-shut : (image : Image) (cpu w : ℕ) (s t : Seat Known) → Got s t 306 w → SawAt s 306 w → (cell_of w).ready ≡ 0 → SawShut s t (taken_made image cpu 0 nobody)
+none-shut image cpu w s t got saw none = SawShut.none_ready w refl got saw none no-ready
 
 -- the step of a cell that the seat may make, when it has looked
 pub next-at : (image : Image) (cpu : ℕ) (site : Site) (n : ℕ) (c k : Cell) (act : FineAct) (moved : Exchange) (s t : Seat Known) (a b : List Logged) → c ≡ k → Unnoted s a t b

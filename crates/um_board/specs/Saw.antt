@@ -1,12 +1,18 @@
 -- What a seat saw at a site in a call by which no step was made there.
-use Rattle.std.specs.Prelude.{◌≡◌, ◌≢◌, ℕ, ◌<◌, ◌≤◌, ◌%◌, ◌⊎◌, List, [], ◌∷◌, ◌++◌, length, None}
+use Rattle.std.specs.Prelude.{◌≡◌, ◌≢◌, ℕ, ◌+◌, ◌<◌, ◌≤◌, ◌%◌, ◌⊎◌, false, List, [], ◌∷◌, ◌++◌, length, None, Some}
+use Rattle.um_words.specs.History.{by_site}
 use Rattle.um_words.specs.Packed.{cell_of, domain_of, thread_of}
 use Rattle.um_fine.specs.Cells.{Cell, cell_word}
+use Rattle.um_fine.specs.Scheduler.{Scheduler, sched_takes}
 use Rattle.um_fine.specs.Sites.{SiteState, site_number, word_of}
-use Rattle.um_fine.specs.Scheduler.{Scheduler}
 use Rattle.um_fine.specs.Steps.{FineStep, Site}
 use Rattle.um_merge.specs.declared.logged.Logged.{Logged}
 use Rattle.um_processor.specs.Asked.{Refuses}
+use Rattle.um_site.specs.Cells.{ContentsAre, Moment}
+use Rattle.um_site.specs.declared.seat.Seat.{Seat}
+use Rattle.um_site.specs.declared.view.View.{View}
+use Rattle.um_board.specs.Contents.{Follows, Known, Opens}
+use Rattle.um_board.specs.NextSteps.{NextGoes}
 use Rattle.um_board.specs.ReadBack.{unpacked}
 
 -- the word was got or left at the site
@@ -18,20 +24,48 @@ WasGot (e ∷ es) i w = ((e.0 ≡ i) × (e.1 ≡ w)) ⊎ WasGot es i w
 abbrev pub GotSince : List (ℕ × ℕ) → List (ℕ × ℕ) → ℕ → ℕ → Type 0
 GotSince old new i w = (more : List (ℕ × ℕ)) × (new ≡ more ++ old) × WasGot more i w
 
--- Why the site refuses the step: a word was got there that is that of a state which refuses it; or of a scheduler which has as many ready threads as the
--- word counts.
-pub data SawShut (old new : List (ℕ × ℕ)) (e : FineStep) : Type 0 where
-  refused : (s : SiteState) (w : ℕ) → GotSince old new (site_number e.site) w → unpacked e.site w ≡ word_of s → Refuses s e → SawShut old new e
-  none_ready : (n w : ℕ) (s : Scheduler) → e.site ≡ Site.scheduler → GotSince old new (site_number e.site) w → (cell_of w).ready ≡ length s.ready
-      → Refuses (SiteState.cell n (Cell.scheduler s)) e → SawShut old new e
+-- the word was got at the site between the one seat and the other
+abbrev pub Got : Seat Known → Seat Known → ℕ → ℕ → Type 0
+Got s t i w = GotSince s.token.me.0.got t.token.me.0.got i w
 
--- Why no step was made at the site i: the log has as many as there is room for; another seat had the turn of the cell; another word stood there than the one by
--- which the step was to be made; the word that stood there can't be read; or it doesn't count what the cell's contents c count, or has counted as many
--- steps as it can.
-pub data Hinders (room : ℕ) (log : List Logged) (old new : List (ℕ × ℕ)) (i : ℕ) : Type 0 where
-  full : room ≤ length log → Hinders room log old new i
-  out : (w : ℕ) → 168 ≤ i → GotSince old new i w → w % 2 ≡ 1 → Hinders room log old new i
-  moved : (w z : ℕ) → GotSince old new i w → GotSince old new i z → z ≢ w → Hinders room log old new i
-  no_thread : (w : ℕ) → GotSince old new i w → thread_of w ≡ None → Hinders room log old new i
-  no_domain : (w : ℕ) → GotSince old new i w → domain_of w ≡ None → Hinders room log old new i
-  worn : (w : ℕ) (c : Cell) → 168 ≤ i → GotSince old new i w → ((n : ℕ) → n < 268435455 → cell_of w ≢ cell_word c n) → Hinders room log old new i
+-- The seat has the steps, the name and the cells of this view.
+pub record IsOfView (s : Seat Known) (v : View) : Type 0 where
+  pub image : v.image ≡ s.token.me.0.image
+  pub opening : v.opening ≡ s.token.me.0.opening
+  pub name : v.name ≡ s.token.me.0.name
+  pub made : v.made ≡ s.token.me.0.made
+  pub filled : v.filled ≡ s.token.me.0.filled
+
+-- The board's rule held with this word at the site i, at a moment at which the seat had made the steps that it has made.
+pub record SawAt (s : Seat Known) (i w : ℕ) : Type 0 where
+  pub view : View
+  pub of : IsOfView s view
+  pub moment : Moment Opens Follows NextGoes view i w
+
+-- the same at a cell, of which nobody had the turn, and which had these contents
+pub record SawCell (s : Seat Known) (i w : ℕ) (c : Known) : Type 0 where
+  pub saw : SawAt s i w
+  pub free : w % 2 ≡ 0
+  pub contents : ContentsAre Opens Follows saw.view.image i (by_site i saw.moment.history) (Some c)
+
+-- Why the site refuses the step: a word was got there that is that of a state which refuses it, a cell's with its contents; or a word of the scheduler that counts
+-- no ready thread, without which it refuses the step.
+pub data SawShut (s t : Seat Known) (e : FineStep) : Type 0 where
+  word_refused : (z : SiteState) (w : ℕ) → site_number e.site < 168 → Got s t (site_number e.site) w → SawAt s (site_number e.site) w → unpacked e.site w ≡ word_of z → Refuses z e → SawShut s t e
+  cell_refused : (n w : ℕ) (c : Known) → 168 ≤ site_number e.site → Got s t (site_number e.site) w → SawCell s (site_number e.site) w c → cell_of w ≡ cell_word c.cell n → Refuses (SiteState.cell n c.cell) e → SawShut s t e
+  none_ready : (w : ℕ) → e.site ≡ Site.scheduler → Got s t (site_number e.site) w → SawAt s (site_number e.site) w → (cell_of w).ready ≡ 0
+      → ((z : Scheduler) → z.ready ≡ [] → sched_takes z e.act ≡ false) → SawShut s t e
+
+-- Others were at the site i: another seat had the turn of the cell, or another word stood there than the one by which the step was to be made.
+pub data OthersAt (s t : Seat Known) (i : ℕ) : Type 0 where
+  out : (w : ℕ) → 168 ≤ i → Got s t i w → w % 2 ≡ 1 → OthersAt s t i
+  moved : (w z : ℕ) → Got s t i w → Got s t i z → z ≢ w → OthersAt s t i
+
+-- Why no step was made at the site i: others were there; the log has as many as there is room for; the word that stood there can't be read; or it doesn't count
+-- what the cell's contents count, or has counted as many steps as it can. All but the first never come to a processor of a described image.
+pub data Hinders (room : ℕ) (log : List Logged) (s t : Seat Known) (i : ℕ) : Type 0 where
+  others : OthersAt s t i → Hinders room log s t i
+  full : (w : ℕ) → SawAt s i w → room ≤ length log → Hinders room log s t i
+  no_thread : (n w : ℕ) → n < 32 → i ≡ 128 + n → SawAt s i w → thread_of w ≡ None → Hinders room log s t i
+  no_domain : (d w : ℕ) → d < 8 → i ≡ 160 + d → SawAt s i w → domain_of w ≡ None → Hinders room log s t i
+  worn : (w : ℕ) (c : Known) → 168 ≤ i → SawCell s i w c → ((n : ℕ) → n < 268435455 → cell_of w ≢ cell_word c.cell n) → Hinders room log s t i

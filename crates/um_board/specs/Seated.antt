@@ -32,13 +32,14 @@ pub record IsSeated (image : Image) (board : TableId) (cells : Cells Known) (sea
   pub idle : seat.token.me.0.turn ≡ None
   pub empty : seat.token.me.1 ≡ []
 
--- The seat keeps its place, its counts, its name and the seats that it has split off and taken in.
+-- The seat keeps its place, its counts, what the board is of, its name and the seats that it has split off and taken in.
 pub record KeepsPlace (s t : Seat Known) : Type 0 where
   pub board : t.token.table_id ≡ s.token.table_id
   pub place : t.token.id ≡ s.token.id
   pub split : t.split ≡ s.split
   pub joined : t.joined ≡ s.joined
   pub first : t.first ≡ s.first
+  pub image : t.token.me.0.image ≡ s.token.me.0.image
   pub opening : t.token.me.0.opening ≡ s.token.me.0.opening
   pub name : t.token.me.0.name ≡ s.token.me.0.name
   pub splits : t.token.me.0.splits ≡ s.token.me.0.splits

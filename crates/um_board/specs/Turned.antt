@@ -2,6 +2,7 @@
 use Rattle.std.specs.Prelude.{◌≡◌, ℕ, ◌<◌, ◌≤◌, List, [], None}
 use Rattle.atomic_table.specs.Seated.{TableId}
 use Rattle.atomic_table.specs.Table.{rest}
+use Rattle.um_base.specs.Weight.{weight}
 use Rattle.um_base.specs.declared.image.Image.{Image}
 use Rattle.um_machine.specs.Memory.{rodata_of}
 use Rattle.um_words.specs.declared.kind.CellKind.{CellKind}
@@ -15,10 +16,11 @@ use Rattle.um_cell.specs.Contents.{KnowsFilled}
 use Rattle.um_board.specs.Contents.{Follows, Known, Opens}
 use Rattle.um_board.specs.Seated.{CELLS, FIRST_CELL, IsSeated, WORDS}
 
--- The seat is at this board of the image, whose read-only data these are.
-pub record IsPlaced (image : Image) (board : TableId) (cells : Cells Known) (rodata : List ℕ) (seat : Seat Known) : Type 0 where
+-- The seat is at this board of the image, whose read-only data these are; the log of its processor has room for more steps than a fine run can have.
+pub record IsPlaced (image : Image) (board : TableId) (cells : Cells Known) (rodata : List ℕ) (seat : Seat Known) (most : ℕ) : Type 0 where
   pub seated : IsSeated image board cells seat
   pub rodata_is : rodata ≡ rodata_of image
+  pub enough : weight image < most
 
 abbrev pub kind_of : Cell → CellKind
 kind_of (Cell.object o) = CellKind.Object
@@ -29,7 +31,7 @@ kind_of (Cell.scheduler s) = CellKind.Scheduler
 
 -- The same, but the seat has the turn of the cell at this site: its contents are of the site's kind, its word says how many steps the cell
 -- has taken and what its contents count, and it can take one more.
-pub record InTurn (image : Image) (board : TableId) (cells : Cells Known) (rodata : List ℕ) (seat : Seat Known) (site word number : ℕ) (c : Known) : Type 0 where
+pub record InTurn (image : Image) (board : TableId) (cells : Cells Known) (rodata : List ℕ) (seat : Seat Known) (most site word number : ℕ) (c : Known) : Type 0 where
   pub here : seat.token.table_id ≡ board
   pub words : board.words ≡ WORDS
   pub first : cells.first ≡ FIRST_CELL
@@ -37,6 +39,7 @@ pub record InTurn (image : Image) (board : TableId) (cells : Cells Known) (rodat
   pub filled : KnowsFilled cells seat.token.me.0
   pub image_is : seat.token.me.0.image ≡ image
   pub rodata_is : rodata ≡ rodata_of image
+  pub enough : weight image < most
   pub low : FIRST_CELL ≤ site
   pub high : site < WORDS
   pub turn : HasTurn Opens Follows seat.token.me site word None c

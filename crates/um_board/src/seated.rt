@@ -13,7 +13,7 @@ ghost use Rattle.um_processor.specs.Asked.{Takes, event_of};
 ghost use Rattle.um_board.specs.NextSteps.{IsNext};
 ghost use Rattle.um_board.specs.Noted.{made_of, number_of, packed};
 ghost use Rattle.um_board.specs.ReadBack.{IsReadBack};
-ghost use Rattle.um_board.specs.Saw.{GotSince, Hinders};
+ghost use Rattle.um_board.specs.Saw.{Got, Hinders, SawAt, SawCell};
 ghost use Rattle.um_board.specs.Seated.{IsSeated, Noted, Unnoted};
 ghost use Rattle.um_board.specs.Turned.{InTurn, IsPlaced};
 
@@ -59,7 +59,8 @@ pub struct Turn {
 /// One more step behind the others. It takes no memory.
 fn note(log: &mut Vec<Logged>, cpu: u8, site: u16, number: u32, event: &Option<Event>)
     requires { length log.old.items < vec_capacity log.old }
-    ensures { log.new.items ≡ log.old.items ++ record { cpu = cpu; site = site; number = number; event = event.now } ∷ [] }
+    ensures room { vec_capacity log.new ≡ vec_capacity log.old }
+    ensures noted { log.new.items ≡ log.old.items ++ record { cpu = cpu; site = site; number = number; event = event.now } ∷ [] }
 {
     let event = match event {
         None => None,
@@ -125,13 +126,14 @@ impl<'a> Seated<'a> {
 
     /// The word of a site, as it stands.
     pub(crate) fn look(&mut self, image: &Image, site: u16) -> u64
-        requires image { IsPlaced image.now self.old.board.now.table.shared.table_id self.old.cells.now self.old.rodata.now self.old.seat }
+        requires image { IsPlaced image.now self.old.board.now.table.shared.table_id self.old.cells.now self.old.rodata.now self.old.seat (vec_capacity self.old.log) }
         requires site { site < 307 }
-        ensures image { IsPlaced image.now self.new.board.now.table.shared.table_id self.new.cells.now self.new.rodata.now self.new.seat }
+        ensures image { IsPlaced image.now self.new.board.now.table.shared.table_id self.new.cells.now self.new.rodata.now self.new.seat (vec_capacity self.new.log) }
         ensures unnoted { Unnoted self.old.seat self.old.log.items self.new.seat self.new.log.items }
         ensures got { self.new.seat.token.me.0.got ≡ (site, result) ∷ self.old.seat.token.me.0.got }
         ensures last { last_got self.new.seat.token.me.0.got site ≡ Some result }
         ensures newest { NoOlder self.old.seat.token.me.0.got site result }
+        ensures saw { SawAt self.old.seat site result }
         ensures log { self.new.log ≡ self.old.log }
     {
         self.board.look(&mut self.seat, site)
@@ -139,11 +141,12 @@ impl<'a> Seated<'a> {
 
     /// The word of the scheduler's cell, as it stands: no older than any that the seat has got or left there.
     pub fn look_scheduler(&mut self, image: &Image) -> u64
-        requires image { IsPlaced image.now self.old.board.now.table.shared.table_id self.old.cells.now self.old.rodata.now self.old.seat }
-        ensures image { IsPlaced image.now self.new.board.now.table.shared.table_id self.new.cells.now self.new.rodata.now self.new.seat }
+        requires image { IsPlaced image.now self.old.board.now.table.shared.table_id self.old.cells.now self.old.rodata.now self.old.seat (vec_capacity self.old.log) }
+        ensures image { IsPlaced image.now self.new.board.now.table.shared.table_id self.new.cells.now self.new.rodata.now self.new.seat (vec_capacity self.new.log) }
         ensures unnoted { Unnoted self.old.seat self.old.log.items self.new.seat self.new.log.items }
         ensures got { self.new.seat.token.me.0.got ≡ (306, result) ∷ self.old.seat.token.me.0.got }
         ensures newest { NoOlder self.old.seat.token.me.0.got 306 result }
+        ensures saw { SawAt self.old.seat 306 result }
         ensures log { self.new.log ≡ self.old.log }
     {
         self.look(image, SCHEDULER)
@@ -163,7 +166,7 @@ impl<'a> Seated<'a> {
         event: &Option<Event>,
         about: &A,
     ) -> bool
-        requires image { IsPlaced image.now self.old.board.now.table.shared.table_id self.old.cells.now self.old.rodata.now self.old.seat }
+        requires image { IsPlaced image.now self.old.board.now.table.shared.table_id self.old.cells.now self.old.rodata.now self.old.seat (vec_capacity self.old.log) }
         requires site { site < 168 }
         requires room { length self.old.log.items < vec_capacity self.old.log }
         requires seen { last_got self.old.seat.token.me.0.got site ≡ Some seen }
@@ -174,7 +177,7 @@ impl<'a> Seated<'a> {
         requires event { event.now ≡ event_of D.step.act }
         requires lawful { WordMay site seen D.step.act next }
         requires goes { IsNext image.now self.old.seat.token.me.0.name self.old.seat.token.me.0.made D.step }
-        ensures image { IsPlaced image.now self.new.board.now.table.shared.table_id self.new.cells.now self.new.rodata.now self.new.seat }
+        ensures image { IsPlaced image.now self.new.board.now.table.shared.table_id self.new.cells.now self.new.rodata.now self.new.seat (vec_capacity self.new.log) }
         ensures made { result ≡ true → Noted self.old.seat self.old.log.items D.step self.new.seat self.new.log.items }
         ensures changed { result ≡ false → Unnoted self.old.seat self.old.log.items self.new.seat self.new.log.items }
         ensures moved { result ≡ false → (z : ℕ) × (z ≢ seen) × (self.new.seat.token.me.0.got ≡ (site, z) ∷ self.old.seat.token.me.0.got) }
@@ -195,23 +198,24 @@ impl<'a> Seated<'a> {
 
     /// The turn of a cell with its contents, where no other seat has it, and the cell can take a step that the log has room for.
     pub(crate) fn turn(&mut self, image: &Image, site: u16) -> Option<Turn>
-        requires image { IsPlaced image.now self.old.board.now.table.shared.table_id self.old.cells.now self.old.rodata.now self.old.seat }
+        requires image { IsPlaced image.now self.old.board.now.table.shared.table_id self.old.cells.now self.old.rodata.now self.old.seat (vec_capacity self.old.log) }
         requires site { (168 ≤ site) × (site < 307) }
         ensures unnoted { Unnoted self.old.seat self.old.log.items self.new.seat self.new.log.items }
         ensures turn { MatchOption result
-            (IsPlaced image.now self.new.board.now.table.shared.table_id self.new.cells.now self.new.rodata.now self.new.seat)
-            (λ t. (t.contents ≡ t.before.value) × InTurn image.now self.new.board.now.table.shared.table_id self.new.cells.now self.new.rodata.now self.new.seat site t.word t.number t.before.value × (length self.new.log.items < vec_capacity self.new.log)) }
+            (IsPlaced image.now self.new.board.now.table.shared.table_id self.new.cells.now self.new.rodata.now self.new.seat (vec_capacity self.new.log))
+            (λ t. (t.contents ≡ t.before.value) × InTurn image.now self.new.board.now.table.shared.table_id self.new.cells.now self.new.rodata.now self.new.seat (vec_capacity self.new.log) site t.word t.number t.before.value × (length self.new.log.items < vec_capacity self.new.log)) }
         ensures saw { MatchOption result
-            (Hinders (vec_capacity self.old.log) self.old.log.items self.old.seat.token.me.0.got self.new.seat.token.me.0.got site)
-            (λ t. GotSince self.old.seat.token.me.0.got self.new.seat.token.me.0.got site t.word) }
+            (Hinders (vec_capacity self.old.log) self.old.log.items self.old.seat self.new.seat site)
+            (λ t. Got self.old.seat self.new.seat site t.word × SawCell self.old.seat site t.word t.before.value) }
     {
-        if self.is_full() {
-            return None;
-        }
         let held = match self.cells.take(self.board, &mut self.seat, site) {
             Err(_) => return None,
             Ok(held) => held,
         };
+        if self.is_full() {
+            self.cells.put_quiet(self.board, &mut self.seat, held);
+            return None;
+        }
         let (ready, running) = held.contents.counts();
         match steps_of(held.word, ready, running) {
             None => {
@@ -239,8 +243,8 @@ impl<'a> Seated<'a> {
         number: u32,
         contents: Contents,
     )
-        requires turn { InTurn image.now self.old.board.now.table.shared.table_id self.old.cells.now self.old.rodata.now self.old.seat site word number contents }
-        ensures image { IsPlaced image.now self.new.board.now.table.shared.table_id self.new.cells.now self.new.rodata.now self.new.seat }
+        requires turn { InTurn image.now self.old.board.now.table.shared.table_id self.old.cells.now self.old.rodata.now self.old.seat (vec_capacity self.old.log) site word number contents }
+        ensures image { IsPlaced image.now self.new.board.now.table.shared.table_id self.new.cells.now self.new.rodata.now self.new.seat (vec_capacity self.new.log) }
         ensures unnoted { Unnoted self.old.seat self.old.log.items self.new.seat self.new.log.items }
     {
         let _ = image;
@@ -269,7 +273,7 @@ impl<'a> Seated<'a> {
         event: &Option<Event>,
         about: &A,
     )
-        requires turn { InTurn image.now self.old.board.now.table.shared.table_id self.old.cells.now self.old.rodata.now self.old.seat site word number before.now.value }
+        requires turn { InTurn image.now self.old.board.now.table.shared.table_id self.old.cells.now self.old.rodata.now self.old.seat (vec_capacity self.old.log) site word number before.now.value }
         requires room { length self.old.log.items < vec_capacity self.old.log }
         requires takes { Takes image.now (SiteState.cell number before.now.value.cell) D.step (SiteState.cell (number + 1) contents.cell) }
         requires of { contents.image ≡ image.now }
@@ -278,7 +282,7 @@ impl<'a> Seated<'a> {
         requires cpu { D.step.cpu ≡ cpu }
         requires event { event.now ≡ event_of D.step.act }
         requires goes { IsNext image.now self.old.seat.token.me.0.name self.old.seat.token.me.0.made D.step }
-        ensures image { IsPlaced image.now self.new.board.now.table.shared.table_id self.new.cells.now self.new.rodata.now self.new.seat }
+        ensures image { IsPlaced image.now self.new.board.now.table.shared.table_id self.new.cells.now self.new.rodata.now self.new.seat (vec_capacity self.new.log) }
         ensures made { Noted self.old.seat self.old.log.items D.step self.new.seat self.new.log.items }
     {
         let _ = image;

@@ -38,7 +38,7 @@ impl Sites for Seated<'_> {
     ghost use Rattle.um_board.specs.Seated.{Noted, Unnoted};
     ghost use Rattle.um_board.specs.Turned.{IsPlaced};
 
-    ghost IsOf = { λ image s. IsPlaced image s.board.now.table.shared.table_id s.cells.now s.rodata.now s.seat };
+    ghost IsOf = { λ image s. IsPlaced image s.board.now.table.shared.table_id s.cells.now s.rodata.now s.seat (vec_capacity s.log) };
 
     ghost Took = { λ image old e new. Noted old.seat old.log.items e new.seat new.log.items };
 
@@ -46,16 +46,16 @@ impl Sites for Seated<'_> {
 
     ghost May = { λ image s e. IsNext image s.seat.token.me.0.name s.seat.token.me.0.made e };
 
-    ghost Shut = { λ image old e new. SawShut old.seat.token.me.0.got new.seat.token.me.0.got e };
+    ghost Shut = { λ image old e new. SawShut old.seat new.seat e };
 
-    ghost Contended = { λ image old site new. Hinders (vec_capacity old.log) old.log.items old.seat.token.me.0.got new.seat.token.me.0.got (site_number site) };
+    ghost Contended = { λ image old site new. Hinders (vec_capacity old.log) old.log.items old.seat new.seat (site_number site) };
 
     fn row(&mut self, image: &Image, cpu: u8, row: Row, act: &RowAct) -> Said<RowSaid> {
+        let site = row.0 as u16;
+        let seen = self.look(image, site);
         if self.is_full() {
             return Said::Changed;
         }
-        let site = row.0 as u16;
-        let seen = self.look(image, site);
         let word = RowWord::read(seen);
         let (next, said) = match act.make(&word) {
             None => return Said::Busy,
@@ -75,11 +75,11 @@ impl Sites for Seated<'_> {
         thread: ThreadIx,
         act: &ThreadAct,
     ) -> Said<ThreadWord> {
+        let site = THREADS_FROM + thread.0 as u16;
+        let seen = self.look(image, site);
         if self.is_full() {
             return Said::Changed;
         }
-        let site = THREADS_FROM + thread.0 as u16;
-        let seen = self.look(image, site);
         let word = match ThreadWord::unpack(seen) {
             None => return Said::Changed,
             Some(word) => word,
@@ -105,11 +105,11 @@ impl Sites for Seated<'_> {
     }
 
     fn domain(&mut self, image: &Image, cpu: u8, domain: u8, act: &DomainAct) -> Said<DomWord> {
+        let site = DOMAINS_FROM + domain as u16;
+        let seen = self.look(image, site);
         if self.is_full() {
             return Said::Changed;
         }
-        let site = DOMAINS_FROM + domain as u16;
-        let seen = self.look(image, site);
         let word = match DomWord::unpack(seen) {
             None => return Said::Changed,
             Some(word) => word,

@@ -1,12 +1,11 @@
 -- How a processor goes on at its seat.
-use Rattle.std.proofs.Common.{◌≡◌, ℕ, ◌<◌, List, [], ◌∷◌, ◌++◌, map, refl, sym, ap, ◌∙◌, subst, arith}
-use Rattle.std.proofs.lemmas.List.{append-nil}
+use Rattle.std.proofs.Common.{◌≡◌, ℕ, ◌<◌, List, [], ◌∷◌, ◌++◌, length, map, refl, sym, ap, ◌∙◌, subst, arith}
+use Rattle.std.proofs.lemmas.List.{append-nil, length-map}
 use Rattle.um_base.specs.declared.image.Image.{Image}
 use Rattle.um_words.specs.declared.made.Made.{Made}
 use Rattle.um_fine.specs.Follows.{p_next}
 use Rattle.um_fine.specs.Processor.{Processor, idle}
 use Rattle.um_fine.specs.Runs.{ends}
-use Rattle.um_fine.specs.Sites.{site_number}
 use Rattle.um_fine.specs.Steps.{FineStep, Site}
 use Rattle.um_merge.specs.declared.logged.Logged.{Logged}
 use Rattle.um_processor.specs.Processors.{AsksFor, Goes, MayNext, Turned, UnlessMade}
@@ -15,49 +14,17 @@ use Rattle.um_site.specs.declared.seat.Seat.{Seat}
 use Rattle.um_board.specs.Contents.{Known}
 use Rattle.um_board.specs.NextSteps.{IsNext, stands_at}
 use Rattle.um_board.specs.Noted.{logged_of, made_of}
+use Rattle.um_board.specs.Opening.{AreOpening}
 use Rattle.um_board.specs.ReadBack.{IsReadBack, fine_at}
-use Rattle.um_board.specs.Saw.{Hinders, SawShut}
 use Rattle.um_board.specs.Seated.{KeepsPlace, Noted, Unnoted}
 use Rattle.um_board.specs.declared.seated.Seated.{Seated}
-use Rattle.um_board.proofs.NextRuns.{read-back}
+use Rattle.um_board.proofs.Keeping.{unnoted-same}
 use Rattle.um_history.specs.Played.{Each, SCHEDULER, SawNone}
+use Rattle.um_history.proofs.Entries.{listed}
 use Rattle.um_history.proofs.Granted.{own-steps-of}
 use Rattle.um_history.proofs.Lists.{each-both}
 use Rattle.um_history.proofs.Playing.{Playing, ends-on, plays-looked, plays-none, plays-on, saw-none}
-use Rattle.um_cpu.specs.Cpus.{Advances, HasAsked, HasMade, Plays, Reaches, Rests, Stands}
-
--- a seat that keeps its place twice keeps it
-pub keeps_on : (s t u : Seat Known) → KeepsPlace s t → KeepsPlace t u → KeepsPlace s u
-keeps_on s t u a b =
-    record {
-      board = b.board ∙ a.board;
-      place = b.place ∙ a.place;
-      split = b.split ∙ a.split;
-      joined = b.joined ∙ a.joined;
-      first = b.first ∙ a.first;
-      opening = b.opening ∙ a.opening;
-      name = b.name ∙ a.name;
-      splits = b.splits ∙ a.splits;
-      children = b.children ∙ a.children;
-      lists = b.lists ∙ a.lists;
-      filled = b.filled ∙ a.filled;
-    }
-
-pub keeps_itself : (s : Seat Known) → KeepsPlace s s
-keeps_itself s =
-    record {
-      board = refl;
-      place = refl;
-      split = refl;
-      joined = refl;
-      first = refl;
-      opening = refl;
-      name = refl;
-      splits = refl;
-      children = refl;
-      lists = refl;
-      filled = refl;
-    }
+use Rattle.um_cpu.specs.Cpus.{Advances, HasMade, Plays, Reaches, Rests, Stands}
 
 module _ (image : Image) (k : ℕ) where
   -- the same in the words of a processor that plays
@@ -121,17 +88,6 @@ module _ (image : Image) (k : ℕ) where
   turned-keeps Turn.Changed p q s old t new shut late none unnoted turned = turned.0.keeps
   turned-keeps Turn.Stuck p q s old t new shut late none unnoted turned = (unnoted turned.0).keeps
 
-  -- what its asking came to
-  pub asked-of : (turn : Turn) (p q : Processor) (s : Seat Known) (room : ℕ) (old : List Logged) (t : Seat Known) (new : List Logged) (none : Type 0) → (none → Unnoted s old t new)
-      → Turned turn k image p q (λ e. Noted s old e t new) (λ e. Unnoted s old t new × SawShut s.token.me.0.got t.token.me.0.got e)
-      (λ site. Unnoted s old t new × Hinders room old s.token.me.0.got t.token.me.0.got (site_number site))
-      none
-      → HasAsked image k p q s room old t new
-  asked-of Turn.Made p q s room old t new none unnoted turned = record { turn = Turn.Made; turned = turned }
-  asked-of Turn.Busy p q s room old t new none unnoted turned = record { turn = Turn.Busy; turned = turned }
-  asked-of Turn.Changed p q s room old t new none unnoted turned = record { turn = Turn.Changed; turned = turned }
-  asked-of Turn.Stuck p q s room old t new none unnoted turned = record { turn = Turn.Stuck; turned = (unnoted turned.0, turned.1) }
-
   -- a processor without a thread that sees none ready
   pub rests-saw : (p q : Processor) (s : Seat Known) (old : List Logged) (t : Seat Known) (new : List Logged) (word : ℕ) (steps : List FineStep)
       → HasMade image k p s old steps → Rests p q s old t new word → SawNone image t.token.me.0.got steps
@@ -165,36 +121,42 @@ module _ (image : Image) (k : ℕ) where
       let was = reaches steps made in
       (was.0, rests-on q x t between u new word was.0 was.1 rests, rests-saw q x t between u new word was.0 was.1 rests)
 
--- no step and no look
-unnoted-itself : (s : Seat Known) (log : List Logged) → Unnoted s log s log
-unnoted-itself s log = record { keeps = keeps_itself s; made = refl; log = refl; got = ([], refl) }
-
 pub unnoted-there : (s t : Seated) → t ≡ s → Unnoted s.seat s.log.items t.seat t.log.items
-unnoted-there s t same = subst (λ (x : Seated). Unnoted s.seat s.log.items x.seat x.log.items) (sym same) (unnoted-itself s.seat s.log.items)
+unnoted-there s t same = subst (λ (x : Seated). Unnoted s.seat s.log.items x.seat x.log.items) (sym same) (unnoted-same s.seat s.log.items)
 
 -- The processor of a seat that has made some steps asks for the next one, which the board's rule lets it make.
 
-listed : (k : ℕ) (made : List Made) (steps : List FineStep) → made ≡ map made_of steps → Each (λ (e : FineStep). (e.cpu ≡ k) × IsReadBack e) steps → map (fine_at k) made ≡ steps
-listed k made steps is each = ap (map (fine_at k)) is ∙ back steps each
-  where
-    back : (l : List FineStep) → Each (λ (e : FineStep). (e.cpu ≡ k) × IsReadBack e) l → map (fine_at k) (map made_of l) ≡ l
-    back [] all = refl
-    back (e ∷ l) all = λ i. read-back k e all.0.0 all.0.1 i ∷ back l all.1 i
-
 module _ (image : Image) (k : ℕ) where
-  pub stands-next : (p : Processor) (s : Seat Known) (log : List Logged) → Stands image k p s log → MayNext k image p (IsNext image s.token.me.0.name s.token.me.0.made)
-  stands-next p s log stands e asks =
+  -- it stands where the steps of its list lead
+  pub stands-there : (p : Processor) (s : Seat Known) (log : List Logged) → Stands image k p s log → p ≡ stands_at image k s.token.me.0.made
+  stands-there p s log stands =
       let made = stands.made in
       let steps = stands.steps in
       let own = each-both (λ (e : FineStep). e.cpu ≡ k) IsReadBack steps (own-steps-of image k idle steps made.played.run) made.played.whole in
-      let there : p ≡ stands_at image k s.token.me.0.made = made.stands ∙ ap (ends (p_next image) idle) (sym (listed k s.token.me.0.made steps made.played.made_is own)) in
-      record { k = k; few = stands.few; named = stands.named; asks = subst (λ (x : Processor). AsksFor k image x e) there asks }
+      made.stands ∙ ap (ends (p_next image) idle) (sym (ap (map (fine_at k)) made.played.made_is ∙ listed k steps own))
+
+  pub stands-next : (p : Processor) (s : Seat Known) (log : List Logged) → Stands image k p s log → MayNext k image p (IsNext image s.token.me.0.name s.token.me.0.made)
+  stands-next p s log stands e asks =
+      record { k = k; few = stands.few; named = stands.named; asks = subst (λ (x : Processor). AsksFor k image x e) (stands-there p s log stands) asks }
+
+  -- its log has a note for each step of its list
+  pub noted-all : (p : Processor) (s : Seat Known) (log : List Logged) → Stands image k p s log → length log ≡ length s.token.me.0.made
+  noted-all p s log stands =
+      let played = stands.made.played in
+      let steps = stands.steps in
+      ap length played.log_is ∙ length-map steps logged_of ∙ sym (ap length played.made_is ∙ length-map steps made_of)
 
   pub stands-on : (p q : Processor) (s : Seat Known) (old : List Logged) (t : Seat Known) (new : List Logged) → Stands image k p s old → KeepsPlace s t → Advances image k p s old q t new
       → Stands image k q t new
   stands-on p q s old t new stands keeps goes =
       let on = goes stands.steps stands.made in
-      record { few = stands.few; named = keeps.name ∙ stands.named; steps = stands.steps ++ on.more; made = on.made }
+      record {
+        few = stands.few;
+        named = keeps.name ∙ stands.named;
+        opening = subst (AreOpening image) (sym keeps.opening) stands.opening;
+        steps = stands.steps ++ on.more;
+        made = on.made;
+      }
 
-  pub stands-first : (p : Processor) (s : Seat Known) (log : List Logged) → k < 8 → s.token.me.0.name ≡ k ∷ [] → p ≡ idle → s.token.me.0.made ≡ [] → log ≡ [] → Stands image k p s log
-  stands-first p s log few named fresh none empty = record { few = few; named = named; steps = []; made = has-none image k p s log fresh none empty }
+  pub stands-first : (p : Processor) (s : Seat Known) (log : List Logged) → k < 8 → s.token.me.0.name ≡ k ∷ [] → AreOpening image s.token.me.0.opening → p ≡ idle → s.token.me.0.made ≡ [] → log ≡ [] → Stands image k p s log
+  stands-first p s log few named opening fresh none empty = record { few = few; named = named; opening = opening; steps = []; made = has-none image k p s log fresh none empty }

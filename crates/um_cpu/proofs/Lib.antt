@@ -1,4 +1,5 @@
 pub mod Advances
+pub mod Asks
 pub mod Crosses
 pub mod Gathers
 pub mod Shows

@@ -1,9 +1,10 @@
 -- A processor's seat when it is split off, and behind its last turn.
 use Rattle.std.proofs.Common.{◌≡◌, ℕ, ◌+◌, ◌<◌, List, [], ◌∷◌, ◌++◌, length, length-append, inl, inr, refl, sym, ap, ◌∙◌, subst, arith}
-use Rattle.std.specs.Prelude.{reverse}
+use Rattle.std.specs.Prelude.{reverse, vec_capacity}
 use Rattle.std.proofs.lemmas.Bool.Decides.{leb_tells}
 use Rattle.std.proofs.lemmas.List.{get_or_append_left, get_or_at, reverse-append}
 use Rattle.atomic_table.specs.Seated.{TableId}
+use Rattle.um_base.specs.Weight.{weight}
 use Rattle.um_base.specs.declared.image.Image.{Image}
 use Rattle.um_machine.specs.Memory.{rodata_of}
 use Rattle.um_fine.specs.Processor.{idle}
@@ -25,10 +26,10 @@ use Rattle.um_cpu.specs.declared.cpu.Cpu.{Cpu}
 use Rattle.um_cpu.proofs.Advances.{has-none}
 use Rattle.um_cpu.proofs.Gathers.{child-name, gathers, gathers-more}
 
-placed-same : (image : Image) (b b2 : TableId) (c c2 : Cells Known) (r r2 : List ℕ) (s s2 : Seat Known) → b2 ≡ b → c2 ≡ c → r2 ≡ r → s2 ≡ s → IsPlaced image b c r s → IsPlaced image b2 c2 r2 s2
-placed-same image b b2 c c2 r r2 s s2 p q m n it =
-    subst (λ (x : TableId). IsPlaced image x c2 r2 s2) (sym p) (subst (λ (x : Cells Known). IsPlaced image b x r2 s2) (sym q)
-    (subst (λ (x : List ℕ). IsPlaced image b c x s2) (sym m) (subst (λ (x : Seat Known). IsPlaced image b c r x) (sym n) it)))
+placed-same : (image : Image) (b b2 : TableId) (c c2 : Cells Known) (r r2 : List ℕ) (s s2 : Seat Known) (most : ℕ) → b2 ≡ b → c2 ≡ c → r2 ≡ r → s2 ≡ s → IsPlaced image b c r s most → IsPlaced image b2 c2 r2 s2 most
+placed-same image b b2 c c2 r r2 s s2 most p q m n it =
+    subst (λ (x : TableId). IsPlaced image x c2 r2 s2 most) (sym p) (subst (λ (x : Cells Known). IsPlaced image b x r2 s2 most) (sym q)
+    (subst (λ (x : List ℕ). IsPlaced image b c x s2 most) (sym m) (subst (λ (x : Seat Known). IsPlaced image b c r x most) (sym n) it)))
 
 -- the first seat behind a split
 pub split-seated : (image : Image) (board : TableId) (cells : Cells Known) (s t : Seat Known) → t.token.table_id ≡ s.token.table_id → t.token.me.0 ≡ splitter s.token.me.0 → t.token.me.1 ≡ s.token.me.1
@@ -62,13 +63,13 @@ module _ (image : Image) (board : TableId) (cells : Cells Known) (s own : Seat K
       }
 
   pub begins-there : (c : Cpu) (rodata : List ℕ) → n < 8 → c.number ≡ n → c.place.board.now.table.shared.table_id ≡ board → c.place.cells.now ≡ cells → c.place.rodata.now ≡ rodata → rodata ≡ rodata_of image
-      → c.place.seat ≡ own → c.place.log.items ≡ [] → whole c.processor ≡ idle → own.split ≡ 0 → own.joined ≡ 0 → Begins image board n c
-  begins-there c rodata few number at-board at-cells is-rodata rodata-is is-own log fresh split joined =
+      → c.place.seat ≡ own → c.place.log.items ≡ [] → whole c.processor ≡ idle → own.split ≡ 0 → own.joined ≡ 0 → weight image < vec_capacity c.place.log → Begins image board n c
+  begins-there c rodata few number at-board at-cells is-rodata rodata-is is-own log fresh split joined enough =
       record {
         sits = record {
           number = number;
-          place = placed-same image board c.place.board.now.table.shared.table_id cells c.place.cells.now rodata c.place.rodata.now own c.place.seat at-board at-cells is-rodata is-own
-              (record { seated = born-seated; rodata_is = rodata-is });
+          place = placed-same image board c.place.board.now.table.shared.table_id cells c.place.cells.now rodata c.place.rodata.now own c.place.seat (vec_capacity c.place.log) at-board at-cells is-rodata is-own
+              (record { seated = born-seated; rodata_is = rodata-is; enough = enough });
           here = ap (λ (x : Seat Known). x.token.table_id) is-own ∙ (here ∙ seated.here);
           name = ap (λ (x : Seat Known). x.token.me.0.name) is-own ∙ (ap (λ (v : View). v.name) born ∙ child-name image s.token.me.0 n gathered);
           split = ap (λ (x : Seat Known). x.split) is-own ∙ split;
@@ -77,6 +78,7 @@ module _ (image : Image) (board : TableId) (cells : Cells Known) (s own : Seat K
           lists = ap (λ (x : Seat Known). x.token.me.0.joined) is-own ∙ ap (λ (v : View). v.joined) born;
         };
         few = few;
+        opening = subst (AreOpening image) (sym (ap (λ (x : Seat Known). x.token.me.0.opening) is-own ∙ ap (λ (v : View). v.opening) born)) gathered.opening;
         idle_is = fresh;
         made = ap (λ (x : Seat Known). x.token.me.0.made) is-own ∙ ap (λ (v : View). v.made) born;
         log = log;
@@ -84,7 +86,7 @@ module _ (image : Image) (board : TableId) (cells : Cells Known) (s own : Seat K
 
 -- a processor behind its last turn
 pub ends-there : (image : Image) (board : TableId) (k : ℕ) (c d : Cpu) → Begins image board k c → d.number ≡ c.number
-    → IsPlaced image d.place.board.now.table.shared.table_id d.place.cells.now d.place.rodata.now d.place.seat → KeepsPlace c.place.seat d.place.seat
+    → IsPlaced image d.place.board.now.table.shared.table_id d.place.cells.now d.place.rodata.now d.place.seat (vec_capacity d.place.log) → KeepsPlace c.place.seat d.place.seat
     → Plays image c.number (whole c.processor) c.place.seat c.place.log.items (whole d.processor) d.place.seat d.place.log.items → Ends image board k d
 ends-there image board k c d begins number place keeps plays =
     let all = plays [] (has-none image c.number (whole c.processor) c.place.seat c.place.log.items begins.idle_is begins.made begins.log) in

@@ -2,20 +2,22 @@
 use Rattle.std.specs.Prelude.{◌≡◌, ◌≢◌, ℕ, ◌<◌, ◌≤◌, ◌⊎◌, List, [], ◌∷◌, ◌++◌, length}
 use Rattle.um_base.specs.declared.image.Image.{Image}
 use Rattle.um_words.specs.Packed.{cell_of}
+use Rattle.um_fine.specs.Asks.{next_site}
 use Rattle.um_fine.specs.Follows.{p_next}
 use Rattle.um_fine.specs.Processor.{Processor, idle}
 use Rattle.um_fine.specs.Runs.{ends}
 use Rattle.um_fine.specs.Sites.{site_number}
-use Rattle.um_fine.specs.Steps.{FineStep, Site}
+use Rattle.um_fine.specs.Steps.{FineStep}
 use Rattle.um_merge.specs.declared.logged.Logged.{Logged}
-use Rattle.um_processor.specs.Processors.{Turned}
-use Rattle.um_processor.specs.declared.phase.Turn as Asked
+use Rattle.um_processor.specs.Processors.{AsksFor, Goes}
 use Rattle.um_site.specs.Tells.{NoOlder}
 use Rattle.um_site.specs.declared.seat.Seat.{Seat}
 use Rattle.um_board.specs.Contents.{Known}
 use Rattle.um_board.specs.Noted.{packed}
-use Rattle.um_board.specs.Saw.{Hinders, SawShut, WasGot}
+use Rattle.um_board.specs.Opening.{AreOpening}
+use Rattle.um_board.specs.Saw.{OthersAt, WasGot}
 use Rattle.um_board.specs.Seated.{Noted, Unnoted}
+use Rattle.um_history.specs.Fine.{WasRefused}
 use Rattle.um_history.specs.Played.{Each, Played, SCHEDULER, SawNone}
 use Rattle.um_cpu.specs.declared.turn.Turn.{Turn}
 
@@ -29,10 +31,11 @@ pub record HasMade (image : Image) (k : ℕ) (p : Processor) (seat : Seat Known)
   pub stands : p ≡ ends (p_next image) idle steps
   pub known : Each (IsLeft seat) steps
 
--- The processor k, which is one of eight, has made some steps at the seat of its name.
+-- The processor k, which is one of eight, has made some steps at the seat of its name, on a board that opened as the image's does.
 pub record Stands (image : Image) (k : ℕ) (p : Processor) (seat : Seat Known) (log : List Logged) : Type 0 where
   pub few : k < 8
   pub named : seat.token.me.0.name ≡ k ∷ []
+  pub opening : AreOpening image seat.token.me.0.opening
   pub steps : List FineStep
   pub made : HasMade image k p seat log steps
 
@@ -68,14 +71,12 @@ pub record Rests (p q : Processor) (s : Seat Known) (old : List Logged) (t : Sea
   pub newest : NoOlder s.token.me.0.got SCHEDULER word
   pub none : (cell_of word).ready ≡ 0
 
--- It asked once for its next step. The step was made; or its site refuses it, by a word that the seat got meanwhile; or none was made there, for what
--- the seat saw there or for want of room in the log; or there is no step that it could ask for.
-pub record HasAsked (image : Image) (k : ℕ) (p q : Processor) (s : Seat Known) (room : ℕ) (old : List Logged) (t : Seat Known) (new : List Logged) : Type 0 where
-  pub turn : Asked.Turn
-  pub turned : Turned turn k image p q (λ (e : FineStep). Noted s old e t new)
-      (λ (e : FineStep). Unnoted s old t new × SawShut s.token.me.0.got t.token.me.0.got e)
-      (λ (site : Site). Unnoted s old t new × Hinders room old s.token.me.0.got t.token.me.0.got (site_number site))
-      (Unnoted s old t new)
+-- What came of asking once for the next step. It was made; or its site refused it, as one fine run had left that site which stood at some moment of the call; or others
+-- were at that site: another seat had its turn, or another word came to stand there.
+pub data HasAsked (image : Image) (k : ℕ) (p q : Processor) (s : Seat Known) (old : List Logged) (t : Seat Known) (new : List Logged) : Type 0 where
+  made : (e : FineStep) → Noted s old e t new → Goes k image p e q → HasAsked image k p q s old t new
+  refused : (e : FineStep) → Unnoted s old t new → q ≡ p → AsksFor k image p e → WasRefused image k s t e → HasAsked image k p q s old t new
+  others : Unnoted s old t new → q ≡ p → OthersAt s t (site_number (next_site image p)) → HasAsked image k p q s old t new
 
 -- The seat has looked at the scheduler's word, by which a thread is ready, and has done nothing else.
 pub record SawReady (s t : Seat Known) : Type 0 where
@@ -85,10 +86,10 @@ pub record SawReady (s t : Seat Known) : Type 0 where
   pub ready : 0 < (cell_of word).ready
 
 -- The processor had a step to go on with, and asked for it; or its seat saw first that a thread is ready, and then it asked for one.
-abbrev pub HadWork : Image → ℕ → Processor → Processor → Seat Known → ℕ → List Logged → Seat Known → List Logged → Type 0
-HadWork image k p q s room old t new =
-    ((p.todo ≢ []) × HasAsked image k p q s room old t new)
-    ⊎ ((seen : Seat Known) × Unnoted s old seen old × SawReady s seen × HasAsked image k p q seen room old t new)
+abbrev pub HadWork : Image → ℕ → Processor → Processor → Seat Known → List Logged → Seat Known → List Logged → Type 0
+HadWork image k p q s old t new =
+    ((p.todo ≢ []) × HasAsked image k p q s old t new)
+    ⊎ ((seen : Seat Known) × Unnoted s old seen old × SawReady s seen × HasAsked image k p q seen old t new)
 
 -- what a turn tells: that there was something to do, for which it asked, or that there was nothing by this word of the scheduler
 abbrev pub Tells : Turn → Type 0 → (ℕ → Type 0) → Type 0

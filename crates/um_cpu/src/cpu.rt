@@ -1,6 +1,8 @@
 //! A processor at its place at a board.
 
 ghost use Rattle.std.specs.Prelude.{◌≡◌, vec_capacity};
+ghost use Rattle.um_reach.specs.Described.{IsDescribed};
+ghost use Rattle.um_erasure.specs.Room.{CanRun};
 ghost use Rattle.um_processor.specs.Given.{IsGiven};
 ghost use Rattle.um_processor.specs.Standing.{whole};
 ghost use Rattle.um_board.specs.Seated.{KeepsPlace};
@@ -10,7 +12,8 @@ ghost use Rattle.um_cpu.specs.Cpus.{Advances, HadWork, HasAsked, Rests, Stands, 
 use crate::turn::Turn;
 use um_base::Image;
 use um_board::Seated;
-use um_processor::Processor;
+use um_fine_bound::longest_fine_run;
+use um_processor::{Processor, Turn as Asked};
 use um_words::CellWord;
 
 /// A processor by its number, at its place at a board.
@@ -22,33 +25,46 @@ pub struct Cpu<'a> {
 }
 
 impl<'a> Cpu<'a> {
-    /// It asks once for its next step, and makes it where it can.
+    /// It asks once for its next step, and makes it where it can. It always has one that it could ask for: where it had none, a look would tell of a fine
+    /// run that leaves it so, and no fine run does.
     fn ask(&mut self, image: &Image)
         requires given { IsGiven image.now }
-        requires place { IsPlaced image.now self.old.place.board.now.table.shared.table_id self.old.place.cells.now self.old.place.rodata.now self.old.place.seat }
+        requires described { IsDescribed image.now }
+        requires can { CanRun image.now 8 }
+        requires place { IsPlaced image.now self.old.place.board.now.table.shared.table_id self.old.place.cells.now self.old.place.rodata.now self.old.place.seat (vec_capacity self.old.place.log) }
         requires stands { Stands image.now self.old.number (whole self.old.processor) self.old.place.seat self.old.place.log.items }
         ensures number { self.new.number ≡ self.old.number }
-        ensures place { IsPlaced image.now self.new.place.board.now.table.shared.table_id self.new.place.cells.now self.new.place.rodata.now self.new.place.seat }
+        ensures place { IsPlaced image.now self.new.place.board.now.table.shared.table_id self.new.place.cells.now self.new.place.rodata.now self.new.place.seat (vec_capacity self.new.place.log) }
         ensures keeps { KeepsPlace self.old.place.seat self.new.place.seat }
         ensures goes { Advances image.now self.old.number (whole self.old.processor) self.old.place.seat self.old.place.log.items (whole self.new.processor) self.new.place.seat self.new.place.log.items }
-        ensures asked { HasAsked image.now self.old.number (whole self.old.processor) (whole self.new.processor) self.old.place.seat (vec_capacity self.old.place.log) self.old.place.log.items self.new.place.seat self.new.place.log.items }
+        ensures asked { HasAsked image.now self.old.number (whole self.old.processor) (whole self.new.processor) self.old.place.seat self.old.place.log.items self.new.place.seat self.new.place.log.items }
         ensures stands { Stands image.now self.new.number (whole self.new.processor) self.new.place.seat self.new.place.log.items }
     {
-        let _ = self.processor.step(image, self.number, &mut self.place);
+        longest_fine_run();
+        match self.processor.step(image, self.number, &mut self.place) {
+            Asked::Made | Asked::Busy | Asked::Changed => {}
+            Asked::Stuck => {
+                self.place.look_scheduler(image);
+                unreachable!()
+            }
+        }
     }
 
-    /// It makes its next step at most, for which it asks once; where that wasn't made, its seat has got the word by which its site refused it, or
-    /// that another was there. Where it has no thread it looks first whether one is ready, and asks for nothing where none is.
+    /// It makes its next step at most, for which it asks once. Where that wasn't made, another seat had the turn of its site, or another word came to
+    /// stand there, or the site refused it as it stood; the seat has got the word that tells so. Where it has no thread it looks first whether one is ready,
+    /// and asks for nothing where none is.
     pub fn step(&mut self, image: &Image) -> Turn
         requires given { IsGiven image.now }
-        requires place { IsPlaced image.now self.old.place.board.now.table.shared.table_id self.old.place.cells.now self.old.place.rodata.now self.old.place.seat }
+        requires described { IsDescribed image.now }
+        requires can { CanRun image.now 8 }
+        requires place { IsPlaced image.now self.old.place.board.now.table.shared.table_id self.old.place.cells.now self.old.place.rodata.now self.old.place.seat (vec_capacity self.old.place.log) }
         requires stands { Stands image.now self.old.number (whole self.old.processor) self.old.place.seat self.old.place.log.items }
         ensures number { self.new.number ≡ self.old.number }
-        ensures place { IsPlaced image.now self.new.place.board.now.table.shared.table_id self.new.place.cells.now self.new.place.rodata.now self.new.place.seat }
+        ensures place { IsPlaced image.now self.new.place.board.now.table.shared.table_id self.new.place.cells.now self.new.place.rodata.now self.new.place.seat (vec_capacity self.new.place.log) }
         ensures keeps { KeepsPlace self.old.place.seat self.new.place.seat }
         ensures goes { Advances image.now self.old.number (whole self.old.processor) self.old.place.seat self.old.place.log.items (whole self.new.processor) self.new.place.seat self.new.place.log.items }
         ensures stands { Stands image.now self.new.number (whole self.new.processor) self.new.place.seat self.new.place.log.items }
-        ensures told { Tells result (HadWork image.now self.old.number (whole self.old.processor) (whole self.new.processor) self.old.place.seat (vec_capacity self.old.place.log) self.old.place.log.items self.new.place.seat self.new.place.log.items)
+        ensures told { Tells result (HadWork image.now self.old.number (whole self.old.processor) (whole self.new.processor) self.old.place.seat self.old.place.log.items self.new.place.seat self.new.place.log.items)
             (Rests (whole self.old.processor) (whole self.new.processor) self.old.place.seat self.old.place.log.items self.new.place.seat self.new.place.log.items) }
     {
         if !self.processor.is_idle() {

@@ -2,6 +2,9 @@
 
 ghost use Rattle.std.specs.Prelude.{◌≡◌, ◌≤◌, ℕ, [], IfOk, length, vec_capacity};
 ghost use Rattle.um_base.specs.Lawful.{IsLawful};
+ghost use Rattle.um_base.specs.Weight.{weight};
+ghost use Rattle.um_reach.specs.Described.{IsDescribed};
+ghost use Rattle.um_erasure.specs.Room.{CanRun};
 ghost use Rattle.um_processor.specs.Given.{IsGiven};
 ghost use Rattle.um_cpu.specs.Ended.{Begins, EachAt, Ends, Gathered, HasEnded};
 
@@ -36,6 +39,8 @@ fn play<R: Wait, G: Gate>(
     gate: &G,
 )
     requires given { IsGiven image.now }
+    requires described { IsDescribed image.now }
+    requires can { CanRun image.now 8 }
     requires begins { Begins image.now board.now.table.shared.table_id number cpu.old }
     ensures { Ends image.now board.now.table.shared.table_id number cpu.new }
 {
@@ -53,6 +58,8 @@ fn run_all<R: Threads + Wait + Sync, G: Gate + Sync>(
     gate: &G,
 )
     requires given { IsGiven image.now }
+    requires described { IsDescribed image.now }
+    requires can { CanRun image.now 8 }
     requires begins { EachAt (Begins image.now board.now.table.shared.table_id) cpus.old }
     ensures ends { EachAt (Ends image.now board.now.table.shared.table_id) cpus.new }
     ensures count { length cpus.new ≡ length cpus.old }
@@ -62,7 +69,7 @@ fn run_all<R: Threads + Wait + Sync, G: Gate + Sync>(
         cpus,
         PROCESSORS,
         &|k, cpu: &mut Cpu<'_>|
-            requires { IsGiven image.now × Begins image.now board.now.table.shared.table_id k cpu.now }
+            requires { IsGiven image.now × IsDescribed image.now × CanRun image.now 8 × Begins image.now board.now.table.shared.table_id k cpu.now }
             ensures { Ends image.entry.now board.entry.now.table.shared.table_id k cpu.exit.now }
         { play(rt, image, board, k, cpu, gate) },
     );
@@ -97,8 +104,8 @@ fn gather(
     logs.reverse();
 }
 
-/// Runs so many processors on a board of the image to their end, each in a thread of its own where one can be made, with room for so many
-/// steps in the log of each. All memory is taken before the first step, but what the board takes where it is closed. A gate can hold each
+/// Runs so many processors on a board of the image to their end, each in a thread of its own where one can be made, with room for more than so
+/// many steps in the log of each, which is no less than the image's weight. All memory is taken before the first step, but what the board takes where it is closed. A gate can hold each
 /// processor before its turns.
 pub fn run_cpus<R: Threads + Wait + Sync, G: Gate + Sync>(
     rt: &R,
@@ -111,8 +118,11 @@ pub fn run_cpus<R: Threads + Wait + Sync, G: Gate + Sync>(
     requires lawful { IsLawful image.now }
     requires some { 1 ≤ cpus }
     requires few { cpus ≤ 8 }
+    requires room { weight image.now ≤ most }
     ensures { IfOk result (λ e. HasEnded image.now cpus e.closed e.logs.items) }
 {
+    let _objects = image.objects.len();
+    let _domains = image.domains.len();
     let bytes = rodata(alloc, image)?;
     let mut logs = Vec::with_capacity(alloc, cpus as usize)?;
     let (board, mut seat, cells) = opening(alloc, image)?;

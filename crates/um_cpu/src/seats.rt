@@ -1,6 +1,7 @@
 //! A seat for each processor.
 
 ghost use Rattle.std.specs.Prelude.{◌≡◌, ◌+◌, ◌<◌, ◌≤◌, [], IfOk, length};
+ghost use Rattle.um_base.specs.Weight.{weight};
 ghost use Rattle.um_machine.specs.Memory.{rodata_of};
 ghost use Rattle.um_board.specs.Opening.{AreOpening, IsFirst};
 ghost use Rattle.um_board.specs.Seated.{IsSeated};
@@ -14,7 +15,7 @@ use um_cell::Cells;
 use um_processor::Processor;
 use um_site::{Board, Seat};
 
-/// A processor without a thread, at a seat that is split off, with room for so many steps in its log.
+/// A processor without a thread, at a seat that is split off, with room for more than so many steps in its log.
 fn seat_of<'a>(
     alloc: Global,
     image: &Image,
@@ -29,12 +30,14 @@ fn seat_of<'a>(
     requires rodata { rodata.now ≡ rodata_of image.now }
     requires gathered { Gathered image.now board.now.table.shared.table_id seat.old number number [] }
     requires few { number < 8 }
+    requires room { weight image.now ≤ most }
+    requires light { weight image.now ≤ 400000 }
     ensures seated { IfOk result (λ cpu. IsSeated image.now board.now.table.shared.table_id cells.now seat.new) }
     ensures gathered { IfOk result (λ cpu. Gathered image.now board.now.table.shared.table_id seat.new (number + 1) (number + 1) []) }
     ensures begins { IfOk result (λ cpu. Begins image.now board.now.table.shared.table_id number cpu) }
 {
     let _ = image;
-    let log = Vec::with_capacity(alloc, most)?;
+    let log = Vec::with_capacity(alloc, most.saturating_add(1))?;
     let processor = Processor::new(alloc)?;
     let own = board.split(seat);
     let place = Seated::new(board, cells, rodata, own, log);
@@ -45,7 +48,7 @@ fn seat_of<'a>(
     })
 }
 
-/// So many processors without a thread, at seats of their own, each with room for so many steps in its log. All memory is taken here.
+/// So many processors without a thread, at seats of their own, each with room for more than so many steps in its log. All memory is taken here.
 pub(crate) fn seats<'a>(
     alloc: Global,
     image: &Image,
@@ -61,6 +64,8 @@ pub(crate) fn seats<'a>(
     requires first { IsFirst seat.old }
     requires opening { AreOpening image.now seat.old.token.me.0.opening }
     requires few { cpus ≤ 8 }
+    requires room { weight image.now ≤ most }
+    requires light { weight image.now ≤ 400000 }
     ensures count { IfOk result (λ all. length all.items ≡ cpus) }
     ensures begins { IfOk result (λ all. EachAt (Begins image.now board.now.table.shared.table_id) all.items) }
     ensures gathered { IfOk result (λ all. Gathered image.now board.now.table.shared.table_id seat.new cpus cpus []) }

@@ -1,6 +1,8 @@
 //! All turns of a processor.
 
-ghost use Rattle.std.specs.Prelude.{◌≡◌};
+ghost use Rattle.std.specs.Prelude.{◌≡◌, vec_capacity};
+ghost use Rattle.um_reach.specs.Described.{IsDescribed};
+ghost use Rattle.um_erasure.specs.Room.{CanRun};
 ghost use Rattle.um_processor.specs.Given.{IsGiven};
 ghost use Rattle.um_processor.specs.Standing.{whole};
 ghost use Rattle.um_board.specs.Seated.{KeepsPlace};
@@ -30,10 +32,12 @@ fn wait() {
 /// its number and by how many turns it has taken.
 pub(crate) fn turns<R: Wait, G: Gate>(rt: &R, image: &Image, cpu: &mut Cpu<'_>, gate: &G)
     requires given { IsGiven image.now }
-    requires place { IsPlaced image.now cpu.old.place.board.now.table.shared.table_id cpu.old.place.cells.now cpu.old.place.rodata.now cpu.old.place.seat }
+    requires described { IsDescribed image.now }
+    requires can { CanRun image.now 8 }
+    requires place { IsPlaced image.now cpu.old.place.board.now.table.shared.table_id cpu.old.place.cells.now cpu.old.place.rodata.now cpu.old.place.seat (vec_capacity cpu.old.place.log) }
     requires stands { Stands image.now cpu.old.number (whole cpu.old.processor) cpu.old.place.seat cpu.old.place.log.items }
     ensures number { cpu.new.number ≡ cpu.old.number }
-    ensures place { IsPlaced image.now cpu.new.place.board.now.table.shared.table_id cpu.new.place.cells.now cpu.new.place.rodata.now cpu.new.place.seat }
+    ensures place { IsPlaced image.now cpu.new.place.board.now.table.shared.table_id cpu.new.place.cells.now cpu.new.place.rodata.now cpu.new.place.seat (vec_capacity cpu.new.place.log) }
     ensures keeps { KeepsPlace cpu.old.place.seat cpu.new.place.seat }
     ensures plays { Plays image.now cpu.old.number (whole cpu.old.processor) cpu.old.place.seat cpu.old.place.log.items (whole cpu.new.processor) cpu.new.place.seat cpu.new.place.log.items }
 {

@@ -1,15 +1,14 @@
 -- The history of a board at any moment: also a cell whose turn is out has the contents that its steps leave.
 use Rattle.std.proofs.Common.{◌≡◌, ◌≢◌, ℕ, ◌+◌, ◌-◌, ◌%◌, ◌<◌, ◌≤◌, List, [], ◌∷◌, ◌⊎◌, inl, inr, Option, refl, sym, ap, ◌∙◌, subst, arith, get_or}
 use mathlib.Core.Logic.{dite}
-use mathlib.Core.Option as found
 use native.Mathlib.Decide.{dec_lt, ℕ_discrete}
 use Rattle.um_base.specs.declared.image.Image.{Image}
-use Rattle.um_words.specs.History.{Entry, by_seat, by_site}
+use Rattle.um_words.specs.History.{Entry, IsHistory, by_seat, by_site}
 use Rattle.um_words.specs.declared.made.Made.{Made}
 use Rattle.um_site.specs.Cells.{AmongCells, ContentsAre}
 use Rattle.um_site.specs.declared.view.View.{View}
 use Rattle.um_board.specs.Contents.{Follows, Known, Opens}
-use Rattle.um_board.specs.NextSteps.{AreLocalRuns}
+use Rattle.um_board.specs.NextSteps.{AreLocalRuns, NextGoes}
 use Rattle.um_board.proofs.NextRuns.{local-runs}
 use Rattle.um_history.specs.Played.{IsHistoryOf, IsMoment}
 
@@ -28,34 +27,40 @@ owned-by image h runs (k ∷ []) = dite (dec_lt k 8)
     (λ far. inl (runs.others (k ∷ []) (λ j less is. far (subst (λ (m : ℕ). m < 8) (sym (ap first-in is)) less))))
 owned-by image h runs (k ∷ j ∷ n) = inl (runs.others (k ∷ j ∷ n) (λ i less is. absurd (cc)))
 
-module _ (image : Image) (words : List ℕ) (homes : List (found.Option (Option Known))) (views : List View) (m : IsMoment image words homes views) where
+module _ (image : Image) (v : View) (i w : ℕ) (m : IsMoment image v i w) where
   abbrev pub history : List Entry
-  history = m.rule.0
+  history = m.moment.history
 
-  contents-at : (i : ℕ) → 168 ≤ i → i < 307 → (y : Option Known) × ContentsAre Opens Follows image i (by_site i history) y
-  contents-at i far near =
-      let c = m.rule.2 in
-      let a = m.filled i far near in
-      let f = c.filled m.seat m.view m.there m.live i a in
+  abbrev words : List ℕ
+  words = m.moment.words
+
+  contents-at : (j : ℕ) → 168 ≤ j → j < 307 → (y : Option Known) × ContentsAre Opens Follows v.image j (by_site j history) y
+  contents-at j far near =
+      let c = m.moment.cells in
+      let a = m.filled j far near in
+      let f = c.filled m.moment.seat v m.moment.there m.moment.live j a in
       let in' = f.1 in
       let slot = f.2 in
-      dite (ℕ_discrete (get_or words i 0 % 2) 0)
+      dite (ℕ_discrete (get_or words j 0 % 2) 0)
       (λ even.
-      let b = c.home (i - 168) (omega arith) (omega arith) (subst (λ n. get_or words n 0 % 2 ≡ 0) (sym (slot-of i far)) even) in
-      let now = b.2 m.seat m.view m.there m.live (subst (AmongCells m.view.filled) (sym (slot-of i far)) a) in
-      (b.0, subst (λ n. ContentsAre Opens Follows image n (by_site n history) b.0) (slot-of i far) now))
+      let b = c.home (j - 168) (omega arith) (omega arith) (subst (λ n. get_or words n 0 % 2 ≡ 0) (sym (slot-of j far)) even) in
+      let now = b.2 m.moment.seat v m.moment.there m.moment.live (subst (AmongCells v.filled) (sym (slot-of j far)) a) in
+      (b.0, subst (λ n. ContentsAre Opens Follows v.image n (by_site n history) b.0) (slot-of j far) now))
       (λ odd.
-      let (id, v, t, at, lives, has, site) = c.held i far in' (omega arith) in
-      let u = c.turns id v at lives t has in
-      let k = c.known id m.seat v m.view at m.there lives m.live t has (subst (AmongCells m.view.filled) (sym site) a) in
-      (k.0, subst (λ n. ContentsAre Opens Follows image n (by_site n history) k.0) site (subst (λ (l : List Made). ContentsAre Opens Follows image t.site l k.0) (sym u.past) k.1)))
+      let (id, x, t, at, lives, has, site) = c.held j far in' (omega arith) in
+      let u = c.turns id x at lives t has in
+      let k = c.known id m.moment.seat x v at m.moment.there lives m.moment.live t has (subst (AmongCells v.filled) (sym site) a) in
+      (k.0, subst (λ n. ContentsAre Opens Follows v.image n (by_site n history) k.0) site (subst (λ (l : List Made). ContentsAre Opens Follows v.image t.site l k.0) (sym u.past) k.1)))
+
+  stands : IsHistory (NextGoes image) v.opening words history
+  stands = subst (λ (im : Image). IsHistory (NextGoes im) v.opening words history) m.of m.moment.kept.stands
 
   pub of-moment : IsHistoryOf image 8 words history
   of-moment =
       record {
-        opening = m.opening;
+        opening = v.opening;
         opens = m.opens;
-        stands = m.rule.1.stands;
-        owned = owned-by image history (local-runs image m.opening words history m.rule.1.stands);
-        contents = contents-at;
+        stands = stands;
+        owned = owned-by image history (local-runs image v.opening words history stands);
+        contents = λ j far near. subst (λ (im : Image). (y : Option Known) × ContentsAre Opens Follows im j (by_site j history) y) m.of (contents-at j far near);
       }

@@ -156,7 +156,7 @@ module _ (image : Image) where
   next-sort Site.scheduler n m (Cell.scheduler s) act moved sort = refl
   next-sort i n m c act moved sort = absurd (cc)
 
-word-number : (c : Cell) (n : ℕ) → (cell_word c n).number ≡ n
+pub word-number : (c : Cell) (n : ℕ) → (cell_word c n).number ≡ n
 word-number (Cell.object o) n = refl
 word-number (Cell.parts p) n = refl
 word-number (Cell.memory m) n = refl
@@ -181,21 +181,20 @@ cell-reads i n c fits =
     let number = word-number c n in let owed = word-owed c n in let small = fits.number in
     cell-back (cell_word c n) fits.counts.0 fits.counts.1 (record { owed = omega (arith, owed); number = omega (arith, number, small) })
 
--- these are the contents of an image, and they go on by the steps
-pub record Contents (image : Image) (c : Cell) (ms : List Made) : Type 0 where
+-- these are the contents of an image, and by the steps they come to the last ones
+pub record Contents (image : Image) (last : Known) (c : Cell) (ms : List Made) : Type 0 where
   pub old : Known
-  pub new : Known
   pub of : old.image ≡ image
   pub is : old.cell ≡ c
-  pub follow : Follow Opens Follows old ms new
+  pub follow : Follow Opens Follows old ms last
 
-abbrev pub CellKnown : Image → Site → SiteState → List Made → Type 0
-CellKnown image i (SiteState.cell n c) ms = CellFits i n c × Contents image c ms
-CellKnown image i s ms = ⊥
+abbrev pub CellKnown : Image → Known → Site → SiteState → List Made → Type 0
+CellKnown image last i (SiteState.cell n c) ms = CellFits i n c × Contents image last c ms
+CellKnown image last i s ms = ⊥
 
-module _ (image : Image) (i : Site) (there : IsTrue (is_site i)) (cell : IsTrue (is_cell i)) where
-  cell-known : (n : ℕ) (c : Cell) (e : Entry) (ms : List Made) → e.1.site ≡ site_number i → CellFits i n c → Contents image c (e.1 ∷ ms) → CellStep (cell_kind i) (packed_cell (cell_word c n)) e.1.act e.1.word
-      → Goes image (CellKnown image i) (SiteState.cell n c) e ms
+module _ (image : Image) (last : Known) (i : Site) (there : IsTrue (is_site i)) (cell : IsTrue (is_cell i)) where
+  cell-known : (n : ℕ) (c : Cell) (e : Entry) (ms : List Made) → e.1.site ≡ site_number i → CellFits i n c → Contents image last c (e.1 ∷ ms) → CellStep (cell_kind i) (packed_cell (cell_word c n)) e.1.act e.1.word
+      → Goes image (CellKnown image last i) (SiteState.cell n c) e ms
   cell-known n c e ms here fits contents step =
       let back = cell-reads i n c fits in
       let may : CellMay (cell_kind i) (cell_word c n) e.1.act step.left = subst (λ (w : CellWord). CellMay (cell_kind i) w e.1.act step.left) back step.may in
@@ -223,10 +222,10 @@ module _ (image : Image) (i : Site) (there : IsTrue (is_site i)) (cell : IsTrue 
           filled_in = λ j. record (fine_of e) { act = says j; word = ((λ k. Word.cell (cell_word (cell_after image c (says k) (moves k)) (n + 1))) ∙ read) j; moved = moves j };
         };
         word = word;
-        on = (left, record { old = follow.0; new = contents.new; of = by.of ∙ contents.of; is = after; follow = follow.2 });
+        on = (left, record { old = follow.0; of = by.of ∙ contents.of; is = after; follow = follow.2 });
       }
 
-  pub cell-goes : (s : SiteState) (e : Entry) (ms : List Made) → e.1.site ≡ site_number i → CellKnown image i s (e.1 ∷ ms) → WordMay (site_number i) (packed (word_of s)) e.1.act e.1.word → Goes image (CellKnown image i) s e ms
+  pub cell-goes : (s : SiteState) (e : Entry) (ms : List Made) → e.1.site ≡ site_number i → CellKnown image last i s (e.1 ∷ ms) → WordMay (site_number i) (packed (word_of s)) e.1.act e.1.word → Goes image (CellKnown image last i) s e ms
   cell-goes (SiteState.cell n c) e ms here known may =
       cell-known n c e ms here known.0 known.1 (subst (λ (k : WordKind). StepIn k (packed_cell (cell_word c n)) e.1.act e.1.word) (cell-kinds i cell) (step-in i there (packed_cell (cell_word c n)) e.1.act e.1.word may))
   cell-goes (SiteState.row w) e ms here known may = absurd known

@@ -1,6 +1,7 @@
 -- Facts of each element, of sublists and of images.
-use Rattle.std.proofs.Common.{◌≡◌, Bool, true, false, cond, List, [], ◌∷◌, refl, ap, ◌∙◌, subst, map}
+use Rattle.std.proofs.Common.{◌≡◌, ◌≤◌, arith, length, Bool, true, false, cond, List, [], ◌∷◌, refl, ap, ◌∙◌, subst, map}
 use Rattle.um_words.specs.Sublists.{sub}
+use Rattle.um_fine.specs.Runs as Runs
 use Rattle.um_history.specs.Played.{Each}
 
 module _ {X : Type 0} where
@@ -65,3 +66,11 @@ module _ {X Y Z : Type 0} where
   pub map-map : (f : X → Y) (g : Y → Z) (xs : List X) → map g (map f xs) ≡ map (λ x. g (f x)) xs
   map-map f g [] = refl
   map-map f g (x ∷ xs) = ap (λ l. g (f x) ∷ l) (map-map f g xs)
+
+-- a sublist is no longer than its list
+pub short-sub : {X : Type 0} (p : X → Bool) (xs : List X) → length (Runs.sub p xs) ≤ length xs
+short-sub p [] = omega arith
+short-sub p (x ∷ xs) = elim (p x) as (λ b. length (cond b (x ∷ Runs.sub p xs) (Runs.sub p xs)) ≤ length (x ∷ xs)) [
+  | true ↦ let more = short-sub p xs in omega (arith, more)
+  | false ↦ let more = short-sub p xs in omega (arith, more)
+]

@@ -1,8 +1,8 @@
 -- The history of a board whose processors play: every step in it is of one of them and at a site that there is, each asks for its own, and the sites
 -- take them.
 use Rattle.std.proofs.Common.{◌≡◌, ℕ, ◌<◌, ◌≤◌, Bool, true, false, cond, eqb, List, [], ◌∷◌, ◌⊎◌, inl, inr, ⊎_elim, length, map, refl, sym, ap, ◌∙◌, subst, arith, eq-eqb}
-use Rattle.std.specs.Prelude.{IsTrue, slice_index, Option, ◌&&◌}
-use Rattle.std.proofs.lemmas.Bool.{eqb-true}
+use Rattle.std.specs.Prelude.{IsTrue, None, slice_index, ◌&&◌}
+use Rattle.std.proofs.lemmas.Bool.{eqb-true, false≢true}
 use mathlib.Core.Logic.{dite}
 use native.Mathlib.Decide.{dec_lt}
 use Rattle.um_base.specs.declared.image.Image.{Image}
@@ -10,6 +10,7 @@ use Rattle.um_words.specs.History.{Entry, Words, bare, by_seat, by_site, is_at, 
 use Rattle.um_words.specs.History as History
 use Rattle.um_words.specs.Sublists.{same_name, sub}
 use Rattle.um_words.specs.declared.made.Made.{Made}
+use Rattle.um_fine.specs.Cells.{Cell}
 use Rattle.um_fine.specs.FineRun.{cpu_of, same_cpu, site_of}
 use Rattle.um_fine.specs.Follows.{p_next}
 use Rattle.um_fine.specs.Opening.{s_start}
@@ -21,16 +22,17 @@ use Rattle.um_fine.specs.Steps.{FineStep, Site}
 use Rattle.um_fine.proofs.Keys.{number-back, number-bound}
 use Rattle.um_site.proofs.Sublists.{same_itself, same_sound}
 use Rattle.um_processor.specs.Processors.{AsksFor}
+use Rattle.um_board.specs.Contents.{Known}
 use Rattle.um_board.specs.Noted.{packed}
 use Rattle.um_board.specs.ReadBack.{fine_at}
 use Rattle.um_board.proofs.NextRuns.{local-runs}
 use Rattle.um_history.specs.Played.{Each, IsHistoryOf}
-use Rattle.um_history.proofs.CellRuns.{CellKnown, is_cell}
+use Rattle.um_history.proofs.CellRuns.{is_cell}
 use Rattle.um_history.proofs.Granted.{AreAsked, IsAsked, asked-of}
 use Rattle.um_history.proofs.Entries.{fine_of, name_cpu}
 use Rattle.um_history.proofs.Lists.{each-keyed, each-map, each-tested, none-mapped, sub-map, sub-none, sub-same}
 use Rattle.um_history.proofs.Numbers.{no-site, numbered-is, number-of-numbered, sites-compare}
-use Rattle.um_history.proofs.OpeningRuns.{OpensWell, opening-runs, scheduler-known}
+use Rattle.um_history.proofs.OpeningRuns.{Lasts, OpensWell, SiteKnown, opening-left, opening-runs}
 use Rattle.um_history.proofs.SiteRuns.{Ran}
 
 -- both definitions of a sublist give one
@@ -161,14 +163,37 @@ module _ (image : Image) (cpus : ℕ) (words : List ℕ) (history : List Entry) 
     cell-far Site.heap cell = omega arith
     cell-far Site.scheduler cell = omega arith
 
-    pub site-ran : (i : Site) → IsTrue (is_site i) → Ran image (s_start image i) (sublist same_site site_of i all) (bare (site_number i) (slice_index words (site_number i)))
-    site-ran i there =
+    -- the contents that the steps of a cell leave
+    abbrev pub LastAt : Site → Type 0
+    LastAt i = (last : Known) × Lasts image last i (by_site (site_number i) history)
+
+    pub last-at : (i : Site) → IsTrue (is_site i) → LastAt i
+    last-at i there = by (is_cell i) refl
+      where
+        by : (b : Bool) → is_cell i ≡ b → LastAt i
+        by true cell = let (y, (x, first, is, opens, follow)) = of.contents (site_number i) (cell-far i cell) (number-bound i there) in (x, λ c. (x, first, refl, opens, follow))
+        by false none = (record { image = image; cell = Cell.parts None }, λ cell. absurd (false≢true (sym none ∙ cell)))
+
+    words-at : (i : Site) → IsTrue (is_site i) → Words (site_number i) (packed (word_of (s_start image i))) (by_site (site_number i) history) (bare (site_number i) (slice_index words (site_number i)))
+    words-at i there =
         let n = site_number i in
         let near : n < 307 = number-bound i there in
         let opens : slice_index of.opening n ≡ packed (word_of (s_start image i)) = of.opens.each n near ∙ ap (λ (j : Site). packed (word_of (s_start image j))) (number-back i there) in
-        let goes = subst (λ (w : ℕ). Words n w (by_site n history) (bare n (slice_index words n))) opens (of.stands.sites n (omega (arith, near, long))) in
+        subst (λ (w : ℕ). Words n w (by_site n history) (bare n (slice_index words n))) opens (of.stands.sites n (omega (arith, near, long)))
+
+    pub site-ran : (i : Site) → IsTrue (is_site i) → Ran image (s_start image i) (sublist same_site site_of i all) (bare (site_number i) (slice_index words (site_number i)))
+    site-ran i there =
+        let n = site_number i in
+        let last = last-at i there in
         subst (λ (l : List FineStep). Ran image (s_start image i) l (bare n (slice_index words n))) (sym (site-sublist i there))
-        (opening-runs image well i there (sub (is_at n) history) (bare n (slice_index words n)) (sites-tested n) goes (λ cell. of.contents n (cell-far i cell) near))
+        (opening-runs image well i there (sub (is_at n) history) (bare n (slice_index words n)) last.0 (sites-tested n) (words-at i there) last.1)
+
+    -- what stands at a site, whose cell has the contents that its steps leave
+    pub site-left : (i : Site) → IsTrue (is_site i) → (last : Known) → Lasts image last i (by_site (site_number i) history) → SiteKnown image last i (state_at same_site site_of (s_next image) (s_start image) all i) []
+    site-left i there last lasts =
+        let n = site_number i in
+        subst (λ (l : List FineStep). SiteKnown image last i (ends (s_next image) (s_start image i) l) []) (sym (site-sublist i there))
+        (opening-left image well i there (sub (is_at n) history) (bare n (slice_index words n)) last (sites-tested n) (words-at i there) lasts)
 
     pub sites-run : (i : Site) → Run (SiteMay image) (s_next image) (s_start image i) (sublist same_site site_of i all)
     sites-run i = by (is_site i) refl
@@ -180,10 +205,3 @@ module _ (image : Image) (cpus : ℕ) (words : List ℕ) (history : List Entry) 
     pub words-left : (n : ℕ) → n < 307 → packed (word_of (state_at same_site site_of (s_next image) (s_start image) all (site_numbered n))) ≡ bare n (slice_index words n)
     words-left n near =
         (site-ran (site_numbered n) (numbered-is n near)).word ∙ ap (λ (m : ℕ). bare m (slice_index words m)) (number-of-numbered n near)
-
-    pub scheduler-left : CellKnown image Site.scheduler (state_at same_site site_of (s_next image) (s_start image) all Site.scheduler) []
-    scheduler-left =
-        let opens : slice_index of.opening 306 ≡ packed (word_of (s_start image Site.scheduler)) = of.opens.each 306 (omega arith) in
-        let goes = subst (λ (w : ℕ). Words 306 w (by_site 306 history) (bare 306 (slice_index words 306))) opens (of.stands.sites 306 (omega (arith, long))) in
-        subst (λ (l : List FineStep). CellKnown image Site.scheduler (ends (s_next image) (s_start image Site.scheduler) l) []) (sym (site-sublist Site.scheduler refl))
-        (scheduler-known image well (sub (is_at 306) history) (bare 306 (slice_index words 306)) (sites-tested 306) goes (of.contents 306 (omega arith) (omega arith)))

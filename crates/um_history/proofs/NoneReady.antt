@@ -22,13 +22,14 @@ use Rattle.um_site.specs.declared.view.View.{View}
 use Rattle.um_site.proofs.Bare.{bare-high, bare-number}
 use Rattle.um_site.proofs.Sublists.{same_itself}
 use Rattle.um_merge.specs.Merged.{Log}
+use Rattle.um_board.specs.Contents.{Known}
 use Rattle.um_board.specs.Noted.{made_of, packed}
 use Rattle.um_board.specs.Saw.{WasGot}
 use Rattle.um_history.specs.Played.{Each, IsHistoryOf, IsPlayed, SawNone}
 use Rattle.um_history.proofs.CellRuns.{CellKnown, cell-reads}
 use Rattle.um_history.proofs.Lists.{each-both, each-keyed, each-map, each-sub}
 use Rattle.um_history.proofs.OpeningRuns.{OpensWell}
-use Rattle.um_history.proofs.Moments.{all, names-of, scheduler-left, sites-tested, words-left}
+use Rattle.um_history.proofs.Moments.{all, last-at, names-of, site-left, sites-tested, words-left}
 use Rattle.um_history.proofs.Played.{history, list-of, of-played}
 
 fresh-got : (words : List ℕ) (got : List (ℕ × ℕ)) (i w : ℕ) → Fresh words got → WasGot got i w → IsNoNewer words i w
@@ -49,12 +50,12 @@ same-images f g Q (x ∷ xs) (y ∷ ys) same each =
     let rest : map f xs ≡ map g ys = cc in
     (subst Q first each.0, same-images f g Q xs ys rest each.1)
 
-no-length : (xs : List ℕ) → length xs ≡ 0 → xs ≡ []
+pub no-length : (xs : List ℕ) → length xs ≡ 0 → xs ≡ []
 no-length [] e = refl
 no-length (x ∷ xs) e = absurd (omega arith)
 
 -- a cell's word without its turn has the ready threads
-ready-kept : (w z : ℕ) → w - w % 2 ≡ z → w / 2 % 256 ≡ z / 2 % 256
+pub ready-kept : (w z : ℕ) → w - w % 2 ≡ z → w / 2 % 256 ≡ z / 2 % 256
 ready-kept w z e = let h : w / 2 ≡ z / 2 = omega arith in ap (λ n. n % 256) h
 
 module _ (image : Image) (cpus : ℕ) (v : View) (words : List ℕ) (logs : List Log) (steps : ℕ → List FineStep) (played : IsPlayed image cpus v words logs steps) (well : OpensWell image)
@@ -117,19 +118,21 @@ module _ (image : Image) (cpus : ℕ) (v : View) (words : List ℕ) (logs : List
   abbrev pub scheduler_left : SiteState
   scheduler_left = state_at same_site site_of (s_next image) (s_start image) (all image cpus words entries of) Site.scheduler
 
-  none-in : (state : SiteState) → CellKnown image Site.scheduler state [] → packed (word_of state) ≡ bare 306 stands → (n : ℕ) × (s : Scheduler) × (state ≡ SiteState.cell n (Cell.scheduler s)) × (s.ready ≡ [])
-  none-in (SiteState.cell n (Cell.scheduler s)) known word =
+  none-in : (last : Known) (state : SiteState) → CellKnown image last Site.scheduler state [] → packed (word_of state) ≡ bare 306 stands → (n : ℕ) × (s : Scheduler) × (state ≡ SiteState.cell n (Cell.scheduler s)) × (s.ready ≡ [])
+  none-in last (SiteState.cell n (Cell.scheduler s)) known word =
       let count : (cell_of (packed_cell (cell_word (Cell.scheduler s) n))).ready ≡ length s.ready = ap (λ (w : CellWord). w.ready) (cell-reads Site.scheduler n (Cell.scheduler s) known.0) in
       let none : (cell_of (packed_cell (cell_word (Cell.scheduler s) n))).ready ≡ 0 = ap (λ (w : ℕ). w / 2 % 256) word ∙ none-stands in
       (n, s, refl, no-length s.ready (sym count ∙ none))
-  none-in (SiteState.cell n (Cell.object o)) known word = absurd (false≢true known.0.sort)
-  none-in (SiteState.cell n (Cell.parts p)) known word = absurd (false≢true known.0.sort)
-  none-in (SiteState.cell n (Cell.memory m)) known word = absurd (false≢true known.0.sort)
-  none-in (SiteState.cell n (Cell.heap h)) known word = absurd (false≢true known.0.sort)
-  none-in (SiteState.row w) known word = absurd known
-  none-in (SiteState.thread w) known word = absurd known
-  none-in (SiteState.domain w) known word = absurd known
+  none-in last (SiteState.cell n (Cell.object o)) known word = absurd (false≢true known.0.sort)
+  none-in last (SiteState.cell n (Cell.parts p)) known word = absurd (false≢true known.0.sort)
+  none-in last (SiteState.cell n (Cell.memory m)) known word = absurd (false≢true known.0.sort)
+  none-in last (SiteState.cell n (Cell.heap h)) known word = absurd (false≢true known.0.sort)
+  none-in last (SiteState.row w) known word = absurd known
+  none-in last (SiteState.thread w) known word = absurd known
+  none-in last (SiteState.domain w) known word = absurd known
 
   -- no thread is ready
   pub none-ready : (n : ℕ) × (s : Scheduler) × (scheduler_left ≡ SiteState.cell n (Cell.scheduler s)) × (s.ready ≡ [])
-  none-ready = none-in scheduler_left (scheduler-left image cpus words entries of well) (words-left image cpus words entries of well 306 (omega arith))
+  none-ready =
+      let last = last-at image cpus words entries of well Site.scheduler refl in
+      none-in last.0 scheduler_left (site-left image cpus words entries of well Site.scheduler refl last.0 last.1) (words-left image cpus words entries of well 306 (omega arith))

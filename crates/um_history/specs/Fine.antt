@@ -1,17 +1,23 @@
 -- One list of the steps of several processors.
-use Rattle.std.specs.Prelude.{◌≡◌, ℕ, ◌<◌, ◌≤◌, eqb, IsTrue, List, [], ◌∷◌, map, slice_index, Option, Some, None}
+use Rattle.std.specs.Prelude.{◌≡◌, ℕ, ◌<◌, ◌≤◌, eqb, IsTrue, List, [], ◌∷◌, length, map, slice_index, Option, Some, None}
+use Rattle.um_base.specs.Weight.{weight}
 use Rattle.um_base.specs.declared.act.Event.{Event}
 use Rattle.um_base.specs.declared.image.Image.{Image}
 use Rattle.um_words.specs.History.{bare}
 use Rattle.um_fine.specs.FineRun.{IsFineRun, cpu_of, same_cpu, site_of}
 use Rattle.um_fine.specs.Opening.{s_start}
 use Rattle.um_fine.specs.Runs.{state_at, sublist}
-use Rattle.um_fine.specs.Sites.{is_site, s_next, same_site, site_numbered, word_of}
-use Rattle.um_fine.specs.Steps.{FineStep}
+use Rattle.um_fine.specs.Sites.{SiteState, is_site, s_next, same_site, site_number, site_numbered, word_of}
+use Rattle.um_fine.specs.Steps.{FineStep, Site}
 use Rattle.um_merge.specs.Merged as Merged
 use Rattle.um_merge.specs.Merged.{AreNumbered}
 use Rattle.um_merge.specs.declared.logged.Logged.{Logged}
+use Rattle.um_processor.specs.Asked.{Refuses}
+use Rattle.um_site.specs.declared.seat.Seat.{Seat}
+use Rattle.um_board.specs.Contents.{Known}
 use Rattle.um_board.specs.Noted.{logged_of, packed}
+use Rattle.um_board.specs.ReadBack.{fine_at}
+use Rattle.um_board.specs.Saw.{Got}
 use Rattle.um_history.specs.Played.{Each}
 
 -- The list is a fine run that has the steps of each processor in their order and no others, numbers those of each site from 1 without a gap, and
@@ -23,6 +29,25 @@ pub record IsFineOf (image : Image) (cpus : ℕ) (words : List ℕ) (steps : ℕ
   pub sited : Each (λ (e : FineStep). IsTrue (is_site e.site)) g
   pub numbered : (site : ℕ) → AreNumbered 0 (sublist eqb Merged.site_of site (map logged_of g))
   pub words_are : (i : ℕ) → i < 307 → packed (word_of (state_at same_site site_of (s_next image) (s_start image) g (site_numbered i))) ≡ bare i (slice_index words i)
+
+-- At some moment this fine run of at most eight processors stood, of no more steps than the image's weight, in which the processor k had made these.
+pub record Stood (image : Image) (k : ℕ) (own : List FineStep) (g : List FineStep) : Type 0 where
+  pub run : IsFineRun image 8 g
+  pub few : length g ≤ weight image
+  pub own_is : sublist same_cpu cpu_of k g ≡ own
+
+-- the state that a run leaves at a site
+abbrev pub left_at : Image → List FineStep → Site → SiteState
+left_at image g i = state_at same_site site_of (s_next image) (s_start image) g i
+
+-- At some moment of a call the site of the step refused it, as the fine run had left it that stood then: the seat got the word there that the run had left.
+pub record WasRefused (image : Image) (k : ℕ) (s t : Seat Known) (e : FineStep) : Type 0 where
+  pub word : ℕ
+  pub got : Got s t (site_number e.site) word
+  pub run : List FineStep
+  pub stood : Stood image k (map (fine_at k) s.token.me.0.made) run
+  pub left : packed (word_of (left_at image run e.site)) ≡ bare (site_number e.site) word
+  pub refuses : Refuses (left_at image run e.site) e
 
 abbrev pub event_on : Option Event → List Event → List Event
 event_on None events = events

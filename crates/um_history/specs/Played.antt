@@ -1,7 +1,5 @@
 -- What processors that step on a board have at their end, each at a seat of its own, and what the closed board says of them together.
-use Rattle.std.specs.Prelude.{◌≡◌, ℕ, ◌<◌, ◌≤◌, ◌⊎◌, List, [], ◌∷◌, length, map, true, Option}
-use mathlib.Core.Option as found
-use lib.ListN.{get_elem?}
+use Rattle.std.specs.Prelude.{◌≡◌, ℕ, ◌<◌, ◌≤◌, ◌⊎◌, List, [], ◌∷◌, length, map, Option}
 use Rattle.um_base.specs.declared.image.Image.{Image}
 use Rattle.um_words.specs.Packed.{cell_of}
 use Rattle.um_words.specs.History.{Entry, IsHistory, by_seat, by_site}
@@ -15,7 +13,7 @@ use Rattle.um_fine.specs.Steps.{FineStep}
 use Rattle.um_merge.specs.Merged.{Log, log_at}
 use Rattle.um_merge.specs.declared.logged.Logged.{Logged}
 use Rattle.um_processor.specs.Processors.{AsksFor}
-use Rattle.um_site.specs.Cells.{AmongCells, ContentsAre, IsClosedWithCells, Rule}
+use Rattle.um_site.specs.Cells.{AmongCells, ContentsAre, IsClosedWithCells, Moment}
 use Rattle.um_site.specs.History.{Among}
 use Rattle.um_site.specs.declared.view.View.{View}
 use Rattle.um_board.specs.Contents.{Follows, Known, Opens}
@@ -63,17 +61,13 @@ pub record IsHistoryOf (image : Image) (cpus : ℕ) (words : List ℕ) (h : List
   pub owned : (n : List ℕ) → (by_seat n h ≡ []) ⊎ ((k : ℕ) × (k < cpus) × (n ≡ k ∷ []))
   pub contents : (i : ℕ) → 168 ≤ i → i < 307 → (y : Option Known) × ContentsAre Opens Follows image i (by_site i h) y
 
--- A board of the image at some moment, with these words, slots and views of seats: its rule, by which each seat makes its processor's next steps alone,
--- holds; and some seat knows that all cells have their contents.
-pub record IsMoment (image : Image) (words : List ℕ) (homes : List (found.Option (Option Known))) (views : List View) : Type 0 where
-  pub opening : List ℕ
-  pub opens : AreOpening image opening
-  pub rule : Rule Opens Follows (NextGoes image) image opening words homes views
-  pub seat : ℕ
-  pub view : View
-  pub there : get_elem? views seat ≡ found.some view
-  pub live : view.live ≡ true
-  pub filled : (i : ℕ) → 168 ≤ i → i < 307 → AmongCells view.filled i
+-- The board of an image at some moment, with the word w at the site i: its rule held, by which each seat makes its processor's next steps alone, and a seat
+-- with this view knew that all cells have their contents.
+pub record IsMoment (image : Image) (v : View) (i w : ℕ) : Type 0 where
+  pub moment : Moment Opens Follows NextGoes v i w
+  pub of : v.image ≡ image
+  pub opens : AreOpening image v.opening
+  pub filled : (j : ℕ) → 168 ≤ j → j < 307 → AmongCells v.filled j
 
 -- The board of an image is closed with these words, as its first seat knows, which made no step itself: its rule let each processor make the steps
 -- alone that it asked for. So many processors have made these steps, and have these logs.

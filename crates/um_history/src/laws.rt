@@ -1,7 +1,6 @@
 //! The laws over every board on which processors play, and have played.
 
-ghost use Rattle.std.specs.Prelude.{◌≡◌, ℕ, ◌<◌, ◌≤◌, List, [], ◌∷◌, Option, length, map};
-ghost use mathlib.Core.Option as found;
+ghost use Rattle.std.specs.Prelude.{◌≡◌, ℕ, ◌<◌, ◌≤◌, List, [], ◌∷◌, length, map};
 ghost use Rattle.um_base.specs.Weight.{weight};
 ghost use Rattle.um_base.specs.declared.image.Image.{Image};
 ghost use Rattle.um_machine.specs.Run.{IsComplete, Runs, opening};
@@ -13,7 +12,6 @@ ghost use Rattle.um_fine.specs.Steps.{FineStep};
 ghost use Rattle.um_merge.specs.Merged.{HaveOrder, IsOrder, Log, SameOrder};
 ghost use Rattle.um_merge.specs.declared.logged.Logged.{Logged};
 ghost use Rattle.um_site.specs.declared.view.View.{View};
-ghost use Rattle.um_board.specs.Contents.{Known};
 ghost use Rattle.um_board.specs.Noted.{logged_of};
 ghost use Rattle.um_board.specs.ReadBack.{fine_at};
 ghost use Rattle.um_erasure.specs.After.{left_by};
@@ -29,8 +27,8 @@ use um_fine_bound::longest_fine_run;
 /// history is one fine run of at most eight processors, whose steps are those in the lists of the first eight seats, and which has left the words. It
 /// has no more steps than the image's weight; what it shows is a run of the access-matrix machine, to whose last state it is related.
 pub fn every_board()
-    ensures { (image : Image) (words : List ℕ) (homes : List (found.Option (Option Known))) (views : List View) → IsDescribed image → CanRun image 8
-        → (m : IsMoment image words homes views) → (g : List FineStep) × IsFineOf image 8 words (λ k. map (fine_at k) (by_seat (k ∷ []) m.rule.0)) g
+    ensures { (image : Image) (v : View) (i w : ℕ) → IsDescribed image → CanRun image 8
+        → (m : IsMoment image v i w) → (g : List FineStep) × IsFineOf image 8 m.moment.words (λ k. map (fine_at k) (by_seat (k ∷ []) m.moment.history)) g
         × (length g ≤ weight image) × (last : State) × Runs (opening image) (shown g) last × Rel (left_by image 8 g) last }
 {
     every_fine_run();

@@ -13,7 +13,7 @@ turns-requires-clause-stands g c =
     let it = c.requires.begins in
     let cpu = c.args.cpu.now in
     subst (λ (k : ℕ). Stands c.args.image.now k (whole cpu.processor) cpu.place.seat cpu.place.log.items) (sym it.sits.number)
-    (stands-first c.args.image.now c.args.number (whole cpu.processor) cpu.place.seat cpu.place.log.items it.few it.sits.name it.idle_is it.made it.log)
+    (stands-first c.args.image.now c.args.number (whole cpu.processor) cpu.place.seat cpu.place.log.items it.few it.sits.name it.opening it.idle_is it.made it.log)
 
 pub returns : goal.returns
 returns g c = let e = c.turns.ensures in ends-there c.args.image.now c.args.board.now.table.shared.table_id c.args.number c.args.cpu.now c.turns.new.cpu c.requires.begins e.number e.place e.keeps e.plays

@@ -9,10 +9,10 @@ use Rattle.um_history.proofs.Openings.{opens-well}
 use Rattle.um_history.proofs.laws.every_board.Goals as goal
 
 pub returns : goal.returns
-returns c = λ image words homes views described can m.
-    let h = history image words homes views m in
-    let of = of-moment image words homes views m in
-    let g = all image 8 words h of in
-    let fine = is-fine-of image 8 words h of can.few (opens-well image 8 described can) (granted image 8 described can) (λ k. map (fine_at k) (by_seat (k ∷ []) h)) (λ k less. own-steps image 8 words h of k) in
+returns c = λ image v i w described can m.
+    let h = history image v i w m in
+    let of = of-moment image v i w m in
+    let g = all image 8 m.moment.words h of in
+    let fine = is-fine-of image 8 m.moment.words h of can.few (opens-well image 8 described can) (granted image 8 described can) (λ k. map (fine_at k) (by_seat (k ∷ []) h)) (λ k less. own-steps image 8 m.moment.words h of k) in
     let shows = c.every_fine_run.ensures.run image 8 g described fine.run in
     (g, fine, c.longest_fine_run.ensures image 8 g described fine.run, shows.0, shows.1, shows.2)

@@ -37,5 +37,5 @@ returns-clause-made g c =
     let word : e.word ≡ Word.cell (quiet_word c.counts-ready.result.0 c.counts-ready.result.1 (n + 1)) = takes-word c.args.image.now _ _ e c.requires.takes ∙ ap Word.cell counts in
     let back = cell-reads-back e c.args.site _ _ c.requires.there t.low c.requires.site word c.pack-next.ensures.value c.pack-next.ensures.back in
     put-turn _ _ e _ _ c.put-number.ensures.same told.now
-    (c.note.ensures ∙ ap (λ (l : Logged). c.args.self.now.log.items ++ l ∷ []) (logged-is e _ _ _ _ c.requires.cpu c.requires.site numbered c.requires.event))
+    (c.note.ensures.noted ∙ ap (λ (l : Logged). c.args.self.now.log.items ++ l ∷ []) (logged-is e _ _ _ _ c.requires.cpu c.requires.site numbered c.requires.event))
     back

@@ -1,4 +1,5 @@
 use Rattle.std.proofs.Common.{rules, ◌≡◌, ◌∙◌, ap, refl, sym, subst, None, false, IsTrue}
+use Rattle.std.specs.Prelude.{vec_capacity}
 use Rattle.um_fine.specs.Cells.{Cell}
 use Rattle.um_fine.specs.Steps.{Exchange, Site}
 use Rattle.um_board.specs.Contents.{Known}
@@ -70,7 +71,7 @@ put_back-requires c =
     let was : c.deref_mut.result.now ≡ d = search rules in
     let same : c.new-same.result ≡ c.in-Some.turn.before.value =
     c.new-same.ensures ∙ (λ i. record { image = sym t.1.of i; cell = (ap Cell.scheduler (c.in-None.ensures.0 ∙ was) ∙ sym c.into_scheduler-cell.ensures ∙ ap (λ (x : Known). x.cell) t.0) i }) in
-    record { turn = subst (λ (x : Known). InTurn c.args.image.now c.turn.new.self.board.now.table.shared.table_id c.turn.new.self.cells.now c.turn.new.self.rodata.now c.turn.new.self.seat 306 c.in-Some.turn.word c.in-Some.turn.number x) (sym same) t.1 }
+    record { turn = subst (λ (x : Known). InTurn c.args.image.now c.turn.new.self.board.now.table.shared.table_id c.turn.new.self.cells.now c.turn.new.self.rodata.now c.turn.new.self.seat (vec_capacity c.turn.new.self.log) 306 c.in-Some.turn.word c.in-Some.turn.number x) (sym same) t.1 }
 
 pub returns-in-None-clause-said : goal.returns-in-None-clause-said
 returns-in-None-clause-said c =
@@ -80,5 +81,5 @@ returns-in-None-clause-said c =
     let was : c.deref_mut.result.now ≡ d = search rules in
     let r = c.in-None.ensures in
     let denied = subst (λ (x : Scheduler). (nat_lt 0 x.running && has_place x) ≡ false) was r.2 in
-    let got = got-more _ _ _ c.put_back.ensures.unnoted.got.0 _ _ c.put_back.ensures.unnoted.got.1 c.in-Some.ensures.saw in
-    (c.in-Some.turn.number, d, unnoted-then _ _ _ _ _ _ c.in-Some.ensures.unnoted c.put_back.ensures.unnoted, cell-shut c.args.image.now c.args.cpu c.in-Some.turn.number c.in-Some.turn.word _ d (Unseen.Park (to_thread c.args.context.now.value.thread) false) (Exchange.thread c.args.context.now.value None) _ _ k t.1.says got denied, r.1)
+    let got = got-more _ _ _ c.put_back.ensures.unnoted.got.0 _ _ c.put_back.ensures.unnoted.got.1 c.in-Some.ensures.saw.0 in
+    (c.in-Some.turn.number, d, unnoted-then _ _ _ _ _ _ c.in-Some.ensures.unnoted c.put_back.ensures.unnoted, cell-shut c.args.image.now c.args.cpu c.in-Some.turn.number c.in-Some.turn.word c.in-Some.turn.before.value d (Unseen.Park (to_thread c.args.context.now.value.thread) false) (Exchange.thread c.args.context.now.value None) _ _ k t.1.says got c.in-Some.ensures.saw.1 denied, r.1)

@@ -1,4 +1,6 @@
-use Rattle.std.proofs.Common.{◌≡◌, ap, refl, sym, ◌∙◌}
+use Rattle.std.proofs.Common.{◌≡◌, ap, refl, sym, ◌∙◌, ℕ, ◌≤◌, List, length, subst, ◌<◌, arith, ◌+◌}
+use Rattle.std.specs.Prelude.{vec_capacity}
+use Rattle.um_merge.specs.declared.logged.Logged.{Logged}
 use Rattle.um_words.specs.Packed.{row_of}
 use Rattle.um_fine.specs.Steps.{Exchange, Word}
 use Rattle.um_processor.specs.RowActs.{row_event, row_made}
@@ -7,7 +9,7 @@ use Rattle.um_board.specs.Noted.{number_of, packed}
 use Rattle.um_board.proofs.Keeping.{noted-then, unnoted-then}
 use Rattle.um_board.proofs.WordSteps.{row-lawful, row-number, row-packs, row-reads-back, row-read, row-word}
 use Rattle.um_fine.specs.Sites.{SiteState}
-use Rattle.um_board.specs.Saw.{SawShut}
+use Rattle.um_board.specs.Saw.{Hinders, SawShut}
 use Rattle.um_board.proofs.Saws.{got-one, moved-on}
 use Rattle.um_board.proofs.NextRuns.{next-then}
 use Rattle.um_board.proofs.sites.SeatedSites.row.Goals as goal
@@ -60,10 +62,17 @@ pub returns-in-None-clause-said : goal.returns-in-None-clause-said
 returns-in-None-clause-said c =
     let w = c.read-word.result in
     let got = got-one _ _ _ _ c.look-seen.ensures.got in
-    let shut = SawShut.refused (SiteState.row w) c.look-seen.result got (ap Word.row (sym c.read-word.ensures.value)) (c.in-None.ensures c.args.image.now c.args.cpu c.args.row.0) in
+    let low : c.args.row.0 < 168 = let less = c.requires.row in omega (arith, less) in
+    let shut = SawShut.word_refused (SiteState.row w) c.look-seen.result low got c.look-seen.ensures.saw (ap Word.row (sym c.read-word.ensures.value)) (c.in-None.ensures c.args.image.now c.args.cpu c.args.row.0) in
     (w, c.look-seen.ensures.unnoted, shut)
+
+pub returns-then-is_full-clause-said : goal.returns-then-is_full-clause-said
+returns-then-is_full-clause-said c =
+    let log = c.look-seen.ensures.log in
+    let full = subst (λ (q : ℕ × List Logged). q.0 ≤ length q.1) (λ i. (vec_capacity (log i), (log i).items)) (c.is_full.ensures.full c.if-is_full.true) in
+    (c.look-seen.ensures.unnoted, Hinders.full c.look-seen.result c.look-seen.ensures.saw full)
 
 pub returns-then-not-step-clause-said : goal.returns-then-not-step-clause-said
 returns-then-not-step-clause-said c =
     let m = c.if-not-step.ensures.moved refl in
-    (unnoted-then _ _ _ _ _ _ c.look-seen.ensures.unnoted (c.if-not-step.ensures.changed refl), moved-on _ _ _ _ _ _ _ m.0 c.look-seen.ensures.got m.2 m.1)
+    (unnoted-then _ _ _ _ _ _ c.look-seen.ensures.unnoted (c.if-not-step.ensures.changed refl), moved-on _ _ c.args.self.now.seat c.look-seen.new.self.seat c.step.new.self.seat _ _ m.0 c.look-seen.ensures.got m.2 m.1)

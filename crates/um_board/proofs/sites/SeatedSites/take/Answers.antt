@@ -17,7 +17,7 @@ use Rattle.um_processor.specs.Asked.{by_thread, event_of}
 use Rattle.um_processor.specs.Parked.{some_if}
 use Rattle.um_processor.proofs.Noted.{resumes}
 use Rattle.um_processor.proofs.Scheduled.{next-after, next-takes}
-use Rattle.um_board.proofs.Saws.{next-at, cell-shut, got-more, got-first, got-one, nobody, none-shut, hinders-first}
+use Rattle.um_board.proofs.Saws.{next-at, cell-first, cell-shut, got-more, got-first, got-one, nobody, none-shut, hinders-first}
 use Rattle.um_words.specs.declared.cell_word.CellWord.{CellWord}
 use Rattle.std.specs.Prelude.{List, vec_capacity}
 use Rattle.um_merge.specs.declared.logged.Logged.{Logged}
@@ -80,7 +80,7 @@ put_back-requires c =
     let was : c.deref_mut.result.now ≡ d = search rules in
     let same : c.new-same.result ≡ c.in-Some.turn.before.value =
     c.new-same.ensures ∙ (λ i. record { image = sym t.1.of i; cell = (ap Cell.scheduler (c.in-None.ensures.0 ∙ was) ∙ sym c.into_scheduler-cell.ensures ∙ ap (λ (x : Known). x.cell) t.0) i }) in
-    record { turn = subst (λ (x : Known). InTurn c.args.image.now c.turn.new.self.board.now.table.shared.table_id c.turn.new.self.cells.now c.turn.new.self.rodata.now c.turn.new.self.seat 306 c.in-Some.turn.word c.in-Some.turn.number x) (sym same) t.1 }
+    record { turn = subst (λ (x : Known). InTurn c.args.image.now c.turn.new.self.board.now.table.shared.table_id c.turn.new.self.cells.now c.turn.new.self.rodata.now c.turn.new.self.seat (vec_capacity c.turn.new.self.log) 306 c.in-Some.turn.word c.in-Some.turn.number x) (sym same) t.1 }
 
 pub returns-in-None-clause-said : goal.returns-in-None-clause-said
 returns-in-None-clause-said c =
@@ -90,17 +90,17 @@ returns-in-None-clause-said c =
     let was : c.deref_mut.result.now ≡ d = search rules in
     let r = c.in-None.ensures in
     let denied = next-takes d (to_thread 0) ∙ subst (λ (x : Scheduler). has_ready x x.ready ≡ false) was r.3 in
-    let got = got-more _ _ _ c.put_back.ensures.unnoted.got.0 _ _ c.put_back.ensures.unnoted.got.1 (got-first _ _ _ ((306, c.look-seen.result) ∷ []) _ _ c.look-seen.ensures.got c.in-Some.ensures.saw) in
-    (c.in-Some.turn.number, d, unnoted-then _ _ _ _ _ _ (unnoted-then _ _ _ _ _ _ c.look-seen.ensures.unnoted c.in-Some.ensures.unnoted) c.put_back.ensures.unnoted, cell-shut c.args.image.now c.args.cpu c.in-Some.turn.number c.in-Some.turn.word _ d (Unseen.Next (to_thread 0)) Exchange.nothing _ _ k t.1.says got denied, r.1, r.2)
+    let got = got-more _ _ _ c.put_back.ensures.unnoted.got.0 _ _ c.put_back.ensures.unnoted.got.1 (got-first _ _ _ ((306, c.look-seen.result) ∷ []) _ _ c.look-seen.ensures.got c.in-Some.ensures.saw.0) in
+    (c.in-Some.turn.number, d, unnoted-then _ _ _ _ _ _ (unnoted-then _ _ _ _ _ _ c.look-seen.ensures.unnoted c.in-Some.ensures.unnoted) c.put_back.ensures.unnoted, cell-shut c.args.image.now c.args.cpu c.in-Some.turn.number c.in-Some.turn.word c.in-Some.turn.before.value d (Unseen.Next (to_thread 0)) Exchange.nothing _ _ k t.1.says got (cell-first _ _ _ _ _ _ _ c.look-seen.ensures.unnoted c.in-Some.ensures.saw.1) denied, r.1, r.2)
 
 pub returns-then-read-eq0-clause-said : goal.returns-then-read-eq0-clause-said
 returns-then-read-eq0-clause-said c =
     let none = ap (λ (w : CellWord). w.ready) (sym c.read.ensures.value) ∙ c.if-read-eq0.true in
-    (0, nobody, c.look-seen.ensures.unnoted, none-shut c.args.image.now c.args.cpu c.look-seen.result _ _ (got-one _ _ _ _ c.look-seen.ensures.got) none, refl, refl)
+    (0, nobody, c.look-seen.ensures.unnoted, none-shut c.args.image.now c.args.cpu c.look-seen.result _ _ (got-one _ _ _ _ c.look-seen.ensures.got) c.look-seen.ensures.saw none, refl, refl)
 
 pub returns-in_default-clause-said : goal.returns-in_default-clause-said
 returns-in_default-clause-said c =
     let looked = c.look-seen.ensures in
     let log = looked.log in
-    let why = subst (λ (q : ℕ × List Logged). Hinders q.0 q.1 c.look-seen.new.self.seat.token.me.0.got c.turn.new.self.seat.token.me.0.got 306) (λ i. (vec_capacity (log i), (log i).items)) c.in_default.ensures.saw in
-    (unnoted-then _ _ _ _ _ _ looked.unnoted c.turn.ensures.unnoted, hinders-first _ _ _ _ _ ((306, c.look-seen.result) ∷ []) 306 looked.got why, refl, refl)
+    let why = subst (λ (q : ℕ × List Logged). Hinders q.0 q.1 c.look-seen.new.self.seat c.turn.new.self.seat 306) (λ i. (vec_capacity (log i), (log i).items)) c.in_default.ensures.saw in
+    (unnoted-then _ _ _ _ _ _ looked.unnoted c.turn.ensures.unnoted, hinders-first _ _ _ _ _ _ _ 306 looked.unnoted why, refl, refl)

@@ -1,4 +1,6 @@
-use Rattle.std.proofs.Common.{◌≡◌, ◌+◌, ap, refl, sym, ◌∙◌}
+use Rattle.std.proofs.Common.{◌≡◌, ◌+◌, ap, refl, sym, ◌∙◌, ℕ, ◌≤◌, List, length, subst, ◌<◌, arith}
+use Rattle.std.specs.Prelude.{vec_capacity}
+use Rattle.um_merge.specs.declared.logged.Logged.{Logged}
 use Rattle.um_words.specs.declared.thread_word.ThreadWord.{ThreadWord}
 use Rattle.um_fine.specs.Answers.{thread_in}
 use Rattle.um_fine.specs.Steps.{Exchange, Word}
@@ -63,14 +65,21 @@ pub returns-in-None-make-clause-said : goal.returns-in-None-make-clause-said
 returns-in-None-make-clause-said c =
     let w = c.in-Some.word in
     let got = got-one _ _ _ _ c.look-seen.ensures.got in
-    let shut = SawShut.refused (SiteState.thread w) c.look-seen.result got (ap Word.thread (some-thread c.look-seen.result w c.in-Some.ensures.value)) (c.in-None-make.ensures.made c.args.image.now c.args.cpu c.args.thread.0) in
+    let low : 128 + c.args.thread.0 < 168 = let less = c.requires.thread in omega (arith, less) in
+    let shut = SawShut.word_refused (SiteState.thread w) c.look-seen.result low got c.look-seen.ensures.saw (ap Word.thread (some-thread c.look-seen.result w c.in-Some.ensures.value)) (c.in-None-make.ensures.made c.args.image.now c.args.cpu c.args.thread.0) in
     (w, c.look-seen.ensures.unnoted, shut)
 
 pub returns-in-None-clause-said : goal.returns-in-None-clause-said
 returns-in-None-clause-said c =
-    (c.look-seen.ensures.unnoted, Hinders.no_thread c.look-seen.result (got-one _ _ _ _ c.look-seen.ensures.got) (sym c.in-None.ensures.value))
+    (c.look-seen.ensures.unnoted, Hinders.no_thread c.args.thread.0 c.look-seen.result c.requires.thread refl c.look-seen.ensures.saw (sym c.in-None.ensures.value))
+
+pub returns-then-is_full-clause-said : goal.returns-then-is_full-clause-said
+returns-then-is_full-clause-said c =
+    let log = c.look-seen.ensures.log in
+    let full = subst (λ (q : ℕ × List Logged). q.0 ≤ length q.1) (λ i. (vec_capacity (log i), (log i).items)) (c.is_full.ensures.full c.if-is_full.true) in
+    (c.look-seen.ensures.unnoted, Hinders.full c.look-seen.result c.look-seen.ensures.saw full)
 
 pub returns-then-not-step-clause-said : goal.returns-then-not-step-clause-said
 returns-then-not-step-clause-said c =
     let m = c.if-not-step.ensures.moved refl in
-    (unnoted-then _ _ _ _ _ _ c.look-seen.ensures.unnoted (c.if-not-step.ensures.changed refl), moved-on _ _ _ _ _ _ _ m.0 c.look-seen.ensures.got m.2 m.1)
+    (unnoted-then _ _ _ _ _ _ c.look-seen.ensures.unnoted (c.if-not-step.ensures.changed refl), moved-on _ _ c.args.self.now.seat c.look-seen.new.self.seat c.step.new.self.seat _ _ m.0 c.look-seen.ensures.got m.2 m.1)

@@ -1,5 +1,4 @@
-use Rattle.std.proofs.Common.{◌<◌, ℕ, List, inr, refl, subst}
-use Rattle.std.specs.Prelude.{vec_capacity}
+use Rattle.std.proofs.Common.{◌<◌, ℕ, List, inl, inr, refl, subst}
 use Rattle.um_words.specs.declared.cell_word.CellWord.{CellWord}
 use Rattle.um_processor.specs.Standing.{whole}
 use Rattle.um_merge.specs.declared.logged.Logged.{Logged}
@@ -7,6 +6,17 @@ use Rattle.um_board.specs.Seated.{Unnoted}
 use Rattle.um_cpu.specs.Cpus.{HasAsked}
 use Rattle.um_cpu.proofs.Advances.{looked-first, looks-on, stands-on}
 use Rattle.um_cpu.proofs.cpu.Cpu.step.Goals as goal
+
+pub ask-requires-then-says-gt0-clause-stands : goal.ask-requires-then-says-gt0-clause-stands
+ask-requires-then-says-gt0-clause-stands c =
+    let old = c.args.self.now in
+    let seen = c.look_scheduler-word.new.self in
+    let unnoted = c.look_scheduler-word.ensures.unnoted in
+    stands-on c.args.image.now old.number (whole old.processor) (whole old.processor) old.place.seat old.place.log.items seen.seat seen.log.items c.requires.stands unnoted.keeps
+    (looks-on c.args.image.now old.number (whole old.processor) (whole old.processor) old.place.seat old.place.log.items seen.seat seen.log.items unnoted refl)
+
+pub returns-then-not-is_idle-clause-told : goal.returns-then-not-is_idle-clause-told
+returns-then-not-is_idle-clause-told c = inl (c.is_idle.ensures.busy c.if-not-is_idle.true, c.ask.ensures.asked)
 
 pub returns-then-says-gt0-clause-goes : goal.returns-then-says-gt0-clause-goes
 returns-then-says-gt0-clause-goes c =
@@ -50,8 +60,8 @@ returns-then-says-gt0-clause-told c =
     let looked = c.look_scheduler-word in
     let ready = subst (λ (w : CellWord). 0 < w.ready) c.read-says.ensures.value c.if-says-gt0.true in
     let new = c.ask-then-says-gt0.new.self in
-    let asked = subst (λ (q : ℕ × List Logged). HasAsked c.args.image.now old.number (whole old.processor) (whole new.processor) looked.new.self.seat q.0 q.1 new.place.seat new.place.log.items)
-    (λ i. (vec_capacity (looked.ensures.log i), (looked.ensures.log i).items))
+    let asked = subst (λ (l : List Logged). HasAsked c.args.image.now old.number (whole old.processor) (whole new.processor) looked.new.self.seat l new.place.seat new.place.log.items)
+    (λ i. (looked.ensures.log i).items)
     c.ask-then-says-gt0.ensures.asked in
     let unnoted = subst (λ (l : List Logged). Unnoted old.place.seat old.place.log.items looked.new.self.seat l) (λ i. (looked.ensures.log i).items) looked.ensures.unnoted in
     inr (looked.new.self.seat, unnoted, record { word = looked.result; got = looked.ensures.got; newest = looked.ensures.newest; ready = ready }, asked)
