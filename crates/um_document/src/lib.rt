@@ -32,6 +32,3 @@ pub use shape::{Key, Section};
 pub use spot::Spot;
 pub use told::fault_text;
 pub use words::{attr_word, kind_word, mode_word, mpu_word, policy_word};
-
-#[cfg(test)]
-mod tests;

@@ -18,6 +18,3 @@ mod writing;
 pub use fault::{LineFault, LineKind};
 pub use parse::parse_line;
 pub use print::{print_line, put_line};
-
-#[cfg(test)]
-mod tests;

@@ -1,6 +1,8 @@
-use crate::{fault_text, read_document};
+//! Documents: what one gives, and the first fault of one that is refused.
+
 use std::alloc::Global;
 use std::test::Fail;
+use um_document::{fault_text, read_document};
 
 fn answer(alloc: Global, text: &str) -> Result<String, Fail> {
     match read_document(alloc, text.as_bytes()) {

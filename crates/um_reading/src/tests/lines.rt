@@ -3,9 +3,9 @@
 ghost use Rattle.std.specs.Prelude.{◌<◌, IsTrue, length};
 ghost use Rattle.um_script.specs.Writable.{is_line};
 
-use super::*;
 use std::alloc::Global;
 use um_base::Instr;
+use um_script::{LineFault, LineKind, parse_line, print_line};
 
 /// Lines, and their canonical lines.
 const LINES: &[(&str, &str)] = &[

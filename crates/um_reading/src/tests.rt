@@ -1,0 +1,2 @@
+mod documents;
+mod lines;
