@@ -19,8 +19,6 @@ mod pairs;
 mod rows;
 mod says;
 mod strings;
-#[cfg(test)]
-mod tests;
 mod transfer;
 mod waiting;
 

@@ -12,6 +12,3 @@ pub use one::one_run;
 pub use order::Order;
 pub use running::{Ran, run};
 pub use turns::Processors;
-
-#[cfg(test)]
-mod tests;

@@ -5,16 +5,16 @@ ghost use Rattle.um_base.specs.declared.limits.TheConstants.{STACK_AREA, OBJECTS
 ghost use Rattle.um_base.specs.declared.instr.Instr.{Instr};
 ghost use Rattle.um_base.specs.Lawful.{IsLawful};
 
-use super::*;
 use std::alloc::Global;
 use std::process::Abort;
 use std::test::Fail;
 use um_base::{
-    Act, Addr, BOOTS, Boot, BoundedVec, DomainDef, Errno, Event, Given, Instr, Kind, LINES,
+    Act, Addr, BOOTS, Boot, BoundedVec, DomainDef, Errno, Event, Given, Image, Instr, Kind, LINES,
     Leftover, Memory, Mode, Mpu, Name, OBJECTS, ObjectDef, Policy, Pool, Range, Reply, Row,
     SCRIPTS, STACK_AREA, STATIC_ROWS, Script, Setup, Term, ThreadIx, Want,
 };
 use um_machine::Life;
+use um_matrix::Matrix;
 
 /// The threads a, b and c, and the stacks of a and c.
 const A: Addr = Addr(0x4000_0000);

@@ -1,8 +1,10 @@
 //! The orders of threads and processors.
 
-use crate::line::Line;
-use crate::order::Order;
+ghost use Rattle.std.specs.Prelude.{◌≡◌, [], ◌∷◌};
+ghost use Rattle.um_turns.specs.Lines.{all_join};
+
 use std::test::Fail;
+use um_turns::Order;
 
 #[test]
 fn processors_go_round(rt: HostRuntime) -> Result<(), Fail> {
@@ -27,14 +29,12 @@ fn processors_fall_as_the_words_of_a_seed(rt: HostRuntime) -> Result<(), Fail> {
     Ok(())
 }
 
+/// A number that stands in a line keeps its place there.
+fn joined_once()
+    ensures { all_join [] (3 ∷ 1 ∷ 3 ∷ []) ≡ 3 ∷ 1 ∷ [] }
+{}
+
 #[test]
-fn a_number_stands_once_in_a_line(rt: HostRuntime) -> Result<(), Fail> {
-    let mut line = Line::new();
-    for number in [3, 1, 3] {
-        line.add(number);
-    }
-    assert!(rt; line.take() == Some(3));
-    assert!(rt; line.take() == Some(1));
-    assert!(rt; line.take() == None);
-    Ok(())
+fn a_number_stands_once_in_a_line() {
+    joined_once();
 }
