@@ -5,8 +5,6 @@ mod answer;
 mod laws;
 mod sim;
 mod status;
-#[cfg(test)]
-mod tests;
 mod threads;
 mod top;
 

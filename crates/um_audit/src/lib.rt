@@ -13,6 +13,3 @@ mod verdict;
 pub use auditing::audit;
 pub use parts::{Parts, parts_of};
 pub use verdict::{Verdict, verdict_text};
-
-#[cfg(test)]
-mod tests;

@@ -3,6 +3,7 @@
 mod audited;
 mod changed;
 mod described;
+mod told;
 mod values;
 
 use changed::changed;

@@ -1,4 +1,5 @@
-//! Tests of runs whose processors are threads, and of the top call where its source or its sink fails. No code.
+//! Tests of the top call: what each command writes or is refused with, runs whose processors are threads, and sources and
+//! sinks that fail. No code.
 #![tactic(auto)]
 
 #[cfg(test)]

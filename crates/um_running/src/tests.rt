@@ -1,11 +1,13 @@
-//! The top call over memory, with a gate.
+//! The top call over memory, with or without a gate.
 
+mod audits;
 mod described;
 mod gates;
 mod lines;
 mod outside;
 mod picks;
 mod runs;
+mod texts;
 
 ghost use Rattle.std.specs.Prelude.{◌≤◌};
 
@@ -14,7 +16,7 @@ use std::sync::Wait;
 use std::test::Fail;
 use std::thread::Threads;
 use um_app::{Status, zumode};
-use um_io::{Gate, MemSink, MemSource};
+use um_io::{Gate, MemSink, MemSource, NoGate};
 
 /// What a call answered and wrote.
 #[derive(Drop)]
@@ -48,17 +50,16 @@ pub fn source_of(
     Ok(MemSource::new(bytes, piece, fails))
 }
 
-/// A command between a source and a sink.
-pub fn call<R: AllocGlobal + Threads + Wait + Sync, G: Gate + Sync>(
+/// A command between a source and two sinks, the second one for its error line.
+fn call_between<R: AllocGlobal + Threads + Wait + Sync, G: Gate + Sync>(
     rt: &R,
     line: &str,
     mut source: MemSource,
     mut out: MemSink,
+    mut err: MemSink,
     gate: &G,
 ) -> Result<Ended, Fail> {
-    let alloc = rt.alloc();
-    let words = words_of(alloc, line)?;
-    let mut err = MemSink::new(alloc, 4096, Vec::new(alloc))?;
+    let words = words_of(rt.alloc(), line)?;
     let mut ran = None;
     let status = zumode(rt, &words, &mut source, &mut out, &mut err, gate, &mut ran);
     let board = ran.is_some();
@@ -71,6 +72,35 @@ pub fn call<R: AllocGlobal + Threads + Wait + Sync, G: Gate + Sync>(
         err,
         board,
     })
+}
+
+/// A command between a source and a sink.
+pub fn call<R: AllocGlobal + Threads + Wait + Sync, G: Gate + Sync>(
+    rt: &R,
+    line: &str,
+    source: MemSource,
+    out: MemSink,
+    gate: &G,
+) -> Result<Ended, Fail> {
+    let alloc = rt.alloc();
+    let err = MemSink::new(alloc, 4096, Vec::new(alloc))?;
+    call_between(rt, line, source, out, err, gate)
+}
+
+/// A command over memory, with so many bytes a call, where nothing fails.
+pub fn in_pieces<R: AllocGlobal + Threads + Wait + Sync>(
+    rt: &R,
+    line: &str,
+    input: Vec<u8>,
+    piece: u32,
+) -> Result<Ended, Fail>
+    requires { 1 ≤ piece }
+{
+    let alloc = rt.alloc();
+    let source = MemSource::new(input, piece, Vec::new(alloc));
+    let out = MemSink::new(alloc, piece, Vec::new(alloc))?;
+    let err = MemSink::new(alloc, piece, Vec::new(alloc))?;
+    call_between(rt, line, source, out, err, &NoGate)
 }
 
 /// A command on a description, where nothing fails.

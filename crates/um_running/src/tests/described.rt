@@ -1,4 +1,4 @@
-//! Descriptions that are run.
+//! Descriptions that are run, and the text of a run.
 
 /// A store to the last byte of a partition, and a load past it.
 pub const LAST_BYTE: &str = "version = 1
@@ -10,6 +10,23 @@ domain = [{name = \"d\", partitions = [\"p\"]}]
 object = [{name = \"a\", kind = \"thread\"}, {name = \"sa\", kind = \"thread_stack\", size = 64}]
 boot = [{thread = \"a\", stack = \"sa\", script = \"m\", priority = 0, domain = \"d\"}]
 script = [{name = \"m\", lines = [\"store @p+31 1 0xab\", \"load r0 @p+32 1\"]}]
+";
+
+/// The text of its run.
+pub const LAST_BYTE_RUN: &str = "a begin m 1
+a store 0x2000001f 1 0xab
+a begin m 2
+a fault read 0x20000020 1
+a fatal 0 access
+a drop a a kept
+a uninit sa
+a uninit a
+dump
+thread a ended user 0 d
+object a thread uninit private - -
+object sa thread_stack uninit private - -
+domain d 0x20000000/32/P_RW_U_RW
+memory 0x20000000 00000000000000000000000000000000000000000000000000000000000000ab
 ";
 
 /// A thread creates another, which gets its permissions.

@@ -1,11 +1,12 @@
 //! What the commands write.
 
-use super::{Ended, LAST_BYTE, call, last_byte};
-use crate::Status;
+use super::described::{LAST_BYTE, LAST_BYTE_RUN};
+use super::{Ended, in_pieces};
 use std::alloc::Global;
 use std::sync::Wait;
 use std::test::Fail;
 use std::thread::Threads;
+use um_app::Status;
 
 /// The top of a description.
 const TOP: &str = "version = 1
@@ -70,9 +71,9 @@ lines = [\"store 536870943 1 171\", \"load r0 536870944 1\"]
 fn a_run_in_pieces(rt: HostRuntime) -> Result<(), Fail> {
     let alloc = rt.alloc();
     for piece in [1, 7, 4096] {
-        let ended = call(&rt, "sim", last_byte(alloc)?, piece)?;
+        let ended = in_pieces(&rt, "sim", LAST_BYTE.as_bytes().to_vec(alloc)?, piece)?;
         assert_eq!(rt; ended.status, Status::Done);
-        assert_eq!(rt; ended.out.bytes(), LAST_BYTE.as_bytes());
+        assert_eq!(rt; ended.out.bytes(), LAST_BYTE_RUN.as_bytes());
         assert_eq!(rt; ended.err.bytes().len(), 0);
     }
     Ok(())
@@ -82,14 +83,14 @@ fn a_run_in_pieces(rt: HostRuntime) -> Result<(), Fail> {
 fn what_each_command_writes(rt: HostRuntime) -> Result<(), Fail> {
     let alloc = rt.alloc();
     let cases = [
-        ("sim --pick 7 --cpus 08", LAST_BYTE),
+        ("sim --pick 7 --cpus 08", LAST_BYTE_RUN),
         ("layout", ADDRESSES),
         ("summary", COUNTS),
         ("upgrade", CANONICAL),
         ("summary --cpus 3", COUNTS),
     ];
     for (words, text) in cases {
-        let ended = call(&rt, words, last_byte(alloc)?, 64)?;
+        let ended = in_pieces(&rt, words, LAST_BYTE.as_bytes().to_vec(alloc)?, 64)?;
         assert_eq!(rt; ended.status, Status::Done);
         assert_eq!(rt; ended.out.bytes(), text.as_bytes());
         assert_eq!(rt; ended.err.bytes().len(), 0);
@@ -108,7 +109,7 @@ fn words_that_are_no_command(rt: HostRuntime) -> Result<(), Fail> {
         "layout layout",
         "run --pick 1",
     ] {
-        let ended = call(&rt, words, last_byte(alloc)?, 64)?;
+        let ended = in_pieces(&rt, words, LAST_BYTE.as_bytes().to_vec(alloc)?, 64)?;
         assert_eq!(rt; ended.status, Status::Usage);
         assert_eq!(rt; ended.out.bytes().len(), 0);
         assert_eq!(rt; ended.err.bytes(), USAGE.as_bytes());
@@ -119,7 +120,7 @@ fn words_that_are_no_command(rt: HostRuntime) -> Result<(), Fail> {
 #[test]
 fn a_description_without_a_thread(rt: HostRuntime) -> Result<(), Fail> {
     let alloc = rt.alloc();
-    let ended = call(&rt, "sim --cpus 8", TOP.as_bytes().to_vec(alloc)?, 64)?;
+    let ended = in_pieces(&rt, "sim --cpus 8", TOP.as_bytes().to_vec(alloc)?, 64)?;
     assert_eq!(rt; ended.status, Status::Done);
     assert_eq!(rt; ended.out.bytes(), b"dump\n".as_slice());
     Ok(())
@@ -131,9 +132,9 @@ fn counts_of<R: AllocGlobal + Threads + Wait + Sync>(
     alloc: Global,
     words: &str,
 ) -> Result<Ended, Fail> {
-    let made = call(rt, words, Vec::new(alloc), 4096)?;
+    let made = in_pieces(rt, words, Vec::new(alloc), 4096)?;
     let input = made.out.bytes().to_vec(alloc)?;
-    call(rt, "summary --cpus 2 --pick 3", input, 4096)
+    in_pieces(rt, "summary --cpus 2 --pick 3", input, 4096)
 }
 
 #[test]
@@ -163,7 +164,7 @@ fn what_is_refused(rt: HostRuntime) -> Result<(), Fail> {
     ];
     for (input, line) in cases {
         for words in ["sim", "layout", "summary --pick 1"] {
-            let ended = call(&rt, words, input.as_bytes().to_vec(alloc)?, 64)?;
+            let ended = in_pieces(&rt, words, input.as_bytes().to_vec(alloc)?, 64)?;
             assert_eq!(rt; ended.status, Status::Refused);
             assert_eq!(rt; ended.out.bytes().len(), 0);
             assert_eq!(rt; ended.err.bytes(), line.as_bytes());
@@ -175,10 +176,10 @@ fn what_is_refused(rt: HostRuntime) -> Result<(), Fail> {
 #[test]
 fn an_input_of_the_greatest_length_and_one_byte_more(rt: HostRuntime) -> Result<(), Fail> {
     let alloc = rt.alloc();
-    let ended = call(&rt, "sim", vec![in alloc; b'#'; 1_048_576]?, 4096)?;
+    let ended = in_pieces(&rt, "sim", vec![in alloc; b'#'; 1_048_576]?, 4096)?;
     assert_eq!(rt; ended.status, Status::Refused);
     assert_eq!(rt; ended.err.bytes(), b"zumode: refused: Version\n".as_slice());
-    let ended = call(&rt, "sim", vec![in alloc; b'#'; 1_048_577]?, 4096)?;
+    let ended = in_pieces(&rt, "sim", vec![in alloc; b'#'; 1_048_577]?, 4096)?;
     assert_eq!(rt; ended.status, Status::TooLong);
     assert_eq!(rt; ended.out.bytes().len(), 0);
     assert_eq!(rt; ended.err.bytes(), b"zumode: input too long\n".as_slice());

@@ -1,10 +1,10 @@
 //! Verdicts are told as lines.
 
-use super::*;
 use std::test::Fail;
+use um_audit::{Verdict, verdict_text};
 
 #[test]
-fn told(rt: HostRuntime) -> Result<(), Fail> {
+fn verdicts_are_told_as_lines(rt: HostRuntime) -> Result<(), Fail> {
     for (verdict, line) in [
         (Verdict::Yes, "yes\n"),
         (Verdict::NoStep { line: 3 }, "no step 3\n"),

@@ -1,25 +1,37 @@
 //! Audits of the run of a store to the last byte of a partition, and a load past it.
 
-use super::{Ended, HEAD, LAST_BYTE, call, last_byte};
-use crate::Status;
+use super::described::{LAST_BYTE, LAST_BYTE_RUN};
+use super::{Ended, in_pieces};
 use std::alloc::Global;
 use std::sync::Wait;
 use std::test::Fail;
 use std::thread::Threads;
+use um_app::Status;
+
+/// A description that breaks off at the lines of its script.
+const BROKEN: &str = "version = 1
+mpu = \"pmsav7\"
+regions = 8
+oops = \"abort\"
+partition = [{name = \"p\", size = 32, attr = \"P_RW_U_RW\"}]
+domain = [{name = \"d\", partitions = [\"p\"]}]
+object = [{name = \"a\", kind = \"thread\"}, {name = \"sa\", kind = \"thread_stack\", size = 64}]
+boot = [{thread = \"a\", stack = \"sa\", script = \"m\", priority = 0, domain = \"d\"}]
+script = [{name = \"m\", lines = [";
 
 /// The input of an audit: the description, the line between, and a trace.
 fn audited<R: AllocGlobal + Threads + Wait + Sync>(rt: &R, trace: &[u8]) -> Result<Ended, Fail> {
     let alloc = rt.alloc();
-    let mut input = last_byte(alloc)?;
+    let mut input = LAST_BYTE.as_bytes().to_vec(alloc)?;
     input.extend_from_slice(b"=====\n".as_slice())?;
     input.extend_from_slice(trace)?;
-    call(rt, "audit", input, 4096)
+    in_pieces(rt, "audit", input, 4096)
 }
 
 /// The text of the run without its line of this number, counted from 1.
 fn without(alloc: Global, number: usize) -> Result<Vec<u8>, Fail> {
     let mut text = Vec::new(alloc);
-    for (k, line) in LAST_BYTE.split('\n').enumerate() {
+    for (k, line) in LAST_BYTE_RUN.split('\n').enumerate() {
         if k.saturating_add(1) != number && !line.is_empty() {
             text.extend_from_slice(line.as_bytes())?;
             text.push(b'\n')?;
@@ -48,7 +60,7 @@ fn verdicts(rt: HostRuntime) -> Result<(), Fail> {
     let changed = ended_by(alloc, "ac\n")?;
     let unended = ended_by(alloc, "ab")?;
     let cases: [(&[u8], &str); 9] = [
-        (LAST_BYTE.as_bytes(), "yes\n"),
+        (LAST_BYTE_RUN.as_bytes(), "yes\n"),
         (&same, "yes\n"),
         (&third, "no step 3\n"),
         (&eighth, "not complete\n"),
@@ -70,13 +82,16 @@ fn verdicts(rt: HostRuntime) -> Result<(), Fail> {
 #[test]
 fn inputs_without_a_verdict(rt: HostRuntime) -> Result<(), Fail> {
     let alloc = rt.alloc();
-    let untraced = last_byte(alloc)?;
-    let broken = format!(in alloc; "{HEAD}\n=====\n")?;
+    let broken = format!(in alloc; "{BROKEN}\n=====\n")?;
     let long = vec![in alloc; b'#'; 1_048_577]?;
     let cases: [(&[u8], Status, &str); 4] = [
-        (&untraced, Status::Refused, "zumode: refused: NoTrace\n"),
         (
-            HEAD.as_bytes(),
+            LAST_BYTE.as_bytes(),
+            Status::Refused,
+            "zumode: refused: NoTrace\n",
+        ),
+        (
+            BROKEN.as_bytes(),
             Status::Refused,
             "zumode: refused: NoTrace\n",
         ),
@@ -88,7 +103,7 @@ fn inputs_without_a_verdict(rt: HostRuntime) -> Result<(), Fail> {
         (&long, Status::TooLong, "zumode: input too long\n"),
     ];
     for (input, status, line) in cases {
-        let ended = call(&rt, "audit", input.to_vec(alloc)?, 4096)?;
+        let ended = in_pieces(&rt, "audit", input.to_vec(alloc)?, 4096)?;
         assert_eq!(rt; ended.status, status);
         assert_eq!(rt; ended.out.bytes().len(), 0);
         assert_eq!(rt; ended.err.bytes(), line.as_bytes());
