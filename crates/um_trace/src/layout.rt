@@ -118,6 +118,3 @@ pub fn layout_text(image: &Image, room: &mut Vec<u8>)
     put_partitions(room, image.partitions.as_slice());
     put_places(room, image.objects.as_slice());
 }
-
-#[cfg(test)]
-mod tests;

@@ -13,8 +13,6 @@ mod objects;
 mod pairs;
 mod places;
 mod room;
-#[cfg(test)]
-mod small_image;
 mod summary;
 mod threads;
 mod trace;

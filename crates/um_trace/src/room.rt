@@ -205,38 +205,3 @@ pub fn put_bytes(room: &mut Vec<u8>, bytes: &[u8])
         put_byte(room, *byte);
     }
 }
-
-#[cfg(test)]
-mod tests {
-    use super::*;
-    use std::test::Fail;
-
-    #[test]
-    fn numbers(rt: HostRuntime) -> Result<(), Fail> {
-        for (n, address, value, decimal) in [
-            (0, "0x00000000", "0x0", "0"),
-            (9, "0x00000009", "0x9", "9"),
-            (10, "0x0000000a", "0xa", "10"),
-            (0x100, "0x00000100", "0x100", "256"),
-            (0x2008_0000, "0x20080000", "0x20080000", "537395200"),
-            (0xdead_beef, "0xdeadbeef", "0xdeadbeef", "3735928559"),
-            (u32::MAX, "0xffffffff", "0xffffffff", "4294967295"),
-        ] {
-            let mut room = Vec::with_capacity(rt.alloc(), 10)?;
-            put_address(&mut room, Addr(n));
-            assert_eq!(rt; room.as_slice(), address.as_bytes());
-            let mut room = Vec::with_capacity(rt.alloc(), 10)?;
-            put_value(&mut room, n);
-            assert_eq!(rt; room.as_slice(), value.as_bytes());
-            let mut room = Vec::with_capacity(rt.alloc(), 10)?;
-            put_decimal(&mut room, n);
-            assert_eq!(rt; room.as_slice(), decimal.as_bytes());
-        }
-        let mut room = Vec::with_capacity(rt.alloc(), 20)?;
-        put_signed(&mut room, -16);
-        put_text(&mut room, " ");
-        put_bytes(&mut room, b"za\x00\xff");
-        assert_eq!(rt; room.as_slice(), "-16 7a6100ff".as_bytes());
-        Ok(())
-    }
-}

@@ -46,6 +46,3 @@ pub fn summary_text(image: &Image, events: &[Event], last: &Matrix, room: &mut V
     put_line(room, "ended", threads::ended(image, last));
     put_line(room, "waiting", threads::waiting(image, last));
 }
-
-#[cfg(test)]
-mod tests;

@@ -88,6 +88,3 @@ pub fn trace_text(image: &Image, events: &[Event], last: &Matrix, room: &mut Vec
     put_events(room, image, events);
     put_dump(room, image, last);
 }
-
-#[cfg(test)]
-mod tests;

@@ -116,38 +116,3 @@ pub fn put_pools(room: &mut Vec<u8>, image: &Image, last: &Matrix)
         put_pool_line(room, image, last, pool);
     }
 }
-
-#[cfg(test)]
-mod tests {
-    use super::*;
-    use std::test::Fail;
-    use um_base::{Addr, Name};
-
-    fn part(start: u32, size: u32, attr: Attr) -> (Range, Attr) {
-        let start = Addr(start);
-        (Range { start, size }, attr)
-    }
-
-    #[test]
-    fn partitions_and_pools(rt: HostRuntime) -> Result<(), Fail> {
-        let two = [
-            part(0x2000_0000, 256, Attr::P_RW_U_RW),
-            part(0x2000_0100, 32, Attr::P_RO_U_RO),
-        ];
-        let mut room = Vec::with_capacity(rt.alloc(), 2000)?;
-        put_parts(&mut room, &[]);
-        put_text(&mut room, "\n");
-        put_parts(&mut room, &two);
-        put_text(&mut room, "\n");
-        let pool = Pool {
-            name: Name::from_bytes(b"h"),
-            size: 128,
-        };
-        put_pool(&mut room, &pool, 64);
-        assert_eq!(rt;
-            room.as_slice(),
-            "-\n0x20000000/256/P_RW_U_RW,0x20000100/32/P_RO_U_RO\npool h 64/128\n".as_bytes()
-        );
-        Ok(())
-    }
-}

@@ -98,24 +98,3 @@ pub fn put_area(room: &mut Vec<u8>, area: u32, bytes: &[u8])
         put_page(room, area, bytes, page);
     }
 }
-
-#[cfg(test)]
-mod tests {
-    use super::*;
-    use std::test::Fail;
-
-    #[test]
-    fn a_block_that_is_not_zero(rt: HostRuntime) -> Result<(), Fail> {
-        let mut bytes = [0; 64];
-        bytes[63] = 0xab;
-        let mut room = Vec::with_capacity(rt.alloc(), 166)?;
-        put_block(&mut room, STACK_AREA, &bytes, 0);
-        assert_eq!(rt; room.len(), 0);
-        put_block(&mut room, STACK_AREA, &bytes, 1);
-        assert_eq!(rt;
-            room.as_slice(),
-            "memory 0x20080020 00000000000000000000000000000000000000000000000000000000000000ab\n".as_bytes()
-        );
-        Ok(())
-    }
-}

@@ -210,6 +210,3 @@ pub fn put_objects(room: &mut Vec<u8>, image: &Image, last: &Matrix)
         put_line_of(room, image, last, row);
     }
 }
-
-#[cfg(test)]
-mod tests;

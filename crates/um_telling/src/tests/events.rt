@@ -1,28 +1,12 @@
 //! Lines of events over a small image, as worked examples show them.
 
-use super::*;
-use crate::small_image::small_image;
+use super::lines_of;
 use std::test::Fail;
 use um_base::{
-    Access, Addr, Answer, Attr, Cause, Errno, Found, Given, Kind, Leftover, Range, Replies, Reply,
-    Row, SetSaid, ThreadIx, Want,
+    Access, Act, Addr, Answer, Attr, Cause, Errno, Event, Found, Given, Kind, Leftover, Range,
+    Replies, Reply, Row, SetSaid, ThreadIx, Want,
 };
-
-/// The lines of these acts of thread `a`.
-fn lines_of(rt: &HostRuntime, acts: &[Act]) -> Result<Vec<u8>, Fail> {
-    let image = small_image(rt.alloc())?;
-    let mut lines = Vec::new(rt.alloc());
-    for act in acts {
-        let event = Event {
-            thread: ThreadIx(0),
-            act: *act,
-        };
-        let mut room = Vec::with_capacity(rt.alloc(), 128 + 64 * woken_by(act))?;
-        put_event(&mut room, &image, &event);
-        lines.extend_from_slice(&room)?;
-    }
-    Ok(lines)
-}
+use um_trace::text_room;
 
 #[test]
 fn acts_of_threads(rt: HostRuntime) -> Result<(), Fail> {
@@ -45,7 +29,7 @@ fn acts_of_threads(rt: HostRuntime) -> Result<(), Fail> {
         Act::Exit,
     ];
     assert_eq!(rt;
-        lines_of(&rt, &acts)?.as_slice(),
+        lines_of(rt.alloc(), &acts)?.as_slice(),
         "a begin m 1\na resume\na reply NULL\na name b\na start #0\na user\na fatal 3 EPERM\na fatal 0 access\na doom 31\na exit\n".as_bytes()
     );
     Ok(())
@@ -105,7 +89,7 @@ fn acts_on_domains_and_pairs(rt: HostRuntime) -> Result<(), Fail> {
         },
     ];
     assert_eq!(rt;
-        lines_of(&rt, &acts)?.as_slice(),
+        lines_of(rt.alloc(), &acts)?.as_slice(),
         "a domain init d 0\na domain add d 0x20000000/32/P_RW_U_RW ENOSPC\na domain remove d 0x20000000/32/P_RW_U_RW 0\na domain move d b 0\na grant b #16 ok\na own b gone\na inherit b sb\na drop a a kept\na drop b #16 gone\n".as_bytes()
     );
     Ok(())
@@ -173,7 +157,7 @@ fn acts_on_objects(rt: HostRuntime) -> Result<(), Fail> {
         Act::Recycle { addr: dynamic },
     ];
     assert_eq!(rt;
-        lines_of(&rt, &acts)?.as_slice(),
+        lines_of(rt.alloc(), &acts)?.as_slice(),
         "a check s sem init EPERM\na check 0x00000000 any any ok\na act s wait\na act s void wake b 0\na public s ok\na setinit #4 ok\na setinit s EADDRINUSE\na uninit sa\na reserve sem #4\na reserve msgq NULL\na born #4\na buffer 8 ENOMEM\na unbuffer 8\na recycle #4\n".as_bytes()
     );
     Ok(())
@@ -226,7 +210,7 @@ fn acts_on_memory(rt: HostRuntime) -> Result<(), Fail> {
         Act::Erase { stack: Row(1) },
     ];
     assert_eq!(rt;
-        lines_of(&rt, &acts)?.as_slice(),
+        lines_of(rt.alloc(), &acts)?.as_slice(),
         "a load 0x20000000 4 0x0\na store 0x2000001f 1 0xab\na exec 0x08000000\na fault read 0x20000020 1\na probe 0x20000000 4 ok\na copyin 0xdead0000 0 ok\na copyout 0x20000000 4 EFAULT\na copystr 0x08000000 6\na copystr 0x08000000 toolong\na erase sa\n".as_bytes()
     );
     Ok(())

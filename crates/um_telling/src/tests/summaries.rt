@@ -1,0 +1,95 @@
+//! The summary of acts, and of a run to its end.
+
+use super::image_of;
+use std::test::Fail;
+use um_base::{Act, Addr, Answer, Cause, Errno, Event, Replies, Reply, ThreadIx, Want};
+use um_matrix::Matrix;
+use um_trace::{SUMMARY_ROOM, summary_text};
+
+/// One thread, which writes the last byte of its partition, and reads the first behind it.
+const LAST_BYTE: &str = "version = 1
+mpu = \"pmsav7\"
+regions = 8
+oops = \"abort\"
+partition = [{name = \"p\", size = 32, attr = \"P_RW_U_RW\"}]
+domain = [{name = \"d\", partitions = [\"p\"]}]
+object = [{name = \"a\", kind = \"thread\"}, {name = \"sa\", kind = \"thread_stack\", size = 64}]
+boot = [{thread = \"a\", stack = \"sa\", script = \"m\", priority = 0, domain = \"d\"}]
+script = [{name = \"m\", lines = [\"store @p+31 1 0xab\", \"load r0 @p+32 1\"]}]
+";
+
+/// A check of an object with this verdict.
+fn check(verdict: Option<Errno>) -> Act {
+    Act::Check {
+        addr: Addr(0),
+        kind: None,
+        want: Want::Any,
+        verdict,
+    }
+}
+
+/// Work that answers so.
+fn work(answer: Answer) -> Act {
+    Act::Work {
+        addr: Addr(0),
+        answer,
+        woken: Replies::new(),
+    }
+}
+
+#[test]
+fn acts_are_counted(rt: HostRuntime) -> Result<(), Fail> {
+    let image = image_of(rt.alloc(), LAST_BYTE)?;
+    let last = Matrix::boot(rt.alloc(), &image)?;
+    let mut events = Vec::new(rt.alloc());
+    for act in [
+        Act::Begin { script: 0, line: 1 },
+        check(None),
+        work(Answer::Wait),
+        Act::Begin { script: 0, line: 1 },
+        check(None),
+        work(Answer::Now(Reply::Num(0))),
+        Act::Resume,
+        Act::Begin { script: 0, line: 2 },
+        check(Some(Errno::EPERM)),
+        Act::Fatal {
+            reason: 3,
+            cause: Cause::Refused(Errno::EPERM),
+        },
+        Act::Recycle { addr: Addr(0) },
+        Act::Recycle { addr: Addr(1) },
+        Act::Exit,
+    ] {
+        events.push(Event {
+            thread: ThreadIx(0),
+            act,
+        })?;
+    }
+    let mut room = Vec::with_capacity(rt.alloc(), SUMMARY_ROOM)?;
+    summary_text(&image, &events, &last, &mut room);
+    assert_eq!(rt;
+        room.as_slice(),
+        "events 13\nbegins 3\nchecks 3\nrefused 1\nfatals 1\nwaits 1\nrecycles 2\nended 0\nwaiting 0\n".as_bytes()
+    );
+    Ok(())
+}
+
+#[test]
+fn a_run_to_its_end(rt: HostRuntime) -> Result<(), Fail> {
+    let image = image_of(rt.alloc(), LAST_BYTE)?;
+    let mut matrix = Matrix::boot(rt.alloc(), &image)?;
+    let mut events = Vec::new(rt.alloc());
+    for _ in 0..64 {
+        if let Some(event) = matrix.next_event() {
+            assert!(rt; matrix.apply(&event).is_ok());
+            events.push(event)?;
+        }
+    }
+    let mut room = Vec::with_capacity(rt.alloc(), SUMMARY_ROOM)?;
+    summary_text(&image, &events, &matrix, &mut room);
+    assert_eq!(rt;
+        room.as_slice(),
+        "events 8\nbegins 2\nchecks 0\nrefused 0\nfatals 1\nwaits 0\nrecycles 0\nended 1\nwaiting 0\n".as_bytes()
+    );
+    Ok(())
+}
