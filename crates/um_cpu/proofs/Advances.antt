@@ -90,14 +90,14 @@ module _ (image : Image) (k : ℕ) where
 
   -- a processor without a thread that sees none ready
   pub rests-saw : (p q : Processor) (s : Seat Known) (old : List Logged) (t : Seat Known) (new : List Logged) (word : ℕ) (steps : List FineStep)
-      → HasMade image k p s old steps → Rests p q s old t new word → SawNone image t.token.me.0.got steps
+      → HasMade image k p s old steps → Rests image k p q s old t new word → SawNone image t.token.me.0.got steps
   rests-saw p q s old t new word steps made rests =
       subst (λ (got : List (ℕ × ℕ)). SawNone image got steps) (sym rests.got)
       (saw-none image k s.token.me.0.made s.token.me.0.got old steps (plays p s old steps made) word (subst (λ (x : Processor). x.todo ≡ []) made.stands rests.idle) rests.newest rests.none)
 
   -- such a processor has made what it had made before
   pub rests-on : (p q : Processor) (s : Seat Known) (old : List Logged) (t : Seat Known) (new : List Logged) (word : ℕ) (steps : List FineStep)
-      → HasMade image k p s old steps → Rests p q s old t new word → HasMade image k q t new steps
+      → HasMade image k p s old steps → Rests image k p q s old t new word → HasMade image k q t new steps
   rests-on p q s old t new word steps made rests =
       has-made q t new steps s.token.me.0.made ((SCHEDULER, word) ∷ s.token.me.0.got) old
       rests.made rests.got rests.log
@@ -116,7 +116,7 @@ module _ (image : Image) (k : ℕ) where
       (was.0 ++ now.more, now.made)
 
   pub plays-out : (p q x : Processor) (s : Seat Known) (old : List Logged) (t : Seat Known) (between : List Logged) (u : Seat Known) (new : List Logged) (word : ℕ)
-      → Reaches image k p s old q t between → Rests q x t between u new word → Plays image k p s old x u new
+      → Reaches image k p s old q t between → Rests image k q x t between u new word → Plays image k p s old x u new
   plays-out p q x s old t between u new word reaches rests steps made =
       let was = reaches steps made in
       (was.0, rests-on q x t between u new word was.0 was.1 rests, rests-saw q x t between u new word was.0 was.1 rests)

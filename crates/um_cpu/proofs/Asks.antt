@@ -1,5 +1,5 @@
 -- What comes of asking for the next step, by the fine run that stood when the seat looked.
-use Rattle.std.proofs.Common.{◌≡◌, ◌≢◌, ◌⊎◌, inl, inr, ℕ, ◌+◌, ◌<◌, ◌≤◌, List, ◌∷◌, length, map, refl, sym, ap, ◌∙◌, subst, arith}
+use Rattle.std.proofs.Common.{◌≡◌, ◌≢◌, ◌⊎◌, inl, inr, ℕ, ◌+◌, ◌<◌, ◌≤◌, List, [], ◌∷◌, length, map, refl, sym, ap, ◌∙◌, subst, arith}
 use Rattle.std.specs.Prelude.{IsTrue}
 use Rattle.um_base.specs.Weight.{weight}
 use Rattle.um_base.specs.declared.image.Image.{Image}
@@ -24,10 +24,13 @@ use Rattle.um_board.specs.ReadBack.{fine_at}
 use Rattle.um_board.specs.Saw.{Hinders, SawAt, SawShut}
 use Rattle.um_board.specs.Seated.{IsSeated, Noted, Unnoted}
 use Rattle.um_history.specs.Fine.{Stood}
+use Rattle.um_history.specs.Played.{SCHEDULER}
 use Rattle.um_history.proofs.Hindered.{hindered, refused}
 use Rattle.um_history.proofs.NeverStuck.{never-stuck}
-use Rattle.um_history.proofs.Stood.{IsSeatOf, g, stood}
-use Rattle.um_cpu.specs.Cpus.{HasAsked, Stands}
+use Rattle.um_history.proofs.Stood.{IsSeatOf, g, stood, word-stood}
+use Rattle.um_cpu.specs.Cpus.{HasAsked, Rests, Stands}
+use Rattle.um_words.specs.Packed.{cell_of}
+use Rattle.um_site.specs.Tells.{NoOlder}
 use Rattle.um_cell.specs.declared.cells.Cells.{Cells}
 use Rattle.atomic_table.specs.Seated.{TableId}
 
@@ -84,3 +87,20 @@ module _ (image : Image) (described : IsDescribed image) (can : CanRun image 8) 
   asked-of Turn.Changed q old t new room none same most kept turned on =
       HasAsked.others turned.0 kept (hindered image described can longest k s seat room old t _ same most turned.1)
   asked-of Turn.Stuck q old t new room none same most kept turned on = absurd (on refl)
+
+  -- a look at the scheduler's word by a processor without a thread, by which none is ready
+  pub rests-by : (t : Seat Known) (old new : List Logged) (w : ℕ) → p.todo ≡ [] → Unnoted s old t new → t.token.me.0.got ≡ (SCHEDULER, w) ∷ s.token.me.0.got → NoOlder s.token.me.0.got SCHEDULER w
+      → SawAt s SCHEDULER w → (cell_of w).ready ≡ 0 → Rests image k p p s old t new w
+  rests-by t old new w idle unnoted got newest saw none =
+      record {
+        idle = idle;
+        same = refl;
+        made = unnoted.made;
+        log = unnoted.log;
+        got = got;
+        newest = newest;
+        none = none;
+        run = g image described can longest k s seat SCHEDULER w saw;
+        stood = stood image described can longest k s seat SCHEDULER w saw;
+        left = word-stood image described can longest k s seat SCHEDULER w saw Site.scheduler refl refl;
+      }

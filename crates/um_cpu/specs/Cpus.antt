@@ -1,13 +1,14 @@
 -- What a processor on a board has made, and what its turns add to that.
-use Rattle.std.specs.Prelude.{◌≡◌, ◌≢◌, ℕ, ◌<◌, ◌≤◌, ◌⊎◌, List, [], ◌∷◌, ◌++◌, length}
+use Rattle.std.specs.Prelude.{◌≡◌, ◌≢◌, ℕ, ◌<◌, ◌≤◌, ◌⊎◌, List, [], ◌∷◌, ◌++◌, length, map}
 use Rattle.um_base.specs.declared.image.Image.{Image}
+use Rattle.um_words.specs.History.{bare}
 use Rattle.um_words.specs.Packed.{cell_of}
 use Rattle.um_fine.specs.Asks.{next_site}
 use Rattle.um_fine.specs.Follows.{p_next}
 use Rattle.um_fine.specs.Processor.{Processor, idle}
 use Rattle.um_fine.specs.Runs.{ends}
-use Rattle.um_fine.specs.Sites.{site_number}
-use Rattle.um_fine.specs.Steps.{FineStep}
+use Rattle.um_fine.specs.Sites.{site_number, word_of}
+use Rattle.um_fine.specs.Steps.{FineStep, Site}
 use Rattle.um_merge.specs.declared.logged.Logged.{Logged}
 use Rattle.um_processor.specs.Processors.{AsksFor, Goes}
 use Rattle.um_site.specs.Tells.{NoOlder}
@@ -15,9 +16,10 @@ use Rattle.um_site.specs.declared.seat.Seat.{Seat}
 use Rattle.um_board.specs.Contents.{Known}
 use Rattle.um_board.specs.Noted.{packed}
 use Rattle.um_board.specs.Opening.{AreOpening}
+use Rattle.um_board.specs.ReadBack.{fine_at}
 use Rattle.um_board.specs.Saw.{OthersAt, WasGot}
 use Rattle.um_board.specs.Seated.{Noted, Unnoted}
-use Rattle.um_history.specs.Fine.{WasRefused}
+use Rattle.um_history.specs.Fine.{Stood, WasRefused, left_at}
 use Rattle.um_history.specs.Played.{Each, Played, SCHEDULER, SawNone}
 use Rattle.um_cpu.specs.declared.turn.Turn.{Turn}
 
@@ -61,8 +63,9 @@ Plays image k p s old q t new = (steps : List FineStep) → HasMade image k p s 
 abbrev pub NoneLeft : ℕ → Type 0
 NoneLeft word = ((cell_of word).running ≡ 0) × ((cell_of word).owed ≡ 0)
 
--- The processor has no thread, and its seat has looked at the scheduler's word, by which none is ready. It has made no step.
-pub record Rests (p q : Processor) (s : Seat Known) (old : List Logged) (t : Seat Known) (new : List Logged) (word : ℕ) : Type 0 where
+-- The processor has no thread, and its seat has looked at the scheduler's word, by which none is ready. It has made no step. One fine run stood when it looked, in which
+-- it had made its steps, and which had left that word.
+pub record Rests (image : Image) (k : ℕ) (p q : Processor) (s : Seat Known) (old : List Logged) (t : Seat Known) (new : List Logged) (word : ℕ) : Type 0 where
   pub idle : p.todo ≡ []
   pub same : q ≡ p
   pub made : t.token.me.0.made ≡ s.token.me.0.made
@@ -70,6 +73,9 @@ pub record Rests (p q : Processor) (s : Seat Known) (old : List Logged) (t : Sea
   pub got : t.token.me.0.got ≡ (SCHEDULER, word) ∷ s.token.me.0.got
   pub newest : NoOlder s.token.me.0.got SCHEDULER word
   pub none : (cell_of word).ready ≡ 0
+  pub run : List FineStep
+  pub stood : Stood image k (map (fine_at k) s.token.me.0.made) run
+  pub left : packed (word_of (left_at image run Site.scheduler)) ≡ bare SCHEDULER word
 
 -- What came of asking once for the next step. It was made; or its site refused it, as one fine run had left that site which stood at some moment of the call; or others
 -- were at that site: another seat had its turn, or another word came to stand there.

@@ -65,8 +65,9 @@ impl<'a> Cpu<'a> {
         ensures goes { Advances image.now self.old.number (whole self.old.processor) self.old.place.seat self.old.place.log.items (whole self.new.processor) self.new.place.seat self.new.place.log.items }
         ensures stands { Stands image.now self.new.number (whole self.new.processor) self.new.place.seat self.new.place.log.items }
         ensures told { Tells result (HadWork image.now self.old.number (whole self.old.processor) (whole self.new.processor) self.old.place.seat self.old.place.log.items self.new.place.seat self.new.place.log.items)
-            (Rests (whole self.old.processor) (whole self.new.processor) self.old.place.seat self.old.place.log.items self.new.place.seat self.new.place.log.items) }
+            (Rests image.now self.old.number (whole self.old.processor) (whole self.new.processor) self.old.place.seat self.old.place.log.items self.new.place.seat self.new.place.log.items) }
     {
+        longest_fine_run();
         if !self.processor.is_idle() {
             self.ask(image);
             return Turn::Did;
