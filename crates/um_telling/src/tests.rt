@@ -37,17 +37,23 @@ fn image_of(alloc: Global, description: &str) -> Result<Image, Fail>
     }
 }
 
+/// The line of an event.
+fn line_of(alloc: Global, image: &Image, event: &Event) -> Result<Vec<u8>, Fail> {
+    let mut line = Vec::with_capacity(alloc, LINE_ROOM)?;
+    line_text(image, event, &mut line);
+    Ok(line)
+}
+
 /// The lines of these acts of thread `a` of the small image.
 fn lines_of(alloc: Global, acts: &[Act]) -> Result<Vec<u8>, Fail> {
     let image = image_of(alloc, SMALL)?;
-    let mut line = Vec::with_capacity(alloc, LINE_ROOM)?;
     let mut lines = Vec::new(alloc);
     for act in acts {
         let event = Event {
             thread: ThreadIx(0),
             act: *act,
         };
-        line_text(&image, &event, &mut line);
+        let line = line_of(alloc, &image, &event)?;
         lines.extend_from_slice(&line)?;
     }
     Ok(lines)
