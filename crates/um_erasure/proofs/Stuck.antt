@@ -1,4 +1,4 @@
--- Where no processor can step, no list begins with a step that its site takes whatever stands there: each step that no trace shows, but
+-- Where a processor can't step, its list doesn't begin with a step that its site takes whatever stands there: each step that no trace shows, but
 -- claims of domains, is such a step. Bounds on words and lists are asked for by name, and known of fine runs (RoomKnown).
 use Rattle.std.proofs.Common.{◌≡◌, inl, inr, ℕ, ◌+◌, ◌-◌, ◌<◌, ◌≤◌, Bool, true, false, ◌∷◌, length, Option, refl, sym, ap, ◌∙◌, subst, arith, eq-eqb}
 use Rattle.std.specs.Prelude.{◌==◌, ◌&&◌, ◌||◌, not, IsTrue, if◌then◌else◌, nat_lt}
@@ -37,7 +37,7 @@ use Rattle.um_erasure.specs.Lists.{counted, has_held, has_steps, is_end_call, is
 use Rattle.um_erasure.specs.Frames.{AreFramed, Behind}
 use Rattle.um_erasure.specs.Objects.{is_reserved, recyclers, status_of, vacaters}
 use Rattle.um_erasure.specs.Relation.{Rel}
-use Rattle.um_erasure.specs.Room.{CanCount, IsStuck, has_number}
+use Rattle.um_erasure.specs.Room.{CanCount, IsHalted, has_number}
 use Rattle.um_erasure.proofs.HeapSteps.{heap-sort}
 use Rattle.um_erasure.proofs.HeldRows.{call-claimed, one-some}
 use Rattle.um_erasure.proofs.Kept.{scheduler-sort}
@@ -95,7 +95,7 @@ no-hold-behind : (image : Image) (rest : Todos) → Behind image Todo.let_go res
 no-hold-behind image rest (inl e) = ap (list_any is_hold) e
 no-hold-behind image rest (inr (c, e)) = ap (list_any is_hold) e
 
-module _ (f : Fine) (m : State) (rel : Rel f m) (room : HasRoom f) (stuck : IsStuck f) where
+module _ (f : Fine) (m : State) (rel : Rel f m) (room : HasRoom f) where
   -- a processor with this list
   abbrev pub with_list : ℕ → Todos → Processor
   with_list k todo = record (f.processors k) { todo = todo }
@@ -105,10 +105,10 @@ module _ (f : Fine) (m : State) (rel : Rel f m) (room : HasRoom f) (stuck : IsSt
   asked k act moved = record { cpu = k; site = Site.scheduler; act = act; word = Word.row no_row; moved = moved }
 
   -- its site doesn't take that, or the word that is left doesn't fit
-  pub not-taken : (k : ℕ) (todo : Todos) (s : SiteState) (act : FineAct) (moved : Exchange) → k < f.cpus → (f.processors k).todo ≡ todo → f.sites (site_at f.image (with_list k todo) todo) ≡ s
+  pub not-taken : (k : ℕ) (todo : Todos) (s : SiteState) (act : FineAct) (moved : Exchange) → IsHalted f k → (f.processors k).todo ≡ todo → f.sites (site_at f.image (with_list k todo) todo) ≡ s
       → IsSettled f.image (with_list k todo) todo s moved → let made = filled f.image s (made_by f.image (with_list k todo) (asked k act moved)) in
       site_takes s made.act ≡ true → fits_step f.image (with_list k todo) todo made ≡ true → ⊥
-  not-taken k todo s act moved l at site settled takes fit = stuck made (record { may = record { makes = makes; fit = λ i. fit-here i && may-clean i }; named = l }) taken
+  not-taken k todo s act moved l at site settled takes fit = l.stuck made refl (record { may = record { makes = makes; fit = λ i. fit-here i && may-clean i }; named = l.inside }) taken
     where
       p : Processor
       p = f.processors k
@@ -140,7 +140,7 @@ module _ (f : Fine) (m : State) (rel : Rel f m) (room : HasRoom f) (stuck : IsSt
         where
           by : (b : Bool) → begins_cleaning made ≡ b → (not b || nat_lt (cleanings p.todo) (ROWS - STATIC_ROWS)) ≡ true
           by false e = refl
-          by true e = lt-ltb (cleanings p.todo) (ROWS - STATIC_ROWS) (room.cleaned k made l makes taken e)
+          by true e = lt-ltb (cleanings p.todo) (ROWS - STATIC_ROWS) (room.cleaned k made l.inside makes taken e)
 
   abbrev pub plain : FineAct
   plain = FineAct.Unseen Unseen.Visit
@@ -154,65 +154,65 @@ module _ (f : Fine) (m : State) (rel : Rel f m) (room : HasRoom f) (stuck : IsSt
 
   -- Cells of objects, domains and the heap.
 
-  pub region-load : (k : ℕ) (rest : Todos) → k < f.cpus → (f.processors k).todo ≡ Todo.region_load ∷ rest → ⊥
+  pub region-load : (k : ℕ) (rest : Todos) → IsHalted f k → (f.processors k).todo ≡ Todo.region_load ∷ rest → ⊥
   region-load k rest l at =
       let d = (f.processors k).domain in
       let is = parts-is d (f.sites (Site.parts d)) (rel.sorts (Site.parts d)) in
       not-taken k (Todo.region_load ∷ rest) (SiteState.cell is.0 (Cell.parts (parts_state (f.sites (Site.parts d))))) plain Exchange.nothing l at is.1 tt (λ i. counts (Site.parts d) _ is.1 i && true) refl
 
-  pub edit : (k d : ℕ) (q : _) (rest : Todos) → k < f.cpus → (f.processors k).todo ≡ Todo.edit d q ∷ rest → ⊥
+  pub edit : (k d : ℕ) (q : _) (rest : Todos) → IsHalted f k → (f.processors k).todo ≡ Todo.edit d q ∷ rest → ⊥
   edit k d q rest l at =
       let is = parts-is d (f.sites (Site.parts d)) (rel.sorts (Site.parts d)) in
       let had = parts_state (f.sites (Site.parts d)) in
       not-taken k (Todo.edit d q ∷ rest) (SiteState.cell is.0 (Cell.parts had)) plain (Exchange.edited had had) l at is.1 refl (λ i. counts (Site.parts d) _ is.1 i && true) refl
 
-  pub size-look : (k x : ℕ) (rest : Todos) → k < f.cpus → (f.processors k).todo ≡ Todo.size_look x ∷ rest → ⊥
+  pub size-look : (k x : ℕ) (rest : Todos) → IsHalted f k → (f.processors k).todo ≡ Todo.size_look x ∷ rest → ⊥
   size-look k x rest l at =
       let is = object-sort x (f.sites (Site.object x)) (rel.sorts (Site.object x)) in
       not-taken k (Todo.size_look x ∷ rest) _ plain Exchange.nothing l at is.1 tt (λ i. counts (Site.object x) _ is.1 i && true) refl
 
-  pub wipe : (k x : ℕ) (rest : Todos) → k < f.cpus → (f.processors k).todo ≡ Todo.wipe x ∷ rest → ⊥
+  pub wipe : (k x : ℕ) (rest : Todos) → IsHalted f k → (f.processors k).todo ≡ Todo.wipe x ∷ rest → ⊥
   wipe k x rest l at =
       let is = object-sort x (f.sites (Site.object x)) (rel.sorts (Site.object x)) in
       not-taken k (Todo.wipe x ∷ rest) _ plain Exchange.nothing l at is.1 tt (λ i. counts (Site.object x) _ is.1 i && true) refl
 
-  pub recycle : (k x : ℕ) (rest : Todos) → k < f.cpus → (f.processors k).todo ≡ Todo.recycle x ∷ rest → ⊥
+  pub recycle : (k x : ℕ) (rest : Todos) → IsHalted f k → (f.processors k).todo ≡ Todo.recycle x ∷ rest → ⊥
   recycle k x rest l at =
       let is = heap-sort (f.sites Site.heap) (rel.sorts Site.heap) in
       not-taken k (Todo.recycle x ∷ rest) _ plain Exchange.nothing l at is.1 tt (λ i. counts Site.heap _ is.1 i && true) refl
 
   -- The scheduler.
 
-  has-place : (k : ℕ) (q : Todo) (rest : Todos) → k < f.cpus → (f.processors k).todo ≡ q ∷ rest → readies q ≡ true → nat_lt (length (scheduler f).ready) THREADS ≡ true
-  has-place k q rest l at puts = lt-ltb (length (scheduler f).ready) THREADS (room.ready k q rest l at puts)
+  has-place : (k : ℕ) (q : Todo) (rest : Todos) → IsHalted f k → (f.processors k).todo ≡ q ∷ rest → readies q ≡ true → nat_lt (length (scheduler f).ready) THREADS ≡ true
+  has-place k q rest l at puts = lt-ltb (length (scheduler f).ready) THREADS (room.ready k q rest l.inside at puts)
 
-  some-run : (k : ℕ) (q : Todo) (rest : Todos) → k < f.cpus → (f.processors k).todo ≡ q ∷ rest → nat_lt 0 (scheduler f).running ≡ true
+  some-run : (k : ℕ) (q : Todo) (rest : Todos) → IsHalted f k → (f.processors k).todo ≡ q ∷ rest → nat_lt 0 (scheduler f).running ≡ true
   some-run k q rest l at =
-      let part = part-total (λ j. one_if (runs (f.processors j))) f.cpus k l in
+      let part = part-total (λ j. one_if (runs (f.processors j))) f.cpus k l.inside in
       let one : one_if (runs (f.processors k)) ≡ 1 = ap one_if (running k q rest at) in
       let all = rel.running.running in
       lt-ltb 0 (scheduler f).running (omega (arith, part, one, all))
 
-  pub wake : (k who : ℕ) (told : Told) (rest : Todos) → k < f.cpus → (f.processors k).todo ≡ Todo.wake who told ∷ rest → ⊥
+  pub wake : (k who : ℕ) (told : Told) (rest : Todos) → IsHalted f k → (f.processors k).todo ≡ Todo.wake who told ∷ rest → ⊥
   wake k who told rest l at =
       let is = scheduler-sort (f.sites Site.scheduler) (rel.sorts Site.scheduler) in
       let place = has-place k (Todo.wake who told) rest l at refl in
       not-taken k (Todo.wake who told ∷ rest) _ plain Exchange.nothing l at is.1 tt (λ i. counts Site.scheduler _ is.1 i && place i) refl
 
-  pub add : (k : ℕ) (c : Context) (rest : Todos) → k < f.cpus → (f.processors k).todo ≡ Todo.add c ∷ rest → ⊥
+  pub add : (k : ℕ) (c : Context) (rest : Todos) → IsHalted f k → (f.processors k).todo ≡ Todo.add c ∷ rest → ⊥
   add k c rest l at =
       let is = scheduler-sort (f.sites Site.scheduler) (rel.sorts Site.scheduler) in
       let place = has-place k (Todo.add c) rest l at refl in
       not-taken k (Todo.add c ∷ rest) _ plain Exchange.nothing l at is.1 tt (λ i. counts Site.scheduler _ is.1 i && place i) refl
 
-  pub park : (k : ℕ) (rest : Todos) → k < f.cpus → (f.processors k).todo ≡ Todo.park ∷ rest → ⊥
+  pub park : (k : ℕ) (rest : Todos) → IsHalted f k → (f.processors k).todo ≡ Todo.park ∷ rest → ⊥
   park k rest l at =
       let is = scheduler-sort (f.sites Site.scheduler) (rel.sorts Site.scheduler) in
       let place = has-place k Todo.park rest l at refl in
       let run = some-run k Todo.park rest l at in
       not-taken k (Todo.park ∷ rest) _ plain Exchange.nothing l at is.1 tt (λ i. counts Site.scheduler _ is.1 i && (run i && place i)) refl
 
-  pub done : (k : ℕ) (rest : Todos) → k < f.cpus → (f.processors k).todo ≡ Todo.done ∷ rest → ⊥
+  pub done : (k : ℕ) (rest : Todos) → IsHalted f k → (f.processors k).todo ≡ Todo.done ∷ rest → ⊥
   done k rest l at =
       let is = scheduler-sort (f.sites Site.scheduler) (rel.sorts Site.scheduler) in
       let run = some-run k Todo.done rest l at in
@@ -220,16 +220,16 @@ module _ (f : Fine) (m : State) (rel : Rel f m) (room : HasRoom f) (stuck : IsSt
 
   -- Rows.
 
-  named : (k : ℕ) (q : Todo) (rest : Todos) → k < f.cpus → (f.processors k).todo ≡ q ∷ rest → names_row q ≡ true
-  named k q rest l at = (and_parts _ _ (sym (ap (list_all names_row) at) ∙ (rel.processors k l).rows)).0
+  named : (k : ℕ) (q : Todo) (rest : Todos) → IsHalted f k → (f.processors k).todo ≡ q ∷ rest → names_row q ≡ true
+  named k q rest l at = (and_parts _ _ (sym (ap (list_all names_row) at) ∙ (rel.processors k l.inside).rows)).0
 
-  pub end-call : (k x : ℕ) (rest : Todos) → k < f.cpus → (f.processors k).todo ≡ Todo.end_call x ∷ rest → ⊥
+  pub end-call : (k x : ℕ) (rest : Todos) → IsHalted f k → (f.processors k).todo ≡ Todo.end_call x ∷ rest → ⊥
   end-call k x rest l at =
       let is = row-is x (f.sites (Site.row x)) (rel.sorts (Site.row x)) in
       let few = ltb-true x ROWS (named k (Todo.end_call x) rest l at) in
       let here : counted (is_end_call x) (f.processors k).todo ≡ counted (is_end_call x) rest + 1 =
       ap (counted (is_end_call x)) at ∙ ap (λ b. if b then counted (is_end_call x) rest + 1 else counted (is_end_call x) rest) (eq-eqb x x refl) in
-      let claimed = lt-ltb 0 (row f x).claims (call-claimed f m rel k x l few (omega (arith, here))) in
+      let claimed = lt-ltb 0 (row f x).claims (call-claimed f m rel k x l.inside few (omega (arith, here))) in
       not-taken k (Todo.end_call x ∷ rest) _ plain Exchange.nothing l at is tt (λ i. counts (Site.row x) _ is i && claimed i) refl
 
   -- A visit makes its event where there is a permission to pass on or to drop.
@@ -237,7 +237,7 @@ module _ (f : Fine) (m : State) (rel : Rel f m) (room : HasRoom f) (stuck : IsSt
   abbrev event : FineAct
   event = FineAct.Shown no_event More.Nothing
 
-  pub pass : (k who x : ℕ) (rest : Todos) → k < f.cpus → (f.processors k).todo ≡ Todo.pass who x ∷ rest → ⊥
+  pub pass : (k who x : ℕ) (rest : Todos) → IsHalted f k → (f.processors k).todo ≡ Todo.pass who x ∷ rest → ⊥
   pass k who x rest l at = by (has (row f x) (f.processors k).context.thread && not (has (row f x) who)) refl
     where
       is : f.sites (Site.row x) ≡ SiteState.row (row f x)
@@ -247,7 +247,7 @@ module _ (f : Fine) (m : State) (rel : Rel f m) (room : HasRoom f) (stuck : IsSt
       by true e = not-taken k (Todo.pass who x ∷ rest) _ event Exchange.nothing l at is tt (λ i. counts (Site.row x) _ is i && e i) refl
       by false e = not-taken k (Todo.pass who x ∷ rest) _ plain Exchange.nothing l at is tt (λ i. counts (Site.row x) _ is i && true) (ap not e)
 
-  pub drop : (k x : ℕ) (rest : Todos) → k < f.cpus → (f.processors k).todo ≡ Todo.drop x ∷ rest → ⊥
+  pub drop : (k x : ℕ) (rest : Todos) → IsHalted f k → (f.processors k).todo ≡ Todo.drop x ∷ rest → ⊥
   drop k x rest l at = by (has (row f x) (f.processors k).context.thread) refl
     where
       is : f.sites (Site.row x) ≡ SiteState.row (row f x)
@@ -257,7 +257,7 @@ module _ (f : Fine) (m : State) (rel : Rel f m) (room : HasRoom f) (stuck : IsSt
       by true e = not-taken k (Todo.drop x ∷ rest) _ event Exchange.nothing l at is tt (λ i. counts (Site.row x) _ is i && true) (drops-some (row f x) (f.processors k).context.thread e)
       by false e = not-taken k (Todo.drop x ∷ rest) _ plain Exchange.nothing l at is tt (λ i. counts (Site.row x) _ is i && true) (ap not e)
 
-  pub clean-pair : (k who x : ℕ) (rest : Todos) → k < f.cpus → (f.processors k).todo ≡ Todo.clean_pair who x ∷ rest → ⊥
+  pub clean-pair : (k who x : ℕ) (rest : Todos) → IsHalted f k → (f.processors k).todo ≡ Todo.clean_pair who x ∷ rest → ⊥
   clean-pair k who x rest l at = by (has (row f x) who) refl
     where
       is : f.sites (Site.row x) ≡ SiteState.row (row f x)
@@ -269,7 +269,7 @@ module _ (f : Fine) (m : State) (rel : Rel f m) (room : HasRoom f) (stuck : IsSt
 
   -- The row of an object that is vacated is in cleaning, and isn't claimed.
 
-  pub vacate : (k x : ℕ) (rest : Todos) → k < f.cpus → (f.processors k).todo ≡ Todo.vacate x ∷ rest → ⊥
+  pub vacate : (k x : ℕ) (rest : Todos) → IsHalted f k → (f.processors k).todo ≡ Todo.vacate x ∷ rest → ⊥
   vacate k x rest l at = not-taken k (Todo.vacate x ∷ rest) _ plain Exchange.nothing l at is tt (λ i. counts (Site.row x) _ is i && (cleaning i && unclaimed i)) refl
     where
       is : f.sites (Site.row x) ≡ SiteState.row (row f x)
@@ -280,7 +280,7 @@ module _ (f : Fine) (m : State) (rel : Rel f m) (room : HasRoom f) (stuck : IsSt
 
       some : 0 < vacaters f x
       some =
-          let part = part-total (λ j. counted (is_vacate x) (f.processors j).todo) f.cpus k l in
+          let part = part-total (λ j. counted (is_vacate x) (f.processors j).todo) f.cpus k l.inside in
           let here : counted (is_vacate x) (f.processors k).todo ≡ counted (is_vacate x) rest + 1 =
           ap (counted (is_vacate x)) at ∙ ap (λ b. if b then counted (is_vacate x) rest + 1 else counted (is_vacate x) rest) (eq-eqb x x refl) in
           omega (arith, part, here)
@@ -332,11 +332,11 @@ module _ (f : Fine) (m : State) (rel : Rel f m) (room : HasRoom f) (stuck : IsSt
       let all = (rel.threads t few).held.held in
       one-some _ (omega (arith, part, mine, all))
 
-  pub let-go : (k : ℕ) (rest : Todos) → k < f.cpus → (f.processors k).todo ≡ Todo.let_go ∷ rest → ⊥
+  pub let-go : (k : ℕ) (rest : Todos) → IsHalted f k → (f.processors k).todo ≡ Todo.let_go ∷ rest → ⊥
   let-go k rest l at =
       let t = (f.processors k).context.thread in
       let is = thread-sort t (f.sites (Site.thread t)) (rel.sorts (Site.thread t)) in
-      let frames = (subst (AreFramed f.image) at (rel.processors k l).frames).0 in
+      let frames = (subst (AreFramed f.image) at (rel.processors k l.inside).frames).0 in
       let held : has_held (f.processors k) ≡ true = ap (λ (z : Todos). list_any is_let_go z && not (list_any is_hold z)) at ∙ ap not (no-hold-behind f.image rest frames) in
-      let marked = marks-held k l (running k Todo.let_go rest at) held in
+      let marked = marks-held k l.inside (running k Todo.let_go rest at) held in
       not-taken k (Todo.let_go ∷ rest) _ plain Exchange.nothing l at is tt (λ i. counts (Site.thread t) _ is i && marked i) refl

@@ -3,7 +3,7 @@
 use Rattle.std.proofs.Common.{◌≡◌, ℕ, ◌+◌, ◌<◌, true, List, [], ◌∷◌, Option, Some, None, refl, sym, ap, ◌∙◌, arith, eq-eqb}
 use Rattle.std.specs.Prelude.{◌&&◌, if◌then◌else◌, is_some, nat_lt, unwrap_or}
 use Rattle.std.specs.List.{list_all}
-use Rattle.std.proofs.lemmas.Bool.{and_parts, false≢true, ltb-true}
+use Rattle.std.proofs.lemmas.Bool.{and_parts, false≢true, lt-ltb, ltb-true}
 use Rattle.um_base.specs.declared.ask.Told.{Told}
 use Rattle.um_base.specs.declared.image.Image.{Image}
 use Rattle.um_base.specs.declared.limits.TheConstants.{THREADS}
@@ -24,7 +24,7 @@ use Rattle.um_fine.specs.Steps.{Exchange, Site}
 use Rattle.um_erasure.specs.Fine.{Fine, one_if, scheduler}
 use Rattle.um_erasure.specs.Lists.{has_steps, runs}
 use Rattle.um_erasure.specs.Relation.{Rel}
-use Rattle.um_erasure.specs.Room.{CanCount, CanRun, IsStuck}
+use Rattle.um_erasure.specs.Room.{CanCount, CanRun, IsHalted, IsStuck}
 use Rattle.um_erasure.specs.Threads.{is_ready_there, occurs}
 use Rattle.um_erasure.proofs.Bounds.{AreBounded, ReadyThreads}
 use Rattle.um_erasure.proofs.ChildrenKnown.{children-known}
@@ -37,7 +37,7 @@ use Rattle.um_erasure.proofs.Reachable.{reachable-sound, reachable-wide}
 use Rattle.um_erasure.proofs.RoomKnown.{events-stand, has-room}
 use Rattle.um_erasure.proofs.Stuck as S
 use Rattle.um_erasure.proofs.Stuck.{HasRoom}
-use Rattle.um_erasure.proofs.StuckLists.{stuck-empty}
+use Rattle.um_erasure.proofs.StuckLists.{halts, stuck-empty}
 use Rattle.um_erasure.proofs.SuitsKnown.{proper-known, tells-known}
 
 -- a first thread is taken where it is parked, and another one can be counted
@@ -49,12 +49,12 @@ is-parked : (o : Option Context) (told : Option Told) → is_ready_there o told 
 is-parked None told h = absurd (false≢true h)
 is-parked (Some c) told h = refl
 
-module _ (f : Fine) (m : State) (rel : Rel f m) (room : HasRoom f) (stuck : IsStuck f) (some : 0 < f.cpus) (threads : ReadyThreads f) (empty : (k : ℕ) → k < f.cpus → (f.processors k).todo ≡ []) where
-  -- nobody is ready: a processor without a thread would take the first one
-  first-taken : (t : ℕ) (ready : List ℕ) → (scheduler f).ready ≡ t ∷ ready → ⊥
-  first-taken t ready e =
-      S.not-taken f m rel room stuck 0 [] (SiteState.cell is.0 cell) (S.plain f m rel room stuck) Exchange.nothing some (empty 0 some) is.1 tt
-      (λ i. S.counts f m rel room stuck Site.scheduler _ is.1 i && taken i) refl
+module _ (f : Fine) (m : State) (rel : Rel f m) (room : HasRoom f) (threads : ReadyThreads f) where
+  -- a processor without a thread that can't step would take the first one that is ready
+  first-taken : (k : ℕ) → IsHalted f k → (f.processors k).todo ≡ [] → (scheduler f).running < 255 → (t : ℕ) (ready : List ℕ) → (scheduler f).ready ≡ t ∷ ready → ⊥
+  first-taken k l at running t ready e =
+      S.not-taken f m rel room k [] (SiteState.cell is.0 cell) (S.plain f m rel room) Exchange.nothing l at is.1 tt
+      (λ i. S.counts f m rel room Site.scheduler _ is.1 i && taken i) refl
     where
       few : t < THREADS
       few = ltb-true t THREADS (and_parts _ _ (sym (ap (list_all (λ t. nat_lt t THREADS)) e) ∙ threads)).0
@@ -71,24 +71,28 @@ module _ (f : Fine) (m : State) (rel : Rel f m) (room : HasRoom f) (stuck : IsSt
           let count = (rel.threads t few).ready.ready in
           is-parked (parked_at (scheduler f) t) (told_at (scheduler f) t) (one-some _ (omega (arith, once, count)))
 
-      none : (scheduler f).running ≡ 0
-      none = rel.running.running ∙ total-zero (λ k. one_if (runs (f.processors k))) f.cpus (λ k l. ap (λ todo. one_if (has_steps todo)) (empty k l))
+      counts : nat_lt (scheduler f).running 255 ≡ true
+      counts = lt-ltb (scheduler f).running 255 running
 
-      taken : sched_takes (scheduler f) (turn_in (FineAct.Unseen (Unseen.Next (to_thread (f.processors 0).context.thread))) (first_ready (scheduler f) (scheduler f).ready)) ≡ true
+      taken : sched_takes (scheduler f) (turn_in (FineAct.Unseen (Unseen.Next (to_thread (f.processors k).context.thread))) (first_ready (scheduler f) (scheduler f).ready)) ≡ true
       taken =
-          ap (λ z. sched_takes (scheduler f) (turn_in (FineAct.Unseen (Unseen.Next (to_thread (f.processors 0).context.thread))) (first_ready (scheduler f) z))) e
+          ap (λ z. sched_takes (scheduler f) (turn_in (FineAct.Unseen (Unseen.Next (to_thread (f.processors k).context.thread))) (first_ready (scheduler f) z))) e
           ∙ (takes-first (scheduler f) (unwrap_or (parked_at (scheduler f) t) no_context) (told_at (scheduler f) t)
-          ∙ (ap (has_ready (scheduler f)) e ∙ (λ i. parked i && nat_lt (none i) 255)))
+          ∙ (ap (has_ready (scheduler f)) e ∙ (λ i. parked i && counts i)))
 
-  ready-none : (scheduler f).ready ≡ []
-  ready-none = by (scheduler f).ready refl
+  pub none-ready : (k : ℕ) → IsHalted f k → (f.processors k).todo ≡ [] → (scheduler f).running < 255 → (scheduler f).ready ≡ []
+  none-ready k l at running = by (scheduler f).ready refl
     where
       by : (ready : List ℕ) → (scheduler f).ready ≡ ready → ready ≡ []
       by [] e = refl
-      by (t ∷ ready) e = absurd (first-taken t ready e)
+      by (t ∷ ready) e = absurd (first-taken k l at running t ready e)
 
-  pub stuck-idle : IsIdle f
-  stuck-idle = record { lists = empty; ready = λ t few. ap (occurs t) ready-none }
+  -- nobody is ready where no processor can step and none has a step left
+  pub stuck-idle : IsStuck f → 0 < f.cpus → ((k : ℕ) → k < f.cpus → (f.processors k).todo ≡ []) → IsIdle f
+  stuck-idle stuck some empty =
+      let none = rel.running.running ∙ total-zero (λ k. one_if (runs (f.processors k))) f.cpus (λ k l. ap (λ todo. one_if (has_steps todo)) (empty k l)) in
+      let ready = none-ready 0 (halts f stuck 0 some) (empty 0 some) (omega (arith, none)) in
+      record { lists = empty; ready = λ t few. ap (occurs t) ready }
 
 -- What a fine run leaves, and a state that its events reach: where no processor can step, the events are a complete run.
 pub stuck-complete : (image : Image) (cpus : ℕ) → IsDescribed image → IsKnown (core_of (opening image)) → CanRun image cpus
@@ -101,4 +105,4 @@ stuck-complete image cpus described known can ps ss m rel reach bounds counts st
     let children = children-known image cpus m reach in
     let room = has-room f m rel proper sound bounds (tells-known image cpus described known m reach) children can counts in
     let empty = stuck-empty f m rel proper (λ t l started. started-placed image cpus described m reach t started) sound room (events-stand f m rel proper sound bounds) stuck in
-    idle-complete f m rel (stuck-idle f m rel room stuck can.some bounds.ready empty) (reachable-wide image cpus described.few m reach) children
+    idle-complete f m rel (stuck-idle f m rel room bounds.ready stuck can.some empty) (reachable-wide image cpus described.few m reach) children

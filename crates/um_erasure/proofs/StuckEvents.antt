@@ -1,4 +1,4 @@
--- Where no processor can step, an event that is next moves a thread that is held: its site takes any other one.
+-- Where a processor can't step, an event that is next moves a thread that is held: its site takes any other one.
 use Rattle.std.proofs.Common.{◌≡◌, inl, inr, ℕ, zero, suc, ◌<◌, Bool, true, false, List, [], ◌∷◌, length, Option, Some, None, refl, sym, ap, ◌∙◌, subst, arith, eq-eqb}
 use Rattle.std.specs.Prelude.{◌==◌, ◌&&◌, ◌||◌, ℤ, not, if◌then◌else◌, is_some, nat_lt, slice_index_or, unwrap_or}
 use Rattle.std.specs.List.{list_all, list_any}
@@ -48,7 +48,7 @@ use Rattle.um_erasure.specs.Objects.{is_reserved, recyclers, status_of, vacaters
 use Rattle.um_erasure.specs.Offers.{Fits, IsOffered, is_over}
 use Rattle.um_erasure.specs.Offers as O
 use Rattle.um_erasure.specs.Relation.{Rel}
-use Rattle.um_erasure.specs.Room.{IsStuck}
+use Rattle.um_erasure.specs.Room.{IsHalted}
 use Rattle.um_erasure.specs.Threads.{IsOf, is_ended}
 use Rattle.um_erasure.proofs.CallSteps.{Proper}
 use Rattle.um_erasure.proofs.CallsProper.{AreProper}
@@ -118,20 +118,20 @@ inside-objects [] x h = absurd (false≢true h)
 inside-objects (o ∷ os) zero h = omega arith
 inside-objects (o ∷ os) (suc x) h = let l = inside-objects os x h in omega (arith, l)
 
-module _ (f : Fine) (m : State) (rel : Rel f m) (proper : AreProper m.image m) (all : InDomains f m) (sound : IsSound m) (room : HasRoom f) (events : EventsStand f) (stuck : IsStuck f) where
+module _ (f : Fine) (m : State) (rel : Rel f m) (proper : AreProper m.image m) (all : InDomains f m) (sound : IsSound m) (room : HasRoom f) (events : EventsStand f) where
   -- At the word of the thread.
 
   own-word : (k : ℕ) → f.sites (Site.thread (f.processors k).context.thread) ≡ SiteState.thread (word f (f.processors k).context.thread)
   own-word k = thread-sort (f.processors k).context.thread (f.sites (Site.thread (f.processors k).context.thread)) (rel.sorts (Site.thread (f.processors k).context.thread))
 
   counted : (k : ℕ) → nat_lt (word f (f.processors k).context.thread).number 268435455 ≡ true
-  counted k = S.counts f m rel room stuck (Site.thread (f.processors k).context.thread) (SiteState.thread (word f (f.processors k).context.thread)) (own-word k)
+  counted k = S.counts f m rel room (Site.thread (f.processors k).context.thread) (SiteState.thread (word f (f.processors k).context.thread)) (own-word k)
 
-  fits-at : (k : ℕ) (q : Pending) (rest : Steps) (todo : Todos) → k < f.cpus → (f.processors k).todo ≡ Todo.show q rest ∷ todo → IsOffered f.image (f.processors k).context q rest
-  fits-at k q rest todo l at = (subst (Fits f.image (f.processors k).context) at (rel.processors k l).list.fits).0
+  fits-at : (k : ℕ) (q : Pending) (rest : Steps) (todo : Todos) → IsHalted f k → (f.processors k).todo ≡ Todo.show q rest ∷ todo → IsOffered f.image (f.processors k).context q rest
+  fits-at k q rest todo l at = (subst (Fits f.image (f.processors k).context) at (rel.processors k l.inside).list.fits).0
 
-  is-of : (k : ℕ) (q : Pending) (rest : Steps) (todo : Todos) → k < f.cpus → (f.processors k).todo ≡ Todo.show q rest ∷ todo → IsOf m (f.processors k).context
-  is-of k q rest todo l at = (rel.contexts.running k l (ap has_steps at)).of (offered-on f.image (f.processors k).context q rest (fits-at k q rest todo l at))
+  is-of : (k : ℕ) (q : Pending) (rest : Steps) (todo : Todos) → IsHalted f k → (f.processors k).todo ≡ Todo.show q rest ∷ todo → IsOf m (f.processors k).context
+  is-of k q rest todo l at = (rel.contexts.running k l.inside (ap has_steps at)).of (offered-on f.image (f.processors k).context q rest (fits-at k q rest todo l at))
 
   proper-at : (k : ℕ) → IsOf m (f.processors k).context → (steps : Steps) → (f.processors k).context.pending ≡ steps → Proper m.image (thread_at m (f.processors k).context.thread).checked steps
   proper-at k of steps e =
@@ -156,7 +156,7 @@ module _ (f : Fine) (m : State) (rel : Rel f m) (proper : AreProper m.image m) (
       ap is_living (rel.threads (f.processors k).context.thread of.index).word.life
       ∙ living (thread_at m (f.processors k).context.thread).life of.started (sym of.ended ∙ on)
 
-  begin : (k : ℕ) (rest : Steps) (todo : Todos) → k < f.cpus → (f.processors k).todo ≡ Todo.show Pending.Begin rest ∷ todo → ⊥
+  begin : (k : ℕ) (rest : Steps) (todo : Todos) → IsHalted f k → (f.processors k).todo ≡ Todo.show Pending.Begin rest ∷ todo → ⊥
   begin k rest todo l at = by (word f (f.processors k).context.thread).doomed refl
     where
       of : IsOf m (f.processors k).context
@@ -167,15 +167,15 @@ module _ (f : Fine) (m : State) (rel : Rel f m) (proper : AreProper m.image m) (
 
       by : (b : Bool) → (word f (f.processors k).context.thread).doomed ≡ b → ⊥
       by true e =
-          S.not-taken f m rel room stuck k (Todo.show Pending.Begin rest ∷ todo) (SiteState.thread (record (word f (f.processors k).context.thread) { doomed = true }))
-          (S.plain f m rel room stuck) Exchange.nothing l at (own-word k ∙ (λ i. SiteState.thread (record (word f (f.processors k).context.thread) { doomed = e i }))) tt
+          S.not-taken f m rel room k (Todo.show Pending.Begin rest ∷ todo) (SiteState.thread (record (word f (f.processors k).context.thread) { doomed = true }))
+          (S.plain f m rel room) Exchange.nothing l at (own-word k ∙ (λ i. SiteState.thread (record (word f (f.processors k).context.thread) { doomed = e i }))) tt
           (λ i. counted k i && true) facts.1
       by false e =
-          S.not-taken f m rel room stuck k (Todo.show Pending.Begin rest ∷ todo) (SiteState.thread (record (word f (f.processors k).context.thread) { doomed = false }))
-          (S.plain f m rel room stuck) Exchange.nothing l at (own-word k ∙ (λ i. SiteState.thread (record (word f (f.processors k).context.thread) { doomed = e i }))) tt
+          S.not-taken f m rel room k (Todo.show Pending.Begin rest ∷ todo) (SiteState.thread (record (word f (f.processors k).context.thread) { doomed = false }))
+          (S.plain f m rel room) Exchange.nothing l at (own-word k ∙ (λ i. SiteState.thread (record (word f (f.processors k).context.thread) { doomed = e i }))) tt
           (λ i. counted k i && (lives k of facts.0 i && true)) facts.1
 
-  exit : (k : ℕ) (rest : Steps) (todo : Todos) → k < f.cpus → (f.processors k).todo ≡ Todo.show Pending.Exit rest ∷ todo → ⊥
+  exit : (k : ℕ) (rest : Steps) (todo : Todos) → IsHalted f k → (f.processors k).todo ≡ Todo.show Pending.Exit rest ∷ todo → ⊥
   exit k rest todo l at = by (word f (f.processors k).context.thread).doomed refl
     where
       of : IsOf m (f.processors k).context
@@ -183,41 +183,41 @@ module _ (f : Fine) (m : State) (rel : Rel f m) (proper : AreProper m.image m) (
 
       by : (b : Bool) → (word f (f.processors k).context.thread).doomed ≡ b → ⊥
       by true e =
-          S.not-taken f m rel room stuck k (Todo.show Pending.Exit rest ∷ todo) (SiteState.thread (record (word f (f.processors k).context.thread) { doomed = true }))
-          (S.plain f m rel room stuck) Exchange.nothing l at (own-word k ∙ (λ i. SiteState.thread (record (word f (f.processors k).context.thread) { doomed = e i }))) tt
+          S.not-taken f m rel room k (Todo.show Pending.Exit rest ∷ todo) (SiteState.thread (record (word f (f.processors k).context.thread) { doomed = true }))
+          (S.plain f m rel room) Exchange.nothing l at (own-word k ∙ (λ i. SiteState.thread (record (word f (f.processors k).context.thread) { doomed = e i }))) tt
           (λ i. counted k i && true) refl
       by false e =
-          S.not-taken f m rel room stuck k (Todo.show Pending.Exit rest ∷ todo) (SiteState.thread (record (word f (f.processors k).context.thread) { doomed = false }))
-          (S.plain f m rel room stuck) Exchange.nothing l at (own-word k ∙ (λ i. SiteState.thread (record (word f (f.processors k).context.thread) { doomed = e i }))) tt
+          S.not-taken f m rel room k (Todo.show Pending.Exit rest ∷ todo) (SiteState.thread (record (word f (f.processors k).context.thread) { doomed = false }))
+          (S.plain f m rel room) Exchange.nothing l at (own-word k ∙ (λ i. SiteState.thread (record (word f (f.processors k).context.thread) { doomed = e i }))) tt
           (λ i. counted k i && (lives k of (exits-at k rest of (fits-at k Pending.Exit rest todo l at)) i && true)) refl
 
   -- A check, at the word of a row or, where no object has that address, at its own.
-  check : (k : ℕ) (a : Addr) (kind : Option Kind) (want : Want) (refusal : Refusal) (rest : Steps) (todo : Todos) → k < f.cpus
+  check : (k : ℕ) (a : Addr) (kind : Option Kind) (want : Want) (refusal : Refusal) (rest : Steps) (todo : Todos) → IsHalted f k
       → (f.processors k).todo ≡ Todo.show (Pending.Check a kind want refusal) rest ∷ todo → ⊥
   check k a kind want refusal rest todo l at = by (row_at f.image a.0) refl
     where
       holds : nat_lt (length (f.processors k).context.claims) 2 ≡ true
-      holds = lt-ltb (length (f.processors k).context.claims) 2 (room.checks k a kind want refusal rest todo l at)
+      holds = lt-ltb (length (f.processors k).context.claims) 2 (room.checks k a kind want refusal rest todo l.inside at)
 
       by : (o : Option ℕ) → row_at f.image a.0 ≡ o → ⊥
       by None e =
-          S.not-taken f m rel room stuck k (Todo.show (Pending.Check a kind want refusal) rest ∷ todo) (SiteState.thread (word f (f.processors k).context.thread))
-          (S.plain f m rel room stuck) Exchange.nothing l at (ap (λ o. f.sites (check_site f.image (f.processors k) o)) e ∙ own-word k) tt (λ i. counted k i && true) holds
+          S.not-taken f m rel room k (Todo.show (Pending.Check a kind want refusal) rest ∷ todo) (SiteState.thread (word f (f.processors k).context.thread))
+          (S.plain f m rel room) Exchange.nothing l at (ap (λ o. f.sites (check_site f.image (f.processors k) o)) e ∙ own-word k) tt (λ i. counted k i && true) holds
       by (Some x) e =
           let is = row-is x (f.sites (Site.row x)) (rel.sorts (Site.row x)) in
           let few = lt-ltb (row f x).claims 127 (room.claims x (found-below m sound a.0 x (ap (λ (i : Image). row_at i a.0) rel.image ∙ e))) in
-          S.not-taken f m rel room stuck k (Todo.show (Pending.Check a kind want refusal) rest ∷ todo) (SiteState.row (row f x))
-          (S.plain f m rel room stuck) Exchange.nothing l at (ap (λ o. f.sites (check_site f.image (f.processors k) o)) e ∙ is) tt
-          (λ i. S.counts f m rel room stuck (Site.row x) (SiteState.row (row f x)) is i && few i) holds
+          S.not-taken f m rel room k (Todo.show (Pending.Check a kind want refusal) rest ∷ todo) (SiteState.row (row f x))
+          (S.plain f m rel room) Exchange.nothing l at (ap (λ o. f.sites (check_site f.image (f.processors k) o)) e ∙ is) tt
+          (λ i. S.counts f m rel room (Site.row x) (SiteState.row (row f x)) is i && few i) holds
 
   -- Domains.
 
   -- the domain that an offered step names
-  pub offered-in : (k : ℕ) (q : Pending) (rest : Steps) → k < f.cpus → runs (f.processors k) ≡ true → IsOffered f.image (f.processors k).context q rest → InImage (length f.image.domains) q
+  pub offered-in : (k : ℕ) (q : Pending) (rest : Steps) → IsHalted f k → runs (f.processors k) ≡ true → IsOffered f.image (f.processors k).context q rest → InImage (length f.image.domains) q
   offered-in k q rest l run offered = subst (λ (i : Image). InImage (length i.domains) q) rel.image (by offered)
     where
       of : IsOf m (f.processors k).context
-      of = (rel.contexts.running k l run).of (offered-on f.image (f.processors k).context q rest offered)
+      of = (rel.contexts.running k l.inside run).of (offered-on f.image (f.processors k).context q rest offered)
 
       by : {q : Pending} {rest : Steps} → IsOffered f.image (f.processors k).context q rest → InImage (length m.image.domains) q
       by (O.goes {q} {rest} e) = first-in m.image _ q rest (proper-at k of (q ∷ rest) e)
@@ -227,31 +227,31 @@ module _ (f : Fine) (m : State) (rel : Rel f m) (proper : AreProper m.image m) (
       by (O.exits e on i) = tt
 
   -- that of a thread which is held
-  pub own-domain : (k : ℕ) → k < f.cpus → runs (f.processors k) ≡ true → has_held (f.processors k) ≡ true → (f.processors k).domain < length f.image.domains
+  pub own-domain : (k : ℕ) → IsHalted f k → runs (f.processors k) ≡ true → has_held (f.processors k) ≡ true → (f.processors k).domain < length f.image.domains
   own-domain k l run held =
       let t = (f.processors k).context.thread in
-      let is = rel.contexts.running k l run in
+      let is = rel.contexts.running k l.inside run in
       let below = all t is.index is.started in
-      subst (λ n. n < length f.image.domains) (sym ((rel.processors k l).domain.kept held ∙ (rel.threads t is.index).word.domain)) below
+      subst (λ n. n < length f.image.domains) (sym ((rel.processors k l.inside).domain.kept held ∙ (rel.threads t is.index).word.domain)) below
 
   domain-word : (d : ℕ) → f.sites (Site.domain d) ≡ SiteState.domain (domain f d)
   domain-word d = domain-is d (f.sites (Site.domain d)) (rel.sorts (Site.domain d))
 
   -- who edits a domain is its writer
-  edits-it : (k d : ℕ) (q : Pending) (rest : Steps) (todo : Todos) → k < f.cpus → (f.processors k).todo ≡ Todo.show q rest ∷ todo → edits_step d q ≡ true
+  edits-it : (k d : ℕ) (q : Pending) (rest : Steps) (todo : Todos) → IsHalted f k → (f.processors k).todo ≡ Todo.show q rest ∷ todo → edits_step d q ≡ true
       → (nat_lt (domain f d).number 268435455 && ((domain f d).writer && nat_lt (domain f d).version 1048575)) ≡ true
   edits-it k d q rest todo l at h =
       let few = edit-in (length f.image.domains) d q h (offered-in k q rest l (ap has_steps at) (fits-at k q rest todo l at)) in
-      let part = part-total (λ j. one_if (edits d (f.processors j).todo)) f.cpus k l in
+      let part = part-total (λ j. one_if (edits d (f.processors j).todo)) f.cpus k l.inside in
       let mine : one_if (edits d (f.processors k).todo) ≡ 1 = ap (λ (z : Todos). one_if (edits d z)) at ∙ ap one_if h in
       let sum = (rel.domains d few).writers in
       let writer = one-some (domain f d).writer (omega (arith, part, mine, sum)) in
       let version = lt-ltb (domain f d).version 1048575 (room.counts.versions d few) in
-      let number = S.counts f m rel room stuck (Site.domain d) (SiteState.domain (domain f d)) (domain-word d) in
+      let number = S.counts f m rel room (Site.domain d) (SiteState.domain (domain f d)) (domain-word d) in
       λ i. number i && (writer i && version i)
 
   -- A move that fails is made at the domain, which is claimed, and any other one at the thread.
-  move : (k d : ℕ) (who : ThreadIx) (rest : Steps) (todo : Todos) → k < f.cpus → (f.processors k).todo ≡ Todo.show (Pending.DomMove d who) rest ∷ todo → IsHeldMove f k (Pending.DomMove d who)
+  move : (k d : ℕ) (who : ThreadIx) (rest : Steps) (todo : Todos) → IsHalted f k → (f.processors k).todo ≡ Todo.show (Pending.DomMove d who) rest ∷ todo → IsHeldMove f k (Pending.DomMove d who)
   move k d who rest todo l at = by (fails (f.processors k).reply) refl (word f who.0).held refl
     where
       few : d < length f.image.domains
@@ -266,11 +266,11 @@ module _ (f : Fine) (m : State) (rel : Rel f m) (proper : AreProper m.image m) (
           let moves : moves_to d (f.processors k).reply (f.processors k).todo ≡ true = ap (moves_to d (f.processors k).reply) at ∙ (λ i. h i && eq-eqb d d refl i) in
           let claims : reads d (f.processors k) ≡ true =
           ap (λ b. (has_claimed (f.processors k) && ((f.processors k).domain == d)) || b) moves ∙ or-true (has_claimed (f.processors k) && ((f.processors k).domain == d)) in
-          let part = part-total (λ j. one_if (reads d (f.processors j))) f.cpus k l in
+          let part = part-total (λ j. one_if (reads d (f.processors j))) f.cpus k l.inside in
           let mine : one_if (reads d (f.processors k)) ≡ 1 = ap one_if claims in
           let sum = (rel.domains d few).readers in
           let some = lt-ltb 0 (domain f d).readers (omega (arith, part, mine, sum)) in
-          let reply = (rel.processors k l).looks.reply d (ap moving at) in
+          let reply = (rel.processors k l.inside).looks.reply d (ap moving at) in
           let init : (domain f d).init ≡ false = (rel.domains d few).init ∙ none-if (domain_at m d) (f.processors k).reply reply h in
           λ i. some i && not (init i)
 
@@ -281,28 +281,28 @@ module _ (f : Fine) (m : State) (rel : Rel f m) (proper : AreProper m.image m) (
           let most = room.domains in
           let below = lt-ltb d DOMAINS (omega (arith, few, most)) in
           absurd
-          (S.not-taken f m rel room stuck k (Todo.show (Pending.DomMove d who) rest ∷ todo) (SiteState.thread (word f who.0)) (S.plain f m rel room stuck) Exchange.nothing l at
-          (ap (λ b. f.sites (if b then Site.domain d else Site.thread who.0)) e ∙ is) tt (λ i. S.counts f m rel room stuck (Site.thread who.0) (SiteState.thread (word f who.0)) is i && (not (h i) && below i)) refl)
+          (S.not-taken f m rel room k (Todo.show (Pending.DomMove d who) rest ∷ todo) (SiteState.thread (word f who.0)) (S.plain f m rel room) Exchange.nothing l at
+          (ap (λ b. f.sites (if b then Site.domain d else Site.thread who.0)) e ∙ is) tt (λ i. S.counts f m rel room (Site.thread who.0) (SiteState.thread (word f who.0)) is i && (not (h i) && below i)) refl)
       by true e c h =
           absurd
-          (S.not-taken f m rel room stuck k (Todo.show (Pending.DomMove d who) rest ∷ todo) (SiteState.domain (domain f d)) (S.plain f m rel room stuck) Exchange.nothing l at
-          (ap (λ b. f.sites (if b then Site.domain d else Site.thread who.0)) e ∙ domain-word d) tt (λ i. S.counts f m rel room stuck (Site.domain d) (SiteState.domain (domain f d)) (domain-word d) i && vain e i) refl)
+          (S.not-taken f m rel room k (Todo.show (Pending.DomMove d who) rest ∷ todo) (SiteState.domain (domain f d)) (S.plain f m rel room) Exchange.nothing l at
+          (ap (λ b. f.sites (if b then Site.domain d else Site.thread who.0)) e ∙ domain-word d) tt (λ i. S.counts f m rel room (Site.domain d) (SiteState.domain (domain f d)) (domain-word d) i && vain e i) refl)
 
   -- A thread is started at its word, with the domain of the one that starts it.
-  start : (k : ℕ) (who : ThreadIx) (script : ℕ) (stack : Row) (priority : ℤ) (mode : Mode) (rest : Steps) (todo : Todos) → k < f.cpus
+  start : (k : ℕ) (who : ThreadIx) (script : ℕ) (stack : Row) (priority : ℤ) (mode : Mode) (rest : Steps) (todo : Todos) → IsHalted f k
       → (f.processors k).todo ≡ Todo.show (Pending.Start who script stack priority mode) rest ∷ todo → ⊥
   start k who script stack priority mode rest todo l at =
       let p = f.processors k in
       let q = Pending.Start who script stack priority mode in
-      let behind = (subst (Fits f.image p.context) at (rel.processors k l).list.fits).1 in
+      let behind = (subst (Fits f.image p.context) at (rel.processors k l.inside).list.fits).1 in
       let list : p.todo ≡ Todo.show q rest ∷ Todo.let_go ∷ Todo.add (newborn f.image p.context q) ∷ [] = at ∙ ap (λ (z : Todos). Todo.show q rest ∷ z) behind in
       let held : has_held p ≡ true = ap (λ (z : Todos). list_any is_let_go z && not (list_any is_hold z)) list in
       let few = own-domain k l (ap has_steps at) held in
       let most = room.domains in
       let below = lt-ltb p.domain DOMAINS (omega (arith, few, most)) in
       let is = thread-sort who.0 (f.sites (Site.thread who.0)) (rel.sorts (Site.thread who.0)) in
-      S.not-taken f m rel room stuck k (Todo.show q rest ∷ todo) _ (S.plain f m rel room stuck) Exchange.nothing l at is tt
-      (λ i. S.counts f m rel room stuck (Site.thread who.0) _ is i && below i) refl
+      S.not-taken f m rel room k (Todo.show q rest ∷ todo) _ (S.plain f m rel room) Exchange.nothing l at is tt
+      (λ i. S.counts f m rel room (Site.thread who.0) _ is i && below i) refl
 
   -- Rows: a permission is given of an object that the call holds, or that is static; one that is published or marked as initialised is held
   -- too; and an object is born at a row that was reserved.
@@ -354,30 +354,30 @@ module _ (f : Fine) (m : State) (rel : Rel f m) (proper : AreProper m.image m) (
   row-word x = row-is x (f.sites (Site.row x)) (rel.sorts (Site.row x))
 
   row-counted : (x : ℕ) → nat_lt (row f x).number 1048575 ≡ true
-  row-counted x = S.counts f m rel room stuck (Site.row x) (SiteState.row (row f x)) (row-word x)
+  row-counted x = S.counts f m rel room (Site.row x) (SiteState.row (row f x)) (row-word x)
 
   named-row : (a : Addr) (x : ℕ) → row_at m.image a.0 ≡ Some x → row_named f.image a ≡ x
   named-row a x e = ap (λ (i : Image). row_named i a) (sym rel.image) ∙ ap (λ o. unwrap_or o 0) e
 
-  on-of : (k : ℕ) (q : Pending) (rest : Steps) (todo : Todos) → k < f.cpus → (f.processors k).todo ≡ Todo.show q rest ∷ todo → is_over (f.processors k).context ≡ false
+  on-of : (k : ℕ) (q : Pending) (rest : Steps) (todo : Todos) → IsHalted f k → (f.processors k).todo ≡ Todo.show q rest ∷ todo → is_over (f.processors k).context ≡ false
   on-of k q rest todo l at = offered-on f.image (f.processors k).context q rest (fits-at k q rest todo l at)
 
-  grant : (k : ℕ) (who : ThreadIx) (a : Addr) (rest : Steps) (todo : Todos) → k < f.cpus → (f.processors k).todo ≡ Todo.show (Pending.Grant who a) rest ∷ todo → ⊥
+  grant : (k : ℕ) (who : ThreadIx) (a : Addr) (rest : Steps) (todo : Todos) → IsHalted f k → (f.processors k).todo ≡ Todo.show (Pending.Grant who a) rest ∷ todo → ⊥
   grant k who a rest todo l at =
       let names = grant-names k who a rest (is-of k (Pending.Grant who a) rest todo l at) (fits-at k (Pending.Grant who a) rest todo l at) in
       let x = names.0 in
-      let claimed = held-claimed f m rel sound k l (ap has_steps at) (on-of k (Pending.Grant who a) rest todo l at) x names.2 in
+      let claimed = held-claimed f m rel sound k l.inside (ap has_steps at) (on-of k (Pending.Grant who a) rest todo l at) x names.2 in
       let stands = claimed-stands f m rel sound x claimed.0 claimed.1 in
-      S.not-taken f m rel room stuck k (Todo.show (Pending.Grant who a) rest ∷ todo) (SiteState.row (row f x)) (S.plain f m rel room stuck) Exchange.nothing l at
+      S.not-taken f m rel room k (Todo.show (Pending.Grant who a) rest ∷ todo) (SiteState.row (row f x)) (S.plain f m rel room) Exchange.nothing l at
       (ap (λ n. f.sites (Site.row n)) (named-row a x names.1) ∙ row-word x) tt (λ i. row-counted x i && not (stands.0 i)) refl
 
-  own : (k : ℕ) (who : ThreadIx) (rest : Steps) (todo : Todos) → k < f.cpus → (f.processors k).todo ≡ Todo.show (Pending.Own who) rest ∷ todo → ⊥
+  own : (k : ℕ) (who : ThreadIx) (rest : Steps) (todo : Todos) → IsHalted f k → (f.processors k).todo ≡ Todo.show (Pending.Own who) rest ∷ todo → ⊥
   own k who rest todo l at = by (own-static k who rest (is-of k (Pending.Own who) rest todo l at) (fits-at k (Pending.Own who) rest todo l at))
     where
       refused : (x : ℕ) → x < ROWS → own_row f.image who.0 ≡ x → (is_free (row f x).stage ≡ false) × (is_cleaning (row f x).stage ≡ false) → ⊥
       refused x low same stands =
           let few = lt-ltb (row f x).claims 127 (room.claims x low) in
-          S.not-taken f m rel room stuck k (Todo.show (Pending.Own who) rest ∷ todo) (SiteState.row (row f x)) (S.plain f m rel room stuck) Exchange.nothing l at
+          S.not-taken f m rel room k (Todo.show (Pending.Own who) rest ∷ todo) (SiteState.row (row f x)) (S.plain f m rel room) Exchange.nothing l at
           (ap (λ n. f.sites (Site.row n)) same ∙ row-word x) tt (λ i. row-counted x i && ((few i && not (stands.0 i)) && not (stands.1 i))) refl
 
       same-own : own_row f.image who.0 ≡ own_row m.image who.0
@@ -390,7 +390,7 @@ module _ (f : Fine) (m : State) (rel : Rel f m) (proper : AreProper m.image m) (
           refused (own_row m.image who.0) few same-own
           (live-stands f m rel sound (own_row m.image who.0) few (ap Plain.is_live (sym (status_is m (own_row m.image who.0))) ∙ sound.known.reached.static (own_row m.image who.0) static))
       by (inr held) =
-          let claimed = held-claimed f m rel sound k l (ap has_steps at) (on-of k (Pending.Own who) rest todo l at) (own_row m.image who.0) held.1 in
+          let claimed = held-claimed f m rel sound k l.inside (ap has_steps at) (on-of k (Pending.Own who) rest todo l at) (own_row m.image who.0) held.1 in
           refused (own_row m.image who.0) claimed.0 same-own (claimed-stands f m rel sound (own_row m.image who.0) claimed.0 claimed.1)
 
   publish-names : (k : ℕ) (a : Addr) (rest : Steps) → IsOf m (f.processors k).context → IsOffered f.image (f.processors k).context (Pending.Publish a) rest
@@ -399,13 +399,13 @@ module _ (f : Fine) (m : State) (rel : Rel f m) (proper : AreProper m.image m) (
   publish-names k a rest of (O.passed {who = w} e) = absurd (proper-at k of (Pending.Inherit w ∷ Pending.Publish a ∷ rest) e).0
   publish-names k a rest of (O.dropped {from} e) = (proper-at k of (Pending.Drops from ∷ Pending.Publish a ∷ rest) e).0
 
-  publish : (k : ℕ) (a : Addr) (rest : Steps) (todo : Todos) → k < f.cpus → (f.processors k).todo ≡ Todo.show (Pending.Publish a) rest ∷ todo → ⊥
+  publish : (k : ℕ) (a : Addr) (rest : Steps) (todo : Todos) → IsHalted f k → (f.processors k).todo ≡ Todo.show (Pending.Publish a) rest ∷ todo → ⊥
   publish k a rest todo l at =
       let names = publish-names k a rest (is-of k (Pending.Publish a) rest todo l at) (fits-at k (Pending.Publish a) rest todo l at) in
       let x = names.0 in
-      let claimed = held-claimed f m rel sound k l (ap has_steps at) (on-of k (Pending.Publish a) rest todo l at) x names.2 in
+      let claimed = held-claimed f m rel sound k l.inside (ap has_steps at) (on-of k (Pending.Publish a) rest todo l at) x names.2 in
       let stands = claimed-stands f m rel sound x claimed.0 claimed.1 in
-      S.not-taken f m rel room stuck k (Todo.show (Pending.Publish a) rest ∷ todo) (SiteState.row (row f x)) (S.plain f m rel room stuck) Exchange.nothing l at
+      S.not-taken f m rel room k (Todo.show (Pending.Publish a) rest ∷ todo) (SiteState.row (row f x)) (S.plain f m rel room) Exchange.nothing l at
       (ap (λ n. f.sites (Site.row n)) (named-row a x names.1) ∙ row-word x) tt (λ i. row-counted x i && not (stands.0 i)) refl
 
   mark-names : (k : ℕ) (a : Addr) (strict : Bool) (undo : Option Addr) (rest : Steps) → IsOf m (f.processors k).context
@@ -414,17 +414,17 @@ module _ (f : Fine) (m : State) (rel : Rel f m) (proper : AreProper m.image m) (
   mark-names k a strict undo rest of (O.passed {who = w} e) = absurd (proper-at k of (Pending.Inherit w ∷ Pending.SetInit a strict undo ∷ rest) e).0
   mark-names k a strict undo rest of (O.dropped {from} e) = (proper-at k of (Pending.Drops from ∷ Pending.SetInit a strict undo ∷ rest) e).0
 
-  mark : (k : ℕ) (a : Addr) (strict : Bool) (undo : Option Addr) (rest : Steps) (todo : Todos) → k < f.cpus
+  mark : (k : ℕ) (a : Addr) (strict : Bool) (undo : Option Addr) (rest : Steps) (todo : Todos) → IsHalted f k
       → (f.processors k).todo ≡ Todo.show (Pending.SetInit a strict undo) rest ∷ todo → ⊥
   mark k a strict undo rest todo l at =
       let names = mark-names k a strict undo rest (is-of k (Pending.SetInit a strict undo) rest todo l at) (fits-at k (Pending.SetInit a strict undo) rest todo l at) in
       let x = names.0 in
-      let claimed = held-claimed f m rel sound k l (ap has_steps at) (on-of k (Pending.SetInit a strict undo) rest todo l at) x names.2 in
+      let claimed = held-claimed f m rel sound k l.inside (ap has_steps at) (on-of k (Pending.SetInit a strict undo) rest todo l at) x names.2 in
       let stands = claimed-stands f m rel sound x claimed.0 claimed.1 in
-      S.not-taken f m rel room stuck k (Todo.show (Pending.SetInit a strict undo) rest ∷ todo) (SiteState.row (row f x)) (S.plain f m rel room stuck) Exchange.nothing l at
+      S.not-taken f m rel room k (Todo.show (Pending.SetInit a strict undo) rest ∷ todo) (SiteState.row (row f x)) (S.plain f m rel room) Exchange.nothing l at
       (ap (λ n. f.sites (Site.row n)) (named-row a x names.1) ∙ row-word x) tt (λ i. row-counted x i && not (stands.0 i)) refl
 
-  born : (k : ℕ) (a : Addr) (rest : Steps) (todo : Todos) → k < f.cpus → (f.processors k).todo ≡ Todo.show (Pending.Born a) rest ∷ todo → ⊥
+  born : (k : ℕ) (a : Addr) (rest : Steps) (todo : Todos) → IsHalted f k → (f.processors k).todo ≡ Todo.show (Pending.Born a) rest ∷ todo → ⊥
   born k a rest todo l at =
       let t = (f.processors k).context.thread in
       let next = born-next k a rest (is-of k (Pending.Born a) rest todo l at) (fits-at k (Pending.Born a) rest todo l at) in
@@ -434,7 +434,7 @@ module _ (f : Fine) (m : State) (rel : Rel f m) (proper : AreProper m.image m) (
       let many = sound.wide.objects in
       let below = inside-objects m.objects x (ap is_reserved is) in
       let free = reserved-free x (omega (arith, below, many)) is in
-      S.not-taken f m rel room stuck k (Todo.show (Pending.Born a) rest ∷ todo) (SiteState.row (row f x)) (S.plain f m rel room stuck) Exchange.nothing l at
+      S.not-taken f m rel room k (Todo.show (Pending.Born a) rest ∷ todo) (SiteState.row (row f x)) (S.plain f m rel room) Exchange.nothing l at
       (ap (λ n. f.sites (Site.row n)) (named-row a x reserved.1) ∙ row-word x) tt (λ i. row-counted x i && free i) refl
 
   -- Nobody is offered the cleaning of an object as a step of its own.
@@ -455,107 +455,107 @@ module _ (f : Fine) (m : State) (rel : Rel f m) (proper : AreProper m.image m) (
   at-memory = memory-sort (f.sites Site.memory) (rel.sorts Site.memory)
 
   on-memory : nat_lt at-memory.0 268435455 ≡ true
-  on-memory = S.counts f m rel room stuck Site.memory (SiteState.cell at-memory.0 (Cell.memory (bytes f))) at-memory.1
+  on-memory = S.counts f m rel room Site.memory (SiteState.cell at-memory.0 (Cell.memory (bytes f))) at-memory.1
 
   on-heap : nat_lt (heap-sort (f.sites Site.heap) (rel.sorts Site.heap)).0 268435455 ≡ true
-  on-heap = let is = heap-sort (f.sites Site.heap) (rel.sorts Site.heap) in S.counts f m rel room stuck Site.heap _ is.1
+  on-heap = let is = heap-sort (f.sites Site.heap) (rel.sorts Site.heap) in S.counts f m rel room Site.heap _ is.1
 
   on-object : (x : ℕ) → nat_lt (object-sort x (f.sites (Site.object x)) (rel.sorts (Site.object x))).0 268435455 ≡ true
-  on-object x = let is = object-sort x (f.sites (Site.object x)) (rel.sorts (Site.object x)) in S.counts f m rel room stuck (Site.object x) _ is.1
+  on-object x = let is = object-sort x (f.sites (Site.object x)) (rel.sorts (Site.object x)) in S.counts f m rel room (Site.object x) _ is.1
 
-  clear : (k : ℕ) (a : Addr) (rest : Steps) (todo : Todos) → k < f.cpus → (f.processors k).todo ≡ Todo.show (Pending.ClearInit a) rest ∷ todo → ⊥
+  clear : (k : ℕ) (a : Addr) (rest : Steps) (todo : Todos) → IsHalted f k → (f.processors k).todo ≡ Todo.show (Pending.ClearInit a) rest ∷ todo → ⊥
   clear k a rest todo l at =
       let x = row_named f.image a in
-      let stands = events.clears k a rest todo l at in
-      S.not-taken f m rel room stuck k (Todo.show (Pending.ClearInit a) rest ∷ todo) (SiteState.row (row f x)) (S.plain f m rel room stuck) Exchange.nothing l at (row-word x) tt
+      let stands = events.clears k a rest todo l.inside at in
+      S.not-taken f m rel room k (Todo.show (Pending.ClearInit a) rest ∷ todo) (SiteState.row (row f x)) (S.plain f m rel room) Exchange.nothing l at (row-word x) tt
       (λ i. row-counted x i && not (stands i)) refl
 
-  never : (k : ℕ) (q : Pending) (rest : Steps) (todo : Todos) → k < f.cpus → (f.processors k).todo ≡ Todo.show q rest ∷ todo → is_single q ≡ false → ⊥
-  never k q rest todo l at h = true≢false (sym (and_parts (is_single q) _ (sym (ap (list_all shows_single) at) ∙ events.single k l)).0 ∙ h)
+  never : (k : ℕ) (q : Pending) (rest : Steps) (todo : Todos) → IsHalted f k → (f.processors k).todo ≡ Todo.show q rest ∷ todo → is_single q ≡ false → ⊥
+  never k q rest todo l at h = true≢false (sym (and_parts (is_single q) _ (sym (ap (list_all shows_single) at) ∙ events.single k l.inside)).0 ∙ h)
 
   -- an event that is next is such a move
-  pub guarded : (k : ℕ) (q : Pending) (rest : Steps) (todo : Todos) → k < f.cpus → (f.processors k).todo ≡ Todo.show q rest ∷ todo → IsHeldMove f k q
+  pub guarded : (k : ℕ) (q : Pending) (rest : Steps) (todo : Todos) → IsHalted f k → (f.processors k).todo ≡ Todo.show q rest ∷ todo → IsHeldMove f k q
   guarded k Pending.Begin rest todo l at = absurd (begin k rest todo l at)
   guarded k Pending.Exit rest todo l at = absurd (exit k rest todo l at)
   guarded k (Pending.Check a kind want refusal) rest todo l at = absurd (check k a kind want refusal rest todo l at)
   guarded k (Pending.Load to a n) rest todo l at =
       absurd
-      (S.not-taken f m rel room stuck k (Todo.show (Pending.Load to a n) rest ∷ todo) _ (S.plain f m rel room stuck) Exchange.nothing l at at-memory.1 tt
+      (S.not-taken f m rel room k (Todo.show (Pending.Load to a n) rest ∷ todo) _ (S.plain f m rel room) Exchange.nothing l at at-memory.1 tt
       (λ i. on-memory i && either-taken f.image (bytes f) Exchange.nothing (Act.Load a n 0) (Act.Fault Access.Read a n) (allows f.image (f.processors k) Access.Read a.0 n) refl refl i)
-      (le-leb n 4 (room.loads k to a n rest todo l at)))
+      (le-leb n 4 (room.loads k to a n rest todo l.inside at)))
   guarded k (Pending.Store a n value) rest todo l at =
       absurd
-      (S.not-taken f m rel room stuck k (Todo.show (Pending.Store a n value) rest ∷ todo) _ (S.plain f m rel room stuck) Exchange.nothing l at at-memory.1 tt
+      (S.not-taken f m rel room k (Todo.show (Pending.Store a n value) rest ∷ todo) _ (S.plain f m rel room) Exchange.nothing l at at-memory.1 tt
       (λ i. on-memory i && either-taken f.image (bytes f) Exchange.nothing (Act.Store a n value) (Act.Fault Access.Write a n) (allows f.image (f.processors k) Access.Write a.0 n) refl refl i) refl)
   guarded k (Pending.Fetch a) rest todo l at =
       absurd
-      (S.not-taken f m rel room stuck k (Todo.show (Pending.Fetch a) rest ∷ todo) _ (S.plain f m rel room stuck) Exchange.nothing l at at-memory.1 tt
+      (S.not-taken f m rel room k (Todo.show (Pending.Fetch a) rest ∷ todo) _ (S.plain f m rel room) Exchange.nothing l at at-memory.1 tt
       (λ i. on-memory i && either-taken f.image (bytes f) Exchange.nothing (Act.Fetch a) (Act.Fault Access.Exec a 4) (allows f.image (f.processors k) Access.Exec a.0 4) refl refl i) refl)
   guarded k (Pending.Probe a amount) rest todo l at =
       absurd
-      (S.not-taken f m rel room stuck k (Todo.show (Pending.Probe a amount) rest ∷ todo) _ (S.plain f m rel room stuck) Exchange.nothing l at at-memory.1 tt (λ i. on-memory i && true) refl)
+      (S.not-taken f m rel room k (Todo.show (Pending.Probe a amount) rest ∷ todo) _ (S.plain f m rel room) Exchange.nothing l at at-memory.1 tt (λ i. on-memory i && true) refl)
   guarded k (Pending.CopyIn a amount) rest todo l at =
       absurd
-      (S.not-taken f m rel room stuck k (Todo.show (Pending.CopyIn a amount) rest ∷ todo) _ (S.plain f m rel room stuck) Exchange.nothing l at at-memory.1 tt (λ i. on-memory i && true) refl)
+      (S.not-taken f m rel room k (Todo.show (Pending.CopyIn a amount) rest ∷ todo) _ (S.plain f m rel room) Exchange.nothing l at at-memory.1 tt (λ i. on-memory i && true) refl)
   guarded k (Pending.CopyOut a) rest todo l at =
       absurd
-      (S.not-taken f m rel room stuck k (Todo.show (Pending.CopyOut a) rest ∷ todo) _ (S.plain f m rel room stuck) Exchange.nothing l at at-memory.1 tt (λ i. on-memory i && true) refl)
+      (S.not-taken f m rel room k (Todo.show (Pending.CopyOut a) rest ∷ todo) _ (S.plain f m rel room) Exchange.nothing l at at-memory.1 tt (λ i. on-memory i && true) refl)
   guarded k (Pending.CopyStr a) rest todo l at =
       absurd
-      (S.not-taken f m rel room stuck k (Todo.show (Pending.CopyStr a) rest ∷ todo) _ (S.plain f m rel room stuck) Exchange.nothing l at at-memory.1 tt (λ i. on-memory i && true) refl)
+      (S.not-taken f m rel room k (Todo.show (Pending.CopyStr a) rest ∷ todo) _ (S.plain f m rel room) Exchange.nothing l at at-memory.1 tt (λ i. on-memory i && true) refl)
   guarded k (Pending.Erase stack) rest todo l at =
       absurd
-      (S.not-taken f m rel room stuck k (Todo.show (Pending.Erase stack) rest ∷ todo) _ (S.plain f m rel room stuck) Exchange.nothing l at at-memory.1 tt (λ i. on-memory i && true) refl)
+      (S.not-taken f m rel room k (Todo.show (Pending.Erase stack) rest ∷ todo) _ (S.plain f m rel room) Exchange.nothing l at at-memory.1 tt (λ i. on-memory i && true) refl)
   guarded k (Pending.Work a ask) rest todo l at =
       let x = row_named f.image a in
       absurd
-      (S.not-taken f m rel room stuck k (Todo.show (Pending.Work a ask) rest ∷ todo) _ (S.plain f m rel room stuck) Exchange.nothing l at (object-sort x (f.sites (Site.object x)) (rel.sorts (Site.object x))).1 tt
+      (S.not-taken f m rel room k (Todo.show (Pending.Work a ask) rest ∷ todo) _ (S.plain f m rel room) Exchange.nothing l at (object-sort x (f.sites (Site.object x)) (rel.sorts (Site.object x))).1 tt
       (λ i. on-object x i && true) refl)
   guarded k (Pending.Named who) rest todo l at =
       let x = own_row f.image who.0 in
       absurd
-      (S.not-taken f m rel room stuck k (Todo.show (Pending.Named who) rest ∷ todo) _ (S.plain f m rel room stuck) Exchange.nothing l at (object-sort x (f.sites (Site.object x)) (rel.sorts (Site.object x))).1 tt
+      (S.not-taken f m rel room k (Todo.show (Pending.Named who) rest ∷ todo) _ (S.plain f m rel room) Exchange.nothing l at (object-sort x (f.sites (Site.object x)) (rel.sorts (Site.object x))).1 tt
       (λ i. on-object x i && true) refl)
   guarded k (Pending.Answer reply to) rest todo l at =
       absurd
-      (S.not-taken f m rel room stuck k (Todo.show (Pending.Answer reply to) rest ∷ todo) _ (S.plain f m rel room stuck) Exchange.nothing l at (own-word k) tt (λ i. counted k i && true) refl)
+      (S.not-taken f m rel room k (Todo.show (Pending.Answer reply to) rest ∷ todo) _ (S.plain f m rel room) Exchange.nothing l at (own-word k) tt (λ i. counted k i && true) refl)
   guarded k (Pending.EnterUser script) rest todo l at =
       absurd
-      (S.not-taken f m rel room stuck k (Todo.show (Pending.EnterUser script) rest ∷ todo) _ (S.plain f m rel room stuck) Exchange.nothing l at (own-word k) tt (λ i. counted k i && true) refl)
+      (S.not-taken f m rel room k (Todo.show (Pending.EnterUser script) rest ∷ todo) _ (S.plain f m rel room) Exchange.nothing l at (own-word k) tt (λ i. counted k i && true) refl)
   guarded k (Pending.Fatal reason cause) rest todo l at =
       absurd
-      (S.not-taken f m rel room stuck k (Todo.show (Pending.Fatal reason cause) rest ∷ todo) _ (S.plain f m rel room stuck) Exchange.nothing l at (own-word k) tt (λ i. counted k i && true) refl)
+      (S.not-taken f m rel room k (Todo.show (Pending.Fatal reason cause) rest ∷ todo) _ (S.plain f m rel room) Exchange.nothing l at (own-word k) tt (λ i. counted k i && true) refl)
   guarded k (Pending.Dooms from) rest todo l at =
       let is = thread-sort from (f.sites (Site.thread from)) (rel.sorts (Site.thread from)) in
       absurd
-      (S.not-taken f m rel room stuck k (Todo.show (Pending.Dooms from) rest ∷ todo) _ (S.plain f m rel room stuck) Exchange.nothing l at is tt
-      (λ i. S.counts f m rel room stuck (Site.thread from) _ is i && true) refl)
+      (S.not-taken f m rel room k (Todo.show (Pending.Dooms from) rest ∷ todo) _ (S.plain f m rel room) Exchange.nothing l at is tt
+      (λ i. S.counts f m rel room (Site.thread from) _ is i && true) refl)
   guarded k (Pending.DropPair who a) rest todo l at =
       let x = row_named f.image a in
       let is = row-is x (f.sites (Site.row x)) (rel.sorts (Site.row x)) in
       absurd
-      (S.not-taken f m rel room stuck k (Todo.show (Pending.DropPair who a) rest ∷ todo) _ (S.plain f m rel room stuck) Exchange.nothing l at is tt
-      (λ i. S.counts f m rel room stuck (Site.row x) _ is i && true) refl)
+      (S.not-taken f m rel room k (Todo.show (Pending.DropPair who a) rest ∷ todo) _ (S.plain f m rel room) Exchange.nothing l at is tt
+      (λ i. S.counts f m rel room (Site.row x) _ is i && true) refl)
   guarded k (Pending.Reserve kind) rest todo l at =
       absurd
-      (S.not-taken f m rel room stuck k (Todo.show (Pending.Reserve kind) rest ∷ todo) _ (S.plain f m rel room stuck) Exchange.nothing l at (heap-sort (f.sites Site.heap) (rel.sorts Site.heap)).1 tt (λ i. on-heap i && true) refl)
+      (S.not-taken f m rel room k (Todo.show (Pending.Reserve kind) rest ∷ todo) _ (S.plain f m rel room) Exchange.nothing l at (heap-sort (f.sites Site.heap) (rel.sorts Site.heap)).1 tt (λ i. on-heap i && true) refl)
   guarded k (Pending.Buffer size) rest todo l at =
       absurd
-      (S.not-taken f m rel room stuck k (Todo.show (Pending.Buffer size) rest ∷ todo) _ (S.plain f m rel room stuck) Exchange.nothing l at (heap-sort (f.sites Site.heap) (rel.sorts Site.heap)).1 tt (λ i. on-heap i && true) refl)
+      (S.not-taken f m rel room k (Todo.show (Pending.Buffer size) rest ∷ todo) _ (S.plain f m rel room) Exchange.nothing l at (heap-sort (f.sites Site.heap) (rel.sorts Site.heap)).1 tt (λ i. on-heap i && true) refl)
   guarded k (Pending.Unbuffer size) rest todo l at =
       absurd
-      (S.not-taken f m rel room stuck k (Todo.show (Pending.Unbuffer size) rest ∷ todo) _ (S.plain f m rel room stuck) Exchange.nothing l at (heap-sort (f.sites Site.heap) (rel.sorts Site.heap)).1 tt (λ i. on-heap i && true) refl)
+      (S.not-taken f m rel room k (Todo.show (Pending.Unbuffer size) rest ∷ todo) _ (S.plain f m rel room) Exchange.nothing l at (heap-sort (f.sites Site.heap) (rel.sorts Site.heap)).1 tt (λ i. on-heap i && true) refl)
   guarded k (Pending.DomInit d parts) rest todo l at =
       absurd
-      (S.not-taken f m rel room stuck k (Todo.show (Pending.DomInit d parts) rest ∷ todo) (SiteState.domain (domain f d)) (S.plain f m rel room stuck) Exchange.nothing l at (domain-word d) tt
+      (S.not-taken f m rel room k (Todo.show (Pending.DomInit d parts) rest ∷ todo) (SiteState.domain (domain f d)) (S.plain f m rel room) Exchange.nothing l at (domain-word d) tt
       (edits-it k d (Pending.DomInit d parts) rest todo l at (eq-eqb d d refl)) refl)
   guarded k (Pending.DomAdd d range attr) rest todo l at =
       absurd
-      (S.not-taken f m rel room stuck k (Todo.show (Pending.DomAdd d range attr) rest ∷ todo) (SiteState.domain (domain f d)) (S.plain f m rel room stuck) Exchange.nothing l at (domain-word d) tt
+      (S.not-taken f m rel room k (Todo.show (Pending.DomAdd d range attr) rest ∷ todo) (SiteState.domain (domain f d)) (S.plain f m rel room) Exchange.nothing l at (domain-word d) tt
       (edits-it k d (Pending.DomAdd d range attr) rest todo l at (eq-eqb d d refl)) refl)
   guarded k (Pending.DomRemove d range attr) rest todo l at =
       absurd
-      (S.not-taken f m rel room stuck k (Todo.show (Pending.DomRemove d range attr) rest ∷ todo) (SiteState.domain (domain f d)) (S.plain f m rel room stuck) Exchange.nothing l at (domain-word d) tt
+      (S.not-taken f m rel room k (Todo.show (Pending.DomRemove d range attr) rest ∷ todo) (SiteState.domain (domain f d)) (S.plain f m rel room) Exchange.nothing l at (domain-word d) tt
       (edits-it k d (Pending.DomRemove d range attr) rest todo l at (eq-eqb d d refl)) refl)
   guarded k (Pending.DomMove d who) rest todo l at = move k d who rest todo l at
   guarded k (Pending.Start who script stack priority mode) rest todo l at = absurd (start k who script stack priority mode rest todo l at)

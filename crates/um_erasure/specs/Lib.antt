@@ -13,3 +13,4 @@ pub mod Room
 pub mod Looks
 pub mod Frames
 pub mod Relation
+pub mod Waits

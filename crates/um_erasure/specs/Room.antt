@@ -11,6 +11,11 @@ use Rattle.um_erasure.specs.Fine.{Fine, domain}
 abbrev pub IsStuck : Fine → Type 0
 IsStuck f = (e : FineStep) → ByOneOf f.image f.cpus (f.processors e.cpu) e → SiteMay f.image (f.sites e.site) e → ⊥
 
+-- The processor k is one of so many, and none of its steps is lawful.
+pub record IsHalted (f : Fine) (k : ℕ) : Type 0 where
+  pub inside : k < f.cpus
+  pub stuck : (e : FineStep) → e.cpu ≡ k → ByOneOf f.image f.cpus (f.processors k) e → SiteMay f.image (f.sites e.site) e → ⊥
+
 -- An image with no more domains than there are words for, on one to eight processors.
 pub record CanRun (image : Image) (cpus : ℕ) : Type 0 where
   pub domains : length image.domains ≤ DOMAINS

@@ -10,7 +10,8 @@ ghost use Rattle.um_fine.specs.FineRun.{IsFineRun};
 ghost use Rattle.um_fine.specs.Steps.{FineStep};
 ghost use Rattle.um_erasure.specs.After.{left_by};
 ghost use Rattle.um_erasure.specs.Relation.{Rel};
-ghost use Rattle.um_erasure.specs.Room.{CanCount, CanRun, IsStuck};
+ghost use Rattle.um_erasure.specs.Room.{CanCount, CanRun, IsHalted, IsStuck};
+ghost use Rattle.um_erasure.specs.Waits.{WaitsFor};
 
 /// The law over every fine run of an image that a description gives, by any number of processors, whatever their order: the events
 /// that it shows are a run of the access-matrix machine from the image's opening, and the state that this run leads to is related to what
@@ -19,10 +20,12 @@ ghost use Rattle.um_erasure.specs.Room.{CanCount, CanRun, IsStuck};
 ///
 /// Where then no processor can make another step, the machine has none either: the run is a complete one. Asked for is that the image has no
 /// more domains than there are words for, that there are one to eight processors, and that each site can count one step more, and each domain
-/// one version more.
+/// one version more. A processor that can't make another step waits: for a thread that is ready, where it has none, for one that is held, or for a domain that is claimed.
 pub fn every_fine_run()
     ensures run { (image : Image) (cpus : ℕ) (steps : List FineStep) → IsDescribed image → IsFineRun image cpus steps
         → (last : State) × Runs (opening image) (shown steps) last × Rel (left_by image cpus steps) last }
     ensures complete { (image : Image) (cpus : ℕ) (steps : List FineStep) → IsDescribed image → CanRun image cpus → IsFineRun image cpus steps
         → IsStuck (left_by image cpus steps) → CanCount (left_by image cpus steps) → (last : State) × Runs (opening image) (shown steps) last × IsComplete last }
+    ensures waits { (image : Image) (cpus : ℕ) (steps : List FineStep) → IsDescribed image → CanRun image cpus → IsFineRun image cpus steps
+        → CanCount (left_by image cpus steps) → (k : ℕ) → IsHalted (left_by image cpus steps) k → WaitsFor (left_by image cpus steps) k }
 {}

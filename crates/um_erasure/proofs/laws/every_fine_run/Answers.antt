@@ -1,5 +1,6 @@
 use Rattle.um_erasure.proofs.CompleteRuns.{complete-runs}
 use Rattle.um_erasure.proofs.ErasedRuns.{erased-runs}
+use Rattle.um_erasure.proofs.Waiting.{waits-for}
 use Rattle.um_erasure.proofs.laws.every_fine_run.Goals as goal
 
 pub returns-clause-run : goal.returns-clause-run
@@ -7,3 +8,6 @@ returns-clause-run c = λ image cpus steps described run. erased-runs image cpus
 
 pub returns-clause-complete : goal.returns-clause-complete
 returns-clause-complete c = λ image cpus steps described can run stuck counts. complete-runs image cpus described can steps run counts stuck
+
+pub returns-clause-waits : goal.returns-clause-waits
+returns-clause-waits c = λ image cpus steps described can run counts k halted. waits-for image cpus described can steps run counts k halted
