@@ -10,8 +10,7 @@ use Rattle.um_words.specs.declared.fine.Unseen.{Unseen}
 use Rattle.um_machine.specs.Order.{to_thread}
 use Rattle.um_fine.specs.Cells.{Cell, cell_says, cell_takes, cell_word}
 use Rattle.um_fine.specs.Scheduler.{Scheduler, has_ready, sched_takes}
-use Rattle.um_fine.specs.Sites.{SiteState}
-use Rattle.um_fine.specs.Steps.{Exchange, Site, Word}
+use Rattle.um_fine.specs.Steps.{Exchange, Site}
 use Rattle.um_merge.specs.declared.logged.Logged.{Logged}
 use Rattle.um_processor.specs.Asked.{cell_made}
 use Rattle.um_processor.specs.SchedulerActs.{taken_made}

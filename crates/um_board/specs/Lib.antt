@@ -3,6 +3,7 @@ pub mod Kept
 pub mod NextSteps
 pub mod Noted
 pub mod Opening
+pub mod Placed
 pub mod ReadBack
 pub mod Saw
 pub mod Seated

@@ -2,7 +2,7 @@
 use Rattle.std.specs.Prelude.{◌≡◌, ◌≢◌, ℕ, ◌+◌, ◌<◌, ◌≤◌, ◌%◌, ◌⊎◌, false, List, [], ◌∷◌, ◌++◌, length, None, Some}
 use Rattle.um_words.specs.History.{by_site}
 use Rattle.um_words.specs.Packed.{cell_of, domain_of, thread_of}
-use Rattle.um_fine.specs.Cells.{Cell, cell_word}
+use Rattle.um_fine.specs.Cells.{cell_word}
 use Rattle.um_fine.specs.Scheduler.{Scheduler, sched_takes}
 use Rattle.um_fine.specs.Sites.{SiteState, site_number, word_of}
 use Rattle.um_fine.specs.Steps.{FineStep, Site}

@@ -1,6 +1,6 @@
 //! A processor's place at a board, and how it makes a step there.
 
-ghost use Rattle.std.specs.Prelude.{◌≡◌, ◌≢◌, ◌+◌, ◌<◌, ◌≤◌, ◌++◌, ◌∷◌, ℕ, [], Option, Some, None, false, true, length, vec_capacity, MatchOption, IsTrue};
+ghost use Rattle.std.specs.Prelude.{◌≡◌, ◌≢◌, ◌+◌, ◌<◌, ◌≤◌, ◌++◌, ◌∷◌, ℕ, [], Option, Some, None, false, true, length, MatchOption, IsTrue};
 ghost use Rattle.atomic_table.specs.Seated.{TableId};
 ghost use Rattle.um_machine.specs.Memory.{rodata_of};
 ghost use Rattle.um_words.specs.Packed.{cell_of};
@@ -11,19 +11,18 @@ ghost use Rattle.um_fine.specs.Steps.{Exchange};
 ghost use Rattle.um_site.specs.Tells.{NoOlder, last_got};
 ghost use Rattle.um_processor.specs.Asked.{Takes, event_of};
 ghost use Rattle.um_board.specs.NextSteps.{IsNext};
-ghost use Rattle.um_board.specs.Noted.{made_of, number_of, packed};
+ghost use Rattle.um_board.specs.Noted.{made_of, number_of};
+ghost use Rattle.um_board.specs.Placed.{HasMadeNone, HasMadeThere, HasTurnAt, IsAt};
 ghost use Rattle.um_board.specs.ReadBack.{IsReadBack};
 ghost use Rattle.um_board.specs.Saw.{Got, Hinders, SawAt, SawCell};
-ghost use Rattle.um_board.specs.Seated.{IsSeated, Noted, Unnoted};
-ghost use Rattle.um_board.specs.Turned.{InTurn, IsPlaced};
 
 use crate::contents::Contents;
 use crate::fine::{AsMade, Fine};
 use crate::next_step::NextStep;
 use std::snapshot::Snapshot;
-use um_base::{Act, Event, Image};
+use um_base::{Event, Image};
 use um_cell::{Cells, Held};
-use um_merge::Logged;
+use um_merge::Log;
 use um_site::{Board, Seat};
 use um_words::{CellWord, step_number};
 
@@ -41,7 +40,7 @@ pub struct Seated<'a> {
     /// The bytes of the image's read-only data, which no step changes.
     pub rodata: &'a [u8],
     pub seat: Seat<Contents>,
-    pub log: Vec<Logged>,
+    pub log: Log,
 }
 
 /// The contents of a cell of which a seat has the turn.
@@ -54,28 +53,6 @@ pub struct Turn {
     /// What they were when the turn was taken, which stands in clauses alone.
     pub before: Snapshot<Contents>,
     pub contents: Contents,
-}
-
-/// One more step behind the others. It takes no memory.
-fn note(log: &mut Vec<Logged>, cpu: u8, site: u16, number: u32, event: &Option<Event>)
-    requires { length log.old.items < vec_capacity log.old }
-    ensures room { vec_capacity log.new ≡ vec_capacity log.old }
-    ensures noted { log.new.items ≡ log.old.items ++ record { cpu = cpu; site = site; number = number; event = event.now } ∷ [] }
-{
-    let event = match event {
-        None => None,
-        Some(event) => {
-            let thread = event.thread;
-            let act: Act = event.act;
-            Some(Event { thread, act })
-        }
-    };
-    log.push_reserved(Logged {
-        cpu,
-        site,
-        number,
-        event,
-    });
 }
 
 /// How many steps a cell has taken by its word, where this word counts these threads and the cell can take one more.
@@ -101,7 +78,7 @@ impl<'a> Seated<'a> {
         cells: &'a Cells<Contents>,
         rodata: &'a [u8],
         seat: Seat<Contents>,
-        log: Vec<Logged>,
+        log: Log,
     ) -> Seated<'a>
         ensures seat { result.seat ≡ seat }
         ensures log { result.log ≡ log }
@@ -118,18 +95,18 @@ impl<'a> Seated<'a> {
 
     /// Whether the log has no room for one more step.
     pub(crate) fn is_full(&self) -> bool
-        ensures room { result ≡ false → length self.now.log.items < vec_capacity self.now.log }
-        ensures full { result ≡ true → vec_capacity self.now.log ≤ length self.now.log.items }
+        ensures room { result ≡ false → length self.now.log.items < self.now.log.room }
+        ensures full { result ≡ true → self.now.log.room ≤ length self.now.log.items }
     {
         self.log.capacity() <= self.log.len()
     }
 
     /// The word of a site, as it stands.
     pub(crate) fn look(&mut self, image: &Image, site: u16) -> u64
-        requires image { IsPlaced image.now self.old.board.now.table.shared.table_id self.old.cells.now self.old.rodata.now self.old.seat (vec_capacity self.old.log) }
+        requires image { IsAt image.now self.old }
         requires site { site < 307 }
-        ensures image { IsPlaced image.now self.new.board.now.table.shared.table_id self.new.cells.now self.new.rodata.now self.new.seat (vec_capacity self.new.log) }
-        ensures unnoted { Unnoted self.old.seat self.old.log.items self.new.seat self.new.log.items }
+        ensures image { IsAt image.now self.new }
+        ensures unnoted { HasMadeNone self.old self.new }
         ensures got { self.new.seat.token.me.0.got ≡ (site, result) ∷ self.old.seat.token.me.0.got }
         ensures last { last_got self.new.seat.token.me.0.got site ≡ Some result }
         ensures newest { NoOlder self.old.seat.token.me.0.got site result }
@@ -141,9 +118,9 @@ impl<'a> Seated<'a> {
 
     /// The word of the scheduler's cell, as it stands: no older than any that the seat has got or left there.
     pub fn look_scheduler(&mut self, image: &Image) -> u64
-        requires image { IsPlaced image.now self.old.board.now.table.shared.table_id self.old.cells.now self.old.rodata.now self.old.seat (vec_capacity self.old.log) }
-        ensures image { IsPlaced image.now self.new.board.now.table.shared.table_id self.new.cells.now self.new.rodata.now self.new.seat (vec_capacity self.new.log) }
-        ensures unnoted { Unnoted self.old.seat self.old.log.items self.new.seat self.new.log.items }
+        requires image { IsAt image.now self.old }
+        ensures image { IsAt image.now self.new }
+        ensures unnoted { HasMadeNone self.old self.new }
         ensures got { self.new.seat.token.me.0.got ≡ (306, result) ∷ self.old.seat.token.me.0.got }
         ensures newest { NoOlder self.old.seat.token.me.0.got 306 result }
         ensures saw { SawAt self.old.seat 306 result }
@@ -166,9 +143,9 @@ impl<'a> Seated<'a> {
         event: &Option<Event>,
         about: &A,
     ) -> bool
-        requires image { IsPlaced image.now self.old.board.now.table.shared.table_id self.old.cells.now self.old.rodata.now self.old.seat (vec_capacity self.old.log) }
+        requires image { IsAt image.now self.old }
         requires site { site < 168 }
-        requires room { length self.old.log.items < vec_capacity self.old.log }
+        requires room { length self.old.log.items < self.old.log.room }
         requires seen { last_got self.old.seat.token.me.0.got site ≡ Some seen }
         requires step { made_of D.step ≡ record { site = site; act = D.step.act; word = next; moved = Exchange.nothing } }
         requires numbered { number site next ≡ number_of D.step.word }
@@ -177,9 +154,9 @@ impl<'a> Seated<'a> {
         requires event { event.now ≡ event_of D.step.act }
         requires lawful { WordMay site seen D.step.act next }
         requires goes { IsNext image.now self.old.seat.token.me.0.name self.old.seat.token.me.0.made D.step }
-        ensures image { IsPlaced image.now self.new.board.now.table.shared.table_id self.new.cells.now self.new.rodata.now self.new.seat (vec_capacity self.new.log) }
-        ensures made { result ≡ true → Noted self.old.seat self.old.log.items D.step self.new.seat self.new.log.items }
-        ensures changed { result ≡ false → Unnoted self.old.seat self.old.log.items self.new.seat self.new.log.items }
+        ensures image { IsAt image.now self.new }
+        ensures made { result ≡ true → HasMadeThere self.old D.step self.new }
+        ensures changed { result ≡ false → HasMadeNone self.old self.new }
         ensures moved { result ≡ false → (z : ℕ) × (z ≢ seen) × (self.new.seat.token.me.0.got ≡ (site, z) ∷ self.old.seat.token.me.0.got) }
     {
         let _ = which;
@@ -190,22 +167,41 @@ impl<'a> Seated<'a> {
         {
             Err(_) => false,
             Ok(number) => {
-                note(&mut self.log, cpu, site, number, event);
+                self.log.note(cpu, site, number, event);
                 true
             }
         }
     }
 
-    /// The turn of a cell with its contents, where no other seat has it, and the cell can take a step that the log has room for.
+    /// The turn of a cell with its contents, where no other seat has it, and the cell can take a step that the log has room for. It looks first: those that
+    /// wait for a turn only read the word, and don't take it from the seat that writes there.
     pub(crate) fn turn(&mut self, image: &Image, site: u16) -> Option<Turn>
-        requires image { IsPlaced image.now self.old.board.now.table.shared.table_id self.old.cells.now self.old.rodata.now self.old.seat (vec_capacity self.old.log) }
+        requires image { IsAt image.now self.old }
         requires site { (168 ≤ site) × (site < 307) }
-        ensures unnoted { Unnoted self.old.seat self.old.log.items self.new.seat self.new.log.items }
+        ensures unnoted { HasMadeNone self.old self.new }
         ensures turn { MatchOption result
-            (IsPlaced image.now self.new.board.now.table.shared.table_id self.new.cells.now self.new.rodata.now self.new.seat (vec_capacity self.new.log))
-            (λ t. (t.contents ≡ t.before.value) × InTurn image.now self.new.board.now.table.shared.table_id self.new.cells.now self.new.rodata.now self.new.seat (vec_capacity self.new.log) site t.word t.number t.before.value × (length self.new.log.items < vec_capacity self.new.log)) }
+            (IsAt image.now self.new)
+            (λ t. (t.contents ≡ t.before.value) × HasTurnAt image.now self.new site t.word t.number t.before.value × (length self.new.log.items < self.new.log.room)) }
         ensures saw { MatchOption result
-            (Hinders (vec_capacity self.old.log) self.old.log.items self.old.seat self.new.seat site)
+            (Hinders self.old.log.room self.old.log.items self.old.seat self.new.seat site)
+            (λ t. Got self.old.seat self.new.seat site t.word × SawCell self.old.seat site t.word t.before.value) }
+    {
+        if self.look(image, site) % 2 == 1 {
+            return None;
+        }
+        self.turn_at_once(image, site)
+    }
+
+    /// The same without a look.
+    pub(crate) fn turn_at_once(&mut self, image: &Image, site: u16) -> Option<Turn>
+        requires image { IsAt image.now self.old }
+        requires site { (168 ≤ site) × (site < 307) }
+        ensures unnoted { HasMadeNone self.old self.new }
+        ensures turn { MatchOption result
+            (IsAt image.now self.new)
+            (λ t. (t.contents ≡ t.before.value) × HasTurnAt image.now self.new site t.word t.number t.before.value × (length self.new.log.items < self.new.log.room)) }
+        ensures saw { MatchOption result
+            (Hinders self.old.log.room self.old.log.items self.old.seat self.new.seat site)
             (λ t. Got self.old.seat self.new.seat site t.word × SawCell self.old.seat site t.word t.before.value) }
     {
         let held = match self.cells.take(self.board, &mut self.seat, site) {
@@ -243,9 +239,9 @@ impl<'a> Seated<'a> {
         number: u32,
         contents: Contents,
     )
-        requires turn { InTurn image.now self.old.board.now.table.shared.table_id self.old.cells.now self.old.rodata.now self.old.seat (vec_capacity self.old.log) site word number contents }
-        ensures image { IsPlaced image.now self.new.board.now.table.shared.table_id self.new.cells.now self.new.rodata.now self.new.seat (vec_capacity self.new.log) }
-        ensures unnoted { Unnoted self.old.seat self.old.log.items self.new.seat self.new.log.items }
+        requires turn { HasTurnAt image.now self.old site word number contents }
+        ensures image { IsAt image.now self.new }
+        ensures unnoted { HasMadeNone self.old self.new }
     {
         let _ = image;
         let _ = number;
@@ -273,8 +269,8 @@ impl<'a> Seated<'a> {
         event: &Option<Event>,
         about: &A,
     )
-        requires turn { InTurn image.now self.old.board.now.table.shared.table_id self.old.cells.now self.old.rodata.now self.old.seat (vec_capacity self.old.log) site word number before.now.value }
-        requires room { length self.old.log.items < vec_capacity self.old.log }
+        requires turn { HasTurnAt image.now self.old site word number before.now.value }
+        requires room { length self.old.log.items < self.old.log.room }
         requires takes { Takes image.now (SiteState.cell number before.now.value.cell) D.step (SiteState.cell (number + 1) contents.cell) }
         requires of { contents.image ≡ image.now }
         requires site { site_number D.step.site ≡ site }
@@ -282,8 +278,8 @@ impl<'a> Seated<'a> {
         requires cpu { D.step.cpu ≡ cpu }
         requires event { event.now ≡ event_of D.step.act }
         requires goes { IsNext image.now self.old.seat.token.me.0.name self.old.seat.token.me.0.made D.step }
-        ensures image { IsPlaced image.now self.new.board.now.table.shared.table_id self.new.cells.now self.new.rodata.now self.new.seat (vec_capacity self.new.log) }
-        ensures made { Noted self.old.seat self.old.log.items D.step self.new.seat self.new.log.items }
+        ensures image { IsAt image.now self.new }
+        ensures made { HasMadeThere self.old D.step self.new }
     {
         let _ = image;
         let _ = which;
@@ -306,11 +302,11 @@ impl<'a> Seated<'a> {
         let number = self
             .cells
             .put::<_, AsMade<D>>(self.board, &mut self.seat, held, next);
-        note(&mut self.log, cpu, site, number, event);
+        self.log.note(cpu, site, number, event);
     }
 
     /// The seat with the log of its steps.
-    pub fn into_parts(self) -> (Seat<Contents>, Vec<Logged>)
+    pub fn into_parts(self) -> (Seat<Contents>, Log)
         ensures { (result.0 ≡ self.entry.seat) × (result.1 ≡ self.entry.log) }
     {
         (self.seat, self.log)

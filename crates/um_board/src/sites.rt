@@ -30,25 +30,24 @@ const OBJECTS_FROM: u16 = 168;
 const PARTS_FROM: u16 = 296;
 
 impl Sites for Seated<'_> {
-    ghost use Rattle.std.specs.Prelude.{◌≡◌, vec_capacity};
+    ghost use Rattle.std.specs.Prelude.{◌≡◌};
     ghost use Rattle.um_base.specs.declared.image.Image.{Image};
     ghost use Rattle.um_fine.specs.Sites.{site_number};
     ghost use Rattle.um_board.specs.NextSteps.{IsNext};
+    ghost use Rattle.um_board.specs.Placed.{HasMadeNone, HasMadeThere, IsAt};
     ghost use Rattle.um_board.specs.Saw.{Hinders, SawShut};
-    ghost use Rattle.um_board.specs.Seated.{Noted, Unnoted};
-    ghost use Rattle.um_board.specs.Turned.{IsPlaced};
 
-    ghost IsOf = { λ image s. IsPlaced image s.board.now.table.shared.table_id s.cells.now s.rodata.now s.seat (vec_capacity s.log) };
+    ghost IsOf = { λ image s. IsAt image s };
 
-    ghost Took = { λ image old e new. Noted old.seat old.log.items e new.seat new.log.items };
+    ghost Took = { λ image old e new. HasMadeThere old e new };
 
-    ghost Kept = { λ old new. Unnoted old.seat old.log.items new.seat new.log.items };
+    ghost Kept = { λ old new. HasMadeNone old new };
 
     ghost May = { λ image s e. IsNext image s.seat.token.me.0.name s.seat.token.me.0.made e };
 
     ghost Shut = { λ image old e new. SawShut old.seat new.seat e };
 
-    ghost Contended = { λ image old site new. Hinders (vec_capacity old.log) old.log.items old.seat new.seat (site_number site) };
+    ghost Contended = { λ image old site new. Hinders old.log.room old.log.items old.seat new.seat (site_number site) };
 
     fn row(&mut self, image: &Image, cpu: u8, row: Row, act: &RowAct) -> Said<RowSaid> {
         let site = row.0 as u16;
@@ -400,7 +399,7 @@ impl Sites for Seated<'_> {
         if CellWord::read(seen).ready == 0 {
             return Said::Busy;
         }
-        let Some(turn) = self.turn(image, SCHEDULER) else {
+        let Some(turn) = self.turn_at_once(image, SCHEDULER) else {
             return Said::Changed;
         };
         let Turn {

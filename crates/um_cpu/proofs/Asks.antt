@@ -20,15 +20,21 @@ use Rattle.um_processor.specs.declared.phase.Turn.{Turn}
 use Rattle.um_site.specs.declared.seat.Seat.{Seat}
 use Rattle.um_board.specs.Contents.{Known}
 use Rattle.um_board.specs.NextSteps.{stands_at}
+use Rattle.um_board.specs.Placed.{HasMadeNone, IsAt}
 use Rattle.um_board.specs.ReadBack.{fine_at}
 use Rattle.um_board.specs.Saw.{Hinders, SawAt, SawShut}
 use Rattle.um_board.specs.Seated.{IsSeated, Noted, Unnoted}
+use Rattle.um_board.specs.declared.seated.Seated.{Seated}
 use Rattle.um_history.specs.Fine.{Stood}
 use Rattle.um_history.specs.Played.{SCHEDULER}
 use Rattle.um_history.proofs.Hindered.{hindered, refused}
 use Rattle.um_history.proofs.NeverStuck.{never-stuck}
 use Rattle.um_history.proofs.Stood.{IsSeatOf, g, stood, word-stood}
 use Rattle.um_cpu.specs.Cpus.{HasAsked, Rests, Stands}
+use Rattle.um_cpu.specs.Playing.{IsPlaying}
+use Rattle.um_cpu.specs.declared.cpu.Cpu.{Cpu}
+use Rattle.um_cpu.proofs.Advances.{stands-there}
+use Rattle.um_processor.specs.Standing.{whole}
 use Rattle.um_words.specs.Packed.{cell_of}
 use Rattle.um_site.specs.Tells.{NoOlder}
 use Rattle.um_cell.specs.declared.cells.Cells.{Cells}
@@ -104,3 +110,15 @@ module _ (image : Image) (described : IsDescribed image) (can : CanRun image 8) 
         stood = stood image described can longest k s seat SCHEDULER w saw;
         left = word-stood image described can longest k s seat SCHEDULER w saw Site.scheduler refl refl;
       }
+
+-- the same of a processor at its place
+pub rested : (image : Image) → IsDescribed image → CanRun image 8 → ((run : List FineStep) → IsFineRun image 8 run → length run ≤ weight image)
+    → (c : Cpu) → IsAt image c.place → IsPlaying image c → (seen : Seated) (w : ℕ) → (whole c.processor).todo ≡ [] → HasMadeNone c.place seen
+    → seen.seat.token.me.0.got ≡ (SCHEDULER, w) ∷ c.place.seat.token.me.0.got → NoOlder c.place.seat.token.me.0.got SCHEDULER w → SawAt c.place.seat SCHEDULER w → (cell_of w).ready ≡ 0
+    → Rests image c.number (whole c.processor) (whole c.processor) c.place.seat c.place.log.items seen.seat seen.log.items w
+rested image described can longest c at stands seen w idle none got newest saw ready =
+    let p = whole c.processor in
+    let s = c.place.seat in
+    let log = c.place.log.items in
+    rests-by image described can longest c.number s (seat-of image _ _ c.number p s log at.seated stands) p (stands-there image c.number p s log stands)
+    seen.seat log seen.log.items w idle none got newest saw ready

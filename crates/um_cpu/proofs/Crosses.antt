@@ -17,7 +17,10 @@ use Rattle.um_processor.proofs.processor.Processor.TheSendSync as Processor
 use Rattle.um_site.proofs.seat.Seat.TheSendSync as Seat
 use Rattle.um_site.proofs.board.Board.TheSendSync as Board
 use Rattle.um_cell.proofs.cells.Cells.TheSendSync as Cells
-use Rattle.um_merge.proofs.logged.Logged.TheSendSync as Logged
+use Rattle.um_merge.specs.contracts.log.Log as Log
+use Rattle.um_merge.specs.contracts.log.Log.TheInside as LogInside
+use Rattle.um_merge.proofs.logged.Short.TheSendSync as Short
+use Rattle.um_base.proofs.act.Event.TheSendSync as Event
 
 inside_send : IsSend Inside.the_row
 inside_send = declared_send Inside.the_type (search crosses, (Kept.the_send, tt))
@@ -37,11 +40,17 @@ board_sync = Board.the_sync Contents.the_row NextStep.the_row Content.ghosts Loc
 pub cells_sync : IsSync (CellsRow.the_row Contents.the_row)
 cells_sync = Cells.the_sync Contents.the_row
 
+log_inside_send : IsSend LogInside.the_row
+log_inside_send = declared_send LogInside.the_type (search (crosses, Short.the_send), (search (crosses, Event.the_send), tt))
+
+pub log_send : IsSend Log.the_row
+log_send = record { owned = λ d vs x. (log_inside_send.owned x.0 vs, tt); leaving = λ k d w. tt }
+
 pub seated_send : (κ : NamedLft) → IsSend (Seated.the_row κ)
 seated_send κ =
     declared_send (Seated.the_type κ) (
       search (as_row_send, shr_send, board_sync),
-      (search (as_row_send, shr_send, cells_sync), (search (as_row_send, sendable), (Seat.the_send Contents.the_row contents_send, (search (crosses, Logged.the_send), tt)))),
+      (search (as_row_send, shr_send, cells_sync), (search (as_row_send, sendable), (Seat.the_send Contents.the_row contents_send, (log_send, tt)))),
     )
 
 pub cpu_send : (κ : NamedLft) → IsSend (Cpu.the_row κ)

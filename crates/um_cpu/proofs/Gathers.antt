@@ -6,7 +6,8 @@ use Rattle.atomic_table.specs.Seated.{TableId}
 use Rattle.um_base.specs.declared.image.Image.{Image}
 use Rattle.um_fine.specs.Steps.{FineStep}
 use Rattle.um_words.specs.declared.made.Made.{Made}
-use Rattle.um_merge.specs.Merged.{Log, log_at}
+use Rattle.um_merge.specs.Logs.{Log}
+use Rattle.um_merge.specs.Merged.{log_at}
 use Rattle.um_merge.specs.declared.logged.Logged.{Logged}
 use Rattle.um_site.specs.Cells.{AmongCells, IsClosedWithCells}
 use Rattle.um_site.specs.History.{Among, AmongNames, child, joiner, shadow_of, splitter}

@@ -10,7 +10,8 @@ use Rattle.um_fine.specs.Runs.{sub, sublist}
 use Rattle.um_fine.specs.Sites.{is_site}
 use Rattle.um_fine.specs.Steps.{FineStep}
 use Rattle.um_fine.proofs.Keys.{number-bound}
-use Rattle.um_merge.specs.Merged.{AreAtSites, ArePlaced, Log, log_at}
+use Rattle.um_merge.specs.Logs.{Log, event_on, events_of}
+use Rattle.um_merge.specs.Merged.{AreAtSites, ArePlaced, log_at}
 use Rattle.um_merge.specs.declared.logged.Logged.{Logged}
 use Rattle.um_words.specs.declared.made.Made.{Made}
 use Rattle.um_site.specs.History.{Among, Distinct, shadow_of}
@@ -18,7 +19,7 @@ use Rattle.um_site.specs.declared.closed.Closed.{Closed}
 use Rattle.um_site.specs.declared.view.View.{View}
 use Rattle.um_board.specs.Contents.{Known}
 use Rattle.um_board.specs.Noted.{logged_of, made_of}
-use Rattle.um_history.specs.Fine.{IsFineOf, event_on, events_of}
+use Rattle.um_history.specs.Fine.{IsFineOf}
 use Rattle.um_history.specs.Played.{Each, IsPlayed, StandsUnder}
 use Rattle.um_cpu.specs.OnBoard.{HasRun}
 

@@ -1,6 +1,6 @@
 -- A processor's seat when it is split off, and behind its last turn.
 use Rattle.std.proofs.Common.{◌≡◌, ℕ, ◌+◌, ◌<◌, List, [], ◌∷◌, ◌++◌, length, length-append, inl, inr, refl, sym, ap, ◌∙◌, subst, arith}
-use Rattle.std.specs.Prelude.{reverse, vec_capacity}
+use Rattle.std.specs.Prelude.{reverse}
 use Rattle.std.proofs.lemmas.Bool.Decides.{leb_tells}
 use Rattle.std.proofs.lemmas.List.{get_or_append_left, get_or_at, reverse-append}
 use Rattle.atomic_table.specs.Seated.{TableId}
@@ -11,7 +11,7 @@ use Rattle.um_fine.specs.Processor.{idle}
 use Rattle.um_processor.specs.Standing.{whole}
 use Rattle.um_site.specs.Cells.{AmongCells}
 use Rattle.um_words.specs.declared.made.Made.{Made}
-use Rattle.um_merge.specs.Merged.{Log}
+use Rattle.um_merge.specs.Logs.{Log}
 use Rattle.um_site.specs.History.{Among, joiner, newborn, splitter}
 use Rattle.um_site.specs.declared.seat.Seat.{Seat}
 use Rattle.um_site.specs.declared.view.View.{View}
@@ -63,12 +63,12 @@ module _ (image : Image) (board : TableId) (cells : Cells Known) (s own : Seat K
       }
 
   pub begins-there : (c : Cpu) (rodata : List ℕ) → n < 8 → c.number ≡ n → c.place.board.now.table.shared.table_id ≡ board → c.place.cells.now ≡ cells → c.place.rodata.now ≡ rodata → rodata ≡ rodata_of image
-      → c.place.seat ≡ own → c.place.log.items ≡ [] → whole c.processor ≡ idle → own.split ≡ 0 → own.joined ≡ 0 → weight image < vec_capacity c.place.log → Begins image board n c
+      → c.place.seat ≡ own → c.place.log.items ≡ [] → whole c.processor ≡ idle → own.split ≡ 0 → own.joined ≡ 0 → weight image < c.place.log.room → Begins image board n c
   begins-there c rodata few number at-board at-cells is-rodata rodata-is is-own log fresh split joined enough =
       record {
         sits = record {
           number = number;
-          place = placed-same image board c.place.board.now.table.shared.table_id cells c.place.cells.now rodata c.place.rodata.now own c.place.seat (vec_capacity c.place.log) at-board at-cells is-rodata is-own
+          place = placed-same image board c.place.board.now.table.shared.table_id cells c.place.cells.now rodata c.place.rodata.now own c.place.seat c.place.log.room at-board at-cells is-rodata is-own
               (record { seated = born-seated; rodata_is = rodata-is; enough = enough });
           here = ap (λ (x : Seat Known). x.token.table_id) is-own ∙ (here ∙ seated.here);
           name = ap (λ (x : Seat Known). x.token.me.0.name) is-own ∙ (ap (λ (v : View). v.name) born ∙ child-name image s.token.me.0 n gathered);
@@ -86,7 +86,7 @@ module _ (image : Image) (board : TableId) (cells : Cells Known) (s own : Seat K
 
 -- a processor behind its last turn
 pub ends-there : (image : Image) (board : TableId) (k : ℕ) (c d : Cpu) → Begins image board k c → d.number ≡ c.number
-    → IsPlaced image d.place.board.now.table.shared.table_id d.place.cells.now d.place.rodata.now d.place.seat (vec_capacity d.place.log) → KeepsPlace c.place.seat d.place.seat
+    → IsPlaced image d.place.board.now.table.shared.table_id d.place.cells.now d.place.rodata.now d.place.seat d.place.log.room → KeepsPlace c.place.seat d.place.seat
     → Plays image c.number (whole c.processor) c.place.seat c.place.log.items (whole d.processor) d.place.seat d.place.log.items → Ends image board k d
 ends-there image board k c d begins number place keeps plays =
     let all = plays [] (has-none image c.number (whole c.processor) c.place.seat c.place.log.items begins.idle_is begins.made begins.log) in

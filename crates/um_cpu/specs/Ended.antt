@@ -1,11 +1,12 @@
 -- Processors at seats that one seat of a board has split off, and what there is of them when they have ended.
-use Rattle.std.specs.Prelude.{◌≡◌, ℕ, ◌+◌, ◌<◌, ◌≤◌, List, [], ◌∷◌, length, slice_index_or, None, true, vec_capacity}
+use Rattle.std.specs.Prelude.{◌≡◌, ℕ, ◌+◌, ◌<◌, ◌≤◌, List, [], ◌∷◌, length, slice_index_or, None, true}
 use Rattle.std.specs.Mem.Slots.{slots_items}
 use Rattle.atomic_table.specs.Seated.{TableId}
 use Rattle.um_base.specs.declared.image.Image.{Image}
 use Rattle.um_fine.specs.Processor.{idle}
 use Rattle.um_fine.specs.Steps.{FineStep}
-use Rattle.um_merge.specs.Merged.{Log, log_at}
+use Rattle.um_merge.specs.Logs.{Log}
+use Rattle.um_merge.specs.Merged.{log_at}
 use Rattle.um_merge.specs.declared.logged.Logged.{Logged}
 use Rattle.um_processor.specs.Standing.{whole}
 use Rattle.um_words.specs.declared.made.Made.{Made}
@@ -24,7 +25,7 @@ use Rattle.um_cpu.specs.declared.cpu.Cpu.{Cpu}
 -- the processor k at its place at the board: its seat has this name, and has split off none
 pub record Sits (image : Image) (board : TableId) (k : ℕ) (c : Cpu) : Type 0 where
   pub number : c.number ≡ k
-  pub place : IsPlaced image c.place.board.now.table.shared.table_id c.place.cells.now c.place.rodata.now c.place.seat (vec_capacity c.place.log)
+  pub place : IsPlaced image c.place.board.now.table.shared.table_id c.place.cells.now c.place.rodata.now c.place.seat c.place.log.room
   pub here : c.place.seat.token.table_id ≡ board
   pub name : c.place.seat.token.me.0.name ≡ k ∷ []
   pub split : c.place.seat.split ≡ 0

@@ -1,3 +1,4 @@
 pub mod Cpus
 pub mod Ended
 pub mod OnBoard
+pub mod Playing

@@ -1,13 +1,13 @@
 //! A processor at its place at a board.
 
-ghost use Rattle.std.specs.Prelude.{◌≡◌, vec_capacity};
+ghost use Rattle.std.specs.Prelude.{◌≡◌};
 ghost use Rattle.um_reach.specs.Described.{IsDescribed};
 ghost use Rattle.um_erasure.specs.Room.{CanRun};
 ghost use Rattle.um_processor.specs.Given.{IsGiven};
-ghost use Rattle.um_processor.specs.Standing.{whole};
+ghost use Rattle.um_board.specs.Placed.{IsAt};
 ghost use Rattle.um_board.specs.Seated.{KeepsPlace};
-ghost use Rattle.um_board.specs.Turned.{IsPlaced};
-ghost use Rattle.um_cpu.specs.Cpus.{Advances, HadWork, HasAsked, Rests, Stands, Tells};
+ghost use Rattle.um_cpu.specs.Cpus.{Tells};
+ghost use Rattle.um_cpu.specs.Playing.{AskedOnce, GoesOnTo, IsPlaying, Rested, Worked};
 
 use crate::turn::Turn;
 use um_base::Image;
@@ -31,14 +31,14 @@ impl<'a> Cpu<'a> {
         requires given { IsGiven image.now }
         requires described { IsDescribed image.now }
         requires can { CanRun image.now 8 }
-        requires place { IsPlaced image.now self.old.place.board.now.table.shared.table_id self.old.place.cells.now self.old.place.rodata.now self.old.place.seat (vec_capacity self.old.place.log) }
-        requires stands { Stands image.now self.old.number (whole self.old.processor) self.old.place.seat self.old.place.log.items }
+        requires place { IsAt image.now self.old.place }
+        requires stands { IsPlaying image.now self.old }
         ensures number { self.new.number ≡ self.old.number }
-        ensures place { IsPlaced image.now self.new.place.board.now.table.shared.table_id self.new.place.cells.now self.new.place.rodata.now self.new.place.seat (vec_capacity self.new.place.log) }
+        ensures place { IsAt image.now self.new.place }
         ensures keeps { KeepsPlace self.old.place.seat self.new.place.seat }
-        ensures goes { Advances image.now self.old.number (whole self.old.processor) self.old.place.seat self.old.place.log.items (whole self.new.processor) self.new.place.seat self.new.place.log.items }
-        ensures asked { HasAsked image.now self.old.number (whole self.old.processor) (whole self.new.processor) self.old.place.seat self.old.place.log.items self.new.place.seat self.new.place.log.items }
-        ensures stands { Stands image.now self.new.number (whole self.new.processor) self.new.place.seat self.new.place.log.items }
+        ensures goes { GoesOnTo image.now self.old self.new }
+        ensures asked { AskedOnce image.now self.old self.new }
+        ensures stands { IsPlaying image.now self.new }
     {
         longest_fine_run();
         match self.processor.step(image, self.number, &mut self.place) {
@@ -57,15 +57,14 @@ impl<'a> Cpu<'a> {
         requires given { IsGiven image.now }
         requires described { IsDescribed image.now }
         requires can { CanRun image.now 8 }
-        requires place { IsPlaced image.now self.old.place.board.now.table.shared.table_id self.old.place.cells.now self.old.place.rodata.now self.old.place.seat (vec_capacity self.old.place.log) }
-        requires stands { Stands image.now self.old.number (whole self.old.processor) self.old.place.seat self.old.place.log.items }
+        requires place { IsAt image.now self.old.place }
+        requires stands { IsPlaying image.now self.old }
         ensures number { self.new.number ≡ self.old.number }
-        ensures place { IsPlaced image.now self.new.place.board.now.table.shared.table_id self.new.place.cells.now self.new.place.rodata.now self.new.place.seat (vec_capacity self.new.place.log) }
+        ensures place { IsAt image.now self.new.place }
         ensures keeps { KeepsPlace self.old.place.seat self.new.place.seat }
-        ensures goes { Advances image.now self.old.number (whole self.old.processor) self.old.place.seat self.old.place.log.items (whole self.new.processor) self.new.place.seat self.new.place.log.items }
-        ensures stands { Stands image.now self.new.number (whole self.new.processor) self.new.place.seat self.new.place.log.items }
-        ensures told { Tells result (HadWork image.now self.old.number (whole self.old.processor) (whole self.new.processor) self.old.place.seat self.old.place.log.items self.new.place.seat self.new.place.log.items)
-            (Rests image.now self.old.number (whole self.old.processor) (whole self.new.processor) self.old.place.seat self.old.place.log.items self.new.place.seat self.new.place.log.items) }
+        ensures goes { GoesOnTo image.now self.old self.new }
+        ensures stands { IsPlaying image.now self.new }
+        ensures told { Tells result (Worked image.now self.old self.new) (Rested image.now self.old self.new) }
     {
         longest_fine_run();
         if !self.processor.is_idle() {

@@ -7,7 +7,7 @@ ghost use Rattle.um_machine.specs.Run.{IsComplete, IsRun};
 ghost use Rattle.um_machine.specs.State.{State};
 ghost use Rattle.um_fine.specs.Erasure.{shown};
 ghost use Rattle.um_fine.specs.Steps.{FineStep};
-ghost use Rattle.um_history.specs.Fine.{events_of};
+ghost use Rattle.um_merge.specs.Logs.{events_of};
 ghost use Rattle.um_cpu.specs.OnBoard.{HasRun};
 
 use crate::run::{Ended, run_cpus};
@@ -19,26 +19,13 @@ use um_board::Contents;
 use um_fine_bound::longest_fine_run;
 use um_history::every_played_board;
 use um_io::Gate;
-use um_merge::{Logged, merge};
+use um_merge::{Log, merge};
 use um_site::Closed;
 
 /// What processors have shown, and the board that they leave.
 pub struct Ran {
     pub events: Vec<Event>,
     pub closed: Closed<Contents>,
-}
-
-/// The events of steps, in their order.
-fn events_in(alloc: Global, steps: &[Logged]) -> Result<Vec<Event>, Memory>
-    ensures { IfOk result (λ events. events.items ≡ events_of steps.now) }
-{
-    let mut events = Vec::new(alloc);
-    for step in steps {
-        if let Some(event) = step.event {
-            events.push(event)?;
-        }
-    }
-    Ok(events)
 }
 
 /// Runs so many processors on a board of the image, each in a thread of its own where one can be made, and puts the steps that they have made there
@@ -64,14 +51,11 @@ pub fn run_events<R: Threads + Wait + Sync, G: Gate + Sync>(
     longest_fine_run();
     let _objects = image.objects.len();
     let _domains = image.domains.len();
-    let mut steps = Vec::with_capacity(alloc, most)?;
+    let mut steps = Log::with_room(alloc, most)?;
     let Ended { logs, closed } = run_cpus(rt, alloc, image, cpus, most, gate)?;
     merge(logs.as_slice(), &mut steps);
-    match events_in(alloc, steps.as_slice()) {
-        Err(memory) => {
-            closed.free();
-            Err(memory)
-        }
-        Ok(events) => Ok(Ran { events, closed }),
-    }
+    Ok(Ran {
+        events: steps.into_events(),
+        closed,
+    })
 }

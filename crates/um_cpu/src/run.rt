@@ -19,13 +19,13 @@ use std::thread::Threads;
 use um_base::{Image, Memory};
 use um_board::{Contents, NextStep, opening};
 use um_io::Gate;
-use um_merge::{Logged, PROCESSORS};
+use um_merge::{Log, PROCESSORS};
 use um_site::{Board, Closed, Seat};
 
 /// What is left of processors that have ended.
 pub struct Ended {
     /// The steps of the processors 0, 1, ..
-    pub logs: Vec<Vec<Logged>>,
+    pub logs: Vec<Log>,
     pub closed: Closed<Contents>,
 }
 
@@ -81,7 +81,7 @@ fn gather(
     board: &Board<Contents, NextStep>,
     seat: &mut Seat<Contents>,
     cpus: &mut Vec<Cpu<'_>>,
-    logs: &mut Vec<Vec<Logged>>,
+    logs: &mut Vec<Log>,
 )
     requires ends { EachAt (Ends image.now board.now.table.shared.table_id) cpus.old.items }
     requires seat { Gathered image.now board.now.table.shared.table_id seat.old (length cpus.old.items) (length cpus.old.items) [] }

@@ -12,6 +12,7 @@ use std::alloc::Global;
 use um_base::{Image, Memory};
 use um_board::{Contents, NextStep, Seated};
 use um_cell::Cells;
+use um_merge::Log;
 use um_processor::Processor;
 use um_site::{Board, Seat};
 
@@ -37,7 +38,7 @@ fn seat_of<'a>(
     ensures begins { IfOk result (λ cpu. Begins image.now board.now.table.shared.table_id number cpu) }
 {
     let _ = image;
-    let log = Vec::with_capacity(alloc, most.saturating_add(1))?;
+    let log = Log::with_room(alloc, most.saturating_add(1))?;
     let processor = Processor::new(alloc)?;
     let own = board.split(seat);
     let place = Seated::new(board, cells, rodata, own, log);

@@ -1,13 +1,12 @@
 //! All turns of a processor.
 
-ghost use Rattle.std.specs.Prelude.{◌≡◌, vec_capacity};
+ghost use Rattle.std.specs.Prelude.{◌≡◌};
 ghost use Rattle.um_reach.specs.Described.{IsDescribed};
 ghost use Rattle.um_erasure.specs.Room.{CanRun};
 ghost use Rattle.um_processor.specs.Given.{IsGiven};
-ghost use Rattle.um_processor.specs.Standing.{whole};
+ghost use Rattle.um_board.specs.Placed.{IsAt};
 ghost use Rattle.um_board.specs.Seated.{KeepsPlace};
-ghost use Rattle.um_board.specs.Turned.{IsPlaced};
-ghost use Rattle.um_cpu.specs.Cpus.{Plays, Stands};
+ghost use Rattle.um_cpu.specs.Playing.{IsPlaying, PlaysOut};
 
 use crate::cpu::Cpu;
 use crate::turn::Turn;
@@ -17,36 +16,56 @@ use std::thread::yield_now;
 use um_base::Image;
 use um_io::Gate;
 
-/// How often a processor waits for a moment, before it leaves its own to another thread.
+/// How long a moment is, in turns of an empty loop.
 const SPINS: u32 = 16;
 
+/// So many turns of a processor that make no step behind one another, then it leaves its own core to another thread.
+const MISSES: u32 = 64;
+
 /// A moment passes.
-fn wait() {
+fn spin() {
     for _ in 0..SPINS {
         spin_loop();
     }
+}
+
+/// A moment passes, in which another thread can have the core.
+fn wait() {
+    spin();
     yield_now();
 }
 
 /// A processor takes its turns until it has no thread and none is ready, none runs, and nothing is owed. Before each turn it can be held, by
-/// its number and by how many turns it has taken.
+/// its number and by how many turns it has taken. Behind one that made no step it waits for a moment.
 pub(crate) fn turns<R: Wait, G: Gate>(rt: &R, image: &Image, cpu: &mut Cpu<'_>, gate: &G)
     requires given { IsGiven image.now }
     requires described { IsDescribed image.now }
     requires can { CanRun image.now 8 }
-    requires place { IsPlaced image.now cpu.old.place.board.now.table.shared.table_id cpu.old.place.cells.now cpu.old.place.rodata.now cpu.old.place.seat (vec_capacity cpu.old.place.log) }
-    requires stands { Stands image.now cpu.old.number (whole cpu.old.processor) cpu.old.place.seat cpu.old.place.log.items }
+    requires place { IsAt image.now cpu.old.place }
+    requires stands { IsPlaying image.now cpu.old }
     ensures number { cpu.new.number ≡ cpu.old.number }
-    ensures place { IsPlaced image.now cpu.new.place.board.now.table.shared.table_id cpu.new.place.cells.now cpu.new.place.rodata.now cpu.new.place.seat (vec_capacity cpu.new.place.log) }
+    ensures place { IsAt image.now cpu.new.place }
     ensures keeps { KeepsPlace cpu.old.place.seat cpu.new.place.seat }
-    ensures plays { Plays image.now cpu.old.number (whole cpu.old.processor) cpu.old.place.seat cpu.old.place.log.items (whole cpu.new.processor) cpu.new.place.seat cpu.new.place.log.items }
+    ensures plays { PlaysOut image.now cpu.old cpu.new }
 {
     let mut turn: u64 = 0;
+    let mut missed: u32 = 0;
     for _ in rt.forever() {
         gate.pause(u32::from(cpu.number), turn);
         turn = turn.saturating_add(1);
+        let made = cpu.place.log.len();
         match cpu.step(image) {
-            Turn::Did => {}
+            Turn::Did => {
+                if cpu.place.log.len() > made {
+                    missed = 0;
+                } else if missed < MISSES {
+                    missed += 1;
+                    spin();
+                } else {
+                    missed = 0;
+                    wait();
+                }
+            }
             Turn::Idle { word: _ } => wait(),
             Turn::Quiet { word: _ } => return,
         }

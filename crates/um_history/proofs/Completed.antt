@@ -25,14 +25,15 @@ use Rattle.um_fine.specs.Sites.{SiteMay, SiteState, s_next}
 use Rattle.um_fine.specs.Steps.{Exchange, FineStep, Site}
 use Rattle.um_fine.specs.Places.{Todos}
 use Rattle.um_merge.specs.Merged as Merged
-use Rattle.um_merge.specs.Merged.{HaveOrder, IsOrder, Log}
+use Rattle.um_merge.specs.Logs.{Log, events_of}
+use Rattle.um_merge.specs.Merged.{HaveOrder, IsOrder}
 use Rattle.um_merge.specs.declared.logged.Logged.{Logged}
 use Rattle.um_site.specs.declared.view.View.{View}
 use Rattle.um_erasure.specs.After.{left_by}
 use Rattle.um_erasure.specs.Room.{CanCount, CanRun, IsStuck}
 use Rattle.um_core.proofs.Counts.{can-count}
 use Rattle.um_board.specs.Noted.{logged_of}
-use Rattle.um_history.specs.Fine.{IsFineOf, events_of}
+use Rattle.um_history.specs.Fine.{IsFineOf}
 use Rattle.um_history.specs.Played.{IsPlayed, SawNone}
 use Rattle.um_history.proofs.Fine.{is-fine-of}
 use Rattle.um_history.proofs.Moments.{all}

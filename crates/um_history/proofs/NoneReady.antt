@@ -21,7 +21,7 @@ use Rattle.um_site.specs.History.{Fresh, IsNoNewer}
 use Rattle.um_site.specs.declared.view.View.{View}
 use Rattle.um_site.proofs.Bare.{bare-high, bare-number}
 use Rattle.um_site.proofs.Sublists.{same_itself}
-use Rattle.um_merge.specs.Merged.{Log}
+use Rattle.um_merge.specs.Logs.{Log}
 use Rattle.um_board.specs.Contents.{Known}
 use Rattle.um_board.specs.Noted.{made_of, packed}
 use Rattle.um_board.specs.Saw.{WasGot}

@@ -14,11 +14,12 @@ use Rattle.um_fine.specs.Runs.{Run, SameAt, ends, sublist}
 use Rattle.um_fine.specs.Sites.{SiteMay, is_site, s_next, same_site, site_number, site_numbered, word_of}
 use Rattle.um_fine.specs.Steps.{FineStep, Site}
 use Rattle.um_merge.specs.Merged as Merged
-use Rattle.um_merge.specs.Merged.{AreNumbered, IsOrder, Log, log_at}
+use Rattle.um_merge.specs.Logs.{Log, event_on, events_of}
+use Rattle.um_merge.specs.Merged.{AreNumbered, IsOrder, log_at}
 use Rattle.um_merge.specs.declared.logged.Logged.{Logged}
 use Rattle.um_processor.specs.Asked.{event_of}
 use Rattle.um_board.specs.Noted.{logged_of, packed}
-use Rattle.um_history.specs.Fine.{IsFineOf, event_on, events_of}
+use Rattle.um_history.specs.Fine.{IsFineOf}
 use Rattle.um_history.specs.Played.{Each}
 use Rattle.um_history.proofs.Lifts.{lift, sublist_map}
 use Rattle.um_history.proofs.Lists.{each-keyed, each-map, each-sub, sub-none, sub-same}

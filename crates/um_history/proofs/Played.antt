@@ -8,7 +8,7 @@ use Rattle.um_fine.specs.FineRun.{cpu_of, same_cpu}
 use Rattle.um_fine.specs.Processor.{idle}
 use Rattle.um_fine.specs.Runs.{sublist}
 use Rattle.um_fine.specs.Steps.{FineStep}
-use Rattle.um_merge.specs.Merged.{Log}
+use Rattle.um_merge.specs.Logs.{Log}
 use Rattle.um_site.specs.Cells.{ContentsAre}
 use Rattle.um_site.specs.History.{Told}
 use Rattle.um_site.specs.declared.view.View.{View}

@@ -1,7 +1,6 @@
 -- One list of the steps of several processors.
-use Rattle.std.specs.Prelude.{◌≡◌, ℕ, ◌<◌, ◌≤◌, eqb, IsTrue, List, [], ◌∷◌, length, map, slice_index, Option, Some, None}
+use Rattle.std.specs.Prelude.{◌≡◌, ℕ, ◌<◌, ◌≤◌, eqb, IsTrue, List, [], length, map, slice_index}
 use Rattle.um_base.specs.Weight.{weight}
-use Rattle.um_base.specs.declared.act.Event.{Event}
 use Rattle.um_base.specs.declared.image.Image.{Image}
 use Rattle.um_words.specs.History.{bare}
 use Rattle.um_fine.specs.FineRun.{IsFineRun, cpu_of, same_cpu, site_of}
@@ -11,7 +10,6 @@ use Rattle.um_fine.specs.Sites.{SiteState, is_site, s_next, same_site, site_numb
 use Rattle.um_fine.specs.Steps.{FineStep, Site}
 use Rattle.um_merge.specs.Merged as Merged
 use Rattle.um_merge.specs.Merged.{AreNumbered}
-use Rattle.um_merge.specs.declared.logged.Logged.{Logged}
 use Rattle.um_processor.specs.Asked.{Refuses}
 use Rattle.um_site.specs.declared.seat.Seat.{Seat}
 use Rattle.um_board.specs.Contents.{Known}
@@ -48,12 +46,3 @@ pub record WasRefused (image : Image) (k : ℕ) (s t : Seat Known) (e : FineStep
   pub stood : Stood image k (map (fine_at k) s.token.me.0.made) run
   pub left : packed (word_of (left_at image run e.site)) ≡ bare (site_number e.site) word
   pub refuses : Refuses (left_at image run e.site) e
-
-abbrev pub event_on : Option Event → List Event → List Event
-event_on None events = events
-event_on (Some event) events = event ∷ events
-
--- the events that noted steps show
-abbrev pub events_of : List Logged → List Event
-events_of [] = []
-events_of (step ∷ steps) = event_on step.event (events_of steps)

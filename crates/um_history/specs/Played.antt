@@ -10,7 +10,8 @@ use Rattle.um_fine.specs.Processor.{idle}
 use Rattle.um_fine.specs.Runs.{Run, ends}
 use Rattle.um_fine.specs.Sites.{site_number}
 use Rattle.um_fine.specs.Steps.{FineStep}
-use Rattle.um_merge.specs.Merged.{Log, log_at}
+use Rattle.um_merge.specs.Logs.{Log}
+use Rattle.um_merge.specs.Merged.{log_at}
 use Rattle.um_merge.specs.declared.logged.Logged.{Logged}
 use Rattle.um_processor.specs.Processors.{AsksFor}
 use Rattle.um_site.specs.Cells.{AmongCells, ContentsAre, IsClosedWithCells, Moment}

@@ -9,7 +9,8 @@ ghost use Rattle.um_words.specs.History.{by_seat};
 ghost use Rattle.um_reach.specs.Described.{IsDescribed};
 ghost use Rattle.um_fine.specs.Erasure.{shown};
 ghost use Rattle.um_fine.specs.Steps.{FineStep};
-ghost use Rattle.um_merge.specs.Merged.{HaveOrder, IsOrder, Log, SameOrder};
+ghost use Rattle.um_merge.specs.Logs.{Log, events_of};
+ghost use Rattle.um_merge.specs.Merged.{HaveOrder, IsOrder, SameOrder};
 ghost use Rattle.um_merge.specs.declared.logged.Logged.{Logged};
 ghost use Rattle.um_site.specs.declared.view.View.{View};
 ghost use Rattle.um_board.specs.Noted.{logged_of};
@@ -17,7 +18,7 @@ ghost use Rattle.um_board.specs.ReadBack.{fine_at};
 ghost use Rattle.um_erasure.specs.After.{left_by};
 ghost use Rattle.um_erasure.specs.Relation.{Rel};
 ghost use Rattle.um_erasure.specs.Room.{CanRun};
-ghost use Rattle.um_history.specs.Fine.{IsFineOf, events_of};
+ghost use Rattle.um_history.specs.Fine.{IsFineOf};
 ghost use Rattle.um_history.specs.Played.{IsMoment, IsPlayed, SawNone};
 
 use um_erasure::every_fine_run;

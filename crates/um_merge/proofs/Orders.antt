@@ -6,10 +6,11 @@ use native.Mathlib.Decide.{ℕ_discrete, dec_lt}
 use Rattle.um_fine.specs.Runs.{has_key, sublist, SameAt}
 use Rattle.um_fine.proofs.Subs.{sub-append}
 use Rattle.um_merge.specs.declared.logged.Logged.{Logged}
-use Rattle.std.proofs.Common.{get_or, drop, set, length-append, length-set, get_or-set_same, get_or-set_other, drop-cons, add-one, replicate}
+use Rattle.std.proofs.Common.{get_or, drop, take, set, length-append, length-set, get_or-set_same, get_or-set_other, drop-cons, add-one, replicate}
 use Rattle.std.proofs.lemmas.List.{length-replicate}
 use Rattle.std.proofs.Math.ListN.{drop_of_length-le}
-use Rattle.um_merge.specs.Merged.{cpu_of, site_of, SameOrder, AreNumbered, Log, log_at, IsOrder, IsNext, blank, IsMerging, AreAtSites}
+use Rattle.um_merge.specs.Logs.{Log, blank, events_of}
+use Rattle.um_merge.specs.Merged.{cpu_of, site_of, SameOrder, AreNumbered, AreShown, log_at, IsOrder, IsNext, IsMerging, AreAtSites}
 
 -- a step before others with its key
 module _ {E : Type 0} (key : E → ℕ) where
@@ -174,3 +175,15 @@ pub any_default : {A : Type 0} (l : List A) (k : ℕ) (d e : A) → k < length l
 any_default [] k d e h = absurd (omega arith)
 any_default (x ∷ xs) zero d e h = refl
 any_default (x ∷ xs) (suc k) d e h = any_default xs k d e (omega arith)
+
+-- at first none is shown
+pub shown_begins : (logs : List Log) → AreShown logs (replicate 8 0) (replicate 8 0)
+shown_begins logs c in' = read_same 8 c 0 ∙ sym (ap (λ (n : ℕ). length (events_of (take n (log_at logs c)))) (read_same 8 c 0))
+
+-- then those with the step of one processor more
+pub shown_step : (logs : List Log) (at shown : List ℕ) (c n : ℕ) → AreShown logs at shown → c < length at → c < length shown
+    → n ≡ length (events_of (take (get_or at c 0 + 1) (log_at logs c))) → AreShown logs (set at c (get_or at c 0 + 1)) (set shown c n)
+shown_step logs at shown c n before wide room more k here = dite (ℕ_discrete c k)
+    (λ q. subst (λ (j : ℕ). get_or (set shown c n) j 0 ≡ length (events_of (take (get_or (set at c (get_or at c 0 + 1)) j 0) (log_at logs j)))) q
+    (get_or-set_same shown c n 0 room ∙ (more ∙ sym (ap (λ (m : ℕ). length (events_of (take m (log_at logs c)))) (get_or-set_same at c (get_or at c 0 + 1) 0 wide)))))
+    (λ ne. get_or-set_other shown c k n 0 (λ e. ne (sym e)) ∙ (before k here ∙ sym (ap (λ (m : ℕ). length (events_of (take m (log_at logs k)))) (get_or-set_other at c k (get_or at c 0 + 1) 0 (λ e. ne (sym e))))))

@@ -1,11 +1,8 @@
 -- Lists of steps in the same order, and the orders that logs have.
-use Rattle.std.specs.Prelude.{◌≡◌, ℕ, zero, suc, ◌+◌, ◌<◌, ◌≤◌, eqb, List, [], ◌∷◌, ◌++◌, length, drop, slice_index, slice_index_or, None, Vec}
-use Rattle.std.specs.Global.{Global}
+use Rattle.std.specs.Prelude.{◌≡◌, ℕ, zero, suc, ◌+◌, ◌<◌, ◌≤◌, eqb, List, [], ◌∷◌, ◌++◌, length, drop, take, slice_index, slice_index_or}
 use Rattle.um_fine.specs.Runs.{sublist, SameAt}
 use Rattle.um_merge.specs.declared.logged.Logged.{Logged}
-
-abbrev pub blank : Logged
-blank = record { cpu = 0; site = 0; number = 0; event = None }
+use Rattle.um_merge.specs.Logs.{Log, blank, events_of}
 
 abbrev pub cpu_of : Logged → ℕ
 cpu_of step = step.cpu
@@ -21,9 +18,6 @@ SameOrder steps others = SameAt eqb cpu_of steps others × SameAt eqb site_of st
 abbrev pub AreNumbered : ℕ → List Logged → Type 0
 AreNumbered n [] = Unit {0}
 AreNumbered n (step ∷ steps) = (step.number ≡ n + 1) × AreNumbered (n + 1) steps
-
-abbrev pub Log : Type 0
-Log = Vec Logged Global
 
 -- the log of a processor: nothing where there is none
 abbrev pub log_at : List Log → ℕ → List Logged
@@ -63,3 +57,7 @@ pub record IsMerging (logs : List Log) (written : List Logged) (places done : Li
   pub counted : (site : ℕ) → site < 309 → length (sublist eqb site_of site written) ≡ slice_index done site
   pub eight : length places ≡ 8
   pub all_sites : length done ≡ 309
+
+-- so many events are shown in each log before the place in it
+abbrev pub AreShown : List Log → List ℕ → List ℕ → Type 0
+AreShown logs places shown = (cpu : ℕ) → cpu < length logs → slice_index shown cpu ≡ length (events_of (take (slice_index places cpu) (log_at logs cpu)))

@@ -1,10 +1,12 @@
 //! One list for the logs of several processors.
 #![tactic(auto)]
 
+mod log;
 mod logged;
 mod merging;
 #[cfg(test)]
 mod tests;
 
+pub use log::Log;
 pub use logged::{Logged, PROCESSORS, SITES};
 pub use merging::merge;

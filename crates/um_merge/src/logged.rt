@@ -20,3 +20,13 @@ pub struct Logged {
     /// What a trace shows of it.
     pub event: Option<Event>,
 }
+
+/// The same without its event, in eight bytes.
+#[derive(Clone, Copy)]
+pub(crate) struct Short {
+    pub cpu: u8,
+    /// Whether a trace shows an event of it.
+    pub shows: bool,
+    pub site: u16,
+    pub number: u32,
+}

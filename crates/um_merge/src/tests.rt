@@ -1,45 +1,61 @@
 //! Merges of small logs.
 
-ghost use Rattle.std.specs.Prelude.{◌≡◌, None};
+ghost use Rattle.std.specs.Prelude.{◌≡◌, ◌∷◌, [], None, Some, IfOk};
 
 use super::*;
+use std::alloc::{AllocError, Global};
 use std::test::Fail;
+use um_base::{Act, Event, ThreadIx};
 
-/// A step that is told by its processor, its site and its number there.
-fn step(cpu: u8, site: u16, number: u32) -> Logged
-    ensures { result ≡ record { cpu = cpu; site = site; number = number; event = None } }
-{
-    Logged {
-        cpu,
-        site,
-        number,
-        event: None,
-    }
+/// What the first step of a processor's log shows.
+fn shown(cpu: u8) -> Event {
+    let act = Act::Begin {
+        script: cpu,
+        line: 1,
+    };
+    let thread = ThreadIx(cpu);
+    Event { thread, act }
 }
 
-/// The place of a step: its site, and its number there.
-fn place(step: &Logged) -> (u16, u32) {
-    (step.site, step.number)
+/// The log of a processor with two steps, of which the first shows an event: each is told by its site, and by its number there.
+fn log_of(
+    alloc: Global,
+    cpu: u8,
+    first: (u16, u32),
+    second: (u16, u32),
+    event: Event,
+) -> Result<Log, AllocError>
+    ensures { IfOk result (λ log. log.items ≡ record { cpu = cpu; site = first.0; number = first.1; event = Some event } ∷ record { cpu = cpu; site = second.0; number = second.1; event = None } ∷ []) }
+{
+    let mut log = Log::with_room(alloc, 2)?;
+    log.note(cpu, first.0, first.1, &Some(event));
+    log.note(cpu, second.0, second.1, &None);
+    Ok(log)
 }
 
 #[test]
 fn steps_of_two_processors_at_two_sites(rt: HostRuntime) -> Result<(), Fail> {
     let alloc = rt.alloc();
-    let first = Vec::from_slice(alloc, &[step(0, 5, 2), step(0, 6, 1)])?;
-    let second = Vec::from_slice(alloc, &[step(1, 5, 1), step(1, 6, 2)])?;
-    let mut merged = Vec::with_capacity(alloc, 4)?;
+    let first = log_of(alloc, 0, (5, 2), (6, 1), shown(0))?;
+    let second = log_of(alloc, 1, (5, 1), (6, 2), shown(1))?;
+    let mut merged = Log::with_room(alloc, 4)?;
     merge(&[first, second], &mut merged);
     assert_eq!(rt; merged.len(), 4);
     let wanted = [(5, 1), (5, 2), (6, 1), (6, 2)];
-    for (made, wanted) in merged.iter().zip(wanted.iter()) {
-        assert_eq!(rt; place(made), *wanted);
+    for at in 0..4 {
+        if at < merged.len() {
+            assert_eq!(rt; merged.place(at), wanted[at]);
+        }
     }
+    let events = merged.into_events();
+    let wanted = [shown(1), shown(0)];
+    assert!(rt; events.as_slice() == wanted.as_slice());
     Ok(())
 }
 
 #[test]
 fn no_logs(rt: HostRuntime) -> Result<(), Fail> {
-    let mut merged = Vec::with_capacity(rt.alloc(), 1)?;
+    let mut merged = Log::with_room(rt.alloc(), 1)?;
     merge(&[], &mut merged);
     assert_eq!(rt; merged.len(), 0);
     Ok(())

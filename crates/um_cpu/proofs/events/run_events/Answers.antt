@@ -1,11 +1,11 @@
-use Rattle.std.proofs.Common.{List, length, vec_capacity, arith, sym, ap, ◌∙◌, subst}
+use Rattle.std.proofs.Common.{List, length, arith, sym, ap, ◌∙◌, subst}
 use Rattle.um_base.specs.declared.act.Event.{Event}
 use Rattle.um_machine.specs.Run.{IsComplete, IsRun}
 use Rattle.um_machine.specs.State.{State}
 use Rattle.um_reach.specs.Described.{IsDescribed}
-use Rattle.um_merge.specs.Merged.{AreAtSites, HaveOrder, IsOrder, Log}
+use Rattle.um_merge.specs.Logs.{Log, events_of}
+use Rattle.um_merge.specs.Merged.{AreAtSites, HaveOrder, IsOrder}
 use Rattle.um_erasure.specs.Room.{CanRun}
-use Rattle.um_history.specs.Fine.{events_of}
 use Rattle.um_history.proofs.Ordered.{noted-long, shown-noted}
 use Rattle.um_cpu.proofs.Shows.{at-sites, left-on, shows-few}
 use Rattle.um_cpu.proofs.events.run_events.Goals as goal
@@ -27,9 +27,9 @@ merge-requires-clause-fits g c =
     let ended = c.in_ok-logs.ensures in
     let order = c.every_played_board.ensures.order image c.args.cpus ended.view _ _ ended.steps described can ended.played in
     let long = order.2 in
-    let room = c.in_ok-steps.ensures.capacity in
+    let room = c.in_ok-steps.ensures.room in
     let most = c.requires.room in
-    subst (λ (l : List Log). HaveOrder l (vec_capacity c.in_ok-steps.steps)) (sym c.as_slice.ensures.value) (order.0, order.1, omega (arith, long, room, most))
+    subst (λ (l : List Log). HaveOrder l c.in_ok-steps.steps.room) (sym c.as_slice.ensures.value) (order.0, order.1, omega (arith, long, room, most))
 
 pub returns-clause-run : goal.returns-clause-run
 returns-clause-run g c =
@@ -39,7 +39,7 @@ returns-clause-run g c =
     let ended = c.in_ok-logs.ensures in
     let last = c.every_played_board.ensures.complete image c.args.cpus ended.view _ _ ended.steps described can ended.played ended.saw c.merge.new.room.items
     (λ order is. c.merge.ensures order (subst (λ (l : List Log). IsOrder l order) (sym c.as_slice.ensures.value) is)) in
-    subst (λ (l : List Event). (last : State) × IsRun image l last × IsComplete last) (sym (c.in-Ok.ensures ∙ ap events_of c.as_slice-2.ensures.value)) last
+    subst (λ (l : List Event). (last : State) × IsRun image l last × IsComplete last) (sym c.into_events.ensures) last
 
 pub returns-clause-board : goal.returns-clause-board
 returns-clause-board g c =
@@ -49,7 +49,7 @@ returns-clause-board g c =
     let ended = c.in_ok-logs.ensures in
     let run = c.every_played_board.ensures.run image c.args.cpus ended.view _ _ ended.steps described can ended.played c.merge.new.room.items
     (λ order is. c.merge.ensures order (subst (λ (l : List Log). IsOrder l order) (sym c.as_slice.ensures.value) is)) in
-    (run.0, left-on image c.args.cpus _ ended.view _ ended.steps ended.seen ended.played run.0 run.2, c.in-Ok.ensures ∙ ap events_of c.as_slice-2.ensures.value ∙ ap events_of (sym run.1) ∙ shown-noted run.0)
+    (run.0, left-on image c.args.cpus _ ended.view _ ended.steps ended.seen ended.played run.0 run.2, c.into_events.ensures ∙ ap events_of (sym run.1) ∙ shown-noted run.0)
 
 pub returns-clause-few : goal.returns-clause-few
 returns-clause-few g c =
@@ -59,7 +59,7 @@ returns-clause-few g c =
     let ended = c.in_ok-logs.ensures in
     let run = c.every_played_board.ensures.run image c.args.cpus ended.view _ _ ended.steps described can ended.played c.merge.new.room.items
     (λ order is. c.merge.ensures order (subst (λ (l : List Log). IsOrder l order) (sym c.as_slice.ensures.value) is)) in
-    let shown = ap length (c.in-Ok.ensures ∙ ap events_of c.as_slice-2.ensures.value) in
+    let shown = ap length c.into_events.ensures in
     let few = shows-few c.merge.new.room.items in
     let noted = ap length run.1 in
     let long = noted-long run.0 in

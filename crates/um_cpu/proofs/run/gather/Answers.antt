@@ -1,6 +1,6 @@
 use Rattle.std.proofs.Common.{◌≡◌, ◌+◌, List, [], ◌∷◌, ◌++◌, length, length-append, ap, arith, subst, sym}
 use Rattle.std.specs.Prelude.{reverse}
-use Rattle.um_merge.specs.Merged.{Log}
+use Rattle.um_merge.specs.Logs.{Log}
 use Rattle.um_cpu.specs.Ended.{EachAt, Ends, Gathered}
 use Rattle.um_cpu.specs.declared.cpu.Cpu.{Cpu}
 use Rattle.um_cpu.proofs.SplitOff.{each-but-last, gathered-on, the-last}

@@ -1,5 +1,4 @@
 use Rattle.std.proofs.Common.{rules, ◌≡◌, ◌∙◌, ap, refl, sym, subst, None, false, IsTrue}
-use Rattle.std.specs.Prelude.{vec_capacity}
 use Rattle.um_fine.specs.Cells.{Cell}
 use Rattle.um_fine.specs.Steps.{Exchange, Site}
 use Rattle.um_board.specs.Contents.{Known}
@@ -71,7 +70,7 @@ put_back-requires c =
     let was : c.deref_mut.result.now ≡ d = search rules in
     let same : c.new-same.result ≡ c.in-Some.turn.before.value =
     c.new-same.ensures ∙ (λ i. record { image = sym t.1.of i; cell = (ap Cell.scheduler (c.in-None.ensures.0 ∙ was) ∙ sym c.into_scheduler-cell.ensures ∙ ap (λ (x : Known). x.cell) t.0) i }) in
-    record { turn = subst (λ (x : Known). InTurn c.args.image.now c.turn.new.self.board.now.table.shared.table_id c.turn.new.self.cells.now c.turn.new.self.rodata.now c.turn.new.self.seat (vec_capacity c.turn.new.self.log) 306 c.in-Some.turn.word c.in-Some.turn.number x) (sym same) t.1 }
+    record { turn = subst (λ (x : Known). InTurn c.args.image.now c.turn.new.self.board.now.table.shared.table_id c.turn.new.self.cells.now c.turn.new.self.rodata.now c.turn.new.self.seat c.turn.new.self.log.room 306 c.in-Some.turn.word c.in-Some.turn.number x) (sym same) t.1 }
 
 pub returns-in-None-clause-said : goal.returns-in-None-clause-said
 returns-in-None-clause-said c =

@@ -19,7 +19,7 @@ use Rattle.um_processor.proofs.Noted.{resumes}
 use Rattle.um_processor.proofs.Scheduled.{next-after, next-takes}
 use Rattle.um_board.proofs.Saws.{next-at, cell-first, cell-shut, got-more, got-first, got-one, nobody, none-shut, hinders-first}
 use Rattle.um_words.specs.declared.cell_word.CellWord.{CellWord}
-use Rattle.std.specs.Prelude.{List, vec_capacity}
+use Rattle.std.specs.Prelude.{List}
 use Rattle.um_merge.specs.declared.logged.Logged.{Logged}
 use Rattle.um_board.specs.Saw.{Hinders}
 use Rattle.um_board.proofs.sites.SeatedSites.take.Goals as goal
@@ -80,7 +80,7 @@ put_back-requires c =
     let was : c.deref_mut.result.now ≡ d = search rules in
     let same : c.new-same.result ≡ c.in-Some.turn.before.value =
     c.new-same.ensures ∙ (λ i. record { image = sym t.1.of i; cell = (ap Cell.scheduler (c.in-None.ensures.0 ∙ was) ∙ sym c.into_scheduler-cell.ensures ∙ ap (λ (x : Known). x.cell) t.0) i }) in
-    record { turn = subst (λ (x : Known). InTurn c.args.image.now c.turn.new.self.board.now.table.shared.table_id c.turn.new.self.cells.now c.turn.new.self.rodata.now c.turn.new.self.seat (vec_capacity c.turn.new.self.log) 306 c.in-Some.turn.word c.in-Some.turn.number x) (sym same) t.1 }
+    record { turn = subst (λ (x : Known). InTurn c.args.image.now c.turn_at_once.new.self.board.now.table.shared.table_id c.turn_at_once.new.self.cells.now c.turn_at_once.new.self.rodata.now c.turn_at_once.new.self.seat c.turn_at_once.new.self.log.room 306 c.in-Some.turn.word c.in-Some.turn.number x) (sym same) t.1 }
 
 pub returns-in-None-clause-said : goal.returns-in-None-clause-said
 returns-in-None-clause-said c =
@@ -102,5 +102,5 @@ pub returns-in_default-clause-said : goal.returns-in_default-clause-said
 returns-in_default-clause-said c =
     let looked = c.look-seen.ensures in
     let log = looked.log in
-    let why = subst (λ (q : ℕ × List Logged). Hinders q.0 q.1 c.look-seen.new.self.seat c.turn.new.self.seat 306) (λ i. (vec_capacity (log i), (log i).items)) c.in_default.ensures.saw in
-    (unnoted-then _ _ _ _ _ _ looked.unnoted c.turn.ensures.unnoted, hinders-first _ _ _ _ _ _ _ 306 looked.unnoted why, refl, refl)
+    let why = subst (λ (q : ℕ × List Logged). Hinders q.0 q.1 c.look-seen.new.self.seat c.turn_at_once.new.self.seat 306) (λ i. ((log i).room, (log i).items)) c.in_default.ensures.saw in
+    (unnoted-then _ _ _ _ _ _ looked.unnoted c.turn_at_once.ensures.unnoted, hinders-first _ _ _ _ _ _ _ 306 looked.unnoted why, refl, refl)

@@ -1,5 +1,4 @@
 use Rattle.std.proofs.Common.{◌≡◌, ◌+◌, ap, refl, sym, ◌∙◌, ℕ, ◌≤◌, List, length, subst, ◌<◌, arith}
-use Rattle.std.specs.Prelude.{vec_capacity}
 use Rattle.um_merge.specs.declared.logged.Logged.{Logged}
 use Rattle.um_words.specs.declared.thread_word.ThreadWord.{ThreadWord}
 use Rattle.um_fine.specs.Answers.{thread_in}
@@ -76,7 +75,7 @@ returns-in-None-clause-said c =
 pub returns-then-is_full-clause-said : goal.returns-then-is_full-clause-said
 returns-then-is_full-clause-said c =
     let log = c.look-seen.ensures.log in
-    let full = subst (λ (q : ℕ × List Logged). q.0 ≤ length q.1) (λ i. (vec_capacity (log i), (log i).items)) (c.is_full.ensures.full c.if-is_full.true) in
+    let full = subst (λ (q : ℕ × List Logged). q.0 ≤ length q.1) (λ i. ((log i).room, (log i).items)) (c.is_full.ensures.full c.if-is_full.true) in
     (c.look-seen.ensures.unnoted, Hinders.full c.look-seen.result c.look-seen.ensures.saw full)
 
 pub returns-then-not-step-clause-said : goal.returns-then-not-step-clause-said

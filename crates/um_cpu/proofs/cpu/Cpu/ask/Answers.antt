@@ -1,5 +1,4 @@
 use Rattle.std.proofs.Common.{◌≡◌, subst}
-use Rattle.std.specs.Prelude.{vec_capacity}
 use Rattle.um_fine.specs.Sites.{site_number}
 use Rattle.um_fine.specs.Steps.{FineStep, Site}
 use Rattle.um_processor.specs.Standing.{whole}
@@ -23,7 +22,7 @@ returns-clause-keeps c =
     let t = c.step.new.sites in
     turned-keeps c.args.image.now c.args.self.now.number c.step.result (whole c.args.self.now.processor) (whole c.step.new.self) s.seat s.log.items t.seat t.log.items
     (λ (e : FineStep). SawShut s.seat t.seat e)
-    (λ (site : Site). Hinders (vec_capacity s.log) s.log.items s.seat t.seat (site_number site))
+    (λ (site : Site). Hinders s.log.room s.log.items s.seat t.seat (site_number site))
     (t ≡ s) (unnoted-there s t) c.step.ensures.turn
 
 pub returns-clause-goes : goal.returns-clause-goes
@@ -32,7 +31,7 @@ returns-clause-goes c =
     let t = c.step.new.sites in
     turned-on c.args.image.now c.args.self.now.number c.step.result (whole c.args.self.now.processor) (whole c.step.new.self) s.seat s.log.items t.seat t.log.items
     (λ (e : FineStep). SawShut s.seat t.seat e)
-    (λ (site : Site). Hinders (vec_capacity s.log) s.log.items s.seat t.seat (site_number site))
+    (λ (site : Site). Hinders s.log.room s.log.items s.seat t.seat (site_number site))
     (t ≡ s) c.step.ensures.same (unnoted-there s t) c.step.ensures.turn
 
 pub returns-clause-stands : goal.returns-clause-stands
@@ -51,7 +50,7 @@ returns-clause-asked c =
     asked-of image c.requires.described c.requires.can (λ run fine. c.longest_fine_run.ensures image 8 run c.requires.described fine)
     self.number s.seat (seat-of image _ _ self.number (whole self.processor) s.seat s.log.items c.requires.place.seated stands) (whole self.processor)
     (stands-there image self.number (whole self.processor) s.seat s.log.items stands)
-    c.step.result (whole c.step.new.self) s.log.items t.seat t.log.items (vec_capacity s.log) (t ≡ s)
+    c.step.result (whole c.step.new.self) s.log.items t.seat t.log.items s.log.room (t ≡ s)
     (noted-all image self.number (whole self.processor) s.seat s.log.items stands) c.requires.place.enough c.step.ensures.same c.step.ensures.turn (not-stuck c.step.result c.in-Made.is)
 
 pub unreachable-requires : goal.unreachable-requires
@@ -64,7 +63,7 @@ unreachable-requires c =
     let turned = subst (λ (turn : Turn). Turned turn self.number image (whole self.processor) (whole c.step.new.self)
     (λ (e : FineStep). Noted s.seat s.log.items e t.seat t.log.items)
     (λ (e : FineStep). Unnoted s.seat s.log.items t.seat t.log.items × SawShut s.seat t.seat e)
-    (λ (site : Site). Unnoted s.seat s.log.items t.seat t.log.items × Hinders (vec_capacity s.log) s.log.items s.seat t.seat (site_number site))
+    (λ (site : Site). Unnoted s.seat s.log.items t.seat t.log.items × Hinders s.log.room s.log.items s.seat t.seat (site_number site))
     (t ≡ s)) c.in-Stuck.is c.step.ensures.turn in
     has-next image c.requires.described c.requires.can (λ run fine. c.longest_fine_run.ensures image 8 run c.requires.described fine)
     self.number s.seat (seat-of image _ _ self.number (whole self.processor) s.seat s.log.items c.requires.place.seated stands) (whole self.processor)

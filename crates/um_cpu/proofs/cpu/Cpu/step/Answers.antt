@@ -4,8 +4,8 @@ use Rattle.um_processor.specs.Standing.{whole}
 use Rattle.um_merge.specs.declared.logged.Logged.{Logged}
 use Rattle.um_board.specs.Seated.{Unnoted}
 use Rattle.um_cpu.specs.Cpus.{HasAsked}
-use Rattle.um_cpu.proofs.Advances.{looked-first, looks-on, stands-on, stands-there}
-use Rattle.um_cpu.proofs.Asks.{rests-by, seat-of}
+use Rattle.um_cpu.proofs.Advances.{looked-first, looks-on, stands-on}
+use Rattle.um_cpu.proofs.Asks.{rested}
 use Rattle.um_cpu.proofs.cpu.Cpu.step.Goals as goal
 
 pub ask-requires-then-says-gt0-clause-stands : goal.ask-requires-then-says-gt0-clause-stands
@@ -70,31 +70,21 @@ returns-then-says-gt0-clause-told c =
 pub returns-then-says-eq0-2-clause-told : goal.returns-then-says-eq0-2-clause-told
 returns-then-says-eq0-2-clause-told c =
     let image = c.args.image.now in
-    let old = c.args.self.now in
-    let stands = c.requires.stands in
     let looked = c.look_scheduler-word in
     let value = c.read-says.ensures.value in
     let ready = subst (λ (w : CellWord). w.ready ≤ 0) value c.if-says-gt0.false in
-    let rests = rests-by image c.requires.described c.requires.can (λ run fine. c.longest_fine_run.ensures image 8 run c.requires.described fine)
-    old.number old.place.seat (seat-of image _ _ old.number (whole old.processor) old.place.seat old.place.log.items c.requires.place.seated stands) (whole old.processor)
-    (stands-there image old.number (whole old.processor) old.place.seat old.place.log.items stands)
-    looked.new.self.seat old.place.log.items looked.new.self.log.items looked.result (c.is_idle.ensures.idle c.if-not-is_idle.false)
-    looked.ensures.unnoted looked.ensures.got looked.ensures.newest looked.ensures.saw (omega (arith, ready)) in
+    let rests = rested image c.requires.described c.requires.can (λ run fine. c.longest_fine_run.ensures image 8 run c.requires.described fine) c.args.self.now c.requires.place c.requires.stands
+    looked.new.self looked.result (c.is_idle.ensures.idle c.if-not-is_idle.false) looked.ensures.unnoted looked.ensures.got looked.ensures.newest looked.ensures.saw (omega (arith, ready)) in
     (rests, (subst (λ (w : CellWord). w.running ≡ 0) value c.if-says-eq0.true, subst (λ (w : CellWord). w.owed ≡ 0) value c.if-says-eq0-2.true))
 
 pub returns-clause-told : goal.returns-clause-told
 returns-clause-told c =
     let image = c.args.image.now in
-    let old = c.args.self.now in
-    let stands = c.requires.stands in
     let looked = c.look_scheduler-word in
     let value = c.read-says.ensures.value in
     let ready = subst (λ (w : CellWord). w.ready ≤ 0) value c.if-says-gt0.false in
-    let rests = rests-by image c.requires.described c.requires.can (λ run fine. c.longest_fine_run.ensures image 8 run c.requires.described fine)
-    old.number old.place.seat (seat-of image _ _ old.number (whole old.processor) old.place.seat old.place.log.items c.requires.place.seated stands) (whole old.processor)
-    (stands-there image old.number (whole old.processor) old.place.seat old.place.log.items stands)
-    looked.new.self.seat old.place.log.items looked.new.self.log.items looked.result (c.is_idle.ensures.idle c.if-not-is_idle.false)
-    looked.ensures.unnoted looked.ensures.got looked.ensures.newest looked.ensures.saw (omega (arith, ready)) in (
+    let rests = rested image c.requires.described c.requires.can (λ run fine. c.longest_fine_run.ensures image 8 run c.requires.described fine) c.args.self.now c.requires.place c.requires.stands
+    looked.new.self looked.result (c.is_idle.ensures.idle c.if-not-is_idle.false) looked.ensures.unnoted looked.ensures.got looked.ensures.newest looked.ensures.saw (omega (arith, ready)) in (
       rests,
       λ none. ⊎_elim
           (λ owes. owes.1 (subst (λ (w : CellWord). w.owed ≡ 0) (sym value) none.1))

@@ -1,0 +1,30 @@
+-- A processor that plays at a board, by all that it is made of, and what its turns make of it.
+use Rattle.std.specs.Prelude.{ℕ}
+use Rattle.um_base.specs.declared.image.Image.{Image}
+use Rattle.um_processor.specs.Standing.{whole}
+use Rattle.um_cpu.specs.Cpus.{Advances, HadWork, HasAsked, Plays, Rests, Stands}
+use Rattle.um_cpu.specs.declared.cpu.Cpu.{Cpu}
+
+-- it stands where the steps lead that it has made
+abbrev pub IsPlaying : Image → Cpu → Type 0
+IsPlaying image c = Stands image c.number (whole c.processor) c.place.seat c.place.log.items
+
+-- it goes on by one step at most
+abbrev pub GoesOnTo : Image → Cpu → Cpu → Type 0
+GoesOnTo image c d = Advances image c.number (whole c.processor) c.place.seat c.place.log.items (whole d.processor) d.place.seat d.place.log.items
+
+-- it has asked once for its next step
+abbrev pub AskedOnce : Image → Cpu → Cpu → Type 0
+AskedOnce image c d = HasAsked image c.number (whole c.processor) (whole d.processor) c.place.seat c.place.log.items d.place.seat d.place.log.items
+
+-- it had something to do, and asked for it
+abbrev pub Worked : Image → Cpu → Cpu → Type 0
+Worked image c d = HadWork image c.number (whole c.processor) (whole d.processor) c.place.seat c.place.log.items d.place.seat d.place.log.items
+
+-- it has no thread, and saw that none is ready by this word of the scheduler
+abbrev pub Rested : Image → Cpu → Cpu → ℕ → Type 0
+Rested image c d word = Rests image c.number (whole c.processor) (whole d.processor) c.place.seat c.place.log.items d.place.seat d.place.log.items word
+
+-- it has played to its end
+abbrev pub PlaysOut : Image → Cpu → Cpu → Type 0
+PlaysOut image c d = Plays image c.number (whole c.processor) c.place.seat c.place.log.items (whole d.processor) d.place.seat d.place.log.items
