@@ -1,2 +1,3 @@
-pub mod Played
 pub mod Fine
+pub mod LastHolder
+pub mod Played

@@ -2,12 +2,14 @@
 
 ghost use Rattle.std.specs.Prelude.{◌≡◌, ℕ, ◌<◌, ◌≤◌, List, [], ◌∷◌, length, map};
 ghost use Rattle.um_base.specs.Weight.{weight};
+ghost use Rattle.um_base.specs.declared.limits.TheConstants.{ROWS};
 ghost use Rattle.um_base.specs.declared.image.Image.{Image};
 ghost use Rattle.um_machine.specs.Run.{IsComplete, Runs, opening};
 ghost use Rattle.um_machine.specs.State.{State};
 ghost use Rattle.um_words.specs.History.{by_seat};
 ghost use Rattle.um_reach.specs.Described.{IsDescribed};
 ghost use Rattle.um_fine.specs.Erasure.{shown};
+ghost use Rattle.um_fine.specs.FineRun.{IsFineRun};
 ghost use Rattle.um_fine.specs.Steps.{FineStep};
 ghost use Rattle.um_merge.specs.Logs.{Log, events_of};
 ghost use Rattle.um_merge.specs.Merged.{HaveOrder, IsOrder, SameOrder};
@@ -19,21 +21,36 @@ ghost use Rattle.um_erasure.specs.After.{left_by};
 ghost use Rattle.um_erasure.specs.Relation.{Rel};
 ghost use Rattle.um_erasure.specs.Room.{CanRun};
 ghost use Rattle.um_history.specs.Fine.{IsFineOf};
+ghost use Rattle.um_history.specs.LastHolder.{AreHeld, HasLastHolder};
 ghost use Rattle.um_history.specs.Played.{IsMoment, IsPlayed, SawNone};
 
 use um_erasure::every_fine_run;
 use um_fine_bound::longest_fine_run;
 
+/// The law over the rows of every fine run of an image that a description gives, whatever the order of its processors: each claim that the word of a row counts stands
+/// with one holder, which has still to end it; and a row in cleaning stands with one processor, which made the step that moved it there, and alone may vacate it.
+pub fn last_holder()
+    ensures claims { (image : Image) (cpus : ℕ) (g : List FineStep) → IsDescribed image → IsFineRun image cpus g
+        → (last : State) × Runs (opening image) (shown g) last × AreHeld image cpus g last }
+    ensures cleaner { (image : Image) (cpus : ℕ) (g : List FineStep) → IsDescribed image → IsFineRun image cpus g
+        → (x : ℕ) → x < ROWS → HasLastHolder image cpus g x }
+{
+    every_fine_run();
+}
+
 /// The law over every board of an image that a description gives, at every moment, where its rule lets each seat make its processor's next steps alone: its
 /// history is one fine run of at most eight processors, whose steps are those in the lists of the first eight seats, and which has left the words. It
-/// has no more steps than the image's weight; what it shows is a run of the access-matrix machine, to whose last state it is related.
+/// has no more steps than the image's weight; what it shows is a run of the access-matrix machine, to whose last state it is related. Each claim that
+/// the word of a row counts stands with one holder; a row in cleaning stands with one seat, whose list has the step that moved it there, and which alone may vacate it.
 pub fn every_board()
     ensures { (image : Image) (v : View) (i w : ℕ) → IsDescribed image → CanRun image 8
         → (m : IsMoment image v i w) → (g : List FineStep) × IsFineOf image 8 m.moment.words (λ k. map (fine_at k) (by_seat (k ∷ []) m.moment.history)) g
-        × (length g ≤ weight image) × (last : State) × Runs (opening image) (shown g) last × Rel (left_by image 8 g) last }
+        × (length g ≤ weight image) × (last : State) × Runs (opening image) (shown g) last × Rel (left_by image 8 g) last
+        × AreHeld image 8 g last × ((x : ℕ) → x < ROWS → HasLastHolder image 8 g x) }
 {
     every_fine_run();
     longest_fine_run();
+    last_holder();
 }
 
 /// The law over every closed board of an image that a description gives, on which one to eight processors have played, each at a seat of its own. The

@@ -3,4 +3,4 @@
 
 mod laws;
 
-pub use laws::{every_board, every_played_board};
+pub use laws::{every_board, every_played_board, last_holder};

@@ -15,4 +15,4 @@ returns c = λ image v i w described can m.
     let g = all image 8 m.moment.words h of in
     let fine = is-fine-of image 8 m.moment.words h of can.few (opens-well image 8 described can) (granted image 8 described can) (λ k. map (fine_at k) (by_seat (k ∷ []) h)) (λ k less. own-steps image 8 m.moment.words h of k) in
     let shows = c.every_fine_run.ensures.run image 8 g described fine.run in
-    (g, fine, c.longest_fine_run.ensures image 8 g described fine.run, shows.0, shows.1, shows.2)
+    (g, fine, c.longest_fine_run.ensures image 8 g described fine.run, shows.0, shows.1, shows.2, (λ x few. (shows.2.rows x few).claims.claimed), λ x few. c.last_holder.ensures.cleaner image 8 g described fine.run x few)

@@ -1,0 +1,50 @@
+-- Who has still to clean an object that is gone and that nobody holds, and what the claims of its row are held for.
+use Rattle.std.specs.Prelude.{◌≡◌, ◌≢◌, ℕ, ◌<◌, true, false, List, [], ◌∷◌, ◌++◌}
+use Rattle.um_base.specs.declared.image.Image.{Image}
+use Rattle.um_base.specs.declared.limits.TheConstants.{ROWS}
+use Rattle.um_machine.specs.Run.{Runs, opening}
+use Rattle.um_machine.specs.State.{State}
+use Rattle.um_words.specs.Rows.{is_cleaning}
+use Rattle.um_fine.specs.Erasure.{shown}
+use Rattle.um_fine.specs.FineRun.{IsFineRun}
+use Rattle.um_fine.specs.Steps.{FineStep, Site}
+use Rattle.um_erasure.specs.After.{left_by}
+use Rattle.um_erasure.specs.Claims.{claims}
+use Rattle.um_erasure.specs.Fine.{row}
+use Rattle.um_erasure.specs.Lists.{counted, is_vacate}
+
+-- behind a fine run: whether the row x stands in cleaning, and how often the processor k has still to vacate it
+abbrev pub InCleaning : Image → ℕ → ℕ → List FineStep → Type 0
+InCleaning image cpus x g = is_cleaning (row (left_by image cpus g) x).stage ≡ true
+
+abbrev pub still_vacates : Image → ℕ → ℕ → List FineStep → ℕ → ℕ
+still_vacates image cpus x g k = counted (is_vacate x) ((left_by image cpus g).processors k).todo
+
+-- it holds behind these steps, and behind each one more
+abbrev pub Since : (List FineStep → Type 0) → List FineStep → List FineStep → Type 0
+Since P done [] = P done
+Since P done (e ∷ more) = P done × Since P (done ++ e ∷ []) more
+
+-- The row came into cleaning by this step of the run, and stands in it since then. Nobody has a claim on it. The processor of that step has still to vacate it,
+-- once, and no other one has; whoever makes the step by which it isn't in cleaning any more is that processor.
+pub record IsCleanedSince (image : Image) (cpus x : ℕ) (before : List FineStep) (e : FineStep) (behind : List FineStep) : Type 0 where
+  pub here : e.site ≡ Site.row x
+  pub first : is_cleaning (row (left_by image cpus before) x).stage ≡ false
+  pub since : Since (InCleaning image cpus x) (before ++ e ∷ []) behind
+  pub unclaimed : (row (left_by image cpus (before ++ e ∷ behind)) x).claims ≡ 0
+  pub one : e.cpu < cpus
+  pub own : still_vacates image cpus x (before ++ e ∷ behind) e.cpu ≡ 1
+  pub others : (k : ℕ) → k < cpus → k ≢ e.cpu → still_vacates image cpus x (before ++ e ∷ behind) k ≡ 0
+  pub vacates : (v : FineStep) → IsFineRun image cpus ((before ++ e ∷ behind) ++ v ∷ [])
+      → is_cleaning (row (left_by image cpus ((before ++ e ∷ behind) ++ v ∷ [])) x).stage ≡ false → v.cpu ≡ e.cpu
+
+-- A row that stands in cleaning behind a fine run does so since a step of it.
+abbrev pub HasLastHolder : Image → ℕ → List FineStep → ℕ → Type 0
+HasLastHolder image cpus g x =
+    InCleaning image cpus x g
+    → (before : List FineStep) × (e : FineStep) × (behind : List FineStep) × (g ≡ before ++ e ∷ behind) × IsCleanedSince image cpus x before e behind
+
+-- The word of each row counts its claims: each stands with one holder, which has still to end it. That is the call of a thread that runs or is parked, the life of a
+-- thread, or one that its creator is about to begin, by the machine's state behind the events that the run has shown.
+abbrev pub AreHeld : Image → ℕ → List FineStep → State → Type 0
+AreHeld image cpus g last = (x : ℕ) → x < ROWS → (row (left_by image cpus g) x).claims ≡ claims (left_by image cpus g) last x
