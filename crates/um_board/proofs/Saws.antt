@@ -7,12 +7,14 @@ use Rattle.um_words.specs.declared.dom_word.DomWord.{DomWord}
 use Rattle.um_words.specs.declared.thread_word.ThreadWord.{ThreadWord}
 use Rattle.um_words.specs.declared.fine.FineAct.{FineAct}
 use Rattle.um_words.specs.declared.fine.Unseen.{Unseen}
-use Rattle.um_machine.specs.Order.{to_thread}
 use Rattle.um_fine.specs.Cells.{Cell, cell_says, cell_takes, cell_word}
-use Rattle.um_fine.specs.Scheduler.{Scheduler, has_ready, sched_takes}
+use Rattle.um_fine.specs.Scheduler.{Scheduler}
+use Rattle.um_fine.specs.Sites.{SiteState}
 use Rattle.um_fine.specs.Steps.{Exchange, Site}
 use Rattle.um_merge.specs.declared.logged.Logged.{Logged}
-use Rattle.um_processor.specs.Asked.{cell_made}
+use Rattle.um_fine.proofs.Filled.{filled-twice}
+use Rattle.um_processor.specs.Asked.{asked, cell_made}
+use Rattle.um_processor.specs.Sited.{IsShut}
 use Rattle.um_processor.specs.SchedulerActs.{taken_made}
 use Rattle.um_site.specs.declared.seat.Seat.{Seat}
 use Rattle.um_board.specs.Contents.{Known}
@@ -100,21 +102,22 @@ and-no false = refl
 
 pub cell-shut : (image : Image) (cpu n w : ℕ) (c : Known) (z : Scheduler) (u : Unseen) (moved : Exchange) (s t : Seat Known) → c.cell ≡ Cell.scheduler z → cell_of w ≡ cell_word c.cell n
     → Got s t 306 w → SawCell s 306 w c → cell_takes (Cell.scheduler z) (cell_says image (Cell.scheduler z) moved (FineAct.Unseen u)) ≡ false
-    → SawShut s t (cell_made image cpu Site.scheduler n (Cell.scheduler z) (FineAct.Unseen u) moved)
+    → SawShut image s t (cell_made image cpu Site.scheduler n (Cell.scheduler z) (FineAct.Unseen u) moved)
 cell-shut image cpu n w c z u moved s t is says got saw denied =
-    SawShut.cell_refused n w c (omega arith) got saw says
-    (ap (λ (x : Cell). nat_lt n 268435455 && cell_takes x (cell_says image (Cell.scheduler z) moved (FineAct.Unseen u))) is
-    ∙ ap (λ (b : Bool). nat_lt n 268435455 && b) denied ∙ and-no (nat_lt n 268435455))
+    let e = cell_made image cpu Site.scheduler n (Cell.scheduler z) (FineAct.Unseen u) moved in
+    let shut : IsShut image (SiteState.cell n (Cell.scheduler z)) e = record {
+      refuses = ap (λ (b : Bool). nat_lt n 268435455 && b) denied ∙ and-no (nat_lt n 268435455);
+      filled_in = filled-twice image (SiteState.cell n (Cell.scheduler z)) (asked cpu Site.scheduler (FineAct.Unseen u) moved);
+      seen = tt;
+    } in
+    SawShut.cell_refused n w c (omega arith) got saw says (subst (λ (x : Cell). IsShut image (SiteState.cell n x) e) (sym is) shut)
 
 -- a scheduler without threads
 abbrev pub nobody : Scheduler
 nobody = record { ready = []; parked = []; told = []; running = 0 }
 
-no-ready : (z : Scheduler) → z.ready ≡ [] → sched_takes z (FineAct.Unseen (Unseen.Next (to_thread 0))) ≡ false
-no-ready z none = ap (has_ready z) none
-
-pub none-shut : (image : Image) (cpu w : ℕ) (s t : Seat Known) → Got s t 306 w → SawAt s 306 w → (cell_of w).ready ≡ 0 → SawShut s t (taken_made image cpu 0 nobody)
-none-shut image cpu w s t got saw none = SawShut.none_ready w refl got saw none no-ready
+pub none-shut : (image : Image) (cpu w : ℕ) (s t : Seat Known) → Got s t 306 w → SawAt s 306 w → (cell_of w).ready ≡ 0 → SawShut image s t (taken_made image cpu 0 nobody)
+none-shut image cpu w s t got saw none = SawShut.none_ready w refl got saw none refl
 
 -- the step of a cell that the seat may make, when it has looked
 pub next-at : (image : Image) (cpu : ℕ) (site : Site) (n : ℕ) (c k : Cell) (act : FineAct) (moved : Exchange) (s t : Seat Known) (a b : List Logged) → c ≡ k → Unnoted s a t b

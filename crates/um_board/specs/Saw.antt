@@ -1,13 +1,16 @@
 -- What a seat saw at a site in a call by which no step was made there.
-use Rattle.std.specs.Prelude.{◌≡◌, ◌≢◌, ℕ, ◌+◌, ◌<◌, ◌≤◌, ◌%◌, ◌⊎◌, false, List, [], ◌∷◌, ◌++◌, length, None, Some}
+use Rattle.std.specs.Prelude.{◌≡◌, ◌≢◌, ℕ, ◌+◌, ◌<◌, ◌≤◌, ◌%◌, ◌⊎◌, List, [], ◌∷◌, ◌++◌, length, None, Some}
+use Rattle.um_base.specs.declared.image.Image.{Image}
+use Rattle.um_machine.specs.Order.{to_thread}
 use Rattle.um_words.specs.History.{by_site}
 use Rattle.um_words.specs.Packed.{cell_of, domain_of, thread_of}
+use Rattle.um_words.specs.declared.fine.FineAct.{FineAct}
+use Rattle.um_words.specs.declared.fine.Unseen.{Unseen}
 use Rattle.um_fine.specs.Cells.{cell_word}
-use Rattle.um_fine.specs.Scheduler.{Scheduler, sched_takes}
 use Rattle.um_fine.specs.Sites.{SiteState, site_number, word_of}
 use Rattle.um_fine.specs.Steps.{FineStep, Site}
 use Rattle.um_merge.specs.declared.logged.Logged.{Logged}
-use Rattle.um_processor.specs.Asked.{Refuses}
+use Rattle.um_processor.specs.Sited.{IsShut}
 use Rattle.um_site.specs.Cells.{ContentsAre, Moment}
 use Rattle.um_site.specs.declared.seat.Seat.{Seat}
 use Rattle.um_site.specs.declared.view.View.{View}
@@ -48,13 +51,13 @@ pub record SawCell (s : Seat Known) (i w : ℕ) (c : Known) : Type 0 where
   pub free : w % 2 ≡ 0
   pub contents : ContentsAre Opens Follows saw.view.image i (by_site i saw.moment.history) (Some c)
 
--- Why the site refuses the step: a word was got there that is that of a state which refuses it, a cell's with its contents; or a word of the scheduler that counts
--- no ready thread, without which it refuses the step.
-pub data SawShut (s t : Seat Known) (e : FineStep) : Type 0 where
-  word_refused : (z : SiteState) (w : ℕ) → site_number e.site < 168 → Got s t (site_number e.site) w → SawAt s (site_number e.site) w → unpacked e.site w ≡ word_of z → Refuses z e → SawShut s t e
-  cell_refused : (n w : ℕ) (c : Known) → 168 ≤ site_number e.site → Got s t (site_number e.site) w → SawCell s (site_number e.site) w c → cell_of w ≡ cell_word c.cell n → Refuses (SiteState.cell n c.cell) e → SawShut s t e
+-- Why the site refuses the step: a word was got there that is that of a state which refuses it, as it would be made there, a cell's with its contents; or a word of
+-- the scheduler that counts no ready thread, without which a processor that has none takes none.
+pub data SawShut (image : Image) (s t : Seat Known) (e : FineStep) : Type 0 where
+  word_refused : (z : SiteState) (w : ℕ) → site_number e.site < 168 → Got s t (site_number e.site) w → SawAt s (site_number e.site) w → unpacked e.site w ≡ word_of z → IsShut image z e → SawShut image s t e
+  cell_refused : (n w : ℕ) (c : Known) → 168 ≤ site_number e.site → Got s t (site_number e.site) w → SawCell s (site_number e.site) w c → cell_of w ≡ cell_word c.cell n → IsShut image (SiteState.cell n c.cell) e → SawShut image s t e
   none_ready : (w : ℕ) → e.site ≡ Site.scheduler → Got s t (site_number e.site) w → SawAt s (site_number e.site) w → (cell_of w).ready ≡ 0
-      → ((z : Scheduler) → z.ready ≡ [] → sched_takes z e.act ≡ false) → SawShut s t e
+      → e.act ≡ FineAct.Unseen (Unseen.Next (to_thread 0)) → SawShut image s t e
 
 -- Others were at the site i: another seat had the turn of the cell, or another word stood there than the one by which the step was to be made.
 pub data OthersAt (s t : Seat Known) (i : ℕ) : Type 0 where

@@ -45,7 +45,7 @@ impl Sites for Seated<'_> {
 
     ghost May = { λ image s e. IsNext image s.seat.token.me.0.name s.seat.token.me.0.made e };
 
-    ghost Shut = { λ image old e new. SawShut old.seat new.seat e };
+    ghost Shut = { λ image old e new. SawShut image old.seat new.seat e };
 
     ghost Contended = { λ image old site new. Hinders old.log.room old.log.items old.seat new.seat (site_number site) };
 

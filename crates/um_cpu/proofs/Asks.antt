@@ -1,5 +1,5 @@
 -- What comes of asking for the next step, by the fine run that stood when the seat looked.
-use Rattle.std.proofs.Common.{◌≡◌, ◌≢◌, ◌⊎◌, inl, inr, ℕ, ◌+◌, ◌<◌, ◌≤◌, List, [], ◌∷◌, length, map, refl, sym, ap, ◌∙◌, subst, arith}
+use Rattle.std.proofs.Common.{◌≡◌, ◌≢◌, ◌⊎◌, inl, inr, ℕ, ◌<◌, ◌≤◌, List, [], ◌∷◌, length, map, refl, sym, ap, ◌∙◌, subst, arith}
 use Rattle.std.specs.Prelude.{IsTrue}
 use Rattle.um_base.specs.Weight.{weight}
 use Rattle.um_base.specs.declared.image.Image.{Image}
@@ -30,6 +30,7 @@ use Rattle.um_history.specs.Played.{SCHEDULER}
 use Rattle.um_history.proofs.Hindered.{hindered, refused}
 use Rattle.um_history.proofs.NeverStuck.{never-stuck}
 use Rattle.um_history.proofs.Stood.{IsSeatOf, g, stood, word-stood}
+use Rattle.um_history.proofs.Waiting.{WaitsAll}
 use Rattle.um_cpu.specs.Cpus.{HasAsked, Rests, Stands}
 use Rattle.um_cpu.specs.Playing.{IsPlaying}
 use Rattle.um_cpu.specs.declared.cpu.Cpu.{Cpu}
@@ -68,7 +69,7 @@ module _ (image : Image) (described : IsDescribed image) (can : CanRun image 8) 
   next-there h st = subst (λ (q : Processor). IsTrue (is_site (next_site image q))) (after h st) (site-there image 8 described can h st.run k seat.few)
 
   -- a look that was made
-  stood-shut : (t : Seat Known) (e : FineStep) → SawShut s t e → (h : List FineStep) × Stood image k (map (fine_at k) s.token.me.0.made) h
+  stood-shut : (t : Seat Known) (e : FineStep) → SawShut image s t e → (h : List FineStep) × Stood image k (map (fine_at k) s.token.me.0.made) h
   stood-shut t e (SawShut.word_refused z w low got saw reads refuses) = (g image described can longest k s seat _ w saw, stood image described can longest k s seat _ w saw)
   stood-shut t e (SawShut.cell_refused n w c far got saw says refuses) = (g image described can longest k s seat _ w saw.saw, stood image described can longest k s seat _ w saw.saw)
   stood-shut t e (SawShut.none_ready w is got saw none denied) = (g image described can longest k s seat _ w saw, stood image described can longest k s seat _ w saw)
@@ -79,20 +80,21 @@ module _ (image : Image) (described : IsDescribed image) (can : CanRun image 8) 
       let st = stood image described can longest k s seat i w saw in
       never-stuck image 8 described can (g image described can longest k s seat i w saw) st.run k seat.few (subst (IsStuck image) (sym (after _ st)) stuck)
 
-  pub asked-of : (turn : Turn) (q : Processor) (old : List Logged) (t : Seat Known) (new : List Logged) (room : ℕ) (none : Type 0) → length old ≡ length s.token.me.0.made → weight image < room
+  pub asked-of : WaitsAll image → (turn : Turn) (q : Processor) (old : List Logged) (t : Seat Known) (new : List Logged) (room : ℕ) (none : Type 0) → length old ≡ length s.token.me.0.made → weight image < room
       → UnlessMade turn (q ≡ p)
-      → Turned turn k image p q (λ e. Noted s old e t new) (λ e. Unnoted s old t new × SawShut s t e) (λ site. Unnoted s old t new × Hinders room old s t (site_number site)) none
+      → Turned turn k image p q (λ e. Noted s old e t new) (λ e. Unnoted s old t new × SawShut image s t e) (λ site. Unnoted s old t new × Hinders room old s t (site_number site)) none
       → turn ≢ Turn.Stuck → HasAsked image k p q s old t new
-  asked-of Turn.Made q old t new room none same most kept turned on = HasAsked.made turned.0 turned.1 turned.2
-  asked-of Turn.Busy q old t new room none same most kept turned on =
+  asked-of all Turn.Made q old t new room none same most kept turned on = HasAsked.made turned.0 turned.1 turned.2
+  asked-of all Turn.Busy q old t new room none same most kept turned on =
       let e = turned.0 in
       let shut = turned.1.1 in
       let st = stood-shut t e shut in
       let here : next_site image p ≡ e.site = ap (λ (x : FineStep). x.site) turned.2.makes in
-      HasAsked.refused e turned.1.0 kept turned.2 (refused image described can longest k s seat t e (subst (λ (i : Site). IsTrue (is_site i)) here (next-there st.0 st.1)) shut)
-  asked-of Turn.Changed q old t new room none same most kept turned on =
+      HasAsked.refused e turned.1.0 kept turned.2
+      (refused image described can longest k s seat all t e (subst (λ (i : Site). IsTrue (is_site i)) here (next-there st.0 st.1)) (λ h stood. subst (λ (r : Processor). AsksFor k image r e) (sym (after h stood)) turned.2) shut)
+  asked-of all Turn.Changed q old t new room none same most kept turned on =
       HasAsked.others turned.0 kept (hindered image described can longest k s seat room old t _ same most turned.1)
-  asked-of Turn.Stuck q old t new room none same most kept turned on = absurd (on refl)
+  asked-of all Turn.Stuck q old t new room none same most kept turned on = absurd (on refl)
 
   -- a look at the scheduler's word by a processor without a thread, by which none is ready
   pub rests-by : (t : Seat Known) (old new : List Logged) (w : ℕ) → p.todo ≡ [] → Unnoted s old t new → t.token.me.0.got ≡ (SCHEDULER, w) ∷ s.token.me.0.got → NoOlder s.token.me.0.got SCHEDULER w

@@ -12,6 +12,7 @@ ghost use Rattle.um_cpu.specs.Playing.{AskedOnce, GoesOnTo, IsPlaying, Rested, W
 use crate::turn::Turn;
 use um_base::Image;
 use um_board::Seated;
+use um_erasure::every_fine_run;
 use um_fine_bound::longest_fine_run;
 use um_processor::{Processor, Turn as Asked};
 use um_words::CellWord;
@@ -40,6 +41,7 @@ impl<'a> Cpu<'a> {
         ensures asked { AskedOnce image.now self.old self.new }
         ensures stands { IsPlaying image.now self.new }
     {
+        every_fine_run();
         longest_fine_run();
         match self.processor.step(image, self.number, &mut self.place) {
             Asked::Made | Asked::Busy | Asked::Changed => {}
@@ -51,7 +53,7 @@ impl<'a> Cpu<'a> {
     }
 
     /// It makes its next step at most, for which it asks once. Where that wasn't made, another seat had the turn of its site, or another word came to
-    /// stand there, or the site refused it as it stood; the seat has got the word that tells so. Where it has no thread it looks first whether one is ready,
+    /// stand there, or the site refused it as it stood, and it waits; the seat has got the word that tells so. Where it has no thread it looks first whether one is ready,
     /// and asks for nothing where none is.
     pub fn step(&mut self, image: &Image) -> Turn
         requires given { IsGiven image.now }

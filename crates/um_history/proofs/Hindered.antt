@@ -1,43 +1,49 @@
 -- Which causes a seat never meets for which no step is made at a site, and what stood there where it refused the step.
-use Rattle.std.proofs.Common.{◌≡◌, ◌≢◌, ℕ, ◌+◌, ◌<◌, ◌≤◌, ◌%◌, Bool, true, false, List, [], ◌∷◌, length, map, Some, None, refl, sym, ap, ◌∙◌, subst, arith}
+use Rattle.std.proofs.Common.{◌≡◌, ℕ, ◌+◌, ◌<◌, ◌≤◌, Bool, true, false, List, [], length, map, Some, None, refl, sym, ap, ◌∙◌, subst, arith}
 use Rattle.std.specs.Prelude.{IsTrue, nat_lt, ◌&&◌}
 use Rattle.std.proofs.lemmas.Bool.{false≢true, lt-ltb, ltb-true}
 use Rattle.std.proofs.lemmas.List.{length-map}
 use Rattle.um_base.specs.Weight.{weight}
 use Rattle.um_base.specs.declared.image.Image.{Image}
+use Rattle.um_machine.specs.Order.{to_thread}
 use Rattle.um_reach.specs.Described.{IsDescribed}
 use Rattle.um_words.specs.History.{bare}
 use Rattle.um_words.specs.Inverse.{domain-back, thread-back}
-use Rattle.um_words.specs.Packed.{cell_of, domain_in, domain_of, packed_cell, packed_domain, packed_row, packed_thread, row_of, thread_in, thread_of}
+use Rattle.um_words.specs.Packed.{cell_of, domain_in, domain_of, row_of, thread_in, thread_of}
 use Rattle.um_words.specs.declared.cell_word.CellWord.{CellWord}
 use Rattle.um_words.specs.declared.dom_word.DomWord.{DomWord}
 use Rattle.um_words.specs.declared.fine.FineAct.{FineAct}
+use Rattle.um_words.specs.declared.fine.Unseen.{Unseen}
 use Rattle.um_words.specs.declared.row_word.RowWord.{RowWord}
 use Rattle.um_words.specs.declared.thread_word.ThreadWord.{ThreadWord}
-use Rattle.um_fine.specs.Cells.{Cell, cell_takes, cell_word}
+use Rattle.um_fine.specs.Cells.{Cell, cell_word}
 use Rattle.um_fine.specs.FineRun.{IsFineRun, cpu_of, same_cpu}
-use Rattle.um_fine.specs.Runs.{has_key, sublist}
-use Rattle.um_fine.specs.Scheduler.{Scheduler, sched_takes}
+use Rattle.um_fine.specs.Runs.{has_key}
+use Rattle.um_fine.specs.Scheduler.{Scheduler, has_ready}
 use Rattle.um_fine.specs.Sites.{SiteState, is_site, site_number, site_numbered, site_takes, word_of}
 use Rattle.um_fine.specs.Steps.{FineStep, Site, Word}
+use Rattle.um_erasure.specs.Fine.{scheduler_state}
 use Rattle.um_erasure.specs.Room.{CanRun, has_number}
+use Rattle.um_core.specs.PickedRun.{processor_after}
 use Rattle.um_core.proofs.Counts.{can-count}
 use Rattle.um_merge.specs.declared.logged.Logged.{Logged}
-use Rattle.um_processor.specs.Asked.{Refuses}
+use Rattle.um_processor.specs.Processors.{AsksFor}
+use Rattle.um_processor.specs.Sited.{IsShut}
 use Rattle.um_site.specs.declared.seat.Seat.{Seat}
 use Rattle.um_site.proofs.Bare.{bare-even, bare-high, bare-low}
 use Rattle.um_board.specs.Contents.{Known}
 use Rattle.um_board.specs.Noted.{packed}
 use Rattle.um_board.specs.ReadBack.{fine_at, unpacked}
 use Rattle.um_board.proofs.Saws.{and-no}
-use Rattle.um_board.specs.Saw.{Hinders, OthersAt, SawAt, SawCell, SawShut}
-use Rattle.um_history.specs.Fine.{WasRefused, left_at}
+use Rattle.um_board.specs.Saw.{Got, Hinders, OthersAt, SawAt, SawShut}
+use Rattle.um_history.specs.Fine.{Stood, WasRefused, left_at}
 use Rattle.um_history.proofs.CellRuns.{CellKnown, cell-reads, is_cell, word-number}
 use Rattle.um_history.proofs.Lists.{short-sub}
 use Rattle.um_history.proofs.NoneReady.{no-length, ready-kept}
 use Rattle.um_history.proofs.Numbers.{number-of-numbered, numbered-is}
 use Rattle.um_history.proofs.OpeningRuns.{SiteKnown}
 use Rattle.um_history.proofs.Stood.{IsSeatOf, cell-stood, g, left-stood, stood, word-stood}
+use Rattle.um_history.proofs.Waiting.{WaitsAll, waits-none, waits-shut}
 use Rattle.um_history.proofs.WordRuns.{DomainKnown, RowKnown, ThreadKnown, domain-reads, row-reads, thread-reads}
 
 -- The words of a fine run can be read.
@@ -128,18 +134,24 @@ cell-same image last i (SiteState.thread a) n w known word says = absurd known
 cell-same image last i (SiteState.domain a) n w known word says = absurd known
 
 -- of a scheduler by whose word no thread is ready
-none-same : (image : Image) (last : Known) (s : SiteState) (w : ℕ) (act : FineAct) → CellKnown image last Site.scheduler s [] → packed (word_of s) ≡ bare 306 w → (cell_of (bare 306 w)).ready ≡ 0
-    → ((z : Scheduler) → z.ready ≡ [] → sched_takes z act ≡ false) → site_takes s act ≡ false
-none-same image last (SiteState.cell n (Cell.scheduler z)) w act known word none denied =
+none-there : (image : Image) (last : Known) (s : SiteState) (w : ℕ) → CellKnown image last Site.scheduler s [] → packed (word_of s) ≡ bare 306 w → (cell_of (bare 306 w)).ready ≡ 0
+    → (n : ℕ) × (z : Scheduler) × (s ≡ SiteState.cell n (Cell.scheduler z)) × (z.ready ≡ [])
+none-there image last (SiteState.cell n (Cell.scheduler z)) w known word none =
     let count : (cell_of (bare 306 w)).ready ≡ length z.ready = ap (λ (x : ℕ). (cell_of x).ready) (sym word) ∙ ap (λ (x : CellWord). x.ready) (cell-reads Site.scheduler n (Cell.scheduler z) known.0) in
-    ap (λ (b : Bool). nat_lt n 268435455 && b) (denied z (no-length z.ready (sym count ∙ none))) ∙ and-no (nat_lt n 268435455)
-none-same image last (SiteState.cell n (Cell.object o)) w act known word none denied = absurd (false≢true known.0.sort)
-none-same image last (SiteState.cell n (Cell.parts p)) w act known word none denied = absurd (false≢true known.0.sort)
-none-same image last (SiteState.cell n (Cell.memory m)) w act known word none denied = absurd (false≢true known.0.sort)
-none-same image last (SiteState.cell n (Cell.heap h)) w act known word none denied = absurd (false≢true known.0.sort)
-none-same image last (SiteState.row a) w act known word none denied = absurd known
-none-same image last (SiteState.thread a) w act known word none denied = absurd known
-none-same image last (SiteState.domain a) w act known word none denied = absurd known
+    (n, z, refl, no-length z.ready (sym count ∙ none))
+none-there image last (SiteState.cell n (Cell.object o)) w known word none = absurd (false≢true known.0.sort)
+none-there image last (SiteState.cell n (Cell.parts p)) w known word none = absurd (false≢true known.0.sort)
+none-there image last (SiteState.cell n (Cell.memory m)) w known word none = absurd (false≢true known.0.sort)
+none-there image last (SiteState.cell n (Cell.heap h)) w known word none = absurd (false≢true known.0.sort)
+none-there image last (SiteState.row a) w known word none = absurd known
+none-there image last (SiteState.thread a) w known word none = absurd known
+none-there image last (SiteState.domain a) w known word none = absurd known
+
+-- by which one who has no thread takes none
+none-taken : (n : ℕ) (z : Scheduler) (act : FineAct) → act ≡ FineAct.Unseen (Unseen.Next (to_thread 0)) → z.ready ≡ [] → site_takes (SiteState.cell n (Cell.scheduler z)) act ≡ false
+none-taken n z act next none =
+    ap (λ (a : FineAct). site_takes (SiteState.cell n (Cell.scheduler z)) a) next
+    ∙ (ap (λ (b : Bool). nat_lt n 268435455 && b) (ap (has_ready z) none) ∙ and-no (nat_lt n 268435455))
 
 cell-far : (i : Site) → IsTrue (is_site i) → 168 ≤ site_number i → IsTrue (is_cell i)
 cell-far (Site.row x) there far = let less = ltb-true x 128 there in absurd (omega (arith, less, far))
@@ -205,34 +217,53 @@ module _ (image : Image) (described : IsDescribed image) (can : CanRun image 8) 
       inside : (i w : ℕ) → SawAt s i w → i < 307
       inside i w saw = let in' = saw.moment.inside in let long = saw.moment.kept.stands.wide in let opens = seat.opens.count in let is = ap length saw.of.opening in omega (arith, in', long, opens, is)
 
-  -- where the site refused the step, it refused it as it stood
-  pub refused : (t : Seat Known) (e : FineStep) → IsTrue (is_site e.site) → SawShut s t e → WasRefused image k s t e
-  refused t e there (SawShut.word_refused z w low got saw reads refuses) =
-      let i = site_number e.site in
-      let left = left-stood image described can longest k s seat i w saw e.site there refl in
-      let word = word-stood image described can longest k s seat i w saw e.site there refl in
-      let same = word-same image left.0 e.site _ z w low left.1 (word ∙ bare-low i w low) reads in
-      record { word = w; got = got; run = g image described can longest k s seat i w saw; stood = stood image described can longest k s seat i w saw; left = word; refuses = subst (λ (x : SiteState). Refuses x e) same refuses }
-  refused t e there (SawShut.cell_refused n w c far got saw says refuses) =
-      let i = site_number e.site in
-      let known = as-cell image c e.site _ [] (cell-far e.site there far) (cell-stood image described can longest k s seat i w saw.saw e.site there refl c saw.contents) in
-      let word = word-stood image described can longest k s seat i w saw.saw e.site there refl in
-      let same = cell-same image c e.site _ n w known (word ∙ bare-even i w (λ h. saw.free)) says in
-      record { word = w; got = got; run = g image described can longest k s seat i w saw.saw; stood = stood image described can longest k s seat i w saw.saw; left = word; refuses = subst (λ (x : SiteState). Refuses x e) same refuses }
-  refused t e there (SawShut.none_ready w is got saw none denied) =
-      let i = site_number e.site in
-      let left = left-stood image described can longest k s seat i w saw e.site there refl in
-      let word = word-stood image described can longest k s seat i w saw e.site there refl in
-      record {
-        word = w;
-        got = got;
-        run = g image described can longest k s seat i w saw;
-        stood = stood image described can longest k s seat i w saw;
-        left = word;
-        refuses = refused-by w e is left.0 (left_at image (g image described can longest k s seat i w saw) e.site) left.1 word none denied;
-      }
-    where
-      refused-by : (w : ℕ) (e : FineStep) → e.site ≡ Site.scheduler → (last : Known) (x : SiteState) → SiteKnown image last e.site x [] → packed (word_of x) ≡ bare (site_number e.site) w → (cell_of w).ready ≡ 0
-          → ((z : Scheduler) → z.ready ≡ [] → sched_takes z e.act ≡ false) → Refuses x e
-      refused-by w e is last x known word none denied =
-          none-same image last x w e.act (subst (λ (j : Site). SiteKnown image last j x []) is known) (word ∙ ap (λ (j : Site). bare (site_number j) w) is) (sym (ready-kept w (bare 306 w) (sym (bare-high 306 w (omega arith)))) ∙ none) denied
+  -- where the site refused the step, it refused it as it stood, and the processor waits
+  module _ (all : WaitsAll image) (t : Seat Known) (e : FineStep) (there : IsTrue (is_site e.site))
+      (asks : (h : List FineStep) → Stood image k (map (fine_at k) s.token.me.0.made) h → AsksFor k image (processor_after image h k) e) where
+    -- as its state stood at the site
+    shut-there : (w : ℕ) (saw : SawAt s (site_number e.site) w) → Got s t (site_number e.site) w → (z : SiteState) → z ≡ left_at image (g image described can longest k s seat (site_number e.site) w saw) e.site
+        → IsShut image z e → WasRefused image k s t e
+    shut-there w saw got z same shut =
+        let run = g image described can longest k s seat (site_number e.site) w saw in
+        let st = stood image described can longest k s seat (site_number e.site) w saw in
+        let here = subst (λ (x : SiteState). IsShut image x e) same shut in
+        record {
+          word = w;
+          got = got;
+          run = run;
+          stood = st;
+          left = word-stood image described can longest k s seat (site_number e.site) w saw e.site there refl;
+          refuses = here.refuses;
+          waits = waits-shut image described all run st.run st.few k seat.few e (asks run st) here;
+        }
+
+    pub refused : SawShut image s t e → WasRefused image k s t e
+    refused (SawShut.word_refused z w low got saw reads shut) =
+        let i = site_number e.site in
+        let left = left-stood image described can longest k s seat i w saw e.site there refl in
+        let word = word-stood image described can longest k s seat i w saw e.site there refl in
+        shut-there w saw got z (word-same image left.0 e.site _ z w low left.1 (word ∙ bare-low i w low) reads) shut
+    refused (SawShut.cell_refused n w c far got saw says shut) =
+        let i = site_number e.site in
+        let known = as-cell image c e.site _ [] (cell-far e.site there far) (cell-stood image described can longest k s seat i w saw.saw e.site there refl c saw.contents) in
+        let word = word-stood image described can longest k s seat i w saw.saw e.site there refl in
+        shut-there w saw.saw got (SiteState.cell n c.cell) (cell-same image c e.site _ n w known (word ∙ bare-even i w (λ h. saw.free)) says) shut
+    refused (SawShut.none_ready w is got saw none next) =
+        let i = site_number e.site in
+        let run = g image described can longest k s seat i w saw in
+        let st = stood image described can longest k s seat i w saw in
+        let left = left-stood image described can longest k s seat i w saw e.site there refl in
+        let word = word-stood image described can longest k s seat i w saw e.site there refl in
+        let known = subst (λ (j : Site). SiteKnown image left.0 j (left_at image run j) []) is left.1 in
+        let same = ap (λ (j : Site). packed (word_of (left_at image run j))) (sym is) ∙ (word ∙ ap (λ (j : Site). bare (site_number j) w) is) in
+        let found = none-there image left.0 (left_at image run Site.scheduler) w known same (sym (ready-kept w (bare 306 w) (sym (bare-high 306 w (omega arith)))) ∙ none) in
+        let here : left_at image run e.site ≡ SiteState.cell found.0 (Cell.scheduler found.1) = ap (left_at image run) is ∙ found.2 in
+        record {
+          word = w;
+          got = got;
+          run = run;
+          stood = st;
+          left = word;
+          refuses = ap (λ (x : SiteState). site_takes x e.act) here ∙ none-taken found.0 found.1 e.act next found.3;
+          waits = waits-none image described all run st.run st.few k seat.few e (asks run st) next (ap (λ (x : SiteState). (scheduler_state x).ready) found.2 ∙ found.3);
+        }

@@ -1,6 +1,6 @@
 -- A row that stands in cleaning behind a fine run does so since a step of it, whose processor alone has still to vacate it.
-use Rattle.std.proofs.Common.{◌≡◌, ◌≢◌, ◌⊎◌, inl, inr, ⊎_elim, ℕ, ◌+◌, ◌<◌, ◌≤◌, Bool, true, false, cond, List, [], ◌∷◌, ◌++◌, append_assoc, append-nil, refl, sym, ap, ◌∙◌, subst, arith, eq-eqb, ne_eqb}
-use Rattle.std.specs.Prelude.{◌==◌, ◌&&◌, not}
+use Rattle.std.proofs.Common.{◌≡◌, ◌≢◌, ℕ, ◌<◌, ◌≤◌, Bool, true, false, cond, List, [], ◌∷◌, ◌++◌, append_assoc, append-nil, refl, sym, ap, ◌∙◌, subst, arith, eq-eqb, ne_eqb}
+use Rattle.std.specs.Prelude.{◌&&◌, not}
 use Rattle.std.proofs.lemmas.Bool.{eqb-true, false≢true}
 use mathlib.Core.Logic.{dite}
 use native.Mathlib.Decide.{ℕ_discrete}
@@ -9,13 +9,12 @@ use Rattle.um_base.specs.declared.limits.TheConstants.{ROWS}
 use Rattle.um_machine.specs.Objects as Plain
 use Rattle.um_machine.specs.State.{State, object_at}
 use Rattle.um_words.specs.declared.row_word.Stage.{Stage}
-use Rattle.um_words.specs.Rows.{is_cleaning, is_dying, is_free}
+use Rattle.um_words.specs.Rows.{is_cleaning, is_dying}
 use Rattle.um_fine.specs.FineRun.{ByOneOf, IsFineRun, cpu_of, p_start, same_cpu, site_of}
 use Rattle.um_fine.specs.Follows.{p_next}
 use Rattle.um_fine.specs.Opening.{s_start}
 use Rattle.um_fine.specs.Processor.{Processor}
-use Rattle.um_fine.specs.Runs.{changed, state_at}
-use Rattle.um_fine.specs.Sites.{SiteMay, SiteState, s_next, same_site}
+use Rattle.um_fine.specs.Sites.{SiteMay, s_next, same_site}
 use Rattle.um_fine.specs.Steps.{FineStep, Site}
 use Rattle.um_fine.proofs.FineRuns.{by_last, runs_pop, state_push}
 use Rattle.um_fine.proofs.Keys.{same-itself, same-sound}

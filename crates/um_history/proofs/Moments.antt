@@ -9,7 +9,6 @@ use Rattle.um_base.specs.declared.image.Image.{Image}
 use Rattle.um_words.specs.History.{Entry, Words, bare, by_seat, by_site, is_at, is_by}
 use Rattle.um_words.specs.History as History
 use Rattle.um_words.specs.Sublists.{same_name, sub}
-use Rattle.um_words.specs.declared.made.Made.{Made}
 use Rattle.um_fine.specs.Cells.{Cell}
 use Rattle.um_fine.specs.FineRun.{cpu_of, same_cpu, site_of}
 use Rattle.um_fine.specs.Follows.{p_next}

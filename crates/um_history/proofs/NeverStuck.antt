@@ -1,20 +1,19 @@
 -- A processor of a fine run always has a step that it could ask for: it is at a site that there is, names threads that there are, and is an event with room.
-use Rattle.std.proofs.Common.{◌≡◌, ℕ, ◌<◌, ◌≤◌, Bool, true, false, List, [], ◌∷◌, ◌⊎◌, ⊎_elim, length, refl, sym, ap, ◌∙◌, subst, arith}
-use Rattle.std.specs.Prelude.{IsTrue, is_some, nat_le, nat_lt}
+use Rattle.std.proofs.Common.{◌≡◌, ℕ, ◌<◌, ◌≤◌, true, List, [], ◌∷◌, ⊎_elim, length, refl, sym, ap, ◌∙◌, subst, arith}
+use Rattle.std.specs.Prelude.{is_some}
 use Rattle.std.specs.List.{list_all}
-use Rattle.std.proofs.lemmas.Bool.{and_parts, false≢true, le-leb, lt-ltb, true≢false}
+use Rattle.std.proofs.lemmas.Bool.{and_parts, le-leb, lt-ltb, true≢false}
 use Rattle.um_base.specs.declared.image.Image.{Image}
 use Rattle.um_machine.specs.declared.pending.Pending.{Pending}
 use Rattle.um_machine.specs.declared.thread.Thread.{Thread}
 use Rattle.um_machine.specs.Order.{Steps}
 use Rattle.um_machine.specs.State.{State, instruction_at, thread_at}
 use Rattle.um_reach.specs.Described.{IsDescribed}
-use Rattle.um_fine.specs.Asks.{has_room, next_site}
+use Rattle.um_fine.specs.Asks.{has_room}
 use Rattle.um_fine.specs.Context.{Context}
 use Rattle.um_fine.specs.FineRun.{IsFineRun}
 use Rattle.um_fine.specs.Places.{Todo, Todos}
 use Rattle.um_fine.specs.Processor.{Processor}
-use Rattle.um_fine.specs.Sites.{is_site}
 use Rattle.um_fine.specs.Steps.{FineStep}
 use Rattle.um_erasure.specs.After.{left_by}
 use Rattle.um_erasure.specs.Fine.{Fine}

@@ -1,13 +1,11 @@
 -- The fine run that stood when a seat of a board looked at a site, and what stood at that site by the word that it got there.
-use Rattle.std.proofs.Common.{◌≡◌, ℕ, ◌<◌, ◌≤◌, List, [], ◌∷◌, length, map, Some, refl, sym, ap, ◌∙◌, subst, arith}
+use Rattle.std.proofs.Common.{◌≡◌, ℕ, ◌<◌, ◌≤◌, List, [], ◌∷◌, length, map, Some, sym, ap, ◌∙◌, subst}
 use Rattle.std.specs.Prelude.{IsTrue, slice_index}
 use Rattle.um_base.specs.Weight.{weight}
 use Rattle.um_base.specs.declared.image.Image.{Image}
 use Rattle.um_reach.specs.Described.{IsDescribed}
 use Rattle.um_words.specs.History.{Entry, bare, by_seat, by_site}
-use Rattle.um_words.specs.declared.made.Made.{Made}
-use Rattle.um_fine.specs.FineRun.{IsFineRun, cpu_of, same_cpu}
-use Rattle.um_fine.specs.Runs.{sublist}
+use Rattle.um_fine.specs.FineRun.{IsFineRun}
 use Rattle.um_fine.specs.Sites.{is_site, site_number, word_of}
 use Rattle.um_fine.specs.Steps.{FineStep, Site}
 use Rattle.um_erasure.specs.Room.{CanRun}
@@ -18,7 +16,7 @@ use Rattle.um_board.specs.Contents.{Follows, Known, Opens}
 use Rattle.um_board.specs.Noted.{packed}
 use Rattle.um_board.specs.Opening.{AreOpening}
 use Rattle.um_board.specs.ReadBack.{fine_at}
-use Rattle.um_board.specs.Saw.{SawAt, SawCell}
+use Rattle.um_board.specs.Saw.{SawAt}
 use Rattle.um_history.specs.Fine.{Stood, left_at}
 use Rattle.um_history.specs.Played.{IsHistoryOf, IsMoment}
 use Rattle.um_history.proofs.AtMoment.{history, of-moment}

@@ -8,6 +8,8 @@ use Rattle.um_fine.specs.Opening.{s_start}
 use Rattle.um_fine.specs.Runs.{state_at, sublist}
 use Rattle.um_fine.specs.Sites.{SiteState, is_site, s_next, same_site, site_number, site_numbered, word_of}
 use Rattle.um_fine.specs.Steps.{FineStep, Site}
+use Rattle.um_erasure.specs.After.{left_by}
+use Rattle.um_erasure.specs.Waits.{WaitsFor}
 use Rattle.um_merge.specs.Merged as Merged
 use Rattle.um_merge.specs.Merged.{AreNumbered}
 use Rattle.um_processor.specs.Asked.{Refuses}
@@ -38,7 +40,8 @@ pub record Stood (image : Image) (k : ℕ) (own : List FineStep) (g : List FineS
 abbrev pub left_at : Image → List FineStep → Site → SiteState
 left_at image g i = state_at same_site site_of (s_next image) (s_start image) g i
 
--- At some moment of a call the site of the step refused it, as the fine run had left it that stood then: the seat got the word there that the run had left.
+-- At some moment of a call the site of the step refused it, as the fine run had left it that stood then: the seat got the word there that the run had left. The
+-- processor couldn't make any step of that run, and so waits: for a thread that is ready, for one that is held, or for a domain that is claimed.
 pub record WasRefused (image : Image) (k : ℕ) (s t : Seat Known) (e : FineStep) : Type 0 where
   pub word : ℕ
   pub got : Got s t (site_number e.site) word
@@ -46,3 +49,4 @@ pub record WasRefused (image : Image) (k : ℕ) (s t : Seat Known) (e : FineStep
   pub stood : Stood image k (map (fine_at k) s.token.me.0.made) run
   pub left : packed (word_of (left_at image run e.site)) ≡ bare (site_number e.site) word
   pub refuses : Refuses (left_at image run e.site) e
+  pub waits : WaitsFor (left_by image 8 run) k

@@ -1,8 +1,10 @@
 use Rattle.std.proofs.Common.{◌≡◌, ◌+◌, ap, refl, sym, ◌∙◌, ℕ, ◌≤◌, List, length, subst, ◌<◌, arith}
 use Rattle.um_merge.specs.declared.logged.Logged.{Logged}
 use Rattle.um_fine.specs.Answers.{domain_in}
-use Rattle.um_fine.specs.Steps.{Exchange, Word}
-use Rattle.um_processor.specs.DomainActs.{domain_made}
+use Rattle.um_fine.specs.Steps.{Exchange, Site, Word}
+use Rattle.um_fine.proofs.Filled.{filled-twice}
+use Rattle.um_processor.specs.Asked.{asked}
+use Rattle.um_processor.specs.DomainActs.{domain_act, domain_made}
 use Rattle.um_board.specs.Noted.{number_of, packed}
 use Rattle.um_board.proofs.Keeping.{noted-then, unnoted-then}
 use Rattle.um_board.proofs.WordSteps.{domain-lawful, domain-number, domain-packs, domain-reads-back, domain-word}
@@ -59,7 +61,8 @@ returns-in-None-make-clause-said c =
     let w = c.in-Some.word in
     let got = got-one _ _ _ _ c.look-seen.ensures.got in
     let low : 160 + c.args.domain < 168 = let less = c.requires.domain in omega (arith, less) in
-    let shut = SawShut.word_refused (SiteState.domain w) c.look-seen.result low got c.look-seen.ensures.saw (ap Word.domain (some-domain c.look-seen.result w c.in-Some.ensures.value)) (c.in-None-make.ensures c.args.image.now c.args.cpu c.args.domain) in
+    let filled = filled-twice c.args.image.now (SiteState.domain w) (asked c.args.cpu (Site.domain c.args.domain) (domain_act c.args.act.now) Exchange.nothing) in
+    let shut = SawShut.word_refused (SiteState.domain w) c.look-seen.result low got c.look-seen.ensures.saw (ap Word.domain (some-domain c.look-seen.result w c.in-Some.ensures.value)) (record { refuses = c.in-None-make.ensures c.args.image.now c.args.cpu c.args.domain; filled_in = filled; seen = tt }) in
     (w, c.look-seen.ensures.unnoted, shut)
 
 pub returns-in-None-clause-said : goal.returns-in-None-clause-said

@@ -1,9 +1,11 @@
 use Rattle.std.proofs.Common.{◌≡◌, ap, refl, sym, ◌∙◌, ℕ, ◌≤◌, List, length, subst, ◌<◌, arith}
 use Rattle.um_merge.specs.declared.logged.Logged.{Logged}
 use Rattle.um_words.specs.Packed.{row_of}
-use Rattle.um_fine.specs.Steps.{Exchange, Word}
-use Rattle.um_processor.specs.RowActs.{row_event, row_made}
-use Rattle.um_processor.proofs.Noted.{row-event}
+use Rattle.um_fine.specs.Steps.{Exchange, Site, Word}
+use Rattle.um_fine.proofs.Filled.{filled-twice}
+use Rattle.um_processor.specs.Asked.{asked}
+use Rattle.um_processor.specs.RowActs.{row_act, row_event, row_made}
+use Rattle.um_processor.proofs.Noted.{row-event, row-seen}
 use Rattle.um_board.specs.Noted.{number_of, packed}
 use Rattle.um_board.proofs.Keeping.{noted-then, unnoted-then}
 use Rattle.um_board.proofs.WordSteps.{row-lawful, row-number, row-packs, row-reads-back, row-read, row-word}
@@ -62,7 +64,8 @@ returns-in-None-clause-said c =
     let w = c.read-word.result in
     let got = got-one _ _ _ _ c.look-seen.ensures.got in
     let low : c.args.row.0 < 168 = let less = c.requires.row in omega (arith, less) in
-    let shut = SawShut.word_refused (SiteState.row w) c.look-seen.result low got c.look-seen.ensures.saw (ap Word.row (sym c.read-word.ensures.value)) (c.in-None.ensures c.args.image.now c.args.cpu c.args.row.0) in
+    let filled = filled-twice c.args.image.now (SiteState.row w) (asked c.args.cpu (Site.row c.args.row.0) (row_act w c.args.act.now) Exchange.nothing) in
+    let shut = SawShut.word_refused (SiteState.row w) c.look-seen.result low got c.look-seen.ensures.saw (ap Word.row (sym c.read-word.ensures.value)) (record { refuses = c.in-None.ensures c.args.image.now c.args.cpu c.args.row.0; filled_in = filled; seen = row-seen c.args.image.now c.args.cpu c.args.row.0 w c.args.act.now }) in
     (w, c.look-seen.ensures.unnoted, shut)
 
 pub returns-then-is_full-clause-said : goal.returns-then-is_full-clause-said

@@ -2,8 +2,10 @@ use Rattle.std.proofs.Common.{◌≡◌, ◌+◌, ap, refl, sym, ◌∙◌, ℕ,
 use Rattle.um_merge.specs.declared.logged.Logged.{Logged}
 use Rattle.um_words.specs.declared.thread_word.ThreadWord.{ThreadWord}
 use Rattle.um_fine.specs.Answers.{thread_in}
-use Rattle.um_fine.specs.Steps.{Exchange, Word}
-use Rattle.um_processor.specs.ThreadActs.{thread_event, thread_made}
+use Rattle.um_fine.specs.Steps.{Exchange, Site, Word}
+use Rattle.um_fine.proofs.Filled.{filled-twice}
+use Rattle.um_processor.specs.Asked.{asked}
+use Rattle.um_processor.specs.ThreadActs.{thread_act, thread_event, thread_made}
 use Rattle.um_processor.proofs.Noted.{thread-event}
 use Rattle.um_board.specs.Noted.{number_of, packed}
 use Rattle.um_board.proofs.Keeping.{noted-then, unnoted-then}
@@ -65,7 +67,8 @@ returns-in-None-make-clause-said c =
     let w = c.in-Some.word in
     let got = got-one _ _ _ _ c.look-seen.ensures.got in
     let low : 128 + c.args.thread.0 < 168 = let less = c.requires.thread in omega (arith, less) in
-    let shut = SawShut.word_refused (SiteState.thread w) c.look-seen.result low got c.look-seen.ensures.saw (ap Word.thread (some-thread c.look-seen.result w c.in-Some.ensures.value)) (c.in-None-make.ensures.made c.args.image.now c.args.cpu c.args.thread.0) in
+    let filled = filled-twice c.args.image.now (SiteState.thread w) (asked c.args.cpu (Site.thread c.args.thread.0) (thread_act c.args.act.now) Exchange.nothing) in
+    let shut = SawShut.word_refused (SiteState.thread w) c.look-seen.result low got c.look-seen.ensures.saw (ap Word.thread (some-thread c.look-seen.result w c.in-Some.ensures.value)) (record { refuses = c.in-None-make.ensures.made c.args.image.now c.args.cpu c.args.thread.0; filled_in = filled; seen = tt }) in
     (w, c.look-seen.ensures.unnoted, shut)
 
 pub returns-in-None-clause-said : goal.returns-in-None-clause-said

@@ -21,7 +21,7 @@ returns-clause-keeps c =
     let s = c.args.self.now.place in
     let t = c.step.new.sites in
     turned-keeps c.args.image.now c.args.self.now.number c.step.result (whole c.args.self.now.processor) (whole c.step.new.self) s.seat s.log.items t.seat t.log.items
-    (λ (e : FineStep). SawShut s.seat t.seat e)
+    (λ (e : FineStep). SawShut c.args.image.now s.seat t.seat e)
     (λ (site : Site). Hinders s.log.room s.log.items s.seat t.seat (site_number site))
     (t ≡ s) (unnoted-there s t) c.step.ensures.turn
 
@@ -30,7 +30,7 @@ returns-clause-goes c =
     let s = c.args.self.now.place in
     let t = c.step.new.sites in
     turned-on c.args.image.now c.args.self.now.number c.step.result (whole c.args.self.now.processor) (whole c.step.new.self) s.seat s.log.items t.seat t.log.items
-    (λ (e : FineStep). SawShut s.seat t.seat e)
+    (λ (e : FineStep). SawShut c.args.image.now s.seat t.seat e)
     (λ (site : Site). Hinders s.log.room s.log.items s.seat t.seat (site_number site))
     (t ≡ s) c.step.ensures.same (unnoted-there s t) c.step.ensures.turn
 
@@ -50,6 +50,7 @@ returns-clause-asked c =
     asked-of image c.requires.described c.requires.can (λ run fine. c.longest_fine_run.ensures image 8 run c.requires.described fine)
     self.number s.seat (seat-of image _ _ self.number (whole self.processor) s.seat s.log.items c.requires.place.seated stands) (whole self.processor)
     (stands-there image self.number (whole self.processor) s.seat s.log.items stands)
+    (λ run fine counts k halted. c.every_fine_run.ensures.waits image 8 run c.requires.described c.requires.can fine counts k halted)
     c.step.result (whole c.step.new.self) s.log.items t.seat t.log.items s.log.room (t ≡ s)
     (noted-all image self.number (whole self.processor) s.seat s.log.items stands) c.requires.place.enough c.step.ensures.same c.step.ensures.turn (not-stuck c.step.result c.in-Made.is)
 
@@ -62,7 +63,7 @@ unreachable-requires c =
     let stands = c.requires.stands in
     let turned = subst (λ (turn : Turn). Turned turn self.number image (whole self.processor) (whole c.step.new.self)
     (λ (e : FineStep). Noted s.seat s.log.items e t.seat t.log.items)
-    (λ (e : FineStep). Unnoted s.seat s.log.items t.seat t.log.items × SawShut s.seat t.seat e)
+    (λ (e : FineStep). Unnoted s.seat s.log.items t.seat t.log.items × SawShut image s.seat t.seat e)
     (λ (site : Site). Unnoted s.seat s.log.items t.seat t.log.items × Hinders s.log.room s.log.items s.seat t.seat (site_number site))
     (t ≡ s)) c.in-Stuck.is c.step.ensures.turn in
     has-next image c.requires.described c.requires.can (λ run fine. c.longest_fine_run.ensures image 8 run c.requires.described fine)

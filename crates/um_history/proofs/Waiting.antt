@@ -1,0 +1,89 @@
+-- A processor whose site refuses the step that it asks for waits.
+use Rattle.std.proofs.Common.{◌≡◌, ℕ, ◌<◌, ◌≤◌, Bool, true, false, [], ◌∷◌, List, length, refl, sym, ap, ◌∙◌, subst, arith}
+use Rattle.std.proofs.lemmas.Bool.{false≢true}
+use Rattle.um_base.specs.Weight.{weight}
+use Rattle.um_base.specs.declared.image.Image.{Image}
+use Rattle.um_base.specs.declared.names.ThreadIx.{ThreadIx}
+use Rattle.um_machine.specs.declared.pending.Pending.{Pending}
+use Rattle.um_machine.specs.Order.{to_thread}
+use Rattle.um_reach.specs.Described.{IsDescribed}
+use Rattle.um_words.specs.declared.fine.FineAct.{FineAct}
+use Rattle.um_words.specs.declared.fine.Unseen.{Unseen}
+use Rattle.um_fine.specs.Asks.{says, says_show}
+use Rattle.um_fine.specs.FineRun.{ByOneOf, IsFineRun}
+use Rattle.um_fine.specs.Places.{Todo, Todos}
+use Rattle.um_fine.specs.Processor.{Processor}
+use Rattle.um_fine.specs.Steps.{Exchange, FineStep}
+use Rattle.um_erasure.specs.After.{left_by}
+use Rattle.um_erasure.specs.Fine.{scheduler}
+use Rattle.um_erasure.specs.Room.{CanCount, IsHalted}
+use Rattle.um_erasure.specs.Waits.{WaitsFor}
+use Rattle.um_core.specs.PickedRun.{processor_after, site_after}
+use Rattle.um_core.proofs.Counts.{can-count}
+use Rattle.um_core.proofs.Refusals.{busy-none}
+use Rattle.um_processor.specs.Processors.{AsksFor}
+use Rattle.um_processor.specs.Sited.{IsShut}
+
+-- what is known of each processor of a fine run that can't step
+abbrev pub WaitsAll : Image → Type 0
+WaitsAll image = (run : List FineStep) → IsFineRun image 8 run → CanCount (left_by image 8 run) → (k : ℕ) → IsHalted (left_by image 8 run) k → WaitsFor (left_by image 8 run) k
+
+-- One who takes a thread has none.
+
+abbrev is-next : FineAct → Bool
+is-next (FineAct.Unseen (Unseen.Next t)) = true
+is-next act = false
+
+no-show : (image : Image) (p : Processor) (t : ThreadIx) (q : Pending) → is-next (says_show image p q (FineAct.Unseen (Unseen.Next t))) ≡ false
+no-show image p t Pending.Begin = refl
+no-show image p t Pending.Exit = refl
+no-show image p t q = refl
+
+no-next : (image : Image) (p : Processor) (t : ThreadIx) (moved : Exchange) (q : Todo) (todo : Todos) → is-next (says image p (q ∷ todo) (FineAct.Unseen (Unseen.Next t)) moved) ≡ false
+no-next image p t moved (Todo.show q rest) todo = no-show image p t q
+no-next image p t moved Todo.hold todo = refl
+no-next image p t moved Todo.let_go todo = refl
+no-next image p t moved (Todo.read_claim d) todo = refl
+no-next image p t moved (Todo.read_done d) todo = refl
+no-next image p t moved Todo.region_load todo = refl
+no-next image p t moved (Todo.write_claim d) todo = refl
+no-next image p t moved (Todo.edit d q) todo = refl
+no-next image p t moved (Todo.size_look x) todo = refl
+no-next image p t moved (Todo.end_call x) todo = refl
+no-next image p t moved (Todo.wake who told) todo = refl
+no-next image p t moved (Todo.add c) todo = refl
+no-next image p t moved (Todo.pass who x) todo = refl
+no-next image p t moved (Todo.drop x) todo = refl
+no-next image p t moved (Todo.clean_pair who x) todo = refl
+no-next image p t moved (Todo.wipe x) todo = refl
+no-next image p t moved (Todo.vacate x) todo = refl
+no-next image p t moved (Todo.recycle x) todo = refl
+no-next image p t moved Todo.park todo = refl
+no-next image p t moved Todo.done todo = refl
+
+takes-none : (image : Image) (p : Processor) (t : ThreadIx) (act : FineAct) (moved : Exchange) (todo : Todos) → act ≡ FineAct.Unseen (Unseen.Next t) → says image p todo act moved ≡ act → todo ≡ []
+takes-none image p t act moved [] is same = refl
+takes-none image p t act moved (q ∷ todo) is same =
+    let next : is-next (says image p (q ∷ todo) (FineAct.Unseen (Unseen.Next t)) moved) ≡ true =
+    ap (λ (a : FineAct). is-next (says image p (q ∷ todo) a moved)) (sym is) ∙ (ap is-next same ∙ ap is-next is) in
+    absurd (false≢true (sym (no-next image p t moved q todo) ∙ next))
+
+module _ (image : Image) (described : IsDescribed image) (all : WaitsAll image) (run : List FineStep) (fine : IsFineRun image 8 run) (few : length run ≤ weight image)
+    (k : ℕ) (less : k < 8) (e : FineStep) (asks : AsksFor k image (processor_after image run k) e) where
+  counts : CanCount (left_by image 8 run)
+  counts = let light = described.lawful.light in can-count image run (omega (arith, few, light)) 8
+
+  pub waits-shut : IsShut image (site_after image run e.site) e → WaitsFor (left_by image 8 run) k
+  waits-shut shut =
+      all run fine counts k
+      (record {
+        inside = less;
+        stuck = λ g same may taken.
+            busy-none image 8 run k e asks.makes asks.fit shut.filled_in shut.seen shut.refuses g same
+            (record { makes = subst (λ (j : ℕ). ByOneOf image 8 (processor_after image run j) g) (sym same) may; takes = taken });
+      })
+
+  pub waits-none : e.act ≡ FineAct.Unseen (Unseen.Next (to_thread 0)) → (scheduler (left_by image 8 run)).ready ≡ [] → WaitsFor (left_by image 8 run) k
+  waits-none next none =
+      let p = processor_after image run k in
+      WaitsFor.ready_thread (takes-none image p (to_thread 0) e.act e.moved p.todo next (ap (λ (x : FineStep). x.act) asks.makes)) none
