@@ -13,6 +13,17 @@ def listed(items, indent="    "):
     return ("\n" + indent + "∷ ").join(items) + " ∷ []"
 
 
+def filled(items, indent="    ", width=110):
+    """A list, as many items a line as it is wide."""
+    lines = []
+    for item in [*items, "[]"]:
+        if lines and len(indent + "∷ " + lines[-1] + " ∷ " + item) <= width:
+            lines[-1] += " ∷ " + item
+        else:
+            lines.append(item)
+    return ("\n" + indent + "∷ ").join(lines)
+
+
 def flat(items):
     """A list on one line."""
     return " ∷ ".join([*items, "[]"])

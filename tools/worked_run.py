@@ -2,7 +2,7 @@
 import re
 import tomllib
 
-from antt_words import listed
+from antt_words import filled, listed
 from described_image import Image
 from shown_dump import Dump
 from traced_run import Run
@@ -63,7 +63,7 @@ def parts(image, run, dump):
     scripts = [f"abbrev pub script_{i} : Script\nscript_{i} =\n    {image.script_record(i)}" for i in range(len(image.scripts))]
     return scripts + [
         f"abbrev pub image : Image\nimage =\n{image.text()}",
-        f"-- which thread makes each step, and which one\nabbrev pub choices : List Choice\nchoices =\n    {listed(run.choices)}",
+        f"-- which thread makes each step, and which one\nabbrev pub choices : List Choice\nchoices =\n    {filled(run.choices)}",
         f"-- what the trace shows\nabbrev pub events : List Event\nevents =\n    {listed(run.events)}",
         f"abbrev pub dump : Dump\ndump =\n{dump.text()}",
     ]

@@ -55,34 +55,10 @@ image =
 -- which thread makes each step, and which one
 abbrev pub choices : List Choice
 choices =
-    choose 0 0 begins
-    ∷ choose 0 96 goes
-    ∷ on 0
-    ∷ on 0
-    ∷ choose 0 0 begins
-    ∷ choose 0 100 goes
-    ∷ on 0
-    ∷ on 0
-    ∷ choose 0 0 begins
-    ∷ on 0
-    ∷ on 0
-    ∷ on 0
-    ∷ on 0
-    ∷ choose 0 0 begins
-    ∷ on 0
-    ∷ on 0
-    ∷ on 0
-    ∷ choose 0 0 begins
-    ∷ on 0
-    ∷ on 0
-    ∷ on 0
-    ∷ choose 0 100 (cleans 28)
-    ∷ choose 0 96 recycles
-    ∷ choose 0 100 recycles
-    ∷ choose 0 0 exits
-    ∷ on 0
-    ∷ choose 0 0 skips
-    ∷ on 0 ∷ []
+    choose 0 0 begins ∷ choose 0 96 goes ∷ on 0 ∷ on 0 ∷ choose 0 0 begins ∷ choose 0 100 goes ∷ on 0 ∷ on 0
+    ∷ choose 0 0 begins ∷ on 0 ∷ on 0 ∷ on 0 ∷ on 0 ∷ choose 0 0 begins ∷ on 0 ∷ on 0 ∷ on 0
+    ∷ choose 0 0 begins ∷ on 0 ∷ on 0 ∷ on 0 ∷ choose 0 100 (cleans 28) ∷ choose 0 96 recycles
+    ∷ choose 0 100 recycles ∷ choose 0 0 exits ∷ on 0 ∷ choose 0 0 skips ∷ on 0 ∷ []
 
 -- what the trace shows
 abbrev pub events : List Event

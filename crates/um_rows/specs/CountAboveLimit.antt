@@ -55,16 +55,8 @@ image =
 -- which thread makes each step, and which one
 abbrev pub choices : List Choice
 choices =
-    choose 0 0 begins
-    ∷ on 0
-    ∷ on 0
-    ∷ choose 0 0 begins
-    ∷ on 0
-    ∷ on 0
-    ∷ on 0
-    ∷ choose 0 2 goes
-    ∷ choose 0 0 skips
-    ∷ on 0 ∷ []
+    choose 0 0 begins ∷ on 0 ∷ on 0 ∷ choose 0 0 begins ∷ on 0 ∷ on 0 ∷ on 0 ∷ choose 0 2 goes
+    ∷ choose 0 0 skips ∷ on 0 ∷ []
 
 -- what the trace shows
 abbrev pub events : List Event

@@ -66,35 +66,10 @@ image =
 -- which thread makes each step, and which one
 abbrev pub choices : List Choice
 choices =
-    choose 0 0 begins
-    ∷ choose 0 112 goes
-    ∷ on 0
-    ∷ on 0
-    ∷ choose 1 0 begins
-    ∷ choose 0 0 begins
-    ∷ on 0
-    ∷ on 0
-    ∷ on 0
-    ∷ on 0
-    ∷ choose 1 0 begins
-    ∷ choose 0 0 begins
-    ∷ on 0
-    ∷ on 0
-    ∷ on 0
-    ∷ choose 1 0 begins
-    ∷ on 1
-    ∷ on 1
-    ∷ on 1
-    ∷ choose 1 112 recycles
-    ∷ choose 0 0 exits
-    ∷ on 0
-    ∷ choose 0 2 goes
-    ∷ choose 0 0 skips
-    ∷ on 0
-    ∷ choose 1 0 exits
-    ∷ choose 1 2 goes
-    ∷ choose 1 0 skips
-    ∷ on 1 ∷ []
+    choose 0 0 begins ∷ choose 0 112 goes ∷ on 0 ∷ on 0 ∷ choose 1 0 begins ∷ choose 0 0 begins ∷ on 0
+    ∷ on 0 ∷ on 0 ∷ on 0 ∷ choose 1 0 begins ∷ choose 0 0 begins ∷ on 0 ∷ on 0 ∷ on 0 ∷ choose 1 0 begins
+    ∷ on 1 ∷ on 1 ∷ on 1 ∷ choose 1 112 recycles ∷ choose 0 0 exits ∷ on 0 ∷ choose 0 2 goes
+    ∷ choose 0 0 skips ∷ on 0 ∷ choose 1 0 exits ∷ choose 1 2 goes ∷ choose 1 0 skips ∷ on 1 ∷ []
 
 -- what the trace shows
 abbrev pub events : List Event

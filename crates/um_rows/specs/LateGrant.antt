@@ -62,29 +62,9 @@ image =
 -- which thread makes each step, and which one
 abbrev pub choices : List Choice
 choices =
-    choose 0 0 begins
-    ∷ choose 0 100 goes
-    ∷ on 0
-    ∷ on 0
-    ∷ choose 0 0 begins
-    ∷ on 0
-    ∷ on 0
-    ∷ choose 2 0 begins
-    ∷ on 2
-    ∷ on 2
-    ∷ on 2
-    ∷ on 0
-    ∷ on 0
-    ∷ on 2
-    ∷ choose 2 100 recycles
-    ∷ choose 0 0 exits
-    ∷ choose 2 0 exits
-    ∷ choose 2 4 goes
-    ∷ choose 2 0 skips
-    ∷ on 2
-    ∷ on 0
-    ∷ choose 0 2 goes
-    ∷ choose 0 0 skips
+    choose 0 0 begins ∷ choose 0 100 goes ∷ on 0 ∷ on 0 ∷ choose 0 0 begins ∷ on 0 ∷ on 0
+    ∷ choose 2 0 begins ∷ on 2 ∷ on 2 ∷ on 2 ∷ on 0 ∷ on 0 ∷ on 2 ∷ choose 2 100 recycles ∷ choose 0 0 exits
+    ∷ choose 2 0 exits ∷ choose 2 4 goes ∷ choose 2 0 skips ∷ on 2 ∷ on 0 ∷ choose 0 2 goes ∷ choose 0 0 skips
     ∷ on 0 ∷ []
 
 -- what the trace shows

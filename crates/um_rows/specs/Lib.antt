@@ -1,3 +1,4 @@
+pub mod Fine
 pub mod Evaluate
 pub mod Dump
 pub mod Words

@@ -47,41 +47,9 @@ image =
 -- which thread makes each step, and which one
 abbrev pub choices : List Choice
 choices =
-    choose 0 0 begins
-    ∷ on 0
-    ∷ on 0
-    ∷ on 0
-    ∷ on 0
-    ∷ on 0
-    ∷ on 0
-    ∷ on 0
-    ∷ on 0
-    ∷ on 0
-    ∷ on 0
-    ∷ on 0
-    ∷ on 0
-    ∷ on 0
-    ∷ on 0
-    ∷ on 0
-    ∷ on 0
-    ∷ on 0
-    ∷ on 0
-    ∷ on 0
-    ∷ on 0
-    ∷ on 0
-    ∷ on 0
-    ∷ on 0
-    ∷ on 0
-    ∷ on 0
-    ∷ on 0
-    ∷ on 0
-    ∷ on 0
-    ∷ on 0
-    ∷ on 0
-    ∷ on 0
-    ∷ on 0
-    ∷ on 0
-    ∷ on 0 ∷ []
+    choose 0 0 begins ∷ on 0 ∷ on 0 ∷ on 0 ∷ on 0 ∷ on 0 ∷ on 0 ∷ on 0 ∷ on 0 ∷ on 0 ∷ on 0 ∷ on 0 ∷ on 0
+    ∷ on 0 ∷ on 0 ∷ on 0 ∷ on 0 ∷ on 0 ∷ on 0 ∷ on 0 ∷ on 0 ∷ on 0 ∷ on 0 ∷ on 0 ∷ on 0 ∷ on 0 ∷ on 0 ∷ on 0
+    ∷ on 0 ∷ on 0 ∷ on 0 ∷ on 0 ∷ on 0 ∷ on 0 ∷ on 0 ∷ []
 
 -- what the trace shows
 abbrev pub events : List Event

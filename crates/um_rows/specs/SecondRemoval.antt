@@ -65,20 +65,8 @@ image =
 -- which thread makes each step, and which one
 abbrev pub choices : List Choice
 choices =
-    choose 1 0 begins
-    ∷ on 1
-    ∷ on 1
-    ∷ on 1
-    ∷ choose 0 0 begins
-    ∷ on 0
-    ∷ on 0
-    ∷ choose 0 0 begins
-    ∷ on 0
-    ∷ on 0
-    ∷ choose 0 0 exits
-    ∷ on 0
-    ∷ choose 0 0 skips
-    ∷ on 0 ∷ []
+    choose 1 0 begins ∷ on 1 ∷ on 1 ∷ on 1 ∷ choose 0 0 begins ∷ on 0 ∷ on 0 ∷ choose 0 0 begins ∷ on 0
+    ∷ on 0 ∷ choose 0 0 exits ∷ on 0 ∷ choose 0 0 skips ∷ on 0 ∷ []
 
 -- what the trace shows
 abbrev pub events : List Event

@@ -69,57 +69,13 @@ image =
 -- which thread makes each step, and which one
 abbrev pub choices : List Choice
 choices =
-    choose 0 0 begins
-    ∷ on 0
-    ∷ on 0
-    ∷ choose 1 0 begins
-    ∷ on 1
-    ∷ on 1
-    ∷ choose 2 0 begins
-    ∷ on 2
-    ∷ on 2
-    ∷ choose 3 0 begins
-    ∷ on 3
-    ∷ on 3
-    ∷ on 3
-    ∷ on 1
-    ∷ on 1
-    ∷ choose 3 0 begins
-    ∷ on 3
-    ∷ on 3
-    ∷ on 3
-    ∷ choose 1 0 exits
-    ∷ choose 1 2 goes
-    ∷ choose 1 8 goes
-    ∷ choose 1 0 skips
-    ∷ on 1
-    ∷ on 2
-    ∷ on 2
-    ∷ choose 3 0 begins
-    ∷ on 3
-    ∷ on 3
-    ∷ on 3
-    ∷ choose 2 0 exits
-    ∷ choose 2 4 goes
-    ∷ choose 2 8 goes
-    ∷ choose 2 0 skips
-    ∷ on 2
-    ∷ on 0
-    ∷ on 0
-    ∷ choose 3 0 begins
-    ∷ on 3
-    ∷ on 3
-    ∷ on 3
-    ∷ choose 0 0 exits
-    ∷ on 0
-    ∷ choose 0 8 goes
-    ∷ choose 0 0 skips
-    ∷ on 0
-    ∷ choose 3 0 exits
-    ∷ choose 3 6 goes
-    ∷ choose 3 8 goes
-    ∷ choose 3 0 skips
-    ∷ on 3 ∷ []
+    choose 0 0 begins ∷ on 0 ∷ on 0 ∷ choose 1 0 begins ∷ on 1 ∷ on 1 ∷ choose 2 0 begins ∷ on 2 ∷ on 2
+    ∷ choose 3 0 begins ∷ on 3 ∷ on 3 ∷ on 3 ∷ on 1 ∷ on 1 ∷ choose 3 0 begins ∷ on 3 ∷ on 3 ∷ on 3
+    ∷ choose 1 0 exits ∷ choose 1 2 goes ∷ choose 1 8 goes ∷ choose 1 0 skips ∷ on 1 ∷ on 2 ∷ on 2
+    ∷ choose 3 0 begins ∷ on 3 ∷ on 3 ∷ on 3 ∷ choose 2 0 exits ∷ choose 2 4 goes ∷ choose 2 8 goes
+    ∷ choose 2 0 skips ∷ on 2 ∷ on 0 ∷ on 0 ∷ choose 3 0 begins ∷ on 3 ∷ on 3 ∷ on 3 ∷ choose 0 0 exits ∷ on 0
+    ∷ choose 0 8 goes ∷ choose 0 0 skips ∷ on 0 ∷ choose 3 0 exits ∷ choose 3 6 goes ∷ choose 3 8 goes
+    ∷ choose 3 0 skips ∷ on 3 ∷ []
 
 -- what the trace shows
 abbrev pub events : List Event

@@ -14,8 +14,8 @@ use Rattle.um_base.specs.declared.instr.Instr.TheVariants as Instr
 use Rattle.um_base.specs.declared.act.Event.{Event}
 use Rattle.um_base.specs.declared.image.Image.{Image}
 use Rattle.um_base.specs.declared.image.Script.{Script}
-use Rattle.um_fine_rows.specs.Left.{without_priorities}
-use Rattle.um_fine_rows.specs.Whole.{seen, whole_run_alone}
+use Rattle.um_rows.specs.Fine.Left.{without_priorities}
+use Rattle.um_rows.specs.Fine.Whole.{seen, whole_run_alone}
 use Rattle.um_machine.specs.Run.{blank}
 use Rattle.um_rows.specs.Evaluate.{Choice, skips, begins}
 use Rattle.um_rows.specs.Dump.{Dump, started, ended, uninitialised, nothing}
@@ -50,14 +50,7 @@ image =
 -- which thread makes each step, and which one
 abbrev pub choices : List Choice
 choices =
-    choose 0 0 begins
-    ∷ on 0
-    ∷ choose 0 0 begins
-    ∷ on 0
-    ∷ on 0
-    ∷ on 0
-    ∷ choose 0 0 skips
-    ∷ on 0 ∷ []
+    choose 0 0 begins ∷ on 0 ∷ choose 0 0 begins ∷ on 0 ∷ on 0 ∷ on 0 ∷ choose 0 0 skips ∷ on 0 ∷ []
 
 -- what the trace shows
 abbrev pub events : List Event

@@ -20,8 +20,8 @@ use Rattle.um_fine.specs.FineRun.{ByOneOf, IsFineRun, cpu_of, p_start, same_cpu,
 use Rattle.um_fine.proofs.FineRuns.{runs_push, state_push}
 use Rattle.um_fine.proofs.Keys.{number-back, number-bound, number-sound, same-itself, same-sound}
 use Rattle.um_fine.proofs.Made.{IsSettled, asks-lawfully}
-use Rattle.um_fine_rows.specs.Evaluate.{Board, SITES, alone, alone_by, asked, fine_course, fine_course_by, first_of, may, next_made, no_site, only_there, opening_board, processor_in, seeds, site_in, stepped}
-use Rattle.um_fine_rows.proofs.Indices.{written-else, written-here, written-length}
+use Rattle.um_rows.specs.Fine.Evaluate.{Board, SITES, alone, alone_by, asked, fine_course, fine_course_by, first_of, may, next_made, no_site, only_there, opening_board, processor_in, seeds, site_in, stepped}
+use Rattle.um_rows.proofs.Fine.Indices.{written-else, written-here, written-length}
 
 module _ (image : Image) where
   -- an edit that was asked for has the partitions that stand

@@ -20,8 +20,8 @@ use Rattle.um_base.specs.declared.instr.Instr.TheVariants as Instr
 use Rattle.um_base.specs.declared.act.Event.{Event}
 use Rattle.um_base.specs.declared.image.Image.{Image}
 use Rattle.um_base.specs.declared.image.Script.{Script}
-use Rattle.um_fine_rows.specs.Left.{without_priorities}
-use Rattle.um_fine_rows.specs.Whole.{seen, whole_run_alone}
+use Rattle.um_rows.specs.Fine.Left.{without_priorities}
+use Rattle.um_rows.specs.Fine.Whole.{seen, whole_run_alone}
 use Rattle.um_machine.specs.Run.{blank}
 use Rattle.um_rows.specs.Evaluate.{Choice, skips, begins, exits, recycles, goes}
 use Rattle.um_rows.specs.Dump.{Dump, unborn, started, ended, waits, initialised, uninitialised, nothing, filled}
@@ -101,117 +101,21 @@ image =
 -- which thread makes each step, and which one
 abbrev pub choices : List Choice
 choices =
-    choose 3 0 begins
-    ∷ on 3
-    ∷ on 3
-    ∷ on 3
-    ∷ on 3
-    ∷ choose 0 0 begins
-    ∷ on 0
-    ∷ choose 2 0 begins
-    ∷ on 2
-    ∷ on 2
-    ∷ on 2
-    ∷ on 2
-    ∷ choose 3 0 exits
-    ∷ on 3
-    ∷ choose 3 1 goes
-    ∷ choose 3 2 goes
-    ∷ choose 3 3 goes
-    ∷ choose 3 4 goes
-    ∷ choose 3 5 goes
-    ∷ choose 3 6 goes
-    ∷ choose 3 7 goes
-    ∷ choose 3 8 goes
-    ∷ choose 3 9 goes
-    ∷ choose 3 10 goes
-    ∷ choose 3 0 skips
-    ∷ on 3
-    ∷ choose 0 0 begins
-    ∷ choose 2 0 begins
-    ∷ on 2
-    ∷ on 2
-    ∷ choose 0 0 begins
-    ∷ on 0
-    ∷ on 0
-    ∷ choose 2 0 begins
-    ∷ on 2
-    ∷ on 2
-    ∷ on 2
-    ∷ on 2
-    ∷ choose 0 0 begins
-    ∷ on 0
-    ∷ on 0
-    ∷ on 0
-    ∷ on 0
-    ∷ choose 2 0 begins
-    ∷ on 2
-    ∷ on 2
-    ∷ choose 0 0 begins
-    ∷ on 0
-    ∷ on 0
-    ∷ choose 2 0 begins
-    ∷ choose 2 112 goes
-    ∷ on 2
-    ∷ on 2
-    ∷ choose 0 0 begins
-    ∷ on 0
-    ∷ on 0
-    ∷ on 0
-    ∷ on 0
-    ∷ choose 2 0 begins
-    ∷ on 2
-    ∷ on 2
-    ∷ on 2
-    ∷ choose 0 0 begins
-    ∷ on 0
-    ∷ on 0
-    ∷ choose 2 0 begins
-    ∷ choose 2 113 goes
-    ∷ on 2
-    ∷ on 2
-    ∷ choose 0 0 begins
-    ∷ choose 0 114 goes
-    ∷ on 0
-    ∷ on 0
-    ∷ choose 2 0 begins
-    ∷ on 2
-    ∷ on 2
-    ∷ on 2
-    ∷ choose 0 0 begins
-    ∷ on 0
-    ∷ on 0
-    ∷ on 0
-    ∷ choose 2 0 begins
-    ∷ on 2
-    ∷ on 2
-    ∷ on 2
-    ∷ choose 0 0 begins
-    ∷ on 0
-    ∷ on 0
-    ∷ choose 0 0 begins
-    ∷ on 0
-    ∷ on 0
-    ∷ on 0
-    ∷ choose 0 0 begins
-    ∷ on 0
-    ∷ on 0
-    ∷ on 0
-    ∷ on 0
-    ∷ choose 0 1 goes
-    ∷ choose 0 2 goes
-    ∷ choose 0 3 goes
-    ∷ choose 0 4 goes
-    ∷ choose 0 5 goes
-    ∷ choose 0 6 goes
-    ∷ choose 0 7 goes
-    ∷ choose 0 8 goes
-    ∷ choose 0 9 goes
-    ∷ choose 0 10 goes
-    ∷ choose 0 114 goes
-    ∷ choose 0 114 recycles
-    ∷ choose 0 0 skips
-    ∷ on 0 ∷ []
+    choose 3 0 begins ∷ on 3 ∷ on 3 ∷ on 3 ∷ on 3 ∷ choose 0 0 begins ∷ on 0 ∷ choose 2 0 begins ∷ on 2
+    ∷ on 2 ∷ on 2 ∷ on 2 ∷ choose 3 0 exits ∷ on 3 ∷ choose 3 1 goes ∷ choose 3 2 goes ∷ choose 3 3 goes
+    ∷ choose 3 4 goes ∷ choose 3 5 goes ∷ choose 3 6 goes ∷ choose 3 7 goes ∷ choose 3 8 goes
+    ∷ choose 3 9 goes ∷ choose 3 10 goes ∷ choose 3 0 skips ∷ on 3 ∷ choose 0 0 begins ∷ choose 2 0 begins
+    ∷ on 2 ∷ on 2 ∷ choose 0 0 begins ∷ on 0 ∷ on 0 ∷ choose 2 0 begins ∷ on 2 ∷ on 2 ∷ on 2 ∷ on 2
+    ∷ choose 0 0 begins ∷ on 0 ∷ on 0 ∷ on 0 ∷ on 0 ∷ choose 2 0 begins ∷ on 2 ∷ on 2 ∷ choose 0 0 begins
+    ∷ on 0 ∷ on 0 ∷ choose 2 0 begins ∷ choose 2 112 goes ∷ on 2 ∷ on 2 ∷ choose 0 0 begins ∷ on 0 ∷ on 0
+    ∷ on 0 ∷ on 0 ∷ choose 2 0 begins ∷ on 2 ∷ on 2 ∷ on 2 ∷ choose 0 0 begins ∷ on 0 ∷ on 0
+    ∷ choose 2 0 begins ∷ choose 2 113 goes ∷ on 2 ∷ on 2 ∷ choose 0 0 begins ∷ choose 0 114 goes ∷ on 0
+    ∷ on 0 ∷ choose 2 0 begins ∷ on 2 ∷ on 2 ∷ on 2 ∷ choose 0 0 begins ∷ on 0 ∷ on 0 ∷ on 0
+    ∷ choose 2 0 begins ∷ on 2 ∷ on 2 ∷ on 2 ∷ choose 0 0 begins ∷ on 0 ∷ on 0 ∷ choose 0 0 begins ∷ on 0
+    ∷ on 0 ∷ on 0 ∷ choose 0 0 begins ∷ on 0 ∷ on 0 ∷ on 0 ∷ on 0 ∷ choose 0 1 goes ∷ choose 0 2 goes
+    ∷ choose 0 3 goes ∷ choose 0 4 goes ∷ choose 0 5 goes ∷ choose 0 6 goes ∷ choose 0 7 goes
+    ∷ choose 0 8 goes ∷ choose 0 9 goes ∷ choose 0 10 goes ∷ choose 0 114 goes ∷ choose 0 114 recycles
+    ∷ choose 0 0 skips ∷ on 0 ∷ []
 
 -- what the trace shows
 abbrev pub events : List Event

@@ -39,7 +39,7 @@ use Rattle.um_erasure.specs.Objects.{is_reserved, recyclers, status_of, vacaters
 use Rattle.um_erasure.specs.Dues.{is_visiting}
 use Rattle.um_erasure.specs.Domains.{reads}
 use Rattle.um_rows.specs.Evaluate.{Choice, Offer, numbers, offered}
-use Rattle.um_fine_rows.specs.Evaluate.{Board, next_made, opening_board, processor_in, site_in, stepped}
+use Rattle.um_rows.specs.Fine.Evaluate.{Board, next_made, opening_board, processor_in, site_in, stepped}
 
 -- Equality, as far as it is tested.
 

@@ -17,7 +17,7 @@ use Rattle.um_fine.specs.Sites.{SiteState}
 use Rattle.um_fine.specs.Processor.{kind_of}
 use Rattle.um_rows.specs.Evaluate.{numbers}
 use Rattle.um_rows.specs.Dump.{Dump, ThreadLine, unborn, started, dump_of}
-use Rattle.um_fine_rows.specs.Evaluate.{Board, site_in}
+use Rattle.um_rows.specs.Fine.Evaluate.{Board, site_in}
 
 abbrev pub row_at_site : SiteState → RowWord
 row_at_site (SiteState.row w) = w

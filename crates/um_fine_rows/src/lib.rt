@@ -1,2 +1,0 @@
-//! Worked runs of the fine machine, evaluated by its definitions.
-#![tactic(auto)]
