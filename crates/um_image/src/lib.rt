@@ -14,6 +14,3 @@ pub use print::print_image;
 pub use read::read_image;
 pub use um_description::weight;
 pub use um_document::{ImageFault, Spot, fault_text};
-
-#[cfg(test)]
-mod samples;

@@ -2,18 +2,17 @@
 
 mod audited;
 mod changed;
-mod described;
 mod told;
 mod values;
 
 use changed::changed;
-use described::{DOMAINS, HALT, OBJECTS, RACE};
 use std::alloc::Global;
 use std::process::Abort;
 use std::test::Fail;
 use um_base::{Act, Event, ROWS, ThreadIx};
 use um_image::read_image;
 use um_matrix::Matrix;
+use um_samples::{DOMAINS, HALT, OBJECTS, RACE};
 
 /// How many kinds of events there are.
 const KINDS: usize = 36;

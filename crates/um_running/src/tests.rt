@@ -1,7 +1,6 @@
 //! The top call over memory, with or without a gate.
 
 mod audits;
-mod described;
 mod gates;
 mod lines;
 mod outside;

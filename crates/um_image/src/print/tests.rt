@@ -2,39 +2,9 @@
 
 use super::*;
 use crate::read::read_image;
-use crate::samples::LAST_BYTE;
 use std::test::Fail;
 use um_document::fault_text;
-
-const LAST_BYTE_PRINTED: &str = "version = 2
-mpu = \"pmsav7\"
-regions = 8
-oops = \"abort\"
-[[partition]]
-name = \"p\"
-attr = \"P_RW_U_RW\"
-vars = [{name = \"v0\", size = 32, align = 32}]
-[[domain]]
-name = \"d\"
-partitions = [\"p\"]
-[[object]]
-name = \"a\"
-kind = \"thread\"
-[[object]]
-name = \"sa\"
-kind = \"thread_stack\"
-size = 64
-[[boot]]
-thread = \"a\"
-stack = \"sa\"
-script = \"m\"
-priority = 0
-domain = \"d\"
-mode = \"user\"
-[[script]]
-name = \"m\"
-lines = [\"store 536870943 1 171\", \"load r0 536870944 1\"]
-";
+use um_samples::{LAST_BYTE, LAST_BYTE_CANONICAL};
 
 /// A partition of two variables, in version 2.
 const PACKED: &str = "version = 2
@@ -85,106 +55,32 @@ name = \"y\"
 lines = [\"set r0 @rodata+2\", \"k_sem_take @s K_NO_WAIT\"]
 ";
 
-const EVERY_KEY_PRINTED: &str = "version = 2
-mpu = \"pmsav8\"
-regions = 16
-oops = \"halt\"
-rodata = \"73656e736f7200\"
-[[pool]]
-name = \"heap\"
-size = 4096
-[[partition]]
-name = \"v0\"
-attr = \"P_RW_U_RO\"
-vars = [{name = \"v1\", size = 64, align = 32, data = \"00ff\"}]
-[[partition]]
-name = \"p\"
-attr = \"P_RX_U_RX\"
-vars = [{name = \"v3\", size = 32, align = 32}]
-[[domain]]
-name = \"v2\"
-partitions = [\"p\", \"v0\"]
-[[domain]]
-name = \"e\"
-[[domain]]
-name = \"f\"
-partitions = []
-[[object]]
-name = \"a\"
-kind = \"thread\"
-public = true
-[[object]]
-name = \"sa\"
-kind = \"thread_stack\"
-size = 100
-[[object]]
-name = \"b\"
-kind = \"thread\"
-[[object]]
-name = \"sb\"
-kind = \"thread_stack\"
-size = 64
-[[object]]
-name = \"s\"
-kind = \"sem\"
-count = 0
-limit = 4294967295
-[[object]]
-name = \"s0\"
-kind = \"sem\"
-[[object]]
-name = \"m\"
-kind = \"mutex\"
-init = true
-[[object]]
-name = \"m0\"
-kind = \"mutex\"
-[[object]]
-name = \"q\"
-kind = \"msgq\"
-msg_size = 4
-max_msgs = 8
-[[object]]
-name = \"q0\"
-kind = \"msgq\"
-[[object]]
-name = \"k\"
-kind = \"stack\"
-public = true
-entries = 64
-[[object]]
-name = \"k0\"
-kind = \"stack\"
-[[object]]
-name = \"i\"
-kind = \"pipe\"
-size = 256
-[[object]]
-name = \"i0\"
-kind = \"pipe\"
-[[boot]]
-thread = \"b\"
-stack = \"sb\"
-script = \"x\"
-priority = -16
-domain = \"v2\"
-mode = \"supervisor\"
-pool = \"heap\"
-grants = [\"a\", \"q\"]
-[[boot]]
-thread = \"a\"
-stack = \"sa\"
-script = \"y\"
-priority = 14
-domain = \"v2\"
-mode = \"user\"
-[[script]]
-name = \"x\"
-lines = [\"k_mem_domain_init e v0 p\", \"k_mem_domain_remove_partition e 536870912/32/P_RW_U_RW\", \"k_mem_domain_add_thread v2 1073741824\", \"k_thread_create 1073741824 537395200 64 y -1 K_USER+K_ESSENTIAL\", \"k_thread_user_mode_enter y\"]
-[[script]]
-name = \"y\"
-lines = [\"set r0 134217730\", \"k_sem_take 1073742080 K_NO_WAIT\"]
-";
+const EVERY_KEY_PRINTED: &str =
+    "version = 2\nmpu = \"pmsav8\"\nregions = 16\noops = \"halt\"\nrodata = \"73656e736f7200\"\n\
+[[pool]]\nname = \"heap\"\nsize = 4096\n\
+[[partition]]\nname = \"v0\"\nattr = \"P_RW_U_RO\"\nvars = [{name = \"v1\", size = 64, align = 32, data = \"00ff\"}]\n\
+[[partition]]\nname = \"p\"\nattr = \"P_RX_U_RX\"\nvars = [{name = \"v3\", size = 32, align = 32}]\n\
+[[domain]]\nname = \"v2\"\npartitions = [\"p\", \"v0\"]\n\
+[[domain]]\nname = \"e\"\n\
+[[domain]]\nname = \"f\"\npartitions = []\n\
+[[object]]\nname = \"a\"\nkind = \"thread\"\npublic = true\n\
+[[object]]\nname = \"sa\"\nkind = \"thread_stack\"\nsize = 100\n\
+[[object]]\nname = \"b\"\nkind = \"thread\"\n\
+[[object]]\nname = \"sb\"\nkind = \"thread_stack\"\nsize = 64\n\
+[[object]]\nname = \"s\"\nkind = \"sem\"\ncount = 0\nlimit = 4294967295\n\
+[[object]]\nname = \"s0\"\nkind = \"sem\"\n\
+[[object]]\nname = \"m\"\nkind = \"mutex\"\ninit = true\n\
+[[object]]\nname = \"m0\"\nkind = \"mutex\"\n\
+[[object]]\nname = \"q\"\nkind = \"msgq\"\nmsg_size = 4\nmax_msgs = 8\n\
+[[object]]\nname = \"q0\"\nkind = \"msgq\"\n\
+[[object]]\nname = \"k\"\nkind = \"stack\"\npublic = true\nentries = 64\n\
+[[object]]\nname = \"k0\"\nkind = \"stack\"\n\
+[[object]]\nname = \"i\"\nkind = \"pipe\"\nsize = 256\n\
+[[object]]\nname = \"i0\"\nkind = \"pipe\"\n\
+[[boot]]\nthread = \"b\"\nstack = \"sb\"\nscript = \"x\"\npriority = -16\ndomain = \"v2\"\nmode = \"supervisor\"\npool = \"heap\"\ngrants = [\"a\", \"q\"]\n\
+[[boot]]\nthread = \"a\"\nstack = \"sa\"\nscript = \"y\"\npriority = 14\ndomain = \"v2\"\nmode = \"user\"\n\
+[[script]]\nname = \"x\"\nlines = [\"k_mem_domain_init e v0 p\", \"k_mem_domain_remove_partition e 536870912/32/P_RW_U_RW\", \"k_mem_domain_add_thread v2 1073741824\", \"k_thread_create 1073741824 537395200 64 y -1 K_USER+K_ESSENTIAL\", \"k_thread_user_mode_enter y\"]\n\
+[[script]]\nname = \"y\"\nlines = [\"set r0 134217730\", \"k_sem_take 1073742080 K_NO_WAIT\"]\n";
 
 /// What is printed for the image of a text, or its fault.
 fn printed(alloc: Global, text: &[u8]) -> Result<Vec<u8>, Fail> {
@@ -197,7 +93,7 @@ fn printed(alloc: Global, text: &[u8]) -> Result<Vec<u8>, Fail> {
 #[test]
 fn images_are_printed(rt: HostRuntime) -> Result<(), Fail> {
     for (text, expected) in [
-        (LAST_BYTE, LAST_BYTE_PRINTED),
+        (LAST_BYTE, LAST_BYTE_CANONICAL),
         (PACKED, PACKED_PRINTED),
         (EVERY_KEY, EVERY_KEY_PRINTED),
     ] {

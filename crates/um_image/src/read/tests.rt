@@ -1,12 +1,12 @@
 //! Tests of reading descriptions.
 
 use super::*;
-use crate::samples::LAST_BYTE;
 use std::fmt::Write;
 use std::test::Fail;
 use um_base::{Addr, Attr, Instr, Mode, Mpu, Name, Range, Row, Setup, Term, ThreadIx};
 use um_description::weight;
 use um_document::fault_text;
+use um_samples::LAST_BYTE;
 
 /// The lines of the script of `LAST_BYTE`.
 const LINES: &str = "\"store @p+31 1 0xab\", \"load r0 @p+32 1\"";

@@ -4,7 +4,6 @@
 ghost use Rattle.um_base.specs.Lawful.{IsLawful};
 
 use super::changed::changed;
-use super::described::{DOMAINS, OBJECTS, RACE};
 use super::{FIELDS, next};
 use std::alloc::Global;
 use std::process::Abort;
@@ -14,6 +13,7 @@ use um_audit::{Verdict, audit};
 use um_base::{Event, Image, ThreadIx};
 use um_image::read_image;
 use um_matrix::Matrix;
+use um_samples::{DOMAINS, OBJECTS, RACE};
 use um_trace::{DUMP_ROOM, LINE_ROOM, dump_text, line_text};
 
 /// The dump of a state.

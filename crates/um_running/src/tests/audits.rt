@@ -1,22 +1,15 @@
 //! Audits of the run of a store to the last byte of a partition, and a load past it.
 
-use super::described::{LAST_BYTE, LAST_BYTE_RUN};
 use super::{Ended, in_pieces};
 use std::alloc::Global;
 use std::sync::Wait;
 use std::test::Fail;
 use std::thread::Threads;
 use um_app::Status;
+use um_samples::{LAST_BYTE, LAST_BYTE_RUN};
 
 /// A description that breaks off at the lines of its script.
 const BROKEN: &str = "version = 1
-mpu = \"pmsav7\"
-regions = 8
-oops = \"abort\"
-partition = [{name = \"p\", size = 32, attr = \"P_RW_U_RW\"}]
-domain = [{name = \"d\", partitions = [\"p\"]}]
-object = [{name = \"a\", kind = \"thread\"}, {name = \"sa\", kind = \"thread_stack\", size = 64}]
-boot = [{thread = \"a\", stack = \"sa\", script = \"m\", priority = 0, domain = \"d\"}]
 script = [{name = \"m\", lines = [";
 
 /// The input of an audit: the description, the line between, and a trace.

@@ -1,6 +1,5 @@
 //! Processors that are held at gates, which shows that each is a thread of its own.
 
-use super::described::GRANT_RACE;
 use super::lines::place_of;
 use super::{Ended, answered};
 use std::hint::spin_loop;
@@ -10,6 +9,7 @@ use std::test::Fail;
 use std::thread::Threads;
 use um_app::Status;
 use um_io::Gate;
+use um_samples::GRANT_RACE;
 
 /// How many turns the processors are held in all.
 const MOST_TURNS: u64 = 100_000_000;

@@ -1,10 +1,10 @@
 //! Sources and sinks that fail at one of their calls.
 
-use super::described::REALISTIC;
 use super::{answered, call, source_of};
 use std::test::Fail;
 use um_app::Status;
 use um_io::{MemSink, NoGate};
+use um_samples::REALISTIC;
 
 /// The number of a call that isn't reached.
 const NEVER: u32 = 1000;

@@ -1,6 +1,5 @@
 //! Runs on several processors of one thread, by what holds of every order.
 
-use super::described::{GRANT_RACE, LAST_RELEASE};
 use super::lines::{count_of, place_of};
 use super::{Ended, answered};
 use std::sync::Wait;
@@ -10,6 +9,7 @@ use um_app::{Status, sim_events};
 use um_base::ThreadIx;
 use um_image::read_image;
 use um_io::NoGate;
+use um_samples::{GRANT_RACE, LAST_RELEASE};
 
 /// A run on two processors.
 fn run_of<R: AllocGlobal + Threads + Wait + Sync>(

@@ -3,7 +3,6 @@
 ghost use Rattle.um_base.specs.Lawful.{IsLawful};
 
 use super::answered;
-use super::described::{INHERITANCE, LAST_BYTE, LAST_RELEASE};
 use super::gates::Meeting;
 use super::lines::count_of;
 use std::alloc::Global;
@@ -16,6 +15,7 @@ use um_cpu::{Ran, run_events};
 use um_image::{read_image, weight};
 use um_io::NoGate;
 use um_matrix::Matrix;
+use um_samples::{INHERITANCE, LAST_BYTE, LAST_RELEASE};
 
 /// How often a description is run. In the run of number k processor 1 begins when processor 0 has come to step k.
 const RUNS: u64 = 20;

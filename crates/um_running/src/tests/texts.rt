@@ -1,12 +1,12 @@
 //! What the commands write.
 
-use super::described::{LAST_BYTE, LAST_BYTE_RUN};
 use super::{Ended, in_pieces};
 use std::alloc::Global;
 use std::sync::Wait;
 use std::test::Fail;
 use std::thread::Threads;
 use um_app::Status;
+use um_samples::{LAST_BYTE, LAST_BYTE_CANONICAL, LAST_BYTE_RUN};
 
 /// The top of a description.
 const TOP: &str = "version = 1
@@ -36,37 +36,6 @@ ended 1
 waiting 0
 ";
 
-/// The canonical description of the image.
-const CANONICAL: &str = "version = 2
-mpu = \"pmsav7\"
-regions = 8
-oops = \"abort\"
-[[partition]]
-name = \"p\"
-attr = \"P_RW_U_RW\"
-vars = [{name = \"v0\", size = 32, align = 32}]
-[[domain]]
-name = \"d\"
-partitions = [\"p\"]
-[[object]]
-name = \"a\"
-kind = \"thread\"
-[[object]]
-name = \"sa\"
-kind = \"thread_stack\"
-size = 64
-[[boot]]
-thread = \"a\"
-stack = \"sa\"
-script = \"m\"
-priority = 0
-domain = \"d\"
-mode = \"user\"
-[[script]]
-name = \"m\"
-lines = [\"store 536870943 1 171\", \"load r0 536870944 1\"]
-";
-
 #[test]
 fn a_run_in_pieces(rt: HostRuntime) -> Result<(), Fail> {
     let alloc = rt.alloc();
@@ -86,7 +55,7 @@ fn what_each_command_writes(rt: HostRuntime) -> Result<(), Fail> {
         ("sim --pick 7 --cpus 08", LAST_BYTE_RUN),
         ("layout", ADDRESSES),
         ("summary", COUNTS),
-        ("upgrade", CANONICAL),
+        ("upgrade", LAST_BYTE_CANONICAL),
         ("summary --cpus 3", COUNTS),
     ];
     for (words, text) in cases {

@@ -4,19 +4,8 @@ use super::image_of;
 use std::test::Fail;
 use um_base::{Act, Addr, Answer, Cause, Errno, Event, Replies, Reply, ThreadIx, Want};
 use um_matrix::Matrix;
+use um_samples::LAST_BYTE;
 use um_trace::{SUMMARY_ROOM, summary_text};
-
-/// One thread, which writes the last byte of its partition, and reads the first behind it.
-const LAST_BYTE: &str = "version = 1
-mpu = \"pmsav7\"
-regions = 8
-oops = \"abort\"
-partition = [{name = \"p\", size = 32, attr = \"P_RW_U_RW\"}]
-domain = [{name = \"d\", partitions = [\"p\"]}]
-object = [{name = \"a\", kind = \"thread\"}, {name = \"sa\", kind = \"thread_stack\", size = 64}]
-boot = [{thread = \"a\", stack = \"sa\", script = \"m\", priority = 0, domain = \"d\"}]
-script = [{name = \"m\", lines = [\"store @p+31 1 0xab\", \"load r0 @p+32 1\"]}]
-";
 
 /// A check of an object with this verdict.
 fn check(verdict: Option<Errno>) -> Act {
