@@ -2,8 +2,6 @@
 
 ghost use Rattle.std.specs.Prelude.{◌≡◌, ℕ, List, Option};
 ghost use Rattle.um_base.specs.declared.image.Image.{Image};
-ghost use Rattle.um_machine.specs.Run.{IsComplete, Runs, opening};
-ghost use Rattle.um_machine.specs.State.{State};
 ghost use Rattle.um_reach.specs.Described.{IsDescribed};
 ghost use Rattle.um_fine.specs.Erasure.{shown};
 ghost use Rattle.um_fine.specs.FineRun.{IsFineRun};
@@ -11,6 +9,7 @@ ghost use Rattle.um_fine.specs.Processor.{Processor};
 ghost use Rattle.um_fine.specs.Sites.{SiteState};
 ghost use Rattle.um_fine.specs.Steps.{FineStep, Site};
 ghost use Rattle.um_erasure.specs.Room.{CanRun};
+ghost use Rattle.um_erasure.specs.Shows.{AreCompleteRun, AreRun};
 ghost use Rattle.um_core.specs.Moments.{AreSorted, MayStep};
 ghost use Rattle.um_core.specs.PickedRun.{IsPickedRun};
 
@@ -33,9 +32,9 @@ pub fn every_order()
     ensures fine { (image : Image) (cpus : ℕ) (pick : Option ℕ) (steps : List FineStep)
         → IsPickedRun image cpus pick steps → IsFineRun image cpus steps }
     ensures run { (image : Image) (cpus : ℕ) (pick : Option ℕ) (steps : List FineStep) → IsDescribed image
-        → IsPickedRun image cpus pick steps → (last : State) × Runs (opening image) (shown steps) last }
+        → IsPickedRun image cpus pick steps → AreRun image (shown steps) }
     ensures complete { (image : Image) (cpus : ℕ) (pick : Option ℕ) (steps : List FineStep) → IsDescribed image → CanRun image cpus
-        → IsPickedRun image cpus pick steps → (last : State) × Runs (opening image) (shown steps) last × IsComplete last }
+        → IsPickedRun image cpus pick steps → AreCompleteRun image (shown steps) }
 {
     every_fine_run();
     longest_fine_run();

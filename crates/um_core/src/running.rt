@@ -3,12 +3,11 @@
 ghost use Rattle.std.specs.Prelude.{◌≡◌, ◌≤◌, IfOk, List, length};
 ghost use Rattle.um_base.specs.Lawful.{IsLawful};
 ghost use Rattle.um_base.specs.Weight.{weight};
-ghost use Rattle.um_machine.specs.Run.{IsComplete, IsRun};
-ghost use Rattle.um_machine.specs.State.{State};
 ghost use Rattle.um_reach.specs.Described.{IsDescribed};
 ghost use Rattle.um_fine.specs.Erasure.{shown};
 ghost use Rattle.um_fine.specs.Steps.{FineStep};
 ghost use Rattle.um_erasure.specs.Room.{CanRun};
+ghost use Rattle.um_erasure.specs.Shows.{AreCompleteRun};
 ghost use Rattle.um_core.specs.PickedRun.{IsPickedRun};
 
 use crate::laws::every_order;
@@ -54,7 +53,7 @@ pub fn run(
     requires some { 1 ≤ cpus }
     requires few { cpus ≤ 8 }
     requires room { weight image.now ≤ most }
-    ensures run { IfOk result (λ events. (last : State) × IsRun image.now events.items last × IsComplete last) }
+    ensures run { IfOk result (λ events. AreCompleteRun image.now events.items) }
     ensures picked { IfOk result (λ events. (steps : List FineStep) × IsPickedRun image.now cpus pick steps × (events.items ≡ shown steps)) }
     ensures few { IfOk result (λ events. length events.items ≤ weight image.now) }
 {

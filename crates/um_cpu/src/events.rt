@@ -3,11 +3,10 @@
 ghost use Rattle.std.specs.Prelude.{◌≡◌, ◌≤◌, IfOk, List, length};
 ghost use Rattle.um_base.specs.Lawful.{IsLawful};
 ghost use Rattle.um_base.specs.Weight.{weight};
-ghost use Rattle.um_machine.specs.Run.{IsComplete, IsRun};
-ghost use Rattle.um_machine.specs.State.{State};
 ghost use Rattle.um_fine.specs.Erasure.{shown};
 ghost use Rattle.um_fine.specs.Steps.{FineStep};
 ghost use Rattle.um_merge.specs.Logs.{events_of};
+ghost use Rattle.um_erasure.specs.Shows.{AreCompleteRun};
 ghost use Rattle.um_cpu.specs.OnBoard.{HasRun};
 
 use crate::run::{Ended, run_cpus};
@@ -43,7 +42,7 @@ pub fn run_events<R: Threads + Wait + Sync, G: Gate + Sync>(
     requires some { 1 ≤ cpus }
     requires few { cpus ≤ 8 }
     requires room { weight image.now ≤ most }
-    ensures run { IfOk result (λ ran. (last : State) × IsRun image.now ran.events.items last × IsComplete last) }
+    ensures run { IfOk result (λ ran. AreCompleteRun image.now ran.events.items) }
     ensures board { IfOk result (λ ran. (steps : List FineStep) × HasRun image.now cpus ran.closed steps × (ran.events.items ≡ shown steps)) }
     ensures few { IfOk result (λ ran. length ran.events.items ≤ weight image.now) }
 {

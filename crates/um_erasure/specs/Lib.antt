@@ -14,3 +14,4 @@ pub mod Looks
 pub mod Frames
 pub mod Relation
 pub mod Waits
+pub mod Shows

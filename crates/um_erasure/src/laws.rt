@@ -2,7 +2,7 @@
 
 ghost use Rattle.std.specs.Prelude.{ℕ, List};
 ghost use Rattle.um_base.specs.declared.image.Image.{Image};
-ghost use Rattle.um_machine.specs.Run.{IsComplete, Runs, opening};
+ghost use Rattle.um_machine.specs.Run.{Runs, opening};
 ghost use Rattle.um_machine.specs.State.{State};
 ghost use Rattle.um_reach.specs.Described.{IsDescribed};
 ghost use Rattle.um_fine.specs.Erasure.{shown};
@@ -11,6 +11,7 @@ ghost use Rattle.um_fine.specs.Steps.{FineStep};
 ghost use Rattle.um_erasure.specs.After.{left_by};
 ghost use Rattle.um_erasure.specs.Relation.{Rel};
 ghost use Rattle.um_erasure.specs.Room.{CanCount, CanRun, IsHalted, IsStuck};
+ghost use Rattle.um_erasure.specs.Shows.{AreCompleteRun};
 ghost use Rattle.um_erasure.specs.Waits.{WaitsFor};
 
 /// The law over every fine run of an image that a description gives, by any number of processors, whatever their order: the events
@@ -25,7 +26,7 @@ pub fn every_fine_run()
     ensures run { (image : Image) (cpus : ℕ) (steps : List FineStep) → IsDescribed image → IsFineRun image cpus steps
         → (last : State) × Runs (opening image) (shown steps) last × Rel (left_by image cpus steps) last }
     ensures complete { (image : Image) (cpus : ℕ) (steps : List FineStep) → IsDescribed image → CanRun image cpus → IsFineRun image cpus steps
-        → IsStuck (left_by image cpus steps) → CanCount (left_by image cpus steps) → (last : State) × Runs (opening image) (shown steps) last × IsComplete last }
+        → IsStuck (left_by image cpus steps) → CanCount (left_by image cpus steps) → AreCompleteRun image (shown steps) }
     ensures waits { (image : Image) (cpus : ℕ) (steps : List FineStep) → IsDescribed image → CanRun image cpus → IsFineRun image cpus steps
         → CanCount (left_by image cpus steps) → (k : ℕ) → IsHalted (left_by image cpus steps) k → WaitsFor (left_by image cpus steps) k }
 {}

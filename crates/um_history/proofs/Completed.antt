@@ -5,10 +5,7 @@ use Rattle.std.specs.Prelude.{IsTrue}
 use Rattle.std.proofs.lemmas.Bool.{and_parts}
 use Rattle.um_base.specs.Weight.{weight}
 use Rattle.um_base.specs.declared.act.Act.{Act}
-use Rattle.um_base.specs.declared.act.Event.{Event}
 use Rattle.um_base.specs.declared.image.Image.{Image}
-use Rattle.um_machine.specs.Run.{IsComplete, Runs, opening}
-use Rattle.um_machine.specs.State.{State}
 use Rattle.um_reach.specs.Described.{IsDescribed}
 use Rattle.um_words.specs.CellActs.{is_resume}
 use Rattle.um_words.specs.declared.fine.FineAct.{FineAct}
@@ -31,6 +28,7 @@ use Rattle.um_merge.specs.declared.logged.Logged.{Logged}
 use Rattle.um_site.specs.declared.view.View.{View}
 use Rattle.um_erasure.specs.After.{left_by}
 use Rattle.um_erasure.specs.Room.{CanCount, CanRun, IsStuck}
+use Rattle.um_erasure.specs.Shows.{AreCompleteRun, AreRun}
 use Rattle.um_core.proofs.Counts.{can-count}
 use Rattle.um_board.specs.Noted.{logged_of}
 use Rattle.um_history.specs.Fine.{IsFineOf}
@@ -93,15 +91,14 @@ module _ (image : Image) (cpus : ℕ) (v : View) (words : List ℕ) (logs : List
       (h, is, alike, fine-of-same image cpus words steps g h fine alike sited (λ n. ap (sublist eqb Merged.site_of n) is ∙ order.1 n))
 
   -- and what it shows
-  pub noted-run : ((run : List FineStep) → IsFineRun image cpus run → (last : State) × Runs (opening image) (shown run) last) → (list : List Logged) → ((order : List Logged) → IsOrder logs order → Merged.SameOrder list order)
-      → (h : List FineStep) × (map logged_of h ≡ list) × IsFineOf image cpus words steps h × (last : State) × Runs (opening image) (events_of list) last
+  pub noted-run : ((run : List FineStep) → IsFineRun image cpus run → AreRun image (shown run)) → (list : List Logged) → ((order : List Logged) → IsOrder logs order → Merged.SameOrder list order)
+      → (h : List FineStep) × (map logged_of h ≡ list) × IsFineOf image cpus words steps h × AreRun image (events_of list)
   noted-run runs list same =
       let (h, is, _, of) = noted-of list same in
-      let end = runs h of.run in
-      (h, is, of, end.0, subst (λ (events : List Event). Runs (opening image) events end.0) (sym (shown-noted h) ∙ ap events_of is) end.1)
+      (h, is, of, subst (AreRun image) (sym (shown-noted h) ∙ ap events_of is) (runs h of.run))
 
   module _ (saw : (k : ℕ) → k < cpus → SawNone image v.got (steps k))
-      (completes : (run : List FineStep) → IsFineRun image cpus run → IsStuck (left_by image cpus run) → CanCount (left_by image cpus run) → (last : State) × Runs (opening image) (shown run) last × IsComplete last) where
+      (completes : (run : List FineStep) → IsFineRun image cpus run → IsStuck (left_by image cpus run) → CanCount (left_by image cpus run) → AreCompleteRun image (shown run)) where
     all-stuck : (h : List FineStep) → SameOrder g h → IsStuck (left_by image cpus h)
     all-stuck h same =
         let (n, s, state, none) = none-ready image cpus v words logs steps played well can.some saw in
@@ -109,11 +106,11 @@ module _ (image : Image) (cpus : ℕ) (v : View) (words : List ℕ) (logs : List
         (λ k less. ap (λ (l : List FineStep). (ends (p_next image) idle l).todo) (sym (same.processors k) ∙ fine.own k less) ∙ (saw k less).done)
         (n, s, ap (ends (s_next image) (s_start image Site.scheduler)) (sym (same.sites Site.scheduler)) ∙ state, none)
 
-    pub complete : (list : List Logged) → ((order : List Logged) → IsOrder logs order → Merged.SameOrder list order) → (last : State) × Runs (opening image) (events_of list) last × IsComplete last
+    pub complete : (list : List Logged) → ((order : List Logged) → IsOrder logs order → Merged.SameOrder list order) → AreCompleteRun image (events_of list)
     complete list same =
         let (h, is, order, of) = noted-of list same in
         let run = of.run in
         let few = longest h run in
         let light = described.lawful.light in
         let end = completes h run (all-stuck h order) (can-count image h (omega (arith, few, light)) cpus) in
-        subst (λ (events : List Event). (last : State) × Runs (opening image) events last × IsComplete last) (sym (shown-noted h) ∙ ap events_of is) end
+        subst (AreCompleteRun image) (sym (shown-noted h) ∙ ap events_of is) end

@@ -4,7 +4,7 @@ ghost use Rattle.std.specs.Prelude.{◌≡◌, ℕ, ◌<◌, ◌≤◌, List, []
 ghost use Rattle.um_base.specs.Weight.{weight};
 ghost use Rattle.um_base.specs.declared.limits.TheConstants.{ROWS};
 ghost use Rattle.um_base.specs.declared.image.Image.{Image};
-ghost use Rattle.um_machine.specs.Run.{IsComplete, Runs, opening};
+ghost use Rattle.um_machine.specs.Run.{Runs, opening};
 ghost use Rattle.um_machine.specs.State.{State};
 ghost use Rattle.um_words.specs.History.{by_seat};
 ghost use Rattle.um_reach.specs.Described.{IsDescribed};
@@ -20,6 +20,7 @@ ghost use Rattle.um_board.specs.ReadBack.{fine_at};
 ghost use Rattle.um_erasure.specs.After.{left_by};
 ghost use Rattle.um_erasure.specs.Relation.{Rel};
 ghost use Rattle.um_erasure.specs.Room.{CanRun};
+ghost use Rattle.um_erasure.specs.Shows.{AreCompleteRun, AreRun};
 ghost use Rattle.um_history.specs.Fine.{IsFineOf};
 ghost use Rattle.um_history.specs.LastHolder.{AreHeld, HasLastHolder};
 ghost use Rattle.um_history.specs.Played.{IsMoment, IsPlayed, SawNone};
@@ -68,11 +69,11 @@ pub fn every_played_board()
         → IsPlayed image cpus v words logs steps → HaveOrder logs (weight image) }
     ensures run { (image : Image) (cpus : ℕ) (v : View) (words : List ℕ) (logs : List Log) (steps : ℕ → List FineStep) → IsDescribed image → CanRun image cpus
         → IsPlayed image cpus v words logs steps → (list : List Logged) → ((order : List Logged) → IsOrder logs order → SameOrder list order)
-        → (g : List FineStep) × (map logged_of g ≡ list) × IsFineOf image cpus words steps g × (last : State) × Runs (opening image) (events_of list) last }
+        → (g : List FineStep) × (map logged_of g ≡ list) × IsFineOf image cpus words steps g × AreRun image (events_of list) }
     ensures complete { (image : Image) (cpus : ℕ) (v : View) (words : List ℕ) (logs : List Log) (steps : ℕ → List FineStep) → IsDescribed image → CanRun image cpus
         → IsPlayed image cpus v words logs steps → ((k : ℕ) → k < cpus → SawNone image v.got (steps k))
         → (list : List Logged) → ((order : List Logged) → IsOrder logs order → SameOrder list order)
-        → (last : State) × Runs (opening image) (events_of list) last × IsComplete last }
+        → AreCompleteRun image (events_of list) }
 {
     every_fine_run();
     longest_fine_run();
