@@ -12,6 +12,7 @@ use Rattle.um_machine.specs.State.{State}
 use Rattle.um_reach.specs.Described.{IsDescribed}
 use Rattle.um_texts.proofs.RunLemmas.{texts_differ}
 use Rattle.um_trace.specs.Text.{text}
+use Rattle.um_turns.specs.InOrder.{IsInOrder}
 use Rattle.um_turns.specs.Scheduled.{IsScheduled}
 use Rattle.um_turns.specs.declared.running.Ran.{Ran}
 use Rattle.um_app.specs.Ordered.{IsOrdered, IsShown}
@@ -27,14 +28,15 @@ run_of image options given (Err e) run complete ordered few = run
 
 -- the order of one processor, and of several
 pub alone : {E : Type 0} (image : Image) (options : Options) → options.cpus ≤ 1 → (result : Result Ran E) → IfOk result (λ (ran : Ran). IsScheduled image options.cpus options.pick ran.events.items ran.last)
-    → IfOk result (λ (ran : Ran). IsOrdered image options ran.events.items ran.last)
-alone image options one result = IfOk-weaker result (λ (ran : Ran). IsScheduled image options.cpus options.pick ran.events.items ran.last) (λ (ran : Ran). IsOrdered image options ran.events.items ran.last)
-    (λ ran scheduled. record { alone = λ few. scheduled; several = λ many. absurd (omega (arith, one, many)) })
+    → IfOk result (λ (ran : Ran). IsInOrder image ran.events.items) → IfOk result (λ (ran : Ran). IsOrdered image options ran.events.items ran.last)
+alone image options one (Ok ran) scheduled order =
+    record { in_order = λ few. order; alone = λ few. scheduled; several = λ many. absurd (omega (arith, one, many)) }
+alone image options one (Err e) scheduled order = scheduled
 
 pub several : {E : Type 0} (image : Image) (options : Options) → 1 < options.cpus → (result : Result Ran E) → IfOk result (λ (ran : Ran). IsShown image options ran.events.items)
     → IfOk result (λ (ran : Ran). IsOrdered image options ran.events.items ran.last)
 several image options many result = IfOk-weaker result (λ (ran : Ran). IsShown image options ran.events.items) (λ (ran : Ran). IsOrdered image options ran.events.items ran.last)
-    (λ ran shown. record { alone = λ one. absurd (omega (arith, one, many)); several = λ more. shown })
+    (λ ran shown. record { in_order = λ one. absurd (omega (arith, one, many)); alone = λ one. absurd (omega (arith, one, many)); several = λ more. shown })
 
 -- and its text names it
 pub names_run : (image : Image) → IsDescribed image → (run : List Event) (last : State) → IsRun image run last → NamesRun image (text image run last) run

@@ -8,8 +8,6 @@ ghost use Rattle.um_machine.specs.Run.{IsComplete, IsRun};
 ghost use Rattle.um_machine.specs.State.{State};
 ghost use Rattle.um_reach.specs.Described.{IsDescribed};
 ghost use Rattle.um_trace.specs.Text.{text};
-ghost use Rattle.um_turns.specs.Schedule.{opening_turn};
-ghost use Rattle.um_turns.specs.Scheduled.{FollowsAlone};
 ghost use Rattle.um_app.specs.Ordered.{IsShown};
 ghost use Rattle.um_app.specs.Top.{IsRunOf, NamesRun};
 
@@ -64,7 +62,6 @@ fn alone<'a>(alloc: Global, image: &'a Image, options: Options) -> Result<Ran<'a
     requires lawful { IsLawful image.now }
     requires one { options.cpus ≡ 1 }
     ensures run { IfOk result (λ ran. IsRunOf image.now options ran.events.items ran.last) }
-    ensures alone { IfOk result (λ ran. FollowsAlone (opening_turn image.now 1) ran.events.items) }
     ensures names { IfOk result (λ ran. NamesRun image.now (text image.now ran.events.items ran.last) ran.events.items) }
 {
     let _objects = image.objects.len();
@@ -82,7 +79,6 @@ pub fn ran<'a>(alloc: Global, image: &'a Image, options: Options) -> Result<Ran<
     requires lawful { IsLawful image.now }
     requires cpus { IsFew options }
     ensures run { IfOk result (λ ran. IsRunOf image.now options ran.events.items ran.last) }
-    ensures alone { options.cpus ≡ 1 → IfOk result (λ ran. FollowsAlone (opening_turn image.now 1) ran.events.items) }
     ensures names { IfOk result (λ ran. NamesRun image.now (text image.now ran.events.items ran.last) ran.events.items) }
 {
     if options.cpus == 1 {
@@ -103,7 +99,6 @@ pub fn sim_events(
     requires some { 1 ≤ cpus }
     requires few { cpus ≤ 8 }
     ensures run { IfOk result (λ events. (last : State) × IsRunOf image.now (record { cpus = cpus; pick = pick }) events.items last) }
-    ensures alone { cpus ≡ 1 → IfOk result (λ events. FollowsAlone (opening_turn image.now 1) events.items) }
 {
     let ran = ran(alloc, image, Options { cpus, pick })?;
     Ok(ran.events)

@@ -63,7 +63,7 @@ goes-threads turn turn2 cpu event inside kept (inr run) =
     let here : IsMade s t (readied event.act) turn2.state = subst (λ (to : State). IsMade s t (readied event.act) to) (sym m.leaves) says in
     subst (λ (to : Turn). ThreadsKept to) (sym run.leaves) (ran-threads turn cpu event.thread event.act turn2.state inside kept.threads run.thread here)
 
-goes-kept : (turn turn2 : Turn) (cpu : ℕ) (event : Event) → cpu < length turn.processors → IsKept turn → Goes turn cpu event turn2 → IsKept turn2
+pub goes-kept : (turn turn2 : Turn) (cpu : ℕ) (event : Event) → cpu < length turn.processors → IsKept turn → Goes turn cpu event turn2 → IsKept turn2
 goes-kept turn turn2 cpu event inside kept goes =
     let step = (goes-advances turn turn2 cpu event goes).made in
     record {

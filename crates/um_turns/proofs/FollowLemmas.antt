@@ -2,7 +2,7 @@
 use Rattle.std.proofs.Common.{◌≡◌, inl, inr, ℕ, ◌+◌, ◌%◌, List, [], ◌∷◌, ◌++◌, length, refl, subst, ◌∙◌, ap}
 use Rattle.um_base.specs.declared.act.Event.{Event}
 use Rattle.um_turns.specs.Schedule.{Turn, Goes, NextGoes, FirstGoes}
-use Rattle.um_turns.specs.Scheduled.{Leads, FollowsAlone}
+use Rattle.um_turns.specs.Scheduled.{Leads}
 use Rattle.std.proofs.lemmas.List.{length-set}
 use Rattle.std.proofs.Math.Nat.{mod-one}
 
@@ -14,6 +14,11 @@ leads-push turn (f ∷ fs) [] turn2 turn3 first event here next = absurd here
 leads-push turn (f ∷ fs) (e ∷ es) turn2 turn3 first event (mid, one, rest) next = (mid, one, leads-push mid fs es turn2 turn3 first event rest next)
 
 -- One processor.
+
+-- its events, one after another
+abbrev pub FollowsAlone : Turn → List Event → Type 0
+FollowsAlone turn [] = Unit {0}
+FollowsAlone turn (event ∷ events) = (turn2 : Turn) × Goes turn 0 event turn2 × FollowsAlone turn2 events
 
 pub length-goes : (turn turn2 : Turn) (cpu : ℕ) (event : Event) → Goes turn cpu event turn2 → length turn2.processors ≡ length turn.processors
 length-goes turn turn2 cpu event (inl cleans) =

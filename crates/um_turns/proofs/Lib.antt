@@ -39,3 +39,4 @@ mod RowCleans
 mod RowGoes
 mod RowTurns
 mod EndLemmas
+mod InOrder

@@ -3,21 +3,10 @@ use Rattle.std.proofs.Common.{◌≡◌, ℕ, ◌<◌, Bool, true, false, ◌||�
 use Rattle.std.specs.Prelude.{◌==◌}
 use Rattle.std.specs.List.{list_any, IsDistinct, AllByRecursion}
 use Rattle.std.proofs.Math.Dec.{eqb}
-use Rattle.std.proofs.lemmas.Bool.{eqb-true}
+use Rattle.std.proofs.lemmas.Bool.{eqb-true, or_from, or_parts}
 use Rattle.std.proofs.lemmas.Bool.Decides.{nat_tests}
 use Rattle.std.proofs.lemmas.Map.Steps.{length-le_from_distinct_below}
 use Rattle.um_turns.specs.Lines.{stands, IsLine}
-
-or-left : (a b : Bool) → (a || b) ≡ false → a ≡ false
-or-left true b h = cc
-or-left false b h = refl
-
-or-right : (a b : Bool) → (a || b) ≡ false → b ≡ false
-or-right true b h = cc
-or-right false b h = h
-
-pub or-neither : (a b : Bool) → a ≡ false → b ≡ false → (a || b) ≡ false
-or-neither a b h g = rw (h, g) refl
 
 or-three : (a b c : Bool) → (a || (b || c)) ≡ ((a || b) || c)
 or-three true b c = refl
@@ -37,14 +26,14 @@ stands-push (z ∷ line) x y = rw (stands-push line x y) (or-three (y == z) (sta
 pub line-push : (line : List ℕ) (x : ℕ) → IsLine line → stands line x ≡ false → x < 256 → IsLine (line ++ x ∷ [])
 line-push [] x h apart below = (below, refl, tt)
 line-push (y ∷ line) x h apart below =
-    let other = other-way x y (or-left (x == y) (stands line x) apart) in
-    let neither : (stands line y || (y == x)) ≡ false = or-neither (stands line y) (y == x) h.1 other in
+    let other = other-way x y (or_parts (x == y) (stands line x) apart).0 in
+    let neither : (stands line y || (y == x)) ≡ false = or_from (stands line y) (y == x) h.1 other in
     let both : stands (line ++ x ∷ []) y ≡ false = stands-push line x y ∙ neither in
-    (h.0, both, line-push line x h.2 (or-right (x == y) (stands line x) apart) below)
+    (h.0, both, line-push line x h.2 (or_parts (x == y) (stands line x) apart).1 below)
 
 apart-all : (line : List ℕ) (x : ℕ) → stands line x ≡ false → AllByRecursion (λ (y : ℕ). (x == y) ≡ false) line
 apart-all [] x h = tt
-apart-all (y ∷ line) x h = (or-left (x == y) (stands line x) h, apart-all line x (or-right (x == y) (stands line x) h))
+apart-all (y ∷ line) x h = ((or_parts (x == y) (stands line x) h).0, apart-all line x (or_parts (x == y) (stands line x) h).1)
 
 distinct : (line : List ℕ) → IsLine line → IsDistinct eqb line
 unfolding IsDistinct

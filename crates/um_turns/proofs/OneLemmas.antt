@@ -1,6 +1,7 @@
 -- The rule names one event at most.
 use Rattle.std.proofs.Common.{◌≡◌, ◌⊎◌, inl, inr, ℕ, zero, suc, ◌<◌, ◌≤◌, Bool, true, false, ◌&&◌, not, List, [], ◌∷◌, Option, Some, None, refl, sym, subst, ◌∙◌, ap, arith, slice_index_or}
 use Rattle.std.specs.Prelude.{IsTrue, IfSome}
+use Rattle.std.proofs.lemmas.Bool.{and_parts, not-true}
 use Rattle.std.specs.List.{list_all}
 use Rattle.um_base.specs.declared.act.Act.{Act}
 use Rattle.um_base.specs.declared.act.Event.{Event}
@@ -43,24 +44,11 @@ next-one s s2 s3 t act act2 a b =
     let rows : a.row ≡ b.row = one-least (λ (x : ℕ). MayTake s t a.step x) a.row b.row a.least.0 a.least.1 leastb.0 leastb.1 in
     (a.says ∙ (rw (steps.0, rows) refl) ∙ sym b.says, a.leaves ∙ (rw (steps.0, rows, steps.1) refl) ∙ sym b.leaves)
 
--- where no pair of a thread is left, it has none with a row
-and-left : (a b : Bool) → (a && b) ≡ true → a ≡ true
-and-left true b h = refl
-and-left false b h = cc
-
-and-right : (a b : Bool) → (a && b) ≡ true → b ≡ true
-and-right true b h = h
-and-right false b h = cc
-
-not-set : (b : Bool) → not b ≡ true → b ≡ false
-not-set true h = cc
-not-set false h = refl
-
 no-flag : (t : ℕ) (pairs : List (List Bool)) (x : ℕ) → list_all (λ (flags : List Bool). not (slice_index_or flags t false)) pairs ≡ true → slice_index_or (slice_index_or pairs x []) t false ≡ false
 no-flag t [] zero h = refl
 no-flag t [] (suc x) h = refl
-no-flag t (flags ∷ rest) zero h = not-set (slice_index_or flags t false) (and-left (not (slice_index_or flags t false)) (list_all (λ (f : List Bool). not (slice_index_or f t false)) rest) h)
-no-flag t (flags ∷ rest) (suc x) h = no-flag t rest x (and-right (not (slice_index_or flags t false)) (list_all (λ (f : List Bool). not (slice_index_or f t false)) rest) h)
+no-flag t (flags ∷ rest) zero h = not-true (slice_index_or flags t false) (and_parts (not (slice_index_or flags t false)) (list_all (λ (f : List Bool). not (slice_index_or f t false)) rest) h).0
+no-flag t (flags ∷ rest) (suc x) h = no-flag t rest x (and_parts (not (slice_index_or flags t false)) (list_all (λ (f : List Bool). not (slice_index_or f t false)) rest) h).1
 
 -- an object is recycled only where no pair of its thread is left
 not-both : (s : State) (t x row : ℕ) (who : ThreadIx) → thread_of_row s.image x ≡ Some who.0 → MayChoose s t x Pending.Recycle → MayChoose s t row (Pending.CleanPair who) → ⊥

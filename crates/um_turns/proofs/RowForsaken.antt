@@ -1,5 +1,6 @@
 -- An object that is gone and that nobody holds stays so until it is recycled.
 use Rattle.std.proofs.Common.{◌≡◌, ◌≢◌, ◌⊎◌, inl, inr, ℕ, suc, ◌+◌, Bool, true, false, not, ◌==◌, ◌&&◌, List, [], ◌∷◌, map, refl, sym, ap, subst, ◌∙◌, arith, slice_index_or, slice_set}
+use Rattle.std.proofs.lemmas.Bool.{or_from}
 use Rattle.um_base.specs.declared.act.Act.{Act}
 use Rattle.um_base.specs.declared.act.Event.{Event}
 use Rattle.um_base.specs.declared.image.Image.{Image}
@@ -21,7 +22,6 @@ use Rattle.um_reach.proofs.Reached.{reserved_here}
 use Rattle.um_reach.proofs.RunMoves.{step_move}
 use Rattle.um_reach.proofs.StepMoves.{unchecked, unkept}
 use Rattle.um_reach.proofs.Turns.{IsKnown}
-use Rattle.um_turns.proofs.LineLemmas.{or-neither}
 
 -- an object is gone, no call has checked it, and it is no thread's own
 abbrev pub IsLeft : Core → ℕ → Type 0
@@ -45,9 +45,7 @@ none_holds : (image : Image) (x t : ℕ) (threads : List Thread) → ((u : ℕ) 
 none_holds image x t [] f g = refl
 none_holds image x t (me ∷ threads) f g =
     let zeroth : t + 0 ≡ t = omega arith in
-    or-neither _ (any_holds image x (t + 1) threads)
-    (or-neither (slice_index_or me.checked x false) _ (f 0) (not_own me.keeps_own (own_row image t) x (λ k. subst (λ (n : ℕ). own_row image n ≢ x) zeroth (g 0 k))))
-    (none_holds image x (t + 1) threads (λ u. f (suc u))
+    or_from _ (any_holds image x (t + 1) threads) (or_from (slice_index_or me.checked x false) _ (f 0) (not_own me.keeps_own (own_row image t) x (λ k. subst (λ (n : ℕ). own_row image n ≢ x) zeroth (g 0 k)))) (none_holds image x (t + 1) threads (λ u. f (suc u))
     (λ u k. let next : t + suc u ≡ t + 1 + u = omega arith in subst (λ (n : ℕ). own_row image n ≢ x) next (g (suc u) k)))
 
 pub left-is : (s : State) (x : ℕ) → IsLeft (core_of s) x → is_forsaken s x ≡ true

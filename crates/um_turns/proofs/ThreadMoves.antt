@@ -1,5 +1,6 @@
 -- Steps of a thread that start and wake nobody.
 use Rattle.std.proofs.Common.{◌≡◌, ◌≢◌, ◌≤◌, ℕ, zero, suc, ◌+◌, ◌-◌, Bool, true, false, ◌==◌, ◌&&◌, not, nat_lt, List, [], ◌∷◌, length, map, take, replicate, refl, sym, subst, ◌∙◌, arith, Option, Some, None, slice_index_or, slice_set, if◌then◌else◌}
+use Rattle.std.proofs.lemmas.Bool.{not-true}
 use Rattle.std.specs.List.{list_all}
 use Rattle.std.proofs.lemmas.List.{get_or-set_other}
 use Rattle.um_base.specs.declared.act.Found.{Found}
@@ -52,15 +53,11 @@ set-false [] x = refl
 set-false (flag ∷ flags) zero = refl
 set-false (flag ∷ flags) (suc x) = set-false flags x
 
-not-set : (b : Bool) → not b ≡ true → b ≡ false
-not-set true h = cc
-not-set false h = refl
-
 -- before the first of some flags none is set
 none-before : (flags : List Bool) (x r : ℕ) → list_all not (take x flags) ≡ true → slice_index_or flags r false ≡ true → x ≤ r
 none-before [] x r h g = absurd (let bad : true ≡ false = sym g in cc)
 none-before (flag ∷ flags) zero r h g = omega arith
-none-before (flag ∷ flags) (suc x) zero h g = absurd (let off = not-set flag (both_of _ _ h).0 in let bad : true ≡ false = sym g ∙ off in cc)
+none-before (flag ∷ flags) (suc x) zero h g = absurd (let off = not-true flag (both_of _ _ h).0 in let bad : true ≡ false = sym g ∙ off in cc)
 none-before (flag ∷ flags) (suc x) (suc r) h g = let rest = none-before flags x r (both_of _ _ h).1 g in omega (arith, rest)
 
 module _ (s : State) (kept : AreKept s) (t x : ℕ) (rest : Steps) where
@@ -188,7 +185,7 @@ module _ (s : State) (kept : AreKept s) (t x : ℕ) (rest : Steps) where
       let other : r ≢ mine = λ same. (let here : slice_index_or (slice_set rows mine false) mine false ≡ true = subst (λ (n : ℕ). slice_index_or (slice_set rows mine false) n false ≡ true) same h in let off = set-false rows mine in absurd (let bad : true ≡ false = sym here ∙ off in cc)) in
       let row : slice_index_or rows r false ≡ true = sym (get_or-set_other rows mine r false false other) ∙ h in
       let two = both_of _ _ (held-flag (λ (holders : List Bool). slice_index_or holders t false && not (slice_index_or holders who.0 false)) refl s2.pairs r row) in
-      (two.0, not-set _ two.1, subst (λ (image : Image). r ≢ own_row image t) (sym base.image) other)) in
+      (two.0, not-true _ two.1, subst (λ (image : Image). r ≢ own_row image t) (sym base.image) other)) in
       writes s kept t (Pending.Own who) rest o s2 (at_steps s2.image me rest) base
       (record { steps = plain-orderly rest o.behind; from = plain-from rest me.due o.behind; told = λ e. told-then s kept t (Pending.Own who) rest o s2 base refl }) passes
 

@@ -1,5 +1,6 @@
 -- Each step that a thread makes by itself keeps what holds of the threads.
 use Rattle.std.proofs.Common.{◌≡◌, inl, inr, ℕ, Bool, true, false, not, List, [], ◌∷◌, map, refl, sym, ap, subst, ◌∙◌, arith, Some, None, if◌then◌else◌}
+use Rattle.std.proofs.lemmas.Bool.{cases_Bool}
 use Rattle.um_base.specs.declared.act.Act.{Act}
 use Rattle.um_base.specs.declared.ask.Told.{Told}
 use Rattle.um_base.specs.declared.names.Access.TheVariants as Access
@@ -18,7 +19,7 @@ use Rattle.um_turns.specs.Schedule.{readied}
 use Rattle.um_reach.proofs.Claims.{claims}
 use Rattle.um_reach.proofs.Cores.{core_of}
 use Rattle.um_reach.proofs.Turns.{IsKnown}
-use Rattle.um_turns.proofs.ThreadCounts.{yes_or_no, equal_or_not}
+use Rattle.um_turns.proofs.ThreadCounts.{equal_or_not}
 use Rattle.um_turns.proofs.ThreadWaits.{times}
 use Rattle.um_turns.proofs.ThreadWords.{are_plain, are_orderly, DueFrom, is_resume, AreKept, IsMade, IsOffered}
 use Rattle.um_turns.proofs.ThreadFrames.{plain-orderly, plain-from, orderly-rest}
@@ -56,7 +57,7 @@ module _ (s : State) (t x : ℕ) (kept : AreKept s) where
         behind = orderly-rest p rest first;
         from = subst (λ (steps : Steps). DueFrom steps (thread_at s t).due) e was.from;
         told = λ h. was.told (ap is_resume e ∙ h);
-        apart = elim (yes_or_no (is_resume (p ∷ rest))) [
+        apart = elim (cases_Bool (is_resume (p ∷ rest))) [
           | inl waits ↦ (let (told, known) = resumed-told s t x p rest waits chosen in told-apart s t kept told known)
           | inr other ↦ not-waiting s t kept (ap is_resume e ∙ other)
         ];

@@ -1,5 +1,6 @@
 -- Pairs come and go, and what is due stays what a thread can pass on or drop.
 use Rattle.std.proofs.Common.{◌≡◌, ◌≢◌, ◌⊎◌, inl, inr, ◌≤◌, ℕ, zero, suc, ◌+◌, Bool, true, false, ◌&&◌, not, List, [], ◌∷◌, length, refl, sym, ap, subst, ◌∙◌, arith, Option, Some, None, slice_index_or, slice_set, if◌then◌else◌, nat_le}
+use Rattle.std.proofs.lemmas.Bool.{not-true}
 use Rattle.std.proofs.lemmas.List.{length-set, get_or-set_other}
 use Rattle.um_base.specs.declared.act.Leftover.{Leftover}
 use Rattle.um_base.specs.declared.image.Image.{Image}
@@ -50,10 +51,6 @@ flag-here : (due : List Bool) (x : ℕ) (stays : Bool) → slice_index_or (slice
 flag-here [] x stays h = cc
 flag-here (flag ∷ due) zero stays h = both_of flag stays h
 flag-here (flag ∷ due) (suc x) stays h = flag-here due x stays h
-
-not-true : (b : Bool) → not b ≡ true → b ≡ false
-not-true true h = cc
-not-true false h = refl
 
 stays-pass : (image : Image) (pairs pairs0 : List (List Bool)) (x t : ℕ) (child : Option ThreadIx) → stays_due t child (slice_index_or pairs x []) ≡ true → MayPass image pairs0 t child x → MayPass image pairs t child x
 stays-pass image pairs pairs0 x t None stays was = stays

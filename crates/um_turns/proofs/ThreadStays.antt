@@ -1,6 +1,7 @@
 -- A thread that can make a step by itself never stays.
 use Rattle.std.proofs.Common.{◌≡◌, ◌⊎◌, inl, inr, ◌≤◌, ◌<◌, ℕ, zero, suc, Bool, true, false, ◌==◌, ◌&&◌, ◌||◌, not, nat_lt, nat_le, List, [], ◌∷◌, length, take, refl, sym, ap, subst, ◌∙◌, arith, Option, Some, None, slice_index_or, slice_get}
 use Rattle.std.specs.Prelude.{is_some, IsTrue}
+use Rattle.std.proofs.lemmas.Bool.{not_from_false}
 use Rattle.std.specs.List.{list_all}
 use Rattle.um_base.specs.declared.ask.Told.{Told}
 use Rattle.um_base.specs.declared.instr.Instr.{Instr}
@@ -79,10 +80,6 @@ child-of : (child : Option ThreadIx) (who : ThreadIx) → is_child child who ≡
 child-of None who h = cc
 child-of (Some c) who h = (c, refl, is_equal c.0 who.0 (both_of (c.0 == who.0) (nat_lt who.0 THREADS) h).0)
 
-not-held : (b : Bool) → b ≡ false → IsTrue (not b)
-not-held true h = cc
-not-held false h = refl
-
 module _ (s : State) (t : ℕ) (kept : AreKept s) (reached : IsReached s) where
   -- an inheritance takes each row that is due
   inherit-takes : (who : ThreadIx) (rest : Steps) → (thread_at s t).pending ≡ Pending.Inherit who ∷ rest → (r : ℕ) → slice_index_or (thread_at s t).due r false ≡ true → MayTake s t (Pending.Inherit who) r
@@ -91,7 +88,7 @@ module _ (s : State) (t : ℕ) (kept : AreKept s) (reached : IsReached s) where
       let (c, child, same) = child-of (thread_at s t).child who (both_of (is_child (thread_at s t).child who) (passes_on (thread_at s t).child rest) passes).0 in
       let pass : MayPass s.image s.pairs t (Some c) r = subst (λ (o : Option ThreadIx). MayPass s.image s.pairs t o r) child (kept.due t r h) in
       let apart : pair_at s who.0 r ≡ false = subst (λ (n : ℕ). pair_at s n r ≡ false) same pass.1 in
-      ((pass.0, not-held (pair_at s who.0 r) apart, pass.2), h)
+      ((pass.0, not_from_false (pair_at s who.0 r) apart, pass.2), h)
 
   -- drops take the first row that is due
   drops-take : (from : ℕ) (rest : Steps) → (thread_at s t).pending ≡ Pending.Drops from ∷ rest → (r : ℕ) → slice_index_or (thread_at s t).due r false ≡ true → list_all not (take r (thread_at s t).due) ≡ true

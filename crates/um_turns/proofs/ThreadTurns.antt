@@ -1,6 +1,7 @@
 -- Events keep it so that each thread that can make a step by itself is ready or run by a processor.
 use Rattle.std.proofs.Common.{◌≡◌, ◌≢◌, inl, inr, ◌≤◌, ◌<◌, ℕ, ◌+◌, Bool, true, false, ◌==◌, ◌&&◌, List, length, refl, sym, ap, subst, ◌∙◌, arith, Option, Some, None, if◌then◌else◌}
 use Rattle.std.specs.Prelude.{is_some}
+use Rattle.std.proofs.lemmas.Bool.{cases_Bool}
 use Rattle.std.proofs.lemmas.List.{length-set}
 use Rattle.um_base.specs.declared.act.Act.{Act}
 use Rattle.um_base.specs.declared.names.ThreadIx.{ThreadIx}
@@ -11,7 +12,7 @@ use Rattle.um_turns.specs.declared.processor.Processor.{Processor}
 use Rattle.um_turns.specs.Lines.{stands, joins, all_join}
 use Rattle.um_turns.specs.Schedule.{Turn, idle, processor_at, with_processor, goes_on, is_at_rest, readied, next_ready, behind_next, running_or, runs, left_ready, ready_after, left_to_clean, after_cleaning, after_running, passed}
 use Rattle.um_reach.proofs.Facts.{itself, differs}
-use Rattle.um_turns.proofs.ThreadCounts.{count-set, yes_or_no, equal_or_not}
+use Rattle.um_turns.proofs.ThreadCounts.{count-set, equal_or_not}
 use Rattle.um_turns.proofs.ThreadWords.{is_on, is_resting, stands_still, may_step, may_stand, IsFramed, IsMade, IsBase}
 use Rattle.um_turns.proofs.ThreadFrames.{alike-framed, base-kept}
 use Rattle.um_turns.proofs.JoinLemmas.{often, joins-other, joins-in, joins-once, all-other, all-more, all-in, all-once}
@@ -184,7 +185,7 @@ module _ (turn : Turn) (cpu : ℕ) (t : ThreadIx) (act : Act) (s2 : State) (insi
             let fewer = gone.fewer u other in
             let was = kept.once u in
             let frame = made.others u other in
-            elim (yes_or_no (stands (readied act) u)) [
+            elim (cases_Bool (stands (readied act) u)) [
               | inl added ↦ (
                   let none : runners u turn.processors ≡ 0 = elim (equal_or_not (runners u turn.processors) 0) [
                     | inl none ↦ none
@@ -226,7 +227,7 @@ module _ (turn : Turn) (cpu : ℕ) (t : ThreadIx) (act : Act) (s2 : State) (insi
             let here : 1 ≤ held turn2 t.0 = subst (λ (n : ℕ). 1 ≤ held turn2 n) same h in
             let ready = mine-ready in
             let run = mine-runners in
-            elim (yes_or_no (goes_on s2 t.0)) [
+            elim (cases_Bool (goes_on s2 t.0)) [
               | inl goes ↦ on-stands (thread_at s2 t.0) goes
               | inr stops ↦ (
                   let off : one_if (goes_on s2 t.0) ≡ 0 = ap one_if stops in
@@ -238,7 +239,7 @@ module _ (turn : Turn) (cpu : ℕ) (t : ThreadIx) (act : Act) (s2 : State) (insi
             let run = other-runners u other in
             let fewer = gone.fewer u other in
             let frame = made.others u other in
-            elim (yes_or_no (stands (readied act) u)) [
+            elim (cases_Bool (stands (readied act) u)) [
               | inl added ↦ frame.comes added
               | inr apart ↦ (let equal = all-other u (left_ready turn cpu) (readied act) apart in frame.stays (kept.stand u (omega (arith, ready, run, fewer, equal, h))))
             ])

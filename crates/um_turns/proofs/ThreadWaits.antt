@@ -1,6 +1,7 @@
 -- Whom an act wakes of those who wait on an object, and who waits then.
 use Rattle.std.proofs.Common.{◌≡◌, ◌≢◌, ◌⊎◌, inl, inr, ◌≤◌, ℕ, ◌+◌, ◌-◌, Bool, true, false, not, ◌||◌, cond, List, [], ◌∷◌, ◌++◌, length, filter, map, take, drop, refl, sym, ap, subst, ◌∙◌, arith, if◌then◌else◌, nat_le}
 use Rattle.std.specs.Prelude.{◌==◌, int_lt}
+use Rattle.std.proofs.lemmas.Bool.{cases_Bool}
 use Rattle.std.specs.List.{list_any}
 use Rattle.um_base.specs.declared.act.Answer.{Answer}
 use Rattle.um_base.specs.declared.ask.Told.{Told}
@@ -14,7 +15,7 @@ use Rattle.um_machine.specs.Services.{Acted, with_waiter, in_order, without, tol
 use Rattle.um_turns.specs.Lines.{stands}
 use Rattle.um_bound.specs.Measure.{one_if}
 use Rattle.um_reach.proofs.Facts.{is_equal, differs, itself, is_not}
-use Rattle.um_turns.proofs.ThreadCounts.{count, count-filter, count-split, count-append, yes_or_no, equal_or_not}
+use Rattle.um_turns.proofs.ThreadCounts.{count, count-filter, count-split, count-append, equal_or_not}
 
 -- whether a waiter is this thread, and how often that one waits
 abbrev pub is_of : ℕ → Waiter → Bool
@@ -144,7 +145,7 @@ served-one ws t first w apart there e f =
 told-times : (e : Errno) (vs : List Waiter) (u : ℕ) → stands (numbers (map (λ (w : Waiter). told w (Reply.Fail e) []) vs)) u ≡ true → 1 ≤ times u vs
 told-times e [] u h = cc
 told-times e (v ∷ vs) u h =
-    elim (yes_or_no (u == v.thread.0)) [
+    elim (cases_Bool (u == v.thread.0)) [
       | inl here ↦ (let same : u ≡ v.thread.0 = is_equal u v.thread.0 here in subst (λ (n : ℕ). 1 ≤ times n (v ∷ vs)) (sym same) (times-first v vs))
       | inr later ↦ (let rest = told-times e vs u (subst (λ (b : Bool). (b || stands (numbers (map (λ (w : Waiter). told w (Reply.Fail e) []) vs)) u) ≡ true) later h) in omega (arith, rest))
     ]
@@ -205,7 +206,7 @@ pub readers-times : (vs : List Waiter) (bytes : List ℕ) (u : ℕ) → stands (
 readers-times [] bytes u h = cc
 readers-times (v ∷ vs) [] u h = cc
 readers-times (v ∷ vs) (b ∷ bytes) u h =
-    elim (yes_or_no (u == v.thread.0)) [
+    elim (cases_Bool (u == v.thread.0)) [
       | inl here ↦ (let same : u ≡ v.thread.0 = is_equal u v.thread.0 here in subst (λ (n : ℕ). 1 ≤ times n (v ∷ vs)) (sym same) (times-first v vs))
       | inr later ↦ (let more = drop (read_length v.ask) (b ∷ bytes) in
           let rest = readers-times vs more u (subst (λ (c : Bool). (c || stands (numbers (readers_served vs more).1) u) ≡ true) later h) in omega (arith, rest))
@@ -219,7 +220,7 @@ writers-times size (v ∷ vs) bytes u h =
     let found : List (ThreadIx × Told) = told v (Reply.Num (length put)) [] ∷ rest.1 in
     elim (nat_le size (length bytes)) as (λ b. stands (numbers (let both : List ℕ × List (ThreadIx × Told) = if b then (bytes, []) else (rest.0, found) in both.1)) u ≡ true → 1 ≤ times u (v ∷ vs)) [
       | true ↦ λ g. cc
-      | false ↦ λ g. elim (yes_or_no (u == v.thread.0)) [
+      | false ↦ λ g. elim (cases_Bool (u == v.thread.0)) [
         | inl here ↦ (let same : u ≡ v.thread.0 = is_equal u v.thread.0 here in subst (λ (n : ℕ). 1 ≤ times n (v ∷ vs)) (sym same) (times-first v vs))
         | inr later ↦ (let more = writers-times size vs (bytes ++ put) u (subst (λ (c : Bool). (c || stands (numbers rest.1) u) ≡ true) later g) in omega (arith, more))
       ]

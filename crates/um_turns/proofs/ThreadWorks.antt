@@ -1,5 +1,6 @@
 -- The work of a call: its caller may wait then, and others may be woken.
 use Rattle.std.proofs.Common.{◌≡◌, ◌≢◌, ◌⊎◌, inl, inr, ◌≤◌, ◌<◌, ℕ, zero, suc, Bool, true, false, ◌==◌, ◌||◌, List, [], ◌∷◌, length, map, refl, sym, ap, subst, ◌∙◌, arith, Some, None, slice_index_or, slice_set}
+use Rattle.std.proofs.lemmas.Bool.{cases_Bool}
 use Rattle.std.proofs.lemmas.List.{length-set, get_or-set_other, get_or-set_same}
 use Rattle.um_base.specs.declared.act.Answer.{Answer}
 use Rattle.um_base.specs.declared.ask.Ask.{Ask}
@@ -17,7 +18,7 @@ use Rattle.um_machine.specs.Table.{row_of, bytes_given, work_of, replies_of, all
 use Rattle.um_turns.specs.Lines.{stands}
 use Rattle.um_reach.proofs.Cores.{at_set}
 use Rattle.um_reach.proofs.Facts.{is_equal, is_not, left_of, right_of}
-use Rattle.um_turns.proofs.ThreadCounts.{yes_or_no, equal_or_not, unequal}
+use Rattle.um_turns.proofs.ThreadCounts.{equal_or_not, unequal}
 use Rattle.um_turns.proofs.ThreadWaits.{times, numbers, IsServed}
 use Rattle.um_turns.proofs.ThreadServes.{served}
 use Rattle.um_turns.proofs.ThreadWords.{is_on, may_stand, IsFramed, are_plain, is_resume, IsOrderly, AreDue, AreKept, IsMade, IsOffered}
@@ -63,7 +64,7 @@ woken-told [] s u inside h = cc
 woken-told (w ∷ ws) s u inside h =
     let s2 = with_told s w in
     let me = record (thread_at s w.0.0) { told = Some w.1 } in
-    elim (yes_or_no (stands (numbers ws) u)) [
+    elim (cases_Bool (stands (numbers ws) u)) [
       | inl found ↦ (let many = length-set s.threads w.0.0 me in let (told, here) = woken-told ws s2 u (omega (arith, inside, many)) found in (told, here ∙ told-same s w told u))
       | inr missing ↦ (
           let same : u ≡ w.0.0 = is_equal u w.0.0 (first_stands (u == w.0.0) (stands (numbers ws) u) h missing) in
@@ -117,7 +118,7 @@ module _ (s s3 : State) (t x : ℕ) (woken : List ℕ) (answer : Answer) (kept :
 
   others-orderly : (u : ℕ) → IsOrderly (thread_at s3 u)
   others-orderly u =
-      elim (yes_or_no (stands woken u)) [
+      elim (cases_Bool (stands woken u)) [
         | inr missing ↦ subst (λ (th : Thread). IsOrderly th) (sym (w.same u missing)) (kept.orderly u)
         | inl found ↦ (let (told, here) = w.told u found in let waits = kept.waits x u (w.waited u found) in let was = kept.orderly u in
             subst (λ (th : Thread). IsOrderly th) (sym here) (record { steps = was.steps; from = was.from; told = λ none. absurd (let bad : true ≡ false = sym waits.0 ∙ none in cc) }))
@@ -125,7 +126,7 @@ module _ (s s3 : State) (t x : ℕ) (woken : List ℕ) (answer : Answer) (kept :
 
   others-due : (u : ℕ) → AreDue s.image s.pairs u (thread_at s3 u)
   others-due u =
-      elim (yes_or_no (stands woken u)) [
+      elim (cases_Bool (stands woken u)) [
         | inr missing ↦ subst (λ (th : Thread). AreDue s.image s.pairs u th) (sym (w.same u missing)) (kept.due u)
         | inl found ↦ (let (told, here) = w.told u found in subst (λ (th : Thread). AreDue s.image s.pairs u th) (sym here) (kept.due u))
       ]

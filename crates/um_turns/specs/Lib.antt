@@ -2,3 +2,4 @@ pub mod Lines
 pub mod Order
 pub mod Schedule
 pub mod Scheduled
+pub mod InOrder

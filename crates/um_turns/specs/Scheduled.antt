@@ -4,7 +4,7 @@ use Rattle.um_base.specs.declared.act.Event.{Event}
 use Rattle.um_base.specs.declared.image.Image.{Image}
 use Rattle.um_machine.specs.State.{State}
 use Rattle.um_turns.specs.Order.{preferred}
-use Rattle.um_turns.specs.Schedule.{Turn, Goes, NextGoes, opening_turn}
+use Rattle.um_turns.specs.Schedule.{Turn, NextGoes, opening_turn}
 
 -- All of these events are by the rule, given which processors are preferred, and they lead to a turn.
 abbrev pub Leads : Turn → List ℕ → List Event → Turn → Type 0
@@ -18,8 +18,3 @@ Leads turn (first ∷ firsts) (event ∷ events) turn2 = (mid : Turn) × NextGoe
 abbrev pub IsScheduled : Image → ℕ → Option ℕ → List Event → State → Type 0
 IsScheduled image cpus pick events last =
     (turn : Turn) × (turn.state ≡ last) × Leads (opening_turn image cpus) (preferred cpus pick (length events)) events turn
-
--- Events of one processor, one after another.
-abbrev pub FollowsAlone : Turn → List Event → Type 0
-FollowsAlone turn [] = Unit {0}
-FollowsAlone turn (event ∷ events) = (turn2 : Turn) × Goes turn 0 event turn2 × FollowsAlone turn2 events

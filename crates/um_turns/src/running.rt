@@ -4,8 +4,8 @@ ghost use Rattle.std.specs.Prelude.{◌≡◌, ◌+◌, ◌<◌, ◌≤◌, ◌+
 ghost use Rattle.um_base.specs.Lawful.{IsLawful};
 ghost use Rattle.um_base.specs.Weight.{weight};
 ghost use Rattle.um_machine.specs.Run.{opening, IsRun, RunsDue, IsComplete};
-ghost use Rattle.um_turns.specs.Schedule.{opening_turn};
-ghost use Rattle.um_turns.specs.Scheduled.{FollowsAlone, IsScheduled};
+ghost use Rattle.um_turns.specs.InOrder.{IsInOrder};
+ghost use Rattle.um_turns.specs.Scheduled.{IsScheduled};
 
 use crate::order::Order;
 use crate::turns::Processors;
@@ -47,7 +47,7 @@ pub fn run<'a>(
     ensures due { IfOk result (λ ran. RunsDue (opening image.now) ran.events.items ran.last) }
     ensures complete { IfOk result (λ ran. IsComplete ran.last) }
     ensures rule { IfOk result (λ ran. IsScheduled image.now cpus pick ran.events.items ran.last) }
-    ensures alone { cpus ≡ 1 → IfOk result (λ ran. FollowsAlone (opening_turn image.now 1) ran.events.items) }
+    ensures order { cpus ≡ 1 → IfOk result (λ ran. IsInOrder image.now ran.events.items) }
     ensures few { IfOk result (λ ran. length ran.events.items ≤ weight image.now) }
 {
     let _objects = image.objects.len();

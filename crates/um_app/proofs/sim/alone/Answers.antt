@@ -8,7 +8,8 @@ pub returns-clause-run : goal.returns-clause-run
 returns-clause-run c =
     let image = c.args.image.now in
     let given : IsDescribed image = record { lawful = c.requires.lawful; few = subst (λ (n : ℕ). n ≤ STATIC_ROWS) c.len-objects.ensures.value c.len-objects.ensures.few } in
-    run_of image c.args.options given c.run.result c.run.ensures.run c.run.ensures.complete (alone image c.args.options (omega (arith, c.requires.one)) c.run.result c.run.ensures.rule) c.run.ensures.few
+    let ordered = alone image c.args.options (omega (arith, c.requires.one)) c.run.result c.run.ensures.rule (c.run.ensures.order c.requires.one) in
+    run_of image c.args.options given c.run.result c.run.ensures.run c.run.ensures.complete ordered c.run.ensures.few
 
 pub returns-clause-names : goal.returns-clause-names
 returns-clause-names c =

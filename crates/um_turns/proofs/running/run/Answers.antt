@@ -6,6 +6,7 @@ use Rattle.um_turns.specs.Order.{preferred}
 use Rattle.um_turns.specs.Schedule.{opening_turn}
 use Rattle.um_turns.specs.Scheduled.{Leads}
 use Rattle.um_turns.proofs.EndLemmas.{going-opens, going-next, going-ends, room-left}
+use Rattle.um_turns.proofs.InOrder.{alone-in-order}
 use Rattle.um_turns.proofs.RowTurns.{going-advances}
 use Rattle.um_turns.proofs.ScheduledLemmas.{none-preferred, all-left, leads-on, left-on}
 use Rattle.um_turns.proofs.FollowLemmas.{leads-alone}
@@ -63,11 +64,14 @@ returns-clause-complete c =
 pub returns-clause-rule : goal.returns-clause-rule
 returns-clause-rule c = (c.turns.processors, sym (c.into_matrix.ensures ∙ c.next-in-turns.ensures.same c.turns-test.false), c.turns.invariant.rule)
 
-pub returns-clause-alone : goal.returns-clause-alone
-returns-clause-alone c = λ one.
-    let firsts = preferred c.args.cpus c.args.pick (length c.turns.events.items) in
-    leads-alone (opening_turn c.args.image.now 1) firsts c.turns.events.items c.turns.processors refl
-    (subst (λ (cpus : ℕ). Leads (opening_turn c.args.image.now cpus) firsts c.turns.events.items c.turns.processors) one c.turns.invariant.rule)
+pub returns-clause-order : goal.returns-clause-order
+returns-clause-order c = λ one.
+    let image = c.args.image.now in
+    let events = c.turns.events.items in
+    let firsts = preferred c.args.cpus c.args.pick (length events) in
+    let leads = subst (λ (cpus : ℕ). Leads (opening_turn image cpus) firsts events c.turns.processors) one c.turns.invariant.rule in
+    alone-in-order image events (record { lawful = c.requires.lawful; few = omega (arith, c.len-objects.ensures.value, c.len-objects.ensures.few) })
+    (leads-alone (opening_turn image 1) firsts events c.turns.processors refl leads)
 
 pub returns-clause-few : goal.returns-clause-few
 returns-clause-few c =
