@@ -21,12 +21,12 @@ use Rattle.um_bound.proofs.StartLemmas.{start}
 use Rattle.um_bound.proofs.CleanLemmas.{clean_pair, recycle}
 use Rattle.um_bound.proofs.MadeLemmas.{IsMade, IsReady}
 
-not-begin : (life : Life) → may_wait life Pending.Begin ≡ true → ⊥
+pub not-begin : (life : Life) → may_wait life Pending.Begin ≡ true → ⊥
 not-begin Life.Unborn h = false≢true h
 not-begin Life.Living h = false≢true h
 not-begin Life.Ended h = false≢true h
 
-not-exit : (life : Life) → may_wait life Pending.Exit ≡ true → ⊥
+pub not-exit : (life : Life) → may_wait life Pending.Exit ≡ true → ⊥
 not-exit Life.Unborn h = false≢true h
 not-exit Life.Living h = false≢true h
 not-exit Life.Ended h = false≢true h

@@ -13,6 +13,7 @@ use Rattle.um_machine.specs.declared.thread.Thread.{Thread}
 use Rattle.um_machine.specs.Order.{Steps}
 use Rattle.um_machine.specs.Services.{is_empty}
 use Rattle.um_machine.specs.State.{State, is_living, is_started, thread_at}
+use Rattle.um_bound.proofs.StepLemmas.{not-begin, not-exit}
 use Rattle.um_bound.specs.Reached.{IsPlace, IsReached, may_wait}
 use Rattle.um_words.specs.declared.fine.FineAct.{FineAct}
 use Rattle.um_words.specs.declared.fine.More.{More}
@@ -43,16 +44,6 @@ round-behind : (image : Image) (c : Context) (q : Pending) → list_all is_round
 round-behind image c (Pending.Start who script stack priority mode) = refl
 round-behind image c (Pending.Load to a n) = refl
 round-behind image c q = refl
-
-not-begin : (life : Life) → may_wait life Pending.Begin ≡ true → ⊥
-not-begin Life.Unborn h = false≢true h
-not-begin Life.Living h = false≢true h
-not-begin Life.Ended h = false≢true h
-
-not-exit : (life : Life) → may_wait life Pending.Exit ≡ true → ⊥
-not-exit Life.Unborn h = false≢true h
-not-exit Life.Living h = false≢true h
-not-exit Life.Ended h = false≢true h
 
 module _ (image : Image) (c : Context) where
   -- a step that is pending with a thread of this life

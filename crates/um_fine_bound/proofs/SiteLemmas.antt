@@ -1,10 +1,14 @@
 -- What a lawful step makes of what its site has left.
-use Rattle.std.proofs.Common.{◌≡◌, ◌≤◌, ℕ, ◌+◌, true, false, List, [], ◌∷◌, length, refl, ap, subst, arith, Option, Some, None}
+use Rattle.std.proofs.Common.{◌≡◌, ◌≤◌, ℕ, ◌+◌, Bool, true, false, List, [], ◌∷◌, length, refl, sym, ap, ◌∙◌, subst, arith, Option, Some, None}
 use Rattle.std.specs.Prelude.{is_some, nat_lt, unwrap_or}
-use Rattle.std.proofs.lemmas.Bool.{and_parts, false≢true}
+use Rattle.std.proofs.lemmas.Bool.{and_parts, false≢true, true≢false}
 use Rattle.um_base.specs.declared.act.Act.{Act}
+use Rattle.um_base.specs.declared.act.Answer.{Answer}
+use Rattle.um_base.specs.declared.act.Event.{Event}
 use Rattle.um_base.specs.declared.act.Leftover.{Leftover}
 use Rattle.um_base.specs.declared.image.Image.{Image}
+use Rattle.um_base.specs.declared.names.Addr.{Addr}
+use Rattle.um_base.specs.declared.names.Reply.{Reply}
 use Rattle.um_base.specs.declared.names.ThreadIx.{ThreadIx}
 use Rattle.um_words.specs.declared.dom_word.DomWord.{DomWord}
 use Rattle.um_words.specs.declared.fine.FineAct.{FineAct}
@@ -59,48 +63,34 @@ module _ (image : Image) where
 
   -- Sites that have nothing left.
 
-  thread-quiet : (w : ThreadWord) (act : FineAct) (moved : Exchange) → thread_takes w act ≡ true → taken_by image act moved ≡ 0
-  thread-quiet w (FineAct.Shown event more) moved h = by event.act h
+  -- an act at a site that serves nobody, and hands out no thread
+  quiet : (takes : FineAct → Bool) → ((event : Event) (more : More) → takes (FineAct.Shown (record event { act = Act.Resume }) more) ≡ false)
+      → ((event : Event) (more : More) (a : Addr) (answer : Answer) (woken : List (ThreadIx × Reply)) → takes (FineAct.Shown (record event { act = Act.Work a answer woken }) more) ≡ false)
+      → ((who : ThreadIx) → takes (FineAct.Unseen (Unseen.Next who)) ≡ false)
+      → (act : FineAct) (moved : Exchange) → takes act ≡ true → taken_by image act moved ≡ 0
+  quiet takes resume work next (FineAct.Shown event more) moved h = by event.act h
     where
-      by : (act : Act) → thread_takes w (FineAct.Shown (record event { act = act }) more) ≡ true → taken_by image (FineAct.Shown (record event { act = act }) more) moved ≡ 0
-      by Act.Resume takes = absurd (false≢true takes)
-      by (Act.Work a answer woken) takes = absurd (false≢true takes)
-      by act takes = refl
-  thread-quiet w (FineAct.Unseen (Unseen.Next who)) moved h = absurd (false≢true h)
-  thread-quiet w (FineAct.Unseen unseen) moved h = refl
+      by : (act : Act) → takes (FineAct.Shown (record event { act = act }) more) ≡ true → taken_by image (FineAct.Shown (record event { act = act }) more) moved ≡ 0
+      by Act.Resume h = absurd (true≢false (sym h ∙ resume event more))
+      by (Act.Work a answer woken) h = absurd (true≢false (sym h ∙ work event more a answer woken))
+      by act h = refl
+  quiet takes resume work next (FineAct.Unseen (Unseen.Next who)) moved h = absurd (true≢false (sym h ∙ next who))
+  quiet takes resume work next (FineAct.Unseen unseen) moved h = refl
+
+  thread-quiet : (w : ThreadWord) (act : FineAct) (moved : Exchange) → thread_takes w act ≡ true → taken_by image act moved ≡ 0
+  thread-quiet w = quiet (thread_takes w) (λ event more. refl) (λ event more a answer woken. refl) (λ who. refl)
 
   domain-quiet : (w : DomWord) (act : FineAct) (moved : Exchange) → domain_takes w act ≡ true → taken_by image act moved ≡ 0
-  domain-quiet w (FineAct.Shown event more) moved h = by event.act h
-    where
-      by : (act : Act) → domain_takes w (FineAct.Shown (record event { act = act }) more) ≡ true → taken_by image (FineAct.Shown (record event { act = act }) more) moved ≡ 0
-      by Act.Resume takes = absurd (false≢true takes)
-      by (Act.Work a answer woken) takes = absurd (false≢true takes)
-      by act takes = refl
-  domain-quiet w (FineAct.Unseen (Unseen.Next who)) moved h = absurd (false≢true h)
-  domain-quiet w (FineAct.Unseen unseen) moved h = refl
+  domain-quiet w = quiet (domain_takes w) (λ event more. refl) (λ event more a answer woken. refl) (λ who. refl)
 
   parts-quiet : (act : FineAct) (moved : Exchange) → parts_takes act ≡ true → taken_by image act moved ≡ 0
-  parts-quiet (FineAct.Shown event more) moved h = absurd (false≢true h)
-  parts-quiet (FineAct.Unseen (Unseen.Next who)) moved h = absurd (false≢true h)
-  parts-quiet (FineAct.Unseen unseen) moved h = refl
+  parts-quiet = quiet parts_takes (λ event more. refl) (λ event more a answer woken. refl) (λ who. refl)
 
   memory-quiet : (act : FineAct) (moved : Exchange) → memory_takes act ≡ true → taken_by image act moved ≡ 0
-  memory-quiet (FineAct.Shown event more) moved h = by event.act h
-    where
-      by : (act : Act) → memory_takes (FineAct.Shown (record event { act = act }) more) ≡ true → taken_by image (FineAct.Shown (record event { act = act }) more) moved ≡ 0
-      by Act.Resume takes = absurd (false≢true takes)
-      by (Act.Work a answer woken) takes = absurd (false≢true takes)
-      by act takes = refl
-  memory-quiet (FineAct.Unseen unseen) moved h = absurd (false≢true h)
+  memory-quiet = quiet memory_takes (λ event more. refl) (λ event more a answer woken. refl) (λ who. refl)
 
   heap-quiet : (act : FineAct) (moved : Exchange) → heap_takes act ≡ true → taken_by image act moved ≡ 0
-  heap-quiet (FineAct.Shown event more) moved h = by event.act h
-    where
-      by : (act : Act) → heap_takes (FineAct.Shown (record event { act = act }) more) ≡ true → taken_by image (FineAct.Shown (record event { act = act }) more) moved ≡ 0
-      by Act.Resume takes = absurd (false≢true takes)
-      by (Act.Work a answer woken) takes = absurd (false≢true takes)
-      by act takes = refl
-  heap-quiet (FineAct.Unseen unseen) moved h = absurd (false≢true h)
+  heap-quiet = quiet heap_takes (λ event more. refl) (λ event more a answer woken. refl) (λ who. refl)
 
   -- The cell of an object.
 

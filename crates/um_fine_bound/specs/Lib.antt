@@ -1,2 +1,3 @@
 pub mod Measure
 pub mod Ready
+pub mod Falls

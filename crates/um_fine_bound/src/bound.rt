@@ -1,19 +1,15 @@
 //! How long fine runs are.
 
-ghost use Rattle.std.specs.Prelude.{◌≡◌, ◌≢◌, ◌≤◌, ◌+◌, ℕ, List, length};
+ghost use Rattle.std.specs.Prelude.{◌≡◌, ◌≤◌, ℕ, List, length};
 ghost use Rattle.um_base.specs.declared.image.Image.{Image};
 ghost use Rattle.um_base.specs.Lawful.{IsLawful};
 ghost use Rattle.um_base.specs.Weight.{weight};
 ghost use Rattle.um_reach.specs.Described.{IsDescribed};
-ghost use Rattle.um_fine.specs.Asks.{CpuMay};
 ghost use Rattle.um_fine.specs.FineRun.{IsFineRun};
-ghost use Rattle.um_fine.specs.Follows.{p_next};
-ghost use Rattle.um_fine.specs.Opening.{s_start};
-ghost use Rattle.um_fine.specs.Processor.{Processor, idle};
-ghost use Rattle.um_fine.specs.Sites.{SiteMay, SiteState, s_next};
-ghost use Rattle.um_fine.specs.Steps.{FineStep, Site};
-ghost use Rattle.um_fine_bound.specs.Measure.{processor_cost, site_cost};
-ghost use Rattle.um_fine_bound.specs.Ready.{MayStep};
+ghost use Rattle.um_fine.specs.Processor.{idle};
+ghost use Rattle.um_fine.specs.Steps.{FineStep};
+ghost use Rattle.um_fine_bound.specs.Falls.{Falls, Opens};
+ghost use Rattle.um_fine_bound.specs.Measure.{processor_cost};
 
 use um_erasure::every_fine_run;
 
@@ -24,10 +20,8 @@ use um_erasure::every_fine_run;
 /// - A lawful step of a processor that may make it lowers what the processor and its site have left, by one at least.
 pub fn every_fine_step()
     ensures idle { (image : Image) → processor_cost image idle ≡ 0 }
-    ensures opens { (image : Image) → IsLawful image → site_cost image (s_start image Site.scheduler) ≤ weight image }
-    ensures others { (image : Image) (site : Site) → IsLawful image → site ≢ Site.scheduler → site_cost image (s_start image site) ≡ 0 }
-    ensures falls { (image : Image) (p : Processor) (s : SiteState) (e : FineStep) → IsLawful image → CpuMay image p e → SiteMay image s e → MayStep image p e.moved p.todo
-        → processor_cost image (p_next image p e) + site_cost image (s_next image s e) + 1 ≤ processor_cost image p + site_cost image s }
+    ensures opens { (image : Image) → IsLawful image → Opens image }
+    ensures falls { (image : Image) → IsLawful image → Falls image }
 {}
 
 /// No fine run of an image that a description gives has more steps than the weight of the image, whatever the number of processors and
