@@ -1,15 +1,13 @@
 //! Processors over the sites that they share.
 
-ghost use Rattle.std.specs.Prelude.{◌≡◌, ◌<◌, ◌≤◌, ℕ, IfOk, IsTrue, List, [], false, length, map, replicate, true};
+ghost use Rattle.std.specs.Prelude.{◌≡◌, ◌<◌, ◌≤◌, ℕ, IfOk, List, false, length, map, replicate, true};
 ghost use Rattle.um_base.specs.Lawful.{IsLawful};
 ghost use Rattle.um_machine.specs.Memory.{rodata_of};
-ghost use Rattle.um_fine.specs.Opening.{s_start};
 ghost use Rattle.um_fine.specs.Processor.{idle};
-ghost use Rattle.um_fine.specs.Sites.{is_site};
-ghost use Rattle.um_fine.specs.Steps.{FineStep, Site};
+ghost use Rattle.um_fine.specs.Steps.{FineStep};
 ghost use Rattle.um_processor.specs.Given.{IsGiven};
-ghost use Rattle.um_processor.specs.Sited.{IsSized, state_at};
 ghost use Rattle.um_processor.specs.Standing.{whole};
+ghost use Rattle.um_core.specs.Cores.{IsOpened};
 ghost use Rattle.um_core.specs.CoreSteps.{AllHalt, FirstSteps, GoesOn, Halts, IsCoreOf, Steps, is_made};
 ghost use Rattle.um_core.specs.PickedRun.{NoneFollows};
 
@@ -62,12 +60,7 @@ impl Core {
     /// So many processors at the opening of an image, with room for so many events at least. All memory is taken here.
     pub fn boot(alloc: Global, image: &Image, cpus: u8, most: usize) -> Result<Core, Memory>
         requires lawful { IsLawful image.now }
-        ensures sites { IfOk result (λ core. (i : Site) → IsTrue (is_site i) → state_at core.sites i ≡ s_start image.now i) }
-        ensures sized { IfOk result (λ core. IsSized core.sites) }
-        ensures rodata { IfOk result (λ core. core.sites.rodata ≡ rodata_of image.now) }
-        ensures log { IfOk result (λ core. core.sites.log ≡ []) }
-        ensures room { IfOk result (λ core. most ≤ core.sites.most) }
-        ensures processors { IfOk result (λ core. core.processors ≡ replicate cpus idle) }
+        ensures { IfOk result (λ core. IsOpened image.now cpus most core) }
     {
         Ok(Core {
             sites: opening(alloc, image, most)?,
