@@ -1,6 +1,7 @@
 -- A text has one verdict, and it is yes exactly where the text is that of a complete run.
 use Rattle.std.proofs.Common.{◌≡◌, ◌≢◌, ◌⊎◌, inl, inr, ℕ, ◌+◌, ◌<◌, true, List, [], ◌∷◌, length, take, refl, sym, ap, ◌∙◌, subst, arith, Some, slice_get}
 use Rattle.std.specs.Prelude.{◌↔◌}
+use Rattle.std.proofs.lemmas.Bool.{and_parts}
 use Rattle.std.specs.List.{list_all}
 use Rattle.um_base.specs.declared.act.Act.{Act}
 use Rattle.um_base.specs.declared.act.Event.{Event}
@@ -17,7 +18,6 @@ use Rattle.um_reach.proofs.Turns.{IsKnown}
 use Rattle.um_reach.proofs.RunMoves.{known_step}
 use Rattle.um_reach.proofs.Starts.{known_or_none}
 use Rattle.um_reach.specs.Described.{IsDescribed}
-use Rattle.um_texts.proofs.PlainLemmas.{and_left}
 use Rattle.um_texts.proofs.NameLemmas.{are_named}
 use Rattle.um_texts.proofs.IdentityLemmas.{thread_known}
 use Rattle.um_texts.proofs.OpeningLemmas.{kept_opening, sound_booted, idle_opening, offered_acting}
@@ -42,7 +42,7 @@ good_or_none : (image : Image) → IsDescribed image → (boots : List Boot) →
 good_or_none image is [] none = inr (λ e s2 step. idle_opening image e.thread.0 none (offered_acting (opening image) e.thread.0 step.step step.rest step.offered))
 good_or_none image is (boot ∷ boots) some =
     let all : list_all (is_lawful_boot image) (boot ∷ boots) ≡ true = ap (λ (bs : List Boot). list_all (is_lawful_boot image) bs) (sym some) ∙ is.lawful.boots in
-    let lawful = and_left (is_lawful_boot image boot) (list_all (is_lawful_boot image) boots) all in
+    let lawful = (and_parts (is_lawful_boot image boot) (list_all (is_lawful_boot image) boots) all).0 in
     elim (known_or_none image is) as (λ _. IsGood image (opening image) ⊎ ((event : Event) (s2 : State) → Step (opening image) event s2 → ⊥)) [
       | inl known ↦ inl (good_booted image is boot lawful known)
       | inr none ↦ inr none

@@ -6,23 +6,11 @@ use Rattle.std.specs.List.{list_all, flat_map}
 use Rattle.std.proofs.lemmas.Bool.Decides.{nat_tests, leb_tells}
 use Rattle.std.proofs.lemmas.Slice.Eq.{bytes_eq-Decides}
 use Rattle.std.specs.Prelude.{bytes_eq}
+use Rattle.std.proofs.lemmas.Bool.{and_from, and_parts, not-true}
 use Rattle.um_audit.specs.Lines.{led, pieces, line_of}
 
 abbrev pub no_newline : ℕ → Bool
 no_newline b = not (b == 10)
-
-pub and_left : (a b : Bool) → (a && b) ≡ true → a ≡ true
-and_left true b h = refl
-and_left false b h = cc
-
-pub and_right : (a b : Bool) → (a && b) ≡ true → b ≡ true
-and_right true b h = h
-and_right false b h = cc
-
-pub both : {a b : Bool} → a ≡ true → b ≡ true → (a && b) ≡ true
-both {a = true} {b = true} h k = refl
-both {a = true} {b = false} h k = cc
-both {a = false} h k = cc
 
 differs : (b : ℕ) → (b ≡ 10 → ⊥) → no_newline b ≡ true
 differs b apart = by (b == 10) refl
@@ -30,10 +18,6 @@ differs b apart = by (b == 10) refl
     by : (same : Bool) → (b == 10) ≡ same → no_newline b ≡ true
     by true e = absurd (apart (grind (arith, nat_tests)))
     by false e = rw e refl
-
-not_is : (b : Bool) → not b ≡ true → b ≡ false
-not_is false h = refl
-not_is true h = cc
 
 -- a newline ends a piece
 newline_first : (rest : List ℕ) → pieces (10 ∷ rest) ≡ (10 ∷ []) ∷ pieces rest
@@ -48,16 +32,16 @@ byte_first b rest h = rw h refl
 pub pieces-ended : (line rest : List ℕ) → list_all no_newline line ≡ true → pieces (line ++ 10 ∷ rest) ≡ (line ++ 10 ∷ []) ∷ pieces rest
 pieces-ended [] rest h = newline_first rest
 pieces-ended (b ∷ line) rest h =
-    byte_first b (line ++ 10 ∷ rest) (not_is (b == 10) (and_left (no_newline b) (list_all no_newline line) h))
-    ∙ ap (led b) (pieces-ended line rest (and_right (no_newline b) (list_all no_newline line) h))
+    byte_first b (line ++ 10 ∷ rest) (not-true (b == 10) (and_parts (no_newline b) (list_all no_newline line) h).0)
+    ∙ ap (led b) (pieces-ended line rest (and_parts (no_newline b) (list_all no_newline line) h).1)
 
 -- what stands behind the last newline
 pub pieces-last : (b : ℕ) (line : List ℕ) → list_all no_newline (b ∷ line) ≡ true → pieces (b ∷ line) ≡ (b ∷ line) ∷ []
 unfolding pieces
-pieces-last b [] h = byte_first b [] (not_is (b == 10) (and_left (no_newline b) true h))
+pieces-last b [] h = byte_first b [] (not-true (b == 10) (and_parts (no_newline b) true h).0)
 pieces-last b (d ∷ line) h =
-    byte_first b (d ∷ line) (not_is (b == 10) (and_left (no_newline b) (list_all no_newline (d ∷ line)) h))
-    ∙ ap (led b) (pieces-last d line (and_right (no_newline b) (list_all no_newline (d ∷ line)) h))
+    byte_first b (d ∷ line) (not-true (b == 10) (and_parts (no_newline b) (list_all no_newline (d ∷ line)) h).0)
+    ∙ ap (led b) (pieces-last d line (and_parts (no_newline b) (list_all no_newline (d ∷ line)) h).1)
 
 line_byte : (b : ℕ) (rest : List ℕ) → (b == 10) ≡ false → line_of (b ∷ rest) ≡ b ∷ line_of rest
 unfolding line_of
@@ -67,15 +51,15 @@ pub line-ended : (line rest : List ℕ) → list_all no_newline line ≡ true �
 unfolding line_of
 line-ended [] rest h = refl
 line-ended (b ∷ line) rest h =
-    line_byte b (line ++ 10 ∷ rest) (not_is (b == 10) (and_left (no_newline b) (list_all no_newline line) h))
-    ∙ ap (λ (bytes : List ℕ). b ∷ bytes) (line-ended line rest (and_right (no_newline b) (list_all no_newline line) h))
+    line_byte b (line ++ 10 ∷ rest) (not-true (b == 10) (and_parts (no_newline b) (list_all no_newline line) h).0)
+    ∙ ap (λ (bytes : List ℕ). b ∷ bytes) (line-ended line rest (and_parts (no_newline b) (list_all no_newline line) h).1)
 
 pub line-last : (line : List ℕ) → list_all no_newline line ≡ true → line_of line ≡ line
 unfolding line_of
 line-last [] h = refl
 line-last (b ∷ line) h =
-    line_byte b line (not_is (b == 10) (and_left (no_newline b) (list_all no_newline line) h))
-    ∙ ap (λ (bytes : List ℕ). b ∷ bytes) (line-last line (and_right (no_newline b) (list_all no_newline line) h))
+    line_byte b line (not-true (b == 10) (and_parts (no_newline b) (list_all no_newline line) h).0)
+    ∙ ap (λ (bytes : List ℕ). b ∷ bytes) (line-last line (and_parts (no_newline b) (list_all no_newline line) h).1)
 
 -- the pieces one after another are the text
 join : List (List ℕ) → List ℕ
@@ -130,13 +114,13 @@ cut-at (b ∷ bytes) zero inside found before = (refl, ap (λ (d : ℕ). d ∷ b
 cut-at (b ∷ bytes) (suc i) inside found before =
     let more = cut-at bytes i (omega (arith, inside)) found (λ k below. before (suc k) (omega (arith, below))) in
     let here : no_newline b ≡ true = (let apart = before 0 (omega arith) in differs b apart) in
-    (both here more.0, ap (λ (rest : List ℕ). b ∷ rest) more.1)
+    (and_from _ _ here more.0, ap (λ (rest : List ℕ). b ∷ rest) more.1)
 
 pub none-at : (bytes : List ℕ) → ((k : ℕ) → k < length bytes → get_or bytes k 0 ≡ 10 → ⊥) → list_all no_newline bytes ≡ true
 none-at [] before = refl
 none-at (b ∷ bytes) before =
     let more = none-at bytes (λ k below. before (suc k) (omega (arith, below))) in
-    let here : no_newline b ≡ true = (let apart = before 0 (omega arith) in differs b apart) in both here more
+    let here : no_newline b ≡ true = (let apart = before 0 (omega arith) in differs b apart) in and_from _ _ here more
 
 -- what a search for the first newline has found
 pub piece-found : (bytes : List ℕ) (i : ℕ) → i < length bytes → get_or bytes i 0 ≡ 10 → ((k : ℕ) → k < i → get_or bytes k 0 ≡ 10 → ⊥)

@@ -1,13 +1,14 @@
 -- The lines of a text before its dump, and those of the dump.
 use Rattle.std.proofs.Common.{◌≡◌, ◌≢◌, ℕ, zero, suc, ◌<◌, Bool, true, false, List, [], ◌∷◌, ◌++◌, length, take, refl, sym, ap, ◌∙◌, subst, arith, Some, slice_get}
 use Rattle.std.specs.Prelude.{not}
+use Rattle.std.proofs.lemmas.Bool.{and_parts, not-true}
 use Rattle.std.specs.List.{list_all, flat_map}
 use Rattle.um_base.specs.declared.image.Image.{Image}
 use Rattle.um_machine.specs.State.{State}
 use Rattle.um_audit.specs.Lines.{line_of, is_dump, before_dump, from_dump}
 use Rattle.um_audit.specs.Steps.{IsStepLine, AreStepLines}
 use Rattle.um_audit.specs.Progress.{is_events}
-use Rattle.um_audit.proofs.LineLemmas.{AreEnded, and_left, and_right}
+use Rattle.um_audit.proofs.LineLemmas.{AreEnded}
 
 before_here : (p : List ℕ) (ps : List (List ℕ)) → is_dump p ≡ true → before_dump (p ∷ ps) ≡ []
 unfolding before_dump
@@ -25,21 +26,17 @@ from_on : (p : List ℕ) (ps : List (List ℕ)) → is_dump p ≡ false → from
 unfolding from_dump
 from_on p ps h = rw h refl
 
-is_false : (b : Bool) → not b ≡ true → b ≡ false
-is_false false h = refl
-is_false true h = cc
-
 -- behind lines that aren't `dump`
 pub before-behind : (done more : List (List ℕ)) → list_all is_events done ≡ true → before_dump (done ++ more) ≡ done ++ before_dump more
 before-behind [] more h = refl
 before-behind (p ∷ done) more h =
-    before_on p (done ++ more) (is_false (is_dump p) (and_left (is_events p) (list_all is_events done) h))
-    ∙ ap (λ (ps : List (List ℕ)). p ∷ ps) (before-behind done more (and_right (is_events p) (list_all is_events done) h))
+    before_on p (done ++ more) (not-true (is_dump p) (and_parts (is_events p) (list_all is_events done) h).0)
+    ∙ ap (λ (ps : List (List ℕ)). p ∷ ps) (before-behind done more (and_parts (is_events p) (list_all is_events done) h).1)
 
 pub from-behind : (done more : List (List ℕ)) → list_all is_events done ≡ true → from_dump (done ++ more) ≡ from_dump more
 from-behind [] more h = refl
 from-behind (p ∷ done) more h =
-    from_on p (done ++ more) (is_false (is_dump p) (and_left (is_events p) (list_all is_events done) h)) ∙ from-behind done more (and_right (is_events p) (list_all is_events done) h)
+    from_on p (done ++ more) (not-true (is_dump p) (and_parts (is_events p) (list_all is_events done) h).0) ∙ from-behind done more (and_parts (is_events p) (list_all is_events done) h).1
 
 pub before-nothing : before_dump [] ≡ []
 unfolding before_dump

@@ -1,6 +1,7 @@
 -- How far the lines of a text have been followed, and what a stop there says.
 use Rattle.std.proofs.Common.{◌≡◌, ◌≢◌, ℕ, ◌+◌, ◌<◌, Bool, true, false, List, [], ◌∷◌, ◌++◌, length, take, refl, sym, ap, ◌∙◌, subst, arith, append_assoc, length-append, slice_get}
 use Rattle.std.specs.Prelude.{not}
+use Rattle.std.proofs.lemmas.Bool.{and_from, not_from_false}
 use Rattle.std.proofs.lemmas.List.{append-nil}
 use Rattle.std.proofs.lemmas.List.Folds.{list_all-append}
 use Rattle.um_base.specs.declared.act.Event.{Event}
@@ -14,15 +15,10 @@ use Rattle.um_audit.specs.Lines.{pieces, line_of, is_dump, before_dump, from_dum
 use Rattle.um_audit.specs.Steps.{IsStepLine, IsNoStepLine, AreStepLines}
 use Rattle.um_audit.specs.Progress.{IsAt, is_events, IsStuck, nothing, refused, BeginsDump}
 use Rattle.um_audit.specs.Verdict.{event_pieces, dump_pieces, LeadsTo, StopsAt, no_step, no_line, DiffersAt, IsVerdict}
-use Rattle.um_audit.proofs.LineLemmas.{both}
 use Rattle.um_audit.proofs.PartLemmas.{before-behind, from-behind, before-nothing, from-nothing, before-dump, before-more, from-dump, steps-more, take-front, get-front}
 
 pub at-front : (image : Image) (text : List ℕ) (s : State) → s ≡ opening image → IsAt image text text 0 s
 at-front image text s opens = record { done = []; whole = refl; events = refl; count = refl; short = omega arith; led = opens }
-
-not_is : (b : Bool) → b ≡ false → not b ≡ true
-not_is false h = refl
-not_is true h = cc
 
 -- one line more
 pub at-next : (image : Image) (text rest behind : List ℕ) (lines : ℕ) (piece : List ℕ) (s s2 : State) → IsAt image text rest lines s → pieces rest ≡ piece ∷ pieces behind → length behind < length rest → is_dump piece ≡ false
@@ -31,7 +27,7 @@ at-next image text rest behind lines piece s s2 at cut less plain step =
     record {
       done = at.done ++ piece ∷ [];
       whole = at.whole ∙ ap (λ (ps : List (List ℕ)). at.done ++ ps) cut ∙ sym (append_assoc at.done (piece ∷ []) (pieces behind));
-      events = list_all-append is_events at.done (piece ∷ []) ∙ both at.events (both (not_is (is_dump piece) plain) refl);
+      events = list_all-append is_events at.done (piece ∷ []) ∙ and_from _ _ at.events (and_from _ _ (not_from_false (is_dump piece) plain) refl);
       count = length-append at.done (piece ∷ []) ∙ ap (λ (n : ℕ). n + 1) at.count;
       short = (let s = at.short in omega (arith, s, less));
       led = steps-more image (opening image) at.done piece s s2 at.led step;

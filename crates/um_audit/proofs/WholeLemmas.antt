@@ -1,6 +1,7 @@
 -- The texts of runs, in lines.
 use Rattle.std.proofs.Common.{◌≡◌, ◌≢◌, ℕ, Bool, true, false, List, [], ◌∷◌, ◌++◌, refl, sym, ap, ◌∙◌, subst, append_assoc, arith}
 use Rattle.std.specs.Prelude.{codes, nat_lt, bytes_eq}
+use Rattle.std.proofs.lemmas.Bool.{and_from, and_parts}
 use Rattle.std.specs.List.{list_all, flat_map}
 use Rattle.std.proofs.lemmas.Bool.Decides.{nat_tests}
 use Rattle.std.proofs.lemmas.Slice.Eq.{bytes_eq-Decides}
@@ -19,7 +20,7 @@ use Rattle.um_audit.specs.declared.verdict.Verdict.{Verdict}
 use Rattle.um_audit.specs.Lines.{pieces, line_of, is_dump, before_dump, from_dump}
 use Rattle.um_audit.specs.Steps.{IsLine, AreStepLines}
 use Rattle.um_audit.specs.Verdict.{IsVerdict, IsTextOfRun, event_pieces, dump_pieces}
-use Rattle.um_audit.proofs.LineLemmas.{no_newline, pieces-ended, line-ended, pieces-joined, pieces-end, both, and_left, and_right}
+use Rattle.um_audit.proofs.LineLemmas.{no_newline, pieces-ended, line-ended, pieces-joined, pieces-end}
 use Rattle.um_audit.proofs.PartLemmas.{before-more, before-dump, from-more, from-dump, parts-whole, all_ended, all_joined, ended-joined}
 
 greater : (b : ℕ) → nat_lt 10 b ≡ true → no_newline b ≡ true
@@ -28,7 +29,7 @@ greater b h = grind (arith, nat_tests)
 newline_free : (xs : List ℕ) → list_all (λ b. nat_lt 10 b) xs ≡ true → list_all no_newline xs ≡ true
 newline_free [] h = refl
 newline_free (b ∷ xs) h =
-    both (greater b (and_left (nat_lt 10 b) (list_all (λ d. nat_lt 10 d) xs) h)) (newline_free xs (and_right (nat_lt 10 b) (list_all (λ d. nat_lt 10 d) xs) h))
+    and_from _ _ (greater b (and_parts (nat_lt 10 b) (list_all (λ d. nat_lt 10 d) xs) h).0) (newline_free xs (and_parts (nat_lt 10 b) (list_all (λ d. nat_lt 10 d) xs) h).1)
 
 -- an event's line, with its newline
 abbrev pub ended : Image → Event → List ℕ

@@ -2,7 +2,7 @@
 use Rattle.std.proofs.Common.{◌≡◌, inl, inr, ◌⊎◌, ℕ, zero, suc, ◌+◌, ◌-◌, ◌*◌, ◌/◌, ◌%◌, ◌<◌, ◌≤◌, Bool, true, false, ◌&&◌, not, List, [], ◌∷◌, ◌++◌, length, get_or, refl, sym, ap, ◌∙◌, arith, if◌then◌else◌, Option, Some, None, slice_index, slice_get}
 use Rattle.std.specs.Prelude.{◌==◌, nat_lt, nat_le, map, position, is_some, codes, decimal, bytes_eq}
 use Rattle.std.specs.List.{list_all}
-use Rattle.std.proofs.lemmas.Bool.{cases_lt}
+use Rattle.std.proofs.lemmas.Bool.{and_parts, cases_lt}
 use Rattle.std.proofs.lemmas.Bool.Decides.{nat_tests}
 use Rattle.std.proofs.lemmas.List.{length-map}
 use Rattle.std.proofs.lemmas.List.Quantifiers.{position-Some}
@@ -20,7 +20,7 @@ use Rattle.um_base.specs.Places.{addr_of, dynamic_row, or_else, row_at}
 use Rattle.um_trace.specs.Digits.{glyph_of, hex8, address}
 use Rattle.um_trace.specs.Names.{row_text, object_in, object_text}
 use Rattle.um_texts.proofs.SplitLemmas.{heads, tails}
-use Rattle.um_texts.proofs.PlainLemmas.{and_left, and_right, all_get}
+use Rattle.um_texts.proofs.PlainLemmas.{all_get}
 use Rattle.um_texts.proofs.NameLemmas.{AreNamed}
 use Rattle.um_texts.proofs.IdentityLemmas.{is_real, row_known, at_row, static_text, dynamic_text, behind}
 use Rattle.um_texts.proofs.OwnLemmas.{IsSound, has_position, real_at}
@@ -76,10 +76,10 @@ abbrev pub addrs : List ObjectDef → List ℕ
 addrs os = map (λ (o : ObjectDef). o.addr.0) os
 
 here_addr : (o : ObjectDef) (os : List ObjectDef) (x : ℕ) → stand_in_rows (o ∷ os) x ≡ true → o.addr.0 ≡ addr_given o.setup x
-here_addr o os x h = let test = and_left (o.addr.0 == addr_given o.setup x) (stand_in_rows os (x + 1)) h in grind (arith, nat_tests)
+here_addr o os x h = let test = (and_parts (o.addr.0 == addr_given o.setup x) (stand_in_rows os (x + 1)) h).0 in grind (arith, nat_tests)
 
 there_addr : (o : ObjectDef) (os : List ObjectDef) (x : ℕ) → stand_in_rows (o ∷ os) x ≡ true → stand_in_rows os (x + 1) ≡ true
-there_addr o os x h = and_right (o.addr.0 == addr_given o.setup x) (stand_in_rows os (x + 1)) h
+there_addr o os x h = (and_parts (o.addr.0 == addr_given o.setup x) (stand_in_rows os (x + 1)) h).1
 
 -- all stacks begin before the other objects
 abbrev AreLow : List ℕ → Type 0
@@ -146,8 +146,8 @@ AreSome ranges = (k : ℕ) → k < length (sizes_of ranges) → 1 ≤ slice_inde
 
 stack_some : (mpu : Mpu) (kind : Kind) (range : Range) (declared : ℕ) → is_setup_of mpu kind (Setup.ThreadStack range declared) ≡ true → 1 ≤ range.size
 stack_some mpu Kind.ThreadStack range declared h =
-    let within = and_left (is_within 1 AREA_ENTRY declared) (rounded mpu declared == range.size) h in
-    let size = and_right (is_within 1 AREA_ENTRY declared) (rounded mpu declared == range.size) h in
+    let within = (and_parts (is_within 1 AREA_ENTRY declared) (rounded mpu declared == range.size) h).0 in
+    let size = (and_parts (is_within 1 AREA_ENTRY declared) (rounded mpu declared == range.size) h).1 in
     let low : 1 ≤ declared = grind (arith, nat_tests) in
     let high : declared ≤ 65536 = grind (arith, nat_tests) in
     let some = rounded_some mpu declared low high in
@@ -176,8 +176,8 @@ some_with mpu kind (Setup.Pipe size) ranges h all = all
 stacks_some : (mpu : Mpu) (os : List ObjectDef) → list_all (λ (o : ObjectDef). is_setup_of mpu o.kind o.setup) os ≡ true → AreSome (stack_ranges os)
 stacks_some mpu [] h = λ k inside. absurd (omega arith)
 stacks_some mpu (o ∷ os) h =
-    some_with mpu o.kind o.setup (stack_ranges os) (and_left (is_setup_of mpu o.kind o.setup) (list_all (λ (o : ObjectDef). is_setup_of mpu o.kind o.setup) os) h)
-    (stacks_some mpu os (and_right (is_setup_of mpu o.kind o.setup) (list_all (λ (o : ObjectDef). is_setup_of mpu o.kind o.setup) os) h))
+    some_with mpu o.kind o.setup (stack_ranges os) (and_parts (is_setup_of mpu o.kind o.setup) (list_all (λ (o : ObjectDef). is_setup_of mpu o.kind o.setup) os) h).0
+    (stacks_some mpu os (and_parts (is_setup_of mpu o.kind o.setup) (list_all (λ (o : ObjectDef). is_setup_of mpu o.kind o.setup) os) h).1)
 
 places_apart : (image : Image) → IsLawful image → AllApart (places_of (stack_ranges image.objects))
 places_apart image lawful =
@@ -389,9 +389,9 @@ mark_raw xs ys h = cc
 
 named_raw : (name ys : List ℕ) → is_name name ≡ true → name ≡ codes "0x" ++ ys → ⊥
 named_raw name ys h e =
-    let all = and_left (nat_le (length name) 24 && begins_with_letter name && list_all is_name_byte name) (not (bytes_eq name (codes "rodata"))) h in
-    let two = and_left (nat_le (length name) 24 && begins_with_letter name) (list_all is_name_byte name) all in
-    let first : begins_with_letter name ≡ true = and_right (nat_le (length name) 24) (begins_with_letter name) two in
+    let all = (and_parts (nat_le (length name) 24 && begins_with_letter name && list_all is_name_byte name) (not (bytes_eq name (codes "rodata"))) h).0 in
+    let two = (and_parts (nat_le (length name) 24 && begins_with_letter name) (list_all is_name_byte name) all).0 in
+    let first : begins_with_letter name ≡ true = (and_parts (nat_le (length name) 24) (begins_with_letter name) two).1 in
     let letter : begins_with_letter (codes "0x" ++ ys) ≡ true = rw e at first in cc
 
 not_raw : (image : Image) → IsSound image → AreNamed image → (x b : ℕ) → is_real image x ≡ true → row_text image x ≡ address b → ⊥

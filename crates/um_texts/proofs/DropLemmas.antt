@@ -2,7 +2,7 @@
 use Rattle.std.proofs.Common.{◌≡◌, inl, inr, ℕ, zero, suc, ◌+◌, ◌-◌, ◌<◌, ◌≤◌, Bool, true, false, ◌&&◌, ◌||◌, List, [], ◌∷◌, length, refl, sym, ap, ◌∙◌, arith, Option, Some, None, slice_index_or, map, unwrap_or}
 use Rattle.std.specs.Prelude.{nat_lt, nat_le, position}
 use Rattle.std.proofs.Math.Seq.{map-set_same}
-use Rattle.std.proofs.lemmas.Bool.{cases_lt}
+use Rattle.std.proofs.lemmas.Bool.{and_parts, cases_lt}
 use Rattle.std.proofs.lemmas.Bool.Decides.{nat_tests}
 use Rattle.std.proofs.lemmas.List.Quantifiers.{position-Some}
 use Rattle.um_base.specs.declared.act.Act.{Act}
@@ -24,7 +24,6 @@ use Rattle.um_machine.specs.Objects.{is_gone}
 use Rattle.um_machine.specs.Order.{Steps, to_addr, to_thread}
 use Rattle.um_machine.specs.Run.{Offers, goes, skips_inherit, skips_drops, MayChoose}
 use Rattle.um_machine.specs.Table.{act_of, after, after_drop, at_steps, cleaned_by, dropped, row_of, with_dues}
-use Rattle.um_texts.proofs.PlainLemmas.{and_left, and_right}
 use Rattle.um_texts.proofs.IdentityLemmas.{is_real, has_own, static_own, dynamic_own}
 use Rattle.um_texts.proofs.StateLemmas.{left_state, IsKept, is_answer_void, begins_with_start, begins_with_clear, are_fit}
 use Rattle.um_texts.proofs.OwnLemmas.{IsSound}
@@ -130,11 +129,11 @@ clear_no_drops from rest h = cc
 -- what stands behind an inheritance, and behind the drops of an end
 pub behind_inherit : (image : Image) (s : State) → IsKept image s → (t : ℕ) (who : ThreadIx) (rest : Steps) → (thread_at s t).pending ≡ Pending.Inherit who ∷ rest → begins_with_start rest ≡ true
 behind_inherit image s kept t who rest e =
-    let fit : are_fit image (Pending.Inherit who ∷ rest) ≡ true = rw e at (kept.fit t) in and_left (begins_with_start rest) (are_fit image rest) fit
+    let fit : are_fit image (Pending.Inherit who ∷ rest) ≡ true = rw e at (kept.fit t) in (and_parts (begins_with_start rest) (are_fit image rest) fit).0
 
 pub behind_drops : (image : Image) (s : State) → IsKept image s → (t from : ℕ) (rest : Steps) → (thread_at s t).pending ≡ Pending.Drops from ∷ rest → begins_with_clear rest ≡ true
 behind_drops image s kept t from rest e =
-    let fit : are_fit image (Pending.Drops from ∷ rest) ≡ true = rw e at (kept.fit t) in and_left (begins_with_clear rest) (are_fit image rest) fit
+    let fit : are_fit image (Pending.Drops from ∷ rest) ≡ true = rw e at (kept.fit t) in (and_parts (begins_with_clear rest) (are_fit image rest) fit).0
 
 pub drop_next : (image : Image) (s : State) → IsKept image s → (t : ℕ) (who : ThreadIx) (a : Addr) (rest : Steps) → Offers s t (Pending.DropPair who a) rest → (thread_at s t).pending ≡ Pending.DropPair who a ∷ rest
 drop_next image s kept t who a rest (goes e) = e
@@ -150,13 +149,13 @@ pair_drop : (image : Image) (s : State) → IsKept image s → (t : ℕ) (who : 
     → IsDrop image s (act_of s t x (Pending.DropPair who a)) (after s t x (Pending.DropPair who a) rest)
 pair_drop image s kept t who a rest x e =
     let fit : are_fit image (Pending.DropPair who a ∷ rest) ≡ true = rw e at (kept.fit t) in
-    let here = and_left (has_own image who.0 && is_answer_void rest) (are_fit image rest) fit in
-    let void = void_is rest (and_right (has_own image who.0) (is_answer_void rest) here) in
+    let here = (and_parts (has_own image who.0 && is_answer_void rest) (are_fit image rest) fit).0 in
+    let void = void_is rest (and_parts (has_own image who.0) (is_answer_void rest) here).1 in
     let s2 = after_drop s who.0 (row_of s a) in
     record {
       who = who;
       addr = a;
-      own = and_left (has_own image who.0) (is_answer_void rest) here;
+      own = (and_parts (has_own image who.0) (is_answer_void rest) here).0;
       says = refl;
       leaves = unwritten s2 t _ (drop_done s2.image (thread_at s2 t) who a rest (pending_drop s who.0 (row_of s a) t ∙ e) void);
     }

@@ -3,7 +3,7 @@ use Rattle.std.proofs.Common.{◌≡◌, ℕ, zero, suc, ◌+◌, ◌-◌, ◌<�
 use Rattle.std.specs.Prelude.{◌==◌, nat_lt, nat_le, codes, decimal, map, bytes_eq, position, is_some}
 use Rattle.std.specs.List.{list_all, list_any}
 use Rattle.std.specs.Option.{option_map, option_and_then}
-use Rattle.std.proofs.lemmas.Bool.{cases_lt}
+use Rattle.std.proofs.lemmas.Bool.{and_parts, cases_lt}
 use Rattle.std.proofs.lemmas.Bool.Decides.{nat_tests}
 use Rattle.std.proofs.lemmas.Fmt.{decimal_injective}
 use Rattle.std.proofs.lemmas.List.Folds.{list_any-append}
@@ -22,7 +22,7 @@ use Rattle.um_base.specs.declared.names.Kind.{Kind}
 use Rattle.um_base.specs.Lawful.{is_name, begins_with_letter, is_name_byte, are_distinct_names, IsLawful}
 use Rattle.um_base.specs.Places.{own_row, is_thread_index, setup_thread}
 use Rattle.um_trace.specs.Names.{row_text, thread_text}
-use Rattle.um_texts.proofs.PlainLemmas.{and_left, and_right, all_get}
+use Rattle.um_texts.proofs.PlainLemmas.{all_get}
 use Rattle.um_texts.proofs.NameLemmas.{AreNamed}
 
 -- whether an object can stand at a row
@@ -50,7 +50,7 @@ itself a = (bytes_eq-Decides a a).1 refl
 
 clash : (x : List ℕ) (xs : List (List ℕ)) (j : ℕ) → slice_get xs j ≡ Some x → are_distinct_names (x ∷ xs) ≡ true → ⊥
 clash x xs j e h =
-    let no = and_left (not (list_any (bytes_eq x) xs)) (are_distinct_names xs) h in
+    let no = (and_parts (not (list_any (bytes_eq x) xs)) (are_distinct_names xs) h).0 in
     let yes = found (bytes_eq x) xs j x e (itself x) in cc
 
 same_place : (xs : List (List ℕ)) (i j : ℕ) (a : List ℕ) → are_distinct_names xs ≡ true → slice_get xs i ≡ Some a → slice_get xs j ≡ Some a → i ≡ j
@@ -58,7 +58,7 @@ same_place [] i j a h e f = cc
 same_place (x ∷ xs) zero zero a h e f = refl
 same_place (x ∷ xs) zero (suc j) a h e f = let same : a ≡ x = cc in absurd (clash x xs j (rw same at f) h)
 same_place (x ∷ xs) (suc i) zero a h e f = let same : a ≡ x = cc in absurd (clash x xs i (rw same at e) h)
-same_place (x ∷ xs) (suc i) (suc j) a h e f = ap suc (same_place xs i j a (and_right (not (list_any (bytes_eq x) xs)) (are_distinct_names xs) h) e f)
+same_place (x ∷ xs) (suc i) (suc j) a h e f = ap suc (same_place xs i j a (and_parts (not (list_any (bytes_eq x) xs)) (are_distinct_names xs) h).1 e f)
 
 apart_front : (x : List ℕ) (xs ys : List (List ℕ)) → not (list_any (bytes_eq x) (xs ++ ys)) ≡ true → not (list_any (bytes_eq x) xs) ≡ true
 apart_front x xs ys h = front (list_any (bytes_eq x) xs) (list_any (bytes_eq x) ys) (rw list_any-append at h)
@@ -70,12 +70,12 @@ apart_front x xs ys h = front (list_any (bytes_eq x) xs) (list_any (bytes_eq x) 
 distinct_front : (xs ys : List (List ℕ)) → are_distinct_names (xs ++ ys) ≡ true → are_distinct_names xs ≡ true
 distinct_front [] ys h = refl
 distinct_front (x ∷ xs) ys h =
-    let first = apart_front x xs ys (and_left (not (list_any (bytes_eq x) (xs ++ ys))) (are_distinct_names (xs ++ ys)) h) in
-    let rest = distinct_front xs ys (and_right (not (list_any (bytes_eq x) (xs ++ ys))) (are_distinct_names (xs ++ ys)) h) in rw (first, rest) refl
+    let first = apart_front x xs ys (and_parts (not (list_any (bytes_eq x) (xs ++ ys))) (are_distinct_names (xs ++ ys)) h).0 in
+    let rest = distinct_front xs ys (and_parts (not (list_any (bytes_eq x) (xs ++ ys))) (are_distinct_names (xs ++ ys)) h).1 in rw (first, rest) refl
 
 distinct_back : (xs ys : List (List ℕ)) → are_distinct_names (xs ++ ys) ≡ true → are_distinct_names ys ≡ true
 distinct_back [] ys h = h
-distinct_back (x ∷ xs) ys h = distinct_back xs ys (and_right (not (list_any (bytes_eq x) (xs ++ ys))) (are_distinct_names (xs ++ ys)) h)
+distinct_back (x ∷ xs) ys h = distinct_back xs ys (and_parts (not (list_any (bytes_eq x) (xs ++ ys))) (are_distinct_names (xs ++ ys)) h).1
 
 object_names : (image : Image) → IsLawful image → are_distinct_names (map (λ (o : ObjectDef). o.name) image.objects) ≡ true
 object_names image lawful =
@@ -89,9 +89,9 @@ object_names image lawful =
 -- what is shown of a dynamic row begins with a mark that no name begins with
 name_begins : (name : List ℕ) (j : ℕ) → is_name name ≡ true → name ≡ codes "#" ++ decimal j → ⊥
 name_begins name j h e =
-    let all = and_left (nat_le (length name) 24 && begins_with_letter name && list_all is_name_byte name) (not (bytes_eq name (codes "rodata"))) h in
-    let two = and_left (nat_le (length name) 24 && begins_with_letter name) (list_all is_name_byte name) all in
-    let first : begins_with_letter name ≡ true = and_right (nat_le (length name) 24) (begins_with_letter name) two in
+    let all = (and_parts (nat_le (length name) 24 && begins_with_letter name && list_all is_name_byte name) (not (bytes_eq name (codes "rodata"))) h).0 in
+    let two = (and_parts (nat_le (length name) 24 && begins_with_letter name) (list_all is_name_byte name) all).0 in
+    let first : begins_with_letter name ≡ true = (and_parts (nat_le (length name) 24) (begins_with_letter name) two).1 in
     let mark : begins_with_letter (codes "#" ++ decimal j) ≡ true = rw e at first in cc
 
 behind_mark : (xs ys : List ℕ) → codes "#" ++ xs ≡ codes "#" ++ ys → xs ≡ ys

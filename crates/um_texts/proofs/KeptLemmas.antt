@@ -1,6 +1,7 @@
 -- Each step keeps what holds in each state of a run.
 use Rattle.std.proofs.Common.{◌≡◌, ℕ, zero, suc, Bool, true, false, List, ◌∷◌, refl, Option, Some, None, if◌then◌else◌, slice_set, length}
 use Rattle.std.specs.Prelude.{replicate}
+use Rattle.std.proofs.lemmas.Bool.{and_parts}
 use Rattle.um_base.specs.declared.act.Answer.{Answer}
 use Rattle.um_base.specs.declared.act.Found.{Found}
 use Rattle.um_base.specs.declared.act.SetSaid.{SetSaid}
@@ -25,7 +26,6 @@ use Rattle.um_machine.specs.Objects.{verdict, is_gone}
 use Rattle.um_machine.specs.Order.{Steps, to_thread, steps_of, fatal_steps}
 use Rattle.um_machine.specs.Run.{MayChoose}
 use Rattle.um_machine.specs.Table.{after, after_begin, after_answer, resumed, after_set, set_said, row_of, erased, after_reserve, after_domain, ended, work_of, all_woken, buffer_cost, without_copy, after_string, amount_of}
-use Rattle.um_texts.proofs.PlainLemmas.{and_left, and_right}
 use Rattle.um_texts.proofs.IdentityLemmas.{is_real, has_own, own_real}
 use Rattle.um_texts.proofs.StateLemmas.{IsKept, fits, are_fit, kept_thread, kept_same, kept_object, kept_status, kept_paired, kept_given, kept_drop, kept_bytes, kept_pools, kept_moved, kept_woken}
 use Rattle.um_texts.proofs.OwnLemmas.{IsSound, real_of_addr}
@@ -140,12 +140,12 @@ kept_after image sound s kept t x (Pending.Answer reply to) rest own fit may = k
 kept_after image sound s kept t x (Pending.Grant who a) rest own fit may =
     kept_thread image _ t _ (kept_given image s who.0 (row_of s a) kept (real_row image sound s kept a)) (λ h. own) fit
 kept_after image sound s kept t x (Pending.Own who) rest own fit may =
-    let whose = and_left (has_own image who.0) (are_fit image rest) fit in
-    kept_thread image _ t _ (kept_given image s who.0 (own_row s.image who.0) kept (real_own image s kept who.0 whose)) (λ h. own) (and_right (has_own image who.0) (are_fit image rest) fit)
+    let whose = (and_parts (has_own image who.0) (are_fit image rest) fit).0 in
+    kept_thread image _ t _ (kept_given image s who.0 (own_row s.image who.0) kept (real_own image s kept who.0 whose)) (λ h. own) (and_parts (has_own image who.0) (are_fit image rest) fit).1
 kept_after image sound s kept t x (Pending.Inherit who) rest own fit may =
     kept_thread image _ t _ (kept_paired image s who.0 x true kept (λ h. kept.real t x may.0)) (λ h. own) fit
 kept_after image sound s kept t x (Pending.DropPair who a) rest own fit may =
-    kept_thread image _ t _ (kept_drop image s who.0 (row_of s a) kept) (λ h. own) (and_right (fits image (Pending.DropPair who a) rest) (are_fit image rest) fit)
+    kept_thread image _ t _ (kept_drop image s who.0 (row_of s a) kept) (λ h. own) (and_parts (fits image (Pending.DropPair who a) rest) (are_fit image rest) fit).1
 kept_after image sound s kept t x (Pending.Publish a) rest own fit may =
     let y = row_of s a in
     let o2 : Object = record (object_at s y) { public = true } in
@@ -170,8 +170,8 @@ kept_after image sound s kept t x (Pending.DomAdd d range attr) rest own fit may
 kept_after image sound s kept t x (Pending.DomRemove d range attr) rest own fit may = kept_domain image s t (thread_at s t) d _ _ rest kept own fit
 kept_after image sound s kept t x (Pending.DomMove d who) rest own fit may = kept_thread image _ t _ (kept_moved image s who.0 d _ kept) (λ h. own) fit
 kept_after image sound s kept t x (Pending.Start who script stack priority mode) rest own fit may =
-    let whose = and_left (has_own image who.0) (are_fit image rest) fit in
-    kept_thread image _ t _ (kept_thread image s who.0 _ kept (λ h. whose) refl) (λ h. own) (and_right (has_own image who.0) (are_fit image rest) fit)
+    let whose = (and_parts (has_own image who.0) (are_fit image rest) fit).0 in
+    kept_thread image _ t _ (kept_thread image s who.0 _ kept (λ h. whose) refl) (λ h. own) (and_parts (has_own image who.0) (are_fit image rest) fit).1
 kept_after image sound s kept t x (Pending.EnterUser script) rest own fit may = kept_thread image s t _ kept (λ h. own) refl
 kept_after image sound s kept t x (Pending.Fatal reason cause) rest own fit may =
     let me = thread_at s t in

@@ -1,6 +1,7 @@
 -- The names of a lawful image have no spaces, and what is shown by them.
 use Rattle.std.proofs.Common.{◌≡◌, ℕ, ◌-◌, Bool, true, false, if◌then◌else◌, List, ◌++◌, refl, sym, ◌∙◌, Option, Some, None, slice_get}
 use Rattle.std.specs.Prelude.{IfSome, ◌==◌, codes, decimal, map}
+use Rattle.std.proofs.lemmas.Bool.{and_parts}
 use Rattle.std.specs.List.{list_all}
 use Rattle.std.proofs.lemmas.List.Folds.{list_all-append, list_all-map}
 use Rattle.um_base.specs.declared.attr.Attr.{Attr}
@@ -19,7 +20,7 @@ use Rattle.um_base.specs.Places.{own_row, row_at}
 use Rattle.um_trace.specs.Digits.{address}
 use Rattle.um_trace.specs.Words.{errno_word, attr_word}
 use Rattle.um_trace.specs.Names.{row_in, row_text, thread_text, object_in, object_text, domain_in, domain_text, script_in, script_text, part_text, reply_text}
-use Rattle.um_texts.proofs.PlainLemmas.{solid, and_left, and_right, all_get, solid_append, decimal_solid, address_solid, name_solid}
+use Rattle.um_texts.proofs.PlainLemmas.{solid, all_get, solid_append, decimal_solid, address_solid, name_solid}
 
 -- the names that lines show
 pub record AreNamed (image : Image) : Type 0 where
@@ -28,10 +29,10 @@ pub record AreNamed (image : Image) : Type 0 where
   pub scripts : list_all (λ (s : Script). is_name s.name) image.scripts ≡ true
 
 all_front : (xs ys : List (List ℕ)) → list_all is_name (xs ++ ys) ≡ true → list_all is_name xs ≡ true
-all_front xs ys h = and_left (list_all is_name xs) (list_all is_name ys) (rw list_all-append at h)
+all_front xs ys h = (and_parts (list_all is_name xs) (list_all is_name ys) (rw list_all-append at h)).0
 
 all_back : (xs ys : List (List ℕ)) → list_all is_name (xs ++ ys) ≡ true → list_all is_name ys ≡ true
-all_back xs ys h = and_right (list_all is_name xs) (list_all is_name ys) (rw list_all-append at h)
+all_back xs ys h = (and_parts (list_all is_name xs) (list_all is_name ys) (rw list_all-append at h)).1
 
 pub are_named : (image : Image) → IsLawful image → AreNamed image
 are_named image lawful =

@@ -1,6 +1,7 @@
 -- The opening state of an image, and that an image in which a thread makes a step has a thread of index 0.
 use Rattle.std.proofs.Common.{◌≡◌, ℕ, zero, suc, ◌+◌, ◌≤◌, Bool, true, false, ◌&&◌, ◌||◌, List, [], ◌∷◌, length, refl, sym, ap, ◌∙◌, arith, Option, Some, None, slice_index_or, slice_get, if◌then◌else◌}
 use Rattle.std.specs.Prelude.{nat_lt, replicate}
+use Rattle.std.proofs.lemmas.Bool.{and_parts}
 use Rattle.std.specs.List.{list_all}
 use Rattle.std.proofs.lemmas.Bool.Decides.{nat_tests}
 use Rattle.um_base.specs.declared.image.Boot.{Boot}
@@ -21,7 +22,7 @@ use Rattle.um_machine.specs.State.{State, nobody, vacant, thread_at, object_at, 
 use Rattle.um_machine.specs.Objects.{is_gone}
 use Rattle.um_machine.specs.Order.{Steps}
 use Rattle.um_machine.specs.Run.{Offers, goes, skips_inherit, skips_drops, begins, exits, cleans_pair, recycles, objects_from, boot_thread, index_or, granted, booted_one, booted, loaded, blank, opening}
-use Rattle.um_texts.proofs.PlainLemmas.{and_left, and_right, all_get}
+use Rattle.um_texts.proofs.PlainLemmas.{all_get}
 use Rattle.um_texts.proofs.IdentityLemmas.{is_real, has_own}
 use Rattle.um_texts.proofs.StateLemmas.{IsKept, is_acting, has_steps, are_fit, kept_thread, kept_pair, kept_bytes}
 use Rattle.um_texts.proofs.OwnLemmas.{IsSound, own_of_row, own_index, index_is}
@@ -80,8 +81,8 @@ kept_granted : (image : Image) (t : ℕ) (xs : List Row) (s : State) → IsKept 
 kept_granted image t [] s kept h = kept
 kept_granted image t (x ∷ xs) s kept h =
     kept_granted image t xs (with_pair s t x.0 true)
-    (kept_pair image s t x.0 true kept (λ e. real_below image x.0 (and_left (nat_lt x.0 (length image.objects)) (list_all (λ (y : Row). nat_lt y.0 (length image.objects)) xs) h)))
-    (and_right (nat_lt x.0 (length image.objects)) (list_all (λ (y : Row). nat_lt y.0 (length image.objects)) xs) h)
+    (kept_pair image s t x.0 true kept (λ e. real_below image x.0 (and_parts (nat_lt x.0 (length image.objects)) (list_all (λ (y : Row). nat_lt y.0 (length image.objects)) xs) h).0))
+    (and_parts (nat_lt x.0 (length image.objects)) (list_all (λ (y : Row). nat_lt y.0 (length image.objects)) xs) h).1
 
 passes_within : (p : ObjectDef → Bool) (os : List ObjectDef) (x : ℕ) → object_passes p (slice_get os x) ≡ true → nat_lt x (length os) ≡ true
 passes_within p [] x h = cc
@@ -96,7 +97,7 @@ pub record IsUsable (image : Image) (boot : Boot) : Type 0 where
 usable : (image : Image) (boot : Boot) → is_lawful_boot image boot ≡ true → IsUsable image boot
 usable image boot h = record {
   thread = by _ _ _ _ _ _ _ h;
-  grants = and_right _ _ h;
+  grants = (and_parts _ _ h).1;
 }
   where
     by : (a b c d e f g : Bool) → (a && b && c && d && e && f && g) ≡ true → a ≡ true
@@ -113,8 +114,8 @@ kept_booted_one image sound boot s lawful kept =
 kept_booted : (image : Image) → IsSound image → (boots : List Boot) (s : State) → list_all (is_lawful_boot image) boots ≡ true → IsKept image s → IsKept image (booted boots s)
 kept_booted image sound [] s h kept = kept
 kept_booted image sound (boot ∷ boots) s h kept =
-    kept_booted image sound boots (booted_one boot s) (and_right (is_lawful_boot image boot) (list_all (is_lawful_boot image) boots) h)
-    (kept_booted_one image sound boot s (usable image boot (and_left (is_lawful_boot image boot) (list_all (is_lawful_boot image) boots) h)) kept)
+    kept_booted image sound boots (booted_one boot s) (and_parts (is_lawful_boot image boot) (list_all (is_lawful_boot image) boots) h).1
+    (kept_booted_one image sound boot s (usable image boot (and_parts (is_lawful_boot image boot) (list_all (is_lawful_boot image) boots) h).0) kept)
 
 pub kept_opening : (image : Image) → IsSound image → IsKept image (opening image)
 kept_opening image sound =
@@ -173,11 +174,11 @@ first_index (p ∷ os) t j i o h at e = by (λ k g a. first_index os t k i o g a
 
     by : ((k : ℕ) → has_indices os t ≡ true → slice_get os k ≡ Some o → HasIndex os t) → (index : Option ℕ) → setup_thread p.setup ≡ index → (j : ℕ) → slice_get (p ∷ os) j ≡ Some o → HasIndex (p ∷ os) t
     by deeper (Some x) is j at =
-        let here = and_left (has_index p.setup t) (has_indices os (index_after p.setup t)) h in
+        let here = (and_parts (has_index p.setup t) (has_indices os (index_after p.setup t)) h).0 in
         (zero, p, refl, is ∙ ap (λ (n : ℕ). Some n) (index_is p.setup t x here is).0)
     by deeper None is zero at = let same : p ≡ o = cc in absurd (none (sym is ∙ rw same e))
     by deeper None is (suc j) at =
-        let rest = and_right (has_index p.setup t) (has_indices os (index_after p.setup t)) h in
+        let rest = (and_parts (has_index p.setup t) (has_indices os (index_after p.setup t)) h).1 in
         let found = deeper j (rw (no_index p.setup t is) at rest) at in (suc found.0, found.1, found.2, found.3)
 
 thread_setup : (mpu : Mpu) (kind : Kind) (setup : Setup) → is_thread kind ≡ true → is_setup_of mpu kind setup ≡ true → (i : ℕ) × (setup_thread setup ≡ Some i)

@@ -3,7 +3,7 @@ use Rattle.std.proofs.Common.{◌≡◌, ℕ, zero, suc, ◌+◌, ◌-◌, ◌*�
 use Rattle.std.specs.Prelude.{◌==◌, nat_lt, nat_le, map, position, is_some, if◌then◌else◌, slice_index_or}
 use Rattle.std.specs.List.{position_or_len}
 use Rattle.std.specs.Option.{option_and_then}
-use Rattle.std.proofs.lemmas.Bool.{cases_lt}
+use Rattle.std.proofs.lemmas.Bool.{and_parts, cases_lt, or_left, or_right}
 use Rattle.std.proofs.lemmas.Bool.Decides.{nat_tests}
 use Rattle.std.proofs.lemmas.List.Quantifiers.{position-Some}
 use Rattle.std.proofs.lemmas.List.Sums.{fails_before_first}
@@ -15,7 +15,6 @@ use Rattle.um_base.specs.declared.limits.TheConstants.{STATIC_ROWS, ROWS, STATIC
 use Rattle.um_base.specs.declared.names.Kind.{Kind}
 use Rattle.um_base.specs.Lawful.{has_index, index_after, has_indices, IsLawful}
 use Rattle.um_base.specs.Places.{dynamic_row, or_else, row_at, setup_at, setup_thread, is_thread_index, thread_of_row, thread_of_addr}
-use Rattle.um_texts.proofs.PlainLemmas.{and_left, and_right}
 use Rattle.um_texts.proofs.IdentityLemmas.{is_real, has_own, has_static}
 
 -- What is known of an image in which a thread can run.
@@ -50,7 +49,7 @@ after_some (Setup.Pipe size) t = omega arith
 indices_few : (os : List ObjectDef) (t : ℕ) → has_indices os t ≡ true → t ≤ STATIC_THREADS
 indices_few [] t h = grind (arith, nat_tests)
 indices_few (o ∷ os) t h =
-    let rest = indices_few os (index_after o.setup t) (and_right (has_index o.setup t) (has_indices os (index_after o.setup t)) h) in
+    let rest = indices_few os (index_after o.setup t) (and_parts (has_index o.setup t) (has_indices os (index_after o.setup t)) h).1 in
     let more = after_some o.setup t in omega arith
 
 pub index_is : (setup : Setup) (t i : ℕ) → has_index setup t ≡ true → setup_thread setup ≡ Some i → (i ≡ t) × (index_after setup t ≡ t + 1)
@@ -67,21 +66,14 @@ index_few : (os : List ObjectDef) (t j i : ℕ) (o : ObjectDef) → has_indices 
 index_few [] t j i o h at e = cc
 index_few (p ∷ os) t zero i o h at e =
     let same : p ≡ o = cc in
-    let is = index_is p.setup t i (and_left (has_index p.setup t) (has_indices os (index_after p.setup t)) h) (rw same e) in
-    let few = indices_few os (index_after p.setup t) (and_right (has_index p.setup t) (has_indices os (index_after p.setup t)) h) in
+    let is = index_is p.setup t i (and_parts (has_index p.setup t) (has_indices os (index_after p.setup t)) h).0 (rw same e) in
+    let few = indices_few os (index_after p.setup t) (and_parts (has_index p.setup t) (has_indices os (index_after p.setup t)) h).1 in
     let a = is.0 in let b = is.1 in omega arith
 index_few (p ∷ os) t (suc j) i o h at e =
-    index_few os (index_after p.setup t) j i o (and_right (has_index p.setup t) (has_indices os (index_after p.setup t)) h) at e
+    index_few os (index_after p.setup t) j i o (and_parts (has_index p.setup t) (has_indices os (index_after p.setup t)) h).1 at e
 
 index_itself : (t : ℕ) (o : ObjectDef) → setup_thread o.setup ≡ Some t → is_thread_index t o ≡ true
 index_itself t o e = let same : (t == t) ≡ true = grind (arith, nat_tests) in rw (e, same) refl
-
-or_left : (a b : Bool) → a ≡ true → (a || b) ≡ true
-or_left a b h = rw h refl
-
-or_right : (a b : Bool) → b ≡ true → (a || b) ≡ true
-or_right true b h = refl
-or_right false b h = h
 
 -- the thread of a static object has it as its own
 pub own_index : (image : Image) → IsLawful image → (j t : ℕ) (o : ObjectDef) → slice_get image.objects j ≡ Some o → setup_thread o.setup ≡ Some t → has_own image t ≡ true

@@ -1,6 +1,7 @@
 -- Text without a space, and text without a newline.
 use Rattle.std.proofs.Common.{◌≡◌, ℕ, zero, suc, ◌+◌, ◌/◌, ◌%◌, Bool, true, false, ◌&&◌, not, if◌then◌else◌, List, [], ◌∷◌, ◌++◌, refl, arith, slice_get, drop, length}
 use Rattle.std.specs.Prelude.{IfSome, ◌==◌, nat_lt, nat_le, codes, decimal, bytes_eq}
+use Rattle.std.proofs.lemmas.Bool.{and_from, and_parts}
 use Rattle.std.specs.Fmt.{digits, digits_onto, digit_glyph}
 use Rattle.std.specs.List.{list_all, flat_map}
 use Rattle.std.proofs.lemmas.Bool.Decides.{nat_tests}
@@ -16,34 +17,23 @@ solid xs = list_all (λ b. nat_lt 32 b) xs
 abbrev pub plain : List ℕ → Bool
 plain xs = list_all (λ b. nat_lt 31 b) xs
 
-both : (a b : Bool) → a ≡ true → b ≡ true → (a && b) ≡ true
-both a b h k = rw (h, k) refl
-
-pub and_left : (a b : Bool) → (a && b) ≡ true → a ≡ true
-and_left true b h = refl
-and_left false b h = cc
-
-pub and_right : (a b : Bool) → (a && b) ≡ true → b ≡ true
-and_right true b h = h
-and_right false b h = cc
-
 -- what holds of each element of a list holds of the one at a place
 pub all_get : {A : Type 0} (p : A → Bool) (xs : List A) (i : ℕ) → list_all p xs ≡ true → IfSome (slice_get xs i) (λ x. p x ≡ true)
 all_get p [] zero h = tt
 all_get p [] (suc i) h = tt
-all_get p (x ∷ xs) zero h = and_left (p x) (list_all p xs) h
-all_get p (x ∷ xs) (suc i) h = all_get p xs i (and_right (p x) (list_all p xs) h)
+all_get p (x ∷ xs) zero h = (and_parts (p x) (list_all p xs) h).0
+all_get p (x ∷ xs) (suc i) h = all_get p xs i (and_parts (p x) (list_all p xs) h).1
 
 pub all_more : {A : Type 0} (p q : A → Bool) → ((x : A) → p x ≡ true → q x ≡ true) → (xs : List A) → list_all p xs ≡ true → list_all q xs ≡ true
 all_more p q more [] h = refl
 all_more p q more (x ∷ xs) h =
-    both (q x) (list_all q xs) (more x (and_left (p x) (list_all p xs) h)) (all_more p q more xs (and_right (p x) (list_all p xs) h))
+    and_from (q x) (list_all q xs) (more x (and_parts (p x) (list_all p xs) h).0) (all_more p q more xs (and_parts (p x) (list_all p xs) h).1)
 
 pub solid_append : (xs ys : List ℕ) → solid xs ≡ true → solid ys ≡ true → solid (xs ++ ys) ≡ true
-solid_append xs ys h k = rw list_all-append (both (solid xs) (solid ys) h k)
+solid_append xs ys h k = rw list_all-append (and_from (solid xs) (solid ys) h k)
 
 pub plain_append : (xs ys : List ℕ) → plain xs ≡ true → plain ys ≡ true → plain (xs ++ ys) ≡ true
-plain_append xs ys h k = rw list_all-append (both (plain xs) (plain ys) h k)
+plain_append xs ys h k = rw list_all-append (and_from (plain xs) (plain ys) h k)
 
 over : (b : ℕ) → nat_lt 32 b ≡ true → nat_lt 31 b ≡ true
 over b h = grind (arith, nat_tests)
@@ -71,9 +61,9 @@ glyph_solid d false = grind (arith, nat_tests)
 last_solid : (k n : ℕ) (acc : List ℕ) (done : Bool) → solid acc ≡ true
     → ((more : List ℕ) → solid more ≡ true → solid (digits_onto k 10 false (n / 10) more) ≡ true)
     → solid (if done then digit_glyph false (n % 10) ∷ acc else digits_onto k 10 false (n / 10) (digit_glyph false (n % 10) ∷ acc)) ≡ true
-last_solid k n acc true h others = both (nat_lt 32 (digit_glyph false (n % 10))) (solid acc) (glyph_solid (n % 10) (nat_lt (n % 10) 10)) h
+last_solid k n acc true h others = and_from (nat_lt 32 (digit_glyph false (n % 10))) (solid acc) (glyph_solid (n % 10) (nat_lt (n % 10) 10)) h
 last_solid k n acc false h others =
-    others (digit_glyph false (n % 10) ∷ acc) (both (nat_lt 32 (digit_glyph false (n % 10))) (solid acc) (glyph_solid (n % 10) (nat_lt (n % 10) 10)) h)
+    others (digit_glyph false (n % 10) ∷ acc) (and_from (nat_lt 32 (digit_glyph false (n % 10))) (solid acc) (glyph_solid (n % 10) (nat_lt (n % 10) 10)) h)
 
 onto_solid : (k n : ℕ) (acc : List ℕ) → solid acc ≡ true → solid (digits_onto k 10 false n acc) ≡ true
 onto_solid zero n acc h = h
@@ -94,7 +84,7 @@ hex8_solid n =
 pub drop_solid : (k : ℕ) (xs : List ℕ) → solid xs ≡ true → solid (drop k xs) ≡ true
 drop_solid zero xs h = h
 drop_solid (suc k) [] h = refl
-drop_solid (suc k) (x ∷ xs) h = drop_solid k xs (and_right (nat_lt 32 x) (solid xs) h)
+drop_solid (suc k) (x ∷ xs) h = drop_solid k xs (and_parts (nat_lt 32 x) (solid xs) h).1
 
 pub address_solid : (a : ℕ) → solid (address a) ≡ true
 unfolding address
@@ -111,6 +101,6 @@ byte_solid b h = grind (arith, nat_tests)
 
 pub name_solid : (name : List ℕ) → is_name name ≡ true → solid name ≡ true
 name_solid name h =
-    let front = and_left (nat_le (length name) 24 && begins_with_letter name && list_all is_name_byte name) (not (bytes_eq name (codes "rodata"))) h in
-    let bytes = and_right (nat_le (length name) 24 && begins_with_letter name) (list_all is_name_byte name) front in
+    let front = (and_parts (nat_le (length name) 24 && begins_with_letter name && list_all is_name_byte name) (not (bytes_eq name (codes "rodata"))) h).0 in
+    let bytes = (and_parts (nat_le (length name) 24 && begins_with_letter name) (list_all is_name_byte name) front).1 in
     all_more is_name_byte (λ b. nat_lt 32 b) byte_solid name bytes

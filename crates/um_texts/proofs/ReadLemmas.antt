@@ -1,6 +1,7 @@
 -- What is read of the lines of steps that choose a row.
 use Rattle.std.proofs.Common.{◌≡◌, inl, inr, ◌⊎◌, ℕ, ◌-◌, ◌<◌, ◌≤◌, true, false, ◌&&◌, List, [], ◌∷◌, ◌++◌, refl, sym, ◌∙◌, arith, if◌then◌else◌, Option, Some, None, append_assoc}
 use Rattle.std.specs.Prelude.{◌==◌, nat_lt, nat_le, codes, decimal}
+use Rattle.std.proofs.lemmas.Bool.{and_parts}
 use Rattle.std.proofs.lemmas.Bool.Decides.{nat_tests}
 use Rattle.std.proofs.lemmas.List.{append_cancel_left}
 use Rattle.um_base.specs.declared.act.Act.{Act}
@@ -19,7 +20,7 @@ use Rattle.um_machine.specs.Run.{MayChoose}
 use Rattle.um_trace.specs.Acts.{reserved_text, pair_act_text, heap_act_text, object_act_text, act_text}
 use Rattle.um_trace.specs.Names.{thread_text, object_text}
 use Rattle.um_trace.specs.Words.{kind_word, leftover_word}
-use Rattle.um_texts.proofs.PlainLemmas.{solid, and_left, and_right}
+use Rattle.um_texts.proofs.PlainLemmas.{solid}
 use Rattle.um_texts.proofs.SplitLemmas.{split}
 use Rattle.um_texts.proofs.NameLemmas.{AreNamed, thread_solid, object_solid}
 use Rattle.um_texts.proofs.IdentityLemmas.{is_real, has_own, thread_known, dynamic_text}
@@ -92,9 +93,9 @@ IsReserved x = ((STATIC_ROWS ≤ x) × (x < ROWS)) ⊎ (x ≡ 0)
 pub is_reserved : (s : State) (t x : ℕ) (kind : Kind) → MayChoose s t x (Pending.Reserve kind) → IsReserved x
 is_reserved s t x kind (inl may) =
     let all = may.1 in
-    let three = and_left (nat_le STATIC_ROWS x && nat_lt x ROWS && kind_number (dynamic_kind x) == kind_number kind) (is_free (object_at s x).status) all in
-    let two = and_left (nat_le STATIC_ROWS x && nat_lt x ROWS) (kind_number (dynamic_kind x) == kind_number kind) three in
-    inl (low (and_left (nat_le STATIC_ROWS x) (nat_lt x ROWS) two), high (and_right (nat_le STATIC_ROWS x) (nat_lt x ROWS) two))
+    let three = (and_parts (nat_le STATIC_ROWS x && nat_lt x ROWS && kind_number (dynamic_kind x) == kind_number kind) (is_free (object_at s x).status) all).0 in
+    let two = (and_parts (nat_le STATIC_ROWS x && nat_lt x ROWS) (kind_number (dynamic_kind x) == kind_number kind) three).0 in
+    inl (low (and_parts (nat_le STATIC_ROWS x) (nat_lt x ROWS) two).0, high (and_parts (nat_le STATIC_ROWS x) (nat_lt x ROWS) two).1)
   where
     low : nat_le STATIC_ROWS x ≡ true → STATIC_ROWS ≤ x
     low h = grind (arith, nat_tests)

@@ -1,5 +1,6 @@
 -- Two runs of an image whose texts are equal are one list of events.
 use Rattle.std.proofs.Common.{◌≡◌, ◌≤◌, ℕ, true, List, [], ◌∷◌, length, refl, sym, ap, ◌∙◌, subst}
+use Rattle.std.proofs.lemmas.Bool.{and_parts}
 use Rattle.std.specs.List.{list_all}
 use Rattle.um_base.specs.declared.act.Act.{Act}
 use Rattle.um_base.specs.declared.act.Event.{Event}
@@ -10,7 +11,6 @@ use Rattle.um_base.specs.Lawful.{IsLawful, is_lawful_boot}
 use Rattle.um_machine.specs.State.{State}
 use Rattle.um_machine.specs.Run.{Step, Runs, IsRun, opening}
 use Rattle.um_trace.specs.Text.{text}
-use Rattle.um_texts.proofs.PlainLemmas.{and_left}
 use Rattle.um_texts.proofs.NameLemmas.{AreNamed, are_named}
 use Rattle.um_texts.proofs.TextLemmas.{SameLines, same_lines}
 use Rattle.um_texts.proofs.IdentityLemmas.{has_own, thread_known}
@@ -57,7 +57,7 @@ by_boots image lawful few [] none [] (f ∷ fs) last last2 run run2 lines = absu
 by_boots image lawful few [] none (e ∷ es) fs last last2 run run2 lines = absurd (no_event image e es last none run)
 by_boots image lawful few (boot ∷ boots) some es fs last last2 run run2 lines =
     let all : list_all (is_lawful_boot image) (boot ∷ boots) ≡ true = ap (λ (bs : List Boot). list_all (is_lawful_boot image) bs) (sym some) ∙ lawful.boots in
-    let sound = sound_booted image lawful few boot (and_left (is_lawful_boot image boot) (list_all (is_lawful_boot image) boots) all) in
+    let sound = sound_booted image lawful few boot (and_parts (is_lawful_boot image boot) (list_all (is_lawful_boot image) boots) all).0 in
     let kept = kept_opening image sound in
     same_runs image sound (are_named image lawful) es fs (opening image) (opening image) last last2 kept kept refl run run2 lines
 

@@ -1,9 +1,9 @@
 -- Texts that are equal have equal parts before a mark, and behind it.
 use Rattle.std.proofs.Common.{◌≡◌, ℕ, Bool, true, List, [], ◌∷◌, ◌++◌, refl, arith}
 use Rattle.std.specs.Prelude.{nat_lt}
+use Rattle.std.proofs.lemmas.Bool.{and_parts}
 use Rattle.std.specs.List.{list_all}
 use Rattle.std.proofs.lemmas.Bool.Decides.{nat_tests}
-use Rattle.um_texts.proofs.PlainLemmas.{and_left, and_right}
 
 -- each byte of a text is over a mark
 abbrev pub over : ℕ → List ℕ → Bool
@@ -22,11 +22,11 @@ pub split : (mark : ℕ) (xs ys us vs : List ℕ) → over mark xs ≡ true → 
 split mark [] [] us vs h k e = (refl, tails mark mark us vs e)
 split mark [] (y ∷ ys) us vs h k e =
     let same : mark ≡ y = heads mark y us (ys ++ mark ∷ vs) e in
-    absurd (not_over mark (rw (← same) at (and_left (nat_lt mark y) (over mark ys) k)))
+    absurd (not_over mark (rw (← same) at (and_parts (nat_lt mark y) (over mark ys) k).0))
 split mark (x ∷ xs) [] us vs h k e =
     let same : x ≡ mark = heads x mark (xs ++ mark ∷ us) vs e in
-    absurd (not_over mark (rw same at (and_left (nat_lt mark x) (over mark xs) h)))
+    absurd (not_over mark (rw same at (and_parts (nat_lt mark x) (over mark xs) h).0))
 split mark (x ∷ xs) (y ∷ ys) us vs h k e =
     let same : x ≡ y = heads x y (xs ++ mark ∷ us) (ys ++ mark ∷ vs) e in
-    let rest = split mark xs ys us vs (and_right (nat_lt mark x) (over mark xs) h) (and_right (nat_lt mark y) (over mark ys) k) (tails x y (xs ++ mark ∷ us) (ys ++ mark ∷ vs) e) in
+    let rest = split mark xs ys us vs (and_parts (nat_lt mark x) (over mark xs) h).1 (and_parts (nat_lt mark y) (over mark ys) k).1 (tails x y (xs ++ mark ∷ us) (ys ++ mark ∷ vs) e) in
     (rw (same, rest.0) refl, rest.1)

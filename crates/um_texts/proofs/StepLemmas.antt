@@ -1,6 +1,7 @@
 -- Two steps with equal lines, from states with one core, are one event, and lead to states with one core.
 use Rattle.std.proofs.Common.{◌≡◌, ℕ, true, false, List, [], ◌∷◌, refl, sym, ap, ◌∙◌, subst, Option, Some, None, if◌then◌else◌}
 use Rattle.std.specs.Prelude.{IsTrue, ◌==◌, is_some}
+use Rattle.std.proofs.lemmas.Bool.{and_parts}
 use Rattle.um_base.specs.declared.act.Act.{Act}
 use Rattle.um_base.specs.declared.act.Event.{Event}
 use Rattle.um_base.specs.declared.image.Image.{Image}
@@ -17,7 +18,6 @@ use Rattle.um_machine.specs.Order.{Steps, to_addr}
 use Rattle.um_machine.specs.Run.{Offers, goes, skips_inherit, skips_drops, begins, exits, cleans_pair, recycles, MayChoose, Step}
 use Rattle.um_machine.specs.Table.{act_of, after, after_drop, dropped, row_of}
 use Rattle.um_trace.specs.Acts.{act_text}
-use Rattle.um_texts.proofs.PlainLemmas.{and_right}
 use Rattle.um_texts.proofs.NameLemmas.{AreNamed}
 use Rattle.um_texts.proofs.IdentityLemmas.{has_own}
 use Rattle.um_texts.proofs.StateLemmas.{IsKept, begins_with_start, begins_with_clear, are_fit}
@@ -324,9 +324,9 @@ one_made image s s2 both t a b m m2 one two h =
 offered_fit : (image : Image) (s : State) → IsKept image s → (t : ℕ) (p : Pending) (rest : Steps) → Offers s t p rest → are_fit image (p ∷ rest) ≡ true
 offered_fit image s kept t p rest (goes e) = rw e at (kept.fit t)
 offered_fit image s kept t p rest (skips_inherit {who = who} e h) =
-    let fit : are_fit image (Pending.Inherit who ∷ p ∷ rest) ≡ true = rw e at (kept.fit t) in and_right (begins_with_start (p ∷ rest)) (are_fit image (p ∷ rest)) fit
+    let fit : are_fit image (Pending.Inherit who ∷ p ∷ rest) ≡ true = rw e at (kept.fit t) in (and_parts (begins_with_start (p ∷ rest)) (are_fit image (p ∷ rest)) fit).1
 offered_fit image s kept t p rest (skips_drops {from = from} e h) =
-    let fit : are_fit image (Pending.Drops from ∷ p ∷ rest) ≡ true = rw e at (kept.fit t) in and_right (begins_with_clear (p ∷ rest)) (are_fit image (p ∷ rest)) fit
+    let fit : are_fit image (Pending.Drops from ∷ p ∷ rest) ≡ true = rw e at (kept.fit t) in (and_parts (begins_with_clear (p ∷ rest)) (are_fit image (p ∷ rest)) fit).1
 offered_fit image s kept t p rest (begins e h k l) = refl
 offered_fit image s kept t p rest (exits e h k l) = refl
 offered_fit image s kept t p rest (cleans_pair h) = kept.fit t

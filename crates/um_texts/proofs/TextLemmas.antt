@@ -1,6 +1,7 @@
 -- Equal texts have equal lines: of each event the thread and the act.
 use Rattle.std.proofs.Common.{◌≡◌, ℕ, true, List, [], ◌∷◌, ◌++◌, refl, sym, ◌∙◌, append_assoc}
 use Rattle.std.specs.Prelude.{codes, length}
+use Rattle.std.proofs.lemmas.Bool.{and_parts}
 use Rattle.std.specs.List.{flat_map}
 use Rattle.std.proofs.lemmas.List.Folds.{list_all-append}
 use Rattle.um_base.specs.declared.act.Event.{Event}
@@ -11,7 +12,7 @@ use Rattle.um_trace.specs.Names.{thread_text}
 use Rattle.um_trace.specs.Acts.{act_text, event_line}
 use Rattle.um_trace.specs.Dump.{dump, numbers, thread_line_of, object_line_of, domain_line, pool_line, area_lines}
 use Rattle.um_trace.specs.Text.{text}
-use Rattle.um_texts.proofs.PlainLemmas.{solid, plain, and_left, and_right, plain_append, plain_solid, newline_less}
+use Rattle.um_texts.proofs.PlainLemmas.{solid, plain, plain_append, plain_solid, newline_less}
 use Rattle.um_texts.proofs.NameLemmas.{AreNamed, thread_solid}
 use Rattle.um_texts.proofs.ActLemmas.{act_plain}
 use Rattle.um_texts.proofs.SplitLemmas.{split}
@@ -54,8 +55,8 @@ no_dump image e h =
     let front = thread_text image e.thread.0 in
     let behind = act_text image e.act in
     let all : solid (line image e) ≡ true = rw h refl in
-    let first : solid (front ++ codes " ") ≡ true = and_left (solid (front ++ codes " ")) (solid behind) (rw list_all-append at all) in
-    let space : solid (codes " ") ≡ true = and_right (solid front) (solid (codes " ")) (rw list_all-append at first) in cc
+    let first : solid (front ++ codes " ") ≡ true = (and_parts (solid (front ++ codes " ")) (solid behind) (rw list_all-append at all)).0 in
+    let space : solid (codes " ") ≡ true = (and_parts (solid front) (solid (codes " ")) (rw list_all-append at first)).1 in cc
 
 no_end : (image : Image) → AreNamed image → (e : Event) (es : List Event) (s last : State) → text image (e ∷ es) s ≡ text image [] last → ⊥
 no_end image named e es s last h =
