@@ -1,11 +1,12 @@
 -- Zero bytes that are written, and that the memory's cell takes each step that is asked of it.
-use Rattle.std.proofs.Common.{◌≡◌, ℕ, suc, ◌+◌, ◌-◌, ◌<◌, List, replicate, slice_set, arith, ap, refl, IsTrue}
+use Rattle.std.proofs.Common.{◌≡◌, ℕ, suc, ◌+◌, ◌-◌, ◌<◌, List, replicate, slice_set, arith, ap, refl, IsTrue, Some}
 use Rattle.um_base.specs.declared.image.Image.{Image}
 use Rattle.um_machine.specs.Memory.{put_bytes}
 use Rattle.um_words.specs.CellActs.{memory_takes}
 use Rattle.um_fine.specs.Memory.{Bytes, memory_says}
 use Rattle.um_fine.specs.Steps.{Exchange}
-use Rattle.um_processor.specs.MemoryActs.{memory_act}
+use Rattle.um_processor.specs.Asked.{event_of}
+use Rattle.um_processor.specs.MemoryActs.{memory_act, memory_event, memory_said}
 use Rattle.um_processor.specs.declared.memory_act.MemoryAct.{MemoryAct}
 
 -- a zero is written, and then the rest of them
@@ -16,13 +17,18 @@ zeros_more memory a k n h =
     let next : a + k + 1 ≡ a + (k + 1) = omega arith in
     rw e (ap (λ (i : ℕ). put_bytes (slice_set memory (a + k) 0) i (replicate {A = ℕ} (n - (k + 1)) 0)) next)
 
+-- the event by what the cell says of a step is that of the step
+pub memory-made : (image : Image) (m : Bytes) (moved : Exchange) (act : MemoryAct)
+    → let said = memory_says image m moved (memory_act act) in IsTrue (memory_takes said) × (Some (memory_event act (memory_said said)) ≡ event_of said)
+memory-made image m moved (MemoryAct.Load t a n) = (refl, refl)
+memory-made image m moved (MemoryAct.Store t a n value) = (refl, refl)
+memory-made image m moved (MemoryAct.Fetch t a) = (refl, refl)
+memory-made image m moved (MemoryAct.Fault t access a n) = (refl, refl)
+memory-made image m moved (MemoryAct.Probe t a n fits) = (refl, refl)
+memory-made image m moved (MemoryAct.CopyIn t a n fits) = (refl, refl)
+memory-made image m moved (MemoryAct.CopyOut t a n fits) = (refl, refl)
+memory-made image m moved (MemoryAct.CopyStr t a n) = (refl, refl)
+memory-made image m moved (MemoryAct.Erase t stack) = (refl, refl)
+
 pub memory-takes : (image : Image) (m : Bytes) (moved : Exchange) (act : MemoryAct) → IsTrue (memory_takes (memory_says image m moved (memory_act act)))
-memory-takes image m moved (MemoryAct.Load t a n) = refl
-memory-takes image m moved (MemoryAct.Store t a n value) = refl
-memory-takes image m moved (MemoryAct.Fetch t a) = refl
-memory-takes image m moved (MemoryAct.Fault t access a n) = refl
-memory-takes image m moved (MemoryAct.Probe t a n fits) = refl
-memory-takes image m moved (MemoryAct.CopyIn t a n fits) = refl
-memory-takes image m moved (MemoryAct.CopyOut t a n fits) = refl
-memory-takes image m moved (MemoryAct.CopyStr t a n) = refl
-memory-takes image m moved (MemoryAct.Erase t stack) = refl
+memory-takes image m moved act = (memory-made image m moved act).0

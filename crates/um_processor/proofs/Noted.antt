@@ -33,6 +33,7 @@ use Rattle.um_processor.specs.declared.heap_act.HeapAct.{HeapAct}
 use Rattle.um_processor.specs.declared.memory_act.MemoryAct.{MemoryAct}
 use Rattle.um_processor.specs.declared.row_act.RowAct.{RowAct}
 use Rattle.um_processor.specs.declared.thread_act.ThreadAct.{ThreadAct}
+use Rattle.um_processor.proofs.ByteLemmas.{memory-made}
 
 module _ (image : Image) (cpu x : ℕ) (w : RowWord) where
   -- the step of an event where there is something to do, and a look else
@@ -40,48 +41,30 @@ module _ (image : Image) (cpu x : ℕ) (w : RowWord) where
   where_due b act = filled image (SiteState.row w) (asked cpu (Site.row x) (if b then act else FineAct.Unseen Unseen.Visit) Exchange.nothing)
 
   pub row-event : (act : RowAct) → row_event act (row_said (row_made image cpu x w act)) ≡ event_of (row_made image cpu x w act).act
-  row-event (RowAct.Check t a kind want mode fits) = refl
-  row-event (RowAct.Grant t who a) = refl
-  row-event (RowAct.Own t who) = refl
   row-event (RowAct.Pass t who a) = by (has w t.0 && not (has w who.0))
     where
       by : (b : Bool) → let e = where_due b (shown t (Act.Inherit who a) More.Nothing) in row_event (RowAct.Pass t who a) (row_said e) ≡ event_of e.act
       by true = refl
       by false = refl
-  row-event (RowAct.DropPair t who a) = refl
   row-event (RowAct.Sweep t who a) = by (has w who.0)
     where
       by : (b : Bool) → let e = where_due b (shown t (Act.DropPair who a Leftover.NoPair) More.Nothing) in row_event (RowAct.Sweep t who a) (row_said e) ≡ event_of e.act
       by true = refl
       by false = refl
-  row-event (RowAct.Publish t a) = refl
-  row-event (RowAct.SetInit t a strict) = refl
-  row-event (RowAct.ClearInit t a) = refl
-  row-event (RowAct.Born t a) = refl
-  row-event RowAct.EndCall = refl
-  row-event RowAct.Vacate = refl
+  row-event act = refl
 
   pub row-seen : (act : RowAct) → IsSeen (SiteState.row w) (row_made image cpu x w act).act
-  row-seen (RowAct.Check t a kind want mode fits) = tt
-  row-seen (RowAct.Grant t who a) = tt
-  row-seen (RowAct.Own t who) = tt
   row-seen (RowAct.Pass t who a) = by (has w t.0 && not (has w who.0)) refl
     where
       by : (b : Bool) → (has w t.0 && not (has w who.0)) ≡ b → IsDue w (where_due b (shown t (Act.Inherit who a) More.Nothing)).act
       by true h = h
       by false h = tt
-  row-seen (RowAct.DropPair t who a) = tt
   row-seen (RowAct.Sweep t who a) = by (has w who.0)
     where
       by : (b : Bool) → IsDue w (where_due b (shown t (Act.DropPair who a Leftover.NoPair) More.Nothing)).act
       by true = tt
       by false = tt
-  row-seen (RowAct.Publish t a) = tt
-  row-seen (RowAct.SetInit t a strict) = tt
-  row-seen (RowAct.ClearInit t a) = tt
-  row-seen (RowAct.Born t a) = tt
-  row-seen RowAct.EndCall = tt
-  row-seen RowAct.Vacate = tt
+  row-seen act = tt
 
 -- an event by which a thread at rest goes on, unless it is doomed
 at-rest : (w : ThreadWord) (e : Event) (b : Bool) → w.doomed ≡ b
@@ -105,15 +88,7 @@ thread-event image cpu t w (ThreadAct.Exit who) = by w.doomed refl
         ≡ event_of (unless_doomed b (shown who Act.Exit More.Nothing))
     by true h = at-rest w (by_thread who Act.Exit) true h
     by false h = at-rest w (by_thread who Act.Exit) false h
-thread-event image cpu t w (ThreadAct.Miss who a kind want mode) = refl
-thread-event image cpu t w (ThreadAct.Answered who reply) = refl
-thread-event image cpu t w (ThreadAct.Fatal who reason cause) = refl
-thread-event image cpu t w (ThreadAct.Doom who other) = refl
-thread-event image cpu t w (ThreadAct.DomMove who d other reply) = refl
-thread-event image cpu t w (ThreadAct.Start who other mode d) = refl
-thread-event image cpu t w (ThreadAct.EnterUser who) = refl
-thread-event image cpu t w ThreadAct.Hold = refl
-thread-event image cpu t w ThreadAct.LetGo = refl
+thread-event image cpu t w act = refl
 
 pub heap-event : (image : Image) (h : Heap) (moved : Exchange) (act : HeapAct)
     → let said = heap_says image h moved (heap_act act) in Some (heap_event act (heap_said said)) ≡ event_of said
@@ -124,15 +99,7 @@ heap-event image h moved (HeapAct.Recycle t a) = refl
 
 pub memory-event : (image : Image) (m : Bytes) (moved : Exchange) (act : MemoryAct)
     → let said = memory_says image m moved (memory_act act) in Some (memory_event act (memory_said said)) ≡ event_of said
-memory-event image m moved (MemoryAct.Load t a n) = refl
-memory-event image m moved (MemoryAct.Store t a n value) = refl
-memory-event image m moved (MemoryAct.Fetch t a) = refl
-memory-event image m moved (MemoryAct.Fault t access a n) = refl
-memory-event image m moved (MemoryAct.Probe t a n fits) = refl
-memory-event image m moved (MemoryAct.CopyIn t a n fits) = refl
-memory-event image m moved (MemoryAct.CopyOut t a n fits) = refl
-memory-event image m moved (MemoryAct.CopyStr t a n) = refl
-memory-event image m moved (MemoryAct.Erase t stack) = refl
+memory-event image m moved act = (memory-made image m moved act).1
 
 -- a thread that was told something resumes
 pub resumes : (c : Context) (told : Told) (woken : Bool) → (if woken then Some (by_thread (to_thread c.thread) Act.Resume) else None) ≡ event_of (takes_turn c (some_if woken told))
@@ -140,31 +107,20 @@ resumes c told true = refl
 resumes c told false = refl
 
 -- a change at a site leaves the log and its room
-pub log-kept : (s : Sited) (site : Site) (z : SiteState) → (with_state s site z).log ≡ s.log
-log-kept s (Site.row x) (SiteState.row w) = refl
-log-kept s (Site.thread t) (SiteState.thread w) = refl
-log-kept s (Site.domain d) (SiteState.domain w) = refl
-log-kept s (Site.parts d) (SiteState.cell n (Cell.parts parts)) = refl
-log-kept s (Site.object x) (SiteState.cell n (Cell.object o)) = refl
-log-kept s Site.memory (SiteState.cell n (Cell.memory m)) = refl
-log-kept s Site.heap (SiteState.cell n (Cell.heap h)) = refl
-log-kept s Site.scheduler (SiteState.cell n (Cell.scheduler t)) = refl
-log-kept s site state = refl
-
-pub most-kept : (s : Sited) (site : Site) (z : SiteState) → (with_state s site z).most ≡ s.most
-most-kept s (Site.row x) (SiteState.row w) = refl
-most-kept s (Site.thread t) (SiteState.thread w) = refl
-most-kept s (Site.domain d) (SiteState.domain w) = refl
-most-kept s (Site.parts d) (SiteState.cell n (Cell.parts parts)) = refl
-most-kept s (Site.object x) (SiteState.cell n (Cell.object o)) = refl
-most-kept s Site.memory (SiteState.cell n (Cell.memory m)) = refl
-most-kept s Site.heap (SiteState.cell n (Cell.heap h)) = refl
-most-kept s Site.scheduler (SiteState.cell n (Cell.scheduler t)) = refl
-most-kept s site state = refl
+pub log-kept : (s : Sited) (site : Site) (z : SiteState) → ((with_state s site z).log ≡ s.log) × ((with_state s site z).most ≡ s.most)
+log-kept s (Site.row x) (SiteState.row w) = (refl, refl)
+log-kept s (Site.thread t) (SiteState.thread w) = (refl, refl)
+log-kept s (Site.domain d) (SiteState.domain w) = (refl, refl)
+log-kept s (Site.parts d) (SiteState.cell n (Cell.parts parts)) = (refl, refl)
+log-kept s (Site.object x) (SiteState.cell n (Cell.object o)) = (refl, refl)
+log-kept s Site.memory (SiteState.cell n (Cell.memory m)) = (refl, refl)
+log-kept s Site.heap (SiteState.cell n (Cell.heap h)) = (refl, refl)
+log-kept s Site.scheduler (SiteState.cell n (Cell.scheduler t)) = (refl, refl)
+log-kept s site state = (refl, refl)
 
 -- a step that was made stands last in the log, where it shows an event
 pub made-log : (image : Image) (old : Sited) (e : FineStep) (new : Sited) → WasMade image old e new → new.log ≡ logged old.log (event_of e.act)
-made-log image old e new m = ap (λ (s : Sited). s.log) m.leaves ∙ log-kept (record old { log = logged old.log (event_of e.act) }) e.site _
+made-log image old e new m = ap (λ (s : Sited). s.log) m.leaves ∙ (log-kept (record old { log = logged old.log (event_of e.act) }) e.site _).0
 
 pub made-most : (image : Image) (old : Sited) (e : FineStep) (new : Sited) → WasMade image old e new → new.most ≡ old.most
-made-most image old e new m = ap (λ (s : Sited). s.most) m.leaves ∙ most-kept (record old { log = logged old.log (event_of e.act) }) e.site _
+made-most image old e new m = ap (λ (s : Sited). s.most) m.leaves ∙ (log-kept (record old { log = logged old.log (event_of e.act) }) e.site _).1

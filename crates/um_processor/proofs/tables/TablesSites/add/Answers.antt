@@ -24,10 +24,5 @@ returns-then-not-add-clause-said c =
     )
 
 pub returns-then-self-ge-LAST-clause-said : goal.returns-then-self-ge-LAST-clause-said
-returns-then-self-ge-LAST-clause-said c = (
-  c.self.inside.scheduler_steps,
-  c.self.inside.scheduler,
-  refl,
-  scheduler-ends c.args.image.now _ _ c.self.view_is c.args.cpu (Unseen.Add (to_thread c.args.context.now.value.thread)) (Exchange.thread c.args.context.now.value None) (search arith),
-  refl,
-)
+returns-then-self-ge-LAST-clause-said c =
+    (_, c.self.inside.scheduler, refl, scheduler-ends c.args.image.now _ _ c.self.view_is c.args.cpu (Unseen.Add (to_thread c.args.context.now.value.thread)) (Exchange.thread c.args.context.now.value None) (search arith), refl)

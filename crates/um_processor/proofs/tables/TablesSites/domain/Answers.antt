@@ -1,9 +1,8 @@
 use Rattle.std.proofs.Common.{arith, ◌≡◌, ◌∙◌, ap, refl, slice_index_or}
 use Rattle.std.proofs.lemmas.List.{get_or_read}
-use Rattle.um_words.specs.declared.dom_word.DomWord.{DomWord}
 use Rattle.um_fine.proofs.Filled.{filled-twice}
-use Rattle.um_fine.specs.Answers.{no_domain}
-use Rattle.um_fine.specs.Sites.{SiteState}
+use Rattle.um_fine.specs.Answers.{domain_in, no_domain}
+use Rattle.um_fine.specs.Sites.{SiteState, word_of}
 use Rattle.um_fine.specs.Steps.{Exchange, Site}
 use Rattle.um_processor.specs.Asked.{asked}
 use Rattle.um_processor.specs.DomainActs.{domain_act, domain_made}
@@ -11,12 +10,7 @@ use Rattle.um_processor.specs.Sited.{logged}
 use Rattle.um_processor.proofs.Tabled.{refused, taken}
 use Rattle.um_processor.proofs.tables.TablesSites.domain.Goals as goal
 
-word-in : SiteState → DomWord
-word-in (SiteState.domain w) = w
-word-in _ = no_domain
-
 pub returns-clause-said : goal.returns-clause-said
-unfolding word-in
 returns-clause-said c =
     let w = c.index.result.now in
     let here : w ≡ slice_index_or c.self.inside.domains.items c.args.domain no_domain = get_or_read c.self.inside.domains.items _ _ (omega arith) c.index.ensures no_domain in
@@ -29,7 +23,7 @@ returns-clause-said c =
           _
           (c.note.ensures.events ∙ ap (logged log) c.event.ensures)
           c.note.ensures.room,
-      ap word-in t.leaves,
+      ap (λ (s : SiteState). domain_in (word_of s)) t.leaves,
     )
 
 pub returns-in-None-clause-said : goal.returns-in-None-clause-said

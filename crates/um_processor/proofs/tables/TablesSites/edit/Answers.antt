@@ -1,31 +1,25 @@
-use Rattle.std.proofs.Common.{arith, ◌≡◌, ap, refl, slice_index_or, None}
-use Rattle.std.proofs.lemmas.List.{get_or_read}
+use Rattle.std.proofs.Common.{arith, ap, refl, None}
 use Rattle.um_machine.specs.Domains.{domain_after}
 use Rattle.um_words.specs.declared.fine.FineAct.{FineAct}
 use Rattle.um_words.specs.declared.fine.Unseen.{Unseen}
 use Rattle.um_fine.specs.Cells.{Cell}
 use Rattle.um_fine.specs.Processor.{edit_of}
 use Rattle.um_fine.specs.Steps.{Exchange, Site}
-use Rattle.um_processor.specs.Sited.{domain_cell_state, no_domain_cell}
-use Rattle.um_processor.proofs.Celled.{cell-ends, cell-taken, domain-kept}
+use Rattle.um_processor.proofs.Celled.{cell-taken, domain-ends, domain-read}
 use Rattle.um_processor.proofs.tables.TablesSites.edit.Goals as goal
 
 pub returns-clause-said : goal.returns-clause-said
 returns-clause-said c =
     let d = c.index_mut-cell.result.now in
-    let here : d ≡ slice_index_or c.self.inside.domain_cells.items c.args.domain no_domain_cell = get_or_read c.self.inside.domain_cells.items _ _ (omega arith) c.index_mut-cell.ensures.value no_domain_cell in (
+    let here = domain-read c.self.inside.domain_cells.items c.args.domain d (omega arith) c.index_mut-cell.ensures.value in (
       d.steps,
       d.parts,
-      cell-taken c.args.image.now _ _ c.self.view_is c.args.cpu (Site.parts c.args.domain) d.steps (Cell.parts d.parts) (Cell.parts c.edited-parts.result.0) (FineAct.Unseen Unseen.Edit) (Exchange.edited None (domain_after d.parts (edit_of c.args.image.now c.args.call.now d.parts))) (ap domain_cell_state here) (omega arith) refl (ap Cell.parts c.edited-parts.ensures.parts) _ _ refl refl,
+      cell-taken c.args.image.now _ _ c.self.view_is c.args.cpu (Site.parts c.args.domain) d.steps (Cell.parts d.parts) (Cell.parts c.edited-parts.result.0) (FineAct.Unseen Unseen.Edit) (Exchange.edited None (domain_after d.parts (edit_of c.args.image.now c.args.call.now d.parts))) here (omega arith) refl (ap Cell.parts c.edited-parts.ensures.parts) _ _ refl refl,
       c.edited-parts.ensures.reply,
     )
 
 pub returns-then-cell-ge-LAST-clause-said : goal.returns-then-cell-ge-LAST-clause-said
 returns-then-cell-ge-LAST-clause-said c =
     let d = c.index_mut-cell.result.now in
-    let here : d ≡ slice_index_or c.self.inside.domain_cells.items c.args.domain no_domain_cell = get_or_read c.self.inside.domain_cells.items _ _ (omega arith) c.index_mut-cell.ensures.value no_domain_cell in (
-      d.steps,
-      d.parts,
-      domain-kept _ _ c.self.view_is c.args.domain d here,
-      cell-ends c.args.image.now _ _ c.self.view_is c.args.cpu (Site.parts c.args.domain) d.steps (Cell.parts d.parts) (FineAct.Unseen Unseen.Edit) (Exchange.edited None (domain_after d.parts (edit_of c.args.image.now c.args.call.now d.parts))) (ap domain_cell_state here) (search arith),
-    )
+    let ends = domain-ends c.args.image.now _ _ c.self.view_is c.args.cpu c.args.domain d (FineAct.Unseen Unseen.Edit) (Exchange.edited None (domain_after d.parts (edit_of c.args.image.now c.args.call.now d.parts))) (omega arith) c.index_mut-cell.ensures.value (search arith) in
+    (d.steps, d.parts, ends.0, ends.1)

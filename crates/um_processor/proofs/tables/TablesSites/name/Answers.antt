@@ -1,10 +1,9 @@
-use Rattle.std.proofs.Common.{arith, ◌≡◌, ◌∙◌, Some, ap, refl, slice_index_or}
-use Rattle.std.proofs.lemmas.List.{get_or_read}
+use Rattle.std.proofs.Common.{arith, ◌∙◌, Some, ap, refl}
 use Rattle.um_fine.specs.Cells.{Cell}
 use Rattle.um_fine.specs.Steps.{Exchange, Site}
-use Rattle.um_processor.specs.ObjectCells.{cleared, kept_in, named_as}
-use Rattle.um_processor.specs.Sited.{logged, object_state}
-use Rattle.um_processor.proofs.Celled.{cell-ends, cell-taken, object-kept}
+use Rattle.um_processor.specs.ObjectCells.{kept_in, named_as}
+use Rattle.um_processor.specs.Sited.{logged}
+use Rattle.um_processor.proofs.Celled.{cell-taken, object-ends, object-read}
 use Rattle.um_base.specs.declared.act.Act.{Act}
 use Rattle.um_base.specs.declared.act.Event.{Event}
 use Rattle.um_words.specs.declared.fine.More.{More}
@@ -14,11 +13,11 @@ use Rattle.um_processor.proofs.tables.TablesSites.name.Goals as goal
 pub returns-clause-said : goal.returns-clause-said
 returns-clause-said c =
     let d = c.index_mut-cell.result.now in
-    let here : d ≡ slice_index_or c.self.inside.objects.items c.args.row.0 (cleared 0) = get_or_read c.self.inside.objects.items _ _ (omega arith) c.index_mut-cell.ensures.value (cleared 0) in
+    let here = object-read c.self.inside.objects.items c.args.row.0 d (omega arith) c.index_mut-cell.ensures.value in
     rw c.name.ensures (
       d.steps,
       kept_in d,
-      cell-taken c.args.image.now _ _ c.self.view_is c.args.cpu (Site.object c.args.row.0) d.steps (Cell.object (kept_in d)) (Cell.object (kept_in (named_as d c.args.bytes.now))) (shown c.args.thread (Act.Named c.args.who) More.Nothing) (Exchange.bytes c.args.bytes.now) (ap object_state here) (omega arith) refl refl
+      cell-taken c.args.image.now _ _ c.self.view_is c.args.cpu (Site.object c.args.row.0) d.steps (Cell.object (kept_in d)) (Cell.object (kept_in (named_as d c.args.bytes.now))) (shown c.args.thread (Act.Named c.args.who) More.Nothing) (Exchange.bytes c.args.bytes.now) here (omega arith) refl refl
           _
           _
           (c.note.ensures.events ∙ ap (λ (event : Event). logged c.self.inside.log.items (Some event)) c.named.ensures)
@@ -28,9 +27,5 @@ returns-clause-said c =
 pub returns-then-cell-ge-LAST-clause-said : goal.returns-then-cell-ge-LAST-clause-said
 returns-then-cell-ge-LAST-clause-said c =
     let d = c.index_mut-cell.result.now in
-    let here : d ≡ slice_index_or c.self.inside.objects.items c.args.row.0 (cleared 0) = get_or_read c.self.inside.objects.items _ _ (omega arith) c.index_mut-cell.ensures.value (cleared 0) in (
-      d.steps,
-      kept_in d,
-      object-kept _ _ c.self.view_is c.args.row.0 d here,
-      cell-ends c.args.image.now _ _ c.self.view_is c.args.cpu (Site.object c.args.row.0) d.steps (Cell.object (kept_in d)) (shown c.args.thread (Act.Named c.args.who) More.Nothing) (Exchange.bytes c.args.bytes.now) (ap object_state here) (search arith),
-    )
+    let ends = object-ends c.args.image.now _ _ c.self.view_is c.args.cpu c.args.row.0 d (shown c.args.thread (Act.Named c.args.who) More.Nothing) (Exchange.bytes c.args.bytes.now) (omega arith) c.index_mut-cell.ensures.value (search arith) in
+    (d.steps, kept_in d, ends.0, ends.1)

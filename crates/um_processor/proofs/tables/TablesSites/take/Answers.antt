@@ -44,11 +44,5 @@ returns-in-None-clause-said c =
     )
 
 pub returns-then-self-ge-LAST-clause-said : goal.returns-then-self-ge-LAST-clause-said
-returns-then-self-ge-LAST-clause-said c = (
-  c.self.inside.scheduler_steps,
-  c.self.inside.scheduler,
-  refl,
-  scheduler-ends c.args.image.now _ _ c.self.view_is c.args.cpu (Unseen.Next (to_thread 0)) (Exchange.nothing) (search arith),
-  refl,
-  refl,
-)
+returns-then-self-ge-LAST-clause-said c =
+    (_, c.self.inside.scheduler, refl, scheduler-ends c.args.image.now _ _ c.self.view_is c.args.cpu (Unseen.Next (to_thread 0)) (Exchange.nothing) (search arith), refl, refl)

@@ -1,9 +1,8 @@
 use Rattle.std.proofs.Common.{arith, ◌≡◌, ◌∙◌, ap, refl, slice_index_or}
 use Rattle.std.proofs.lemmas.List.{get_or_read}
-use Rattle.um_words.specs.declared.thread_word.ThreadWord.{ThreadWord}
 use Rattle.um_fine.proofs.Filled.{filled-twice}
-use Rattle.um_fine.specs.Answers.{no_thread}
-use Rattle.um_fine.specs.Sites.{SiteState}
+use Rattle.um_fine.specs.Answers.{no_thread, thread_in}
+use Rattle.um_fine.specs.Sites.{SiteState, word_of}
 use Rattle.um_fine.specs.Steps.{Exchange, Site}
 use Rattle.um_processor.specs.Asked.{asked, event_of}
 use Rattle.um_processor.specs.Sited.{logged}
@@ -12,27 +11,23 @@ use Rattle.um_processor.proofs.Noted.{thread-event}
 use Rattle.um_processor.proofs.Tabled.{refused, taken}
 use Rattle.um_processor.proofs.tables.TablesSites.thread.Goals as goal
 
-word-in : SiteState → ThreadWord
-word-in (SiteState.thread w) = w
-word-in _ = no_thread
-
 pub returns-clause-said : goal.returns-clause-said
-unfolding word-in
 returns-clause-said c =
     let w = c.index.result.now in
     let here : w ≡ slice_index_or c.self.inside.threads.items c.args.thread.0 no_thread = get_or_read c.self.inside.threads.items _ _ (omega arith) c.index.ensures no_thread in
     let e = thread_made c.args.image.now c.args.cpu c.args.thread.0 w c.args.act.now in
     let t = c.in-Some.ensures.made c.args.image.now c.args.cpu c.args.thread.0 in
+    let left : c.in-Some.next ≡ thread_in e.word = ap (λ (s : SiteState). thread_in (word_of s)) t.leaves in
     let log = c.self.inside.log.items in
     let event : c.event.result ≡ event_of e.act =
-    c.event.ensures ∙ (ap (λ (next : ThreadWord). thread_event c.args.act.now next) (ap word-in t.leaves) ∙ thread-event c.args.image.now c.args.cpu c.args.thread.0 w c.args.act.now) in (
+    c.event.ensures ∙ (ap (thread_event c.args.act.now) left ∙ thread-event c.args.image.now c.args.cpu c.args.thread.0 w c.args.act.now) in (
       w,
       taken c.args.image.now _ _ c.self.view_is e (SiteState.thread w) (SiteState.thread c.in-Some.next) (ap SiteState.thread here) t
           _
           _
           (c.note.ensures.events ∙ ap (logged log) event)
           c.note.ensures.room,
-      ap word-in t.leaves,
+      left,
     )
 
 pub returns-in-None-clause-said : goal.returns-in-None-clause-said

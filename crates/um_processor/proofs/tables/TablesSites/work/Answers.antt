@@ -1,10 +1,9 @@
-use Rattle.std.proofs.Common.{arith, ◌≡◌, ◌∙◌, Some, ap, refl, slice_index_or, sym}
-use Rattle.std.proofs.lemmas.List.{get_or_read}
+use Rattle.std.proofs.Common.{arith, ◌∙◌, Some, ap, refl, sym}
 use Rattle.um_fine.specs.Cells.{Cell}
 use Rattle.um_fine.specs.Steps.{Exchange, Site}
-use Rattle.um_processor.specs.ObjectCells.{cleared, kept_in}
-use Rattle.um_processor.specs.Sited.{logged, object_state}
-use Rattle.um_processor.proofs.Celled.{cell-ends, cell-taken, object-kept}
+use Rattle.um_processor.specs.ObjectCells.{kept_in}
+use Rattle.um_processor.specs.Sited.{logged}
+use Rattle.um_processor.proofs.Celled.{cell-taken, object-ends, object-read}
 use Rattle.um_base.specs.declared.act.Act.{Act}
 use Rattle.um_base.specs.declared.act.Event.{Event}
 use Rattle.um_machine.specs.Services.{Acted}
@@ -18,12 +17,12 @@ use Rattle.um_processor.proofs.tables.TablesSites.work.Goals as goal
 pub returns-clause-said : goal.returns-clause-said
 returns-clause-said c =
     let d = c.index_mut-cell.result.now in
-    let here : d ≡ slice_index_or c.self.inside.objects.items c.args.row.0 (cleared 0) = get_or_read c.self.inside.objects.items _ _ (omega arith) c.index_mut-cell.ensures.value (cleared 0) in
+    let here = object-read c.self.inside.objects.items c.args.row.0 d (omega arith) c.index_mut-cell.ensures.value in
     let who = c.args.who.now in
     rw c.work.ensures.steps (
       d.steps,
       kept_in d,
-      cell-taken c.args.image.now _ _ c.self.view_is c.args.cpu (Site.object c.args.row.0) d.steps (Cell.object (kept_in d)) (Cell.object (kept_in c.work.new.self)) (work_act c.args.addr who) (Exchange.asked who no_outcome) (ap object_state here) (omega arith) refl
+      cell-taken c.args.image.now _ _ c.self.view_is c.args.cpu (Site.object c.args.row.0) d.steps (Cell.object (kept_in d)) (Cell.object (kept_in c.work.new.self)) (work_act c.args.addr who) (Exchange.asked who no_outcome) here (omega arith) refl
           (rw c.work.ensures.buffer
           (ap (λ (w : Acted). Cell.object (record { contents = w.contents; waiters = w.waiters; buffer = buffer_cost who.ask w.answer d.buffer })) (sym c.work.ensures.work)))
           _
@@ -38,10 +37,5 @@ returns-clause-said c =
 pub returns-then-cell-ge-LAST-clause-said : goal.returns-then-cell-ge-LAST-clause-said
 returns-then-cell-ge-LAST-clause-said c =
     let d = c.index_mut-cell.result.now in
-    let here : d ≡ slice_index_or c.self.inside.objects.items c.args.row.0 (cleared 0) = get_or_read c.self.inside.objects.items _ _ (omega arith) c.index_mut-cell.ensures.value (cleared 0) in (
-      d.steps,
-      kept_in d,
-      object-kept _ _ c.self.view_is c.args.row.0 d here,
-      cell-ends c.args.image.now _ _ c.self.view_is c.args.cpu (Site.object c.args.row.0) d.steps (Cell.object (kept_in d)) (work_act c.args.addr c.args.who.now) (Exchange.asked c.args.who.now no_outcome) (ap object_state here) (search arith),
-      refl,
-    )
+    let ends = object-ends c.args.image.now _ _ c.self.view_is c.args.cpu c.args.row.0 d (work_act c.args.addr c.args.who.now) (Exchange.asked c.args.who.now no_outcome) (omega arith) c.index_mut-cell.ensures.value (search arith) in
+    (d.steps, kept_in d, ends.0, ends.1, refl)
