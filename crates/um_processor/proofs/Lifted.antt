@@ -1,6 +1,7 @@
 -- What comes of a step of a processor's thread, for the whole processor.
 use Rattle.std.proofs.Common.{◌≡◌, ◌≤◌, ℕ, Bool, true, false, List, [], ◌∷◌, ◌++◌, arith, length, refl, sym, subst, ap, ◌∙◌}
 use Rattle.std.proofs.lemmas.Bool.{false≢true}
+use Rattle.std.proofs.lemmas.List.{append-nil}
 use Rattle.um_base.specs.declared.ask.Told.{Told}
 use Rattle.um_base.specs.declared.image.Image.{Image}
 use Rattle.um_base.specs.declared.names.ThreadIx.{ThreadIx}
@@ -14,11 +15,12 @@ use Rattle.um_fine.specs.Steps.{FineStep, Site}
 use Rattle.um_processor.specs.declared.phase.Phase.{Phase}
 use Rattle.um_processor.specs.declared.phase.Turn.{Turn}
 use Rattle.um_processor.specs.declared.running.Running.{Running}
+use Rattle.um_processor.specs.Cleanings.{block_if}
 use Rattle.um_processor.specs.Events.{about_to, about_to_park, at_event, rest_of, todo_after, with_ends, with_woken}
 use Rattle.um_processor.specs.Phases.{born, is_idle, showing, steps_behind}
 use Rattle.um_processor.specs.Processors.{AsksFor, Goes, IsStuck, MayNext, OnMade, Turned, UnlessMade, cleaned, in_phase, processor_of, with_todo}
 use Rattle.um_processor.specs.Standing.{before, standing}
-use Rattle.um_processor.proofs.Standings.{block_if, cleaned-behind, front-of, stands}
+use Rattle.um_processor.proofs.Standings.{cleaned-behind, front-of, stands}
 
 bare-todo : (todo : Todos) → before [] [] [] todo ≡ todo
 bare-todo [] = refl
@@ -98,11 +100,14 @@ always Turn.Changed h = tt
 always Turn.Stuck h = tt
 
 -- what is kept where no step was made
+pub unless-made : {A B : Type 0} (t : Turn) → (A → B) → UnlessMade t A → UnlessMade t B
+unless-made Turn.Made f h = tt
+unless-made Turn.Busy f h = f h
+unless-made Turn.Changed f h = f h
+unless-made Turn.Stuck f h = f h
+
 pub kept : {A B : Type 0} (t : Turn) (f : A → B) (a b : A) → UnlessMade t (a ≡ b) → UnlessMade t (f a ≡ f b)
-kept Turn.Made f a b h = tt
-kept Turn.Busy f a b h = ap f h
-kept Turn.Changed f a b h = ap f h
-kept Turn.Stuck f a b h = ap f h
+kept t f a b = unless-made t (ap f)
 
 pub kept-both : {A B C : Type 0} (t : Turn) (f : A → B → C) (a b : A) (x y : B) → UnlessMade t (a ≡ b) → UnlessMade t (x ≡ y) → UnlessMade t (f a x ≡ f b y)
 kept-both Turn.Made f a b x y h k = tt
@@ -138,3 +143,33 @@ at-step phase r step e = ap (λ (steps : Steps). with_todo r (showing steps (tod
 pub none_left : {A : Type 0} (xs : List A) → length xs ≤ 0 → xs ≡ []
 none_left [] h = refl
 none_left (x ∷ xs) h = absurd (omega arith)
+
+-- a turn of a processor's thread that leaves claims to end, for the whole processor
+pub ends-kept : {cleans : Todos} {woken : List (ThreadIx × Told)} {p q : Processor} {ends old : List ℕ} (t : Turn)
+    → UnlessMade t (p ≡ q) → UnlessMade t (ends ≡ old) → UnlessMade t (standing cleans ends woken p ≡ standing cleans old woken q)
+ends-kept {cleans} {woken} {p} {q} {ends} {old} t = kept-both t (λ (z : Processor) (xs : List ℕ). standing cleans xs woken z) p q ends old
+
+pub ends-turned : {cpu : ℕ} {image : Image} {took shut : FineStep → Type 0} {late : Site → Type 0} {none : Type 0} {p q : Processor} {cleans : Todos} {ends : List ℕ}
+    {woken : List (ThreadIx × Told)} (t : Turn) (r : Running) → p ≡ q → cleans ≡ [] → woken ≡ []
+    → OnMade t (is_idle r.phase ≡ false) → Turned t cpu image q (with_ends ends (processor_of r)) took shut late none
+    → Turned t cpu image p (standing cleans ends woken (processor_of r)) took shut late none
+ends-turned {cpu} {image} {took} {shut} {late} {none} {p} {q} {cleans} {ends} {woken} t r at ec ew runs h =
+    turned-from t cpu image took shut late none p q _ at
+    (turned-as t cpu image took shut late none q _ _ (on-made t (λ k. ends-stand r k cleans ends woken ec ew) runs) h)
+
+-- the same of one that may leave an object to clean
+pub cleans-kept : {image : Image} {x : ℕ} {b : Bool} {cleans new : Todos} {ends : List ℕ} {woken : List (ThreadIx × Told)} {p q : Processor} (t : Turn)
+    → new ≡ cleans ++ block_if image x b → UnlessMade t (b ≡ false) → UnlessMade t (p ≡ q)
+    → UnlessMade t (standing new ends woken p ≡ standing cleans ends woken q)
+cleans-kept {image} {x} {b} {cleans} {new} {ends} {woken} {p} {q} t leaves none same =
+    kept-both t (λ (z : Processor) (cs : Todos). standing cs ends woken z) p q new cleans same
+    (unless-made t (λ h. leaves ∙ (ap (λ (c : Bool). cleans ++ block_if image x c) h ∙ append-nil cleans)) none)
+
+pub cleans-turned : {cpu : ℕ} {image : Image} {took shut : FineStep → Type 0} {late : Site → Type 0} {none : Type 0} {p : Processor} {x y : ℕ} {b : Bool}
+    {cleans new : Todos} {ends : List ℕ} {woken : List (ThreadIx × Told)} (t : Turn) (r : Running)
+    → cleans ≡ [] → ends ≡ [] → woken ≡ [] → x ≡ y → new ≡ cleans ++ block_if image x b
+    → OnMade t (is_idle r.phase ≡ false) → Turned t cpu image p (cleaned image y b (processor_of r)) took shut late none
+    → Turned t cpu image p (standing new ends woken (processor_of r)) took shut late none
+cleans-turned {cpu} {image} {took} {shut} {late} {none} {p} {x} {y} {b} {cleans} {new} {ends} {woken} t r ec ee ew at leaves runs =
+    let block : new ≡ block_if image y b = leaves ∙ (λ i. ec i ++ block_if image (at i) b) in
+    turned-as t cpu image took shut late none p _ _ (on-made t (λ h. cleans-stand r h image y b new ends woken block ee ew) runs)

@@ -32,7 +32,7 @@ use Rattle.um_processor.specs.declared.phase.Phase.{Phase}
 use Rattle.um_processor.specs.declared.row_act.RowAct.{RowAct}
 use Rattle.um_processor.specs.declared.running.Running.{Running}
 use Rattle.um_processor.specs.Asked.{asked, shown}
-use Rattle.um_processor.specs.Cleanings.{all_clean}
+use Rattle.um_processor.specs.Cleanings.{all_clean, block_if}
 use Rattle.um_processor.specs.HeapActs.{heap_made}
 use Rattle.um_processor.specs.ObjectCells.{cleared_made}
 use Rattle.um_processor.specs.Phases.{born, is_idle, showing, steps_behind, todo_in}
@@ -117,11 +117,6 @@ unless q rest block false h = refl
 first-cleaned : (block todo : Todos) → Front todo → with_cleaning block todo ≡ block ++ todo
 first-cleaned block todo f =
     ap (with_cleaning block) f.is ∙ (unless f.first f.rest block (is_cleaning_todo f.first) f.plain ∙ ap (λ (t : Todos). block ++ t) (sym f.is))
-
--- the cleaning of a row, where it came to that
-abbrev pub block_if : Image → ℕ → Bool → Todos
-block_if image x true = cleaning image x
-block_if image x false = []
 
 pub cleaned-behind : (image : Image) (x : ℕ) (p : Processor) (cs todo : Todos) (b : Bool) → all_clean cs ≡ true → Front todo
     → cleaned image x b (record p { todo = cs ++ todo }) ≡ record p { todo = (cs ++ block_if image x b) ++ todo }

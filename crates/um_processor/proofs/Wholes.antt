@@ -21,7 +21,7 @@ use Rattle.um_base.specs.Places.{addr_of}
 use Rattle.um_processor.specs.declared.heap_act.HeapAct.{HeapAct}
 use Rattle.um_processor.specs.declared.row_act.RowAct.{RowAct}
 use Rattle.um_processor.specs.declared.running.Running.{Running}
-use Rattle.um_processor.specs.Cleanings.{all_clean}
+use Rattle.um_processor.specs.Cleanings.{all_clean, block_if}
 use Rattle.um_processor.specs.HeapActs.{heap_made}
 use Rattle.um_processor.specs.ObjectCells.{cleared_made}
 use Rattle.um_processor.specs.Phases.{is_idle}
@@ -31,7 +31,7 @@ use Rattle.um_processor.specs.SchedulerActs.{woken_made}
 use Rattle.um_processor.specs.Standing.{standing}
 use Rattle.um_processor.proofs.Cleaned.{cleanings-append}
 use Rattle.um_processor.proofs.Counted.{none-before, none-of}
-use Rattle.um_processor.proofs.Standings.{Front, block_if, ended, front-before, front-of, pair_cleaned, recycled, stands, sweep-asks, vacated, waked, wiped}
+use Rattle.um_processor.proofs.Standings.{Front, ended, front-before, front-of, pair_cleaned, recycled, stands, sweep-asks, vacated, waked, wiped}
 
 -- the first of a list, and those behind it
 pub first-removed : (xs : List ℕ) (d : ℕ) → 0 < length xs → xs ≡ get_or xs 0 d ∷ remove xs 0

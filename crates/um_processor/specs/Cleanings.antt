@@ -1,6 +1,7 @@
 -- The fine steps that are left of the cleaning of objects, in their order.
-use Rattle.std.specs.Prelude.{ℕ, ◌+◌, Bool, true, ◌&&◌, List, [], ◌∷◌, ◌++◌, Option, Some, None}
-use Rattle.um_fine.specs.Places.{Todo, Todos, clean_pairs, cleaning_of, emptying, is_cleaning_todo}
+use Rattle.std.specs.Prelude.{ℕ, ◌+◌, Bool, true, false, ◌&&◌, List, [], ◌∷◌, ◌++◌, Option, Some, None}
+use Rattle.um_base.specs.declared.image.Image.{Image}
+use Rattle.um_fine.specs.Places.{Todo, Todos, clean_pairs, cleaning, cleaning_of, emptying, is_cleaning_todo}
 use Rattle.um_processor.specs.declared.cleaning.CleanStage.{CleanStage}
 use Rattle.um_processor.specs.declared.cleaning.CleanStep.{CleanStep}
 use Rattle.um_processor.specs.declared.cleaning.Gone.{Gone}
@@ -34,6 +35,11 @@ abbrev pub behind_first : Todos → Todos
 behind_first [] = []
 behind_first (Todo.clean_pair who x ∷ todo) = clean_pairs who (x + 1) todo
 behind_first (q ∷ todo) = todo
+
+-- the cleaning of a row's object, where the row came to that
+abbrev pub block_if : Image → ℕ → Bool → Todos
+block_if image x true = cleaning image x
+block_if image x false = []
 
 -- whether all are steps of cleaning
 abbrev pub all_clean : Todos → Bool

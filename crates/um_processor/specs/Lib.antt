@@ -18,3 +18,4 @@ pub mod Cleanings
 pub mod Standing
 pub mod Subjects
 pub mod Events
+pub mod Turns

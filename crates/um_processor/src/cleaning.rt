@@ -2,7 +2,7 @@
 
 ghost use Rattle.std.specs.Prelude.{◌≡◌, ◌<◌, ◌≤◌, ◌++◌, ◌∷◌, [], drop, length, true, MatchOption};
 ghost use Rattle.um_fine.specs.Places.{cleaning, cleaning_of, cleanings};
-ghost use Rattle.um_processor.specs.Cleanings.{all_clean, behind_first, clean_todo};
+ghost use Rattle.um_processor.specs.Cleanings.{all_clean, behind_first, block_if, clean_todo};
 
 use arrayvec::ArrayVec;
 use std::default::Default;
@@ -154,5 +154,15 @@ impl Cleaning {
             None => None,
         };
         self.push(row, who);
+    }
+
+    /// The same where the row came to cleaning.
+    pub fn take_in_if(&mut self, image: &Image, row: u8, cleans: bool)
+        requires { cleanings self.old < MOST }
+        ensures { self.new ≡ self.old ++ block_if image.now row cleans }
+    {
+        if cleans {
+            self.take_in(image, row);
+        }
     }
 }

@@ -2,8 +2,9 @@
 
 ghost use Rattle.std.specs.Prelude.{◌≡◌, ◌<◌, [], false, length};
 ghost use Rattle.um_processor.specs.Phases.{is_idle};
-ghost use Rattle.um_processor.specs.Processors.{MayNext, Turned, UnlessMade};
+ghost use Rattle.um_processor.specs.Processors.{UnlessMade};
 ghost use Rattle.um_processor.specs.Standing.{whole};
+ghost use Rattle.um_processor.specs.Turns.{MayTurn, TurnsAt};
 
 use crate::phase::Turn;
 use crate::processor::Processor;
@@ -19,14 +20,11 @@ impl Processor {
         requires runs { is_idle self.old.running.phase ≡ false }
         requires cleans { self.old.cleans ≡ [] }
         requires ends { 0 < length self.old.ends.items }
-        requires goes { MayNext cpu image.now (whole self.old) (S.May image.now sites.old) }
+        requires goes { MayTurn S.Sites cpu image.now sites.old (whole self.old) }
         ensures image { S.IsOf image.now sites.new }
         ensures same { UnlessMade result (whole self.new ≡ whole self.old) }
-        ensures turn { Turned result cpu image.now (whole self.old) (whole self.new)
-            (λ e. S.Took image.now sites.old e sites.new)
-            (λ e. S.Kept sites.old sites.new × S.Shut image.now sites.old e sites.new)
-            (λ site. S.Kept sites.old sites.new × S.Contended image.now sites.old site sites.new)
-            (sites.new ≡ sites.old) }
+        ensures turn { TurnsAt S.Sites result cpu image.now sites.old sites.new
+            (whole self.old) (whole self.new) }
     {
         let row = self.ends.as_slice()[0];
         if row as usize >= ROWS {
@@ -35,10 +33,7 @@ impl Processor {
         match sites.row(image, cpu, Row(row), &RowAct::EndCall) {
             Said::Made(said) => {
                 self.ends.remove(0);
-                if said.cleans {
-                    self.cleans.take_in(image, row);
-                    return Turn::Made;
-                }
+                self.cleans.take_in_if(image, row, said.cleans);
                 Turn::Made
             }
             Said::Busy => Turn::Busy,
@@ -53,14 +48,11 @@ impl Processor {
         requires cleans { self.old.cleans ≡ [] }
         requires ends { self.old.ends.items ≡ [] }
         requires woken { self.old.told < length self.old.outcome.woken }
-        requires goes { MayNext cpu image.now (whole self.old) (S.May image.now sites.old) }
+        requires goes { MayTurn S.Sites cpu image.now sites.old (whole self.old) }
         ensures image { S.IsOf image.now sites.new }
         ensures same { UnlessMade result (whole self.new ≡ whole self.old) }
-        ensures turn { Turned result cpu image.now (whole self.old) (whole self.new)
-            (λ e. S.Took image.now sites.old e sites.new)
-            (λ e. S.Kept sites.old sites.new × S.Shut image.now sites.old e sites.new)
-            (λ site. S.Kept sites.old sites.new × S.Contended image.now sites.old site sites.new)
-            (sites.new ≡ sites.old) }
+        ensures turn { TurnsAt S.Sites result cpu image.now sites.old sites.new
+            (whole self.old) (whole self.new) }
     {
         let (who, told) = &self.outcome.woken.as_slice()[self.told];
         if who.0 as usize >= THREADS {

@@ -3,8 +3,9 @@
 ghost use Rattle.std.specs.Prelude.{◌≡◌, ◌<◌, ◌∷◌, drop, false};
 ghost use Rattle.um_fine.specs.Places.{Todo};
 ghost use Rattle.um_processor.specs.Phases.{is_idle};
-ghost use Rattle.um_processor.specs.Processors.{MayNext, Turned, UnlessMade};
+ghost use Rattle.um_processor.specs.Processors.{UnlessMade};
 ghost use Rattle.um_processor.specs.Standing.{whole};
+ghost use Rattle.um_processor.specs.Turns.{MayTurn, TurnsAt};
 
 use crate::cleaning::MOST;
 use crate::heap_act::HeapAct;
@@ -29,14 +30,11 @@ impl Processor {
         requires sites { S.IsOf image.now sites.old }
         requires runs { is_idle self.old.running.phase ≡ false }
         requires first { self.old.cleans ≡ Todo.clean_pair who row ∷ drop 1 self.old.cleans }
-        requires goes { MayNext cpu image.now (whole self.old) (S.May image.now sites.old) }
+        requires goes { MayTurn S.Sites cpu image.now sites.old (whole self.old) }
         ensures image { S.IsOf image.now sites.new }
         ensures same { UnlessMade result (whole self.new ≡ whole self.old) }
-        ensures turn { Turned result cpu image.now (whole self.old) (whole self.new)
-            (λ e. S.Took image.now sites.old e sites.new)
-            (λ e. S.Kept sites.old sites.new × S.Shut image.now sites.old e sites.new)
-            (λ site. S.Kept sites.old sites.new × S.Contended image.now sites.old site sites.new)
-            (sites.new ≡ sites.old) }
+        ensures turn { TurnsAt S.Sites result cpu image.now sites.old sites.new
+            (whole self.old) (whole self.new) }
     {
         let x = row as usize;
         if x >= ROWS {
@@ -53,10 +51,7 @@ impl Processor {
         match sites.row(image, cpu, Row(row), &act) {
             Said::Made(said) => {
                 self.cleans.advance();
-                if said.cleans {
-                    self.cleans.take_in(image, row);
-                    return Turn::Made;
-                }
+                self.cleans.take_in_if(image, row, said.cleans);
                 Turn::Made
             }
             Said::Busy => Turn::Busy,
@@ -69,14 +64,11 @@ impl Processor {
         requires sites { S.IsOf image.now sites.old }
         requires runs { is_idle self.old.running.phase ≡ false }
         requires first { self.old.cleans ≡ Todo.wipe row ∷ drop 1 self.old.cleans }
-        requires goes { MayNext cpu image.now (whole self.old) (S.May image.now sites.old) }
+        requires goes { MayTurn S.Sites cpu image.now sites.old (whole self.old) }
         ensures image { S.IsOf image.now sites.new }
         ensures same { UnlessMade result (whole self.new ≡ whole self.old) }
-        ensures turn { Turned result cpu image.now (whole self.old) (whole self.new)
-            (λ e. S.Took image.now sites.old e sites.new)
-            (λ e. S.Kept sites.old sites.new × S.Shut image.now sites.old e sites.new)
-            (λ site. S.Kept sites.old sites.new × S.Contended image.now sites.old site sites.new)
-            (sites.new ≡ sites.old) }
+        ensures turn { TurnsAt S.Sites result cpu image.now sites.old sites.new
+            (whole self.old) (whole self.new) }
     {
         if row as usize >= ROWS {
             return Turn::Stuck;
@@ -97,14 +89,11 @@ impl Processor {
         requires sites { S.IsOf image.now sites.old }
         requires runs { is_idle self.old.running.phase ≡ false }
         requires first { self.old.cleans ≡ Todo.vacate row ∷ drop 1 self.old.cleans }
-        requires goes { MayNext cpu image.now (whole self.old) (S.May image.now sites.old) }
+        requires goes { MayTurn S.Sites cpu image.now sites.old (whole self.old) }
         ensures image { S.IsOf image.now sites.new }
         ensures same { UnlessMade result (whole self.new ≡ whole self.old) }
-        ensures turn { Turned result cpu image.now (whole self.old) (whole self.new)
-            (λ e. S.Took image.now sites.old e sites.new)
-            (λ e. S.Kept sites.old sites.new × S.Shut image.now sites.old e sites.new)
-            (λ site. S.Kept sites.old sites.new × S.Contended image.now sites.old site sites.new)
-            (sites.new ≡ sites.old) }
+        ensures turn { TurnsAt S.Sites result cpu image.now sites.old sites.new
+            (whole self.old) (whole self.new) }
     {
         if row as usize >= ROWS {
             return Turn::Stuck;
@@ -124,14 +113,11 @@ impl Processor {
         requires sites { S.IsOf image.now sites.old }
         requires runs { is_idle self.old.running.phase ≡ false }
         requires first { self.old.cleans ≡ Todo.recycle row ∷ drop 1 self.old.cleans }
-        requires goes { MayNext cpu image.now (whole self.old) (S.May image.now sites.old) }
+        requires goes { MayTurn S.Sites cpu image.now sites.old (whole self.old) }
         ensures image { S.IsOf image.now sites.new }
         ensures same { UnlessMade result (whole self.new ≡ whole self.old) }
-        ensures turn { Turned result cpu image.now (whole self.old) (whole self.new)
-            (λ e. S.Took image.now sites.old e sites.new)
-            (λ e. S.Kept sites.old sites.new × S.Shut image.now sites.old e sites.new)
-            (λ site. S.Kept sites.old sites.new × S.Contended image.now sites.old site sites.new)
-            (sites.new ≡ sites.old) }
+        ensures turn { TurnsAt S.Sites result cpu image.now sites.old sites.new
+            (whole self.old) (whole self.new) }
     {
         let act = HeapAct::Recycle {
             thread: self.running.thread(),

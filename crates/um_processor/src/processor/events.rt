@@ -4,9 +4,10 @@ ghost use Rattle.std.specs.Prelude.{◌≡◌, [], drop, IsTrue};
 ghost use Rattle.um_machine.specs.Limits.{IsSound, is_sound_ask};
 ghost use Rattle.um_machine.specs.declared.pending.Pending.TheVariants as Pending;
 ghost use Rattle.um_processor.specs.Events.{about_to, about_to_park, at_event};
-ghost use Rattle.um_processor.specs.Processors.{MayNext, Turned, UnlessMade};
+ghost use Rattle.um_processor.specs.Processors.{UnlessMade};
 ghost use Rattle.um_processor.specs.Standing.{whole};
 ghost use Rattle.um_processor.specs.Subjects.{ends_claims, is_plain};
+ghost use Rattle.um_processor.specs.Turns.{MayTurn, TurnsAt};
 
 use crate::phase::{Phase, Turn};
 use crate::processor::Processor;
@@ -30,14 +31,11 @@ impl Processor {
         requires cleans { self.old.cleans ≡ [] }
         requires ends { self.old.ends.items ≡ [] }
         requires woken { drop self.old.told self.old.outcome.woken ≡ [] }
-        requires goes { MayNext cpu image.now (about_to phase step.now self.old.running) (S.May image.now sites.old) }
+        requires goes { MayTurn S.Sites cpu image.now sites.old (about_to phase step.now self.old.running) }
         ensures image { S.IsOf image.now sites.new }
         ensures same { UnlessMade result (whole self.new ≡ whole self.old) }
-        ensures turn { Turned result cpu image.now (about_to phase step.now self.old.running) (whole self.new)
-            (λ e. S.Took image.now sites.old e sites.new)
-            (λ e. S.Kept sites.old sites.new × S.Shut image.now sites.old e sites.new)
-            (λ site. S.Kept sites.old sites.new × S.Contended image.now sites.old site sites.new)
-            (sites.new ≡ sites.old) }
+        ensures turn { TurnsAt S.Sites result cpu image.now sites.old sites.new
+            (about_to phase step.now self.old.running) (whole self.new) }
     {
         self.running.show(image, cpu, phase, step, sites)
     }
@@ -56,14 +54,11 @@ impl Processor {
         requires cleans { self.old.cleans ≡ [] }
         requires ends { self.old.ends.items ≡ [] }
         requires woken { drop self.old.told self.old.outcome.woken ≡ [] }
-        requires goes { MayNext cpu image.now (about_to phase step.now self.old.running) (S.May image.now sites.old) }
+        requires goes { MayTurn S.Sites cpu image.now sites.old (about_to phase step.now self.old.running) }
         ensures image { S.IsOf image.now sites.new }
         ensures same { UnlessMade result (whole self.new ≡ whole self.old) }
-        ensures turn { Turned result cpu image.now (about_to phase step.now self.old.running) (whole self.new)
-            (λ e. S.Took image.now sites.old e sites.new)
-            (λ e. S.Kept sites.old sites.new × S.Shut image.now sites.old e sites.new)
-            (λ site. S.Kept sites.old sites.new × S.Contended image.now sites.old site sites.new)
-            (sites.new ≡ sites.old) }
+        ensures turn { TurnsAt S.Sites result cpu image.now sites.old sites.new
+            (about_to phase step.now self.old.running) (whole self.new) }
     {
         match step {
             Pending::Answer { reply, to } => self
@@ -94,14 +89,11 @@ impl Processor {
         requires cleans { self.old.cleans ≡ [] }
         requires ends { self.old.ends.items ≡ [] }
         requires woken { drop self.old.told self.old.outcome.woken ≡ [] }
-        requires goes { MayNext cpu image.now (about_to phase (Pending.Work addr ask.now) self.old.running) (S.May image.now sites.old) }
+        requires goes { MayTurn S.Sites cpu image.now sites.old (about_to phase (Pending.Work addr ask.now) self.old.running) }
         ensures image { S.IsOf image.now sites.new }
         ensures same { UnlessMade result (whole self.new ≡ whole self.old) }
-        ensures turn { Turned result cpu image.now (about_to phase (Pending.Work addr ask.now) self.old.running) (whole self.new)
-            (λ e. S.Took image.now sites.old e sites.new)
-            (λ e. S.Kept sites.old sites.new × S.Shut image.now sites.old e sites.new)
-            (λ site. S.Kept sites.old sites.new × S.Contended image.now sites.old site sites.new)
-            (sites.new ≡ sites.old) }
+        ensures turn { TurnsAt S.Sites result cpu image.now sites.old sites.new
+            (about_to phase (Pending.Work addr ask.now) self.old.running) (whole self.new) }
     {
         match self
             .running
@@ -131,31 +123,19 @@ impl Processor {
         requires cleans { self.old.cleans ≡ [] }
         requires ends { self.old.ends.items ≡ [] }
         requires woken { drop self.old.told self.old.outcome.woken ≡ [] }
-        requires goes { MayNext cpu image.now (about_to phase (Pending.DropPair who addr) self.old.running) (S.May image.now sites.old) }
+        requires goes { MayTurn S.Sites cpu image.now sites.old (about_to phase (Pending.DropPair who addr) self.old.running) }
         ensures image { S.IsOf image.now sites.new }
         ensures same { UnlessMade result (whole self.new ≡ whole self.old) }
-        ensures turn { Turned result cpu image.now (about_to phase (Pending.DropPair who addr) self.old.running) (whole self.new)
-            (λ e. S.Took image.now sites.old e sites.new)
-            (λ e. S.Kept sites.old sites.new × S.Shut image.now sites.old e sites.new)
-            (λ site. S.Kept sites.old sites.new × S.Contended image.now sites.old site sites.new)
-            (sites.new ≡ sites.old) }
+        ensures turn { TurnsAt S.Sites result cpu image.now sites.old sites.new
+            (about_to phase (Pending.DropPair who addr) self.old.running) (whole self.new) }
     {
         let mut cleans = false;
-        match self
+        let turn = self
             .running
-            .take_away(image, cpu, phase, who, addr, &mut cleans, sites)
-        {
-            Turn::Made => {
-                if cleans {
-                    self.cleans.take_in(image, row_named(image, addr));
-                    return Turn::Made;
-                }
-                Turn::Made
-            }
-            Turn::Busy => Turn::Busy,
-            Turn::Changed => Turn::Changed,
-            Turn::Stuck => Turn::Stuck,
-        }
+            .take_away(image, cpu, phase, who, addr, &mut cleans, sites);
+        let row = row_named(image, addr);
+        self.cleans.take_in_if(image, row, cleans);
+        turn
     }
 
     /// The event of a step, if it has one.
@@ -172,14 +152,11 @@ impl Processor {
         requires cleans { self.old.cleans ≡ [] }
         requires ends { self.old.ends.items ≡ [] }
         requires woken { drop self.old.told self.old.outcome.woken ≡ [] }
-        requires goes { MayNext cpu image.now (about_to phase step.now self.old.running) (S.May image.now sites.old) }
+        requires goes { MayTurn S.Sites cpu image.now sites.old (about_to phase step.now self.old.running) }
         ensures image { S.IsOf image.now sites.new }
         ensures same { UnlessMade result (whole self.new ≡ whole self.old) }
-        ensures turn { Turned result cpu image.now (about_to phase step.now self.old.running) (whole self.new)
-            (λ e. S.Took image.now sites.old e sites.new)
-            (λ e. S.Kept sites.old sites.new × S.Shut image.now sites.old e sites.new)
-            (λ site. S.Kept sites.old sites.new × S.Contended image.now sites.old site sites.new)
-            (sites.new ≡ sites.old) }
+        ensures turn { TurnsAt S.Sites result cpu image.now sites.old sites.new
+            (about_to phase step.now self.old.running) (whole self.new) }
     {
         match step {
             Pending::Begin | Pending::Exit => unreachable!(),
@@ -201,14 +178,11 @@ impl Processor {
         requires cleans { self.old.cleans ≡ [] }
         requires ends { self.old.ends.items ≡ [] }
         requires woken { drop self.old.told self.old.outcome.woken ≡ [] }
-        requires goes { MayNext cpu image.now (about_to_park phase self.old.running) (S.May image.now sites.old) }
+        requires goes { MayTurn S.Sites cpu image.now sites.old (about_to_park phase self.old.running) }
         ensures image { S.IsOf image.now sites.new }
         ensures same { UnlessMade result (whole self.new ≡ whole self.old) }
-        ensures turn { Turned result cpu image.now (about_to_park phase self.old.running) (whole self.new)
-            (λ e. S.Took image.now sites.old e sites.new)
-            (λ e. S.Kept sites.old sites.new × S.Shut image.now sites.old e sites.new)
-            (λ site. S.Kept sites.old sites.new × S.Contended image.now sites.old site sites.new)
-            (sites.new ≡ sites.old) }
+        ensures turn { TurnsAt S.Sites result cpu image.now sites.old sites.new
+            (about_to_park phase self.old.running) (whole self.new) }
     {
         self.running.park(image, cpu, phase, sites)
     }
@@ -219,14 +193,11 @@ impl Processor {
         requires cleans { self.old.cleans ≡ [] }
         requires ends { self.old.ends.items ≡ [] }
         requires woken { drop self.old.told self.old.outcome.woken ≡ [] }
-        requires goes { MayNext cpu image.now (at_event phase self.old.running) (S.May image.now sites.old) }
+        requires goes { MayTurn S.Sites cpu image.now sites.old (at_event phase self.old.running) }
         ensures image { S.IsOf image.now sites.new }
         ensures same { UnlessMade result (whole self.new ≡ whole self.old) }
-        ensures turn { Turned result cpu image.now (at_event phase self.old.running) (whole self.new)
-            (λ e. S.Took image.now sites.old e sites.new)
-            (λ e. S.Kept sites.old sites.new × S.Shut image.now sites.old e sites.new)
-            (λ site. S.Kept sites.old sites.new × S.Contended image.now sites.old site sites.new)
-            (sites.new ≡ sites.old) }
+        ensures turn { TurnsAt S.Sites result cpu image.now sites.old sites.new
+            (at_event phase self.old.running) (whole self.new) }
     {
         match self.running.next_step() {
             None => self.park(image, cpu, phase, sites),

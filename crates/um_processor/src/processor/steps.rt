@@ -4,8 +4,9 @@ ghost use Rattle.std.specs.Prelude.{◌≡◌, ◌∷◌, [], drop, false, true,
 ghost use Rattle.um_processor.specs.Cleanings.{clean_todo};
 ghost use Rattle.um_processor.specs.Given.{IsGiven};
 ghost use Rattle.um_processor.specs.Phases.{is_idle, is_plain_phase};
-ghost use Rattle.um_processor.specs.Processors.{MayNext, Turned, UnlessMade, in_phase};
+ghost use Rattle.um_processor.specs.Processors.{UnlessMade, in_phase};
 ghost use Rattle.um_processor.specs.Standing.{whole};
+ghost use Rattle.um_processor.specs.Turns.{MayTurn, TurnsAt};
 ghost use Rattle.um_processor.specs.declared.phase.Phase.TheVariants as Phase;
 
 use crate::cleaning::CleanStep;
@@ -32,14 +33,11 @@ impl Processor {
     fn take<S: Sites>(&mut self, image: &Image, cpu: u8, sites: &mut S) -> Turn
         requires sites { S.IsOf image.now sites.old }
         requires idle { is_idle self.old.running.phase ≡ true }
-        requires goes { MayNext cpu image.now (whole self.old) (S.May image.now sites.old) }
+        requires goes { MayTurn S.Sites cpu image.now sites.old (whole self.old) }
         ensures image { S.IsOf image.now sites.new }
         ensures same { UnlessMade result (whole self.new ≡ whole self.old) }
-        ensures turn { Turned result cpu image.now (whole self.old) (whole self.new)
-            (λ e. S.Took image.now sites.old e sites.new)
-            (λ e. S.Kept sites.old sites.new × S.Shut image.now sites.old e sites.new)
-            (λ site. S.Kept sites.old sites.new × S.Contended image.now sites.old site sites.new)
-            (sites.new ≡ sites.old) }
+        ensures turn { TurnsAt S.Sites result cpu image.now sites.old sites.new
+            (whole self.old) (whole self.new) }
     {
         match self.running.take(image, cpu, sites) {
             Turn::Made => {
@@ -57,14 +55,11 @@ impl Processor {
         requires sites { S.IsOf image.now sites.old }
         requires runs { is_idle self.old.running.phase ≡ false }
         requires first { self.old.cleans ≡ clean_todo step ∷ drop 1 self.old.cleans }
-        requires goes { MayNext cpu image.now (whole self.old) (S.May image.now sites.old) }
+        requires goes { MayTurn S.Sites cpu image.now sites.old (whole self.old) }
         ensures image { S.IsOf image.now sites.new }
         ensures same { UnlessMade result (whole self.new ≡ whole self.old) }
-        ensures turn { Turned result cpu image.now (whole self.old) (whole self.new)
-            (λ e. S.Took image.now sites.old e sites.new)
-            (λ e. S.Kept sites.old sites.new × S.Shut image.now sites.old e sites.new)
-            (λ site. S.Kept sites.old sites.new × S.Contended image.now sites.old site sites.new)
-            (sites.new ≡ sites.old) }
+        ensures turn { TurnsAt S.Sites result cpu image.now sites.old sites.new
+            (whole self.old) (whole self.new) }
     {
         match step {
             CleanStep::Pair { who, row } => self.clean_pair(image, cpu, who, row, sites),
@@ -80,14 +75,11 @@ impl Processor {
         requires cleans { self.old.cleans ≡ [] }
         requires ends { self.old.ends.items ≡ [] }
         requires woken { drop self.old.told self.old.outcome.woken ≡ [] }
-        requires goes { MayNext cpu image.now (in_phase Phase.Exit self.old.running) (S.May image.now sites.old) }
+        requires goes { MayTurn S.Sites cpu image.now sites.old (in_phase Phase.Exit self.old.running) }
         ensures image { S.IsOf image.now sites.new }
         ensures same { UnlessMade result (whole self.new ≡ whole self.old) }
-        ensures turn { Turned result cpu image.now (in_phase Phase.Exit self.old.running) (whole self.new)
-            (λ e. S.Took image.now sites.old e sites.new)
-            (λ e. S.Kept sites.old sites.new × S.Shut image.now sites.old e sites.new)
-            (λ site. S.Kept sites.old sites.new × S.Contended image.now sites.old site sites.new)
-            (sites.new ≡ sites.old) }
+        ensures turn { TurnsAt S.Sites result cpu image.now sites.old sites.new
+            (in_phase Phase.Exit self.old.running) (whole self.new) }
     {
         self.running.exit(image, cpu, &mut self.ends, sites)
     }
@@ -98,29 +90,17 @@ impl Processor {
         requires cleans { self.old.cleans ≡ [] }
         requires ends { self.old.ends.items ≡ [] }
         requires woken { drop self.old.told self.old.outcome.woken ≡ [] }
-        requires goes { MayNext cpu image.now (in_phase Phase.Drop self.old.running) (S.May image.now sites.old) }
+        requires goes { MayTurn S.Sites cpu image.now sites.old (in_phase Phase.Drop self.old.running) }
         ensures image { S.IsOf image.now sites.new }
         ensures same { UnlessMade result (whole self.new ≡ whole self.old) }
-        ensures turn { Turned result cpu image.now (in_phase Phase.Drop self.old.running) (whole self.new)
-            (λ e. S.Took image.now sites.old e sites.new)
-            (λ e. S.Kept sites.old sites.new × S.Shut image.now sites.old e sites.new)
-            (λ site. S.Kept sites.old sites.new × S.Contended image.now sites.old site sites.new)
-            (sites.new ≡ sites.old) }
+        ensures turn { TurnsAt S.Sites result cpu image.now sites.old sites.new
+            (in_phase Phase.Drop self.old.running) (whole self.new) }
     {
         let row = self.running.row();
         let mut cleans = false;
-        match self.running.drop_permission(image, cpu, &mut cleans, sites) {
-            Turn::Made => {
-                if cleans {
-                    self.cleans.take_in(image, row);
-                    return Turn::Made;
-                }
-                Turn::Made
-            }
-            Turn::Busy => Turn::Busy,
-            Turn::Changed => Turn::Changed,
-            Turn::Stuck => Turn::Stuck,
-        }
+        let turn = self.running.drop_permission(image, cpu, &mut cleans, sites);
+        self.cleans.take_in_if(image, row, cleans);
+        turn
     }
 
     /// A step behind which no more is to be done before the next one.
@@ -131,14 +111,11 @@ impl Processor {
         requires cleans { self.old.cleans ≡ [] }
         requires ends { self.old.ends.items ≡ [] }
         requires woken { drop self.old.told self.old.outcome.woken ≡ [] }
-        requires goes { MayNext cpu image.now (whole self.old) (S.May image.now sites.old) }
+        requires goes { MayTurn S.Sites cpu image.now sites.old (whole self.old) }
         ensures image { S.IsOf image.now sites.new }
         ensures same { UnlessMade result (whole self.new ≡ whole self.old) }
-        ensures turn { Turned result cpu image.now (whole self.old) (whole self.new)
-            (λ e. S.Took image.now sites.old e sites.new)
-            (λ e. S.Kept sites.old sites.new × S.Shut image.now sites.old e sites.new)
-            (λ site. S.Kept sites.old sites.new × S.Contended image.now sites.old site sites.new)
-            (sites.new ≡ sites.old) }
+        ensures turn { TurnsAt S.Sites result cpu image.now sites.old sites.new
+            (whole self.old) (whole self.new) }
     {
         self.running.go(image, cpu, sites)
     }
@@ -151,14 +128,11 @@ impl Processor {
         requires cleans { self.old.cleans ≡ [] }
         requires ends { self.old.ends.items ≡ [] }
         requires woken { drop self.old.told self.old.outcome.woken ≡ [] }
-        requires goes { MayNext cpu image.now (whole self.old) (S.May image.now sites.old) }
+        requires goes { MayTurn S.Sites cpu image.now sites.old (whole self.old) }
         ensures image { S.IsOf image.now sites.new }
         ensures same { UnlessMade result (whole self.new ≡ whole self.old) }
-        ensures turn { Turned result cpu image.now (whole self.old) (whole self.new)
-            (λ e. S.Took image.now sites.old e sites.new)
-            (λ e. S.Kept sites.old sites.new × S.Shut image.now sites.old e sites.new)
-            (λ site. S.Kept sites.old sites.new × S.Contended image.now sites.old site sites.new)
-            (sites.new ≡ sites.old) }
+        ensures turn { TurnsAt S.Sites result cpu image.now sites.old sites.new
+            (whole self.old) (whole self.new) }
     {
         match self.running.phase() {
             Phase::Access => self.show(image, cpu, Phase::Access, sites),
@@ -177,14 +151,11 @@ impl Processor {
         requires given { IsGiven image.now }
         requires runs { is_idle self.old.running.phase ≡ false }
         requires cleans { self.old.cleans ≡ [] }
-        requires goes { MayNext cpu image.now (whole self.old) (S.May image.now sites.old) }
+        requires goes { MayTurn S.Sites cpu image.now sites.old (whole self.old) }
         ensures image { S.IsOf image.now sites.new }
         ensures same { UnlessMade result (whole self.new ≡ whole self.old) }
-        ensures turn { Turned result cpu image.now (whole self.old) (whole self.new)
-            (λ e. S.Took image.now sites.old e sites.new)
-            (λ e. S.Kept sites.old sites.new × S.Shut image.now sites.old e sites.new)
-            (λ site. S.Kept sites.old sites.new × S.Contended image.now sites.old site sites.new)
-            (sites.new ≡ sites.old) }
+        ensures turn { TurnsAt S.Sites result cpu image.now sites.old sites.new
+            (whole self.old) (whole self.new) }
     {
         if self.ends.len() > 0 {
             return self.end_call(image, cpu, sites);
@@ -199,14 +170,11 @@ impl Processor {
     pub fn step<S: Sites>(&mut self, image: &Image, cpu: u8, sites: &mut S) -> Turn
         requires sites { S.IsOf image.now sites.old }
         requires given { IsGiven image.now }
-        requires goes { MayNext cpu image.now (whole self.old) (S.May image.now sites.old) }
+        requires goes { MayTurn S.Sites cpu image.now sites.old (whole self.old) }
         ensures image { S.IsOf image.now sites.new }
         ensures same { UnlessMade result (whole self.new ≡ whole self.old) }
-        ensures turn { Turned result cpu image.now (whole self.old) (whole self.new)
-            (λ e. S.Took image.now sites.old e sites.new)
-            (λ e. S.Kept sites.old sites.new × S.Shut image.now sites.old e sites.new)
-            (λ site. S.Kept sites.old sites.new × S.Contended image.now sites.old site sites.new)
-            (sites.new ≡ sites.old) }
+        ensures turn { TurnsAt S.Sites result cpu image.now sites.old sites.new
+            (whole self.old) (whole self.new) }
     {
         if self.running.is_idle() {
             return self.take(image, cpu, sites);

@@ -4,7 +4,8 @@ ghost use Rattle.std.specs.Prelude.{◌≡◌};
 ghost use Rattle.um_fine.specs.Processor.{is_of, key_of, same_key};
 ghost use Rattle.um_machine.specs.State.{is_user};
 ghost use Rattle.um_processor.specs.Parked.{some_if};
-ghost use Rattle.um_processor.specs.Processors.{MayNext, Turned, UnlessMade, in_phase, processor_of};
+ghost use Rattle.um_processor.specs.Processors.{UnlessMade, in_phase, processor_of};
+ghost use Rattle.um_processor.specs.Turns.{MayTurn, TurnsAt};
 
 use crate::domain_act::DomainAct;
 use crate::phase::{Phase, Turn};
@@ -58,14 +59,11 @@ impl Running {
     /// The size of a queue's messages is looked at.
     pub fn look_at_size<S: Sites>(&mut self, image: &Image, cpu: u8, sites: &mut S) -> Turn
         requires sites { S.IsOf image.now sites.old }
-        requires goes { MayNext cpu image.now (in_phase Phase.SizeLook self.old) (S.May image.now sites.old) }
+        requires goes { MayTurn S.Sites cpu image.now sites.old (in_phase Phase.SizeLook self.old) }
         ensures image { S.IsOf image.now sites.new }
         ensures same { UnlessMade result (processor_of self.new ≡ processor_of self.old) }
-        ensures turn { Turned result cpu image.now (in_phase Phase.SizeLook self.old) (processor_of self.new)
-            (λ e. S.Took image.now sites.old e sites.new)
-            (λ e. S.Kept sites.old sites.new × S.Shut image.now sites.old e sites.new)
-            (λ site. S.Kept sites.old sites.new × S.Contended image.now sites.old site sites.new)
-            (sites.new ≡ sites.old) }
+        ensures turn { TurnsAt S.Sites result cpu image.now sites.old sites.new
+            (in_phase Phase.SizeLook self.old) (processor_of self.new) }
     {
         if self.queue as usize >= ROWS {
             return Turn::Stuck;
@@ -84,14 +82,11 @@ impl Running {
     /// The thread is held, and its domain known.
     pub fn hold<S: Sites>(&mut self, image: &Image, cpu: u8, sites: &mut S) -> Turn
         requires sites { S.IsOf image.now sites.old }
-        requires goes { MayNext cpu image.now (in_phase Phase.Hold self.old) (S.May image.now sites.old) }
+        requires goes { MayTurn S.Sites cpu image.now sites.old (in_phase Phase.Hold self.old) }
         ensures image { S.IsOf image.now sites.new }
         ensures same { UnlessMade result (processor_of self.new ≡ processor_of self.old) }
-        ensures turn { Turned result cpu image.now (in_phase Phase.Hold self.old) (processor_of self.new)
-            (λ e. S.Took image.now sites.old e sites.new)
-            (λ e. S.Kept sites.old sites.new × S.Shut image.now sites.old e sites.new)
-            (λ site. S.Kept sites.old sites.new × S.Contended image.now sites.old site sites.new)
-            (sites.new ≡ sites.old) }
+        ensures turn { TurnsAt S.Sites result cpu image.now sites.old sites.new
+            (in_phase Phase.Hold self.old) (processor_of self.new) }
     {
         let thread = ThreadIx(self.context.thread());
         match sites.thread(image, cpu, thread, &ThreadAct::Hold) {
@@ -108,14 +103,11 @@ impl Running {
     /// The domain is claimed. A table that is of its version isn't loaded again.
     pub fn claim_to_read<S: Sites>(&mut self, image: &Image, cpu: u8, sites: &mut S) -> Turn
         requires sites { S.IsOf image.now sites.old }
-        requires goes { MayNext cpu image.now (in_phase Phase.ReadClaim self.old) (S.May image.now sites.old) }
+        requires goes { MayTurn S.Sites cpu image.now sites.old (in_phase Phase.ReadClaim self.old) }
         ensures image { S.IsOf image.now sites.new }
         ensures same { UnlessMade result (processor_of self.new ≡ processor_of self.old) }
-        ensures turn { Turned result cpu image.now (in_phase Phase.ReadClaim self.old) (processor_of self.new)
-            (λ e. S.Took image.now sites.old e sites.new)
-            (λ e. S.Kept sites.old sites.new × S.Shut image.now sites.old e sites.new)
-            (λ site. S.Kept sites.old sites.new × S.Contended image.now sites.old site sites.new)
-            (sites.new ≡ sites.old) }
+        ensures turn { TurnsAt S.Sites result cpu image.now sites.old sites.new
+            (in_phase Phase.ReadClaim self.old) (processor_of self.new) }
     {
         if self.domain as usize >= DOMAINS {
             return Turn::Stuck;
@@ -139,14 +131,11 @@ impl Running {
     /// The region table is loaded.
     pub fn load_regions<S: Sites>(&mut self, image: &Image, cpu: u8, sites: &mut S) -> Turn
         requires sites { S.IsOf image.now sites.old }
-        requires goes { MayNext cpu image.now (in_phase Phase.RegionLoad self.old) (S.May image.now sites.old) }
+        requires goes { MayTurn S.Sites cpu image.now sites.old (in_phase Phase.RegionLoad self.old) }
         ensures image { S.IsOf image.now sites.new }
         ensures same { UnlessMade result (processor_of self.new ≡ processor_of self.old) }
-        ensures turn { Turned result cpu image.now (in_phase Phase.RegionLoad self.old) (processor_of self.new)
-            (λ e. S.Took image.now sites.old e sites.new)
-            (λ e. S.Kept sites.old sites.new × S.Shut image.now sites.old e sites.new)
-            (λ site. S.Kept sites.old sites.new × S.Contended image.now sites.old site sites.new)
-            (sites.new ≡ sites.old) }
+        ensures turn { TurnsAt S.Sites result cpu image.now sites.old sites.new
+            (in_phase Phase.RegionLoad self.old) (processor_of self.new) }
     {
         if self.domain as usize >= DOMAINS {
             return Turn::Stuck;
@@ -166,14 +155,11 @@ impl Running {
     /// The claim of the domain ends.
     pub fn end_read<S: Sites>(&mut self, image: &Image, cpu: u8, sites: &mut S) -> Turn
         requires sites { S.IsOf image.now sites.old }
-        requires goes { MayNext cpu image.now (in_phase Phase.ReadDone self.old) (S.May image.now sites.old) }
+        requires goes { MayTurn S.Sites cpu image.now sites.old (in_phase Phase.ReadDone self.old) }
         ensures image { S.IsOf image.now sites.new }
         ensures same { UnlessMade result (processor_of self.new ≡ processor_of self.old) }
-        ensures turn { Turned result cpu image.now (in_phase Phase.ReadDone self.old) (processor_of self.new)
-            (λ e. S.Took image.now sites.old e sites.new)
-            (λ e. S.Kept sites.old sites.new × S.Shut image.now sites.old e sites.new)
-            (λ site. S.Kept sites.old sites.new × S.Contended image.now sites.old site sites.new)
-            (sites.new ≡ sites.old) }
+        ensures turn { TurnsAt S.Sites result cpu image.now sites.old sites.new
+            (in_phase Phase.ReadDone self.old) (processor_of self.new) }
     {
         if self.domain as usize >= DOMAINS {
             return Turn::Stuck;
@@ -191,14 +177,11 @@ impl Running {
     /// The thread is let go.
     pub fn let_go<S: Sites>(&mut self, image: &Image, cpu: u8, sites: &mut S) -> Turn
         requires sites { S.IsOf image.now sites.old }
-        requires goes { MayNext cpu image.now (in_phase Phase.LetGo self.old) (S.May image.now sites.old) }
+        requires goes { MayTurn S.Sites cpu image.now sites.old (in_phase Phase.LetGo self.old) }
         ensures image { S.IsOf image.now sites.new }
         ensures same { UnlessMade result (processor_of self.new ≡ processor_of self.old) }
-        ensures turn { Turned result cpu image.now (in_phase Phase.LetGo self.old) (processor_of self.new)
-            (λ e. S.Took image.now sites.old e sites.new)
-            (λ e. S.Kept sites.old sites.new × S.Shut image.now sites.old e sites.new)
-            (λ site. S.Kept sites.old sites.new × S.Contended image.now sites.old site sites.new)
-            (sites.new ≡ sites.old) }
+        ensures turn { TurnsAt S.Sites result cpu image.now sites.old sites.new
+            (in_phase Phase.LetGo self.old) (processor_of self.new) }
     {
         let thread = ThreadIx(self.context.thread());
         match sites.thread(image, cpu, thread, &ThreadAct::LetGo) {

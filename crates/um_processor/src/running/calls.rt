@@ -6,7 +6,8 @@ ghost use Rattle.um_base.specs.Places.{row_at};
 ghost use Rattle.um_machine.specs.declared.pending.Pending.TheVariants as Pending;
 ghost use Rattle.um_processor.specs.Events.{about_to, with_ends};
 ghost use Rattle.um_processor.specs.Phases.{is_idle};
-ghost use Rattle.um_processor.specs.Processors.{MayNext, OnMade, Turned, UnlessMade, processor_of};
+ghost use Rattle.um_processor.specs.Processors.{OnMade, UnlessMade, processor_of};
+ghost use Rattle.um_processor.specs.Turns.{MayTurn, TurnsAt};
 
 use crate::phase::{Phase, Turn};
 use crate::row_act::RowAct;
@@ -35,16 +36,14 @@ impl Running {
     ) -> Turn
         requires sites { S.IsOf image.now sites.old }
         requires none { ends.old.items ≡ [] }
-        requires goes { MayNext cpu image.now (about_to phase (Pending.Answer reply to) self.old) (S.May image.now sites.old) }
+        requires goes { MayTurn S.Sites cpu image.now sites.old (about_to phase (Pending.Answer reply to) self.old) }
         ensures image { S.IsOf image.now sites.new }
         ensures ends { UnlessMade result (ends.new.items ≡ ends.old.items) }
         ensures same { UnlessMade result (processor_of self.new ≡ processor_of self.old) }
         ensures runs { OnMade result (is_idle self.new.phase ≡ false) }
-        ensures turn { Turned result cpu image.now (about_to phase (Pending.Answer reply to) self.old) (with_ends ends.new.items (processor_of self.new))
-            (λ e. S.Took image.now sites.old e sites.new)
-            (λ e. S.Kept sites.old sites.new × S.Shut image.now sites.old e sites.new)
-            (λ site. S.Kept sites.old sites.new × S.Contended image.now sites.old site sites.new)
-            (sites.new ≡ sites.old) }
+        ensures turn { TurnsAt S.Sites result cpu image.now sites.old sites.new
+            (about_to phase (Pending.Answer reply to) self.old)
+            (with_ends ends.new.items (processor_of self.new)) }
     {
         let thread = ThreadIx(self.context.thread());
         let said = self.context.reply_of(image, reply);
@@ -82,14 +81,11 @@ impl Running {
         requires row { row_at image.now addr.0 ≡ Some row.0 }
         requires small { row.0 < ROWS }
         requires room { length self.old.context.value.claims < 2 }
-        requires goes { MayNext cpu image.now (about_to phase (Pending.Check addr kind want refusal) self.old) (S.May image.now sites.old) }
+        requires goes { MayTurn S.Sites cpu image.now sites.old (about_to phase (Pending.Check addr kind want refusal) self.old) }
         ensures image { S.IsOf image.now sites.new }
         ensures same { UnlessMade result (processor_of self.new ≡ processor_of self.old) }
-        ensures turn { Turned result cpu image.now (about_to phase (Pending.Check addr kind want refusal) self.old) (processor_of self.new)
-            (λ e. S.Took image.now sites.old e sites.new)
-            (λ e. S.Kept sites.old sites.new × S.Shut image.now sites.old e sites.new)
-            (λ site. S.Kept sites.old sites.new × S.Contended image.now sites.old site sites.new)
-            (sites.new ≡ sites.old) }
+        ensures turn { TurnsAt S.Sites result cpu image.now sites.old sites.new
+            (about_to phase (Pending.Check addr kind want refusal) self.old) (processor_of self.new) }
     {
         let act = RowAct::Check {
             thread: ThreadIx(self.context.thread()),
@@ -127,14 +123,11 @@ impl Running {
         requires sites { S.IsOf image.now sites.old }
         requires row { row_at image.now addr.0 ≡ None }
         requires room { length self.old.context.value.claims < 2 }
-        requires goes { MayNext cpu image.now (about_to phase (Pending.Check addr kind want refusal) self.old) (S.May image.now sites.old) }
+        requires goes { MayTurn S.Sites cpu image.now sites.old (about_to phase (Pending.Check addr kind want refusal) self.old) }
         ensures image { S.IsOf image.now sites.new }
         ensures same { UnlessMade result (processor_of self.new ≡ processor_of self.old) }
-        ensures turn { Turned result cpu image.now (about_to phase (Pending.Check addr kind want refusal) self.old) (processor_of self.new)
-            (λ e. S.Took image.now sites.old e sites.new)
-            (λ e. S.Kept sites.old sites.new × S.Shut image.now sites.old e sites.new)
-            (λ site. S.Kept sites.old sites.new × S.Contended image.now sites.old site sites.new)
-            (sites.new ≡ sites.old) }
+        ensures turn { TurnsAt S.Sites result cpu image.now sites.old sites.new
+            (about_to phase (Pending.Check addr kind want refusal) self.old) (processor_of self.new) }
     {
         let thread = ThreadIx(self.context.thread());
         let act = ThreadAct::Miss {
@@ -170,14 +163,11 @@ impl Running {
         sites: &mut S,
     ) -> Turn
         requires sites { S.IsOf image.now sites.old }
-        requires goes { MayNext cpu image.now (about_to phase (Pending.Check addr kind want refusal) self.old) (S.May image.now sites.old) }
+        requires goes { MayTurn S.Sites cpu image.now sites.old (about_to phase (Pending.Check addr kind want refusal) self.old) }
         ensures image { S.IsOf image.now sites.new }
         ensures same { UnlessMade result (processor_of self.new ≡ processor_of self.old) }
-        ensures turn { Turned result cpu image.now (about_to phase (Pending.Check addr kind want refusal) self.old) (processor_of self.new)
-            (λ e. S.Took image.now sites.old e sites.new)
-            (λ e. S.Kept sites.old sites.new × S.Shut image.now sites.old e sites.new)
-            (λ site. S.Kept sites.old sites.new × S.Contended image.now sites.old site sites.new)
-            (sites.new ≡ sites.old) }
+        ensures turn { TurnsAt S.Sites result cpu image.now sites.old sites.new
+            (about_to phase (Pending.Check addr kind want refusal) self.old) (processor_of self.new) }
     {
         if !self.context.has_room() {
             return Turn::Stuck;

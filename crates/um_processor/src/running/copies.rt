@@ -5,7 +5,8 @@ ghost use Rattle.um_fine.specs.Asks.{amount};
 ghost use Rattle.um_machine.specs.declared.pending.Pending.TheVariants as Pending;
 ghost use Rattle.um_processor.specs.declared.phase.Phase.TheVariants as Phase;
 ghost use Rattle.um_processor.specs.Events.{about_to};
-ghost use Rattle.um_processor.specs.Processors.{MayNext, Turned, UnlessMade, in_phase, processor_of};
+ghost use Rattle.um_processor.specs.Processors.{UnlessMade, in_phase, processor_of};
+ghost use Rattle.um_processor.specs.Turns.{MayTurn, TurnsAt};
 
 use crate::memory_act::MemoryAct;
 use crate::phase::{Phase, Turn};
@@ -37,14 +38,11 @@ impl Running {
         sites: &mut S,
     ) -> Turn
         requires sites { S.IsOf image.now sites.old }
-        requires goes { MayNext cpu image.now (about_to phase (Pending.Probe addr amount.now) self.old) (S.May image.now sites.old) }
+        requires goes { MayTurn S.Sites cpu image.now sites.old (about_to phase (Pending.Probe addr amount.now) self.old) }
         ensures image { S.IsOf image.now sites.new }
         ensures same { UnlessMade result (processor_of self.new ≡ processor_of self.old) }
-        ensures turn { Turned result cpu image.now (about_to phase (Pending.Probe addr amount.now) self.old) (processor_of self.new)
-            (λ e. S.Took image.now sites.old e sites.new)
-            (λ e. S.Kept sites.old sites.new × S.Shut image.now sites.old e sites.new)
-            (λ site. S.Kept sites.old sites.new × S.Contended image.now sites.old site sites.new)
-            (sites.new ≡ sites.old) }
+        ensures turn { TurnsAt S.Sites result cpu image.now sites.old sites.new
+            (about_to phase (Pending.Probe addr amount.now) self.old) (processor_of self.new) }
     {
         let thread = ThreadIx(self.context.thread());
         let size = self.amount(image, amount);
@@ -79,14 +77,11 @@ impl Running {
         sites: &mut S,
     ) -> Turn
         requires sites { S.IsOf image.now sites.old }
-        requires goes { MayNext cpu image.now (about_to phase (Pending.CopyIn addr amount.now) self.old) (S.May image.now sites.old) }
+        requires goes { MayTurn S.Sites cpu image.now sites.old (about_to phase (Pending.CopyIn addr amount.now) self.old) }
         ensures image { S.IsOf image.now sites.new }
         ensures same { UnlessMade result (processor_of self.new ≡ processor_of self.old) }
-        ensures turn { Turned result cpu image.now (about_to phase (Pending.CopyIn addr amount.now) self.old) (processor_of self.new)
-            (λ e. S.Took image.now sites.old e sites.new)
-            (λ e. S.Kept sites.old sites.new × S.Shut image.now sites.old e sites.new)
-            (λ site. S.Kept sites.old sites.new × S.Contended image.now sites.old site sites.new)
-            (sites.new ≡ sites.old) }
+        ensures turn { TurnsAt S.Sites result cpu image.now sites.old sites.new
+            (about_to phase (Pending.CopyIn addr amount.now) self.old) (processor_of self.new) }
     {
         let thread = ThreadIx(self.context.thread());
         let size = self.amount(image, amount);
@@ -120,14 +115,11 @@ impl Running {
         sites: &mut S,
     ) -> Turn
         requires sites { S.IsOf image.now sites.old }
-        requires goes { MayNext cpu image.now (about_to phase (Pending.CopyOut addr) self.old) (S.May image.now sites.old) }
+        requires goes { MayTurn S.Sites cpu image.now sites.old (about_to phase (Pending.CopyOut addr) self.old) }
         ensures image { S.IsOf image.now sites.new }
         ensures same { UnlessMade result (processor_of self.new ≡ processor_of self.old) }
-        ensures turn { Turned result cpu image.now (about_to phase (Pending.CopyOut addr) self.old) (processor_of self.new)
-            (λ e. S.Took image.now sites.old e sites.new)
-            (λ e. S.Kept sites.old sites.new × S.Shut image.now sites.old e sites.new)
-            (λ site. S.Kept sites.old sites.new × S.Contended image.now sites.old site sites.new)
-            (sites.new ≡ sites.old) }
+        ensures turn { TurnsAt S.Sites result cpu image.now sites.old sites.new
+            (about_to phase (Pending.CopyOut addr) self.old) (processor_of self.new) }
     {
         let thread = ThreadIx(self.context.thread());
         let mut bytes = *self.context.buffer();
@@ -161,14 +153,11 @@ impl Running {
         sites: &mut S,
     ) -> Turn
         requires sites { S.IsOf image.now sites.old }
-        requires goes { MayNext cpu image.now (about_to phase (Pending.CopyStr addr) self.old) (S.May image.now sites.old) }
+        requires goes { MayTurn S.Sites cpu image.now sites.old (about_to phase (Pending.CopyStr addr) self.old) }
         ensures image { S.IsOf image.now sites.new }
         ensures same { UnlessMade result (processor_of self.new ≡ processor_of self.old) }
-        ensures turn { Turned result cpu image.now (about_to phase (Pending.CopyStr addr) self.old) (processor_of self.new)
-            (λ e. S.Took image.now sites.old e sites.new)
-            (λ e. S.Kept sites.old sites.new × S.Shut image.now sites.old e sites.new)
-            (λ site. S.Kept sites.old sites.new × S.Contended image.now sites.old site sites.new)
-            (sites.new ≡ sites.old) }
+        ensures turn { TurnsAt S.Sites result cpu image.now sites.old sites.new
+            (about_to phase (Pending.CopyStr addr) self.old) (processor_of self.new) }
     {
         let thread = ThreadIx(self.context.thread());
         let readable = self.readable(image, addr.0, 32);

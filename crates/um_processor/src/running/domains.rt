@@ -1,7 +1,8 @@
 //! The steps before the event of a domain's call.
 
 ghost use Rattle.std.specs.Prelude.{◌≡◌};
-ghost use Rattle.um_processor.specs.Processors.{MayNext, Turned, UnlessMade, in_phase, processor_of};
+ghost use Rattle.um_processor.specs.Processors.{UnlessMade, in_phase, processor_of};
+ghost use Rattle.um_processor.specs.Turns.{MayTurn, TurnsAt};
 
 use crate::domain_act::DomainAct;
 use crate::phase::{Phase, Turn};
@@ -15,14 +16,11 @@ impl Running {
     /// The domain of a call is claimed to be edited.
     pub fn claim_to_write<S: Sites>(&mut self, image: &Image, cpu: u8, sites: &mut S) -> Turn
         requires sites { S.IsOf image.now sites.old }
-        requires goes { MayNext cpu image.now (in_phase Phase.WriteClaim self.old) (S.May image.now sites.old) }
+        requires goes { MayTurn S.Sites cpu image.now sites.old (in_phase Phase.WriteClaim self.old) }
         ensures image { S.IsOf image.now sites.new }
         ensures same { UnlessMade result (processor_of self.new ≡ processor_of self.old) }
-        ensures turn { Turned result cpu image.now (in_phase Phase.WriteClaim self.old) (processor_of self.new)
-            (λ e. S.Took image.now sites.old e sites.new)
-            (λ e. S.Kept sites.old sites.new × S.Shut image.now sites.old e sites.new)
-            (λ site. S.Kept sites.old sites.new × S.Contended image.now sites.old site sites.new)
-            (sites.new ≡ sites.old) }
+        ensures turn { TurnsAt S.Sites result cpu image.now sites.old sites.new
+            (in_phase Phase.WriteClaim self.old) (processor_of self.new) }
     {
         let domain = domain_named(&self.step());
         if domain as usize >= DOMAINS {
@@ -41,14 +39,11 @@ impl Running {
     /// Its partitions become what the call makes of them.
     pub fn edit<S: Sites>(&mut self, image: &Image, cpu: u8, sites: &mut S) -> Turn
         requires sites { S.IsOf image.now sites.old }
-        requires goes { MayNext cpu image.now (in_phase Phase.Edit self.old) (S.May image.now sites.old) }
+        requires goes { MayTurn S.Sites cpu image.now sites.old (in_phase Phase.Edit self.old) }
         ensures image { S.IsOf image.now sites.new }
         ensures same { UnlessMade result (processor_of self.new ≡ processor_of self.old) }
-        ensures turn { Turned result cpu image.now (in_phase Phase.Edit self.old) (processor_of self.new)
-            (λ e. S.Took image.now sites.old e sites.new)
-            (λ e. S.Kept sites.old sites.new × S.Shut image.now sites.old e sites.new)
-            (λ site. S.Kept sites.old sites.new × S.Contended image.now sites.old site sites.new)
-            (sites.new ≡ sites.old) }
+        ensures turn { TurnsAt S.Sites result cpu image.now sites.old sites.new
+            (in_phase Phase.Edit self.old) (processor_of self.new) }
     {
         let call = self.step();
         let domain = domain_named(&call);
@@ -69,14 +64,11 @@ impl Running {
     /// The domain to which a thread moves is claimed. It takes none where it isn't initialised.
     pub fn claim_to_move<S: Sites>(&mut self, image: &Image, cpu: u8, sites: &mut S) -> Turn
         requires sites { S.IsOf image.now sites.old }
-        requires goes { MayNext cpu image.now (in_phase Phase.MoveClaim self.old) (S.May image.now sites.old) }
+        requires goes { MayTurn S.Sites cpu image.now sites.old (in_phase Phase.MoveClaim self.old) }
         ensures image { S.IsOf image.now sites.new }
         ensures same { UnlessMade result (processor_of self.new ≡ processor_of self.old) }
-        ensures turn { Turned result cpu image.now (in_phase Phase.MoveClaim self.old) (processor_of self.new)
-            (λ e. S.Took image.now sites.old e sites.new)
-            (λ e. S.Kept sites.old sites.new × S.Shut image.now sites.old e sites.new)
-            (λ site. S.Kept sites.old sites.new × S.Contended image.now sites.old site sites.new)
-            (sites.new ≡ sites.old) }
+        ensures turn { TurnsAt S.Sites result cpu image.now sites.old sites.new
+            (in_phase Phase.MoveClaim self.old) (processor_of self.new) }
     {
         let domain = domain_named(&self.step());
         if domain as usize >= DOMAINS {
@@ -101,14 +93,11 @@ impl Running {
     /// The claim of the domain to which a thread moves ends.
     pub fn end_move<S: Sites>(&mut self, image: &Image, cpu: u8, sites: &mut S) -> Turn
         requires sites { S.IsOf image.now sites.old }
-        requires goes { MayNext cpu image.now (in_phase Phase.MoveDone self.old) (S.May image.now sites.old) }
+        requires goes { MayTurn S.Sites cpu image.now sites.old (in_phase Phase.MoveDone self.old) }
         ensures image { S.IsOf image.now sites.new }
         ensures same { UnlessMade result (processor_of self.new ≡ processor_of self.old) }
-        ensures turn { Turned result cpu image.now (in_phase Phase.MoveDone self.old) (processor_of self.new)
-            (λ e. S.Took image.now sites.old e sites.new)
-            (λ e. S.Kept sites.old sites.new × S.Shut image.now sites.old e sites.new)
-            (λ site. S.Kept sites.old sites.new × S.Contended image.now sites.old site sites.new)
-            (sites.new ≡ sites.old) }
+        ensures turn { TurnsAt S.Sites result cpu image.now sites.old sites.new
+            (in_phase Phase.MoveDone self.old) (processor_of self.new) }
     {
         let domain = domain_named(&self.step());
         if domain as usize >= DOMAINS {

@@ -5,7 +5,8 @@ ghost use Rattle.um_fine.specs.Continues.{goes_on};
 ghost use Rattle.um_fine.specs.Processor.{fails};
 ghost use Rattle.um_machine.specs.declared.pending.Pending.TheVariants as Pending;
 ghost use Rattle.um_processor.specs.Events.{about_to, behind_event, rest_of};
-ghost use Rattle.um_processor.specs.Processors.{MayNext, Turned, UnlessMade, processor_of};
+ghost use Rattle.um_processor.specs.Processors.{UnlessMade, processor_of};
+ghost use Rattle.um_processor.specs.Turns.{MayTurn, TurnsAt};
 
 use crate::domain_act::DomainAct;
 use crate::phase::{Phase, Turn};
@@ -50,14 +51,11 @@ impl Running {
         sites: &mut S,
     ) -> Turn
         requires sites { S.IsOf image.now sites.old }
-        requires goes { MayNext cpu image.now (about_to phase (Pending.DomInit domain parts.now) self.old) (S.May image.now sites.old) }
+        requires goes { MayTurn S.Sites cpu image.now sites.old (about_to phase (Pending.DomInit domain parts.now) self.old) }
         ensures image { S.IsOf image.now sites.new }
         ensures same { UnlessMade result (processor_of self.new ≡ processor_of self.old) }
-        ensures turn { Turned result cpu image.now (about_to phase (Pending.DomInit domain parts.now) self.old) (processor_of self.new)
-            (λ e. S.Took image.now sites.old e sites.new)
-            (λ e. S.Kept sites.old sites.new × S.Shut image.now sites.old e sites.new)
-            (λ site. S.Kept sites.old sites.new × S.Contended image.now sites.old site sites.new)
-            (sites.new ≡ sites.old) }
+        ensures turn { TurnsAt S.Sites result cpu image.now sites.old sites.new
+            (about_to phase (Pending.DomInit domain parts.now) self.old) (processor_of self.new) }
     {
         if domain as usize >= DOMAINS {
             return Turn::Stuck;
@@ -91,14 +89,11 @@ impl Running {
         sites: &mut S,
     ) -> Turn
         requires sites { S.IsOf image.now sites.old }
-        requires goes { MayNext cpu image.now (about_to phase (Pending.DomAdd domain range attr) self.old) (S.May image.now sites.old) }
+        requires goes { MayTurn S.Sites cpu image.now sites.old (about_to phase (Pending.DomAdd domain range attr) self.old) }
         ensures image { S.IsOf image.now sites.new }
         ensures same { UnlessMade result (processor_of self.new ≡ processor_of self.old) }
-        ensures turn { Turned result cpu image.now (about_to phase (Pending.DomAdd domain range attr) self.old) (processor_of self.new)
-            (λ e. S.Took image.now sites.old e sites.new)
-            (λ e. S.Kept sites.old sites.new × S.Shut image.now sites.old e sites.new)
-            (λ site. S.Kept sites.old sites.new × S.Contended image.now sites.old site sites.new)
-            (sites.new ≡ sites.old) }
+        ensures turn { TurnsAt S.Sites result cpu image.now sites.old sites.new
+            (about_to phase (Pending.DomAdd domain range attr) self.old) (processor_of self.new) }
     {
         if domain as usize >= DOMAINS {
             return Turn::Stuck;
@@ -134,14 +129,11 @@ impl Running {
         sites: &mut S,
     ) -> Turn
         requires sites { S.IsOf image.now sites.old }
-        requires goes { MayNext cpu image.now (about_to phase (Pending.DomRemove domain range attr) self.old) (S.May image.now sites.old) }
+        requires goes { MayTurn S.Sites cpu image.now sites.old (about_to phase (Pending.DomRemove domain range attr) self.old) }
         ensures image { S.IsOf image.now sites.new }
         ensures same { UnlessMade result (processor_of self.new ≡ processor_of self.old) }
-        ensures turn { Turned result cpu image.now (about_to phase (Pending.DomRemove domain range attr) self.old) (processor_of self.new)
-            (λ e. S.Took image.now sites.old e sites.new)
-            (λ e. S.Kept sites.old sites.new × S.Shut image.now sites.old e sites.new)
-            (λ site. S.Kept sites.old sites.new × S.Contended image.now sites.old site sites.new)
-            (sites.new ≡ sites.old) }
+        ensures turn { TurnsAt S.Sites result cpu image.now sites.old sites.new
+            (about_to phase (Pending.DomRemove domain range attr) self.old) (processor_of self.new) }
     {
         if domain as usize >= DOMAINS {
             return Turn::Stuck;
@@ -176,14 +168,11 @@ impl Running {
         sites: &mut S,
     ) -> Turn
         requires sites { S.IsOf image.now sites.old }
-        requires goes { MayNext cpu image.now (about_to phase (Pending.DomMove domain who) self.old) (S.May image.now sites.old) }
+        requires goes { MayTurn S.Sites cpu image.now sites.old (about_to phase (Pending.DomMove domain who) self.old) }
         ensures image { S.IsOf image.now sites.new }
         ensures same { UnlessMade result (processor_of self.new ≡ processor_of self.old) }
-        ensures turn { Turned result cpu image.now (about_to phase (Pending.DomMove domain who) self.old) (processor_of self.new)
-            (λ e. S.Took image.now sites.old e sites.new)
-            (λ e. S.Kept sites.old sites.new × S.Shut image.now sites.old e sites.new)
-            (λ site. S.Kept sites.old sites.new × S.Contended image.now sites.old site sites.new)
-            (sites.new ≡ sites.old) }
+        ensures turn { TurnsAt S.Sites result cpu image.now sites.old sites.new
+            (about_to phase (Pending.DomMove domain who) self.old) (processor_of self.new) }
     {
         if fails(self.reply) {
             return self.move_fails(image, cpu, phase, domain, who, sites);
@@ -221,14 +210,11 @@ impl Running {
     ) -> Turn
         requires sites { S.IsOf image.now sites.old }
         requires fails { IsTrue (fails self.old.reply) }
-        requires goes { MayNext cpu image.now (about_to phase (Pending.DomMove domain who) self.old) (S.May image.now sites.old) }
+        requires goes { MayTurn S.Sites cpu image.now sites.old (about_to phase (Pending.DomMove domain who) self.old) }
         ensures image { S.IsOf image.now sites.new }
         ensures same { UnlessMade result (processor_of self.new ≡ processor_of self.old) }
-        ensures turn { Turned result cpu image.now (about_to phase (Pending.DomMove domain who) self.old) (processor_of self.new)
-            (λ e. S.Took image.now sites.old e sites.new)
-            (λ e. S.Kept sites.old sites.new × S.Shut image.now sites.old e sites.new)
-            (λ site. S.Kept sites.old sites.new × S.Contended image.now sites.old site sites.new)
-            (sites.new ≡ sites.old) }
+        ensures turn { TurnsAt S.Sites result cpu image.now sites.old sites.new
+            (about_to phase (Pending.DomMove domain who) self.old) (processor_of self.new) }
     {
         if domain as usize >= DOMAINS {
             return Turn::Stuck;

@@ -4,7 +4,8 @@ ghost use Rattle.std.specs.Prelude.{◌≡◌, [], false};
 ghost use Rattle.um_machine.specs.declared.pending.Pending.TheVariants as Pending;
 ghost use Rattle.um_processor.specs.Events.{about_to, with_ends};
 ghost use Rattle.um_processor.specs.Phases.{is_idle};
-ghost use Rattle.um_processor.specs.Processors.{MayNext, OnMade, Turned, UnlessMade, cleaned, in_phase, processor_of};
+ghost use Rattle.um_processor.specs.Processors.{OnMade, UnlessMade, cleaned, in_phase, processor_of};
+ghost use Rattle.um_processor.specs.Turns.{MayTurn, TurnsAt};
 ghost use Rattle.um_fine.specs.Addresses.{row_named};
 
 use crate::phase::{Phase, Turn};
@@ -28,16 +29,13 @@ impl Running {
     ) -> Turn
         requires sites { S.IsOf image.now sites.old }
         requires none { ends.old.items ≡ [] }
-        requires goes { MayNext cpu image.now (in_phase Phase.Exit self.old) (S.May image.now sites.old) }
+        requires goes { MayTurn S.Sites cpu image.now sites.old (in_phase Phase.Exit self.old) }
         ensures image { S.IsOf image.now sites.new }
         ensures ends { UnlessMade result (ends.new.items ≡ ends.old.items) }
         ensures same { UnlessMade result (processor_of self.new ≡ processor_of self.old) }
         ensures runs { OnMade result (is_idle self.new.phase ≡ false) }
-        ensures turn { Turned result cpu image.now (in_phase Phase.Exit self.old) (with_ends ends.new.items (processor_of self.new))
-            (λ e. S.Took image.now sites.old e sites.new)
-            (λ e. S.Kept sites.old sites.new × S.Shut image.now sites.old e sites.new)
-            (λ site. S.Kept sites.old sites.new × S.Contended image.now sites.old site sites.new)
-            (sites.new ≡ sites.old) }
+        ensures turn { TurnsAt S.Sites result cpu image.now sites.old sites.new
+            (in_phase Phase.Exit self.old) (with_ends ends.new.items (processor_of self.new)) }
     {
         let thread = ThreadIx(self.context.thread());
         match sites.thread(image, cpu, thread, &ThreadAct::Exit { thread }) {
@@ -69,16 +67,14 @@ impl Running {
     ) -> Turn
         requires sites { S.IsOf image.now sites.old }
         requires none { ends.old.items ≡ [] }
-        requires goes { MayNext cpu image.now (about_to phase (Pending.Fatal reason cause) self.old) (S.May image.now sites.old) }
+        requires goes { MayTurn S.Sites cpu image.now sites.old (about_to phase (Pending.Fatal reason cause) self.old) }
         ensures image { S.IsOf image.now sites.new }
         ensures ends { UnlessMade result (ends.new.items ≡ ends.old.items) }
         ensures same { UnlessMade result (processor_of self.new ≡ processor_of self.old) }
         ensures runs { OnMade result (is_idle self.new.phase ≡ false) }
-        ensures turn { Turned result cpu image.now (about_to phase (Pending.Fatal reason cause) self.old) (with_ends ends.new.items (processor_of self.new))
-            (λ e. S.Took image.now sites.old e sites.new)
-            (λ e. S.Kept sites.old sites.new × S.Shut image.now sites.old e sites.new)
-            (λ site. S.Kept sites.old sites.new × S.Contended image.now sites.old site sites.new)
-            (sites.new ≡ sites.old) }
+        ensures turn { TurnsAt S.Sites result cpu image.now sites.old sites.new
+            (about_to phase (Pending.Fatal reason cause) self.old)
+            (with_ends ends.new.items (processor_of self.new)) }
     {
         let thread = ThreadIx(self.context.thread());
         let act = ThreadAct::Fatal {
@@ -108,14 +104,11 @@ impl Running {
         sites: &mut S,
     ) -> Turn
         requires sites { S.IsOf image.now sites.old }
-        requires goes { MayNext cpu image.now (about_to phase (Pending.Dooms from) self.old) (S.May image.now sites.old) }
+        requires goes { MayTurn S.Sites cpu image.now sites.old (about_to phase (Pending.Dooms from) self.old) }
         ensures image { S.IsOf image.now sites.new }
         ensures same { UnlessMade result (processor_of self.new ≡ processor_of self.old) }
-        ensures turn { Turned result cpu image.now (about_to phase (Pending.Dooms from) self.old) (processor_of self.new)
-            (λ e. S.Took image.now sites.old e sites.new)
-            (λ e. S.Kept sites.old sites.new × S.Shut image.now sites.old e sites.new)
-            (λ site. S.Kept sites.old sites.new × S.Contended image.now sites.old site sites.new)
-            (sites.new ≡ sites.old) }
+        ensures turn { TurnsAt S.Sites result cpu image.now sites.old sites.new
+            (about_to phase (Pending.Dooms from) self.old) (processor_of self.new) }
     {
         if from as usize >= THREADS {
             return Turn::Stuck;
@@ -145,15 +138,14 @@ impl Running {
         sites: &mut S,
     ) -> Turn
         requires sites { S.IsOf image.now sites.old }
-        requires goes { MayNext cpu image.now (about_to phase (Pending.DropPair who addr) self.old) (S.May image.now sites.old) }
+        requires goes { MayTurn S.Sites cpu image.now sites.old (about_to phase (Pending.DropPair who addr) self.old) }
         ensures image { S.IsOf image.now sites.new }
+        ensures cleans { UnlessMade result (cleans.new ≡ cleans.old) }
         ensures same { UnlessMade result (processor_of self.new ≡ processor_of self.old) }
         ensures runs { OnMade result (is_idle self.new.phase ≡ false) }
-        ensures turn { Turned result cpu image.now (about_to phase (Pending.DropPair who addr) self.old) (cleaned image.now (row_named image.now addr) cleans.new (processor_of self.new))
-            (λ e. S.Took image.now sites.old e sites.new)
-            (λ e. S.Kept sites.old sites.new × S.Shut image.now sites.old e sites.new)
-            (λ site. S.Kept sites.old sites.new × S.Contended image.now sites.old site sites.new)
-            (sites.new ≡ sites.old) }
+        ensures turn { TurnsAt S.Sites result cpu image.now sites.old sites.new
+            (about_to phase (Pending.DropPair who addr) self.old)
+            (cleaned image.now (row_named image.now addr) cleans.new (processor_of self.new)) }
     {
         let row = Row(row_named(image, addr));
         let thread = ThreadIx(self.context.thread());

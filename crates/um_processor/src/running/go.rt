@@ -3,7 +3,8 @@
 ghost use Rattle.std.specs.Prelude.{◌≡◌, IsTrue};
 ghost use Rattle.um_processor.specs.Given.{IsGiven};
 ghost use Rattle.um_processor.specs.Phases.{is_plain_phase};
-ghost use Rattle.um_processor.specs.Processors.{MayNext, Turned, UnlessMade, processor_of};
+ghost use Rattle.um_processor.specs.Processors.{UnlessMade, processor_of};
+ghost use Rattle.um_processor.specs.Turns.{MayTurn, TurnsAt};
 
 use crate::phase::{Phase, Turn};
 use crate::running::Running;
@@ -16,14 +17,11 @@ impl Running {
         requires given { IsGiven image.now }
         requires sites { S.IsOf image.now sites.old }
         requires plain { IsTrue (is_plain_phase self.old.phase) }
-        requires goes { MayNext cpu image.now (processor_of self.old) (S.May image.now sites.old) }
+        requires goes { MayTurn S.Sites cpu image.now sites.old (processor_of self.old) }
         ensures image { S.IsOf image.now sites.new }
         ensures same { UnlessMade result (processor_of self.new ≡ processor_of self.old) }
-        ensures turn { Turned result cpu image.now (processor_of self.old) (processor_of self.new)
-            (λ e. S.Took image.now sites.old e sites.new)
-            (λ e. S.Kept sites.old sites.new × S.Shut image.now sites.old e sites.new)
-            (λ site. S.Kept sites.old sites.new × S.Contended image.now sites.old site sites.new)
-            (sites.new ≡ sites.old) }
+        ensures turn { TurnsAt S.Sites result cpu image.now sites.old sites.new
+            (processor_of self.old) (processor_of self.new) }
     {
         match self.phase {
             Phase::Begin => self.begin(image, cpu, sites),

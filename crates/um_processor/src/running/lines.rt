@@ -3,7 +3,8 @@
 ghost use Rattle.std.specs.Prelude.{◌≡◌, ◌+◌, false, true, is_some, MatchOption};
 ghost use Rattle.um_machine.specs.State.{instruction_at};
 ghost use Rattle.um_processor.specs.Given.{IsGiven};
-ghost use Rattle.um_processor.specs.Processors.{MayNext, Turned, UnlessMade, in_phase, processor_of};
+ghost use Rattle.um_processor.specs.Processors.{UnlessMade, in_phase, processor_of};
+ghost use Rattle.um_processor.specs.Turns.{MayTurn, TurnsAt};
 
 use crate::phase::{Phase, Turn};
 use crate::running::Running;
@@ -31,14 +32,11 @@ impl Running {
     pub fn begin<S: Sites>(&mut self, image: &Image, cpu: u8, sites: &mut S) -> Turn
         requires given { IsGiven image.now }
         requires sites { S.IsOf image.now sites.old }
-        requires goes { MayNext cpu image.now (in_phase Phase.Begin self.old) (S.May image.now sites.old) }
+        requires goes { MayTurn S.Sites cpu image.now sites.old (in_phase Phase.Begin self.old) }
         ensures image { S.IsOf image.now sites.new }
         ensures same { UnlessMade result (processor_of self.new ≡ processor_of self.old) }
-        ensures turn { Turned result cpu image.now (in_phase Phase.Begin self.old) (processor_of self.new)
-            (λ e. S.Took image.now sites.old e sites.new)
-            (λ e. S.Kept sites.old sites.new × S.Shut image.now sites.old e sites.new)
-            (λ site. S.Kept sites.old sites.new × S.Contended image.now sites.old site sites.new)
-            (sites.new ≡ sites.old) }
+        ensures turn { TurnsAt S.Sites result cpu image.now sites.old sites.new
+            (in_phase Phase.Begin self.old) (processor_of self.new) }
     {
         let place = self.context.place();
         let line = match line_number(image, place) {

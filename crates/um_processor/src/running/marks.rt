@@ -5,7 +5,8 @@ ghost use Rattle.um_fine.specs.Continues.{after_set};
 ghost use Rattle.um_machine.specs.declared.pending.Pending.TheVariants as Pending;
 ghost use Rattle.um_processor.specs.Events.{about_to, behind_event, rest_of, with_ends};
 ghost use Rattle.um_processor.specs.Phases.{is_idle};
-ghost use Rattle.um_processor.specs.Processors.{MayNext, OnMade, Turned, UnlessMade, processor_of};
+ghost use Rattle.um_processor.specs.Processors.{OnMade, UnlessMade, processor_of};
+ghost use Rattle.um_processor.specs.Turns.{MayTurn, TurnsAt};
 
 use crate::phase::{Phase, Turn};
 use crate::row_act::RowAct;
@@ -43,14 +44,11 @@ impl Running {
         sites: &mut S,
     ) -> Turn
         requires sites { S.IsOf image.now sites.old }
-        requires goes { MayNext cpu image.now (about_to phase (Pending.SetInit addr strict undo) self.old) (S.May image.now sites.old) }
+        requires goes { MayTurn S.Sites cpu image.now sites.old (about_to phase (Pending.SetInit addr strict undo) self.old) }
         ensures image { S.IsOf image.now sites.new }
         ensures same { UnlessMade result (processor_of self.new ≡ processor_of self.old) }
-        ensures turn { Turned result cpu image.now (about_to phase (Pending.SetInit addr strict undo) self.old) (processor_of self.new)
-            (λ e. S.Took image.now sites.old e sites.new)
-            (λ e. S.Kept sites.old sites.new × S.Shut image.now sites.old e sites.new)
-            (λ site. S.Kept sites.old sites.new × S.Contended image.now sites.old site sites.new)
-            (sites.new ≡ sites.old) }
+        ensures turn { TurnsAt S.Sites result cpu image.now sites.old sites.new
+            (about_to phase (Pending.SetInit addr strict undo) self.old) (processor_of self.new) }
     {
         let row = Row(row_named(image, addr));
         let thread = ThreadIx(self.context.thread());
@@ -81,16 +79,14 @@ impl Running {
     ) -> Turn
         requires sites { S.IsOf image.now sites.old }
         requires none { ends.old.items ≡ [] }
-        requires goes { MayNext cpu image.now (about_to phase (Pending.ClearInit addr) self.old) (S.May image.now sites.old) }
+        requires goes { MayTurn S.Sites cpu image.now sites.old (about_to phase (Pending.ClearInit addr) self.old) }
         ensures image { S.IsOf image.now sites.new }
         ensures ends { UnlessMade result (ends.new.items ≡ ends.old.items) }
         ensures same { UnlessMade result (processor_of self.new ≡ processor_of self.old) }
         ensures runs { OnMade result (is_idle self.new.phase ≡ false) }
-        ensures turn { Turned result cpu image.now (about_to phase (Pending.ClearInit addr) self.old) (with_ends ends.new.items (processor_of self.new))
-            (λ e. S.Took image.now sites.old e sites.new)
-            (λ e. S.Kept sites.old sites.new × S.Shut image.now sites.old e sites.new)
-            (λ site. S.Kept sites.old sites.new × S.Contended image.now sites.old site sites.new)
-            (sites.new ≡ sites.old) }
+        ensures turn { TurnsAt S.Sites result cpu image.now sites.old sites.new
+            (about_to phase (Pending.ClearInit addr) self.old)
+            (with_ends ends.new.items (processor_of self.new)) }
     {
         let row = row_named(image, addr);
         let t = self.context.thread();

@@ -2,8 +2,9 @@
 
 ghost use Rattle.std.specs.Prelude.{◌≡◌, IsTrue};
 ghost use Rattle.um_processor.specs.Events.{about_to};
-ghost use Rattle.um_processor.specs.Processors.{MayNext, Turned, UnlessMade, processor_of};
+ghost use Rattle.um_processor.specs.Processors.{UnlessMade, processor_of};
 ghost use Rattle.um_processor.specs.Subjects.{is_on_domain, is_on_heap, is_on_memory, is_on_row, is_on_thread, is_plain};
+ghost use Rattle.um_processor.specs.Turns.{MayTurn, TurnsAt};
 
 use crate::phase::{Phase, Turn};
 use crate::running::Running;
@@ -23,14 +24,11 @@ impl Running {
     ) -> Turn
         requires sites { S.IsOf image.now sites.old }
         requires subject { IsTrue (is_on_memory step.now) }
-        requires goes { MayNext cpu image.now (about_to phase step.now self.old) (S.May image.now sites.old) }
+        requires goes { MayTurn S.Sites cpu image.now sites.old (about_to phase step.now self.old) }
         ensures image { S.IsOf image.now sites.new }
         ensures same { UnlessMade result (processor_of self.new ≡ processor_of self.old) }
-        ensures turn { Turned result cpu image.now (about_to phase step.now self.old) (processor_of self.new)
-            (λ e. S.Took image.now sites.old e sites.new)
-            (λ e. S.Kept sites.old sites.new × S.Shut image.now sites.old e sites.new)
-            (λ site. S.Kept sites.old sites.new × S.Contended image.now sites.old site sites.new)
-            (sites.new ≡ sites.old) }
+        ensures turn { TurnsAt S.Sites result cpu image.now sites.old sites.new
+            (about_to phase step.now self.old) (processor_of self.new) }
     {
         match step {
             Pending::Load { to, addr, size } => self.load(
@@ -62,14 +60,11 @@ impl Running {
     ) -> Turn
         requires sites { S.IsOf image.now sites.old }
         requires subject { IsTrue (is_on_row step.now) }
-        requires goes { MayNext cpu image.now (about_to phase step.now self.old) (S.May image.now sites.old) }
+        requires goes { MayTurn S.Sites cpu image.now sites.old (about_to phase step.now self.old) }
         ensures image { S.IsOf image.now sites.new }
         ensures same { UnlessMade result (processor_of self.new ≡ processor_of self.old) }
-        ensures turn { Turned result cpu image.now (about_to phase step.now self.old) (processor_of self.new)
-            (λ e. S.Took image.now sites.old e sites.new)
-            (λ e. S.Kept sites.old sites.new × S.Shut image.now sites.old e sites.new)
-            (λ site. S.Kept sites.old sites.new × S.Contended image.now sites.old site sites.new)
-            (sites.new ≡ sites.old) }
+        ensures turn { TurnsAt S.Sites result cpu image.now sites.old sites.new
+            (about_to phase step.now self.old) (processor_of self.new) }
     {
         match step {
             Pending::Check {
@@ -100,14 +95,11 @@ impl Running {
     ) -> Turn
         requires sites { S.IsOf image.now sites.old }
         requires subject { IsTrue (is_on_domain step.now) }
-        requires goes { MayNext cpu image.now (about_to phase step.now self.old) (S.May image.now sites.old) }
+        requires goes { MayTurn S.Sites cpu image.now sites.old (about_to phase step.now self.old) }
         ensures image { S.IsOf image.now sites.new }
         ensures same { UnlessMade result (processor_of self.new ≡ processor_of self.old) }
-        ensures turn { Turned result cpu image.now (about_to phase step.now self.old) (processor_of self.new)
-            (λ e. S.Took image.now sites.old e sites.new)
-            (λ e. S.Kept sites.old sites.new × S.Shut image.now sites.old e sites.new)
-            (λ site. S.Kept sites.old sites.new × S.Contended image.now sites.old site sites.new)
-            (sites.new ≡ sites.old) }
+        ensures turn { TurnsAt S.Sites result cpu image.now sites.old sites.new
+            (about_to phase step.now self.old) (processor_of self.new) }
     {
         match step {
             Pending::DomInit { domain, parts } => self.end_init(
@@ -141,14 +133,11 @@ impl Running {
     ) -> Turn
         requires sites { S.IsOf image.now sites.old }
         requires subject { IsTrue (is_on_heap step.now) }
-        requires goes { MayNext cpu image.now (about_to phase step.now self.old) (S.May image.now sites.old) }
+        requires goes { MayTurn S.Sites cpu image.now sites.old (about_to phase step.now self.old) }
         ensures image { S.IsOf image.now sites.new }
         ensures same { UnlessMade result (processor_of self.new ≡ processor_of self.old) }
-        ensures turn { Turned result cpu image.now (about_to phase step.now self.old) (processor_of self.new)
-            (λ e. S.Took image.now sites.old e sites.new)
-            (λ e. S.Kept sites.old sites.new × S.Shut image.now sites.old e sites.new)
-            (λ site. S.Kept sites.old sites.new × S.Contended image.now sites.old site sites.new)
-            (sites.new ≡ sites.old) }
+        ensures turn { TurnsAt S.Sites result cpu image.now sites.old sites.new
+            (about_to phase step.now self.old) (processor_of self.new) }
     {
         match step {
             Pending::Reserve { kind } => self.reserve(image, cpu, phase, *kind, sites),
@@ -169,14 +158,11 @@ impl Running {
     ) -> Turn
         requires sites { S.IsOf image.now sites.old }
         requires subject { IsTrue (is_on_thread step.now) }
-        requires goes { MayNext cpu image.now (about_to phase step.now self.old) (S.May image.now sites.old) }
+        requires goes { MayTurn S.Sites cpu image.now sites.old (about_to phase step.now self.old) }
         ensures image { S.IsOf image.now sites.new }
         ensures same { UnlessMade result (processor_of self.new ≡ processor_of self.old) }
-        ensures turn { Turned result cpu image.now (about_to phase step.now self.old) (processor_of self.new)
-            (λ e. S.Took image.now sites.old e sites.new)
-            (λ e. S.Kept sites.old sites.new × S.Shut image.now sites.old e sites.new)
-            (λ site. S.Kept sites.old sites.new × S.Contended image.now sites.old site sites.new)
-            (sites.new ≡ sites.old) }
+        ensures turn { TurnsAt S.Sites result cpu image.now sites.old sites.new
+            (about_to phase step.now self.old) (processor_of self.new) }
     {
         match step {
             Pending::Named { who } => self.name(image, cpu, phase, *who, sites),
@@ -206,14 +192,11 @@ impl Running {
     ) -> Turn
         requires sites { S.IsOf image.now sites.old }
         requires plain { IsTrue (is_plain step.now) }
-        requires goes { MayNext cpu image.now (about_to phase step.now self.old) (S.May image.now sites.old) }
+        requires goes { MayTurn S.Sites cpu image.now sites.old (about_to phase step.now self.old) }
         ensures image { S.IsOf image.now sites.new }
         ensures same { UnlessMade result (processor_of self.new ≡ processor_of self.old) }
-        ensures turn { Turned result cpu image.now (about_to phase step.now self.old) (processor_of self.new)
-            (λ e. S.Took image.now sites.old e sites.new)
-            (λ e. S.Kept sites.old sites.new × S.Shut image.now sites.old e sites.new)
-            (λ site. S.Kept sites.old sites.new × S.Contended image.now sites.old site sites.new)
-            (sites.new ≡ sites.old) }
+        ensures turn { TurnsAt S.Sites result cpu image.now sites.old sites.new
+            (about_to phase step.now self.old) (processor_of self.new) }
     {
         match step {
             Pending::Load { .. }

@@ -1,7 +1,8 @@
 //! The steps round the event of a start.
 
 ghost use Rattle.std.specs.Prelude.{◌≡◌};
-ghost use Rattle.um_processor.specs.Processors.{MayNext, Turned, UnlessMade, in_phase, processor_of};
+ghost use Rattle.um_processor.specs.Processors.{UnlessMade, in_phase, processor_of};
+ghost use Rattle.um_processor.specs.Turns.{MayTurn, TurnsAt};
 
 use crate::phase::{Phase, Turn};
 use crate::running::Running;
@@ -14,14 +15,11 @@ impl Running {
     /// The creator is held, and its domain known.
     pub fn hold_creator<S: Sites>(&mut self, image: &Image, cpu: u8, sites: &mut S) -> Turn
         requires sites { S.IsOf image.now sites.old }
-        requires goes { MayNext cpu image.now (in_phase Phase.StartHold self.old) (S.May image.now sites.old) }
+        requires goes { MayTurn S.Sites cpu image.now sites.old (in_phase Phase.StartHold self.old) }
         ensures image { S.IsOf image.now sites.new }
         ensures same { UnlessMade result (processor_of self.new ≡ processor_of self.old) }
-        ensures turn { Turned result cpu image.now (in_phase Phase.StartHold self.old) (processor_of self.new)
-            (λ e. S.Took image.now sites.old e sites.new)
-            (λ e. S.Kept sites.old sites.new × S.Shut image.now sites.old e sites.new)
-            (λ site. S.Kept sites.old sites.new × S.Contended image.now sites.old site sites.new)
-            (sites.new ≡ sites.old) }
+        ensures turn { TurnsAt S.Sites result cpu image.now sites.old sites.new
+            (in_phase Phase.StartHold self.old) (processor_of self.new) }
     {
         let thread = ThreadIx(self.context.thread());
         match sites.thread(image, cpu, thread, &ThreadAct::Hold) {
@@ -38,14 +36,11 @@ impl Running {
     /// The creator is let go.
     pub fn let_creator_go<S: Sites>(&mut self, image: &Image, cpu: u8, sites: &mut S) -> Turn
         requires sites { S.IsOf image.now sites.old }
-        requires goes { MayNext cpu image.now (in_phase Phase.StartLetGo self.old) (S.May image.now sites.old) }
+        requires goes { MayTurn S.Sites cpu image.now sites.old (in_phase Phase.StartLetGo self.old) }
         ensures image { S.IsOf image.now sites.new }
         ensures same { UnlessMade result (processor_of self.new ≡ processor_of self.old) }
-        ensures turn { Turned result cpu image.now (in_phase Phase.StartLetGo self.old) (processor_of self.new)
-            (λ e. S.Took image.now sites.old e sites.new)
-            (λ e. S.Kept sites.old sites.new × S.Shut image.now sites.old e sites.new)
-            (λ site. S.Kept sites.old sites.new × S.Contended image.now sites.old site sites.new)
-            (sites.new ≡ sites.old) }
+        ensures turn { TurnsAt S.Sites result cpu image.now sites.old sites.new
+            (in_phase Phase.StartLetGo self.old) (processor_of self.new) }
     {
         let thread = ThreadIx(self.context.thread());
         match sites.thread(image, cpu, thread, &ThreadAct::LetGo) {
@@ -61,14 +56,11 @@ impl Running {
     /// The new thread gets ready.
     pub fn add<S: Sites>(&mut self, image: &Image, cpu: u8, sites: &mut S) -> Turn
         requires sites { S.IsOf image.now sites.old }
-        requires goes { MayNext cpu image.now (in_phase Phase.Add self.old) (S.May image.now sites.old) }
+        requires goes { MayTurn S.Sites cpu image.now sites.old (in_phase Phase.Add self.old) }
         ensures image { S.IsOf image.now sites.new }
         ensures same { UnlessMade result (processor_of self.new ≡ processor_of self.old) }
-        ensures turn { Turned result cpu image.now (in_phase Phase.Add self.old) (processor_of self.new)
-            (λ e. S.Took image.now sites.old e sites.new)
-            (λ e. S.Kept sites.old sites.new × S.Shut image.now sites.old e sites.new)
-            (λ site. S.Kept sites.old sites.new × S.Contended image.now sites.old site sites.new)
-            (sites.new ≡ sites.old) }
+        ensures turn { TurnsAt S.Sites result cpu image.now sites.old sites.new
+            (in_phase Phase.Add self.old) (processor_of self.new) }
     {
         if self.newborn.thread.0 as usize >= THREADS {
             return Turn::Stuck;

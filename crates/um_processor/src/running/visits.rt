@@ -3,7 +3,8 @@
 ghost use Rattle.std.specs.Prelude.{◌≡◌, ◌∷◌, drop, false};
 ghost use Rattle.um_machine.specs.declared.pending.Pending.TheVariants as Pending;
 ghost use Rattle.um_processor.specs.Phases.{is_idle, passed_to};
-ghost use Rattle.um_processor.specs.Processors.{MayNext, OnMade, Turned, UnlessMade, cleaned, in_phase, processor_of, visiting};
+ghost use Rattle.um_processor.specs.Processors.{OnMade, UnlessMade, cleaned, in_phase, processor_of, visiting};
+ghost use Rattle.um_processor.specs.Turns.{MayTurn, TurnsAt};
 
 use crate::phase::{Phase, Turn};
 use crate::row_act::RowAct;
@@ -50,14 +51,11 @@ impl Running {
     /// The permission on the object of a row is passed on, where the other thread hasn't it.
     pub fn pass<S: Sites>(&mut self, image: &Image, cpu: u8, sites: &mut S) -> Turn
         requires sites { S.IsOf image.now sites.old }
-        requires goes { MayNext cpu image.now (in_phase Phase.Pass self.old) (S.May image.now sites.old) }
+        requires goes { MayTurn S.Sites cpu image.now sites.old (in_phase Phase.Pass self.old) }
         ensures image { S.IsOf image.now sites.new }
         ensures same { UnlessMade result (processor_of self.new ≡ processor_of self.old) }
-        ensures turn { Turned result cpu image.now (in_phase Phase.Pass self.old) (processor_of self.new)
-            (λ e. S.Took image.now sites.old e sites.new)
-            (λ e. S.Kept sites.old sites.new × S.Shut image.now sites.old e sites.new)
-            (λ site. S.Kept sites.old sites.new × S.Contended image.now sites.old site sites.new)
-            (sites.new ≡ sites.old) }
+        ensures turn { TurnsAt S.Sites result cpu image.now sites.old sites.new
+            (in_phase Phase.Pass self.old) (processor_of self.new) }
     {
         let x = self.row as usize;
         if x >= ROWS {
@@ -89,15 +87,14 @@ impl Running {
         sites: &mut S,
     ) -> Turn
         requires sites { S.IsOf image.now sites.old }
-        requires goes { MayNext cpu image.now (in_phase Phase.Drop self.old) (S.May image.now sites.old) }
+        requires goes { MayTurn S.Sites cpu image.now sites.old (in_phase Phase.Drop self.old) }
         ensures image { S.IsOf image.now sites.new }
+        ensures cleans { UnlessMade result (cleans.new ≡ cleans.old) }
         ensures same { UnlessMade result (processor_of self.new ≡ processor_of self.old) }
         ensures runs { OnMade result (is_idle self.new.phase ≡ false) }
-        ensures turn { Turned result cpu image.now (in_phase Phase.Drop self.old) (cleaned image.now self.old.row cleans.new (processor_of self.new))
-            (λ e. S.Took image.now sites.old e sites.new)
-            (λ e. S.Kept sites.old sites.new × S.Shut image.now sites.old e sites.new)
-            (λ site. S.Kept sites.old sites.new × S.Contended image.now sites.old site sites.new)
-            (sites.new ≡ sites.old) }
+        ensures turn { TurnsAt S.Sites result cpu image.now sites.old sites.new
+            (in_phase Phase.Drop self.old)
+            (cleaned image.now self.old.row cleans.new (processor_of self.new)) }
     {
         let x = self.row as usize;
         if x >= ROWS {

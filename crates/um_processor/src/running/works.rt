@@ -9,7 +9,8 @@ ghost use Rattle.um_machine.specs.Table.{bytes_given};
 ghost use Rattle.um_machine.specs.declared.pending.Pending.TheVariants as Pending;
 ghost use Rattle.um_processor.specs.Events.{about_to, behind_event, rest_of, with_woken};
 ghost use Rattle.um_processor.specs.Phases.{is_idle};
-ghost use Rattle.um_processor.specs.Processors.{MayNext, OnMade, Turned, UnlessMade, processor_of};
+ghost use Rattle.um_processor.specs.Processors.{OnMade, UnlessMade, processor_of};
+ghost use Rattle.um_processor.specs.Turns.{MayTurn, TurnsAt};
 
 use crate::phase::{Phase, Turn};
 use crate::running::Running;
@@ -61,16 +62,14 @@ impl Running {
     ) -> Turn
         requires sites { S.IsOf image.now sites.old }
         requires sound { IsTrue (is_sound_ask ask.now) }
-        requires goes { MayNext cpu image.now (about_to phase (Pending.Work addr ask.now) self.old) (S.May image.now sites.old) }
+        requires goes { MayTurn S.Sites cpu image.now sites.old (about_to phase (Pending.Work addr ask.now) self.old) }
         ensures image { S.IsOf image.now sites.new }
         ensures outcome { UnlessMade result (outcome.new ≡ outcome.old) }
         ensures same { UnlessMade result (processor_of self.new ≡ processor_of self.old) }
         ensures runs { OnMade result (is_idle self.new.phase ≡ false) }
-        ensures turn { Turned result cpu image.now (about_to phase (Pending.Work addr ask.now) self.old) (with_woken outcome.new.woken (processor_of self.new))
-            (λ e. S.Took image.now sites.old e sites.new)
-            (λ e. S.Kept sites.old sites.new × S.Shut image.now sites.old e sites.new)
-            (λ site. S.Kept sites.old sites.new × S.Contended image.now sites.old site sites.new)
-            (sites.new ≡ sites.old) }
+        ensures turn { TurnsAt S.Sites result cpu image.now sites.old sites.new
+            (about_to phase (Pending.Work addr ask.now) self.old)
+            (with_woken outcome.new.woken (processor_of self.new)) }
     {
         let row = Row(row_named(image, addr));
         let who = self.caller(ask);

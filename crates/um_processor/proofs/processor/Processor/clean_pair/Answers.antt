@@ -1,48 +1,25 @@
-use Rattle.std.proofs.Common.{◌≡◌, ℕ, ◌+◌, ◌≤◌, Bool, true, ◌++◌, drop, refl, ap, sym, ◌∙◌, nat_le}
+use Rattle.std.proofs.Common.{◌≡◌, ℕ, ◌+◌, ◌≤◌, ◌++◌, drop, refl, ap, sym, ◌∙◌, nat_le}
 use Rattle.std.proofs.lemmas.Bool.{le-leb}
-use Rattle.std.proofs.lemmas.List.{append-nil}
-use Rattle.um_fine.specs.Places.{Todos, clean_pairs, cleaning, cleanings}
-use Rattle.um_processor.specs.Cleanings.{all_clean, behind_first}
+use Rattle.um_fine.specs.Places.{Todos, clean_pairs, cleanings}
+use Rattle.um_processor.specs.Cleanings.{all_clean, behind_first, block_if}
 use Rattle.um_processor.specs.declared.cleaning.TheConstants.{MOST}
 use Rattle.um_processor.specs.declared.row_act.RowSaid.{RowSaid}
 use Rattle.um_processor.specs.Processors.{IsStuck}
-use Rattle.um_processor.proofs.Standings.{block_if}
 use Rattle.um_processor.proofs.Wholes.{cleanings-stood, pair-goes, pair-asks}
 use Rattle.um_processor.proofs.processor.Processor.clean_pair.Goals as goal
 
-pub returns-then-said-clause-turn : goal.returns-then-said-clause-turn
-returns-then-said-clause-turn g c =
+pub returns-in-Made-clause-turn : goal.returns-in-Made-clause-turn
+returns-in-Made-clause-turn g c =
     let h = c.in-Made.ensures.said in
     let image = c.args.image.now in
     let k = c.args.self.now in
     let rest = drop 1 k.cleans in
-    let after : c.advance.new.self ≡ clean_pairs c.args.who (c.args.row + 1) rest = c.advance.ensures.rest ∙ ap behind_first c.requires.first in
-    let clean : all_clean (clean_pairs c.args.who (c.args.row + 1) rest) ≡ true = ap all_clean (sym after) ∙ c.advance.ensures.clean in
     let pairs = clean_pairs c.args.who (c.args.row + 1) rest in
-    let new : c.take_in.new.self ≡ pairs ++ block_if image c.args.row c.in-Made.said.cleans =
-    c.take_in.ensures
-    ∙ (ap (λ (t : Todos). t ++ cleaning image c.args.row) after ∙ ap (λ (b : Bool). pairs ++ block_if image c.args.row b) (sym c.if-said.true)) in (
+    let after : c.advance.new.self ≡ pairs = c.advance.ensures.rest ∙ ap behind_first c.requires.first in
+    let new = c.take_in_if.ensures ∙ ap (λ (t : Todos). t ++ block_if image c.args.row c.in-Made.said.cleans) after in (
       _,
       h.1,
-      pair-goes image c.args.cpu k.running c.requires.runs k.cleans _ rest k.ends.items _ c.args.who c.args.row _ _ h.0 _ c.requires.first clean c.thread.ensures c.addr_of.ensures
-          (ap (λ (s : RowSaid). s.cleans) h.2)
-          new,
-    )
-
-pub returns-else-said-clause-turn : goal.returns-else-said-clause-turn
-returns-else-said-clause-turn g c =
-    let h = c.in-Made.ensures.said in
-    let image = c.args.image.now in
-    let k = c.args.self.now in
-    let rest = drop 1 k.cleans in
-    let after : c.advance.new.self ≡ clean_pairs c.args.who (c.args.row + 1) rest = c.advance.ensures.rest ∙ ap behind_first c.requires.first in
-    let clean : all_clean (clean_pairs c.args.who (c.args.row + 1) rest) ≡ true = ap all_clean (sym after) ∙ c.advance.ensures.clean in
-    let pairs = clean_pairs c.args.who (c.args.row + 1) rest in
-    let new : c.advance.new.self ≡ pairs ++ block_if image c.args.row c.in-Made.said.cleans =
-    after ∙ (sym (append-nil pairs) ∙ ap (λ (b : Bool). pairs ++ block_if image c.args.row b) (sym c.if-said.false)) in (
-      _,
-      h.1,
-      pair-goes image c.args.cpu k.running c.requires.runs k.cleans _ rest k.ends.items _ c.args.who c.args.row _ _ h.0 _ c.requires.first clean c.thread.ensures c.addr_of.ensures
+      pair-goes image c.args.cpu k.running c.requires.runs k.cleans _ rest k.ends.items _ c.args.who c.args.row _ _ h.0 _ c.requires.first (ap all_clean (sym after) ∙ c.advance.ensures.clean) c.thread.ensures c.addr_of.ensures
           (ap (λ (s : RowSaid). s.cleans) h.2)
           new,
     )

@@ -1,32 +1,20 @@
 use Rattle.std.proofs.Common.{◌≡◌, ◌∷◌, ◌++◌, drop, get_or, refl, ap, sym, ◌∙◌}
 use Rattle.std.specs.Prelude.{remove}
-use Rattle.um_fine.specs.Places.{Todos, cleaning}
+use Rattle.um_fine.specs.Places.{Todos}
 use Rattle.um_processor.specs.declared.row_act.RowSaid.{RowSaid}
-use Rattle.um_processor.proofs.Standings.{block_if}
+use Rattle.um_processor.specs.Cleanings.{block_if}
 use Rattle.um_processor.proofs.Wholes.{end-goes, first-removed}
 use Rattle.um_processor.proofs.processor.Processor.end_call.Goals as goal
 
-pub returns-then-said-clause-turn : goal.returns-then-said-clause-turn
-returns-then-said-clause-turn g c =
+pub returns-in-Made-clause-turn : goal.returns-in-Made-clause-turn
+returns-in-Made-clause-turn g c =
     let h = c.in-Made.ensures.said in
     let image = c.args.image.now in
     let k = c.args.self.now in
     let x = get_or c.as_slice.result.now 0 0 in
     let first : k.ends.items ≡ x ∷ c.remove.new.self.items =
     first-removed k.ends.items 0 c.requires.ends ∙ (λ i. get_or (sym c.as_slice.ensures.value i) 0 0 ∷ sym c.remove.ensures.items i) in
-    let new : c.take_in.new.self ≡ block_if image x c.in-Made.said.cleans =
-    c.take_in.ensures ∙ (ap (λ (t : Todos). t ++ cleaning image x) c.requires.cleans ∙ ap (block_if image x) (sym c.if-said.true)) in
-    (_, h.1, end-goes image c.args.cpu k.running c.requires.runs k.cleans _ k.ends.items _ _ x h.0 _ c.requires.cleans first (ap (λ (s : RowSaid). s.cleans) h.2) new)
-
-pub returns-else-said-clause-turn : goal.returns-else-said-clause-turn
-returns-else-said-clause-turn g c =
-    let h = c.in-Made.ensures.said in
-    let image = c.args.image.now in
-    let k = c.args.self.now in
-    let x = get_or c.as_slice.result.now 0 0 in
-    let first : k.ends.items ≡ x ∷ c.remove.new.self.items =
-    first-removed k.ends.items 0 c.requires.ends ∙ (λ i. get_or (sym c.as_slice.ensures.value i) 0 0 ∷ sym c.remove.ensures.items i) in
-    let new : k.cleans ≡ block_if image x c.in-Made.said.cleans = c.requires.cleans ∙ ap (block_if image x) (sym c.if-said.false) in
+    let new = c.take_in_if.ensures ∙ ap (λ (t : Todos). t ++ block_if image x c.in-Made.said.cleans) c.requires.cleans in
     (_, h.1, end-goes image c.args.cpu k.running c.requires.runs k.cleans _ k.ends.items _ _ x h.0 _ c.requires.cleans first (ap (λ (s : RowSaid). s.cleans) h.2) new)
 
 pub returns-in-Busy-clause-turn : goal.returns-in-Busy-clause-turn
