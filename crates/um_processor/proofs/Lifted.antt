@@ -145,31 +145,31 @@ none_left [] h = refl
 none_left (x ∷ xs) h = absurd (omega arith)
 
 -- a turn of a processor's thread that leaves claims to end, for the whole processor
-pub ends-kept : {cleans : Todos} {woken : List (ThreadIx × Told)} {p q : Processor} {ends old : List ℕ} (t : Turn)
+pub ends-kept : (cleans : Todos) (woken : List (ThreadIx × Told)) (p q : Processor) (ends old : List ℕ) (t : Turn)
     → UnlessMade t (p ≡ q) → UnlessMade t (ends ≡ old) → UnlessMade t (standing cleans ends woken p ≡ standing cleans old woken q)
-ends-kept {cleans} {woken} {p} {q} {ends} {old} t = kept-both t (λ (z : Processor) (xs : List ℕ). standing cleans xs woken z) p q ends old
+ends-kept cleans woken p q ends old t = kept-both t (λ (z : Processor) (xs : List ℕ). standing cleans xs woken z) p q ends old
 
-pub ends-turned : {cpu : ℕ} {image : Image} {took shut : FineStep → Type 0} {late : Site → Type 0} {none : Type 0} {p q : Processor} {cleans : Todos} {ends : List ℕ}
-    {woken : List (ThreadIx × Told)} (t : Turn) (r : Running) → p ≡ q → cleans ≡ [] → woken ≡ []
+pub ends-turned : (cpu : ℕ) (image : Image) (took shut : FineStep → Type 0) (late : Site → Type 0) (none : Type 0) (p q : Processor) (cleans : Todos) (ends : List ℕ)
+    (woken : List (ThreadIx × Told)) (t : Turn) (r : Running) → p ≡ q → cleans ≡ [] → woken ≡ []
     → OnMade t (is_idle r.phase ≡ false) → Turned t cpu image q (with_ends ends (processor_of r)) took shut late none
     → Turned t cpu image p (standing cleans ends woken (processor_of r)) took shut late none
-ends-turned {cpu} {image} {took} {shut} {late} {none} {p} {q} {cleans} {ends} {woken} t r at ec ew runs h =
+ends-turned cpu image took shut late none p q cleans ends woken t r at ec ew runs h =
     turned-from t cpu image took shut late none p q _ at
     (turned-as t cpu image took shut late none q _ _ (on-made t (λ k. ends-stand r k cleans ends woken ec ew) runs) h)
 
 -- the same of one that may leave an object to clean
-pub cleans-kept : {image : Image} {x : ℕ} {b : Bool} {cleans new : Todos} {ends : List ℕ} {woken : List (ThreadIx × Told)} {p q : Processor} (t : Turn)
+pub cleans-kept : (image : Image) (x : ℕ) (b : Bool) (cleans new : Todos) (ends : List ℕ) (woken : List (ThreadIx × Told)) (p q : Processor) (t : Turn)
     → new ≡ cleans ++ block_if image x b → UnlessMade t (b ≡ false) → UnlessMade t (p ≡ q)
     → UnlessMade t (standing new ends woken p ≡ standing cleans ends woken q)
-cleans-kept {image} {x} {b} {cleans} {new} {ends} {woken} {p} {q} t leaves none same =
+cleans-kept image x b cleans new ends woken p q t leaves none same =
     kept-both t (λ (z : Processor) (cs : Todos). standing cs ends woken z) p q new cleans same
     (unless-made t (λ h. leaves ∙ (ap (λ (c : Bool). cleans ++ block_if image x c) h ∙ append-nil cleans)) none)
 
-pub cleans-turned : {cpu : ℕ} {image : Image} {took shut : FineStep → Type 0} {late : Site → Type 0} {none : Type 0} {p : Processor} {x y : ℕ} {b : Bool}
-    {cleans new : Todos} {ends : List ℕ} {woken : List (ThreadIx × Told)} (t : Turn) (r : Running)
+pub cleans-turned : (cpu : ℕ) (image : Image) (took shut : FineStep → Type 0) (late : Site → Type 0) (none : Type 0) (p : Processor) (x y : ℕ) (b : Bool)
+    (cleans new : Todos) (ends : List ℕ) (woken : List (ThreadIx × Told)) (t : Turn) (r : Running)
     → cleans ≡ [] → ends ≡ [] → woken ≡ [] → x ≡ y → new ≡ cleans ++ block_if image x b
     → OnMade t (is_idle r.phase ≡ false) → Turned t cpu image p (cleaned image y b (processor_of r)) took shut late none
     → Turned t cpu image p (standing new ends woken (processor_of r)) took shut late none
-cleans-turned {cpu} {image} {took} {shut} {late} {none} {p} {x} {y} {b} {cleans} {new} {ends} {woken} t r ec ee ew at leaves runs =
+cleans-turned cpu image took shut late none p x y b cleans new ends woken t r ec ee ew at leaves runs =
     let block : new ≡ block_if image y b = leaves ∙ (λ i. ec i ++ block_if image (at i) b) in
     turned-as t cpu image took shut late none p _ _ (on-made t (λ h. cleans-stand r h image y b new ends woken block ee ew) runs)
