@@ -39,7 +39,8 @@ use Rattle.um_erasure.proofs.LawfulSteps.{Suits}
 use Rattle.um_erasure.proofs.Leaves.{HasStep, Lawful, Leaves, cleans, drops, event, nothing, passes, recycles, resumes}
 use Rattle.um_erasure.proofs.ListClaims.{IsThread}
 use Rattle.um_erasure.proofs.ListGrips.{next-thread}
-use Rattle.um_erasure.proofs.ListRuns.{goes-runs, is_end, takes-runs}
+use Rattle.um_erasure.proofs.ListGrowth.{is_end}
+use Rattle.um_erasure.proofs.ListRuns.{goes-runs, takes-runs}
 use Rattle.um_erasure.proofs.MemoryPart.{InDomains}
 use Rattle.um_erasure.proofs.MemorySteps.{part-total}
 use Rattle.um_erasure.proofs.Offered.{Shows, behind-is, shown-on}

@@ -52,9 +52,9 @@ use Rattle.um_erasure.proofs.Leaves.{Lawful, Leaves, cleans, drops, event, nothi
 use Rattle.um_erasure.proofs.ListAdders.{next-adds, takes-none}
 use Rattle.um_erasure.proofs.ListEnds.{IsShown, next-ends}
 use Rattle.um_erasure.proofs.ListGrips.{read-rests}
-use Rattle.um_erasure.proofs.ListRuns.{ends-rests, is_end}
+use Rattle.um_erasure.proofs.ListRuns.{ends-rests}
 use Rattle.um_erasure.proofs.ListSingles.{AreSingle, next-are-single}
-use Rattle.um_erasure.proofs.ListTails.{ReadsLast}
+use Rattle.um_erasure.proofs.ListGrowth.{ReadsLast, is_end}
 use Rattle.um_erasure.proofs.ListWakes.{LastRead, Wakes, named, next-wakers, takes-wakers, wakers, woken_by}
 use Rattle.um_erasure.proofs.MemoryPart.{InDomains}
 use Rattle.um_erasure.proofs.Offered.{IsStep, Shows, own-part}

@@ -38,7 +38,7 @@ use Rattle.um_erasure.proofs.CleanersSteps.{frame, gain, no-gain, recycles-gain}
 use Rattle.um_erasure.proofs.CleaningFacts.{count-cons}
 use Rattle.um_erasure.proofs.ContentsKept.{beside-kept, cell-beside, drop-kept, work-objects}
 use Rattle.um_erasure.proofs.DomainFacts.{two-parts}
-use Rattle.um_erasure.proofs.Erased.{stepped}
+use Rattle.um_erasure.proofs.Erased.{later}
 use Rattle.um_erasure.proofs.FirstThreads.{one-most}
 use Rattle.um_erasure.proofs.HeldRows.{checked-claimed, claimed-kept}
 use Rattle.um_erasure.proofs.LawfulSteps.{Suits}
@@ -46,7 +46,8 @@ use Rattle.um_erasure.proofs.Leaves.{Lawful, Leaves, cleans, drops, event, nothi
 use Rattle.um_erasure.proofs.ListBlocks.{blocks-next}
 use Rattle.um_erasure.proofs.ListCounts.{next-counts, recycles-of, takes-counts, wipes-of}
 use Rattle.um_erasure.proofs.ListGrips.{read-rests}
-use Rattle.um_erasure.proofs.ListTails.{ReadsLast, exact-next}
+use Rattle.um_erasure.proofs.ListGrowth.{ReadsLast}
+use Rattle.um_erasure.proofs.ListTails.{exact-next}
 use Rattle.um_erasure.proofs.MemorySteps.{part-total}
 use Rattle.um_erasure.proofs.ObjectsKept.{set-kept}
 use Rattle.um_erasure.proofs.Offered.{IsStep, Shows, shown-offers, shown-on}
@@ -76,9 +77,6 @@ one-cleared true h = refl
 one-cleared false h = absurd (omega (arith, h))
 
 module _ (f : Fine) (m : State) (e : FineStep) (law : Lawful f m e) (x : ℕ) (few : x < ROWS) where
-  abbrev later : Fine
-  later = stepped f.image f.cpus f.processors f.sites e
-
   abbrev p : Processor
   p = f.processors e.cpu
 
@@ -361,7 +359,7 @@ module _ (f : Fine) (m : State) (e : FineStep) (law : Lawful f m e) (x : ℕ) (f
             let one-only = most in
             omega (arith, both, mine, one, one-only, cleans-it)
 
-  pub order-part : (k : ℕ) → k < f.cpus → Recs (later.processors k).todo ≡ Wipes (later.processors k).todo + one_if (is_cleared x (later.processors k).todo)
+  pub order-part : (k : ℕ) → k < f.cpus → Recs ((later f e).processors k).todo ≡ Wipes ((later f e).processors k).todo + one_if (is_cleared x ((later f e).processors k).todo)
   order-part k l = by (e.cpu == k) refl
     where
       kth : Bool → Processor
@@ -371,7 +369,7 @@ module _ (f : Fine) (m : State) (e : FineStep) (law : Lawful f m e) (x : ℕ) (f
       by true q = subst (λ (z : Processor). Order z.todo) (sym (ap kth q ∙ ap (λ (z : Processor). p_next f.image z e) (sym (ap f.processors (eqb-true e.cpu k q))))) order-mine
       by false q = subst (λ (z : Processor). Order z.todo) (sym (ap kth q)) ((law.rel.processors k l).cleaning x few).order
 
-  pub charged-part : Suits f m → (s : State) → Leaves f m e s → (k : ℕ) → k < f.cpus → Cleans later k x → Wipes (later.processors k).todo ≡ 0 → (later.processors k).charge ≡ (object_at s x).buffer
+  pub charged-part : Suits f m → (s : State) → Leaves f m e s → (k : ℕ) → k < f.cpus → Cleans (later f e) k x → Wipes ((later f e).processors k).todo ≡ 0 → ((later f e).processors k).charge ≡ (object_at s x).buffer
   charged-part suits s leaves k l = by (e.cpu == k) refl
     where
       kth : Bool → Processor

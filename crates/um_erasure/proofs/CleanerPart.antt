@@ -35,13 +35,12 @@ use Rattle.um_erasure.proofs.CleaningFacts.{count-cons}
 use Rattle.um_erasure.proofs.CleanSteps.{OwnRows}
 use Rattle.um_erasure.proofs.ContentsKept.{IsBeside, beside-kept, drop-kept, work-objects}
 use Rattle.um_erasure.proofs.DomainFacts.{two-parts}
-use Rattle.um_erasure.proofs.Erased.{stepped}
+use Rattle.um_erasure.proofs.Erased.{later}
 use Rattle.um_erasure.proofs.FirstThreads.{one-most}
 use Rattle.um_erasure.proofs.Leaves.{Lawful, Leaves, cleans, drops, event, nothing, passes, recycles, resumes}
 use Rattle.um_erasure.proofs.ListCounts.{recycles-of, takes-counts}
 use Rattle.um_erasure.proofs.ListGrips.{next-thread, read-rests}
-use Rattle.um_erasure.proofs.ListRuns.{is_end}
-use Rattle.um_erasure.proofs.ListTails.{ReadsLast}
+use Rattle.um_erasure.proofs.ListGrowth.{ReadsLast, is_end}
 use Rattle.um_erasure.proofs.MemorySteps.{part-total}
 use Rattle.um_erasure.proofs.ObjectsKept.{set-kept}
 use Rattle.um_erasure.proofs.SchedulerSteps.{made-says}
@@ -55,9 +54,6 @@ cleaner-beside : IsBeside cleaner_of
 cleaner-beside = record { status = λ o status. refl; public = λ o. refl; init = λ o init. refl }
 
 module _ (f : Fine) (m : State) (e : FineStep) (law : Lawful f m e) (x : ℕ) (few : x < ROWS) where
-  abbrev later : Fine
-  later = stepped f.image f.cpus f.processors f.sites e
-
   abbrev p : Processor
   p = f.processors e.cpu
 
@@ -135,13 +131,13 @@ module _ (f : Fine) (m : State) (e : FineStep) (law : Lawful f m e) (x : ℕ) (f
 
   -- How many recycle the object.
 
-  more : (q : Todo) (todo : Todos) → p.todo ≡ q ∷ todo → ReadsLast e q todo → is_recycle x q ≡ false → recyclers f x ≤ recyclers later x
+  more : (q : Todo) (todo : Todos) → p.todo ≡ q ∷ todo → ReadsLast e q todo → is_recycle x q ≡ false → recyclers f x ≤ recyclers (later f e) x
   more q todo at last rec = let sum = rec-sum f m e law x few q todo at last in let none = ap one_if rec in omega (arith, sum, none)
 
-  as-many : p.todo ≡ [] → recyclers f x ≤ recyclers later x
+  as-many : p.todo ≡ [] → recyclers f x ≤ recyclers (later f e) x
   as-many at = let same = idle-count f m e law x few (is_recycle x) (takes-counts (is_recycle x) (recycles-of x) f.image p e at (takes-quiet f m e law x few at)) at in omega (arith, same)
 
-  unseen-more : (u : Unseen) → e.act ≡ FineAct.Unseen u → (todo : Todos) → p.todo ≡ todo → recyclers f x ≤ recyclers later x
+  unseen-more : (u : Unseen) → e.act ≡ FineAct.Unseen u → (todo : Todos) → p.todo ≡ todo → recyclers f x ≤ recyclers (later f e) x
   unseen-more u said [] at = as-many at
   unseen-more u said (Todo.show q rest ∷ todo) at = more (Todo.show q rest) todo at (last-shown q rest todo at) refl
   unseen-more u said (Todo.recycle z ∷ todo) at = absurd (is-unseen (sym said ∙ made-says f m e law (Todo.recycle z ∷ todo) at))
@@ -151,7 +147,7 @@ module _ (f : Fine) (m : State) (e : FineStep) (law : Lawful f m e) (x : ℕ) (f
   unseen-more u said (q ∷ todo) at = more q todo at tt refl
 
   -- no fewer, unless it is recycled, and then the machine has no cleaner of it
-  more-then : (s : State) → Leaves f m e s → (recyclers f x ≤ recyclers later x) ⊎ ((object_at s x).cleaner ≡ None)
+  more-then : (s : State) → Leaves f m e s → (recyclers f x ≤ recyclers (later f e) x) ⊎ ((object_at s x).cleaner ≡ None)
   more-then _ (nothing u said) = inl (unseen-more u said p.todo refl)
   more-then _ (event q rest todo n h shown is) = inl (more (Todo.show q rest) todo h.at (last-shown q rest todo h.at) refl)
   more-then _ (resumes c told rest at moved said) = inl (as-many at)
@@ -160,7 +156,7 @@ module _ (f : Fine) (m : State) (e : FineStep) (law : Lawful f m e) (x : ℕ) (f
   more-then _ (cleans who y rest todo h said) = inl (more (Todo.clean_pair who y) todo h.at tt refl)
   more-then _ (recycles y rest todo at l said chosen) = by (x == y) refl
     where
-      by : (b : Bool) → (x == y) ≡ b → (recyclers f x ≤ recyclers later x) ⊎ ((slice_index_or (slice_set m.objects y vacant) x vacant).cleaner ≡ None)
+      by : (b : Bool) → (x == y) ≡ b → (recyclers f x ≤ recyclers (later f e) x) ⊎ ((slice_index_or (slice_set m.objects y vacant) x vacant).cleaner ≡ None)
       by false k = inl (more (Todo.recycle y) todo at tt k)
       by true k =
           let long = law.sound.wide.objects in
@@ -182,16 +178,16 @@ module _ (f : Fine) (m : State) (e : FineStep) (law : Lawful f m e) (x : ℕ) (f
       let o = one-most (Plain.is_gone (object_at m x).status && not (is_dying (row f x).stage)) in
       omega (arith, c, o)
 
-  changed-recs : recyclers later x + Recs p.todo ≡ recyclers f x + Recs now.todo
+  changed-recs : recyclers (later f e) x + Recs p.todo ≡ recyclers f x + Recs now.todo
   changed-recs = over-changed f e (λ z. Recs z.todo) law.by.named
 
   none-some : {A B : Type 0} {a : A} → None ≡ Some a → B
   none-some h = absurd (false≢true (ap is_some h))
 
-  pub cleaner-part : OwnRows f.image → (s : State) → Leaves f m e s → CleanerIs later s x
+  pub cleaner-part : OwnRows f.image → (s : State) → Leaves f m e s → CleanerIs (later f e) s x
   cleaner-part own s leaves = record { none = λ h. by h (cleaner-then s leaves) (more-then s leaves) }
     where
-      by : recyclers later x ≡ 0 → Cleaner s → (recyclers f x ≤ recyclers later x) ⊎ ((object_at s x).cleaner ≡ None) → (object_at s x).cleaner ≡ None
+      by : recyclers (later f e) x ≡ 0 → Cleaner s → (recyclers f x ≤ recyclers (later f e) x) ⊎ ((object_at s x).cleaner ≡ None) → (object_at s x).cleaner ≡ None
       by h c (inr none) = none
       by h (goes none) (inl fewer) = none
       by h (stays same) (inl fewer) = same ∙ (law.rel.rows x few).cleaner.none (omega (arith, h, fewer))
@@ -220,10 +216,10 @@ module _ (f : Fine) (m : State) (e : FineStep) (law : Lawful f m e) (x : ℕ) (f
   begun-mine : OwnRows f.image → (s : State) → Leaves f m e s → (t : ThreadIx) → (object_at s x).cleaner ≡ Some t → 0 < Recs now.todo → now.context.thread ≡ t.0
   begun-mine own s leaves t is some = by (cleaner-then s leaves)
     where
-      later-most : recyclers later x ≤ 1
+      later-most : recyclers (later f e) x ≤ 1
       later-most =
           let c = (cleaners-part f m e law x few s leaves).cleaner in
-          let o = one-most (Plain.is_gone (object_at s x).status && not (is_dying (row later x).stage)) in
+          let o = one-most (Plain.is_gone (object_at s x).status && not (is_dying (row (later f e) x).stage)) in
           omega (arith, c, o)
 
       counts : (n : ℕ) → Recs p.todo ≡ n → (object_at m x).cleaner ≡ Some t → now.context.thread ≡ t.0
@@ -253,8 +249,8 @@ module _ (f : Fine) (m : State) (e : FineStep) (law : Lawful f m e) (x : ℕ) (f
           let one = most in
           absurd (omega (arith, here, both, one, some))
 
-  pub begun-part : OwnRows f.image → (s : State) → Leaves f m e s → (k : ℕ) → k < f.cpus → (t : ThreadIx) → (object_at s x).cleaner ≡ Some t → Cleans later k x
-      → (later.processors k).context.thread ≡ t.0
+  pub begun-part : OwnRows f.image → (s : State) → Leaves f m e s → (k : ℕ) → k < f.cpus → (t : ThreadIx) → (object_at s x).cleaner ≡ Some t → Cleans (later f e) k x
+      → ((later f e).processors k).context.thread ≡ t.0
   begun-part own s leaves k l t is = by (e.cpu == k) refl
     where
       kth : Bool → Processor

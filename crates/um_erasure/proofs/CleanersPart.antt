@@ -42,7 +42,7 @@ use Rattle.um_erasure.specs.Fine.{Fine, one_if, row}
 use Rattle.um_erasure.specs.Lists.{counted, is_recycle, is_vacate}
 use Rattle.um_erasure.specs.Objects.{recyclers, vacaters}
 use Rattle.um_erasure.specs.Offers.{Fits}
-use Rattle.um_erasure.proofs.ListTails.{ReadsLast}
+use Rattle.um_erasure.proofs.ListGrowth.{ReadsLast}
 use Rattle.um_erasure.proofs.Erased.{stepped}
 use Rattle.um_erasure.proofs.Leaves.{Lawful, Leaves}
 use Rattle.um_erasure.proofs.ListCounts.{vacates-none}

@@ -32,7 +32,7 @@ use Rattle.um_erasure.specs.Fine.{Fine, one_if, over_processors, row, row_state}
 use Rattle.um_erasure.specs.Frames.{AreFramed, Behind}
 use Rattle.um_erasure.specs.Lists.{counted, is_recycle, is_vacate}
 use Rattle.um_erasure.specs.Objects.{is_reserved, recyclers, status_of, vacaters}
-use Rattle.um_erasure.proofs.ListTails.{ReadsLast}
+use Rattle.um_erasure.proofs.ListGrowth.{ReadsLast}
 use Rattle.um_erasure.proofs.DomainReads.{eqb-swap}
 use Rattle.um_erasure.proofs.DropSteps.{left-here}
 use Rattle.um_erasure.proofs.Erased.{stepped}

@@ -48,7 +48,7 @@ use Rattle.um_erasure.proofs.LawfulSteps.{Suits}
 use Rattle.um_erasure.proofs.Leaves.{Lawful, Leaves, cleans, drops, event, nothing, passes, recycles, resumes}
 use Rattle.um_erasure.proofs.ListCounts.{recycles-of, takes-counts, wipes-of}
 use Rattle.um_erasure.proofs.ListGrips.{read-rests}
-use Rattle.um_erasure.proofs.ListTails.{ReadsLast}
+use Rattle.um_erasure.proofs.ListGrowth.{ReadsLast}
 use Rattle.um_erasure.proofs.ObjectsKept.{NoStatuses, born-reserved, drop-free, paired-live, set-kept, status-kept}
 use Rattle.um_erasure.proofs.Offered.{IsStep, Shows, own-part, shown-offers, shown-on, site-is}
 use Rattle.um_erasure.proofs.RowSteps.{named-row}

@@ -43,8 +43,8 @@ use Rattle.um_erasure.proofs.LawfulSteps.{Suits}
 use Rattle.um_erasure.proofs.Leaves.{HasStep, Lawful, Leaves, cleans, drops, event, nothing, passes, recycles, resumes}
 use Rattle.um_erasure.proofs.ListAdders.{next-adds, takes-none}
 use Rattle.um_erasure.proofs.ListGrips.{cleaned-context, read-rests}
-use Rattle.um_erasure.proofs.ListTails.{ReadsLast}
-use Rattle.um_erasure.proofs.ListRuns.{ends-rests, is_end}
+use Rattle.um_erasure.proofs.ListGrowth.{ReadsLast, is_end}
+use Rattle.um_erasure.proofs.ListRuns.{ends-rests}
 use Rattle.um_erasure.proofs.MemoryPart.{InDomains}
 use Rattle.um_erasure.proofs.Offered.{Shows, behind-is, own-part, shown-offers}
 use Rattle.um_erasure.proofs.OfKept.{of-kept}

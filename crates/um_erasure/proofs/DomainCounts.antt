@@ -25,10 +25,11 @@ use Rattle.um_erasure.specs.Fine.{Fine, domain, one_if, over_processors}
 use Rattle.um_erasure.specs.Frames.{AreFramed, Behind, access_over}
 use Rattle.um_erasure.specs.Lists.{edits, edits_step, is_hold, is_move_done, moves_step, moves_to}
 use Rattle.um_erasure.specs.Offers.{Fits, behind_shown}
-use Rattle.um_erasure.proofs.Erased.{stepped}
+use Rattle.um_erasure.proofs.Erased.{later}
 use Rattle.um_erasure.proofs.Leaves.{Lawful}
 use Rattle.um_erasure.proofs.ListGrips.{read-rests}
-use Rattle.um_erasure.proofs.ListTails.{ReadsLast, exact-next, is_read_claim, tail-read, takes-read}
+use Rattle.um_erasure.proofs.ListGrowth.{ReadsLast, is_read_claim}
+use Rattle.um_erasure.proofs.ListTails.{exact-next, tail-read, takes-read}
 use Rattle.um_erasure.proofs.SchedulerSteps.{made-at, made-says}
 use Rattle.um_erasure.proofs.Sums.{over-changed, over-same}
 use Rattle.um_erasure.proofs.DomainWords.{word-else, word-here, word-takes}
@@ -45,9 +46,6 @@ pub record CountsAre (g : Fine) (d : ℕ) : Type 0 where
   pub apart : (domain g d).writer ≡ true → (domain g d).readers ≡ 0
 
 module _ (f : Fine) (m : State) (e : FineStep) (law : Lawful f m e) (d : ℕ) (few : d < length f.image.domains) where
-  abbrev later : Fine
-  later = stepped f.image f.cpus f.processors f.sites e
-
   abbrev p : Processor
   p = f.processors e.cpu
 
@@ -61,17 +59,17 @@ module _ (f : Fine) (m : State) (e : FineStep) (law : Lawful f m e) (d : ℕ) (f
   frame q todo at = (subst (AreFramed f.image) at (law.rel.processors e.cpu law.by.named).frames).0
 
   edit-counts : (n k : ℕ) → one_if (edits d p.todo) ≡ n → one_if (edits d now.todo) ≡ k
-      → over_processors later (λ z. one_if (edits d z.todo)) + n ≡ over_processors f (λ z. one_if (edits d z.todo)) + k
+      → over_processors (later f e) (λ z. one_if (edits d z.todo)) + n ≡ over_processors f (λ z. one_if (edits d z.todo)) + k
   edit-counts n k before after = let all = over-changed f e (λ z. one_if (edits d z.todo)) law.by.named in omega (arith, all, before, after)
 
   read-counts : (n k : ℕ) → one_if (reads d p) ≡ n → one_if (reads d now) ≡ k
-      → over_processors later (λ z. one_if (reads d z)) + n ≡ over_processors f (λ z. one_if (reads d z)) + k
+      → over_processors (later f e) (λ z. one_if (reads d z)) + n ≡ over_processors f (λ z. one_if (reads d z)) + k
   read-counts n k before after = let all = over-changed f e (λ z. one_if (reads d z)) law.by.named in omega (arith, all, before, after)
 
-  edits-still : edits d now.todo ≡ edits d p.todo → over_processors later (λ z. one_if (edits d z.todo)) ≡ over_processors f (λ z. one_if (edits d z.todo))
+  edits-still : edits d now.todo ≡ edits d p.todo → over_processors (later f e) (λ z. one_if (edits d z.todo)) ≡ over_processors f (λ z. one_if (edits d z.todo))
   edits-still same = over-same f e (λ z. one_if (edits d z.todo)) law.by.named (ap one_if same)
 
-  reads-still : reads d now ≡ reads d p → over_processors later (λ z. one_if (reads d z)) ≡ over_processors f (λ z. one_if (reads d z))
+  reads-still : reads d now ≡ reads d p → over_processors (later f e) (λ z. one_if (reads d z)) ≡ over_processors f (λ z. one_if (reads d z))
   reads-still same = over-same f e (λ z. one_if (reads d z)) law.by.named (ap one_if same)
 
   was-writers : one_if (domain f d).writer ≡ over_processors f (λ z. one_if (edits d z.todo))
@@ -81,7 +79,7 @@ module _ (f : Fine) (m : State) (e : FineStep) (law : Lawful f m e) (d : ℕ) (f
   was-readers = (law.rel.domains d few).readers
 
   -- nothing is claimed and nothing ends
-  still : domain later d ≡ domain f d → edits d now.todo ≡ edits d p.todo → reads d now ≡ reads d p → CountsAre later d
+  still : domain (later f e) d ≡ domain f d → edits d now.todo ≡ edits d p.todo → reads d now ≡ reads d p → CountsAre (later f e) d
   still word e-same r-same =
       record {
         writers = ap (λ (w : DomWord). one_if w.writer) word ∙ (was-writers ∙ sym (edits-still e-same));
@@ -90,14 +88,14 @@ module _ (f : Fine) (m : State) (e : FineStep) (law : Lawful f m e) (d : ℕ) (f
       }
 
   -- a step on the word of another domain
-  elsewhere : (u : ℕ) → e.site ≡ Site.domain u → (u == d) ≡ false → domain later d ≡ domain f d
+  elsewhere : (u : ℕ) → e.site ≡ Site.domain u → (u == d) ≡ false → domain (later f e) d ≡ domain f d
   elsewhere u site off = word-else f m e law d (ap (λ i. same_site i (Site.domain d)) site ∙ off)
 
   -- a claim to read
-  reader-more : (u : ℕ) → e.site ≡ Site.domain u → e.act ≡ FineAct.Unseen Unseen.ReadClaim → edits d now.todo ≡ edits d p.todo → reads d p ≡ false → reads d now ≡ (u == d) → CountsAre later d
+  reader-more : (u : ℕ) → e.site ≡ Site.domain u → e.act ≡ FineAct.Unseen Unseen.ReadClaim → edits d now.todo ≡ edits d p.todo → reads d p ≡ false → reads d now ≡ (u == d) → CountsAre (later f e) d
   reader-more u site said e-same before after = by (u == d) refl
     where
-      by : (b : Bool) → (u == d) ≡ b → CountsAre later d
+      by : (b : Bool) → (u == d) ≡ b → CountsAre (later f e) d
       by false q = still (elsewhere u site q) e-same (after ∙ (q ∙ sym before))
       by true q =
           let here = site ∙ ap Site.domain (eqb-true u d q) in
@@ -105,7 +103,7 @@ module _ (f : Fine) (m : State) (e : FineStep) (law : Lawful f m e) (d : ℕ) (f
           let takes = and_parts (not (domain f d).writer) _ (word-takes f m e law d (FineAct.Unseen Unseen.ReadClaim) said here) in
           let sums = read-counts 0 1 (ap one_if before) (ap one_if (after ∙ q)) in
           let first = was-readers in
-          let number : (domain later d).readers ≡ (domain f d).readers + 1 = ap (λ (w : DomWord). w.readers) word in
+          let number : (domain (later f e) d).readers ≡ (domain f d).readers + 1 = ap (λ (w : DomWord). w.readers) word in
           record {
             writers = ap (λ (w : DomWord). one_if w.writer) word ∙ (was-writers ∙ sym (edits-still e-same));
             readers = omega (arith, sums, first, number);
@@ -114,10 +112,10 @@ module _ (f : Fine) (m : State) (e : FineStep) (law : Lawful f m e) (d : ℕ) (f
 
   -- the end of one
   reader-less : (u : ℕ) (act : FineAct) → e.site ≡ Site.domain u → e.act ≡ act → ((w : DomWord) → domain_after w act ≡ record w { readers = w.readers - 1 })
-      → ((w : DomWord) → domain_takes w act ≡ true → 0 < w.readers) → edits d now.todo ≡ edits d p.todo → reads d p ≡ (u == d) → reads d now ≡ false → CountsAre later d
+      → ((w : DomWord) → domain_takes w act ≡ true → 0 < w.readers) → edits d now.todo ≡ edits d p.todo → reads d p ≡ (u == d) → reads d now ≡ false → CountsAre (later f e) d
   reader-less u act site said leaves takes e-same before after = by (u == d) refl
     where
-      by : (b : Bool) → (u == d) ≡ b → CountsAre later d
+      by : (b : Bool) → (u == d) ≡ b → CountsAre (later f e) d
       by false q = still (elsewhere u site q) e-same (after ∙ (sym q ∙ sym before))
       by true q =
           let here = site ∙ ap Site.domain (eqb-true u d q) in
@@ -125,7 +123,7 @@ module _ (f : Fine) (m : State) (e : FineStep) (law : Lawful f m e) (d : ℕ) (f
           let some = takes (domain f d) (word-takes f m e law d act said here) in
           let sums = read-counts 1 0 (ap one_if (before ∙ q)) (ap one_if after) in
           let first = was-readers in
-          let number : (domain later d).readers ≡ (domain f d).readers - 1 = ap (λ (w : DomWord). w.readers) word in
+          let number : (domain (later f e) d).readers ≡ (domain f d).readers - 1 = ap (λ (w : DomWord). w.readers) word in
           record {
             writers = ap (λ (w : DomWord). one_if w.writer) word ∙ (was-writers ∙ sym (edits-still e-same));
             readers = omega (arith, sums, first, number, some);
@@ -133,10 +131,10 @@ module _ (f : Fine) (m : State) (e : FineStep) (law : Lawful f m e) (d : ℕ) (f
           }
 
   -- the claim to write
-  writer-on : (u : ℕ) → e.site ≡ Site.domain u → e.act ≡ FineAct.Unseen Unseen.WriteClaim → edits d p.todo ≡ false → edits d now.todo ≡ (u == d) → reads d now ≡ reads d p → CountsAre later d
+  writer-on : (u : ℕ) → e.site ≡ Site.domain u → e.act ≡ FineAct.Unseen Unseen.WriteClaim → edits d p.todo ≡ false → edits d now.todo ≡ (u == d) → reads d now ≡ reads d p → CountsAre (later f e) d
   writer-on u site said before after r-same = by (u == d) refl
     where
-      by : (b : Bool) → (u == d) ≡ b → CountsAre later d
+      by : (b : Bool) → (u == d) ≡ b → CountsAre (later f e) d
       by false q = still (elsewhere u site q) (after ∙ (q ∙ sym before)) r-same
       by true q =
           let here = site ∙ ap Site.domain (eqb-true u d q) in
@@ -144,7 +142,7 @@ module _ (f : Fine) (m : State) (e : FineStep) (law : Lawful f m e) (d : ℕ) (f
           let takes = and_parts (not (domain f d).writer) _ (word-takes f m e law d (FineAct.Unseen Unseen.WriteClaim) said here) in
           let sums = edit-counts 0 1 (ap one_if before) (ap one_if (after ∙ q)) in
           let first = sym (ap one_if (not-true _ takes.0)) ∙ was-writers in
-          let on : one_if (domain later d).writer ≡ 1 = ap (λ (w : DomWord). one_if w.writer) word in
+          let on : one_if (domain (later f e) d).writer ≡ 1 = ap (λ (w : DomWord). one_if w.writer) word in
           record {
             writers = omega (arith, sums, first, on);
             readers = ap (λ (w : DomWord). w.readers) word ∙ (was-readers ∙ sym (reads-still r-same));
@@ -154,10 +152,10 @@ module _ (f : Fine) (m : State) (e : FineStep) (law : Lawful f m e) (d : ℕ) (f
   -- its end, by the event of the edit
   writer-off : (u : ℕ) (act : FineAct) → e.site ≡ Site.domain u → e.act ≡ act → ((w : DomWord) → (domain_after w act).writer ≡ false)
       → ((w : DomWord) → (domain_after w act).readers ≡ w.readers) → ((w : DomWord) → domain_takes w act ≡ true → w.writer ≡ true)
-      → edits d p.todo ≡ (u == d) → edits d now.todo ≡ false → reads d now ≡ reads d p → CountsAre later d
+      → edits d p.todo ≡ (u == d) → edits d now.todo ≡ false → reads d now ≡ reads d p → CountsAre (later f e) d
   writer-off u act site said off keeps takes before after r-same = by (u == d) refl
     where
-      by : (b : Bool) → (u == d) ≡ b → CountsAre later d
+      by : (b : Bool) → (u == d) ≡ b → CountsAre (later f e) d
       by false q = still (elsewhere u site q) (after ∙ (sym q ∙ sym before)) r-same
       by true q =
           let here = site ∙ ap Site.domain (eqb-true u d q) in
@@ -165,7 +163,7 @@ module _ (f : Fine) (m : State) (e : FineStep) (law : Lawful f m e) (d : ℕ) (f
           let on = takes (domain f d) (word-takes f m e law d act said here) in
           let sums = edit-counts 1 0 (ap one_if (before ∙ q)) (ap one_if after) in
           let first = sym (ap one_if on) ∙ was-writers in
-          let none : (domain later d).writer ≡ false = ap (λ (w : DomWord). w.writer) word ∙ off (domain f d) in
+          let none : (domain (later f e) d).writer ≡ false = ap (λ (w : DomWord). w.writer) word ∙ off (domain f d) in
           let count = ap one_if none in
           record {
             writers = omega (arith, sums, first, count);
@@ -203,7 +201,7 @@ module _ (f : Fine) (m : State) (e : FineStep) (law : Lawful f m e) (d : ℕ) (f
   plain-hold q h = refl
 
   -- a step that has nothing to do with domains
-  plain-step : (q : Todo) (todo : Todos) → p.todo ≡ q ∷ todo → is_plain q ≡ true → CountsAre later d
+  plain-step : (q : Todo) (todo : Todos) → p.todo ≡ q ∷ todo → is_plain q ≡ true → CountsAre (later f e) d
   plain-step q todo at plain =
       let list = plain-list d p.reply q todo plain in
       let other = plain-claim q plain in
@@ -214,14 +212,14 @@ module _ (f : Fine) (m : State) (e : FineStep) (law : Lawful f m e) (d : ℕ) (f
       ((claimed-after q todo at other last ∙ (sym list.1 ∙ sym (ap claimed at))) i && (next-domain f.image p e q todo at (plain-hold q plain) i == d))
       || (moves-after q todo at other (plain-told q plain) last ∙ (sym list.2 ∙ sym (ap (moves_to d p.reply) at))) i)
 
-  idle-step : p.todo ≡ [] → CountsAre later d
+  idle-step : p.todo ≡ [] → CountsAre (later f e) d
   idle-step at =
       still (word-else f m e law d (ap (λ i. same_site i (Site.domain d)) (made-at f m e law [] at)))
       (takes-read f.image (edits d) false (edits-reads f.image d) p e at ∙ sym (ap (edits d) at))
       (read-as now false false (takes-read f.image claimed false (claimed-reads f.image) p e at) (takes-read f.image (moves_to d now.reply) false (moves-reads f.image d now.reply) p e at)
       ∙ sym (read-as p false false (ap claimed at) (ap (moves_to d p.reply) at)))
 
-  hold-step : (todo : Todos) → p.todo ≡ Todo.hold ∷ todo → CountsAre later d
+  hold-step : (todo : Todos) → p.todo ≡ Todo.hold ∷ todo → CountsAre (later f e) d
   hold-step todo at =
       still (word-else f m e law d (ap (λ i. same_site i (Site.domain d)) (made-at f m e law (Todo.hold ∷ todo) at)))
       (edits-after Todo.hold todo at refl tt ∙ sym (ap (edits d) at))
@@ -254,17 +252,17 @@ module _ (f : Fine) (m : State) (e : FineStep) (law : Lawful f m e) (d : ℕ) (f
     reads-same none =
         λ i. (same-claim i && (next-domain f.image p e (Todo.show q rest) todo at refl i == d)) || (no-move ∙ sym (ap (moves_to d p.reply) at ∙ none)) i
 
-    beside : edits_step d q ≡ false → moves_step d p.reply q ≡ false → same_site (site_of_step f.image p q) (Site.domain d) ≡ false → CountsAre later d
+    beside : edits_step d q ≡ false → moves_step d p.reply q ≡ false → same_site (site_of_step f.image p q) (Site.domain d) ≡ false → CountsAre (later f e) d
     beside none still-there off =
         still (word-else f m e law d (ap (λ i. same_site i (Site.domain d)) (made-at f m e law (Todo.show q rest ∷ todo) at) ∙ off))
         (no-edit ∙ sym (ap (edits d) at ∙ none)) (reads-same still-there)
 
     edit-ends : (u : ℕ) (act : FineAct) → e.site ≡ Site.domain u → e.act ≡ act → ((w : DomWord) → (domain_after w act).writer ≡ false) → ((w : DomWord) → (domain_after w act).readers ≡ w.readers)
-        → ((w : DomWord) → domain_takes w act ≡ true → w.writer ≡ true) → edits_step u q ≡ true → CountsAre later d
+        → ((w : DomWord) → domain_takes w act ≡ true → w.writer ≡ true) → edits_step u q ≡ true → CountsAre (later f e) d
     edit-ends u act site said off keeps takes is =
         writer-off u act site said off keeps takes (ap (edits d) at ∙ (edits-one d u q is ∙ eqb-swap d u)) no-edit (reads-same (edits-no-move d u p.reply q is))
 
-  show-step : (q : Pending) (rest : Steps) (todo : Todos) → p.todo ≡ Todo.show q rest ∷ todo → CountsAre later d
+  show-step : (q : Pending) (rest : Steps) (todo : Todos) → p.todo ≡ Todo.show q rest ∷ todo → CountsAre (later f e) d
   show-step (Pending.DomInit u parts) rest todo at =
       edit-ends (Pending.DomInit u parts) rest todo at u _ (made-at f m e law (Todo.show (Pending.DomInit u parts) rest ∷ todo) at) (said (Todo.show (Pending.DomInit u parts) rest ∷ todo) at)
       (λ w. refl) (λ w. refl) (λ w h. (and_parts w.writer _ h).0) (eq-eqb u u refl)
@@ -288,7 +286,7 @@ module _ (f : Fine) (m : State) (e : FineStep) (law : Lawful f m e) (d : ℕ) (f
       free : claimed p.todo ≡ false
       free = ap claimed at ∙ ap (λ (z : Todos). claimed (Todo.show (Pending.DomMove u who) rest ∷ z)) list
 
-      by : (b : Bool) → fails p.reply ≡ b → CountsAre later d
+      by : (b : Bool) → fails p.reply ≡ b → CountsAre (later f e) d
       by true r =
           reader-less u _ (site ∙ ap (λ c. if c then Site.domain u else Site.thread who.0) r) (said (Todo.show (Pending.DomMove u who) rest ∷ todo) at) (λ w. refl)
           (λ w h. ltb-true 0 w.readers (and_parts (nat_lt 0 w.readers) _ h).0)
@@ -318,7 +316,7 @@ module _ (f : Fine) (m : State) (e : FineStep) (law : Lawful f m e) (d : ℕ) (f
   abbrev b : Bool
   b = is_of (key_of (record p { version = (domain_in e.word).version })) p.table
 
-  own-claim : (todo : Todos) → p.todo ≡ Todo.read_claim None ∷ todo → CountsAre later d
+  own-claim : (todo : Todos) → p.todo ≡ Todo.read_claim None ∷ todo → CountsAre (later f e) d
   own-claim todo at =
       reader-more p.domain (made-at f m e law (Todo.read_claim None ∷ todo) at) is
       (ap (λ (z : Processor). edits d z.todo) exact ∙ (ap (λ (z : Todos). edits d (unless_loaded b z)) h.2 ∙ (either-edits d b h.0 h.1 ∙ sym (ap (edits d) (at ∙ list)))))
@@ -340,7 +338,7 @@ module _ (f : Fine) (m : State) (e : FineStep) (law : Lawful f m e) (d : ℕ) (f
       list : Todo.read_claim None ∷ todo ≡ Todo.read_claim None ∷ Todo.region_load ∷ Todo.show h.0 h.1 ∷ access_over
       list = ap (λ (z : Todos). Todo.read_claim None ∷ z) h.2
 
-  own-done : (todo : Todos) → p.todo ≡ Todo.read_done None ∷ todo → CountsAre later d
+  own-done : (todo : Todos) → p.todo ≡ Todo.read_done None ∷ todo → CountsAre (later f e) d
   own-done todo at =
       reader-less p.domain (FineAct.Unseen Unseen.ReadDone) (made-at f m e law (Todo.read_done None ∷ todo) at) (said (Todo.read_done None ∷ todo) at) (λ w. refl) (λ w h. ltb-true 0 w.readers h)
       (edits-after (Todo.read_done None) todo at refl tt ∙ sym (ap (edits d) at))
@@ -353,7 +351,7 @@ module _ (f : Fine) (m : State) (e : FineStep) (law : Lawful f m e) (d : ℕ) (f
       list : Todo.read_done None ∷ todo ≡ Todo.read_done None ∷ Todo.let_go ∷ []
       list = ap (λ (z : Todos). Todo.read_done None ∷ z) h
 
-  move-claim : (u : ℕ) (todo : Todos) → p.todo ≡ Todo.read_claim (Some u) ∷ todo → CountsAre later d
+  move-claim : (u : ℕ) (todo : Todos) → p.todo ≡ Todo.read_claim (Some u) ∷ todo → CountsAre (later f e) d
   move-claim u todo at =
       reader-more u (made-at f m e law (Todo.read_claim (Some u) ∷ todo) at) is
       (ap (λ (z : Processor). edits d z.todo) exact ∙ (edits-claim (domain_in e.word).init ∙ sym (ap (edits d) at)))
@@ -383,7 +381,7 @@ module _ (f : Fine) (m : State) (e : FineStep) (law : Lawful f m e) (d : ℕ) (f
       moves-claim true = refl
       moves-claim false = ap (moves_to d (Reply.Fail Errno.EINVAL)) h.2
 
-  move-done : (u : ℕ) (todo : Todos) → p.todo ≡ Todo.read_done (Some u) ∷ todo → CountsAre later d
+  move-done : (u : ℕ) (todo : Todos) → p.todo ≡ Todo.read_done (Some u) ∷ todo → CountsAre (later f e) d
   move-done u todo at =
       reader-less u (FineAct.Unseen Unseen.ReadDone) (made-at f m e law (Todo.read_done (Some u) ∷ todo) at) (said (Todo.read_done (Some u) ∷ todo) at) (λ w. refl) (λ w k. ltb-true 0 w.readers k)
       (edits-after (Todo.read_done (Some u)) todo at refl tt ∙ sym (ap (edits d) at))
@@ -397,7 +395,7 @@ module _ (f : Fine) (m : State) (e : FineStep) (law : Lawful f m e) (d : ℕ) (f
       fine : fails p.reply ≡ false
       fine = (law.rel.processors e.cpu law.by.named).domain.moves (ap (list_any is_move_done) at)
 
-  write-claim : (u : ℕ) (todo : Todos) → p.todo ≡ Todo.write_claim u ∷ todo → CountsAre later d
+  write-claim : (u : ℕ) (todo : Todos) → p.todo ≡ Todo.write_claim u ∷ todo → CountsAre (later f e) d
   write-claim u todo at =
       writer-on u (made-at f m e law (Todo.write_claim u ∷ todo) at) (said (Todo.write_claim u ∷ todo) at) (ap (edits d) at)
       (edits-after (Todo.write_claim u) todo at refl tt ∙ (ap (edits d) h.2 ∙ eqb-swap d u))
@@ -411,7 +409,7 @@ module _ (f : Fine) (m : State) (e : FineStep) (law : Lawful f m e) (d : ℕ) (f
       list : p.todo ≡ Todo.write_claim u ∷ Todo.edit u h.0 ∷ Todo.show h.0 h.1 ∷ []
       list = at ∙ ap (λ (z : Todos). Todo.write_claim u ∷ z) h.2
 
-  edit-step : (u : ℕ) (q : Pending) (todo : Todos) → p.todo ≡ Todo.edit u q ∷ todo → CountsAre later d
+  edit-step : (u : ℕ) (q : Pending) (todo : Todos) → p.todo ≡ Todo.edit u q ∷ todo → CountsAre (later f e) d
   edit-step u q todo at =
       still (word-else f m e law d (ap (λ i. same_site i (Site.domain d)) (made-at f m e law (Todo.edit u q ∷ todo) at)))
       (edits-after (Todo.edit u q) todo at refl tt ∙ (ap (edits d) h.1 ∙ (edits-one d u q h.2 ∙ sym (ap (edits d) at))))
@@ -426,7 +424,7 @@ module _ (f : Fine) (m : State) (e : FineStep) (law : Lawful f m e) (d : ℕ) (f
       list : p.todo ≡ Todo.edit u q ∷ Todo.show q h.0 ∷ []
       list = at ∙ ap (λ (z : Todos). Todo.edit u q ∷ z) h.1
 
-  by-todo : (todo : Todos) → p.todo ≡ todo → CountsAre later d
+  by-todo : (todo : Todos) → p.todo ≡ todo → CountsAre (later f e) d
   by-todo [] at = idle-step at
   by-todo (Todo.show q rest ∷ todo) at = show-step q rest todo at
   by-todo (Todo.hold ∷ todo) at = hold-step todo at
@@ -438,5 +436,5 @@ module _ (f : Fine) (m : State) (e : FineStep) (law : Lawful f m e) (d : ℕ) (f
   by-todo (Todo.edit u q ∷ todo) at = edit-step u q todo at
   by-todo (q ∷ todo) at = plain-step q todo at refl
 
-  pub domain-counts : CountsAre later d
+  pub domain-counts : CountsAre (later f e) d
   domain-counts = by-todo p.todo refl

@@ -8,7 +8,6 @@ use Rattle.um_base.specs.declared.attr.Attr.{Attr}
 use Rattle.um_base.specs.declared.names.Errno.{Errno}
 use Rattle.um_base.specs.declared.names.Range.{Range}
 use Rattle.um_base.specs.Regions.{Partitions}
-use Rattle.um_machine.specs.declared.pending.Amount.{Amount}
 use Rattle.um_machine.specs.declared.pending.Pending.{Pending}
 use Rattle.um_machine.specs.Domains.{domain_after, reply_to}
 use Rattle.um_machine.specs.Order.{Steps}
@@ -23,10 +22,11 @@ use Rattle.um_fine.specs.Places.{Todo, Todos, fine_steps}
 use Rattle.um_fine.specs.Processor.{edit_of}
 use Rattle.um_erasure.specs.Fine.{one_if, parts, total}
 use Rattle.um_erasure.specs.Lists.{edited, edits, edits_step}
+use Rattle.um_erasure.proofs.ListGrowth.{either-look}
 use Rattle.um_erasure.proofs.ListTails.{Reads, is_passed}
 use Rattle.um_erasure.proofs.DomainReads.{or-false}
 use Rattle.um_erasure.proofs.MemorySteps.{part-total}
-use Rattle.um_erasure.proofs.Writes.{Keeping, Makes, Part, after-kept, domains, bytes-kept}
+use Rattle.um_erasure.proofs.Writes.{Keeping, Makes, Part, after-kept, domains, reads-keeping}
 
 -- The machine: which steps leave its domains.
 
@@ -39,18 +39,7 @@ module _ (m : State) where
   SameDomains s = s.domains ≡ m.domains
 
   domains-keeping : Keeping NoDomains SameDomains
-  domains-keeping =
-      record {
-        own = λ s v th e k. k;
-        word = λ may s v th k. k;
-        object = λ may s x o e q k. k;
-        status = λ may s x o e k. k;
-        birth = λ may s x o k. k;
-        pair = λ may s v x there k. k;
-        bytes = λ may s a bs k. bytes-kept (λ (z : State). z.domains) (λ z bytes. refl) (λ z bytes. refl) s a bs ∙ k;
-        pool = λ may s left k. k;
-        parts = λ may s d ps k. absurd may;
-      }
+  domains-keeping = reads-keeping NoDomains (λ s. s.domains) m.domains (λ s threads. refl) (λ s objects. refl) (λ s bytes. (refl, refl)) (λ may s u x there. refl) (λ may s left. refl) (λ may s d ps. absurd may)
 
   pub domains-same : (t x : ℕ) (q : Pending) (rest : Steps) → Makes NoDomains q → (T.after m t x q rest).domains ≡ m.domains
   domains-same t x q rest h = after-kept NoDomains SameDomains domains-keeping m t refl x q rest h
@@ -112,23 +101,7 @@ edited-edits d q (Todo.show r rest ∷ todo) h = by (edits_step d r) refl h
     by : (b : Bool) → edits_step d r ≡ b → (if b then Some r else None) ≡ Some q → edits_step d r ≡ true
     by true e k = e
     by false e k = absurd (false≢true (ap is_some k))
-edited-edits d q (Todo.hold ∷ todo) h = edited-edits d q todo h
-edited-edits d q (Todo.let_go ∷ todo) h = edited-edits d q todo h
-edited-edits d q (Todo.read_claim u ∷ todo) h = edited-edits d q todo h
-edited-edits d q (Todo.read_done u ∷ todo) h = edited-edits d q todo h
-edited-edits d q (Todo.region_load ∷ todo) h = edited-edits d q todo h
-edited-edits d q (Todo.size_look x ∷ todo) h = edited-edits d q todo h
-edited-edits d q (Todo.end_call x ∷ todo) h = edited-edits d q todo h
-edited-edits d q (Todo.wake who told ∷ todo) h = edited-edits d q todo h
-edited-edits d q (Todo.add c ∷ todo) h = edited-edits d q todo h
-edited-edits d q (Todo.pass who x ∷ todo) h = edited-edits d q todo h
-edited-edits d q (Todo.drop x ∷ todo) h = edited-edits d q todo h
-edited-edits d q (Todo.clean_pair who x ∷ todo) h = edited-edits d q todo h
-edited-edits d q (Todo.wipe x ∷ todo) h = edited-edits d q todo h
-edited-edits d q (Todo.vacate x ∷ todo) h = edited-edits d q todo h
-edited-edits d q (Todo.recycle x ∷ todo) h = edited-edits d q todo h
-edited-edits d q (Todo.park ∷ todo) h = edited-edits d q todo h
-edited-edits d q (Todo.done ∷ todo) h = edited-edits d q todo h
+edited-edits d q (r ∷ todo) h = edited-edits d q todo h
 
 -- two of the numbers of a sum
 pub two-parts : (g : ℕ → ℕ) (n a b : ℕ) → a < n → b < n → (a ≡ b → ⊥) → g a + g b ≤ total g n
@@ -162,10 +135,8 @@ edited-passed d (Todo.edit e q) todo h = absurd (false≢true h)
 edited-passed d q todo h = refl
 
 pub edited-none : (image : Image) (d : ℕ) (c : Context) (q : Pending) (rest : Steps) → edited d (fine_steps image c q rest) ≡ None
-edited-none image d c (Pending.Probe a (Amount.Bytes n)) rest = refl
-edited-none image d c (Pending.Probe a (Amount.MessageOf b)) rest = refl
-edited-none image d c (Pending.CopyIn a (Amount.Bytes n)) rest = refl
-edited-none image d c (Pending.CopyIn a (Amount.MessageOf b)) rest = refl
+edited-none image d c (Pending.Probe a amount) rest = either-look image (λ todo. edited d todo ≡ None) amount _ (λ x h. h) refl
+edited-none image d c (Pending.CopyIn a amount) rest = either-look image (λ todo. edited d todo ≡ None) amount _ (λ x h. h) refl
 edited-none image d c q rest = refl
 
 pub edited-reads : (image : Image) (d : ℕ) → Reads image (edited d) None

@@ -40,7 +40,8 @@ use Rattle.um_erasure.proofs.DomainReads.{edits-one, eqb-swap, is_told, memory-e
 use Rattle.um_erasure.proofs.Erased.{stepped}
 use Rattle.um_erasure.proofs.Leaves.{Lawful, Leaves, cleans, drops, event, nothing, passes, recycles, resumes}
 use Rattle.um_erasure.proofs.ListGrips.{read-rests}
-use Rattle.um_erasure.proofs.ListTails.{ReadsLast, exact-next, is_read_claim, tail-read, takes-read}
+use Rattle.um_erasure.proofs.ListGrowth.{ReadsLast, is_read_claim}
+use Rattle.um_erasure.proofs.ListTails.{exact-next, tail-read, takes-read}
 use Rattle.um_erasure.proofs.MemorySteps.{part-total}
 use Rattle.um_erasure.proofs.Offered.{IsStep, Shows, site-is}
 use Rattle.um_erasure.proofs.SchedulerSteps.{made-at, made-says}

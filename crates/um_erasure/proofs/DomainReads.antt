@@ -6,7 +6,6 @@ use Rattle.std.specs.List.{list_any}
 use Rattle.std.proofs.lemmas.Bool.{eqb-false, eqb-true, false≢true, true≢false}
 use Rattle.um_base.specs.declared.image.Image.{Image}
 use Rattle.um_base.specs.declared.names.Reply.{Reply}
-use Rattle.um_machine.specs.declared.pending.Amount.{Amount}
 use Rattle.um_machine.specs.declared.pending.Pending.{Pending}
 use Rattle.um_machine.specs.Order.{Steps}
 use Rattle.um_fine.specs.Answers.{domain_in, is_word_read}
@@ -20,7 +19,8 @@ use Rattle.um_fine.specs.Steps.{FineStep, Site}
 use Rattle.um_erasure.specs.Frames.{OnMemory, access_over}
 use Rattle.um_erasure.specs.Lists.{edits, edits_step, is_hold, is_own_claim, is_own_done, moves_step, moves_to}
 use Rattle.um_erasure.specs.Offers.{behind_shown}
-use Rattle.um_erasure.proofs.ListTails.{ReadsLast, Reads, is_passed, is_read_claim}
+use Rattle.um_erasure.proofs.ListGrowth.{ReadsLast, either-look, is_read_claim}
+use Rattle.um_erasure.proofs.ListTails.{Reads, is_passed}
 
 -- What is read of lists.
 
@@ -34,10 +34,8 @@ edits-passed d (Todo.edit e q) todo h = absurd (false≢true h)
 edits-passed d q todo h = refl
 
 pub edits-none : (image : Image) (d : ℕ) (c : Context) (q : Pending) (rest : Steps) → edits d (fine_steps image c q rest) ≡ false
-edits-none image d c (Pending.Probe a (Amount.Bytes n)) rest = refl
-edits-none image d c (Pending.Probe a (Amount.MessageOf b)) rest = refl
-edits-none image d c (Pending.CopyIn a (Amount.Bytes n)) rest = refl
-edits-none image d c (Pending.CopyIn a (Amount.MessageOf b)) rest = refl
+edits-none image d c (Pending.Probe a amount) rest = either-look image (λ todo. edits d todo ≡ false) amount _ (λ x h. h) refl
+edits-none image d c (Pending.CopyIn a amount) rest = either-look image (λ todo. edits d todo ≡ false) amount _ (λ x h. h) refl
 edits-none image d c q rest = refl
 
 pub edits-reads : (image : Image) (d : ℕ) → Reads image (edits d) false
@@ -49,10 +47,8 @@ claimed-passed (Todo.read_done d) todo h = absurd (false≢true h)
 claimed-passed q todo h = refl
 
 pub claimed-none : (image : Image) (c : Context) (q : Pending) (rest : Steps) → claimed (fine_steps image c q rest) ≡ false
-claimed-none image c (Pending.Probe a (Amount.Bytes n)) rest = refl
-claimed-none image c (Pending.Probe a (Amount.MessageOf b)) rest = refl
-claimed-none image c (Pending.CopyIn a (Amount.Bytes n)) rest = refl
-claimed-none image c (Pending.CopyIn a (Amount.MessageOf b)) rest = refl
+claimed-none image c (Pending.Probe a amount) rest = either-look image (λ todo. claimed todo ≡ false) amount _ (λ x h. h) refl
+claimed-none image c (Pending.CopyIn a amount) rest = either-look image (λ todo. claimed todo ≡ false) amount _ (λ x h. h) refl
 claimed-none image c q rest = refl
 
 pub claimed-reads : (image : Image) → Reads image claimed false
@@ -65,10 +61,8 @@ moves-passed d reply (Todo.read_done e) todo h = absurd (false≢true h)
 moves-passed d reply q todo h = refl
 
 pub moves-none : (image : Image) (d : ℕ) (reply : Reply) (c : Context) (q : Pending) (rest : Steps) → moves_to d reply (fine_steps image c q rest) ≡ false
-moves-none image d reply c (Pending.Probe a (Amount.Bytes n)) rest = refl
-moves-none image d reply c (Pending.Probe a (Amount.MessageOf b)) rest = refl
-moves-none image d reply c (Pending.CopyIn a (Amount.Bytes n)) rest = refl
-moves-none image d reply c (Pending.CopyIn a (Amount.MessageOf b)) rest = refl
+moves-none image d reply c (Pending.Probe a amount) rest = either-look image (λ todo. moves_to d reply todo ≡ false) amount _ (λ x h. h) refl
+moves-none image d reply c (Pending.CopyIn a amount) rest = either-look image (λ todo. moves_to d reply todo ≡ false) amount _ (λ x h. h) refl
 moves-none image d reply c q rest = refl
 
 pub moves-reads : (image : Image) (d : ℕ) (reply : Reply) → Reads image (moves_to d reply) false

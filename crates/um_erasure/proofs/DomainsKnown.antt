@@ -29,7 +29,7 @@ use Rattle.um_erasure.proofs.Reachable.{Any, makes-any, opening-wide}
 use Rattle.um_erasure.proofs.Others.{others, starts_other}
 use Rattle.um_erasure.proofs.ThreadLists.{set-else}
 use Rattle.um_erasure.proofs.WordsKept.{NoWords, says-kept}
-use Rattle.um_erasure.proofs.Writes.{Keeping, Makes, Said, after-kept, bytes-kept}
+use Rattle.um_erasure.proofs.Writes.{Keeping, Makes, Said, after-kept, reads-keeping}
 
 -- in one of so many domains, or never started and at rest
 abbrev pub Placed : ℕ → Thread → Type 0
@@ -137,18 +137,7 @@ module _ (n : ℕ) where
   Many s = length s.domains ≡ n
 
   many-keeping : Keeping Any Many
-  many-keeping =
-      record {
-        own = λ s v th e k. k;
-        word = λ may s v th k. k;
-        object = λ may s x o e q k. k;
-        status = λ may s x o e k. k;
-        birth = λ may s x o k. k;
-        pair = λ may s v x there k. k;
-        bytes = λ may s a bs k. bytes-kept (λ (z : State). length z.domains) (λ z bytes. refl) (λ z bytes. refl) s a bs ∙ k;
-        pool = λ may s left k. k;
-        parts = λ may s d ps k. length-set s.domains d ps ∙ k;
-      }
+  many-keeping = reads-keeping Any (λ s. length s.domains) n (λ s threads. refl) (λ s objects. refl) (λ s bytes. (refl, refl)) (λ may s u x there. refl) (λ may s left. refl) (λ may s d ps. length-set s.domains d ps)
 
   placed-run : (s : State) (events : List Event) (s2 : State) → Many s → ((u : ℕ) → Placed n (thread_at s u)) → Runs s events s2 → (u : ℕ) → Placed n (thread_at s2 u)
   placed-run s [] s2 many all run = subst (λ (z : State). (u : ℕ) → Placed n (thread_at z u)) (sym run) all

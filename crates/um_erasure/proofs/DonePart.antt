@@ -29,7 +29,7 @@ use Rattle.um_erasure.specs.Threads.{IsOf}
 use Rattle.um_erasure.proofs.CallSteps.{Proper}
 use Rattle.um_erasure.proofs.CallsProper.{AreProper}
 use Rattle.um_erasure.proofs.ContextsPart.{now-context}
-use Rattle.um_erasure.proofs.Erased.{stepped}
+use Rattle.um_erasure.proofs.Erased.{later}
 use Rattle.um_erasure.proofs.Leaves.{Lawful, Leaves}
 use Rattle.um_erasure.proofs.ListDone.{Done, Ends, Read, goes-done, says_done, take-ends, with-cleaned-done}
 use Rattle.um_erasure.proofs.PartsElsewhere.{takes-first}
@@ -43,21 +43,13 @@ word-doomed : (w : ThreadWord) (act : FineAct) → w.doomed ≡ true → (thread
 word-doomed w (FineAct.Shown said more) h = by said.act
   where
     by : (act : Act) → (thread_after_act w more act).doomed ≡ true
-    by Act.Exit = h
-    by (Act.Fatal reason cause) = h
     by (Act.Doom who) = refl
-    by (Act.DomMove d who reply) = h
-    by (Act.Start who) = h
-    by Act.EnterUser = h
     by act = h
 word-doomed w (FineAct.Unseen Unseen.Hold) h = h
 word-doomed w (FineAct.Unseen Unseen.LetGo) h = h
 word-doomed w (FineAct.Unseen u) h = h
 
 module _ (f : Fine) (m : State) (e : FineStep) (law : Lawful f m e) where
-  abbrev later : Fine
-  later = stepped f.image f.cpus f.processors f.sites e
-
   abbrev p : Processor
   p = f.processors e.cpu
 
@@ -67,7 +59,7 @@ module _ (f : Fine) (m : State) (e : FineStep) (law : Lawful f m e) where
   pub doomed-kept : (s : State) → Leaves f m e s → (v : ℕ) → v < THREADS → (thread_at m v).doomed ≡ true → (thread_at s v).doomed ≡ true
   doomed-kept s leaves v few h = sym (words-part f m e law v few s leaves).doomed ∙ by (same_site e.site (Site.thread v)) refl ((law.rel.threads v few).word.doomed ∙ h)
     where
-      by : (b : Bool) → same_site e.site (Site.thread v) ≡ b → (word f v).doomed ≡ true → (word later v).doomed ≡ true
+      by : (b : Bool) → same_site e.site (Site.thread v) ≡ b → (word f v).doomed ≡ true → (word (later f e) v).doomed ≡ true
       by true q k =
           ap (λ b. (thread_state (cond b (s_next f.image (f.sites (Site.thread v)) e) (f.sites (Site.thread v)))).doomed) q
           ∙ (ap (λ (z : SiteState). (thread_state (site_after f.image z e.act e.moved)).doomed) (thread-sort v (f.sites (Site.thread v)) (law.rel.sorts (Site.thread v)))
@@ -175,7 +167,7 @@ module _ (f : Fine) (m : State) (e : FineStep) (law : Lawful f m e) where
           goes q todo at (goes-done f.image p e q todo (subst (Fits f.image p.context) at (law.rel.processors e.cpu law.by.named).list.fits) (ap (λ (z : Todos). says_done (goes_on_by f.image p e z).todo) (sym at) ∙ listed))
 
   -- each processor's list
-  pub done-part : AreProper m.image m → (s : State) (leaves : Leaves f m e s) → (k : ℕ) → k < f.cpus → list_any is_done (later.processors k).todo ≡ true → IsDone s (later.processors k).context
+  pub done-part : AreProper m.image m → (s : State) (leaves : Leaves f m e s) → (k : ℕ) → k < f.cpus → list_any is_done ((later f e).processors k).todo ≡ true → IsDone s ((later f e).processors k).context
   done-part proper s leaves k l = by (e.cpu == k) refl
     where
       by : (b : Bool) → (e.cpu == k) ≡ b → list_any is_done (cond b (p_next f.image (f.processors k) e) (f.processors k)).todo ≡ true → IsDone s (cond b (p_next f.image (f.processors k) e) (f.processors k)).context

@@ -46,12 +46,13 @@ use Rattle.um_erasure.proofs.CleanersSteps.{row-here, word-here}
 use Rattle.um_erasure.proofs.ContextsPart.{apart-with, is_shown, now-context, quiet-context, read-only}
 use Rattle.um_erasure.proofs.DuesFilled.{Begun, IsFew, Passed, behind-order, behind-still, but-below, child-below, continued-few, due-held, due-passed, inherit-begun, next-begun, next-passed, offers-plain, resumes-plain, still-begun, still-passed, told-few}
 use Rattle.um_erasure.proofs.DuesKept.{IsLess, IsShort, clean-less, inherit-less, is_due, others-less, short-known}
-use Rattle.um_erasure.proofs.Erased.{IsReachable, stepped}
+use Rattle.um_erasure.proofs.Erased.{IsReachable, later}
 use Rattle.um_erasure.proofs.Leaves.{HasStep, Lawful, Leaves}
 use Rattle.um_erasure.proofs.Leaves as L
 use Rattle.um_erasure.proofs.ListDues.{Filled, behind-visited, drops-visited, filled-visited, fine-visited, goes-visited, passes-visited, skips-own, visited-bounded, with-cleaned-visited}
 use Rattle.um_erasure.proofs.ListGrips.{read-rests}
-use Rattle.um_erasure.proofs.ListRuns.{ends-rests, is_end}
+use Rattle.um_erasure.proofs.ListGrowth.{is_end}
+use Rattle.um_erasure.proofs.ListRuns.{ends-rests}
 use Rattle.um_erasure.proofs.Offered.{IsStep, Shows, behind-is, shown-offers}
 use Rattle.um_erasure.proofs.PartsElsewhere.{Apart, taken-parked, takes-first}
 use Rattle.um_erasure.proofs.SchedulerSteps.{made-at, made-says}
@@ -91,9 +92,6 @@ visits-on c h = by c.pending refl
     by (q ∷ rest) e = steps-on c q rest e
 
 module _ (f : Fine) (m : State) (e : FineStep) (law : Lawful f m e) where
-  abbrev later : Fine
-  later = stepped f.image f.cpus f.processors f.sites e
-
   abbrev p : Processor
   p = f.processors e.cpu
 
@@ -429,13 +427,13 @@ module _ (f : Fine) (m : State) (e : FineStep) (law : Lawful f m e) where
       (goes-on s same after (λ y d. d) (subst (IsRun s) stays (run on)) q todo at (ap visited at) (goes-visited f.image p e q todo refl (frame q todo at)))
 
   pub dues-part : DuesKnown m → IsLawful m.image → (s : State) (leaves : Leaves f m e s) → HasStep f m e s leaves → s.image ≡ f.image → DuesKnown s
-      → ((k : ℕ) → k < f.cpus → runs (later.processors k) ≡ true → IsRun s (later.processors k).context) → (k : ℕ) → k < f.cpus → DuesAre later s k
+      → ((k : ℕ) → k < f.cpus → runs ((later f e).processors k) ≡ true → IsRun s ((later f e).processors k).context) → (k : ℕ) → k < f.cpus → DuesAre (later f e) s k
   dues-part known lawful s leaves has same after run k l = by (e.cpu == k) refl (run k l)
     where
       kth : Bool → Processor
       kth b = cond b (p_next f.image (f.processors k) e) (f.processors k)
 
-      visits-are : (z : Processor) → (runs z ≡ true → VisitsAt s z.context (visited z.todo)) → kth (e.cpu == k) ≡ z → DuesAre later s k
+      visits-are : (z : Processor) → (runs z ≡ true → VisitsAt s z.context (visited z.todo)) → kth (e.cpu == k) ≡ z → DuesAre (later f e) s k
       visits-are z visits is =
           let at : runs (kth (e.cpu == k)) ≡ true → VisitsAt s (kth (e.cpu == k)).context (visited (kth (e.cpu == k)).todo) =
           subst (λ (w : Processor). runs w ≡ true → VisitsAt s w.context (visited w.todo)) (sym is) visits in
@@ -454,7 +452,7 @@ module _ (f : Fine) (m : State) (e : FineStep) (law : Lawful f m e) where
         λ from rest. (law.rel.processors k l).dues.drops from rest on,
       )
 
-      by : (b : Bool) → (e.cpu == k) ≡ b → (runs (kth (e.cpu == k)) ≡ true → IsRun s (kth (e.cpu == k)).context) → DuesAre later s k
+      by : (b : Bool) → (e.cpu == k) ≡ b → (runs (kth (e.cpu == k)) ≡ true → IsRun s (kth (e.cpu == k)).context) → DuesAre (later f e) s k
       by true q run-at =
           let is : kth (e.cpu == k) ≡ now = ap kth q ∙ ap (λ (z : Processor). p_next f.image z e) (sym (ap f.processors (eqb-true e.cpu k q))) in
           visits-are now (mine-visits known lawful s leaves has same after (subst (λ (z : Processor). runs z ≡ true → IsRun s z.context) is run-at)) is

@@ -48,7 +48,7 @@ use Rattle.um_erasure.proofs.CleanersPart.{cleaners-part, visit-is}
 use Rattle.um_erasure.proofs.CleanersSteps.{frame, gain, recycles-gain, row-here, word-here}
 use Rattle.um_erasure.proofs.CleaningFacts.{count-cons}
 use Rattle.um_erasure.proofs.CleanSteps.{OwnRows}
-use Rattle.um_erasure.proofs.Erased.{stepped}
+use Rattle.um_erasure.proofs.Erased.{later}
 use Rattle.um_erasure.proofs.FirstThreads.{one-most}
 use Rattle.um_erasure.proofs.HeldRows.{checked-claimed, claimed-kept}
 use Rattle.um_erasure.proofs.Leaves.{Lawful, Leaves}
@@ -56,8 +56,8 @@ use Rattle.um_erasure.proofs.Leaves as L
 use Rattle.um_erasure.proofs.ListBlocks.{goes-blocks}
 use Rattle.um_erasure.proofs.ListCounts.{goes-count, next-counts, recycles-of, takes-counts}
 use Rattle.um_erasure.proofs.ListGrips.{read-rests}
-use Rattle.um_erasure.proofs.ListTails.{ReadsLast}
-use Rattle.um_erasure.proofs.ListVisits.{cleaned-apart, cleaned-bounded, cleaned-first, goes-visits, is_clean_pair, skips-visit}
+use Rattle.um_erasure.proofs.ListGrowth.{ReadsLast, is_clean_pair}
+use Rattle.um_erasure.proofs.ListVisits.{cleaned-apart, cleaned-bounded, cleaned-first, goes-visits, skips-visit}
 use Rattle.um_erasure.proofs.MemorySteps.{part-total}
 use Rattle.um_erasure.proofs.Offered.{IsStep, Shows, own-part, shown-offers, shown-on}
 use Rattle.um_erasure.proofs.PairsKept.{pairs-same}
@@ -134,9 +134,6 @@ over-not c q steps e = ap (λ (z : Steps). c.ended && is_empty z) e ∙ no c.end
     no false = refl
 
 module _ (f : Fine) (m : State) (e : FineStep) (law : Lawful f m e) (gives : GivesHeld m) (own : OwnRows f.image) (x : ℕ) (few : x < ROWS) (who : ℕ) (thread : thread_of_row f.image x ≡ Some who) where
-  abbrev later : Fine
-  later = stepped f.image f.cpus f.processors f.sites e
-
   abbrev p : Processor
   p = f.processors e.cpu
 
@@ -261,10 +258,10 @@ module _ (f : Fine) (m : State) (e : FineStep) (law : Lawful f m e) (gives : Giv
 
   -- How far the visits are.
 
-  most-later : (s : State) → Leaves f m e s → recyclers later x ≤ 1
+  most-later : (s : State) → Leaves f m e s → recyclers (later f e) x ≤ 1
   most-later s leaves =
       let c = (cleaners-part f m e law x few s leaves).cleaner in
-      let o = one-most (Plain.is_gone (object_at s x).status && not (is_dying (row later x).stage)) in
+      let o = one-most (Plain.is_gone (object_at s x).status && not (is_dying (row (later f e) x).stage)) in
       omega (arith, c, o)
 
   was : IsEmptied f m e.cpu x
@@ -427,7 +424,7 @@ module _ (f : Fine) (m : State) (e : FineStep) (law : Lawful f m e) (gives : Giv
           ∙ (ap (λ n. slice_index_or (slice_set (slice_index_or m.pairs z []) n false) who false) same ∙ set-here (slice_index_or m.pairs z []) who)
   emptied-mine s (L.recycles z rest todo at small said chosen) some y l = plain _ (L.recycles z rest todo at small said chosen) some (Todo.recycle z) todo at tt refl y l
 
-  pub emptied-part : (s : State) → Leaves f m e s → (k : ℕ) → k < f.cpus → Cleans later k x → (y : ℕ) → y < cleaned_pairs who (later.processors k).todo → pair_at s who y ≡ false
+  pub emptied-part : (s : State) → Leaves f m e s → (k : ℕ) → k < f.cpus → Cleans (later f e) k x → (y : ℕ) → y < cleaned_pairs who ((later f e).processors k).todo → pair_at s who y ≡ false
   emptied-part s leaves k l = by (e.cpu == k) refl
     where
       kth : Bool → Processor

@@ -1,37 +1,31 @@
 -- What a thread does after its end: only the steps of that are left, none of which holds it.
-use Rattle.std.proofs.Common.{◌≡◌, ℕ, ◌+◌, Bool, true, false, List, [], ◌∷◌, Option, Some, None, refl, sym, ap, ◌∙◌, subst}
+use Rattle.std.proofs.Common.{◌≡◌, ℕ, ◌+◌, Bool, true, false, [], ◌∷◌, Some, None, refl, sym, ap, ◌∙◌, subst}
 use Rattle.std.specs.Prelude.{◌==◌, if◌then◌else◌, nat_lt}
 use Rattle.std.specs.List.{list_all}
 use Rattle.std.proofs.lemmas.Bool.{and_parts, false≢true, true≢false}
 use Rattle.um_base.specs.declared.act.Act.{Act}
 use Rattle.um_base.specs.declared.act.Answer.{Answer}
-use Rattle.um_base.specs.declared.act.Found.{Found}
-use Rattle.um_base.specs.declared.act.SetSaid.{SetSaid}
-use Rattle.um_base.specs.declared.ask.Ask.{Ask}
 use Rattle.um_base.specs.declared.ask.Told.{Told}
 use Rattle.um_base.specs.declared.image.Image.{Image}
 use Rattle.um_base.specs.declared.names.Policy.{Policy}
-use Rattle.um_base.specs.declared.instr.Instr.{Instr}
 use Rattle.um_base.specs.declared.limits.TheConstants.{THREADS}
-use Rattle.um_base.specs.declared.names.Addr.{Addr}
-use Rattle.um_base.specs.declared.names.Errno.{Errno}
-use Rattle.um_base.specs.declared.names.Reply.{Reply}
 use Rattle.um_machine.specs.declared.pending.Pending.{Pending}
 use Rattle.um_machine.specs.Order.{Steps, fatal_steps}
-use Rattle.um_machine.specs.State.{instruction_at}
 use Rattle.um_machine.specs.Table.{next_doom}
-use Rattle.um_fine.specs.Answers.{act_in, domain_in, fits_in, found_in, is_fault, is_visit, is_word_read, reserved_in, set_in, verdict_in}
+use Rattle.um_fine.specs.Answers.{act_in, is_visit, is_word_read, verdict_in}
 use Rattle.um_fine.specs.Asks.{begins_cleaning}
 use Rattle.um_fine.specs.Context.{Context, as_thread}
-use Rattle.um_fine.specs.Continues.{after_access, after_reserve, after_set, after_text, after_work, begun, continues, resumed_at, with_claim}
-use Rattle.um_fine.specs.Follows.{after_claim, after_show, dropped_at, goes_on_by, p_next}
+use Rattle.um_fine.specs.Continues.{continues, resumed_at}
+use Rattle.um_fine.specs.Follows.{after_show, dropped_at, goes_on_by, p_next}
 use Rattle.um_fine.specs.Places.{Todo, Todos}
 use Rattle.um_fine.specs.Processor.{Processor}
 use Rattle.um_fine.specs.Steps.{Exchange, FineStep}
 use Rattle.um_erasure.specs.Offers.{Fits, IsOffered, behind_shown}
 use Rattle.um_erasure.specs.Offers as O
 use Rattle.um_erasure.specs.Threads.{is_ending}
+use Rattle.um_erasure.proofs.Continued.{Held, continues-held, with_claim-held}
 use Rattle.um_erasure.proofs.ListGrips.{cleaned-context}
+use Rattle.um_erasure.proofs.ListGrowth.{claim-context}
 
 -- the steps by which a thread ends, or dooms all
 abbrev pub is_last : Pending → Bool
@@ -44,62 +38,13 @@ abbrev pub Ends : Context → Type 0
 Ends c = c.ended ≡ true → list_all is_ending c.pending ≡ true
 
 module _ (image : Image) where
-  either-ended : (b : Bool) (c d : Context) (v : Bool) → c.ended ≡ v → d.ended ≡ v → (if b then c else d).ended ≡ v
-  either-ended true c d v e h = e
-  either-ended false c d v e h = h
-
-  begun-ended : (c : Context) (instr : Option Instr) → (begun image c instr).ended ≡ c.ended
-  begun-ended c None = refl
-  begun-ended c (Some instr) = refl
-
-  checked-ended : (c : Context) (a : Addr) (v : Option Errno) → (with_claim image c a v).ended ≡ c.ended
-  checked-ended c a None = refl
-  checked-ended c a (Some e) = refl
-
-  access-ended : (c : Context) (b : Bool) (rest otherwise : Steps) → (after_access image c b rest otherwise).ended ≡ c.ended
-  access-ended c true rest otherwise = refl
-  access-ended c false rest otherwise = refl
-
-  text-ended : (c : Context) (bs : List ℕ) (rest : Steps) (found : Found) → (after_text image c bs rest found).ended ≡ c.ended
-  text-ended c bs rest (Found.Length n) = refl
-  text-ended c bs rest Found.Unreadable = refl
-  text-ended c bs rest Found.TooLong = refl
-
-  work-ended : (c : Context) (ask : Ask) (taken : List ℕ) (rest : Steps) (answer : Answer) → (after_work image c ask taken rest answer).ended ≡ c.ended
-  work-ended c ask taken rest Answer.Wait = refl
-  work-ended c ask taken rest (Answer.Now Reply.Void) = refl
-  work-ended c ask taken rest (Answer.Now (Reply.Num n)) = refl
-  work-ended c ask taken rest (Answer.Now (Reply.At a)) = refl
-  work-ended c ask taken rest (Answer.Now Reply.Null) = refl
-  work-ended c ask taken rest (Answer.Now (Reply.Fail e)) = refl
-
-  set-ended : (c : Context) (undo : Option Addr) (rest : Steps) (said : SetSaid) → (after_set image c undo rest said).ended ≡ c.ended
-  set-ended c undo rest SetSaid.Done = refl
-  set-ended c undo rest SetSaid.Gone = refl
-  set-ended c undo rest (SetSaid.Fail e) = refl
-
-  reserve-ended : (c : Context) (rest : Steps) (addr : Option Addr) → (after_reserve image c rest addr).ended ≡ c.ended
-  reserve-ended c rest None = refl
-  reserve-ended c rest (Some a) = refl
-
   -- no other step ends it
   pub continues-ended : (c : Context) (x : ℕ) (q : Pending) (rest : Steps) (act : Act) (moved : Exchange) → is_last q ≡ false → (continues image c x q rest act moved).ended ≡ c.ended
-  continues-ended c x Pending.Begin rest act moved h = begun-ended c (instruction_at image c.place)
   continues-ended c x Pending.Exit rest act moved h = absurd (true≢false h)
   continues-ended c x (Pending.Fatal reason cause) rest act moved h = absurd (true≢false h)
-  continues-ended c x (Pending.Check a kind want refusal) rest act moved h = checked-ended c a (verdict_in act)
-  continues-ended c x (Pending.Load to a n) rest act moved h = either-ended (is_fault act) _ _ c.ended refl refl
-  continues-ended c x (Pending.Store a n value) rest act moved h = either-ended (is_fault act) _ _ c.ended refl refl
-  continues-ended c x (Pending.Fetch a) rest act moved h = either-ended (is_fault act) _ _ c.ended refl refl
-  continues-ended c x (Pending.Probe a amount) rest act moved h = access-ended c (fits_in act) _ _
-  continues-ended c x (Pending.CopyIn a amount) rest act moved h = either-ended (fits_in act) _ _ c.ended refl refl
-  continues-ended c x (Pending.CopyOut a) rest act moved h = access-ended c (fits_in act) _ _
-  continues-ended c x (Pending.CopyStr a) rest act moved h = text-ended c _ _ (found_in act)
-  continues-ended c x (Pending.Work a ask) rest act moved h = work-ended c ask _ rest _
-  continues-ended c x (Pending.SetInit a strict undo) rest act moved h = set-ended c undo rest (set_in act)
-  continues-ended c x (Pending.Reserve kind) rest act moved h = reserve-ended c rest (reserved_in act)
-  continues-ended c x (Pending.Buffer size) rest act moved h = access-ended c (fits_in act) _ _
-  continues-ended c x q rest act moved h = refl
+  continues-ended c x (Pending.Check a kind want refusal) rest act moved h = (with_claim-held image c a (verdict_in act)).1
+  continues-ended c x (Pending.Answer reply to) rest act moved h = refl
+  continues-ended c x q rest act moved h = ap (λ (h : Held). h.2) (continues-held image c x q rest act moved tt)
 
   -- the end itself
   fatal-ending : (c : Context) (reason : ℕ) (policy : Policy) → list_all is_ending (fatal_steps image c.thread (as_thread c) reason policy) ≡ true
@@ -184,10 +129,6 @@ module _ (image : Image) where
   resumed-ended c told (Pending.Resume ∷ rest) = refl
   resumed-ended c told steps = refl
 
-  claim-context : (p : Processor) (d : ℕ) (init : Bool) (todo : Todos) → (after_claim p d init 0 todo).context ≡ p.context
-  claim-context p d true todo = refl
-  claim-context p d false todo = refl
-
   -- a thread that is taken hasn't ended
   abbrev pub TakesLiving : Exchange → Type 0
   TakesLiving (Exchange.thread c told) = c.ended ≡ false
@@ -205,8 +146,7 @@ module _ (image : Image) where
       by : (b : Bool) → is_word_read e.act ≡ b → Ends (if b then record p { todo = Todo.done ∷ [] } else after_show image p e q rest todo).context
       by true k h = was h
       by false k h = shown-ends p.context q rest (act_in e.act) e.moved was fits.0 h
-  goes-ends p e (Todo.read_claim None ∷ todo) fits was living = was
-  goes-ends p e (Todo.read_claim (Some d) ∷ todo) fits was living = subst Ends (sym (claim-context p d (domain_in e.word).init todo)) was
+  goes-ends p e (Todo.read_claim d ∷ todo) fits was living = subst Ends (sym (claim-context image p e d todo)) was
   goes-ends p e (Todo.drop x ∷ todo) fits was living = dropped-ends p.context x (is_visit e.act) was
   goes-ends p e (Todo.park ∷ todo) fits was living = λ h. absurd (false≢true h)
   goes-ends p e (Todo.done ∷ todo) fits was living = λ h. absurd (false≢true h)

@@ -85,3 +85,7 @@ module _ (image : Image) (cpus : ℕ) where
       (λ ps ss m e related by may. let next = keeps ps ss m e related.0 related.1 by may in (next.0, next.1, (next.2, reach-on m next.0 e.act related.1 next.1)))
       h run.processors run.sites in
       (a.0, along-runs (opening image) a.0 h a.1, a.2.0)
+
+-- what there is after a step
+abbrev pub later : Fine → FineStep → Fine
+later f e = stepped f.image f.cpus f.processors f.sites e

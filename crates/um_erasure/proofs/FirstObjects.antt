@@ -2,22 +2,20 @@
 -- addresses, and their cleaning, are as the relation says.
 use Rattle.std.proofs.Common.{◌≡◌, ◌≢◌, ◌⊎◌, inl, inr, ℕ, zero, suc, ◌+◌, ◌<◌, ◌≤◌, Bool, true, false, List, [], ◌∷◌, length, replicate, Option, Some, None, refl, sym, ap, ◌∙◌, subst, arith}
 use Rattle.std.proofs.lemmas.List.{length-map}
-use Rattle.std.specs.Prelude.{◌-◌, ◌==◌, ◌&&◌, ◌||◌, not, if◌then◌else◌, is_some, map, nat_le, nat_lt, slice_get, slice_index_or}
+use Rattle.std.specs.Prelude.{◌-◌, ◌==◌, ◌&&◌, ◌||◌, not, is_some, map, nat_le, slice_get, slice_index_or}
 use Rattle.std.proofs.lemmas.Bool.{and_parts, eqb-true, false≢true, leb-true}
 use Rattle.um_base.specs.declared.image.Boot.{Boot}
 use Rattle.um_base.specs.declared.image.Image.{Image}
 use Rattle.um_base.specs.declared.image.ObjectDef.{ObjectDef}
 use Rattle.um_base.specs.declared.image.Partition.{Partition}
-use Rattle.um_base.specs.declared.limits.TheConstants.{PARTITION_AREA, ROWS, STACK_AREA, STATIC_ROWS, THREADS}
-use Rattle.um_base.specs.declared.names.Row.{Row}
-use Rattle.um_base.specs.Places.{own_row, thread_of_row}
+use Rattle.um_base.specs.declared.limits.TheConstants.{ROWS, STATIC_ROWS, THREADS}
+use Rattle.um_base.specs.Places.{own_row}
 use Rattle.um_machine.specs.declared.object.Object.{Object}
 use Rattle.um_machine.specs.declared.object.Status.TheVariants as Status
 use Rattle.um_machine.specs.declared.thread.Thread.{Thread}
-use Rattle.um_machine.specs.Memory.{put_bytes, with_bytes}
 use Rattle.um_machine.specs.Objects as Plain
-use Rattle.um_machine.specs.Run.{blank, boot_thread, booted, booted_one, granted, index_or, loaded, objects_from, opening, opening_object}
-use Rattle.um_machine.specs.State.{State, nobody, object_at, thread_at, vacant, with_pair, with_thread}
+use Rattle.um_machine.specs.Run.{blank, loaded, objects_from, opening, opening_object}
+use Rattle.um_machine.specs.State.{State, nobody, object_at, thread_at, vacant}
 use Rattle.um_words.specs.declared.row_word.Stage.{Stage}
 use Rattle.um_words.specs.Rows.{is_dying, is_free}
 use Rattle.um_fine.specs.Context.{Context}
@@ -31,56 +29,24 @@ use Rattle.um_erasure.specs.Objects.{ContentsAre, PairsAre, StatusIs, cell_of, e
 use Rattle.um_erasure.specs.Resources.{HeapIs}
 use Rattle.um_erasure.specs.Threads.{occurs}
 use Rattle.um_erasure.proofs.First.{first, total-none}
-use Rattle.um_erasure.proofs.FirstThreads.{copies-long, granted-image, new-thread, parked-first, threads-long}
+use Rattle.um_erasure.proofs.FirstThreads.{booted-read, copies-long, loaded-read, new-thread, parked-first, threads-long}
 use Rattle.um_erasure.proofs.HeldRows.{none-flagged, one-some, some-part, total-zero}
 
 -- Boot entries and partitions leave the objects, and the image.
 
-granted-objects : (t : ℕ) (rows : List Row) (s : State) → (granted t rows s).objects ≡ s.objects
-granted-objects t [] s = refl
-granted-objects t (x ∷ rows) s = granted-objects t rows (with_pair s t x.0 true)
-
-booted-objects : (boots : List Boot) (s : State) → (booted boots s).objects ≡ s.objects
-booted-objects [] s = refl
-booted-objects (boot ∷ boots) s =
-    let t = index_or (thread_of_row s.image boot.thread.0) in
-    booted-objects boots (booted_one boot s) ∙ granted-objects t (boot.thread ∷ boot.grants) (with_thread s t (boot_thread s.image boot))
-
-booted-image : (boots : List Boot) (s : State) → (booted boots s).image ≡ s.image
-booted-image [] s = refl
-booted-image (boot ∷ boots) s =
-    let t = index_or (thread_of_row s.image boot.thread.0) in
-    booted-image boots (booted_one boot s) ∙ granted-image t (boot.thread ∷ boot.grants) (with_thread s t (boot_thread s.image boot))
-
-bytes-objects : (s : State) (a : ℕ) (bs : List ℕ) → (with_bytes s a bs).objects ≡ s.objects
-bytes-objects s a bs = by (nat_lt a STACK_AREA)
-  where
-    by : (c : Bool) → (if c then record s { memory = put_bytes s.memory (a - PARTITION_AREA) bs } else record s { stacks = put_bytes s.stacks (a - STACK_AREA) bs }).objects ≡ s.objects
-    by true = refl
-    by false = refl
-
-bytes-image : (s : State) (a : ℕ) (bs : List ℕ) → (with_bytes s a bs).image ≡ s.image
-bytes-image s a bs = by (nat_lt a STACK_AREA)
-  where
-    by : (c : Bool) → (if c then record s { memory = put_bytes s.memory (a - PARTITION_AREA) bs } else record s { stacks = put_bytes s.stacks (a - STACK_AREA) bs }).image ≡ s.image
-    by true = refl
-    by false = refl
-
-loaded-objects : (ps : List Partition) (s : State) → (loaded ps s).objects ≡ s.objects
-loaded-objects [] s = refl
-loaded-objects (p ∷ ps) s = loaded-objects ps (with_bytes s p.range.start.0 p.bytes) ∙ bytes-objects s p.range.start.0 p.bytes
-
 pub loaded-image : (ps : List Partition) (s : State) → (loaded ps s).image ≡ s.image
-loaded-image [] s = refl
-loaded-image (p ∷ ps) s = loaded-image ps (with_bytes s p.range.start.0 p.bytes) ∙ bytes-image s p.range.start.0 p.bytes
+loaded-image ps s = loaded-read (λ z. z.image) (λ z bytes. (refl, refl)) ps s
 
 pub opening-image : (image : Image) → (opening image).image ≡ image
 unfolding blank
-opening-image image = booted-image image.boots (loaded image.partitions (blank image)) ∙ loaded-image image.partitions (blank image)
+opening-image image =
+    booted-read (λ z. z.image) (λ z pairs. refl) (λ z threads. refl) image.boots (loaded image.partitions (blank image)) ∙ loaded-image image.partitions (blank image)
 
 pub opening-objects : (image : Image) → (opening image).objects ≡ objects_from image.boots 0 image.objects
 unfolding blank
-opening-objects image = booted-objects image.boots (loaded image.partitions (blank image)) ∙ loaded-objects image.partitions (blank image)
+opening-objects image =
+    booted-read (λ z. z.objects) (λ z pairs. refl) (λ z threads. refl) image.boots (loaded image.partitions (blank image))
+    ∙ loaded-read (λ z. z.objects) (λ z bytes. (refl, refl)) image.partitions (blank image)
 
 -- Each object is that of the image at its row, or none.
 

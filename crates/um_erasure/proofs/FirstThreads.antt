@@ -1,18 +1,18 @@
 -- Threads at the opening: each is none or that of a boot entry. So what they are told, their own parts, those that lie nowhere and what
 -- is due are as the relation says.
 use Rattle.std.proofs.Common.{◌≡◌, ◌≢◌, inl, ℕ, zero, suc, ◌+◌, ◌<◌, ◌≤◌, Bool, true, false, List, [], ◌∷◌, length, replicate, Option, Some, None, refl, sym, ap, ◌∙◌, subst, arith}
-use Rattle.std.specs.Prelude.{◌-◌, if◌then◌else◌, is_some, nat_lt, slice_index_or, slice_set, unwrap_or}
+use Rattle.std.specs.Prelude.{◌-◌, is_some, slice_index_or, slice_set, unwrap_or}
 use Rattle.std.proofs.lemmas.Bool.{false≢true, true≢false}
 use Rattle.um_base.specs.declared.ask.Told.{Told}
 use Rattle.um_base.specs.declared.image.Boot.{Boot}
 use Rattle.um_base.specs.declared.image.Image.{Image}
 use Rattle.um_base.specs.declared.image.Partition.{Partition}
-use Rattle.um_base.specs.declared.limits.TheConstants.{PARTITION_AREA, ROWS, STACK_AREA, THREADS}
+use Rattle.um_base.specs.declared.limits.TheConstants.{ROWS, THREADS}
 use Rattle.um_base.specs.declared.names.Row.{Row}
 use Rattle.um_base.specs.Places.{thread_of_row}
 use Rattle.um_machine.specs.declared.thread.Life.{Life}
 use Rattle.um_machine.specs.declared.thread.Thread.{Thread}
-use Rattle.um_machine.specs.Memory.{put_bytes, with_bytes}
+use Rattle.um_machine.specs.Memory.{with_bytes}
 use Rattle.um_machine.specs.Run.{blank, boot_thread, booted, booted_one, granted, index_or, loaded, opening}
 use Rattle.um_machine.specs.State.{State, is_living, is_started, no_rows, nobody, thread_at, with_pair, with_thread}
 use Rattle.um_fine.specs.Context.{Context, context_of}
@@ -23,6 +23,7 @@ use Rattle.um_erasure.specs.Lists.{adders, counted, is_wake, of_thread}
 use Rattle.um_erasure.specs.Threads.{AwayIs, ContextsAre, IsOf, SchedulerIs, ToldIs, is_ended, runs_on, told_by}
 use Rattle.um_erasure.specs.Dues.{DuesAre}
 use Rattle.um_erasure.proofs.First.{first}
+use Rattle.um_erasure.proofs.Writes.{bytes-kept}
 
 -- What each thread of a list is.
 
@@ -38,24 +39,36 @@ nobodies P zero u p = p
 nobodies P (suc n) zero p = p
 nobodies P (suc n) (suc u) p = nobodies P n u p
 
+-- What is read of a state that no permission and no memory has a part in.
+
+module _ {A : Type 0} (read : State → A) (paired : (s : State) (rows : List (List Bool)) → read (record s { pairs = rows }) ≡ read s) where
+  pub granted-read : (t : ℕ) (rows : List Row) (s : State) → read (granted t rows s) ≡ read s
+  granted-read t [] s = refl
+  granted-read t (x ∷ rows) s = granted-read t rows (with_pair s t x.0 true) ∙ paired s _
+
+  -- nor a thread
+  pub booted-read : ((s : State) (threads : List Thread) → read (record s { threads = threads }) ≡ read s) → (boots : List Boot) (s : State) → read (booted boots s) ≡ read s
+  booted-read threads [] s = refl
+  booted-read threads (boot ∷ boots) s =
+      let t = index_or (thread_of_row s.image boot.thread.0) in
+      booted-read threads boots (booted_one boot s)
+      ∙ (granted-read t (boot.thread ∷ boot.grants) (with_thread s t (boot_thread s.image boot)) ∙ threads s (slice_set s.threads t (boot_thread s.image boot)))
+
+pub loaded-read : {A : Type 0} (read : State → A) → ((s : State) (bytes : List ℕ) → (read (record s { memory = bytes }) ≡ read s) × (read (record s { stacks = bytes }) ≡ read s))
+    → (ps : List Partition) (s : State) → read (loaded ps s) ≡ read s
+loaded-read read kept [] s = refl
+loaded-read read kept (p ∷ ps) s =
+    loaded-read read kept ps (with_bytes s p.range.start.0 p.bytes)
+    ∙ bytes-kept read (λ z bytes. (kept z bytes).0) (λ z bytes. (kept z bytes).1) s p.range.start.0 p.bytes
+
 pub granted-threads : (t : ℕ) (rows : List Row) (s : State) → (granted t rows s).threads ≡ s.threads
-granted-threads t [] s = refl
-granted-threads t (x ∷ rows) s = granted-threads t rows (with_pair s t x.0 true)
+granted-threads t rows s = granted-read (λ z. z.threads) (λ z pairs. refl) t rows s
 
 pub granted-image : (t : ℕ) (rows : List Row) (s : State) → (granted t rows s).image ≡ s.image
-granted-image t [] s = refl
-granted-image t (x ∷ rows) s = granted-image t rows (with_pair s t x.0 true)
-
-bytes-threads : (s : State) (a : ℕ) (bs : List ℕ) → (with_bytes s a bs).threads ≡ s.threads
-bytes-threads s a bs = by (nat_lt a STACK_AREA)
-  where
-    by : (c : Bool) → (if c then record s { memory = put_bytes s.memory (a - PARTITION_AREA) bs } else record s { stacks = put_bytes s.stacks (a - STACK_AREA) bs }).threads ≡ s.threads
-    by true = refl
-    by false = refl
+granted-image t rows s = granted-read (λ z. z.image) (λ z pairs. refl) t rows s
 
 pub loaded-threads : (ps : List Partition) (s : State) → (loaded ps s).threads ≡ s.threads
-loaded-threads [] s = refl
-loaded-threads (p ∷ ps) s = loaded-threads ps (with_bytes s p.range.start.0 p.bytes) ∙ bytes-threads s p.range.start.0 p.bytes
+loaded-threads ps s = loaded-read (λ z. z.threads) (λ z bytes. (refl, refl)) ps s
 
 module _ (P : Thread → Type 0) (none : P nobody) (boots-are : (image : Image) (boot : Boot) → P (boot_thread image boot)) where
   booted-is : (boots : List Boot) (s : State) (u : ℕ) → P (thread_at s u) → P (thread_at (booted boots s) u)

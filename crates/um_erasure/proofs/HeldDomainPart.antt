@@ -9,7 +9,6 @@ use Rattle.um_base.specs.declared.image.Image.{Image}
 use Rattle.um_base.specs.declared.limits.TheConstants.{THREADS}
 use Rattle.um_base.specs.declared.names.Access.TheVariants as Access
 use Rattle.um_base.specs.declared.names.ThreadIx.{ThreadIx}
-use Rattle.um_machine.specs.declared.pending.Amount.{Amount}
 use Rattle.um_machine.specs.declared.pending.Pending.{Pending}
 use Rattle.um_machine.specs.declared.thread.Life.{Life}
 use Rattle.um_machine.specs.Order.{Steps}
@@ -42,8 +41,9 @@ use Rattle.um_erasure.proofs.Erased.{stepped}
 use Rattle.um_erasure.proofs.Kept.{idle-moves}
 use Rattle.um_erasure.proofs.Leaves.{Lawful, Leaves, cleans, drops, event, nothing, passes, recycles, resumes}
 use Rattle.um_erasure.proofs.ListGrips.{cleaned-context, filled-grip, grip, is_gripping, next-grips, next-thread, read-rests, takes-grip}
-use Rattle.um_erasure.proofs.ListRuns.{ends-rests, is_end}
-use Rattle.um_erasure.proofs.ListTails.{Reads, ReadsLast, exact-next, is_passed, is_read_claim, tail-read, takes-read}
+use Rattle.um_erasure.proofs.ListRuns.{ends-rests}
+use Rattle.um_erasure.proofs.ListGrowth.{ReadsLast, either-look, is_end, is_read_claim}
+use Rattle.um_erasure.proofs.ListTails.{Reads, exact-next, is_passed, tail-read, takes-read}
 use Rattle.um_erasure.proofs.MemorySteps.{part-total}
 use Rattle.um_erasure.proofs.Offered.{IsStep, Shows, shown-offers, site-is}
 use Rattle.um_erasure.proofs.RowSteps.{thread-sort}
@@ -57,10 +57,8 @@ done-passed (Todo.read_done d) todo h = absurd (false≢true h)
 done-passed q todo h = refl
 
 done-none : (image : Image) (c : Context) (q : Pending) (rest : Steps) → list_any is_move_done (fine_steps image c q rest) ≡ false
-done-none image c (Pending.Probe a (Amount.Bytes n)) rest = refl
-done-none image c (Pending.Probe a (Amount.MessageOf b)) rest = refl
-done-none image c (Pending.CopyIn a (Amount.Bytes n)) rest = refl
-done-none image c (Pending.CopyIn a (Amount.MessageOf b)) rest = refl
+done-none image c (Pending.Probe a amount) rest = either-look image (λ todo. list_any is_move_done todo ≡ false) amount _ (λ x h. h) refl
+done-none image c (Pending.CopyIn a amount) rest = either-look image (λ todo. list_any is_move_done todo ≡ false) amount _ (λ x h. h) refl
 done-none image c q rest = refl
 
 done-reads : (image : Image) → Reads image (list_any is_move_done) false

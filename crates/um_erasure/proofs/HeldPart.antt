@@ -25,11 +25,11 @@ use Rattle.um_erasure.specs.Frames.{AreFramed, Behind}
 use Rattle.um_erasure.specs.Lists.{has_held, has_steps, is_let_go, runs_thread}
 use Rattle.um_erasure.specs.Offers.{Fits}
 use Rattle.um_erasure.specs.Threads.{HeldIs}
-use Rattle.um_erasure.proofs.ListTails.{ReadsLast}
+use Rattle.um_erasure.proofs.ListGrowth.{ReadsLast, is_end}
 use Rattle.um_erasure.proofs.Erased.{stepped}
 use Rattle.um_erasure.proofs.Leaves.{Lawful}
 use Rattle.um_erasure.proofs.ListGrips.{filled-grip, grip, is_gripping, next-grips, next-thread, read-rests, takes-grip}
-use Rattle.um_erasure.proofs.ListRuns.{ends-rests, goes-runs, is_end}
+use Rattle.um_erasure.proofs.ListRuns.{ends-rests, goes-runs}
 use Rattle.um_erasure.proofs.RowSteps.{thread-sort}
 use Rattle.um_erasure.proofs.SchedulerSteps.{made-at, made-says}
 use Rattle.um_erasure.proofs.Sums.{over-changed}

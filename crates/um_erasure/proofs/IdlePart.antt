@@ -15,18 +15,16 @@ use Rattle.um_erasure.specs.Cleaning.{AreBlocks}
 use Rattle.um_erasure.specs.Fine.{Fine, scheduler}
 use Rattle.um_erasure.specs.Frames.{AreFramed}
 use Rattle.um_erasure.specs.Lists.{runs}
-use Rattle.um_erasure.proofs.Erased.{stepped}
+use Rattle.um_erasure.proofs.Erased.{later}
 use Rattle.um_erasure.proofs.Kept.{idle-moves, idle-takes}
 use Rattle.um_erasure.proofs.Leaves.{Lawful}
 use Rattle.um_erasure.proofs.ListClaims.{IsThread}
 use Rattle.um_erasure.proofs.ListGrips.{cleaned-context}
-use Rattle.um_erasure.proofs.ListRuns.{goes-runs, is_end, takes-runs}
+use Rattle.um_erasure.proofs.ListGrowth.{is_end}
+use Rattle.um_erasure.proofs.ListRuns.{goes-runs, takes-runs}
 use Rattle.um_erasure.proofs.SchedulerSteps.{made-at, made-says, sched-moved, sched-took}
 
 module _ (f : Fine) (m : State) (e : FineStep) (law : Lawful f m e) where
-  abbrev later : Fine
-  later = stepped f.image f.cpus f.processors f.sites e
-
   abbrev p : Processor
   p = f.processors e.cpu
 
@@ -64,7 +62,7 @@ module _ (f : Fine) (m : State) (e : FineStep) (law : Lawful f m e) where
       by (Todo.done ∷ todo) at = ap (λ (c : Context). c.claims) (context-is (Todo.done ∷ todo) at)
       by (q ∷ todo) at = goes-on q todo at refl
 
-  pub idle-part : (k : ℕ) → k < f.cpus → IdleIs later k
+  pub idle-part : (k : ℕ) → k < f.cpus → IdleIs (later f e) k
   idle-part k l = by (e.cpu == k) refl
     where
       kth : Bool → Processor
@@ -73,6 +71,6 @@ module _ (f : Fine) (m : State) (e : FineStep) (law : Lawful f m e) where
       Idle : Processor → Type 0
       Idle z = runs z ≡ false → z.context.claims ≡ []
 
-      by : (b : Bool) → (e.cpu == k) ≡ b → IdleIs later k
+      by : (b : Bool) → (e.cpu == k) ≡ b → IdleIs (later f e) k
       by true q = record { idle = subst Idle (sym (ap kth q ∙ ap (λ (z : Processor). p_next f.image z e) (sym (ap f.processors (eqb-true e.cpu k q))))) idle-mine }
       by false q = record { idle = subst Idle (sym (ap kth q)) (law.rel.processors k l).idle.idle }

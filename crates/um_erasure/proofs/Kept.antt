@@ -49,6 +49,23 @@ idle-takes image p s (Exchange.thread c (Some told)) h = h
 idle-takes image p s moved h = h
 
 module _ (f : Fine) (m : State) (rel : Rel f m) where
+  -- what a processor without a thread says; somebody is ready, and the first of them is what it takes
+  pub idle-step : (p : Processor) (e : FineStep) → CpuMay f.image p e → SiteMay f.image (f.sites e.site) e → p.todo ≡ []
+      → (e.act ≡ says_idle f.image p e.moved) × IsTrue (has_ready (scheduler f) (scheduler f).ready) × (first_ready (scheduler f) (scheduler f).ready ≡ e.moved)
+  idle-step p e may taken idle =
+      let site : e.site ≡ Site.scheduler = sym (ap (λ (s : FineStep). s.site) may.makes) ∙ ap (site_at f.image p) idle in
+      let act : e.act ≡ says_idle f.image p e.moved =
+      sym (ap (λ (s : FineStep). s.act) may.makes) ∙ ap (λ (z : Todos). says f.image p z e.act e.moved) idle in
+      let at = scheduler-sort (f.sites Site.scheduler) (rel.sorts Site.scheduler) in
+      let moves : sched_moves (scheduler f) (says_idle f.image p e.moved) e.moved ≡ e.moved =
+      subst (λ (s : SiteState). site_moves f.image s (says_idle f.image p e.moved) e.moved ≡ e.moved) at.1
+      (subst (λ (z : Site × FineAct). site_moves f.image (f.sites z.0) z.1 e.moved ≡ e.moved) (λ i. (site i, act i)) (ap (λ (s : FineStep). s.moved) taken.filled_in)) in
+      let takes : IsTrue (site_takes (SiteState.cell at.0 (Cell.scheduler (scheduler f))) (says_idle f.image p e.moved)) =
+      subst (λ (s : SiteState). IsTrue (site_takes s (says_idle f.image p e.moved))) at.1
+      (subst (λ (z : Site × FineAct). IsTrue (site_takes (f.sites z.0) z.1)) (λ i. (site i, act i)) taken.takes) in
+      let ready = idle-takes f.image p (scheduler f) e.moved (and_parts _ _ takes).1 in
+      (act, ready, sym (idle-moves f.image p (scheduler f) e.moved) ∙ moves)
+
   -- who is ready and isn't told anything is at rest
   first-rests : (ready : List ℕ) → (scheduler f).ready ≡ ready → IsTrue (has_ready (scheduler f) ready) → IsAtRest (first_ready (scheduler f) ready)
   first-rests [] e h = tt
@@ -79,19 +96,7 @@ module _ (f : Fine) (m : State) (rel : Rel f m) where
 
   -- a processor without a thread takes one that is at rest, or that is told something
   pub idle-rests : (p : Processor) (e : FineStep) → CpuMay f.image p e → SiteMay f.image (f.sites e.site) e → p.todo ≡ [] → IsAtRest e.moved
-  idle-rests p e may taken idle =
-      let site : e.site ≡ Site.scheduler = sym (ap (λ (s : FineStep). s.site) may.makes) ∙ ap (site_at f.image p) idle in
-      let act : e.act ≡ says_idle f.image p e.moved =
-      sym (ap (λ (s : FineStep). s.act) may.makes) ∙ ap (λ (z : Todos). says f.image p z e.act e.moved) idle in
-      let at = scheduler-sort (f.sites Site.scheduler) (rel.sorts Site.scheduler) in
-      let moves : sched_moves (scheduler f) (says_idle f.image p e.moved) e.moved ≡ e.moved =
-      subst (λ (s : SiteState). site_moves f.image s (says_idle f.image p e.moved) e.moved ≡ e.moved) at.1
-      (subst (λ (z : Site × FineAct). site_moves f.image (f.sites z.0) z.1 e.moved ≡ e.moved) (λ i. (site i, act i)) (ap (λ (s : FineStep). s.moved) taken.filled_in)) in
-      let takes : IsTrue (site_takes (SiteState.cell at.0 (Cell.scheduler (scheduler f))) (says_idle f.image p e.moved)) =
-      subst (λ (s : SiteState). IsTrue (site_takes s (says_idle f.image p e.moved))) at.1
-      (subst (λ (z : Site × FineAct). IsTrue (site_takes (f.sites z.0) z.1)) (λ i. (site i, act i)) taken.takes) in
-      let ready = idle-takes f.image p (scheduler f) e.moved (and_parts _ _ takes).1 in
-      subst IsAtRest (sym (idle-moves f.image p (scheduler f) e.moved) ∙ moves) (first-rests (scheduler f).ready refl ready)
+  idle-rests p e may taken idle = let step = idle-step p e may taken idle in subst IsAtRest step.2 (first-rests (scheduler f).ready refl step.1)
 
   -- each processor's list fits after the step
   pub lists-kept : (e : FineStep) → CpuMay f.image (f.processors e.cpu) e → SiteMay f.image (f.sites e.site) e

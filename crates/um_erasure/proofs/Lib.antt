@@ -1,7 +1,7 @@
 -- What fine steps do to both machines. Erased is the theorem, under the premise that each step keeps the relation, and FirstLawful that it
 -- holds at the opening (First and the files of that name, Opens). Of the premise: Leaves is what a lawful step makes of the machine's state,
--- and the files named Part have the parts of the relation that are kept whole, with those named List for lists; own parts (Own, Others, OwnKept, OfKept,
--- OfVisits, PartsElsewhere, StepsLeft, RestKept),
+-- and the files named Part have the parts of the relation that are kept whole, with those named List for lists, which stand on ListGrowth; own
+-- parts (Continued, Own, Others, OwnKept, OfKept, OfVisits, PartsElsewhere, StepsLeft, RestKept),
 -- claims (ListClaims, RowClaims), what is due (DuesFilled), what is kept beside (ListFits, ListBlocks, Kept, Quiet, Writes and the files named Kept and Written), and
 -- that events are steps of the machine where the relation holds (Says, Offered, HeldRows, Shown and the files of steps). What the machine's state is
 -- known to be in a run is in the files named Known, CallSteps, CallsProper, Reachable and, of message queues, QueueSteps, QueuesKept and
@@ -14,6 +14,8 @@ pub mod ThreadLists
 pub mod DuesKept
 pub mod Own
 pub mod Others
+pub mod Continued
+pub mod ListGrowth
 pub mod ListClaims
 pub mod RowClaims
 pub mod Says

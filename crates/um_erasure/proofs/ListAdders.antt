@@ -1,21 +1,19 @@
 -- The own parts of threads that steps on a processor's list add stay the same, but for the one that is added, and the one of a thread that is
 -- started.
-use Rattle.std.proofs.Common.{◌≡◌, ◌⊎◌, inl, inr, ℕ, Bool, true, false, List, [], ◌∷◌, Option, Some, None, refl, sym, ap, ◌∙◌, subst}
+use Rattle.std.proofs.Common.{◌≡◌, ◌⊎◌, inl, inr, true, List, ◌∷◌, refl, sym, subst, []}
 use Rattle.std.proofs.lemmas.Bool.{true≢false}
 use Rattle.um_base.specs.declared.image.Image.{Image}
-use Rattle.um_machine.specs.declared.pending.Amount.{Amount}
 use Rattle.um_machine.specs.declared.pending.Pending.{Pending}
 use Rattle.um_machine.specs.Order.{Steps}
-use Rattle.um_fine.specs.Answers.{domain_in}
-use Rattle.um_fine.specs.Asks.{begins_cleaning}
 use Rattle.um_fine.specs.Context.{Context}
-use Rattle.um_fine.specs.Follows.{after_claim, goes_on_by, p_next, unless_loaded}
+use Rattle.um_fine.specs.Follows.{p_next}
 use Rattle.um_fine.specs.Places.{Todo, Todos, fine_steps}
-use Rattle.um_fine.specs.Processor.{Processor, is_of, key_of}
+use Rattle.um_fine.specs.Processor.{Processor}
 use Rattle.um_fine.specs.Steps.{FineStep}
 use Rattle.um_erasure.specs.Frames.{Behind}
 use Rattle.um_erasure.specs.Lists.{Adds, adders}
-use Rattle.um_erasure.proofs.ListTails.{Reads, ReadsLast, is_passed, tail-read, takes-read, with-cleaned-read}
+use Rattle.um_erasure.proofs.ListGrowth.{ReadsLast, either-look}
+use Rattle.um_erasure.proofs.ListTails.{Reads, is_passed, takes-read, whole-read}
 
 abbrev Among : Context → List Context → Type 0
 Among c [] = ⊥
@@ -41,34 +39,17 @@ adders-passed (Todo.add d) todo h = absurd (true≢false (sym h))
 adders-passed q todo h = refl
 
 adders-none : (image : Image) (c : Context) (q : Pending) (rest : Steps) → adders (fine_steps image c q rest) ≡ []
-adders-none image c (Pending.Probe a (Amount.Bytes n)) rest = refl
-adders-none image c (Pending.Probe a (Amount.MessageOf b)) rest = refl
-adders-none image c (Pending.CopyIn a (Amount.Bytes n)) rest = refl
-adders-none image c (Pending.CopyIn a (Amount.MessageOf b)) rest = refl
+adders-none image c (Pending.Probe a amount) rest = either-look image (λ todo. adders todo ≡ []) amount _ (λ x h. h) refl
+adders-none image c (Pending.CopyIn a amount) rest = either-look image (λ todo. adders todo ≡ []) amount _ (λ x h. h) refl
 adders-none image c q rest = refl
 
 adders-reads : (image : Image) → Reads image adders []
 adders-reads image = record { empty = refl; passed = adders-passed; expanded = adders-none image; begins = refl; exits = refl }
 
 module _ (image : Image) where
-  unless-adders : (b : Bool) (todo : Todos) → adders (unless_loaded b todo) ≡ adders todo
-  unless-adders true (Todo.region_load ∷ todo) = refl
-  unless-adders b todo = refl
-
-  claim-adders : (p : Processor) (d : ℕ) (init : Bool) (todo : Todos) → adders (after_claim p d init 0 todo).todo ≡ adders todo
-  claim-adders p d true todo = refl
-  claim-adders p d false todo = refl
-
-  goes-claim : (p : Processor) (e : FineStep) (d : Option ℕ) (todo : Todos) → adders (goes_on_by image p e (Todo.read_claim d ∷ todo)).todo ≡ adders todo
-  goes-claim p e None todo = unless-adders (is_of (key_of (record p { version = (domain_in e.word).version })) p.table) todo
-  goes-claim p e (Some d) todo = claim-adders p d (domain_in e.word).init todo
-
   pub next-adders : (p : Processor) (e : FineStep) (q : Todo) (todo : Todos) → p.todo ≡ q ∷ todo → Behind image q todo → ReadsLast e q todo
       → adders (p_next image p e).todo ≡ adders todo
-  next-adders p e (Todo.read_claim d) todo at h last =
-      with-cleaned-read image adders [] (adders-reads image) (goes_on_by image p e p.todo) e (begins_cleaning e)
-      ∙ (ap (λ (z : Todos). adders (goes_on_by image p e z).todo) at ∙ goes-claim p e d todo)
-  next-adders p e q todo at h last = tail-read image adders [] (adders-reads image) p e q todo at refl h last
+  next-adders p e q todo at h last = whole-read image adders [] (adders-reads image) (λ z. refl) (λ d z. refl) p e q todo at h last
 
   pub takes-adders : (p : Processor) (e : FineStep) → p.todo ≡ [] → adders (p_next image p e).todo ≡ []
   takes-adders p e at = takes-read image adders [] (adders-reads image) p e at

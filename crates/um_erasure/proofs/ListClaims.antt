@@ -1,72 +1,66 @@
 -- What each fine step changes of the claims that its processor has still to end.
 use Rattle.std.proofs.Common.{◌≡◌, ℕ, ◌+◌, Bool, true, false, List, [], ◌∷◌, ◌++◌, Option, Some, None, refl, ap, ◌∙◌, arith}
-use Rattle.std.specs.Prelude.{◌==◌, if◌then◌else◌, nat_lt}
+use Rattle.std.specs.Prelude.{◌==◌, if◌then◌else◌}
 use Rattle.um_base.specs.declared.act.Act.{Act}
 use Rattle.um_base.specs.declared.act.Answer.{Answer}
-use Rattle.um_base.specs.declared.act.Found.{Found}
-use Rattle.um_base.specs.declared.act.SetSaid.{SetSaid}
-use Rattle.um_base.specs.declared.ask.Ask.{Ask}
 use Rattle.um_base.specs.declared.ask.Told.{Told}
 use Rattle.um_base.specs.declared.image.Image.{Image}
 use Rattle.um_base.specs.declared.instr.Instr.{Instr}
-use Rattle.um_base.specs.declared.limits.TheConstants.{ROWS}
 use Rattle.um_base.specs.declared.names.Addr.{Addr}
 use Rattle.um_base.specs.declared.names.Errno.{Errno}
-use Rattle.um_base.specs.declared.names.Reply.{Reply}
 use Rattle.um_base.specs.declared.names.ThreadIx.{ThreadIx}
 use Rattle.um_base.specs.Places.{own_row, thread_of_row}
-use Rattle.um_machine.specs.declared.pending.Amount.{Amount}
 use Rattle.um_machine.specs.declared.pending.Pending.{Pending}
 use Rattle.um_machine.specs.Order.{Steps}
 use Rattle.um_machine.specs.State.{instruction_at}
 use Rattle.um_fine.specs.Addresses.{row_named}
-use Rattle.um_fine.specs.Answers.{act_in, context_in, domain_in, fits_in, found_in, is_fault, is_visit, is_word_read, outcome_in, reserved_in, set_in, verdict_in}
+use Rattle.um_fine.specs.Answers.{act_in, context_in, domain_in, is_visit, is_word_read, outcome_in, verdict_in}
 use Rattle.um_fine.specs.Context.{Context}
 use Rattle.um_fine.specs.Steps.{Exchange, FineStep}
-use Rattle.um_fine.specs.Continues.{after_access, after_reserve, after_set, after_text, after_work, begun, continues, resumed, resumed_at, with_claim}
-use Rattle.um_fine.specs.Places.{Todo, Todos, but, clean_pairs, cleaning, cleaning_of, drops, emptying, end_of_turn, fine_steps, is_cleaning_todo, next_steps, passes, sized, turn_of, with_cleaning}
+use Rattle.um_fine.specs.Continues.{continues, resumed, resumed_at, with_claim}
+use Rattle.um_fine.specs.Places.{Todo, Todos, cleaning, cleaning_of, end_of_turn, fine_steps, is_cleaning_todo, next_steps, turn_of, with_cleaning}
 use Rattle.um_fine.specs.Processor.{Processor}
-use Rattle.um_fine.specs.Follows.{after_claim, after_show, after_take, behind_step, dropped_at, end_calls, filled_up, goes_on_by, p_next, row_number, unless_loaded, wakes, with_cleaned}
+use Rattle.um_fine.specs.Follows.{after_claim, after_show, after_take, behind_step, dropped_at, end_calls, filled_up, goes_on_by, p_next, row_number, wakes, with_cleaned}
 use Rattle.um_fine.specs.Asks.{begins_cleaning}
-use Rattle.um_erasure.specs.Lists.{counted, is_end_call}
+use Rattle.um_erasure.specs.Lists.{counted, is_end_call, names_row}
 use Rattle.um_erasure.specs.Threads.{occurs}
 use Rattle.um_erasure.specs.Claims.{call_claims}
+use Rattle.um_erasure.proofs.Continued.{Held, continues-held}
+use Rattle.um_erasure.proofs.ListGrowth.{cleaning-kept, either-look, is_shown, next-kept, visits_row, is_end, quiet-kept}
+use Rattle.std.proofs.lemmas.Bool.{false≢true, true≢false}
 
 -- an expansion ends no call
 module _ (image : Image) (x : ℕ) where
-  sized-none : (amount : Amount) (todo : Todos) → counted (is_end_call x) (sized image amount todo) ≡ counted (is_end_call x) todo
-  sized-none (Amount.Bytes n) todo = refl
-  sized-none (Amount.MessageOf a) todo = refl
+  abbrev Is : ℕ → Todos → Type 0
+  Is n todo = counted (is_end_call x) todo ≡ n
 
-  fine-none : (c : Context) (p : Pending) (rest : Steps) → counted (is_end_call x) (fine_steps image c p rest) ≡ 0
-  fine-none c (Pending.Probe a amount) rest = sized-none amount _
-  fine-none c (Pending.CopyIn a amount) rest = sized-none amount _
-  fine-none c p rest = refl
+  abbrev All : Context → Type 0
+  All c = Unit {0}
 
-  pub passes-none : (who y : ℕ) (todo : Todos) → counted (is_end_call x) (passes who y todo) ≡ counted (is_end_call x) todo
-  passes-none who y todo = elim (nat_lt y ROWS) as (λ b. counted (is_end_call x) (if b then Todo.pass who y ∷ todo else todo) ≡ counted (is_end_call x) todo) [ true ↦ refl | false ↦ refl ]
+  fine-none : (c : Context) (q : Pending) (rest : Steps) → counted (is_end_call x) (fine_steps image c q rest) ≡ 0
+  fine-none c (Pending.Probe a amount) rest = either-look image (Is 0) amount _ (λ x h. h) refl
+  fine-none c (Pending.CopyIn a amount) rest = either-look image (Is 0) amount _ (λ x h. h) refl
+  fine-none c q rest = refl
 
-  pub drops-none : (y : ℕ) (todo : Todos) → counted (is_end_call x) (drops y todo) ≡ counted (is_end_call x) todo
-  drops-none y todo = elim (nat_lt y ROWS) as (λ b. counted (is_end_call x) (if b then Todo.drop y ∷ todo else todo) ≡ counted (is_end_call x) todo) [ true ↦ refl | false ↦ refl ]
+  put : (n : ℕ) (q : Todo) (todo : Todos) → visits_row q ≡ true → names_row q ≡ true → Is n todo → Is n (q ∷ todo)
+  put n (Todo.end_call y) todo visit few h = absurd (false≢true visit)
+  put n q todo visit few h = h
 
-  turn-none : (b : Bool) → counted (is_end_call x) (end_of_turn image b) ≡ 0
-  turn-none true = refl
-  turn-none false = refl
-
-  next-none : (c : Context) (steps : Steps) → counted (is_end_call x) (next_steps image c steps) ≡ 0
-  next-none c [] = turn-none c.ended
-  next-none c (Pending.Resume ∷ rest) = refl
-  next-none c (Pending.Inherit who ∷ p ∷ rest) = passes-none who.0 (but (own_row image c.thread) 0) (fine_steps image c p rest) ∙ fine-none c p rest
-  next-none c (Pending.Drops from ∷ p ∷ rest) = drops-none from (fine_steps image c p rest) ∙ fine-none c p rest
-  next-none c (Pending.Inherit who ∷ []) = refl
-  next-none c (Pending.Drops from ∷ []) = refl
-  next-none c (Pending.Probe a amount ∷ rest) = sized-none amount _
-  next-none c (Pending.CopyIn a amount ∷ rest) = sized-none amount _
-  next-none c (p ∷ rest) = refl
+  expands : (n : ℕ) (c : Context) → All c → Is n [] → Is n (next_steps image c c.pending)
+  expands n c of h = next-kept image (Is 0) (put 0) fine-none (λ b. elim b as (λ b. Is 0 (end_of_turn image b)) [ true ↦ refl | false ↦ refl ]) c c.pending ∙ h
 
   pub filled-same : (c : Context) (todo : Todos) → counted (is_end_call x) (filled_up image c todo) ≡ counted (is_end_call x) todo
-  filled-same c [] = next-none c c.pending
+  filled-same c [] = expands 0 c tt refl
   filled-same c (q ∷ todo) = refl
+
+  -- a step within a turn that is no event ends none of those behind it
+  pub goes-same : (p : Processor) (e : FineStep) (q : Todo) (todo : Todos) → is_shown q ≡ false → is_end q ≡ false
+      → counted (is_end_call x) (goes_on_by image p e (q ∷ todo)).todo ≡ counted (is_end_call x) todo
+  goes-same p e Todo.park todo quiet on = absurd (true≢false on)
+  goes-same p e Todo.done todo quiet on = absurd (true≢false on)
+  goes-same p e (Todo.show q rest) todo quiet on = absurd (true≢false quiet)
+  goes-same p e q todo quiet on =
+      let n = counted (is_end_call x) todo in quiet-kept image (Is n) All (expands n) p (put n) (λ who y z few k. k) (λ z k. k) (λ d z k. k) e q todo refl tt tt refl
 
   pub wakes-same : (ws : List (ThreadIx × Told)) (todo : Todos) → counted (is_end_call x) (wakes ws todo) ≡ counted (is_end_call x) todo
   wakes-same [] todo = refl
@@ -84,14 +78,6 @@ module _ (image : Image) (x : ℕ) where
       let h = claims-more zs y in
       elim (x == z) as (λ b. (if b then occurs x (zs ++ y ∷ []) + 1 else occurs x (zs ++ y ∷ [])) ≡ (if b then occurs x zs + 1 else occurs x zs) + occurs x (y ∷ [])) [ true ↦ omega arith | false ↦ h ]
 
-  -- the cleaning of an object ends no call
-  emptying-none : (y : ℕ) (todo : Todos) → counted (is_end_call x) (emptying y ++ todo) ≡ counted (is_end_call x) todo
-  emptying-none y todo = refl
-
-  cleaning-none : (y : ℕ) (who : Option ℕ) (todo : Todos) → counted (is_end_call x) (cleaning_of y who ++ todo) ≡ counted (is_end_call x) todo
-  cleaning-none y None todo = refl
-  cleaning-none y (Some who) todo = refl
-
 -- what an event takes: a claim of a check that is passed, and at the end that of the thread's life
 abbrev pub come : Image → ℕ → Context → Pending → Act → ℕ
 come image x c (Pending.Check a kind want refusal) act =
@@ -108,42 +94,7 @@ IsThread _ = ⊥
 same-form : (a a' b b' : ℕ) → a' ≡ a → b' ≡ b → a' + b' ≡ a + b + 0
 same-form a a' b b' e h = omega arith
 
-if-claims : (b : Bool) (c d : Context) (xs : List ℕ) → c.claims ≡ xs → d.claims ≡ xs → (if b then c else d).claims ≡ xs
-if-claims true c d xs e h = e
-if-claims false c d xs e h = h
-
 module _ (image : Image) (x : ℕ) where
-  -- an event that is no check and ends no call leaves the claims of its thread
-  begun-claims : (c : Context) (instr : Option Instr) → (begun image c instr).claims ≡ c.claims
-  begun-claims c None = refl
-  begun-claims c (Some instr) = refl
-
-  access-claims : (c : Context) (b : Bool) (rest otherwise : Steps) → (after_access image c b rest otherwise).claims ≡ c.claims
-  access-claims c true rest otherwise = refl
-  access-claims c false rest otherwise = refl
-
-  text-claims : (c : Context) (bs : List ℕ) (rest : Steps) (found : Found) → (after_text image c bs rest found).claims ≡ c.claims
-  text-claims c bs rest (Found.Length n) = refl
-  text-claims c bs rest Found.Unreadable = refl
-  text-claims c bs rest Found.TooLong = refl
-
-  work-claims : (c : Context) (ask : Ask) (taken : List ℕ) (rest : Steps) (answer : Answer) → (after_work image c ask taken rest answer).claims ≡ c.claims
-  work-claims c ask taken rest Answer.Wait = refl
-  work-claims c ask taken rest (Answer.Now Reply.Void) = refl
-  work-claims c ask taken rest (Answer.Now (Reply.Num n)) = refl
-  work-claims c ask taken rest (Answer.Now (Reply.At a)) = refl
-  work-claims c ask taken rest (Answer.Now Reply.Null) = refl
-  work-claims c ask taken rest (Answer.Now (Reply.Fail e)) = refl
-
-  set-claims : (c : Context) (undo : Option Addr) (rest : Steps) (said : SetSaid) → (after_set image c undo rest said).claims ≡ c.claims
-  set-claims c undo rest SetSaid.Done = refl
-  set-claims c undo rest SetSaid.Gone = refl
-  set-claims c undo rest (SetSaid.Fail e) = refl
-
-  reserve-claims : (c : Context) (rest : Steps) (addr : Option Addr) → (after_reserve image c rest addr).claims ≡ c.claims
-  reserve-claims c rest None = refl
-  reserve-claims c rest (Some a) = refl
-
   check-claims : (c : Context) (a : Addr) (v : Option Errno) (todo : Todos)
       → occurs x (with_claim image c a v).claims + counted (is_end_call x) todo
       ≡ occurs x c.claims + counted (is_end_call x) todo + elim v as (λ _. ℕ) [ None ↦ occurs x (row_named image a ∷ []) | Some e ↦ 0 ]
@@ -163,38 +114,27 @@ module _ (image : Image) (x : ℕ) where
   pub shown-claims : (c : Context) (q : Pending) (rest : Steps) (act : Act) (moved : Exchange) (todo : Todos)
       → occurs x (continues image c 0 q rest act moved).claims + counted (is_end_call x) (behind_step image c q moved todo)
       ≡ occurs x c.claims + counted (is_end_call x) todo + come image x c q act
-  shown-claims c Pending.Begin rest act moved todo = same-form _ _ _ _ (ap (occurs x) (begun-claims c (instruction_at image c.place))) refl
   shown-claims c Pending.Exit rest act moved todo = ended-claims c.claims todo
   shown-claims c (Pending.Check a kind want refusal) rest act moved todo = check-claims c a (verdict_in act) todo
-  shown-claims c (Pending.Load to a n) rest act moved todo = same-form _ _ _ _ (ap (occurs x) (if-claims (is_fault act) _ _ c.claims refl refl)) refl
-  shown-claims c (Pending.Store a n value) rest act moved todo = same-form _ _ _ _ (ap (occurs x) (if-claims (is_fault act) _ _ c.claims refl refl)) refl
-  shown-claims c (Pending.Fetch a) rest act moved todo = same-form _ _ _ _ (ap (occurs x) (if-claims (is_fault act) _ _ c.claims refl refl)) refl
-  shown-claims c (Pending.Probe a amount) rest act moved todo = same-form _ _ _ _ (ap (occurs x) (access-claims c (fits_in act) _ _)) refl
-  shown-claims c (Pending.CopyIn a amount) rest act moved todo = same-form _ _ _ _ (ap (occurs x) (if-claims (fits_in act) _ _ c.claims refl refl)) refl
-  shown-claims c (Pending.CopyOut a) rest act moved todo = same-form _ _ _ _ (ap (occurs x) (access-claims c (fits_in act) _ _)) refl
-  shown-claims c (Pending.CopyStr a) rest act moved todo = same-form _ _ _ _ (ap (occurs x) (text-claims c _ _ (found_in act))) refl
-  shown-claims c (Pending.Work a ask) rest act moved todo = same-form _ _ _ _ (ap (occurs x) (work-claims c ask _ rest _)) (wakes-same image x (outcome_in moved).woken todo)
+  shown-claims c (Pending.Work a ask) rest act moved todo =
+      same-form _ _ _ _ (ap (λ (h : Held). occurs x h.1) (continues-held image c 0 (Pending.Work a ask) rest act moved tt)) (wakes-same image x (outcome_in moved).woken todo)
   shown-claims c (Pending.Answer reply to) rest act moved todo = ended-claims c.claims todo
-  shown-claims c (Pending.SetInit a strict undo) rest act moved todo = same-form _ _ _ _ (ap (occurs x) (set-claims c undo rest (set_in act))) refl
   shown-claims c (Pending.ClearInit a) rest act moved todo =
       life-claim (row_named image a == own_row image c.thread) (own_row image c.thread) (occurs x c.claims) todo
-  shown-claims c (Pending.Reserve kind) rest act moved todo = same-form _ _ _ _ (ap (occurs x) (reserve-claims c rest (reserved_in act))) refl
-  shown-claims c (Pending.Buffer size) rest act moved todo = same-form _ _ _ _ (ap (occurs x) (access-claims c (fits_in act) _ _)) refl
   shown-claims c (Pending.Fatal reason cause) rest act moved todo = ended-claims c.claims todo
-  shown-claims c q rest act moved todo = same-form _ _ _ _ refl refl
+  -- any other leaves the claims of its thread
+  shown-claims c q rest act moved todo = same-form _ _ _ _ (ap (λ (h : Held). occurs x h.1) (continues-held image c 0 q rest act moved tt)) refl
 
   pub cleaned-same : (y : ℕ) (todo : Todos) → counted (is_end_call x) (with_cleaning (cleaning image y) todo) ≡ counted (is_end_call x) todo
-  cleaned-same y [] = cleaning-none-here (thread_of_row image y)
+  cleaned-same y todo = cleaning-kept image (λ old new. counted (is_end_call x) new ≡ counted (is_end_call x) old) y first later todo
     where
-      cleaning-none-here : (who : Option ℕ) → counted (is_end_call x) (cleaning_of y who) ≡ 0
-      cleaning-none-here None = refl
-      cleaning-none-here (Some who) = refl
-  cleaned-same y (q ∷ todo) =
-      let h = cleaned-same y todo in
-      elim (is_cleaning_todo q) as (λ b. counted (is_end_call x) (if b then q ∷ with_cleaning (cleaning image y) todo else cleaning image y ++ q ∷ todo) ≡ counted (is_end_call x) (q ∷ todo)) [
-        | true ↦ ap (λ (n : ℕ). if is_end_call x q then n + 1 else n) h
-        | false ↦ cleaning-none image x y (thread_of_row image y) (q ∷ todo)
-      ]
+      first : (o : Option ℕ) (todo : Todos) → thread_of_row image y ≡ o → counted (is_end_call x) (cleaning_of y o ++ todo) ≡ counted (is_end_call x) todo
+      first None todo at = refl
+      first (Some who) todo at = refl
+
+      later : (q : Todo) (old new : Todos) → is_cleaning_todo q ≡ true → counted (is_end_call x) new ≡ counted (is_end_call x) old
+          → counted (is_end_call x) (q ∷ new) ≡ counted (is_end_call x) (q ∷ old)
+      later q old new c h = ap (λ n. if is_end_call x q then n + 1 else n) h
 
   -- what a step takes of claims, and what it gives back
   abbrev pub come_to : Processor → FineStep → Todos → ℕ
@@ -208,10 +148,6 @@ module _ (image : Image) (x : ℕ) where
   gone p e (Todo.done ∷ todo) = occurs x p.context.claims + counted (is_end_call x) todo
   gone p e (Todo.show q rest ∷ todo) = if is_word_read e.act then counted (is_end_call x) todo else 0
   gone p e _ = 0
-
-  pub unless-same : (b : Bool) (todo : Todos) → counted (is_end_call x) (unless_loaded b todo) ≡ counted (is_end_call x) todo
-  unless-same true (Todo.region_load ∷ todo) = refl
-  unless-same b todo = refl
 
   claim-same : (p : Processor) (d : ℕ) (init : Bool) (todo : Todos) → call_claims x (after_claim p d init 0 todo) ≡ occurs x p.context.claims + counted (is_end_call x) todo
   claim-same p d true todo = refl
@@ -254,30 +190,16 @@ module _ (image : Image) (x : ℕ) where
       → call_claims x (goes_on_by image p e todo) + gone p e todo ≡ occurs x p.context.claims + counted (is_end_call x) todo + come_to p e todo
   goes-claims p e [] idle = taken-form p e.moved (idle refl).0 (idle refl).1
   goes-claims p e (Todo.show q rest ∷ todo) idle = show-form p e q rest todo (is_word_read e.act)
-  goes-claims p e (Todo.let_go ∷ todo) idle = short-form _ _ _ (filled-same image x p.context todo)
-  goes-claims p e (Todo.read_claim None ∷ todo) idle = short-form _ _ _ (unless-same _ todo)
   goes-claims p e (Todo.read_claim (Some d) ∷ todo) idle = let h = claim-same p d (domain_in e.word).init todo in omega arith
-  goes-claims p e (Todo.read_done d ∷ todo) idle = short-form _ _ _ (filled-same image x p.context todo)
   goes-claims p e (Todo.end_call y ∷ todo) idle =
       let h = filled-same image x p.context todo in
       elim (x == y) as (λ b. occurs x p.context.claims + counted (is_end_call x) (filled_up image p.context todo) + (if b then 1 else 0) ≡ occurs x p.context.claims + (if b then counted (is_end_call x) todo + 1 else counted (is_end_call x) todo) + 0) [ true ↦ omega arith | false ↦ omega arith ]
-  goes-claims p e (Todo.wake who told ∷ todo) idle = short-form _ _ _ (filled-same image x p.context todo)
-  goes-claims p e (Todo.add c ∷ todo) idle = short-form _ _ _ (filled-same image x p.context todo)
-  goes-claims p e (Todo.pass who y ∷ todo) idle =
-      let next = but (own_row image p.context.thread) (y + 1) in
-      short-form _ _ _ (filled-same image x p.context (passes who next todo) ∙ passes-none image x who next todo)
   goes-claims p e (Todo.drop y ∷ todo) idle =
-      let c = dropped_at image p.context y (is_visit e.act) in
       let h = ap (occurs x) (dropped-same p.context y (is_visit e.act)) in
-      let k = filled-same image x c (drops (y + 1) todo) ∙ drops-none image x (y + 1) todo in omega arith
-  goes-claims p e (Todo.clean_pair who y ∷ todo) idle = short-form _ _ _ (clean-same who (y + 1) todo)
-    where
-      clean-same : (who y : ℕ) (todo : Todos) → counted (is_end_call x) (clean_pairs who y todo) ≡ counted (is_end_call x) todo
-      clean-same who y todo = elim (nat_lt y ROWS) as (λ b. counted (is_end_call x) (if b then Todo.clean_pair who y ∷ todo else todo) ≡ counted (is_end_call x) todo) [ true ↦ refl | false ↦ refl ]
-  goes-claims p e (Todo.recycle y ∷ todo) idle = short-form _ _ _ (filled-same image x p.context todo)
+      let k = goes-same image x p e (Todo.drop y) todo refl refl in omega arith
   goes-claims p e (Todo.park ∷ todo) idle = omega arith
   goes-claims p e (Todo.done ∷ todo) idle = omega arith
-  goes-claims p e (q ∷ todo) idle = short-form _ _ _ refl
+  goes-claims p e (q ∷ todo) idle = short-form _ _ _ (goes-same image x p e q todo refl refl)
 
   with-cleaned : (p : Processor) (e : FineStep) (b : Bool) → call_claims x (with_cleaned image p e b) ≡ call_claims x p
   with-cleaned p e false = refl

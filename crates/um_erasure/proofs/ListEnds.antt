@@ -1,26 +1,25 @@
 -- On a processor's list stand the ends of two claims of a row at most, where its thread's call holds no more objects.
-use Rattle.std.proofs.Common.{◌≡◌, ℕ, suc, ◌+◌, ◌≤◌, Bool, true, false, List, [], ◌∷◌, length, Option, Some, None, refl, ap, ◌∙◌, arith}
-use Rattle.std.specs.Prelude.{◌==◌, if◌then◌else◌, nat_lt}
+use Rattle.std.proofs.Common.{◌≡◌, ℕ, suc, ◌+◌, ◌≤◌, Bool, true, false, List, [], ◌∷◌, length, Some, None, refl, ap, ◌∙◌, arith}
+use Rattle.std.specs.Prelude.{◌==◌, if◌then◌else◌}
 use Rattle.um_base.specs.declared.image.Image.{Image}
-use Rattle.um_base.specs.declared.instr.Instr.{Instr}
-use Rattle.um_base.specs.declared.limits.TheConstants.{ROWS}
 use Rattle.um_base.specs.Places.{own_row}
 use Rattle.um_machine.specs.declared.pending.Pending.{Pending}
 use Rattle.um_machine.specs.Order.{Steps}
 use Rattle.um_machine.specs.State.{instruction_at}
 use Rattle.um_fine.specs.Addresses.{row_named}
-use Rattle.um_fine.specs.Answers.{act_in, domain_in, is_visit, is_word_read, outcome_in}
+use Rattle.um_fine.specs.Answers.{act_in, is_word_read, outcome_in}
 use Rattle.um_fine.specs.Asks.{begins_cleaning}
 use Rattle.um_fine.specs.Context.{Context}
 use Rattle.um_fine.specs.Continues.{continues, resumed}
-use Rattle.um_fine.specs.Follows.{after_claim, after_show, after_take, behind_step, dropped_at, filled_up, goes_on_by, p_next, row_number, with_cleaned}
-use Rattle.um_fine.specs.Places.{Todo, Todos, but, clean_pairs, drops, passes, turn_of}
-use Rattle.um_fine.specs.Processor.{Processor, is_of, key_of}
+use Rattle.um_fine.specs.Follows.{after_show, after_take, behind_step, filled_up, goes_on_by, p_next, row_number, with_cleaned}
+use Rattle.um_fine.specs.Places.{Todo, Todos}
+use Rattle.um_fine.specs.Processor.{Processor}
 use Rattle.um_fine.specs.Steps.{Exchange, FineStep}
 use Rattle.um_erasure.specs.Lists.{counted, is_end_call}
 use Rattle.um_erasure.specs.Offers.{behind_shown}
 use Rattle.um_erasure.specs.Threads.{occurs}
-use Rattle.um_erasure.proofs.ListClaims.{cleaned-same, drops-none, end_calls-count, filled-same, passes-none, unless-same, wakes-same}
+use Rattle.um_erasure.proofs.ListClaims.{cleaned-same, end_calls-count, filled-same, wakes-same, goes-same}
+use Rattle.um_erasure.proofs.ListGrowth.{turn-kept}
 
 pub occurs-few : (x : ℕ) (xs : List ℕ) → occurs x xs ≤ length xs
 occurs-few x [] = omega arith
@@ -68,17 +67,9 @@ module _ (image : Image) (x : ℕ) where
   behind-ends c q moved todo few none = omega (arith, none)
 
   take-ends : (p : Processor) (moved : Exchange) → Ends p.todo ≤ 2 → Ends (after_take image p moved).todo ≤ 2
-  take-ends p (Exchange.thread c None) h = by (instruction_at image c.place)
-    where
-      by : (instr : Option Instr) → Ends (turn_of image instr) ≤ 2
-      by None = omega arith
-      by (Some instr) = omega arith
+  take-ends p (Exchange.thread c None) h = turn-kept image (λ todo. Ends todo ≤ 2) (omega arith) (omega arith) (instruction_at image c.place)
   take-ends p (Exchange.thread c (Some told)) h = let same = filled-same image x (resumed image c told) [] in omega (arith, same)
   take-ends p moved h = h
-
-  claim-ends : (p : Processor) (d : ℕ) (init : Bool) (todo : Todos) → Ends (after_claim p d init 0 todo).todo ≡ Ends todo
-  claim-ends p d true todo = refl
-  claim-ends p d false todo = refl
 
   show-ends : (p : Processor) (e : FineStep) (q : Pending) (rest : Steps) (todo : Todos) (b : Bool) → length p.context.claims ≤ 2 → todo ≡ behind_shown image p.context q
       → Ends (if b then record p { todo = Todo.done ∷ [] } else after_show image p e q rest todo).todo ≤ 2
@@ -86,9 +77,6 @@ module _ (image : Image) (x : ℕ) where
   show-ends p e q rest todo false few behind =
       let c = continues image p.context 0 q rest (act_in e.act) e.moved in
       behind-ends p.context q e.moved (filled_up image c todo) few (filled-same image x c todo ∙ (ap Ends behind ∙ shown-none p.context q))
-
-  clean-ends : (who y : ℕ) (todo : Todos) → Ends (clean_pairs who y todo) ≡ Ends todo
-  clean-ends who y todo = elim (nat_lt y ROWS) as (λ b. Ends (if b then Todo.clean_pair who y ∷ todo else todo) ≡ Ends todo) [ true ↦ refl | false ↦ refl ]
 
   -- what is known of a list whose first step is shown
   abbrev pub IsShown : Context → Todos → Type 0
@@ -98,32 +86,14 @@ module _ (image : Image) (x : ℕ) where
   goes-ends : (p : Processor) (e : FineStep) (todo : Todos) → Ends p.todo ≤ 2 → IsShown p.context todo → Ends todo ≤ 2 → Ends (goes_on_by image p e todo).todo ≤ 2
   goes-ends p e [] was s h = take-ends p e.moved was
   goes-ends p e (Todo.show q rest ∷ todo) was s h = show-ends p e q rest todo (is_word_read e.act) s.0 s.1
-  goes-ends p e (Todo.let_go ∷ todo) was s h = let same = filled-same image x p.context todo in omega (arith, same, h)
-  goes-ends p e (Todo.read_claim None ∷ todo) was s h =
-      let same = unless-same image x (is_of (key_of (record p { version = (domain_in e.word).version })) p.table) todo in omega (arith, same, h)
-  goes-ends p e (Todo.read_claim (Some d) ∷ todo) was s h = let same = claim-ends p d (domain_in e.word).init todo in omega (arith, same, h)
-  goes-ends p e (Todo.read_done d ∷ todo) was s h = let same = filled-same image x p.context todo in omega (arith, same, h)
-  goes-ends p e (Todo.end_call y ∷ todo) was s h = by (x == y) h (filled-same image x p.context todo)
+  goes-ends p e (Todo.end_call y ∷ todo) was s h = by (x == y) h (goes-same image x p e (Todo.end_call y) todo refl refl)
     where
       by : (b : Bool) → (if b then Ends todo + 1 else Ends todo) ≤ 2 → Ends (filled_up image p.context todo) ≡ Ends todo → Ends (filled_up image p.context todo) ≤ 2
       by true k same = omega (arith, k, same)
       by false k same = omega (arith, k, same)
-  goes-ends p e (Todo.wake who told ∷ todo) was s h = let same = filled-same image x p.context todo in omega (arith, same, h)
-  goes-ends p e (Todo.add c ∷ todo) was s h = let same = filled-same image x p.context todo in omega (arith, same, h)
-  goes-ends p e (Todo.pass who y ∷ todo) was s h =
-      let next = but (own_row image p.context.thread) (y + 1) in
-      let same = filled-same image x p.context (passes who next todo) in
-      let all = passes-none image x who next todo in
-      omega (arith, same, all, h)
-  goes-ends p e (Todo.drop y ∷ todo) was s h =
-      let same = filled-same image x (dropped_at image p.context y (is_visit e.act)) (drops (y + 1) todo) in
-      let all = drops-none image x (y + 1) todo in
-      omega (arith, same, all, h)
-  goes-ends p e (Todo.clean_pair who y ∷ todo) was s h = let same = clean-ends who (y + 1) todo in omega (arith, same, h)
-  goes-ends p e (Todo.recycle y ∷ todo) was s h = let same = filled-same image x p.context todo in omega (arith, same, h)
   goes-ends p e (Todo.park ∷ todo) was s h = omega arith
   goes-ends p e (Todo.done ∷ todo) was s h = omega arith
-  goes-ends p e (q ∷ todo) was s h = h
+  goes-ends p e (q ∷ todo) was s h = let same = goes-same image x p e q todo refl refl in omega (arith, same, h)
 
   cleaned-ends : (p : Processor) (e : FineStep) (b : Bool) → Ends p.todo ≤ 2 → Ends (with_cleaned image p e b).todo ≤ 2
   cleaned-ends p e false h = h

@@ -1,29 +1,26 @@
 -- Each step leaves a list that fits: what is on it of the thread's own steps is what the thread is offered.
-use Rattle.std.proofs.Common.{◌≢◌, arith, ◌≡◌, inl, inr, ℕ, ◌+◌, Bool, true, false, List, [], ◌∷◌, ◌++◌, Option, Some, None, refl, sym, ap, ◌∙◌, subst}
+use Rattle.std.proofs.Common.{◌≢◌, arith, ◌≡◌, inl, inr, ℕ, ◌+◌, Bool, true, false, [], ◌∷◌, ◌++◌, Option, Some, None, refl, sym, ap, ◌∙◌, subst}
 use Rattle.std.specs.Prelude.{◌==◌, if◌then◌else◌, nat_lt, is_some}
-use Rattle.std.proofs.lemmas.Bool.{eqb-false, eqb-true}
-use Rattle.um_base.specs.declared.ask.Told.{Told}
+use Rattle.std.proofs.lemmas.Bool.{eqb-false, eqb-true, false≢true}
 use Rattle.um_base.specs.declared.image.Image.{Image}
 use Rattle.um_base.specs.declared.instr.Instr.{Instr}
 use Rattle.um_base.specs.declared.limits.TheConstants.{ROWS}
-use Rattle.um_base.specs.declared.names.ThreadIx.{ThreadIx}
 use Rattle.um_base.specs.Places.{own_row, thread_of_row}
-use Rattle.um_machine.specs.declared.pending.Amount.{Amount}
 use Rattle.um_machine.specs.declared.pending.Pending.{Pending}
 use Rattle.um_machine.specs.Order.{Steps}
 use Rattle.um_machine.specs.State.{instruction_at}
-use Rattle.um_fine.specs.Addresses.{row_named}
-use Rattle.um_fine.specs.Answers.{act_in, domain_in, is_visit, is_word_read, outcome_in}
+use Rattle.um_fine.specs.Answers.{act_in, is_visit, is_word_read}
 use Rattle.um_fine.specs.Context.{Context}
 use Rattle.um_fine.specs.Steps.{Exchange, FineStep}
 use Rattle.um_fine.specs.Continues.{continues, resumed}
 use Rattle.um_fine.specs.Scheduler.{waits}
-use Rattle.um_fine.specs.Places.{Todo, Todos, but, clean_pairs, cleaning, cleaning_of, drops, end_of_turn, fine_steps, next_steps, passes, sized, turn, turn_of, with_cleaning}
-use Rattle.um_fine.specs.Processor.{Processor, is_of, key_of}
-use Rattle.um_fine.specs.Follows.{after_claim, after_show, after_take, behind_step, dropped_at, end_calls, filled_up, goes_on_by, p_next, refilled_by, row_number, unless_loaded, wakes, with_cleaned}
+use Rattle.um_fine.specs.Places.{Todo, Todos, but, cleaning_of, drops, end_of_turn, fine_steps, next_steps, passes, turn, turn_of, is_cleaning_todo}
+use Rattle.um_fine.specs.Processor.{Processor}
+use Rattle.um_fine.specs.Follows.{after_show, after_take, dropped_at, filled_up, goes_on_by, p_next, refilled_by, row_number, with_cleaned}
 use Rattle.um_fine.specs.Asks.{begins_cleaning}
 use Rattle.um_erasure.proofs.StepsLeft.{rests-on, steps-on}
 use Rattle.um_erasure.specs.Offers.{Bare, Drops, behind_shown, Fits, IsOffered, ListIs, Passes, begins, dropped, exits, goes, passed}
+use Rattle.um_erasure.proofs.ListGrowth.{behind-kept, claim-context, cleaning-kept, either-look, claim-kept, either}
 
 -- a thread that is taken without being told anything is at rest, and hasn't ended
 abbrev pub IsAtRest : Exchange → Type 0
@@ -44,23 +41,9 @@ module _ (image : Image) where
   bare-fits c (Todo.show q rest ∷ todo) h = absurd h
   bare-fits c (Todo.pass who x ∷ todo) h = absurd h
   bare-fits c (Todo.drop x ∷ todo) h = absurd h
-  bare-fits c (Todo.hold ∷ todo) h = bare-fits c todo h
-  bare-fits c (Todo.let_go ∷ todo) h = bare-fits c todo h
-  bare-fits c (Todo.read_claim d ∷ todo) h = bare-fits c todo h
-  bare-fits c (Todo.read_done d ∷ todo) h = bare-fits c todo h
-  bare-fits c (Todo.region_load ∷ todo) h = bare-fits c todo h
-  bare-fits c (Todo.write_claim d ∷ todo) h = bare-fits c todo h
-  bare-fits c (Todo.edit d q ∷ todo) h = bare-fits c todo h
-  bare-fits c (Todo.size_look x ∷ todo) h = bare-fits c todo h
-  bare-fits c (Todo.end_call x ∷ todo) h = bare-fits c todo h
-  bare-fits c (Todo.wake who told ∷ todo) h = bare-fits c todo h
   bare-fits c (Todo.add d ∷ todo) h = (h.0, bare-fits c todo h.1)
-  bare-fits c (Todo.clean_pair who x ∷ todo) h = bare-fits c todo h
-  bare-fits c (Todo.wipe x ∷ todo) h = bare-fits c todo h
-  bare-fits c (Todo.vacate x ∷ todo) h = bare-fits c todo h
-  bare-fits c (Todo.recycle x ∷ todo) h = bare-fits c todo h
   bare-fits c (Todo.park ∷ todo) h = absurd h
-  bare-fits c (Todo.done ∷ todo) h = bare-fits c todo h
+  bare-fits c (q ∷ todo) h = bare-fits c todo h
 
   pub behind-bare : (c : Context) (q : Pending) → Bare image (behind_shown image c q)
   behind-bare c (Pending.Start who script stack priority mode) = (refl, tt)
@@ -68,13 +51,9 @@ module _ (image : Image) where
 
   -- Expansions.
 
-  sized-fits : (c : Context) (amount : Amount) (todo : Todos) → Fits image c todo → Fits image c (sized image amount todo)
-  sized-fits c (Amount.Bytes n) todo h = h
-  sized-fits c (Amount.MessageOf a) todo h = h
-
   fine-fits : (c : Context) (q : Pending) (rest : Steps) → IsOffered image c q rest → Fits image c (fine_steps image c q rest)
-  fine-fits c (Pending.Probe a amount) rest h = sized-fits c amount _ (h, refl)
-  fine-fits c (Pending.CopyIn a amount) rest h = sized-fits c amount _ (h, refl)
+  fine-fits c (Pending.Probe a amount) rest h = either-look image (Fits image c) amount _ (λ x k. k) (h, refl)
+  fine-fits c (Pending.CopyIn a amount) rest h = either-look image (Fits image c) amount _ (λ x k. k) (h, refl)
   fine-fits c q rest h = (h, refl)
 
   -- the fine steps of a step are by what of the thread stays in its visits
@@ -116,40 +95,18 @@ module _ (image : Image) where
   filled-fits c [] h = next-fits c c.pending refl
   filled-fits c (q ∷ todo) h = h
 
-  -- Wakes, ends of claims and cleaning stand in front.
+  -- A cleaning stands in front.
 
-  wakes-fit : (c : Context) (ws : List (ThreadIx × Told)) (todo : Todos) → Fits image c todo → Fits image c (wakes ws todo)
-  wakes-fit c [] todo h = h
-  wakes-fit c (w ∷ ws) todo h = wakes-fit c ws todo h
+  first-fits : (c : Context) (x : ℕ) (o : Option ℕ) (todo : Todos) → thread_of_row image x ≡ o → Fits image c todo → Fits image c (cleaning_of x o ++ todo)
+  first-fits c x None todo at h = h
+  first-fits c x (Some who) todo at h = h
 
-  end_calls-fit : (c : Context) (xs : List ℕ) (todo : Todos) → Fits image c todo → Fits image c (end_calls xs todo)
-  end_calls-fit c [] todo h = h
-  end_calls-fit c (x ∷ xs) todo h = end_calls-fit c xs todo h
-
-  behind-fits : (c d : Context) (q : Pending) (moved : Exchange) (todo : Todos) → Fits image d todo → Fits image d (behind_step image c q moved todo)
-  behind-fits c d (Pending.Work a ask) moved todo h = wakes-fit d (outcome_in moved).woken todo h
-  behind-fits c d Pending.Exit moved todo h = end_calls-fit d c.claims todo h
-  behind-fits c d (Pending.Answer reply to) moved todo h = end_calls-fit d c.claims todo h
-  behind-fits c d (Pending.Fatal reason cause) moved todo h = end_calls-fit d c.claims todo h
-  behind-fits c d (Pending.ClearInit a) moved todo h =
-      elim (row_named image a == own_row image c.thread) as (λ b. Fits image d (if b then Todo.end_call (own_row image c.thread) ∷ todo else todo)) [ true ↦ h | false ↦ h ]
-  behind-fits c d q moved todo h = h
-
-  cleaning-fits : (c : Context) (x : ℕ) (who : Option ℕ) (todo : Todos) → Fits image c todo → Fits image c (cleaning_of x who ++ todo)
-  cleaning-fits c x None todo h = h
-  cleaning-fits c x (Some who) todo h = h
-
-  cleaned-fits : (c : Context) (x : ℕ) (todo : Todos) → Fits image c todo → Fits image c (with_cleaning (cleaning image x) todo)
-  cleaned-fits c x [] h = alone (thread_of_row image x)
-    where
-      alone : (who : Option ℕ) → Fits image c (cleaning_of x who)
-      alone None = tt
-      alone (Some who) = tt
-  cleaned-fits c x (Todo.clean_pair who y ∷ todo) h = cleaned-fits c x todo h
-  cleaned-fits c x (Todo.wipe y ∷ todo) h = cleaned-fits c x todo h
-  cleaned-fits c x (Todo.vacate y ∷ todo) h = cleaned-fits c x todo h
-  cleaned-fits c x (Todo.recycle y ∷ todo) h = cleaned-fits c x todo h
-  cleaned-fits c x (q ∷ todo) h = cleaning-fits c x (thread_of_row image x) (q ∷ todo) h
+  later-fits : (c : Context) (q : Todo) (old new : Todos) → is_cleaning_todo q ≡ true → (Fits image c old → Fits image c new) → Fits image c (q ∷ old) → Fits image c (q ∷ new)
+  later-fits c (Todo.clean_pair who y) old new k more h = more h
+  later-fits c (Todo.wipe y) old new k more h = more h
+  later-fits c (Todo.vacate y) old new k more h = more h
+  later-fits c (Todo.recycle y) old new k more h = more h
+  later-fits c q old new k more h = absurd (false≢true k)
 
   -- A step.
 
@@ -164,14 +121,6 @@ module _ (image : Image) where
   take-fits p (Exchange.thread c None) idle h = record { fits = turn-fits c h }
   take-fits p (Exchange.thread c (Some told)) idle h = record { fits = filled-fits (resumed image c told) [] tt }
   take-fits p moved idle h = record { fits = subst (Fits image p.context) (sym idle) tt }
-
-  unless-fits : (c : Context) (b : Bool) (todo : Todos) → Fits image c todo → Fits image c (unless_loaded b todo)
-  unless-fits c true (Todo.region_load ∷ todo) h = h
-  unless-fits c b todo h = h
-
-  claim-fits : (p : Processor) (d : ℕ) (init : Bool) (todo : Todos) → Fits image p.context todo → ListIs image (after_claim p d init 0 todo)
-  claim-fits p d true todo h = record { fits = h }
-  claim-fits p d false todo h = record { fits = h }
 
   dropped-drops : (c : Context) (x : ℕ) (todo : Todos) (b : Bool) → Drops image c todo → Drops image (dropped_at image c x b) todo
   dropped-drops c x todo true h = h
@@ -189,22 +138,18 @@ module _ (image : Image) where
   show-fits p e q rest todo true h = record { fits = tt }
   show-fits p e q rest todo false h =
       let c = continues image p.context 0 q rest (act_in e.act) e.moved in
-      record { fits = behind-fits p.context c q e.moved (filled_up image c todo) (filled-fits c todo (bare-fits c todo h)) }
+      record { fits = behind-kept image (Fits image c) (λ who told z k. k) (λ x z k. k) p.context q e.moved (filled_up image c todo) (filled-fits c todo (bare-fits c todo h)) }
 
   refilled-fits : (p : Processor) (todo : Todos) → Fits image p.context todo → ListIs image (refilled_by image p todo)
   refilled-fits p todo h = record { fits = filled-fits p.context todo h }
-
-  clean-fits : (c : Context) (who x : ℕ) (todo : Todos) → Fits image c todo → Fits image c (clean_pairs who x todo)
-  clean-fits c who x todo h = elim (nat_lt x ROWS) as (λ b. Fits image c (if b then Todo.clean_pair who x ∷ todo else todo)) [ true ↦ h | false ↦ h ]
 
   goes-fits : (p : Processor) (e : FineStep) (todo : Todos) → p.todo ≡ todo → (p.todo ≡ [] → IsAtRest e.moved) → Fits image p.context todo → ListIs image (goes_on_by image p e todo)
   goes-fits p e [] at rest h = take-fits p e.moved at (rest at)
   goes-fits p e (Todo.show q rest ∷ todo) at r h = show-fits p e q rest todo (is_word_read e.act) (subst (Bare image) (sym h.1) (behind-bare p.context q))
   goes-fits p e (Todo.hold ∷ todo) at r h = record { fits = h }
   goes-fits p e (Todo.let_go ∷ todo) at r h = refilled-fits p todo h
-  goes-fits p e (Todo.read_claim None ∷ todo) at r h =
-      record { fits = unless-fits p.context (is_of (key_of (record p { version = (domain_in e.word).version })) p.table) todo h }
-  goes-fits p e (Todo.read_claim (Some d) ∷ todo) at r h = claim-fits p d (domain_in e.word).init todo h
+  goes-fits p e (Todo.read_claim d ∷ todo) at r h =
+      record { fits = subst (λ (c : Context). Fits image c (goes_on_by image p e (Todo.read_claim d ∷ todo)).todo) (sym (claim-context image p e d todo)) (claim-kept image (Fits image p.context) (λ z k. k) p e d todo (λ x some. h) h) }
   goes-fits p e (Todo.read_done d ∷ todo) at r h = refilled-fits p todo h
   goes-fits p e (Todo.region_load ∷ todo) at r h = record { fits = h }
   goes-fits p e (Todo.write_claim d ∷ todo) at r h = record { fits = h }
@@ -218,7 +163,7 @@ module _ (image : Image) where
   goes-fits p e (Todo.drop x ∷ todo) at r h =
       let c = dropped_at image p.context x (is_visit e.act) in
       refilled-fits (record p { context = c }) (drops (x + 1) todo) (drops-fit c (x + 1) todo (dropped-drops p.context x todo (is_visit e.act) h))
-  goes-fits p e (Todo.clean_pair who x ∷ todo) at r h = record { fits = clean-fits p.context who (x + 1) todo h }
+  goes-fits p e (Todo.clean_pair who x ∷ todo) at r h = record { fits = either image (Fits image p.context) (nat_lt (x + 1) ROWS) (Todo.clean_pair who (x + 1)) todo (λ few k. k) h }
   goes-fits p e (Todo.wipe x ∷ todo) at r h = record { fits = h }
   goes-fits p e (Todo.vacate x ∷ todo) at r h = record { fits = h }
   goes-fits p e (Todo.recycle x ∷ todo) at r h = refilled-fits p todo h
@@ -227,7 +172,8 @@ module _ (image : Image) where
 
   with-cleaned-fits : (p : Processor) (e : FineStep) (b : Bool) → ListIs image p → ListIs image (with_cleaned image p e b)
   with-cleaned-fits p e false h = h
-  with-cleaned-fits p e true h = record { fits = cleaned-fits p.context (row_number e.site) p.todo h.fits }
+  with-cleaned-fits p e true h =
+      let x = row_number e.site in record { fits = cleaning-kept image (λ old new. Fits image p.context old → Fits image p.context new) x (first-fits p.context x) (later-fits p.context) p.todo h.fits }
 
   -- A processor that takes threads at rest has a list that fits, after each of its steps.
   pub list-next : (p : Processor) (e : FineStep) → ListIs image p → (p.todo ≡ [] → IsAtRest e.moved) → ListIs image (p_next image p e)

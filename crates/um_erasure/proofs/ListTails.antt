@@ -1,32 +1,23 @@
 -- What is read of a list that passes over the steps of turns, visits and cleaning, over wakes and the ends of calls, and finds nothing where
 -- the next pending step is expanded: after a step of the processor it is what is read of the list behind that step.
-use Rattle.std.proofs.Common.{◌≡◌, ℕ, ◌+◌, Bool, true, false, List, [], ◌∷◌, ◌++◌, Option, Some, None, refl, sym, ap, ◌∙◌}
-use Rattle.std.specs.Prelude.{◌==◌, if◌then◌else◌, nat_lt}
-use Rattle.std.proofs.lemmas.Bool.{true≢false}
-use Rattle.um_base.specs.declared.ask.Told.{Told}
+use Rattle.std.proofs.Common.{◌≡◌, ℕ, ◌+◌, Bool, true, false, ◌∷◌, ◌++◌, Option, Some, None, refl, sym, ap, ◌∙◌, []}
+use Rattle.std.specs.Prelude.{nat_lt}
+use Rattle.std.proofs.lemmas.Bool.{false≢true, true≢false}
 use Rattle.um_base.specs.declared.image.Image.{Image}
-use Rattle.um_base.specs.declared.instr.Instr.{Instr}
 use Rattle.um_base.specs.declared.limits.TheConstants.{ROWS}
-use Rattle.um_base.specs.declared.names.ThreadIx.{ThreadIx}
-use Rattle.um_base.specs.Places.{own_row, thread_of_row}
+use Rattle.um_base.specs.Places.{thread_of_row}
 use Rattle.um_machine.specs.declared.pending.Pending.{Pending}
 use Rattle.um_machine.specs.Order.{Steps}
-use Rattle.um_machine.specs.State.{instruction_at}
-use Rattle.um_fine.specs.Addresses.{row_named}
-use Rattle.um_fine.specs.Answers.{act_in, is_visit, is_word_read, outcome_in}
+use Rattle.um_fine.specs.Answers.{is_visit}
 use Rattle.um_fine.specs.Asks.{begins_cleaning}
 use Rattle.um_fine.specs.Context.{Context}
-use Rattle.um_fine.specs.Continues.{continues, resumed}
-use Rattle.um_fine.specs.Follows.{after_show, after_take, behind_step, dropped_at, end_calls, filled_up, goes_on_by, p_next, row_number, wakes, with_cleaned}
-use Rattle.um_fine.specs.Places.{Todo, Todos, but, clean_pairs, cleaning, cleaning_of, drops, emptying, end_of_turn, fine_steps, next_steps, passes, turn_of, with_cleaning}
+use Rattle.um_fine.specs.Follows.{dropped_at, filled_up, goes_on_by, p_next, row_number, with_cleaned}
+use Rattle.um_fine.specs.Places.{Todo, Todos, cleaning_of, emptying, end_of_turn, fine_steps, is_cleaning_todo, next_steps}
 use Rattle.um_fine.specs.Processor.{Processor}
-use Rattle.um_fine.specs.Steps.{Exchange, FineStep}
+use Rattle.um_fine.specs.Steps.{FineStep}
 use Rattle.um_erasure.specs.Frames.{Behind}
-
--- nothing stands behind the read of a thread's word
-abbrev pub ReadsLast : FineStep → Todo → Todos → Type 0
-ReadsLast e (Todo.show q rest) todo = is_word_read e.act ≡ true → todo ≡ []
-ReadsLast e q todo = Unit {0}
+use Rattle.um_erasure.specs.Lists.{names_row}
+use Rattle.um_erasure.proofs.ListGrowth.{EndsWell, ReadsLast, behind-kept, claim-kept, cleaning-kept, drop-kept, either, ends-behind, goes-kept, is_read_claim, next-kept, pass-kept, show-kept, take-kept, turn-kept, visits_row}
 
 -- the steps that are passed over
 abbrev pub is_passed : Todo → Bool
@@ -42,10 +33,17 @@ is_passed Todo.park = true
 is_passed Todo.done = true
 is_passed q = false
 
--- the claims to read, behind which a list may go on in two ways
-abbrev pub is_read_claim : Todo → Bool
-is_read_claim (Todo.read_claim d) = true
-is_read_claim q = false
+passes-visit : (q : Todo) → visits_row q ≡ true → is_passed q ≡ true
+passes-visit (Todo.pass who x) h = refl
+passes-visit (Todo.drop x) h = refl
+passes-visit q h = absurd (false≢true h)
+
+passes-cleaning : (q : Todo) → is_cleaning_todo q ≡ true → is_passed q ≡ true
+passes-cleaning (Todo.clean_pair who x) h = refl
+passes-cleaning (Todo.wipe x) h = refl
+passes-cleaning (Todo.vacate x) h = refl
+passes-cleaning (Todo.recycle x) h = refl
+passes-cleaning q h = absurd (false≢true h)
 
 -- What is read of a list, of this kind.
 pub record Reads {A : Type 0} (image : Image) (read : Todos → A) (none : A) : Type 0 where
@@ -56,102 +54,59 @@ pub record Reads {A : Type 0} (image : Image) (read : Todos → A) (none : A) : 
   pub exits : read (Todo.show Pending.Exit [] ∷ []) ≡ none
 
 module _ {A : Type 0} (image : Image) (read : Todos → A) (none : A) (reads : Reads image read none) where
-  passes-read : (who x : ℕ) (todo : Todos) → read (passes who x todo) ≡ read todo
-  passes-read who x todo =
-      elim (nat_lt x ROWS) as (λ b. read (if b then Todo.pass who x ∷ todo else todo) ≡ read todo) [ true ↦ reads.passed (Todo.pass who x) todo refl | false ↦ refl ]
+  abbrev Is : A → Todos → Type 0
+  Is v todo = read todo ≡ v
 
-  drops-read : (x : ℕ) (todo : Todos) → read (drops x todo) ≡ read todo
-  drops-read x todo = elim (nat_lt x ROWS) as (λ b. read (if b then Todo.drop x ∷ todo else todo) ≡ read todo) [ true ↦ reads.passed (Todo.drop x) todo refl | false ↦ refl ]
+  abbrev All : Context → Type 0
+  All c = Unit {0}
 
   end-read : (b : Bool) → read (end_of_turn image b) ≡ none
   end-read true = reads.passed Todo.done [] refl ∙ reads.empty
   end-read false = reads.passed Todo.park [] refl ∙ reads.empty
 
+  put : (v : A) (q : Todo) (todo : Todos) → visits_row q ≡ true → names_row q ≡ true → Is v todo → Is v (q ∷ todo)
+  put v q todo visit few h = reads.passed q todo (passes-visit q visit) ∙ h
+
   pub next-read : (c : Context) (steps : Steps) → read (next_steps image c steps) ≡ none
-  next-read c [] = end-read c.ended
-  next-read c (Pending.Resume ∷ rest) = end-read false
-  next-read c (Pending.Inherit who ∷ q ∷ rest) = passes-read who.0 (but (own_row image c.thread) 0) (fine_steps image c q rest) ∙ reads.expanded c q rest
-  next-read c (Pending.Drops from ∷ q ∷ rest) = drops-read from (fine_steps image c q rest) ∙ reads.expanded c q rest
-  next-read c (Pending.Inherit who ∷ []) = reads.expanded c (Pending.Inherit who) []
-  next-read c (Pending.Drops from ∷ []) = reads.expanded c (Pending.Drops from) []
-  next-read c (q ∷ rest) = reads.expanded c q rest
+  next-read c steps = next-kept image (Is none) (put none) reads.expanded end-read c steps
+
+  expands : (v : A) (c : Context) → All c → Is v [] → Is v (next_steps image c c.pending)
+  expands v c of h = next-read c c.pending ∙ (sym reads.empty ∙ h)
 
   pub filled-read : (c : Context) (todo : Todos) → read (filled_up image c todo) ≡ read todo
   filled-read c [] = next-read c c.pending ∙ sym reads.empty
   filled-read c (q ∷ todo) = refl
-
-  wakes-read : (ws : List (ThreadIx × Told)) (todo : Todos) → read (wakes ws todo) ≡ read todo
-  wakes-read [] todo = refl
-  wakes-read (w ∷ ws) todo = reads.passed (Todo.wake w.0.0 w.1) (wakes ws todo) refl ∙ wakes-read ws todo
-
-  end_calls-read : (xs : List ℕ) (todo : Todos) → read (end_calls xs todo) ≡ read todo
-  end_calls-read [] todo = refl
-  end_calls-read (x ∷ xs) todo = reads.passed (Todo.end_call x) (end_calls xs todo) refl ∙ end_calls-read xs todo
-
-  behind-read : (c : Context) (q : Pending) (moved : Exchange) (todo : Todos) → read (behind_step image c q moved todo) ≡ read todo
-  behind-read c (Pending.Work a ask) moved todo = wakes-read (outcome_in moved).woken todo
-  behind-read c Pending.Exit moved todo = end_calls-read c.claims todo
-  behind-read c (Pending.Answer reply to) moved todo = end_calls-read c.claims todo
-  behind-read c (Pending.Fatal reason cause) moved todo = end_calls-read c.claims todo
-  behind-read c (Pending.ClearInit a) moved todo =
-      elim (row_named image a == own_row image c.thread) as (λ b. read (if b then Todo.end_call (own_row image c.thread) ∷ todo else todo) ≡ read todo) [
-        | true ↦ reads.passed (Todo.end_call (own_row image c.thread)) todo refl
-        | false ↦ refl
-      ]
-  behind-read c q moved todo = refl
 
   emptying-read : (x : ℕ) (todo : Todos) → read (emptying x ++ todo) ≡ read todo
   emptying-read x todo =
       reads.passed (Todo.wipe x) (Todo.vacate x ∷ Todo.recycle x ∷ todo) refl
       ∙ (reads.passed (Todo.vacate x) (Todo.recycle x ∷ todo) refl ∙ reads.passed (Todo.recycle x) todo refl)
 
-  block-read : (x : ℕ) (o : Option ℕ) (todo : Todos) → read (cleaning_of x o ++ todo) ≡ read todo
-  block-read x None todo = emptying-read x todo
-  block-read x (Some who) todo = reads.passed (Todo.clean_pair who 0) (emptying x ++ todo) refl ∙ emptying-read x todo
-
-  alone-read : (x : ℕ) (o : Option ℕ) → read (cleaning_of x o) ≡ read []
-  alone-read x None = emptying-read x []
-  alone-read x (Some who) = reads.passed (Todo.clean_pair who 0) (emptying x) refl ∙ emptying-read x []
-
-  cleaned-read : (x : ℕ) (todo : Todos) → read (with_cleaning (cleaning image x) todo) ≡ read todo
-  cleaned-read x [] = alone-read x (thread_of_row image x)
-  cleaned-read x (Todo.clean_pair who y ∷ todo) = reads.passed (Todo.clean_pair who y) _ refl ∙ (cleaned-read x todo ∙ sym (reads.passed (Todo.clean_pair who y) todo refl))
-  cleaned-read x (Todo.wipe y ∷ todo) = reads.passed (Todo.wipe y) _ refl ∙ (cleaned-read x todo ∙ sym (reads.passed (Todo.wipe y) todo refl))
-  cleaned-read x (Todo.vacate y ∷ todo) = reads.passed (Todo.vacate y) _ refl ∙ (cleaned-read x todo ∙ sym (reads.passed (Todo.vacate y) todo refl))
-  cleaned-read x (Todo.recycle y ∷ todo) = reads.passed (Todo.recycle y) _ refl ∙ (cleaned-read x todo ∙ sym (reads.passed (Todo.recycle y) todo refl))
-  cleaned-read x (q ∷ todo) = block-read x (thread_of_row image x) (q ∷ todo)
+  block-read : (x : ℕ) (o : Option ℕ) (todo : Todos) → thread_of_row image x ≡ o → read (cleaning_of x o ++ todo) ≡ read todo
+  block-read x None todo e = emptying-read x todo
+  block-read x (Some who) todo e = reads.passed (Todo.clean_pair who 0) (emptying x ++ todo) refl ∙ emptying-read x todo
 
   pub with-cleaned-read : (p : Processor) (e : FineStep) (b : Bool) → read (with_cleaned image p e b).todo ≡ read p.todo
-  with-cleaned-read p e true = cleaned-read (row_number e.site) p.todo
+  with-cleaned-read p e true =
+      cleaning-kept image (λ old new. read new ≡ read old) (row_number e.site) (block-read (row_number e.site))
+      (λ q old new c h. reads.passed q new (passes-cleaning q c) ∙ (h ∙ sym (reads.passed q old (passes-cleaning q c)))) p.todo
   with-cleaned-read p e false = refl
-
-  clean-read : (who x : ℕ) (todo : Todos) → read (clean_pairs who x todo) ≡ read todo
-  clean-read who x todo =
-      elim (nat_lt x ROWS) as (λ b. read (if b then Todo.clean_pair who x ∷ todo else todo) ≡ read todo) [ true ↦ reads.passed (Todo.clean_pair who x) todo refl | false ↦ refl ]
-
-  show-read : (p : Processor) (e : FineStep) (q : Pending) (rest : Steps) (todo : Todos) (b : Bool) → (b ≡ true → todo ≡ [])
-      → read (if b then record p { todo = Todo.done ∷ [] } else after_show image p e q rest todo).todo ≡ read todo
-  show-read p e q rest todo true last = reads.passed Todo.done [] refl ∙ sym (ap read (last refl))
-  show-read p e q rest todo false last =
-      let c = continues image p.context 0 q rest (act_in e.act) e.moved in behind-read p.context q e.moved (filled_up image c todo) ∙ filled-read c todo
 
   goes-read : (p : Processor) (e : FineStep) (q : Todo) (todo : Todos) → is_read_claim q ≡ false → Behind image q todo → ReadsLast e q todo
       → read (goes_on_by image p e (q ∷ todo)).todo ≡ read todo
-  goes-read p e (Todo.show q rest) todo other h last = show-read p e q rest todo (is_word_read e.act) last
-  goes-read p e (Todo.read_claim d) todo other h last = absurd (true≢false other)
-  goes-read p e Todo.let_go todo other h last = filled-read p.context todo
-  goes-read p e (Todo.read_done d) todo other h last = filled-read p.context todo
-  goes-read p e (Todo.end_call x) todo other h last = filled-read p.context todo
-  goes-read p e (Todo.wake who told) todo other h last = filled-read p.context todo
-  goes-read p e (Todo.add c) todo other h last = filled-read p.context todo
-  goes-read p e (Todo.pass who x) todo other h last =
-      let next = but (own_row image p.context.thread) (x + 1) in filled-read p.context (passes who next todo) ∙ passes-read who next todo
-  goes-read p e (Todo.drop x) todo other h last = filled-read (dropped_at image p.context x (is_visit e.act)) (drops (x + 1) todo) ∙ drops-read (x + 1) todo
-  goes-read p e (Todo.clean_pair who x) todo other h last = clean-read who (x + 1) todo
-  goes-read p e (Todo.recycle x) todo other h last = filled-read p.context todo
-  goes-read p e Todo.park todo other h last = sym (ap read h)
-  goes-read p e Todo.done todo other h last = sym (ap read h)
-  goes-read p e q todo other h last = refl
+  goes-read p e q todo other h last = by q other (ends-behind image (Is (read todo)) (λ k. reads.passed Todo.done [] refl ∙ k) e q todo h last refl)
+    where
+      by : (q : Todo) → is_read_claim q ≡ false → EndsWell (Is (read todo)) e q → Is (read todo) (goes_on_by image p e (q ∷ todo)).todo
+      by (Todo.show q rest) other ends =
+          show-kept image (Is (read todo)) All (expands (read todo)) p e q rest todo (Is (read todo)) tt
+          (behind-kept image (Is (read todo)) (λ who told z k. reads.passed (Todo.wake who told) z refl ∙ k) (λ x z k. reads.passed (Todo.end_call x) z refl ∙ k) p.context q e.moved) ends refl
+      by (Todo.read_claim d) other ends = absurd (true≢false other)
+      by (Todo.pass who x) other ends = pass-kept image (Is (read todo)) All (expands (read todo)) p who x todo (λ y few. put (read todo) (Todo.pass who y) todo refl few) tt refl
+      by (Todo.drop x) other ends =
+          drop-kept image (Is (read todo)) All (expands (read todo)) p (dropped_at image p.context x (is_visit e.act)) x todo (λ y few. put (read todo) (Todo.drop y) todo refl few) tt refl
+      by (Todo.clean_pair who x) other ends =
+          either image (Is (read todo)) (nat_lt (x + 1) ROWS) (Todo.clean_pair who (x + 1)) todo (λ few k. reads.passed (Todo.clean_pair who (x + 1)) todo refl ∙ k) refl
+      by q other ends = goes-kept image (Is (read todo)) All (expands (read todo)) p e q todo refl tt ends refl
 
   pub tail-read : (p : Processor) (e : FineStep) (q : Todo) (todo : Todos) → p.todo ≡ q ∷ todo → is_read_claim q ≡ false → Behind image q todo → ReadsLast e q todo
       → read (p_next image p e).todo ≡ read todo
@@ -159,19 +114,20 @@ module _ {A : Type 0} (image : Image) (read : Todos → A) (none : A) (reads : R
       with-cleaned-read (goes_on_by image p e p.todo) e (begins_cleaning e)
       ∙ (ap (λ (z : Todos). read (goes_on_by image p e z).todo) at ∙ goes-read p e q todo other h last)
 
-  take-read : (p : Processor) (moved : Exchange) → read p.todo ≡ none → read (after_take image p moved).todo ≡ none
-  take-read p (Exchange.thread c None) h = by (instruction_at image c.place)
-    where
-      by : (instr : Option Instr) → read (turn_of image instr) ≡ none
-      by None = reads.exits
-      by (Some instr) = reads.begins
-  take-read p (Exchange.thread c (Some told)) h = filled-read (resumed image c told) [] ∙ reads.empty
-  take-read p moved h = h
+  -- so of any step, where the load of a table and the end of a move's claim are passed over too
+  pub whole-read : ((todo : Todos) → read (Todo.region_load ∷ todo) ≡ read todo) → ((d : ℕ) (todo : Todos) → read (Todo.read_done (Some d) ∷ todo) ≡ read todo)
+      → (p : Processor) (e : FineStep) (q : Todo) (todo : Todos) → p.todo ≡ q ∷ todo → Behind image q todo → ReadsLast e q todo → read (p_next image p e).todo ≡ read todo
+  whole-read loaded claimed p e (Todo.read_claim d) todo at h last =
+      with-cleaned-read (goes_on_by image p e p.todo) e (begins_cleaning e)
+      ∙ (ap (λ (z : Todos). read (goes_on_by image p e z).todo) at ∙ claim-kept image (Is (read todo)) (λ z k. sym (loaded z) ∙ k) p e d todo (λ x some. claimed x todo) refl)
+  whole-read loaded claimed p e q todo at h last = tail-read p e q todo at refl h last
 
   pub takes-read : (p : Processor) (e : FineStep) → p.todo ≡ [] → read (p_next image p e).todo ≡ none
   takes-read p e at =
+      let turn = turn-kept image (Is none) reads.begins reads.exits in
       with-cleaned-read (goes_on_by image p e p.todo) e (begins_cleaning e)
-      ∙ (ap (λ (z : Todos). read (goes_on_by image p e z).todo) at ∙ take-read p e.moved (ap read at ∙ reads.empty))
+      ∙ (ap (λ (z : Todos). read (goes_on_by image p e z).todo) at
+      ∙ take-kept image (Is none) All (expands none) p turn e.moved tt reads.empty (ap read at ∙ reads.empty))
 
 -- what a processor is after a step that begins no cleaning
 pub exact-next : (image : Image) (p : Processor) (e : FineStep) (todo : Todos) → p.todo ≡ todo → begins_cleaning e ≡ false → p_next image p e ≡ goes_on_by image p e todo

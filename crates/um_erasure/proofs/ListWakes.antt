@@ -1,27 +1,24 @@
 -- The wakes on a processor's list: an act that wakes puts them there, and each goes by its step.
 use Rattle.std.proofs.Common.{◌≡◌, ℕ, ◌+◌, Bool, true, false, List, [], ◌∷◌, ◌++◌, map, Option, Some, None, refl, sym, ap, ◌∙◌}
-use Rattle.std.specs.Prelude.{◌==◌, if◌then◌else◌, nat_lt}
+use Rattle.std.specs.Prelude.{◌==◌, if◌then◌else◌}
 use Rattle.um_base.specs.declared.ask.Told.{Told}
 use Rattle.um_base.specs.declared.image.Image.{Image}
-use Rattle.um_base.specs.declared.instr.Instr.{Instr}
-use Rattle.um_base.specs.declared.limits.TheConstants.{ROWS}
 use Rattle.um_base.specs.declared.names.ThreadIx.{ThreadIx}
 use Rattle.um_base.specs.Places.{own_row, thread_of_row}
-use Rattle.um_machine.specs.declared.pending.Amount.{Amount}
 use Rattle.um_machine.specs.declared.pending.Pending.{Pending}
 use Rattle.um_machine.specs.Order.{Steps}
-use Rattle.um_machine.specs.State.{instruction_at}
 use Rattle.um_fine.specs.Addresses.{row_named}
-use Rattle.um_fine.specs.Answers.{act_in, domain_in, is_visit, is_word_read, outcome_in}
+use Rattle.um_fine.specs.Answers.{is_word_read, outcome_in}
 use Rattle.um_fine.specs.Asks.{begins_cleaning}
 use Rattle.um_fine.specs.Context.{Context}
-use Rattle.um_fine.specs.Continues.{continues, resumed}
-use Rattle.um_fine.specs.Follows.{after_claim, after_show, after_take, behind_step, dropped_at, end_calls, filled_up, goes_on_by, p_next, row_number, unless_loaded, wakes, with_cleaned}
-use Rattle.um_fine.specs.Places.{Todo, Todos, but, clean_pairs, cleaning, cleaning_of, drops, end_of_turn, fine_steps, next_steps, passes, turn_of, with_cleaning}
-use Rattle.um_fine.specs.Processor.{Processor, is_of, key_of}
-use Rattle.um_fine.specs.Steps.{Exchange, FineStep}
+use Rattle.um_fine.specs.Follows.{behind_step, end_calls, goes_on_by, p_next, row_number, wakes, with_cleaned}
+use Rattle.um_fine.specs.Places.{Todo, Todos, cleaning_of, end_of_turn, fine_steps, next_steps, is_cleaning_todo}
+use Rattle.um_fine.specs.Processor.{Processor}
+use Rattle.um_fine.specs.Steps.{FineStep}
 use Rattle.um_erasure.specs.Frames.{Behind}
-use Rattle.um_erasure.specs.Lists.{counted, is_wake, wake_of}
+use Rattle.um_erasure.specs.Lists.{counted, is_wake, wake_of, names_row}
+use Rattle.um_erasure.proofs.ListGrowth.{either-look, next-kept, show-kept, take-kept, visits_row, cleaning-kept, quiet-kept, turn-kept, ends-behind}
+use Rattle.std.proofs.lemmas.Bool.{false≢true}
 
 abbrev pub Wakes : Type 0
 Wakes = List (ℕ × Told)
@@ -59,38 +56,23 @@ woken_by e (Todo.show (Pending.Work a ask) rest) = named (outcome_in e.moved).wo
 woken_by e q = []
 
 module _ (image : Image) where
+  abbrev Is : Wakes → Todos → Type 0
+  Is ws todo = wakers todo ≡ ws
+
+  abbrev All : Context → Type 0
+  All c = Unit {0}
+
   fine-none : (c : Context) (q : Pending) (rest : Steps) → wakers (fine_steps image c q rest) ≡ []
-  fine-none c (Pending.Probe a (Amount.Bytes n)) rest = refl
-  fine-none c (Pending.Probe a (Amount.MessageOf b)) rest = refl
-  fine-none c (Pending.CopyIn a (Amount.Bytes n)) rest = refl
-  fine-none c (Pending.CopyIn a (Amount.MessageOf b)) rest = refl
+  fine-none c (Pending.Probe a amount) rest = either-look image (Is []) amount _ (λ x h. h) refl
+  fine-none c (Pending.CopyIn a amount) rest = either-look image (Is []) amount _ (λ x h. h) refl
   fine-none c q rest = refl
 
-  passes-wakers : (who x : ℕ) (todo : Todos) → wakers (passes who x todo) ≡ wakers todo
-  passes-wakers who x todo = elim (nat_lt x ROWS) as (λ b. wakers (if b then Todo.pass who x ∷ todo else todo) ≡ wakers todo) [ true ↦ refl | false ↦ refl ]
+  put : (ws : Wakes) (q : Todo) (todo : Todos) → visits_row q ≡ true → names_row q ≡ true → Is ws todo → Is ws (q ∷ todo)
+  put ws (Todo.wake who told) todo visit few h = absurd (false≢true visit)
+  put ws q todo visit few h = h
 
-  drops-wakers : (x : ℕ) (todo : Todos) → wakers (drops x todo) ≡ wakers todo
-  drops-wakers x todo = elim (nat_lt x ROWS) as (λ b. wakers (if b then Todo.drop x ∷ todo else todo) ≡ wakers todo) [ true ↦ refl | false ↦ refl ]
-
-  clean-wakers : (who x : ℕ) (todo : Todos) → wakers (clean_pairs who x todo) ≡ wakers todo
-  clean-wakers who x todo = elim (nat_lt x ROWS) as (λ b. wakers (if b then Todo.clean_pair who x ∷ todo else todo) ≡ wakers todo) [ true ↦ refl | false ↦ refl ]
-
-  end-none : (b : Bool) → wakers (end_of_turn image b) ≡ []
-  end-none true = refl
-  end-none false = refl
-
-  next-none : (c : Context) (steps : Steps) → wakers (next_steps image c steps) ≡ []
-  next-none c [] = end-none c.ended
-  next-none c (Pending.Resume ∷ rest) = refl
-  next-none c (Pending.Inherit who ∷ q ∷ rest) = passes-wakers who.0 (but (own_row image c.thread) 0) (fine_steps image c q rest) ∙ fine-none c q rest
-  next-none c (Pending.Drops from ∷ q ∷ rest) = drops-wakers from (fine_steps image c q rest) ∙ fine-none c q rest
-  next-none c (Pending.Inherit who ∷ []) = fine-none c (Pending.Inherit who) []
-  next-none c (Pending.Drops from ∷ []) = fine-none c (Pending.Drops from) []
-  next-none c (q ∷ rest) = fine-none c q rest
-
-  filled-wakers : (c : Context) (todo : Todos) → wakers (filled_up image c todo) ≡ wakers todo
-  filled-wakers c [] = next-none c c.pending
-  filled-wakers c (q ∷ todo) = refl
+  expands : (ws : Wakes) (c : Context) → All c → Is ws [] → Is ws (next_steps image c c.pending)
+  expands ws c of h = next-kept image (Is []) (put []) fine-none (λ b. elim b as (λ b. Is [] (end_of_turn image b)) [ true ↦ refl | false ↦ refl ]) c c.pending ∙ h
 
   wakes-wakers : (ws : List (ThreadIx × Told)) (todo : Todos) → wakers (wakes ws todo) ≡ named ws ++ wakers todo
   wakes-wakers [] todo = refl
@@ -109,71 +91,29 @@ module _ (image : Image) where
       elim (row_named image a == own_row image c.thread) as (λ b. wakers (if b then Todo.end_call (own_row image c.thread) ∷ todo else todo) ≡ wakers todo) [ true ↦ refl | false ↦ refl ]
   behind-wakers c q e rest todo = refl
 
-  block-wakers : (x : ℕ) (o : Option ℕ) (todo : Todos) → wakers (cleaning_of x o ++ todo) ≡ wakers todo
-  block-wakers x None todo = refl
-  block-wakers x (Some who) todo = refl
-
-  alone-wakers : (x : ℕ) (o : Option ℕ) → wakers (cleaning_of x o) ≡ []
-  alone-wakers x None = refl
-  alone-wakers x (Some who) = refl
-
-  cleaned-wakers : (x : ℕ) (todo : Todos) → wakers (with_cleaning (cleaning image x) todo) ≡ wakers todo
-  cleaned-wakers x [] = alone-wakers x (thread_of_row image x)
-  cleaned-wakers x (Todo.clean_pair who y ∷ todo) = cleaned-wakers x todo
-  cleaned-wakers x (Todo.wipe y ∷ todo) = cleaned-wakers x todo
-  cleaned-wakers x (Todo.vacate y ∷ todo) = cleaned-wakers x todo
-  cleaned-wakers x (Todo.recycle y ∷ todo) = cleaned-wakers x todo
-  cleaned-wakers x (q ∷ todo) = block-wakers x (thread_of_row image x) (q ∷ todo)
-
   with-cleaned-wakers : (p : Processor) (e : FineStep) (b : Bool) → wakers (with_cleaned image p e b).todo ≡ wakers p.todo
-  with-cleaned-wakers p e true = cleaned-wakers (row_number e.site) p.todo
-  with-cleaned-wakers p e false = refl
-
-  take-none : (p : Processor) (moved : Exchange) → wakers p.todo ≡ [] → wakers (after_take image p moved).todo ≡ []
-  take-none p (Exchange.thread c None) h = by (instruction_at image c.place)
+  with-cleaned-wakers p e true = cleaning-kept image (λ old new. wakers new ≡ wakers old) (row_number e.site) first later p.todo
     where
-      by : (o : Option Instr) → wakers (turn_of image o) ≡ []
-      by None = refl
-      by (Some instr) = refl
-  take-none p (Exchange.thread c (Some told)) h = filled-wakers (resumed image c told) []
-  take-none p moved h = h
+      first : (o : Option ℕ) (todo : Todos) → thread_of_row image (row_number e.site) ≡ o → wakers (cleaning_of (row_number e.site) o ++ todo) ≡ wakers todo
+      first None todo at = refl
+      first (Some who) todo at = refl
 
-  unless-wakers : (b : Bool) (todo : Todos) → wakers (unless_loaded b todo) ≡ wakers todo
-  unless-wakers true (Todo.region_load ∷ todo) = refl
-  unless-wakers b todo = refl
-
-  claim-wakers : (p : Processor) (d : ℕ) (init : Bool) (todo : Todos) → wakers (after_claim p d init 0 todo).todo ≡ wakers todo
-  claim-wakers p d true todo = refl
-  claim-wakers p d false todo = refl
-
-  show-wakers : (p : Processor) (e : FineStep) (q : Pending) (rest : Steps) (todo : Todos) (b : Bool) → is_word_read e.act ≡ b → (b ≡ true → (todo ≡ []) × (woken_by e (Todo.show q rest) ≡ []))
-      → wakers (if b then record p { todo = Todo.done ∷ [] } else after_show image p e q rest todo).todo ≡ woken_by e (Todo.show q rest) ++ wakers todo
-  show-wakers p e q rest todo true read last = sym (λ i. (last refl).1 i ++ wakers ((last refl).0 i))
-  show-wakers p e q rest todo false read last =
-      let c = continues image p.context 0 q rest (act_in e.act) e.moved in
-      behind-wakers p.context q e rest (filled_up image c todo) ∙ ap (λ (l : Wakes). woken_by e (Todo.show q rest) ++ l) (filled-wakers c todo)
+      later : (q : Todo) (old new : Todos) → is_cleaning_todo q ≡ true → wakers new ≡ wakers old → wakers (q ∷ new) ≡ wakers (q ∷ old)
+      later (Todo.wake who told) old new c h = absurd (false≢true c)
+      later q old new c h = h
+  with-cleaned-wakers p e false = refl
 
   abbrev pub LastRead : FineStep → Todo → Todos → Type 0
   LastRead e (Todo.show q rest) todo = is_word_read e.act ≡ true → (todo ≡ []) × (woken_by e (Todo.show q rest) ≡ [])
   LastRead e q todo = Unit {0}
 
   goes-wakers : (p : Processor) (e : FineStep) (q : Todo) (todo : Todos) → Behind image q todo → LastRead e q todo → wakers (goes_on_by image p e (q ∷ todo)).todo ≡ woken_by e q ++ wakers todo
-  goes-wakers p e (Todo.show q rest) todo h last = show-wakers p e q rest todo (is_word_read e.act) refl last
-  goes-wakers p e Todo.let_go todo h last = filled-wakers p.context todo
-  goes-wakers p e (Todo.read_claim None) todo h last = unless-wakers (is_of (key_of (record p { version = (domain_in e.word).version })) p.table) todo
-  goes-wakers p e (Todo.read_claim (Some d)) todo h last = claim-wakers p d (domain_in e.word).init todo
-  goes-wakers p e (Todo.read_done d) todo h last = filled-wakers p.context todo
-  goes-wakers p e (Todo.end_call x) todo h last = filled-wakers p.context todo
-  goes-wakers p e (Todo.wake who told) todo h last = filled-wakers p.context todo
-  goes-wakers p e (Todo.add c) todo h last = filled-wakers p.context todo
-  goes-wakers p e (Todo.pass who x) todo h last =
-      let next = but (own_row image p.context.thread) (x + 1) in filled-wakers p.context (passes who next todo) ∙ passes-wakers who next todo
-  goes-wakers p e (Todo.drop x) todo h last = filled-wakers (dropped_at image p.context x (is_visit e.act)) (drops (x + 1) todo) ∙ drops-wakers (x + 1) todo
-  goes-wakers p e (Todo.clean_pair who x) todo h last = clean-wakers who (x + 1) todo
-  goes-wakers p e (Todo.recycle x) todo h last = filled-wakers p.context todo
-  goes-wakers p e Todo.park todo h last = sym (ap wakers h)
-  goes-wakers p e Todo.done todo h last = sym (ap wakers h)
-  goes-wakers p e q todo h last = refl
+  goes-wakers p e (Todo.show q rest) todo h last =
+      show-kept image (Is (wakers todo)) All (expands (wakers todo)) p e q rest todo (Is (woken_by e (Todo.show q rest) ++ wakers todo)) tt
+      (λ z k. behind-wakers p.context q e rest z ∙ ap (λ (ws : Wakes). woken_by e (Todo.show q rest) ++ ws) k) (λ read. sym (λ i. (last read).1 i ++ wakers ((last read).0 i))) refl
+  goes-wakers p e q todo h last =
+      quiet-kept image (Is (wakers todo)) All (expands (wakers todo)) p (put (wakers todo)) (λ who x z few k. k) (λ z k. k) (λ d z k. k) e q todo refl tt
+      (ends-behind image (Is (wakers todo)) (λ k. k) e q todo h tt refl) refl
 
   -- the wakes after a step
   pub next-wakers : (p : Processor) (e : FineStep) (q : Todo) (todo : Todos) → p.todo ≡ q ∷ todo → Behind image q todo → LastRead e q todo
@@ -184,4 +124,4 @@ module _ (image : Image) where
   pub takes-wakers : (p : Processor) (e : FineStep) → p.todo ≡ [] → wakers (p_next image p e).todo ≡ []
   takes-wakers p e at =
       with-cleaned-wakers (goes_on_by image p e p.todo) e (begins_cleaning e)
-      ∙ (ap (λ (z : Todos). wakers (goes_on_by image p e z).todo) at ∙ take-none p e.moved (ap wakers at))
+      ∙ (ap (λ (z : Todos). wakers (goes_on_by image p e z).todo) at ∙ take-kept image (Is []) All (expands []) p (turn-kept image (Is []) refl refl) e.moved tt refl (ap wakers at))

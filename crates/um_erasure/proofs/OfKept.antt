@@ -1,17 +1,12 @@
 -- The own part of a thread that makes an event is that of the machine's thread then, with what its call holds and whether it has ended.
-use Rattle.std.proofs.Common.{◌≡◌, ℕ, zero, suc, ◌<◌, Bool, true, false, List, [], ◌∷◌, ◌++◌, length, map, Option, Some, None, refl, sym, ap, ◌∙◌, subst, arith}
-use Rattle.std.specs.Prelude.{IsTrue, if◌then◌else◌, nat_lt, slice_index_or, slice_set}
+use Rattle.std.proofs.Common.{◌≡◌, ℕ, zero, suc, ◌<◌, Bool, true, List, [], ◌∷◌, ◌++◌, length, map, Option, Some, None, refl, sym, ap, ◌∙◌, subst, arith}
+use Rattle.std.specs.Prelude.{IsTrue, nat_lt, slice_index_or, slice_set}
 use Rattle.std.specs.List.{list_all}
 use Rattle.std.proofs.Math.Seq.{map-set_same}
 use Rattle.std.proofs.lemmas.Bool.{and_from, and_parts}
-use Rattle.um_base.specs.declared.act.Act.{Act}
 use Rattle.um_base.specs.declared.act.Answer.{Answer}
-use Rattle.um_base.specs.declared.act.Found.{Found}
-use Rattle.um_base.specs.declared.act.SetSaid.{SetSaid}
 use Rattle.um_base.specs.declared.ask.Ask.{Ask}
 use Rattle.um_base.specs.declared.ask.Told.{Told}
-use Rattle.um_base.specs.declared.image.Image.{Image}
-use Rattle.um_base.specs.declared.instr.Instr.{Instr}
 use Rattle.um_base.specs.declared.limits.TheConstants.{ROWS, THREADS}
 use Rattle.um_base.specs.declared.names.Addr.{Addr}
 use Rattle.um_base.specs.declared.names.Errno.{Errno}
@@ -22,21 +17,21 @@ use Rattle.um_machine.specs.declared.thread.Life.{Life}
 use Rattle.um_machine.specs.declared.thread.Thread.{Thread}
 use Rattle.um_machine.specs.Objects.{verdict}
 use Rattle.um_machine.specs.Order.{Steps}
-use Rattle.um_machine.specs.State.{State, instruction_at, is_started, no_rows, nobody, object_at, thread_at, with_object, with_thread}
+use Rattle.um_machine.specs.State.{State, is_started, no_rows, nobody, object_at, thread_at, with_object, with_thread}
 use Rattle.um_machine.specs.Table as T
 use Rattle.um_reach.proofs.Cores.{map_at}
 use Rattle.um_fine.specs.Addresses.{row_named}
-use Rattle.um_fine.specs.Answers.{act_in, bytes_in, fits_in, found_in, is_fault, outcome_in, reserved_in, set_in, verdict_in}
+use Rattle.um_fine.specs.Answers.{act_in, verdict_in}
 use Rattle.um_fine.specs.Context.{Context}
-use Rattle.um_fine.specs.Continues.{after_access, after_reserve, after_set, after_text, after_work, begun, continues, with_claim}
+use Rattle.um_fine.specs.Continues.{after_work, continues, with_claim}
 use Rattle.um_fine.specs.Places.{Todos}
 use Rattle.um_fine.specs.Processor.{Processor}
-use Rattle.um_fine.specs.Steps.{Exchange, FineStep}
+use Rattle.um_fine.specs.Steps.{FineStep}
 use Rattle.um_erasure.specs.Fine.{Fine}
 use Rattle.um_erasure.specs.Threads.{IsOf, flags_of, is_ended, own_part}
 use Rattle.um_erasure.proofs.LawfulSteps.{Suits}
 use Rattle.um_erasure.proofs.Leaves.{Lawful}
-use Rattle.um_erasure.proofs.ListGrips.{continues-thread}
+use Rattle.um_erasure.proofs.Continued.{Held, KeepsHeld, continues-held, continues-thread, held_of}
 use Rattle.um_erasure.proofs.MemoryPart.{InDomains}
 use Rattle.um_erasure.proofs.Offered.{IsStep, Shows, own-part}
 use Rattle.um_erasure.proofs.OwnKept.{acts, own-kept, starts-another}
@@ -45,75 +40,6 @@ use Rattle.um_erasure.proofs.RowSteps.{named-row}
 use Rattle.um_erasure.proofs.RowsPart.{named-below}
 use Rattle.um_erasure.proofs.ThreadLists.{at-here, set-else, set-long}
 use Rattle.um_erasure.proofs.WordsKept.{IsShown}
-
--- what a call holds, and whether its thread has ended
-abbrev Held : Type 0
-Held = List ℕ × Bool
-
-abbrev held_of : Context → Held
-held_of c = (c.claims, c.ended)
-
--- the steps that change nothing of that
-abbrev KeepsHeld : Pending → Type 0
-KeepsHeld Pending.Exit = ⊥
-KeepsHeld (Pending.Check a kind want refusal) = ⊥
-KeepsHeld (Pending.Answer reply to) = ⊥
-KeepsHeld (Pending.Fatal reason cause) = ⊥
-KeepsHeld q = Unit {0}
-
-module _ (image : Image) where
-  either-held : (b : Bool) (c d : Context) (h : Held) → held_of c ≡ h → held_of d ≡ h → held_of (if b then c else d) ≡ h
-  either-held true c d h e k = e
-  either-held false c d h e k = k
-
-  begun-held : (c : Context) (instr : Option Instr) → held_of (begun image c instr) ≡ held_of c
-  begun-held c None = refl
-  begun-held c (Some instr) = refl
-
-  access-held : (c : Context) (b : Bool) (rest otherwise : Steps) → held_of (after_access image c b rest otherwise) ≡ held_of c
-  access-held c true rest otherwise = refl
-  access-held c false rest otherwise = refl
-
-  text-held : (c : Context) (bs : List ℕ) (rest : Steps) (found : Found) → held_of (after_text image c bs rest found) ≡ held_of c
-  text-held c bs rest (Found.Length n) = refl
-  text-held c bs rest Found.Unreadable = refl
-  text-held c bs rest Found.TooLong = refl
-
-  work-held : (c : Context) (ask : Ask) (taken : List ℕ) (rest : Steps) (answer : Answer) → held_of (after_work image c ask taken rest answer) ≡ held_of c
-  work-held c ask taken rest Answer.Wait = refl
-  work-held c ask taken rest (Answer.Now (Reply.Fail e)) = refl
-  work-held c ask taken rest (Answer.Now Reply.Void) = refl
-  work-held c ask taken rest (Answer.Now (Reply.Num n)) = refl
-  work-held c ask taken rest (Answer.Now (Reply.At a)) = refl
-  work-held c ask taken rest (Answer.Now Reply.Null) = refl
-
-  set-held : (c : Context) (undo : Option Addr) (rest : Steps) (said : SetSaid) → held_of (after_set image c undo rest said) ≡ held_of c
-  set-held c undo rest SetSaid.Done = refl
-  set-held c undo rest SetSaid.Gone = refl
-  set-held c undo rest (SetSaid.Fail e) = refl
-
-  reserve-held : (c : Context) (rest : Steps) (o : Option Addr) → held_of (after_reserve image c rest o) ≡ held_of c
-  reserve-held c rest None = refl
-  reserve-held c rest (Some a) = refl
-
-  continues-held : (c : Context) (x : ℕ) (q : Pending) (rest : Steps) (act : Act) (moved : Exchange) → KeepsHeld q → held_of (continues image c x q rest act moved) ≡ held_of c
-  continues-held c x Pending.Begin rest act moved h = begun-held c (instruction_at image c.place)
-  continues-held c x Pending.Exit rest act moved h = absurd h
-  continues-held c x (Pending.Check a kind want refusal) rest act moved h = absurd h
-  continues-held c x (Pending.Load to a n) rest act moved h = either-held (is_fault act) _ _ (held_of c) refl refl
-  continues-held c x (Pending.Store a n value) rest act moved h = either-held (is_fault act) _ _ (held_of c) refl refl
-  continues-held c x (Pending.Fetch a) rest act moved h = either-held (is_fault act) _ _ (held_of c) refl refl
-  continues-held c x (Pending.Probe a amount) rest act moved h = access-held c (fits_in act) _ _
-  continues-held c x (Pending.CopyIn a amount) rest act moved h = either-held (fits_in act) _ _ (held_of c) refl refl
-  continues-held c x (Pending.CopyOut a) rest act moved h = access-held c (fits_in act) _ _
-  continues-held c x (Pending.CopyStr a) rest act moved h = text-held c (bytes_in moved) rest (found_in act)
-  continues-held c x (Pending.Work a ask) rest act moved h = work-held c ask (outcome_in moved).taken rest (outcome_in moved).answer
-  continues-held c x (Pending.Answer reply to) rest act moved h = absurd h
-  continues-held c x (Pending.SetInit a strict undo) rest act moved h = set-held c undo rest (set_in act)
-  continues-held c x (Pending.Reserve kind) rest act moved h = reserve-held c rest (reserved_in act)
-  continues-held c x (Pending.Buffer size) rest act moved h = access-held c (fits_in act) _ _
-  continues-held c x (Pending.Fatal reason cause) rest act moved h = absurd h
-  continues-held c x q rest act moved h = refl
 
 -- Rows as flags, with one more.
 
@@ -204,9 +130,9 @@ module _ (f : Fine) (m : State) (e : FineStep) (law : Lawful f m e) (suits : Sui
     -- it lives and holds as before
     kept : call_of (thread_at (after q) t) ≡ call_of (thread_at m t) → held_of (next q) ≡ held_of p.context → IsOf (after q) (next q)
     kept call held =
-        build (ap (λ (z : Call). z.1) call ∙ (of.claims ∙ ap (λ (z : Held). flags_of z.0) (sym held)))
-        (ap (λ (z : Held). z.1) held ∙ (of.ended ∙ ap (λ (z : Call). is_ended z.0) (sym call)))
-        (subst (λ (z : Call). IsTrue (is_started z.0)) (sym call) of.started) (subst (λ (z : Held). Below z.0) (sym held) of.below)
+        build (ap (λ (z : Call). z.1) call ∙ (of.claims ∙ ap (λ (z : Held). flags_of z.1) (sym held)))
+        (ap (λ (z : Held). z.2) held ∙ (of.ended ∙ ap (λ (z : Call). is_ended z.0) (sym call)))
+        (subst (λ (z : Call). IsTrue (is_started z.0)) (sym call) of.started) (subst (λ (z : Held). Below z.1) (sym held) of.below)
 
     beside : KeepsBeside q → KeepsHeld q → IsOf (after q) (next q)
     beside h k =

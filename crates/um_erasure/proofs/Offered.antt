@@ -43,21 +43,7 @@ visited-bare image (Todo.pass who x ∷ todo) h = absurd h
 visited-bare image (Todo.drop x ∷ todo) h = absurd h
 visited-bare image (Todo.park ∷ todo) h = absurd h
 visited-bare image (Todo.add d ∷ todo) h = visited-bare image todo h.1
-visited-bare image (Todo.hold ∷ todo) h = visited-bare image todo h
-visited-bare image (Todo.let_go ∷ todo) h = visited-bare image todo h
-visited-bare image (Todo.read_claim d ∷ todo) h = visited-bare image todo h
-visited-bare image (Todo.read_done d ∷ todo) h = visited-bare image todo h
-visited-bare image (Todo.region_load ∷ todo) h = visited-bare image todo h
-visited-bare image (Todo.write_claim d ∷ todo) h = visited-bare image todo h
-visited-bare image (Todo.edit d q ∷ todo) h = visited-bare image todo h
-visited-bare image (Todo.size_look x ∷ todo) h = visited-bare image todo h
-visited-bare image (Todo.end_call x ∷ todo) h = visited-bare image todo h
-visited-bare image (Todo.wake who told ∷ todo) h = visited-bare image todo h
-visited-bare image (Todo.clean_pair who x ∷ todo) h = visited-bare image todo h
-visited-bare image (Todo.wipe x ∷ todo) h = visited-bare image todo h
-visited-bare image (Todo.vacate x ∷ todo) h = visited-bare image todo h
-visited-bare image (Todo.recycle x ∷ todo) h = visited-bare image todo h
-visited-bare image (Todo.done ∷ todo) h = visited-bare image todo h
+visited-bare image (q ∷ todo) h = visited-bare image todo h
 
 all-clear : (xs : List Bool) → ((x : ℕ) → x < length xs → slice_index_or xs x false ≡ false) → list_all not xs ≡ true
 all-clear [] h = refl

@@ -37,8 +37,8 @@ use Rattle.um_erasure.proofs.HeldRows.{some-part}
 use Rattle.um_erasure.proofs.Leaves.{Lawful, Leaves, cleans, drops, event, nothing, passes, recycles, resumes}
 use Rattle.um_erasure.proofs.ListAdders.{next-adders, takes-adders}
 use Rattle.um_erasure.proofs.ListGrips.{next-thread, read-rests}
-use Rattle.um_erasure.proofs.ListRuns.{ends-rests, is_end}
-use Rattle.um_erasure.proofs.ListTails.{ReadsLast}
+use Rattle.um_erasure.proofs.ListRuns.{ends-rests}
+use Rattle.um_erasure.proofs.ListGrowth.{ReadsLast, is_end}
 use Rattle.um_erasure.proofs.Offered.{Shows, behind-is, shown-on}
 use Rattle.um_erasure.proofs.PartsElsewhere.{starts-apart, taken-parked, takes-first}
 use Rattle.um_erasure.proofs.PlacesFacts.{set-none}

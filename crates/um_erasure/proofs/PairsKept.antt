@@ -29,7 +29,7 @@ use Rattle.um_erasure.proofs.Erased.{stepped}
 use Rattle.um_erasure.proofs.Offered.{Shows}
 use Rattle.um_erasure.proofs.RowSteps.{row-stands}
 use Rattle.um_erasure.proofs.WordsKept.{IsShown}
-use Rattle.um_erasure.proofs.Writes.{Keeping, Makes, Part, after-kept, pairs, bytes-kept}
+use Rattle.um_erasure.proofs.Writes.{Keeping, Makes, Part, after-kept, pairs, reads-keeping}
 
 -- all that a step may write but permissions
 abbrev pub NoPairs : Part → Type 0
@@ -41,18 +41,7 @@ module _ (m : State) where
   SamePairs s = s.pairs ≡ m.pairs
 
   pairs-keeping : Keeping NoPairs SamePairs
-  pairs-keeping =
-      record {
-        own = λ s v th e k. k;
-        word = λ may s v th k. k;
-        object = λ may s x o e q k. k;
-        status = λ may s x o e k. k;
-        birth = λ may s x o k. k;
-        pair = λ may s v x there k. absurd may;
-        bytes = λ may s a bs k. bytes-kept (λ (z : State). z.pairs) (λ z bytes. refl) (λ z bytes. refl) s a bs ∙ k;
-        pool = λ may s left k. k;
-        parts = λ may s d ps k. k;
-      }
+  pairs-keeping = reads-keeping NoPairs (λ s. s.pairs) m.pairs (λ s threads. refl) (λ s objects. refl) (λ s bytes. (refl, refl)) (λ may s u x there. absurd may) (λ may s left. refl) (λ may s d ps. refl)
 
   pub pairs-same : (t x : ℕ) (q : Pending) (rest : Steps) → Makes NoPairs q → (T.after m t x q rest).pairs ≡ m.pairs
   pairs-same t x q rest h = after-kept NoPairs SamePairs pairs-keeping m t refl x q rest h

@@ -61,7 +61,7 @@ use Rattle.um_erasure.proofs.SuitsKnown.{proper-known, rests-known, suits-known}
 use Rattle.um_erasure.proofs.TablePart.{table-part}
 use Rattle.um_erasure.proofs.ToldPart.{told-part}
 use Rattle.um_erasure.proofs.WordsPart.{words-part}
-use Rattle.um_erasure.proofs.Writes.{Keeping, after-kept, bytes-kept}
+use Rattle.um_erasure.proofs.Writes.{Keeping, after-kept, reads-keeping}
 
 -- No step changes the image.
 
@@ -70,18 +70,7 @@ module _ (m : State) where
   SameImage s = s.image ≡ m.image
 
   image-keeping : Keeping Any SameImage
-  image-keeping =
-      record {
-        own = λ s v th e k. k;
-        word = λ may s v th k. k;
-        object = λ may s x o e q k. k;
-        status = λ may s x o e k. k;
-        birth = λ may s x o k. k;
-        pair = λ may s v x there k. k;
-        bytes = λ may s a bs k. bytes-kept (λ (z : State). z.image) (λ z bytes. refl) (λ z bytes. refl) s a bs ∙ k;
-        pool = λ may s left k. k;
-        parts = λ may s d ps k. k;
-      }
+  image-keeping = reads-keeping Any (λ s. s.image) m.image (λ s threads. refl) (λ s objects. refl) (λ s bytes. (refl, refl)) (λ may s u x there. refl) (λ may s left. refl) (λ may s d ps. refl)
 
   image-same : (t x : ℕ) (q : Pending) (rest : Steps) → SameImage (T.after m t x q rest)
   image-same t x q rest = after-kept Any SameImage image-keeping m t refl x q rest (makes-any q)

@@ -50,10 +50,7 @@ life-started w (FineAct.Shown said more) h = by said.act
     by : (act : Act) → is_started (thread_after_act w more act).life ≡ true
     by Act.Exit = refl
     by (Act.Fatal reason cause) = refl
-    by (Act.Doom who) = h
-    by (Act.DomMove d who reply) = h
     by (Act.Start who) = refl
-    by Act.EnterUser = h
     by act = h
 life-started w (FineAct.Unseen Unseen.Hold) h = h
 life-started w (FineAct.Unseen Unseen.LetGo) h = h
@@ -78,22 +75,24 @@ module _ (f : Fine) (m : State) (e : FineStep) (law : Lawful f m e) where
   abbrev p : Processor
   p = f.processors e.cpu
 
+  -- somebody is ready, and the first of them is what is taken
+  first-ready : p.todo ≡ [] → IsTrue (has_ready (scheduler f) (scheduler f).ready) × (e.moved ≡ first_ready (scheduler f) (scheduler f).ready)
+  first-ready at =
+      let said = made-says f m e law [] at in (
+        idle-takes f.image p (scheduler f) e.moved (sched-took f m e law (made-at f m e law [] at) (says_idle f.image p e.moved) said),
+        sym (sched-moved f m e law (made-at f m e law [] at) (says_idle f.image p e.moved) said) ∙ idle-moves f.image p (scheduler f) e.moved,
+      )
+
   -- The thread that is taken is parked.
 
   pub taken-parked : p.todo ≡ [] → (c : Context) (told : Option Told) → e.moved ≡ Exchange.thread c told → parked_at (scheduler f) c.thread ≡ Some c
   taken-parked at c told moved = by (scheduler f).ready refl
     where
-      act : FineAct
-      act = says_idle f.image p e.moved
-
-      said : e.act ≡ act
-      said = made-says f m e law [] at
-
       ready : IsTrue (has_ready (scheduler f) (scheduler f).ready)
-      ready = idle-takes f.image p (scheduler f) e.moved (sched-took f m e law (made-at f m e law [] at) act said)
+      ready = (first-ready at).0
 
       first : e.moved ≡ first_ready (scheduler f) (scheduler f).ready
-      first = sym (sched-moved f m e law (made-at f m e law [] at) act said) ∙ idle-moves f.image p (scheduler f) e.moved
+      first = (first-ready at).1
 
       by : (list : List ℕ) → (scheduler f).ready ≡ list → parked_at (scheduler f) c.thread ≡ Some c
       by [] q = absurd (false≢true (subst (λ (l : List ℕ). IsTrue (has_ready (scheduler f) l)) q ready))
@@ -111,17 +110,11 @@ module _ (f : Fine) (m : State) (e : FineStep) (law : Lawful f m e) where
   pub takes-first : p.todo ≡ [] → (u : ℕ) × (list : List ℕ) × (d : Context) × (told : Option Told) × ((scheduler f).ready ≡ u ∷ list) × (e.moved ≡ Exchange.thread d told) × (d.thread ≡ u) × (told ≡ told_at (scheduler f) u)
   takes-first at = by (scheduler f).ready refl
     where
-      act : FineAct
-      act = says_idle f.image p e.moved
-
-      said : e.act ≡ act
-      said = made-says f m e law [] at
-
       ready : IsTrue (has_ready (scheduler f) (scheduler f).ready)
-      ready = idle-takes f.image p (scheduler f) e.moved (sched-took f m e law (made-at f m e law [] at) act said)
+      ready = (first-ready at).0
 
       first : e.moved ≡ first_ready (scheduler f) (scheduler f).ready
-      first = sym (sched-moved f m e law (made-at f m e law [] at) act said) ∙ idle-moves f.image p (scheduler f) e.moved
+      first = (first-ready at).1
 
       by : (list : List ℕ) → (scheduler f).ready ≡ list
           → (u : ℕ) × (list : List ℕ) × (d : Context) × (told : Option Told) × ((scheduler f).ready ≡ u ∷ list) × (e.moved ≡ Exchange.thread d told) × (d.thread ≡ u) × (told ≡ told_at (scheduler f) u)

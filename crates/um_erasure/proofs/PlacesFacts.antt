@@ -9,10 +9,11 @@ use Rattle.um_machine.specs.State.{State, thread_at}
 use Rattle.um_fine.specs.Context.{Context}
 use Rattle.um_fine.specs.Places.{Todo, Todos}
 use Rattle.um_fine.specs.Scheduler.{parked_at, told_at}
-use Rattle.um_erasure.specs.Fine.{Fine, one_if, scheduler, total}
+use Rattle.um_erasure.specs.Fine.{Fine, one_if, scheduler}
 use Rattle.um_erasure.specs.Lists.{Adds, adders, counted, is_wake, of_thread, wake_of}
 use Rattle.um_erasure.specs.Relation.{Rel}
 use Rattle.um_erasure.specs.Threads.{first_told, runs_on, told_by}
+use Rattle.um_erasure.proofs.DomainFacts.{two-parts}
 use Rattle.um_erasure.proofs.MemorySteps.{part-total}
 
 -- nothing stands where nothing was written
@@ -32,35 +33,6 @@ first-some (Some w) b h = refl
 second-some : (a b : Option Told) → is_some b ≡ true → is_some (first_told a b) ≡ true
 second-some None b h = h
 second-some (Some w) b h = refl
-
--- two parts of a sum are at most the sum
-pub total-two : (g : ℕ → ℕ) (n k j : ℕ) → k < n → j < n → (k ≡ j → ⊥) → g k + g j ≤ total g n
-total-two g zero k j l r apart = absurd (omega (arith, l))
-total-two g (suc n) k j l r apart = by (k == n) refl (j == n) refl (total-two g n k j)
-  where
-    by : (a : Bool) → (k == n) ≡ a → (b : Bool) → (j == n) ≡ b → (k < n → j < n → (k ≡ j → ⊥) → g k + g j ≤ total g n) → g k + g j ≤ total g n + g n
-    by true e true h more = absurd (apart (eqb-true k n e ∙ sym (eqb-true j n h)))
-    by true e false h more =
-        let last : g k ≡ g n = ap g (eqb-true k n e) in
-        let other = eqb-false j n h in
-        let part = part-total g n j (below j r other) in omega (arith, last, part)
-      where
-        below : (i : ℕ) → i < suc n → (i ≡ n → ⊥) → i < n
-        below i l ne = omega (arith, l, ne)
-    by false e true h more =
-        let last : g j ≡ g n = ap g (eqb-true j n h) in
-        let other = eqb-false k n e in
-        let part = part-total g n k (below k l other) in omega (arith, last, part)
-      where
-        below : (i : ℕ) → i < suc n → (i ≡ n → ⊥) → i < n
-        below i l ne = omega (arith, l, ne)
-    by false e false h more =
-        let one = eqb-false k n e in
-        let other = eqb-false j n h in
-        let sum = more (below k l one) (below j r other) apart in omega (arith, sum)
-      where
-        below : (i : ℕ) → i < suc n → (i ≡ n → ⊥) → i < n
-        below i l ne = omega (arith, l, ne)
 
 -- a step that adds a thread is one of its adders
 pub adds-count : (c : Context) (todo : Todos) → Adds c todo → 0 < of_thread c.thread (adders todo)
@@ -102,7 +74,7 @@ module _ (f : Fine) (m : State) (rel : Rel f m) (t : ℕ) (few : t < THREADS) wh
   -- not with two
   pub lies-once : (k j : ℕ) → k < f.cpus → j < f.cpus → (k ≡ j → ⊥) → 0 < part k → 0 < part j → ⊥
   lies-once k j l r apart some other =
-      let sum = total-two part f.cpus k j l r apart in
+      let sum = two-parts part f.cpus k j l r apart in
       let once = rel.contexts.once t few in
       omega (arith, sum, some, other, once)
 

@@ -31,7 +31,7 @@ use Rattle.um_erasure.proofs.MemoryKept.{Untouched, after-untouched}
 use Rattle.um_erasure.proofs.MemorySteps.{memory-sort}
 use Rattle.um_erasure.proofs.Offered.{Shows, act-is, own-part, site-is}
 use Rattle.um_erasure.proofs.WordsKept.{IsShown}
-use Rattle.um_erasure.proofs.Writes.{Keeping, Makes, Part, after-kept, pools, bytes-kept}
+use Rattle.um_erasure.proofs.Writes.{Keeping, Makes, Part, after-kept, pools, reads-keeping}
 
 -- all that a step may write but the pools
 abbrev pub NoPools : Part → Type 0
@@ -43,18 +43,7 @@ module _ (m : State) where
   SamePools s = s.pools ≡ m.pools
 
   pools-keeping : Keeping NoPools SamePools
-  pools-keeping =
-      record {
-        own = λ s v th e k. k;
-        word = λ may s v th k. k;
-        object = λ may s x o e q k. k;
-        status = λ may s x o e k. k;
-        birth = λ may s x o k. k;
-        pair = λ may s v x there k. k;
-        bytes = λ may s a bs k. bytes-kept (λ (z : State). z.pools) (λ z bytes. refl) (λ z bytes. refl) s a bs ∙ k;
-        pool = λ may s left k. absurd may;
-        parts = λ may s d ps k. k;
-      }
+  pools-keeping = reads-keeping NoPools (λ s. s.pools) m.pools (λ s threads. refl) (λ s objects. refl) (λ s bytes. (refl, refl)) (λ may s u x there. refl) (λ may s left. absurd may) (λ may s d ps. refl)
 
   pub pools-same : (t x : ℕ) (q : Pending) (rest : Steps) → Makes NoPools q → (T.after m t x q rest).pools ≡ m.pools
   pools-same t x q rest h = after-kept NoPools SamePools pools-keeping m t refl x q rest h

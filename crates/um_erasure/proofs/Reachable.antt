@@ -22,7 +22,7 @@ use Rattle.um_reach.proofs.Turns.{IsKnown}
 use Rattle.um_erasure.proofs.DropSteps.{Held}
 use Rattle.um_erasure.proofs.Erased.{IsReachable}
 use Rattle.um_erasure.proofs.FirstObjects.{all-objects, opening-image}
-use Rattle.um_erasure.proofs.FirstThreads.{copies-long, threads-long}
+use Rattle.um_erasure.proofs.FirstThreads.{booted-read, copies-long, loaded-read, threads-long}
 use Rattle.um_erasure.proofs.ThreadLists.{dues-long, set-long}
 use Rattle.um_erasure.proofs.Writes.{Keeping, Makes, Part, after-kept}
 
@@ -135,32 +135,13 @@ copies-at zero x flags l = absurd (omega (arith, l))
 copies-at (suc n) zero flags l = refl
 copies-at (suc n) (suc x) flags l = copies-at n x flags (omega (arith, l))
 
-granted-domains : (t : ℕ) (rows : List Row) (s : State) → (granted t rows s).domains ≡ s.domains
-granted-domains t [] s = refl
-granted-domains t (x ∷ rows) s = granted-domains t rows (with_pair s t x.0 true)
-
-booted-domains : (boots : List Boot) (s : State) → (booted boots s).domains ≡ s.domains
-booted-domains [] s = refl
-booted-domains (boot ∷ boots) s =
-    let t = index_or (thread_of_row s.image boot.thread.0) in
-    booted-domains boots (booted_one boot s) ∙ granted-domains t (boot.thread ∷ boot.grants) (with_thread s t (boot_thread s.image boot))
-
-bytes-domains : (s : State) (a : ℕ) (bs : List ℕ) → (with_bytes s a bs).domains ≡ s.domains
-bytes-domains s a bs = by (nat_lt a STACK_AREA)
-  where
-    by : (c : Bool) → (if c then record s { memory = put_bytes s.memory (a - PARTITION_AREA) bs } else record s { stacks = put_bytes s.stacks (a - STACK_AREA) bs }).domains ≡ s.domains
-    by true = refl
-    by false = refl
-
-loaded-domains : (ps : List Partition) (s : State) → (loaded ps s).domains ≡ s.domains
-loaded-domains [] s = refl
-loaded-domains (p ∷ ps) s = loaded-domains ps (with_bytes s p.range.start.0 p.bytes) ∙ bytes-domains s p.range.start.0 p.bytes
-
 -- as many domains as the image has
 opening-domains : (image : Image) → length (opening image).domains ≡ length (opening image).image.domains
 unfolding blank
 opening-domains image =
-    ap length (booted-domains image.boots (loaded image.partitions (blank image)) ∙ loaded-domains image.partitions (blank image))
+    ap length
+    (booted-read (λ z. z.domains) (λ z pairs. refl) (λ z threads. refl) image.boots (loaded image.partitions (blank image))
+    ∙ loaded-read (λ z. z.domains) (λ z bytes. (refl, refl)) image.partitions (blank image))
     ∙ (length-map image.domains (λ (d : DomainDef). parts_of image d.parts) ∙ ap (λ (i : Image). length i.domains) (sym (opening-image image)))
 
 pub opening-wide : (image : Image) → length image.objects ≤ STATIC_ROWS → IsWide (opening image)

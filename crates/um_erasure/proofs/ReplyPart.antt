@@ -7,7 +7,6 @@ use Rattle.um_base.specs.declared.image.Image.{Image}
 use Rattle.um_base.specs.declared.names.Reply.{Reply}
 use Rattle.um_base.specs.declared.names.ThreadIx.{ThreadIx}
 use Rattle.um_base.specs.Regions.{Partitions}
-use Rattle.um_machine.specs.declared.pending.Amount.{Amount}
 use Rattle.um_machine.specs.declared.pending.Pending.{Pending}
 use Rattle.um_machine.specs.declared.thread.Thread.{Thread}
 use Rattle.um_machine.specs.Order.{Steps}
@@ -38,7 +37,8 @@ use Rattle.um_erasure.proofs.DomainWords.{IsEdited, Stays, is-domain, stays-or-e
 use Rattle.um_erasure.proofs.Erased.{stepped}
 use Rattle.um_erasure.proofs.Leaves.{Lawful, Leaves}
 use Rattle.um_erasure.proofs.ListGrips.{read-rests}
-use Rattle.um_erasure.proofs.ListTails.{Reads, ReadsLast, exact-next, is_passed, is_read_claim, tail-read, takes-read}
+use Rattle.um_erasure.proofs.ListGrowth.{ReadsLast, either-look, is_read_claim}
+use Rattle.um_erasure.proofs.ListTails.{Reads, exact-next, is_passed, tail-read, takes-read}
 use Rattle.um_erasure.proofs.MemorySteps.{part-total}
 use Rattle.um_erasure.proofs.SchedulerSteps.{made-at, made-says, word-left}
 use Rattle.um_erasure.proofs.StepsLeft.{offered-on}
@@ -58,10 +58,8 @@ moving-passed (Todo.show q rest) todo h = absurd (false≢true h)
 moving-passed q todo h = refl
 
 moving-none : (image : Image) (c : Context) (q : Pending) (rest : Steps) → moving (fine_steps image c q rest) ≡ None
-moving-none image c (Pending.Probe a (Amount.Bytes n)) rest = refl
-moving-none image c (Pending.Probe a (Amount.MessageOf b)) rest = refl
-moving-none image c (Pending.CopyIn a (Amount.Bytes n)) rest = refl
-moving-none image c (Pending.CopyIn a (Amount.MessageOf b)) rest = refl
+moving-none image c (Pending.Probe a amount) rest = either-look image (λ todo. moving todo ≡ None) amount _ (λ x h. h) refl
+moving-none image c (Pending.CopyIn a amount) rest = either-look image (λ todo. moving todo ≡ None) amount _ (λ x h. h) refl
 moving-none image c q rest = refl
 
 moving-reads : (image : Image) → Reads image moving None

@@ -11,20 +11,17 @@ use Rattle.um_machine.specs.Order.{Steps}
 use Rattle.um_machine.specs.Run.{goes}
 use Rattle.um_machine.specs.State.{State, thread_at}
 use Rattle.um_machine.specs.Table as T
-use Rattle.um_words.specs.declared.fine.FineAct.{FineAct}
 use Rattle.um_fine.specs.Context.{Context, no_context}
-use Rattle.um_fine.specs.Steps.{Exchange, FineStep, Site}
-use Rattle.um_fine.specs.Scheduler.{first_ready, has_ready, parked_at, sched_moves, told_at, waits}
-use Rattle.um_fine.specs.Cells.{Cell}
-use Rattle.um_fine.specs.Sites.{SiteMay, SiteState, site_moves, site_takes}
-use Rattle.um_fine.specs.Places.{Todos}
-use Rattle.um_fine.specs.Asks.{CpuMay, says, says_idle, site_at}
+use Rattle.um_fine.specs.Steps.{Exchange, FineStep}
+use Rattle.um_fine.specs.Scheduler.{first_ready, has_ready, parked_at, told_at, waits}
+use Rattle.um_fine.specs.Sites.{SiteMay}
+use Rattle.um_fine.specs.Asks.{CpuMay, says, says_idle}
 use Rattle.um_erasure.specs.Fine.{Fine, scheduler}
 use Rattle.um_erasure.specs.Lists.{wake_of}
 use Rattle.um_erasure.specs.Threads.{IsOf, first_told, told_by}
 use Rattle.um_erasure.specs.Relation.{Rel}
 use Rattle.um_erasure.proofs.Erased.{Goes, GoesBy}
-use Rattle.um_erasure.proofs.Kept.{idle-moves, idle-takes, scheduler-sort}
+use Rattle.um_erasure.proofs.Kept.{idle-step}
 
 -- what is known of the machine: who was told something waits
 abbrev pub TellsWaiters : State → Type 0
@@ -83,21 +80,11 @@ module _ (f : Fine) (m : State) (rel : Rel f m) where
       → (rest : Steps) × (c.pending ≡ Pending.Resume ∷ rest) × Goes m e (T.after m c.thread 0 Pending.Resume rest)
   resume-step {k} {e} c told there idle may taken moved waiters =
       let p = f.processors k in
-      let site : e.site ≡ Site.scheduler = sym (ap (λ (s : FineStep). s.site) may.makes) ∙ ap (site_at f.image p) idle in
-      let act : e.act ≡ says_idle f.image p e.moved =
-      sym (ap (λ (s : FineStep). s.act) may.makes) ∙ ap (λ (z : Todos). says f.image p z e.act e.moved) idle in
-      let at = scheduler-sort (f.sites Site.scheduler) (rel.sorts Site.scheduler) in
-      let moves : sched_moves (scheduler f) (says_idle f.image p e.moved) e.moved ≡ e.moved =
-      subst (λ (s : SiteState). site_moves f.image s (says_idle f.image p e.moved) e.moved ≡ e.moved) at.1
-      (subst (λ (z : Site × FineAct). site_moves f.image (f.sites z.0) z.1 e.moved ≡ e.moved) (λ i. (site i, act i)) (ap (λ (s : FineStep). s.moved) taken.filled_in)) in
-      let takes : IsTrue (site_takes (SiteState.cell at.0 (Cell.scheduler (scheduler f))) (says_idle f.image p e.moved)) =
-      subst (λ (s : SiteState). IsTrue (site_takes s (says_idle f.image p e.moved))) at.1
-      (subst (λ (z : Site × FineAct). IsTrue (site_takes (f.sites z.0) z.1)) (λ i. (site i, act i)) taken.takes) in
-      let ready = idle-takes f.image p (scheduler f) e.moved (and_parts _ _ takes).1 in
-      let is = first-taken (scheduler f).ready c told ready (sym (idle-moves f.image p (scheduler f) e.moved) ∙ (moves ∙ moved)) in
+      let idles = idle-step f m rel p e may taken idle in
+      let is = first-taken (scheduler f).ready c told idles.1 (idles.2 ∙ moved) in
       let steps = waits-form (thread_at m c.thread).pending (waiters c.thread is.tells.0 is.tells.1) in (
         steps.0,
         ap (λ (th : Thread). th.pending) is.of.own ∙ steps.1,
-        subst (λ a. GoesBy m a (T.after m c.thread 0 Pending.Resume steps.0)) (sym (act ∙ ap (says_idle f.image p) moved))
+        subst (λ a. GoesBy m a (T.after m c.thread 0 Pending.Resume steps.0)) (sym (idles.0 ∙ ap (says_idle f.image p) moved))
             (record { step = Pending.Resume; rest = steps.0; row = 0; offered = goes steps.1; chosen = is.tells; says = refl; leaves = refl }),
       )

@@ -5,29 +5,27 @@ use Rattle.std.specs.List.{list_all}
 use Rattle.std.proofs.lemmas.Bool.{and_from, and_parts, eqb-true, false≢true, lt-ltb}
 use Rattle.um_base.specs.declared.ask.Told.{Told}
 use Rattle.um_base.specs.declared.image.Image.{Image}
-use Rattle.um_base.specs.declared.instr.Instr.{Instr}
 use Rattle.um_base.specs.declared.limits.TheConstants.{ROWS}
 use Rattle.um_base.specs.declared.names.Addr.{Addr}
 use Rattle.um_base.specs.declared.names.ThreadIx.{ThreadIx}
 use Rattle.um_base.specs.Places.{own_row, row_at, thread_of_row}
-use Rattle.um_machine.specs.declared.pending.Amount.{Amount}
 use Rattle.um_machine.specs.declared.pending.Pending.{Pending}
 use Rattle.um_machine.specs.Order.{Steps}
-use Rattle.um_machine.specs.State.{State, instruction_at}
+use Rattle.um_machine.specs.State.{State}
 use Rattle.um_fine.specs.Addresses.{row_named}
-use Rattle.um_fine.specs.Answers.{act_in, domain_in, is_visit, is_word_read, outcome_in}
+use Rattle.um_fine.specs.Answers.{outcome_in}
 use Rattle.um_fine.specs.Asks.{begins_cleaning, check_site, site_at, site_of_step}
 use Rattle.um_fine.specs.Context.{Context}
-use Rattle.um_fine.specs.Continues.{continues, resumed}
 use Rattle.um_fine.specs.FineRun.{cpu_of, same_cpu}
-use Rattle.um_fine.specs.Follows.{after_claim, after_show, after_take, behind_step, dropped_at, end_calls, filled_up, goes_on_by, p_next, row_number, unless_loaded, wakes, with_cleaned}
-use Rattle.um_fine.specs.Places.{Todo, Todos, but, clean_pairs, cleaning, cleaning_of, drops, end_of_turn, fine_steps, next_steps, passes, turn_of, with_cleaning}
-use Rattle.um_fine.specs.Processor.{Processor, fails, is_of, key_of}
+use Rattle.um_fine.specs.Follows.{behind_step, end_calls, goes_on_by, p_next, row_number, wakes, with_cleaned}
+use Rattle.um_fine.specs.Places.{Todo, Todos, is_cleaning_todo, cleaning_of, end_of_turn, fine_steps, next_steps}
+use Rattle.um_fine.specs.Processor.{Processor, fails}
 use Rattle.um_fine.specs.Runs.{changed}
 use Rattle.um_fine.specs.Steps.{Exchange, FineStep, Site}
 use Rattle.um_erasure.specs.Fine.{Fine}
 use Rattle.um_erasure.specs.Lists.{has_steps, names_row}
 use Rattle.um_erasure.proofs.Leaves.{Lawful}
+use Rattle.um_erasure.proofs.ListGrowth.{cleaning-kept, either-look, ends-always, next-kept, quiet-kept, show-kept, take-kept, turn-kept, visits_row}
 use Rattle.um_erasure.proofs.ObjectsKept.{found-below}
 use Rattle.um_erasure.proofs.StepsLeft.{run-below}
 use Rattle.um_erasure.proofs.SchedulerSteps.{made-at, made-says}
@@ -43,44 +41,18 @@ tail-are q todo h = (and_parts (names_row q) (list_all names_row todo) h).1
 
 module _ (image : Image) (named : (a : Addr) → nat_lt (row_named image a) ROWS ≡ true) where
   fine-rows : (c : Context) (q : Pending) (rest : Steps) → Are (fine_steps image c q rest)
-  fine-rows c (Pending.Probe a (Amount.Bytes n)) rest = refl
-  fine-rows c (Pending.Probe a (Amount.MessageOf b)) rest = refl
-  fine-rows c (Pending.CopyIn a (Amount.Bytes n)) rest = refl
-  fine-rows c (Pending.CopyIn a (Amount.MessageOf b)) rest = refl
+  fine-rows c (Pending.Probe a amount) rest = either-look image Are amount _ (λ x h. h) refl
+  fine-rows c (Pending.CopyIn a amount) rest = either-look image Are amount _ (λ x h. h) refl
   fine-rows c q rest = refl
 
-  passes-rows : (who x : ℕ) (todo : Todos) → Are todo → Are (passes who x todo)
-  passes-rows who x todo h = by (nat_lt x ROWS) refl
-    where
-      by : (b : Bool) → nat_lt x ROWS ≡ b → Are (if b then Todo.pass who x ∷ todo else todo)
-      by true q = and_from _ _ q h
-      by false q = h
+  put : (q : Todo) (todo : Todos) → visits_row q ≡ true → names_row q ≡ true → Are todo → Are (q ∷ todo)
+  put q todo visit few h = and_from _ _ few h
 
-  drops-rows : (x : ℕ) (todo : Todos) → Are todo → Are (drops x todo)
-  drops-rows x todo h = by (nat_lt x ROWS) refl
-    where
-      by : (b : Bool) → nat_lt x ROWS ≡ b → Are (if b then Todo.drop x ∷ todo else todo)
-      by true q = and_from _ _ q h
-      by false q = h
+  abbrev All : Context → Type 0
+  All c = Unit {0}
 
-  end-rows : (b : Bool) → Are (end_of_turn image b)
-  end-rows true = refl
-  end-rows false = refl
-
-  next-rows : (c : Context) (steps : Steps) → Are (next_steps image c steps)
-  next-rows c [] = end-rows c.ended
-  next-rows c (Pending.Resume ∷ rest) = refl
-  next-rows c (Pending.Inherit who ∷ q ∷ rest) = passes-rows who.0 (but (own_row image c.thread) 0) (fine_steps image c q rest) (fine-rows c q rest)
-  next-rows c (Pending.Drops from ∷ q ∷ rest) = drops-rows from (fine_steps image c q rest) (fine-rows c q rest)
-  next-rows c (Pending.Probe a (Amount.Bytes n) ∷ rest) = refl
-  next-rows c (Pending.Probe a (Amount.MessageOf b) ∷ rest) = refl
-  next-rows c (Pending.CopyIn a (Amount.Bytes n) ∷ rest) = refl
-  next-rows c (Pending.CopyIn a (Amount.MessageOf b) ∷ rest) = refl
-  next-rows c (q ∷ rest) = refl
-
-  filled-rows : (c : Context) (todo : Todos) → Are todo → Are (filled_up image c todo)
-  filled-rows c [] h = next-rows c c.pending
-  filled-rows c (q ∷ todo) h = h
+  expands : (c : Context) → All c → Are [] → Are (next_steps image c c.pending)
+  expands c of h = next-kept image Are put fine-rows (λ b. elim b as (λ b. Are (end_of_turn image b)) [ true ↦ refl | false ↦ refl ]) c c.pending
 
   wakes-rows : (ws : List (ThreadIx × Told)) (todo : Todos) → Are todo → Are (wakes ws todo)
   wakes-rows [] todo h = h
@@ -102,78 +74,23 @@ module _ (image : Image) (named : (a : Addr) → nat_lt (row_named image a) ROWS
       by false q = h
   behind-rows c q moved todo b h = h
 
-  block-rows : (x : ℕ) (o : Option ℕ) (todo : Todos) → nat_lt x ROWS ≡ true → Are todo → Are (cleaning_of x o ++ todo)
-  block-rows x None todo l h = and_from _ _ l (and_from _ _ l (and_from _ _ l h))
-  block-rows x (Some who) todo l h = and_from _ _ l (and_from _ _ l (and_from _ _ l h))
+  first-rows : (x : ℕ) → nat_lt x ROWS ≡ true → (o : Option ℕ) (todo : Todos) → thread_of_row image x ≡ o → Are todo → Are (cleaning_of x o ++ todo)
+  first-rows x l None todo at h = and_from _ _ l (and_from _ _ l (and_from _ _ l h))
+  first-rows x l (Some who) todo at h = and_from _ _ l (and_from _ _ l (and_from _ _ l h))
 
-  alone-rows : (x : ℕ) (o : Option ℕ) → nat_lt x ROWS ≡ true → Are (cleaning_of x o)
-  alone-rows x None l = and_from _ _ l (and_from _ _ l (and_from _ _ l refl))
-  alone-rows x (Some who) l = and_from _ _ l (and_from _ _ l (and_from _ _ l refl))
-
-  cleaned-rows : (x : ℕ) (todo : Todos) → nat_lt x ROWS ≡ true → Are todo → Are (with_cleaning (cleaning image x) todo)
-  cleaned-rows x [] l h = alone-rows x (thread_of_row image x) l
-  cleaned-rows x (Todo.clean_pair who y ∷ todo) l h = let parts = and_parts (nat_lt y ROWS) _ h in and_from _ _ parts.0 (cleaned-rows x todo l parts.1)
-  cleaned-rows x (Todo.wipe y ∷ todo) l h = let parts = and_parts (nat_lt y ROWS) _ h in and_from _ _ parts.0 (cleaned-rows x todo l parts.1)
-  cleaned-rows x (Todo.vacate y ∷ todo) l h = let parts = and_parts (nat_lt y ROWS) _ h in and_from _ _ parts.0 (cleaned-rows x todo l parts.1)
-  cleaned-rows x (Todo.recycle y ∷ todo) l h = let parts = and_parts (nat_lt y ROWS) _ h in and_from _ _ parts.0 (cleaned-rows x todo l parts.1)
-  cleaned-rows x (q ∷ todo) l h = block-rows x (thread_of_row image x) (q ∷ todo) l h
-
-  take-rows : (p : Processor) (moved : Exchange) → Are p.todo → Are (after_take image p moved).todo
-  take-rows p (Exchange.thread c None) h = by (instruction_at image c.place)
-    where
-      by : (instr : Option Instr) → Are (turn_of image instr)
-      by None = refl
-      by (Some instr) = refl
-  take-rows p (Exchange.thread c (Some told)) h = filled-rows (resumed image c told) [] refl
-  take-rows p moved h = h
-
-  unless-rows : (b : Bool) (todo : Todos) → Are todo → Are (unless_loaded b todo)
-  unless-rows true (Todo.region_load ∷ todo) h = h
-  unless-rows b todo h = h
-
-  claim-rows : (p : Processor) (d : ℕ) (init : Bool) (todo : Todos) → Are todo → Are (after_claim p d init 0 todo).todo
-  claim-rows p d true todo h = h
-  claim-rows p d false todo h = h
-
-  show-rows : (p : Processor) (e : FineStep) (q : Pending) (rest : Steps) (todo : Todos) (b : Bool) → Below p.context.claims → Are todo
-      → Are (if b then record p { todo = Todo.done ∷ [] } else after_show image p e q rest todo).todo
-  show-rows p e q rest todo true l h = refl
-  show-rows p e q rest todo false l h =
-      let c = continues image p.context 0 q rest (act_in e.act) e.moved in behind-rows p.context q e.moved (filled_up image c todo) l (filled-rows c todo h)
-
-  clean-rows : (who x : ℕ) (todo : Todos) → Are todo → Are (clean_pairs who x todo)
-  clean-rows who x todo h = by (nat_lt x ROWS) refl
-    where
-      by : (b : Bool) → nat_lt x ROWS ≡ b → Are (if b then Todo.clean_pair who x ∷ todo else todo)
-      by true q = and_from _ _ q h
-      by false q = h
+  later-rows : (q : Todo) (old new : Todos) → is_cleaning_todo q ≡ true → (Are old → Are new) → Are (q ∷ old) → Are (q ∷ new)
+  later-rows q old new c more h = let parts = and_parts (names_row q) (list_all names_row old) h in and_from (names_row q) (list_all names_row new) parts.0 (more parts.1)
 
   goes-rows : (p : Processor) (e : FineStep) (todo : Todos) → Are p.todo → (has_steps todo ≡ true → Below p.context.claims) → Are todo → Are (goes_on_by image p e todo).todo
-  goes-rows p e [] was b h = take-rows p e.moved was
-  goes-rows p e (Todo.show q rest ∷ todo) was b h = show-rows p e q rest todo (is_word_read e.act) (b refl) h
-  goes-rows p e (Todo.let_go ∷ todo) was b h = filled-rows p.context todo h
-  goes-rows p e (Todo.read_claim None ∷ todo) was b h = unless-rows (is_of (key_of (record p { version = (domain_in e.word).version })) p.table) todo h
-  goes-rows p e (Todo.read_claim (Some d) ∷ todo) was b h = claim-rows p d (domain_in e.word).init todo h
-  goes-rows p e (Todo.read_done d ∷ todo) was b h = filled-rows p.context todo h
-  goes-rows p e (Todo.end_call x ∷ todo) was b h = filled-rows p.context todo (tail-are (Todo.end_call x) todo h)
-  goes-rows p e (Todo.wake who told ∷ todo) was b h = filled-rows p.context todo h
-  goes-rows p e (Todo.add c ∷ todo) was b h = filled-rows p.context todo h
-  goes-rows p e (Todo.pass who x ∷ todo) was b h =
-      let next = but (own_row image p.context.thread) (x + 1) in
-      filled-rows p.context (passes who next todo) (passes-rows who next todo (tail-are (Todo.pass who x) todo h))
-  goes-rows p e (Todo.drop x ∷ todo) was b h =
-      filled-rows (dropped_at image p.context x (is_visit e.act)) (drops (x + 1) todo) (drops-rows (x + 1) todo (tail-are (Todo.drop x) todo h))
-  goes-rows p e (Todo.clean_pair who x ∷ todo) was b h = clean-rows who (x + 1) todo (tail-are (Todo.clean_pair who x) todo h)
-  goes-rows p e (Todo.wipe x ∷ todo) was b h = tail-are (Todo.wipe x) todo h
-  goes-rows p e (Todo.vacate x ∷ todo) was b h = tail-are (Todo.vacate x) todo h
-  goes-rows p e (Todo.recycle x ∷ todo) was b h = filled-rows p.context todo (tail-are (Todo.recycle x) todo h)
-  goes-rows p e (Todo.park ∷ todo) was b h = refl
-  goes-rows p e (Todo.done ∷ todo) was b h = refl
-  goes-rows p e (q ∷ todo) was b h = h
+  goes-rows p e [] was b h = take-kept image Are All expands p (turn-kept image Are refl refl) e.moved tt refl was
+  goes-rows p e (Todo.show q rest ∷ todo) was b h =
+      show-kept image Are All expands p e q rest todo Are tt (λ z k. behind-rows p.context q e.moved z (b refl) k) (λ read. refl) h
+  goes-rows p e (q ∷ todo) was b h =
+      quiet-kept image Are All expands p put (λ who x z few k. and_from _ _ few k) (λ z k. k) (λ d z k. k) e q todo refl tt (ends-always Are refl refl e q) (tail-are q todo h)
 
   cleaned-are : (p : Processor) (e : FineStep) (b : Bool) → (b ≡ true → nat_lt (row_number e.site) ROWS ≡ true) → Are p.todo → Are (with_cleaned image p e b).todo
   cleaned-are p e false l h = h
-  cleaned-are p e true l h = cleaned-rows (row_number e.site) p.todo (l refl) h
+  cleaned-are p e true l h = cleaning-kept image (λ old new. Are old → Are new) (row_number e.site) (first-rows (row_number e.site) (l refl)) later-rows p.todo h
 
   rows-next : (p : Processor) (e : FineStep) → (begins_cleaning e ≡ true → nat_lt (row_number e.site) ROWS ≡ true) → (has_steps p.todo ≡ true → Below p.context.claims) → Are p.todo
       → Are (p_next image p e).todo

@@ -24,7 +24,8 @@ use Rattle.um_erasure.proofs.Erased.{stepped}
 use Rattle.um_erasure.proofs.Kept.{idle-moves, idle-takes}
 use Rattle.um_erasure.proofs.Leaves.{Lawful}
 use Rattle.um_erasure.proofs.ListClaims.{IsThread}
-use Rattle.um_erasure.proofs.ListRuns.{ends-rests, goes-runs, is_end, takes-runs}
+use Rattle.um_erasure.proofs.ListGrowth.{is_end}
+use Rattle.um_erasure.proofs.ListRuns.{ends-rests, goes-runs, takes-runs}
 use Rattle.um_erasure.proofs.SchedulerSteps.{made-at, made-says, sched-else, sched-later, sched-moved, sched-took, shown-elsewhere}
 use Rattle.um_erasure.proofs.Sums.{over-changed}
 

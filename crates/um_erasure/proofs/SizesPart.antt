@@ -39,7 +39,8 @@ use Rattle.um_erasure.proofs.Erased.{stepped}
 use Rattle.um_erasure.proofs.HeldRows.{checked-claimed, claimed-whole}
 use Rattle.um_erasure.proofs.Leaves.{Lawful, Leaves, cleans, drops, event, mine, nothing, passes, recycles, resumes}
 use Rattle.um_erasure.proofs.ListGrips.{read-rests}
-use Rattle.um_erasure.proofs.ListTails.{Reads, ReadsLast, exact-next, is_passed, is_read_claim, tail-read, takes-read}
+use Rattle.um_erasure.proofs.ListGrowth.{ReadsLast, is_read_claim}
+use Rattle.um_erasure.proofs.ListTails.{Reads, exact-next, is_passed, tail-read, takes-read}
 use Rattle.um_erasure.proofs.Offered.{shown-offers}
 use Rattle.um_erasure.proofs.QueueSteps.{IsKnownAt, Queued}
 use Rattle.um_erasure.proofs.QueuesAfter.{Holds}

@@ -52,7 +52,7 @@ use Rattle.um_erasure.proofs.Erased.{stepped}
 use Rattle.um_erasure.proofs.Leaves.{Lawful, Leaves, cleans, drops, event, nothing, passes, recycles, resumes}
 use Rattle.um_erasure.proofs.ListCounts.{recycles-of, takes-counts, vacates-of}
 use Rattle.um_erasure.proofs.ListGrips.{read-rests}
-use Rattle.um_erasure.proofs.ListTails.{ReadsLast}
+use Rattle.um_erasure.proofs.ListGrowth.{ReadsLast}
 use Rattle.um_erasure.proofs.ObjectsKept.{born-reserved, set-kept}
 use Rattle.um_erasure.proofs.Offered.{IsStep, Shows, shown-offers, site-is}
 use Rattle.um_erasure.proofs.Reachable.{sound-held}

@@ -38,6 +38,7 @@ use Rattle.um_erasure.specs.Frames.{AreFramed, Behind}
 use Rattle.um_erasure.specs.Objects.{is_reserved, recyclers, status_of, vacaters}
 use Rattle.um_erasure.specs.Relation.{Rel}
 use Rattle.um_erasure.specs.Room.{CanCount, IsHalted, has_number}
+use Rattle.um_erasure.proofs.FirstThreads.{one-most}
 use Rattle.um_erasure.proofs.HeapSteps.{heap-sort}
 use Rattle.um_erasure.proofs.HeldRows.{call-claimed, one-some}
 use Rattle.um_erasure.proofs.Kept.{scheduler-sort}
@@ -284,10 +285,6 @@ module _ (f : Fine) (m : State) (rel : Rel f m) (room : HasRoom f) where
           let here : counted (is_vacate x) (f.processors k).todo ≡ counted (is_vacate x) rest + 1 =
           ap (counted (is_vacate x)) at ∙ ap (λ b. if b then counted (is_vacate x) rest + 1 else counted (is_vacate x) rest) (eq-eqb x x refl) in
           omega (arith, part, here)
-
-      one-most : (b : Bool) → one_if b ≤ 1
-      one-most true = omega arith
-      one-most false = omega arith
 
       count : recyclers f x ≡ one_if (Plain.is_gone (object_at m x).status && not (is_dying (row f x).stage))
       count = (rel.rows x few).cleaners.cleaner

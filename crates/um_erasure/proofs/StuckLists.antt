@@ -3,7 +3,7 @@
 use Rattle.std.proofs.Common.{◌≡◌, ◌⊎◌, inl, inr, ⊎_elim, ℕ, zero, suc, ◌+◌, ◌<◌, ◌≤◌, Bool, true, false, [], ◌∷◌, length, Option, Some, None, refl, sym, ap, ◌∙◌, subst, arith, eq-eqb}
 use Rattle.std.specs.Prelude.{◌==◌, ◌&&◌, ◌||◌, not, nat_lt}
 use Rattle.std.specs.List.{list_any}
-use Rattle.std.proofs.lemmas.Bool.{and_parts, eqb-false, eqb-true, false≢true, lt-ltb, ltb-true, true≢false}
+use Rattle.std.proofs.lemmas.Bool.{and_parts, eqb-true, false≢true, lt-ltb, ltb-true, true≢false}
 use Rattle.std.proofs.Math.Bool.{or-true}
 use Rattle.um_base.specs.declared.limits.TheConstants.{THREADS}
 use Rattle.um_base.specs.declared.names.Reply.{Reply}
@@ -19,7 +19,7 @@ use Rattle.um_fine.specs.Processor.{fails}
 use Rattle.um_fine.specs.Sites.{SiteState}
 use Rattle.um_fine.specs.Steps.{Exchange, Site}
 use Rattle.um_erasure.specs.Domains.{reads}
-use Rattle.um_erasure.specs.Fine.{Fine, domain, one_if, over_processors, total, word}
+use Rattle.um_erasure.specs.Fine.{Fine, domain, one_if, over_processors, word}
 use Rattle.um_erasure.specs.Frames.{AreFramed, Behind, access_over}
 use Rattle.um_erasure.specs.Lists.{adders, edits, edits_step, has_claimed, has_held, has_steps, is_hold, is_let_go, is_own_claim, is_own_done, moves_step, moves_to, of_thread, runs, runs_thread}
 use Rattle.um_erasure.specs.Offers.{Fits, behind_shown, is_over}
@@ -33,30 +33,11 @@ use Rattle.um_erasure.proofs.MemoryPart.{InDomains}
 use Rattle.um_erasure.proofs.MemorySteps.{part-total}
 use Rattle.um_erasure.proofs.Reachable.{IsSound}
 use Rattle.um_erasure.proofs.RowSteps.{thread-sort}
+use Rattle.um_erasure.proofs.DomainFacts.{two-parts}
 use Rattle.um_erasure.proofs.StepsLeft.{offered-on}
 use Rattle.um_erasure.proofs.Stuck as S
 use Rattle.um_erasure.proofs.StuckEvents.{EventsStand, IsHeldMove, edit-in, guarded, offered-in, own-domain}
 use Rattle.um_erasure.proofs.Stuck.{HasRoom, domain-is}
-
--- two of the numbers of a sum
-two-parts : (g : ℕ → ℕ) (n a b : ℕ) → a < n → b < n → (a ≡ b → ⊥) → g a + g b ≤ total g n
-two-parts g zero a b la lb ne = absurd (omega (arith, la))
-two-parts g (suc n) a b la lb ne = by (a == n) refl (b == n) refl (two-parts g n a b)
-  where
-    by : (p : Bool) → (a == n) ≡ p → (r : Bool) → (b == n) ≡ r → (a < n → b < n → (a ≡ b → ⊥) → g a + g b ≤ total g n) → g a + g b ≤ total g n + g n
-    by true p true r more = absurd (ne (eqb-true a n p ∙ sym (eqb-true b n r)))
-    by true p false r more =
-        let same = ap g (eqb-true a n p) in
-        let other = eqb-false b n r in
-        let part = part-total g n b (omega (arith, lb, other)) in omega (arith, same, part)
-    by false p true r more =
-        let same = ap g (eqb-true b n r) in
-        let other = eqb-false a n p in
-        let part = part-total g n a (omega (arith, la, other)) in omega (arith, same, part)
-    by false p false r more =
-        let not-a = eqb-false a n p in
-        let not-b = eqb-false b n r in
-        let rest = more (omega (arith, la, not-a)) (omega (arith, lb, not-b)) ne in omega (arith, rest)
 
 -- an edit is no move
 edits-moves-none : (e d : ℕ) (reply : Reply) (q : Pending) → edits_step e q ≡ true → moves_step d reply q ≡ false
@@ -263,12 +244,6 @@ module _ (f : Fine) (m : State) (rel : Rel f m) (proper : AreProper m.image m) (
   no-event : (k : ℕ) (q : Pending) (rest : Steps) (todo : Todos) → k < f.cpus → (f.processors k).todo ≡ Todo.show q rest ∷ todo → (IsHeldMove f k q → ⊥) → ⊥
   no-event k q rest todo l at other = other (guarded f m rel proper all sound room events k q rest todo (halts f stuck k l) at)
 
-  frames : (k : ℕ) (todo : Todos) → k < f.cpus → (f.processors k).todo ≡ todo → AreFramed f.image todo
-  frames = frames-at f m rel proper all sound room events
-
-  fits : (k : ℕ) (todo : Todos) → k < f.cpus → (f.processors k).todo ≡ todo → Fits f.image (f.processors k).context todo
-  fits = fits-at f m rel proper all sound room events
-
   -- Nobody writes a domain: who does has an event next.
 
   edits-held : (k d : ℕ) (q : Pending) → edits_step d q ≡ true → IsHeldMove f k q → ⊥
@@ -279,9 +254,9 @@ module _ (f : Fine) (m : State) (rel : Rel f m) (proper : AreProper m.image m) (
   no-edit k d [] l at w h = false≢true h
   no-edit k d (Todo.show q rest ∷ todo) l at w h = no-event k q rest todo l at (edits-held k d q h)
   no-edit k d (Todo.read_claim None ∷ todo) l at w h =
-      let list = (frames k (Todo.read_claim None ∷ todo) l at).0 in
+      let list = (frames-at f m rel proper all sound room events k (Todo.read_claim None ∷ todo) l at).0 in
       true≢false (sym h ∙ (ap (edits d) list.2 ∙ memory-edits-none d list.0 list.3))
-  no-edit k d (Todo.read_claim (Some e) ∷ todo) l at w h = false≢true (sym (ap (edits d) (frames k (Todo.read_claim (Some e) ∷ todo) l at).0.2) ∙ h)
+  no-edit k d (Todo.read_claim (Some e) ∷ todo) l at w h = false≢true (sym (ap (edits d) (frames-at f m rel proper all sound room events k (Todo.read_claim (Some e) ∷ todo) l at).0.2) ∙ h)
   no-edit k d (Todo.write_claim e ∷ todo) l at w h = false≢true h
   no-edit k d todo l at w h = absurd w
 
@@ -305,12 +280,12 @@ module _ (f : Fine) (m : State) (rel : Rel f m) (proper : AreProper m.image m) (
   no-claim : (k : ℕ) (todo : Todos) → k < f.cpus → (f.processors k).todo ≡ todo → Waits todo → (list_any is_own_done todo && not (list_any is_own_claim todo)) ≡ true → ⊥
   no-claim k [] l at w h = false≢true h
   no-claim k (Todo.show q rest ∷ todo) l at w h =
-      no-event k q rest todo l at (claimed-held k (f.processors k).context q rest todo (fits k (Todo.show q rest ∷ todo) l at).1 h)
+      no-event k q rest todo l at (claimed-held k (f.processors k).context q rest todo (fits-at f m rel proper all sound room events k (Todo.show q rest ∷ todo) l at).1 h)
   no-claim k (Todo.read_claim None ∷ todo) l at w h = false≢true (and_parts (list_any is_own_done todo) false h).1
   no-claim k (Todo.read_claim (Some e) ∷ todo) l at w h =
-      false≢true (sym (ap (λ (z : Todos). list_any is_own_done z && not (list_any is_own_claim z)) (frames k (Todo.read_claim (Some e) ∷ todo) l at).0.2) ∙ h)
+      false≢true (sym (ap (λ (z : Todos). list_any is_own_done z && not (list_any is_own_claim z)) (frames-at f m rel proper all sound room events k (Todo.read_claim (Some e) ∷ todo) l at).0.2) ∙ h)
   no-claim k (Todo.write_claim e ∷ todo) l at w h =
-      false≢true (sym (ap (λ (z : Todos). list_any is_own_done z && not (list_any is_own_claim z)) (frames k (Todo.write_claim e ∷ todo) l at).0.2) ∙ h)
+      false≢true (sym (ap (λ (z : Todos). list_any is_own_done z && not (list_any is_own_claim z)) (frames-at f m rel proper all sound room events k (Todo.write_claim e ∷ todo) l at).0.2) ∙ h)
   no-claim k todo l at w h = absurd w
 
   fails-held : (k d : ℕ) (q : Pending) → moves_step d (f.processors k).reply q ≡ true → IsHeldMove f k q → ⊥
@@ -321,11 +296,11 @@ module _ (f : Fine) (m : State) (rel : Rel f m) (proper : AreProper m.image m) (
   no-move k d [] l at w h = false≢true h
   no-move k d (Todo.show q rest ∷ todo) l at w h = no-event k q rest todo l at (fails-held k d q h)
   no-move k d (Todo.read_claim None ∷ todo) l at w h =
-      let list = (frames k (Todo.read_claim None ∷ todo) l at).0 in
+      let list = (frames-at f m rel proper all sound room events k (Todo.read_claim None ∷ todo) l at).0 in
       true≢false (sym h ∙ (ap (moves_to d (f.processors k).reply) list.2 ∙ memory-moves-none d (f.processors k).reply list.0 list.3))
   no-move k d (Todo.read_claim (Some e) ∷ todo) l at w h = false≢true h
   no-move k d (Todo.write_claim e ∷ todo) l at w h =
-      let list = (frames k (Todo.write_claim e ∷ todo) l at).0 in
+      let list = (frames-at f m rel proper all sound room events k (Todo.write_claim e ∷ todo) l at).0 in
       true≢false (sym h ∙ (ap (moves_to d (f.processors k).reply) list.2 ∙ edits-moves-none e d (f.processors k).reply list.0 list.3))
   no-move k d todo l at w h = absurd w
 
@@ -370,7 +345,7 @@ module _ (f : Fine) (m : State) (rel : Rel f m) (proper : AreProper m.image m) (
   no-holder : (k : ℕ) (todo : Todos) → k < f.cpus → (f.processors k).todo ≡ todo → Waits todo → (list_any is_let_go todo && not (list_any is_hold todo)) ≡ true → ⊥
   no-holder k [] l at w h = false≢true h
   no-holder k (Todo.show q rest ∷ todo) l at w h =
-      no-event k q rest todo l at (held-other k (f.processors k).context q rest todo (fits k (Todo.show q rest ∷ todo) l at).1 h)
+      no-event k q rest todo l at (held-other k (f.processors k).context q rest todo (fits-at f m rel proper all sound room events k (Todo.show q rest ∷ todo) l at).1 h)
   no-holder k (Todo.read_claim which ∷ todo) l at w h = read-claim k which todo l at
   no-holder k (Todo.write_claim d ∷ todo) l at w h = write-claim k d todo l at
   no-holder k todo l at w h = absurd w

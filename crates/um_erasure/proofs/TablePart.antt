@@ -33,7 +33,8 @@ use Rattle.um_erasure.proofs.DomainWords.{IsEdited, Stays, stays-or-edited}
 use Rattle.um_erasure.proofs.Erased.{stepped}
 use Rattle.um_erasure.proofs.Leaves.{Lawful, Leaves}
 use Rattle.um_erasure.proofs.ListGrips.{cleaned-context, read-rests}
-use Rattle.um_erasure.proofs.ListTails.{ReadsLast, exact-next, is_read_claim, tail-read, takes-read}
+use Rattle.um_erasure.proofs.ListGrowth.{ReadsLast, is_read_claim}
+use Rattle.um_erasure.proofs.ListTails.{exact-next, tail-read, takes-read}
 use Rattle.um_erasure.proofs.MemoryPart.{InDomains}
 use Rattle.um_erasure.proofs.MemorySteps.{part-total}
 use Rattle.um_erasure.proofs.RowSteps.{sort-next}

@@ -6,7 +6,6 @@ use Rattle.std.proofs.lemmas.Bool.{and_parts, eqb-true, false≢true, true≢fal
 use Rattle.um_base.specs.declared.act.Act.{Act}
 use Rattle.um_base.specs.declared.act.Found.{Found}
 use Rattle.um_base.specs.declared.image.Image.{Image}
-use Rattle.um_machine.specs.declared.pending.Amount.{Amount}
 use Rattle.um_machine.specs.declared.pending.Pending.{Pending}
 use Rattle.um_machine.specs.Order.{Steps}
 use Rattle.um_fine.specs.declared.table.Table.{Table}
@@ -24,6 +23,7 @@ use Rattle.um_erasure.specs.Lists.{has_steps, is_region_load}
 use Rattle.um_erasure.specs.Offers.{behind_shown}
 use Rattle.um_erasure.proofs.DomainReads.{claimed}
 use Rattle.um_erasure.proofs.ListGrips.{grip}
+use Rattle.um_erasure.proofs.ListGrowth.{either-look}
 use Rattle.um_erasure.proofs.ListTails.{Reads, is_passed}
 
 -- the thread's domain is claimed, and its table loaded
@@ -37,10 +37,8 @@ ready-passed Todo.region_load todo h = absurd (false≢true h)
 ready-passed q todo h = refl
 
 ready-none : (image : Image) (c : Context) (q : Pending) (rest : Steps) → ready-table (fine_steps image c q rest) ≡ false
-ready-none image c (Pending.Probe a (Amount.Bytes n)) rest = refl
-ready-none image c (Pending.Probe a (Amount.MessageOf b)) rest = refl
-ready-none image c (Pending.CopyIn a (Amount.Bytes n)) rest = refl
-ready-none image c (Pending.CopyIn a (Amount.MessageOf b)) rest = refl
+ready-none image c (Pending.Probe a amount) rest = either-look image (λ todo. ready-table todo ≡ false) amount _ (λ x h. h) refl
+ready-none image c (Pending.CopyIn a amount) rest = either-look image (λ todo. ready-table todo ≡ false) amount _ (λ x h. h) refl
 ready-none image c q rest = refl
 
 pub ready-reads : (image : Image) → Reads image ready-table false

@@ -13,10 +13,11 @@ use Rattle.um_erasure.specs.Fine.{Fine, one_if, scheduler}
 use Rattle.um_erasure.specs.Lists.{counted, is_wake, wake_of}
 use Rattle.um_erasure.specs.Relation.{Rel}
 use Rattle.um_erasure.specs.Threads.{first_told, tellers, told_by}
+use Rattle.um_erasure.proofs.DomainFacts.{two-parts}
 use Rattle.um_erasure.proofs.HeldRows.{some-part}
 use Rattle.um_erasure.proofs.ListWakes.{Wakes, named, told_first, told_times, wake-first, wake-times, wakers}
 use Rattle.um_erasure.proofs.MemorySteps.{part-total}
-use Rattle.um_erasure.proofs.PlacesFacts.{total-two, wake-told}
+use Rattle.um_erasure.proofs.PlacesFacts.{wake-told}
 use Rattle.um_erasure.proofs.ResumeSteps.{told-some}
 use Rattle.um_erasure.proofs.ThreadLists.{at-here, set-else, set-long}
 
@@ -71,7 +72,7 @@ module _ (g : Fine) (t : ℕ) where
   wake-is-told w k l here some once =
       by g.cpus l
       (λ j r apart.
-      let sum = total-two (λ i. counted (is_wake t) (g.processors i).todo) g.cpus j k r l apart in
+      let sum = two-parts (λ i. counted (is_wake t) (g.processors i).todo) g.cpus j k r l apart in
       no-wake j (omega (arith, sum, some, once)))
     where
       by : (n : ℕ) → k < n → ((j : ℕ) → j < n → (j ≡ k → ⊥) → wake_of t (g.processors j).todo ≡ None) → told_by g t n ≡ Some w

@@ -1,5 +1,5 @@
 -- A processor of a fine run that can't step waits for a thread that is ready, for one that is held, or for a domain that is claimed.
-use Rattle.std.proofs.Common.{◌≡◌, ◌⊎◌, inl, inr, ℕ, ◌<◌, ◌≤◌, Bool, true, false, List, [], ◌∷◌, length, map, refl, ap, ◌∙◌, arith}
+use Rattle.std.proofs.Common.{◌≡◌, ◌⊎◌, inl, inr, ℕ, ◌<◌, ◌≤◌, List, [], ◌∷◌, length, map, refl, ap, ◌∙◌, arith}
 use Rattle.um_base.specs.declared.image.Boot.{Boot}
 use Rattle.um_base.specs.declared.image.Image.{Image}
 use Rattle.um_machine.specs.declared.pending.Pending.{Pending}
@@ -32,6 +32,7 @@ use Rattle.um_erasure.proofs.DomainsKnown.{started-placed}
 use Rattle.um_erasure.proofs.Erased.{IsReachable, fine}
 use Rattle.um_erasure.proofs.ErasedRuns.{no-boots, no-steps, none-or-some}
 use Rattle.um_erasure.proofs.FirstObjects.{opening-image}
+use Rattle.um_erasure.proofs.FirstThreads.{one-most}
 use Rattle.um_erasure.proofs.MemoryPart.{InDomains}
 use Rattle.um_erasure.proofs.Reachable.{IsSound, reachable-sound}
 use Rattle.um_erasure.proofs.RoomKnown.{events-stand, has-room}
@@ -41,10 +42,6 @@ use Rattle.um_erasure.proofs.StuckEvents.{EventsStand, IsHeldMove, guarded}
 use Rattle.um_erasure.proofs.StuckLists.{Waits, only, read-waits, write-waits}
 use Rattle.um_erasure.proofs.SuitsKnown.{proper-known, tells-known}
 use Rattle.um_erasure.proofs.Totals.{total-most}
-
-one-most : (b : Bool) → one_if b ≤ 1
-one-most true = omega arith
-one-most false = omega arith
 
 held-move : (f : Fine) (k : ℕ) (q : Pending) (rest : Steps) (todo : Todos) → (f.processors k).todo ≡ Todo.show q rest ∷ todo → IsHeldMove f k q → WaitsFor f k
 held-move f k (Pending.DomMove d who) rest todo at held = WaitsFor.held_thread d who rest todo at held.1

@@ -1,7 +1,7 @@
 -- What a step of the access-matrix machine writes: a fact about a state that the writes of a step keep is kept by the step. Such a fact
 -- has to be kept by writes of an own part, of the words of threads, of objects, permissions, memory, pools and domains, each only where
 -- the step makes one.
-use Rattle.std.proofs.Common.{◌≡◌, ℕ, zero, suc, Bool, true, false, List, [], ◌∷◌, Option, Some, None, refl}
+use Rattle.std.proofs.Common.{◌≡◌, ℕ, zero, suc, Bool, true, false, List, [], ◌∷◌, Option, Some, None, refl, ◌∙◌}
 use Rattle.std.specs.Prelude.{◌-◌, if◌then◌else◌, length, nat_lt, replicate, slice_set}
 use Rattle.um_base.specs.declared.act.Answer.{Answer}
 use Rattle.um_base.specs.declared.act.Found.{Found}
@@ -116,6 +116,26 @@ module _ (May : Part → Type 0) where
     pub bytes : May memory → (s : State) (a : ℕ) (bs : List ℕ) → Same s → Same (with_bytes s a bs)
     pub pool : May pools → (s : State) (left : List ℕ) → Same s → Same (record s { pools = left })
     pub parts : May domains → (s : State) (d : ℕ) (ps : Option Partitions) → Same s → Same (record s { domains = slice_set s.domains d ps })
+
+-- what is read of a state stays, where it is read of no thread, object or memory, and the other writes that may be made leave it
+pub reads-keeping : {A : Type 0} (May : Part → Type 0) (read : State → A) (v : A)
+    → ((s : State) (threads : List Thread) → read (record s { threads = threads }) ≡ read s) → ((s : State) (objects : List Object) → read (record s { objects = objects }) ≡ read s)
+    → ((s : State) (bytes : List ℕ) → (read (record s { memory = bytes }) ≡ read s) × (read (record s { stacks = bytes }) ≡ read s))
+    → (May pairs → (s : State) (u x : ℕ) (there : Bool) → read (T.paired s u x there) ≡ read s) → (May pools → (s : State) (left : List ℕ) → read (record s { pools = left }) ≡ read s)
+    → (May domains → (s : State) (d : ℕ) (ps : Option Partitions) → read (record s { domains = slice_set s.domains d ps }) ≡ read s)
+    → Keeping May (λ s. read s ≡ v)
+reads-keeping May read v own held stored paired pooled parted =
+    record {
+      own = λ s u th e k. own s (slice_set s.threads u th) ∙ k;
+      word = λ may s u th k. own s (slice_set s.threads u th) ∙ k;
+      object = λ may s x o e q k. held s (slice_set s.objects x o) ∙ k;
+      status = λ may s x o e k. held s (slice_set s.objects x o) ∙ k;
+      birth = λ may s x o k. held s (slice_set s.objects x o) ∙ k;
+      pair = λ may s u x there k. paired may s u x there ∙ k;
+      bytes = λ may s a bs k. bytes-kept read (λ z bytes. (stored z bytes).0) (λ z bytes. (stored z bytes).1) s a bs ∙ k;
+      pool = λ may s left k. pooled may s left ∙ k;
+      parts = λ may s d ps k. parted may s d ps ∙ k;
+    }
 
 module _ (May : Part → Type 0) (Same : State → Type 0) (kept : Keeping May Same) (m : State) (t : ℕ) (first : Same m) where
   on : (s : State) (th : Thread) (rest : Steps) → said_of th ≡ said_of (thread_at s t) → Same s → Same (T.goes_on s t th rest)

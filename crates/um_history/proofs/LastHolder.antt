@@ -23,18 +23,15 @@ use Rattle.um_erasure.specs.Fine.{Fine, one_if, row, row_state, total}
 use Rattle.um_erasure.specs.Lists.{counted, is_vacate}
 use Rattle.um_erasure.specs.Objects.{is_reserved, recyclers, status_of, vacaters}
 use Rattle.um_erasure.specs.Relation.{Rel}
+use Rattle.um_erasure.proofs.DomainFacts.{two-parts}
+use Rattle.um_erasure.proofs.FirstThreads.{one-most}
 use Rattle.um_erasure.proofs.HeldRows.{some-part, total-zero}
 use Rattle.um_erasure.proofs.MemorySteps.{part-total}
-use Rattle.um_erasure.proofs.PlacesFacts.{total-two}
 use Rattle.um_history.specs.LastHolder.{HasLastHolder, InCleaning, IsCleanedSince, Since, still_vacates}
 
 cleaning-is : (s : Stage) → is_cleaning s ≡ true → s ≡ Stage.Cleaning
 cleaning-is Stage.Cleaning h = refl
 cleaning-is s h = absurd (false≢true h)
-
-one-most : (b : Bool) → one_if b ≤ 1
-one-most true = omega arith
-one-most false = omega arith
 
 -- a row that isn't in cleaning has nobody who has still to vacate it
 none-vacates : (f : Fine) (m : State) → Rel f m → (x : ℕ) → x < ROWS → is_cleaning (row f x).stage ≡ false → vacaters f x ≡ 0
@@ -60,9 +57,9 @@ none-vacates f m rel x few not-so = dite (ℕ_discrete (vacaters f x) (recyclers
         let most = one-most (Plain.is_gone (object_at m x).status && not (is_dying (row f x).stage)) in
         omega (arith, apart, order, cleaner, most)
 
-throughout-more : (P : List FineStep → Type 0) (done more : List FineStep) (v : FineStep) → Since P done more → P ((done ++ more) ++ v ∷ []) → Since P done (more ++ v ∷ [])
-throughout-more P done [] v since now = (since, subst P (ap (λ l. l ++ v ∷ []) (append-nil done)) now)
-throughout-more P done (e ∷ more) v since now = (since.0, throughout-more P (done ++ e ∷ []) more v since.1 (subst (λ l. P (l ++ v ∷ [])) (sym (append_assoc done (e ∷ []) more)) now))
+since-more : (P : List FineStep → Type 0) (done more : List FineStep) (v : FineStep) → Since P done more → P ((done ++ more) ++ v ∷ []) → Since P done (more ++ v ∷ [])
+since-more P done [] v since now = (since, subst P (ap (λ l. l ++ v ∷ []) (append-nil done)) now)
+since-more P done (e ∷ more) v since now = (since.0, since-more P (done ++ e ∷ []) more v since.1 (subst (λ l. P (l ++ v ∷ [])) (sym (append_assoc done (e ∷ []) more)) now))
 
 module _ (image : Image) (cpus : ℕ) (related : (h : List FineStep) → IsFineRun image cpus h → (m : State) × Rel (left_by image cpus h) m) (x : ℕ) (few : x < ROWS) where
   abbrev f : List FineStep → Fine
@@ -108,7 +105,7 @@ module _ (image : Image) (cpus : ℕ) (related : (h : List FineStep) → IsFineR
 
   alone : (h : List FineStep) → total (vacates h) cpus ≡ 1 → (k : ℕ) → k < cpus → vacates h k ≡ 1 → (j : ℕ) → j < cpus → j ≢ k → vacates h j ≡ 0
   alone h one k less own j below other =
-      let both = total-two (vacates h) cpus j k below less other in
+      let both = two-parts (vacates h) cpus j k below less other in
       omega (arith, one, own, both)
 
   -- the processor that has it to do is the one that has done it, where it isn't to do any more
@@ -176,7 +173,7 @@ module _ (image : Image) (cpus : ℕ) (related : (h : List FineStep) → IsFineR
       absurd (omega (arith, stays, none, is))))
       (λ other. others-stay h v e.cpu other ∙ c.own) in
       holds before e (behind ++ v ∷ []) (subst (IsFineRun image cpus) same run) (subst (InCleaning image cpus x) same now) c.here c.first
-      (throughout-more (InCleaning image cpus x) (before ++ e ∷ []) behind v c.since (subst (λ (l : List FineStep). InCleaning image cpus x (l ++ v ∷ [])) (sym (append_assoc before (e ∷ []) behind)) now))
+      (since-more (InCleaning image cpus x) (before ++ e ∷ []) behind v c.since (subst (λ (l : List FineStep). InCleaning image cpus x (l ++ v ∷ [])) (sym (append_assoc before (e ∷ []) behind)) now))
       c.one (subst (λ (l : List FineStep). vacates l e.cpu ≡ 1) same own)
 
   -- behind every fine run

@@ -40,8 +40,8 @@ pub record Stood (image : Image) (k : ℕ) (own : List FineStep) (g : List FineS
 abbrev pub left_at : Image → List FineStep → Site → SiteState
 left_at image g i = state_at same_site site_of (s_next image) (s_start image) g i
 
--- At some moment of a call the site of the step refused it, as the fine run had left it that stood then: the seat got the word there that the run had left. The
--- processor couldn't make any step of that run, and so waits: for a thread that is ready, for one that is held, or for a domain that is claimed.
+-- At some moment of a call the site of the step refused it, as the fine run had left it that stood then: the seat got the word there that the run had left. Behind
+-- that run the processor waits: for a thread that is ready, for one that is held, or for a domain that is claimed.
 pub record WasRefused (image : Image) (k : ℕ) (s t : Seat Known) (e : FineStep) : Type 0 where
   pub word : ℕ
   pub got : Got s t (site_number e.site) word

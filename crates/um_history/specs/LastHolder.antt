@@ -42,7 +42,7 @@ HasLastHolder image cpus g x =
     InCleaning image cpus x g
     → (before : List FineStep) × (e : FineStep) × (behind : List FineStep) × (g ≡ before ++ e ∷ behind) × IsCleanedSince image cpus x before e behind
 
--- The word of each row counts its claims: each stands with one holder, which has still to end it. That is the call of a thread that runs or is parked, the life of a
--- thread, or one that its creator is about to begin, by the machine's state behind the events that the run has shown.
+-- The word of each row counts as many claims as have still to be ended: by the calls of threads that run or are parked, by the lives of threads, and by creators that
+-- are about to begin one, by the machine's state behind the events that the run has shown.
 abbrev pub AreHeld : Image → ℕ → List FineStep → State → Type 0
 AreHeld image cpus g last = (x : ℕ) → x < ROWS → (row (left_by image cpus g) x).claims ≡ claims (left_by image cpus g) last x

@@ -28,8 +28,8 @@ ghost use Rattle.um_history.specs.Played.{IsMoment, IsPlayed, SawNone};
 use um_erasure::every_fine_run;
 use um_fine_bound::longest_fine_run;
 
-/// The law over the rows of every fine run of an image that a description gives, whatever the order of its processors: each claim that the word of a row counts stands
-/// with one holder, which has still to end it; and a row in cleaning stands with one processor, which made the step that moved it there, and alone may vacate it.
+/// The law over the rows of every fine run of an image that a description gives, whatever the order of its processors: the word of a row counts as many claims as
+/// calls, lives and creators have still to end; and a row in cleaning stands with one processor, which made the step that moved it there, and alone may vacate it.
 pub fn last_holder()
     ensures claims { (image : Image) (cpus : ℕ) (g : List FineStep) → IsDescribed image → IsFineRun image cpus g
         → (last : State) × Runs (opening image) (shown g) last × AreHeld image cpus g last }
