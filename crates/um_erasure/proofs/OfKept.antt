@@ -23,7 +23,7 @@ use Rattle.um_reach.proofs.Cores.{map_at}
 use Rattle.um_fine.specs.Addresses.{row_named}
 use Rattle.um_fine.specs.Answers.{act_in, verdict_in}
 use Rattle.um_fine.specs.Context.{Context}
-use Rattle.um_fine.specs.Continues.{after_work, continues, with_claim}
+use Rattle.um_fine.specs.Continues.{continues, with_claim}
 use Rattle.um_fine.specs.Places.{Todos}
 use Rattle.um_fine.specs.Processor.{Processor}
 use Rattle.um_fine.specs.Steps.{FineStep}
