@@ -1,7 +1,6 @@
 pub mod EnoughNames
 pub mod FreshNames
 pub mod PrintedObjects
-pub mod Writable
 pub mod NamedAlike
 pub mod PrintedLines
 pub mod PrintedEntries

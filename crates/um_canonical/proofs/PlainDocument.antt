@@ -1,5 +1,5 @@
 -- The printed document has plain lines, and no key twice.
-use Rattle.std.proofs.Common.{◌≡◌, ℕ, ℤ, ◌/◌, ◌%◌, ◌<◌, ◌^◌, suc, pos, negsuc, Bool, true, false, ◌==◌, if◌then◌else◌, FitsSigned, List, [], ◌∷◌, ◌++◌, map, codes, Option, Some, None, refl, arith}
+use Rattle.std.proofs.Common.{◌≡◌, ℕ, ℤ, ◌/◌, ◌%◌, ◌<◌, ◌^◌, suc, pos, negsuc, Bool, true, false, FitsSigned, List, [], ◌∷◌, ◌++◌, map, Option, Some, None, refl, arith}
 use Rattle.std.proofs.lemmas.Bool.{and_parts}
 use Rattle.std.proofs.lemmas.Bool.Decides.{nat_tests}
 use Rattle.std.specs.Int.{w64}
@@ -18,7 +18,6 @@ use Rattle.um_document.specs.declared.description.PoolEntry.{PoolEntry}
 use Rattle.um_document.specs.declared.description.ScriptEntry.{ScriptEntry}
 use Rattle.um_document.specs.declared.shape.Key.{Key}
 use Rattle.um_document.specs.Shape.{word}
-use Rattle.um_document.specs.Words.{attr_word}
 use Rattle.um_plain_toml.specs.Printed.{Line, Pairs, pair_lines, entry_lines, section_lines}
 use Rattle.um_plain_toml.proofs.Lines.{ArePlainLines}
 use Rattle.um_plain_toml.proofs.Runs.{AreApart, are_apart, keys, IsPlainDocument}
@@ -27,6 +26,7 @@ use Rattle.um_plain_toml.proofs.Values.{is_plain, is_bare_key, ArePlain}
 use Rattle.um_canonical.specs.Entries.{Packed}
 use Rattle.um_canonical.specs.Objects.{pairs_by}
 use Rattle.um_canonical.specs.Sections.{hex_digit, encoded, bytes_pairs, pool_by, partition_by, domain_by, boot_by, script_by}
+use Rattle.um_canonical.proofs.PlainLines.{attr_plain}
 use Rattle.um_canonical.proofs.PrintedSections.{is_byte}
 use Rattle.um_canonical.specs.Text.{of_pool, of_partition, of_domain, of_object, of_boot, of_script, top_by, sections_by, top_of, sections_of}
 
@@ -45,15 +45,6 @@ encoded_plain (b ∷ bs) h =
     let both = and_parts (is_byte b) (list_all is_byte bs) h in
     let lt : b < 256 = grind (arith, nat_tests, both.0) in
     rw (hex_plain (b / 16) (omega (arith, lt)), hex_plain (b % 16) (omega arith), encoded_plain bs both.1) refl
-
-if_plain : (b : Bool) (s t : List ℕ) → Plain s → Plain t → Plain (if b then s else t)
-if_plain true s t h k = h
-if_plain false s t h k = k
-
-pub attr_plain : (a : Attr) → Plain (attr_word a)
-attr_plain a =
-    if_plain (a.0 == 27) (codes "P_RW_U_RW") _ refl (if_plain (a.0 == 11) (codes "P_RW_U_RO") _ refl (if_plain (a.0 == 3) (codes "P_RW_U_NA") _ refl
-    (if_plain (a.0 == 9) (codes "P_RO_U_RO") _ refl (if_plain (a.0 == 1) (codes "P_RO_U_NA") (codes "P_RX_U_RX") refl refl))))
 
 bytes_plain : (k : Key) (bs : List ℕ) → is_bare_key (word k) ≡ true → list_all is_byte bs ≡ true → ArePlainLines (pair_lines (bytes_pairs k bs))
 bytes_plain k [] bare h = tt

@@ -29,7 +29,8 @@ use Rattle.um_script.specs.declared.mnemonic.StackCall.{StackCall}
 use Rattle.um_script.specs.declared.mnemonic.PipeCall.{PipeCall}
 use Rattle.um_script.specs.Instructions.{spelling}
 use Rattle.um_script.specs.Numbers.{is_digit}
-use Rattle.um_script.specs.Operands.{Form, Times, Register, Size, AnyTerm, Named, Part, Parts, ObjectKind, Wait, Priority, OptionSet, Value, kind_word, timeout_word, rights_word, is_place_name}
+use Rattle.um_script.specs.Operands.{Form, Times, Register, Size, AnyTerm, Named, Part, Parts, ObjectKind, Wait, Priority, OptionSet, Value}
+use Rattle.um_vocabulary.specs.Words.{attr_word, kind_word, timeout_word, is_place_name}
 use Rattle.um_script.specs.Writable.{is_word32, is_term, is_named, is_part, is_priority, fits, all_fit, is_line}
 use Rattle.um_script.proofs.DigitsAgain.{list_all-weaker, decimal-spells}
 use Rattle.um_script.proofs.NameAgain.{name_bytes, place_name_bytes, word32-le}
@@ -94,16 +95,17 @@ named_plain : (r : Ref) → IsTrue (is_named r) → is_plain (named_text r) ≡ 
 named_plain (Ref.Named name) h = name_plain name h
 named_plain (Ref.At i) h = absurd (false≢true h)
 
-rights_plain : (a : Attr) → is_plain (rights_word a) ≡ true
-rights_plain a =
+pub attr_plain : (a : Attr) → is_plain (attr_word a) ≡ true
+attr_plain a =
     if_plain (a.0 == 27) (codes "P_RW_U_RW") _ refl (if_plain (a.0 == 11) (codes "P_RW_U_RO") _ refl (if_plain (a.0 == 3) (codes "P_RW_U_NA") _ refl
-    (if_plain (a.0 == 9) (codes "P_RO_U_RO") _ refl (if_plain (a.0 == 1) (codes "P_RO_U_NA") _ refl (if_plain (a.0 == 45) (codes "P_RX_U_RX") (codes "P_RWX_U_RWX") refl refl)))))
+    (if_plain (a.0 == 9) (codes "P_RO_U_RO") _ refl (if_plain (a.0 == 1) (codes "P_RO_U_NA") _ refl (if_plain (a.0 == 45) (codes "P_RX_U_RX") _ refl
+    (if_plain (a.0 == 63) (codes "P_RWX_U_RWX") [] refl refl))))))
 
-given_plain : (start size : ℕ) (attr : Attr) → IsTrue (is_word32 start && is_word32 size && is_named_attr attr) → is_plain (decimal start ++ (47 ∷ decimal size) ++ (47 ∷ rights_word attr)) ≡ true
+given_plain : (start size : ℕ) (attr : Attr) → IsTrue (is_word32 start && is_word32 size && is_named_attr attr) → is_plain (decimal start ++ (47 ∷ decimal size) ++ (47 ∷ attr_word attr)) ≡ true
 given_plain start size attr h =
     let a = and_true (is_word32 start && is_word32 size) (is_named_attr attr) h in
     let b = and_true (is_word32 start) (is_word32 size) a.0 in
-    both_plain (decimal start ++ (47 ∷ decimal size)) (47 ∷ rights_word attr) (both_plain (decimal start) (47 ∷ decimal size) (word_plain start b.0) (word_plain size b.1)) (rights_plain attr)
+    both_plain (decimal start ++ (47 ∷ decimal size)) (47 ∷ attr_word attr) (both_plain (decimal start) (47 ∷ decimal size) (word_plain start b.0) (word_plain size b.1)) (attr_plain attr)
 
 part_plain : (p : PartRef) → IsTrue (is_part p) → is_plain (part_text p) ≡ true
 part_plain (PartRef.Named name) h = name_plain name h

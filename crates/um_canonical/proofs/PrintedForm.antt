@@ -1,10 +1,8 @@
 -- The table that is printed for a description has no fault of its form, and is read as that description.
-use Rattle.std.proofs.Common.{◌≡◌, ℕ, ◌+◌, Bool, true, false, not, ◌&&◌, List, [], ◌∷◌, ◌++◌, map, flat_map, filter, Option, Some, refl, ap, ◌∙◌}
+use Rattle.std.proofs.Common.{◌≡◌, ℕ, ◌+◌, Bool, true, false, not, ◌&&◌, List, [], ◌∷◌, ◌++◌, map, flat_map, filter, Option, refl, ap, ◌∙◌}
 use Rattle.std.proofs.lemmas.Bool.{and_parts, false≢true}
 use Rattle.std.specs.List.{list_all}
 use Rattle.toml.specs.Data.{Data, Members}
-use Rattle.um_base.specs.declared.names.Mpu.{Mpu}
-use Rattle.um_base.specs.declared.names.Policy.{Policy}
 use Rattle.um_base.specs.Lawful.{is_name, is_given_attr}
 use Rattle.um_document.specs.declared.check.Check.{Check}
 use Rattle.um_document.specs.declared.description.BootEntry.{BootEntry}
@@ -23,7 +21,7 @@ use Rattle.um_document.specs.Places.{place_text}
 use Rattle.um_document.specs.Reading.{entries_of, pool_of, partition_of, domain_of, object_of, boot_of, script_of, bytes_at, description_of}
 use Rattle.um_document.specs.Shape.{section_key}
 use Rattle.um_document.specs.Unknown.{strays_of_entry, strays_of_entries, strays_of_section, strays_of_sections}
-use Rattle.um_document.specs.Words.{mpu_word, mpu_named, policy_word, policy_named}
+use Rattle.um_vocabulary.proofs.Again.{mpu_again, policy_again}
 use Rattle.um_plain_toml.specs.Printed.{Pairs, table_of, tables_of, document_table}
 use Rattle.um_canonical.specs.Entries.{Packed, partition_entry}
 use Rattle.um_canonical.specs.Text.{of_pool, of_partition, of_domain, of_object, of_boot, of_script, top_of, sections_of}
@@ -205,14 +203,6 @@ no_form_faults d ps h =
 
 -- ---- the description
 
-mpu_back : (m : Mpu) → mpu_named (mpu_word m) ≡ Some m
-mpu_back Mpu.V7 = refl
-mpu_back Mpu.V8 = refl
-
-policy_back : (p : Policy) → policy_named (policy_word p) ≡ Some p
-policy_back Policy.Abort = refl
-policy_back Policy.Halt = refl
-
 rodata_back : (t : Members) (bytes : List ℕ) → value_at Key.Rodata t ≡ bytes_value bytes → list_all is_byte bytes ≡ true → bytes_at Key.Rodata t ≡ bytes
 rodata_back t [] is h = rw is refl
 rodata_back t (b ∷ bs) is h = rw is (decoded_again (b ∷ bs) h)
@@ -242,4 +232,4 @@ description_again d ps h =
     let boots = section_back Section.Boot boot_of t (map of_boot d.boots) d.boots v.boots_are
     (all_again boot_of of_boot boot_is (λ b k. boot_again b.thread b.stack b.script b.priority b.domain b.mode b.pool b.grants) d.boots h.boots) in
     let scripts = section_back Section.Script script_of t (map of_script d.scripts) d.scripts v.scripts_are (all_again script_of of_script script_is (λ s k. script_again s.name s.lines k) d.scripts h.scripts) in
-    rw (mpu, mpu_back d.mpu, regions, policy, policy_back d.policy, rodata, pools, partitions, domains, objects, boots, scripts) refl
+    rw (mpu, mpu_again d.mpu, regions, policy, policy_again d.policy, rodata, pools, partitions, domains, objects, boots, scripts) refl

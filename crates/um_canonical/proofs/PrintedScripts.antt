@@ -17,7 +17,7 @@ use Rattle.um_description.specs.Resolve.{resolved, read_line, option_list}
 use Rattle.um_description.proofs.LawfulLines.{knows, all_known}
 use Rattle.um_canonical.proofs.NamedAlike.{AreNamedAlike}
 use Rattle.um_canonical.proofs.PrintedLines.{shown_in, line_shown, line_again}
-use Rattle.um_canonical.proofs.Writable.{gives, gives_line}
+use Rattle.um_script.proofs.ReadWritable.{gives, gives_line}
 use Rattle.um_canonical.proofs.PlainLines.{line_plain}
 use Rattle.um_plain_toml.proofs.Values.{is_plain, ArePlain}
 

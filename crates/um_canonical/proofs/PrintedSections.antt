@@ -1,5 +1,5 @@
 -- Printed entries of the other sections are read back as they were, without a fault of their form.
-use Rattle.std.proofs.Common.{◌≡◌, ℕ, ℤ, ◌+◌, ◌*◌, ◌/◌, ◌%◌, ◌<◌, Bool, true, false, ◌||◌, ◌==◌, nat_lt, List, [], ◌∷◌, ◌++◌, length, Option, Some, None, refl, ap, ◌∙◌, subst, arith, append-nil}
+use Rattle.std.proofs.Common.{◌≡◌, ℕ, ℤ, ◌+◌, ◌*◌, ◌/◌, ◌%◌, ◌<◌, Bool, true, nat_lt, List, [], ◌∷◌, ◌++◌, length, Option, Some, None, refl, ap, ◌∙◌, arith, append-nil}
 use Rattle.std.proofs.lemmas.Bool.{and_parts}
 use Rattle.std.proofs.lemmas.Bool.Decides.{nat_tests}
 use Rattle.std.specs.List.{list_all}
@@ -12,7 +12,7 @@ use Rattle.um_document.specs.declared.shape.Section.{Section}
 use Rattle.um_document.specs.Forms.{is_hex_digit, is_hexadecimal, digit_value, decoded}
 use Rattle.um_document.specs.Parts.{key_parts, variable_keys, item_parts}
 use Rattle.um_document.specs.Reading.{texts_of, pool_of, partition_of, domain_of, boot_of, script_of}
-use Rattle.um_document.specs.Words.{attr_word, attr_named}
+use Rattle.um_vocabulary.proofs.Again.{given_attr_again}
 use Rattle.um_document.specs.Unknown.{own_strays, strays_below, strays_of_entry}
 use Rattle.um_plain_toml.specs.Printed.{table_of, texts_items}
 use Rattle.um_canonical.specs.Entries.{partition_entry}
@@ -87,36 +87,16 @@ pool_known i name size = refl
 
 -- ---- partitions
 
-attr_step : (n k : ℕ) (rest : Bool) (P : ℕ → Type 0) → P k → ((rest ≡ true) → P n) → (b : Bool) → (k == n) ≡ b → (b || rest) ≡ true → P n
-attr_step n k rest P here later true is h = let same : k ≡ n = grind (arith, nat_tests) in subst P same here
-attr_step n k rest P here later false is h = later h
-
-abbrev IsKept : ℕ → Type 0
-IsKept n = attr_named (attr_word (record { 0 = n })) ≡ Some (record { 0 = n })
-
-attr_by : (n : ℕ) → is_given_attr (record { 0 = n }) ≡ true → IsKept n
-attr_by n h =
-    attr_step n 27 _ IsKept refl (λ h1.
-    attr_step n 11 _ IsKept refl (λ h2.
-    attr_step n 3 _ IsKept refl (λ h3.
-    attr_step n 9 _ IsKept refl (λ h4.
-    attr_step n 1 _ IsKept refl (λ h5.
-    attr_step n 45 false IsKept refl (λ h6. absurd cc) (45 == n) refl h5)
-    (1 == n) refl h4) (9 == n) refl h3) (3 == n) refl h2) (11 == n) refl h1) (27 == n) refl h
-
-pub attr_again : (a : Attr) → is_given_attr a ≡ true → attr_named (attr_word a) ≡ Some a
-attr_again a h = attr_by a.0 h
-
 pub partition_again : (name : List ℕ) (attr : Attr) (variable : List ℕ) (size : ℤ) (bytes : List ℕ) → is_name name ≡ true → is_given_attr attr ≡ true → is_name variable ≡ true → list_all is_byte bytes ≡ true
     → partition_of (table_of (partition_by name attr variable size bytes)) ≡ partition_entry (record { name = name; attr = attr; variable = variable; size = size; bytes = bytes })
-partition_again name attr variable size [] h k l m = rw (short_name name h, attr_again attr k, short_name variable l) refl
-partition_again name attr variable size (b ∷ bs) h k l m = rw (short_name name h, attr_again attr k, short_name variable l, decoded_again (b ∷ bs) m) refl
+partition_again name attr variable size [] h k l m = rw (short_name name h, given_attr_again attr k, short_name variable l) refl
+partition_again name attr variable size (b ∷ bs) h k l m = rw (short_name name h, given_attr_again attr k, short_name variable l, decoded_again (b ∷ bs) m) refl
 
 pub partition_sound : (i : ℕ) (name : List ℕ) (attr : Attr) (variable : List ℕ) (size : ℤ) (bytes : List ℕ) → is_name name ≡ true → is_given_attr attr ≡ true → is_name variable ≡ true → list_all is_byte bytes ≡ true
     → AreSound Section.PackedPartition i (key_parts Section.PackedPartition i (table_of (partition_by name attr variable size bytes)))
 unfolding key_parts variable_keys
-partition_sound i name attr variable size [] h k l m = record { missing = refl; wrong = refl; bad = rw (h, attr_again attr k, l) refl }
-partition_sound i name attr variable size (b ∷ bs) h k l m = record { missing = refl; wrong = rw (hexadecimal_again (b ∷ bs) m) refl; bad = rw (h, attr_again attr k, l) refl }
+partition_sound i name attr variable size [] h k l m = record { missing = refl; wrong = refl; bad = rw (h, given_attr_again attr k, l) refl }
+partition_sound i name attr variable size (b ∷ bs) h k l m = record { missing = refl; wrong = rw (hexadecimal_again (b ∷ bs) m) refl; bad = rw (h, given_attr_again attr k, l) refl }
 
 pub partition_known : (i : ℕ) (name : List ℕ) (attr : Attr) (variable : List ℕ) (size : ℤ) (bytes : List ℕ) → strays_of_entry Section.PackedPartition i (table_of (partition_by name attr variable size bytes)) ≡ []
 unfolding own_strays strays_below

@@ -17,9 +17,9 @@ use Rattle.um_document.specs.Forms.{is_some_and}
 use Rattle.um_document.specs.Parts.{◌>>=◌, Part, top_part, sections, partitions_by, value_at, items_in, entries_parts, section_parts, top_parts, entry_sections}
 use Rattle.um_document.specs.Shape.{word, top_fields, sections_with, section_key, required, optional}
 use Rattle.um_document.specs.Unknown.{is_key, keys_of, strays_at_top}
-use Rattle.um_document.specs.Words.{mpu_word, policy_word}
+use Rattle.um_vocabulary.specs.Words.{mpu_word, policy_word}
 use Rattle.um_plain_toml.specs.Printed as printed
-use Rattle.um_plain_toml.specs.Printed.{Pairs, value_pairs, section_pairs, table_of, tables_of, with_members, document_table}
+use Rattle.um_plain_toml.specs.Printed.{Pairs, value_pairs, section_pairs, tables_of, with_members, document_table}
 use Rattle.um_plain_toml.proofs.Lookups.{found, found-append, at_all, all_keys, keys_pass}
 use Rattle.um_canonical.specs.Sections.{encoded}
 use Rattle.um_canonical.specs.Text.{top_by, sections_by}

@@ -17,7 +17,7 @@ use Rattle.um_document.specs.declared.description.PoolEntry.{PoolEntry}
 use Rattle.um_document.specs.declared.description.ScriptEntry.{ScriptEntry}
 use Rattle.um_document.specs.declared.shape.Key.{Key}
 use Rattle.um_document.specs.Shape.{word}
-use Rattle.um_document.specs.Words.{mpu_word, policy_word}
+use Rattle.um_vocabulary.specs.Words.{mpu_word, policy_word}
 use Rattle.um_script.specs.Canonical.{canonical}
 use Rattle.um_plain_toml.specs.Printed as printed
 use Rattle.um_plain_toml.specs.Printed.{Pairs, document_text}

@@ -14,7 +14,8 @@ ghost use Rattle.um_plain_toml.specs.Printed.{items_text};
 use crate::names::{NameTable, name_at};
 use crate::pairs::{put, put_header, put_item, put_key, put_signed, put_text};
 use um_base::{Boot, Memory, Name, Row};
-use um_document::{Key, mode_word};
+use um_document::Key;
+use um_vocabulary::mode_word;
 
 /// A key with the name of a number.
 fn put_named(text: &mut Vec<u8>, key: Key, names: &[Name], index: u8) -> Result<(), Memory>

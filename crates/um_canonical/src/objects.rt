@@ -8,7 +8,8 @@ ghost use Rattle.um_canonical.specs.Pieces.{object_text, pairs_text};
 
 use crate::pairs::{put_header, put_number, put_text, put_truth};
 use um_base::{Kind, Memory, ObjectDef, Setup};
-use um_document::{Key, kind_word};
+use um_document::Key;
+use um_vocabulary::kind_word;
 
 /// What an object of this kind has beside its name.
 fn put_details(text: &mut Vec<u8>, kind: Kind, setup: &Setup) -> Result<(), Memory>

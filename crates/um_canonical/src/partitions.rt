@@ -9,7 +9,8 @@ ghost use Rattle.um_plain_toml.specs.Printed.{members_text};
 
 use crate::pairs::{put, put_digits, put_encoded, put_header, put_key, put_number, put_text};
 use um_base::{Memory, Partition, Pool};
-use um_document::{Key, attr_word};
+use um_document::Key;
+use um_vocabulary::attr_word;
 
 #[tactic(auto, unfolding(crate::specs::Pieces::pool_text))]
 fn put_pool(text: &mut Vec<u8>, pool: &Pool) -> Result<(), Memory>

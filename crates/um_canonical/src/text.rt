@@ -15,7 +15,8 @@ use crate::scripts::put_scripts;
 use crate::variables::free_numbers;
 use std::alloc::Global;
 use um_base::{Image, Memory};
-use um_document::{Key, mpu_word, policy_word};
+use um_document::Key;
+use um_vocabulary::{mpu_word, policy_word};
 
 /// The keys of the whole.
 #[tactic(auto, unfolding(crate::specs::Pieces::top_text))]

@@ -1,5 +1,5 @@
 -- A readable instruction whose names are known is lawful once they are resolved.
-use Rattle.std.proofs.Common.{◌≡◌, ℕ, zero, suc, ◌+◌, ◌≤◌, Bool, true, false, not, ◌&&◌, ◌||◌, nat_lt, List, [], ◌∷◌, ◌++◌, length, map, take, IsTrue, if◌then◌else◌, Option, Some, None, option_map, is_some, bytes_eq, filter, cond, refl, sym, ◌∙◌, arith}
+use Rattle.std.proofs.Common.{◌≡◌, ℕ, zero, suc, ◌+◌, ◌≤◌, Bool, true, false, not, ◌&&◌, ◌||◌, nat_lt, nat_le, List, [], ◌∷◌, ◌++◌, length, map, take, IsTrue, if◌then◌else◌, Option, Some, None, option_map, is_some, bytes_eq, filter, cond, refl, sym, ◌∙◌, arith}
 use Rattle.std.specs.Prelude.{unwrap_or}
 use Rattle.std.specs.List.{list_all}
 use Rattle.std.proofs.lemmas.Bool.{false≢true, true≢false, or_parts}
@@ -11,9 +11,11 @@ use Rattle.um_base.specs.declared.names.PartRef.{PartRef}
 use Rattle.um_base.specs.declared.names.Range.{Range}
 use Rattle.um_base.specs.declared.names.Ref.{Ref}
 use Rattle.um_base.specs.declared.names.Term.{Term}
-use Rattle.um_base.specs.Lawful.{is_within, is_register, is_operand, is_number_below, is_later, is_part, is_size, is_dynamic_kind, is_lawful_line}
+use Rattle.um_base.specs.Lawful.{is_within, is_register, is_operand, is_number_below, is_later, is_part, is_size, is_dynamic_kind, is_named_attr, is_lawful_line}
 use Rattle.um_document.specs.declared.description.Description.{Description}
 use Rattle.um_document.specs.declared.description.ScriptEntry.{ScriptEntry}
+use Rattle.um_script.specs.Writable as writable
+use Rattle.um_script.specs.Writable.{is_word32, is_term, is_named, is_line}
 use Rattle.um_description.specs.declared.mentions.Wanted.{Wanted}
 use Rattle.um_description.specs.Lines.{script_in, is_misordered, name_in}
 use Rattle.um_description.specs.Mentions as mention
@@ -22,7 +24,6 @@ use Rattle.um_description.specs.Names.{Text, is_among, named, partition_names, d
 use Rattle.um_description.specs.Resolve.{number_named, term_of, ref_of, part_of, resolved, without_scripts, image_in}
 use Rattle.um_description.proofs.LawfulDistinct.{is_known, number_below}
 use Rattle.um_description.proofs.LawfulLists.{and_true, both_true}
-use Rattle.um_description.proofs.LawfulReading.{is_given_term, is_given_name, is_given_part, is_readable}
 
 -- ---- names
 
@@ -85,13 +86,13 @@ later_number (suc k) (s ∷ scripts) text other known =
 
 -- ---- operands
 
-term_lawful : (image : Image) (d : Description) (t : Term) → IsTrue (is_given_term t) → IsTrue (is_operand (term_of image d t))
+term_lawful : (image : Image) (d : Description) (t : Term) → IsTrue (is_term t) → IsTrue (is_operand (term_of image d t))
 term_lawful image d (Term.Num n) h = refl
 term_lawful image d (Term.Reg r) h = h
 term_lawful image d (Term.Place name offset) h = refl
 
 ref_lawful : (d : Description) (wanted : Wanted) (at : ℕ) (names : List Text) (n : ℕ) (r : Ref) → length names ≡ n → ((text : Text) → IsTrue (mention.is_known d wanted text) → IsTrue (is_among text names))
-    → IsTrue (is_given_name r) → IsTrue (list_all (knows d) (in_ref wanted at r)) → IsTrue (is_number_below n (ref_of names r))
+    → IsTrue (is_named r) → IsTrue (list_all (knows d) (in_ref wanted at r)) → IsTrue (is_number_below n (ref_of names r))
 ref_lawful d wanted at names n (Ref.Named name) same known given h = number_passes names name n same (known name (first_known (mention.is_known d wanted name) h))
 ref_lawful d wanted at names n (Ref.At i) same known given h = absurd (false≢true given)
 
@@ -104,27 +105,27 @@ pub record AreAsMany (d : Description) (ps ss : List Range) : Type 0 where
   pub partitions : length (partition_names d) ≡ length (image_in d ps ss).partitions
   pub scripts : length (script_names d) ≡ length (image_in d ps ss).scripts
 
-domain_lawful : (d : Description) (ps ss : List Range) (r : Ref) → AreAsMany d ps ss → IsTrue (is_given_name r) → IsTrue (list_all (knows d) (in_ref Wanted.Domain 1 r))
+domain_lawful : (d : Description) (ps ss : List Range) (r : Ref) → AreAsMany d ps ss → IsTrue (is_named r) → IsTrue (list_all (knows d) (in_ref Wanted.Domain 1 r))
     → IsTrue (is_number_below (length (image_in d ps ss).domains) (ref_of (domain_names d) r))
 domain_lawful d ps ss r many given h = ref_lawful d Wanted.Domain 1 (domain_names d) (length (image_in d ps ss).domains) r many.domains (λ text k. k) given h
 
-part_lawful : (d : Description) (ps ss : List Range) (at : ℕ) (p : PartRef) → AreAsMany d ps ss → IsTrue (is_given_part p) → IsTrue (list_all (knows d) (in_part at p))
+part_lawful : (d : Description) (ps ss : List Range) (at : ℕ) (p : PartRef) → AreAsMany d ps ss → IsTrue (writable.is_part p) → IsTrue (list_all (knows d) (in_part at p))
     → IsTrue (is_part (image_in d ps ss) (part_of (partition_names d) p))
 part_lawful d ps ss at (PartRef.Named name) many given h =
     number_passes (partition_names d) name (length (image_in d ps ss).partitions) many.partitions (first_known (is_among name (partition_names d)) h)
 part_lawful d ps ss at (PartRef.At i) many given h = absurd (false≢true given)
-part_lawful d ps ss at (PartRef.Given range attr) many given h = given
+part_lawful d ps ss at (PartRef.Given range attr) many given h = (and_true (is_word32 range.start.0 && is_word32 range.size) (is_named_attr attr) given).1
 
-parts_lawful : (d : Description) (ps ss : List Range) (at : ℕ) (parts : List PartRef) → AreAsMany d ps ss → IsTrue (list_all is_given_part parts) → IsTrue (list_all (knows d) (in_parts at parts))
+parts_lawful : (d : Description) (ps ss : List Range) (at : ℕ) (parts : List PartRef) → AreAsMany d ps ss → IsTrue (list_all writable.is_part parts) → IsTrue (list_all (knows d) (in_parts at parts))
     → IsTrue (list_all (is_part (image_in d ps ss)) (map (part_of (partition_names d)) parts))
 parts_lawful d ps ss at [] many given h = refl
 parts_lawful d ps ss at (p ∷ parts) many given h =
-    let both = and_true (is_given_part p) (list_all is_given_part parts) given in
+    let both = and_true (writable.is_part p) (list_all writable.is_part parts) given in
     both_true (is_part (image_in d ps ss) (part_of (partition_names d) p)) (list_all (is_part (image_in d ps ss)) (map (part_of (partition_names d)) parts))
     (part_lawful d ps ss at p many both.0 (front_known d (in_part at p) (in_parts (at + 1) parts) h))
     (parts_lawful d ps ss (at + 1) parts many both.1 (back_known d (in_part at p) (in_parts (at + 1) parts) h))
 
-script_lawful : (d : Description) (ps ss : List Range) (i at : ℕ) (r : Ref) → AreAsMany d ps ss → IsTrue (is_given_name r) → IsTrue (list_all (knows d) (in_ref Wanted.Script at r)) → is_misordered d i (name_in r) ≡ false
+script_lawful : (d : Description) (ps ss : List Range) (i at : ℕ) (r : Ref) → AreAsMany d ps ss → IsTrue (is_named r) → IsTrue (list_all (knows d) (in_ref Wanted.Script at r)) → is_misordered d i (name_in r) ≡ false
     → IsTrue (is_later (image_in d ps ss) i (ref_of (script_names d) r))
 script_lawful d ps ss i at (Ref.At c) many given h order = absurd (false≢true given)
 script_lawful d ps ss i at (Ref.Named name) many given h order =
@@ -136,88 +137,88 @@ script_lawful d ps ss i at (Ref.Named name) many given h order =
 
 -- ---- what is said of several operands
 
-one : (image : Image) (d : Description) (a : Term) → IsTrue (is_given_term a && true) → IsTrue (is_operand (term_of image d a))
-one image d a h = term_lawful image d a (first_known (is_given_term a) h)
+one : (image : Image) (d : Description) (a : Term) → IsTrue (is_term a && true) → IsTrue (is_operand (term_of image d a))
+one image d a h = term_lawful image d a (first_known (is_term a) h)
 
-two : (image : Image) (d : Description) (a b : Term) → IsTrue (is_given_term a && (is_given_term b && true)) → IsTrue (is_operand (term_of image d a) && is_operand (term_of image d b))
+two : (image : Image) (d : Description) (a b : Term) → IsTrue (is_term a && (is_term b && true)) → IsTrue (is_operand (term_of image d a) && is_operand (term_of image d b))
 two image d a b h =
-    let x = and_true (is_given_term a) (is_given_term b && true) h in
+    let x = and_true (is_term a) (is_term b && true) h in
     both_true (is_operand (term_of image d a)) (is_operand (term_of image d b)) (term_lawful image d a x.0) (one image d b x.1)
 
-three : (image : Image) (d : Description) (a b c : Term) → IsTrue (is_given_term a && (is_given_term b && (is_given_term c && true))) → IsTrue (is_operand (term_of image d a) && is_operand (term_of image d b) && is_operand (term_of image d c))
+three : (image : Image) (d : Description) (a b c : Term) → IsTrue (is_term a && (is_term b && (is_term c && true))) → IsTrue (is_operand (term_of image d a) && is_operand (term_of image d b) && is_operand (term_of image d c))
 three image d a b c h =
-    let x = and_true (is_given_term a) (is_given_term b && (is_given_term c && true)) h in
-    let y = and_true (is_given_term b) (is_given_term c && true) x.1 in
+    let x = and_true (is_term a) (is_term b && (is_term c && true)) h in
+    let y = and_true (is_term b) (is_term c && true) x.1 in
     both_true (is_operand (term_of image d a) && is_operand (term_of image d b)) (is_operand (term_of image d c))
     (both_true (is_operand (term_of image d a)) (is_operand (term_of image d b)) (term_lawful image d a x.0) (term_lawful image d b y.0)) (one image d c y.1)
 
-register_and : (image : Image) (d : Description) (r : ℕ) (a : Term) → IsTrue (is_register r && (is_given_term a && true)) → IsTrue (is_register r && is_operand (term_of image d a))
+register_and : (image : Image) (d : Description) (r : ℕ) (a : Term) → IsTrue (is_register r && (is_term a && true)) → IsTrue (is_register r && is_operand (term_of image d a))
 register_and image d r a h =
-    let x = and_true (is_register r) (is_given_term a && true) h in both_true (is_register r) (is_operand (term_of image d a)) x.0 (one image d a x.1)
+    let x = and_true (is_register r) (is_term a && true) h in both_true (is_register r) (is_operand (term_of image d a)) x.0 (one image d a x.1)
 
-and_register : (image : Image) (d : Description) (a : Term) (r : ℕ) → IsTrue (is_given_term a && (is_register r && true)) → IsTrue (is_operand (term_of image d a) && is_register r)
+and_register : (image : Image) (d : Description) (a : Term) (r : ℕ) → IsTrue (is_term a && (is_register r && true)) → IsTrue (is_operand (term_of image d a) && is_register r)
 and_register image d a r h =
-    let x = and_true (is_given_term a) (is_register r && true) h in both_true (is_operand (term_of image d a)) (is_register r) (term_lawful image d a x.0) (first_known (is_register r) x.1)
+    let x = and_true (is_term a) (is_register r && true) h in both_true (is_operand (term_of image d a)) (is_register r) (term_lawful image d a x.0) (first_known (is_register r) x.1)
 
-load : (image : Image) (d : Description) (r : ℕ) (a : Term) (n : ℕ) → IsTrue (is_register r && (is_given_term a && (is_size n && true))) → IsTrue (is_register r && is_operand (term_of image d a) && is_size n)
+load : (image : Image) (d : Description) (r : ℕ) (a : Term) (n : ℕ) → IsTrue (is_register r && (is_term a && (is_size n && true))) → IsTrue (is_register r && is_operand (term_of image d a) && is_size n)
 load image d r a n h =
-    let x = and_true (is_register r) (is_given_term a && (is_size n && true)) h in
-    let y = and_true (is_given_term a) (is_size n && true) x.1 in
+    let x = and_true (is_register r) (is_term a && (is_size n && true)) h in
+    let y = and_true (is_term a) (is_size n && true) x.1 in
     both_true (is_register r && is_operand (term_of image d a)) (is_size n) (both_true (is_register r) (is_operand (term_of image d a)) x.0 (term_lawful image d a y.0)) (first_known (is_size n) y.1)
 
-store : (image : Image) (d : Description) (a : Term) (n : ℕ) (b : Term) → IsTrue (is_given_term a && (is_size n && (is_given_term b && true))) → IsTrue (is_operand (term_of image d a) && is_size n && is_operand (term_of image d b))
+store : (image : Image) (d : Description) (a : Term) (n : ℕ) (b : Term) → IsTrue (is_term a && (is_size n && (is_term b && true))) → IsTrue (is_operand (term_of image d a) && is_size n && is_operand (term_of image d b))
 store image d a n b h =
-    let x = and_true (is_given_term a) (is_size n && (is_given_term b && true)) h in
-    let y = and_true (is_size n) (is_given_term b && true) x.1 in
+    let x = and_true (is_term a) (is_size n && (is_term b && true)) h in
+    let y = and_true (is_size n) (is_term b && true) x.1 in
     both_true (is_operand (term_of image d a) && is_size n) (is_operand (term_of image d b)) (both_true (is_operand (term_of image d a)) (is_size n) (term_lawful image d a x.0) y.0) (one image d b y.1)
 
 -- ---- lines
 
-create_lawful : (d : Description) (ps ss : List Range) (i : ℕ) (thread stack size : Term) (script : Ref) → AreAsMany d ps ss
-    → IsTrue (is_given_term thread && (is_given_term stack && (is_given_term size && (is_given_name script && true))))
+create_lawful : (d : Description) (ps ss : List Range) (i : ℕ) (thread stack size : Term) (script : Ref) (rest : Bool) → AreAsMany d ps ss
+    → IsTrue (is_term thread && (is_term stack && (is_term size && (is_named script && rest))))
     → IsTrue (list_all (knows d) (in_ref Wanted.Script 4 script)) → is_misordered d i (name_in script) ≡ false
     → IsTrue (is_operand (term_of (base d ps ss) d thread) && is_operand (term_of (base d ps ss) d stack) && is_operand (term_of (base d ps ss) d size) && is_later (image_in d ps ss) i (ref_of (script_names d) script))
-create_lawful d ps ss i thread stack size script many h known order =
-    let x = and_true (is_given_term thread) (is_given_term stack && (is_given_term size && (is_given_name script && true))) h in
-    let y = and_true (is_given_term stack) (is_given_term size && (is_given_name script && true)) x.1 in
-    let z = and_true (is_given_term size) (is_given_name script && true) y.1 in
+create_lawful d ps ss i thread stack size script rest many h known order =
+    let x = and_true (is_term thread) (is_term stack && (is_term size && (is_named script && rest))) h in
+    let y = and_true (is_term stack) (is_term size && (is_named script && rest)) x.1 in
+    let z = and_true (is_term size) (is_named script && rest) y.1 in
     let a = is_operand (term_of (base d ps ss) d thread) in
     let b = is_operand (term_of (base d ps ss) d stack) in
     let c = is_operand (term_of (base d ps ss) d size) in
     both_true (a && b && c) (is_later (image_in d ps ss) i (ref_of (script_names d) script))
     (both_true (a && b) c (both_true a b (term_lawful (base d ps ss) d thread x.0) (term_lawful (base d ps ss) d stack y.0)) (term_lawful (base d ps ss) d size z.0))
-    (script_lawful d ps ss i 4 script many (first_known (is_given_name script) z.1) known order)
+    (script_lawful d ps ss i 4 script many (and_true (is_named script) rest z.1).0 known order)
 
-init_lawful : (d : Description) (ps ss : List Range) (m : Ref) (parts : List PartRef) → AreAsMany d ps ss → IsTrue (is_given_name m && (list_all is_given_part parts && true))
+init_lawful : (d : Description) (ps ss : List Range) (m : Ref) (parts : List PartRef) → AreAsMany d ps ss → IsTrue (is_named m && (nat_le (length parts) 4 && list_all writable.is_part parts && true))
     → IsTrue (list_all (knows d) (in_ref Wanted.Domain 1 m ++ in_parts 2 parts))
     → IsTrue (is_number_below (length (image_in d ps ss).domains) (ref_of (domain_names d) m) && list_all (is_part (image_in d ps ss)) (map (part_of (partition_names d)) parts))
 init_lawful d ps ss m parts many h known =
-    let x = and_true (is_given_name m) (list_all is_given_part parts && true) h in
+    let x = and_true (is_named m) (nat_le (length parts) 4 && list_all writable.is_part parts && true) h in
     both_true (is_number_below (length (image_in d ps ss).domains) (ref_of (domain_names d) m)) (list_all (is_part (image_in d ps ss)) (map (part_of (partition_names d)) parts))
     (domain_lawful d ps ss m many x.0 (front_known d (in_ref Wanted.Domain 1 m) (in_parts 2 parts) known))
-    (parts_lawful d ps ss 2 parts many (first_known (list_all is_given_part parts) x.1) (back_known d (in_ref Wanted.Domain 1 m) (in_parts 2 parts) known))
+    (parts_lawful d ps ss 2 parts many (and_true (nat_le (length parts) 4) (list_all writable.is_part parts) (first_known (nat_le (length parts) 4 && list_all writable.is_part parts) x.1)).1 (back_known d (in_ref Wanted.Domain 1 m) (in_parts 2 parts) known))
 
-edit_lawful : (d : Description) (ps ss : List Range) (m : Ref) (p : PartRef) → AreAsMany d ps ss → IsTrue (is_given_name m && (is_given_part p && true))
+edit_lawful : (d : Description) (ps ss : List Range) (m : Ref) (p : PartRef) → AreAsMany d ps ss → IsTrue (is_named m && (writable.is_part p && true))
     → IsTrue (list_all (knows d) (in_ref Wanted.Domain 1 m ++ in_part 2 p))
     → IsTrue (is_number_below (length (image_in d ps ss).domains) (ref_of (domain_names d) m) && is_part (image_in d ps ss) (part_of (partition_names d) p))
 edit_lawful d ps ss m p many h known =
-    let x = and_true (is_given_name m) (is_given_part p && true) h in
+    let x = and_true (is_named m) (writable.is_part p && true) h in
     both_true (is_number_below (length (image_in d ps ss).domains) (ref_of (domain_names d) m)) (is_part (image_in d ps ss) (part_of (partition_names d) p))
     (domain_lawful d ps ss m many x.0 (front_known d (in_ref Wanted.Domain 1 m) (in_part 2 p) known))
-    (part_lawful d ps ss 2 p many (first_known (is_given_part p) x.1) (back_known d (in_ref Wanted.Domain 1 m) (in_part 2 p) known))
+    (part_lawful d ps ss 2 p many (first_known (writable.is_part p) x.1) (back_known d (in_ref Wanted.Domain 1 m) (in_part 2 p) known))
 
-move_lawful : (d : Description) (ps ss : List Range) (m : Ref) (thread : Term) → AreAsMany d ps ss → IsTrue (is_given_name m && (is_given_term thread && true))
+move_lawful : (d : Description) (ps ss : List Range) (m : Ref) (thread : Term) → AreAsMany d ps ss → IsTrue (is_named m && (is_term thread && true))
     → IsTrue (list_all (knows d) (in_ref Wanted.Domain 1 m ++ mention.in_term 2 thread))
     → IsTrue (is_number_below (length (image_in d ps ss).domains) (ref_of (domain_names d) m) && is_operand (term_of (base d ps ss) d thread))
 move_lawful d ps ss m thread many h known =
-    let x = and_true (is_given_name m) (is_given_term thread && true) h in
+    let x = and_true (is_named m) (is_term thread && true) h in
     both_true (is_number_below (length (image_in d ps ss).domains) (ref_of (domain_names d) m)) (is_operand (term_of (base d ps ss) d thread))
     (domain_lawful d ps ss m many x.0 (front_known d (in_ref Wanted.Domain 1 m) (mention.in_term 2 thread) known)) (one (base d ps ss) d thread x.1)
 
 alloc_lawful : (a b : Bool) → IsTrue (a && (b && true)) → IsTrue (a && b)
 alloc_lawful a b h = let x = and_true a (b && true) h in both_true a b x.0 (first_known b x.1)
 
-pub line_lawful : (d : Description) (ps ss : List Range) (i : ℕ) (line : Instr) → AreAsMany d ps ss → IsTrue (is_readable line) → IsTrue (list_all (knows d) (mentions line)) → is_misordered d i (script_in line) ≡ false
+pub line_lawful : (d : Description) (ps ss : List Range) (i : ℕ) (line : Instr) → AreAsMany d ps ss → IsTrue (is_line line) → IsTrue (list_all (knows d) (mentions line)) → is_misordered d i (script_in line) ≡ false
     → IsTrue (is_lawful_line (image_in d ps ss) i (resolved (base d ps ss) d line))
 line_lawful d ps ss i Instr.End many h known order = refl
 line_lawful d ps ss i Instr.Oops many h known order = refl
@@ -245,9 +246,9 @@ line_lawful d ps ss i (Instr.MsgqPurge object) many h known order = one (base d 
 line_lawful d ps ss i (Instr.PipeReset object) many h known order = one (base d ps ss) d object h
 line_lawful d ps ss i (Instr.PipeClose object) many h known order = one (base d ps ss) d object h
 line_lawful d ps ss i (Instr.Create thread stack size script priority options) many h known order =
-    create_lawful d ps ss i thread stack size script many h
+    create_lawful d ps ss i thread stack size script _ many h
     (back_known d (mention.in_term 1 thread ++ mention.in_term 2 stack ++ mention.in_term 3 size) (in_ref Wanted.Script 4 script) known) order
-line_lawful d ps ss i (Instr.UserMode script) many h known order = script_lawful d ps ss i 1 script many (first_known (is_given_name script) h) known order
+line_lawful d ps ss i (Instr.UserMode script) many h known order = script_lawful d ps ss i 1 script many (first_known (is_named script) h) known order
 line_lawful d ps ss i (Instr.NameSet thread addr) many h known order = two (base d ps ss) d thread addr h
 line_lawful d ps ss i (Instr.SemInit object count limit) many h known order = three (base d ps ss) d object count limit h
 line_lawful d ps ss i (Instr.SemTake object timeout) many h known order = one (base d ps ss) d object h

@@ -26,7 +26,8 @@ use Rattle.um_description.proofs.LawfulBlocks.{bracket, closed_by, closed_outsid
 use Rattle.um_description.proofs.LawfulLines.{AreAsMany, all_known, line_lawful}
 use Rattle.um_description.proofs.LawfulLists.{no_front, no_back, none_mapped, none_if, both_true}
 use Rattle.um_description.proofs.LawfulRanges.{natural_in}
-use Rattle.um_description.proofs.LawfulReading.{gives, gives_line, is_readable}
+use Rattle.um_script.specs.Writable.{is_line}
+use Rattle.um_script.proofs.ReadWritable.{gives, gives_line}
 
 -- what a reading says, where it says something
 abbrev read_of : Result Instr LineFault → Option Instr
@@ -34,7 +35,7 @@ read_of r = elim r as (λ _. Option Instr) [ Ok instr ↦ Some instr | Err fault
 
 -- ---- the lines of a script
 
-one_line : (d : Description) (ps ss : List Range) (i : ℕ) (place : Place) (r : Result Instr LineFault) → AreAsMany d ps ss → unread place r ≡ [] → IsTrue (gives is_readable r)
+one_line : (d : Description) (ps ss : List Range) (i : ℕ) (place : Place) (r : Result Instr LineFault) → AreAsMany d ps ss → unread place r ≡ [] → IsTrue (gives is_line r)
     → strangers d (mentioned (read_of r)) ≡ [] → is_misordered d i (script_of_line (read_of r)) ≡ false
     → IsTrue (list_all (is_lawful_line (image_in d ps ss) i) (option_list (option_map (resolved (without_scripts d ps ss) d) (read_of r))))
 one_line d ps ss i place (Ok line) many h readable known order =

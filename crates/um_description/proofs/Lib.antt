@@ -21,7 +21,6 @@ pub mod LawfulDistinct
 pub mod LawfulNames
 pub mod LawfulDomains
 pub mod LawfulBoots
-pub mod LawfulReading
 pub mod LawfulBlocks
 pub mod LawfulLines
 pub mod LawfulScripts

@@ -24,7 +24,7 @@ use Rattle.um_document.specs.Parts.{◌>>=◌, Part, value_at, items_in, field_p
 use Rattle.um_document.specs.Places.{place_text}
 use Rattle.um_document.specs.Reading.{short, name_at, text_given, with_table, entries_of, attr_at, pool_of, partition_of, domain_of, object_of, script_of, description_of}
 use Rattle.um_document.specs.Shape.{section_key, section_fields}
-use Rattle.um_document.specs.Words.{attr_word, attr_named, attrs}
+use Rattle.um_vocabulary.specs.Words.{attr_word, given_attr_named, given_attrs}
 use Rattle.um_document.specs.LawfulNames.{AreLawfulNames, has_given_attr}
 use Rattle.um_document.proofs.EmptyLists.{no_front, no_back, none_mapped, and_true, both_true}
 
@@ -172,9 +172,9 @@ found q test [] blank h k = k
 found q test (x ∷ xs) blank h k =
     let both = and_true (q x) (list_all q xs) h in found_by q (test x) x blank (find test xs) both.0 (found q test xs blank both.1 k)
 
-attr_by : (o : Option Text) → IsTrue (is_given_attr (unwrap_or (o >>= attr_named) (record { 0 = 27 })))
+attr_by : (o : Option Text) → IsTrue (is_given_attr (unwrap_or (o >>= given_attr_named) (record { 0 = 27 })))
 attr_by None = refl
-attr_by (Some s) = found is_given_attr (λ x. bytes_eq s (attr_word x)) attrs (record { 0 = 27 }) refl refl
+attr_by (Some s) = found is_given_attr (λ x. bytes_eq s (attr_word x)) given_attrs (record { 0 = 27 }) refl refl
 
 attrs_by : (o : Option Members) (rest : List PartitionEntry) → IsTrue (list_all has_given_attr rest) → IsTrue (list_all has_given_attr (with_table partition_of o rest))
 attrs_by None rest h = h

@@ -10,7 +10,7 @@ use Rattle.um_document.specs.declared.shape.Need.{Need}
 use Rattle.um_document.specs.declared.shape.Section.{Section}
 use Rattle.um_document.specs.Forms.{is_some_and}
 use Rattle.um_document.specs.Shape.{Field, word, top_fields, sections_with, section_key, section_fields, variable_fields, kind_fields}
-use Rattle.um_document.specs.Words.{kind_named}
+use Rattle.um_vocabulary.specs.Words.{kind_named}
 
 infixl 10 ◌>>=◌
 abbrev pub ◌>>=◌ : {A B : Type 0} → Option A → (A → Option B) → Option B

@@ -24,7 +24,8 @@ use Rattle.um_document.specs.declared.shape.Section.{Section}
 use Rattle.um_document.specs.Forms.{decoded}
 use Rattle.um_document.specs.Parts.{◌>>=◌, value_at, items_in, kind_of}
 use Rattle.um_document.specs.Shape.{section_key}
-use Rattle.um_document.specs.Words.{mpu_named, policy_named, mode_named, attr_named, alignment_of}
+use Rattle.um_document.specs.Words.{alignment_of}
+use Rattle.um_vocabulary.specs.Words.{mpu_named, policy_named, mode_named, given_attr_named}
 
 -- what stands at a key, where it has the type, and else a blank
 abbrev pub number_given : Key → Members → Option ℤ
@@ -86,7 +87,7 @@ abbrev pub pool_of : Members → PoolEntry
 pool_of t = record { name = name_at t; size = number_at Key.Size t }
 
 abbrev pub attr_at : Members → Attr
-attr_at t = unwrap_or (text_given Key.Attr t >>= attr_named) (record { 0 = 27 })
+attr_at t = unwrap_or (text_given Key.Attr t >>= given_attr_named) (record { 0 = 27 })
 
 -- at each byte where nothing is said
 abbrev pub alignment_at : Members → Alignment

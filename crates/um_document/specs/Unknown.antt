@@ -8,7 +8,7 @@ use Rattle.um_document.specs.declared.shape.Section.{Section}
 use Rattle.um_document.specs.Parts.{value_at, items_in, each_item, kind_of, sections}
 use Rattle.um_document.specs.Places.{key_text, variable_text}
 use Rattle.um_document.specs.Shape.{Field, word, top_fields, section_key, section_fields, variable_fields, kind_fields}
-use Rattle.um_document.specs.Words.{kinds}
+use Rattle.um_vocabulary.specs.Words.{kinds}
 
 -- one of the keys is written so
 abbrev pub is_key : List Field → List ℕ → Bool

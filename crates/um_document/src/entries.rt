@@ -16,11 +16,12 @@ use crate::texts::{
     bytes_at, bytes_given, copies_at, copies_given, copy_at, copy_given, name_at, number_at,
     number_given, text_given, truth_at,
 };
-use crate::words::{alignment_of, attr_named, mode_named};
+use crate::words::alignment_of;
 use std::alloc::Global;
 use toml::Table;
 use toml::value::Array;
 use um_base::{Attr, Kind, Memory, Mode};
+use um_vocabulary::{given_attr_named, mode_named};
 
 /// What a section lists.
 pub trait Entry: Drop + Sized {
@@ -75,7 +76,7 @@ fn attr_at(table: &Table) -> Attr
     ensures { result ≡ reading.attr_at (table_view table.now) }
 {
     match text_given(table, Key::Attr) {
-        Some(word) => attr_named(word).unwrap_or(Attr::P_RW_U_RW),
+        Some(word) => given_attr_named(word).unwrap_or(Attr::P_RW_U_RW),
         None => Attr::P_RW_U_RW,
     }
 }

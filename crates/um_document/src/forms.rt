@@ -7,10 +7,10 @@ ghost use Rattle.toml.specs.View.{view};
 ghost use Rattle.um_document.specs.Forms as forms;
 ghost use Rattle.um_document.specs.Words.{alignment_of};
 
-use crate::names::is_name;
 use crate::shape::Form;
 use crate::words::{alignment_of, is_word};
 use toml::Value;
+use um_vocabulary::is_name;
 
 /// The bytes of a text.
 pub fn text_of(value: &Value) -> Option<&[u8]>

@@ -12,10 +12,10 @@ use crate::fault::ImageFault;
 use crate::form::check_form;
 use crate::shape::{Key, Section};
 use crate::texts::{bytes_at, number_at, text_given};
-use crate::words::{mpu_named, policy_named};
 use std::alloc::Global;
 use toml::Table;
 use um_base::{Memory, Mpu, Policy};
+use um_vocabulary::{mpu_named, policy_named};
 
 fn mpu_at(table: &Table) -> Mpu
     ensures { result ≡ reading.mpu_at (table_view table.now) }

@@ -2,7 +2,7 @@
 
 ghost use Rattle.std.specs.Prelude.{◌≡◌, flat_map};
 ghost use Rattle.um_document.specs.Shape as shape;
-ghost use Rattle.um_document.specs.Words.{kinds};
+ghost use Rattle.um_vocabulary.specs.Words.{kinds};
 
 use um_base::Kind;
 

@@ -7,10 +7,10 @@ ghost use Rattle.um_document.specs.Parts as parts;
 
 use crate::forms::text_of;
 use crate::shape::{FIRST_SECTIONS, Key, Need, SECOND_SECTIONS, Section};
-use crate::words::kind_named;
 use toml::value::Array;
 use toml::{Table, Value};
 use um_base::Kind;
+use um_vocabulary::kind_named;
 
 /// The value at a key.
 pub fn value_at(table: &Table, key: Key) -> Option<&Value>

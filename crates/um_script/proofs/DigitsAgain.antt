@@ -11,8 +11,12 @@ pub and_true : (a b : Bool) → IsTrue (a && b) → IsTrue a × IsTrue b
 and_true true b h = (refl, h)
 and_true false b h = absurd cc
 
+pub both_true : (a b : Bool) → IsTrue a → IsTrue b → IsTrue (a && b)
+both_true true b h k = k
+both_true false b h k = absurd cc
+
 -- a list that passes one test passes a weaker one
-pub list_all-weaker : (p q : ℕ → Bool) → ((x : ℕ) → IsTrue (p x) → IsTrue (q x)) → (xs : List ℕ) → IsTrue (list_all p xs) → IsTrue (list_all q xs)
+pub list_all-weaker : {A : Type 0} (p q : A → Bool) → ((x : A) → IsTrue (p x) → IsTrue (q x)) → (xs : List A) → IsTrue (list_all p xs) → IsTrue (list_all q xs)
 list_all-weaker p q weaker [] h = refl
 list_all-weaker p q weaker (x ∷ xs) h =
     let both = and_true (p x) (list_all p xs) h in

@@ -3,9 +3,9 @@ pub mod NumberLemmas
 pub mod OptionLoop
 pub mod PartLoop
 pub mod DigitsAgain
-pub mod FoundLemmas
 pub mod WordAgain
 pub mod NameAgain
 pub mod TermAgain
 pub mod LineAgain
+pub mod ReadWritable
 pub mod LengthLemmas

@@ -21,7 +21,8 @@ use Rattle.um_script.specs.Canonical.{Operand, part_text, with_parts, with_opera
 use Rattle.um_script.specs.Instructions.{spelling, syntax}
 use Rattle.um_script.specs.Lines.{mnemonic_of, whole, behind_first, line_of_words, line_of}
 use Rattle.um_script.specs.Numbers.{times, priority}
-use Rattle.um_script.specs.Operands.{Form, Times, Register, Size, AnyTerm, Named, Part, Parts, ObjectKind, Wait, Priority, OptionSet, Value, Syntax, takes, makes, operand, reading, part, parts, register, size, term, named, kind, timeout, options, kind_word, timeout_word}
+use Rattle.um_script.specs.Operands.{Form, Times, Register, Size, AnyTerm, Named, Part, Parts, ObjectKind, Wait, Priority, OptionSet, Value, Syntax, takes, makes, operand, reading, part, parts, register, size, term, named, kind, timeout, options}
+use Rattle.um_vocabulary.specs.Words.{kind_word, timeout_word}
 use Rattle.um_script.specs.Words.{Words, word, words_from, words_of_line, is_word_byte}
 use Rattle.um_script.specs.Writable.{fits, all_fit, is_line, is_part}
 use Rattle.um_script.proofs.DigitsAgain.{and_true}

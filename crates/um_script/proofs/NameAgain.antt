@@ -9,12 +9,13 @@ use Rattle.std.proofs.lemmas.Slice.Eq.{bytes_eq-Decides}
 use Rattle.um_base.specs.Lawful.{is_name, is_name_byte, is_register, is_size, is_within, begins_with_letter}
 use Rattle.um_base.specs.declared.names.Ref.{Ref}
 use Rattle.um_script.specs.Numbers.{is_digit, times}
-use Rattle.um_script.specs.Operands.{cut, is_place_name, register, size, named}
+use Rattle.um_script.specs.Operands.{cut, register, size, named}
 use Rattle.um_script.specs.Words.{is_word_byte}
 use Rattle.um_script.specs.Canonical.{named_text}
 use Rattle.um_script.specs.Writable.{is_named, is_word32}
 use Rattle.um_script.proofs.DigitsAgain.{and_true, list_all-weaker, decimal-spells, number_again}
 use Rattle.um_script.proofs.WordAgain.{IsWord}
+use Rattle.um_vocabulary.specs.Words.{is_place_name}
 
 -- ---- words
 

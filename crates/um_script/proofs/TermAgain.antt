@@ -1,5 +1,6 @@
 -- Terms, partitions and other operands that are written are read back.
-use Rattle.std.proofs.Common.{◌≡◌, ℕ, zero, suc, ◌-◌, ◌^◌, ◌<◌, ◌≤◌, Bool, true, false, not, ◌&&◌, ◌==◌, nat_le, List, [], ◌∷◌, ◌++◌, Some, None, Result, Ok, IsTrue, decimal, ℤ, pos, negsuc, refl, sym, ap, subst, ◌∙◌, arith, append_assoc, inl, inr, ◌⊎◌, lit<}
+use Rattle.std.proofs.Common.{◌≡◌, ℕ, zero, suc, ◌-◌, ◌^◌, ◌<◌, ◌≤◌, Bool, true, false, not, ◌&&◌, ◌==◌, nat_le, List, [], ◌∷◌, ◌++◌, Some, None, Result, Ok, IsTrue, decimal, ℤ, pos, negsuc, refl, ap, ◌∙◌, arith, append_assoc, length, lit<}
+use Rattle.std.specs.Prelude.{ok_or}
 use Rattle.std.specs.Fmt.{signed_decimal}
 use Rattle.std.specs.List.{list_all}
 use Rattle.std.proofs.lemmas.Bool.Decides.{nat_tests}
@@ -14,13 +15,15 @@ use Rattle.um_base.specs.declared.names.Term.{Term}
 use Rattle.um_base.specs.declared.names.Timeout.{Timeout}
 use Rattle.um_script.specs.declared.fault.LineKind.{LineKind}
 use Rattle.um_script.specs.Numbers.{is_digit, digits, priority, is_negative}
-use Rattle.um_script.specs.Operands.{cut, place, place_cut, at_offset, is_place_name, term, part, part_cut, part_from_cut, given_part, rights, rights_word, kind, kind_word, timeout, timeout_word, options, more_options, begins_with}
+use Rattle.um_script.specs.Operands.{cut, place, place_cut, at_offset, term, part, part_cut, part_from_cut, given_part, rights, kind, timeout, options, more_options, begins_with}
 use Rattle.um_script.specs.Words.{is_word_byte}
 use Rattle.um_script.specs.Canonical.{term_text, offset_text, part_text, options_word, options_by}
 use Rattle.um_script.specs.Writable.{is_term, is_part, is_priority, is_word32}
 use Rattle.um_script.proofs.DigitsAgain.{and_true, list_all-weaker, decimal-spells, digits_again, number_again, is_number_again}
 use Rattle.um_script.proofs.NameAgain.{name_in_word, IsWord-decimal, IsWord-more, IsWord-name, word32-le, cut_none, cut_some, register_again, name_bytes, place_name_bytes, no_plus_name, no_slash_name, no_slash_digit}
 use Rattle.um_script.proofs.WordAgain.{IsWord}
+use Rattle.um_vocabulary.specs.Words.{is_place_name, attr_word, kind_word, timeout_word}
+use Rattle.um_vocabulary.proofs.Again.{by_attr, attr_again}
 
 -- ---- places
 
@@ -81,38 +84,22 @@ IsWord-term (Term.Place name offset) h =
 
 -- ---- partitions
 
--- one of the seven sets of rights
-is_one : (n : ℕ) → IsTrue (is_named_attr (record { 0 = n })) → (n ≡ 27) ⊎ ((n ≡ 11) ⊎ ((n ≡ 3) ⊎ ((n ≡ 9) ⊎ ((n ≡ 1) ⊎ ((n ≡ 45) ⊎ (n ≡ 63))))))
-is_one n h = grind (arith, nat_tests)
-
 pub record ReadsRights (n : ℕ) : Type 0 where
-  pub read : rights (rights_word (record { 0 = n })) ≡ Ok (record { 0 = n })
-  pub word : IsWord (rights_word (record { 0 = n }))
+  pub read : rights (attr_word (record { 0 = n })) ≡ Ok (record { 0 = n })
+  pub word : IsWord (attr_word (record { 0 = n }))
 
 pub rights_again : (n : ℕ) → IsTrue (is_named_attr (record { 0 = n })) → ReadsRights n
 rights_again n h =
-    elim (is_one n h) [
-      | inl e ↦ subst ReadsRights (sym e) (record { read = refl; word = record { bytes = refl; some = lit< tt } })
-      | inr b ↦ elim b [
-        | inl e ↦ subst ReadsRights (sym e) (record { read = refl; word = record { bytes = refl; some = lit< tt } })
-        | inr c ↦ elim c [
-          | inl e ↦ subst ReadsRights (sym e) (record { read = refl; word = record { bytes = refl; some = lit< tt } })
-          | inr d ↦ elim d [
-            | inl e ↦ subst ReadsRights (sym e) (record { read = refl; word = record { bytes = refl; some = lit< tt } })
-            | inr f ↦ elim f [
-              | inl e ↦ subst ReadsRights (sym e) (record { read = refl; word = record { bytes = refl; some = lit< tt } })
-              | inr g ↦ elim g [
-                | inl e ↦ subst ReadsRights (sym e) (record { read = refl; word = record { bytes = refl; some = lit< tt } })
-                | inr e ↦ subst ReadsRights (sym e) (record { read = refl; word = record { bytes = refl; some = lit< tt } })
-              ]
-            ]
-          ]
-        ]
-      ]
-    ]
+    record {
+      read = ap (λ a. ok_or a LineKind.Operand) (attr_again (record { 0 = n }) h);
+      word = record {
+        bytes = by_attr (λ m. IsTrue (list_all is_word_byte (attr_word (record { 0 = m })))) refl refl refl refl refl refl refl n h;
+        some = by_attr (λ m. 0 < length (attr_word (record { 0 = m }))) (lit< tt) (lit< tt) (lit< tt) (lit< tt) (lit< tt) (lit< tt) (lit< tt) n h;
+      };
+    }
 
-given_text : (start size : ℕ) (attr : Attr) → part_text (PartRef.Given (record { start = record { 0 = start }; size = size }) attr) ≡ decimal start ++ (47 ∷ (decimal size ++ (47 ∷ rights_word attr)))
-given_text start size attr = append_assoc (decimal start) (47 ∷ decimal size) (47 ∷ rights_word attr)
+given_text : (start size : ℕ) (attr : Attr) → part_text (PartRef.Given (record { start = record { 0 = start }; size = size }) attr) ≡ decimal start ++ (47 ∷ (decimal size ++ (47 ∷ attr_word attr)))
+given_text start size attr = append_assoc (decimal start) (47 ∷ decimal size) (47 ∷ attr_word attr)
 
 no_slash : (n : ℕ) → n ≤ 2 ^ 32 - 1 → IsTrue (list_all (λ b. not (b == 47)) (decimal n))
 no_slash n le = list_all-weaker (is_digit false) (λ b. not (b == 47)) no_slash_digit (decimal n) (decimal-spells n (omega arith)).digits_all
@@ -123,10 +110,10 @@ given_again start size n hs hz ha =
     let attr : Attr = record { 0 = n } in
     let ls = word32-le start hs in
     let lz = word32-le size hz in
-    let rest : List ℕ = decimal size ++ (47 ∷ rights_word attr) in
+    let rest : List ℕ = decimal size ++ (47 ∷ attr_word attr) in
     let first : cut 47 (decimal start ++ (47 ∷ rest)) ≡ Some (decimal start, rest) = cut_some 47 (decimal start) rest (no_slash start ls) in
-    let second : cut 47 rest ≡ Some (decimal size, rights_word attr) = cut_some 47 (decimal size) (rights_word attr) (no_slash size lz) in
-    let read : given_part (decimal start) (decimal size) (rights_word attr) ≡ Ok (PartRef.Given (record { start = record { 0 = start }; size = size }) attr)
+    let second : cut 47 rest ≡ Some (decimal size, attr_word attr) = cut_some 47 (decimal size) (attr_word attr) (no_slash size lz) in
+    let read : given_part (decimal start) (decimal size) (attr_word attr) ≡ Ok (PartRef.Given (record { start = record { 0 = start }; size = size }) attr)
     = rw (is_number_again start ls, is_number_again size lz, (rights_again n ha).read, number_again start ls, number_again size lz) refl in
     ap part (given_text start size attr) ∙ ap (part_cut (decimal start ++ (47 ∷ rest))) first ∙ ap (part_from_cut (decimal start)) second ∙ read
 
@@ -151,11 +138,11 @@ IsWord-part (PartRef.Given range attr) h =
     let s = IsWord-decimal range.start.0 (omega arith) in
     let z = IsWord-decimal range.size (omega arith) in
     let t = (rights_again attr.0 a.1).word in
-    let tail : IsTrue (list_all is_word_byte (decimal range.size ++ (47 ∷ rights_word attr))) = list_all-append is_word_byte (decimal range.size) (47 ∷ rights_word attr) ∙ rw (z.bytes, t.bytes) refl in
-    let whole : IsTrue (list_all is_word_byte (decimal range.start.0 ++ (47 ∷ (decimal range.size ++ (47 ∷ rights_word attr))))) = list_all-append is_word_byte (decimal range.start.0) (47 ∷ (decimal range.size ++ (47 ∷ rights_word attr))) ∙ rw (s.bytes, tail) refl in
+    let tail : IsTrue (list_all is_word_byte (decimal range.size ++ (47 ∷ attr_word attr))) = list_all-append is_word_byte (decimal range.size) (47 ∷ attr_word attr) ∙ rw (z.bytes, t.bytes) refl in
+    let whole : IsTrue (list_all is_word_byte (decimal range.start.0 ++ (47 ∷ (decimal range.size ++ (47 ∷ attr_word attr))))) = list_all-append is_word_byte (decimal range.start.0) (47 ∷ (decimal range.size ++ (47 ∷ attr_word attr))) ∙ rw (s.bytes, tail) refl in
     record {
       bytes = ap (list_all is_word_byte) (given_text range.start.0 range.size attr) ∙ whole;
-      some = omega (arith, s.some, length-append (decimal range.start.0 ++ (47 ∷ decimal range.size)) (47 ∷ rights_word attr), length-append (decimal range.start.0) (47 ∷ decimal range.size));
+      some = omega (arith, s.some, length-append (decimal range.start.0 ++ (47 ∷ decimal range.size)) (47 ∷ attr_word attr), length-append (decimal range.start.0) (47 ∷ decimal range.size));
     }
 
 -- ---- choices

@@ -17,7 +17,8 @@ use Rattle.um_script.specs.declared.mnemonic.MsgqCall.{MsgqCall}
 use Rattle.um_script.specs.declared.mnemonic.StackCall.{StackCall}
 use Rattle.um_script.specs.declared.mnemonic.PipeCall.{PipeCall}
 use Rattle.um_script.specs.Instructions.{spelling}
-use Rattle.um_script.specs.Operands.{Form, Times, Register, Size, AnyTerm, Named, Part, Parts, ObjectKind, Wait, Priority, OptionSet, Value, kind_word, timeout_word, rights_word}
+use Rattle.um_script.specs.Operands.{Form, Times, Register, Size, AnyTerm, Named, Part, Parts, ObjectKind, Wait, Priority, OptionSet, Value}
+use Rattle.um_vocabulary.specs.Words.{kind_word, timeout_word, attr_word}
 
 abbrev pub offset_text : ℕ → List ℕ
 offset_text offset = if offset == 0 then [] else 43 ∷ decimal offset
@@ -35,7 +36,7 @@ named_text (Ref.At index) = decimal index
 abbrev pub part_text : PartRef → List ℕ
 part_text (PartRef.Named name) = name
 part_text (PartRef.At index) = decimal index
-part_text (PartRef.Given range attr) = decimal range.start.0 ++ (47 ∷ decimal range.size) ++ (47 ∷ rights_word attr)
+part_text (PartRef.Given range attr) = decimal range.start.0 ++ (47 ∷ decimal range.size) ++ (47 ∷ attr_word attr)
 
 -- each partition behind a space
 abbrev pub with_parts : List ℕ → List PartRef → List ℕ

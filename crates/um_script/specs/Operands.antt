@@ -1,5 +1,5 @@
 -- The operands of instructions: each form, from a word to its value.
-use Rattle.std.specs.Prelude.{ℕ, zero, suc, ◌+◌, List, [], ◌∷◌, take, drop, codes, bytes_eq, find, ok_or, Bool, true, false, not, ◌==◌, ◌&&◌, ◌||◌, if◌then◌else◌, Option, Some, None, option_map, position, Result, Ok, Err, ℤ}
+use Rattle.std.specs.Prelude.{ℕ, zero, suc, ◌+◌, List, [], ◌∷◌, take, drop, codes, bytes_eq, ok_or, Bool, true, false, not, ◌==◌, ◌&&◌, if◌then◌else◌, Option, Some, None, option_map, position, Result, Ok, Err, ℤ}
 use Rattle.um_base.specs.Lawful.{is_name}
 use Rattle.um_base.specs.declared.attr.Attr.{Attr}
 use Rattle.um_base.specs.declared.instr.Instr.{Instr}
@@ -14,6 +14,7 @@ use Rattle.um_script.specs.declared.fault.LineKind.{LineKind}
 use Rattle.um_script.specs.Faults.{◌>>=◌}
 use Rattle.um_script.specs.Numbers.{digits, number, is_number, times, priority}
 use Rattle.um_script.specs.Words.{Words, ends, word}
+use Rattle.um_vocabulary.specs.Words.{is_place_name, spelled, attr_named, dynamic_kind_named, timeout_named}
 
 -- the bytes before the first `mark` of a word, and those behind it
 abbrev pub cut : ℕ → List ℕ → Option (List ℕ × List ℕ)
@@ -23,10 +24,6 @@ abbrev pub begins_with : ℕ → List ℕ → Bool
 begins_with mark [] = false
 begins_with mark (b ∷ bs) = b == mark
 
--- the one of these that a word spells
-abbrev pub spelled : {A : Type 0} → (A → List ℕ) → List A → List ℕ → Result A LineKind
-spelled spelling xs bytes = ok_or (find (λ x. bytes_eq bytes (spelling x)) xs) LineKind.Operand
-
 -- `r0` to `r7`
 abbrev pub register_word : ℕ → List ℕ
 register_word r = 114 ∷ (48 + r) ∷ []
@@ -35,7 +32,7 @@ abbrev pub registers : List ℕ
 registers = 0 ∷ 1 ∷ 2 ∷ 3 ∷ 4 ∷ 5 ∷ 6 ∷ 7 ∷ []
 
 abbrev pub register : List ℕ → Result ℕ LineKind
-register bytes = spelled register_word registers bytes
+register bytes = ok_or (spelled register_word registers bytes) LineKind.Operand
 
 -- how many bytes are loaded or stored: 1, 2 or 4
 abbrev pub size_word : ℕ → List ℕ
@@ -45,11 +42,7 @@ abbrev pub sizes : List ℕ
 sizes = 1 ∷ 2 ∷ 4 ∷ []
 
 abbrev pub size : List ℕ → Result ℕ LineKind
-size bytes = spelled size_word sizes bytes
-
--- what a place stands in: an object, a partition, or the read-only data
-abbrev pub is_place_name : List ℕ → Bool
-is_place_name bytes = is_name bytes || bytes_eq bytes (codes "rodata")
+size bytes = ok_or (spelled size_word sizes bytes) LineKind.Operand
 
 abbrev pub at_offset : List ℕ → Result ℕ LineKind → Result Term LineKind
 at_offset bytes offset = if is_place_name bytes then (offset >>= λ n. Ok (Term.Place bytes n)) else Err LineKind.Operand
@@ -72,19 +65,9 @@ term bytes =
 abbrev pub named : List ℕ → Result Ref LineKind
 named bytes = if is_name bytes then Ok (Ref.Named bytes) else Err LineKind.Operand
 
--- the seven sets of rights
-abbrev pub rights_word : Attr → List ℕ
-rights_word attr =
-    if attr.0 == 27 then codes "P_RW_U_RW" else (if attr.0 == 11 then codes "P_RW_U_RO" else (if attr.0 == 3 then codes "P_RW_U_NA"
-    else (if attr.0 == 9 then codes "P_RO_U_RO" else (if attr.0 == 1 then codes "P_RO_U_NA" else (if attr.0 == 45 then codes "P_RX_U_RX"
-    else codes "P_RWX_U_RWX")))))
-
-abbrev pub rights_in_lines : List Attr
-rights_in_lines =
-    record { 0 = 27 } ∷ record { 0 = 11 } ∷ record { 0 = 3 } ∷ record { 0 = 9 } ∷ record { 0 = 1 } ∷ record { 0 = 45 } ∷ record { 0 = 63 } ∷ []
-
+-- the rights that a partition in a line has
 abbrev pub rights : List ℕ → Result Attr LineKind
-rights bytes = spelled rights_word rights_in_lines bytes
+rights bytes = ok_or (attr_named bytes) LineKind.Operand
 
 -- where a partition begins, its size and its rights
 abbrev pub given_part : List ℕ → List ℕ → List ℕ → Result PartRef LineKind
@@ -115,32 +98,13 @@ part_cut bytes (Some x) = part_from x.0 x.1
 abbrev pub part : List ℕ → Result PartRef LineKind
 part bytes = part_cut bytes (cut 47 bytes)
 
--- the kinds that can be allocated
-abbrev pub kind_word : Kind → List ℕ
-kind_word Kind.Thread = codes "thread"
-kind_word Kind.ThreadStack = codes "thread_stack"
-kind_word Kind.Sem = codes "sem"
-kind_word Kind.Mutex = codes "mutex"
-kind_word Kind.Msgq = codes "msgq"
-kind_word Kind.Stack = codes "stack"
-kind_word Kind.Pipe = codes "pipe"
-
-abbrev pub kinds : List Kind
-kinds = Kind.Thread ∷ Kind.Sem ∷ Kind.Mutex ∷ Kind.Msgq ∷ Kind.Stack ∷ Kind.Pipe ∷ []
-
+-- a kind that can be allocated
 abbrev pub kind : List ℕ → Result Kind LineKind
-kind bytes = spelled kind_word kinds bytes
+kind bytes = ok_or (dynamic_kind_named bytes) LineKind.Operand
 
 -- how long a call waits
-abbrev pub timeout_word : Timeout → List ℕ
-timeout_word Timeout.NoWait = codes "K_NO_WAIT"
-timeout_word Timeout.Forever = codes "K_FOREVER"
-
-abbrev pub timeouts : List Timeout
-timeouts = Timeout.NoWait ∷ Timeout.Forever ∷ []
-
 abbrev pub timeout : List ℕ → Result Timeout LineKind
-timeout bytes = spelled timeout_word timeouts bytes
+timeout bytes = ok_or (timeout_named bytes) LineKind.Operand
 
 abbrev pub no_options : Options
 no_options = record { user = false; inherit = false; essential = false }

@@ -7,7 +7,8 @@ use Rattle.um_base.specs.declared.names.PartRef.{PartRef}
 use Rattle.um_base.specs.declared.names.Ref.{Ref}
 use Rattle.um_base.specs.declared.names.Term.{Term}
 use Rattle.um_script.specs.Canonical.{Operand, operands_of}
-use Rattle.um_script.specs.Operands.{Form, Times, Register, Size, AnyTerm, Named, Part, Parts, ObjectKind, Wait, Priority, OptionSet, Value, is_place_name}
+use Rattle.um_script.specs.Operands.{Form, Times, Register, Size, AnyTerm, Named, Part, Parts, ObjectKind, Wait, Priority, OptionSet, Value}
+use Rattle.um_vocabulary.specs.Words.{is_place_name}
 
 abbrev pub is_word32 : ℕ → Bool
 is_word32 n = nat_le n (2 ^ 32 - 1)

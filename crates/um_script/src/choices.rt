@@ -1,12 +1,13 @@
 //! Operands that are one of a few words.
 
-ghost use Rattle.std.specs.Prelude.{◌≡◌, find, bytes_eq, IfOk, IsTrue};
+ghost use Rattle.std.specs.Prelude.{◌≡◌, IfOk, IsTrue};
 ghost use Rattle.um_base.specs.Lawful.{is_size, is_dynamic_kind};
 ghost use Rattle.um_script.specs.Operands as operands;
 
 use crate::cut::cut;
 use crate::fault::LineKind;
 use um_base::{Kind, Options, Timeout};
+use um_vocabulary::{dynamic_kind_named, timeout_named};
 
 /// How many bytes are loaded or stored.
 pub fn size(word: &[u8]) -> Result<u8, LineKind>
@@ -21,70 +22,19 @@ pub fn size(word: &[u8]) -> Result<u8, LineKind>
     }
 }
 
-const KINDS: [Kind; 6] = [
-    Kind::Thread,
-    Kind::Sem,
-    Kind::Mutex,
-    Kind::Msgq,
-    Kind::Stack,
-    Kind::Pipe,
-];
-
-/// The word of a kind.
-pub fn kind_word(kind: Kind) -> &'static [u8]
-    ensures { result.now ≡ operands.kind_word kind }
-{
-    match kind {
-        Kind::Thread => b"thread",
-        Kind::ThreadStack => b"thread_stack",
-        Kind::Sem => b"sem",
-        Kind::Mutex => b"mutex",
-        Kind::Msgq => b"msgq",
-        Kind::Stack => b"stack",
-        Kind::Pipe => b"pipe",
-    }
-}
-
-fn find_kind(word: &[u8]) -> Option<Kind>
-    ensures { result ≡ find (λ k. bytes_eq word.now (operands.kind_word k)) operands.kinds }
-{
-    KINDS.iter().copied().find(|kind| word == kind_word(*kind))
-}
-
 /// A kind of object that can be allocated.
 pub fn kind(word: &[u8]) -> Result<Kind, LineKind>
     ensures value { result ≡ operands.kind word.now }
     ensures fits { IfOk result (λ k. IsTrue (is_dynamic_kind k)) }
 {
-    find_kind(word).ok_or(LineKind::Operand)
-}
-
-const TIMEOUTS: [Timeout; 2] = [Timeout::NoWait, Timeout::Forever];
-
-/// The word of a timeout.
-pub fn timeout_word(timeout: Timeout) -> &'static [u8]
-    ensures { result.now ≡ operands.timeout_word timeout }
-{
-    match timeout {
-        Timeout::NoWait => b"K_NO_WAIT",
-        Timeout::Forever => b"K_FOREVER",
-    }
-}
-
-fn find_timeout(word: &[u8]) -> Option<Timeout>
-    ensures { result ≡ find (λ t. bytes_eq word.now (operands.timeout_word t)) operands.timeouts }
-{
-    TIMEOUTS
-        .iter()
-        .copied()
-        .find(|timeout| word == timeout_word(*timeout))
+    dynamic_kind_named(word).ok_or(LineKind::Operand)
 }
 
 /// How long a call waits.
 pub fn timeout(word: &[u8]) -> Result<Timeout, LineKind>
     ensures { result ≡ operands.timeout word.now }
 {
-    find_timeout(word).ok_or(LineKind::Operand)
+    timeout_named(word).ok_or(LineKind::Operand)
 }
 
 const USER: &[u8] = b"K_USER";

@@ -5,7 +5,6 @@ mod choices;
 mod cut;
 mod fault;
 mod mnemonic;
-mod names;
 mod numbers;
 mod operands;
 mod parse;

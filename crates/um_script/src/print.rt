@@ -5,7 +5,6 @@ ghost use Rattle.um_script.specs.Canonical as canonical;
 ghost use Rattle.um_script.specs.Lines.{line_of};
 ghost use Rattle.um_script.specs.Writable.{is_line};
 
-use crate::choices::kind_word;
 use crate::mnemonic::{
     DomainCall, Mnemonic, MsgqCall, MutexCall, ObjectCall, PipeCall, Plain, SemCall, StackCall,
     ThreadCall,
@@ -16,6 +15,7 @@ use crate::writing::{
 };
 use std::alloc::Global;
 use um_base::{Instr, Memory, Term};
+use um_vocabulary::kind_word;
 
 /// What a line of the instruction begins with.
 fn mnemonic(line: &Instr) -> Mnemonic

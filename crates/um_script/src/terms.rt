@@ -7,9 +7,9 @@ ghost use Rattle.um_script.specs.Writable.{is_term, is_named};
 
 use crate::cut::cut;
 use crate::fault::LineKind;
-use crate::names::{is_name, is_place_name};
 use crate::numbers::{digits, number};
 use um_base::{Name, Ref, Term};
+use um_vocabulary::{is_name, is_place_name};
 
 /// A register, `r0` to `r7`.
 pub fn register(word: &[u8]) -> Result<u8, LineKind>

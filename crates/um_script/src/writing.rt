@@ -3,12 +3,11 @@
 ghost use Rattle.std.specs.Prelude.{◌≡◌, ◌∷◌, ◌++◌, decimal, OnOk};
 ghost use Rattle.std.specs.Fmt.{signed_decimal};
 ghost use Rattle.um_script.specs.Canonical as canonical;
-ghost use Rattle.um_script.specs.Operands as operands;
+ghost use Rattle.um_vocabulary.specs.Words as words;
 
-use crate::choices::timeout_word;
-use crate::partitions::rights_word;
 use itoa::Buffer;
 use um_base::{Attr, Memory, Options, PartRef, Range, Ref, Term, Timeout};
+use um_vocabulary::{attr_word, timeout_word};
 
 /// A word.
 pub fn put(text: &mut Vec<u8>, word: &[u8]) -> Result<(), Memory>
@@ -95,13 +94,13 @@ pub fn put_named(text: &mut Vec<u8>, named: &Ref) -> Result<(), Memory>
 }
 
 fn put_given(text: &mut Vec<u8>, range: Range, attr: Attr) -> Result<(), Memory>
-    ensures { OnOk result (text.new.items ≡ text.old.items ++ (32 ∷ (decimal range.start.0 ++ (47 ∷ decimal range.size) ++ (47 ∷ operands.rights_word attr)))) }
+    ensures { OnOk result (text.new.items ≡ text.old.items ++ (32 ∷ (decimal range.start.0 ++ (47 ∷ decimal range.size) ++ (47 ∷ words.attr_word attr)))) }
 {
     put_number(text, range.start.0)?;
     text.push(b'/')?;
     put_digits(text, range.size)?;
     text.push(b'/')?;
-    text.extend_from_slice(rights_word(attr))?;
+    text.extend_from_slice(attr_word(attr))?;
     Ok(())
 }
 
@@ -128,7 +127,7 @@ pub fn put_parts(text: &mut Vec<u8>, parts: &[PartRef]) -> Result<(), Memory>
 
 /// How long a call waits.
 pub fn put_timeout(text: &mut Vec<u8>, timeout: Timeout) -> Result<(), Memory>
-    ensures { OnOk result (text.new.items ≡ text.old.items ++ (32 ∷ operands.timeout_word timeout)) }
+    ensures { OnOk result (text.new.items ≡ text.old.items ++ (32 ∷ words.timeout_word timeout)) }
 {
     put(text, timeout_word(timeout))
 }

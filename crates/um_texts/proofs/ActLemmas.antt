@@ -18,7 +18,8 @@ use Rattle.um_base.specs.declared.names.Reply.{Reply}
 use Rattle.um_base.specs.declared.names.ThreadIx.{ThreadIx}
 use Rattle.um_base.specs.declared.names.Want.{Want}
 use Rattle.um_trace.specs.Digits.{address, value}
-use Rattle.um_trace.specs.Words.{verdict_word, kind_word, want_word, access_word, reach_word, pool_word, given_word, leftover_word, set_word, cause_word}
+use Rattle.um_trace.specs.Words.{verdict_word, any_kind_word, reach_word, pool_word, given_word, leftover_word, set_word, cause_word}
+use Rattle.um_vocabulary.specs.Words.{kind_word, want_word, access_word}
 use Rattle.um_trace.specs.Names.{row_text, thread_text, object_text, domain_text, script_text, part_text, reply_text}
 use Rattle.um_trace.specs.Acts.{range_text, found_text, answer_text, wake_text, reserved_text, thread_act_text, domain_act_text, pair_act_text, heap_act_text, object_act_text, act_text}
 use Rattle.um_texts.proofs.PlainLemmas.{solid, plain, plain_append, plain_solid, plain_flat, decimal_solid, address_solid, value_solid}
@@ -29,25 +30,26 @@ unfolding verdict_word
 verdict_solid None = refl
 verdict_solid (Some e) = errno_solid e
 
-kind_solid : (kind : Option Kind) → solid (kind_word kind) ≡ true
-unfolding kind_word
-kind_solid None = refl
-kind_solid (Some Kind.Thread) = refl
-kind_solid (Some Kind.ThreadStack) = refl
-kind_solid (Some Kind.Sem) = refl
-kind_solid (Some Kind.Mutex) = refl
-kind_solid (Some Kind.Msgq) = refl
-kind_solid (Some Kind.Stack) = refl
-kind_solid (Some Kind.Pipe) = refl
+kind_solid : (kind : Kind) → solid (kind_word kind) ≡ true
+kind_solid Kind.Thread = refl
+kind_solid Kind.ThreadStack = refl
+kind_solid Kind.Sem = refl
+kind_solid Kind.Mutex = refl
+kind_solid Kind.Msgq = refl
+kind_solid Kind.Stack = refl
+kind_solid Kind.Pipe = refl
+
+any_kind_solid : (kind : Option Kind) → solid (any_kind_word kind) ≡ true
+unfolding any_kind_word
+any_kind_solid None = refl
+any_kind_solid (Some kind) = kind_solid kind
 
 want_solid : (want : Want) → solid (want_word want) ≡ true
-unfolding want_word
 want_solid Want.Init = refl
 want_solid Want.Uninit = refl
 want_solid Want.Any = refl
 
 access_solid : (access : Access) → solid (access_word access) ≡ true
-unfolding access_word
 access_solid Access.Read = refl
 access_solid Access.Write = refl
 access_solid Access.Exec = refl
@@ -144,7 +146,7 @@ pub act_plain : (image : Image) → AreNamed image → (act : Act) → plain (ac
 unfolding act_text object_act_text heap_act_text pair_act_text domain_act_text thread_act_text
 act_plain image named (Act.Begin script line) = two (codes "begin ") (script_text image script) (decimal line) refl (script_solid image named script) (decimal_solid line)
 act_plain image named (Act.Check addr kind want verdict) =
-    four (codes "check ") (object_text image addr.0) (kind_word kind) (want_word want) (verdict_word verdict) refl (object_solid image named addr.0) (kind_solid kind) (want_solid want)
+    four (codes "check ") (object_text image addr.0) (any_kind_word kind) (want_word want) (verdict_word verdict) refl (object_solid image named addr.0) (any_kind_solid kind) (want_solid want)
     (verdict_solid verdict)
 act_plain image named (Act.Load addr size number) = ranged (codes "load ") addr.0 size (value number) refl (value_solid number)
 act_plain image named (Act.Store addr size number) = ranged (codes "store ") addr.0 size (value number) refl (value_solid number)
@@ -175,7 +177,7 @@ act_plain image named (Act.Publish addr given) = two (codes "public ") (object_t
 act_plain image named (Act.SetInit addr said) = two (codes "setinit ") (object_text image addr.0) (set_word said) refl (object_solid image named addr.0) (set_solid said)
 act_plain image named (Act.ClearInit addr) = start (codes "uninit ") (object_text image addr.0) refl (object_solid image named addr.0)
 act_plain image named (Act.Named who) = start (codes "name ") (thread_text image who.0) refl (thread_solid image named who.0)
-act_plain image named (Act.Reserve kind addr) = two (codes "reserve ") (kind_word (Some kind)) (reserved_text image addr) refl (kind_solid (Some kind)) (reserved_solid image named addr)
+act_plain image named (Act.Reserve kind addr) = two (codes "reserve ") (kind_word kind) (reserved_text image addr) refl (kind_solid kind) (reserved_solid image named addr)
 act_plain image named (Act.Born addr) = start (codes "born ") (object_text image addr.0) refl (object_solid image named addr.0)
 act_plain image named (Act.Buffer size fits) = two (codes "buffer ") (decimal size) (pool_word fits) refl (decimal_solid size) (pool_solid fits)
 act_plain image named (Act.Unbuffer size) = start (codes "unbuffer ") (decimal size) refl (decimal_solid size)

@@ -18,7 +18,7 @@ use Rattle.um_base.specs.declared.names.Reply.{Reply}
 use Rattle.um_base.specs.Lawful.{is_name, IsLawful}
 use Rattle.um_base.specs.Places.{own_row, row_at}
 use Rattle.um_trace.specs.Digits.{address}
-use Rattle.um_trace.specs.Words.{errno_word, attr_word}
+use Rattle.um_vocabulary.specs.Words.{errno_word, attr_word}
 use Rattle.um_trace.specs.Names.{row_in, row_text, thread_text, object_in, object_text, domain_in, domain_text, script_in, script_text, part_text, reply_text}
 use Rattle.um_texts.proofs.PlainLemmas.{solid, all_get, solid_append, decimal_solid, address_solid, name_solid}
 
@@ -86,7 +86,6 @@ unfolding script_text
 script_solid image named i = script_in_solid (slice_get image.scripts i) (all_get (λ (x : Script). is_name x.name) image.scripts i named.scripts)
 
 pub errno_solid : (e : Errno) → solid (errno_word e) ≡ true
-unfolding errno_word
 errno_solid Errno.EPERM = refl
 errno_solid Errno.EBADF = refl
 errno_solid Errno.EINVAL = refl
@@ -106,7 +105,6 @@ if_solid true xs ys h k = h
 if_solid false xs ys h k = k
 
 attr_solid : (attr : Attr) → solid (attr_word attr) ≡ true
-unfolding attr_word
 attr_solid attr =
     if_solid (attr.0 == 27) _ _ refl
     (if_solid (attr.0 == 11) _ _ refl

@@ -19,7 +19,8 @@ use Rattle.um_machine.specs.Order.{to_addr}
 use Rattle.um_machine.specs.Run.{MayChoose}
 use Rattle.um_trace.specs.Acts.{reserved_text, pair_act_text, heap_act_text, object_act_text, act_text}
 use Rattle.um_trace.specs.Names.{thread_text, object_text}
-use Rattle.um_trace.specs.Words.{kind_word, leftover_word}
+use Rattle.um_trace.specs.Words.{leftover_word}
+use Rattle.um_vocabulary.specs.Words.{kind_word}
 use Rattle.um_texts.proofs.PlainLemmas.{solid}
 use Rattle.um_texts.proofs.SplitLemmas.{split}
 use Rattle.um_texts.proofs.NameLemmas.{AreNamed, thread_solid, object_solid}
@@ -108,7 +109,7 @@ pub reserve_known : (image : Image) → IsSound image → AreNamed image → (ki
     → act_text image (Act.Reserve kind (if x == 0 then None else Some (to_addr (addr_of image x)))) ≡ act_text image (Act.Reserve kind (if y == 0 then None else Some (to_addr (addr_of image y)))) → x ≡ y
 unfolding act_text object_act_text heap_act_text
 reserve_known image sound named kind x y rx ry h =
-    let shown : reserved_text image (chosen_addr image x) ≡ reserved_text image (chosen_addr image y) = append_cancel_left (codes "reserve " ++ kind_word (Some kind) ++ codes " ") _ _ h in
+    let shown : reserved_text image (chosen_addr image x) ≡ reserved_text image (chosen_addr image y) = append_cancel_left (codes "reserve " ++ kind_word kind ++ codes " ") _ _ h in
     by rx ry shown
   where
     by : IsReserved x → IsReserved y → reserved_text image (chosen_addr image x) ≡ reserved_text image (chosen_addr image y) → x ≡ y

@@ -10,7 +10,8 @@ use Rattle.um_base.specs.declared.names.Addr.{Addr}
 use Rattle.um_base.specs.declared.names.Reply.{Reply}
 use Rattle.um_base.specs.declared.names.ThreadIx.{ThreadIx}
 use Rattle.um_trace.specs.Digits.{address, value}
-use Rattle.um_trace.specs.Words.{verdict_word, kind_word, want_word, access_word, reach_word, pool_word, given_word, leftover_word, set_word, cause_word}
+use Rattle.um_trace.specs.Words.{verdict_word, any_kind_word, reach_word, pool_word, given_word, leftover_word, set_word, cause_word}
+use Rattle.um_vocabulary.specs.Words.{kind_word, want_word, access_word}
 use Rattle.um_trace.specs.Names.{row_text, thread_text, object_text, domain_text, script_text, part_text, reply_text}
 
 -- bytes of memory
@@ -72,7 +73,7 @@ pair_act_text image act = domain_act_text image act
 
 -- acts on the heap, and the others
 unfoldable pub heap_act_text : Image → Act → List ℕ
-heap_act_text image (Act.Reserve kind addr) = codes "reserve " ++ kind_word (Some kind) ++ codes " " ++ reserved_text image addr
+heap_act_text image (Act.Reserve kind addr) = codes "reserve " ++ kind_word kind ++ codes " " ++ reserved_text image addr
 heap_act_text image (Act.Born addr) = codes "born " ++ object_text image addr.0
 heap_act_text image (Act.Buffer size fits) = codes "buffer " ++ decimal size ++ codes " " ++ pool_word fits
 heap_act_text image (Act.Unbuffer size) = codes "unbuffer " ++ decimal size
@@ -82,7 +83,7 @@ heap_act_text image act = pair_act_text image act
 -- acts on objects, and the others
 unfoldable pub object_act_text : Image → Act → List ℕ
 object_act_text image (Act.Check addr kind want verdict) =
-    codes "check " ++ object_text image addr.0 ++ codes " " ++ kind_word kind ++ codes " " ++ want_word want ++ codes " " ++ verdict_word verdict
+    codes "check " ++ object_text image addr.0 ++ codes " " ++ any_kind_word kind ++ codes " " ++ want_word want ++ codes " " ++ verdict_word verdict
 object_act_text image (Act.Work addr answer woken) =
     codes "act " ++ object_text image addr.0 ++ codes " " ++ answer_text image answer ++ flat_map (wake_text image) woken
 object_act_text image (Act.Publish addr given) = codes "public " ++ object_text image addr.0 ++ codes " " ++ given_word given

@@ -22,7 +22,8 @@ use Rattle.um_machine.specs.Order.{to_row}
 use Rattle.um_trace.specs.declared.dump.memory.TheConstants.{BLOCKS}
 use Rattle.um_trace.specs.declared.dump.standing.Standing.{Standing}
 use Rattle.um_trace.specs.Digits.{address, hex2}
-use Rattle.um_trace.specs.Words.{kind_word, mode_word}
+use Rattle.um_trace.specs.Words.{any_kind_word}
+use Rattle.um_vocabulary.specs.Words.{mode_word}
 use Rattle.um_trace.specs.Names.{row_text, thread_text, domain_text, part_text}
 
 -- the numbers below n, ascending
@@ -117,7 +118,7 @@ flag_word false = codes "private"
 
 -- an object's kind, state and flag
 unfoldable pub marks_text : Object → List ℕ
-marks_text o = kind_word o.kind ++ codes " " ++ state_word o ++ codes " " ++ flag_word o.public
+marks_text o = any_kind_word o.kind ++ codes " " ++ state_word o ++ codes " " ++ flag_word o.public
 
 -- the threads with an index below n that have a pair with an object, ascending
 abbrev pub holders_below : State → ℕ → ℕ → List ℕ

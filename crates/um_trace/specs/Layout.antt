@@ -8,7 +8,7 @@ use Rattle.um_base.specs.declared.image.Setup.{Setup}
 use Rattle.um_base.specs.declared.names.Range.{Range}
 use Rattle.um_trace.specs.Acts.{range_text}
 use Rattle.um_trace.specs.Digits.{address}
-use Rattle.um_trace.specs.Words.{attr_word, kind_word}
+use Rattle.um_vocabulary.specs.Words.{attr_word, kind_word}
 
 -- the line of the read-only data, where there is some
 unfoldable pub rodata_line : Option Range → List ℕ
@@ -26,7 +26,7 @@ stack_size_text _ = []
 
 -- the line of an object
 unfoldable pub place_line : ObjectDef → List ℕ
-place_line o = codes "object " ++ o.name ++ codes " " ++ kind_word (Some o.kind) ++ codes " " ++ address o.addr.0 ++ stack_size_text o.setup ++ codes "\n"
+place_line o = codes "object " ++ o.name ++ codes " " ++ kind_word o.kind ++ codes " " ++ address o.addr.0 ++ stack_size_text o.setup ++ codes "\n"
 
 -- the text of the addresses of an image, in the order of its description
 unfoldable pub layout_text : Image → List ℕ

@@ -10,7 +10,7 @@ use Rattle.um_base.specs.declared.names.Range.{Range}
 use Rattle.um_base.specs.declared.names.Reply.{Reply}
 use Rattle.um_base.specs.Places.{row_at, own_row}
 use Rattle.um_trace.specs.Digits.{address}
-use Rattle.um_trace.specs.Words.{errno_word, attr_word}
+use Rattle.um_vocabulary.specs.Words.{errno_word, attr_word}
 
 -- the object of a row: a static one by its name, the dynamic address j as #j
 abbrev pub row_in : Option ObjectDef → ℕ → List ℕ

@@ -6,9 +6,10 @@ ghost use Rattle.um_trace.specs.Room.{Puts};
 
 use crate::names::{put_object, put_on};
 use crate::pairs::put_pair_act;
-use crate::room::{put_decimal, put_space, put_text};
-use crate::words::{kind_word, pool_word};
+use crate::room::{put, put_decimal, put_space, put_text};
+use crate::words::pool_word;
 use um_base::{Act, Addr, Image};
+use um_vocabulary::kind_word;
 
 /// A new object's address, or none.
 #[tactic(auto, unfolding(crate::specs::Acts::reserved_text))]
@@ -31,7 +32,7 @@ pub fn put_heap_act(room: &mut Vec<u8>, image: &Image, act: &Act)
     match act {
         Act::Reserve { kind, addr } => {
             put_text(room, "reserve ");
-            put_text(room, kind_word(Some(*kind)));
+            put(room, kind_word(*kind));
             put_space(room);
             put_reserved(room, image, *addr);
         }
@@ -40,7 +41,7 @@ pub fn put_heap_act(room: &mut Vec<u8>, image: &Image, act: &Act)
             put_text(room, "buffer ");
             put_decimal(room, *size);
             put_space(room);
-            put_text(room, pool_word(*fits));
+            put(room, pool_word(*fits));
         }
         Act::Unbuffer { size } => {
             put_text(room, "unbuffer ");

@@ -7,8 +7,8 @@ ghost use Rattle.um_trace.specs.Room.{Puts};
 
 use crate::memory::put_range;
 use crate::room::{put, put_address, put_decimal, put_newline, put_space, put_text};
-use crate::words::{attr_word, kind_word};
 use um_base::{Image, Name, ObjectDef, Partition, Range, Setup};
+use um_vocabulary::{attr_word, kind_word};
 
 /// The line of the read-only data, where there is some.
 #[tactic(auto, unfolding(crate::specs::Layout::rodata_line))]
@@ -45,7 +45,7 @@ fn put_partition(room: &mut Vec<u8>, partition: &Partition)
     put_named(room, "partition ", &partition.name);
     put_range(room, partition.range.start, partition.range.size);
     put_space(room);
-    put_text(room, attr_word(partition.attr));
+    put(room, attr_word(partition.attr));
     put_newline(room);
 }
 
@@ -81,7 +81,7 @@ fn put_place(room: &mut Vec<u8>, object: &ObjectDef)
     ensures { Puts room.old room.new (place_line object.now) 72 }
 {
     put_named(room, "object ", &object.name);
-    put_text(room, kind_word(Some(object.kind)));
+    put(room, kind_word(object.kind));
     put_space(room);
     put_address(room, object.addr);
     put_stack_size(room, object.setup);

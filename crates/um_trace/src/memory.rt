@@ -9,9 +9,10 @@ ghost use Rattle.um_trace.specs.Words.{reach_word};
 
 use crate::names::put_row;
 use crate::objects::put_object_act;
-use crate::room::{put_address, put_decimal, put_space, put_text, put_value};
-use crate::words::{access_word, reach_word};
+use crate::room::{put, put_address, put_decimal, put_space, put_text, put_value};
+use crate::words::reach_word;
 use um_base::{Act, Addr, Found, Image};
+use um_vocabulary::access_word;
 
 /// Bytes of memory.
 #[tactic(auto, unfolding(crate::specs::Acts::range_text))]
@@ -43,7 +44,7 @@ fn put_reach(room: &mut Vec<u8>, word: &str, addr: Addr, size: u32, fits: bool)
     put_text(room, word);
     put_range(room, addr, size);
     put_space(room);
-    put_text(room, reach_word(fits));
+    put(room, reach_word(fits));
 }
 
 /// What a string read found.
@@ -74,7 +75,7 @@ pub fn put_act(room: &mut Vec<u8>, image: &Image, act: &Act)
         }
         Act::Fault { access, addr, size } => {
             put_text(room, "fault ");
-            put_text(room, access_word(*access));
+            put(room, access_word(*access));
             put_space(room);
             put_range(room, *addr, *size);
         }

@@ -6,8 +6,8 @@ ghost use Rattle.um_trace.specs.Room.{Puts};
 
 use crate::places::{own_row, row_at};
 use crate::room::{put, put_address, put_decimal, put_short, put_text};
-use crate::words::{attr_word, errno_word};
 use um_base::{Addr, Attr, Image, Range, Reply, STATIC_ROWS, ThreadIx};
+use um_vocabulary::{attr_word, errno_word};
 
 /// The object of a row: a static one by its name, the dynamic address j as `#j`.
 #[tactic(auto, unfolding(crate::specs::Names::row_text))]
@@ -80,7 +80,7 @@ pub fn put_part(room: &mut Vec<u8>, range: Range, attr: Attr)
     put_text(room, "/");
     put_decimal(room, range.size);
     put_text(room, "/");
-    put_text(room, attr_word(attr));
+    put(room, attr_word(attr));
 }
 
 /// What a call answers.
@@ -94,7 +94,7 @@ pub fn put_reply(room: &mut Vec<u8>, image: &Image, reply: Reply)
         Reply::Num(n) => put_decimal(room, n),
         Reply::At(addr) => put_object(room, image, addr),
         Reply::Null => put_text(room, "NULL"),
-        Reply::Fail(error) => put_text(room, errno_word(error)),
+        Reply::Fail(error) => put(room, errno_word(error)),
     }
 }
 

@@ -7,25 +7,27 @@ ghost use Rattle.um_base.specs.declared.names.ThreadIx.{ThreadIx};
 ghost use Rattle.um_trace.specs.Acts.{answer_text, wake_text, object_act_text};
 ghost use Rattle.um_trace.specs.Room.{Puts};
 ghost use Rattle.um_trace.specs.Text.{woken_by};
-ghost use Rattle.um_trace.specs.Words.{kind_word, want_word, verdict_word};
+ghost use Rattle.um_trace.specs.Words.{any_kind_word, verdict_word};
+ghost use Rattle.um_vocabulary.specs.Words.{want_word};
 
 use crate::heap::put_heap_act;
 use crate::names::{put_of, put_on, put_reply};
-use crate::room::{put_space, put_text};
-use crate::words::{given_word, kind_word, set_word, verdict_word, want_word};
+use crate::room::{put, put_space, put_text};
+use crate::words::{any_kind_word, given_word, set_word, verdict_word};
 use um_base::{Act, Answer, Errno, Image, Kind, Replies, Reply, ThreadIx, Want};
+use um_vocabulary::want_word;
 
 /// The kind and the state that a check wants, and what it says.
 fn put_check(room: &mut Vec<u8>, kind: Option<Kind>, want: Want, verdict: Option<Errno>)
     requires { vec_len room.old + 31 ≤ vec_capacity room.old }
-    ensures { Puts room.old room.new (codes " " ++ kind_word kind ++ codes " " ++ want_word want ++ codes " " ++ verdict_word verdict) 31 }
+    ensures { Puts room.old room.new (codes " " ++ any_kind_word kind ++ codes " " ++ want_word want ++ codes " " ++ verdict_word verdict) 31 }
 {
     put_space(room);
-    put_text(room, kind_word(kind));
+    put(room, any_kind_word(kind));
     put_space(room);
-    put_text(room, want_word(want));
+    put(room, want_word(want));
     put_space(room);
-    put_text(room, verdict_word(verdict));
+    put(room, verdict_word(verdict));
 }
 
 /// What an act on an object's contents answers.
@@ -90,12 +92,12 @@ pub fn put_object_act(room: &mut Vec<u8>, image: &Image, act: &Act)
         Act::Publish { addr, given } => {
             put_on(room, image, "public ", *addr);
             put_space(room);
-            put_text(room, given_word(*given));
+            put(room, given_word(*given));
         }
         Act::SetInit { addr, set } => {
             put_on(room, image, "setinit ", *addr);
             put_space(room);
-            put_text(room, set_word(*set));
+            put(room, set_word(*set));
         }
         Act::ClearInit { addr } => put_on(room, image, "uninit ", *addr),
         _ => put_heap_act(room, image, act),

@@ -6,7 +6,7 @@ ghost use Rattle.um_trace.specs.Room.{Puts};
 
 use crate::domains::put_domain_act;
 use crate::names::{put_of, put_on};
-use crate::room::{put_space, put_text};
+use crate::room::{put, put_space};
 use crate::words::{given_word, leftover_word};
 use um_base::{Act, Image};
 
@@ -21,12 +21,12 @@ pub fn put_pair_act(room: &mut Vec<u8>, image: &Image, act: &Act)
             put_of(room, image, "grant ", *who);
             put_on(room, image, " ", *addr);
             put_space(room);
-            put_text(room, given_word(*given));
+            put(room, given_word(*given));
         }
         Act::Own { who, given } => {
             put_of(room, image, "own ", *who);
             put_space(room);
-            put_text(room, given_word(*given));
+            put(room, given_word(*given));
         }
         Act::Inherit { who, addr } => {
             put_of(room, image, "inherit ", *who);
@@ -36,7 +36,7 @@ pub fn put_pair_act(room: &mut Vec<u8>, image: &Image, act: &Act)
             put_of(room, image, "drop ", *who);
             put_on(room, image, " ", *addr);
             put_space(room);
-            put_text(room, leftover_word(*left));
+            put(room, leftover_word(*left));
         }
         _ => put_domain_act(room, image, act),
     }

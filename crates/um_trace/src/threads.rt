@@ -5,7 +5,7 @@ ghost use Rattle.um_trace.specs.Acts.{thread_act_text};
 ghost use Rattle.um_trace.specs.Room.{Puts};
 
 use crate::names::{put_of, put_reply, put_script};
-use crate::room::{put_decimal, put_space, put_text};
+use crate::room::{put, put_decimal, put_space, put_text};
 use crate::words::cause_word;
 use um_base::{Act, Image};
 
@@ -34,7 +34,7 @@ pub fn put_thread_act(room: &mut Vec<u8>, image: &Image, act: &Act)
             put_text(room, "fatal ");
             put_decimal(room, *reason as u32);
             put_space(room);
-            put_text(room, cause_word(*cause));
+            put(room, cause_word(*cause));
         }
         Act::Doom { who } => {
             put_text(room, "doom ");

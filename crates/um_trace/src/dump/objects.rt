@@ -10,8 +10,8 @@ ghost use Rattle.um_trace.specs.Room.{Puts};
 use crate::dump::lists::{put_lead, put_share};
 use crate::dump::state::{is_shown, object_at, pair_at};
 use crate::names::{put_row, put_thread};
-use crate::room::{put_bytes, put_decimal, put_newline, put_space, put_text};
-use crate::words::kind_word;
+use crate::room::{put, put_bytes, put_decimal, put_newline, put_space, put_text};
+use crate::words::any_kind_word;
 use um_base::{Image, Kind, PIECE, ROWS, THREADS, ThreadIx};
 use um_machine::{Contents, Object, Status};
 use um_matrix::Matrix;
@@ -52,7 +52,7 @@ fn put_marks(room: &mut Vec<u8>, object: &Object)
     requires { vec_len room.old + 27 ≤ vec_capacity room.old }
     ensures { Puts room.old room.new (marks_text object.now) 27 }
 {
-    put_text(room, kind_word(object.kind));
+    put(room, any_kind_word(object.kind));
     put_space(room);
     put_text(room, state_word(object));
     put_space(room);

@@ -8,11 +8,11 @@ ghost use Rattle.um_trace.specs.Room.{Puts};
 
 use crate::dump::standing::{Standing, shown_thread, standing_of};
 use crate::names::{put_domain, put_row};
-use crate::room::{put_newline, put_signed, put_space, put_text};
-use crate::words::mode_word;
+use crate::room::{put, put_newline, put_signed, put_space, put_text};
 use um_base::{Image, ROWS};
 use um_machine::{Life, Thread};
 use um_matrix::Matrix;
+use um_vocabulary::mode_word;
 
 /// How a thread is.
 #[tactic(auto, unfolding(crate::specs::Dump::standing_text))]
@@ -40,7 +40,7 @@ fn put_rights(room: &mut Vec<u8>, image: &Image, me: &Thread)
 {
     if me.life != Life::Unborn {
         put_space(room);
-        put_text(room, mode_word(me.mode));
+        put(room, mode_word(me.mode));
         put_space(room);
         put_signed(room, me.priority);
         put_space(room);

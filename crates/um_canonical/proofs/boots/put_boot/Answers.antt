@@ -9,7 +9,7 @@ returns c =
     let stack = rw c.deref-2.ensures.value at c.in_ok-put_named-2.ensures in
     let script = rw c.deref-3.ensures.value at c.in_ok-put_named-3.ensures in
     let domain = rw c.deref-4.ensures.value at c.in_ok-put_named-4.ensures in
-    let mode = rw c.mode_word.ensures at c.in_ok-put_text.ensures in
+    let mode = rw c.mode_word.ensures.value at c.in_ok-put_text.ensures in
     let pool = rw c.deref-5.ensures.value at c.in_ok-put_pool.ensures in
     let grants = rw (c.deref-6.ensures.value, c.as_slice.ensures.value) at c.put_grants.ensures in
     on_ok_weaker c.put_grants.result

@@ -14,5 +14,5 @@ pub returns : goal.returns
 returns c =
     let o = c.args.object.now in
     let name = rw c.as_slice.ensures.value at c.in_ok-put_text.ensures in
-    let kind = rw c.kind_word.ensures at c.in_ok-put_text-2.ensures in
+    let kind = rw c.kind_word.ensures.value at c.in_ok-put_text-2.ensures in
     on_ok_weaker c.put_details.result (object_is _ _ _ _ _ _ o (kind_is o.kind o.setup) c.in_ok-put_header.ensures name kind c.in_ok-put_truth.ensures) c.put_details.ensures

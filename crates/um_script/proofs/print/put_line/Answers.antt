@@ -1,4 +1,4 @@
-use Rattle.std.proofs.Common.{◌≡◌, ℕ, List, [], ◌++◌, sym, ap, ◌∙◌, append_assoc}
+use Rattle.std.proofs.Common.{ℕ, List, [], ◌++◌, sym, ap, ◌∙◌, append_assoc}
 use Rattle.std.proofs.lemmas.Result.{on_ok_weaker}
 use Rattle.um_script.specs.Canonical.{mnemonic, with_operands, operands_of}
 use Rattle.um_script.specs.Instructions.{spelling}

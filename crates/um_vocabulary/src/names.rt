@@ -1,9 +1,9 @@
-//! Names in lines.
+//! Lawful names.
 
 ghost use Rattle.std.specs.Prelude.{◌≡◌, ◌≤◌, IsTrue, length, codes, bytes_eq};
 ghost use Rattle.std.specs.List.{list_all};
 ghost use Rattle.um_base.specs.Lawful as lawful;
-ghost use Rattle.um_script.specs.Operands as operands;
+ghost use Rattle.um_vocabulary.specs.Words as words;
 
 fn is_letter(byte: u8) -> bool
     ensures { result ≡ lawful.is_letter byte }
@@ -41,7 +41,7 @@ fn is_rodata(bytes: &[u8]) -> bool
     bytes == RODATA
 }
 
-/// Whether these bytes are a name that a description can give.
+/// Whether these bytes are a lawful name: 1 to 24 letters, digits or `_`, the first a letter, and not `rodata`.
 pub fn is_name(bytes: &[u8]) -> bool
     ensures value { result ≡ lawful.is_name bytes.now }
     ensures few { IsTrue result → length bytes.now ≤ 24 }
@@ -49,9 +49,9 @@ pub fn is_name(bytes: &[u8]) -> bool
     bytes.len() <= 24 && begins_with_letter(bytes) && are_name_bytes(bytes) && !is_rodata(bytes)
 }
 
-/// Whether these bytes can name what a place stands in.
+/// Whether these bytes can name what a place stands in: a lawful name, or `rodata`.
 pub fn is_place_name(bytes: &[u8]) -> bool
-    ensures value { result ≡ operands.is_place_name bytes.now }
+    ensures value { result ≡ words.is_place_name bytes.now }
     ensures few { IsTrue result → length bytes.now ≤ 24 }
 {
     is_name(bytes) || is_rodata(bytes)
