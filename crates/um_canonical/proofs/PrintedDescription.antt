@@ -1,11 +1,9 @@
 -- The description that is printed is made of the image alone, and it is the one that means the same image.
-use Rattle.std.proofs.Common.{◌≡◌, ℕ, ◌+◌, min, Bool, false, List, [], ◌∷◌, ◌++◌, map, length, drop, Option, Some, None, is_some, IsTrue, Ok, ℤ, pos, negsuc, int_lt, refl, ap, ◌∙◌, subst, arith}
+use Rattle.std.proofs.Common.{◌≡◌, ℕ, ◌+◌, min, false, List, [], ◌∷◌, map, length, Option, IsTrue, Ok, ℤ, pos, negsuc, int_lt, refl, ap, ◌∙◌, subst, arith}
 use Rattle.std.proofs.lemmas.Bool.{true≢false}
 use Rattle.std.specs.List.{list_all}
 use Rattle.um_base.specs.declared.image.DomainDef.{DomainDef}
 use Rattle.um_base.specs.declared.image.Image.{Image}
-use Rattle.um_base.specs.declared.image.ObjectDef.{ObjectDef}
-use Rattle.um_base.specs.declared.image.Partition.{Partition}
 use Rattle.um_base.specs.declared.image.Pool.{Pool}
 use Rattle.um_base.specs.declared.image.Script.{Script}
 use Rattle.um_base.specs.declared.limits.TheConstants.{PARTITION_AREA, STACK_AREA, AREA_ENTRY}
@@ -13,28 +11,26 @@ use Rattle.um_base.specs.declared.names.Range.{Range}
 use Rattle.um_base.specs.Layout.{rounded, starts}
 use Rattle.um_document.specs.declared.description.BootEntry.{BootEntry}
 use Rattle.um_document.specs.declared.description.Description.{Description}
-use Rattle.um_document.specs.declared.description.Details.{Details}
 use Rattle.um_document.specs.declared.description.DomainEntry.{DomainEntry}
-use Rattle.um_document.specs.declared.description.ObjectEntry.{ObjectEntry}
 use Rattle.um_document.specs.declared.description.PartitionEntry.{PartitionEntry}
 use Rattle.um_document.specs.declared.description.ScriptEntry.{ScriptEntry}
 use Rattle.um_document.specs.declared.place.Place.{Place}
 use Rattle.um_document.specs.declared.shape.Key.{Key}
 use Rattle.um_document.specs.declared.shape.Section.{Section}
 use Rattle.um_description.specs.Flaws.{flaws, meaning}
-use Rattle.um_description.specs.Limits.{outside, longer, top_limits, boot_limits, threads_after}
-use Rattle.um_description.specs.Names.{Text, each, items, named, passes, is_thread, is_thread_stack, is_initialised, pool_names, partition_names, domain_names, object_names, script_names}
+use Rattle.um_description.specs.Limits.{outside, longer, top_limits, boot_limits}
+use Rattle.um_description.specs.Names.{Text, each, items, pool_names, partition_names, domain_names, object_names, script_names}
 use Rattle.um_description.specs.Numbers.{natural}
 use Rattle.um_description.specs.Packing.{asked_size}
-use Rattle.um_description.specs.Resolve.{partition_sizes, stack_sizes, placed, placed_partitions, first_range, ranges_taken, object_def, objects_from, domain_of, pool_of, boot_of, script_of, image_of}
-use Rattle.um_description.specs.Unknown.{unless, unknown_in_domain, unknown_in_boot}
-use Rattle.um_description.proofs.LawfulBoots.{IsKnownBoot}
+use Rattle.um_description.specs.Resolve.{partition_sizes, stack_sizes, placed, placed_partitions, domain_of, pool_of, boot_of, script_of, image_of}
+use Rattle.um_description.specs.Unknown.{unknown_in_domain, unknown_in_boot}
+use Rattle.um_description.proofs.LawfulBoots.{known_boot}
 use Rattle.um_description.proofs.LawfulDistinct.{is_known}
 use Rattle.um_description.proofs.LawfulDomains.{all_known}
 use Rattle.um_description.proofs.LawfulImage.{no_flaws, all_within}
 use Rattle.um_description.proofs.LawfulLayout.{length_starting, length_ranges}
-use Rattle.um_description.proofs.LawfulLists.{no_front, no_back, none_unless, map_map, length_mapped}
-use Rattle.um_description.proofs.LawfulNames.{all_names}
+use Rattle.um_description.proofs.LawfulLists.{no_front, no_back, map_map, length_mapped}
+use Rattle.um_description.proofs.LawfulNames.{all_names, partition_names_again, object_names_again}
 use Rattle.um_description.proofs.LawfulRanges.{IsIn, inside, natural_in}
 use Rattle.um_canonical.specs.Entries.{Packed, packed_by, domain_entry, boot_entry}
 use Rattle.um_canonical.specs.Fresh.{fresh_names}
@@ -42,30 +38,6 @@ use Rattle.um_canonical.specs.Text.{pools_in, partitions_in, domains_in, objects
 use Rattle.um_canonical.proofs.PrintedEntries.{pools_back, objects_back, domain_back}
 use Rattle.um_canonical.proofs.PrintedMeaning.{variables_for, repacked, reprinted, scripts_again, base_of, means_again}
 use Rattle.um_canonical.proofs.RoundedPartitions.{partitions_back, regranted, boot_back}
-
--- ---- names
-
-partition_names_again : (ranges : List Range) (ps : List PartitionEntry) → length ranges ≡ length ps
-    → map (λ (p : Partition). p.name) (placed_partitions ranges ps) ≡ map (λ (p : PartitionEntry). p.name) ps
-partition_names_again [] [] h = refl
-partition_names_again [] (p ∷ ps) h = absurd (omega (arith, h))
-partition_names_again (range ∷ ranges) [] h = absurd (omega (arith, h))
-partition_names_again (range ∷ ranges) (p ∷ ps) h = ap (λ (ns : List Text). p.name ∷ ns) (partition_names_again ranges ps (omega (arith, h)))
-
-object_name : (range : Range) (x t : ℕ) (name : Text) (public : Bool) (details : Details) → (object_def range x t (record { name = name; public = public; details = details })).name ≡ name
-object_name range x t name public Details.Thread = refl
-object_name range x t name public (Details.ThreadStack size) = refl
-object_name range x t name public (Details.Sem numbers) = refl
-object_name range x t name public (Details.Mutex init) = refl
-object_name range x t name public (Details.Msgq numbers) = refl
-object_name range x t name public (Details.Stack entries) = refl
-object_name range x t name public (Details.Pipe size) = refl
-
-object_names_again : (ranges : List Range) (x t : ℕ) (os : List ObjectEntry) → map (λ (o : ObjectDef). o.name) (objects_from ranges x t os) ≡ map (λ (o : ObjectEntry). o.name) os
-object_names_again ranges x t [] = refl
-object_names_again ranges x t (o ∷ os) =
-    let rest = object_names_again (drop (ranges_taken o) ranges) (x + 1) (threads_after t o) os in
-    rw (object_name (first_range ranges) x t o.name o.public o.details, rest) refl
 
 -- ---- parts
 
@@ -95,37 +67,6 @@ domains_known d i (m ∷ ms) h =
     let here = domain_back (partition_names d) m.name m.partitions (λ ts same. subst (λ (o : Option (List Text)). IsTrue (list_all (is_known (partition_names d)) (items o))) same own) in
     let more = domains_known d (i + 1) ms (no_back (unknown_in_domain d i m) (each (unknown_in_domain d) (i + 1) ms) h) in
     rw (here, more) refl
-
-abbrev pool_unknown : Description → ℕ → Option Text → List Place
-pool_unknown d i o = elim o as (λ _. List Place) [ None ↦ [] | Some text ↦ unless (is_some (named (pool_names d) text)) (Place.Field Section.Boot i Key.Pool) ]
-
-pool_known : (d : Description) (i : ℕ) (o : Option Text) → pool_unknown d i o ≡ [] → elim o as (λ _. Type 0) [ None ↦ Unit {0} | Some text ↦ IsTrue (is_known (pool_names d) text) ]
-pool_known d i None h = tt
-pool_known d i (Some text) h = none_unless (is_known (pool_names d) text) (Place.Field Section.Boot i Key.Pool) h
-
-pub known_boot : (d : Description) (i : ℕ) (b : BootEntry) → unknown_in_boot d i b ≡ [] → IsKnownBoot d b
-known_boot d i b h =
-    let is_t = passes is_thread d.objects (named (object_names d) b.thread) in
-    let is_s = passes is_thread_stack d.objects (named (object_names d) b.stack) in
-    let is_c = is_some (named (script_names d) b.script) in
-    let is_m = passes is_initialised d.domains (named (domain_names d) b.domain) in
-    let xs0 = unless is_t (Place.Field Section.Boot i Key.Thread) in
-    let xs1 = unless is_s (Place.Field Section.Boot i Key.Stack) in
-    let xs2 = unless is_c (Place.Field Section.Boot i Key.Script) in
-    let xs3 = unless is_m (Place.Field Section.Boot i Key.Domain) in
-    let xs4 = pool_unknown d i b.pool in
-    let xs5 = each (λ j text. unless (is_some (named (object_names d) text)) (Place.Item Section.Boot i Key.Grants j)) 0 b.grants in
-    let f4 = no_front (xs0 ++ xs1 ++ xs2 ++ xs3 ++ xs4) xs5 h in
-    let f3 = no_front (xs0 ++ xs1 ++ xs2 ++ xs3) xs4 f4 in
-    let f2 = no_front (xs0 ++ xs1 ++ xs2) xs3 f3 in
-    let f1 = no_front (xs0 ++ xs1) xs2 f2 in
-    record {
-      thread = none_unless is_t (Place.Field Section.Boot i Key.Thread) (no_front xs0 xs1 f1);
-      stack = none_unless is_s (Place.Field Section.Boot i Key.Stack) (no_back xs0 xs1 f1);
-      script = none_unless is_c (Place.Field Section.Boot i Key.Script) (no_back (xs0 ++ xs1) xs2 f2);
-      domain = none_unless is_m (Place.Field Section.Boot i Key.Domain) (no_back (xs0 ++ xs1 ++ xs2) xs3 f3);
-      pool = pool_known d i b.pool (no_back (xs0 ++ xs1 ++ xs2 ++ xs3) xs4 f4);
-    }
 
 boots_back : (d : Description) (i : ℕ) (bs : List BootEntry) → each boot_limits i bs ≡ [] → each (unknown_in_boot d) i bs ≡ []
     → map (boot_entry (object_names d) (script_names d) (domain_names d) (pool_names d)) (map (boot_of d) bs) ≡ map (regranted (object_names d)) bs

@@ -47,7 +47,8 @@ use Rattle.um_plain_toml.proofs.Runs.{document_again}
 use Rattle.um_plain_toml.proofs.Values.{ArePlain}
 use Rattle.um_canonical.specs.Entries.{Packed, partition_entry, row_names}
 use Rattle.um_canonical.specs.Text.{top_of, sections_of, text_for, described, printed_text}
-use Rattle.um_canonical.proofs.PrintedDescription.{known_boot, packed_again, described_again}
+use Rattle.um_description.proofs.LawfulBoots.{known_boot}
+use Rattle.um_canonical.proofs.PrintedDescription.{packed_again, described_again}
 use Rattle.um_canonical.proofs.PrintedEntries.{granted, rows_named}
 use Rattle.um_canonical.proofs.PrintedForm.{table_for, partition_is, boot_is, script_is, IsFormed, no_form_faults, description_again}
 use Rattle.um_canonical.proofs.PrintedMeaning.{variables_for, repacked, reprinted, named_alike, few_names, base_of, scripts_again}

@@ -6,13 +6,13 @@ use Rattle.std.proofs.lemmas.Bool.{false≢true}
 use Rattle.std.proofs.lemmas.Bool.Decides.{nat_tests}
 use Rattle.um_base.specs.declared.image.Boot.{Boot}
 use Rattle.um_base.specs.declared.limits.TheConstants.{BOOTS}
+use Rattle.um_base.specs.declared.names.Kind.{Kind}
 use Rattle.um_base.specs.declared.names.Range.{Range}
 use Rattle.um_base.specs.declared.names.Row.{Row}
 use Rattle.um_base.specs.Lawful as lawful
 use Rattle.um_base.specs.Lawful.{are_distinct, object_passes, pool_stands, is_priority, is_lawful_boot, is_stack}
 use Rattle.um_document.specs.declared.description.BootEntry.{BootEntry}
 use Rattle.um_document.specs.declared.description.Description.{Description}
-use Rattle.um_document.specs.declared.description.Details.{Details}
 use Rattle.um_document.specs.declared.description.DomainEntry.{DomainEntry}
 use Rattle.um_document.specs.declared.description.ObjectEntry.{ObjectEntry}
 use Rattle.um_document.specs.declared.place.Place.{Place}
@@ -23,40 +23,19 @@ use Rattle.um_description.specs.Limits.{outside, one_too_many, boot_limits, thre
 use Rattle.um_description.specs.Names.{Text, is_among, each, named, passes, is_thread, is_thread_stack, is_initialised, pool_names, partition_names, domain_names, object_names, script_names}
 use Rattle.um_description.specs.Resolve.{lowered, first_range, ranges_taken, object_def, objects_from, number_named, rows_among, domain_of, boot_of, script_of, pool_of, without_scripts, image_in}
 use Rattle.um_description.specs.Unknown.{unless, unknown_in_boot}
-use Rattle.um_description.proofs.LawfulDistinct.{is_known, boot_thread, boot_stack, new_threads, new_stacks, distinct_names, distinct_numbers, number_below}
-use Rattle.um_description.proofs.LawfulLists.{no_front, no_back, both_true, none_unless, map_map, length_mapped}
-use Rattle.um_description.proofs.LawfulObjects.{entry}
+use Rattle.um_description.proofs.LawfulDistinct.{is_known, boot_thread, boot_stack, new_boots, are_new, distinct_names, distinct_numbers, number_below}
+use Rattle.um_description.proofs.LawfulLists.{no_front, no_back, both_true, none_unless, length_mapped}
+use Rattle.um_description.proofs.LawfulObjects.{of_entry}
 use Rattle.um_description.proofs.LawfulRanges.{inside}
 
 -- ---- what stands at a number
 
-thread_again : (range : Range) (x t : ℕ) (name : Text) (public : Bool) (details : Details) → is_thread (entry name public details) ≡ lawful.is_thread (object_def range x t (entry name public details)).kind
-thread_again range x t name public Details.Thread = refl
-thread_again range x t name public (Details.ThreadStack size) = refl
-thread_again range x t name public (Details.Sem numbers) = refl
-thread_again range x t name public (Details.Mutex init) = refl
-thread_again range x t name public (Details.Msgq numbers) = refl
-thread_again range x t name public (Details.Stack entries) = refl
-thread_again range x t name public (Details.Pipe size) = refl
-
-stack_again : (range : Range) (x t : ℕ) (name : Text) (public : Bool) (details : Details) → is_thread_stack (entry name public details) ≡ is_stack (object_def range x t (entry name public details)).kind
-stack_again range x t name public Details.Thread = refl
-stack_again range x t name public (Details.ThreadStack size) = refl
-stack_again range x t name public (Details.Sem numbers) = refl
-stack_again range x t name public (Details.Mutex init) = refl
-stack_again range x t name public (Details.Msgq numbers) = refl
-stack_again range x t name public (Details.Stack entries) = refl
-stack_again range x t name public (Details.Pipe size) = refl
-
-thread_at : (ranges : List Range) (x t : ℕ) (os : List ObjectEntry) (i : ℕ) → IsTrue (passes is_thread os (Some i)) → IsTrue (object_passes (λ o. lawful.is_thread o.kind) (slice_get (objects_from ranges x t os) i))
-thread_at ranges x t [] i h = absurd (false≢true h)
-thread_at ranges x t (o ∷ os) zero h = sym (thread_again (first_range ranges) x t o.name o.public o.details) ∙ h
-thread_at ranges x t (o ∷ os) (suc i) h = thread_at (drop (ranges_taken o) ranges) (x + 1) (threads_after t o) os i h
-
-stack_at : (ranges : List Range) (x t : ℕ) (os : List ObjectEntry) (i : ℕ) → IsTrue (passes is_thread_stack os (Some i)) → IsTrue (object_passes (λ o. is_stack o.kind) (slice_get (objects_from ranges x t os) i))
-stack_at ranges x t [] i h = absurd (false≢true h)
-stack_at ranges x t (o ∷ os) zero h = sym (stack_again (first_range ranges) x t o.name o.public o.details) ∙ h
-stack_at ranges x t (o ∷ os) (suc i) h = stack_at (drop (ranges_taken o) ranges) (x + 1) (threads_after t o) os i h
+-- an object passes in the image what its entry passes
+object_at : (test : ObjectEntry → Bool) (kept : Kind → Bool) → ((range : Range) (x t : ℕ) (o : ObjectEntry) → test o ≡ kept (object_def range x t o).kind)
+    → (ranges : List Range) (x t : ℕ) (os : List ObjectEntry) (i : ℕ) → IsTrue (passes test os (Some i)) → IsTrue (object_passes (λ o. kept o.kind) (slice_get (objects_from ranges x t os) i))
+object_at test kept same ranges x t [] i h = absurd (false≢true h)
+object_at test kept same ranges x t (o ∷ os) zero h = sym (same (first_range ranges) x t o) ∙ h
+object_at test kept same ranges x t (o ∷ os) (suc i) h = object_at test kept same (drop (ranges_taken o) ranges) (x + 1) (threads_after t o) os i h
 
 initialised_by : (names : List Text) (name : Text) (o : Option (List Text)) → IsTrue (is_some o) → IsTrue (lawful.is_initialised (Some (domain_of names (record { name = name; partitions = o }))))
 initialised_by names name None h = absurd (false≢true h)
@@ -104,7 +83,7 @@ pool_known : (d : Description) (i : ℕ) (o : Option Text) → pool_unknown d i 
 pool_known d i None h = tt
 pool_known d i (Some text) h = none_unless (is_known (pool_names d) text) (Place.Field Section.Boot i Key.Pool) h
 
-known_boot : (d : Description) (i : ℕ) (b : BootEntry) → unknown_in_boot d i b ≡ [] → IsKnownBoot d b
+pub known_boot : (d : Description) (i : ℕ) (b : BootEntry) → unknown_in_boot d i b ≡ [] → IsKnownBoot d b
 known_boot d i b h =
     let is_t = passes is_thread d.objects (named (object_names d) b.thread) in
     let is_s = passes is_thread_stack d.objects (named (object_names d) b.stack) in
@@ -173,8 +152,8 @@ boot_lawful d ps ss i b limits unknown =
     let scripts = length_mapped (script_of (without_scripts d ps ss) d) d.scripts in
     let objects = length_objects ss 0 0 d.objects in
     let object_count = length_mapped (λ o. o.name) d.objects in
-    let t : IsTrue is_t = thread_at ss 0 0 d.objects (number_named (object_names d) b.thread) (passes_number is_thread d.objects (named (object_names d) b.thread) known.thread) in
-    let s : IsTrue is_s = stack_at ss 0 0 d.objects (number_named (object_names d) b.stack) (passes_number is_thread_stack d.objects (named (object_names d) b.stack) known.stack) in
+    let t : IsTrue is_t = object_at is_thread lawful.is_thread (λ range x t o. (of_entry range x t o).thread) ss 0 0 d.objects (number_named (object_names d) b.thread) (passes_number is_thread d.objects (named (object_names d) b.thread) known.thread) in
+    let s : IsTrue is_s = object_at is_thread_stack is_stack (λ range x t o. (of_entry range x t o).stack) ss 0 0 d.objects (number_named (object_names d) b.stack) (passes_number is_thread_stack d.objects (named (object_names d) b.stack) known.stack) in
     let c : IsTrue is_c = grind (arith, nat_tests, lt, names, scripts) in
     let p : IsTrue is_p = lowered_same b.priority priority.0 priority.1 in
     let m : IsTrue is_m = domain_at (partition_names d) d.domains (number_named (domain_names d) b.domain) (passes_number is_initialised d.domains (named (domain_names d) b.domain) known.domain) in
@@ -195,30 +174,27 @@ boots_lawful d ps ss i (b ∷ bs) limits unknown =
 
 -- ---- each thread and each stack is named once
 
-known_threads : (d : Description) (i : ℕ) (bs : List BootEntry) → each (unknown_in_boot d) i bs ≡ [] → IsTrue (list_all (is_known (object_names d)) (map boot_thread bs))
-known_threads d i [] h = refl
-known_threads d i (b ∷ bs) h =
-    both_true (is_known (object_names d) b.thread) (list_all (is_known (object_names d)) (map boot_thread bs))
-    (passes_known is_thread d.objects (named (object_names d) b.thread) (known_boot d i b (no_front (unknown_in_boot d i b) (each (unknown_in_boot d) (i + 1) bs) h)).thread)
-    (known_threads d (i + 1) bs (no_back (unknown_in_boot d i b) (each (unknown_in_boot d) (i + 1) bs) h))
+-- what each entry names, which is known, is named once where it is new at each
+once : (d : Description) (name : BootEntry → Text) (row : Boot → ℕ) → ((b : BootEntry) → row (boot_of d b) ≡ number_named (object_names d) (name b))
+    → ((i : ℕ) (b : BootEntry) → unknown_in_boot d i b ≡ [] → IsTrue (is_known (object_names d) (name b)))
+    → (bs : List BootEntry) → each (unknown_in_boot d) 0 bs ≡ [] → IsTrue (are_new [] (map name bs)) → IsTrue (are_distinct (map row (map (boot_of d) bs)))
+once d name row is known bs unknown new =
+    ap are_distinct (rows bs) ∙ distinct_numbers (object_names d) (map name bs) (all 0 bs unknown) (distinct_names [] (map name bs) new)
+  where
+    all : (i : ℕ) (bs : List BootEntry) → each (unknown_in_boot d) i bs ≡ [] → IsTrue (list_all (is_known (object_names d)) (map name bs))
+    all i [] h = refl
+    all i (b ∷ bs) h =
+        both_true (is_known (object_names d) (name b)) (list_all (is_known (object_names d)) (map name bs))
+        (known i b (no_front (unknown_in_boot d i b) (each (unknown_in_boot d) (i + 1) bs) h)) (all (i + 1) bs (no_back (unknown_in_boot d i b) (each (unknown_in_boot d) (i + 1) bs) h))
 
-known_stacks : (d : Description) (i : ℕ) (bs : List BootEntry) → each (unknown_in_boot d) i bs ≡ [] → IsTrue (list_all (is_known (object_names d)) (map boot_stack bs))
-known_stacks d i [] h = refl
-known_stacks d i (b ∷ bs) h =
-    both_true (is_known (object_names d) b.stack) (list_all (is_known (object_names d)) (map boot_stack bs))
-    (passes_known is_thread_stack d.objects (named (object_names d) b.stack) (known_boot d i b (no_front (unknown_in_boot d i b) (each (unknown_in_boot d) (i + 1) bs) h)).stack)
-    (known_stacks d (i + 1) bs (no_back (unknown_in_boot d i b) (each (unknown_in_boot d) (i + 1) bs) h))
+    rows : (bs : List BootEntry) → map row (map (boot_of d) bs) ≡ map (number_named (object_names d)) (map name bs)
+    rows [] = refl
+    rows (b ∷ bs) = rw (is b, rows bs) refl
 
 pub threads_once : (d : Description) (bs : List BootEntry) → each (unknown_in_boot d) 0 bs ≡ [] → boots_again [] [] 0 bs ≡ [] → IsTrue (are_distinct (map (λ (b : Boot). b.thread.0) (map (boot_of d) bs)))
 threads_once d bs unknown new =
-    let rows : map (λ (b : Boot). b.thread.0) (map (boot_of d) bs) ≡ map (number_named (object_names d)) (map boot_thread bs) =
-    map_map (boot_of d) (λ (b : Boot). b.thread.0) bs ∙ sym (map_map boot_thread (number_named (object_names d)) bs) in
-    ap are_distinct rows
-    ∙ distinct_numbers (object_names d) (map boot_thread bs) (known_threads d 0 bs unknown) (distinct_names [] (map boot_thread bs) (new_threads [] [] 0 bs new))
+    once d boot_thread (λ b. b.thread.0) (λ b. refl) (λ i b h. passes_known is_thread d.objects (named (object_names d) b.thread) (known_boot d i b h).thread) bs unknown (new_boots [] [] 0 bs new).0
 
 pub stacks_once : (d : Description) (bs : List BootEntry) → each (unknown_in_boot d) 0 bs ≡ [] → boots_again [] [] 0 bs ≡ [] → IsTrue (are_distinct (map (λ (b : Boot). b.stack.0) (map (boot_of d) bs)))
 stacks_once d bs unknown new =
-    let rows : map (λ (b : Boot). b.stack.0) (map (boot_of d) bs) ≡ map (number_named (object_names d)) (map boot_stack bs) =
-    map_map (boot_of d) (λ (b : Boot). b.stack.0) bs ∙ sym (map_map boot_stack (number_named (object_names d)) bs) in
-    ap are_distinct rows
-    ∙ distinct_numbers (object_names d) (map boot_stack bs) (known_stacks d 0 bs unknown) (distinct_names [] (map boot_stack bs) (new_stacks [] [] 0 bs new))
+    once d boot_stack (λ b. b.stack.0) (λ b. refl) (λ i b h. passes_known is_thread_stack d.objects (named (object_names d) b.stack) (known_boot d i b h).stack) bs unknown (new_boots [] [] 0 bs new).1

@@ -57,23 +57,21 @@ boot_thread b = b.thread
 abbrev pub boot_stack : BootEntry → Text
 boot_stack b = b.stack
 
-pub new_threads : (threads stacks : List Text) (i : ℕ) (bs : List BootEntry) → boots_again threads stacks i bs ≡ [] → IsTrue (are_new threads (map boot_thread bs))
-new_threads threads stacks i [] h = refl
-new_threads threads stacks i (b ∷ bs) h =
+-- the threads and the stacks of boot entries
+pub new_boots : (threads stacks : List Text) (i : ℕ) (bs : List BootEntry) → boots_again threads stacks i bs ≡ []
+    → IsTrue (are_new threads (map boot_thread bs)) × IsTrue (are_new stacks (map boot_stack bs))
+new_boots threads stacks i [] h = (refl, refl)
+new_boots threads stacks i (b ∷ bs) h =
+    let at_thread = Place.Field Section.Boot i Key.Thread in
+    let at_stack = Place.Field Section.Boot i Key.Stack in
+    let thread = if_again threads at_thread b.thread in
+    let stack = if_again stacks at_stack b.stack in
     let back = boots_again (b.thread ∷ threads) (b.stack ∷ stacks) (i + 1) bs in
-    both_true (not (is_among b.thread threads)) (are_new (b.thread ∷ threads) (map boot_thread bs))
-    (one_new threads (Place.Field Section.Boot i Key.Thread) b.thread
-    (no_front (if_again threads (Place.Field Section.Boot i Key.Thread) b.thread) (if_again stacks (Place.Field Section.Boot i Key.Stack) b.stack) (no_front (boot_again threads stacks i b) back h)))
-    (new_threads (b.thread ∷ threads) (b.stack ∷ stacks) (i + 1) bs (no_back (boot_again threads stacks i b) back h))
-
-pub new_stacks : (threads stacks : List Text) (i : ℕ) (bs : List BootEntry) → boots_again threads stacks i bs ≡ [] → IsTrue (are_new stacks (map boot_stack bs))
-new_stacks threads stacks i [] h = refl
-new_stacks threads stacks i (b ∷ bs) h =
-    let back = boots_again (b.thread ∷ threads) (b.stack ∷ stacks) (i + 1) bs in
-    both_true (not (is_among b.stack stacks)) (are_new (b.stack ∷ stacks) (map boot_stack bs))
-    (one_new stacks (Place.Field Section.Boot i Key.Stack) b.stack
-    (no_back (if_again threads (Place.Field Section.Boot i Key.Thread) b.thread) (if_again stacks (Place.Field Section.Boot i Key.Stack) b.stack) (no_front (boot_again threads stacks i b) back h)))
-    (new_stacks (b.thread ∷ threads) (b.stack ∷ stacks) (i + 1) bs (no_back (boot_again threads stacks i b) back h))
+    let own = no_front (boot_again threads stacks i b) back h in
+    let rest = new_boots (b.thread ∷ threads) (b.stack ∷ stacks) (i + 1) bs (no_back (boot_again threads stacks i b) back h) in (
+      both_true (not (is_among b.thread threads)) (are_new (b.thread ∷ threads) (map boot_thread bs)) (one_new threads at_thread b.thread (no_front thread stack own)) rest.0,
+      both_true (not (is_among b.stack stacks)) (are_new (b.stack ∷ stacks) (map boot_stack bs)) (one_new stacks at_stack b.stack (no_back thread stack own)) rest.1,
+    )
 
 -- names behind others
 pub new_append : (before xs ys : List Text) → IsTrue (are_new before xs) → IsTrue (are_new (added before xs) ys) → IsTrue (are_new before (xs ++ ys))

@@ -1,5 +1,5 @@
 -- The names of an image are those of its description: lawful and distinct.
-use Rattle.std.proofs.Common.{◌≡◌, ℕ, ◌+◌, Bool, List, [], ◌∷◌, ◌++◌, length, map, drop, IsTrue, refl, ap, sym, ◌∙◌, subst, arith}
+use Rattle.std.proofs.Common.{◌≡◌, ℕ, ◌+◌, List, [], ◌∷◌, ◌++◌, length, map, drop, IsTrue, refl, ap, sym, ◌∙◌, subst, arith}
 use Rattle.std.specs.List.{list_all}
 use Rattle.std.proofs.lemmas.List.Folds.{list_all-append}
 use Rattle.um_base.specs.declared.image.DomainDef.{DomainDef}
@@ -10,7 +10,6 @@ use Rattle.um_base.specs.declared.image.Script.{Script}
 use Rattle.um_base.specs.declared.names.Range.{Range}
 use Rattle.um_base.specs.Lawful.{is_name, names_of, are_distinct_names}
 use Rattle.um_document.specs.declared.description.Description.{Description}
-use Rattle.um_document.specs.declared.description.Details.{Details}
 use Rattle.um_document.specs.declared.description.ObjectEntry.{ObjectEntry}
 use Rattle.um_document.specs.declared.description.PartitionEntry.{PartitionEntry}
 use Rattle.um_document.specs.declared.shape.Section.{Section}
@@ -18,10 +17,10 @@ use Rattle.um_description.specs.Duplicates.{names_again, partitions_again, domai
 use Rattle.um_document.specs.LawfulNames.{AreLawfulNames}
 use Rattle.um_description.specs.Limits.{threads_after}
 use Rattle.um_description.specs.Names.{Text, names_within, pool_names, partition_names, domain_names, object_names, script_names}
-use Rattle.um_description.specs.Resolve.{pool_of, domain_of, placed_partitions, first_range, ranges_taken, object_def, objects_from, script_of, without_scripts, image_in}
+use Rattle.um_description.specs.Resolve.{pool_of, domain_of, placed_partitions, first_range, ranges_taken, objects_from, script_of, without_scripts, image_in}
 use Rattle.um_description.proofs.LawfulDistinct.{are_new, new_names, new_partitions, new_domains, new_without_variables, new_beside_fewer, included_within, added_included, IsIncluded, new_append, added_append, distinct_names}
 use Rattle.um_description.proofs.LawfulLists.{no_front, no_back, both_true, map_map}
-use Rattle.um_description.proofs.LawfulObjects.{entry}
+use Rattle.um_description.proofs.LawfulObjects.{of_entry}
 
 -- all names of a description, in its order
 abbrev pub all_names : Description → List Text
@@ -29,27 +28,18 @@ all_names d = pool_names d ++ partition_names d ++ domain_names d ++ object_name
 
 -- ---- the names of the parts
 
-partition_names_again : (ranges : List Range) (ps : List PartitionEntry) → length ranges ≡ length ps
+pub partition_names_again : (ranges : List Range) (ps : List PartitionEntry) → length ranges ≡ length ps
     → map (λ (p : Partition). p.name) (placed_partitions ranges ps) ≡ map (λ (p : PartitionEntry). p.name) ps
 partition_names_again [] [] h = refl
 partition_names_again [] (p ∷ ps) h = absurd (omega (arith, h))
 partition_names_again (range ∷ ranges) [] h = absurd (omega (arith, h))
 partition_names_again (range ∷ ranges) (p ∷ ps) h = ap (λ (ns : List Text). p.name ∷ ns) (partition_names_again ranges ps (omega (arith, h)))
 
-object_name : (range : Range) (x t : ℕ) (name : Text) (public : Bool) (details : Details) → (object_def range x t (entry name public details)).name ≡ name
-object_name range x t name public Details.Thread = refl
-object_name range x t name public (Details.ThreadStack size) = refl
-object_name range x t name public (Details.Sem numbers) = refl
-object_name range x t name public (Details.Mutex init) = refl
-object_name range x t name public (Details.Msgq numbers) = refl
-object_name range x t name public (Details.Stack entries) = refl
-object_name range x t name public (Details.Pipe size) = refl
-
-object_names_again : (ranges : List Range) (x t : ℕ) (os : List ObjectEntry) → map (λ (o : ObjectDef). o.name) (objects_from ranges x t os) ≡ map (λ (o : ObjectEntry). o.name) os
+pub object_names_again : (ranges : List Range) (x t : ℕ) (os : List ObjectEntry) → map (λ (o : ObjectDef). o.name) (objects_from ranges x t os) ≡ map (λ (o : ObjectEntry). o.name) os
 object_names_again ranges x t [] = refl
 object_names_again ranges x t (o ∷ os) =
     let rest = object_names_again (drop (ranges_taken o) ranges) (x + 1) (threads_after t o) os in
-    rw (object_name (first_range ranges) x t o.name o.public o.details, rest) refl
+    rw ((of_entry (first_range ranges) x t o).name, rest) refl
 
 pub names_again_in : (d : Description) (ps ss : List Range) → length ps ≡ length d.partitions → names_of (image_in d ps ss) ≡ all_names d
 names_again_in d ps ss h =

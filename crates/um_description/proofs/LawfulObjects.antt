@@ -8,6 +8,7 @@ use Rattle.um_base.specs.declared.limits.TheConstants.{AREA_ENTRY, STATIC_ROWS, 
 use Rattle.um_base.specs.declared.names.Kind.{Kind}
 use Rattle.um_base.specs.declared.names.Mpu.{Mpu}
 use Rattle.um_base.specs.declared.names.Range.{Range}
+use Rattle.um_base.specs.Lawful as lawful
 use Rattle.um_base.specs.Lawful.{is_within, is_setup_of, has_indices, stand_in_rows, stack_ranges}
 use Rattle.um_base.specs.Layout.{rounded}
 use Rattle.um_document.specs.declared.description.Details.{Details}
@@ -20,7 +21,7 @@ use Rattle.um_document.specs.declared.shape.Section.{Section}
 use Rattle.um_description.specs.declared.flaw.Counted.TheVariants as counted
 use Rattle.um_description.specs.declared.flaw.Flaw.{Flaw}
 use Rattle.um_description.specs.Limits.{outside, one_too_many, one_thread_too_many, details_limits, object_limits, objects_limits, threads_after}
-use Rattle.um_description.specs.Names.{Text, is_thread}
+use Rattle.um_description.specs.Names.{Text, is_thread, is_thread_stack}
 use Rattle.um_description.specs.Numbers.{clamped}
 use Rattle.um_description.specs.Resolve.{ranges_at, row_addr, asked_stack, first_range, object_def, objects_from, ranges_taken, sem_setup, msgq_setup, stack_setup, pipe_setup}
 use Rattle.um_description.proofs.LawfulLists.{no_front, no_back, both_true, none_if}
@@ -29,6 +30,24 @@ use Rattle.um_description.proofs.LawfulRanges.{inside, clamped_in, is_within-IsI
 -- an object by its parts
 abbrev pub entry : Text → Bool → Details → ObjectEntry
 entry name public details = record { name = name; public = public; details = details }
+
+-- what an object of the image has of its entry
+pub record IsOfEntry (range : Range) (x t : ℕ) (o : ObjectEntry) : Type 0 where
+  pub name : (object_def range x t o).name ≡ o.name
+  pub thread : is_thread o ≡ lawful.is_thread (object_def range x t o).kind
+  pub stack : is_thread_stack o ≡ lawful.is_stack (object_def range x t o).kind
+
+by_details : (range : Range) (x t : ℕ) (name : Text) (public : Bool) (details : Details) → IsOfEntry range x t (entry name public details)
+by_details range x t name public Details.Thread = record { name = refl; thread = refl; stack = refl }
+by_details range x t name public (Details.ThreadStack size) = record { name = refl; thread = refl; stack = refl }
+by_details range x t name public (Details.Sem numbers) = record { name = refl; thread = refl; stack = refl }
+by_details range x t name public (Details.Mutex init) = record { name = refl; thread = refl; stack = refl }
+by_details range x t name public (Details.Msgq numbers) = record { name = refl; thread = refl; stack = refl }
+by_details range x t name public (Details.Stack entries) = record { name = refl; thread = refl; stack = refl }
+by_details range x t name public (Details.Pipe size) = record { name = refl; thread = refl; stack = refl }
+
+pub of_entry : (range : Range) (x t : ℕ) (o : ObjectEntry) → IsOfEntry range x t o
+of_entry range x t o = by_details range x t o.name o.public o.details
 
 -- ---- what the limits of an object give
 

@@ -1,6 +1,6 @@
 //! What a text names.
 
-ghost use Rattle.std.specs.Prelude.{◌≡◌, ◌<◌, IfSome, bytes_eq, length, map};
+ghost use Rattle.std.specs.Prelude.{◌≡◌, ◌<◌, IfSome, bytes_eq, length, map, unwrap_or};
 ghost use Rattle.um_document.specs.declared.description.PoolEntry.{PoolEntry};
 ghost use Rattle.um_document.specs.declared.description.PartitionEntry.{PartitionEntry};
 ghost use Rattle.um_document.specs.declared.description.DomainEntry.{DomainEntry};
@@ -86,4 +86,15 @@ pub fn script_named(entries: &[ScriptEntry], text: &[u8]) -> Option<usize>
         }
     }
     None
+}
+
+/// The number that was found for a name, or 0.
+pub fn number(found: Option<usize>) -> u8
+    requires { IfSome found (λ i. i < 256) }
+    ensures { result ≡ unwrap_or found 0 }
+{
+    match found {
+        Some(i) => i as u8,
+        None => 0,
+    }
 }

@@ -1,30 +1,14 @@
 //! Boot entries, with the rows and numbers of what they name.
 
 ghost use Rattle.std.specs.Prelude.{◌≡◌, ◌≤◌, IfOk, length, map, option_map};
-ghost use Rattle.um_document.specs.declared.description.DomainEntry.{DomainEntry};
 ghost use Rattle.um_document.specs.declared.description.ObjectEntry.{ObjectEntry};
-ghost use Rattle.um_document.specs.declared.description.PoolEntry.{PoolEntry};
-ghost use Rattle.um_document.specs.declared.description.ScriptEntry.{ScriptEntry};
 ghost use Rattle.um_description.specs.Names.{is_among, pool_names, domain_names, object_names, script_names};
 ghost use Rattle.um_description.specs.Resolve.{number_named, row_named, rows_among, lowered, boot_of};
 
-use crate::named::{domain_named, object_named, pool_named, script_named};
+use crate::named::{domain_named, number, object_named, pool_named, script_named};
 use std::alloc::Global;
 use um_base::{BOOTS, Boot, BoundedVec, DOMAINS, Memory, Name, POOLS, Row, SCRIPTS, STATIC_ROWS};
-use um_document::{
-    BootEntry, Description, DomainEntry, ObjectEntry, PoolEntry, ScriptEntry, Sequence, Text,
-};
-
-/// The row of the object with this name.
-fn row_named(objects: &[ObjectEntry], text: &[u8]) -> Row
-    requires { length objects.now ≤ STATIC_ROWS }
-    ensures { result ≡ row_named (map (λ (o : ObjectEntry). o.name) objects.now) text.now }
-{
-    match object_named(objects, text) {
-        Some(i) => Row(i as u8),
-        None => Row(0),
-    }
-}
+use um_document::{BootEntry, Description, ObjectEntry, Sequence, Text};
 
 /// Whether a name stands among these texts.
 fn is_among(name: &Name, texts: &[Text]) -> bool
@@ -51,36 +35,6 @@ fn rows_among(
     Ok(all)
 }
 
-fn script_number(scripts: &[ScriptEntry], text: &[u8]) -> u8
-    requires { length scripts.now ≤ SCRIPTS }
-    ensures { result ≡ number_named (map (λ (s : ScriptEntry). s.name) scripts.now) text.now }
-{
-    match script_named(scripts, text) {
-        Some(i) => i as u8,
-        None => 0,
-    }
-}
-
-fn domain_number(domains: &[DomainEntry], text: &[u8]) -> u8
-    requires { length domains.now ≤ DOMAINS }
-    ensures { result ≡ number_named (map (λ (m : DomainEntry). m.name) domains.now) text.now }
-{
-    match domain_named(domains, text) {
-        Some(i) => i as u8,
-        None => 0,
-    }
-}
-
-fn pool_number(pools: &[PoolEntry], text: &[u8]) -> u8
-    requires { length pools.now ≤ POOLS }
-    ensures { result ≡ number_named (map (λ (p : PoolEntry). p.name) pools.now) text.now }
-{
-    match pool_named(pools, text) {
-        Some(i) => i as u8,
-        None => 0,
-    }
-}
-
 /// A priority as an image has it.
 fn lowered(n: i64) -> i8
     ensures { result ≡ lowered n }
@@ -99,7 +53,7 @@ fn row_of(d: &Description, text: &Text) -> Row
     requires { length d.now.objects ≤ STATIC_ROWS }
     ensures { result ≡ row_named (object_names d.now) text.now }
 {
-    row_named(d.objects.as_slice(), text.as_slice())
+    Row(number(object_named(d.objects.as_slice(), text.as_slice())))
 }
 
 /// The number of the script that an entry names.
@@ -107,7 +61,7 @@ fn script_of(d: &Description, text: &Text) -> u8
     requires { length d.now.scripts ≤ SCRIPTS }
     ensures { result ≡ number_named (script_names d.now) text.now }
 {
-    script_number(d.scripts.as_slice(), text.as_slice())
+    number(script_named(d.scripts.as_slice(), text.as_slice()))
 }
 
 /// The number of the domain that an entry names.
@@ -115,7 +69,7 @@ fn domain_of(d: &Description, text: &Text) -> u8
     requires { length d.now.domains ≤ DOMAINS }
     ensures { result ≡ number_named (domain_names d.now) text.now }
 {
-    domain_number(d.domains.as_slice(), text.as_slice())
+    number(domain_named(d.domains.as_slice(), text.as_slice()))
 }
 
 /// The number of the pool that an entry names.
@@ -124,7 +78,7 @@ fn pool_of(d: &Description, name: &Option<Text>) -> Option<u8>
     ensures { result ≡ option_map (number_named (pool_names d.now)) name.now }
 {
     match name {
-        Some(text) => Some(pool_number(d.pools.as_slice(), text.as_slice())),
+        Some(text) => Some(number(pool_named(d.pools.as_slice(), text.as_slice()))),
         None => None,
     }
 }

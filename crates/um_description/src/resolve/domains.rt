@@ -5,21 +5,10 @@ ghost use Rattle.um_document.specs.declared.description.PartitionEntry.{Partitio
 ghost use Rattle.um_description.specs.Names.{items};
 ghost use Rattle.um_description.specs.Resolve.{number_named, domain_of};
 
-use crate::named::partition_named;
+use crate::named::{number, partition_named};
 use std::alloc::Global;
 use um_base::{BoundedVec, DOMAINS, DomainDef, Memory, PARTITIONS};
 use um_document::{DomainEntry, PartitionEntry, Text};
-
-/// The number of the partition with this name.
-fn partition_number(partitions: &[PartitionEntry], text: &[u8]) -> u8
-    requires { length partitions.now ≤ PARTITIONS }
-    ensures { result ≡ number_named (map (λ (p : PartitionEntry). p.name) partitions.now) text.now }
-{
-    match partition_named(partitions, text) {
-        Some(i) => i as u8,
-        None => 0,
-    }
-}
 
 /// The numbers of the partitions with these names.
 fn numbers(
@@ -33,7 +22,7 @@ fn numbers(
 {
     let mut all = BoundedVec::new(alloc);
     for text in texts {
-        all.push(partition_number(partitions, text.as_slice()))?;
+        all.push(number(partition_named(partitions, text.as_slice())))?;
     }
     Ok(all)
 }

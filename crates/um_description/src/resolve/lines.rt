@@ -6,7 +6,7 @@ ghost use Rattle.um_description.specs.Names.{domain_names, partition_names, scri
 ghost use Rattle.um_description.specs.Resolve.{start_named, object_addr, addr_named, term_of, ref_of, part_of, resolved};
 
 use crate::indexed::Indexed;
-use crate::named::{domain_named, is_named, partition_named, script_named};
+use crate::named::{domain_named, is_named, number, partition_named, script_named};
 use um_base::{Image, Instr, Name, ObjectDef, PartRef, PartRefs, Partition, Ref, Term};
 
 /// The start of the partition with this name, or another address.
@@ -61,13 +61,10 @@ fn domain_ref(d: &Indexed<'_>, domain: &Ref) -> Ref
 {
     match domain {
         Ref::At(i) => Ref::At(*i),
-        Ref::Named(name) => match domain_named(
-            d.description().domains.as_slice(),
-            name.as_slice(),
-        ) {
-            Some(i) => Ref::At(i as u8),
-            None => Ref::At(0),
-        },
+        Ref::Named(name) => {
+            let entries = d.description().domains.as_slice();
+            Ref::At(number(domain_named(entries, name.as_slice())))
+        }
     }
 }
 
@@ -77,13 +74,10 @@ fn script_ref(d: &Indexed<'_>, script: &Ref) -> Ref
 {
     match script {
         Ref::At(i) => Ref::At(*i),
-        Ref::Named(name) => match script_named(
-            d.description().scripts.as_slice(),
-            name.as_slice(),
-        ) {
-            Some(i) => Ref::At(i as u8),
-            None => Ref::At(0),
-        },
+        Ref::Named(name) => {
+            let entries = d.description().scripts.as_slice();
+            Ref::At(number(script_named(entries, name.as_slice())))
+        }
     }
 }
 
@@ -97,13 +91,10 @@ fn part_ref(d: &Indexed<'_>, part: &PartRef) -> PartRef
             range: *range,
             attr: *attr,
         },
-        PartRef::Named(name) => match partition_named(
-            d.description().partitions.as_slice(),
-            name.as_slice(),
-        ) {
-            Some(i) => PartRef::At(i as u8),
-            None => PartRef::At(0),
-        },
+        PartRef::Named(name) => {
+            let entries = d.description().partitions.as_slice();
+            PartRef::At(number(partition_named(entries, name.as_slice())))
+        }
     }
 }
 
