@@ -10,7 +10,8 @@ use Rattle.std.proofs.lemmas.List.{append-nil}
 use Rattle.um_trace.specs.Dump.{numbers}
 use Rattle.um_trace.specs.Room.{Puts}
 
-range_more : (a n : ℕ) → range_with_len a (n + 1) ≡ range_with_len a n ++ (a + n) ∷ []
+-- a range and one more
+pub range_more : (a n : ℕ) → range_with_len a (n + 1) ≡ range_with_len a n ++ (a + n) ∷ []
 range_more a zero = let e : a + 0 ≡ a = omega arith in rw e refl
 range_more a (suc n) =
     let k : suc n + 1 ≡ suc (n + 1) = omega arith in

@@ -1,5 +1,5 @@
 -- Lines of blocks, a page of them after another.
-use Rattle.std.proofs.Common.{◌≡◌, ℕ, zero, suc, ◌+◌, ◌-◌, ◌*◌, Bool, true, ◌==◌, if◌then◌else◌, List, [], ◌∷◌, ◌++◌, take, drop, refl, sym, ap, subst, ◌∙◌, arith, append_assoc}
+use Rattle.std.proofs.Common.{◌≡◌, ℕ, zero, suc, ◌+◌, ◌-◌, ◌*◌, true, ◌==◌, List, [], ◌∷◌, ◌++◌, take, drop, refl, sym, ap, subst, ◌∙◌, arith, append_assoc}
 use Rattle.std.proofs.Math.Nat.{mul-add}
 use Rattle.std.proofs.Math.Seq.{take-add}
 use Rattle.std.specs.Global.{Vec}
@@ -10,15 +10,7 @@ use Rattle.std.proofs.lemmas.List.{append-nil, drop-drop}
 use Rattle.std.proofs.lemmas.List.Folds.{list_all-append}
 use Rattle.um_trace.specs.Dump.{numbers, block, block_line}
 use Rattle.um_trace.specs.Room.{Puts}
-use Rattle.um_trace.proofs.LineLemmas.{numbers_more}
-
--- a range and one more
-range_more : (a n : ℕ) → range_with_len a (n + 1) ≡ range_with_len a n ++ (a + n) ∷ []
-range_more a zero = let e : a + 0 ≡ a = omega arith in rw e refl
-range_more a (suc n) =
-    let k : suc n + 1 ≡ suc (n + 1) = omega arith in
-    let e : (a + 1) + n ≡ a + suc n = omega arith in
-    rw k (ap (λ (xs : List ℕ). a ∷ xs) (range_more (a + 1) n ∙ ap (λ (m : ℕ). range_with_len (a + 1) n ++ m ∷ []) e))
+use Rattle.um_trace.proofs.LineLemmas.{range_more, numbers_more}
 
 -- the numbers below a bound, and a range behind them
 numbers_range : (a n : ℕ) → numbers (a + n) ≡ numbers a ++ range_with_len a n

@@ -8,6 +8,7 @@ use Rattle.um_base.specs.declared.limits.TheConstants.{ROWS}
 use Rattle.um_machine.specs.State.{State, thread_at}
 use Rattle.um_trace.specs.declared.dump.standing.Standing.{Standing}
 use Rattle.um_trace.specs.declared.summary.events.Counted.{Counted}
+use Rattle.um_trace.specs.declared.summary.threads.Shown.{Shown}
 use Rattle.um_trace.specs.Dump.{numbers, standing_of, shown_thread}
 
 -- Events.
@@ -52,21 +53,19 @@ events_that counted events = count_by (λ (event : Event). counts counted event.
 
 -- Threads.
 
-abbrev pub has_ended : Standing → Bool
-has_ended Standing.Ended = true
-has_ended _ = false
+-- what is counted of the threads that are shown
+abbrev pub is_so : Shown → Standing → Bool
+is_so Shown.Ended Standing.Ended = true
+is_so Shown.Waiting (Standing.Waits row) = true
+is_so shown standing = false
 
-abbrev pub is_waiting : Standing → Bool
-is_waiting (Standing.Waits row) = true
-is_waiting _ = false
-
-abbrev pub stands_so : (Standing → Bool) → State → Option ℕ → Bool
-stands_so test s (Some t) = test (standing_of s t (thread_at s t))
-stands_so test s None = false
+abbrev pub stands_so : Shown → State → Option ℕ → Bool
+stands_so shown s (Some t) = is_so shown (standing_of s t (thread_at s t))
+stands_so shown s None = false
 
 -- how many of the threads that are shown are so
-abbrev pub threads_that : (Standing → Bool) → Image → State → ℕ
-threads_that test image s = count_by (λ (x : ℕ). stands_so test s (shown_thread image s x)) (numbers ROWS)
+abbrev pub threads_that : Shown → Image → State → ℕ
+threads_that shown image s = count_by (λ (x : ℕ). stands_so shown s (shown_thread image s x)) (numbers ROWS)
 
 -- The summary: nine lines, a word and a count.
 
@@ -78,5 +77,5 @@ summary_text image events last =
     count_line (codes "events") (length events) ++ count_line (codes "begins") (events_that Counted.Begins events)
     ++ count_line (codes "checks") (events_that Counted.Checks events) ++ count_line (codes "refused") (events_that Counted.Refused events)
     ++ count_line (codes "fatals") (events_that Counted.Fatals events) ++ count_line (codes "waits") (events_that Counted.Waits events)
-    ++ count_line (codes "recycles") (events_that Counted.Recycles events) ++ count_line (codes "ended") (threads_that has_ended image last)
-    ++ count_line (codes "waiting") (threads_that is_waiting image last)
+    ++ count_line (codes "recycles") (events_that Counted.Recycles events) ++ count_line (codes "ended") (threads_that Shown.Ended image last)
+    ++ count_line (codes "waiting") (threads_that Shown.Waiting image last)

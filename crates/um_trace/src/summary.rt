@@ -5,10 +5,11 @@ ghost use Rattle.um_trace.specs.Room.{Puts};
 ghost use Rattle.um_trace.specs.Summary.{count_line, summary_text};
 
 pub mod events;
-mod threads;
+pub mod threads;
 
 use crate::room::{put_count, put_newline, put_space, put_text};
 use crate::summary::events::{Counted, events_that};
+use crate::summary::threads::{Shown, threads_that};
 use um_base::{Event, Image};
 use um_matrix::Matrix;
 
@@ -43,6 +44,6 @@ pub fn summary_text(image: &Image, events: &[Event], last: &Matrix, room: &mut V
     put_line(room, "fatals", events_that(Counted::Fatals, events));
     put_line(room, "waits", events_that(Counted::Waits, events));
     put_line(room, "recycles", events_that(Counted::Recycles, events));
-    put_line(room, "ended", threads::ended(image, last));
-    put_line(room, "waiting", threads::waiting(image, last));
+    put_line(room, "ended", threads_that(Shown::Ended, image, last));
+    put_line(room, "waiting", threads_that(Shown::Waiting, image, last));
 }

@@ -3,28 +3,26 @@
 ghost use Rattle.std.specs.Prelude.{◌≡◌, ◌<◌, ◌≤◌, if◌then◌else◌};
 ghost use Rattle.um_machine.specs.State.{thread_at};
 ghost use Rattle.um_trace.specs.Dump.{standing_of, shown_thread};
-ghost use Rattle.um_trace.specs.Summary.{has_ended, is_waiting, stands_so, threads_that};
+ghost use Rattle.um_trace.specs.Summary.{is_so, stands_so, threads_that};
 
 use crate::dump::standing::{Standing, shown_thread, standing_of};
 use um_base::{Image, ROWS};
 use um_matrix::Matrix;
 
-/// Whether a thread has ended.
-fn has_ended(standing: Standing) -> bool
-    ensures { result ≡ has_ended standing }
-{
-    match standing {
-        Standing::Ended => true,
-        _ => false,
-    }
+/// What is counted of the threads that are shown.
+#[derive(Clone, Copy)]
+pub enum Shown {
+    Ended,
+    Waiting,
 }
 
-/// Whether a thread waits.
-fn is_waiting(standing: Standing) -> bool
-    ensures { result ≡ is_waiting standing }
+/// Whether a thread is so.
+fn is_so(shown: Shown, standing: Standing) -> bool
+    ensures { result ≡ is_so shown standing }
 {
-    match standing {
-        Standing::Waits(_) => true,
+    match (shown, standing) {
+        (Shown::Ended, Standing::Ended) => true,
+        (Shown::Waiting, Standing::Waits(_)) => true,
         _ => false,
     }
 }
@@ -40,24 +38,13 @@ fn standing_at(last: &Matrix, thread: u8) -> Standing
     }
 }
 
-/// Whether a thread is shown for a row, and has ended.
-fn shows_ended(image: &Image, last: &Matrix, row: usize) -> bool
+/// Whether a thread is shown for a row, and is so.
+fn stands_so(shown: Shown, image: &Image, last: &Matrix, row: usize) -> bool
     requires { row < ROWS }
-    ensures { result ≡ stands_so has_ended last.now (shown_thread image.now last.now row) }
+    ensures { result ≡ stands_so shown last.now (shown_thread image.now last.now row) }
 {
     match shown_thread(image, last, row) {
-        Some(thread) => has_ended(standing_at(last, thread)),
-        None => false,
-    }
-}
-
-/// Whether a thread is shown for a row, and waits.
-fn shows_waiting(image: &Image, last: &Matrix, row: usize) -> bool
-    requires { row < ROWS }
-    ensures { result ≡ stands_so is_waiting last.now (shown_thread image.now last.now row) }
-{
-    match shown_thread(image, last, row) {
-        Some(thread) => is_waiting(standing_at(last, thread)),
+        Some(thread) => is_so(shown, standing_at(last, thread)),
         None => false,
     }
 }
@@ -70,24 +57,13 @@ fn one_if(counted: bool) -> usize
     if counted { 1 } else { 0 }
 }
 
-/// Threads that are shown as ended.
-pub fn ended(image: &Image, last: &Matrix) -> usize
-    ensures { result ≡ threads_that has_ended image.now last.now }
+/// How many of the threads that are shown are so.
+pub fn threads_that(shown: Shown, image: &Image, last: &Matrix) -> usize
+    ensures { result ≡ threads_that shown image.now last.now }
 {
     let mut count = 0;
     for row in 0..ROWS {
-        count += one_if(shows_ended(image, last, row));
-    }
-    count
-}
-
-/// Threads that are shown as waiting.
-pub fn waiting(image: &Image, last: &Matrix) -> usize
-    ensures { result ≡ threads_that is_waiting image.now last.now }
-{
-    let mut count = 0;
-    for row in 0..ROWS {
-        count += one_if(shows_waiting(image, last, row));
+        count += one_if(stands_so(shown, image, last, row));
     }
     count
 }
