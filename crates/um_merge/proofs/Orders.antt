@@ -63,10 +63,14 @@ may_be_next w rest c n x xs first num is =
     λ key m k. ap (sublist eqb key k) (append_assoc w (x ∷ []) (pre ++ post)) ∙ (sym (same_behind key w (pre ++ x ∷ post) (x ∷ (pre ++ post)) m k) ∙ ap (λ l. sublist eqb key k (w ++ l)) (sym f.2)) in
     (pre ++ post, (back cpu_of (sublist_moves cpu_of pre post x (ap (λ j. sublist eqb cpu_of j pre) f.4 ∙ f.3)), back site_of (sublist_moves site_of pre post x none)), same_length w pre post x rest f.2, f.4)
 
-pub log_read : (logs : List Log) (c : ℕ) (d : Log) → c < length logs → (get_or logs c d).items ≡ log_at logs c
-log_read [] c d h = absurd (omega arith)
-log_read (l ∷ ls) zero d h = refl
-log_read (l ∷ ls) (suc c) d h = log_read ls c d (omega arith)
+get-log : (logs : List Log) (c : ℕ) (d : Log) → c < length logs → (get_or logs c d).items ≡ log_at logs c
+get-log [] c d h = absurd (omega arith)
+get-log (l ∷ ls) zero d h = refl
+get-log (l ∷ ls) (suc c) d h = get-log ls c d (omega arith)
+
+-- a log that was read from its place
+pub log-read : (logs : List Log) (c : ℕ) (d log : Log) → log ≡ get_or logs c d → c < length logs → log.items ≡ log_at logs c
+log-read logs c d log is h = ap (λ (l : Log). l.items) is ∙ get-log logs c d h
 
 no_log : (logs : List Log) (c : ℕ) → length logs ≤ c → log_at logs c ≡ []
 no_log [] c h = refl
@@ -170,11 +174,6 @@ merging_begins logs = record {
   eight = let z : ℕ = 0 in length-replicate 8 z;
   all_sites = let z : ℕ = 0 in length-replicate 309 z;
 }
-
-pub any_default : {A : Type 0} (l : List A) (k : ℕ) (d e : A) → k < length l → get_or l k d ≡ get_or l k e
-any_default [] k d e h = absurd (omega arith)
-any_default (x ∷ xs) zero d e h = refl
-any_default (x ∷ xs) (suc k) d e h = any_default xs k d e (omega arith)
 
 -- at first none is shown
 pub shown_begins : (logs : List Log) → AreShown logs (replicate 8 0) (replicate 8 0)

@@ -3,7 +3,7 @@
 ghost use Rattle.std.specs.Prelude.{◌≡◌, ◌+◌, ◌<◌, ◌≤◌, ◌++◌, ◌∷◌, [], length, take, slice_index_or, true, false, IfOk};
 ghost use Rattle.um_merge.specs.Logs.{blank, events_of};
 
-use crate::logged::{Logged, Short};
+use crate::logged::Short;
 use std::alloc::{AllocError, Global};
 use std::marker::Model;
 use um_base::{Act, Event};
