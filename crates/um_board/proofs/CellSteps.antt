@@ -12,7 +12,7 @@ use Rattle.um_words.specs.declared.kind.WordKind.{WordKind}
 use Rattle.um_words.specs.declared.cell_word.CellWord.{CellWord}
 use Rattle.um_words.specs.Cells.{CellMay, counted_cell, scheduler_after, scheduler_takes, with_ready}
 use Rattle.um_words.specs.Packed.{cell_of, packed_cell}
-use Rattle.um_words.specs.Steps.{CellStep, StepIn, WordMay, cell_kind_at, kind_at, number}
+use Rattle.um_words.specs.Steps.{WordMay, cell_kind_at, kind_at, number}
 use Rattle.um_fine.specs.Answers.{context_in}
 use Rattle.um_fine.specs.Cells.{Cell, cell_after, cell_moves, cell_says, cell_takes, cell_word, quiet_word}
 use Rattle.um_fine.specs.Scheduler.{Scheduler, behind, first_taken, has_ready, sched_after, sched_takes}
@@ -29,6 +29,7 @@ use Rattle.um_board.specs.ReadBack.{IsReadBack, unpacked}
 use Rattle.um_board.specs.Seated.{Noted, Unnoted}
 use Rattle.um_board.proofs.Keeping.{noted-then}
 use Rattle.um_board.specs.Turned.{kind_of}
+use Rattle.um_board.proofs.WordSteps.{step-at}
 
 -- the word that a step leaves is the one of the state that it leaves
 pub takes-word : (image : Image) (s z : SiteState) (e : FineStep) → Takes image s e z → e.word ≡ word_of z
@@ -115,12 +116,8 @@ cell-kind site k low is =
 pub cell-lawful : (image : Image) (site word n : ℕ) (c d : Cell) (e : FineStep) → 168 ≤ site → kind_of c ≡ cell_kind_at site → cell_of word ≡ cell_word c n
     → Takes image (SiteState.cell n c) e (SiteState.cell (n + 1) d) → (next : ℕ) → next ≡ packed_cell (cell_word d (n + 1)) → WordMay site word e.act next
 cell-lawful image site word n c d e low kind says t next is =
-    let step : CellStep (kind_of c) word e.act next = record {
-      left = cell_word d (n + 1);
-      may = subst (λ (w : CellWord). CellMay (kind_of c) w e.act (cell_word d (n + 1))) (sym says) (cell-may image n c d e t);
-      is = is;
-    } in
-    record { step = subst (λ (k : WordKind). StepIn k word e.act next) (sym (cell-kind site (kind_of c) low kind)) step }
+    let may = subst (λ (w : CellWord). CellMay (kind_of c) w e.act (cell_word d (n + 1))) (sym says) (cell-may image n c d e t) in
+    step-at site word e.act next (WordKind.Cell (kind_of c)) (cell-kind site (kind_of c) low kind) (record { left = cell_word d (n + 1); may = may; is = is })
 
 -- the step number in the word of a cell
 pub cell-number : (site word : ℕ) (w : CellWord) (k : CellKind) → 168 ≤ site → k ≡ cell_kind_at site → cell_of word ≡ w → number site word ≡ w.number

@@ -1,16 +1,11 @@
 -- What a seat keeps, when it looks and steps: one thing after another.
-use Rattle.std.proofs.Common.{◌≡◌, ℕ, List, [], ◌∷◌, ◌++◌, None, Option, refl, sym, ap, ◌∙◌, subst, append_assoc}
-use Rattle.atomic_table.specs.Seated.{TableId}
-use Rattle.atomic_table.specs.Table.{rest}
+use Rattle.std.proofs.Common.{◌≡◌, ℕ, List, [], ◌∷◌, ◌++◌, Option, refl, sym, ap, ◌∙◌, append_assoc}
 use Rattle.um_base.specs.declared.act.Event.{Event}
-use Rattle.um_base.specs.declared.image.Image.{Image}
 use Rattle.um_site.specs.Calls.{SameSeat}
-use Rattle.um_site.specs.Cells.{AmongCells}
 use Rattle.um_site.specs.Tells.{recording, returning, taking, with_got, with_made}
 use Rattle.um_site.specs.declared.seat.Seat.{Seat}
 use Rattle.um_site.specs.declared.view.View.{View}
 use Rattle.um_words.specs.declared.made.Made.{Made}
-use Rattle.um_cell.specs.declared.cells.Cells.{Cells}
 use Rattle.um_fine.specs.Sites.{site_number}
 use Rattle.um_fine.specs.Steps.{FineStep}
 use Rattle.um_merge.specs.declared.logged.Logged.{Logged}
@@ -19,7 +14,6 @@ use Rattle.um_board.specs.Contents.{Known}
 use Rattle.um_board.specs.Noted.{logged_of, made_of, number_of}
 use Rattle.um_board.specs.ReadBack.{IsReadBack}
 use Rattle.um_board.specs.Seated.{KeepsPlace, Noted, Unnoted}
-use Rattle.um_board.specs.Turned.{InTurn, IsPlaced}
 
 pub keeps-same : (s : Seat Known) → KeepsPlace s s
 keeps-same s = record { board = refl; place = refl; split = refl; joined = refl; first = refl; image = refl; opening = refl; name = refl; splits = refl; children = refl; lists = refl; filled = refl }
@@ -141,44 +135,3 @@ noted-then s t u a b c e x y =
         y.got.1 ∙ ap (λ g. ((made_of e).site, (made_of e).word) ∷ g) (ap (λ g. y.got.0 ++ g) x.got.1 ∙ sym (append_assoc y.got.0 x.got.0 s.token.me.0.got)),
       );
     }
-
-module _ (image : Image) (board : TableId) (cells : Cells Known) (rodata : List ℕ) where
-  pub placed-then : (s t : Seat Known) (room : ℕ) → IsPlaced image board cells rodata s room → KeepsPlace s t → t.token.me.0.image ≡ s.token.me.0.image → t.token.me.0.turn ≡ None → t.token.me.1 ≡ []
-      → IsPlaced image board cells rodata t room
-  placed-then s t room p k same idle empty =
-      record {
-        seated = record {
-          here = k.board ∙ p.seated.here;
-          words = p.seated.words;
-          first = p.seated.first;
-          count = p.seated.count;
-          filled = λ i h. subst (λ f. AmongCells f i) (sym k.filled) (p.seated.filled i h);
-          image_is = same ∙ p.seated.image_is;
-          idle = idle;
-          empty = empty;
-        };
-        rodata_is = p.rodata_is;
-        enough = p.enough;
-      }
-
-  pub placed-again : (s t : Seat Known) (room site word number : ℕ) (c : Known) → InTurn image board cells rodata s room site word number c → KeepsPlace s t → t.token.me.0.image ≡ s.token.me.0.image
-      → t.token.me.0.turn ≡ None → t.token.me.1 ≡ rest s.token.me.1 → IsPlaced image board cells rodata t room
-  placed-again s t room site word number c p k same idle empty =
-      record {
-        seated = record {
-          here = k.board ∙ p.here;
-          words = p.words;
-          first = p.first;
-          count = p.count;
-          filled = λ i h. subst (λ f. AmongCells f i) (sym k.filled) (p.filled i h);
-          image_is = same ∙ p.image_is;
-          idle = idle;
-          empty = empty ∙ p.rest_is;
-        };
-        rodata_is = p.rodata_is;
-        enough = p.enough;
-      }
-
-  -- and in a log with the same room
-  pub placed-room : (t : Seat Known) (a b : ℕ) → b ≡ a → IsPlaced image board cells rodata t a → IsPlaced image board cells rodata t b
-  placed-room t a b same p = subst (λ (room : ℕ). IsPlaced image board cells rodata t room) (sym same) p

@@ -1,16 +1,15 @@
 -- What a seat saw where no step was made, and what its processor may do next when it has looked.
-use Rattle.std.proofs.Common.{◌≡◌, ◌≢◌, ℕ, ◌&&◌, Bool, true, false, List, [], ◌∷◌, ◌++◌, inl, inr, refl, sym, ap, ◌∙◌, subst, arith, append_assoc}
-use Rattle.std.specs.Prelude.{nat_lt, if◌then◌else◌, Some, None}
+use Rattle.std.proofs.Common.{◌≡◌, ◌≢◌, ℕ, ◌&&◌, Bool, true, false, List, [], ◌∷◌, ◌++◌, length, ◌≤◌, inl, inr, refl, sym, ap, ◌∙◌, subst, arith, append_assoc}
+use Rattle.std.specs.Prelude.{nat_lt}
 use Rattle.um_base.specs.declared.image.Image.{Image}
-use Rattle.um_words.specs.Packed.{cell_of, domain_in, domain_of, is_domain, is_thread, thread_in, thread_of}
-use Rattle.um_words.specs.declared.dom_word.DomWord.{DomWord}
-use Rattle.um_words.specs.declared.thread_word.ThreadWord.{ThreadWord}
+use Rattle.um_words.specs.Packed.{cell_of}
 use Rattle.um_words.specs.declared.fine.FineAct.{FineAct}
 use Rattle.um_words.specs.declared.fine.Unseen.{Unseen}
 use Rattle.um_fine.specs.Cells.{Cell, cell_says, cell_takes, cell_word}
 use Rattle.um_fine.specs.Scheduler.{Scheduler}
 use Rattle.um_fine.specs.Sites.{SiteState}
 use Rattle.um_fine.specs.Steps.{Exchange, Site}
+use Rattle.um_merge.specs.Logs.{Log}
 use Rattle.um_merge.specs.declared.logged.Logged.{Logged}
 use Rattle.um_fine.proofs.Filled.{filled-twice}
 use Rattle.um_processor.specs.Asked.{asked, cell_made}
@@ -21,6 +20,7 @@ use Rattle.um_board.specs.Contents.{Known}
 use Rattle.um_board.specs.NextSteps.{IsNext}
 use Rattle.um_board.specs.Saw.{Got, GotSince, Hinders, OthersAt, SawAt, SawCell, SawShut, WasGot}
 use Rattle.um_board.specs.Seated.{Unnoted}
+use Rattle.um_board.proofs.Keeping.{unnoted-then}
 use Rattle.um_board.proofs.NextRuns.{next-then}
 
 -- Words that were got.
@@ -72,27 +72,17 @@ hinders-first room log s mid t a b i u (Hinders.no_thread n w less is saw none) 
 hinders-first room log s mid t a b i u (Hinders.no_domain n w less is saw none) = Hinders.no_domain n w less is (saw-first s mid a b i w u saw) none
 hinders-first room log s mid t a b i u (Hinders.worn w c cell saw counts) = Hinders.worn w c cell (cell-first s mid a b i w c u saw) counts
 
--- another word stood at the site than the one that was looked at
-pub moved-on : (room : ℕ) (log : List Logged) (s mid t : Seat Known) (i w z : ℕ) → mid.token.me.0.got ≡ (i, w) ∷ s.token.me.0.got → t.token.me.0.got ≡ (i, z) ∷ mid.token.me.0.got → z ≢ w
-    → Hinders room log s t i
-moved-on room log s mid t i w z looked now other =
-    Hinders.others (OthersAt.moved w z (got-more _ _ _ ((i, z) ∷ []) i w now (got-one _ _ i w looked)) (got-first _ _ _ ((i, w) ∷ []) i z looked (got-one _ _ i z now)) other)
+-- no step was made behind a look, since the log has as many as there is room for
+pub full-then : (s t : Seat Known) (old log : Log) (i w : ℕ) → Unnoted s old.items t log.items → log ≡ old → SawAt s i w → log.room ≤ length log.items → Unnoted s old.items t log.items × Hinders old.room old.items s t i
+full-then s t old log i w looked same saw full = (looked, Hinders.full w saw (subst (λ (l : Log). l.room ≤ length l.items) same full))
 
--- Words as they are read.
-
-pub some-thread : (w : ℕ) (t : ThreadWord) → Some t ≡ thread_of w → thread_in w ≡ t
-some-thread w t = by (is_thread w)
-  where
-    by : (b : Bool) → Some t ≡ (if b then Some (thread_in w) else None) → thread_in w ≡ t
-    by true is = cc
-    by false is = absurd (cc)
-
-pub some-domain : (w : ℕ) (d : DomWord) → Some d ≡ domain_of w → domain_in w ≡ d
-some-domain w d = by (is_domain w)
-  where
-    by : (b : Bool) → Some d ≡ (if b then Some (domain_in w) else None) → domain_in w ≡ d
-    by true is = cc
-    by false is = absurd (cc)
+-- or since another word stood at the site than the one that was looked at
+pub moved-on : (room : ℕ) (log a b d : List Logged) (s mid t : Seat Known) (i w z : ℕ) → Unnoted s a mid b → Unnoted mid b t d
+    → mid.token.me.0.got ≡ (i, w) ∷ s.token.me.0.got → t.token.me.0.got ≡ (i, z) ∷ mid.token.me.0.got → z ≢ w → Unnoted s a t d × Hinders room log s t i
+moved-on room log a b d s mid t i w z first none looked now other = (
+  unnoted-then s mid t a b d first none,
+  Hinders.others (OthersAt.moved w z (got-more _ _ _ ((i, z) ∷ []) i w now (got-one _ _ i w looked)) (got-first _ _ _ ((i, w) ∷ []) i z looked (got-one _ _ i z now)) other),
+)
 
 -- Steps that a cell refuses.
 

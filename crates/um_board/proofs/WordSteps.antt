@@ -16,13 +16,14 @@ use Rattle.um_words.specs.WordFacts.{KeepsDomain}
 use Rattle.um_words.specs.Packed.{FitsDomain, FitsRow, FitsThread, domain_in, domain_of, is_domain, is_thread, packed_domain, packed_row, packed_thread, row_of, thread_in, thread_of}
 use Rattle.um_words.specs.RowFacts.{row-fits}
 use Rattle.um_words.specs.Rows.{RowMay, counted_row, row_after}
-use Rattle.um_words.specs.Steps.{DomainStep, RowStep, StepIn, ThreadStep, WordMay, cell_kind_at, kind_at, number, number_in}
+use Rattle.um_words.specs.Steps.{StepIn, WordMay, cell_kind_at, kind_at, number, number_in}
 use Rattle.um_words.specs.Threads.{ThreadMay, counted_thread, thread_after, thread_after_act}
 use Rattle.um_fine.proofs.Words.{domain-may, row-may, thread-may}
-use Rattle.um_fine.specs.Answers.{no_domain, no_row, no_thread}
+use Rattle.um_fine.specs.Answers.{domain_in as domain_word, row_in, thread_in as thread_word}
 use Rattle.um_fine.proofs.Keys.{number-back}
-use Rattle.um_fine.specs.Sites.{SiteState, is_site, site_number, site_numbered}
+use Rattle.um_fine.specs.Sites.{SiteState, is_site, site_number, site_numbered, word_of}
 use Rattle.um_fine.specs.Steps.{FineStep, Site, Word}
+use Rattle.um_site.proofs.Lawful.{at-row}
 use Rattle.um_processor.specs.Asked.{Takes}
 use Rattle.um_processor.specs.RowActs.{row_made, row_said}
 use Rattle.um_processor.specs.declared.row_act.RowAct.{RowAct}
@@ -30,59 +31,37 @@ use Rattle.um_processor.specs.declared.row_act.RowSaid.{RowSaid}
 use Rattle.um_board.specs.Noted.{packed}
 use Rattle.um_board.specs.ReadBack.{IsReadBack, unpacked}
 
-kind-by : (a b c : Bool) (site : ℕ) → WordKind
-kind-by a b c site = if a then WordKind.Row else if b then WordKind.Thread else if c then WordKind.Domain else WordKind.Cell (cell_kind_at site)
+-- the kind of a site by the three tests
+abbrev kind_by : ℕ → Bool → Bool → Bool → WordKind
+kind_by site row thread domain = if row then WordKind.Row else if thread then WordKind.Thread else if domain then WordKind.Domain else WordKind.Cell (cell_kind_at site)
 
-row-kind : (site : ℕ) → site < 128 → kind_at site ≡ WordKind.Row
-unfolding kind-by
-row-kind site low = ap (λ (a : Bool). kind-by a (nat_lt site 160) (nat_lt site 168) site) (lt-ltb site 128 low)
+pub thread-kind : (t : ℕ) → t < 32 → kind_at (128 + t) ≡ WordKind.Thread
+thread-kind t h = let s = 128 + t in let a : nat_lt s 128 ≡ false = grind (arith, nat_tests) in let b : nat_lt s 160 ≡ true = grind (arith, nat_tests) in
+    (λ i. kind_by s (a i) (b i) (nat_lt s 168))
 
-thread-kind : (t : ℕ) → t < 32 → kind_at (128 + t) ≡ WordKind.Thread
-unfolding kind-by
-thread-kind t low =
-    let a : nat_lt (128 + t) 128 ≡ false = grind (arith, nat_tests) in
-    ap (λ (b : Bool). kind-by b (nat_lt (128 + t) 160) (nat_lt (128 + t) 168) (128 + t)) a
-    ∙ ap (λ (b : Bool). kind-by false b (nat_lt (128 + t) 168) (128 + t)) (lt-ltb (128 + t) 160 (omega arith))
+pub domain-kind : (d : ℕ) → d < 8 → kind_at (160 + d) ≡ WordKind.Domain
+domain-kind d h = let s = 160 + d in let a : nat_lt s 128 ≡ false = grind (arith, nat_tests) in let b : nat_lt s 160 ≡ false = grind (arith, nat_tests) in let c : nat_lt s 168 ≡ true = grind (arith, nat_tests) in
+    (λ i. kind_by s (a i) (b i) (c i))
 
-domain-kind : (d : ℕ) → d < 8 → kind_at (160 + d) ≡ WordKind.Domain
-unfolding kind-by
-domain-kind d low =
-    let a : nat_lt (160 + d) 128 ≡ false = grind (arith, nat_tests) in
-    let b : nat_lt (160 + d) 160 ≡ false = grind (arith, nat_tests) in
-    ap (λ (x : Bool). kind-by x (nat_lt (160 + d) 160) (nat_lt (160 + d) 168) (160 + d)) a
-    ∙ (ap (λ (x : Bool). kind-by false x (nat_lt (160 + d) 168) (160 + d)) b
-    ∙ ap (λ (x : Bool). kind-by false false x (160 + d)) (lt-ltb (160 + d) 168 (omega arith)))
+-- a step of the site's kind
+pub step-at : (site seen : ℕ) (act : FineAct) (next : ℕ) (k : WordKind) → kind_at site ≡ k → StepIn k seen act next → WordMay site seen act next
+step-at site seen act next k at step = record { step = subst (λ (k : WordKind). StepIn k seen act next) (sym at) step }
 
-row_in : SiteState → RowWord
-row_in (SiteState.row w) = w
-row_in _ = no_row
-
-row_word_in : Word → RowWord
-row_word_in (Word.row w) = w
-row_word_in _ = no_row
+-- the word that the site has then is the step's
+left-is : {W : Type 0} (word : W → Word) (May : W → Type 0) (made : Word) (y z n : W) → made ≡ word y → May y → y ≡ n → z ≡ n → (made ≡ word z) × May z × (z ≡ n)
+left-is word May made y z n is may leaves left = let same : y ≡ z = leaves ∙ sym left in (is ∙ ap word same, subst May same may, left)
 
 module _ (image : Image) (e : FineStep) where
-  -- the word that is left, and that it is the step's
-  row-left : (w z : RowWord) → Takes image (SiteState.row w) e (SiteState.row z) → (e.word ≡ Word.row z) × RowMay w e.act z × (z ≡ counted_row (row_after w e.act))
-  unfolding row_in row_word_in
-  row-left w z t =
-      let m = row-may image e w t.may in
-      let left : z ≡ counted_row (row_after w e.act) = ap row_in t.leaves in
-      let is : m.0 ≡ z = m.2.leaves ∙ sym left in
-      (m.1 ∙ ap Word.row is, subst (λ (x : RowWord). RowMay w e.act x) is m.2, left)
-
-  pub row-word : (w z : RowWord) → Takes image (SiteState.row w) e (SiteState.row z) → e.word ≡ Word.row z
-  row-word w z t = (row-left w z t).0
-
-  pub row-lawful : (site seen : ℕ) (z : RowWord) → site < 128 → Takes image (SiteState.row (row_of seen)) e (SiteState.row z) → (next : ℕ) → next ≡ packed_row z → WordMay site seen e.act next
-  row-lawful site seen z low t next is =
-      let step : RowStep seen e.act next = record { left = z; may = (row-left (row_of seen) z t).1; is = is } in
-      record { step = subst (λ (k : WordKind). StepIn k seen e.act next) (sym (row-kind site low)) step }
+  pub row-left : (w z : RowWord) → Takes image (SiteState.row w) e (SiteState.row z) → (e.word ≡ Word.row z) × RowMay w e.act z × (z ≡ counted_row (row_after w e.act))
+  row-left w z t = let m = row-may image e w t.may in left-is Word.row (RowMay w e.act) e.word m.0 z _ m.1 m.2 m.2.leaves (ap (λ (s : SiteState). row_in (word_of s)) t.leaves)
 
   pub row-packs : (seen : ℕ) (z : RowWord) → Takes image (SiteState.row (row_of seen)) e (SiteState.row z) → FitsRow z
   row-packs seen z t =
       let l = row-left (row_of seen) z t in
       subst FitsRow (sym l.2) (row-fits (row_of seen) (length-bits 32 (seen % 4294967296)) (omega arith) l.1.room e.act l.1.takes)
+
+  pub row-lawful : (site seen : ℕ) (z : RowWord) → site < 128 → Takes image (SiteState.row (row_of seen)) e (SiteState.row z) → (next : ℕ) → next ≡ packed_row z → WordMay site seen e.act next
+  row-lawful site seen z low t next is = step-at site seen e.act next WordKind.Row (at-row site low) (record { left = z; may = (row-left (row_of seen) z t).1; is = is })
 
 -- the word that was read is the one that stands
 pub row-read : (image : Image) (cpu x : ℕ) (v w : RowWord) (act : RowAct) (z : RowWord) (said : RowSaid) → v ≡ w
@@ -93,46 +72,22 @@ row-read image cpu x v w act z said is t =
 
 pub row-number : (site word : ℕ) (z : RowWord) → site < 128 → row_of word ≡ z → number site word ≡ z.number
 unfolding number
-row-number site word z low is = ap (λ (k : WordKind). number_in k word) (row-kind site low) ∙ ap (λ (r : RowWord). r.number) is
+row-number site word z low is = ap (λ (k : WordKind). number_in k word) (at-row site low) ∙ ap (λ (r : RowWord). r.number) is
 
 -- the same of a thread's word
-
-thread_in_state : SiteState → ThreadWord
-thread_in_state (SiteState.thread w) = w
-thread_in_state _ = no_thread
 
 thread-kept : (w : ThreadWord) (act : FineAct) → (thread_after w act).number ≡ w.number
 thread-kept w (FineAct.Shown event more) = by event.act
   where
     by : (act : Act) → (thread_after_act w more act).number ≡ w.number
     by Act.Exit = refl
-    by (Act.Fatal reason cause) = refl
-    by (Act.Doom who) = refl
-    by (Act.DomMove d who reply) = refl
-    by (Act.Start who) = refl
-    by Act.EnterUser = refl
     by act = refl
 thread-kept w (FineAct.Unseen Unseen.Hold) = refl
-thread-kept w (FineAct.Unseen Unseen.LetGo) = refl
 thread-kept w (FineAct.Unseen unseen) = refl
 
 module _ (image : Image) (e : FineStep) where
-  thread-left : (w z : ThreadWord) → Takes image (SiteState.thread w) e (SiteState.thread z) → (e.word ≡ Word.thread z) × ThreadMay w e.act z × (z ≡ counted_thread (thread_after w e.act))
-  unfolding thread_in_state
-  thread-left w z t =
-      let m = thread-may image e w t.may in
-      let left : z ≡ counted_thread (thread_after w e.act) = ap thread_in_state t.leaves in
-      let is : m.0 ≡ z = m.2.leaves ∙ sym left in
-      (m.1 ∙ ap Word.thread is, subst (λ (x : ThreadWord). ThreadMay w e.act x) is m.2, left)
-
-  pub thread-word : (w z : ThreadWord) → Takes image (SiteState.thread w) e (SiteState.thread z) → e.word ≡ Word.thread z
-  thread-word w z t = (thread-left w z t).0
-
-  pub thread-lawful : (t seen : ℕ) (w z : ThreadWord) → t < 32 → thread_of seen ≡ Some w → Takes image (SiteState.thread w) e (SiteState.thread z) → (next : ℕ) → next ≡ packed_thread z
-      → WordMay (128 + t) seen e.act next
-  thread-lawful t seen w z low reads takes next is =
-      let step : ThreadStep seen e.act next = record { found = w; reads = reads; left = z; may = (thread-left w z takes).1; is = is } in
-      record { step = subst (λ (k : WordKind). StepIn k seen e.act next) (sym (thread-kind t low)) step }
+  pub thread-left : (w z : ThreadWord) → Takes image (SiteState.thread w) e (SiteState.thread z) → (e.word ≡ Word.thread z) × ThreadMay w e.act z × (z ≡ counted_thread (thread_after w e.act))
+  thread-left w z t = let m = thread-may image e w t.may in left-is Word.thread (ThreadMay w e.act) e.word m.0 z _ m.1 m.2 m.2.leaves (ap (λ (s : SiteState). thread_word (word_of s)) t.leaves)
 
   pub thread-packs : (w z : ThreadWord) → z.domain < 8 → Takes image (SiteState.thread w) e (SiteState.thread z) → FitsThread z
   thread-packs w z domain t =
@@ -141,27 +96,12 @@ module _ (image : Image) (e : FineStep) where
       let room = l.1.room in
       record { domain = domain; number = omega arith }
 
-domain_in_state : SiteState → DomWord
-domain_in_state (SiteState.domain w) = w
-domain_in_state _ = no_domain
+  pub thread-lawful : (t seen : ℕ) (w z : ThreadWord) → t < 32 → thread_of seen ≡ Some w → Takes image (SiteState.thread w) e (SiteState.thread z) → (next : ℕ) → next ≡ packed_thread z
+      → WordMay (128 + t) seen e.act next
+  thread-lawful t seen w z low reads takes next is =
+      step-at (128 + t) seen e.act next WordKind.Thread (thread-kind t low) (record { found = w; reads = reads; left = z; may = (thread-left w z takes).1; is = is })
 
-module _ (image : Image) (e : FineStep) where
-  domain-left : (w z : DomWord) → Takes image (SiteState.domain w) e (SiteState.domain z) → (e.word ≡ Word.domain z) × DomainMay w e.act z × (z ≡ counted_domain (domain_after w e.act))
-  unfolding domain_in_state
-  domain-left w z t =
-      let m = domain-may image e w t.may in
-      let left : z ≡ counted_domain (domain_after w e.act) = ap domain_in_state t.leaves in
-      let is : m.0 ≡ z = m.2.leaves ∙ sym left in
-      (m.1 ∙ ap Word.domain is, subst (λ (x : DomWord). DomainMay w e.act x) is m.2, left)
-
-  pub domain-word : (w z : DomWord) → Takes image (SiteState.domain w) e (SiteState.domain z) → e.word ≡ Word.domain z
-  domain-word w z t = (domain-left w z t).0
-
-  pub domain-lawful : (d seen : ℕ) (w z : DomWord) → d < 8 → domain_of seen ≡ Some w → Takes image (SiteState.domain w) e (SiteState.domain z) → (next : ℕ) → next ≡ packed_domain z
-      → WordMay (160 + d) seen e.act next
-  domain-lawful d seen w z low reads takes next is =
-      let step : DomainStep seen e.act next = record { found = w; reads = reads; left = z; may = (domain-left w z takes).1; is = is } in
-      record { step = subst (λ (k : WordKind). StepIn k seen e.act next) (sym (domain-kind d low)) step }
+-- the same of a domain's word
 
 module _ (w : DomWord) (fits : FitsDomain w) where
   writing : IsTrue (writes w) → w.version + 1 < 1048576
@@ -184,21 +124,34 @@ module _ (w : DomWord) (fits : FitsDomain w) where
   domain-keeps (FineAct.Shown event more) h = domain-act event.act h
   domain-keeps (FineAct.Unseen unseen) h = domain-unseen unseen h
 
-pub domain-packs : (image : Image) (e : FineStep) (w z : DomWord) → FitsDomain w → Takes image (SiteState.domain w) e (SiteState.domain z) → FitsDomain z
-domain-packs image e w z fits t =
-    let l = domain-left image e w z t in
-    let k = domain-keeps w fits e.act l.1.takes in
-    let room = l.1.room in
-    let n = k.number in
-    subst FitsDomain (sym l.2) (record { readers = k.readers; version = k.version; number = omega arith })
+module _ (image : Image) (e : FineStep) where
+  pub domain-left : (w z : DomWord) → Takes image (SiteState.domain w) e (SiteState.domain z) → (e.word ≡ Word.domain z) × DomainMay w e.act z × (z ≡ counted_domain (domain_after w e.act))
+  domain-left w z t = let m = domain-may image e w t.may in left-is Word.domain (DomainMay w e.act) e.word m.0 z _ m.1 m.2 m.2.leaves (ap (λ (s : SiteState). domain_word (word_of s)) t.leaves)
+
+  pub domain-packs : (w z : DomWord) → FitsDomain w → Takes image (SiteState.domain w) e (SiteState.domain z) → FitsDomain z
+  domain-packs w z fits t =
+      let l = domain-left w z t in
+      let k = domain-keeps w fits e.act l.1.takes in
+      let room = l.1.room in
+      let n = k.number in
+      subst FitsDomain (sym l.2) (record { readers = k.readers; version = k.version; number = omega arith })
+
+  pub domain-lawful : (d seen : ℕ) (w z : DomWord) → d < 8 → domain_of seen ≡ Some w → Takes image (SiteState.domain w) e (SiteState.domain z) → (next : ℕ) → next ≡ packed_domain z
+      → WordMay (160 + d) seen e.act next
+  domain-lawful d seen w z low reads takes next is =
+      step-at (160 + d) seen e.act next WordKind.Domain (domain-kind d low) (record { found = w; reads = reads; left = z; may = (domain-left w z takes).1; is = is })
 
 -- the step number in a word of a thread, and of a domain
 
-thread-read : (w : ℕ) (t : ThreadWord) → thread_of w ≡ Some t → thread_in w ≡ t
-thread-read w t e = elim (is_thread w) as (λ b. (if b then Some (thread_in w) else None) ≡ Some t → thread_in w ≡ t) [ true ↦ λ q. cc | false ↦ λ q. absurd (cc) ] e
+if-some : {A : Type 0} (b : Bool) (x y : A) → (if b then Some x else None) ≡ Some y → x ≡ y
+if-some true x y is = cc
+if-some false x y is = absurd (cc)
 
-domain-read : (w : ℕ) (d : DomWord) → domain_of w ≡ Some d → domain_in w ≡ d
-domain-read w d e = elim (is_domain w) as (λ b. (if b then Some (domain_in w) else None) ≡ Some d → domain_in w ≡ d) [ true ↦ λ q. cc | false ↦ λ q. absurd (cc) ] e
+pub thread-read : (w : ℕ) (t : ThreadWord) → thread_of w ≡ Some t → thread_in w ≡ t
+thread-read w t is = if-some (is_thread w) (thread_in w) t is
+
+pub domain-read : (w : ℕ) (d : DomWord) → domain_of w ≡ Some d → domain_in w ≡ d
+domain-read w d is = if-some (is_domain w) (domain_in w) d is
 
 pub thread-number : (t word : ℕ) (z : ThreadWord) → t < 32 → thread_of word ≡ Some z → number (128 + t) word ≡ z.number
 unfolding number

@@ -1,17 +1,12 @@
 //! The contents with which the cells of an image's board open.
 
-ghost use Rattle.std.specs.Prelude.{◌≡◌, ℕ, ◌+◌, ◌<◌, IfOk, length, slice_index_or};
+ghost use Rattle.std.specs.Prelude.{◌≡◌, ◌+◌, IfOk, length};
 ghost use Rattle.um_base.specs.declared.limits.TheConstants.{DOMAINS, ROWS};
-ghost use Rattle.um_machine.specs.Run.{opening};
 ghost use Rattle.um_fine.specs.Cells.{Cell};
-ghost use Rattle.um_fine.specs.Opening.{s_start};
-ghost use Rattle.um_fine.specs.Sites.{SiteState, site_numbered};
+ghost use Rattle.um_fine.specs.Sites.{site_numbered};
 ghost use Rattle.um_fine.specs.Steps.{Site};
-ghost use Rattle.um_processor.specs.ObjectCells.{cleared};
-ghost use Rattle.um_processor.specs.Sited.{object_state};
-ghost use Rattle.um_opening.specs.Opened.{AreParts};
 ghost use Rattle.um_board.specs.Kept.{cell_of};
-ghost use Rattle.um_board.specs.Opening.{AreFirst};
+ghost use Rattle.um_board.specs.Opening.{AreDomainCells, AreFirst, AreObjects, OpensWith};
 
 use crate::contents::{Contents, Kept};
 use std::alloc::Global;
@@ -24,7 +19,7 @@ const CELLS: usize = 139;
 /// One cell more.
 fn add(image: &Image, all: &mut Vec<Contents>, kept: Kept) -> Result<(), Memory>
     requires first { AreFirst image.now all.old.items }
-    requires opens { s_start image.now (site_numbered (168 + length all.old.items)) ≡ SiteState.cell 0 (cell_of kept) }
+    requires opens { OpensWith image.now (site_numbered (168 + length all.old.items)) (cell_of kept) }
     ensures first { IfOk result (λ _. AreFirst image.now all.new.items) }
     ensures one { IfOk result (λ _. length all.new.items ≡ length all.old.items + 1) }
 {
@@ -41,7 +36,7 @@ fn add_objects(
 ) -> Result<(), Memory>
     requires first { AreFirst image.now all.old.items }
     requires none { length all.old.items ≡ 0 }
-    requires objects { (x : ℕ) → x < ROWS → object_state (slice_index_or objects.items x (cleared 0)) ≡ s_start image.now (Site.object x) }
+    requires objects { AreObjects image.now objects.items }
     requires all { length objects.items ≡ ROWS }
     ensures first { IfOk result (λ _. AreFirst image.now all.new.items) }
     ensures all { IfOk result (λ _. length all.new.items ≡ ROWS) }
@@ -61,7 +56,7 @@ fn add_parts(
 ) -> Result<(), Memory>
     requires first { AreFirst image.now all.old.items }
     requires objects { length all.old.items ≡ ROWS }
-    requires parts { AreParts (opening image.now) DOMAINS cells.items }
+    requires parts { AreDomainCells image.now cells.items }
     requires all { length cells.items ≡ DOMAINS }
     ensures first { IfOk result (λ _. AreFirst image.now all.new.items) }
     ensures all { IfOk result (λ _. length all.new.items ≡ ROWS + DOMAINS) }
@@ -82,13 +77,13 @@ pub fn first_contents(
     heap: Heap,
     scheduler: Scheduler,
 ) -> Result<Vec<Contents>, Memory>
-    requires objects { (x : ℕ) → x < ROWS → object_state (slice_index_or objects.items x (cleared 0)) ≡ s_start image.now (Site.object x) }
+    requires objects { AreObjects image.now objects.items }
     requires all_objects { length objects.items ≡ ROWS }
-    requires parts { AreParts (opening image.now) DOMAINS domain_cells.items }
+    requires parts { AreDomainCells image.now domain_cells.items }
     requires all_parts { length domain_cells.items ≡ DOMAINS }
-    requires memory { s_start image.now Site.memory ≡ SiteState.cell 0 (Cell.memory memory) }
-    requires heap { s_start image.now Site.heap ≡ SiteState.cell 0 (Cell.heap heap) }
-    requires scheduler { s_start image.now Site.scheduler ≡ SiteState.cell 0 (Cell.scheduler scheduler) }
+    requires memory { OpensWith image.now Site.memory (Cell.memory memory) }
+    requires heap { OpensWith image.now Site.heap (Cell.heap heap) }
+    requires scheduler { OpensWith image.now Site.scheduler (Cell.scheduler scheduler) }
     ensures first { IfOk result (λ all. AreFirst image.now all.items) }
     ensures all { IfOk result (λ all. length all.items ≡ 139) }
 {

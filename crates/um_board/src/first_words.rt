@@ -6,7 +6,7 @@ ghost use Rattle.um_base.specs.declared.limits.TheConstants.{DOMAINS, ROWS, THRE
 ghost use Rattle.um_machine.specs.Run.{opening};
 ghost use Rattle.um_words.specs.Steps.{number};
 ghost use Rattle.um_opening.specs.Opened.{AreDomains, AreRows, AreThreads};
-ghost use Rattle.um_board.specs.Opening.{AreOpening, opening_word};
+ghost use Rattle.um_board.specs.Opening.{AreOpening, IsFirstWord};
 
 use std::alloc::Global;
 use um_base::{Image, Memory};
@@ -23,8 +23,7 @@ fn row_word(image: &Image, rows: &[RowWord], row: u16) -> u64
     requires site { row < ROWS }
     requires all { length rows.now ≡ ROWS }
     requires rows { AreRows (opening image.now) ROWS rows.now }
-    ensures value { result ≡ opening_word image.now row }
-    ensures unstepped { number row result ≡ 0 }
+    ensures { IsFirstWord image.now row result }
 {
     rows[row as usize].pack()
 }
@@ -33,24 +32,20 @@ fn row_word(image: &Image, rows: &[RowWord], row: u16) -> u64
 fn thread_word(image: &Image, threads: &[ThreadWord], site: u16, thread: u16) -> u64
     requires lawful { IsLawful image.now }
     requires few { length image.now.domains ≤ DOMAINS }
-    requires index { thread < THREADS }
-    requires site { 128 + thread ≡ site }
+    requires site { (thread < THREADS) × (128 + thread ≡ site) }
     requires all { length threads.now ≡ THREADS }
     requires threads { AreThreads (opening image.now) THREADS threads.now }
-    ensures value { result ≡ opening_word image.now site }
-    ensures unstepped { number site result ≡ 0 }
+    ensures { IsFirstWord image.now site result }
 {
     threads[thread as usize].pack()
 }
 
 /// The word of a domain.
 fn domain_word(image: &Image, domains: &[DomWord], site: u16, domain: u16) -> u64
-    requires index { domain < DOMAINS }
-    requires site { 160 + domain ≡ site }
+    requires site { (domain < DOMAINS) × (160 + domain ≡ site) }
     requires all { length domains.now ≡ DOMAINS }
     requires domains { AreDomains (opening image.now) DOMAINS domains.now }
-    ensures value { result ≡ opening_word image.now site }
-    ensures unstepped { number site result ≡ 0 }
+    ensures { IsFirstWord image.now site result }
 {
     domains[domain as usize].pack()
 }
@@ -58,9 +53,7 @@ fn domain_word(image: &Image, domains: &[DomWord], site: u16, domain: u16) -> u6
 /// The word of a cell but the scheduler's.
 fn cell_word(image: &Image, site: u16) -> u64
     requires site { (168 ≤ site) × (site < 306) }
-    ensures value { result ≡ opening_word image.now site }
-    ensures unstepped { number site result ≡ 0 }
-    ensures free { result % 2 ≡ 0 }
+    ensures { IsFirstWord image.now site result }
 {
     let _ = image;
     0
@@ -68,9 +61,7 @@ fn cell_word(image: &Image, site: u16) -> u64
 
 /// The word of the scheduler: the boot threads are ready.
 fn scheduler_word(image: &Image) -> u64
-    ensures value { result ≡ opening_word image.now 306 }
-    ensures unstepped { number 306 result ≡ 0 }
-    ensures free { result % 2 ≡ 0 }
+    ensures { IsFirstWord image.now 306 result }
 {
     let word = CellWord {
         turn: false,
@@ -97,9 +88,7 @@ fn word_at(
     requires threads { AreThreads (opening image.now) THREADS threads.now }
     requires domains { AreDomains (opening image.now) DOMAINS domains.now }
     requires all { (length rows.now ≡ ROWS) × (length threads.now ≡ THREADS) × (length domains.now ≡ DOMAINS) }
-    ensures value { result ≡ opening_word image.now site }
-    ensures unstepped { number site result ≡ 0 }
-    ensures free { 168 ≤ site → result % 2 ≡ 0 }
+    ensures { IsFirstWord image.now site result }
 {
     if site < 128 {
         row_word(image, rows, site)

@@ -1,17 +1,13 @@
-use Rattle.std.proofs.Common.{◌≡◌, ◌∙◌, ap, refl, subst}
-use Rattle.um_words.specs.Steps.{number}
-use Rattle.um_board.specs.Opening.{opening_word}
-use Rattle.um_board.proofs.FirstWords.{domain-fits, domain-packed, domain-read}
+use Rattle.std.proofs.Common.{refl, subst}
+use Rattle.um_board.specs.Opening.{IsFirstWord}
+use Rattle.um_board.proofs.FirstWords.{domain-fits, domain-here, domain-packed}
 use Rattle.um_board.proofs.first_words.domain_word.Goals as goal
 
 pub pack-requires : goal.pack-requires
-pack-requires c = let a = c.args in domain-fits a.image.now a.domain _ (domain-read a.image.now a.domains.now a.domain _ _ c.requires.domains c.requires.all c.requires.index refl)
+pack-requires c = let a = c.args in let r = c.requires in
+    domain-fits a.image.now a.domain _ (domain-here a.image.now a.domains.now a.domain _ _ r.domains r.all r.site.0 refl)
 
-pub returns-clause-value : goal.returns-clause-value
-returns-clause-value c = let a = c.args in
-    (domain-packed a.image.now a.domains.now a.domain c.pack.result _ _ c.pack.ensures.back c.pack.ensures.value c.requires.domains c.requires.all c.requires.index refl).0 ∙ ap (opening_word a.image.now) c.requires.site
-
-pub returns-clause-unstepped : goal.returns-clause-unstepped
-returns-clause-unstepped c = let a = c.args in
-    subst (λ n. number n c.pack.result ≡ 0) c.requires.site
-    (domain-packed a.image.now a.domains.now a.domain c.pack.result _ _ c.pack.ensures.back c.pack.ensures.value c.requires.domains c.requires.all c.requires.index refl).1
+pub returns : goal.returns
+returns c = let a = c.args in let r = c.requires in
+    subst (λ n. IsFirstWord a.image.now n c.pack.result) r.site.1
+    (domain-packed a.image.now a.domain c.pack.result _ c.pack.ensures.back c.pack.ensures.value r.site.0 (domain-here a.image.now a.domains.now a.domain _ _ r.domains r.all r.site.0 refl))

@@ -1,6 +1,6 @@
 use Rattle.std.proofs.Common.{ℕ, arith, length-append}
 use Rattle.um_opening.proofs.Lists.{each-more}
-use Rattle.um_board.proofs.FirstWords.{IsFirstWord}
+use Rattle.um_board.specs.Opening.{IsFirstWord}
 use Rattle.um_board.proofs.first_words.first_words.Goals as goal
 
 pub loop-site-preserved : goal.loop-site-preserved
@@ -8,7 +8,7 @@ loop-site-preserved c = record {
   long = rw c.in_ok-push.ensures.items (omega (arith, length-append {A = ℕ}, c.loop-site.invariant.long));
   each =
       each-more (λ (k w : ℕ). IsFirstWord c.args.image.now k w) 0 _ _ _ _ c.in_ok-push.ensures.items c.loop-site.invariant.long
-      (record { value = c.word_at.ensures.value; unstepped = c.word_at.ensures.unstepped; free = c.word_at.ensures.free }) c.loop-site.invariant.each;
+      c.word_at.ensures c.loop-site.invariant.each;
   few = c.loop-site.invariant.few;
 }
 

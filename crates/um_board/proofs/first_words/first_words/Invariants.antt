@@ -1,6 +1,6 @@
 use Rattle.std.proofs.Common.{◌≡◌, ◌<◌, ◌≤◌, ℕ, length, slice_index_or}
 use Rattle.um_base.specs.declared.limits.TheConstants.{DOMAINS}
-use Rattle.um_board.proofs.FirstWords.{IsFirstWord}
+use Rattle.um_board.specs.Opening.{IsFirstWord}
 use Rattle.um_board.proofs.first_words.first_words.Given as goal
 
 abbrev pub invariant-loop-site : goal.invariant-loop-site

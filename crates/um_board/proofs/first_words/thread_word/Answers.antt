@@ -1,17 +1,13 @@
-use Rattle.std.proofs.Common.{◌≡◌, ◌∙◌, ap, refl, subst}
-use Rattle.um_words.specs.Steps.{number}
-use Rattle.um_board.specs.Opening.{opening_word}
-use Rattle.um_board.proofs.FirstWords.{thread-fits, thread-packed, thread-read}
+use Rattle.std.proofs.Common.{refl, subst}
+use Rattle.um_board.specs.Opening.{IsFirstWord}
+use Rattle.um_board.proofs.FirstWords.{thread-fits, thread-here, thread-packed}
 use Rattle.um_board.proofs.first_words.thread_word.Goals as goal
 
 pub pack-requires : goal.pack-requires
-pack-requires c = let a = c.args in thread-fits a.image.now a.thread _ c.requires.lawful c.requires.few c.requires.index (thread-read a.image.now a.threads.now a.thread _ _ c.requires.threads c.requires.all c.requires.index refl)
+pack-requires c = let a = c.args in let r = c.requires in
+    thread-fits a.image.now a.thread _ r.lawful r.few r.site.0 (thread-here a.image.now a.threads.now a.thread _ _ r.threads r.all r.site.0 refl)
 
-pub returns-clause-value : goal.returns-clause-value
-returns-clause-value c = let a = c.args in
-    (thread-packed a.image.now a.threads.now a.thread c.pack.result _ _ c.pack.ensures.back c.pack.ensures.value c.requires.threads c.requires.all c.requires.index refl).0 ∙ ap (opening_word a.image.now) c.requires.site
-
-pub returns-clause-unstepped : goal.returns-clause-unstepped
-returns-clause-unstepped c = let a = c.args in
-    subst (λ n. number n c.pack.result ≡ 0) c.requires.site
-    (thread-packed a.image.now a.threads.now a.thread c.pack.result _ _ c.pack.ensures.back c.pack.ensures.value c.requires.threads c.requires.all c.requires.index refl).1
+pub returns : goal.returns
+returns c = let a = c.args in let r = c.requires in
+    subst (λ n. IsFirstWord a.image.now n c.pack.result) r.site.1
+    (thread-packed a.image.now a.thread c.pack.result _ c.pack.ensures.back c.pack.ensures.value r.site.0 (thread-here a.image.now a.threads.now a.thread _ _ r.threads r.all r.site.0 refl))

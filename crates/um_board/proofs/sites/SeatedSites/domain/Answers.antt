@@ -1,16 +1,15 @@
-use Rattle.std.proofs.Common.{◌≡◌, ◌+◌, ap, refl, sym, ◌∙◌, ℕ, ◌≤◌, List, length, subst, ◌<◌, arith}
-use Rattle.um_merge.specs.declared.logged.Logged.{Logged}
+use Rattle.std.proofs.Common.{◌≡◌, ◌+◌, ap, refl, sym, ◌∙◌, ◌<◌, arith}
 use Rattle.um_fine.specs.Answers.{domain_in}
 use Rattle.um_fine.specs.Steps.{Exchange, Site, Word}
 use Rattle.um_fine.proofs.Filled.{filled-twice}
 use Rattle.um_processor.specs.Asked.{asked}
 use Rattle.um_processor.specs.DomainActs.{domain_act, domain_made}
 use Rattle.um_board.specs.Noted.{number_of, packed}
-use Rattle.um_board.proofs.Keeping.{noted-then, unnoted-then}
-use Rattle.um_board.proofs.WordSteps.{domain-lawful, domain-number, domain-packs, domain-reads-back, domain-word}
+use Rattle.um_board.proofs.Keeping.{noted-then}
+use Rattle.um_board.proofs.WordSteps.{domain-lawful, domain-left, domain-number, domain-packs, domain-read, domain-reads-back}
 use Rattle.um_fine.specs.Sites.{SiteState}
 use Rattle.um_board.specs.Saw.{Hinders, SawShut}
-use Rattle.um_board.proofs.Saws.{got-one, moved-on, some-domain}
+use Rattle.um_board.proofs.Saws.{full-then, got-one, moved-on}
 use Rattle.um_board.proofs.NextRuns.{next-then}
 use Rattle.um_board.proofs.sites.SeatedSites.domain.Goals as goal
 
@@ -23,20 +22,20 @@ pub step-requires-clause-step : goal.step-requires-clause-step
 step-requires-clause-step c =
     let e = domain_made c.args.image.now c.args.cpu c.args.domain c.in-Some.word c.args.act.now in
     let t = c.in-Some-make.ensures c.args.image.now c.args.cpu c.args.domain in
-    let left : packed e.word ≡ c.pack.result = ap packed (domain-word c.args.image.now e _ _ t) ∙ sym c.pack.ensures.value in
+    let left : packed e.word ≡ c.pack.result = ap packed (domain-left c.args.image.now e _ _ t).0 ∙ sym c.pack.ensures.value in
     λ i. record { site = 160 + c.args.domain; act = e.act; word = left i; moved = Exchange.nothing }
 
 pub step-requires-clause-numbered : goal.step-requires-clause-numbered
 step-requires-clause-numbered c =
     let e = domain_made c.args.image.now c.args.cpu c.args.domain c.in-Some.word c.args.act.now in
     let t = c.in-Some-make.ensures c.args.image.now c.args.cpu c.args.domain in
-    domain-number c.args.domain _ _ c.requires.domain c.pack.ensures.back ∙ ap number_of (sym (domain-word c.args.image.now e _ _ t))
+    domain-number c.args.domain _ _ c.requires.domain c.pack.ensures.back ∙ ap number_of (sym (domain-left c.args.image.now e _ _ t).0)
 
 pub step-requires-clause-back : goal.step-requires-clause-back
 step-requires-clause-back c =
     let e = domain_made c.args.image.now c.args.cpu c.args.domain c.in-Some.word c.args.act.now in
     let t = c.in-Some-make.ensures c.args.image.now c.args.cpu c.args.domain in
-    domain-reads-back e c.args.domain _ _ refl c.requires.domain (domain-word c.args.image.now e _ _ t) c.pack.ensures.value c.pack.ensures.back
+    domain-reads-back e c.args.domain _ _ refl c.requires.domain (domain-left c.args.image.now e _ _ t).0 c.pack.ensures.value c.pack.ensures.back
 
 pub step-requires-clause-event : goal.step-requires-clause-event
 step-requires-clause-event c = c.event-event.ensures
@@ -54,7 +53,7 @@ pub returns-clause-said : goal.returns-clause-said
 returns-clause-said c =
     let e = domain_made c.args.image.now c.args.cpu c.args.domain c.in-Some.word c.args.act.now in
     let t = c.in-Some-make.ensures c.args.image.now c.args.cpu c.args.domain in
-    (c.in-Some.word, noted-then _ _ _ _ _ _ e c.look-seen.ensures.unnoted (c.if-not-step.ensures.made refl), sym (ap domain_in (domain-word c.args.image.now e _ _ t)))
+    (c.in-Some.word, noted-then _ _ _ _ _ _ e c.look-seen.ensures.unnoted (c.if-not-step.ensures.made refl), sym (ap domain_in (domain-left c.args.image.now e _ _ t).0))
 
 pub returns-in-None-make-clause-said : goal.returns-in-None-make-clause-said
 returns-in-None-make-clause-said c =
@@ -62,7 +61,7 @@ returns-in-None-make-clause-said c =
     let got = got-one _ _ _ _ c.look-seen.ensures.got in
     let low : 160 + c.args.domain < 168 = let less = c.requires.domain in omega (arith, less) in
     let filled = filled-twice c.args.image.now (SiteState.domain w) (asked c.args.cpu (Site.domain c.args.domain) (domain_act c.args.act.now) Exchange.nothing) in
-    let shut = SawShut.word_refused (SiteState.domain w) c.look-seen.result low got c.look-seen.ensures.saw (ap Word.domain (some-domain c.look-seen.result w c.in-Some.ensures.value)) (record { refuses = c.in-None-make.ensures c.args.image.now c.args.cpu c.args.domain; filled_in = filled; seen = tt }) in
+    let shut = SawShut.word_refused (SiteState.domain w) c.look-seen.result low got c.look-seen.ensures.saw (ap Word.domain (domain-read c.look-seen.result w (sym c.in-Some.ensures.value))) (record { refuses = c.in-None-make.ensures c.args.image.now c.args.cpu c.args.domain; filled_in = filled; seen = tt }) in
     (w, c.look-seen.ensures.unnoted, shut)
 
 pub returns-in-None-clause-said : goal.returns-in-None-clause-said
@@ -71,11 +70,9 @@ returns-in-None-clause-said c =
 
 pub returns-then-is_full-clause-said : goal.returns-then-is_full-clause-said
 returns-then-is_full-clause-said c =
-    let log = c.look-seen.ensures.log in
-    let full = subst (λ (q : ℕ × List Logged). q.0 ≤ length q.1) (λ i. ((log i).room, (log i).items)) (c.is_full.ensures.full c.if-is_full.true) in
-    (c.look-seen.ensures.unnoted, Hinders.full c.look-seen.result c.look-seen.ensures.saw full)
+    let looked = c.look-seen.ensures in full-then _ _ c.args.self.now.log c.look-seen.new.self.log _ c.look-seen.result looked.unnoted looked.log looked.saw (c.is_full.ensures.full c.if-is_full.true)
 
 pub returns-then-not-step-clause-said : goal.returns-then-not-step-clause-said
 returns-then-not-step-clause-said c =
     let m = c.if-not-step.ensures.moved refl in
-    (unnoted-then _ _ _ _ _ _ c.look-seen.ensures.unnoted (c.if-not-step.ensures.changed refl), moved-on _ _ c.args.self.now.seat c.look-seen.new.self.seat c.step.new.self.seat _ _ m.0 c.look-seen.ensures.got m.2 m.1)
+    moved-on _ _ _ _ _ c.args.self.now.seat c.look-seen.new.self.seat c.step.new.self.seat _ _ m.0 c.look-seen.ensures.unnoted (c.if-not-step.ensures.changed refl) c.look-seen.ensures.got m.2 m.1

@@ -1,5 +1,4 @@
-use Rattle.std.proofs.Common.{◌≡◌, ap, refl, sym, ◌∙◌, ℕ, ◌≤◌, List, length, subst, ◌<◌, arith}
-use Rattle.um_merge.specs.declared.logged.Logged.{Logged}
+use Rattle.std.proofs.Common.{◌≡◌, ap, refl, sym, ◌∙◌, ◌<◌, arith}
 use Rattle.um_words.specs.Packed.{row_of}
 use Rattle.um_fine.specs.Steps.{Exchange, Site, Word}
 use Rattle.um_fine.proofs.Filled.{filled-twice}
@@ -7,11 +6,11 @@ use Rattle.um_processor.specs.Asked.{asked}
 use Rattle.um_processor.specs.RowActs.{row_act, row_event, row_made}
 use Rattle.um_processor.proofs.Noted.{row-event, row-seen}
 use Rattle.um_board.specs.Noted.{number_of, packed}
-use Rattle.um_board.proofs.Keeping.{noted-then, unnoted-then}
-use Rattle.um_board.proofs.WordSteps.{row-lawful, row-number, row-packs, row-reads-back, row-read, row-word}
+use Rattle.um_board.proofs.Keeping.{noted-then}
+use Rattle.um_board.proofs.WordSteps.{row-lawful, row-left, row-number, row-packs, row-reads-back, row-read}
 use Rattle.um_fine.specs.Sites.{SiteState}
-use Rattle.um_board.specs.Saw.{Hinders, SawShut}
-use Rattle.um_board.proofs.Saws.{got-one, moved-on}
+use Rattle.um_board.specs.Saw.{SawShut}
+use Rattle.um_board.proofs.Saws.{full-then, got-one, moved-on}
 use Rattle.um_board.proofs.NextRuns.{next-then}
 use Rattle.um_board.proofs.sites.SeatedSites.row.Goals as goal
 
@@ -24,20 +23,20 @@ pub step-requires-clause-step : goal.step-requires-clause-step
 step-requires-clause-step c =
     let e = row_made c.args.image.now c.args.cpu c.args.row.0 (row_of c.look-seen.result) c.args.act.now in
     let t = row-read c.args.image.now c.args.cpu c.args.row.0 _ _ c.args.act.now _ _ c.read-word.ensures.value (c.in-Some.ensures c.args.image.now c.args.cpu c.args.row.0) in
-    let left : packed e.word ≡ c.pack.result = ap packed (row-word c.args.image.now e _ _ t.0) ∙ sym c.pack.ensures.value in
+    let left : packed e.word ≡ c.pack.result = ap packed (row-left c.args.image.now e _ _ t.0).0 ∙ sym c.pack.ensures.value in
     λ i. record { site = c.args.row.0; act = e.act; word = left i; moved = Exchange.nothing }
 
 pub step-requires-clause-numbered : goal.step-requires-clause-numbered
 step-requires-clause-numbered c =
     let e = row_made c.args.image.now c.args.cpu c.args.row.0 (row_of c.look-seen.result) c.args.act.now in
     let t = row-read c.args.image.now c.args.cpu c.args.row.0 _ _ c.args.act.now _ _ c.read-word.ensures.value (c.in-Some.ensures c.args.image.now c.args.cpu c.args.row.0) in
-    row-number c.args.row.0 _ _ c.requires.row c.pack.ensures.back ∙ ap number_of (sym (row-word c.args.image.now e _ _ t.0))
+    row-number c.args.row.0 _ _ c.requires.row c.pack.ensures.back ∙ ap number_of (sym (row-left c.args.image.now e _ _ t.0).0)
 
 pub step-requires-clause-back : goal.step-requires-clause-back
 step-requires-clause-back c =
     let e = row_made c.args.image.now c.args.cpu c.args.row.0 (row_of c.look-seen.result) c.args.act.now in
     let t = row-read c.args.image.now c.args.cpu c.args.row.0 _ _ c.args.act.now _ _ c.read-word.ensures.value (c.in-Some.ensures c.args.image.now c.args.cpu c.args.row.0) in
-    row-reads-back e c.args.row.0 _ _ refl c.requires.row (row-word c.args.image.now e _ _ t.0) c.pack.ensures.value c.pack.ensures.back
+    row-reads-back e c.args.row.0 _ _ refl c.requires.row (row-left c.args.image.now e _ _ t.0).0 c.pack.ensures.value c.pack.ensures.back
 
 pub step-requires-clause-event : goal.step-requires-clause-event
 step-requires-clause-event c =
@@ -70,11 +69,9 @@ returns-in-None-clause-said c =
 
 pub returns-then-is_full-clause-said : goal.returns-then-is_full-clause-said
 returns-then-is_full-clause-said c =
-    let log = c.look-seen.ensures.log in
-    let full = subst (λ (q : ℕ × List Logged). q.0 ≤ length q.1) (λ i. ((log i).room, (log i).items)) (c.is_full.ensures.full c.if-is_full.true) in
-    (c.look-seen.ensures.unnoted, Hinders.full c.look-seen.result c.look-seen.ensures.saw full)
+    let looked = c.look-seen.ensures in full-then _ _ c.args.self.now.log c.look-seen.new.self.log _ c.look-seen.result looked.unnoted looked.log looked.saw (c.is_full.ensures.full c.if-is_full.true)
 
 pub returns-then-not-step-clause-said : goal.returns-then-not-step-clause-said
 returns-then-not-step-clause-said c =
     let m = c.if-not-step.ensures.moved refl in
-    (unnoted-then _ _ _ _ _ _ c.look-seen.ensures.unnoted (c.if-not-step.ensures.changed refl), moved-on _ _ c.args.self.now.seat c.look-seen.new.self.seat c.step.new.self.seat _ _ m.0 c.look-seen.ensures.got m.2 m.1)
+    moved-on _ _ _ _ _ c.args.self.now.seat c.look-seen.new.self.seat c.step.new.self.seat _ _ m.0 c.look-seen.ensures.unnoted (c.if-not-step.ensures.changed refl) c.look-seen.ensures.got m.2 m.1
