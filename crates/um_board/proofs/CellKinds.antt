@@ -61,37 +61,36 @@ parts-kind d low =
     let b : nat_lt (296 + d) 304 ≡ true = lt-ltb (296 + d) 304 (omega arith) in
     λ i. if a i then CellKind.Object else if b i then CellKind.Domain else if (296 + d) == 304 then CellKind.Memory else if (296 + d) == 305 then CellKind.Heap else if (296 + d) == 306 then CellKind.Scheduler else CellKind.Unused
 
--- a turn was taken
-pub in-turn : (image : Image) (board : TableId) (cells : Cells Known) (rodata : List ℕ) (s t : Seat Known) (most site word number ready running : ℕ) (c : Known) (past : List Made)
-    → IsPlaced image board cells rodata s most → 168 ≤ site → site < 307 → SameSeat s t → HasTurn Opens Follows t.token.me site word None c → t.token.me.0 ≡ taking s.token.me.0 site word past
-    → rest t.token.me.1 ≡ s.token.me.1 → cell_of word ≡ quiet_word ready running number → ((n : ℕ) → cell_word c.cell n ≡ quiet_word ready running n) → number < 268435455
-    → InTurn image board cells rodata t most site word number c
-in-turn image board cells rodata s t most site word number ready running c past p low high same turn now slots says counts room =
-    let k = (taken-turn s t site word past [] same now).keeps in
-    let image_is : t.token.me.0.image ≡ image = ap (λ (v : View). v.image) now ∙ p.seated.image_is in
+-- what was taken with a turn is of the board's image, and of the kind that its site has
+pub taken-known : (image : Image) (s t : Seat Known) (site word : ℕ) (c : Known) (past : List Made) → s.token.me.0.image ≡ image → 168 ≤ site → site < 307
+    → HasTurn Opens Follows t.token.me site word None c → t.token.me.0 ≡ taking s.token.me.0 site word past → (c.image ≡ image) × (kind_of c.cell ≡ cell_kind_at site)
+taken-known image s t site word c past is low high turn now =
     let known = contents-known t.token.me.0.image site c turn.turn.past low high turn.contents in
+    (known.0 ∙ (ap (λ (v : View). v.image) now ∙ is), known.1)
+
+-- a turn was taken
+pub in-turn : (image : Image) (board : TableId) (cells : Cells Known) (rodata : List ℕ) (s t : Seat Known) (most site word number ready running : ℕ) (c : Known) (cell : Cell) (past : List Made)
+    → IsPlaced image board cells rodata s most → 168 ≤ site → site < 307 → SameSeat s t → HasTurn Opens Follows t.token.me site word None c → t.token.me.0 ≡ taking s.token.me.0 site word past
+    → rest t.token.me.1 ≡ s.token.me.1 → cell_of word ≡ quiet_word ready running number → ((n : ℕ) → cell_word c.cell n ≡ quiet_word ready running n) → number < 268435455 → c.cell ≡ cell
+    → InTurn image board cells rodata t most site word number cell
+in-turn image board cells rodata s t most site word number ready running c cell past p low high same turn now slots says counts room is =
+    let k = (taken-turn s t site word past [] same now).keeps in
+    let b = p.seated in
+    let taken = taken-known image s t site word c past b.image_is low high turn now in
     record {
-      here = k.board ∙ p.seated.here;
-      words = p.seated.words;
-      first = p.seated.first;
-      count = p.seated.count;
-      filled = λ i h. subst (λ f. AmongCells f i) (sym k.filled) (p.seated.filled i h);
-      image_is = image_is;
+      here = k.board ∙ b.here;
+      words = b.words;
+      first = b.first;
+      count = b.count;
+      filled = λ i h. subst (λ f. AmongCells f i) (sym k.filled) (b.filled i h);
+      image_is = k.image ∙ b.image_is;
       rodata_is = p.rodata_is;
       enough = p.enough;
       low = low;
       high = high;
-      turn = turn;
-      rest_is = slots ∙ p.seated.empty;
-      of = known.0 ∙ image_is;
-      kind = known.1;
-      says = says ∙ sym (counts number);
+      turn = subst (λ (x : Known). HasTurn Opens Follows t.token.me site word None x) (λ i. record { image = taken.0 i; cell = is i }) turn;
+      rest_is = slots ∙ b.empty;
+      kind = ap kind_of (sym is) ∙ taken.1;
+      says = says ∙ (sym (counts number) ∙ ap (λ (x : Cell). cell_word x number) is);
       room = room;
     }
-
--- what was taken is of the kind that its site has, and is what was there
-pub kind-here : (a b : Known) (k j : CellKind) → a ≡ b → kind_of b.cell ≡ k → k ≡ j → kind_of a.cell ≡ j
-kind-here a b k j is kind at = ap (λ (x : Known). kind_of x.cell) is ∙ (kind ∙ at)
-
-pub cell-here : (a b : Known) (k : Cell) → a ≡ b → a.cell ≡ k → b.cell ≡ k
-cell-here a b k is at = sym (ap (λ (x : Known). x.cell) is) ∙ at

@@ -1,9 +1,8 @@
 -- A step that a cell's contents take is lawful at its word, where the word counts what the contents count, and leaves the word that counts what
 -- its contents have then.
-use Rattle.std.proofs.Common.{◌≡◌, ℕ, ◌+◌, ◌-◌, ◌<◌, ◌≤◌, ◌&&◌, Bool, true, false, List, [], ◌∷◌, ◌++◌, Option, length, nat_lt, IsTrue, refl, sym, ap, ◌∙◌, subst, arith, length-append, if◌then◌else◌}
+use Rattle.std.proofs.Common.{◌≡◌, ℕ, ◌+◌, ◌-◌, ◌<◌, ◌≤◌, ◌&&◌, Bool, true, false, List, [], ◌∷◌, ◌++◌, length, nat_lt, IsTrue, refl, sym, ap, ◌∙◌, subst, arith, length-append, if◌then◌else◌}
 use Rattle.std.proofs.lemmas.Bool.{false≢true, and_parts, ltb-true, lt-ltb}
 use Rattle.std.proofs.lemmas.Bool.Decides.{nat_tests}
-use Rattle.um_base.specs.declared.act.Event.{Event}
 use Rattle.um_base.specs.declared.image.Image.{Image}
 use Rattle.um_words.specs.declared.fine.FineAct.{FineAct}
 use Rattle.um_words.specs.declared.fine.Unseen.{Unseen}
@@ -20,19 +19,15 @@ use Rattle.um_fine.specs.Sites.{SiteState, is_site, site_after, site_number, wor
 use Rattle.um_fine.specs.Steps.{Exchange, FineStep, Site, Word}
 use Rattle.um_fine.proofs.Filled.{filled-twice}
 use Rattle.um_fine.proofs.Keys.{number-back}
-use Rattle.um_site.specs.declared.seat.Seat.{Seat}
-use Rattle.um_merge.specs.declared.logged.Logged.{Logged}
-use Rattle.um_processor.specs.Asked.{Takes, asked, cell_made, event_of}
+use Rattle.um_processor.specs.Asked.{Takes, asked, cell_made}
 use Rattle.um_board.specs.Contents.{Follows, Known}
 use Rattle.um_board.specs.Noted.{number_of, packed}
 use Rattle.um_board.specs.ReadBack.{IsReadBack, unpacked}
-use Rattle.um_board.specs.Seated.{Noted, Unnoted}
-use Rattle.um_board.proofs.Keeping.{noted-then}
 use Rattle.um_board.specs.Turned.{kind_of}
 use Rattle.um_board.proofs.WordSteps.{step-at}
 
 -- the word that a step leaves is the one of the state that it leaves
-pub takes-word : (image : Image) (s z : SiteState) (e : FineStep) → Takes image s e z → e.word ≡ word_of z
+takes-word : (image : Image) (s z : SiteState) (e : FineStep) → Takes image s e z → e.word ≡ word_of z
 takes-word image s z e t =
     let f = t.may.filled_in in
     sym (ap (λ (x : FineStep). x.word) f) ∙ (λ i. word_of (site_after image s ((ap (λ (x : FineStep). x.act) f) i) ((ap (λ (x : FineStep). x.moved) f) i))) ∙ ap word_of (sym t.leaves)
@@ -149,31 +144,18 @@ cell-takes image cpu site n c z act moved room takes leaves =
       leaves = ap (λ (t : Cell). SiteState.cell (n + 1) t) leaves;
     }
 
--- the step number that a step of a cell leaves is the step's
+-- the word that a step of a cell leaves, and its step number
+pub cell-left : (image : Image) (n next : ℕ) (c d : Cell) (q : CellWord) (e : FineStep) → Takes image (SiteState.cell n c) e (SiteState.cell (n + 1) d) → cell_word d (n + 1) ≡ q → next ≡ packed_cell q → packed e.word ≡ next
+cell-left image n next c d q e t counts is = ap packed (takes-word image (SiteState.cell n c) (SiteState.cell (n + 1) d) e t) ∙ (ap packed_cell counts ∙ sym is)
+
 pub put-number : (image : Image) (site n : ℕ) (c d : Cell) (e : FineStep) (ready running next m : ℕ) (k : CellKind) → 168 ≤ site → k ≡ cell_kind_at site
     → Takes image (SiteState.cell n c) e (SiteState.cell (n + 1) d) → site_number e.site ≡ site → next ≡ packed_cell (quiet_word ready running (n + 1))
     → cell_of next ≡ quiet_word ready running (n + 1) → cell_word d (n + 1) ≡ quiet_word ready running (n + 1) → m ≡ number (site_number e.site) (packed e.word) → m ≡ number_of e.word
 put-number image site n c d e ready running next m k low kind t at is back counts numbered =
-    let word = takes-word image (SiteState.cell n c) (SiteState.cell (n + 1) d) e t in
-    let left : packed e.word ≡ next = ap packed word ∙ (ap packed_cell counts ∙ sym is) in
+    let left = cell-left image n next c d (quiet_word ready running (n + 1)) e t counts is in
     let here : number (site_number e.site) (packed e.word) ≡ number site next = λ i. number (at i) (left i) in
-    let last : number_of e.word ≡ n + 1 = ap number_of word ∙ ap (λ (w : CellWord). w.number) counts in
+    let last : number_of e.word ≡ n + 1 = ap number_of (takes-word image (SiteState.cell n c) (SiteState.cell (n + 1) d) e t) ∙ ap (λ (w : CellWord). w.number) counts in
     numbered ∙ (here ∙ (cell-number site next (quiet_word ready running (n + 1)) k low kind back ∙ sym last))
-
--- a step that is asked of these contents, which take it
-pub takes-at : (image : Image) (cpu : ℕ) (site : Site) (n : ℕ) (c k z : Cell) (act : FineAct) (moved : Exchange) → c ≡ k → n < 268435455
-    → IsTrue (cell_takes k (cell_says image k moved act)) → z ≡ cell_after image k (cell_says image k moved act) (cell_moves image k act moved)
-    → Takes image (SiteState.cell n c) (cell_made image cpu site n c act moved) (SiteState.cell (n + 1) z)
-takes-at image cpu site n c k z act moved is room takes leaves =
-    subst (λ (x : Cell). Takes image (SiteState.cell n x) (cell_made image cpu site n x act moved) (SiteState.cell (n + 1) z)) (sym is) (cell-takes image cpu site n k z act moved room takes leaves)
-
-pub event-at : (image : Image) (c k : Cell) (act : FineAct) (moved : Exchange) (event : Option Event) → c ≡ k → event ≡ event_of (cell_says image k moved act) → event ≡ event_of (cell_says image c moved act)
-event-at image c k act moved event is e = e ∙ ap (λ (x : Cell). event_of (cell_says image x moved act)) (sym is)
-
-pub noted-at : (image : Image) (cpu : ℕ) (site : Site) (n : ℕ) (c k : Cell) (act : FineAct) (moved : Exchange) (s t u : Seat Known) (a b d : List Logged) → c ≡ k
-    → Unnoted s a t b → Noted t b (cell_made image cpu site n c act moved) u d → Noted s a (cell_made image cpu site n k act moved) u d
-noted-at image cpu site n c k act moved s t u a b d is before made =
-    subst (λ (x : Cell). Noted s a (cell_made image cpu site n x act moved) u d) is (noted-then s t u a b d (cell_made image cpu site n c act moved) before made)
 
 -- a word of a cell is read back as one
 cell-unpacked : (i : Site) (w : ℕ) → IsTrue (is_site i) → 168 ≤ site_number i → unpacked i w ≡ Word.cell (cell_of w)
@@ -186,11 +168,13 @@ cell-unpacked Site.memory w there high = refl
 cell-unpacked Site.heap w there high = refl
 cell-unpacked Site.scheduler w there high = refl
 
-pub cell-reads-back : (e : FineStep) (site next : ℕ) (q : CellWord) → IsTrue (is_site e.site) → 168 ≤ site → site_number e.site ≡ site → e.word ≡ Word.cell q → next ≡ packed_cell q → cell_of next ≡ q → IsReadBack e
-cell-reads-back e site next q there high at is left back =
+pub cell-reads-back : (image : Image) (site n next : ℕ) (c d : Cell) (q : CellWord) (e : FineStep) → Takes image (SiteState.cell n c) e (SiteState.cell (n + 1) d) → cell_word d (n + 1) ≡ q
+    → IsTrue (is_site e.site) → 168 ≤ site → site_number e.site ≡ site → next ≡ packed_cell q → cell_of next ≡ q → IsReadBack e
+cell-reads-back image site n next c d q e takes counts there high at left back =
+    let is : e.word ≡ Word.cell q = takes-word image (SiteState.cell n c) (SiteState.cell (n + 1) d) e takes ∙ ap Word.cell counts in
     record {
       site = number-back e.site there;
       word =
           cell-unpacked e.site (packed e.word) there (omega (arith, high, at))
-          ∙ (ap (λ n. Word.cell (cell_of n)) (ap packed is ∙ sym left) ∙ (ap Word.cell back ∙ sym is));
+          ∙ (ap (λ n. Word.cell (cell_of n)) (cell-left image n next c d q e takes counts left) ∙ (ap Word.cell back ∙ sym is));
     }

@@ -1,6 +1,6 @@
 -- What a seat saw where no step was made, and what its processor may do next when it has looked.
-use Rattle.std.proofs.Common.{◌≡◌, ◌≢◌, ℕ, ◌&&◌, Bool, true, false, List, [], ◌∷◌, ◌++◌, length, ◌≤◌, inl, inr, refl, sym, ap, ◌∙◌, subst, arith, append_assoc}
-use Rattle.std.specs.Prelude.{nat_lt}
+use Rattle.std.proofs.Common.{◌≡◌, ◌≢◌, ℕ, ◌&&◌, Bool, true, false, List, [], ◌∷◌, ◌++◌, inl, inr, refl, sym, ap, ◌∙◌, subst, arith, append_assoc}
+use Rattle.std.specs.Prelude.{nat_lt, Option, Some, None}
 use Rattle.um_base.specs.declared.image.Image.{Image}
 use Rattle.um_words.specs.Packed.{cell_of}
 use Rattle.um_words.specs.declared.fine.FineAct.{FineAct}
@@ -12,16 +12,17 @@ use Rattle.um_fine.specs.Steps.{Exchange, Site}
 use Rattle.um_merge.specs.Logs.{Log}
 use Rattle.um_merge.specs.declared.logged.Logged.{Logged}
 use Rattle.um_fine.proofs.Filled.{filled-twice}
-use Rattle.um_processor.specs.Asked.{asked, cell_made}
+use Rattle.um_processor.specs.Asked.{asked}
 use Rattle.um_processor.specs.Sited.{IsShut}
-use Rattle.um_processor.specs.SchedulerActs.{taken_made}
+use Rattle.um_processor.specs.SchedulerActs.{scheduler_made, taken_made}
 use Rattle.um_site.specs.declared.seat.Seat.{Seat}
-use Rattle.um_board.specs.Contents.{Known}
-use Rattle.um_board.specs.NextSteps.{IsNext}
+use Rattle.um_board.specs.Contents.{Known, known}
+use Rattle.um_board.specs.Placed.{AsksTurn, HasMadeNone}
 use Rattle.um_board.specs.Saw.{Got, GotSince, Hinders, OthersAt, SawAt, SawCell, SawShut, WasGot}
 use Rattle.um_board.specs.Seated.{Unnoted}
+use Rattle.um_board.specs.declared.seated.Seated.{Seated}
+use Rattle.um_board.specs.declared.seated.Turn.{Turn}
 use Rattle.um_board.proofs.Keeping.{unnoted-then}
-use Rattle.um_board.proofs.NextRuns.{next-then}
 
 -- Words that were got.
 
@@ -65,18 +66,26 @@ others-first s mid t a b i u (OthersAt.out w cell got out) = OthersAt.out w cell
 others-first s mid t a b i u (OthersAt.moved w z got now other) = OthersAt.moved w z (got-first _ _ _ u.got.0 i w u.got.1 got) (got-first _ _ _ u.got.0 i z u.got.1 now) other
 
 -- the same cause
-pub hinders-first : (room : ℕ) (log : List Logged) (s mid t : Seat Known) (a b : List Logged) (i : ℕ) → Unnoted s a mid b → Hinders room log mid t i → Hinders room log s t i
+hinders-first : (room : ℕ) (log : List Logged) (s mid t : Seat Known) (a b : List Logged) (i : ℕ) → Unnoted s a mid b → Hinders room log mid t i → Hinders room log s t i
 hinders-first room log s mid t a b i u (Hinders.others others) = Hinders.others (others-first s mid t a b i u others)
 hinders-first room log s mid t a b i u (Hinders.full w saw full) = Hinders.full w (saw-first s mid a b i w u saw) full
 hinders-first room log s mid t a b i u (Hinders.no_thread n w less is saw none) = Hinders.no_thread n w less is (saw-first s mid a b i w u saw) none
 hinders-first room log s mid t a b i u (Hinders.no_domain n w less is saw none) = Hinders.no_domain n w less is (saw-first s mid a b i w u saw) none
 hinders-first room log s mid t a b i u (Hinders.worn w c cell saw counts) = Hinders.worn w c cell (cell-first s mid a b i w c u saw) counts
 
--- no step was made behind a look, since the log has as many as there is room for
-pub full-then : (s t : Seat Known) (old log : Log) (i w : ℕ) → Unnoted s old.items t log.items → log ≡ old → SawAt s i w → log.room ≤ length log.items → Unnoted s old.items t log.items × Hinders old.room old.items s t i
-full-then s t old log i w looked same saw full = (looked, Hinders.full w saw (subst (λ (l : Log). l.room ≤ length l.items) same full))
+-- the same of a place, whose log stayed as it was
+pub hindered-first : (s mid t : Seated) (i : ℕ) → HasMadeNone s mid → mid.log ≡ s.log → Hinders mid.log.room mid.log.items mid.seat t.seat i → Hinders s.log.room s.log.items s.seat t.seat i
+hindered-first s mid t i looked same why =
+    hinders-first _ _ _ _ _ _ _ i looked (subst (λ (l : Log). Hinders l.room l.items mid.seat t.seat i) same why)
 
--- or since another word stood at the site than the one that was looked at
+-- the turn that was asked for behind a look
+pub asked-first : {K : Type 0} (cell_of : K → Cell) (image : Image) (s mid t : Seated) (i : ℕ) (r : Option (Turn K × K)) → HasMadeNone s mid → mid.log ≡ s.log
+    → AsksTurn cell_of image mid i r t → AsksTurn cell_of image s i r t
+asked-first cell_of image s mid t i None looked same asked = (asked.0, hindered-first s mid t i looked same asked.1)
+asked-first cell_of image s mid t i (Some x) looked same (is, taken) =
+    (is, record { turn = taken.turn; free = taken.free; got = got-first _ _ _ looked.got.0 _ _ looked.got.1 taken.got; saw = cell-first _ _ _ _ _ _ _ looked taken.saw })
+
+-- another word stood at the site than the one that was looked at
 pub moved-on : (room : ℕ) (log a b d : List Logged) (s mid t : Seat Known) (i w z : ℕ) → Unnoted s a mid b → Unnoted mid b t d
     → mid.token.me.0.got ≡ (i, w) ∷ s.token.me.0.got → t.token.me.0.got ≡ (i, z) ∷ mid.token.me.0.got → z ≢ w → Unnoted s a t d × Hinders room log s t i
 moved-on room log a b d s mid t i w z first none looked now other = (
@@ -90,17 +99,19 @@ pub and-no : (b : Bool) → (b && false) ≡ false
 and-no true = refl
 and-no false = refl
 
-pub cell-shut : (image : Image) (cpu n w : ℕ) (c : Known) (z : Scheduler) (u : Unseen) (moved : Exchange) (s t : Seat Known) → c.cell ≡ Cell.scheduler z → cell_of w ≡ cell_word c.cell n
-    → Got s t 306 w → SawCell s 306 w c → cell_takes (Cell.scheduler z) (cell_says image (Cell.scheduler z) moved (FineAct.Unseen u)) ≡ false
-    → SawShut image s t (cell_made image cpu Site.scheduler n (Cell.scheduler z) (FineAct.Unseen u) moved)
-cell-shut image cpu n w c z u moved s t is says got saw denied =
-    let e = cell_made image cpu Site.scheduler n (Cell.scheduler z) (FineAct.Unseen u) moved in
-    let shut : IsShut image (SiteState.cell n (Cell.scheduler z)) e = record {
+-- a step that the scheduler refuses, behind which the turn is given back
+pub refused : (image : Image) (cpu n w : ℕ) (z : Scheduler) (u : Unseen) (moved : Exchange) (s mid t : Seat Known) (a b d : List Logged) → Unnoted s a mid b → Unnoted mid b t d
+    → cell_of w ≡ cell_word (Cell.scheduler z) n → Got s mid 306 w → SawCell s 306 w (known image (Cell.scheduler z))
+    → cell_takes (Cell.scheduler z) (cell_says image (Cell.scheduler z) moved (FineAct.Unseen u)) ≡ false → Unnoted s a t d × SawShut image s t (scheduler_made image cpu n z u moved)
+refused image cpu n w z u moved s mid t a b d taken back says got saw denied =
+    let shut : IsShut image (SiteState.cell n (Cell.scheduler z)) (scheduler_made image cpu n z u moved) = record {
       refuses = ap (λ (b : Bool). nat_lt n 268435455 && b) denied ∙ and-no (nat_lt n 268435455);
       filled_in = filled-twice image (SiteState.cell n (Cell.scheduler z)) (asked cpu Site.scheduler (FineAct.Unseen u) moved);
       seen = tt;
-    } in
-    SawShut.cell_refused n w c (omega arith) got saw says (subst (λ (x : Cell). IsShut image (SiteState.cell n x) e) (sym is) shut)
+    } in (
+      unnoted-then s mid t a b d taken back,
+      SawShut.cell_refused n w (known image (Cell.scheduler z)) (omega arith) (got-more _ _ _ back.got.0 _ _ back.got.1 got) saw says shut,
+    )
 
 -- a scheduler without threads
 abbrev pub nobody : Scheduler
@@ -108,10 +119,3 @@ nobody = record { ready = []; parked = []; told = []; running = 0 }
 
 pub none-shut : (image : Image) (cpu w : ℕ) (s t : Seat Known) → Got s t 306 w → SawAt s 306 w → (cell_of w).ready ≡ 0 → SawShut image s t (taken_made image cpu 0 nobody)
 none-shut image cpu w s t got saw none = SawShut.none_ready w refl got saw none refl
-
--- the step of a cell that the seat may make, when it has looked
-pub next-at : (image : Image) (cpu : ℕ) (site : Site) (n : ℕ) (c k : Cell) (act : FineAct) (moved : Exchange) (s t : Seat Known) (a b : List Logged) → c ≡ k → Unnoted s a t b
-    → IsNext image s.token.me.0.name s.token.me.0.made (cell_made image cpu site n k act moved) → IsNext image t.token.me.0.name t.token.me.0.made (cell_made image cpu site n c act moved)
-next-at image cpu site n c k act moved s t a b is before next =
-    next-then image s t a b (cell_made image cpu site n c act moved) before
-    (subst (λ (x : Cell). IsNext image s.token.me.0.name s.token.me.0.made (cell_made image cpu site n x act moved)) (sym is) next)

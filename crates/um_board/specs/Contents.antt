@@ -12,6 +12,9 @@ pub record Known : Type 0 where
   pub image : Image
   pub cell : Cell
 
+abbrev pub known : Image → Cell → Known
+known image cell = record { image = image; cell = cell }
+
 -- The cell at this site of the image's board opens with these contents.
 pub record Opens (image : Image) (i : ℕ) (c : Known) : Type 0 where
   pub of : c.image ≡ image

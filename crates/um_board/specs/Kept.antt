@@ -1,6 +1,4 @@
 -- What is kept in a cell of a board, as contents of a cell of the fine machine.
-use Rattle.std.specs.Prelude.{Option, None}
-use Rattle.um_base.specs.Regions.{Partitions}
 use Rattle.um_fine.specs.Cells.{Cell}
 use Rattle.um_processor.specs.ObjectCells.{kept_in}
 use Rattle.um_board.specs.declared.contents.Kept.{Kept}
@@ -12,8 +10,3 @@ cell_of (Kept.Parts domain) = Cell.parts domain.value.parts
 cell_of (Kept.Memory memory) = Cell.memory memory.value
 cell_of (Kept.Heap heap) = Cell.heap heap.value
 cell_of (Kept.Scheduler scheduler) = Cell.scheduler scheduler.value
-
--- the partitions in a domain's cell
-abbrev pub parts_in : Cell → Option Partitions
-parts_in (Cell.parts parts) = parts
-parts_in cell = None

@@ -13,7 +13,7 @@ use Rattle.um_site.specs.declared.seat.Seat.{Seat}
 use Rattle.um_site.specs.Tells.{HasTurn}
 use Rattle.um_cell.specs.declared.cells.Cells.{Cells}
 use Rattle.um_cell.specs.Contents.{KnowsFilled}
-use Rattle.um_board.specs.Contents.{Follows, Known, Opens}
+use Rattle.um_board.specs.Contents.{Follows, Known, Opens, known}
 use Rattle.um_board.specs.Seated.{CELLS, FIRST_CELL, IsSeated, WORDS}
 
 -- The seat is at this board of the image, whose read-only data these are; the log of its processor has room for more steps than a fine run can have.
@@ -29,9 +29,9 @@ kind_of (Cell.memory m) = CellKind.Memory
 kind_of (Cell.heap h) = CellKind.Heap
 kind_of (Cell.scheduler s) = CellKind.Scheduler
 
--- The same, but the seat has the turn of the cell at this site: its contents are of the site's kind, its word says how many steps the cell
--- has taken and what its contents count, and it can take one more.
-pub record InTurn (image : Image) (board : TableId) (cells : Cells Known) (rodata : List ℕ) (seat : Seat Known) (most site word number : ℕ) (c : Known) : Type 0 where
+-- The same, but the seat has the turn of the cell at this site: what the cell keeps is of the site's kind, its word says how many steps the
+-- cell has taken and what its contents count, and it can take one more.
+pub record InTurn (image : Image) (board : TableId) (cells : Cells Known) (rodata : List ℕ) (seat : Seat Known) (most site word number : ℕ) (cell : Cell) : Type 0 where
   pub here : seat.token.table_id ≡ board
   pub words : board.words ≡ WORDS
   pub first : cells.first ≡ FIRST_CELL
@@ -42,9 +42,8 @@ pub record InTurn (image : Image) (board : TableId) (cells : Cells Known) (rodat
   pub enough : weight image < most
   pub low : FIRST_CELL ≤ site
   pub high : site < WORDS
-  pub turn : HasTurn Opens Follows seat.token.me site word None c
+  pub turn : HasTurn Opens Follows seat.token.me site word None (known image cell)
   pub rest_is : rest seat.token.me.1 ≡ []
-  pub of : c.image ≡ image
-  pub kind : kind_of c.cell ≡ cell_kind_at site
-  pub says : cell_of word ≡ cell_word c.cell number
+  pub kind : kind_of cell ≡ cell_kind_at site
+  pub says : cell_of word ≡ cell_word cell number
   pub room : number < 268435455

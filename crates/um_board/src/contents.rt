@@ -1,11 +1,8 @@
 //! The contents of a cell of a board.
 
 ghost use Rattle.std.specs.Prelude.{◌≡◌, ℕ};
-ghost use Rattle.um_words.specs.declared.kind.CellKind.{CellKind};
-ghost use Rattle.um_fine.specs.Cells.{Cell, cell_word, quiet_word};
-ghost use Rattle.um_processor.specs.ObjectCells.{kept_in};
+ghost use Rattle.um_fine.specs.Cells.{cell_word, quiet_word};
 ghost use Rattle.um_board.specs.Kept.{cell_of};
-ghost use Rattle.um_board.specs.Turned.{kind_of};
 
 use std::marker::Model;
 use std::snapshot::Snapshot;
@@ -69,78 +66,11 @@ impl Contents {
         }
     }
 
-    /// What is kept of an object.
-    pub fn into_object(self) -> Box<ObjectCell>
-        requires { kind_of self.cell ≡ CellKind.Object }
-        ensures { self.cell ≡ Cell.object (kept_in result.value) }
+    /// What is kept.
+    pub(crate) fn into_kept(self) -> Kept
+        ensures { self.cell ≡ cell_of result }
     {
-        let Contents { kept, .. } = self;
-        match kept {
-            Kept::Object(object) => object,
-            Kept::Parts(_) => unreachable!(),
-            Kept::Memory(_) => unreachable!(),
-            Kept::Heap(_) => unreachable!(),
-            Kept::Scheduler(_) => unreachable!(),
-        }
-    }
-
-    /// What is kept of a domain.
-    pub fn into_parts(self) -> Box<DomainCell>
-        requires { kind_of self.cell ≡ CellKind.Domain }
-        ensures { self.cell ≡ Cell.parts result.value.parts }
-    {
-        let Contents { kept, .. } = self;
-        match kept {
-            Kept::Parts(domain) => domain,
-            Kept::Object(_) => unreachable!(),
-            Kept::Memory(_) => unreachable!(),
-            Kept::Heap(_) => unreachable!(),
-            Kept::Scheduler(_) => unreachable!(),
-        }
-    }
-
-    /// What is kept of the memory.
-    pub fn into_memory(self) -> Box<Bytes>
-        requires { kind_of self.cell ≡ CellKind.Memory }
-        ensures { self.cell ≡ Cell.memory result.value }
-    {
-        let Contents { kept, .. } = self;
-        match kept {
-            Kept::Memory(memory) => memory,
-            Kept::Object(_) => unreachable!(),
-            Kept::Parts(_) => unreachable!(),
-            Kept::Heap(_) => unreachable!(),
-            Kept::Scheduler(_) => unreachable!(),
-        }
-    }
-
-    /// What is kept of the heap.
-    pub fn into_heap(self) -> Box<Heap>
-        requires { kind_of self.cell ≡ CellKind.Heap }
-        ensures { self.cell ≡ Cell.heap result.value }
-    {
-        let Contents { kept, .. } = self;
-        match kept {
-            Kept::Heap(heap) => heap,
-            Kept::Object(_) => unreachable!(),
-            Kept::Parts(_) => unreachable!(),
-            Kept::Memory(_) => unreachable!(),
-            Kept::Scheduler(_) => unreachable!(),
-        }
-    }
-
-    /// What is kept of the scheduler.
-    pub fn into_scheduler(self) -> Box<Scheduler>
-        requires { kind_of self.cell ≡ CellKind.Scheduler }
-        ensures { self.cell ≡ Cell.scheduler result.value }
-    {
-        let Contents { kept, .. } = self;
-        match kept {
-            Kept::Scheduler(scheduler) => scheduler,
-            Kept::Object(_) => unreachable!(),
-            Kept::Parts(_) => unreachable!(),
-            Kept::Memory(_) => unreachable!(),
-            Kept::Heap(_) => unreachable!(),
-        }
+        let Contents { image: _, kept } = self;
+        kept
     }
 }

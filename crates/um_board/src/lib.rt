@@ -7,6 +7,7 @@ mod fine;
 mod first_board;
 mod first_contents;
 mod first_words;
+mod kind;
 mod next_step;
 mod seated;
 mod sites;

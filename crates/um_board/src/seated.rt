@@ -4,20 +4,21 @@ ghost use Rattle.std.specs.Prelude.{◌≡◌, ◌≢◌, ◌+◌, ◌<◌, ◌�
 ghost use Rattle.atomic_table.specs.Seated.{TableId};
 ghost use Rattle.um_machine.specs.Memory.{rodata_of};
 ghost use Rattle.um_words.specs.Packed.{cell_of};
-ghost use Rattle.um_words.specs.Steps.{WordMay, number};
-ghost use Rattle.um_fine.specs.Cells.{Cell, cell_word, quiet_word};
+ghost use Rattle.um_words.specs.Steps.{WordMay, cell_kind_at, number};
+ghost use Rattle.um_fine.specs.Cells.{quiet_word};
 ghost use Rattle.um_fine.specs.Sites.{SiteState, is_site, site_number};
 ghost use Rattle.um_fine.specs.Steps.{Exchange};
 ghost use Rattle.um_site.specs.Tells.{NoOlder, last_got};
 ghost use Rattle.um_processor.specs.Asked.{Takes, event_of};
 ghost use Rattle.um_board.specs.NextSteps.{IsNext};
 ghost use Rattle.um_board.specs.Noted.{made_of, number_of};
-ghost use Rattle.um_board.specs.Placed.{HasMadeNone, HasMadeThere, HasTurnAt, IsAt};
+ghost use Rattle.um_board.specs.Placed.{AsksTurn, HasMadeNone, HasMadeThere, HasSeen, HasTurnAt, IsAt};
 ghost use Rattle.um_board.specs.ReadBack.{IsReadBack};
-ghost use Rattle.um_board.specs.Saw.{Got, Hinders, SawAt, SawCell};
+ghost use Rattle.um_board.specs.Saw.{Hinders, SawAt};
 
 use crate::contents::Contents;
 use crate::fine::{AsMade, Fine};
+use crate::kind::Kind;
 use crate::next_step::NextStep;
 use std::snapshot::Snapshot;
 use um_base::{Event, Image};
@@ -43,16 +44,15 @@ pub struct Seated<'a> {
     pub log: Log,
 }
 
-/// The contents of a cell of which a seat has the turn.
+/// The turn of a cell.
 #[derive(Drop)]
-pub struct Turn {
-    /// The word at which the turn was taken.
+pub struct Turn<K> {
+    /// The word at which it was taken.
     pub word: u64,
     /// How many steps the cell has taken.
     pub number: u32,
-    /// What they were when the turn was taken, which stands in clauses alone.
-    pub before: Snapshot<Contents>,
-    pub contents: Contents,
+    /// What the cell kept when it was taken, which stands in clauses alone.
+    pub before: Snapshot<K>,
 }
 
 /// How many steps a cell has taken by its word, where this word counts these threads and the cell can take one more.
@@ -129,6 +129,23 @@ impl<'a> Seated<'a> {
         self.look(image, SCHEDULER)
     }
 
+    /// The word of a site, as it stands, where the log has room for a step there.
+    pub(crate) fn look_to_step(&mut self, image: &Image, site: u16) -> Option<u64>
+        requires image { IsAt image.now self.old }
+        requires site { site < 307 }
+        ensures image { IsAt image.now self.new }
+        ensures unnoted { HasMadeNone self.old self.new }
+        ensures seen { MatchOption result
+            (Hinders self.old.log.room self.old.log.items self.old.seat self.new.seat site)
+            (HasSeen self.old site self.new) }
+    {
+        let word = self.look(image, site);
+        if self.is_full() {
+            return None;
+        }
+        Some(word)
+    }
+
     /// A step of a row, of a thread or of a domain, which is such a one of its sort, by which the next word takes the place of the one that was
     /// seen, and its note. Answers whether it was made: else another word stands there. What it is about, the step is picked by.
     #[inline(always)]
@@ -145,7 +162,7 @@ impl<'a> Seated<'a> {
     ) -> bool
         requires image { IsAt image.now self.old }
         requires site { site < 168 }
-        requires room { length self.old.log.items < self.old.log.room }
+        requires free { length self.old.log.items < self.old.log.room }
         requires seen { last_got self.old.seat.token.me.0.got site ≡ Some seen }
         requires step { made_of D.step ≡ record { site = site; act = D.step.act; word = next; moved = Exchange.nothing } }
         requires numbered { number site next ≡ number_of D.step.word }
@@ -173,18 +190,13 @@ impl<'a> Seated<'a> {
         }
     }
 
-    /// The turn of a cell with its contents, where no other seat has it, and the cell can take a step that the log has room for. It looks first: those that
-    /// wait for a turn only read the word, and don't take it from the seat that writes there.
-    pub(crate) fn turn(&mut self, image: &Image, site: u16) -> Option<Turn>
+    /// The turn of a cell with what it keeps, where no other seat has it, and the cell can take a step that the log has room for. It looks first: those
+    /// that wait for a turn only read the word, and don't take it from the seat that writes there.
+    pub(crate) fn turn<K: Kind>(&mut self, image: &Image, site: u16) -> Option<(Turn<K>, K)>
         requires image { IsAt image.now self.old }
-        requires site { (168 ≤ site) × (site < 307) }
+        requires site { (168 ≤ site) × (site < 307) × (cell_kind_at site ≡ K.kind) }
         ensures unnoted { HasMadeNone self.old self.new }
-        ensures turn { MatchOption result
-            (IsAt image.now self.new)
-            (λ t. (t.contents ≡ t.before.value) × HasTurnAt image.now self.new site t.word t.number t.before.value × (length self.new.log.items < self.new.log.room)) }
-        ensures saw { MatchOption result
-            (Hinders self.old.log.room self.old.log.items self.old.seat self.new.seat site)
-            (λ t. Got self.old.seat self.new.seat site t.word × SawCell self.old.seat site t.word t.before.value) }
+        ensures turn { AsksTurn K.cell image.now self.old site result self.new }
     {
         if self.look(image, site) % 2 == 1 {
             return None;
@@ -193,16 +205,11 @@ impl<'a> Seated<'a> {
     }
 
     /// The same without a look.
-    pub(crate) fn turn_at_once(&mut self, image: &Image, site: u16) -> Option<Turn>
+    pub(crate) fn turn_at_once<K: Kind>(&mut self, image: &Image, site: u16) -> Option<(Turn<K>, K)>
         requires image { IsAt image.now self.old }
-        requires site { (168 ≤ site) × (site < 307) }
+        requires site { (168 ≤ site) × (site < 307) × (cell_kind_at site ≡ K.kind) }
         ensures unnoted { HasMadeNone self.old self.new }
-        ensures turn { MatchOption result
-            (IsAt image.now self.new)
-            (λ t. (t.contents ≡ t.before.value) × HasTurnAt image.now self.new site t.word t.number t.before.value × (length self.new.log.items < self.new.log.room)) }
-        ensures saw { MatchOption result
-            (Hinders self.old.log.room self.old.log.items self.old.seat self.new.seat site)
-            (λ t. Got self.old.seat self.new.seat site t.word × SawCell self.old.seat site t.word t.before.value) }
+        ensures turn { AsksTurn K.cell image.now self.old site result self.new }
     {
         let held = match self.cells.take(self.board, &mut self.seat, site) {
             Err(_) => return None,
@@ -220,59 +227,54 @@ impl<'a> Seated<'a> {
             }
             Some(number) => {
                 let Held { word, contents, .. } = held;
-                Some(Turn {
-                    word,
-                    number,
-                    before: Snapshot::of(&contents),
-                    contents,
-                })
+                let cell = K::out_of(contents.into_kept());
+                let before = Snapshot::of(&cell);
+                Some((
+                    Turn {
+                        word,
+                        number,
+                        before,
+                    },
+                    cell,
+                ))
             }
         }
     }
 
-    /// The turn is given back with the contents as they were.
-    pub(crate) fn put_back(
-        &mut self,
-        image: &Image,
-        site: u16,
-        word: u64,
-        number: u32,
-        contents: Contents,
-    )
-        requires turn { HasTurnAt image.now self.old site word number contents }
+    /// The turn is given back with the cell as it was.
+    pub(crate) fn put_back<K: Kind>(&mut self, image: &Image, site: u16, turn: Turn<K>, cell: K)
+        requires turn { HasTurnAt image.now self.old site turn.word turn.number (K.cell turn.before.value) }
+        requires same { K.cell cell ≡ K.cell turn.before.value }
         ensures image { IsAt image.now self.new }
         ensures unnoted { HasMadeNone self.old self.new }
     {
-        let _ = image;
-        let _ = number;
+        let contents = Contents::new(image, cell.into_kept());
         let held = Held {
             cell: site,
-            word,
+            word: turn.word,
             contents,
         };
         self.cells.put_quiet(self.board, &mut self.seat, held);
     }
 
-    /// A step of a cell, which is such a one of its sort, by which these are its contents, and its note; the turn is given back. What it is
-    /// about, the step is picked by.
+    /// A step of a cell, which is such a one of its sort, by which it keeps this, and its note; the turn is given back. What it is about, the
+    /// step is picked by.
     #[inline(always)]
-    pub(crate) fn leave<D: Fine, A>(
+    pub(crate) fn leave<D: Fine, K: Kind, A>(
         &mut self,
         image: &Image,
         cpu: u8,
         site: u16,
         which: u8,
-        word: u64,
-        number: u32,
-        before: &Snapshot<Contents>,
-        contents: Contents,
+        turn: Turn<K>,
+        cell: K,
         event: &Option<Event>,
         about: &A,
     )
-        requires turn { HasTurnAt image.now self.old site word number before.now.value }
-        requires room { length self.old.log.items < self.old.log.room }
-        requires takes { Takes image.now (SiteState.cell number before.now.value.cell) D.step (SiteState.cell (number + 1) contents.cell) }
-        requires of { contents.image ≡ image.now }
+        requires turn { HasTurnAt image.now self.old site turn.word turn.number (K.cell turn.before.value) }
+        requires free { length self.old.log.items < self.old.log.room }
+        requires takes { Takes image.now (SiteState.cell turn.number (K.cell turn.before.value)) D.step
+            (SiteState.cell (turn.number + 1) (K.cell cell)) }
         requires site { site_number D.step.site ≡ site }
         requires there { IsTrue (is_site D.step.site) }
         requires cpu { D.step.cpu ≡ cpu }
@@ -281,22 +283,21 @@ impl<'a> Seated<'a> {
         ensures image { IsAt image.now self.new }
         ensures made { HasMadeThere self.old D.step self.new }
     {
-        let _ = image;
         let _ = which;
-        let _ = before;
         let _ = about;
+        let contents = Contents::new(image, cell.into_kept());
         let (ready, running) = contents.counts();
         let next = CellWord {
             turn: false,
             ready,
             running,
             owed: 0,
-            number: number + 1,
+            number: turn.number + 1,
         }
         .pack();
         let held = Held {
             cell: site,
-            word,
+            word: turn.word,
             contents,
         };
         let number = self

@@ -1,14 +1,14 @@
 //! The sites of a board, as a processor shares them with others.
 
-use crate::contents::{Contents, Kept};
-use crate::seated::{Seated, Turn};
+use crate::seated::Seated;
 use std::marker::Brand;
 use std::snapshot::Snapshot;
 use um_base::{Addr, Image, Parts, Piece, Reply, Row, ThreadIx, Told, Waiter};
 use um_machine::{Cost, Pending};
 use um_processor::{
-    Context, DomainAct, HeapAct, HeapSaid, MemoryAct, MemorySaid, RowAct, RowSaid, Said, Sites,
-    ThreadAct, edited, named, parts_or_none, resumed, worked,
+    Bytes, Context, DomainAct, DomainCell, Heap, HeapAct, HeapSaid, MemoryAct, MemorySaid,
+    ObjectCell, RowAct, RowSaid, Said, Scheduler, Sites, ThreadAct, edited, named, parts_or_none,
+    resumed, worked,
 };
 use um_service::Outcome;
 use um_words::{CellWord, DomWord, RowWord, ThreadWord};
@@ -51,10 +51,9 @@ impl Sites for Seated<'_> {
 
     fn row(&mut self, image: &Image, cpu: u8, row: Row, act: &RowAct) -> Said<RowSaid> {
         let site = row.0 as u16;
-        let seen = self.look(image, site);
-        if self.is_full() {
+        let Some(seen) = self.look_to_step(image, site) else {
             return Said::Changed;
-        }
+        };
         let word = RowWord::read(seen);
         let (next, said) = match act.make(&word) {
             None => return Said::Busy,
@@ -75,10 +74,9 @@ impl Sites for Seated<'_> {
         act: &ThreadAct,
     ) -> Said<ThreadWord> {
         let site = THREADS_FROM + thread.0 as u16;
-        let seen = self.look(image, site);
-        if self.is_full() {
+        let Some(seen) = self.look_to_step(image, site) else {
             return Said::Changed;
-        }
+        };
         let word = match ThreadWord::unpack(seen) {
             None => return Said::Changed,
             Some(word) => word,
@@ -105,10 +103,9 @@ impl Sites for Seated<'_> {
 
     fn domain(&mut self, image: &Image, cpu: u8, domain: u8, act: &DomainAct) -> Said<DomWord> {
         let site = DOMAINS_FROM + domain as u16;
-        let seen = self.look(image, site);
-        if self.is_full() {
+        let Some(seen) = self.look_to_step(image, site) else {
             return Said::Changed;
-        }
+        };
         let word = match DomWord::unpack(seen) {
             None => return Said::Changed,
             Some(word) => word,
@@ -135,51 +132,22 @@ impl Sites for Seated<'_> {
 
     fn load_parts(&mut self, image: &Image, cpu: u8, domain: u8, parts: &mut Parts) -> Said<()> {
         let site = PARTS_FROM + domain as u16;
-        let Some(turn) = self.turn(image, site) else {
+        let Some((turn, cell)) = self.turn::<Box<DomainCell>>(image, site) else {
             return Said::Changed;
         };
-        let Turn {
-            word,
-            number,
-            before,
-            contents,
-        } = turn;
-        let cell = contents.into_parts();
         *parts = parts_or_none(&cell.parts);
-        let left = Contents::new(image, Kept::Parts(cell));
-        self.leave::<Brand, _>(
-            image,
-            cpu,
-            site,
-            domain,
-            word,
-            number,
-            &before,
-            left,
-            &None,
-            &(),
-        );
+        self.leave::<Brand, _, _>(image, cpu, site, domain, turn, cell, &None, &());
         Said::Made(())
     }
 
     fn edit(&mut self, image: &Image, cpu: u8, domain: u8, call: &Pending) -> Said<Reply> {
         let site = PARTS_FROM + domain as u16;
-        let Some(turn) = self.turn(image, site) else {
+        let Some((turn, mut cell)) = self.turn::<Box<DomainCell>>(image, site) else {
             return Said::Changed;
         };
-        let Turn {
-            word,
-            number,
-            before,
-            contents,
-        } = turn;
-        let mut cell = contents.into_parts();
         let (parts, reply) = edited(image, call, &cell.parts);
         cell.parts = parts;
-        let left = Contents::new(image, Kept::Parts(cell));
-        self.leave::<Brand, _>(
-            image, cpu, site, domain, word, number, &before, left, &None, call,
-        );
+        self.leave::<Brand, _, _>(image, cpu, site, domain, turn, cell, &None, call);
         Said::Made(reply)
     }
 
@@ -193,31 +161,12 @@ impl Sites for Seated<'_> {
         outcome: &mut Outcome,
     ) -> Said<()> {
         let site = OBJECTS_FROM + row.0 as u16;
-        let Some(turn) = self.turn(image, site) else {
+        let Some((turn, mut cell)) = self.turn::<Box<ObjectCell>>(image, site) else {
             return Said::Changed;
         };
-        let Turn {
-            word,
-            number,
-            before,
-            contents,
-        } = turn;
-        let mut cell = contents.into_object();
         cell.work(who, outcome);
         let event = Some(worked(addr, who, outcome));
-        let left = Contents::new(image, Kept::Object(cell));
-        self.leave::<Brand, _>(
-            image,
-            cpu,
-            site,
-            row.0,
-            word,
-            number,
-            &before,
-            left,
-            &event,
-            &(addr, who),
-        );
+        self.leave::<Brand, _, _>(image, cpu, site, row.0, turn, cell, &event, &(addr, who));
         Said::Made(())
     }
 
@@ -231,28 +180,18 @@ impl Sites for Seated<'_> {
         bytes: &Piece,
     ) -> Said<()> {
         let site = OBJECTS_FROM + row.0 as u16;
-        let Some(turn) = self.turn(image, site) else {
+        let Some((turn, mut cell)) = self.turn::<Box<ObjectCell>>(image, site) else {
             return Said::Changed;
         };
-        let Turn {
-            word,
-            number,
-            before,
-            contents,
-        } = turn;
-        let mut cell = contents.into_object();
         cell.name(bytes);
         let event = Some(named(thread, who));
-        let left = Contents::new(image, Kept::Object(cell));
-        self.leave::<Brand, _>(
+        self.leave::<Brand, _, _>(
             image,
             cpu,
             site,
             row.0,
-            word,
-            number,
-            &before,
-            left,
+            turn,
+            cell,
             &event,
             &(thread, who, bytes),
         );
@@ -261,59 +200,21 @@ impl Sites for Seated<'_> {
 
     fn message_size(&mut self, image: &Image, cpu: u8, row: Row) -> Said<u32> {
         let site = OBJECTS_FROM + row.0 as u16;
-        let Some(turn) = self.turn(image, site) else {
+        let Some((turn, cell)) = self.turn::<Box<ObjectCell>>(image, site) else {
             return Said::Changed;
         };
-        let Turn {
-            word,
-            number,
-            before,
-            contents,
-        } = turn;
-        let cell = contents.into_object();
         let size = cell.message_size();
-        let left = Contents::new(image, Kept::Object(cell));
-        self.leave::<Brand, _>(
-            image,
-            cpu,
-            site,
-            row.0,
-            word,
-            number,
-            &before,
-            left,
-            &None,
-            &(),
-        );
+        self.leave::<Brand, _, _>(image, cpu, site, row.0, turn, cell, &None, &());
         Said::Made(size)
     }
 
     fn clear(&mut self, image: &Image, cpu: u8, row: Row) -> Said<Option<Cost>> {
         let site = OBJECTS_FROM + row.0 as u16;
-        let Some(turn) = self.turn(image, site) else {
+        let Some((turn, mut cell)) = self.turn::<Box<ObjectCell>>(image, site) else {
             return Said::Changed;
         };
-        let Turn {
-            word,
-            number,
-            before,
-            contents,
-        } = turn;
-        let mut cell = contents.into_object();
         let buffer = cell.clear();
-        let left = Contents::new(image, Kept::Object(cell));
-        self.leave::<Brand, _>(
-            image,
-            cpu,
-            site,
-            row.0,
-            word,
-            number,
-            &before,
-            left,
-            &None,
-            &(),
-        );
+        self.leave::<Brand, _, _>(image, cpu, site, row.0, turn, cell, &None, &());
         Said::Made(buffer)
     }
 
@@ -324,32 +225,13 @@ impl Sites for Seated<'_> {
         act: &MemoryAct,
         buffer: &mut Piece,
     ) -> Said<MemorySaid> {
-        let Some(turn) = self.turn(image, MEMORY) else {
+        let Some((turn, mut cell)) = self.turn::<Box<Bytes>>(image, MEMORY) else {
             return Said::Changed;
         };
-        let Turn {
-            word,
-            number,
-            before,
-            contents,
-        } = turn;
         let sent = Snapshot::of(buffer);
-        let mut cell = contents.into_memory();
         let said = cell.make(image, self.rodata, act, buffer);
         let event = act.event(&said);
-        let left = Contents::new(image, Kept::Memory(cell));
-        self.leave::<Brand, _>(
-            image,
-            cpu,
-            MEMORY,
-            0,
-            word,
-            number,
-            &before,
-            left,
-            &event,
-            &(act, sent),
-        );
+        self.leave::<Brand, _, _>(image, cpu, MEMORY, 0, turn, cell, &event, &(act, sent));
         Said::Made(said)
     }
 
@@ -360,31 +242,12 @@ impl Sites for Seated<'_> {
         act: &HeapAct,
         charge: Option<Cost>,
     ) -> Said<HeapSaid> {
-        let Some(turn) = self.turn(image, HEAP) else {
+        let Some((turn, mut cell)) = self.turn::<Box<Heap>>(image, HEAP) else {
             return Said::Changed;
         };
-        let Turn {
-            word,
-            number,
-            before,
-            contents,
-        } = turn;
-        let mut cell = contents.into_heap();
         let said = cell.make(image, act, charge);
         let event = act.event(&said);
-        let left = Contents::new(image, Kept::Heap(cell));
-        self.leave::<Brand, _>(
-            image,
-            cpu,
-            HEAP,
-            0,
-            word,
-            number,
-            &before,
-            left,
-            &event,
-            &(act, charge),
-        );
+        self.leave::<Brand, _, _>(image, cpu, HEAP, 0, turn, cell, &event, &(act, charge));
         Said::Made(said)
     }
 
@@ -399,156 +262,74 @@ impl Sites for Seated<'_> {
         if CellWord::read(seen).ready == 0 {
             return Said::Busy;
         }
-        let Some(turn) = self.turn_at_once(image, SCHEDULER) else {
+        let Some((turn, mut cell)) = self.turn_at_once::<Box<Scheduler>>(image, SCHEDULER) else {
             return Said::Changed;
         };
-        let Turn {
-            word,
-            number,
-            before,
-            contents,
-        } = turn;
-        let mut cell = contents.into_scheduler();
         let woken = match cell.take(context, told) {
             None => {
-                let same = Contents::new(image, Kept::Scheduler(cell));
-                self.put_back(image, SCHEDULER, word, number, same);
+                self.put_back(image, SCHEDULER, turn, cell);
                 return Said::Busy;
             }
             Some(woken) => woken,
         };
         let event = resumed(context.thread(), woken);
-        let left = Contents::new(image, Kept::Scheduler(cell));
-        self.leave::<Brand, _>(
-            image,
-            cpu,
-            SCHEDULER,
-            0,
-            word,
-            number,
-            &before,
-            left,
-            &event,
-            &(),
-        );
+        self.leave::<Brand, _, _>(image, cpu, SCHEDULER, 0, turn, cell, &event, &());
         Said::Made(woken)
     }
 
     fn wake(&mut self, image: &Image, cpu: u8, who: ThreadIx, told: &Told) -> Said<()> {
-        let Some(turn) = self.turn(image, SCHEDULER) else {
+        let Some((turn, mut cell)) = self.turn::<Box<Scheduler>>(image, SCHEDULER) else {
             return Said::Changed;
         };
-        let Turn {
-            word,
-            number,
-            before,
-            contents,
-        } = turn;
-        let mut cell = contents.into_scheduler();
         let _ready = match cell.wake(who, told) {
             None => {
-                let same = Contents::new(image, Kept::Scheduler(cell));
-                self.put_back(image, SCHEDULER, word, number, same);
+                self.put_back(image, SCHEDULER, turn, cell);
                 return Said::Busy;
             }
             Some(ready) => ready,
         };
-        let left = Contents::new(image, Kept::Scheduler(cell));
-        self.leave::<Brand, _>(
-            image,
-            cpu,
-            SCHEDULER,
-            0,
-            word,
-            number,
-            &before,
-            left,
-            &None,
-            &(who, told),
-        );
+        self.leave::<Brand, _, _>(image, cpu, SCHEDULER, 0, turn, cell, &None, &(who, told));
         Said::Made(())
     }
 
     fn add(&mut self, image: &Image, cpu: u8, context: &mut Box<Context>) -> Said<()> {
-        let Some(turn) = self.turn(image, SCHEDULER) else {
+        let Some((turn, mut cell)) = self.turn::<Box<Scheduler>>(image, SCHEDULER) else {
             return Said::Changed;
         };
-        let Turn {
-            word,
-            number,
-            before,
-            contents,
-        } = turn;
         let given = Snapshot::of(context);
-        let mut cell = contents.into_scheduler();
         if !cell.add(context) {
-            let same = Contents::new(image, Kept::Scheduler(cell));
-            self.put_back(image, SCHEDULER, word, number, same);
+            self.put_back(image, SCHEDULER, turn, cell);
             return Said::Busy;
         }
-        let left = Contents::new(image, Kept::Scheduler(cell));
-        self.leave::<Brand, _>(
-            image, cpu, SCHEDULER, 0, word, number, &before, left, &None, &given,
-        );
+        self.leave::<Brand, _, _>(image, cpu, SCHEDULER, 0, turn, cell, &None, &given);
         Said::Made(())
     }
 
     fn park(&mut self, image: &Image, cpu: u8, context: &mut Box<Context>) -> Said<()> {
-        let Some(turn) = self.turn(image, SCHEDULER) else {
+        let Some((turn, mut cell)) = self.turn::<Box<Scheduler>>(image, SCHEDULER) else {
             return Said::Changed;
         };
-        let Turn {
-            word,
-            number,
-            before,
-            contents,
-        } = turn;
         let given = Snapshot::of(context);
-        let mut cell = contents.into_scheduler();
         let _ready = match cell.park(context) {
             None => {
-                let same = Contents::new(image, Kept::Scheduler(cell));
-                self.put_back(image, SCHEDULER, word, number, same);
+                self.put_back(image, SCHEDULER, turn, cell);
                 return Said::Busy;
             }
             Some(ready) => ready,
         };
-        let left = Contents::new(image, Kept::Scheduler(cell));
-        self.leave::<Brand, _>(
-            image, cpu, SCHEDULER, 0, word, number, &before, left, &None, &given,
-        );
+        self.leave::<Brand, _, _>(image, cpu, SCHEDULER, 0, turn, cell, &None, &given);
         Said::Made(())
     }
 
     fn done(&mut self, image: &Image, cpu: u8) -> Said<()> {
-        let Some(turn) = self.turn(image, SCHEDULER) else {
+        let Some((turn, mut cell)) = self.turn::<Box<Scheduler>>(image, SCHEDULER) else {
             return Said::Changed;
         };
-        let Turn {
-            word,
-            number,
-            before,
-            contents,
-        } = turn;
-        let mut cell = contents.into_scheduler();
         if !cell.done() {
-            let same = Contents::new(image, Kept::Scheduler(cell));
-            self.put_back(image, SCHEDULER, word, number, same);
+            self.put_back(image, SCHEDULER, turn, cell);
             return Said::Busy;
         }
-        let left = Contents::new(image, Kept::Scheduler(cell));
-        self.leave::<Brand, _>(
-            image,
-            cpu,
-            SCHEDULER,
-            0,
-            word,
-            number,
-            &before,
-            left,
-            &None,
-            &(),
-        );
+        self.leave::<Brand, _, _>(image, cpu, SCHEDULER, 0, turn, cell, &None, &());
         Said::Made(())
     }
 }

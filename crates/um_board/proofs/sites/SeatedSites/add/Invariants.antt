@@ -1,10 +1,5 @@
-use Rattle.std.proofs.Common.{None}
-use Rattle.um_machine.specs.Order.{to_thread}
-use Rattle.um_words.specs.declared.fine.FineAct.{FineAct}
-use Rattle.um_words.specs.declared.fine.Unseen.{Unseen}
-use Rattle.um_fine.specs.Steps.{Exchange, Site}
-use Rattle.um_processor.specs.Asked.{cell_made}
+use Rattle.um_processor.specs.SchedulerActs.{added_made}
 use Rattle.um_board.proofs.sites.SeatedSites.add.Given as goal
 
 abbrev pub ghosts-leave : goal.ghosts-leave
-ghosts-leave a = record { step = cell_made a.image.now a.cpu Site.scheduler a.number a.before.now.value.cell (FineAct.Unseen (Unseen.Add (to_thread a.about.now.value.value.thread))) (Exchange.thread a.about.now.value.value None) }
+ghosts-leave a = record { step = added_made a.image.now a.cpu a.turn.number a.turn.before.value.value a.about.now.value.value }

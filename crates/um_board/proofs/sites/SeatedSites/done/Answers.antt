@@ -1,75 +1,42 @@
-use Rattle.std.proofs.Common.{rules, ◌≡◌, ◌∙◌, ap, refl, sym, subst, false, nat_lt}
+use Rattle.std.proofs.Common.{rules, ◌≡◌, ◌∙◌, ap, refl, subst, false, nat_lt, ◌<◌}
+use Rattle.std.proofs.lemmas.Bool.{lt-ltb}
 use Rattle.um_fine.specs.Cells.{Cell}
+use Rattle.um_fine.specs.Scheduler.{Scheduler, one_less}
 use Rattle.um_fine.specs.Steps.{Exchange, Site}
-use Rattle.um_board.specs.Contents.{Known}
-use Rattle.um_board.proofs.CellKinds.{cell-here, kind-here}
-use Rattle.um_board.proofs.CellSteps.{event-at, noted-at, takes-at}
 use Rattle.um_words.specs.declared.fine.FineAct.{FineAct}
 use Rattle.um_words.specs.declared.fine.Unseen.{Unseen}
-use Rattle.um_fine.specs.Scheduler.{Scheduler, one_less}
-use Rattle.um_board.specs.Turned.{InTurn}
-use Rattle.um_board.proofs.Keeping.{unnoted-then}
-use Rattle.std.proofs.Common.{◌<◌}
-use Rattle.std.proofs.lemmas.Bool.{lt-ltb}
-use Rattle.um_board.proofs.Saws.{next-at, cell-shut, got-more}
+use Rattle.um_board.proofs.CellSteps.{cell-takes}
+use Rattle.um_board.proofs.Keeping.{noted-then}
+use Rattle.um_board.proofs.NextRuns.{next-then}
+use Rattle.um_board.proofs.Saws.{refused}
 use Rattle.um_board.proofs.sites.SeatedSites.done.Goals as goal
-
-pub into_scheduler-cell-requires : goal.into_scheduler-cell-requires
-into_scheduler-cell-requires c = let t = c.in-Some.ensures.turn in kind-here _ _ _ _ t.0 t.1.kind refl
 
 pub leave-requires-clause-takes : goal.leave-requires-clause-takes
 leave-requires-clause-takes c =
-    let t = c.in-Some.ensures.turn in
-    let d = c.into_scheduler-cell.result.value in
-    let k : c.in-Some.turn.before.value.cell ≡ Cell.scheduler d = cell-here _ _ _ t.0 c.into_scheduler-cell.ensures in
+    let d = c.in-Some.turn.before.value.value in
     let was : c.deref_mut.result.now ≡ d = search rules in
-    let now : c.new-left.result.cell ≡ Cell.scheduler c.done.new.self = search rules in
     let e = subst (λ (s : Scheduler). (0 < s.running) × (c.done.new.self ≡ one_less s)) was (c.if-not-done.ensures.made refl) in
-    takes-at c.args.image.now c.args.cpu Site.scheduler c.in-Some.turn.number c.in-Some.turn.before.value.cell (Cell.scheduler d) _ (FineAct.Unseen Unseen.Done) (Exchange.nothing) k t.1.room (lt-ltb 0 _ e.0) (now ∙ ap Cell.scheduler e.1)
-
-pub leave-requires-clause-event : goal.leave-requires-clause-event
-leave-requires-clause-event c =
-    let t = c.in-Some.ensures.turn in
-    let d = c.into_scheduler-cell.result.value in
-    let k : c.in-Some.turn.before.value.cell ≡ Cell.scheduler d = cell-here _ _ _ t.0 c.into_scheduler-cell.ensures in
-    let was : c.deref_mut.result.now ≡ d = search rules in
-    let now : c.new-left.result.cell ≡ Cell.scheduler c.done.new.self = search rules in
-    let e = subst (λ (s : Scheduler). (0 < s.running) × (c.done.new.self ≡ one_less s)) was (c.if-not-done.ensures.made refl) in
-    event-at c.args.image.now c.in-Some.turn.before.value.cell (Cell.scheduler d) (FineAct.Unseen Unseen.Done) (Exchange.nothing) _ k (refl)
+    cell-takes c.args.image.now c.args.cpu Site.scheduler c.in-Some.turn.number (Cell.scheduler d) _ (FineAct.Unseen Unseen.Done) Exchange.nothing c.in-Some.ensures.turn.1.turn.room (lt-ltb 0 _ e.0) (ap Cell.scheduler e.1)
 
 pub leave-requires-clause-goes : goal.leave-requires-clause-goes
-leave-requires-clause-goes c =
-    let t = c.in-Some.ensures.turn in
-    let d = c.into_scheduler-cell.result.value in
-    let k : c.in-Some.turn.before.value.cell ≡ Cell.scheduler d = cell-here _ _ _ t.0 c.into_scheduler-cell.ensures in
-    next-at c.args.image.now c.args.cpu Site.scheduler c.in-Some.turn.number c.in-Some.turn.before.value.cell (Cell.scheduler d) (FineAct.Unseen Unseen.Done) (Exchange.nothing) _ _ _ _ k c.in-Some.ensures.unnoted (c.requires.goes c.in-Some.turn.number d)
+leave-requires-clause-goes c = next-then _ _ _ _ _ _ c.in-Some.ensures.unnoted (c.requires.goes c.in-Some.turn.number c.in-Some.turn.before.value.value)
 
 pub returns-clause-said : goal.returns-clause-said
-returns-clause-said c =
-    let t = c.in-Some.ensures.turn in
-    let d = c.into_scheduler-cell.result.value in
-    let k : c.in-Some.turn.before.value.cell ≡ Cell.scheduler d = cell-here _ _ _ t.0 c.into_scheduler-cell.ensures in
-    let was : c.deref_mut.result.now ≡ d = search rules in
-    let now : c.new-left.result.cell ≡ Cell.scheduler c.done.new.self = search rules in
-    let e = subst (λ (s : Scheduler). (0 < s.running) × (c.done.new.self ≡ one_less s)) was (c.if-not-done.ensures.made refl) in
-    (c.in-Some.turn.number, d, noted-at c.args.image.now c.args.cpu Site.scheduler c.in-Some.turn.number c.in-Some.turn.before.value.cell (Cell.scheduler d) (FineAct.Unseen Unseen.Done) (Exchange.nothing) _ _ _ _ _ _ k c.in-Some.ensures.unnoted c.leave.ensures.made)
-
-pub put_back-requires : goal.put_back-requires
-put_back-requires c =
-    let t = c.in-Some.ensures.turn in
-    let d = c.into_scheduler-cell.result.value in
-    let was : c.deref_mut.result.now ≡ d = search rules in
-    let same : c.new-same.result ≡ c.in-Some.turn.before.value =
-    c.new-same.ensures ∙ (λ i. record { image = sym t.1.of i; cell = (ap Cell.scheduler ((c.if-not-done.ensures.refused refl).0 ∙ was) ∙ sym c.into_scheduler-cell.ensures ∙ ap (λ (x : Known). x.cell) t.0) i }) in
-    record { turn = subst (λ (x : Known). InTurn c.args.image.now c.turn.new.self.board.now.table.shared.table_id c.turn.new.self.cells.now c.turn.new.self.rodata.now c.turn.new.self.seat c.turn.new.self.log.room 306 c.in-Some.turn.word c.in-Some.turn.number x) (sym same) t.1 }
+returns-clause-said c = (c.in-Some.turn.number, c.in-Some.turn.before.value.value, noted-then _ _ _ _ _ _ _ c.in-Some.ensures.unnoted c.leave.ensures.made)
 
 pub returns-then-not-done-clause-said : goal.returns-then-not-done-clause-said
 returns-then-not-done-clause-said c =
-    let t = c.in-Some.ensures.turn in
-    let d = c.into_scheduler-cell.result.value in
-    let k : c.in-Some.turn.before.value.cell ≡ Cell.scheduler d = cell-here _ _ _ t.0 c.into_scheduler-cell.ensures in
+    let d = c.in-Some.turn.before.value.value in
     let was : c.deref_mut.result.now ≡ d = search rules in
-    let r = c.if-not-done.ensures.refused refl in
-    let denied = subst (λ (x : Scheduler). nat_lt 0 x.running ≡ false) was (ap (nat_lt 0) r.1) in
-    let got = got-more _ _ _ c.put_back.ensures.unnoted.got.0 _ _ c.put_back.ensures.unnoted.got.1 c.in-Some.ensures.saw.0 in
-    (c.in-Some.turn.number, d, unnoted-then _ _ _ _ _ _ c.in-Some.ensures.unnoted c.put_back.ensures.unnoted, cell-shut c.args.image.now c.args.cpu c.in-Some.turn.number c.in-Some.turn.word c.in-Some.turn.before.value d Unseen.Done Exchange.nothing _ _ k t.1.says got c.in-Some.ensures.saw.1 denied)
+    let t = c.in-Some.ensures.turn.1 in
+    let denied = subst (λ (x : Scheduler). nat_lt 0 x.running ≡ false) was (ap (nat_lt 0) (c.if-not-done.ensures.refused refl).1) in
+    let shut = refused c.args.image.now c.args.cpu c.in-Some.turn.number _ d Unseen.Done Exchange.nothing _ _ _ _ _ _ c.in-Some.ensures.unnoted c.put_back.ensures.unnoted t.turn.says t.got t.saw denied in
+    (c.in-Some.turn.number, d, shut.0, shut.1)
+
+pub put_back-requires-clause-same : goal.put_back-requires-clause-same
+put_back-requires-clause-same c =
+    let was : c.deref_mut.result.now ≡ c.in-Some.turn.before.value.value = search rules in
+    ap Cell.scheduler ((c.if-not-done.ensures.refused refl).0 ∙ was)
+
+pub returns-in_default-clause-said : goal.returns-in_default-clause-said
+returns-in_default-clause-said c = (c.turn.ensures.unnoted, c.in_default.ensures.turn.1)

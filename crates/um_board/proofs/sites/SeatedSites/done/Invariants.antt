@@ -1,8 +1,5 @@
-use Rattle.um_words.specs.declared.fine.FineAct.{FineAct}
-use Rattle.um_words.specs.declared.fine.Unseen.{Unseen}
-use Rattle.um_fine.specs.Steps.{Exchange, Site}
-use Rattle.um_processor.specs.Asked.{cell_made}
+use Rattle.um_processor.specs.SchedulerActs.{done_made}
 use Rattle.um_board.proofs.sites.SeatedSites.done.Given as goal
 
 abbrev pub ghosts-leave : goal.ghosts-leave
-ghosts-leave a = record { step = cell_made a.image.now a.cpu Site.scheduler a.number a.before.now.value.cell (FineAct.Unseen Unseen.Done) Exchange.nothing }
+ghosts-leave a = record { step = done_made a.image.now a.cpu a.turn.number a.turn.before.value.value }

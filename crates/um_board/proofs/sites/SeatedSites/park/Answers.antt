@@ -1,84 +1,54 @@
-use Rattle.std.proofs.Common.{rules, ◌≡◌, ◌∙◌, ap, refl, sym, subst, None, false, IsTrue}
+use Rattle.std.proofs.Common.{rules, refl, ◌≡◌, ◌∙◌, ap, sym, subst, None, false, nat_lt, ◌&&◌, Bool, IsTrue}
+use Rattle.um_machine.specs.Order.{to_thread}
 use Rattle.um_fine.specs.Cells.{Cell}
 use Rattle.um_fine.specs.Steps.{Exchange, Site}
-use Rattle.um_board.specs.Contents.{Known}
-use Rattle.um_board.proofs.CellKinds.{cell-here, kind-here}
-use Rattle.um_board.proofs.CellSteps.{event-at, noted-at, takes-at}
+use Rattle.um_fine.specs.Context.{Context}
+use Rattle.um_fine.specs.Scheduler.{Scheduler, has_place, is_ready, one_less, put_back}
 use Rattle.um_words.specs.declared.fine.FineAct.{FineAct}
 use Rattle.um_words.specs.declared.fine.Unseen.{Unseen}
-use Rattle.um_machine.specs.Order.{to_thread}
-use Rattle.um_fine.specs.Scheduler.{Scheduler, one_less, put_back}
-use Rattle.um_fine.specs.Context.{Context}
 use Rattle.um_processor.specs.SchedulerActs.{parked_made}
-use Rattle.um_board.specs.Seated.{Noted}
-use Rattle.um_board.specs.Turned.{InTurn}
-use Rattle.um_board.proofs.Keeping.{unnoted-then}
-use Rattle.std.proofs.Common.{Bool, nat_lt, ◌&&◌}
-use Rattle.um_fine.specs.Scheduler.{has_place, is_ready}
-use Rattle.um_board.proofs.Saws.{next-at, cell-shut, got-more}
 use Rattle.um_board.specs.NextSteps.{IsNext}
+use Rattle.um_board.specs.Placed.{HasMadeThere}
+use Rattle.um_board.proofs.CellSteps.{cell-takes}
+use Rattle.um_board.proofs.Keeping.{noted-then}
+use Rattle.um_board.proofs.NextRuns.{next-then}
+use Rattle.um_board.proofs.Saws.{refused}
 use Rattle.um_board.proofs.sites.SeatedSites.park.Goals as goal
-
-pub into_scheduler-cell-requires : goal.into_scheduler-cell-requires
-into_scheduler-cell-requires c = let t = c.in-Some.ensures.turn in kind-here _ _ _ _ t.0 t.1.kind refl
 
 pub leave-requires-clause-takes : goal.leave-requires-clause-takes
 leave-requires-clause-takes c =
-    let t = c.in-Some.ensures.turn in
-    let d = c.into_scheduler-cell.result.value in
-    let k : c.in-Some.turn.before.value.cell ≡ Cell.scheduler d = cell-here _ _ _ t.0 c.into_scheduler-cell.ensures in
+    let d = c.in-Some.turn.before.value.value in
     let was : c.deref_mut.result.now ≡ d = search rules in
-    let vs : c.of-given.result.value.value ≡ c.args.context.now.value = (λ i. (c.of-given.ensures i).value) in
-    let now : c.new-left.result.cell ≡ Cell.scheduler c.park.new.self = search rules in
+    let given : c.args.context.now.value ≡ c.of-given.result.value.value = (λ i. (sym c.of-given.ensures i).value) in
     let e = subst (λ (s : Scheduler). IsTrue (nat_lt 0 s.running && has_place s) × (c.in-Some-park.ready ≡ is_ready s c.args.context.now.value) × (c.park.new.self ≡ one_less (put_back s c.in-Some-park.ready c.args.context.now.value))) was c.in-Some-park.ensures in
-    takes-at c.args.image.now c.args.cpu Site.scheduler c.in-Some.turn.number c.in-Some.turn.before.value.cell (Cell.scheduler d) _ (FineAct.Unseen (Unseen.Park (to_thread c.of-given.result.value.value.thread) false)) (Exchange.thread c.of-given.result.value.value None) k t.1.room e.0 (now ∙ ap Cell.scheduler (e.2 ∙ ap (λ (b : Bool). one_less (put_back d b c.args.context.now.value)) e.1) ∙ ap (λ (x : Context). Cell.scheduler (one_less (put_back d (is_ready d x) x))) (sym vs))
-
-pub leave-requires-clause-event : goal.leave-requires-clause-event
-leave-requires-clause-event c =
-    let t = c.in-Some.ensures.turn in
-    let d = c.into_scheduler-cell.result.value in
-    let k : c.in-Some.turn.before.value.cell ≡ Cell.scheduler d = cell-here _ _ _ t.0 c.into_scheduler-cell.ensures in
-    let was : c.deref_mut.result.now ≡ d = search rules in
-    let vs : c.of-given.result.value.value ≡ c.args.context.now.value = (λ i. (c.of-given.ensures i).value) in
-    let now : c.new-left.result.cell ≡ Cell.scheduler c.park.new.self = search rules in
-    let e = subst (λ (s : Scheduler). IsTrue (nat_lt 0 s.running && has_place s) × (c.in-Some-park.ready ≡ is_ready s c.args.context.now.value) × (c.park.new.self ≡ one_less (put_back s c.in-Some-park.ready c.args.context.now.value))) was c.in-Some-park.ensures in
-    event-at c.args.image.now c.in-Some.turn.before.value.cell (Cell.scheduler d) (FineAct.Unseen (Unseen.Park (to_thread c.of-given.result.value.value.thread) false)) (Exchange.thread c.of-given.result.value.value None) _ k (refl)
+    cell-takes c.args.image.now c.args.cpu Site.scheduler c.in-Some.turn.number (Cell.scheduler d) _ (FineAct.Unseen (Unseen.Park (to_thread c.of-given.result.value.value.thread) false)) (Exchange.thread c.of-given.result.value.value None) c.in-Some.ensures.turn.1.turn.room e.0 (ap Cell.scheduler (e.2 ∙ ap (λ (b : Bool). one_less (put_back d b c.args.context.now.value)) e.1) ∙ ap (λ (x : Context). Cell.scheduler (one_less (put_back d (is_ready d x) x))) given)
 
 pub leave-requires-clause-goes : goal.leave-requires-clause-goes
 leave-requires-clause-goes c =
-    let t = c.in-Some.ensures.turn in
-    let d = c.into_scheduler-cell.result.value in
-    let k : c.in-Some.turn.before.value.cell ≡ Cell.scheduler d = cell-here _ _ _ t.0 c.into_scheduler-cell.ensures in
-    let vs : c.of-given.result.value.value ≡ c.args.context.now.value = (λ i. (c.of-given.ensures i).value) in
-    next-at c.args.image.now c.args.cpu Site.scheduler c.in-Some.turn.number c.in-Some.turn.before.value.cell (Cell.scheduler d) (FineAct.Unseen (Unseen.Park (to_thread c.of-given.result.value.value.thread) false)) (Exchange.thread c.of-given.result.value.value None) _ _ _ _ k c.in-Some.ensures.unnoted (subst (λ (x : Context). IsNext c.args.image.now c.args.self.now.seat.token.me.0.name c.args.self.now.seat.token.me.0.made (parked_made c.args.image.now c.args.cpu c.in-Some.turn.number d x)) (sym vs) (c.requires.goes c.in-Some.turn.number d))
+    let given : c.args.context.now.value ≡ c.of-given.result.value.value = (λ i. (sym c.of-given.ensures i).value) in
+    let seat = c.args.self.now.seat in
+    next-then _ _ _ _ _ _ c.in-Some.ensures.unnoted (subst (λ (x : Context). IsNext c.args.image.now seat.token.me.0.name seat.token.me.0.made (parked_made c.args.image.now c.args.cpu c.in-Some.turn.number c.in-Some.turn.before.value.value x)) given (c.requires.goes c.in-Some.turn.number c.in-Some.turn.before.value.value))
 
 pub returns-clause-said : goal.returns-clause-said
 returns-clause-said c =
-    let t = c.in-Some.ensures.turn in
-    let d = c.into_scheduler-cell.result.value in
-    let k : c.in-Some.turn.before.value.cell ≡ Cell.scheduler d = cell-here _ _ _ t.0 c.into_scheduler-cell.ensures in
-    let was : c.deref_mut.result.now ≡ d = search rules in
-    let vs : c.of-given.result.value.value ≡ c.args.context.now.value = (λ i. (c.of-given.ensures i).value) in
-    let now : c.new-left.result.cell ≡ Cell.scheduler c.park.new.self = search rules in
-    let e = subst (λ (s : Scheduler). IsTrue (nat_lt 0 s.running && has_place s) × (c.in-Some-park.ready ≡ is_ready s c.args.context.now.value) × (c.park.new.self ≡ one_less (put_back s c.in-Some-park.ready c.args.context.now.value))) was c.in-Some-park.ensures in
-    (c.in-Some.turn.number, d, subst (λ (x : Context). Noted c.args.self.now.seat c.args.self.now.log.items (parked_made c.args.image.now c.args.cpu c.in-Some.turn.number d x) c.leave.new.self.seat c.leave.new.self.log.items) vs (noted-at c.args.image.now c.args.cpu Site.scheduler c.in-Some.turn.number c.in-Some.turn.before.value.cell (Cell.scheduler d) (FineAct.Unseen (Unseen.Park (to_thread c.of-given.result.value.value.thread) false)) (Exchange.thread c.of-given.result.value.value None) _ _ _ _ _ _ k c.in-Some.ensures.unnoted c.leave.ensures.made))
-
-pub put_back-requires : goal.put_back-requires
-put_back-requires c =
-    let t = c.in-Some.ensures.turn in
-    let d = c.into_scheduler-cell.result.value in
-    let was : c.deref_mut.result.now ≡ d = search rules in
-    let same : c.new-same.result ≡ c.in-Some.turn.before.value =
-    c.new-same.ensures ∙ (λ i. record { image = sym t.1.of i; cell = (ap Cell.scheduler (c.in-None.ensures.0 ∙ was) ∙ sym c.into_scheduler-cell.ensures ∙ ap (λ (x : Known). x.cell) t.0) i }) in
-    record { turn = subst (λ (x : Known). InTurn c.args.image.now c.turn.new.self.board.now.table.shared.table_id c.turn.new.self.cells.now c.turn.new.self.rodata.now c.turn.new.self.seat c.turn.new.self.log.room 306 c.in-Some.turn.word c.in-Some.turn.number x) (sym same) t.1 }
+    let given : c.args.context.now.value ≡ c.of-given.result.value.value = (λ i. (sym c.of-given.ensures i).value) in
+    let made = noted-then _ _ _ _ _ _ _ c.in-Some.ensures.unnoted c.leave.ensures.made in
+    (c.in-Some.turn.number, c.in-Some.turn.before.value.value, subst (λ (x : Context). HasMadeThere c.args.self.now (parked_made c.args.image.now c.args.cpu c.in-Some.turn.number c.in-Some.turn.before.value.value x) c.leave.new.self) (sym given) made)
 
 pub returns-in-None-clause-said : goal.returns-in-None-clause-said
 returns-in-None-clause-said c =
-    let t = c.in-Some.ensures.turn in
-    let d = c.into_scheduler-cell.result.value in
-    let k : c.in-Some.turn.before.value.cell ≡ Cell.scheduler d = cell-here _ _ _ t.0 c.into_scheduler-cell.ensures in
+    let d = c.in-Some.turn.before.value.value in
     let was : c.deref_mut.result.now ≡ d = search rules in
+    let t = c.in-Some.ensures.turn.1 in
     let r = c.in-None.ensures in
     let denied = subst (λ (x : Scheduler). (nat_lt 0 x.running && has_place x) ≡ false) was r.2 in
-    let got = got-more _ _ _ c.put_back.ensures.unnoted.got.0 _ _ c.put_back.ensures.unnoted.got.1 c.in-Some.ensures.saw.0 in
-    (c.in-Some.turn.number, d, unnoted-then _ _ _ _ _ _ c.in-Some.ensures.unnoted c.put_back.ensures.unnoted, cell-shut c.args.image.now c.args.cpu c.in-Some.turn.number c.in-Some.turn.word c.in-Some.turn.before.value d (Unseen.Park (to_thread c.args.context.now.value.thread) false) (Exchange.thread c.args.context.now.value None) _ _ k t.1.says got c.in-Some.ensures.saw.1 denied, r.1)
+    let shut = refused c.args.image.now c.args.cpu c.in-Some.turn.number _ d (Unseen.Park (to_thread c.args.context.now.value.thread) false) (Exchange.thread c.args.context.now.value None) _ _ _ _ _ _ c.in-Some.ensures.unnoted c.put_back.ensures.unnoted t.turn.says t.got t.saw denied in
+    (c.in-Some.turn.number, d, shut.0, shut.1, r.1)
+
+pub put_back-requires-clause-same : goal.put_back-requires-clause-same
+put_back-requires-clause-same c =
+    let was : c.deref_mut.result.now ≡ c.in-Some.turn.before.value.value = search rules in
+    ap Cell.scheduler (c.in-None.ensures.0 ∙ was)
+
+pub returns-in_default-clause-said : goal.returns-in_default-clause-said
+returns-in_default-clause-said c = (c.turn.ensures.unnoted, c.in_default.ensures.turn.1, refl)

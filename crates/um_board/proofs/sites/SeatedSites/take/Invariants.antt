@@ -1,9 +1,5 @@
-use Rattle.um_machine.specs.Order.{to_thread}
-use Rattle.um_words.specs.declared.fine.FineAct.{FineAct}
-use Rattle.um_words.specs.declared.fine.Unseen.{Unseen}
-use Rattle.um_fine.specs.Steps.{Exchange, Site}
-use Rattle.um_processor.specs.Asked.{cell_made}
+use Rattle.um_processor.specs.SchedulerActs.{taken_made}
 use Rattle.um_board.proofs.sites.SeatedSites.take.Given as goal
 
 abbrev pub ghosts-leave : goal.ghosts-leave
-ghosts-leave a = record { step = cell_made a.image.now a.cpu Site.scheduler a.number a.before.now.value.cell (FineAct.Unseen (Unseen.Next (to_thread 0))) Exchange.nothing }
+ghosts-leave a = record { step = taken_made a.image.now a.cpu a.turn.number a.turn.before.value.value }

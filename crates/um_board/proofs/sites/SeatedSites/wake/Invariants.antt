@@ -1,9 +1,5 @@
-use Rattle.std.proofs.Common.{false}
-use Rattle.um_words.specs.declared.fine.FineAct.{FineAct}
-use Rattle.um_words.specs.declared.fine.Unseen.{Unseen}
-use Rattle.um_fine.specs.Steps.{Exchange, Site}
-use Rattle.um_processor.specs.Asked.{cell_made}
+use Rattle.um_processor.specs.SchedulerActs.{woken_made}
 use Rattle.um_board.proofs.sites.SeatedSites.wake.Given as goal
 
 abbrev pub ghosts-leave : goal.ghosts-leave
-ghosts-leave a = record { step = cell_made a.image.now a.cpu Site.scheduler a.number a.before.now.value.cell (FineAct.Unseen (Unseen.Wake a.about.now.0 false)) (Exchange.told a.about.now.1.now) }
+ghosts-leave a = record { step = woken_made a.image.now a.cpu a.turn.number a.turn.before.value.value a.about.now.0 a.about.now.1.now }

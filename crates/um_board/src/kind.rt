@@ -1,0 +1,130 @@
+//! The kinds of cells, and what those of each kind keep.
+
+ghost use Rattle.std.specs.Prelude.{◌≡◌};
+ghost use Rattle.um_board.specs.Kept.{cell_of};
+ghost use Rattle.um_board.specs.Turned.{kind_of};
+
+use crate::contents::Kept;
+use um_processor::{Bytes, DomainCell, Heap, ObjectCell, Scheduler};
+
+/// What cells of one kind keep.
+pub trait Kind {
+    ghost use Rattle.um_words.specs.declared.kind.CellKind.{CellKind};
+    ghost use Rattle.um_fine.specs.Cells.{Cell};
+
+    /// The kind of those cells.
+    ghost kind: { CellKind };
+
+    /// The cell of the fine machine that keeps it.
+    ghost cell: { Self → Cell };
+
+    /// It is what is kept in a cell of that kind.
+    fn out_of(kept: Kept) -> Self
+        requires { kind_of (cell_of kept) ≡ kind }
+        ensures { cell_of kept ≡ cell result };
+
+    /// It is kept.
+    fn into_kept(self) -> Kept
+        ensures { cell_of result ≡ cell self };
+}
+
+impl Kind for Box<ObjectCell> {
+    ghost use Rattle.um_words.specs.declared.kind.CellKind.{CellKind};
+    ghost use Rattle.um_fine.specs.Cells.{Cell};
+    ghost use Rattle.um_processor.specs.ObjectCells.{kept_in};
+
+    ghost kind = { CellKind.Object };
+
+    ghost cell = { λ o. Cell.object (kept_in o.value) };
+
+    fn out_of(kept: Kept) -> Self {
+        match kept {
+            Kept::Object(own) => own,
+            _ => unreachable!(),
+        }
+    }
+
+    fn into_kept(self) -> Kept {
+        Kept::Object(self)
+    }
+}
+
+impl Kind for Box<DomainCell> {
+    ghost use Rattle.um_words.specs.declared.kind.CellKind.{CellKind};
+    ghost use Rattle.um_fine.specs.Cells.{Cell};
+
+    ghost kind = { CellKind.Domain };
+
+    ghost cell = { λ o. Cell.parts o.value.parts };
+
+    fn out_of(kept: Kept) -> Self {
+        match kept {
+            Kept::Parts(own) => own,
+            _ => unreachable!(),
+        }
+    }
+
+    fn into_kept(self) -> Kept {
+        Kept::Parts(self)
+    }
+}
+
+impl Kind for Box<Bytes> {
+    ghost use Rattle.um_words.specs.declared.kind.CellKind.{CellKind};
+    ghost use Rattle.um_fine.specs.Cells.{Cell};
+
+    ghost kind = { CellKind.Memory };
+
+    ghost cell = { λ o. Cell.memory o.value };
+
+    fn out_of(kept: Kept) -> Self {
+        match kept {
+            Kept::Memory(own) => own,
+            _ => unreachable!(),
+        }
+    }
+
+    fn into_kept(self) -> Kept {
+        Kept::Memory(self)
+    }
+}
+
+impl Kind for Box<Heap> {
+    ghost use Rattle.um_words.specs.declared.kind.CellKind.{CellKind};
+    ghost use Rattle.um_fine.specs.Cells.{Cell};
+
+    ghost kind = { CellKind.Heap };
+
+    ghost cell = { λ o. Cell.heap o.value };
+
+    fn out_of(kept: Kept) -> Self {
+        match kept {
+            Kept::Heap(own) => own,
+            _ => unreachable!(),
+        }
+    }
+
+    fn into_kept(self) -> Kept {
+        Kept::Heap(self)
+    }
+}
+
+impl Kind for Box<Scheduler> {
+    ghost use Rattle.um_words.specs.declared.kind.CellKind.{CellKind};
+    ghost use Rattle.um_fine.specs.Cells.{Cell};
+
+    ghost kind = { CellKind.Scheduler };
+
+    ghost cell = { λ o. Cell.scheduler o.value };
+
+    fn out_of(kept: Kept) -> Self {
+        match kept {
+            Kept::Scheduler(own) => own,
+            _ => unreachable!(),
+        }
+    }
+
+    fn into_kept(self) -> Kept {
+        Kept::Scheduler(self)
+    }
+}
