@@ -1,9 +1,11 @@
 use Rattle.std.proofs.Common.{rules, refl, ◌≡◌, ◌∙◌, ap, sym, subst, Some, ℕ, List}
+use Rattle.um_base.specs.declared.image.Image.{Image}
 use Rattle.um_fine.specs.Cells.{Cell}
 use Rattle.um_fine.specs.Steps.{Site}
 use Rattle.um_fine.specs.Answers.{act_in}
 use Rattle.um_fine.specs.Memory.{Bytes, memory_after}
 use Rattle.um_processor.specs.MemoryActs.{memory_act, memory_answered, memory_event, memory_given, memory_made, memory_said, memory_sent, taken_after}
+use Rattle.um_processor.specs.declared.memory_act.MemoryAct.{MemoryAct}
 use Rattle.um_processor.specs.declared.memory_act.MemorySaid.{MemorySaid}
 use Rattle.um_processor.proofs.ByteLemmas.{memory-takes}
 use Rattle.um_processor.proofs.Noted.{memory-event}
@@ -13,6 +15,10 @@ use Rattle.um_board.proofs.CellSteps.{cell-takes}
 use Rattle.um_board.proofs.Keeping.{noted-then}
 use Rattle.um_board.proofs.NextRuns.{next-then}
 use Rattle.um_board.proofs.sites.SeatedSites.memory.Goals as goal
+
+-- what the memory says, as of the bytes that were kept and those that were sent
+said-of : (image : Image) (act : MemoryAct) (b d : Bytes) (p q : List ℕ) (said : MemorySaid) → b ≡ d → p ≡ q → said ≡ memory_said (memory_answered image b act p) → said ≡ memory_said (memory_answered image d act q)
+said-of image act b d p q said was sent is = is ∙ (λ i. memory_said (memory_answered image (was i) act (sent i)))
 
 pub leave-requires-clause-takes : goal.leave-requires-clause-takes
 leave-requires-clause-takes c =
@@ -27,13 +33,9 @@ leave-requires-clause-takes c =
 pub leave-requires-clause-event : goal.leave-requires-clause-event
 leave-requires-clause-event c =
     let d = c.in-Some.turn.before.value.value in
-    let was : c.deref_mut.result.now ≡ d = search rules in
-    let image = c.args.image.now in
     let act = c.args.act.now in
-    let sent = c.of-sent.result.value in
-    let same : c.args.buffer.now ≡ sent = sym c.of-sent.ensures in
-    let said : c.make-said.result ≡ memory_said (memory_answered image d act sent) = c.make-said.ensures.said ∙ (λ i. memory_said (memory_answered image (was i) act (same i))) in
-    c.event-event.ensures ∙ (ap (λ (s : MemorySaid). Some (memory_event act s)) said ∙ memory-event image d (memory_sent act sent) act)
+    let said = said-of c.args.image.now act c.deref_mut.result.now d _ _ _ (search rules) (sym c.of-sent.ensures) c.make-said.ensures.said in
+    c.event-event.ensures ∙ (ap (λ (s : MemorySaid). Some (memory_event act s)) said ∙ memory-event c.args.image.now d (memory_sent act c.of-sent.result.value) act)
 
 pub leave-requires-clause-goes : goal.leave-requires-clause-goes
 leave-requires-clause-goes c =
@@ -51,7 +53,7 @@ returns-clause-said c =
       d,
       subst (λ (p : List ℕ). HasMadeThere c.args.self.now (memory_made c.args.image.now c.args.cpu c.in-Some.turn.number d c.args.act.now p) c.leave.new.self) c.of-sent.ensures made,
       record {
-        said_is = c.make-said.ensures.said ∙ ap (λ (b : Bytes). memory_said (answered b)) was;
+        said_is = said-of c.args.image.now c.args.act.now _ _ _ _ _ was refl c.make-said.ensures.said;
         taken = c.make-said.ensures.taken ∙ ap (λ (b : Bytes). taken_after (act_in (answered b)) (given b) c.args.buffer.now) was;
       },
     )

@@ -7,7 +7,6 @@ use Rattle.um_words.specs.declared.cell_word.CellWord.{CellWord}
 use Rattle.um_fine.specs.Context.{Context}
 use Rattle.um_fine.specs.Scheduler.{Scheduler, first_ready, first_taken, has_ready, turn_in}
 use Rattle.um_processor.specs.Asked.{by_thread, event_of}
-use Rattle.um_processor.specs.Parked.{some_if}
 use Rattle.um_processor.proofs.Noted.{resumes}
 use Rattle.um_processor.proofs.Scheduled.{next-after, next-takes}
 use Rattle.um_board.proofs.Saws.{cell-first, got-first, got-one, hindered-first, nobody, none-shut, refused}
@@ -18,20 +17,22 @@ use Rattle.um_board.proofs.Keeping.{noted-then, unnoted-then}
 use Rattle.um_board.proofs.NextRuns.{next-then}
 use Rattle.um_board.proofs.sites.SeatedSites.take.Goals as goal
 
+-- what the scheduler gives, as of the one that was kept
+given-of : (s d t : Scheduler) (first : Exchange) → s ≡ d → IsTrue (has_ready s s.ready) × (t ≡ first_taken s s.ready) × (first_ready s s.ready ≡ first)
+    → IsTrue (has_ready d d.ready) × (t ≡ first_taken d d.ready) × (first_ready d d.ready ≡ first)
+given-of s d t first was = subst (λ (x : Scheduler). IsTrue (has_ready x x.ready) × (t ≡ first_taken x x.ready) × (first_ready x x.ready ≡ first)) was
+
 pub leave-requires-clause-takes : goal.leave-requires-clause-takes
 leave-requires-clause-takes c =
     let d = c.in-Some.turn.before.value.value in
-    let was : c.deref_mut.result.now ≡ d = search rules in
-    let own = c.take.new.context.value in
-    let e = subst (λ (s : Scheduler). IsTrue (has_ready s s.ready) × (c.take.new.self ≡ first_taken s s.ready) × (first_ready s s.ready ≡ Exchange.thread own (some_if c.in-Some-take.woken c.take.new.told))) was c.in-Some-take.ensures in
+    let e = given-of c.deref_mut.result.now d c.take.new.self _ (search rules) c.in-Some-take.ensures in
     cell-takes c.args.image.now c.args.cpu Site.scheduler c.in-Some.turn.number (Cell.scheduler d) _ (FineAct.Unseen (Unseen.Next (to_thread 0))) Exchange.nothing c.in-Some.ensures.turn.1.turn.room (next-takes d (to_thread 0) ∙ e.0) (ap Cell.scheduler (e.1 ∙ sym (next-after d (to_thread 0) _)))
 
 pub leave-requires-clause-event : goal.leave-requires-clause-event
 leave-requires-clause-event c =
     let d = c.in-Some.turn.before.value.value in
-    let was : c.deref_mut.result.now ≡ d = search rules in
+    let e = given-of c.deref_mut.result.now d c.take.new.self _ (search rules) c.in-Some-take.ensures in
     let own = c.take.new.context.value in
-    let e = subst (λ (s : Scheduler). IsTrue (has_ready s s.ready) × (c.take.new.self ≡ first_taken s s.ready) × (first_ready s s.ready ≡ Exchange.thread own (some_if c.in-Some-take.woken c.take.new.told))) was c.in-Some-take.ensures in
     let thread : c.thread.result ≡ own.thread = c.thread.ensures.value ∙ ap (λ (k : Context). k.thread) c.deref.ensures in
     c.resumed-event.ensures ∙ (ap (λ (t : ℕ). if c.in-Some-take.woken then Some (by_thread (to_thread t) Act.Resume) else None) thread ∙ (resumes own c.take.new.told c.in-Some-take.woken ∙ sym (ap (λ (f : Exchange). event_of (turn_in (FineAct.Unseen (Unseen.Next (to_thread 0))) f)) e.2)))
 
@@ -41,9 +42,7 @@ leave-requires-clause-goes c = next-then _ _ _ _ _ _ (unnoted-then _ _ _ _ _ _ c
 pub returns-clause-said : goal.returns-clause-said
 returns-clause-said c =
     let d = c.in-Some.turn.before.value.value in
-    let was : c.deref_mut.result.now ≡ d = search rules in
-    let own = c.take.new.context.value in
-    let e = subst (λ (s : Scheduler). IsTrue (has_ready s s.ready) × (c.take.new.self ≡ first_taken s s.ready) × (first_ready s s.ready ≡ Exchange.thread own (some_if c.in-Some-take.woken c.take.new.told))) was c.in-Some-take.ensures in
+    let e = given-of c.deref_mut.result.now d c.take.new.self _ (search rules) c.in-Some-take.ensures in
     (c.in-Some.turn.number, d, noted-then _ _ _ _ _ _ _ (unnoted-then _ _ _ _ _ _ c.look-seen.ensures.unnoted c.in-Some.ensures.unnoted) c.leave.ensures.made, e.2)
 
 pub returns-in-None-clause-said : goal.returns-in-None-clause-said

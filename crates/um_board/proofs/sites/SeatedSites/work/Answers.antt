@@ -1,12 +1,12 @@
-use Rattle.std.proofs.Common.{rules, ◌≡◌, ◌∙◌, ap, arith, refl, sym, Some, Option}
+use Rattle.std.proofs.Common.{rules, ◌≡◌, ◌∙◌, ap, arith, refl, subst, sym, Some, Option}
 use Rattle.um_fine.specs.Cells.{Cell}
 use Rattle.um_fine.specs.Steps.{Exchange, Site}
 use Rattle.um_base.specs.declared.act.Act.{Act}
 use Rattle.um_base.specs.declared.act.Event.{Event}
+use Rattle.um_base.specs.declared.ask.Waiter.{Waiter}
 use Rattle.um_machine.specs.Services.{Acted, acted}
 use Rattle.um_machine.specs.Table.{buffer_cost, replies_of}
 use Rattle.um_machine.specs.declared.object.Cost.{Cost}
-use Rattle.um_service.specs.Left.{left}
 use Rattle.um_fine.specs.Answers.{no_outcome}
 use Rattle.um_fine.specs.Objects.{outcome_of}
 use Rattle.um_processor.specs.Asked.{by_thread}
@@ -18,6 +18,10 @@ use Rattle.um_board.proofs.Keeping.{noted-then}
 use Rattle.um_board.proofs.NextRuns.{next-then}
 use Rattle.um_board.proofs.sites.SeatedSites.work.Goals as goal
 
+-- what the object answers, as of the cell that was kept
+work-of : (who : Waiter) (o d : ObjectCell) (l : Acted) → o ≡ d → acted o.contents o.waiters who ≡ l → acted d.contents d.waiters who ≡ l
+work-of who o d l was = subst (λ (x : ObjectCell). acted x.contents x.waiters who ≡ l) was
+
 pub turn-requires-clause-site : goal.turn-requires-clause-site
 turn-requires-clause-site c = (omega arith, let low = c.requires.row in omega (arith, low), object-kind c.args.row.0 c.requires.row)
 
@@ -26,28 +30,22 @@ leave-requires-clause-takes c =
     let d = c.in-Some.turn.before.value.value in
     let was : c.deref_mut.result.now ≡ d = search rules in
     let who = c.args.who.now in
-    let work : acted d.contents d.waiters who ≡ left c.work.new.self.contents c.work.new.self.waiters c.work.new.outcome = sym (ap (λ (o : ObjectCell). acted o.contents o.waiters who) was) ∙ c.work.ensures.work in
+    let work = work-of who c.deref_mut.result.now d _ was c.work.ensures.work in
     let buffer : c.work.new.self.buffer ≡ buffer_cost who.ask c.work.new.outcome.answer d.buffer = c.work.ensures.buffer ∙ ap (λ (o : ObjectCell). buffer_cost who.ask c.work.new.outcome.answer o.buffer) was in
     cell-takes c.args.image.now c.args.cpu (Site.object c.args.row.0) c.in-Some.turn.number (Cell.object (kept_in d)) _ (work_act c.args.addr who) (Exchange.asked who no_outcome) c.in-Some.ensures.turn.1.turn.room refl (ap (λ (b : Option Cost). Cell.object (record { contents = c.work.new.self.contents; waiters = c.work.new.self.waiters; buffer = b })) buffer ∙ ap (λ (w : Acted). Cell.object (record { contents = w.contents; waiters = w.waiters; buffer = buffer_cost who.ask w.answer d.buffer })) (sym work))
 
 pub leave-requires-clause-event : goal.leave-requires-clause-event
 leave-requires-clause-event c =
-    let d = c.in-Some.turn.before.value.value in
-    let was : c.deref_mut.result.now ≡ d = search rules in
-    let who = c.args.who.now in
-    let work : acted d.contents d.waiters who ≡ left c.work.new.self.contents c.work.new.self.waiters c.work.new.outcome = sym (ap (λ (o : ObjectCell). acted o.contents o.waiters who) was) ∙ c.work.ensures.work in
-    ap (λ (e : Event). Some e) c.worked.ensures ∙ ap (λ (w : Acted). Some (by_thread who.thread (Act.Work c.args.addr w.answer (replies_of w.woken)))) (sym work)
+    let work = work-of c.args.who.now c.deref_mut.result.now c.in-Some.turn.before.value.value _ (search rules) c.work.ensures.work in
+    ap (λ (e : Event). Some e) c.worked.ensures ∙ ap (λ (w : Acted). Some (by_thread c.args.who.now.thread (Act.Work c.args.addr w.answer (replies_of w.woken)))) (sym work)
 
 pub leave-requires-clause-goes : goal.leave-requires-clause-goes
 leave-requires-clause-goes c = next-then _ _ _ _ _ _ c.in-Some.ensures.unnoted (c.requires.goes c.in-Some.turn.number (kept_in c.in-Some.turn.before.value.value))
 
 pub returns-clause-said : goal.returns-clause-said
 returns-clause-said c =
-    let d = c.in-Some.turn.before.value.value in
-    let was : c.deref_mut.result.now ≡ d = search rules in
-    let who = c.args.who.now in
-    let work : acted d.contents d.waiters who ≡ left c.work.new.self.contents c.work.new.self.waiters c.work.new.outcome = sym (ap (λ (o : ObjectCell). acted o.contents o.waiters who) was) ∙ c.work.ensures.work in
-    (c.in-Some.turn.number, kept_in d, noted-then _ _ _ _ _ _ _ c.in-Some.ensures.unnoted c.leave.ensures.made, ap (λ (w : Acted). Exchange.asked who (outcome_of w)) work)
+    let work = work-of c.args.who.now c.deref_mut.result.now c.in-Some.turn.before.value.value _ (search rules) c.work.ensures.work in
+    (c.in-Some.turn.number, kept_in c.in-Some.turn.before.value.value, noted-then _ _ _ _ _ _ _ c.in-Some.ensures.unnoted c.leave.ensures.made, ap (λ (w : Acted). Exchange.asked c.args.who.now (outcome_of w)) work)
 
 pub returns-in_default-clause-said : goal.returns-in_default-clause-said
 returns-in_default-clause-said c = (c.turn.ensures.unnoted, c.in_default.ensures.turn.1, refl)
