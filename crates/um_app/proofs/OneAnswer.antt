@@ -13,7 +13,7 @@ use Rattle.um_machine.specs.Run.{IsRun}
 use Rattle.um_machine.specs.State.{State}
 use Rattle.um_trace.specs.Summary.{summary_text}
 use Rattle.um_trace.specs.Text.{text}
-use Rattle.um_turns.proofs.RunLemmas.{one-run}
+use Rattle.um_scheduler.proofs.RunLemmas.{one-run}
 use Rattle.um_app.proofs.Ends.{all_of_it}
 use Rattle.um_app.proofs.Replays.{one-end}
 use Rattle.um_audit.proofs.LawLemmas.{one-verdict}

@@ -8,7 +8,7 @@ use Rattle.um_audit.proofs.WholeLemmas.{led-run, lines}
 use Rattle.um_machine.specs.Run.{IsRun, Runs, Step, opening}
 use Rattle.um_machine.specs.State.{State}
 use Rattle.um_matrix.specs.Offered.{IsRefusedAt}
-use Rattle.um_reach.specs.Described.{IsDescribed}
+use Rattle.um_invariants.specs.Described.{IsDescribed}
 use Rattle.um_texts.proofs.NameLemmas.{are_named}
 
 pub one-end : (image : Image) → IsDescribed image → (events : List Event) (a b : State) → IsRun image events a → IsRun image events b → a ≡ b

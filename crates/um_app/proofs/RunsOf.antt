@@ -9,12 +9,12 @@ use Rattle.um_command.specs.declared.command.Options.{Options}
 use Rattle.um_laws.proofs.ObeyLemmas.{obeys}
 use Rattle.um_machine.specs.Run.{IsComplete, IsRun}
 use Rattle.um_machine.specs.State.{State}
-use Rattle.um_reach.specs.Described.{IsDescribed}
+use Rattle.um_invariants.specs.Described.{IsDescribed}
 use Rattle.um_texts.proofs.RunLemmas.{texts_differ}
 use Rattle.um_trace.specs.Text.{text}
-use Rattle.um_turns.specs.InOrder.{IsInOrder}
-use Rattle.um_turns.specs.Scheduled.{IsScheduled}
-use Rattle.um_turns.specs.declared.running.Ran.{Ran}
+use Rattle.um_scheduler.specs.InOrder.{IsInOrder}
+use Rattle.um_scheduler.specs.Scheduled.{IsScheduled}
+use Rattle.um_scheduler.specs.declared.running.Ran.{Ran}
 use Rattle.um_app.specs.Ordered.{IsOrdered, IsShown}
 use Rattle.um_app.specs.Top.{IsRunOf, NamesRun}
 

@@ -7,8 +7,8 @@ use Rattle.um_core.specs.PickedRun.{IsPickedRun}
 use Rattle.um_fine.specs.Erasure.{shown}
 use Rattle.um_fine.specs.Steps.{FineStep}
 use Rattle.um_machine.specs.State.{State}
-use Rattle.um_turns.specs.InOrder.{IsInOrder}
-use Rattle.um_turns.specs.Scheduled.{IsScheduled}
+use Rattle.um_scheduler.specs.InOrder.{IsInOrder}
+use Rattle.um_scheduler.specs.Scheduled.{IsScheduled}
 
 -- the events that the steps of several processors show: at each turn the first processor that can make a step makes it, from the one
 -- that is preferred then on, until none can make another

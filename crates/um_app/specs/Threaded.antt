@@ -10,7 +10,7 @@ use Rattle.um_fine.specs.Steps.{FineStep}
 use Rattle.um_laws.specs.Obeys.{ObeysLaws}
 use Rattle.um_machine.specs.Run.{IsComplete, IsRun}
 use Rattle.um_machine.specs.State.{State}
-use Rattle.um_reach.specs.Described.{IsDescribed}
+use Rattle.um_invariants.specs.Described.{IsDescribed}
 use Rattle.um_site.specs.declared.closed.Closed.{Closed}
 
 -- One complete run of the access-matrix machine from an image: what the steps show that so many processors have made on a board, at seats of their

@@ -13,7 +13,7 @@ use Rattle.um_board.specs.Contents.{Known}
 use Rattle.um_laws.specs.Obeys.{ObeysLaws}
 use Rattle.um_machine.specs.State.{State}
 use Rattle.um_machine.specs.Run.{IsRun, IsComplete}
-use Rattle.um_reach.specs.Described.{IsDescribed}
+use Rattle.um_invariants.specs.Described.{IsDescribed}
 use Rattle.um_site.specs.declared.closed.Closed.{Closed}
 use Rattle.um_trace.specs.Layout.{layout_text}
 use Rattle.um_trace.specs.Summary.{summary_text}
@@ -26,7 +26,7 @@ use Rattle.um_app.specs.Upgraded.{IsUpgrade}
 
 -- One complete run of the access-matrix machine from an image, in the order of its processors. It has at most as many events as the
 -- image's weight, and obeys the laws of accesses, verdicts, origins, inheritances, service, lives and holds.
--- The image and the options name just one such run (`one_run` of um_turns, `every_order` of um_core).
+-- The image and the options name just one such run (`one_run` of um_scheduler, `every_order` of um_core).
 pub record IsRunOf (image : Image) (options : Options) (run : List Event) (last : State) : Type 0 where
   pub described : IsDescribed image
   pub is_run : IsRun image run last

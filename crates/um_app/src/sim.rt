@@ -6,7 +6,7 @@ ghost use Rattle.um_base.specs.Weight.{weight};
 ghost use Rattle.um_command.specs.Words.{IsFew};
 ghost use Rattle.um_machine.specs.Run.{IsComplete, IsRun};
 ghost use Rattle.um_machine.specs.State.{State};
-ghost use Rattle.um_reach.specs.Described.{IsDescribed};
+ghost use Rattle.um_invariants.specs.Described.{IsDescribed};
 ghost use Rattle.um_trace.specs.Text.{text};
 ghost use Rattle.um_app.specs.Ordered.{IsShown};
 ghost use Rattle.um_app.specs.Top.{IsRunOf, NamesRun};
@@ -16,7 +16,7 @@ use um_base::{Event, Image, Memory};
 use um_command::Options;
 use um_image::weight;
 use um_matrix::Matrix;
-use um_turns::{Ran, run};
+use um_scheduler::{Ran, run};
 
 /// The state that the events of a run lead to.
 pub fn replayed<'a>(alloc: Global, image: &'a Image, events: &[Event]) -> Result<Matrix<'a>, Memory>

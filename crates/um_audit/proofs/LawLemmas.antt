@@ -13,11 +13,11 @@ use Rattle.um_machine.specs.Run.{Step, IsComplete, opening}
 use Rattle.um_machine.specs.Table.{act_of}
 use Rattle.um_trace.specs.Dump.{dump}
 use Rattle.um_trace.specs.Acts.{act_text}
-use Rattle.um_reach.proofs.Cores.{core_of}
-use Rattle.um_reach.proofs.Turns.{IsKnown}
-use Rattle.um_reach.proofs.RunMoves.{known_step}
-use Rattle.um_reach.proofs.Starts.{known_or_none}
-use Rattle.um_reach.specs.Described.{IsDescribed}
+use Rattle.um_invariants.proofs.Cores.{core_of}
+use Rattle.um_invariants.proofs.Turns.{IsKnown}
+use Rattle.um_invariants.proofs.RunMoves.{known_step}
+use Rattle.um_invariants.proofs.Starts.{known_or_none}
+use Rattle.um_invariants.specs.Described.{IsDescribed}
 use Rattle.um_texts.proofs.NameLemmas.{are_named}
 use Rattle.um_texts.proofs.IdentityLemmas.{thread_known}
 use Rattle.um_texts.proofs.OpeningLemmas.{kept_opening, sound_booted, idle_opening, offered_acting}

@@ -16,12 +16,12 @@ use Rattle.um_machine.specs.Objects.{is_held}
 use Rattle.um_machine.specs.Order.{Steps, to_addr, to_thread}
 use Rattle.um_machine.specs.Table.{act_of, after}
 use Rattle.um_machine.specs.Run.{Offers, MayChoose, MayClean}
-use Rattle.um_reach.proofs.Cores.{call_at, core_of}
-use Rattle.um_reach.proofs.Claims.{IsDropper}
-use Rattle.um_reach.proofs.Facts.{is_false}
-use Rattle.um_reach.proofs.StepMoves.{unchecked, unkept}
-use Rattle.um_reach.proofs.Turns.{IsKnown}
-use Rattle.um_reach.proofs.RunMoves.{keeps_now, shaped_now}
+use Rattle.um_invariants.proofs.Cores.{call_at, core_of}
+use Rattle.um_invariants.proofs.Claims.{IsDropper}
+use Rattle.um_invariants.proofs.Facts.{is_false}
+use Rattle.um_invariants.proofs.StepMoves.{unchecked, unkept}
+use Rattle.um_invariants.proofs.Turns.{IsKnown}
+use Rattle.um_invariants.proofs.RunMoves.{keeps_now, shaped_now}
 use Rattle.um_texts.proofs.NameLemmas.{AreNamed}
 use Rattle.um_texts.proofs.IdentityLemmas.{is_real}
 use Rattle.um_texts.proofs.StateLemmas.{IsKept}

@@ -6,8 +6,8 @@ use Rattle.um_base.specs.declared.limits.TheConstants.{ROWS, STATIC_ROWS}
 use Rattle.um_machine.specs.declared.object.Status.{Status}
 use Rattle.um_machine.specs.Objects as Plain
 use Rattle.um_machine.specs.State.{State, object_at}
-use Rattle.um_reach.proofs.Cores.{status_is}
-use Rattle.um_reach.proofs.Guards.{IsRow}
+use Rattle.um_invariants.proofs.Cores.{status_is}
+use Rattle.um_invariants.proofs.Guards.{IsRow}
 use Rattle.um_words.specs.Rows.{is_dying}
 use Rattle.um_fine.specs.Places.{cleanings}
 use Rattle.um_fine.specs.Processor.{Processor}

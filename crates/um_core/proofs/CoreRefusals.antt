@@ -3,7 +3,7 @@ use Rattle.std.proofs.Common.{◌≡◌, ℕ, ◌-◌, ◌<◌, ◌≤◌, false
 use Rattle.std.specs.Prelude.{IsTrue, nat_le, slice_index_or}
 use Rattle.um_base.specs.declared.act.Event.{Event}
 use Rattle.um_base.specs.declared.image.Image.{Image}
-use Rattle.um_reach.specs.Described.{IsDescribed}
+use Rattle.um_invariants.specs.Described.{IsDescribed}
 use Rattle.um_fine.specs.Asks.{fits_step, made_by, next_site}
 use Rattle.um_fine.specs.FineRun.{IsFineRun}
 use Rattle.um_fine.specs.Places.{cleanings}

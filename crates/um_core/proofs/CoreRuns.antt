@@ -3,15 +3,15 @@ use Rattle.std.proofs.Common.{◌≡◌, ℕ, suc, ◌+◌, ◌<◌, ◌≤◌, 
 use Rattle.std.specs.Prelude.{IsTrue, replicate}
 use Rattle.um_base.specs.declared.image.Image.{Image}
 use Rattle.um_base.specs.Weight.{weight}
-use Rattle.um_reach.specs.Described.{IsDescribed}
+use Rattle.um_invariants.specs.Described.{IsDescribed}
 use Rattle.um_fine.specs.Erasure.{shown}
 use Rattle.um_fine.specs.Opening.{s_start}
 use Rattle.um_fine.specs.Processor.{idle}
 use Rattle.um_fine.specs.Sites.{is_site}
 use Rattle.um_fine.specs.Steps.{FineStep, Site}
-use Rattle.um_turns.specs.declared.order.Order.{Order}
-use Rattle.um_turns.specs.Order.{coming, preferred}
-use Rattle.um_turns.proofs.ScheduledLemmas.{Left, all-left, none-preferred, order-first, order-left}
+use Rattle.um_scheduler.specs.declared.order.Order.{Order}
+use Rattle.um_scheduler.specs.Order.{coming, preferred}
+use Rattle.um_scheduler.proofs.ScheduledLemmas.{Left, all-left, none-preferred, order-first, order-left}
 use Rattle.um_processor.specs.Sited.{IsSized, state_at}
 use Rattle.um_processor.proofs.Noted.{made-most}
 use Rattle.um_erasure.specs.Room.{CanRun}

@@ -7,7 +7,7 @@ use Rattle.um_base.specs.declared.ask.Told.{Told}
 use Rattle.um_base.specs.declared.image.Image.{Image}
 use Rattle.um_base.specs.declared.limits.TheConstants.{ROWS, STATIC_ROWS, THREADS}
 use Rattle.um_machine.specs.State.{State}
-use Rattle.um_reach.specs.Described.{IsDescribed}
+use Rattle.um_invariants.specs.Described.{IsDescribed}
 use Rattle.um_fine.specs.Asks.{CpuMay, begins_cleaning, fits_step, made_by, next_site}
 use Rattle.um_fine.specs.Context.{Context}
 use Rattle.um_fine.specs.FineRun.{IsFineRun}

@@ -20,7 +20,7 @@ use Rattle.um_machine.specs.declared.thread.Thread.{Thread}
 use Rattle.um_machine.specs.Order.{Steps, answer_error, answer_zero, buffered, creates, end_steps, fatal_steps, new_mode, privileged, steps_of, to_addr, to_row, to_thread, work}
 use Rattle.um_machine.specs.State.{value_of}
 use Rattle.um_machine.specs.Table as T
-use Rattle.um_bound.proofs.IndexLemmas.{addr-below}
+use Rattle.um_measure.proofs.IndexLemmas.{addr-below}
 
 abbrev pub names_thread : Pending → Bool
 names_thread (Pending.Own who) = nat_lt who.0 THREADS

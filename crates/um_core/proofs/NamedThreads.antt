@@ -34,10 +34,10 @@ use Rattle.um_machine.specs.Order.{Steps, answer_error, copy_fails, refuses, to_
 use Rattle.um_machine.specs.Run.{Offers, Runs, begins, cleans_pair, exits, goes, opening, recycles, skips_drops, skips_inherit}
 use Rattle.um_machine.specs.State.{State, instruction_at, no_rows, nobody, object_at, thread_at, vacant, with_object, with_thread}
 use Rattle.um_machine.specs.Table as T
-use Rattle.um_reach.proofs.Cores.{at_set, core_of}
-use Rattle.um_reach.proofs.Reached.{image_move}
-use Rattle.um_reach.proofs.RunMoves.{known_step, step_move}
-use Rattle.um_reach.proofs.Turns.{IsKnown}
+use Rattle.um_invariants.proofs.Cores.{at_set, core_of}
+use Rattle.um_invariants.proofs.Reached.{image_move}
+use Rattle.um_invariants.proofs.RunMoves.{known_step, step_move}
+use Rattle.um_invariants.proofs.Turns.{IsKnown}
 use Rattle.um_erasure.proofs.Erased.{IsReachable}
 use Rattle.um_erasure.proofs.FirstObjects.{opening-image}
 use Rattle.um_erasure.proofs.FirstThreads.{new-thread}

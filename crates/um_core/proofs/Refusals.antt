@@ -9,7 +9,7 @@ use Rattle.um_base.specs.declared.limits.TheConstants.{ROWS, STATIC_ROWS}
 use Rattle.um_base.specs.declared.names.ThreadIx.{ThreadIx}
 use Rattle.um_machine.specs.declared.pending.Pending.{Pending}
 use Rattle.um_machine.specs.Order.{Steps}
-use Rattle.um_reach.specs.Described.{IsDescribed}
+use Rattle.um_invariants.specs.Described.{IsDescribed}
 use Rattle.um_words.specs.declared.fine.FineAct.{FineAct}
 use Rattle.um_words.specs.declared.fine.More.{More}
 use Rattle.um_fine.specs.Asks.{CpuMay, fits_step, made_by, me, next_site, says, site_at}

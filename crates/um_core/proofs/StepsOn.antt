@@ -5,7 +5,7 @@ use Rattle.std.proofs.lemmas.Bool.{eqb-false, eqb-true}
 use Rattle.std.proofs.lemmas.List.{get_or-set_other, get_or-set_same, length-set}
 use Rattle.um_base.specs.declared.act.Event.{Event}
 use Rattle.um_base.specs.declared.image.Image.{Image}
-use Rattle.um_reach.specs.Described.{IsDescribed}
+use Rattle.um_invariants.specs.Described.{IsDescribed}
 use Rattle.um_words.specs.declared.fine.FineAct.{FineAct}
 use Rattle.um_fine.specs.Asks.{fits_step, made_by}
 use Rattle.um_fine.specs.Erasure.{shown, shown_by}

@@ -2,7 +2,7 @@
 
 ghost use Rattle.std.specs.Prelude.{◌≡◌, ℕ, List, Option};
 ghost use Rattle.um_base.specs.declared.image.Image.{Image};
-ghost use Rattle.um_reach.specs.Described.{IsDescribed};
+ghost use Rattle.um_invariants.specs.Described.{IsDescribed};
 ghost use Rattle.um_fine.specs.Erasure.{shown};
 ghost use Rattle.um_fine.specs.FineRun.{IsFineRun};
 ghost use Rattle.um_fine.specs.Processor.{Processor};
@@ -14,7 +14,7 @@ ghost use Rattle.um_core.specs.Moments.{AreSorted, MayStep};
 ghost use Rattle.um_core.specs.PickedRun.{IsPickedRun};
 
 use um_erasure::every_fine_run;
-use um_fine_bound::longest_fine_run;
+use um_fine_measure::longest_fine_run;
 
 /// A processor has at most one next step: where each site keeps its sort, two steps of one processor, each as the processor makes it
 /// and as its site takes it, are the same.

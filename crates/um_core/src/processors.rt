@@ -14,7 +14,7 @@ ghost use Rattle.um_core.specs.PickedRun.{NoneFollows};
 use std::alloc::Global;
 use std::marker::Model;
 use um_base::{Event, Image, Memory};
-use um_fine_bound::longest_fine_run;
+use um_fine_measure::longest_fine_run;
 use um_opening::opening;
 use um_processor::{Processor, Tables, Turn};
 

@@ -3,7 +3,7 @@
 ghost use Rattle.std.specs.Prelude.{◌≡◌, ◌≤◌, IfOk, List, length};
 ghost use Rattle.um_base.specs.Lawful.{IsLawful};
 ghost use Rattle.um_base.specs.Weight.{weight};
-ghost use Rattle.um_reach.specs.Described.{IsDescribed};
+ghost use Rattle.um_invariants.specs.Described.{IsDescribed};
 ghost use Rattle.um_fine.specs.Erasure.{shown};
 ghost use Rattle.um_fine.specs.Steps.{FineStep};
 ghost use Rattle.um_erasure.specs.Room.{CanRun};
@@ -14,8 +14,8 @@ use crate::laws::every_order;
 use crate::processors::Core;
 use std::alloc::Global;
 use um_base::{Event, Image, Memory};
-use um_fine_bound::longest_fine_run;
-use um_turns::Order;
+use um_fine_measure::longest_fine_run;
+use um_scheduler::Order;
 
 /// The events that so many processors show, in the order of a choice.
 fn picked(

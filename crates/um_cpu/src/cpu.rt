@@ -1,7 +1,7 @@
 //! A processor at its place at a board.
 
 ghost use Rattle.std.specs.Prelude.{◌≡◌};
-ghost use Rattle.um_reach.specs.Described.{IsDescribed};
+ghost use Rattle.um_invariants.specs.Described.{IsDescribed};
 ghost use Rattle.um_erasure.specs.Room.{CanRun};
 ghost use Rattle.um_processor.specs.Given.{IsGiven};
 ghost use Rattle.um_board.specs.Placed.{IsAt};
@@ -13,7 +13,7 @@ use crate::turn::Turn;
 use um_base::Image;
 use um_board::Seated;
 use um_erasure::every_fine_run;
-use um_fine_bound::longest_fine_run;
+use um_fine_measure::longest_fine_run;
 use um_processor::{Processor, Turn as Asked};
 use um_words::CellWord;
 

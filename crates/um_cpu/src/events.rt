@@ -15,7 +15,7 @@ use std::sync::Wait;
 use std::thread::Threads;
 use um_base::{Event, Image, Memory};
 use um_board::Contents;
-use um_fine_bound::longest_fine_run;
+use um_fine_measure::longest_fine_run;
 use um_history::every_played_board;
 use um_io::Gate;
 use um_merge::{Log, merge};

@@ -3,7 +3,7 @@
 ghost use Rattle.std.specs.Prelude.{◌≡◌, ◌≤◌, ℕ, [], IfOk, length, vec_capacity};
 ghost use Rattle.um_base.specs.Lawful.{IsLawful};
 ghost use Rattle.um_base.specs.Weight.{weight};
-ghost use Rattle.um_reach.specs.Described.{IsDescribed};
+ghost use Rattle.um_invariants.specs.Described.{IsDescribed};
 ghost use Rattle.um_erasure.specs.Room.{CanRun};
 ghost use Rattle.um_processor.specs.Given.{IsGiven};
 ghost use Rattle.um_cpu.specs.Ended.{Begins, EachAt, Ends, Gathered, HasEnded};

@@ -19,13 +19,13 @@ use Rattle.um_machine.specs.Order.{Steps, to_thread}
 use Rattle.um_machine.specs.Services.{is_empty}
 use Rattle.um_machine.specs.State.{State, nobody, object_at, thread_at}
 use Rattle.um_machine.specs.Table as T
-use Rattle.um_reach.proofs.Cores.{kind_is}
-use Rattle.um_reach.proofs.Guards.{IsSited, row_kind}
-use Rattle.um_reach.proofs.Turns.{passed, row_has}
-use Rattle.um_turns.proofs.ThreadServes.{served}
-use Rattle.um_turns.proofs.ThreadWaits.{IsServed, numbers}
-use Rattle.um_turns.proofs.ThreadWords.{AreKept, are_orderly, is_resume}
-use Rattle.um_turns.specs.Lines.{stands}
+use Rattle.um_invariants.proofs.Cores.{kind_is}
+use Rattle.um_invariants.proofs.Guards.{IsSited, row_kind}
+use Rattle.um_invariants.proofs.Turns.{passed, row_has}
+use Rattle.um_scheduler.proofs.ThreadServes.{served}
+use Rattle.um_scheduler.proofs.ThreadWaits.{IsServed, numbers}
+use Rattle.um_scheduler.proofs.ThreadWords.{AreKept, are_orderly, is_resume}
+use Rattle.um_scheduler.specs.Lines.{stands}
 use Rattle.um_fine.specs.Answers.{act_in, is_visit, is_word_read, outcome_in, verdict_in}
 use Rattle.um_fine.specs.Asks.{begins_cleaning, says, says_idle, says_show}
 use Rattle.um_fine.specs.Context.{Context}

@@ -22,7 +22,7 @@ use Rattle.um_machine.specs.declared.thread.Thread.{Thread}
 use Rattle.um_machine.specs.Objects.{has_kind}
 use Rattle.um_machine.specs.Order.{Steps, answer_error, answer_zero, buffered, creates, privileged, steps_of, to_addr, work}
 use Rattle.um_machine.specs.State.{value_of}
-use Rattle.um_reach.proofs.Guards.{kind_in, row_kind}
+use Rattle.um_invariants.proofs.Guards.{kind_in, row_kind}
 use Rattle.um_fine.specs.Addresses.{row_named}
 
 module _ (image : Image) where

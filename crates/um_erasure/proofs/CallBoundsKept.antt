@@ -27,7 +27,7 @@ use Rattle.um_machine.specs.Objects.{has_kind}
 use Rattle.um_machine.specs.Order.{Steps, answer_error, copy_fails, end_steps, fatal_steps, steps_of, to_addr}
 use Rattle.um_machine.specs.State.{instruction_at}
 use Rattle.um_machine.specs.Table as T
-use Rattle.um_reach.proofs.Guards.{IsSited, row_kind}
+use Rattle.um_invariants.proofs.Guards.{IsSited, row_kind}
 use Rattle.um_fine.specs.Addresses.{row_named}
 use Rattle.um_fine.specs.Answers.{bytes_in, fits_in, found_in, is_fault, outcome_in, reserved_in, set_in, verdict_in}
 use Rattle.um_fine.specs.Context.{Context, as_thread}

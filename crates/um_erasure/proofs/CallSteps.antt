@@ -24,7 +24,7 @@ use Rattle.um_machine.specs.declared.thread.Place.{Place}
 use Rattle.um_machine.specs.declared.thread.Thread.{Thread}
 use Rattle.um_machine.specs.Order.{Steps, answer_error, answer_zero, buffered, creates, number_of, privileged, steps_of, to_addr, work}
 use Rattle.um_machine.specs.State.{instruction_at, lines_of, script_lines, value_of}
-use Rattle.um_reach.proofs.Guards.{IsRow, IsSited, IsStatic, Names, keeps}
+use Rattle.um_invariants.proofs.Guards.{IsRow, IsSited, IsStatic, Names, keeps}
 
 -- nothing is held
 abbrev pub Bare : List Bool → Type 0

@@ -20,11 +20,11 @@ use Rattle.um_machine.specs.declared.thread.Life.{Life}
 use Rattle.um_machine.specs.Order.{Steps}
 use Rattle.um_machine.specs.Run.{Offers, goes, skips_drops, skips_inherit}
 use Rattle.um_machine.specs.State.{State, is_living, thread_at}
-use Rattle.um_reach.proofs.Claims.{claims}
-use Rattle.um_reach.proofs.Cores.{Call, call_at, call_is, core_of}
-use Rattle.um_reach.proofs.Facts.{not_less}
-use Rattle.um_reach.proofs.Guards.{IsSited, kind_in}
-use Rattle.um_turns.proofs.ThreadStarts.{real-below}
+use Rattle.um_invariants.proofs.Claims.{claims}
+use Rattle.um_invariants.proofs.Cores.{Call, call_at, call_is, core_of}
+use Rattle.um_invariants.proofs.Facts.{not_less}
+use Rattle.um_invariants.proofs.Guards.{IsSited, kind_in}
+use Rattle.um_scheduler.proofs.ThreadStarts.{real-below}
 use Rattle.um_erasure.proofs.CleanSteps.{Calls, OwnRows}
 use Rattle.um_erasure.proofs.Reachable.{IsSound}
 

@@ -38,12 +38,12 @@ use Rattle.um_machine.specs.Order.{Steps, answer_error, copy_fails, end_steps, f
 use Rattle.um_machine.specs.Run.{Offers, Runs, begins, cleans_pair, exits, goes, recycles, skips_drops, skips_inherit}
 use Rattle.um_machine.specs.State.{State, instruction_at, is_living, no_rows, nobody, object_at, thread_at, vacant, with_object, with_pair, with_thread}
 use Rattle.um_machine.specs.Table as T
-use Rattle.um_reach.proofs.Cores.{Call, Core, at_set, call_is, call_of, core-dues, core-same, core-woken, core_of, map_at}
-use Rattle.um_reach.proofs.Facts.{none_checked}
-use Rattle.um_reach.proofs.Reached.{image_move}
-use Rattle.um_reach.proofs.RunMoves.{known_step, step_move}
-use Rattle.um_reach.proofs.Turns.{IsKnown, below_rows, core-bytes, core-erased, core-moved, core-published, passed, row_is}
-use Rattle.um_reach.proofs.Guards.{IsSited}
+use Rattle.um_invariants.proofs.Cores.{Call, Core, at_set, call_is, call_of, core-dues, core-same, core-woken, core_of, map_at}
+use Rattle.um_invariants.proofs.Facts.{none_checked}
+use Rattle.um_invariants.proofs.Reached.{image_move}
+use Rattle.um_invariants.proofs.RunMoves.{known_step, step_move}
+use Rattle.um_invariants.proofs.Turns.{IsKnown, below_rows, core-bytes, core-erased, core-moved, core-published, passed, row_is}
+use Rattle.um_invariants.proofs.Guards.{IsSited}
 use Rattle.um_erasure.proofs.CallSteps.{Bare, Proper, line-lawful, proper-steps}
 
 -- the steps of a thread that has ended

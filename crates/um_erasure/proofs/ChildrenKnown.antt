@@ -34,7 +34,7 @@ use Rattle.um_machine.specs.Order.{Steps, answer_error, copy_fails, end_steps, f
 use Rattle.um_machine.specs.Run.{Offers, Runs, begins, cleans_pair, exits, goes, opening, recycles, skips_drops, skips_inherit}
 use Rattle.um_machine.specs.State.{State, instruction_at, no_rows, nobody, object_at, thread_at, vacant, with_object, with_thread}
 use Rattle.um_machine.specs.Table as T
-use Rattle.um_reach.proofs.Cores.{at_set}
+use Rattle.um_invariants.proofs.Cores.{at_set}
 use Rattle.um_erasure.proofs.ChildSteps.{Creates, InOrder, goes-in-order, order-steps}
 use Rattle.um_erasure.proofs.Erased.{IsReachable}
 use Rattle.um_erasure.proofs.FirstThreads.{new-thread}

@@ -10,8 +10,8 @@ use Rattle.um_base.specs.Places.{own_row, thread_of_row}
 use Rattle.um_machine.specs.declared.pending.Pending.{Pending}
 use Rattle.um_machine.specs.Order.{Steps}
 use Rattle.um_machine.specs.State.{State, thread_at}
-use Rattle.um_reach.proofs.Claims.{claims}
-use Rattle.um_reach.proofs.Cores.{Call, call_at, call_is, core_of}
+use Rattle.um_invariants.proofs.Claims.{claims}
+use Rattle.um_invariants.proofs.Cores.{Call, call_at, call_is, core_of}
 use Rattle.um_fine.specs.Context.{Context}
 use Rattle.um_fine.specs.Scheduler.{parked_at}
 use Rattle.um_erasure.specs.Claims.{call_claims, context_claims, creates}

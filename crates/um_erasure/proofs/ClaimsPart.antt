@@ -23,8 +23,8 @@ use Rattle.um_machine.specs.Order.{Steps, to_thread}
 use Rattle.um_machine.specs.Run.{Offers, goes, skips_drops, skips_inherit}
 use Rattle.um_machine.specs.State.{State, thread_at}
 use Rattle.um_machine.specs.Table as T
-use Rattle.um_reach.proofs.Claims.{claims}
-use Rattle.um_reach.proofs.Cores.{Call, call_is}
+use Rattle.um_invariants.proofs.Claims.{claims}
+use Rattle.um_invariants.proofs.Cores.{Call, call_is}
 use Rattle.um_words.specs.declared.fine.FineAct.{FineAct}
 use Rattle.um_words.specs.declared.fine.Unseen.{Unseen}
 use Rattle.um_words.specs.declared.row_word.RowWord.{RowWord}

@@ -15,8 +15,8 @@ use Rattle.um_machine.specs.declared.object.Status.{Status}
 use Rattle.um_machine.specs.Objects as Plain
 use Rattle.um_machine.specs.Order.{to_thread}
 use Rattle.um_machine.specs.State.{State, object_at}
-use Rattle.um_reach.proofs.Cores.{status_is}
-use Rattle.um_reach.proofs.Guards.{IsRow}
+use Rattle.um_invariants.proofs.Cores.{status_is}
+use Rattle.um_invariants.proofs.Guards.{IsRow}
 use Rattle.um_words.specs.declared.fine.FineAct.{FineAct}
 use Rattle.um_words.specs.declared.fine.More.{More}
 use Rattle.um_words.specs.declared.fine.Unseen.{Unseen}

@@ -13,9 +13,9 @@ use Rattle.um_machine.specs.Objects as Plain
 use Rattle.um_machine.specs.Order.{Steps}
 use Rattle.um_machine.specs.Services.{is_empty}
 use Rattle.um_machine.specs.State.{State, thread_at}
-use Rattle.um_reach.proofs.Claims.{IsClearing, Shaped, claims}
-use Rattle.um_reach.proofs.Cores.{Call, call_at, call_is, core_of, status_is}
-use Rattle.um_reach.proofs.Turns.{below_rows}
+use Rattle.um_invariants.proofs.Claims.{IsClearing, Shaped, claims}
+use Rattle.um_invariants.proofs.Cores.{Call, call_at, call_is, core_of, status_is}
+use Rattle.um_invariants.proofs.Turns.{below_rows}
 use Rattle.um_words.specs.Rows.{is_free}
 use Rattle.um_fine.specs.Addresses.{row_named}
 use Rattle.um_fine.specs.Context.{Context}

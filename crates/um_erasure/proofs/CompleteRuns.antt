@@ -5,9 +5,9 @@ use Rattle.um_base.specs.declared.image.Boot.{Boot}
 use Rattle.um_base.specs.declared.image.Image.{Image}
 use Rattle.um_machine.specs.Run.{IsComplete, Runs, opening}
 use Rattle.um_machine.specs.State.{State}
-use Rattle.um_reach.proofs.Opening.{is_opening}
-use Rattle.um_reach.proofs.SitedImages.{is_sited}
-use Rattle.um_reach.specs.Described.{IsDescribed}
+use Rattle.um_invariants.proofs.Opening.{is_opening}
+use Rattle.um_invariants.proofs.SitedImages.{is_sited}
+use Rattle.um_invariants.specs.Described.{IsDescribed}
 use Rattle.um_fine.specs.Erasure.{shown}
 use Rattle.um_fine.specs.FineRun.{IsFineRun}
 use Rattle.um_fine.specs.Opening.{boot_index}

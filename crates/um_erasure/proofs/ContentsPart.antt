@@ -19,9 +19,9 @@ use Rattle.um_machine.specs.Order.{Steps, to_thread}
 use Rattle.um_machine.specs.Run.{MayChoose, Offers}
 use Rattle.um_machine.specs.State.{State, object_at, thread_at, vacant}
 use Rattle.um_machine.specs.Table as T
-use Rattle.um_reach.proofs.Cores.{call_is, status_is}
-use Rattle.um_reach.proofs.Facts.{is_standing}
-use Rattle.um_reach.proofs.Guards.{IsStatic}
+use Rattle.um_invariants.proofs.Cores.{call_is, status_is}
+use Rattle.um_invariants.proofs.Facts.{is_standing}
+use Rattle.um_invariants.proofs.Guards.{IsStatic}
 use Rattle.um_words.specs.declared.fine.FineAct.{FineAct}
 use Rattle.um_words.specs.declared.fine.Unseen.{Unseen}
 use Rattle.um_words.specs.Rows.{is_dying}

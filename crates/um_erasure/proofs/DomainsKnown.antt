@@ -18,9 +18,9 @@ use Rattle.um_machine.specs.Run.{Offers, Runs, begins, blank, boot_thread, boote
 use Rattle.um_machine.specs.State.{State, is_living, is_started, nobody, thread_at, with_thread}
 use Rattle.um_machine.specs.Services.{is_empty}
 use Rattle.um_machine.specs.Table as T
-use Rattle.um_reach.proofs.Cores.{at_set}
+use Rattle.um_invariants.proofs.Cores.{at_set}
 use Rattle.um_base.specs.declared.limits.TheConstants.{THREADS}
-use Rattle.um_reach.specs.Described.{IsDescribed}
+use Rattle.um_invariants.specs.Described.{IsDescribed}
 use Rattle.um_erasure.proofs.Erased.{IsReachable}
 use Rattle.um_erasure.proofs.FirstObjects.{opening-image}
 use Rattle.um_erasure.proofs.FirstReady.{entry, threads-are}

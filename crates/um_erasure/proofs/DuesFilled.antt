@@ -26,10 +26,10 @@ use Rattle.um_machine.specs.Order.{Steps, copy_fails, end_steps, fatal_steps, pr
 use Rattle.um_machine.specs.Run.{Offers, begins, cleans_pair, exits, goes, recycles, skips_drops, skips_inherit}
 use Rattle.um_machine.specs.State.{State, instruction_at, pair_at, thread_at}
 use Rattle.um_machine.specs.Table as T
-use Rattle.um_reach.proofs.Claims.{claims}
-use Rattle.um_reach.proofs.Cores.{Call, call_is}
-use Rattle.um_turns.proofs.ThreadStarts.{real-below}
-use Rattle.um_turns.proofs.ThreadWords.{AreKept, DueFrom, MayPass, are_orderly, are_plain, clears_one, starts_one}
+use Rattle.um_invariants.proofs.Claims.{claims}
+use Rattle.um_invariants.proofs.Cores.{Call, call_is}
+use Rattle.um_scheduler.proofs.ThreadStarts.{real-below}
+use Rattle.um_scheduler.proofs.ThreadWords.{AreKept, DueFrom, MayPass, are_orderly, are_plain, clears_one, starts_one}
 use Rattle.um_fine.specs.Answers.{bytes_in, fits_in, found_in, is_fault, outcome_in, reserved_in, set_in, verdict_in}
 use Rattle.um_fine.specs.Context.{Context, as_thread}
 use Rattle.um_fine.specs.Continues.{after_access, after_reserve, after_set, after_text, after_work, begun, continues, told_steps}

@@ -33,7 +33,7 @@ use Rattle.um_machine.specs.Order.{Steps}
 use Rattle.um_machine.specs.Run.{Runs, opening}
 use Rattle.um_machine.specs.State.{State, instruction_at, no_rows, nobody, object_at, thread_at, vacant, with_object, with_pair, with_thread}
 use Rattle.um_machine.specs.Table as T
-use Rattle.um_reach.proofs.Cores.{at_set}
+use Rattle.um_invariants.proofs.Cores.{at_set}
 use Rattle.um_erasure.proofs.CallsProper.{none-held}
 use Rattle.um_erasure.proofs.Erased.{IsReachable}
 use Rattle.um_erasure.proofs.FirstThreads.{copies-long, new-thread}

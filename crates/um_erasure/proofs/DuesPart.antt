@@ -16,10 +16,10 @@ use Rattle.um_machine.specs.Order.{Steps, to_thread}
 use Rattle.um_machine.specs.Run.{opening}
 use Rattle.um_machine.specs.State.{State, pair_at, thread_at}
 use Rattle.um_machine.specs.Table as T
-use Rattle.um_reach.proofs.Cores.{core_of}
-use Rattle.um_reach.proofs.Turns.{IsKnown}
-use Rattle.um_reach.specs.Described.{IsDescribed}
-use Rattle.um_turns.proofs.ThreadWords.{AreKept, DueFrom, are_plain}
+use Rattle.um_invariants.proofs.Cores.{core_of}
+use Rattle.um_invariants.proofs.Turns.{IsKnown}
+use Rattle.um_invariants.specs.Described.{IsDescribed}
+use Rattle.um_scheduler.proofs.ThreadWords.{AreKept, DueFrom, are_plain}
 use Rattle.um_words.specs.declared.fine.FineAct.{FineAct}
 use Rattle.um_words.specs.declared.fine.Unseen.{Unseen}
 use Rattle.um_words.specs.declared.row_word.RowWord.{RowWord}

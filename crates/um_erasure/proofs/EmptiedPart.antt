@@ -20,11 +20,11 @@ use Rattle.um_machine.specs.Run.{Offers, begins, cleans_pair, exits, goes, recyc
 use Rattle.um_machine.specs.Services.{is_empty}
 use Rattle.um_machine.specs.State.{State, object_at, pair_at, thread_at, with_object}
 use Rattle.um_machine.specs.Table as T
-use Rattle.um_reach.proofs.Claims.{claims}
-use Rattle.um_reach.proofs.Cores.{Call, at_set, call_at, call_is, core_of, status_is}
-use Rattle.um_reach.proofs.Guards.{IsStatic}
-use Rattle.um_reach.proofs.RunMoves.{keeps_now}
-use Rattle.um_reach.proofs.Turns.{IsKnown}
+use Rattle.um_invariants.proofs.Claims.{claims}
+use Rattle.um_invariants.proofs.Cores.{Call, at_set, call_at, call_is, core_of, status_is}
+use Rattle.um_invariants.proofs.Guards.{IsStatic}
+use Rattle.um_invariants.proofs.RunMoves.{keeps_now}
+use Rattle.um_invariants.proofs.Turns.{IsKnown}
 use Rattle.um_words.specs.declared.fine.FineAct.{FineAct}
 use Rattle.um_words.specs.declared.fine.Unseen.{Unseen}
 use Rattle.um_words.specs.declared.row_word.RowWord.{RowWord}

@@ -8,9 +8,9 @@ use Rattle.um_base.specs.declared.image.Image.{Image}
 use Rattle.um_base.specs.Lawful.{is_lawful_boot}
 use Rattle.um_machine.specs.Run.{Runs, opening}
 use Rattle.um_machine.specs.State.{State}
-use Rattle.um_reach.proofs.Opening.{is_opening}
-use Rattle.um_reach.proofs.SitedImages.{is_sited}
-use Rattle.um_reach.specs.Described.{IsDescribed}
+use Rattle.um_invariants.proofs.Opening.{is_opening}
+use Rattle.um_invariants.proofs.SitedImages.{is_sited}
+use Rattle.um_invariants.specs.Described.{IsDescribed}
 use Rattle.um_words.specs.declared.fine.FineAct.{FineAct}
 use Rattle.um_fine.specs.Asks.{says_idle}
 use Rattle.um_fine.specs.Erasure.{shown}

@@ -11,9 +11,9 @@ use Rattle.um_base.specs.Lawful.{is_lawful_boot, object_passes}
 use Rattle.um_machine.specs.declared.thread.Thread.{Thread}
 use Rattle.um_machine.specs.Run.{blank, boot_thread, booted, booted_one, loaded, opening}
 use Rattle.um_machine.specs.State.{State, is_living, nobody, thread_at}
-use Rattle.um_reach.proofs.Cores.{at_set}
-use Rattle.um_reach.specs.Described.{IsDescribed}
-use Rattle.um_turns.proofs.ThreadStarts.{real-below}
+use Rattle.um_invariants.proofs.Cores.{at_set}
+use Rattle.um_invariants.specs.Described.{IsDescribed}
+use Rattle.um_scheduler.proofs.ThreadStarts.{real-below}
 use Rattle.um_fine.specs.Context.{Context}
 use Rattle.um_fine.specs.Scheduler.{parked_at}
 use Rattle.um_erasure.specs.Fine.{scheduler}

@@ -14,9 +14,9 @@ use Rattle.um_machine.specs.declared.thread.Thread.{Thread}
 use Rattle.um_machine.specs.Objects as Plain
 use Rattle.um_machine.specs.Run.{blank, boot_thread, booted, booted_one, loaded, objects_from, opening, Runs}
 use Rattle.um_machine.specs.State.{State, nobody, object_at, thread_at, vacant, with_thread}
-use Rattle.um_reach.specs.Described.{IsDescribed}
-use Rattle.um_reach.proofs.Opening.{IsBoot, is_boot}
-use Rattle.um_reach.proofs.SitedImages.{is_sited}
+use Rattle.um_invariants.specs.Described.{IsDescribed}
+use Rattle.um_invariants.proofs.Opening.{IsBoot, is_boot}
+use Rattle.um_invariants.proofs.SitedImages.{is_sited}
 use Rattle.um_fine.specs.Steps.{FineStep}
 use Rattle.um_fine.specs.Sites.{s_next, same_site}
 use Rattle.um_fine.specs.Opening.{s_start}

@@ -20,8 +20,8 @@ use Rattle.um_machine.specs.Order.{Steps, answer_error, to_addr, to_thread}
 use Rattle.um_machine.specs.Run.{MayChoose}
 use Rattle.um_machine.specs.State.{State, object_at, thread_at, vacant, with_object}
 use Rattle.um_machine.specs.Table as T
-use Rattle.um_reach.proofs.Facts.{le_is}
-use Rattle.um_reach.proofs.Guards.{IsRow}
+use Rattle.um_invariants.proofs.Facts.{le_is}
+use Rattle.um_invariants.proofs.Guards.{IsRow}
 use Rattle.um_words.specs.Rows.{is_dying}
 use Rattle.um_words.specs.declared.fine.FineAct.{FineAct}
 use Rattle.um_words.specs.declared.fine.More.{More}

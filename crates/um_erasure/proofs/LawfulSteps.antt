@@ -17,8 +17,8 @@ use Rattle.um_machine.specs.Order.{Steps, to_thread}
 use Rattle.um_machine.specs.Run.{Offers, goes, skips_drops, skips_inherit}
 use Rattle.um_machine.specs.State.{State, thread_at}
 use Rattle.um_machine.specs.Table as T
-use Rattle.um_reach.proofs.Cores.{call_is}
-use Rattle.um_reach.proofs.Guards.{Guarded, IsStatic, behind_birth}
+use Rattle.um_invariants.proofs.Cores.{call_is}
+use Rattle.um_invariants.proofs.Guards.{Guarded, IsStatic, behind_birth}
 use Rattle.um_words.specs.declared.fine.FineAct.{FineAct}
 use Rattle.um_words.specs.declared.fine.Unseen.{Unseen}
 use Rattle.um_fine.specs.Addresses.{address_of, row_named}

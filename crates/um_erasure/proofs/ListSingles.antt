@@ -8,7 +8,7 @@ use Rattle.um_base.specs.declared.limits.TheConstants.{ROWS}
 use Rattle.um_base.specs.Places.{own_row, thread_of_row}
 use Rattle.um_machine.specs.declared.pending.Pending.{Pending}
 use Rattle.um_machine.specs.Order.{Steps}
-use Rattle.um_turns.proofs.ThreadWords.{are_orderly}
+use Rattle.um_scheduler.proofs.ThreadWords.{are_orderly}
 use Rattle.um_fine.specs.Asks.{begins_cleaning}
 use Rattle.um_fine.specs.Context.{Context}
 use Rattle.um_fine.specs.Follows.{goes_on_by, p_next, row_number, with_cleaned}

@@ -6,9 +6,9 @@ use Rattle.um_machine.specs.declared.pending.Pending.{Pending}
 use Rattle.um_machine.specs.Order.{Steps}
 use Rattle.um_machine.specs.Run.{opening}
 use Rattle.um_machine.specs.State.{State, thread_at}
-use Rattle.um_reach.proofs.Cores.{core_of}
-use Rattle.um_reach.proofs.Turns.{IsKnown}
-use Rattle.um_reach.specs.Described.{IsDescribed}
+use Rattle.um_invariants.proofs.Cores.{core_of}
+use Rattle.um_invariants.proofs.Turns.{IsKnown}
+use Rattle.um_invariants.specs.Described.{IsDescribed}
 use Rattle.um_erasure.proofs.CallSteps.{Proper}
 use Rattle.um_erasure.proofs.CallsProper.{offered-proper}
 use Rattle.um_erasure.proofs.ContentsPart.{NamesHeld}

@@ -16,9 +16,9 @@ use Rattle.um_machine.specs.Order.{Steps}
 use Rattle.um_machine.specs.Run.{Offers, goes, skips_drops, skips_inherit}
 use Rattle.um_machine.specs.State.{State, object_at, pair_at, thread_at, vacant, with_object}
 use Rattle.um_machine.specs.Table as T
-use Rattle.um_reach.proofs.Cores.{call_is, status_is}
-use Rattle.um_reach.proofs.Guards.{IsRow, bearing, behind_birth, Guarded}
-use Rattle.um_reach.proofs.Turns.{below_rows}
+use Rattle.um_invariants.proofs.Cores.{call_is, status_is}
+use Rattle.um_invariants.proofs.Guards.{IsRow, bearing, behind_birth, Guarded}
+use Rattle.um_invariants.proofs.Turns.{below_rows}
 use Rattle.um_erasure.proofs.Reachable.{IsSound}
 use Rattle.um_erasure.proofs.Writes.{Keeping, Makes, Part, after-kept, births, lasting_of, statuses, bytes-kept}
 

@@ -19,7 +19,7 @@ use Rattle.um_machine.specs.Objects.{verdict}
 use Rattle.um_machine.specs.Order.{Steps}
 use Rattle.um_machine.specs.State.{State, is_started, no_rows, nobody, object_at, thread_at, with_object, with_thread}
 use Rattle.um_machine.specs.Table as T
-use Rattle.um_reach.proofs.Cores.{map_at}
+use Rattle.um_invariants.proofs.Cores.{map_at}
 use Rattle.um_fine.specs.Addresses.{row_named}
 use Rattle.um_fine.specs.Answers.{act_in, verdict_in}
 use Rattle.um_fine.specs.Context.{Context}

@@ -15,7 +15,7 @@ use Rattle.um_machine.specs.Objects as Plain
 use Rattle.um_machine.specs.Order.{Steps}
 use Rattle.um_machine.specs.State.{State, object_at, pair_at, with_object, with_pair}
 use Rattle.um_machine.specs.Table as T
-use Rattle.um_reach.proofs.Facts.{le_is}
+use Rattle.um_invariants.proofs.Facts.{le_is}
 use Rattle.um_words.specs.declared.fine.FineAct.{FineAct}
 use Rattle.um_words.specs.declared.fine.More.{More}
 use Rattle.um_words.specs.declared.fine.Unseen.{Unseen}

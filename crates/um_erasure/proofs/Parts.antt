@@ -7,10 +7,10 @@ use Rattle.um_machine.specs.Order.{Steps, to_thread}
 use Rattle.um_machine.specs.Run.{opening}
 use Rattle.um_machine.specs.State.{State}
 use Rattle.um_machine.specs.Table as T
-use Rattle.um_reach.proofs.Cores.{core_of}
-use Rattle.um_reach.proofs.Guards.{IsSited}
-use Rattle.um_reach.proofs.Turns.{IsKnown}
-use Rattle.um_reach.specs.Described.{IsDescribed}
+use Rattle.um_invariants.proofs.Cores.{core_of}
+use Rattle.um_invariants.proofs.Guards.{IsSited}
+use Rattle.um_invariants.proofs.Turns.{IsKnown}
+use Rattle.um_invariants.specs.Described.{IsDescribed}
 use Rattle.um_fine.specs.FineRun.{ByOneOf, cpu_of, site_of}
 use Rattle.um_fine.specs.Processor.{Processor}
 use Rattle.um_fine.specs.Sites.{SiteMay, SiteState}

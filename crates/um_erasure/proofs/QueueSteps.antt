@@ -24,7 +24,7 @@ use Rattle.um_machine.specs.declared.thread.Thread.{Thread}
 use Rattle.um_machine.specs.Objects.{has_kind}
 use Rattle.um_machine.specs.Order.{Steps, answer_error, answer_zero, buffered, creates, privileged, steps_of, to_addr, work}
 use Rattle.um_machine.specs.State.{value_of}
-use Rattle.um_reach.proofs.Guards.{IsSited, row_kind}
+use Rattle.um_invariants.proofs.Guards.{IsSited, row_kind}
 
 -- the row of a queue that a check has found to be initialised
 abbrev pub queue_checked : Option Kind → Want → ℕ → Option ℕ

@@ -38,9 +38,9 @@ use Rattle.um_machine.specs.Run.{Offers, begins, cleans_pair, exits, goes, recyc
 use Rattle.um_machine.specs.Services.{Acted, fills, queue}
 use Rattle.um_machine.specs.State.{State, instruction_at, is_user, nobody, object_at, pair_at, thread_at, vacant, with_object, with_thread}
 use Rattle.um_machine.specs.Table as T
-use Rattle.um_reach.proofs.Cores.{Call, at_set, call_is, call_of, core_of, kind_is}
-use Rattle.um_reach.proofs.Guards.{IsSited, row_kind}
-use Rattle.um_reach.proofs.Turns.{IsKnown, below_rows, passed, row_has, row_is}
+use Rattle.um_invariants.proofs.Cores.{Call, at_set, call_is, call_of, core_of, kind_is}
+use Rattle.um_invariants.proofs.Guards.{IsSited, row_kind}
+use Rattle.um_invariants.proofs.Turns.{IsKnown, below_rows, passed, row_has, row_is}
 use Rattle.um_erasure.proofs.QueueSteps.{Queued, queue-kind, queue_checked, queued-steps}
 use Rattle.um_erasure.proofs.ThreadKeys.{Ignores, key-same, keys, keys-bytes, keys-dropped, keys-erased, keys-given, keys-moved, keys-paired, keys-set, keys-woken}
 

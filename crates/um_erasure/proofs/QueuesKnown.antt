@@ -28,15 +28,15 @@ use Rattle.um_machine.specs.Run.{MayChoose, Offers, Runs, boots_row, is_set_up, 
 use Rattle.um_machine.specs.Services.{fills, queue}
 use Rattle.um_machine.specs.State.{State, object_at, thread_at, vacant}
 use Rattle.um_machine.specs.Table as T
-use Rattle.um_reach.proofs.Cores.{Call, call_is, core_of, status_is}
-use Rattle.um_reach.proofs.Facts.{is_standing}
-use Rattle.um_reach.proofs.Guards.{kind_in, row_kind}
-use Rattle.um_reach.proofs.Opening.{boot_parts}
-use Rattle.um_reach.proofs.Reached.{image_move}
-use Rattle.um_reach.proofs.RunMoves.{step_move}
-use Rattle.um_reach.proofs.StepMoves.{unchecked}
-use Rattle.um_reach.proofs.Turns.{IsKnown, below_rows, row_is}
-use Rattle.um_reach.specs.Described.{IsDescribed}
+use Rattle.um_invariants.proofs.Cores.{Call, call_is, core_of, status_is}
+use Rattle.um_invariants.proofs.Facts.{is_standing}
+use Rattle.um_invariants.proofs.Guards.{kind_in, row_kind}
+use Rattle.um_invariants.proofs.Opening.{boot_parts}
+use Rattle.um_invariants.proofs.Reached.{image_move}
+use Rattle.um_invariants.proofs.RunMoves.{step_move}
+use Rattle.um_invariants.proofs.StepMoves.{unchecked}
+use Rattle.um_invariants.proofs.Turns.{IsKnown, below_rows, row_is}
+use Rattle.um_invariants.specs.Described.{IsDescribed}
 use Rattle.um_words.specs.declared.fine.FineAct.{FineAct}
 use Rattle.um_words.specs.declared.fine.More.{More}
 use Rattle.um_erasure.proofs.ContentsKept.{work-objects}

@@ -1,4 +1,4 @@
--- What holds of the states that a run of the access-matrix machine reaches: how many threads, rows and objects they have, what um_reach knows
+-- What holds of the states that a run of the access-matrix machine reaches: how many threads, rows and objects they have, what um_invariants knows
 -- of them, and that permissions are of live objects.
 use Rattle.std.proofs.Common.{◌≡◌, ℕ, zero, suc, ◌<◌, ◌≤◌, Bool, true, false, List, [], ◌∷◌, length, refl, sym, ap, ◌∙◌, subst, arith}
 use Rattle.std.specs.Prelude.{slice_set, ◌-◌, if◌then◌else◌, nat_lt, replicate, slice_index_or}
@@ -16,9 +16,9 @@ use Rattle.um_machine.specs.Memory.{put_bytes, with_bytes}
 use Rattle.um_machine.specs.Objects as Plain
 use Rattle.um_machine.specs.Run.{Runs, blank, boot_thread, booted, booted_one, granted, index_or, loaded, opening, parts_of}
 use Rattle.um_machine.specs.State.{State, with_pair, with_thread}
-use Rattle.um_reach.proofs.Cores.{at_set, core_of, status_is}
-use Rattle.um_reach.proofs.RunMoves.{known_run}
-use Rattle.um_reach.proofs.Turns.{IsKnown}
+use Rattle.um_invariants.proofs.Cores.{at_set, core_of, status_is}
+use Rattle.um_invariants.proofs.RunMoves.{known_run}
+use Rattle.um_invariants.proofs.Turns.{IsKnown}
 use Rattle.um_erasure.proofs.DropSteps.{Held}
 use Rattle.um_erasure.proofs.Erased.{IsReachable}
 use Rattle.um_erasure.proofs.FirstObjects.{all-objects, opening-image}

@@ -24,7 +24,7 @@ use Rattle.um_machine.specs.Objects.{is_gone}
 use Rattle.um_machine.specs.Order.{Steps}
 use Rattle.um_machine.specs.State.{State, instruction_at, nobody, object_at, thread_at, with_object, with_pair, with_thread}
 use Rattle.um_machine.specs.Table as T
-use Rattle.um_reach.proofs.Cores.{map_at}
+use Rattle.um_invariants.proofs.Cores.{map_at}
 use Rattle.um_erasure.proofs.Writes.{bytes-kept}
 
 -- what there is of a thread beside its own part

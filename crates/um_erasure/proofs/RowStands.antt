@@ -5,7 +5,7 @@ use Rattle.std.proofs.lemmas.Bool.{false≢true, ltb-false, ltb-true}
 use Rattle.um_base.specs.declared.limits.TheConstants.{ROWS}
 use Rattle.um_machine.specs.Objects as Plain
 use Rattle.um_machine.specs.State.{State, object_at, thread_at}
-use Rattle.um_reach.proofs.Cores.{Call, call_is}
+use Rattle.um_invariants.proofs.Cores.{Call, call_is}
 use Rattle.um_words.specs.declared.row_word.Stage.{Stage}
 use Rattle.um_words.specs.Rows.{is_cleaning, is_free}
 use Rattle.um_erasure.specs.Fine.{Fine, row}

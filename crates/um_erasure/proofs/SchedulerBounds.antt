@@ -6,7 +6,7 @@ use Rattle.std.proofs.lemmas.Bool.{and_from, and_parts, eqb-true, lt-ltb, trueâ‰
 use Rattle.um_base.specs.declared.limits.TheConstants.{THREADS}
 use Rattle.um_machine.specs.Order.{to_thread}
 use Rattle.um_machine.specs.State.{State}
-use Rattle.um_reach.proofs.Cores.{at_set}
+use Rattle.um_invariants.proofs.Cores.{at_set}
 use Rattle.um_words.specs.declared.fine.FineAct.{FineAct}
 use Rattle.um_words.specs.declared.fine.Unseen.{Unseen}
 use Rattle.um_words.specs.Threads.{thread_after}

@@ -16,8 +16,8 @@ use Rattle.um_machine.specs.State.{State, object_at, thread_at}
 use Rattle.um_machine.specs.Table.{message_size}
 use Rattle.um_words.specs.declared.fine.FineAct.{FineAct}
 use Rattle.um_words.specs.declared.fine.Unseen.{Unseen}
-use Rattle.um_reach.proofs.Guards.{row_kind}
-use Rattle.um_reach.proofs.Turns.{below_rows}
+use Rattle.um_invariants.proofs.Guards.{row_kind}
+use Rattle.um_invariants.proofs.Turns.{below_rows}
 use Rattle.um_fine.specs.Addresses.{row_named}
 use Rattle.um_fine.specs.Answers.{domain_in, is_word_read, size_in}
 use Rattle.um_fine.specs.Asks.{begins_cleaning}

@@ -22,7 +22,7 @@ use Rattle.um_machine.specs.Order.{Steps, to_thread}
 use Rattle.um_machine.specs.Run.{MayChoose}
 use Rattle.um_machine.specs.State.{State, object_at, thread_at, vacant, with_object}
 use Rattle.um_machine.specs.Table as T
-use Rattle.um_reach.proofs.Facts.{no_slice, not_less, same_kind}
+use Rattle.um_invariants.proofs.Facts.{no_slice, not_less, same_kind}
 use Rattle.um_words.specs.declared.fine.FineAct.{FineAct}
 use Rattle.um_words.specs.declared.fine.More.{More}
 use Rattle.um_words.specs.declared.fine.Unseen.{Unseen}

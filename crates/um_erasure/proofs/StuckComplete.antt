@@ -10,9 +10,9 @@ use Rattle.um_base.specs.declared.limits.TheConstants.{THREADS}
 use Rattle.um_machine.specs.Order.{to_thread}
 use Rattle.um_machine.specs.Run.{IsComplete, opening}
 use Rattle.um_machine.specs.State.{State}
-use Rattle.um_reach.proofs.Cores.{core_of}
-use Rattle.um_reach.proofs.Turns.{IsKnown}
-use Rattle.um_reach.specs.Described.{IsDescribed}
+use Rattle.um_invariants.proofs.Cores.{core_of}
+use Rattle.um_invariants.proofs.Turns.{IsKnown}
+use Rattle.um_invariants.specs.Described.{IsDescribed}
 use Rattle.um_words.specs.declared.fine.FineAct.{FineAct}
 use Rattle.um_words.specs.declared.fine.Unseen.{Unseen}
 use Rattle.um_fine.specs.Cells.{Cell}

@@ -27,8 +27,8 @@ use Rattle.um_machine.specs.Objects as Plain
 use Rattle.um_machine.specs.Order.{Steps}
 use Rattle.um_machine.specs.State.{State, instruction_at, is_living, is_started, object_at, thread_at, vacant}
 use Rattle.um_machine.specs.Table.{domain_at, move_reply}
-use Rattle.um_reach.proofs.Cores.{Call, call_is, status_is}
-use Rattle.um_reach.proofs.Guards.{Guarded, IsStatic, Names, bearing, behind_birth}
+use Rattle.um_invariants.proofs.Cores.{Call, call_is, status_is}
+use Rattle.um_invariants.proofs.Guards.{Guarded, IsStatic, Names, bearing, behind_birth}
 use Rattle.um_words.specs.declared.row_word.Stage.{Stage}
 use Rattle.um_words.specs.CellActs.{memory_takes_act}
 use Rattle.um_words.specs.Rows.{is_cleaning, is_free}

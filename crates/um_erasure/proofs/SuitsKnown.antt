@@ -13,11 +13,11 @@ use Rattle.um_machine.specs.Order.{Steps}
 use Rattle.um_machine.specs.Run.{Offers, opening}
 use Rattle.um_machine.specs.State.{State, is_living, thread_at}
 use Rattle.um_machine.specs.Table as T
-use Rattle.um_reach.proofs.Cores.{core_of}
-use Rattle.um_reach.proofs.Turns.{IsKnown, row_is}
-use Rattle.um_reach.specs.Described.{IsDescribed}
-use Rattle.um_turns.proofs.ThreadRuns.{reached-kept}
-use Rattle.um_turns.proofs.ThreadWords.{AreKept, is_resume}
+use Rattle.um_invariants.proofs.Cores.{core_of}
+use Rattle.um_invariants.proofs.Turns.{IsKnown, row_is}
+use Rattle.um_invariants.specs.Described.{IsDescribed}
+use Rattle.um_scheduler.proofs.ThreadRuns.{reached-kept}
+use Rattle.um_scheduler.proofs.ThreadWords.{AreKept, is_resume}
 use Rattle.um_fine.specs.Scheduler.{waits}
 use Rattle.um_erasure.specs.Fine.{Fine}
 use Rattle.um_erasure.specs.Relation.{Rel}

@@ -15,7 +15,7 @@ use Rattle.um_machine.specs.Memory.{put_bytes, with_bytes}
 use Rattle.um_machine.specs.Objects.{is_gone}
 use Rattle.um_machine.specs.State.{State, nobody, object_at, thread_at, with_object, with_pair, with_thread}
 use Rattle.um_machine.specs.Table as T
-use Rattle.um_reach.proofs.Cores.{map_at}
+use Rattle.um_invariants.proofs.Cores.{map_at}
 
 module _ {K : Type 0} (of : Thread → K) where
   abbrev pub keys : State → List K

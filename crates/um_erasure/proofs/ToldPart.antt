@@ -15,8 +15,8 @@ use Rattle.um_machine.specs.Order.{Steps, to_thread}
 use Rattle.um_machine.specs.Run.{Offers, exits, goes, skips_drops, skips_inherit}
 use Rattle.um_machine.specs.State.{State, nobody, object_at, thread_at, with_object, with_thread}
 use Rattle.um_machine.specs.Table as T
-use Rattle.um_reach.proofs.Cores.{map_at}
-use Rattle.um_turns.proofs.ThreadWords.{AreKept, is_resume}
+use Rattle.um_invariants.proofs.Cores.{map_at}
+use Rattle.um_scheduler.proofs.ThreadWords.{AreKept, is_resume}
 use Rattle.um_fine.specs.Places.{Todo, Todos}
 use Rattle.um_fine.specs.Processor.{Processor}
 use Rattle.um_fine.specs.Steps.{Exchange, FineStep, Site}
@@ -33,8 +33,8 @@ use Rattle.um_base.specs.declared.act.Answer.{Answer}
 use Rattle.um_base.specs.declared.ask.Ask.{Ask}
 use Rattle.um_machine.specs.declared.object.Object.{Object}
 use Rattle.um_machine.specs.Services.{Acted}
-use Rattle.um_turns.proofs.ThreadServes.{served}
-use Rattle.um_turns.proofs.ThreadWaits.{IsServed, times, wakings, wakings-more}
+use Rattle.um_scheduler.proofs.ThreadServes.{served}
+use Rattle.um_scheduler.proofs.ThreadWaits.{IsServed, times, wakings, wakings-more}
 use Rattle.um_fine.specs.Answers.{is_word_read, outcome_in, ready_in, wake_in}
 use Rattle.um_fine.specs.Asks.{says_idle, says_show}
 use Rattle.um_fine.specs.Follows.{p_next}

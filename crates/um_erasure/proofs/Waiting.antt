@@ -6,11 +6,11 @@ use Rattle.um_machine.specs.declared.pending.Pending.{Pending}
 use Rattle.um_machine.specs.Order.{Steps}
 use Rattle.um_machine.specs.Run.{opening}
 use Rattle.um_machine.specs.State.{State}
-use Rattle.um_reach.proofs.Cores.{core_of}
-use Rattle.um_reach.proofs.Opening.{is_opening}
-use Rattle.um_reach.proofs.SitedImages.{is_sited}
-use Rattle.um_reach.proofs.Turns.{IsKnown}
-use Rattle.um_reach.specs.Described.{IsDescribed}
+use Rattle.um_invariants.proofs.Cores.{core_of}
+use Rattle.um_invariants.proofs.Opening.{is_opening}
+use Rattle.um_invariants.proofs.SitedImages.{is_sited}
+use Rattle.um_invariants.proofs.Turns.{IsKnown}
+use Rattle.um_invariants.specs.Described.{IsDescribed}
 use Rattle.um_fine.specs.Erasure.{shown}
 use Rattle.um_fine.specs.FineRun.{IsFineRun}
 use Rattle.um_fine.specs.Opening.{boot_index}

@@ -4,7 +4,7 @@ ghost use Rattle.std.specs.Prelude.{ℕ, List};
 ghost use Rattle.um_base.specs.declared.image.Image.{Image};
 ghost use Rattle.um_machine.specs.Run.{Runs, opening};
 ghost use Rattle.um_machine.specs.State.{State};
-ghost use Rattle.um_reach.specs.Described.{IsDescribed};
+ghost use Rattle.um_invariants.specs.Described.{IsDescribed};
 ghost use Rattle.um_fine.specs.Erasure.{shown};
 ghost use Rattle.um_fine.specs.FineRun.{IsFineRun};
 ghost use Rattle.um_fine.specs.Steps.{FineStep};

@@ -3,7 +3,7 @@
 use Rattle.std.proofs.Common.{◌≡◌, ℕ, ◌<◌, List, [], ◌∷◌, ◌++◌, refl, sym, subst, eq-eqb}
 use Rattle.std.proofs.lemmas.Bool.{eqb-true}
 use Rattle.um_base.specs.declared.image.Image.{Image}
-use Rattle.um_reach.specs.Described.{IsDescribed}
+use Rattle.um_invariants.specs.Described.{IsDescribed}
 use Rattle.um_fine.specs.FineRun.{IsFineRun, cpu_of, p_start, same_cpu, site_of}
 use Rattle.um_fine.specs.Follows.{p_next}
 use Rattle.um_fine.specs.Opening.{s_start}

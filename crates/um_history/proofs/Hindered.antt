@@ -6,7 +6,7 @@ use Rattle.std.proofs.lemmas.List.{length-map}
 use Rattle.um_base.specs.Weight.{weight}
 use Rattle.um_base.specs.declared.image.Image.{Image}
 use Rattle.um_machine.specs.Order.{to_thread}
-use Rattle.um_reach.specs.Described.{IsDescribed}
+use Rattle.um_invariants.specs.Described.{IsDescribed}
 use Rattle.um_words.specs.History.{bare}
 use Rattle.um_words.specs.Inverse.{domain-back, thread-back}
 use Rattle.um_words.specs.Packed.{cell_of, domain_in, domain_of, row_of, thread_in, thread_of}

@@ -8,7 +8,7 @@ use Rattle.um_machine.specs.declared.pending.Pending.{Pending}
 use Rattle.um_machine.specs.declared.thread.Thread.{Thread}
 use Rattle.um_machine.specs.Order.{Steps}
 use Rattle.um_machine.specs.State.{State, instruction_at, thread_at}
-use Rattle.um_reach.specs.Described.{IsDescribed}
+use Rattle.um_invariants.specs.Described.{IsDescribed}
 use Rattle.um_fine.specs.Asks.{has_room}
 use Rattle.um_fine.specs.Context.{Context}
 use Rattle.um_fine.specs.FineRun.{IsFineRun}

@@ -7,7 +7,7 @@ use Rattle.um_machine.specs.declared.thread.Thread.{Thread}
 use Rattle.um_machine.specs.Objects.{thread_holds}
 use Rattle.um_machine.specs.Run.{opening}
 use Rattle.um_machine.specs.State.{is_started, thread_at}
-use Rattle.um_reach.specs.Described.{IsDescribed}
+use Rattle.um_invariants.specs.Described.{IsDescribed}
 use Rattle.um_fine.specs.Opening.{count, indexed}
 use Rattle.um_fine.specs.Scheduler.{parked_at, told_at}
 use Rattle.um_erasure.specs.Fine.{scheduler}

@@ -3,7 +3,7 @@ use Rattle.std.proofs.Common.{◌≡◌, ℕ, ◌<◌, ◌≤◌, List, [], ◌�
 use Rattle.std.specs.Prelude.{IsTrue, slice_index}
 use Rattle.um_base.specs.Weight.{weight}
 use Rattle.um_base.specs.declared.image.Image.{Image}
-use Rattle.um_reach.specs.Described.{IsDescribed}
+use Rattle.um_invariants.specs.Described.{IsDescribed}
 use Rattle.um_words.specs.History.{Entry, bare, by_seat, by_site}
 use Rattle.um_fine.specs.FineRun.{IsFineRun}
 use Rattle.um_fine.specs.Sites.{is_site, site_number, word_of}

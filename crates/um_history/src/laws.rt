@@ -7,7 +7,7 @@ ghost use Rattle.um_base.specs.declared.image.Image.{Image};
 ghost use Rattle.um_machine.specs.Run.{Runs, opening};
 ghost use Rattle.um_machine.specs.State.{State};
 ghost use Rattle.um_words.specs.History.{by_seat};
-ghost use Rattle.um_reach.specs.Described.{IsDescribed};
+ghost use Rattle.um_invariants.specs.Described.{IsDescribed};
 ghost use Rattle.um_fine.specs.Erasure.{shown};
 ghost use Rattle.um_fine.specs.FineRun.{IsFineRun};
 ghost use Rattle.um_fine.specs.Steps.{FineStep};
@@ -26,7 +26,7 @@ ghost use Rattle.um_history.specs.LastHolder.{AreHeld, HasLastHolder};
 ghost use Rattle.um_history.specs.Played.{IsMoment, IsPlayed, SawNone};
 
 use um_erasure::every_fine_run;
-use um_fine_bound::longest_fine_run;
+use um_fine_measure::longest_fine_run;
 
 /// The law over the rows of every fine run of an image that a description gives, whatever the order of its processors: the word of a row counts as many claims as
 /// calls, lives and creators have still to end; and a row in cleaning stands with one processor, which made the step that moved it there, and alone may vacate it.

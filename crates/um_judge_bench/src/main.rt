@@ -11,7 +11,7 @@ use um_base::{Image, Memory};
 use um_image::{read_image, weight};
 use um_io::{StdSource, read_all};
 use um_matrix::Matrix;
-use um_turns::run;
+use um_scheduler::run;
 
 /// The most bytes of a description.
 const MOST: u32 = 0x10_0000;

@@ -12,13 +12,13 @@ use Rattle.um_machine.specs.Objects.{is_gone, is_free}
 use Rattle.um_machine.specs.Order.{to_addr}
 use Rattle.um_machine.specs.Run.{Step, Runs}
 use Rattle.um_machine.specs.State.{State}
-use Rattle.um_reach.specs.Acts.{EndsCall}
+use Rattle.um_invariants.specs.Acts.{EndsCall}
 use Rattle.um_laws.specs.Holds.{IsInCall}
-use Rattle.um_reach.proofs.Cores.{Call, Core, core_of, idle, call_at, has_checked, with_call, at_set}
-use Rattle.um_reach.proofs.Guards.{keeps}
-use Rattle.um_reach.proofs.Moves.{IsReached, is_quiet, same, turns, Move, goes, checks, ends, starts, gives, bears, drops, kills, reserves, recycles, marks}
-use Rattle.um_reach.proofs.Turns.{below_rows, IsKnown}
-use Rattle.um_reach.proofs.RunMoves.{step_move, known_step}
+use Rattle.um_invariants.proofs.Cores.{Call, Core, core_of, idle, call_at, has_checked, with_call, at_set}
+use Rattle.um_invariants.proofs.Guards.{keeps}
+use Rattle.um_invariants.proofs.Moves.{IsReached, is_quiet, same, turns, Move, goes, checks, ends, starts, gives, bears, drops, kills, reserves, recycles, marks}
+use Rattle.um_invariants.proofs.Turns.{below_rows, IsKnown}
+use Rattle.um_invariants.proofs.RunMoves.{step_move, known_step}
 
 -- a thread's call changes, and what it had checked stays checked
 stays : (c : Core) (t : ℕ) (call : Call) (u x : ℕ) → (t ≡ u → has_checked c t x ≡ true → slice_index_or call.checked x false ≡ true) → has_checked c u x ≡ true → has_checked (with_call c t call) u x ≡ true

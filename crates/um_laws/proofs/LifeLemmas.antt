@@ -2,7 +2,7 @@
 use Rattle.std.proofs.Common.{◌≡◌, ◌≢◌, ◌⊎◌, inl, inr, ℕ, ◌≤◌, Bool, true, false, ◌==◌, nat_le, List, [], ◌∷◌, ◌++◌, append_assoc, append-nil, refl, sym, ap, ap₂, subst, ◌∙◌, Option, Some, None, if◌then◌else◌, arith}
 use Rattle.std.proofs.lemmas.List.{get_or-set_other}
 use Rattle.std.proofs.lemmas.Bool.Decides.{nat_tests}
-use Rattle.um_reach.proofs.Facts.{is_equal, le_is}
+use Rattle.um_invariants.proofs.Facts.{is_equal, le_is}
 use Rattle.um_base.specs.declared.act.Act.{Act}
 use Rattle.um_base.specs.declared.act.Event.{Event}
 use Rattle.um_base.specs.declared.act.Leftover.{Leftover}
@@ -14,14 +14,14 @@ use Rattle.um_machine.specs.Objects.{is_live, is_gone, is_free}
 use Rattle.um_machine.specs.Order.{to_addr}
 use Rattle.um_machine.specs.Run.{Step, Runs}
 use Rattle.um_machine.specs.State.{State}
-use Rattle.um_reach.specs.Acts.{EndsCall}
+use Rattle.um_invariants.specs.Acts.{EndsCall}
 use Rattle.um_laws.specs.Lives.{Mark, born, gone, recycled, act_marks, marks, next, InTurns, WasBornAndGone, IsWithoutBirth}
-use Rattle.um_reach.proofs.Cores.{Core, core_of, status_at, with_status, at_set}
-use Rattle.um_reach.proofs.Guards.{IsRow, bearing}
-use Rattle.um_reach.proofs.Moves.{IsReached, is_quiet, same, turns, Move, goes, checks, ends, starts, gives, bears, drops, kills, reserves, recycles}
-use Rattle.um_reach.proofs.Turns.{below_rows, IsKnown}
-use Rattle.um_reach.proofs.Reached.{status_now, reserved_here, image_move}
-use Rattle.um_reach.proofs.RunMoves.{step_move, known_step}
+use Rattle.um_invariants.proofs.Cores.{Core, core_of, status_at, with_status, at_set}
+use Rattle.um_invariants.proofs.Guards.{IsRow, bearing}
+use Rattle.um_invariants.proofs.Moves.{IsReached, is_quiet, same, turns, Move, goes, checks, ends, starts, gives, bears, drops, kills, reserves, recycles}
+use Rattle.um_invariants.proofs.Turns.{below_rows, IsKnown}
+use Rattle.um_invariants.proofs.Reached.{status_now, reserved_here, image_move}
+use Rattle.um_invariants.proofs.RunMoves.{step_move, known_step}
 
 -- the mark that is due after these
 abbrev due : Mark → List Mark → Mark

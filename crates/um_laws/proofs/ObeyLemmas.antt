@@ -5,7 +5,7 @@ use Rattle.um_base.specs.declared.image.Image.{Image}
 use Rattle.um_machine.proofs.RunLemmas.{runs-parts}
 use Rattle.um_machine.specs.Run.{IsRun, Step, opening}
 use Rattle.um_machine.specs.State.{State}
-use Rattle.um_reach.specs.Described.{IsDescribed}
+use Rattle.um_invariants.specs.Described.{IsDescribed}
 use Rattle.um_laws.specs.Obeys.{ObeysLaws}
 use Rattle.um_laws.proofs.AccessLemmas.{was_allowed, is_verdict}
 use Rattle.um_laws.proofs.RecycleLemmas.{is_unheld, is_of_its_creator}

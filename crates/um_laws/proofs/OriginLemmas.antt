@@ -1,6 +1,6 @@
 -- Each pair has its origin among the events before.
 use Rattle.std.proofs.Common.{◌≡◌, ◌⊎◌, inl, inr, ℕ, Bool, true, false, not, ◌&&◌, List, [], ◌∷◌, ◌++◌, append_assoc, append-nil, refl, sym, ap, subst, ◌∙◌, Option, Some, None, slice_index_or, slice_set, if◌then◌else◌}
-use Rattle.um_reach.specs.Acts.{ActDrops, ActGives, EndsCall}
+use Rattle.um_invariants.specs.Acts.{ActDrops, ActGives, EndsCall}
 use Rattle.um_base.specs.declared.act.Act.{Act}
 use Rattle.um_base.specs.declared.act.Event.{Event}
 use Rattle.um_base.specs.declared.act.Leftover.{Leftover}
@@ -15,13 +15,13 @@ use Rattle.um_machine.specs.Run.{Step, Runs}
 use Rattle.um_laws.specs.Laws.{SaysVerdict}
 use Rattle.um_laws.specs.Origins.{Drops, IsKept, HasOrigin, booted, given, ChecksOwned, IsOwned}
 use Rattle.um_laws.proofs.AccessLemmas.{is_verdict}
-use Rattle.um_reach.proofs.Cores.{Core, core_of, has_pair, with_seat}
-use Rattle.um_reach.proofs.Guards.{IsRow}
-use Rattle.um_reach.proofs.Moves.{IsReached, is_quiet, same, turns, Move, goes, checks, ends, starts, gives, bears, drops, kills, reserves, recycles, marks}
-use Rattle.um_reach.proofs.Turns.{IsKnown}
-use Rattle.um_reach.proofs.PairMoves.{paired_row}
-use Rattle.um_reach.proofs.Reached.{image_move, at_set_apart, pair_set}
-use Rattle.um_reach.proofs.RunMoves.{step_move, known_step}
+use Rattle.um_invariants.proofs.Cores.{Core, core_of, has_pair, with_seat}
+use Rattle.um_invariants.proofs.Guards.{IsRow}
+use Rattle.um_invariants.proofs.Moves.{IsReached, is_quiet, same, turns, Move, goes, checks, ends, starts, gives, bears, drops, kills, reserves, recycles, marks}
+use Rattle.um_invariants.proofs.Turns.{IsKnown}
+use Rattle.um_invariants.proofs.PairMoves.{paired_row}
+use Rattle.um_invariants.proofs.Reached.{image_move, at_set_apart, pair_set}
+use Rattle.um_invariants.proofs.RunMoves.{step_move, known_step}
 
 quiet_keeps : (u a : ℕ) (act : Act) → is_quiet act ≡ true → ¬ (ActDrops u a act)
 quiet_keeps u a (Act.DropPair who b Leftover.NoPair) q d = d

@@ -10,19 +10,19 @@ use Rattle.um_base.specs.declared.act.Event.{Event}
 use Rattle.um_base.specs.declared.image.Image.{Image}
 use Rattle.um_machine.specs.Run.{Step, IsRun, opening}
 use Rattle.um_machine.specs.State.{State}
-use Rattle.um_reach.specs.Described.{IsDescribed}
-use Rattle.um_reach.proofs.Opening.{IsOpening}
+use Rattle.um_invariants.specs.Described.{IsDescribed}
+use Rattle.um_invariants.proofs.Opening.{IsOpening}
 use Rattle.um_laws.proofs.OriginLemmas.{AreOwned, owned_run, is_owned, image_run, image_step}
-use Rattle.um_reach.proofs.Starts.{starts, starts_run, steps_inside}
+use Rattle.um_invariants.proofs.Starts.{starts, starts_run, steps_inside}
 use Rattle.um_base.specs.declared.act.Act.{Act}
 use Rattle.um_base.specs.declared.names.Addr.{Addr}
 use Rattle.um_base.specs.declared.limits.TheConstants.{STATIC_ROWS}
 use Rattle.um_machine.specs.declared.object.Status.{Status}
 use Rattle.um_laws.specs.Lives.{born, gone, recycled, marks, InTurns, IsWithoutBirth, WasBornAndGone}
-use Rattle.um_reach.proofs.Cores.{core_of, status_at}
+use Rattle.um_invariants.proofs.Cores.{core_of, status_at}
 use Rattle.um_laws.proofs.LifeLemmas.{turns_run, turns_first, between_births, before_recycling}
 use Rattle.um_machine.proofs.RunLemmas.{runs-push, runs-parts}
-use Rattle.um_reach.proofs.RunMoves.{known_run, known_step}
+use Rattle.um_invariants.proofs.RunMoves.{known_run, known_step}
 
 owned_first : (image : Image) → IsOpening image → AreOwned [] (core_of (opening image))
 owned_first image o u x h = subst (λ (i : Image). HasOrigin i u x []) (sym o.image_is) (booted (o.owned u x h) tt)

@@ -1,5 +1,5 @@
 -- How long a call holds the objects that it checked (Zephyr: User Mode, System Calls).
-use Rattle.um_reach.specs.Acts.{EndsCall}
+use Rattle.um_invariants.specs.Acts.{EndsCall}
 use Rattle.std.specs.Prelude.{◌≡◌, ℕ, List, [], ◌∷◌}
 use Rattle.um_base.specs.declared.act.Event.{Event}
 

@@ -1,5 +1,5 @@
 -- Where a thread's pair with an object comes from (Zephyr: User Mode, Kernel Objects).
-use Rattle.um_reach.specs.Acts.{ActGives, ActDrops, boots}
+use Rattle.um_invariants.specs.Acts.{ActGives, ActDrops, boots}
 use Rattle.std.specs.Prelude.{◌≡◌, Some, None, false, ℕ, IsTrue, List, [], ◌∷◌, ◌++◌}
 use Rattle.std.specs.List.{list_any}
 use Rattle.um_base.specs.Places.{row_at, addr_of}

@@ -6,7 +6,7 @@ ghost use Rattle.um_base.specs.declared.act.Event.{Event};
 ghost use Rattle.um_base.specs.declared.image.Image.{Image};
 ghost use Rattle.std.specs.Prelude.{◌≡◌, ℕ, List, [], ◌∷◌, ◌++◌, Option, None};
 ghost use Rattle.um_laws.specs.Laws.{WasAllowed, IsVerdict, IsUnheld, IsOfItsCreator};
-ghost use Rattle.um_reach.specs.Described.{IsDescribed};
+ghost use Rattle.um_invariants.specs.Described.{IsDescribed};
 ghost use Rattle.um_laws.specs.Obeys.{ObeysLaws};
 ghost use Rattle.um_laws.specs.Origins.{IsOwned};
 ghost use Rattle.um_laws.specs.Holds.{IsInCall};

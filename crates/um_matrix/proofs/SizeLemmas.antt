@@ -9,7 +9,7 @@ use Rattle.um_base.specs.declared.image.Script.{Script}
 use Rattle.um_base.specs.declared.instr.Instr.{Instr}
 use Rattle.um_machine.specs.declared.thread.Place.{Place}
 use Rattle.um_machine.specs.State.{lines_of, instruction_at}
-use Rattle.um_rules.specs.Accesses.{is_sized}
+use Rattle.um_steps.specs.Accesses.{is_sized}
 use Rattle.um_matrix.specs.Given.{IsGiven}
 
 first-of : (a b : Bool) → IsTrue (a && b) → IsTrue a

@@ -13,7 +13,7 @@ use std::alloc::Global;
 use std::marker::Model;
 use um_base::{Image, Memory, ROWS, STATIC_ROWS};
 use um_machine::{Object, Status};
-use um_rules::blank::{opening_object, vacant};
+use um_steps::blank::{opening_object, vacant};
 
 /// The objects of all rows. Of the static rows, and of the dynamic ones, it has those up to the last that was ever written;
 /// the others are vacant, and read as the one blank row. Room for all rows is reserved from the beginning.

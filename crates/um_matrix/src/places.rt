@@ -5,7 +5,7 @@ ghost use Rattle.um_base.specs.Places.{row_at};
 ghost use Rattle.um_matrix.specs.Given.{IsGiven};
 
 use um_base::{Image, OBJECT_STEP, OBJECTS, ROWS};
-use um_rules::rows;
+use um_steps::rows;
 
 /// The row whose address is exactly this. That of an object which is no thread stack is known by its address alone, so that
 /// the others aren't looked at.

@@ -21,8 +21,8 @@ use um_base::{Boot, DOMAINS, Image, Memory, Parts, ROWS, STATIC_ROWS, THREADS};
 use um_machine::Object;
 use um_matrix::Matrix;
 use um_processor::{Bytes, DomainCell, Heap, ObjectCell, Scheduler};
-use um_rules::blank::opening_object;
-use um_rules::rows::thread_of_row;
+use um_steps::blank::opening_object;
+use um_steps::rows::thread_of_row;
 
 /// The partitions of a domain.
 fn parts_of(matrix: &Matrix, d: usize) -> Option<Parts>

@@ -13,7 +13,7 @@ use std::alloc::Global;
 use um_base::{DOMAINS, Image, Memory, ROWS, THREADS};
 use um_machine::{Object, Status, Thread};
 use um_matrix::Matrix;
-use um_rules::holds::holds;
+use um_steps::holds::holds;
 use um_words::{DomWord, Permissions, RowWord, Stage, ThreadWord};
 
 /// A thread has a permission, or has none.

@@ -16,9 +16,9 @@ use std::marker::Model;
 use um_base::{
     AREA_SIZE, Found, Image, PARTITION_AREA, Piece, RODATA, Range, Row, STACK_AREA, Setup,
 };
-use um_rules::buffers::first_bytes;
-use um_rules::bytes::{le_value, part, put, write};
-use um_rules::rows::setup_at;
+use um_steps::buffers::first_bytes;
+use um_steps::bytes::{le_value, part, put, write};
+use um_steps::rows::setup_at;
 
 /// How many bytes of a text are read at most.
 const MOST_TEXT: u32 = 32;

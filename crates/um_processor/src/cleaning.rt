@@ -8,7 +8,7 @@ use arrayvec::ArrayVec;
 use std::default::Default;
 use std::marker::Model;
 use um_base::{Image, ROWS};
-use um_rules::rows::thread_of_row;
+use um_steps::rows::thread_of_row;
 
 /// How many objects at most: one more than the dynamic rows, so that there is room where each of them is queued.
 pub const MOST: usize = 33;

@@ -20,7 +20,7 @@ use arrayvec::ArrayVec;
 use std::marker::Model;
 use um_base::Image;
 use um_machine::{Pending, Thread};
-use um_rules::blank::nobody;
+use um_steps::blank::nobody;
 
 /// A thread's own part: what no site keeps of a thread while a processor runs it.
 /// Where a method is told how many steps are taken, it leaves so many of the next ones behind, the last of which is the one that was made:

@@ -7,7 +7,7 @@ ghost use Rattle.um_fine.specs.Processor.{edit_of};
 
 use um_base::{Errno, Image, Parts, Reply};
 use um_machine::Pending;
-use um_rules::domains::{added, domain_after, initialised, removed, reply_to};
+use um_steps::domains::{added, domain_after, initialised, removed, reply_to};
 
 /// The partitions of a domain, or none where it isn't initialised, and how many steps the cell has taken, below 2^28.
 #[derive(Clone, Copy)]

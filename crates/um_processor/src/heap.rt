@@ -14,9 +14,9 @@ use crate::slots::{get_or, put};
 use std::marker::Model;
 use um_base::{Addr, Image, Kind, ROWS, STATIC_ROWS};
 use um_machine::Cost;
-use um_rules::costs::pay_back;
-use um_rules::kinds::{dynamic_kind, kind_number};
-use um_rules::rows::{addr_of, row_at};
+use um_steps::costs::pay_back;
+use um_steps::kinds::{dynamic_kind, kind_number};
+use um_steps::rows::{addr_of, row_at};
 
 /// What is left in each pool, which dynamic addresses are free, and what each object cost.
 #[derive(Drop)]

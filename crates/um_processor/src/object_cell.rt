@@ -10,9 +10,9 @@ ghost use Rattle.um_processor.specs.ObjectCells.{cleared, named_as};
 
 use um_base::{Piece, Waiter};
 use um_machine::{Contents, Cost, Waiters};
-use um_rules::buffers::message_size;
-use um_rules::costs::buffer_cost;
 use um_service::{Outcome, act};
+use um_steps::buffers::message_size;
+use um_steps::costs::buffer_cost;
 
 /// What an object keeps, who waits on it and what its buffer cost, and how many steps the cell has taken, below 2^28.
 #[derive(Drop)]

@@ -12,7 +12,7 @@ use crate::matrix::choice::Choice;
 use um_base::{Act, ROWS, THREADS, ThreadIx};
 use um_machine::places::instruction_at;
 use um_machine::{Pending, Status};
-use um_rules::rows::thread_of_row;
+use um_steps::rows::thread_of_row;
 
 /// What is made of the act of a thread at rest.
 fn rest_choice(act: &Act) -> Choice

@@ -18,9 +18,9 @@ use um_base::{
     Partition, Parts, ROWS, Range, Row, THREADS,
 };
 use um_machine::Thread;
-use um_rules::blank::{boot_thread, nobody};
-use um_rules::rows::thread_of_row;
 use um_service::Outcome;
+use um_steps::blank::{boot_thread, nobody};
+use um_steps::rows::thread_of_row;
 
 /// The bytes of the read-only data, filled up with zeros.
 fn rodata(alloc: Global, image: &Image) -> Result<Vec<u8>, Memory>

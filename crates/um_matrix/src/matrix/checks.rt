@@ -13,9 +13,9 @@ use um_base::{
     THREADS, ThreadIx, Want,
 };
 use um_machine::{Object, Status, Thread};
-use um_rules::holds::holds;
-use um_rules::kinds::has_kind;
-use um_rules::rows::own_row;
+use um_steps::holds::holds;
+use um_steps::kinds::has_kind;
+use um_steps::rows::own_row;
 
 impl<'a> Matrix<'a> {
     ghost use Rattle.um_base.specs.Places.{own_row};

@@ -10,7 +10,7 @@ use crate::matrix::checks::none_set;
 use um_base::{Act, Event, ROWS, THREADS, ThreadIx};
 use um_machine::places::instruction_at;
 use um_machine::{Life, Pending};
-use um_rules::same::same_act;
+use um_steps::same::same_act;
 
 /// What is made of an act that is a step.
 #[derive(Clone, Copy)]

@@ -5,8 +5,8 @@ ghost use Rattle.std.specs.Prelude.{◌≡◌, ◌<◌, []};
 use crate::matrix::Matrix;
 use um_base::{ROWS, THREADS, ThreadIx};
 use um_machine::Pending;
-use um_rules::blank::vacate;
-use um_rules::costs::pay_back;
+use um_steps::blank::vacate;
+use um_steps::costs::pay_back;
 
 impl<'a> Matrix<'a> {
     ghost use Rattle.um_machine.specs.Table.{after, cleaned_by};

@@ -2,15 +2,15 @@
 
 ghost use Rattle.std.specs.Prelude.{◌≡◌, ◌<◌, ◌==◌, [], drop, if◌then◌else◌, IsTrue, IfSome, length};
 ghost use Rattle.std.specs.Option.{option_copied};
-ghost use Rattle.um_rules.specs.Accesses.{is_sized};
+ghost use Rattle.um_steps.specs.Accesses.{is_sized};
 
 use crate::matrix::Matrix;
 use um_base::{Instr, Mode, Row, THREADS, ThreadIx};
 use um_machine::places::{first_place, instruction_at};
 use um_machine::{Life, Pending, Thread};
-use um_rules::blank::nobody;
-use um_rules::order;
-use um_rules::registers::put_begin;
+use um_steps::blank::nobody;
+use um_steps::order;
+use um_steps::registers::put_begin;
 
 /// Where and how a new thread starts.
 #[derive(Clone, Copy)]

@@ -5,7 +5,7 @@ ghost use Rattle.std.specs.Prelude.{◌≡◌, ◌<◌, drop, map, ℕ};
 use crate::matrix::Matrix;
 use um_base::{Act, Attr, Errno, PartRefs, Parts, Range, Reply, THREADS, ThreadIx};
 use um_machine::Pending;
-use um_rules::domains::{added, domain_after, initialised, removed, reply_to};
+use um_steps::domains::{added, domain_after, initialised, removed, reply_to};
 
 impl<'a> Matrix<'a> {
     ghost use Rattle.um_base.specs.Lawful.{most_parts};

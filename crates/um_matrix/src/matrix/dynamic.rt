@@ -5,10 +5,10 @@ ghost use Rattle.std.specs.Prelude.{◌≡◌, ◌<◌, drop};
 use crate::matrix::Matrix;
 use um_base::{Addr, Errno, Kind, ROWS, Reply, THREADS};
 use um_machine::{Pending, Status};
-use um_rules::blank::vacate;
-use um_rules::costs::{cost_of, pay_back, pay_from};
-use um_rules::order::answer_error;
-use um_rules::rows::addr_of;
+use um_steps::blank::vacate;
+use um_steps::costs::{cost_of, pay_back, pay_from};
+use um_steps::order::answer_error;
+use um_steps::rows::addr_of;
 
 /// What a dynamic object costs.
 const OBJECT_COST: u32 = 64;

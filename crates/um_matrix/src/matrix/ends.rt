@@ -6,7 +6,7 @@ use crate::matrix::Matrix;
 use crate::matrix::moves::rows_held;
 use um_base::{Cause, ROWS, THREADS};
 use um_machine::Pending;
-use um_rules::order;
+use um_steps::order;
 
 impl<'a> Matrix<'a> {
     ghost use Rattle.um_machine.specs.State.{thread_at};

@@ -5,14 +5,14 @@ ghost use Rattle.um_machine.specs.Memory.{put_bytes};
 
 use crate::matrix::Matrix;
 use um_base::{Access, PARTITION_AREA, RODATA, Range, STACK_AREA, THREADS};
-use um_rules::bytes::{part, put, write};
-use um_rules::regions;
+use um_steps::bytes::{part, put, write};
+use um_steps::regions;
 
 impl<'a> Matrix<'a> {
     ghost use Rattle.um_machine.specs.Memory.{allowed, bytes_at, with_bytes, le_bytes};
 
     /// Whether a thread may do this with n bytes from an address on.
-    #[tactic(auto, using(um_rules::proofs::RegionLemmas::regions_allow))]
+    #[tactic(auto, using(um_steps::proofs::RegionLemmas::regions_allow))]
     pub fn allowed(&self, t: usize, access: Access, a: u32, n: u32) -> bool
         requires { t < THREADS }
         ensures { result ≡ allowed self.now t access a n }

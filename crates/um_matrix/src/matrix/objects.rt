@@ -9,9 +9,9 @@ use crate::matrix::Matrix;
 use crate::matrix::checks::set_said;
 use um_base::{Addr, Cause, Errno, Given, Kind, ROWS, Reply, SetSaid, THREADS, ThreadIx, Want};
 use um_machine::{Contents, Pending, Refusal, Thread};
-use um_rules::order::{refused, refuses};
-use um_rules::registers::put_answer;
-use um_rules::rows::own_row;
+use um_steps::order::{refused, refuses};
+use um_steps::registers::put_answer;
+use um_steps::rows::own_row;
 
 /// What follows where an object can't be marked: the other one is cleared first.
 fn turn_back(thread: &mut Thread, undo: Option<Addr>, e: Errno)

@@ -6,7 +6,7 @@ use crate::matrix::Matrix;
 use crate::matrix::moves::{put, rows_to_pass};
 use um_base::{Addr, THREADS, ThreadIx};
 use um_machine::Pending;
-use um_rules::rows::own_row;
+use um_steps::rows::own_row;
 
 impl<'a> Matrix<'a> {
     ghost use Rattle.um_machine.specs.State.{thread_at};

@@ -8,8 +8,8 @@ use crate::matrix::checks::none_set;
 use crate::matrix::moves::{flag, holders_of};
 use um_base::{Kind, ROWS, STATIC_ROWS, THREADS, ThreadIx};
 use um_machine::{Pending, Status};
-use um_rules::kinds::{dynamic_kind, kind_number};
-use um_rules::rows::{own_row, thread_of_row};
+use um_steps::kinds::{dynamic_kind, kind_number};
+use um_steps::rows::{own_row, thread_of_row};
 
 /// Whether no other thread cleans.
 fn no_other(cleaner: Option<ThreadIx>, t: usize) -> bool

@@ -9,8 +9,8 @@ use crate::matrix::Matrix;
 use crate::matrix::checks::set_said;
 use um_base::{Access, Act, Addr, Kind, ROWS, THREADS, ThreadIx};
 use um_machine::Pending;
-use um_rules::bytes::le_value;
-use um_rules::rows::addr_of;
+use um_steps::bytes::le_value;
+use um_steps::rows::addr_of;
 
 impl<'a> Matrix<'a> {
     ghost use Rattle.um_machine.specs.State.{thread_at};

@@ -7,10 +7,10 @@ ghost use Rattle.um_matrix.specs.Offered.{IsShort};
 use crate::matrix::Matrix;
 use um_base::{Access, Addr, Cause, Errno, Found, Range, Row, Setup, THREADS};
 use um_machine::{Amount, Pending};
-use um_rules::buffers::{first_bytes, message_size};
-use um_rules::bytes::le_value;
-use um_rules::order::{answer_error, copy_fails};
-use um_rules::registers::put_register;
+use um_steps::buffers::{first_bytes, message_size};
+use um_steps::bytes::le_value;
+use um_steps::order::{answer_error, copy_fails};
+use um_steps::registers::put_register;
 
 /// What follows an access that isn't allowed.
 const FAULT: Pending = Pending::Fatal {

@@ -10,10 +10,10 @@ ghost use Rattle.um_matrix.specs.Worked.{threads_woken, answered};
 use crate::matrix::Matrix;
 use um_base::{Act, Addr, Answer, Ask, Image, Piece, Reply, THREADS, ThreadIx, Told, Waiter};
 use um_machine::{Pending, Thread};
-use um_rules::buffers::bytes_given;
-use um_rules::costs::buffer_cost;
-use um_rules::order::after_error;
 use um_service::{act, says};
+use um_steps::buffers::bytes_given;
+use um_steps::costs::buffer_cost;
+use um_steps::order::after_error;
 
 /// A thread is told something.
 #[inline(never)]

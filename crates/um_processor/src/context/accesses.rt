@@ -8,8 +8,8 @@ ghost use Rattle.um_fine.specs.Continues.{after_access, after_text, goes_on};
 use crate::context::Context;
 use um_base::{Cause, Errno, Found, Image, Piece};
 use um_machine::Pending;
-use um_rules::order::{answer_error, copy_fails};
-use um_rules::registers::put_register;
+use um_steps::order::{answer_error, copy_fails};
+use um_steps::registers::put_register;
 
 /// What follows an access that isn't allowed.
 const FAULT: Pending = Pending::Fatal {

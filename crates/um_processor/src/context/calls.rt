@@ -10,9 +10,9 @@ ghost use Rattle.um_fine.specs.Continues.{after_work, goes_on, reply_of, resumed
 use crate::context::Context;
 use um_base::{Addr, Answer, Ask, Errno, Image, Piece, Reply, Told};
 use um_machine::{Pending, Refusal};
-use um_rules::order::{after_error, refused};
-use um_rules::registers::put_answer;
-use um_rules::rows::row_at;
+use um_steps::order::{after_error, refused};
+use um_steps::registers::put_answer;
+use um_steps::rows::row_at;
 
 /// The row at an address that was checked.
 fn row_named(image: &Image, addr: Addr) -> u8

@@ -10,7 +10,7 @@ ghost use Rattle.um_fine.specs.Continues.{ends_with};
 use crate::context::Context;
 use um_base::Image;
 use um_machine::Pending;
-use um_rules::order::{end_steps, fatal_steps, next_doom};
+use um_steps::order::{end_steps, fatal_steps, next_doom};
 
 impl Context {
     /// Ends after its last line.

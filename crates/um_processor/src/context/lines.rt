@@ -7,7 +7,7 @@ ghost use Rattle.um_base.specs.declared.names.Mode.TheVariants as Mode;
 ghost use Rattle.um_machine.specs.Order.{steps_of};
 ghost use Rattle.um_machine.specs.State.{first_place, instruction_at};
 ghost use Rattle.um_machine.specs.Table.{at_steps, with_begin};
-ghost use Rattle.um_rules.specs.Accesses.{is_sized};
+ghost use Rattle.um_steps.specs.Accesses.{is_sized};
 ghost use Rattle.um_fine.specs.Continues.{begun};
 ghost use Rattle.um_processor.specs.Given.{IsGiven};
 
@@ -15,8 +15,8 @@ use crate::context::Context;
 use um_base::{Image, Instr, Mode};
 use um_machine::Thread;
 use um_machine::places::{first_place, instruction_at};
-use um_rules::order;
-use um_rules::registers::put_begin;
+use um_steps::order;
+use um_steps::registers::put_begin;
 
 /// A thread of this index begins an instruction.
 fn begin(image: &Image, t: usize, me: &mut Thread, instr: &Instr)

@@ -10,7 +10,7 @@ ghost use Rattle.um_fine.specs.Continues.{after_access, after_reserve, after_set
 use crate::context::Context;
 use um_base::{Addr, Cause, Errno, Image, Reply, SetSaid};
 use um_machine::Pending;
-use um_rules::order::{answer_error, refuses};
+use um_steps::order::{answer_error, refuses};
 
 impl Context {
     /// Goes on after an object was to be marked as initialised. Where that is refused, another one is cleared first.

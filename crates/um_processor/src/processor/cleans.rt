@@ -15,7 +15,7 @@ use crate::row_act::RowAct;
 use crate::said::Said;
 use crate::sites::Sites;
 use um_base::{Addr, Image, ROWS, Row, ThreadIx};
-use um_rules::rows::addr_of;
+use um_steps::rows::addr_of;
 
 impl Processor {
     /// The permission of a thread that is gone is dropped at a row, where there is one. Where that row comes to cleaning, its object is to be cleaned too.

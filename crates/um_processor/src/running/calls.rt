@@ -19,8 +19,8 @@ use crate::thread_act::ThreadAct;
 use arrayvec::ArrayVec;
 use um_base::{Addr, Errno, Image, Kind, Reply, Row, ThreadIx, Want};
 use um_machine::Refusal;
-use um_rules::kinds::has_kind;
-use um_rules::rows::row_at;
+use um_steps::kinds::has_kind;
+use um_steps::rows::row_at;
 
 impl Running {
     /// The call answers. Its claims are to end.

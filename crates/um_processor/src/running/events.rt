@@ -17,8 +17,8 @@ use crate::said::Said;
 use crate::sites::Sites;
 use crate::thread_act::ThreadAct;
 use um_base::{Addr, Image, Mode, ROWS, Row, STATIC_ROWS, STATIC_THREADS, THREADS, ThreadIx};
-use um_rules::costs::cost_of;
-use um_rules::rows;
+use um_steps::costs::cost_of;
+use um_steps::rows;
 
 /// The row of a thread's own object, which may be past the last row where there is no such thread.
 fn own_row(image: &Image, who: ThreadIx) -> usize

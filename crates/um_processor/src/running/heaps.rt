@@ -18,7 +18,7 @@ use crate::said::Said;
 use crate::sites::Sites;
 use crate::thread_act::ThreadAct;
 use um_base::{Addr, Image, Kind, ThreadIx};
-use um_rules::costs::cost_of;
+use um_steps::costs::cost_of;
 
 impl Running {
     /// Goes on with the new object at this address, where there is one.

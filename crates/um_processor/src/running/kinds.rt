@@ -4,7 +4,7 @@ ghost use Rattle.std.specs.Prelude.{◌≡◌};
 ghost use Rattle.um_fine.specs.Processor.{kind_of};
 
 use um_base::{Image, Kind, STATIC_ROWS};
-use um_rules::kinds::dynamic_kind;
+use um_steps::kinds::dynamic_kind;
 
 /// The kind of the object of a row, whether it stands or not.
 pub fn kind_of(image: &Image, x: usize) -> Option<Kind>

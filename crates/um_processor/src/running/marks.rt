@@ -16,7 +16,7 @@ use crate::said::Said;
 use crate::sites::Sites;
 use arrayvec::ArrayVec;
 use um_base::{Addr, Image, Row, SetSaid, ThreadIx};
-use um_rules::rows::own_row;
+use um_steps::rows::own_row;
 
 impl Running {
     /// Goes on after an object was to be marked as initialised.

@@ -17,7 +17,7 @@ use crate::running::Running;
 use um_base::{Addr, Image, ROWS};
 use um_machine::places::first_place;
 use um_machine::{Amount, Pending};
-use um_rules::rows::{own_row, row_at};
+use um_steps::rows::{own_row, row_at};
 
 /// The first phase of a copy: that of a message looks at its size.
 fn phase_of_amount(amount: &Amount) -> Phase

@@ -12,7 +12,7 @@ ghost use Rattle.um_processor.specs.Processors.{in_phase};
 
 use crate::running::Running;
 use um_base::{Access, Attr, Image, Mode, Range, Row};
-use um_rules::regions::{attr_allows, rodata_allows, stack_regions_allow};
+use um_steps::regions::{attr_allows, rodata_allows, stack_regions_allow};
 
 /// The mode in which a table was loaded.
 fn mode_of(user: bool) -> Mode
@@ -37,7 +37,7 @@ fn parts_allow(parts: &[(Range, Attr)], mode: Mode, access: Access, a: u32, n: u
 
 impl Running {
     /// Whether the table allows this with n bytes from an address on.
-    #[tactic(auto, using(um_rules::proofs::RegionLemmas::regions_allow))]
+    #[tactic(auto, using(um_steps::proofs::RegionLemmas::regions_allow))]
     pub fn allows(&self, image: &Image, access: Access, a: u32, n: u32) -> bool
         ensures { result ≡ allows image.now (in_phase Phase.Park self.now) access a n }
     {

@@ -14,7 +14,7 @@ use crate::said::Said;
 use crate::sites::Sites;
 use um_base::{Addr, Image, ROWS, Row, ThreadIx};
 use um_machine::Pending;
-use um_rules::rows::{addr_of, own_row};
+use um_steps::rows::{addr_of, own_row};
 
 impl Running {
     /// To whom permissions are passed on.

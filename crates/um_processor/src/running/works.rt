@@ -18,8 +18,8 @@ use crate::running::next::row_named;
 use crate::said::Said;
 use crate::sites::Sites;
 use um_base::{Addr, Answer, Ask, Image, Piece, Row, ThreadIx, Waiter};
-use um_rules::buffers::bytes_given;
 use um_service::Outcome;
+use um_steps::buffers::bytes_given;
 
 impl Running {
     /// The thread as the caller of a call.

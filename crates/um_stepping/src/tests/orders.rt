@@ -1,10 +1,10 @@
 //! The orders of threads and processors.
 
 ghost use Rattle.std.specs.Prelude.{◌≡◌, [], ◌∷◌};
-ghost use Rattle.um_turns.specs.Lines.{all_join};
+ghost use Rattle.um_scheduler.specs.Lines.{all_join};
 
 use std::test::Fail;
-use um_turns::Order;
+use um_scheduler::Order;
 
 #[test]
 fn processors_go_round(rt: HostRuntime) -> Result<(), Fail> {

@@ -4,7 +4,7 @@ use Rattle.um_base.specs.declared.limits.TheConstants.{STATIC_ROWS}
 use Rattle.um_laws.proofs.ObeyLemmas.{obeys}
 use Rattle.um_machine.specs.Run.{IsComplete, IsRun}
 use Rattle.um_machine.specs.State.{State}
-use Rattle.um_reach.specs.Described.{IsDescribed}
+use Rattle.um_invariants.specs.Described.{IsDescribed}
 use Rattle.um_app.proofs.RunsOf.{names_run}
 use Rattle.um_app.proofs.threads.thread_run.Goals as goal
 

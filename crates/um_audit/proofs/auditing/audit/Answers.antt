@@ -1,6 +1,6 @@
 use Rattle.std.proofs.Common.{◌≤◌, ◌+◌, ℕ, subst}
 use Rattle.um_base.specs.declared.limits.TheConstants.{STATIC_ROWS}
-use Rattle.um_reach.specs.Described.{IsDescribed}
+use Rattle.um_invariants.specs.Described.{IsDescribed}
 use Rattle.um_audit.specs.declared.verdict.Verdict.{Verdict}
 use Rattle.um_audit.proofs.ProgressLemmas.{verdict-stuck}
 use Rattle.um_audit.proofs.LawLemmas.{exact-of}

@@ -2,7 +2,7 @@ use Rattle.std.proofs.Common.{◌≡◌, ◌≤◌, List, Ok, ap, arith, length,
 use Rattle.std.proofs.lemmas.Result.{IfOk-weaker}
 use Rattle.um_base.specs.Weight.{weight}
 use Rattle.um_base.specs.declared.limits.TheConstants.{STATIC_ROWS}
-use Rattle.um_reach.specs.Described.{IsDescribed}
+use Rattle.um_invariants.specs.Described.{IsDescribed}
 use Rattle.um_fine.specs.Erasure.{shown}
 use Rattle.um_fine.specs.Steps.{FineStep}
 use Rattle.um_core.specs.PickedRun.{IsPickedRun}

@@ -2,7 +2,7 @@ use Rattle.std.proofs.Common.{List, length, arith, sym, ap, ◌∙◌, subst}
 use Rattle.um_base.specs.declared.act.Event.{Event}
 use Rattle.um_machine.specs.Run.{IsComplete, IsRun}
 use Rattle.um_machine.specs.State.{State}
-use Rattle.um_reach.specs.Described.{IsDescribed}
+use Rattle.um_invariants.specs.Described.{IsDescribed}
 use Rattle.um_merge.specs.Logs.{Log, events_of}
 use Rattle.um_merge.specs.Merged.{AreAtSites, HaveOrder, IsOrder}
 use Rattle.um_erasure.specs.Room.{CanRun}

@@ -1,5 +1,0 @@
-use Rattle.um_fine_bound.proofs.BoundLemmas.{within-weight}
-use Rattle.um_fine_bound.proofs.bound.longest_fine_run.Goals as goal
-
-pub returns : goal.returns
-returns c = λ image cpus steps described run. within-weight image cpus described (λ h first. c.every_fine_run.ensures.run image cpus h described first) steps run

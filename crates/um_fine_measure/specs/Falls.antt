@@ -1,0 +1,22 @@
+-- What is left of fine steps: at most the weight of the image at its opening, and less with each step.
+use Rattle.std.specs.Prelude.{◌≡◌, ◌≢◌, ◌≤◌, ◌+◌}
+use Rattle.um_base.specs.declared.image.Image.{Image}
+use Rattle.um_base.specs.Weight.{weight}
+use Rattle.um_fine.specs.Asks.{CpuMay}
+use Rattle.um_fine.specs.Follows.{p_next}
+use Rattle.um_fine.specs.Opening.{s_start}
+use Rattle.um_fine.specs.Processor.{Processor}
+use Rattle.um_fine.specs.Sites.{SiteMay, SiteState, s_next}
+use Rattle.um_fine.specs.Steps.{FineStep, Site}
+use Rattle.um_fine_measure.specs.Measure.{processor_cost, site_cost}
+use Rattle.um_fine_measure.specs.Ready.{MayStep}
+
+-- at the opening the scheduler has the weight left at most, and no other site has anything
+pub record Opens (image : Image) : Type 0 where
+  pub scheduler : site_cost image (s_start image Site.scheduler) ≤ weight image
+  pub others : (site : Site) → site ≢ Site.scheduler → site_cost image (s_start image site) ≡ 0
+
+-- a lawful step of a processor that may make it lowers what the processor and its site have left, by one at least
+abbrev pub Falls : Image → Type 0
+Falls image = (p : Processor) (s : SiteState) (e : FineStep) → CpuMay image p e → SiteMay image s e → MayStep image p e.moved p.todo
+    → processor_cost image (p_next image p e) + site_cost image (s_next image s e) + 1 ≤ processor_cost image p + site_cost image s
