@@ -2,17 +2,18 @@
 
 ghost use Rattle.std.specs.Prelude.{◌≡◌, ◌≤◌, ◌<◌, ◌-◌, ◌^◌, IfOk, IfErr, IfSome, IfNone, Some, None, List, ℕ, false, true, length, string_bytes};
 ghost use Rattle.um_base.specs.Lawful.{IsLawful};
-ghost use Rattle.um_command.specs.declared.command.Command.{Command};
-ghost use Rattle.um_command.specs.Words.{IsFew, HasFew};
+ghost use Rattle.um_command.specs.{declared.command.Command.{Command}, Words.{IsFew, HasFew}};
 ghost use Rattle.um_document.specs.declared.fault.ImageFault.TheVariants as ImageFault;
 ghost use Rattle.um_image.specs.Meaning.{Describes, Refuses};
 ghost use Rattle.um_trace.specs.Layout.{layout_text};
-ghost use Rattle.um_app.specs.Answered.{Answered, IsSilent};
-ghost use Rattle.um_app.specs.Audited.{IsAudit};
-ghost use Rattle.um_app.specs.Inputs.{description_in, is_serial, most_described, most_read, trace_in};
-ghost use Rattle.um_app.specs.Messages.{no_trace_line, refused_line};
-ghost use Rattle.um_app.specs.Top.{IsOutput, IsRunText, IsRunSummary, IsThreadOutput, Writes};
-ghost use Rattle.um_app.specs.Upgraded.{IsUpgrade};
+ghost use Rattle.um_app.specs.{
+  Answered.{Answered, IsSilent},
+  Audited.{IsAudit},
+  Inputs.{description_in, is_serial, most_described, most_read, trace_in},
+  Messages.{no_trace_line, refused_line},
+  Top.{IsOutput, IsRunText, IsRunSummary, IsThreadOutput, Writes},
+  Upgraded.{IsUpgrade},
+};
 
 use crate::sim::ran;
 use crate::threads::{ThreadText, thread_text};

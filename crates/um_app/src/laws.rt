@@ -2,8 +2,7 @@
 
 ghost use Rattle.std.specs.Prelude.{◌≡◌, ℕ, IsTrue, List, Option, Some};
 ghost use Rattle.um_command.specs.declared.command.Command.{Command};
-ghost use Rattle.um_app.specs.Inputs.{is_serial};
-ghost use Rattle.um_app.specs.Top.{Answers};
+ghost use Rattle.um_app.specs.{Inputs.{is_serial}, Top.{Answers}};
 
 /// A command but `run` writes one text of what its source holds: whoever runs it again has the same bytes.
 pub fn one_answer()

@@ -1,15 +1,12 @@
 //! Runs of images on logical processors.
 
 ghost use Rattle.std.specs.Prelude.{◌≡◌, ◌<◌, ◌≤◌, IfOk, List, length};
-ghost use Rattle.um_base.specs.Lawful.{IsLawful};
-ghost use Rattle.um_base.specs.Weight.{weight};
+ghost use Rattle.um_base.specs.{Lawful.{IsLawful}, Weight.{weight}};
 ghost use Rattle.um_command.specs.Words.{IsFew};
-ghost use Rattle.um_machine.specs.Run.{IsComplete, IsRun};
-ghost use Rattle.um_machine.specs.State.{State};
+ghost use Rattle.um_machine.specs.{Run.{IsComplete, IsRun}, State.{State}};
 ghost use Rattle.um_invariants.specs.Described.{IsDescribed};
 ghost use Rattle.um_trace.specs.Text.{text};
-ghost use Rattle.um_app.specs.Ordered.{IsShown};
-ghost use Rattle.um_app.specs.Top.{IsRunOf, NamesRun};
+ghost use Rattle.um_app.specs.{Ordered.{IsShown}, Top.{IsRunOf, NamesRun}};
 
 use std::alloc::Global;
 use um_base::{Event, Image, Memory};

@@ -1,12 +1,10 @@
 //! Runs whose processors are threads.
 
 ghost use Rattle.std.specs.Prelude.{◌≡◌, ◌≤◌, IfOk, length};
-ghost use Rattle.um_base.specs.Lawful.{IsLawful};
-ghost use Rattle.um_base.specs.Weight.{weight};
+ghost use Rattle.um_base.specs.{Lawful.{IsLawful}, Weight.{weight}};
 ghost use Rattle.um_machine.specs.Run.{IsComplete, IsRun};
 ghost use Rattle.um_trace.specs.Text.{text};
-ghost use Rattle.um_app.specs.Threaded.{IsThreadRun};
-ghost use Rattle.um_app.specs.Top.{IsThreadRunText, NamesRun};
+ghost use Rattle.um_app.specs.{Threaded.{IsThreadRun}, Top.{IsThreadRunText, NamesRun}};
 
 use crate::sim::replayed;
 use std::alloc::Global;

@@ -1,17 +1,19 @@
 //! The top call.
 
-ghost use Rattle.std.specs.Prelude.{◌≡◌, ◌≢◌, ◌↔◌, ◌<◌, ◌≤◌, ◌⊎◌, IsTrue, List, ℕ, false, true, map, Some, None, length, string_bytes};
-ghost use Rattle.std.specs.Io.KnownBytes.{Appends};
+ghost use Rattle.std.specs.{
+  Prelude.{◌≡◌, ◌≢◌, ◌↔◌, ◌<◌, ◌≤◌, ◌⊎◌, IsTrue, List, ℕ, false, true, map, Some, None, length, string_bytes},
+  Io.KnownBytes.{Appends},
+};
 ghost use Rattle.um_base.specs.declared.image.Image.{Image};
-ghost use Rattle.um_command.specs.declared.command.Command.{Command};
-ghost use Rattle.um_command.specs.Words.{HasFew, command_of};
+ghost use Rattle.um_command.specs.{declared.command.Command.{Command}, Words.{HasFew, command_of}};
 ghost use Rattle.um_gen.specs.Description.{description};
-ghost use Rattle.um_io.specs.Bytes.{AppendsFront};
-ghost use Rattle.um_io.specs.Causes.{Rose};
-ghost use Rattle.um_app.specs.Answered.{IsRefusal};
-ghost use Rattle.um_app.specs.Inputs.{IsOf, IsTooLong, ReadsAll, ReadsTooLong, ReadsWithin, is_reading, is_serial, most_read};
-ghost use Rattle.um_app.specs.Messages.{line_of, refused_line};
-ghost use Rattle.um_app.specs.Top.{Answers, HasRan, IsRead, Tells};
+ghost use Rattle.um_io.specs.{Bytes.{AppendsFront}, Causes.{Rose}};
+ghost use Rattle.um_app.specs.{
+  Answered.{IsRefusal},
+  Inputs.{IsOf, IsTooLong, ReadsAll, ReadsTooLong, ReadsWithin, is_reading, is_serial, most_read},
+  Messages.{line_of, refused_line},
+  Top.{Answers, HasRan, IsRead, Tells},
+};
 
 use crate::answer::{Answer, answer_to, thread_answer_to};
 use crate::status::Status;

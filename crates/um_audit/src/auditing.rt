@@ -3,9 +3,11 @@
 ghost use Rattle.std.specs.Prelude.{◌≡◌, ◌↔◌, ◌<◌, ◌≤◌, ◌+◌, ◌-◌, ◌^◌, ℕ, List, IfOk, length, vec_capacity};
 ghost use Rattle.um_base.specs.Lawful.{IsLawful};
 ghost use Rattle.um_machine.specs.Run.{opening};
-ghost use Rattle.um_audit.specs.Beginnings.{AreBeginnings};
-ghost use Rattle.um_audit.specs.Verdict.{IsVerdict, IsTextOfRun};
-ghost use Rattle.um_audit.specs.Progress.{IsAt, BeginsDump, Stopped};
+ghost use Rattle.um_audit.specs.{
+  Beginnings.{AreBeginnings},
+  Verdict.{IsVerdict, IsTextOfRun},
+  Progress.{IsAt, BeginsDump, Stopped},
+};
 
 use crate::dump::first_difference;
 use crate::names::beginnings;

@@ -1,8 +1,7 @@
 //! The dump that a text ends with.
 
 ghost use Rattle.std.specs.Prelude.{◌≡◌, ◌≤◌, length, IfSome, IfNone};
-ghost use Rattle.um_audit.specs.Lines.{pieces};
-ghost use Rattle.um_audit.specs.Verdict.{DiffersAt};
+ghost use Rattle.um_audit.specs.{Lines.{pieces}, Verdict.{DiffersAt}};
 
 use crate::pieces::first_piece;
 

@@ -1,8 +1,7 @@
 //! The parts of an input: a description and a trace.
 
 ghost use Rattle.std.specs.Prelude.{◌≡◌, ◌≤◌, IfSome, IfNone, Some, None, List, ℕ, length};
-ghost use Rattle.um_audit.specs.Lines.{line_of};
-ghost use Rattle.um_audit.specs.Parts.{is_between, description_part, trace_part};
+ghost use Rattle.um_audit.specs.{Lines.{line_of}, Parts.{is_between, description_part, trace_part}};
 
 use crate::pieces::{first_piece, line_of};
 

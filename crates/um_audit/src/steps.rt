@@ -4,13 +4,17 @@
 ghost use Rattle.std.specs.Prelude.{◌≡◌, ◌<◌, ◌≤◌, ◌∷◌, ◌++◌, ◌↔◌, [], IfSome, IfNone, IsTrue, Some, None, false, true, if◌then◌else◌, length, slice_get, slice_index_or, vec_capacity, codes};
 ghost use Rattle.um_trace.specs.Names.{thread_text};
 ghost use Rattle.um_base.specs.declared.names.ThreadIx.{ThreadIx};
-ghost use Rattle.um_machine.specs.Limits.{IsSound};
-ghost use Rattle.um_machine.specs.State.{thread_at, is_started};
-ghost use Rattle.um_machine.specs.declared.pending.Pending.{Pending};
+ghost use Rattle.um_machine.specs.{
+  Limits.{IsSound},
+  State.{thread_at, is_started},
+  declared.pending.Pending.{Pending},
+};
 ghost use Rattle.um_matrix.specs.Offered.{first_step, second_step, rest_step, rest_choice, event_of};
 ghost use Rattle.um_matrix.specs.declared.matrix.choice.Choice.TheVariants as Choice;
-ghost use Rattle.um_audit.specs.Beginnings.{AreBeginnings};
-ghost use Rattle.um_audit.specs.Steps.{IsLine, IsStepLine, IsNoStepLine, IsThreadsLine, IsNoThreadsLine, MakesLine, SaysLine, SaysNotLine};
+ghost use Rattle.um_audit.specs.{
+  Beginnings.{AreBeginnings},
+  Steps.{IsLine, IsStepLine, IsNoStepLine, IsThreadsLine, IsNoThreadsLine, MakesLine, SaysLine, SaysNotLine},
+};
 
 use crate::lines::holds_line;
 use um_base::{Act, Event, Image, ROWS, THREADS, ThreadIx};

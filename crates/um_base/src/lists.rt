@@ -50,15 +50,16 @@ pub struct Replies {
 }
 
 impl Model for Replies {
-    ghost use Rattle.std.specs.Prelude.{List, length, map, take, ℕ};
-    ghost use Rattle.std.proofs.Common.{ap};
-    ghost use Rattle.um_base.specs.declared.limits.TheConstants.{THREADS};
-    ghost use Rattle.um_base.specs.declared.lists.ShortReply.{ShortReply};
-    ghost use Rattle.um_base.specs.declared.lists.ShortReply.TheVariants.{Zero};
-    ghost use Rattle.um_base.specs.declared.names.ThreadIx.{ThreadIx};
-    ghost use Rattle.um_base.specs.declared.names.Reply.{Reply};
-    ghost use Rattle.um_base.specs.Room.{IsRoom, filled};
-    ghost use Rattle.um_base.specs.Short.{told, kept, told-front};
+    ghost use Rattle.std.{specs.Prelude.{List, length, map, take, ℕ}, proofs.Common.{ap}};
+    ghost use Rattle.um_base.specs.{
+      declared.limits.TheConstants.{THREADS},
+      declared.lists.ShortReply.{ShortReply},
+      declared.lists.ShortReply.TheVariants.{Zero},
+      declared.names.ThreadIx.{ThreadIx},
+      declared.names.Reply.{Reply},
+      Room.{IsRoom, filled},
+      Short.{told, kept, told-front},
+    };
 
     ghost Value = { List (ThreadIx × Reply) };
 
@@ -119,12 +120,13 @@ pub struct PartRefs {
 }
 
 impl Model for PartRefs {
-    ghost use Rattle.std.specs.Prelude.{List, length, take, ℕ};
-    ghost use Rattle.std.proofs.Common.{ap};
-    ghost use Rattle.um_base.specs.declared.limits.TheConstants.{NAMED_PARTITIONS};
-    ghost use Rattle.um_base.specs.declared.names.PartRef.{PartRef};
-    ghost use Rattle.um_base.specs.declared.names.PartRef.TheVariants.{At};
-    ghost use Rattle.um_base.specs.Room.{IsRoom, filled, room-front};
+    ghost use Rattle.std.{specs.Prelude.{List, length, take, ℕ}, proofs.Common.{ap}};
+    ghost use Rattle.um_base.specs.{
+      declared.limits.TheConstants.{NAMED_PARTITIONS},
+      declared.names.PartRef.{PartRef},
+      declared.names.PartRef.TheVariants.{At},
+      Room.{IsRoom, filled, room-front},
+    };
 
     ghost Value = { List PartRef };
 
@@ -182,12 +184,13 @@ pub struct Parts {
 }
 
 impl Model for Parts {
-    ghost use Rattle.std.specs.Prelude.{List, length, take, ℕ};
-    ghost use Rattle.std.proofs.Common.{ap};
-    ghost use Rattle.um_base.specs.declared.limits.TheConstants.{DOMAIN_PARTITIONS};
-    ghost use Rattle.um_base.specs.declared.names.Range.{Range};
-    ghost use Rattle.um_base.specs.declared.attr.Attr.{Attr};
-    ghost use Rattle.um_base.specs.Room.{IsRoom, filled, room-front};
+    ghost use Rattle.std.{specs.Prelude.{List, length, take, ℕ}, proofs.Common.{ap}};
+    ghost use Rattle.um_base.specs.{
+      declared.limits.TheConstants.{DOMAIN_PARTITIONS},
+      declared.names.Range.{Range},
+      declared.attr.Attr.{Attr},
+      Room.{IsRoom, filled, room-front},
+    };
 
     ghost Value = { List (Range × Attr) };
 
@@ -254,10 +257,8 @@ pub struct Piece {
 }
 
 impl Model for Piece {
-    ghost use Rattle.std.specs.Prelude.{List, length, take, ℕ};
-    ghost use Rattle.std.proofs.Common.{ap};
-    ghost use Rattle.um_base.specs.declared.limits.TheConstants.{PIECE};
-    ghost use Rattle.um_base.specs.Room.{IsRoom, filled, room-front};
+    ghost use Rattle.std.{specs.Prelude.{List, length, take, ℕ}, proofs.Common.{ap}};
+    ghost use Rattle.um_base.specs.{declared.limits.TheConstants.{PIECE}, Room.{IsRoom, filled, room-front}};
 
     ghost Value = { List ℕ };
 

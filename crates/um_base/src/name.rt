@@ -12,8 +12,7 @@ pub struct Name {
 }
 
 impl Model for Name {
-    ghost use Rattle.std.specs.Prelude.{List, length, take, ℕ};
-    ghost use Rattle.std.proofs.Common.{ap};
+    ghost use Rattle.std.{specs.Prelude.{List, length, take, ℕ}, proofs.Common.{ap}};
     ghost use Rattle.um_base.specs.Room.{IsRoom, filled, room-front};
 
     ghost Value = { List ℕ };

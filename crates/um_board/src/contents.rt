@@ -29,8 +29,7 @@ pub struct Contents {
 }
 
 impl Model for Contents {
-    ghost use Rattle.um_board.specs.Contents.{Known};
-    ghost use Rattle.um_board.specs.Kept.{cell_of};
+    ghost use Rattle.um_board.specs.{Contents.{Known}, Kept.{cell_of}};
 
     ghost Value = { Known };
 

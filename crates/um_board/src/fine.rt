@@ -11,10 +11,8 @@ pub trait Fine {
 }
 
 impl Fine for Brand {
-    ghost use Rattle.um_words.specs.declared.fine.FineAct.{FineAct};
-    ghost use Rattle.um_words.specs.declared.fine.Unseen.{Unseen};
-    ghost use Rattle.um_fine.specs.Answers.{no_row};
-    ghost use Rattle.um_fine.specs.Steps.{Exchange, FineStep, Site, Word};
+    ghost use Rattle.um_words.specs.declared.fine.{FineAct.{FineAct}, Unseen.{Unseen}};
+    ghost use Rattle.um_fine.specs.{Answers.{no_row}, Steps.{Exchange, FineStep, Site, Word}};
 
     ghost step = { record { cpu = 0; site = Site.row 0; act = FineAct.Unseen Unseen.Done; word = Word.row no_row; moved = Exchange.nothing } };
 }

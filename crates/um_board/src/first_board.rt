@@ -2,8 +2,7 @@
 
 ghost use Rattle.std.specs.Prelude.{IfOk};
 ghost use Rattle.um_base.specs.Lawful.{IsLawful};
-ghost use Rattle.um_board.specs.Opening.{AreOpening, IsFirst};
-ghost use Rattle.um_board.specs.Seated.{IsSeated};
+ghost use Rattle.um_board.specs.{Opening.{AreOpening, IsFirst}, Seated.{IsSeated}};
 
 use crate::contents::Contents;
 use crate::first_contents::first_contents;

@@ -2,11 +2,8 @@
 
 ghost use Rattle.std.specs.Prelude.{◌≡◌, ◌+◌, IfOk, length};
 ghost use Rattle.um_base.specs.declared.limits.TheConstants.{DOMAINS, ROWS};
-ghost use Rattle.um_fine.specs.Cells.{Cell};
-ghost use Rattle.um_fine.specs.Sites.{site_numbered};
-ghost use Rattle.um_fine.specs.Steps.{Site};
-ghost use Rattle.um_board.specs.Kept.{cell_of};
-ghost use Rattle.um_board.specs.Opening.{AreDomainCells, AreFirst, AreObjects, OpensWith};
+ghost use Rattle.um_fine.specs.{Cells.{Cell}, Sites.{site_numbered}, Steps.{Site}};
+ghost use Rattle.um_board.specs.{Kept.{cell_of}, Opening.{AreDomainCells, AreFirst, AreObjects, OpensWith}};
 
 use crate::contents::{Contents, Kept};
 use std::alloc::Global;

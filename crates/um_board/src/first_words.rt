@@ -1,8 +1,7 @@
 //! The words with which the board of an image opens.
 
 ghost use Rattle.std.specs.Prelude.{◌≡◌, ℕ, ◌+◌, ◌%◌, ◌<◌, ◌≤◌, IfOk, length, slice_index};
-ghost use Rattle.um_base.specs.Lawful.{IsLawful};
-ghost use Rattle.um_base.specs.declared.limits.TheConstants.{DOMAINS, ROWS, THREADS};
+ghost use Rattle.um_base.specs.{Lawful.{IsLawful}, declared.limits.TheConstants.{DOMAINS, ROWS, THREADS}};
 ghost use Rattle.um_machine.specs.Run.{opening};
 ghost use Rattle.um_words.specs.Steps.{number};
 ghost use Rattle.um_opening.specs.Opened.{AreDomains, AreRows, AreThreads};

@@ -1,8 +1,7 @@
 //! The kinds of cells, and what those of each kind keep.
 
 ghost use Rattle.std.specs.Prelude.{◌≡◌};
-ghost use Rattle.um_board.specs.Kept.{cell_of};
-ghost use Rattle.um_board.specs.Turned.{kind_of};
+ghost use Rattle.um_board.specs.{Kept.{cell_of}, Turned.{kind_of}};
 
 use crate::contents::Kept;
 use um_processor::{Bytes, DomainCell, Heap, ObjectCell, Scheduler};

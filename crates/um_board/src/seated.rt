@@ -3,18 +3,21 @@
 ghost use Rattle.std.specs.Prelude.{◌≡◌, ◌≢◌, ◌+◌, ◌<◌, ◌≤◌, ◌++◌, ◌∷◌, ℕ, [], Option, Some, None, false, true, length, MatchOption, IsTrue};
 ghost use Rattle.atomic_table.specs.Seated.{TableId};
 ghost use Rattle.um_machine.specs.Memory.{rodata_of};
-ghost use Rattle.um_words.specs.Packed.{cell_of};
-ghost use Rattle.um_words.specs.Steps.{WordMay, cell_kind_at, number};
-ghost use Rattle.um_fine.specs.Cells.{quiet_word};
-ghost use Rattle.um_fine.specs.Sites.{SiteState, is_site, site_number};
-ghost use Rattle.um_fine.specs.Steps.{Exchange};
+ghost use Rattle.um_words.specs.{Packed.{cell_of}, Steps.{WordMay, cell_kind_at, number}};
+ghost use Rattle.um_fine.specs.{
+  Cells.{quiet_word},
+  Sites.{SiteState, is_site, site_number},
+  Steps.{Exchange},
+};
 ghost use Rattle.um_site.specs.Tells.{NoOlder, last_got};
 ghost use Rattle.um_processor.specs.Asked.{Takes, event_of};
-ghost use Rattle.um_board.specs.NextSteps.{IsNext};
-ghost use Rattle.um_board.specs.Noted.{made_of, number_of};
-ghost use Rattle.um_board.specs.Placed.{AsksTurn, HasMadeNone, HasMadeThere, HasSeen, HasTurnAt, IsAt};
-ghost use Rattle.um_board.specs.ReadBack.{IsReadBack};
-ghost use Rattle.um_board.specs.Saw.{Hinders, SawAt};
+ghost use Rattle.um_board.specs.{
+  NextSteps.{IsNext},
+  Noted.{made_of, number_of},
+  Placed.{AsksTurn, HasMadeNone, HasMadeThere, HasSeen, HasTurnAt, IsAt},
+  ReadBack.{IsReadBack},
+  Saw.{Hinders, SawAt},
+};
 
 use crate::contents::Contents;
 use crate::fine::{AsMade, Fine};

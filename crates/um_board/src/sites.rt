@@ -33,9 +33,11 @@ impl Sites for Seated<'_> {
     ghost use Rattle.std.specs.Prelude.{◌≡◌};
     ghost use Rattle.um_base.specs.declared.image.Image.{Image};
     ghost use Rattle.um_fine.specs.Sites.{site_number};
-    ghost use Rattle.um_board.specs.NextSteps.{IsNext};
-    ghost use Rattle.um_board.specs.Placed.{HasMadeNone, HasMadeThere, IsAt};
-    ghost use Rattle.um_board.specs.Saw.{Hinders, SawShut};
+    ghost use Rattle.um_board.specs.{
+      NextSteps.{IsNext},
+      Placed.{HasMadeNone, HasMadeThere, IsAt},
+      Saw.{Hinders, SawShut},
+    };
 
     ghost IsOf = { λ image s. IsAt image s };
 

@@ -1,8 +1,7 @@
 //! Calls on the word that stands, where it allows them: nothing where it doesn't.
 
 ghost use Rattle.std.specs.Prelude.{◌≡◌, true, Some, IfSome};
-ghost use Rattle.um_site.specs.Calls.{Stays};
-ghost use Rattle.um_site.specs.Lives.{Cleans};
+ghost use Rattle.um_site.specs.{Calls.{Stays}, Lives.{Cleans}};
 ghost use Rattle.um_board_bench.specs.Seats.{OnRow, OnThread};
 
 use crate::seen::{row_seen, thread_seen};

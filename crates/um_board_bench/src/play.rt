@@ -1,8 +1,7 @@
 //! A seat that makes steps of many kinds on one row.
 
 ghost use Rattle.std.specs.Prelude.{true, Some};
-ghost use Rattle.um_site.specs.Calls.{Stays};
-ghost use Rattle.um_site.specs.Lives.{Cleans};
+ghost use Rattle.um_site.specs.{Calls.{Stays}, Lives.{Cleans}};
 ghost use Rattle.um_board_bench.specs.Seats.{OnRow};
 
 use crate::now::{born_now, check_now, drop_now, end_now, grant_now, vacate_now};

@@ -1,13 +1,14 @@
 //! Boot entries.
 
-ghost use Rattle.std.specs.Prelude.{◌≡◌, ◌++◌, true, map, option_map, OnOk};
-ghost use Rattle.std.specs.List.{flat_map};
-ghost use Rattle.um_canonical.specs.Entries.{row_names};
-ghost use Rattle.um_canonical.specs.Named.{name_at};
-ghost use Rattle.um_canonical.specs.Objects.{number_pair, text_pair};
-ghost use Rattle.um_canonical.specs.Pieces.{pair_text, pairs_text, rows_text};
-ghost use Rattle.um_canonical.specs.Sections.{pool_pairs, grant_pairs};
-ghost use Rattle.um_canonical.specs.Tables.{boot_by};
+ghost use Rattle.std.specs.{Prelude.{◌≡◌, ◌++◌, true, map, option_map, OnOk}, List.{flat_map}};
+ghost use Rattle.um_canonical.specs.{
+  Entries.{row_names},
+  Named.{name_at},
+  Objects.{number_pair, text_pair},
+  Pieces.{pair_text, pairs_text, rows_text},
+  Sections.{pool_pairs, grant_pairs},
+  Tables.{boot_by},
+};
 ghost use Rattle.um_document.specs.declared.shape.Key.{Key};
 ghost use Rattle.um_plain_toml.specs.Printed.{items_text};
 

@@ -1,10 +1,11 @@
 //! Domains.
 
-ghost use Rattle.std.specs.Prelude.{◌≡◌, ◌++◌, true, option_map, OnOk};
-ghost use Rattle.std.specs.List.{flat_map};
-ghost use Rattle.um_canonical.specs.Entries.{names_at};
-ghost use Rattle.um_canonical.specs.Pieces.{domain_text, pairs_text};
-ghost use Rattle.um_canonical.specs.Sections.{given_pairs};
+ghost use Rattle.std.specs.{Prelude.{◌≡◌, ◌++◌, true, option_map, OnOk}, List.{flat_map}};
+ghost use Rattle.um_canonical.specs.{
+  Entries.{names_at},
+  Pieces.{domain_text, pairs_text},
+  Sections.{given_pairs},
+};
 ghost use Rattle.um_plain_toml.specs.Printed.{items_text};
 
 use crate::names::name_at;

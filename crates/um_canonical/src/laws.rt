@@ -1,10 +1,8 @@
 //! The laws over every text.
 
 ghost use Rattle.std.specs.Prelude.{◌≡◌, [], List, ℕ, Ok};
-ghost use Rattle.um_document.specs.declared.description.Description.{Description};
-ghost use Rattle.um_document.specs.Faults.{ReadsDocument};
-ghost use Rattle.um_description.specs.Flaws.{flaws, meaning};
-ghost use Rattle.um_description.specs.Resolve.{image_of};
+ghost use Rattle.um_document.specs.{declared.description.Description.{Description}, Faults.{ReadsDocument}};
+ghost use Rattle.um_description.specs.{Flaws.{flaws, meaning}, Resolve.{image_of}};
 ghost use Rattle.um_canonical.specs.Text.{described, printed_text};
 
 /// Where a text describes an image, the text that is printed for that image is read as a description, and that

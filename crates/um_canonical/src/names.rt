@@ -1,8 +1,7 @@
 //! The names of an image's things by their numbers.
 
 ghost use Rattle.std.specs.Prelude.{◌≡◌, IfOk, map};
-ghost use Rattle.um_canonical.specs.Named.{name_at};
-ghost use Rattle.um_canonical.specs.Tables.{names_of, AreNamesOf};
+ghost use Rattle.um_canonical.specs.{Named.{name_at}, Tables.{names_of, AreNamesOf}};
 
 use std::alloc::Global;
 use um_base::{DomainDef, Image, Memory, Name, ObjectDef, Partition, Pool, Script};

@@ -1,10 +1,11 @@
 //! Kernel objects.
 
-ghost use Rattle.std.specs.Prelude.{◌≡◌, ◌++◌, OnOk};
-ghost use Rattle.std.specs.List.{flat_map};
-ghost use Rattle.um_canonical.specs.Entries.{details_by};
-ghost use Rattle.um_canonical.specs.Objects.{details_pairs};
-ghost use Rattle.um_canonical.specs.Pieces.{object_text, pairs_text};
+ghost use Rattle.std.specs.{Prelude.{◌≡◌, ◌++◌, OnOk}, List.{flat_map}};
+ghost use Rattle.um_canonical.specs.{
+  Entries.{details_by},
+  Objects.{details_pairs},
+  Pieces.{object_text, pairs_text},
+};
 
 use crate::pairs::{put_header, put_number, put_text, put_truth};
 use um_base::{Kind, Memory, ObjectDef, Setup};

@@ -1,9 +1,11 @@
 //! Lines of TOML: headers, and keys with their values.
 
 ghost use Rattle.std.specs.Prelude.{◌≡◌, ◌++◌, ◌<◌, pos, codes, decimal, OnOk};
-ghost use Rattle.um_canonical.specs.Objects.{number_pair, text_pair, truth_pairs};
-ghost use Rattle.um_canonical.specs.Pieces.{header_text, pair_text, pairs_text};
-ghost use Rattle.um_canonical.specs.Sections.{hex_digit, encoded, bytes_pairs};
+ghost use Rattle.um_canonical.specs.{
+  Objects.{number_pair, text_pair, truth_pairs},
+  Pieces.{header_text, pair_text, pairs_text},
+  Sections.{hex_digit, encoded, bytes_pairs},
+};
 ghost use Rattle.um_document.specs.Shape.{word};
 ghost use Rattle.um_plain_toml.specs.Printed.{before, quoted};
 

@@ -1,10 +1,11 @@
 //! Pools and partitions.
 
-ghost use Rattle.std.specs.Prelude.{◌≡◌, ◌++◌, false, drop, OnOk};
-ghost use Rattle.std.specs.List.{flat_map};
-ghost use Rattle.um_canonical.specs.Entries.{packed};
-ghost use Rattle.um_canonical.specs.Pieces.{pool_text, variable_text, partition_text, partitions_text, first_variable};
-ghost use Rattle.um_canonical.specs.Sections.{data_atoms};
+ghost use Rattle.std.specs.{Prelude.{◌≡◌, ◌++◌, false, drop, OnOk}, List.{flat_map}};
+ghost use Rattle.um_canonical.specs.{
+  Entries.{packed},
+  Pieces.{pool_text, variable_text, partition_text, partitions_text, first_variable},
+  Sections.{data_atoms},
+};
 ghost use Rattle.um_plain_toml.specs.Printed.{members_text};
 
 use crate::pairs::{put, put_digits, put_encoded, put_header, put_key, put_number, put_text};

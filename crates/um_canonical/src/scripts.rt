@@ -1,11 +1,12 @@
 //! Scripts.
 
-ghost use Rattle.std.specs.Prelude.{◌≡◌, ◌++◌, true, OnOk};
-ghost use Rattle.std.specs.List.{flat_map};
-ghost use Rattle.um_canonical.specs.Pieces.{pair_text};
-ghost use Rattle.um_canonical.specs.Sections.{texts_pair};
+ghost use Rattle.std.specs.{Prelude.{◌≡◌, ◌++◌, true, OnOk}, List.{flat_map}};
+ghost use Rattle.um_canonical.specs.{
+  Pieces.{pair_text},
+  Sections.{texts_pair},
+  Tables.{script_by, shown_line, shown_lines},
+};
 ghost use Rattle.um_document.specs.declared.shape.Key.{Key};
-ghost use Rattle.um_canonical.specs.Tables.{script_by, shown_line, shown_lines};
 ghost use Rattle.um_plain_toml.specs.Printed.{before, items_text, quoted};
 
 use crate::lines::put_shown;

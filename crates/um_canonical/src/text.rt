@@ -1,9 +1,7 @@
 //! The whole text of an image.
 
 ghost use Rattle.std.specs.Prelude.{◌≡◌, ◌++◌, OnOk};
-ghost use Rattle.um_canonical.specs.Pieces.{top_text};
-ghost use Rattle.um_canonical.specs.Tables.{text_by};
-ghost use Rattle.um_canonical.specs.Text.{printed_text};
+ghost use Rattle.um_canonical.specs.{Pieces.{top_text}, Tables.{text_by}, Text.{printed_text}};
 
 use crate::boots::put_boots;
 use crate::domains::put_domains;

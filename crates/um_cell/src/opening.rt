@@ -1,8 +1,7 @@
 //! Cells that get the contents with which they open.
 
 ghost use Rattle.std.specs.Prelude.{◌≡◌, ℕ, ◌+◌, ◌<◌, ◌≤◌, ◌∷◌, true, length, None};
-ghost use Rattle.um_site.specs.Calls.{SameSeat};
-ghost use Rattle.um_site.specs.Cells.{AmongCells, NoSteps, NoneOfThem};
+ghost use Rattle.um_site.specs.{Calls.{SameSeat}, Cells.{AmongCells, NoSteps, NoneOfThem}};
 ghost use Rattle.um_cell.specs.Contents.{KnowsFilled, Opens, SameView};
 
 use crate::cells::Cells;

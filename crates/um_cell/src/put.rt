@@ -2,8 +2,7 @@
 
 ghost use Rattle.std.specs.Prelude.{◌≡◌, ℕ, None};
 ghost use Rattle.um_words.specs.Steps.{WordMay};
-ghost use Rattle.um_site.specs.Calls.{SameSeat};
-ghost use Rattle.um_site.specs.Tells.{HasTurn, returning};
+ghost use Rattle.um_site.specs.{Calls.{SameSeat}, Tells.{HasTurn, returning}};
 ghost use Rattle.um_cell.specs.Contents.{AtCell, HasPut, KeepsKin};
 ghost use Rattle.atomic_table.specs.Table.{rest};
 

@@ -2,8 +2,7 @@
 
 ghost use Rattle.std.specs.Prelude.{◌≡◌, ◌%◌, MatchResult, Some, None};
 ghost use Rattle.atomic_table.specs.Table.{rest};
-ghost use Rattle.um_site.specs.Calls.{SameSeat, Stays};
-ghost use Rattle.um_site.specs.Tells.{HasTurn, Looked, Took};
+ghost use Rattle.um_site.specs.{Calls.{SameSeat, Stays}, Tells.{HasTurn, Looked, Took}};
 ghost use Rattle.um_cell.specs.Contents.{AtCell, KnowsFilled, KeepsKin};
 
 use crate::cells::Cells;

@@ -1,7 +1,6 @@
 //! Numbers as words spell them.
 
-ghost use Rattle.std.specs.Prelude.{◌≡◌, ◌≤◌, IfSome};
-ghost use Rattle.std.specs.List.{list_all};
+ghost use Rattle.std.specs.{Prelude.{◌≡◌, ◌≤◌, IfSome}, List.{list_all}};
 ghost use Rattle.um_command.specs.Words as spec;
 
 fn is_digit(byte: u8) -> bool

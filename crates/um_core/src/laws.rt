@@ -3,15 +3,15 @@
 ghost use Rattle.std.specs.Prelude.{◌≡◌, ℕ, List, Option};
 ghost use Rattle.um_base.specs.declared.image.Image.{Image};
 ghost use Rattle.um_invariants.specs.Described.{IsDescribed};
-ghost use Rattle.um_fine.specs.Erasure.{shown};
-ghost use Rattle.um_fine.specs.FineRun.{IsFineRun};
-ghost use Rattle.um_fine.specs.Processor.{Processor};
-ghost use Rattle.um_fine.specs.Sites.{SiteState};
-ghost use Rattle.um_fine.specs.Steps.{FineStep, Site};
-ghost use Rattle.um_erasure.specs.Room.{CanRun};
-ghost use Rattle.um_erasure.specs.Shows.{AreCompleteRun, AreRun};
-ghost use Rattle.um_core.specs.Moments.{AreSorted, MayStep};
-ghost use Rattle.um_core.specs.PickedRun.{IsPickedRun};
+ghost use Rattle.um_fine.specs.{
+  Erasure.{shown},
+  FineRun.{IsFineRun},
+  Processor.{Processor},
+  Sites.{SiteState},
+  Steps.{FineStep, Site},
+};
+ghost use Rattle.um_erasure.specs.{Room.{CanRun}, Shows.{AreCompleteRun, AreRun}};
+ghost use Rattle.um_core.specs.{Moments.{AreSorted, MayStep}, PickedRun.{IsPickedRun}};
 
 use um_erasure::every_fine_run;
 use um_fine_measure::longest_fine_run;

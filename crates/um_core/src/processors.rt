@@ -3,13 +3,13 @@
 ghost use Rattle.std.specs.Prelude.{◌≡◌, ◌<◌, ◌≤◌, ℕ, IfOk, List, false, length, map, replicate, true};
 ghost use Rattle.um_base.specs.Lawful.{IsLawful};
 ghost use Rattle.um_machine.specs.Memory.{rodata_of};
-ghost use Rattle.um_fine.specs.Processor.{idle};
-ghost use Rattle.um_fine.specs.Steps.{FineStep};
-ghost use Rattle.um_processor.specs.Given.{IsGiven};
-ghost use Rattle.um_processor.specs.Standing.{whole};
-ghost use Rattle.um_core.specs.Cores.{IsOpened};
-ghost use Rattle.um_core.specs.CoreSteps.{AllHalt, FirstSteps, GoesOn, Halts, IsCoreOf, Steps, is_made};
-ghost use Rattle.um_core.specs.PickedRun.{NoneFollows};
+ghost use Rattle.um_fine.specs.{Processor.{idle}, Steps.{FineStep}};
+ghost use Rattle.um_processor.specs.{Given.{IsGiven}, Standing.{whole}};
+ghost use Rattle.um_core.specs.{
+  Cores.{IsOpened},
+  CoreSteps.{AllHalt, FirstSteps, GoesOn, Halts, IsCoreOf, Steps, is_made},
+  PickedRun.{NoneFollows},
+};
 
 use std::alloc::Global;
 use std::marker::Model;

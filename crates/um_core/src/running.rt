@@ -1,13 +1,10 @@
 //! A whole run of several processors.
 
 ghost use Rattle.std.specs.Prelude.{◌≡◌, ◌≤◌, IfOk, List, length};
-ghost use Rattle.um_base.specs.Lawful.{IsLawful};
-ghost use Rattle.um_base.specs.Weight.{weight};
+ghost use Rattle.um_base.specs.{Lawful.{IsLawful}, Weight.{weight}};
 ghost use Rattle.um_invariants.specs.Described.{IsDescribed};
-ghost use Rattle.um_fine.specs.Erasure.{shown};
-ghost use Rattle.um_fine.specs.Steps.{FineStep};
-ghost use Rattle.um_erasure.specs.Room.{CanRun};
-ghost use Rattle.um_erasure.specs.Shows.{AreCompleteRun};
+ghost use Rattle.um_fine.specs.{Erasure.{shown}, Steps.{FineStep}};
+ghost use Rattle.um_erasure.specs.{Room.{CanRun}, Shows.{AreCompleteRun}};
 ghost use Rattle.um_core.specs.PickedRun.{IsPickedRun};
 
 use crate::laws::every_order;

@@ -4,10 +4,8 @@ ghost use Rattle.std.specs.Prelude.{◌≡◌};
 ghost use Rattle.um_invariants.specs.Described.{IsDescribed};
 ghost use Rattle.um_erasure.specs.Room.{CanRun};
 ghost use Rattle.um_processor.specs.Given.{IsGiven};
-ghost use Rattle.um_board.specs.Placed.{IsAt};
-ghost use Rattle.um_board.specs.Seated.{KeepsPlace};
-ghost use Rattle.um_cpu.specs.Cpus.{Tells};
-ghost use Rattle.um_cpu.specs.Playing.{AskedOnce, GoesOnTo, IsPlaying, Rested, Worked};
+ghost use Rattle.um_board.specs.{Placed.{IsAt}, Seated.{KeepsPlace}};
+ghost use Rattle.um_cpu.specs.{Cpus.{Tells}, Playing.{AskedOnce, GoesOnTo, IsPlaying, Rested, Worked}};
 
 use crate::turn::Turn;
 use um_base::Image;

@@ -1,10 +1,8 @@
 //! The events that processors on a board show.
 
 ghost use Rattle.std.specs.Prelude.{◌≡◌, ◌≤◌, IfOk, List, length};
-ghost use Rattle.um_base.specs.Lawful.{IsLawful};
-ghost use Rattle.um_base.specs.Weight.{weight};
-ghost use Rattle.um_fine.specs.Erasure.{shown};
-ghost use Rattle.um_fine.specs.Steps.{FineStep};
+ghost use Rattle.um_base.specs.{Lawful.{IsLawful}, Weight.{weight}};
+ghost use Rattle.um_fine.specs.{Erasure.{shown}, Steps.{FineStep}};
 ghost use Rattle.um_merge.specs.Logs.{events_of};
 ghost use Rattle.um_erasure.specs.Shows.{AreCompleteRun};
 ghost use Rattle.um_cpu.specs.OnBoard.{HasRun};

@@ -1,8 +1,7 @@
 //! Processors as threads on one board.
 
 ghost use Rattle.std.specs.Prelude.{◌≡◌, ◌≤◌, ℕ, [], IfOk, length, vec_capacity};
-ghost use Rattle.um_base.specs.Lawful.{IsLawful};
-ghost use Rattle.um_base.specs.Weight.{weight};
+ghost use Rattle.um_base.specs.{Lawful.{IsLawful}, Weight.{weight}};
 ghost use Rattle.um_invariants.specs.Described.{IsDescribed};
 ghost use Rattle.um_erasure.specs.Room.{CanRun};
 ghost use Rattle.um_processor.specs.Given.{IsGiven};

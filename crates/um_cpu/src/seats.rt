@@ -3,8 +3,7 @@
 ghost use Rattle.std.specs.Prelude.{◌≡◌, ◌+◌, ◌<◌, ◌≤◌, [], IfOk, length};
 ghost use Rattle.um_base.specs.Weight.{weight};
 ghost use Rattle.um_machine.specs.Memory.{rodata_of};
-ghost use Rattle.um_board.specs.Opening.{AreOpening, IsFirst};
-ghost use Rattle.um_board.specs.Seated.{IsSeated};
+ghost use Rattle.um_board.specs.{Opening.{AreOpening, IsFirst}, Seated.{IsSeated}};
 ghost use Rattle.um_cpu.specs.Ended.{Begins, EachAt, Gathered};
 
 use crate::cpu::Cpu;

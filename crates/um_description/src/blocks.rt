@@ -1,7 +1,6 @@
 //! The blocks of scripts: each `repeat` with its `end`.
 
-ghost use Rattle.std.specs.Prelude.{◌≡◌, false, map, IfOk};
-ghost use Rattle.std.specs.List.{list_any};
+ghost use Rattle.std.specs.{Prelude.{◌≡◌, false, map, IfOk}, List.{list_any}};
 ghost use Rattle.um_document.specs.First.{first_of};
 ghost use Rattle.um_description.specs.Lines as spec;
 ghost use Rattle.um_description.specs.Names as names;

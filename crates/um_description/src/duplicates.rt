@@ -1,14 +1,16 @@
 //! Names that stood before.
 
 ghost use Rattle.std.specs.Prelude.{◌≡◌, [], ◌∷◌, map, None, Ok, IfOk, OnOk};
-ghost use Rattle.um_document.specs.declared.description.DomainEntry.{DomainEntry};
-ghost use Rattle.um_document.specs.declared.description.ObjectEntry.{ObjectEntry};
-ghost use Rattle.um_document.specs.declared.description.PartitionEntry.{PartitionEntry};
-ghost use Rattle.um_document.specs.declared.description.PoolEntry.{PoolEntry};
-ghost use Rattle.um_document.specs.declared.description.ScriptEntry.{ScriptEntry};
-ghost use Rattle.um_document.specs.declared.description.VariableEntry.{VariableEntry};
-ghost use Rattle.um_document.specs.declared.shape.Section.{Section};
-ghost use Rattle.um_document.specs.First.{first_of};
+ghost use Rattle.um_document.specs.{
+  declared.description.DomainEntry.{DomainEntry},
+  declared.description.ObjectEntry.{ObjectEntry},
+  declared.description.PartitionEntry.{PartitionEntry},
+  declared.description.PoolEntry.{PoolEntry},
+  declared.description.ScriptEntry.{ScriptEntry},
+  declared.description.VariableEntry.{VariableEntry},
+  declared.shape.Section.{Section},
+  First.{first_of},
+};
 ghost use Rattle.um_description.specs.Duplicates as spec;
 ghost use Rattle.um_description.specs.Names.{variables_of, variable_names, names_within};
 

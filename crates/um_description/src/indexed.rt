@@ -1,8 +1,7 @@
 //! A description whose variables are found by their names.
 
 ghost use Rattle.std.specs.Prelude.{◌≡◌, IfOk};
-ghost use Rattle.um_description.specs.Mentions.{names_variable};
-ghost use Rattle.um_description.specs.Resolve.{variable_addr};
+ghost use Rattle.um_description.specs.{Mentions.{names_variable}, Resolve.{variable_addr}};
 
 use crate::spots::{Spot, spot_named, spots_of};
 use std::alloc::Global;

@@ -1,8 +1,7 @@
 //! The kinds of flaws in their order, and what a description means.
 
 ghost use Rattle.std.specs.Prelude.{◌≡◌, IfOk, List};
-ghost use Rattle.um_document.specs.declared.description.VariableEntry.{VariableEntry};
-ghost use Rattle.um_document.specs.First.{first_of};
+ghost use Rattle.um_document.specs.{declared.description.VariableEntry.{VariableEntry}, First.{first_of}};
 ghost use Rattle.um_description.specs.Flaws as spec;
 ghost use Rattle.um_description.specs.Kinds as kinds;
 ghost use Rattle.um_description.specs.Packing.{ArePacked, offsets};

@@ -1,10 +1,12 @@
 //! Counts and numbers that are out of their ranges.
 
 ghost use Rattle.std.specs.Prelude.{◌≡◌, ◌≤◌, length, pos};
-ghost use Rattle.um_document.specs.declared.description.PartitionContents.{PartitionContents};
-ghost use Rattle.um_document.specs.declared.place.Place.{Place};
-ghost use Rattle.um_document.specs.declared.shape.Section.{Section};
-ghost use Rattle.um_document.specs.First.{first_of};
+ghost use Rattle.um_document.specs.{
+  declared.description.PartitionContents.{PartitionContents},
+  declared.place.Place.{Place},
+  declared.shape.Section.{Section},
+  First.{first_of},
+};
 ghost use Rattle.um_description.specs.Limits as limits;
 ghost use Rattle.um_description.specs.Names as names;
 

@@ -1,11 +1,13 @@
 //! The names in script lines.
 
 ghost use Rattle.std.specs.Prelude.{◌≡◌, ◌≤◌, ◌+◌, [], ◌∷◌, length, map};
-ghost use Rattle.um_document.specs.declared.description.DomainEntry.{DomainEntry};
-ghost use Rattle.um_document.specs.declared.description.ObjectEntry.{ObjectEntry};
-ghost use Rattle.um_document.specs.declared.description.PartitionEntry.{PartitionEntry};
-ghost use Rattle.um_document.specs.declared.description.ScriptEntry.{ScriptEntry};
-ghost use Rattle.um_document.specs.First.{first_of};
+ghost use Rattle.um_document.specs.{
+  declared.description.DomainEntry.{DomainEntry},
+  declared.description.ObjectEntry.{ObjectEntry},
+  declared.description.PartitionEntry.{PartitionEntry},
+  declared.description.ScriptEntry.{ScriptEntry},
+  First.{first_of},
+};
 ghost use Rattle.um_description.specs.declared.mentions.Wanted.{Wanted};
 ghost use Rattle.um_description.specs.Mentions as spec;
 ghost use Rattle.um_description.specs.Names as names;

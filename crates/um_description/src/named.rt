@@ -1,11 +1,13 @@
 //! What a text names.
 
 ghost use Rattle.std.specs.Prelude.{◌≡◌, ◌<◌, IfSome, bytes_eq, length, map, unwrap_or};
-ghost use Rattle.um_document.specs.declared.description.PoolEntry.{PoolEntry};
-ghost use Rattle.um_document.specs.declared.description.PartitionEntry.{PartitionEntry};
-ghost use Rattle.um_document.specs.declared.description.DomainEntry.{DomainEntry};
-ghost use Rattle.um_document.specs.declared.description.ObjectEntry.{ObjectEntry};
-ghost use Rattle.um_document.specs.declared.description.ScriptEntry.{ScriptEntry};
+ghost use Rattle.um_document.specs.declared.description.{
+  PoolEntry.{PoolEntry},
+  PartitionEntry.{PartitionEntry},
+  DomainEntry.{DomainEntry},
+  ObjectEntry.{ObjectEntry},
+  ScriptEntry.{ScriptEntry},
+};
 ghost use Rattle.um_description.specs.Names.{named};
 
 use um_base::Name;

@@ -1,8 +1,7 @@
 //! Variables in a partition, each at the least multiple of its alignment that is no less than the end of the one before
 //! it.
 
-ghost use Rattle.std.specs.Prelude.{◌≡◌, ◌≤◌, ◌+◌, IfOk, OnOk};
-ghost use Rattle.std.specs.Int.{next_multiple_of};
+ghost use Rattle.std.specs.{Prelude.{◌≡◌, ◌≤◌, ◌+◌, IfOk, OnOk}, Int.{next_multiple_of}};
 ghost use Rattle.um_base.specs.declared.limits.TheConstants.{AREA_ENTRY};
 ghost use Rattle.um_document.specs.Words.{alignment_bytes};
 ghost use Rattle.um_description.specs.Numbers.{natural, bounded};

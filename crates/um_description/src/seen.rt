@@ -1,8 +1,7 @@
 //! Texts that stood before.
 
 ghost use Rattle.std.specs.Prelude.{◌≡◌, [], ◌∷◌, IfOk, OnOk, List, ℕ};
-ghost use Rattle.um_description.specs.Names.{is_among};
-ghost use Rattle.um_description.specs.Duplicates.{SameTexts};
+ghost use Rattle.um_description.specs.{Names.{is_among}, Duplicates.{SameTexts}};
 
 use std::alloc::Global;
 use std::collections::BTreeSet;
@@ -16,8 +15,7 @@ pub struct Seen {
 }
 
 impl Model for Seen {
-    ghost use Rattle.std.specs.Prelude.{List, ℕ, map, Vec};
-    ghost use Rattle.std.specs.declared.alloc.Global.{Global};
+    ghost use Rattle.std.specs.{Prelude.{List, ℕ, map, Vec}, declared.alloc.Global.{Global}};
 
     ghost Value = { List (List ℕ) };
 

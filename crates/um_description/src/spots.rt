@@ -1,9 +1,11 @@
 //! Where variables stand, by their names.
 
 ghost use Rattle.std.specs.Prelude.{◌≡◌, ℕ, List, Some, None, if◌then◌else◌, bytes_eq, IfOk, OnOk};
-ghost use Rattle.um_description.specs.Names.{variables_of};
-ghost use Rattle.um_description.specs.Packing.{offset_named};
-ghost use Rattle.um_description.specs.Spots.{or_else, spot_at, spot_of, spot_in};
+ghost use Rattle.um_description.specs.{
+  Names.{variables_of},
+  Packing.{offset_named},
+  Spots.{or_else, spot_at, spot_of, spot_in},
+};
 
 use crate::packing::{end_behind, offset_behind};
 use std::alloc::Global;

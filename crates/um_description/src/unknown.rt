@@ -1,12 +1,14 @@
 //! Names in keys that name nothing of the kind wanted.
 
 ghost use Rattle.std.specs.Prelude.{◌≡◌, IfOk, map, is_some};
-ghost use Rattle.um_document.specs.declared.description.DomainEntry.{DomainEntry};
-ghost use Rattle.um_document.specs.declared.description.ObjectEntry.{ObjectEntry};
-ghost use Rattle.um_document.specs.declared.place.Place.{Place};
-ghost use Rattle.um_document.specs.declared.shape.Key.{Key};
-ghost use Rattle.um_document.specs.declared.shape.Section.{Section};
-ghost use Rattle.um_document.specs.First.{first_of};
+ghost use Rattle.um_document.specs.{
+  declared.description.DomainEntry.{DomainEntry},
+  declared.description.ObjectEntry.{ObjectEntry},
+  declared.place.Place.{Place},
+  declared.shape.Key.{Key},
+  declared.shape.Section.{Section},
+  First.{first_of},
+};
 ghost use Rattle.um_description.specs.Duplicates.{SameTexts};
 ghost use Rattle.um_description.specs.Known as listed;
 ghost use Rattle.um_description.specs.Names as names;

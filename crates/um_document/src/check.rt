@@ -2,8 +2,7 @@
 
 ghost use Rattle.std.specs.Prelude.{◌≡◌, ◌++◌, map, flat_map, option_map};
 ghost use Rattle.toml.specs.View.{view, array_view, table_view};
-ghost use Rattle.um_document.specs.Broken.{breaks};
-ghost use Rattle.um_document.specs.First.{first_place};
+ghost use Rattle.um_document.specs.{Broken.{breaks}, First.{first_place}};
 ghost use Rattle.um_document.specs.Parts as parts;
 ghost use Rattle.um_document.specs.Shape as shape;
 

@@ -1,8 +1,7 @@
 //! The entries of a document.
 
 ghost use Rattle.std.specs.Prelude.{◌≡◌, IfOk};
-ghost use Rattle.toml.specs.Data.{Members};
-ghost use Rattle.toml.specs.View.{view, array_view, table_view};
+ghost use Rattle.toml.specs.{Data.{Members}, View.{view, array_view, table_view}};
 ghost use Rattle.um_document.specs.Reading as reading;
 
 use crate::description::{

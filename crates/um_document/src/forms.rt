@@ -1,9 +1,7 @@
 //! What a value is, and whether it is what its key asks for.
 
-ghost use Rattle.std.specs.Prelude.{◌≡◌, option_map, is_none};
-ghost use Rattle.std.specs.List.{list_all};
-ghost use Rattle.toml.specs.Data.{as_str, as_integer};
-ghost use Rattle.toml.specs.View.{view};
+ghost use Rattle.std.specs.{Prelude.{◌≡◌, option_map, is_none}, List.{list_all}};
+ghost use Rattle.toml.specs.{Data.{as_str, as_integer}, View.{view}};
 ghost use Rattle.um_document.specs.Forms as forms;
 ghost use Rattle.um_document.specs.Words.{alignment_of};
 

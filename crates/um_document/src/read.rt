@@ -1,8 +1,7 @@
 //! Reading a description.
 
 ghost use Rattle.std.specs.Prelude.{◌≡◌, [], IfOk, IfErr};
-ghost use Rattle.toml.specs.Data.{Members};
-ghost use Rattle.toml.specs.View.{table_view};
+ghost use Rattle.toml.specs.{Data.{Members}, View.{table_view}};
 ghost use Rattle.um_document.specs.Faults as faults;
 ghost use Rattle.um_document.specs.Reading as reading;
 

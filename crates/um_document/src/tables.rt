@@ -1,8 +1,7 @@
 //! What stands at the keys of a table.
 
 ghost use Rattle.std.specs.Prelude.{◌≡◌, option_map};
-ghost use Rattle.toml.specs.Data.{as_array};
-ghost use Rattle.toml.specs.View.{view, array_view, table_view};
+ghost use Rattle.toml.specs.{Data.{as_array}, View.{view, array_view, table_view}};
 ghost use Rattle.um_document.specs.Parts as parts;
 
 use crate::forms::text_of;

@@ -1,10 +1,8 @@
 //! Keys that mean nothing at their places.
 
 ghost use Rattle.std.specs.Prelude.{◌≡◌, flat_map, option_map, IfOk};
-ghost use Rattle.toml.specs.Data.{as_table};
-ghost use Rattle.toml.specs.View.{view, array_view, table_view};
-ghost use Rattle.um_document.specs.First.{first_of};
-ghost use Rattle.um_document.specs.Parts.{each_item};
+ghost use Rattle.toml.specs.{Data.{as_table}, View.{view, array_view, table_view}};
+ghost use Rattle.um_document.specs.{First.{first_of}, Parts.{each_item}};
 ghost use Rattle.um_document.specs.Unknown as unknown;
 
 use crate::place::{key_spot, variable_spot};

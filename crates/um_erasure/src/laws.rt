@@ -2,17 +2,16 @@
 
 ghost use Rattle.std.specs.Prelude.{ℕ, List};
 ghost use Rattle.um_base.specs.declared.image.Image.{Image};
-ghost use Rattle.um_machine.specs.Run.{Runs, opening};
-ghost use Rattle.um_machine.specs.State.{State};
+ghost use Rattle.um_machine.specs.{Run.{Runs, opening}, State.{State}};
 ghost use Rattle.um_invariants.specs.Described.{IsDescribed};
-ghost use Rattle.um_fine.specs.Erasure.{shown};
-ghost use Rattle.um_fine.specs.FineRun.{IsFineRun};
-ghost use Rattle.um_fine.specs.Steps.{FineStep};
-ghost use Rattle.um_erasure.specs.After.{left_by};
-ghost use Rattle.um_erasure.specs.Relation.{Rel};
-ghost use Rattle.um_erasure.specs.Room.{CanCount, CanRun, IsHalted, IsStuck};
-ghost use Rattle.um_erasure.specs.Shows.{AreCompleteRun};
-ghost use Rattle.um_erasure.specs.Waits.{WaitsFor};
+ghost use Rattle.um_fine.specs.{Erasure.{shown}, FineRun.{IsFineRun}, Steps.{FineStep}};
+ghost use Rattle.um_erasure.specs.{
+  After.{left_by},
+  Relation.{Rel},
+  Room.{CanCount, CanRun, IsHalted, IsStuck},
+  Shows.{AreCompleteRun},
+  Waits.{WaitsFor},
+};
 
 /// The law over every fine run of an image that a description gives, by any number of processors, whatever their order: the events
 /// that it shows are a run of the access-matrix machine from the image's opening, and the state that this run leads to is related to what

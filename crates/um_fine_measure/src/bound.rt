@@ -1,15 +1,10 @@
 //! How long fine runs are.
 
 ghost use Rattle.std.specs.Prelude.{◌≡◌, ◌≤◌, ℕ, List, length};
-ghost use Rattle.um_base.specs.declared.image.Image.{Image};
-ghost use Rattle.um_base.specs.Lawful.{IsLawful};
-ghost use Rattle.um_base.specs.Weight.{weight};
+ghost use Rattle.um_base.specs.{declared.image.Image.{Image}, Lawful.{IsLawful}, Weight.{weight}};
 ghost use Rattle.um_invariants.specs.Described.{IsDescribed};
-ghost use Rattle.um_fine.specs.FineRun.{IsFineRun};
-ghost use Rattle.um_fine.specs.Processor.{idle};
-ghost use Rattle.um_fine.specs.Steps.{FineStep};
-ghost use Rattle.um_fine_measure.specs.Falls.{Falls, Opens};
-ghost use Rattle.um_fine_measure.specs.Measure.{processor_cost};
+ghost use Rattle.um_fine.specs.{FineRun.{IsFineRun}, Processor.{idle}, Steps.{FineStep}};
+ghost use Rattle.um_fine_measure.specs.{Falls.{Falls, Opens}, Measure.{processor_cost}};
 
 use um_erasure::every_fine_run;
 

@@ -2,9 +2,7 @@
 
 ghost use Rattle.std.specs.Prelude.{◌≡◌, ◌+◌, ◌*◌, ◌≤◌, ◌==◌, ◌&&◌, All, length, map, vec_len, vec_capacity};
 ghost use Rattle.um_gen.specs.Description as description;
-ghost use Rattle.um_gen.specs.Draws.{draw};
-ghost use Rattle.um_gen.specs.Kept.{name_text};
-ghost use Rattle.um_gen.specs.Pieces.{Writes, each};
+ghost use Rattle.um_gen.specs.{Draws.{draw}, Kept.{name_text}, Pieces.{Writes, each}};
 
 use crate::writer::Writer;
 

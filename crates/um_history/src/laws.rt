@@ -1,29 +1,33 @@
 //! The laws over every board on which processors play, and have played.
 
 ghost use Rattle.std.specs.Prelude.{◌≡◌, ℕ, ◌<◌, ◌≤◌, List, [], ◌∷◌, length, map};
-ghost use Rattle.um_base.specs.Weight.{weight};
-ghost use Rattle.um_base.specs.declared.limits.TheConstants.{ROWS};
-ghost use Rattle.um_base.specs.declared.image.Image.{Image};
-ghost use Rattle.um_machine.specs.Run.{Runs, opening};
-ghost use Rattle.um_machine.specs.State.{State};
+ghost use Rattle.um_base.specs.{
+  Weight.{weight},
+  declared.limits.TheConstants.{ROWS},
+  declared.image.Image.{Image},
+};
+ghost use Rattle.um_machine.specs.{Run.{Runs, opening}, State.{State}};
 ghost use Rattle.um_words.specs.History.{by_seat};
 ghost use Rattle.um_invariants.specs.Described.{IsDescribed};
-ghost use Rattle.um_fine.specs.Erasure.{shown};
-ghost use Rattle.um_fine.specs.FineRun.{IsFineRun};
-ghost use Rattle.um_fine.specs.Steps.{FineStep};
-ghost use Rattle.um_merge.specs.Logs.{Log, events_of};
-ghost use Rattle.um_merge.specs.Merged.{HaveOrder, IsOrder, SameOrder};
-ghost use Rattle.um_merge.specs.declared.logged.Logged.{Logged};
+ghost use Rattle.um_fine.specs.{Erasure.{shown}, FineRun.{IsFineRun}, Steps.{FineStep}};
+ghost use Rattle.um_merge.specs.{
+  Logs.{Log, events_of},
+  Merged.{HaveOrder, IsOrder, SameOrder},
+  declared.logged.Logged.{Logged},
+};
 ghost use Rattle.um_site.specs.declared.view.View.{View};
-ghost use Rattle.um_board.specs.Noted.{logged_of};
-ghost use Rattle.um_board.specs.ReadBack.{fine_at};
-ghost use Rattle.um_erasure.specs.After.{left_by};
-ghost use Rattle.um_erasure.specs.Relation.{Rel};
-ghost use Rattle.um_erasure.specs.Room.{CanRun};
-ghost use Rattle.um_erasure.specs.Shows.{AreCompleteRun, AreRun};
-ghost use Rattle.um_history.specs.Fine.{IsFineOf};
-ghost use Rattle.um_history.specs.LastHolder.{AreHeld, HasLastHolder};
-ghost use Rattle.um_history.specs.Played.{IsMoment, IsPlayed, SawNone};
+ghost use Rattle.um_board.specs.{Noted.{logged_of}, ReadBack.{fine_at}};
+ghost use Rattle.um_erasure.specs.{
+  After.{left_by},
+  Relation.{Rel},
+  Room.{CanRun},
+  Shows.{AreCompleteRun, AreRun},
+};
+ghost use Rattle.um_history.specs.{
+  Fine.{IsFineOf},
+  LastHolder.{AreHeld, HasLastHolder},
+  Played.{IsMoment, IsPlayed, SawNone},
+};
 
 use um_erasure::every_fine_run;
 use um_fine_measure::longest_fine_run;

@@ -2,8 +2,7 @@
 
 ghost use Rattle.std.specs.Prelude.{◌≡◌, List, ℕ};
 ghost use Rattle.um_base.specs.declared.image.Image.{Image};
-ghost use Rattle.um_document.specs.declared.fault.ImageFault.{ImageFault};
-ghost use Rattle.um_document.specs.declared.fault.ImageFault.TheVariants.{Memory};
+ghost use Rattle.um_document.specs.declared.fault.{ImageFault.{ImageFault}, ImageFault.TheVariants.{Memory}};
 ghost use Rattle.um_image.specs.Meaning.{Describes, Refuses, IsRead};
 
 /// Every text is an image or exactly one fault, whose kind isn't want of memory.

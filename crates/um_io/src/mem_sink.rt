@@ -1,6 +1,5 @@
 //! A sink in memory, which fails where it is told to.
-ghost use Rattle.std.specs.Prelude.{◌≤◌};
-ghost use Rattle.std.specs.Vec.{vec_len, vec_capacity};
+ghost use Rattle.std.specs.{Prelude.{◌≤◌}, Vec.{vec_len, vec_capacity}};
 ghost use Rattle.um_io.specs.Room.{reserved_room};
 
 use crate::calls::Calls;
@@ -23,9 +22,11 @@ pub struct MemSink {
 
 impl MemSink {
     ghost use Rattle.std.specs.Prelude.{◌≡◌, ◌≤◌, [], length, IfOk};
-    ghost use Rattle.um_io.specs.Calls.{IsAtStart};
-    ghost use Rattle.um_io.specs.InMemory.{sink_taken, sink_faults, sink_room, sink_calls};
-    ghost use Rattle.um_io.specs.Room.{reserved_room, room_over};
+    ghost use Rattle.um_io.specs.{
+      Calls.{IsAtStart},
+      InMemory.{sink_taken, sink_faults, sink_room, sink_calls},
+      Room.{reserved_room, room_over},
+    };
 
     /// An empty sink that reserves 64 MiB, and takes at most `piece` bytes a write. The calls whose
     /// numbers are in `fails`, counted from 0, fail; where none is, no call does while room is left.
@@ -54,13 +55,17 @@ impl MemSink {
 }
 
 impl Sink for MemSink {
-    ghost use Rattle.std.specs.Prelude.{◌≡◌, ◌-◌, ◌↔◌, min, length, Some, Ok, IsTrue, IsErr, IfOk, OnErr};
-    ghost use Rattle.std.specs.Io.{WritesAtMost};
-    ghost use Rattle.um_io.specs.Bytes.{TakesFront};
-    ghost use Rattle.um_io.specs.Calls.{after_call};
-    ghost use Rattle.um_io.specs.Causes.{HasCause, CountsErrors};
-    ghost use Rattle.um_io.specs.InMemory.{sink_taken, sink_faults, sink_room, sink_calls, is_refused};
-    ghost use Rattle.um_io.specs.Room.{UsesRoom, reserved_room};
+    ghost use Rattle.std.specs.{
+      Prelude.{◌≡◌, ◌-◌, ◌↔◌, min, length, Some, Ok, IsTrue, IsErr, IfOk, OnErr},
+      Io.{WritesAtMost},
+    };
+    ghost use Rattle.um_io.specs.{
+      Bytes.{TakesFront},
+      Calls.{after_call},
+      Causes.{HasCause, CountsErrors},
+      InMemory.{sink_taken, sink_faults, sink_room, sink_calls, is_refused},
+      Room.{UsesRoom, reserved_room},
+    };
 
     ghost taken = { λ s. Some (sink_taken s) };
 

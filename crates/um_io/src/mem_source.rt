@@ -1,6 +1,5 @@
 //! A source over memory, which fails where it is told to.
-ghost use Rattle.std.specs.Prelude.{◌≤◌};
-ghost use Rattle.std.specs.Vec.{vec_len};
+ghost use Rattle.std.specs.{Prelude.{◌≤◌}, Vec.{vec_len}};
 ghost use Rattle.um_io.specs.Room.{most_faults};
 
 use crate::calls::Calls;
@@ -19,9 +18,11 @@ pub struct MemSource {
 
 impl MemSource {
     ghost use Rattle.std.specs.Prelude.{◌≡◌, ◌≤◌};
-    ghost use Rattle.um_io.specs.Calls.{IsAtStart};
-    ghost use Rattle.um_io.specs.Room.{most_faults};
-    ghost use Rattle.um_io.specs.InMemory.{source_left, source_faults, source_most, source_calls};
+    ghost use Rattle.um_io.specs.{
+      Calls.{IsAtStart},
+      Room.{most_faults},
+      InMemory.{source_left, source_faults, source_most, source_calls},
+    };
 
     /// A source of these bytes, at most `piece` of them a read. The calls whose numbers are in
     /// `fails`, counted from 0, fail; where none is, the count of failures is 0 for good.
@@ -42,12 +43,16 @@ impl MemSource {
 }
 
 impl Source for MemSource {
-    ghost use Rattle.std.specs.Prelude.{◌≡◌, ◌↔◌, min, length, Some, IsTrue, IsErr, IfOk};
-    ghost use Rattle.std.specs.Io.{ReadsAtMost};
-    ghost use Rattle.std.specs.Io.KnownBytes.{ReadConsumes};
-    ghost use Rattle.um_io.specs.Calls.{is_next_listed, after_call};
-    ghost use Rattle.um_io.specs.Causes.{HasCause, CountsErrors};
-    ghost use Rattle.um_io.specs.InMemory.{source_left, source_faults, source_most, source_calls};
+    ghost use Rattle.std.specs.{
+      Prelude.{◌≡◌, ◌↔◌, min, length, Some, IsTrue, IsErr, IfOk},
+      Io.{ReadsAtMost},
+      Io.KnownBytes.{ReadConsumes},
+    };
+    ghost use Rattle.um_io.specs.{
+      Calls.{is_next_listed, after_call},
+      Causes.{HasCause, CountsErrors},
+      InMemory.{source_left, source_faults, source_most, source_calls},
+    };
 
     ghost left = { λ s. Some (source_left s) };
 

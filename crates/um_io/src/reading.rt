@@ -1,6 +1,8 @@
 //! Reading to the end.
-ghost use Rattle.std.specs.Prelude.{◌≡◌, ℕ, ◌+◌, ◌≤◌, List, length, IfOk};
-ghost use Rattle.std.specs.Io.KnownBytes.{Consumes, IsAtEnd};
+ghost use Rattle.std.specs.{
+  Prelude.{◌≡◌, ℕ, ◌+◌, ◌≤◌, List, length, IfOk},
+  Io.KnownBytes.{Consumes, IsAtEnd},
+};
 ghost use Rattle.um_io.specs.Causes.{Rose};
 
 use crate::{Failed, Source};

@@ -1,9 +1,6 @@
 //! Where bytes go to.
-ghost use Rattle.std.specs.Prelude.{◌≡◌, ℕ, List, Option, Ok, length};
-ghost use Rattle.std.specs.Io.{WritesAtMost};
-ghost use Rattle.um_io.specs.Causes.{HasCause};
-ghost use Rattle.um_io.specs.Bytes.{TakesFront};
-ghost use Rattle.um_io.specs.Room.{UsesRoom};
+ghost use Rattle.std.specs.{Prelude.{◌≡◌, ℕ, List, Option, Ok, length}, Io.{WritesAtMost}};
+ghost use Rattle.um_io.specs.{Causes.{HasCause}, Bytes.{TakesFront}, Room.{UsesRoom}};
 
 use crate::Failed;
 

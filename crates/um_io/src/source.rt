@@ -1,7 +1,9 @@
 //! Where bytes come from.
-ghost use Rattle.std.specs.Prelude.{◌≡◌, ℕ, ◌≤◌, List, Option};
-ghost use Rattle.std.specs.Io.{ReadsAtMost};
-ghost use Rattle.std.specs.Io.KnownBytes.{ReadConsumes};
+ghost use Rattle.std.specs.{
+  Prelude.{◌≡◌, ℕ, ◌≤◌, List, Option},
+  Io.{ReadsAtMost},
+  Io.KnownBytes.{ReadConsumes},
+};
 ghost use Rattle.um_io.specs.Causes.{HasCause};
 
 use crate::Failed;

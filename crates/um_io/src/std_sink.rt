@@ -45,11 +45,8 @@ impl<W: Write + Drop> StdSink<W> {
 }
 
 impl<W: Write + Drop> Sink for StdSink<W> {
-    ghost use Rattle.std.specs.Prelude.{◌≡◌, Ok, length};
-    ghost use Rattle.std.specs.Io.{WritesAtMost};
-    ghost use Rattle.um_io.specs.Bytes.{TakesFront};
-    ghost use Rattle.um_io.specs.Causes.{HasCause, CountsErrors};
-    ghost use Rattle.um_io.specs.Room.{UsesRoom};
+    ghost use Rattle.std.specs.{Prelude.{◌≡◌, Ok, length}, Io.{WritesAtMost}};
+    ghost use Rattle.um_io.specs.{Bytes.{TakesFront}, Causes.{HasCause, CountsErrors}, Room.{UsesRoom}};
 
     ghost taken = { λ s. W.contents s.inner };
 

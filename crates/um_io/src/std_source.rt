@@ -1,7 +1,5 @@
 //! A source over a reader of std.
-ghost use Rattle.std.specs.Io.{ReadsAtMost};
-ghost use Rattle.std.specs.Io.KnownBytes.{ReadConsumes};
-ghost use Rattle.std.specs.Prelude.{◌≤◌, ◌-◌, ◌^◌};
+ghost use Rattle.std.specs.{Io.{ReadsAtMost}, Io.KnownBytes.{ReadConsumes}, Prelude.{◌≤◌, ◌-◌, ◌^◌}};
 
 use crate::{Failed, Source};
 use std::io::{ErrorKind, Read};
@@ -46,9 +44,7 @@ impl<R: Read + Drop> StdSource<R> {
 }
 
 impl<R: Read + Drop> Source for StdSource<R> {
-    ghost use Rattle.std.specs.Prelude.{◌≡◌};
-    ghost use Rattle.std.specs.Io.{ReadsAtMost};
-    ghost use Rattle.std.specs.Io.KnownBytes.{ReadConsumes};
+    ghost use Rattle.std.specs.{Prelude.{◌≡◌}, Io.{ReadsAtMost}, Io.KnownBytes.{ReadConsumes}};
     ghost use Rattle.um_io.specs.Causes.{HasCause, CountsErrors};
 
     ghost left = { λ s. R.remaining s.inner };

@@ -1,8 +1,6 @@
 //! Writing all bytes.
-ghost use Rattle.std.specs.Prelude.{◌≡◌, ◌+◌, ◌≤◌, length, IsOk, OnOk, OnErr};
-ghost use Rattle.std.specs.Io.KnownBytes.{Appends};
-ghost use Rattle.um_io.specs.Causes.{HasCause};
-ghost use Rattle.um_io.specs.Bytes.{AppendsFront};
+ghost use Rattle.std.specs.{Prelude.{◌≡◌, ◌+◌, ◌≤◌, length, IsOk, OnOk, OnErr}, Io.KnownBytes.{Appends}};
+ghost use Rattle.um_io.specs.{Causes.{HasCause}, Bytes.{AppendsFront}};
 
 use crate::{Failed, Sink};
 

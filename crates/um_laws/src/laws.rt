@@ -1,21 +1,24 @@
 //! The laws over every run.
 
-ghost use Rattle.um_machine.specs.State.{State};
-ghost use Rattle.um_machine.specs.Run.{IsRun, Step};
-ghost use Rattle.um_base.specs.declared.act.Event.{Event};
-ghost use Rattle.um_base.specs.declared.image.Image.{Image};
+ghost use Rattle.um_machine.specs.{State.{State}, Run.{IsRun, Step}};
+ghost use Rattle.um_base.specs.declared.{
+  act.Event.{Event},
+  image.Image.{Image},
+  names.Kind.{Kind},
+  names.Want.{Want},
+  act.Act.{Act},
+  names.Addr.{Addr},
+};
 ghost use Rattle.std.specs.Prelude.{◌≡◌, ℕ, List, [], ◌∷◌, ◌++◌, Option, None};
-ghost use Rattle.um_laws.specs.Laws.{WasAllowed, IsVerdict, IsUnheld, IsOfItsCreator};
+ghost use Rattle.um_laws.specs.{
+  Laws.{WasAllowed, IsVerdict, IsUnheld, IsOfItsCreator},
+  Obeys.{ObeysLaws},
+  Origins.{IsOwned},
+  Holds.{IsInCall},
+  Service.{IsInOrderOfService},
+  Lives.{born, gone, recycled, marks, InTurns, IsWithoutBirth, WasBornAndGone},
+};
 ghost use Rattle.um_invariants.specs.Described.{IsDescribed};
-ghost use Rattle.um_laws.specs.Obeys.{ObeysLaws};
-ghost use Rattle.um_laws.specs.Origins.{IsOwned};
-ghost use Rattle.um_laws.specs.Holds.{IsInCall};
-ghost use Rattle.um_laws.specs.Service.{IsInOrderOfService};
-ghost use Rattle.um_base.specs.declared.names.Kind.{Kind};
-ghost use Rattle.um_base.specs.declared.names.Want.{Want};
-ghost use Rattle.um_laws.specs.Lives.{born, gone, recycled, marks, InTurns, IsWithoutBirth, WasBornAndGone};
-ghost use Rattle.um_base.specs.declared.act.Act.{Act};
-ghost use Rattle.um_base.specs.declared.names.Addr.{Addr};
 
 /// The laws over every run of an image, from its opening on: each event that a run goes on with keeps them. Those of
 /// origins, lives and holds are of images that a description gives, and the others of any.

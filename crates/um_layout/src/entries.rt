@@ -1,10 +1,11 @@
 //! The entries of a layout: rounded sizes, and their order.
 
-ghost use Rattle.std.specs.Prelude.{◌≡◌, ◌≤◌, ◌<◌, ◌^◌, ℕ, IsTrue, All, ◌+◌, length, slice_index_or, IfOk};
-ghost use Rattle.std.specs.List.Sorted.{IsPermutation};
+ghost use Rattle.std.specs.{
+  Prelude.{◌≡◌, ◌≤◌, ◌<◌, ◌^◌, ℕ, IsTrue, All, ◌+◌, length, slice_index_or, IfOk},
+  List.Sorted.{IsPermutation},
+};
 ghost use Rattle.um_base.specs.Lawful.{is_within};
-ghost use Rattle.um_layout.specs.Sizes.{needed};
-ghost use Rattle.um_layout.specs.Entries.{AreEntriesOf, AreOrdered, AreDistinct};
+ghost use Rattle.um_layout.specs.{Sizes.{needed}, Entries.{AreEntriesOf, AreOrdered, AreDistinct}};
 
 use crate::rounding::rounded;
 use std::alloc::Global;

@@ -1,11 +1,12 @@
 //! Ranges in their places.
 
 ghost use Rattle.std.specs.Prelude.{◌≡◌, ◌+◌, ◌%◌, ◌<◌, ◌≤◌, ◌^◌, IsTrue, All, length, map, sum, IfOk, IfErr, Err};
-ghost use Rattle.um_base.specs.Layout.{rounded, starts};
-ghost use Rattle.um_base.specs.Lawful.{is_within, sizes_of, places_of};
-ghost use Rattle.um_layout.specs.Sizes.{needed};
-ghost use Rattle.um_layout.specs.Standing.{IsLawfulRange, IsInArea, AreDisjoint, AreLeast, StandInOrder, IsLayout};
-ghost use Rattle.um_layout.specs.Entries.{AreDistinct, AreStanding, bytes_of};
+ghost use Rattle.um_base.specs.{Layout.{rounded, starts}, Lawful.{is_within, sizes_of, places_of}};
+ghost use Rattle.um_layout.specs.{
+  Sizes.{needed},
+  Standing.{IsLawfulRange, IsInArea, AreDisjoint, AreLeast, StandInOrder, IsLayout},
+  Entries.{AreDistinct, AreStanding, bytes_of},
+};
 
 use crate::entries::{Entry, entries_of, put_in_order, total};
 use std::alloc::Global;

@@ -21,9 +21,11 @@ pub struct MessageQueue {
 
 impl Model for MessageQueue {
     ghost use Rattle.std.specs.Prelude.{◌≡◌, ◌<◌, ◌≤◌, length};
-    ghost use Rattle.um_machine.specs.Contents.{Queue};
-    ghost use Rattle.um_machine.specs.Ring.{window};
-    ghost use Rattle.um_machine.specs.declared.message_queue.TheConstants.{MOST};
+    ghost use Rattle.um_machine.specs.{
+      Contents.{Queue},
+      Ring.{window},
+      declared.message_queue.TheConstants.{MOST},
+    };
 
     ghost Value = { Queue };
 

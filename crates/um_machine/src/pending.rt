@@ -1,8 +1,7 @@
 //! The steps that a thread has still to make in its present instruction.
 
 ghost use Rattle.std.specs.Prelude.{◌≡◌, ◌==◌, ◌<◌, ◌≤◌, [], ◌∷◌, length, slice_get, drop, IfSome};
-ghost use Rattle.um_machine.specs.Limits.{IsSound};
-ghost use Rattle.um_machine.specs.Table.{without_copy};
+ghost use Rattle.um_machine.specs.{Limits.{IsSound}, Table.{without_copy}};
 
 use std::marker::Model;
 use um_base::{Addr, Ask, Attr, Cause, Kind, Mode, PartRefs, Range, Reply, Row, ThreadIx, Want};
@@ -211,9 +210,11 @@ pub struct Pendings {
 
 impl Model for Pendings {
     ghost use Rattle.std.specs.Prelude.{List, ◌≡◌, ◌≤◌, take, reverse, length, All};
-    ghost use Rattle.um_machine.specs.Limits.{IsSound};
-    ghost use Rattle.um_machine.specs.declared.pending.Pending.{Pending};
-    ghost use Rattle.um_machine.specs.declared.pending.TheConstants.{MOST};
+    ghost use Rattle.um_machine.specs.{
+      Limits.{IsSound},
+      declared.pending.Pending.{Pending},
+      declared.pending.TheConstants.{MOST},
+    };
 
     ghost Value = { List Pending };
 

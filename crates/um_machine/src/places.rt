@@ -1,7 +1,9 @@
 //! Places in scripts.
 
-ghost use Rattle.std.specs.Prelude.{◌≡◌, ◌+◌, ◌-◌, ◌<◌, ◌≤◌, ◌^◌, is_some, length, slice_get, IsTrue};
-ghost use Rattle.std.specs.Option.{option_copied};
+ghost use Rattle.std.specs.{
+  Prelude.{◌≡◌, ◌+◌, ◌-◌, ◌<◌, ◌≤◌, ◌^◌, is_some, length, slice_get, IsTrue},
+  Option.{option_copied},
+};
 ghost use Rattle.um_machine.specs.State.{script_lines, instruction_at, is_repeat, repeat_before, past_end, into_repeat, settled, first_place, next_place};
 
 use crate::thread::Place;

@@ -69,8 +69,7 @@ pub struct Thread {
 }
 
 impl Thread {
-    ghost use Rattle.um_machine.specs.Table.{at_steps, without_copy};
-    ghost use Rattle.um_machine.specs.State.{no_rows};
+    ghost use Rattle.um_machine.specs.{Table.{at_steps, without_copy}, State.{no_rows}};
 
     /// Is at rest at its next place, where no step is left.
     pub fn rests(&mut self, image: &Image)

@@ -18,8 +18,7 @@ pub struct ValueStack {
 
 impl Model for ValueStack {
     ghost use Rattle.std.specs.Prelude.{◌≡◌, ◌≤◌, length, take};
-    ghost use Rattle.um_machine.specs.Contents.{Stack};
-    ghost use Rattle.um_machine.specs.declared.value_stack.TheConstants.{MOST};
+    ghost use Rattle.um_machine.specs.{Contents.{Stack}, declared.value_stack.TheConstants.{MOST}};
 
     ghost Value = { Stack };
 

@@ -1,9 +1,11 @@
 //! Those who wait on an object.
 
 ghost use Rattle.std.specs.Prelude.{◌≡◌, ◌==◌, [], ◌∷◌, ◌++◌, ◌<◌, ◌≤◌, ◌+◌, length, take, drop, filter, int_lt};
-ghost use Rattle.um_machine.specs.Services.{without};
-ghost use Rattle.um_machine.specs.Serving.{serves, IsFirstAt, FirstLeaves};
-ghost use Rattle.um_machine.specs.Waiting.{AreWaiters};
+ghost use Rattle.um_machine.specs.{
+  Services.{without},
+  Serving.{serves, IsFirstAt, FirstLeaves},
+  Waiting.{AreWaiters},
+};
 
 use crate::served::Served;
 use std::marker::Model;
@@ -28,8 +30,7 @@ pub struct Waiters {
 
 impl Model for Waiters {
     ghost use Rattle.std.specs.Prelude.{List, ◌≡◌, ◌≤◌, take, length};
-    ghost use Rattle.um_base.specs.declared.ask.Waiter.{Waiter};
-    ghost use Rattle.um_base.specs.declared.limits.TheConstants.{THREADS};
+    ghost use Rattle.um_base.specs.declared.{ask.Waiter.{Waiter}, limits.TheConstants.{THREADS}};
     ghost use Rattle.um_machine.specs.Waiting.{AreWaiters};
 
     ghost Value = { List Waiter };

@@ -22,10 +22,8 @@ mod strings;
 mod transfer;
 mod waiting;
 
-ghost use Rattle.std.specs.Prelude.{◌≡◌, ◌<◌, ◌≤◌, drop, length};
-ghost use Rattle.std.specs.List.{list_any};
-ghost use Rattle.um_machine.specs.declared.object.Object.{Object};
-ghost use Rattle.um_machine.specs.Objects.{is_gone};
+ghost use Rattle.std.specs.{Prelude.{◌≡◌, ◌<◌, ◌≤◌, drop, length}, List.{list_any}};
+ghost use Rattle.um_machine.specs.{declared.object.Object.{Object}, Objects.{is_gone}};
 
 use crate::object_table::ObjectTable;
 use std::marker::Model;
@@ -57,8 +55,7 @@ pub struct Matrix<'a> {
 impl<'a> Model for Matrix<'a> {
     ghost use Rattle.std.specs.Prelude.{◌≡◌, ◌≤◌, length};
     ghost use Rattle.um_base.specs.declared.limits.TheConstants.{THREADS, ROWS, DOMAINS, AREA_SIZE, POOLS};
-    ghost use Rattle.um_machine.specs.State.{State};
-    ghost use Rattle.um_machine.specs.Memory.{rodata_of};
+    ghost use Rattle.um_machine.specs.{State.{State}, Memory.{rodata_of}};
     ghost use Rattle.um_matrix.specs.Given.{IsGiven};
 
     ghost Value = { State };
@@ -81,8 +78,7 @@ impl<'a> Model for Matrix<'a> {
 }
 
 impl<'a> Matrix<'a> {
-    ghost use Rattle.um_machine.specs.State.{object_at};
-    ghost use Rattle.um_machine.specs.Memory.{rodata_of};
+    ghost use Rattle.um_machine.specs.{State.{object_at}, Memory.{rodata_of}};
 
     /// The image that runs.
     pub fn image(&self) -> &'a Image

@@ -1,13 +1,17 @@
 //! The objects of all rows.
 
-ghost use Rattle.std.specs.Prelude.{◌≡◌, ◌<◌, ◌≤◌, ◌-◌, ◌++◌, IfOk, length, replicate, drop, slice_index_or, vec_len, vec_capacity};
-ghost use Rattle.std.specs.Borrow.{sem};
-ghost use Rattle.std.specs.List.{list_any};
+ghost use Rattle.std.specs.{
+  Prelude.{◌≡◌, ◌<◌, ◌≤◌, ◌-◌, ◌++◌, IfOk, length, replicate, drop, slice_index_or, vec_len, vec_capacity},
+  Borrow.{sem},
+  List.{list_any},
+};
 ghost use Rattle.um_base.specs.Lawful.{IsLawful};
-ghost use Rattle.um_machine.specs.declared.object.Object.{Object};
-ghost use Rattle.um_machine.specs.Objects.{is_gone};
-ghost use Rattle.um_machine.specs.Run.{objects_from};
-ghost use Rattle.um_machine.specs.State.{vacant};
+ghost use Rattle.um_machine.specs.{
+  declared.object.Object.{Object},
+  Objects.{is_gone},
+  Run.{objects_from},
+  State.{vacant},
+};
 
 use std::alloc::Global;
 use std::marker::Model;
@@ -27,8 +31,7 @@ pub struct ObjectTable {
 impl Model for ObjectTable {
     ghost use Rattle.std.specs.Prelude.{List, [], ◌∷◌, ◌≡◌, ◌≤◌, ◌-◌, ◌++◌, length, vec_capacity};
     ghost use Rattle.um_base.specs.declared.limits.TheConstants.{ROWS, STATIC_ROWS};
-    ghost use Rattle.um_machine.specs.declared.object.Object.{Object};
-    ghost use Rattle.um_machine.specs.State.{vacant};
+    ghost use Rattle.um_machine.specs.{declared.object.Object.{Object}, State.{vacant}};
     ghost use Rattle.um_matrix.specs.Padded.{padded};
 
     ghost Value = { List Object };

@@ -1,14 +1,14 @@
 //! How long runs are.
 
-ghost use Rattle.um_machine.specs.State.{State};
-ghost use Rattle.um_machine.specs.Run.{Step, opening, ChoosesDue, RunsDue};
-ghost use Rattle.um_base.specs.declared.act.Event.{Event};
-ghost use Rattle.um_base.specs.declared.image.Image.{Image};
-ghost use Rattle.um_base.specs.declared.limits.TheConstants.{STATIC_ROWS};
-ghost use Rattle.um_base.specs.Lawful.{IsLawful};
-ghost use Rattle.um_base.specs.Weight.{weight};
-ghost use Rattle.um_measure.specs.Measure.{measure};
-ghost use Rattle.um_measure.specs.Reached.{IsReached};
+ghost use Rattle.um_machine.specs.{State.{State}, Run.{Step, opening, ChoosesDue, RunsDue}};
+ghost use Rattle.um_base.specs.{
+  declared.act.Event.{Event},
+  declared.image.Image.{Image},
+  declared.limits.TheConstants.{STATIC_ROWS},
+  Lawful.{IsLawful},
+  Weight.{weight},
+};
+ghost use Rattle.um_measure.specs.{Measure.{measure}, Reached.{IsReached}};
 ghost use Rattle.std.specs.Prelude.{List, length, ◌+◌, ◌<◌, ◌≤◌};
 
 /// The measure of a state falls with each step, and is at most the weight of the image at the opening.

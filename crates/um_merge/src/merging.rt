@@ -1,8 +1,10 @@
 //! The merge of logs.
 
 ghost use Rattle.std.specs.Prelude.{◌≡◌, ℕ, ◌<◌, ◌≤◌, List, [], length, ◌↔◌, IsTrue, IfSome, IfNone};
-ghost use Rattle.um_merge.specs.Merged.{AreAtSites, ArePlaced, HaveOrder, IsNext, IsNextIn, IsOrder, SameOrder};
-ghost use Rattle.um_merge.specs.declared.logged.Logged.{Logged};
+ghost use Rattle.um_merge.specs.{
+  Merged.{AreAtSites, ArePlaced, HaveOrder, IsNext, IsNextIn, IsOrder, SameOrder},
+  declared.logged.Logged.{Logged},
+};
 
 use crate::log::Log;
 use crate::logged::{PROCESSORS, SITES};

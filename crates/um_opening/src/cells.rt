@@ -1,18 +1,22 @@
 //! The contents of all cells, as a state of the machine has them.
 
-ghost use Rattle.std.specs.Prelude.{◌≡◌, ◌<◌, ◌≤◌, ◌-◌, ◌++◌, IfOk, length, map, replicate, vec_capacity};
-ghost use Rattle.std.specs.List.{All};
-ghost use Rattle.um_base.specs.declared.limits.TheConstants.{DOMAINS, ROWS, THREADS};
-ghost use Rattle.um_base.specs.declared.image.Boot.{Boot};
-ghost use Rattle.um_base.specs.Lawful.{IsLawful};
-ghost use Rattle.um_base.specs.Places.{thread_of_row};
-ghost use Rattle.um_machine.specs.Run.{index_or, objects_from};
-ghost use Rattle.um_machine.specs.Table.{domain_at};
-ghost use Rattle.um_fine.specs.Cells.{Cell};
-ghost use Rattle.um_fine.specs.Memory.{bytes_of};
-ghost use Rattle.um_fine.specs.Opening.{boot_index, heap_cell, scheduler_cell};
-ghost use Rattle.um_processor.specs.Contexts.{rests};
-ghost use Rattle.um_processor.specs.ObjectCells.{cleared};
+ghost use Rattle.std.specs.{
+  Prelude.{◌≡◌, ◌<◌, ◌≤◌, ◌-◌, ◌++◌, IfOk, length, map, replicate, vec_capacity},
+  List.{All},
+};
+ghost use Rattle.um_base.specs.{
+  declared.limits.TheConstants.{DOMAINS, ROWS, THREADS},
+  declared.image.Boot.{Boot},
+  Lawful.{IsLawful},
+  Places.{thread_of_row},
+};
+ghost use Rattle.um_machine.specs.{Run.{index_or, objects_from}, Table.{domain_at}};
+ghost use Rattle.um_fine.specs.{
+  Cells.{Cell},
+  Memory.{bytes_of},
+  Opening.{boot_index, heap_cell, scheduler_cell},
+};
+ghost use Rattle.um_processor.specs.{Contexts.{rests}, ObjectCells.{cleared}};
 ghost use Rattle.um_opening.specs.Opened.{AreParts, kept_by};
 
 use arrayvec::ArrayVec;

@@ -3,9 +3,7 @@
 ghost use Rattle.std.specs.Prelude.{◌≡◌, ◌≤◌, [], IfOk, IsTrue};
 ghost use Rattle.um_base.specs.Lawful.{IsLawful};
 ghost use Rattle.um_machine.specs.Memory.{rodata_of};
-ghost use Rattle.um_fine.specs.Opening.{s_start, site_state};
-ghost use Rattle.um_fine.specs.Sites.{is_site};
-ghost use Rattle.um_fine.specs.Steps.{Site};
+ghost use Rattle.um_fine.specs.{Opening.{s_start, site_state}, Sites.{is_site}, Steps.{Site}};
 ghost use Rattle.um_processor.specs.Sited.{IsSized, state_at};
 ghost use Rattle.um_opening.specs.Opened.{IsFresh};
 

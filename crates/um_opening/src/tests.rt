@@ -1,8 +1,7 @@
 //! The tables of a small image, of which some sites are asked for steps.
 
 ghost use Rattle.std.specs.Prelude.{◌≡◌, ◌<◌, ◌≤◌, IfOk, [], ◌∷◌, length, false, Some, None, pos, codes};
-ghost use Rattle.um_base.specs.declared.instr.Instr.{Instr};
-ghost use Rattle.um_base.specs.Lawful.{IsLawful};
+ghost use Rattle.um_base.specs.{declared.instr.Instr.{Instr}, Lawful.{IsLawful}};
 ghost use Rattle.um_machine.specs.Memory.{rodata_of};
 
 use super::*;

@@ -1,11 +1,12 @@
 //! The words of rows, threads and domains, as a state of the machine has them.
 
-ghost use Rattle.std.specs.Prelude.{◌≡◌, ◌+◌, ◌<◌, ◌≤◌, [], ◌∷◌, IfOk, length, slice_set};
-ghost use Rattle.std.specs.List.{All};
+ghost use Rattle.std.specs.{Prelude.{◌≡◌, ◌+◌, ◌<◌, ◌≤◌, [], ◌∷◌, IfOk, length, slice_set}, List.{All}};
 ghost use Rattle.um_base.specs.declared.limits.TheConstants.{DOMAINS, ROWS, THREADS};
 ghost use Rattle.um_machine.specs.Objects.{thread_holds};
-ghost use Rattle.um_fine.specs.Opening.{count, domain_state, indexed, row_state, stage_of, thread_state};
-ghost use Rattle.um_fine.specs.Sites.{SiteState};
+ghost use Rattle.um_fine.specs.{
+  Opening.{count, domain_state, indexed, row_state, stage_of, thread_state},
+  Sites.{SiteState},
+};
 ghost use Rattle.um_processor.specs.Sited.{in_domains};
 ghost use Rattle.um_opening.specs.Opened.{AreDomains, AreRows, AreThreads, in_a_domain};
 

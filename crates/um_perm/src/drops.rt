@@ -1,10 +1,8 @@
 //! Taking permissions away.
 
 ghost use Rattle.std.specs.Prelude.{◌≡◌, true, IfOk};
-ghost use Rattle.um_words.specs.Packed.{row_of};
-ghost use Rattle.um_words.specs.Rows.{left_of};
-ghost use Rattle.um_site.specs.Calls.{Stays, AtRow, MayNext, Records};
-ghost use Rattle.um_site.specs.Lives.{Cleans, CleansOnce};
+ghost use Rattle.um_words.specs.{Packed.{row_of}, Rows.{left_of}};
+ghost use Rattle.um_site.specs.{Calls.{Stays, AtRow, MayNext, Records}, Lives.{Cleans, CleansOnce}};
 ghost use Rattle.um_perm.specs.Pairs.{dropped_of, drop_act, is_to_clean, TellsCleaning};
 
 use um_base::{Act, Addr, Leftover, Row, ThreadIx};

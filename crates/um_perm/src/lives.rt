@@ -1,10 +1,8 @@
 //! Births of dynamic objects, and the end of their cleaning.
 
 ghost use Rattle.std.specs.Prelude.{◌≡◌, true};
-ghost use Rattle.um_words.specs.Packed.{row_of};
-ghost use Rattle.um_words.specs.Rows.{is_free, is_cleaning};
-ghost use Rattle.um_site.specs.Calls.{Stays, AtRow, MayNext, Records};
-ghost use Rattle.um_site.specs.Lives.{Cleans, CleansOnce};
+ghost use Rattle.um_words.specs.{Packed.{row_of}, Rows.{is_free, is_cleaning}};
+ghost use Rattle.um_site.specs.{Calls.{Stays, AtRow, MayNext, Records}, Lives.{Cleans, CleansOnce}};
 ghost use Rattle.um_perm.specs.Pairs.{born_act, vacate_act};
 
 use um_base::{Act, Addr, Row, ThreadIx};

@@ -1,8 +1,7 @@
 //! Whether an object is initialised.
 
 ghost use Rattle.std.specs.Prelude.{◌≡◌, false, IfOk};
-ghost use Rattle.um_words.specs.Packed.{row_of};
-ghost use Rattle.um_words.specs.Rows.{is_free, set_of};
+ghost use Rattle.um_words.specs.{Packed.{row_of}, Rows.{is_free, set_of}};
 ghost use Rattle.um_site.specs.Calls.{Stays, AtRow, MayNext, Records};
 ghost use Rattle.um_perm.specs.Pairs.{answer_of, set_act, clear_act};
 

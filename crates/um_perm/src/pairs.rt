@@ -1,8 +1,7 @@
 //! Giving permissions.
 
 ghost use Rattle.std.specs.Prelude.{◌≡◌, ◌<◌, false, IfOk};
-ghost use Rattle.um_words.specs.Packed.{row_of};
-ghost use Rattle.um_words.specs.Rows.{is_free, is_cleaning, given_of};
+ghost use Rattle.um_words.specs.{Packed.{row_of}, Rows.{is_free, is_cleaning, given_of}};
 ghost use Rattle.um_site.specs.Calls.{Stays, AtRow, MayNext, Records};
 ghost use Rattle.um_perm.specs.Pairs.{grant_act, own_act, publish_act, passes, passed_of, inherit_act};
 

@@ -1,14 +1,18 @@
 //! The contents of the memory's cell.
 
 ghost use Rattle.std.specs.Prelude.{◌≡◌, ◌+◌, ◌<◌, ◌≤◌, ◌^◌, length, replicate, slice_index, ℕ, IsTrue};
-ghost use Rattle.um_base.specs.declared.act.Act.{Act};
-ghost use Rattle.um_base.specs.declared.limits.TheConstants.{AREA_SIZE};
-ghost use Rattle.um_base.specs.Places.{setup_at};
-ghost use Rattle.um_base.specs.Regions.{stack_range};
+ghost use Rattle.um_base.specs.{
+  declared.act.Act.{Act},
+  declared.limits.TheConstants.{AREA_SIZE},
+  Places.{setup_at},
+  Regions.{stack_range},
+};
 ghost use Rattle.um_machine.specs.Memory.{le_bytes, le_value, put_bytes, rodata_of};
-ghost use Rattle.um_fine.specs.Answers.{act_in};
-ghost use Rattle.um_fine.specs.Memory.{byte_at, memory_after, read, text_bytes, text_found, write};
-ghost use Rattle.um_fine.specs.Steps.{Exchange};
+ghost use Rattle.um_fine.specs.{
+  Answers.{act_in},
+  Memory.{byte_at, memory_after, read, text_bytes, text_found, write},
+  Steps.{Exchange},
+};
 ghost use Rattle.um_processor.specs.MemoryActs.{has_room, memory_answered, memory_given, memory_said, taken_after, text_taken};
 
 use crate::memory_act::{MemoryAct, MemorySaid};

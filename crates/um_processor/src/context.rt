@@ -11,9 +11,7 @@ mod reads;
 
 ghost use Rattle.std.specs.Prelude.{◌≡◌, ◌<◌, drop};
 ghost use Rattle.um_base.specs.declared.limits.TheConstants.{THREADS};
-ghost use Rattle.um_fine.specs.Context.{context_of, no_context};
-ghost use Rattle.um_fine.specs.Continues.{goes_on};
-ghost use Rattle.um_fine.specs.Scheduler.{waits};
+ghost use Rattle.um_fine.specs.{Context.{context_of, no_context}, Continues.{goes_on}, Scheduler.{waits}};
 ghost use Rattle.um_processor.specs.Contexts.{rests};
 
 use arrayvec::ArrayVec;
@@ -37,8 +35,7 @@ pub struct Context {
 }
 
 impl Model for Context {
-    ghost use Rattle.std.specs.Prelude.{◌<◌};
-    ghost use Rattle.std.specs.List.{All};
+    ghost use Rattle.std.specs.{Prelude.{◌<◌}, List.{All}};
     ghost use Rattle.um_base.specs.declared.limits.TheConstants.{ROWS, THREADS};
     ghost use Rattle.um_fine.specs.Context.{Context as OwnPart};
     ghost use Rattle.um_processor.specs.Contexts.{IsOwn, own_part};

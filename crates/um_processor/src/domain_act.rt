@@ -4,8 +4,7 @@ ghost use Rattle.std.specs.Prelude.{◌≡◌, ◌<◌, ℕ, IsTrue, MatchOption
 ghost use Rattle.um_base.specs.declared.image.Image.{Image};
 ghost use Rattle.um_words.specs.Domains.{domain_after, domain_takes, is_zero, left_by_reader, writes, written};
 ghost use Rattle.um_fine.specs.Sites.{SiteState};
-ghost use Rattle.um_processor.specs.Asked.{Refuses, Takes, event_of};
-ghost use Rattle.um_processor.specs.DomainActs.{domain_act, domain_made};
+ghost use Rattle.um_processor.specs.{Asked.{Refuses, Takes, event_of}, DomainActs.{domain_act, domain_made}};
 
 use crate::log::shown;
 use um_base::{Act, Attr, Event, Range, Reply, ThreadIx};

@@ -1,8 +1,7 @@
 //! The contents of a domain's cell.
 
 ghost use Rattle.std.specs.Prelude.{◌≡◌};
-ghost use Rattle.um_machine.specs.Domains.{domain_after, reply_to};
-ghost use Rattle.um_machine.specs.Memory.{parts_or_none};
+ghost use Rattle.um_machine.specs.{Domains.{domain_after, reply_to}, Memory.{parts_or_none}};
 ghost use Rattle.um_fine.specs.Processor.{edit_of};
 
 use um_base::{Errno, Image, Parts, Reply};

@@ -1,12 +1,13 @@
 //! The contents of the heap's cell.
 
 ghost use Rattle.std.specs.Prelude.{◌≡◌, ◌<◌, IfSome, None, if◌then◌else◌};
-ghost use Rattle.um_base.specs.declared.act.Act.{Act};
-ghost use Rattle.um_base.specs.declared.limits.TheConstants.{ROWS};
-ghost use Rattle.um_fine.specs.Addresses.{address_or, row_named};
-ghost use Rattle.um_fine.specs.Answers.{act_in};
-ghost use Rattle.um_fine.specs.Heap.{can_pay, heap_after, heap_says, is_open, least_open, paid};
-ghost use Rattle.um_fine.specs.Steps.{Exchange};
+ghost use Rattle.um_base.specs.declared.{act.Act.{Act}, limits.TheConstants.{ROWS}};
+ghost use Rattle.um_fine.specs.{
+  Addresses.{address_or, row_named},
+  Answers.{act_in},
+  Heap.{can_pay, heap_after, heap_says, is_open, least_open, paid},
+  Steps.{Exchange},
+};
 ghost use Rattle.um_processor.specs.HeapActs.{heap_act, heap_said};
 
 use crate::heap_act::{HeapAct, HeapSaid};

@@ -2,10 +2,8 @@
 
 ghost use Rattle.std.specs.Prelude.{◌≡◌, ◌<◌, ◌++◌, ◌∷◌, [], length, nat_le, vec_capacity, None, Some, if◌then◌else◌};
 ghost use Rattle.um_base.specs.declared.act.Act.{Act};
-ghost use Rattle.um_machine.specs.Order.{to_thread};
-ghost use Rattle.um_machine.specs.Table.{replies_of};
-ghost use Rattle.um_processor.specs.Asked.{by_thread};
-ghost use Rattle.um_processor.specs.Sited.{logged};
+ghost use Rattle.um_machine.specs.{Order.{to_thread}, Table.{replies_of}};
+ghost use Rattle.um_processor.specs.{Asked.{by_thread}, Sited.{logged}};
 
 use um_base::{Act, Addr, Event, ThreadIx, Waiter};
 use um_service::Outcome;

@@ -2,9 +2,11 @@
 
 ghost use Rattle.std.specs.Prelude.{◌≡◌, ◌<◌, IsTrue};
 ghost use Rattle.um_base.specs.declared.limits.TheConstants.{THREADS};
-ghost use Rattle.um_machine.specs.Limits.{is_sound_ask};
-ghost use Rattle.um_machine.specs.Services.{acted};
-ghost use Rattle.um_machine.specs.Table.{buffer_cost, message_size};
+ghost use Rattle.um_machine.specs.{
+  Limits.{is_sound_ask},
+  Services.{acted},
+  Table.{buffer_cost, message_size},
+};
 ghost use Rattle.um_service.specs.Left.{left};
 ghost use Rattle.um_processor.specs.ObjectCells.{cleared, named_as};
 

@@ -4,8 +4,10 @@ ghost use Rattle.std.specs.Prelude.{◌≡◌, ◌<◌, ℕ, IsTrue, MatchOption
 ghost use Rattle.um_base.specs.declared.image.Image.{Image};
 ghost use Rattle.um_words.specs.Rows.{row_after, row_says, row_takes};
 ghost use Rattle.um_fine.specs.Sites.{SiteState};
-ghost use Rattle.um_processor.specs.Asked.{Refuses, Takes};
-ghost use Rattle.um_processor.specs.RowActs.{left_by, row_act, row_event, row_made, row_said};
+ghost use Rattle.um_processor.specs.{
+  Asked.{Refuses, Takes},
+  RowActs.{left_by, row_act, row_event, row_made, row_said},
+};
 
 use crate::log::shown;
 use um_base::{Act, Addr, Errno, Event, Given, Kind, Leftover, Mode, SetSaid, ThreadIx, Want};

@@ -23,8 +23,7 @@ mod works;
 
 ghost use Rattle.std.specs.Prelude.{◌≡◌, IfOk};
 ghost use Rattle.um_fine.specs.Processor.{idle};
-ghost use Rattle.um_processor.specs.Phases.{is_idle};
-ghost use Rattle.um_processor.specs.Processors.{processor_of};
+ghost use Rattle.um_processor.specs.{Phases.{is_idle}, Processors.{processor_of}};
 
 use crate::context::Context;
 use crate::newborn::{NOBODY, Newborn};

@@ -1,14 +1,20 @@
 //! The contents of the scheduler's cell.
 
-ghost use Rattle.std.specs.Prelude.{◌≡◌, ◌<◌, ◌≤◌, ◌&&◌, ◌||◌, [], false, length, nat_lt, is_some, not, replicate, true, IfOk, IsTrue, MatchOption};
+ghost use Rattle.std.specs.{
+  Prelude.{◌≡◌, ◌<◌, ◌≤◌, ◌&&◌, ◌||◌, [], false, length, nat_lt, is_some, not, replicate, true, IfOk, IsTrue, MatchOption},
+  List.{All},
+};
 ghost use Rattle.um_base.specs.declared.limits.TheConstants.{THREADS};
-ghost use Rattle.std.specs.List.{All};
-ghost use Rattle.um_fine.specs.Scheduler.{behind, first_ready, first_taken, has_place, has_ready, is_ready, one_less, parked_at, put_back};
-ghost use Rattle.um_fine.specs.Opening.{indexed};
-ghost use Rattle.um_fine.specs.Steps.{Exchange};
+ghost use Rattle.um_fine.specs.{
+  Scheduler.{behind, first_ready, first_taken, has_place, has_ready, is_ready, one_less, parked_at, put_back},
+  Opening.{indexed},
+  Steps.{Exchange},
+};
 ghost use Rattle.um_machine.specs.State.{is_living};
-ghost use Rattle.um_processor.specs.Contexts.{rests};
-ghost use Rattle.um_processor.specs.Parked.{awake, nobody, resting, scheduler_of, some_if};
+ghost use Rattle.um_processor.specs.{
+  Contexts.{rests},
+  Parked.{awake, nobody, resting, scheduler_of, some_if},
+};
 
 use crate::context::Context;
 use crate::parked::Parked;
@@ -28,8 +34,7 @@ pub struct Scheduler {
 }
 
 impl Model for Scheduler {
-    ghost use Rattle.std.specs.Prelude.{◌≡◌, ◌<◌, length};
-    ghost use Rattle.std.specs.List.{All};
+    ghost use Rattle.std.specs.{Prelude.{◌≡◌, ◌<◌, length}, List.{All}};
     ghost use Rattle.um_base.specs.declared.limits.TheConstants.{THREADS};
     ghost use Rattle.um_fine.specs.Scheduler.{Scheduler as Contents};
     ghost use Rattle.um_processor.specs.Parked.{scheduler_of};

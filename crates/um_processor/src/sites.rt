@@ -1,30 +1,34 @@
 //! How a processor reaches the sites.
 
 ghost use Rattle.std.specs.Prelude.{◌≡◌, ◌<◌, ℕ, IsTrue, Option};
-ghost use Rattle.um_base.specs.declared.limits.TheConstants.{DOMAINS, ROWS, THREADS};
-ghost use Rattle.um_base.specs.Regions.{Partitions};
-ghost use Rattle.um_machine.specs.Domains.{reply_to};
-ghost use Rattle.um_machine.specs.Limits.{is_sound_ask};
-ghost use Rattle.um_words.specs.declared.row_word.RowWord.{RowWord};
-ghost use Rattle.um_words.specs.declared.thread_word.ThreadWord.{ThreadWord};
-ghost use Rattle.um_words.specs.declared.dom_word.DomWord.{DomWord};
-ghost use Rattle.um_fine.specs.Answers.{domain_in, thread_in};
-ghost use Rattle.um_fine.specs.Heap.{Heap};
-ghost use Rattle.um_fine.specs.Memory.{Bytes};
-ghost use Rattle.um_fine.specs.Objects.{ObjectCell};
-ghost use Rattle.um_fine.specs.Processor.{edit_of};
-ghost use Rattle.um_fine.specs.Scheduler.{Scheduler};
-ghost use Rattle.um_fine.specs.Steps.{Exchange, Site};
-ghost use Rattle.um_processor.specs.DomainActs.{domain_made};
-ghost use Rattle.um_processor.specs.DomainCells.{edited_made, loaded_made};
-ghost use Rattle.um_processor.specs.HeapActs.{heap_made, heap_said};
-ghost use Rattle.um_processor.specs.MemoryActs.{Tells, has_room, memory_made};
-ghost use Rattle.um_processor.specs.ObjectCells.{cleared_made, looked_made, named_made, outcome_by, worked_made};
-ghost use Rattle.um_processor.specs.RowActs.{row_made, row_said};
-ghost use Rattle.um_processor.specs.Parked.{some_if};
-ghost use Rattle.um_processor.specs.SchedulerActs.{added_made, done_made, parked_made, taken_made, woken_made};
-ghost use Rattle.um_processor.specs.Sited.{IfMade, MatchSaid};
-ghost use Rattle.um_processor.specs.ThreadActs.{thread_made};
+ghost use Rattle.um_base.specs.{declared.limits.TheConstants.{DOMAINS, ROWS, THREADS}, Regions.{Partitions}};
+ghost use Rattle.um_machine.specs.{Domains.{reply_to}, Limits.{is_sound_ask}};
+ghost use Rattle.um_words.specs.declared.{
+  row_word.RowWord.{RowWord},
+  thread_word.ThreadWord.{ThreadWord},
+  dom_word.DomWord.{DomWord},
+};
+ghost use Rattle.um_fine.specs.{
+  Answers.{domain_in, thread_in},
+  Heap.{Heap},
+  Memory.{Bytes},
+  Objects.{ObjectCell},
+  Processor.{edit_of},
+  Scheduler.{Scheduler},
+  Steps.{Exchange, Site},
+};
+ghost use Rattle.um_processor.specs.{
+  DomainActs.{domain_made},
+  DomainCells.{edited_made, loaded_made},
+  HeapActs.{heap_made, heap_said},
+  MemoryActs.{Tells, has_room, memory_made},
+  ObjectCells.{cleared_made, looked_made, named_made, outcome_by, worked_made},
+  RowActs.{row_made, row_said},
+  Parked.{some_if},
+  SchedulerActs.{added_made, done_made, parked_made, taken_made, woken_made},
+  Sited.{IfMade, MatchSaid},
+  ThreadActs.{thread_made},
+};
 
 use crate::context::Context;
 use crate::domain_act::DomainAct;

@@ -1,7 +1,6 @@
 //! The sites in tables, of which only one call at a time makes a step.
 
-ghost use Rattle.std.specs.Prelude.{◌≡◌, length, vec_capacity};
-ghost use Rattle.std.specs.List.{All};
+ghost use Rattle.std.specs.{Prelude.{◌≡◌, length, vec_capacity}, List.{All}};
 ghost use Rattle.um_base.specs.declared.limits.TheConstants.{DOMAINS, ROWS, THREADS};
 ghost use Rattle.um_processor.specs.Sited.{in_domains};
 
@@ -53,8 +52,7 @@ pub struct Tables {
 }
 
 impl Model for Tables {
-    ghost use Rattle.std.specs.Prelude.{◌≡◌, ◌<◌, length, vec_capacity};
-    ghost use Rattle.std.specs.List.{All};
+    ghost use Rattle.std.specs.{Prelude.{◌≡◌, ◌<◌, length, vec_capacity}, List.{All}};
     ghost use Rattle.um_base.specs.declared.limits.TheConstants.{DOMAINS, ROWS, THREADS};
     ghost use Rattle.um_processor.specs.Sited.{Sited, in_domains};
 

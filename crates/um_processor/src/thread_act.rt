@@ -1,13 +1,13 @@
 //! What a processor asks of the word of a thread index.
 
 ghost use Rattle.std.specs.Prelude.{◌≡◌, ◌<◌, ℕ, IfSome, IsTrue, MatchOption};
-ghost use Rattle.um_base.specs.declared.image.Image.{Image};
-ghost use Rattle.um_base.specs.declared.limits.TheConstants.{DOMAINS};
+ghost use Rattle.um_base.specs.declared.{image.Image.{Image}, limits.TheConstants.{DOMAINS}};
 ghost use Rattle.um_words.specs.Threads.{thread_after, thread_takes};
-ghost use Rattle.um_fine.specs.Sites.{SiteState};
-ghost use Rattle.um_fine.specs.Threads.{thread_answers};
-ghost use Rattle.um_processor.specs.Asked.{Refuses, Takes};
-ghost use Rattle.um_processor.specs.ThreadActs.{thread_act, thread_event, thread_made};
+ghost use Rattle.um_fine.specs.{Sites.{SiteState}, Threads.{thread_answers}};
+ghost use Rattle.um_processor.specs.{
+  Asked.{Refuses, Takes},
+  ThreadActs.{thread_act, thread_event, thread_made},
+};
 
 use crate::log::shown;
 use um_base::{Act, Addr, Cause, DOMAINS, Errno, Event, Kind, Mode, Reply, ThreadIx, Want};

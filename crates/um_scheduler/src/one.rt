@@ -1,10 +1,8 @@
 //! A run is given by its image, the number of processors and the pick.
 
 ghost use Rattle.std.specs.Prelude.{◌≡◌, ℕ, List, Option};
-ghost use Rattle.um_base.specs.declared.act.Event.{Event};
-ghost use Rattle.um_base.specs.declared.image.Image.{Image};
-ghost use Rattle.um_machine.specs.Run.{IsComplete};
-ghost use Rattle.um_machine.specs.State.{State};
+ghost use Rattle.um_base.specs.declared.{act.Event.{Event}, image.Image.{Image}};
+ghost use Rattle.um_machine.specs.{Run.{IsComplete}, State.{State}};
 ghost use Rattle.um_scheduler.specs.Scheduled.{IsScheduled};
 
 /// Of an image, so many processors and a pick there is one complete run in their order, with one last state.

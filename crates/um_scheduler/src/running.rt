@@ -1,11 +1,9 @@
 //! A whole run.
 
 ghost use Rattle.std.specs.Prelude.{◌≡◌, ◌+◌, ◌<◌, ◌≤◌, ◌++◌, ◌∷◌, [], IfOk, length, vec_len, vec_capacity};
-ghost use Rattle.um_base.specs.Lawful.{IsLawful};
-ghost use Rattle.um_base.specs.Weight.{weight};
+ghost use Rattle.um_base.specs.{Lawful.{IsLawful}, Weight.{weight}};
 ghost use Rattle.um_machine.specs.Run.{opening, IsRun, RunsDue, IsComplete};
-ghost use Rattle.um_scheduler.specs.InOrder.{IsInOrder};
-ghost use Rattle.um_scheduler.specs.Scheduled.{IsScheduled};
+ghost use Rattle.um_scheduler.specs.{InOrder.{IsInOrder}, Scheduled.{IsScheduled}};
 
 use crate::order::Order;
 use crate::turns::Processors;

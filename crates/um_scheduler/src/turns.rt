@@ -1,11 +1,12 @@
 //! The processors, the threads that are ready, and the machine.
 
 ghost use Rattle.std.specs.Prelude.{◌≡◌, ◌<◌, ◌≤◌, ℕ, map, Some, None, true, false, if◌then◌else◌, [], replicate, slice_get, slice_set, slice_index_or, IfOk, IfSome, IfNone};
-ghost use Rattle.um_base.specs.declared.names.Reply.{Reply};
-ghost use Rattle.um_base.specs.Lawful.{IsLawful};
+ghost use Rattle.um_base.specs.{declared.names.Reply.{Reply}, Lawful.{IsLawful}};
 ghost use Rattle.um_machine.specs.Run.{opening};
-ghost use Rattle.um_scheduler.specs.Lines.{joins, all_join};
-ghost use Rattle.um_scheduler.specs.Schedule.{boots_ready, idle, is_still, is_at_rest, goes_on, next_ready, behind_next, readied, ready_after, is_listed, comes_up, left_to_clean, opening_turn};
+ghost use Rattle.um_scheduler.specs.{
+  Lines.{joins, all_join},
+  Schedule.{boots_ready, idle, is_still, is_at_rest, goes_on, next_ready, behind_next, readied, ready_after, is_listed, comes_up, left_to_clean, opening_turn},
+};
 
 use crate::line::Line;
 use crate::processor::Processor;

@@ -1,7 +1,6 @@
 //! Numbers as words spell them.
 
-ghost use Rattle.std.specs.Prelude.{◌≡◌, ◌≤◌, IfOk, IsTrue};
-ghost use Rattle.std.specs.List.{list_all};
+ghost use Rattle.std.specs.{Prelude.{◌≡◌, ◌≤◌, IfOk, IsTrue}, List.{list_all}};
 ghost use Rattle.um_base.specs.Lawful.{is_within};
 ghost use Rattle.um_script.specs.Numbers as numbers;
 ghost use Rattle.um_script.specs.Writable.{is_word32, is_priority};

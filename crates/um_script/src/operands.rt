@@ -1,11 +1,9 @@
 //! Operands, one method for each form.
 
 ghost use Rattle.std.specs.Prelude.{◌≡◌, Ok, Err, MatchResult, IfOk, IsTrue};
-ghost use Rattle.um_script.specs.Cursor.{words_left};
-ghost use Rattle.um_script.specs.Faults.{Gives};
+ghost use Rattle.um_script.specs.{Cursor.{words_left}, Faults.{Gives}, Writable.{fits}};
 ghost use Rattle.um_script.specs.Numbers as numbers;
 ghost use Rattle.um_script.specs.Operands as operands;
-ghost use Rattle.um_script.specs.Writable.{fits};
 
 use crate::fault::{LineFault, LineKind};
 use crate::words::{Word, Words};

@@ -1,10 +1,12 @@
 //! Lines to instructions.
 
 ghost use Rattle.std.specs.Prelude.{◌≡◌, ◌-◌, ◌<◌, ◌^◌, length, Ok, Err, MatchResult, IfOk, IsTrue};
-ghost use Rattle.um_script.specs.Cursor.{words_left};
-ghost use Rattle.um_script.specs.Faults.{Gives};
-ghost use Rattle.um_script.specs.Lines.{instruction, alone, whole, line_of};
-ghost use Rattle.um_script.specs.Writable.{is_line};
+ghost use Rattle.um_script.specs.{
+  Cursor.{words_left},
+  Faults.{Gives},
+  Lines.{instruction, alone, whole, line_of},
+  Writable.{is_line},
+};
 
 use crate::fault::{LineFault, LineKind};
 use crate::mnemonic::{

@@ -2,8 +2,7 @@
 
 ghost use Rattle.std.specs.Prelude.{◌≡◌, ◌∷◌, ◌++◌, IfOk, IsTrue, Ok, OnOk};
 ghost use Rattle.um_script.specs.Canonical as canonical;
-ghost use Rattle.um_script.specs.Lines.{line_of};
-ghost use Rattle.um_script.specs.Writable.{is_line};
+ghost use Rattle.um_script.specs.{Lines.{line_of}, Writable.{is_line}};
 
 use crate::mnemonic::{
     DomainCall, Mnemonic, MsgqCall, MutexCall, ObjectCall, PipeCall, Plain, SemCall, StackCall,

@@ -1,7 +1,9 @@
 //! The words of a line, one after the other.
 
-ghost use Rattle.std.specs.Prelude.{◌≡◌, ◌+◌, ◌-◌, ◌<◌, ◌≤◌, ◌^◌, length, drop, false, MatchOption, MatchResult};
-ghost use Rattle.std.specs.List.{prefix_len};
+ghost use Rattle.std.specs.{
+  Prelude.{◌≡◌, ◌+◌, ◌-◌, ◌<◌, ◌≤◌, ◌^◌, length, drop, false, MatchOption, MatchResult},
+  List.{prefix_len},
+};
 ghost use Rattle.um_script.specs.Words.{is_space, is_word_byte, words_from, ends, word};
 
 use crate::fault::{LineFault, LineKind};

@@ -1,7 +1,6 @@
 //! Operands as text, each behind a space.
 
-ghost use Rattle.std.specs.Prelude.{◌≡◌, ◌∷◌, ◌++◌, decimal, OnOk};
-ghost use Rattle.std.specs.Fmt.{signed_decimal};
+ghost use Rattle.std.specs.{Prelude.{◌≡◌, ◌∷◌, ◌++◌, decimal, OnOk}, Fmt.{signed_decimal}};
 ghost use Rattle.um_script.specs.Canonical as canonical;
 ghost use Rattle.um_vocabulary.specs.Words as words;
 

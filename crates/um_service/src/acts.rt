@@ -3,11 +3,12 @@
 ghost use Rattle.std.specs.Prelude.{◌≡◌, ◌<◌, ◌≤◌, IsTrue, List, [], None, false};
 ghost use Rattle.um_base.specs.declared.ask.Waiter.{Waiter};
 ghost use Rattle.um_machine.specs.declared.contents.Contents.TheVariants as Contents;
-ghost use Rattle.um_machine.specs.Limits.{is_sound_ask};
-ghost use Rattle.um_machine.specs.Services.{renews, fills, uses, acted, queue, stack, pipe};
-ghost use Rattle.um_machine.specs.Table.{replies_of};
-ghost use Rattle.um_service.specs.Left.{left};
-ghost use Rattle.um_service.specs.Preview.{said};
+ghost use Rattle.um_machine.specs.{
+  Limits.{is_sound_ask},
+  Services.{renews, fills, uses, acted, queue, stack, pipe},
+  Table.{replies_of},
+};
+ghost use Rattle.um_service.specs.{Left.{left}, Preview.{said}};
 
 use crate::outcome::Outcome;
 use crate::preview::{Said, at_once};

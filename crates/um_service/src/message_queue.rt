@@ -3,11 +3,12 @@
 ghost use Rattle.std.specs.Prelude.{◌≡◌, ◌<◌, ℕ, length, List};
 ghost use Rattle.um_base.specs.declared.ask.Waiter.{Waiter};
 ghost use Rattle.um_machine.specs.declared.contents.Contents.TheVariants as Contents;
-ghost use Rattle.um_machine.specs.Serving.{served};
+ghost use Rattle.um_machine.specs.{
+  Serving.{served},
+  Services.{in_order, msgq_put, msgq_take, msgq_get, msgq_peek, msgq_purge, msgq_act},
+};
 ghost use Rattle.um_machine.specs.declared.served.Served.TheVariants as Served;
-ghost use Rattle.um_machine.specs.Services.{in_order, msgq_put, msgq_take, msgq_get, msgq_peek, msgq_purge, msgq_act};
-ghost use Rattle.um_service.specs.Left.{left};
-ghost use Rattle.um_service.specs.Preview.{said};
+ghost use Rattle.um_service.specs.{Left.{left}, Preview.{said}};
 
 use crate::outcome::Outcome;
 use crate::preview::{Said, all_told, at_once, blocked, first_told};

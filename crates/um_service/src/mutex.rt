@@ -4,8 +4,7 @@ ghost use Rattle.std.specs.Prelude.{◌≡◌, ◌<◌, ℕ, List};
 ghost use Rattle.um_base.specs.declared.ask.Waiter.{Waiter};
 ghost use Rattle.um_machine.specs.declared.contents.Contents.TheVariants as Contents;
 ghost use Rattle.um_machine.specs.Services.{in_order, mutex_lock, mutex_passes, mutex_unlock, mutex_act};
-ghost use Rattle.um_service.specs.Left.{left};
-ghost use Rattle.um_service.specs.Preview.{said};
+ghost use Rattle.um_service.specs.{Left.{left}, Preview.{said}};
 
 use crate::outcome::Outcome;
 use crate::preview::{Said, at_once, blocked, first_told};

@@ -18,9 +18,11 @@ pub struct Woken {
 
 impl Model for Woken {
     ghost use Rattle.std.specs.Prelude.{List, ◌≡◌, ◌≤◌, length, take};
-    ghost use Rattle.um_base.specs.declared.ask.Told.{Told};
-    ghost use Rattle.um_base.specs.declared.limits.TheConstants.{THREADS};
-    ghost use Rattle.um_base.specs.declared.names.ThreadIx.{ThreadIx};
+    ghost use Rattle.um_base.specs.declared.{
+      ask.Told.{Told},
+      limits.TheConstants.{THREADS},
+      names.ThreadIx.{ThreadIx},
+    };
     ghost use Rattle.um_service.specs.Told.{AreShort};
 
     ghost Value = { List (ThreadIx × Told) };

@@ -5,8 +5,7 @@ ghost use Rattle.um_base.specs.declared.ask.Waiter.{Waiter};
 ghost use Rattle.um_base.specs.declared.names.Reply.TheVariants as Reply;
 ghost use Rattle.um_machine.specs.declared.contents.Contents.TheVariants as Contents;
 ghost use Rattle.um_machine.specs.Services.{in_order, told, is_empty, is_reader, is_writer, read_length, readers_served, writers_served, still_waiting, pipe_write, pipe_take, pipe_read, pipe_act};
-ghost use Rattle.um_service.specs.Left.{left};
-ghost use Rattle.um_service.specs.Preview.{said};
+ghost use Rattle.um_service.specs.{Left.{left}, Preview.{said}};
 
 use crate::outcome::{Outcome, Woken};
 use crate::preview::{Said, all_go, at_once, blocked, shares};

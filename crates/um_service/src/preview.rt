@@ -3,10 +3,12 @@
 ghost use Rattle.std.specs.Prelude.{◌≡◌, ◌≤◌, [], length, List};
 ghost use Rattle.um_base.specs.declared.act.Answer.TheVariants as Answer;
 ghost use Rattle.um_base.specs.declared.ask.Waiter.{Waiter};
-ghost use Rattle.um_machine.specs.declared.contents.Contents.{Contents};
-ghost use Rattle.um_machine.specs.Services.{all_told, blocks};
-ghost use Rattle.um_machine.specs.Serving.{served};
-ghost use Rattle.um_machine.specs.Table.{replies_of};
+ghost use Rattle.um_machine.specs.{
+  declared.contents.Contents.{Contents},
+  Services.{all_told, blocks},
+  Serving.{served},
+  Table.{replies_of},
+};
 ghost use Rattle.um_service.specs.Preview.{said, queue_of, first_told, shares};
 
 use crate::order::queue_of;

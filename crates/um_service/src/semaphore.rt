@@ -3,8 +3,7 @@
 ghost use Rattle.std.specs.Prelude.{◌≡◌, ◌<◌};
 ghost use Rattle.um_machine.specs.declared.contents.Contents.TheVariants as Contents;
 ghost use Rattle.um_machine.specs.Services.{in_order, sem_take, sem_give, sem_act};
-ghost use Rattle.um_service.specs.Left.{left};
-ghost use Rattle.um_service.specs.Preview.{said};
+ghost use Rattle.um_service.specs.{Left.{left}, Preview.{said}};
 
 use crate::outcome::Outcome;
 use crate::preview::{Said, all_go, at_once, blocked, first_told};

@@ -2,11 +2,9 @@
 
 ghost use Rattle.std.specs.Prelude.{◌≡◌, ◌<◌, ℕ, List, reverse};
 ghost use Rattle.um_base.specs.declared.ask.Waiter.{Waiter};
-ghost use Rattle.um_machine.specs.Memory.{le_bytes};
+ghost use Rattle.um_machine.specs.{Memory.{le_bytes}, Services.{in_order, stack_push, stack_pop, stack_act}};
 ghost use Rattle.um_machine.specs.declared.contents.Contents.TheVariants as Contents;
-ghost use Rattle.um_machine.specs.Services.{in_order, stack_push, stack_pop, stack_act};
-ghost use Rattle.um_service.specs.Left.{left};
-ghost use Rattle.um_service.specs.Preview.{said};
+ghost use Rattle.um_service.specs.{Left.{left}, Preview.{said}};
 
 use crate::outcome::Outcome;
 use crate::preview::{Said, at_once, blocked, first_told};

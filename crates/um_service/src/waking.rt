@@ -3,9 +3,11 @@
 ghost use Rattle.std.specs.Prelude.{◌≡◌, ◌<◌, ◌≤◌, [], ◌∷◌, length};
 ghost use Rattle.um_base.specs.declared.act.Answer.TheVariants as Answer;
 ghost use Rattle.um_base.specs.declared.names.Reply.TheVariants as Reply;
-ghost use Rattle.um_machine.specs.declared.contents.Contents.{Contents};
-ghost use Rattle.um_machine.specs.Services.{told, all_told, blocks};
-ghost use Rattle.um_machine.specs.Serving.{served, unserved};
+ghost use Rattle.um_machine.specs.{
+  declared.contents.Contents.{Contents},
+  Services.{told, all_told, blocks},
+  Serving.{served, unserved},
+};
 ghost use Rattle.um_service.specs.Left.{left};
 
 use crate::outcome::{Outcome, Woken};

@@ -1,11 +1,15 @@
 //! The board.
 
-ghost use Rattle.std.specs.Prelude.{◌≡◌, ◌≢◌, ℕ, ◌+◌, ◌%◌, ◌<◌, ◌≤◌, ◌^◌, true, false, [], length, slice_index, IfOk, IfErr, ◌⊎◌, MatchResult, Option, Some, None};
+ghost use Rattle.std.specs.{
+  Prelude.{◌≡◌, ◌≢◌, ℕ, ◌+◌, ◌%◌, ◌<◌, ◌≤◌, ◌^◌, true, false, [], length, slice_index, IfOk, IfErr, ◌⊎◌, MatchResult, Option, Some, None},
+  Mem.Slots.{slots_items, slots_len, IsFull},
+};
 ghost use Rattle.um_words.specs.Steps.{number, WordMay};
-ghost use Rattle.um_site.specs.Tells.{made, last_got, with_made, GoesOn, Looked, StandsWithFact, Steps, stepped_by};
-ghost use Rattle.um_site.specs.History.{opening_view, splitter, newborn, joiner, AmongNames, IsClosed, IsClosedWithFact, shadow_of};
-ghost use Rattle.um_site.specs.Cells.{IsClosedWithCells, Moment};
-ghost use Rattle.std.specs.Mem.Slots.{slots_items, slots_len, IsFull};
+ghost use Rattle.um_site.specs.{
+  Tells.{made, last_got, with_made, GoesOn, Looked, StandsWithFact, Steps, stepped_by},
+  History.{opening_view, splitter, newborn, joiner, AmongNames, IsClosed, IsClosedWithFact, shadow_of},
+  Cells.{IsClosedWithCells, Moment},
+};
 ghost use Rattle.atomic_table.specs.Table.{step};
 ghost use mathlib.Core.Option.{none};
 

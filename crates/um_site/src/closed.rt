@@ -1,7 +1,6 @@
 //! A board that was closed.
 
-ghost use Rattle.std.specs.Prelude.{◌≡◌, ◌<◌};
-ghost use Rattle.std.specs.Mem.Slots.{slots_items, slots_len, IsFull};
+ghost use Rattle.std.specs.{Prelude.{◌≡◌, ◌<◌}, Mem.Slots.{slots_items, slots_len, IsFull}};
 ghost use lib.ListN.{get_elem?};
 ghost use mathlib.Core.Option.{some};
 

@@ -13,9 +13,11 @@ pub trait Step {
 }
 
 impl Step for Brand {
-    ghost use Rattle.um_words.specs.declared.fine.FineAct.{FineAct};
-    ghost use Rattle.um_words.specs.declared.fine.Unseen.{Unseen};
-    ghost use Rattle.um_words.specs.Exchanges.{Exchange};
+    ghost use Rattle.um_words.specs.{
+      declared.fine.FineAct.{FineAct},
+      declared.fine.Unseen.{Unseen},
+      Exchanges.{Exchange},
+    };
 
     ghost made = { record { site = 0; act = FineAct.Unseen Unseen.Done; word = 0; moved = Exchange.nothing } };
 }

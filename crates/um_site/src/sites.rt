@@ -1,10 +1,12 @@
 //! Steps of rows, threads and domains, each at its site.
 
 ghost use Rattle.std.specs.Prelude.{◌≡◌, ◌<◌, IsTrue};
-ghost use Rattle.um_words.specs.Packed.{row_of, thread_in, domain_in};
-ghost use Rattle.um_words.specs.Rows.{row_takes, row_says};
-ghost use Rattle.um_words.specs.Threads.{thread_takes, thread_says};
-ghost use Rattle.um_words.specs.Domains.{domain_takes};
+ghost use Rattle.um_words.specs.{
+  Packed.{row_of, thread_in, domain_in},
+  Rows.{row_takes, row_says},
+  Threads.{thread_takes, thread_says},
+  Domains.{domain_takes},
+};
 ghost use Rattle.um_site.specs.Calls.{thread_site, domain_site, Stays, AtRow, AtThread, AtDomain, MayNext, Records};
 
 use crate::board::{Board, Changed};

@@ -2,9 +2,11 @@
 
 ghost use Rattle.std.specs.Prelude.{◌≡◌, ℕ, ◌+◌, ◌<◌, ◌≤◌, true, ◌∷◌, Some, None};
 ghost use Rattle.um_words.specs.Steps.{WordMay};
-ghost use Rattle.um_site.specs.Calls.{SameSeat};
-ghost use Rattle.um_site.specs.Tells.{HasTurn, took, reached, recorded_by, returned};
-ghost use Rattle.um_site.specs.Cells.{AmongCells, NoSteps, NoneOfThem};
+ghost use Rattle.um_site.specs.{
+  Calls.{SameSeat},
+  Tells.{HasTurn, took, reached, recorded_by, returned},
+  Cells.{AmongCells, NoSteps, NoneOfThem},
+};
 ghost use Rattle.atomic_table.specs.Table.{step};
 ghost use mathlib.Core.Option.{none};
 

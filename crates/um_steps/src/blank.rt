@@ -1,10 +1,11 @@
 //! Thread indices and rows that nothing stands on, and what stands there from the beginning.
 
-ghost use Rattle.std.specs.Prelude.{◌≡◌, ◌||◌, ◌==◌, IsTrue};
-ghost use Rattle.std.specs.List.{list_any};
-ghost use Rattle.um_machine.specs.State.{nobody, vacant};
-ghost use Rattle.um_machine.specs.Limits.{is_in_limits};
-ghost use Rattle.um_machine.specs.Run.{boot_thread, boots_row, setup_contents, is_set_up, opening_object};
+ghost use Rattle.std.specs.{Prelude.{◌≡◌, ◌||◌, ◌==◌, IsTrue}, List.{list_any}};
+ghost use Rattle.um_machine.specs.{
+  State.{nobody, vacant},
+  Limits.{is_in_limits},
+  Run.{boot_thread, boots_row, setup_contents, is_set_up, opening_object},
+};
 
 use um_base::{Boot, Image, Mode, ObjectDef, Piece, ROWS, Reply, Row, Setup};
 use um_machine::places::first_place;

@@ -1,8 +1,7 @@
 //! What pools pay.
 
 ghost use Rattle.std.specs.Prelude.{◌≡◌, IsTrue};
-ghost use Rattle.um_machine.specs.Limits.{is_sound_ask};
-ghost use Rattle.um_machine.specs.Table.{buffer_cost, cost_of, paid_back, paid_from};
+ghost use Rattle.um_machine.specs.{Limits.{is_sound_ask}, Table.{buffer_cost, cost_of, paid_back, paid_from}};
 
 use crate::order::rounded;
 use um_base::{Answer, Ask, Reply};

@@ -1,11 +1,15 @@
 //! Memory domains: which partitions one may hold, and what its calls make of it.
 
-ghost use Rattle.std.specs.Prelude.{◌≡◌, ◌<◌, ◌≤◌, ◌+◌, ◌-◌, ◌^◌, ◌||◌, ◌==◌, [], ℕ, not, nat_lt, length, filter, map};
-ghost use Rattle.std.specs.List.{list_any};
-ghost use Rattle.um_base.specs.Lawful.{most_parts};
-ghost use Rattle.um_base.specs.declared.limits.TheConstants.{PARTITION_AREA, STACK_AREA};
-ghost use Rattle.um_base.specs.declared.attr.Attr.{Attr};
-ghost use Rattle.um_base.specs.declared.names.Range.{Range};
+ghost use Rattle.std.specs.{
+  Prelude.{◌≡◌, ◌<◌, ◌≤◌, ◌+◌, ◌-◌, ◌^◌, ◌||◌, ◌==◌, [], ℕ, not, nat_lt, length, filter, map},
+  List.{list_any},
+};
+ghost use Rattle.um_base.specs.{
+  Lawful.{most_parts},
+  declared.limits.TheConstants.{PARTITION_AREA, STACK_AREA},
+  declared.attr.Attr.{Attr},
+  declared.names.Range.{Range},
+};
 ghost use Rattle.um_machine.specs.Domains.{is_power_of_two, is_guardable, writes_and_executes, overlaps, is_bad, is_same_range, initialised, added, added_all, removed, reply_to, domain_after, part_named};
 
 use crate::regions::attr_allows;

@@ -1,12 +1,16 @@
 //! Regions of memory, and what they allow.
 
-ghost use Rattle.std.specs.Prelude.{◌≡◌, ◌+◌, ◌<◌, ◌≤◌, ◌^◌, ◌&&◌, nat_le, map, slice_index_or, None};
-ghost use Rattle.std.specs.List.{list_any};
-ghost use Rattle.um_base.specs.declared.image.ObjectDef.{ObjectDef};
-ghost use Rattle.um_base.specs.declared.names.Range.{Range};
-ghost use Rattle.um_base.specs.declared.attr.Attr.{Attr};
-ghost use Rattle.um_base.specs.Places.{setup_at};
-ghost use Rattle.um_base.specs.Regions.{region_allows, read_write, read_only, range_region, right_bit, attr_allows, stack_range, partition_region, stack_regions};
+ghost use Rattle.std.specs.{
+  Prelude.{◌≡◌, ◌+◌, ◌<◌, ◌≤◌, ◌^◌, ◌&&◌, nat_le, map, slice_index_or, None},
+  List.{list_any},
+};
+ghost use Rattle.um_base.specs.{
+  declared.image.ObjectDef.{ObjectDef},
+  declared.names.Range.{Range},
+  declared.attr.Attr.{Attr},
+  Places.{setup_at},
+  Regions.{region_allows, read_write, read_only, range_region, right_bit, attr_allows, stack_range, partition_region, stack_regions},
+};
 ghost use Rattle.um_machine.specs.Memory.{parts_or_none};
 
 use um_base::{Access, Attr, Image, Mode, ObjectDef, Parts, Range, Row, Setup};

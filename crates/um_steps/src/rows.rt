@@ -1,8 +1,10 @@
 //! Rows and addresses.
 
 ghost use Rattle.std.specs.Prelude.{◌≡◌, ◌+◌, ◌<◌, ◌≤◌, ◌^◌, ◌==◌, IfSome, position, length};
-ghost use Rattle.um_base.specs.Places.{dynamic_row, row_at, addr_of, own_row, is_thread_index, thread_of_row, setup_at, setup_thread};
-ghost use Rattle.um_base.specs.declared.image.ObjectDef.{ObjectDef};
+ghost use Rattle.um_base.specs.{
+  Places.{dynamic_row, row_at, addr_of, own_row, is_thread_index, thread_of_row, setup_at, setup_thread},
+  declared.image.ObjectDef.{ObjectDef},
+};
 
 use um_base::{
     DYNAMIC_OBJECTS, Image, OBJECT_STEP, ObjectDef, ROWS, STATIC_ROWS, STATIC_THREADS, Setup,

@@ -1,9 +1,11 @@
 //! Texts of runs.
 
 ghost use Rattle.std.specs.Prelude.{◌≤◌, length};
-ghost use Rattle.um_base.specs.Lawful.{IsLawful};
-ghost use Rattle.um_base.specs.declared.image.Image.{Image};
-ghost use Rattle.um_base.specs.declared.limits.TheConstants.{STATIC_ROWS};
+ghost use Rattle.um_base.specs.{
+  Lawful.{IsLawful},
+  declared.image.Image.{Image},
+  declared.limits.TheConstants.{STATIC_ROWS},
+};
 ghost use Rattle.um_texts.specs.Texts.{NamesItsRun};
 
 /// The law over all runs of every image: two different runs from one image have different texts, so the bytes name the run.

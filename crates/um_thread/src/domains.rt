@@ -1,11 +1,12 @@
 //! Claims to read and to write the partitions of a domain.
 
 ghost use Rattle.std.specs.Prelude.{◌≡◌, ◌<◌, true, false, IfSome};
-ghost use Rattle.um_words.specs.Packed.{domain_in};
+ghost use Rattle.um_words.specs.{Packed.{domain_in}, declared.fine.Unseen.{Unseen}};
 ghost use Rattle.um_site.specs.Calls.{domain_site, Stays, AtDomain, MayNext, Records};
-ghost use Rattle.um_words.specs.declared.fine.Unseen.{Unseen};
-ghost use Rattle.um_thread.specs.Acts.{unseen, IsFailedMove, read_done_act, IsEdit};
-ghost use Rattle.um_thread.specs.Tells.{TellsReading, TellsWriting};
+ghost use Rattle.um_thread.specs.{
+  Acts.{unseen, IsFailedMove, read_done_act, IsEdit},
+  Tells.{TellsReading, TellsWriting},
+};
 
 use um_base::ThreadIx;
 use um_site::{Board, Changed, Seat, domain_site};

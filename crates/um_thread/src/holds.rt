@@ -1,11 +1,9 @@
 //! Holds of threads, and their moves between domains.
 
 ghost use Rattle.std.specs.Prelude.{◌≡◌, ◌<◌, true, false, IfOk};
-ghost use Rattle.um_words.specs.Packed.{thread_in};
+ghost use Rattle.um_words.specs.{Packed.{thread_in}, declared.fine.Unseen.{Unseen}};
 ghost use Rattle.um_site.specs.Calls.{thread_site, Stays, AtThread, MayNext, Records};
-ghost use Rattle.um_words.specs.declared.fine.Unseen.{Unseen};
-ghost use Rattle.um_thread.specs.Acts.{move_act, unseen};
-ghost use Rattle.um_thread.specs.Tells.{TellsMove};
+ghost use Rattle.um_thread.specs.{Acts.{move_act, unseen}, Tells.{TellsMove}};
 
 use um_base::{Act, Reply, ThreadIx};
 use um_site::{Board, Changed, Seat, shown, thread_site};

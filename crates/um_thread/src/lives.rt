@@ -4,8 +4,10 @@ ghost use Rattle.std.specs.Prelude.{◌≡◌, ◌<◌, false, IsTrue};
 ghost use Rattle.um_words.specs.Packed.{thread_in};
 ghost use Rattle.um_machine.specs.State.{is_living};
 ghost use Rattle.um_site.specs.Calls.{thread_site, Stays, AtThread, MayNext, Records};
-ghost use Rattle.um_thread.specs.Acts.{start_act, begin_act, exit_act, fatal_act, doom_act};
-ghost use Rattle.um_thread.specs.Tells.{TellsGoing, IsStillDoomed};
+ghost use Rattle.um_thread.specs.{
+  Acts.{start_act, begin_act, exit_act, fatal_act, doom_act},
+  Tells.{TellsGoing, IsStillDoomed},
+};
 
 use um_base::{Act, Cause, Event, Mode, ThreadIx};
 use um_site::{Board, Changed, Seat, shown, thread_site};

@@ -1,9 +1,11 @@
 //! The texts of acts on domains.
 
 ghost use Rattle.std.specs.Prelude.{◌+◌, ◌≤◌, ◌++◌, length, codes, vec_len, vec_capacity};
-ghost use Rattle.um_trace.specs.Acts.{domain_act_text};
-ghost use Rattle.um_trace.specs.Names.{domain_text, part_text, reply_text};
-ghost use Rattle.um_trace.specs.Room.{Puts};
+ghost use Rattle.um_trace.specs.{
+  Acts.{domain_act_text},
+  Names.{domain_text, part_text, reply_text},
+  Room.{Puts},
+};
 
 use crate::names::{put_domain, put_part, put_reply, put_thread};
 use crate::room::{put_space, put_text};

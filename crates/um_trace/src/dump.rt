@@ -1,8 +1,7 @@
 //! The dump of a state.
 
 ghost use Rattle.std.specs.Prelude.{◌+◌, ◌≤◌, vec_len, vec_capacity};
-ghost use Rattle.um_trace.specs.Dump.{dump};
-ghost use Rattle.um_trace.specs.Room.{Puts};
+ghost use Rattle.um_trace.specs.{Dump.{dump}, Room.{Puts}};
 
 mod domains;
 mod lists;

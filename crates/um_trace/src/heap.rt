@@ -1,8 +1,7 @@
 //! The texts of acts on the heap of dynamic objects and buffers.
 
 ghost use Rattle.std.specs.Prelude.{◌+◌, ◌≤◌, vec_len, vec_capacity};
-ghost use Rattle.um_trace.specs.Acts.{reserved_text, heap_act_text};
-ghost use Rattle.um_trace.specs.Room.{Puts};
+ghost use Rattle.um_trace.specs.{Acts.{reserved_text, heap_act_text}, Room.{Puts}};
 
 use crate::names::{put_object, put_on};
 use crate::pairs::put_pair_act;

@@ -1,9 +1,13 @@
 //! The text of the addresses of an image.
 
-ghost use Rattle.std.specs.Prelude.{◌≡◌, ◌+◌, ◌*◌, ◌≤◌, ◌++◌, length, codes, vec_len, vec_capacity};
-ghost use Rattle.std.specs.List.{flat_map};
-ghost use Rattle.um_trace.specs.Layout.{rodata_line, partition_line, stack_size_text, place_line, layout_text, layout_room};
-ghost use Rattle.um_trace.specs.Room.{Puts};
+ghost use Rattle.std.specs.{
+  Prelude.{◌≡◌, ◌+◌, ◌*◌, ◌≤◌, ◌++◌, length, codes, vec_len, vec_capacity},
+  List.{flat_map},
+};
+ghost use Rattle.um_trace.specs.{
+  Layout.{rodata_line, partition_line, stack_size_text, place_line, layout_text, layout_room},
+  Room.{Puts},
+};
 
 use crate::memory::put_range;
 use crate::room::{put, put_address, put_decimal, put_newline, put_space, put_text};

@@ -1,9 +1,7 @@
 //! Parts of a text by themselves: the line of one event, what the lines of a thread begin with, and a dump.
 
 ghost use Rattle.std.specs.Prelude.{◌≡◌, ◌≤◌, ◌++◌, codes, vec_capacity};
-ghost use Rattle.um_trace.specs.Acts.{event_line};
-ghost use Rattle.um_trace.specs.Dump.{dump};
-ghost use Rattle.um_trace.specs.Names.{thread_text};
+ghost use Rattle.um_trace.specs.{Acts.{event_line}, Dump.{dump}, Names.{thread_text}};
 
 use crate::dump::{DUMP_ROOM, put_dump};
 use crate::names::put_thread;

@@ -1,11 +1,13 @@
 //! The texts of acts on memory, and of all others.
 
 ghost use Rattle.std.specs.Prelude.{◌+◌, ◌*◌, ◌≤◌, ◌++◌, length, codes, vec_len, vec_capacity};
-ghost use Rattle.um_trace.specs.Acts.{range_text, found_text, act_text};
-ghost use Rattle.um_trace.specs.Digits.{value};
-ghost use Rattle.um_trace.specs.Room.{Puts};
-ghost use Rattle.um_trace.specs.Text.{woken_by};
-ghost use Rattle.um_trace.specs.Words.{reach_word};
+ghost use Rattle.um_trace.specs.{
+  Acts.{range_text, found_text, act_text},
+  Digits.{value},
+  Room.{Puts},
+  Text.{woken_by},
+  Words.{reach_word},
+};
 
 use crate::names::put_row;
 use crate::objects::put_object_act;

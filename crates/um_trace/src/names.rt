@@ -1,8 +1,10 @@
 //! How threads, objects, domains, ranges and replies are shown.
 
 ghost use Rattle.std.specs.Prelude.{◌+◌, ◌<◌, ◌≤◌, ◌++◌, length, vec_len, vec_capacity};
-ghost use Rattle.um_trace.specs.Names.{row_text, thread_text, object_text, domain_text, script_text, part_text, reply_text};
-ghost use Rattle.um_trace.specs.Room.{Puts};
+ghost use Rattle.um_trace.specs.{
+  Names.{row_text, thread_text, object_text, domain_text, script_text, part_text, reply_text},
+  Room.{Puts},
+};
 
 use crate::places::{own_row, row_at};
 use crate::room::{put, put_address, put_decimal, put_short, put_text};

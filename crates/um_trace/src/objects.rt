@@ -1,13 +1,16 @@
 //! The texts of acts on objects.
 
-ghost use Rattle.std.specs.Prelude.{◌+◌, ◌*◌, ◌≤◌, ◌++◌, length, codes, vec_len, vec_capacity};
-ghost use Rattle.std.specs.List.{flat_map};
-ghost use Rattle.um_base.specs.declared.names.Reply.{Reply};
-ghost use Rattle.um_base.specs.declared.names.ThreadIx.{ThreadIx};
-ghost use Rattle.um_trace.specs.Acts.{answer_text, wake_text, object_act_text};
-ghost use Rattle.um_trace.specs.Room.{Puts};
-ghost use Rattle.um_trace.specs.Text.{woken_by};
-ghost use Rattle.um_trace.specs.Words.{any_kind_word, verdict_word};
+ghost use Rattle.std.specs.{
+  Prelude.{◌+◌, ◌*◌, ◌≤◌, ◌++◌, length, codes, vec_len, vec_capacity},
+  List.{flat_map},
+};
+ghost use Rattle.um_base.specs.declared.names.{Reply.{Reply}, ThreadIx.{ThreadIx}};
+ghost use Rattle.um_trace.specs.{
+  Acts.{answer_text, wake_text, object_act_text},
+  Room.{Puts},
+  Text.{woken_by},
+  Words.{any_kind_word, verdict_word},
+};
 ghost use Rattle.um_vocabulary.specs.Words.{want_word};
 
 use crate::heap::put_heap_act;

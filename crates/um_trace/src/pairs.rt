@@ -1,8 +1,7 @@
 //! The texts of acts on permissions.
 
 ghost use Rattle.std.specs.Prelude.{◌+◌, ◌≤◌, vec_len, vec_capacity};
-ghost use Rattle.um_trace.specs.Acts.{pair_act_text};
-ghost use Rattle.um_trace.specs.Room.{Puts};
+ghost use Rattle.um_trace.specs.{Acts.{pair_act_text}, Room.{Puts}};
 
 use crate::domains::put_domain_act;
 use crate::names::{put_of, put_on};

@@ -1,8 +1,10 @@
 //! Where objects stand: the rows at addresses, and the rows of threads.
 
 ghost use Rattle.std.specs.Prelude.{◌≡◌, ◌==◌, ◌<◌, ◌≤◌, position, length, IfSome};
-ghost use Rattle.um_base.specs.Places.{row_at, own_row, dynamic_row, is_thread_index, thread_of_row, setup_thread};
-ghost use Rattle.um_base.specs.declared.image.ObjectDef.{ObjectDef};
+ghost use Rattle.um_base.specs.{
+  Places.{row_at, own_row, dynamic_row, is_thread_index, thread_of_row, setup_thread},
+  declared.image.ObjectDef.{ObjectDef},
+};
 ghost use Rattle.um_trace.specs.Rows.{OwnRows};
 
 use um_base::{

@@ -1,10 +1,11 @@
 //! Text, appended into reserved room.
 
-ghost use Rattle.std.specs.Prelude.{◌≡◌, ◌+◌, ◌*◌, ◌≤◌, ◌<◌, codes, length, vec_len, vec_capacity, decimal};
-ghost use Rattle.std.specs.Fmt.{signed_decimal};
-ghost use Rattle.std.specs.List.{flat_map};
-ghost use Rattle.um_trace.specs.Digits.{hex2, hex8, address, value, glyph_of, leading};
-ghost use Rattle.um_trace.specs.Room.{Puts};
+ghost use Rattle.std.specs.{
+  Prelude.{◌≡◌, ◌+◌, ◌*◌, ◌≤◌, ◌<◌, codes, length, vec_len, vec_capacity, decimal},
+  Fmt.{signed_decimal},
+  List.{flat_map},
+};
+ghost use Rattle.um_trace.specs.{Digits.{hex2, hex8, address, value, glyph_of, leading}, Room.{Puts}};
 
 use itoa::Buffer;
 use um_base::Addr;

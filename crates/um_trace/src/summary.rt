@@ -1,8 +1,7 @@
 //! How much a run did.
 
 ghost use Rattle.std.specs.Prelude.{◌≡◌, ◌+◌, ◌≤◌, ◌++◌, length, vec_len, vec_capacity};
-ghost use Rattle.um_trace.specs.Room.{Puts};
-ghost use Rattle.um_trace.specs.Summary.{count_line, summary_text};
+ghost use Rattle.um_trace.specs.{Room.{Puts}, Summary.{count_line, summary_text}};
 
 pub mod events;
 pub mod threads;

@@ -1,8 +1,7 @@
 //! The texts of what threads do by themselves.
 
 ghost use Rattle.std.specs.Prelude.{◌+◌, ◌≤◌, vec_len, vec_capacity};
-ghost use Rattle.um_trace.specs.Acts.{thread_act_text};
-ghost use Rattle.um_trace.specs.Room.{Puts};
+ghost use Rattle.um_trace.specs.{Acts.{thread_act_text}, Room.{Puts}};
 
 use crate::names::{put_of, put_reply, put_script};
 use crate::room::{put, put_decimal, put_space, put_text};

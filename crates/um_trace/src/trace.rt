@@ -1,12 +1,11 @@
 //! The text of a run.
 
-ghost use Rattle.std.specs.Prelude.{◌≡◌, ◌+◌, ◌*◌, ◌<◌, ◌≤◌, ◌^◌, ◌++◌, length, vec_len, vec_capacity};
-ghost use Rattle.std.specs.List.{flat_map, sum_by};
-ghost use Rattle.um_base.specs.declared.limits.TheConstants.{THREADS};
-ghost use Rattle.um_base.specs.Places.{own_row};
-ghost use Rattle.um_trace.specs.Acts.{event_line};
-ghost use Rattle.um_trace.specs.Room.{Puts};
-ghost use Rattle.um_trace.specs.Text.{woken_by, line_room, room_for, text};
+ghost use Rattle.std.specs.{
+  Prelude.{◌≡◌, ◌+◌, ◌*◌, ◌<◌, ◌≤◌, ◌^◌, ◌++◌, length, vec_len, vec_capacity},
+  List.{flat_map, sum_by},
+};
+ghost use Rattle.um_base.specs.{declared.limits.TheConstants.{THREADS}, Places.{own_row}};
+ghost use Rattle.um_trace.specs.{Acts.{event_line}, Room.{Puts}, Text.{woken_by, line_room, room_for, text}};
 
 use crate::dump::{DUMP_ROOM, put_dump};
 use crate::memory::put_act;

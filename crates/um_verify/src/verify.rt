@@ -1,10 +1,8 @@
 //! The calls.
 
 ghost use Rattle.std.specs.Prelude.{◌≡◌, ◌<◌, true, None, IfOk};
-ghost use Rattle.um_words.specs.Packed.{row_of};
-ghost use Rattle.um_words.specs.Rows.{verdict_of};
-ghost use Rattle.um_site.specs.Calls.{Stays, AtRow, MayNext, Records};
-ghost use Rattle.um_site.specs.Lives.{Cleans, CleansOnce};
+ghost use Rattle.um_words.specs.{Packed.{row_of}, Rows.{verdict_of}};
+ghost use Rattle.um_site.specs.{Calls.{Stays, AtRow, MayNext, Records}, Lives.{Cleans, CleansOnce}};
 ghost use Rattle.um_verify.specs.Checks.{check_act, checked_of, end_act, cleans, TellsCleaning};
 
 use um_base::{Act, Addr, Errno, Event, Kind, Mode, Row, ThreadIx, Want};

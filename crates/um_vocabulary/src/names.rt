@@ -1,7 +1,6 @@
 //! Lawful names.
 
-ghost use Rattle.std.specs.Prelude.{◌≡◌, ◌≤◌, IsTrue, length, codes, bytes_eq};
-ghost use Rattle.std.specs.List.{list_all};
+ghost use Rattle.std.specs.{Prelude.{◌≡◌, ◌≤◌, IsTrue, length, codes, bytes_eq}, List.{list_all}};
 ghost use Rattle.um_base.specs.Lawful as lawful;
 ghost use Rattle.um_vocabulary.specs.Words as words;
 

@@ -1,10 +1,12 @@
 //! The steps of the word of a cell.
 
 ghost use Rattle.std.specs.Prelude.{◌≡◌, ◌<◌, ℕ, IsTrue, MatchOption};
-ghost use Rattle.um_words.specs.Packed.{FitsCell, packed_cell};
-ghost use Rattle.um_words.specs.CellActs.{object_takes, parts_takes, memory_takes, heap_takes, is_resume};
-ghost use Rattle.um_words.specs.Cells.{has_ready, has_place, scheduler_takes, scheduler_takes_unseen, word_takes, with_ready, first_taken, one_less, scheduler_after, scheduler_after_unseen, word_after, counted_cell};
-ghost use Rattle.um_words.specs.Steps.{CellStep};
+ghost use Rattle.um_words.specs.{
+  Packed.{FitsCell, packed_cell},
+  CellActs.{object_takes, parts_takes, memory_takes, heap_takes, is_resume},
+  Cells.{has_ready, has_place, scheduler_takes, scheduler_takes_unseen, word_takes, with_ready, first_taken, one_less, scheduler_after, scheduler_after_unseen, word_after, counted_cell},
+  Steps.{CellStep},
+};
 
 use crate::cell_word::CellWord;
 use crate::fine::{FineAct, Unseen};

@@ -4,8 +4,7 @@
 pub trait Content {
     ghost use Rattle.std.specs.Prelude.{ℕ};
     ghost use Rattle.um_base.specs.declared.image.Image.{Image};
-    ghost use Rattle.um_words.specs.declared.fine.FineAct.{FineAct};
-    ghost use Rattle.um_words.specs.Exchanges.{Exchange};
+    ghost use Rattle.um_words.specs.{declared.fine.FineAct.{FineAct}, Exchanges.{Exchange}};
 
     /// These are the contents with which the cell at this site opens.
     ghost opens: { Image → ℕ → Self → Type 0 };

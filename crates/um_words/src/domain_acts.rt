@@ -1,9 +1,11 @@
 //! The steps of the word of a domain.
 
 ghost use Rattle.std.specs.Prelude.{◌≡◌, ◌<◌, ℕ, IsTrue, MatchOption};
-ghost use Rattle.um_words.specs.Packed.{FitsDomain, packed_domain};
-ghost use Rattle.um_words.specs.Domains.{is_zero, writes, written, left_by_reader, domain_takes, domain_takes_act, domain_takes_unseen, domain_after, domain_after_act, domain_after_unseen, counted_domain};
-ghost use Rattle.um_words.specs.Steps.{DomainStep};
+ghost use Rattle.um_words.specs.{
+  Packed.{FitsDomain, packed_domain},
+  Domains.{is_zero, writes, written, left_by_reader, domain_takes, domain_takes_act, domain_takes_unseen, domain_after, domain_after_act, domain_after_unseen, counted_domain},
+  Steps.{DomainStep},
+};
 
 use crate::dom_word::DomWord;
 use crate::fine::{FineAct, Unseen};

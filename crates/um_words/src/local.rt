@@ -14,8 +14,7 @@ use crate::thread_acts::thread_step;
 pub trait Local {
     ghost use Rattle.std.specs.Prelude.{ℕ, List, []};
     ghost use Rattle.um_base.specs.declared.image.Image.{Image};
-    ghost use Rattle.um_words.specs.declared.made.Made.{Made};
-    ghost use Rattle.um_words.specs.History.{Entry, IsHistory};
+    ghost use Rattle.um_words.specs.{declared.made.Made.{Made}, History.{Entry, IsHistory}};
 
     /// In a run from this image the processor of that name, which has made this list, may make that step next.
     ghost goes: { Image → List ℕ → List Made → Made → Type 0 };

@@ -1,7 +1,9 @@
 //! The threads that have a permission on an object.
 
-ghost use Rattle.std.specs.Prelude.{◌≡◌, ◌<◌, ◌≤◌, false, true, slice_index_or, slice_set, length, not, replicate};
-ghost use Rattle.std.specs.List.{list_all};
+ghost use Rattle.std.specs.{
+  Prelude.{◌≡◌, ◌<◌, ◌≤◌, false, true, slice_index_or, slice_set, length, not, replicate},
+  List.{list_all},
+};
 ghost use Rattle.um_base.specs.declared.limits.TheConstants.{THREADS};
 ghost use Rattle.um_words.specs.Bits.{bits_of, number_of};
 
@@ -15,10 +17,8 @@ pub struct Permissions {
 }
 
 impl Model for Permissions {
-    ghost use Rattle.std.specs.Prelude.{List, Bool, ◌<◌};
-    ghost use Rattle.std.proofs.Common.{ap};
-    ghost use Rattle.um_words.specs.Bits.{bits_of, number_of};
-    ghost use Rattle.um_words.specs.BitLists.{number_of-bits};
+    ghost use Rattle.std.{specs.Prelude.{List, Bool, ◌<◌}, proofs.Common.{ap}};
+    ghost use Rattle.um_words.specs.{Bits.{bits_of, number_of}, BitLists.{number_of-bits}};
 
     ghost Value = { List Bool };
 

@@ -1,9 +1,11 @@
 //! A step of a row's word by what it does.
 
 ghost use Rattle.std.specs.Prelude.{◌≡◌, ◌↔◌, ◌<◌, ℕ, IsTrue, MatchOption};
-ghost use Rattle.um_words.specs.Packed.{FitsRow, row_of};
-ghost use Rattle.um_words.specs.Rows.{row_takes, row_takes_act, row_takes_unseen, row_says, row_says_act, row_after, row_after_act, row_after_unseen};
-ghost use Rattle.um_words.specs.Steps.{RowStep};
+ghost use Rattle.um_words.specs.{
+  Packed.{FitsRow, row_of},
+  Rows.{row_takes, row_takes_act, row_takes_unseen, row_says, row_says_act, row_after, row_after_act, row_after_unseen},
+  Steps.{RowStep},
+};
 
 use crate::extra::{has_kind, is_strict, mode};
 use crate::fine::{FineAct, More, Unseen};

@@ -1,8 +1,10 @@
 //! The steps of a row's word.
 
 ghost use Rattle.std.specs.Prelude.{◌≡◌, ◌<◌, ◌+◌, true};
-ghost use Rattle.um_words.specs.Rows.{has, permitted, vacated, verdict_of, given_of, left_of, set_of, given_to, claimed, after_verdict, gone_stage, dropped, call_ended, published, after_set, born, counted_row};
-ghost use Rattle.um_words.specs.Packed.{FitsRow, packed_row};
+ghost use Rattle.um_words.specs.{
+  Rows.{has, permitted, vacated, verdict_of, given_of, left_of, set_of, given_to, claimed, after_verdict, gone_stage, dropped, call_ended, published, after_set, born, counted_row},
+  Packed.{FitsRow, packed_row},
+};
 ghost use Rattle.um_machine.specs.Objects.{init_verdict};
 
 use crate::permissions::Permissions;

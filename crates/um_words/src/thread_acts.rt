@@ -2,10 +2,12 @@
 
 ghost use Rattle.std.specs.Prelude.{◌≡◌, ◌↔◌, ◌<◌, ◌/◌, ◌&&◌, not, ℕ, IsTrue, MatchOption};
 ghost use Rattle.um_machine.specs.State.{is_living};
-ghost use Rattle.um_words.specs.Packed.{FitsThread, packed_thread};
-ghost use Rattle.um_words.specs.Threads.{thread_takes, thread_takes_act, thread_takes_unseen, thread_says, thread_says_act, thread_after, thread_after_act, thread_after_unseen, counted_thread};
-ghost use Rattle.um_words.specs.Steps.{ThreadStep};
-ghost use Rattle.um_words.specs.declared.thread_word.ThreadWord.{ThreadWord};
+ghost use Rattle.um_words.specs.{
+  Packed.{FitsThread, packed_thread},
+  Threads.{thread_takes, thread_takes_act, thread_takes_unseen, thread_says, thread_says_act, thread_after, thread_after_act, thread_after_unseen, counted_thread},
+  Steps.{ThreadStep},
+  declared.thread_word.ThreadWord.{ThreadWord},
+};
 
 use crate::extra::{mode, starts};
 use crate::fine::{FineAct, More, Unseen};

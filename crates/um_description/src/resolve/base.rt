@@ -2,11 +2,13 @@
 
 ghost use Rattle.std.specs.Prelude.{◌≡◌, ◌≤◌, IfOk, length, map, min, All};
 ghost use Rattle.um_base.specs.declared.limits.TheConstants.{AREA_ENTRY, BOOTS, DOMAINS, PARTITIONS, POOLS, SCRIPTS, STATIC_ROWS};
-ghost use Rattle.um_description.specs.Names.{items};
-ghost use Rattle.um_description.specs.Numbers.{natural};
-ghost use Rattle.um_description.specs.Packing.{asked_size, first_bytes};
-ghost use Rattle.um_description.specs.InLimits.{IsSize};
-ghost use Rattle.um_description.specs.Resolve.{rodata_range, pool_of, without_scripts};
+ghost use Rattle.um_description.specs.{
+  Names.{items},
+  Numbers.{natural},
+  Packing.{asked_size, first_bytes},
+  InLimits.{IsSize},
+  Resolve.{rodata_range, pool_of, without_scripts},
+};
 
 use crate::numbers::clamped;
 use crate::resolve::boots::boots;

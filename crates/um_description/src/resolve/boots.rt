@@ -2,8 +2,10 @@
 
 ghost use Rattle.std.specs.Prelude.{◌≡◌, ◌≤◌, IfOk, length, map, option_map};
 ghost use Rattle.um_document.specs.declared.description.ObjectEntry.{ObjectEntry};
-ghost use Rattle.um_description.specs.Names.{is_among, pool_names, domain_names, object_names, script_names};
-ghost use Rattle.um_description.specs.Resolve.{number_named, row_named, rows_among, lowered, boot_of};
+ghost use Rattle.um_description.specs.{
+  Names.{is_among, pool_names, domain_names, object_names, script_names},
+  Resolve.{number_named, row_named, rows_among, lowered, boot_of},
+};
 
 use crate::named::{domain_named, number, object_named, pool_named, script_named};
 use std::alloc::Global;

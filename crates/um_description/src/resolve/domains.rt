@@ -2,8 +2,7 @@
 
 ghost use Rattle.std.specs.Prelude.{◌≡◌, ◌≤◌, IfOk, length, map, All};
 ghost use Rattle.um_document.specs.declared.description.PartitionEntry.{PartitionEntry};
-ghost use Rattle.um_description.specs.Names.{items};
-ghost use Rattle.um_description.specs.Resolve.{number_named, domain_of};
+ghost use Rattle.um_description.specs.{Names.{items}, Resolve.{number_named, domain_of}};
 
 use crate::named::{number, partition_named};
 use std::alloc::Global;

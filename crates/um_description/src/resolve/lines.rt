@@ -2,8 +2,10 @@
 
 ghost use Rattle.std.specs.Prelude.{◌≡◌, ◌≤◌, length, map};
 ghost use Rattle.um_base.specs.declared.limits.TheConstants.{DOMAINS, PARTITIONS, SCRIPTS};
-ghost use Rattle.um_description.specs.Names.{domain_names, partition_names, script_names};
-ghost use Rattle.um_description.specs.Resolve.{start_named, object_addr, addr_named, term_of, ref_of, part_of, resolved};
+ghost use Rattle.um_description.specs.{
+  Names.{domain_names, partition_names, script_names},
+  Resolve.{start_named, object_addr, addr_named, term_of, ref_of, part_of, resolved},
+};
 
 use crate::indexed::Indexed;
 use crate::named::{domain_named, is_named, number, partition_named, script_named};

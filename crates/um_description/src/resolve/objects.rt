@@ -1,8 +1,10 @@
 //! Objects in their rows.
 
 ghost use Rattle.std.specs.Prelude.{◌≡◌, ◌+◌, ◌≤◌, ◌<◌, IfOk, length, drop};
-ghost use Rattle.um_description.specs.Resolve.{object_def, objects_from, first_range, ranges_taken, row_addr, object_of, sem_setup, msgq_setup, stack_setup, pipe_setup};
-ghost use Rattle.um_description.specs.Limits.{threads_after};
+ghost use Rattle.um_description.specs.{
+  Resolve.{object_def, objects_from, first_range, ranges_taken, row_addr, object_of, sem_setup, msgq_setup, stack_setup, pipe_setup},
+  Limits.{threads_after},
+};
 
 use crate::numbers::clamped;
 use std::alloc::Global;

@@ -1,9 +1,11 @@
 //! Partitions in their ranges.
 
 ghost use Rattle.std.specs.Prelude.{◌≡◌, ◌≤◌, IfOk, length, All};
-ghost use Rattle.um_description.specs.InLimits.{IsSize};
-ghost use Rattle.um_description.specs.Packing.{asked_size, first_bytes};
-ghost use Rattle.um_description.specs.Resolve.{placed_partitions};
+ghost use Rattle.um_description.specs.{
+  InLimits.{IsSize},
+  Packing.{asked_size, first_bytes},
+  Resolve.{placed_partitions},
+};
 
 use crate::packing::packed_bytes;
 use std::alloc::Global;

@@ -1,13 +1,17 @@
 //! The ranges of partitions and of thread stacks.
 
 ghost use Rattle.std.specs.Prelude.{◌≡◌, ◌<◌, ◌≤◌, ◌+◌, ◌++◌, OnOk, IfOk, IfErr, IfSome, IfNone, Err, ◌%◌, All, IsTrue, length, map, sum};
-ghost use Rattle.um_base.specs.Lawful.{is_within};
-ghost use Rattle.um_base.specs.Layout.{rounded};
-ghost use Rattle.um_base.specs.declared.limits.TheConstants.{AREA_SIZE, PARTITION_AREA, STACK_AREA};
+ghost use Rattle.um_base.specs.{
+  Lawful.{is_within},
+  Layout.{rounded},
+  declared.limits.TheConstants.{AREA_SIZE, PARTITION_AREA, STACK_AREA},
+};
 ghost use Rattle.um_layout.specs.declared.placing.NoRoom.TheVariants as no_room;
-ghost use Rattle.um_description.specs.InLimits.{IsSize, IsInLimits};
-ghost use Rattle.um_description.specs.Packing.{asked_size};
-ghost use Rattle.um_description.specs.Resolve.{option_list, asked_partitions, asked_stack, asked_stacks, partition_sizes, stack_sizes, placed};
+ghost use Rattle.um_description.specs.{
+  InLimits.{IsSize, IsInLimits},
+  Packing.{asked_size},
+  Resolve.{option_list, asked_partitions, asked_stack, asked_stacks, partition_sizes, stack_sizes, placed},
+};
 
 use crate::numbers::clamped;
 use crate::packing::packed_size;

@@ -1,7 +1,6 @@
 //! Scripts, with the addresses and numbers of what their lines name.
 
-ghost use Rattle.std.specs.Prelude.{◌≡◌, ◌≤◌, ◌<◌, ◌++◌, IfOk, OnOk, All, length, map};
-ghost use Rattle.std.specs.List.{flat_map};
+ghost use Rattle.std.specs.{Prelude.{◌≡◌, ◌≤◌, ◌<◌, ◌++◌, IfOk, OnOk, All, length, map}, List.{flat_map}};
 ghost use Rattle.um_base.specs.declared.limits.TheConstants.{DOMAINS, LINES, PARTITIONS, SCRIPTS};
 ghost use Rattle.um_description.specs.Resolve.{option_list, read_line, script_of};
 

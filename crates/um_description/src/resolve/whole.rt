@@ -1,12 +1,13 @@
 //! The image of a description, or the flaw of its weight or its areas.
 
 ghost use Rattle.std.specs.Prelude.{◌≡◌, IfOk, nat_lt, length};
-ghost use Rattle.um_base.specs.Weight.{weight};
-ghost use Rattle.um_base.specs.declared.limits.TheConstants.{MOST_WEIGHT};
-ghost use Rattle.um_description.specs.Flaws.{image_flaws, meaning_by};
-ghost use Rattle.um_description.specs.InLimits.{IsInLimits};
-ghost use Rattle.um_description.specs.Resolve.{image_in};
-ghost use Rattle.um_description.specs.Told.{told};
+ghost use Rattle.um_base.specs.{Weight.{weight}, declared.limits.TheConstants.{MOST_WEIGHT}};
+ghost use Rattle.um_description.specs.{
+  Flaws.{image_flaws, meaning_by},
+  InLimits.{IsInLimits},
+  Resolve.{image_in},
+  Told.{told},
+};
 
 use crate::flaw::Flaw;
 use crate::read::ReadScript;

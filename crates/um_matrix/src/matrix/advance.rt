@@ -1,10 +1,12 @@
 //! What a thread does next where nobody says it: its next step with the first row that it may choose, and what cleans.
 
 ghost use Rattle.std.specs.Prelude.{◌≡◌, ◌<◌, ◌↔◌, ℕ, [], Some, ◌&&◌, not, true, false, drop, IfSome, IfNone, IsTrue, None, slice_get, is_some};
-ghost use Rattle.um_machine.specs.Limits.{IsSound};
-ghost use Rattle.um_machine.specs.declared.pending.Pending.{Pending};
-ghost use Rattle.um_machine.specs.Objects.{is_gone, is_held};
-ghost use Rattle.um_machine.specs.State.{object_at};
+ghost use Rattle.um_machine.specs.{
+  Limits.{IsSound},
+  declared.pending.Pending.{Pending},
+  Objects.{is_gone, is_held},
+  State.{object_at},
+};
 ghost use Rattle.um_matrix.specs.Offered.{rest_choice};
 
 use crate::matrix::Matrix;
@@ -25,11 +27,15 @@ fn rest_choice(act: &Act) -> Choice
 }
 
 impl<'a> Matrix<'a> {
-    ghost use Rattle.um_machine.specs.Run.{MayChoose, Advances, ChoosesDue};
-    ghost use Rattle.um_machine.specs.State.{thread_at, is_started, instruction_at};
-    ghost use Rattle.um_machine.specs.Table.{act_of, after};
-    ghost use Rattle.um_matrix.specs.Offered.{ChoosesNone, IsInside, IsMove, after_choice, said, event_of, is_forsaken};
-    ghost use Rattle.um_matrix.specs.Alone.{MayTake, TakesNone, IsLeast, NoFirst, NoSecond, IsNext, Stays, Cleans, CleansNot};
+    ghost use Rattle.um_machine.specs.{
+      Run.{MayChoose, Advances, ChoosesDue},
+      State.{thread_at, is_started, instruction_at},
+      Table.{act_of, after},
+    };
+    ghost use Rattle.um_matrix.specs.{
+      Offered.{ChoosesNone, IsInside, IsMove, after_choice, said, event_of, is_forsaken},
+      Alone.{MayTake, TakesNone, IsLeast, NoFirst, NoSecond, IsNext, Stays, Cleans, CleansNot},
+    };
     ghost use Rattle.um_base.specs.Places.{thread_of_row};
 
     /// Whether a row is due where a step is an inheritance.

@@ -1,13 +1,17 @@
 //! The opening state.
 
 ghost use Rattle.std.specs.Prelude.{◌≡◌, ◌<◌, ◌≤◌, ◌-◌, ◌++◌, IfOk, OnOk, IfSome, List, ℕ, Bool, length, map, replicate, slice_get, slice_set, true, false};
-ghost use Rattle.um_base.specs.declared.image.DomainDef.{DomainDef};
-ghost use Rattle.um_base.specs.declared.image.Pool.{Pool};
-ghost use Rattle.um_base.specs.Lawful.{IsLawful};
-ghost use Rattle.um_machine.specs.State.{nobody, vacant};
-ghost use Rattle.um_machine.specs.Memory.{rodata_of};
-ghost use Rattle.um_machine.specs.Domains.{part_at};
-ghost use Rattle.um_machine.specs.Run.{boot_thread, objects_from, parts_of};
+ghost use Rattle.um_base.specs.{
+  declared.image.DomainDef.{DomainDef},
+  declared.image.Pool.{Pool},
+  Lawful.{IsLawful},
+};
+ghost use Rattle.um_machine.specs.{
+  State.{nobody, vacant},
+  Memory.{rodata_of},
+  Domains.{part_at},
+  Run.{boot_thread, objects_from, parts_of},
+};
 
 use crate::matrix::Matrix;
 use crate::matrix::moves::put;
@@ -152,8 +156,10 @@ fn outcome(alloc: Global) -> Result<Vec<Outcome>, Memory>
 }
 
 impl<'a> Matrix<'a> {
-    ghost use Rattle.um_machine.specs.State.{with_pair, with_thread};
-    ghost use Rattle.um_machine.specs.Run.{granted, booted_one, booted, loaded, blank, opening};
+    ghost use Rattle.um_machine.specs.{
+      State.{with_pair, with_thread},
+      Run.{granted, booted_one, booted, loaded, blank, opening},
+    };
 
     /// A thread index has a pair with a row.
     fn give(&mut self, t: usize, x: Row)

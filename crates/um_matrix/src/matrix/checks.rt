@@ -1,9 +1,10 @@
 //! What is tested of objects, pairs and pools.
 
-ghost use Rattle.std.specs.Prelude.{◌≡◌, ◌<◌, ◌≤◌, not, false, slice_set, slice_index_or, length, List, Bool};
-ghost use Rattle.std.specs.List.{list_all};
-ghost use Rattle.um_machine.specs.Objects.{any_holds, init_verdict};
-ghost use Rattle.um_machine.specs.Table.{set_said};
+ghost use Rattle.std.specs.{
+  Prelude.{◌≡◌, ◌<◌, ◌≤◌, not, false, slice_set, slice_index_or, length, List, Bool},
+  List.{list_all},
+};
+ghost use Rattle.um_machine.specs.{Objects.{any_holds, init_verdict}, Table.{set_said}};
 
 use crate::matrix::Matrix;
 use crate::matrix::moves::{flag, holders_of, put};
@@ -19,8 +20,10 @@ use um_steps::rows::own_row;
 
 impl<'a> Matrix<'a> {
     ghost use Rattle.um_base.specs.Places.{own_row};
-    ghost use Rattle.um_machine.specs.Objects.{verdict, row_verdict, has_none, is_held};
-    ghost use Rattle.um_machine.specs.Table.{row_of, dropped, given, left_in, pays};
+    ghost use Rattle.um_machine.specs.{
+      Objects.{verdict, row_verdict, has_none, is_held},
+      Table.{row_of, dropped, given, left_in, pays},
+    };
 
     /// The row at an address.
     pub fn row_of(&self, a: Addr) -> usize

@@ -1,8 +1,7 @@
 //! Which step an act is, by the steps that its thread is offered.
 
 ghost use Rattle.std.specs.Prelude.{◌≡◌, ◌<◌, ◌≤◌, slice_get, IfSome, IfNone, IsTrue, Some, None, ℕ, length};
-ghost use Rattle.um_machine.specs.Limits.{IsSound};
-ghost use Rattle.um_machine.specs.declared.pending.Pending.{Pending};
+ghost use Rattle.um_machine.specs.{Limits.{IsSound}, declared.pending.Pending.{Pending}};
 ghost use Rattle.um_matrix.specs.Offered.{chooses, row_count, is_skipped, pair_of};
 
 use crate::matrix::Matrix;
@@ -71,9 +70,7 @@ fn is_skipped(step: Option<Pending>) -> bool
 }
 
 impl<'a> Matrix<'a> {
-    ghost use Rattle.um_machine.specs.Run.{MayChoose};
-    ghost use Rattle.um_machine.specs.State.{State, thread_at, is_started};
-    ghost use Rattle.um_machine.specs.Table.{act_of};
+    ghost use Rattle.um_machine.specs.{Run.{MayChoose}, State.{State, thread_at, is_started}, Table.{act_of}};
     ghost use Rattle.um_matrix.specs.Offered.{IsNoStep, IsChoice, SaysNot, first_step, second_step, rest_step, rest_act};
 
     /// The next step of a thread's instruction.

@@ -1,7 +1,9 @@
 //! The steps that start a thread, and that give up its privilege.
 
-ghost use Rattle.std.specs.Prelude.{◌≡◌, ◌<◌, ◌==◌, [], drop, if◌then◌else◌, IsTrue, IfSome, length};
-ghost use Rattle.std.specs.Option.{option_copied};
+ghost use Rattle.std.specs.{
+  Prelude.{◌≡◌, ◌<◌, ◌==◌, [], drop, if◌then◌else◌, IsTrue, IfSome, length},
+  Option.{option_copied},
+};
 ghost use Rattle.um_steps.specs.Accesses.{is_sized};
 
 use crate::matrix::Matrix;
@@ -31,8 +33,10 @@ fn replace_but_steps(me: &mut Thread, born: Thread)
 }
 
 impl<'a> Matrix<'a> {
-    ghost use Rattle.um_machine.specs.State.{thread_at, with_thread, instruction_at};
-    ghost use Rattle.um_machine.specs.Table.{after, goes_on, newborn};
+    ghost use Rattle.um_machine.specs.{
+      State.{thread_at, with_thread, instruction_at},
+      Table.{after, goes_on, newborn},
+    };
 
     /// The instruction at a thread's place. It loads or stores a word at most.
     #[tactic(auto, using(crate::proofs::SizeLemmas::sized_instruction))]

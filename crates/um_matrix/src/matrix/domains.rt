@@ -9,9 +9,11 @@ use um_steps::domains::{added, domain_after, initialised, removed, reply_to};
 
 impl<'a> Matrix<'a> {
     ghost use Rattle.um_base.specs.Lawful.{most_parts};
-    ghost use Rattle.um_machine.specs.Domains.{initialised, added, removed, reply_to, domain_after, part_named};
-    ghost use Rattle.um_machine.specs.State.{thread_at};
-    ghost use Rattle.um_machine.specs.Table.{act_of, after, after_domain, move_reply, moved, domain_at};
+    ghost use Rattle.um_machine.specs.{
+      Domains.{initialised, added, removed, reply_to, domain_after, part_named},
+      State.{thread_at},
+      Table.{act_of, after, after_domain, move_reply, moved, domain_at},
+    };
 
     /// The partitions of a domain, where it is initialised.
     fn domain_at(&self, domain: u8) -> Option<Parts>

@@ -14,8 +14,7 @@ use um_steps::rows::addr_of;
 const OBJECT_COST: u32 = 64;
 
 impl<'a> Matrix<'a> {
-    ghost use Rattle.um_machine.specs.State.{thread_at};
-    ghost use Rattle.um_machine.specs.Table.{after};
+    ghost use Rattle.um_machine.specs.{State.{thread_at}, Table.{after}};
 
     /// The reservation of a row, or NULL.
     pub fn reserve(&mut self, t: usize, x: usize, kind: Kind, taken: usize)

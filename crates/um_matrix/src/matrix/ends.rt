@@ -9,8 +9,7 @@ use um_machine::Pending;
 use um_steps::order;
 
 impl<'a> Matrix<'a> {
-    ghost use Rattle.um_machine.specs.State.{thread_at};
-    ghost use Rattle.um_machine.specs.Table.{after};
+    ghost use Rattle.um_machine.specs.{State.{thread_at}, Table.{after}};
 
     /// The exit after the last line.
     pub fn exit(&mut self, t: usize)

@@ -9,8 +9,7 @@ use um_base::{Act, ROWS, THREADS};
 use um_machine::Pending;
 
 impl<'a> Matrix<'a> {
-    ghost use Rattle.um_machine.specs.State.{thread_at};
-    ghost use Rattle.um_machine.specs.Table.{after};
+    ghost use Rattle.um_machine.specs.{State.{thread_at}, Table.{after}};
 
     /// Makes a step with the row that it chooses, where it does. The thread goes on behind so many of its steps.
     pub fn make(&mut self, t: usize, x: usize, step: &Pending, taken: usize)

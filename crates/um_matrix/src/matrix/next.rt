@@ -2,8 +2,7 @@
 
 ghost use Rattle.std.specs.Prelude.{◌≡◌, ◌<◌, IfSome, IfNone, MatchOption, IsTrue, Some, None, ℕ, false, slice_get};
 ghost use Rattle.um_base.specs.declared.act.Event.{Event};
-ghost use Rattle.um_machine.specs.Limits.{IsSound};
-ghost use Rattle.um_machine.specs.declared.pending.Pending.{Pending};
+ghost use Rattle.um_machine.specs.{Limits.{IsSound}, declared.pending.Pending.{Pending}};
 
 use crate::matrix::Matrix;
 use crate::matrix::moves::holders_of;
@@ -11,8 +10,7 @@ use um_base::{Act, Event, ROWS, THREADS, ThreadIx};
 use um_machine::Pending;
 
 impl<'a> Matrix<'a> {
-    ghost use Rattle.um_machine.specs.Run.{MayChoose, IsComplete};
-    ghost use Rattle.um_machine.specs.State.{thread_at, is_started};
+    ghost use Rattle.um_machine.specs.{Run.{MayChoose, IsComplete}, State.{thread_at, is_started}};
     ghost use Rattle.um_matrix.specs.Offered.{IsStep, event_of, first_step, second_step, is_cleaning, ChoosesNone, IsIdle};
 
     /// The first row that a step may choose.

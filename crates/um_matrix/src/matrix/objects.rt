@@ -1,8 +1,7 @@
 //! Checks and answers, and the steps that mark an object.
 
 ghost use Rattle.std.specs.Prelude.{◌≡◌, ◌<◌, drop};
-ghost use Rattle.um_machine.specs.Order.{refuses};
-ghost use Rattle.um_machine.specs.Table.{at_steps, cleared_first};
+ghost use Rattle.um_machine.specs.{Order.{refuses}, Table.{at_steps, cleared_first}};
 ghost use Rattle.um_base.specs.declared.image.Image.{Image};
 
 use crate::matrix::Matrix;
@@ -24,8 +23,7 @@ fn turn_back(thread: &mut Thread, undo: Option<Addr>, e: Errno)
 }
 
 impl<'a> Matrix<'a> {
-    ghost use Rattle.um_machine.specs.State.{thread_at};
-    ghost use Rattle.um_machine.specs.Table.{after};
+    ghost use Rattle.um_machine.specs.{State.{thread_at}, Table.{after}};
 
     /// A check: the object of one that is ok is held.
     pub fn check(

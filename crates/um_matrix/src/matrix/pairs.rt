@@ -9,8 +9,7 @@ use um_machine::Pending;
 use um_steps::rows::own_row;
 
 impl<'a> Matrix<'a> {
-    ghost use Rattle.um_machine.specs.State.{thread_at};
-    ghost use Rattle.um_machine.specs.Table.{after, goes_on, rows_to_pass};
+    ghost use Rattle.um_machine.specs.{State.{thread_at}, Table.{after, goes_on, rows_to_pass}};
 
     /// A grant, unless the object is gone.
     #[tactic(auto, using(crate::proofs::PairLemmas::pendings_kept))]

@@ -2,8 +2,7 @@
 
 ghost use Rattle.std.specs.Prelude.{◌≡◌, ◌<◌, ◌≤◌, ℕ};
 ghost use Rattle.um_base.specs.Places.{addr_of};
-ghost use Rattle.um_machine.specs.Limits.{IsSound};
-ghost use Rattle.um_machine.specs.Order.{to_addr};
+ghost use Rattle.um_machine.specs.{Limits.{IsSound}, Order.{to_addr}};
 
 use crate::matrix::Matrix;
 use crate::matrix::checks::set_said;
@@ -13,8 +12,7 @@ use um_steps::bytes::le_value;
 use um_steps::rows::addr_of;
 
 impl<'a> Matrix<'a> {
-    ghost use Rattle.um_machine.specs.State.{thread_at};
-    ghost use Rattle.um_machine.specs.Table.{act_of};
+    ghost use Rattle.um_machine.specs.{State.{thread_at}, Table.{act_of}};
 
     fn says_load(&self, t: usize, a: Addr, n: u32, act: &mut Act)
         requires thread { t < THREADS }

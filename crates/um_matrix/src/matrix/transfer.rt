@@ -19,8 +19,7 @@ const FAULT: Pending = Pending::Fatal {
 };
 
 impl<'a> Matrix<'a> {
-    ghost use Rattle.um_machine.specs.State.{thread_at};
-    ghost use Rattle.um_machine.specs.Table.{after, after_string, amount_of, erased};
+    ghost use Rattle.um_machine.specs.{State.{thread_at}, Table.{after, after_string, amount_of, erased}};
     ghost use Rattle.um_base.specs.Places.{setup_at};
 
     /// How many bytes are copied or probed.

@@ -1,10 +1,12 @@
 //! The steps of a call that works on an object, or waits on it.
 
 ghost use Rattle.std.specs.Prelude.{◌≡◌, ◌<◌, ◌≤◌, drop, Some, ℕ, IsTrue, slice_index_or, slice_set};
-ghost use Rattle.um_machine.specs.Limits.{is_sound_ask};
-ghost use Rattle.um_machine.specs.Order.{to_thread};
-ghost use Rattle.um_machine.specs.State.{nobody};
-ghost use Rattle.um_machine.specs.Table.{bytes_given};
+ghost use Rattle.um_machine.specs.{
+  Limits.{is_sound_ask},
+  Order.{to_thread},
+  State.{nobody},
+  Table.{bytes_given},
+};
 ghost use Rattle.um_matrix.specs.Worked.{threads_woken, answered};
 
 use crate::matrix::Matrix;
@@ -64,8 +66,7 @@ fn after_answer(
 }
 
 impl<'a> Matrix<'a> {
-    ghost use Rattle.um_machine.specs.State.{thread_at};
-    ghost use Rattle.um_machine.specs.Table.{act_of, after};
+    ghost use Rattle.um_machine.specs.{State.{thread_at}, Table.{act_of, after}};
 
     /// A thread as it works on an object.
     #[inline(never)]

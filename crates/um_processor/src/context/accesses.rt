@@ -1,8 +1,7 @@
 //! How a thread goes on after it reaches memory. A store, a fetch and an erased stack write nothing of its own: it goes on, or faults.
 
 ghost use Rattle.std.specs.Prelude.{◌≡◌, drop, if◌then◌else◌, slice_set};
-ghost use Rattle.um_machine.specs.Order.{copy_fails};
-ghost use Rattle.um_machine.specs.Table.{fault};
+ghost use Rattle.um_machine.specs.{Order.{copy_fails}, Table.{fault}};
 ghost use Rattle.um_fine.specs.Continues.{after_access, after_text, goes_on};
 
 use crate::context::Context;

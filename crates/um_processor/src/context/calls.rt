@@ -2,10 +2,11 @@
 
 ghost use Rattle.std.specs.Prelude.{◌≡◌, ◌<◌, [], drop, length, IsTrue};
 ghost use Rattle.um_base.specs.declared.limits.TheConstants.{ROWS};
-ghost use Rattle.um_machine.specs.Limits.{is_sound_ask};
-ghost use Rattle.um_machine.specs.Table.{after_check, with_answer};
-ghost use Rattle.um_fine.specs.Addresses.{row_named};
-ghost use Rattle.um_fine.specs.Continues.{after_work, goes_on, reply_of, resumed, with_claim};
+ghost use Rattle.um_machine.specs.{Limits.{is_sound_ask}, Table.{after_check, with_answer}};
+ghost use Rattle.um_fine.specs.{
+  Addresses.{row_named},
+  Continues.{after_work, goes_on, reply_of, resumed, with_claim},
+};
 
 use crate::context::Context;
 use um_base::{Addr, Answer, Ask, Errno, Image, Piece, Reply, Told};

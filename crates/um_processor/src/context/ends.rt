@@ -2,10 +2,8 @@
 
 ghost use Rattle.std.specs.Prelude.{◌≡◌, ◌∷◌, drop};
 ghost use Rattle.um_machine.specs.declared.pending.Pending.TheVariants as Pending;
-ghost use Rattle.um_machine.specs.Order.{end_steps, fatal_steps};
-ghost use Rattle.um_machine.specs.Table.{next_doom};
-ghost use Rattle.um_fine.specs.Context.{as_thread};
-ghost use Rattle.um_fine.specs.Continues.{ends_with};
+ghost use Rattle.um_machine.specs.{Order.{end_steps, fatal_steps}, Table.{next_doom}};
+ghost use Rattle.um_fine.specs.{Context.{as_thread}, Continues.{ends_with}};
 
 use crate::context::Context;
 use um_base::Image;

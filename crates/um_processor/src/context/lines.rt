@@ -1,12 +1,13 @@
 //! How a thread begins a line, and goes to user mode.
 
-ghost use Rattle.std.specs.Prelude.{◌≡◌, ◌<◌, [], IsTrue, IfSome, Some};
-ghost use Rattle.std.specs.Option.{option_copied};
+ghost use Rattle.std.specs.{Prelude.{◌≡◌, ◌<◌, [], IsTrue, IfSome, Some}, Option.{option_copied}};
 ghost use Rattle.um_base.specs.declared.limits.TheConstants.{THREADS};
 ghost use Rattle.um_base.specs.declared.names.Mode.TheVariants as Mode;
-ghost use Rattle.um_machine.specs.Order.{steps_of};
-ghost use Rattle.um_machine.specs.State.{first_place, instruction_at};
-ghost use Rattle.um_machine.specs.Table.{at_steps, with_begin};
+ghost use Rattle.um_machine.specs.{
+  Order.{steps_of},
+  State.{first_place, instruction_at},
+  Table.{at_steps, with_begin},
+};
 ghost use Rattle.um_steps.specs.Accesses.{is_sized};
 ghost use Rattle.um_fine.specs.Continues.{begun};
 ghost use Rattle.um_processor.specs.Given.{IsGiven};

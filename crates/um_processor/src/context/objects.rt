@@ -3,8 +3,7 @@
 ghost use Rattle.std.specs.Prelude.{◌≡◌, ◌<◌, drop};
 ghost use Rattle.um_base.specs.declared.act.Cause.TheVariants as Cause;
 ghost use Rattle.um_base.specs.declared.names.Errno.TheVariants as Errno;
-ghost use Rattle.um_machine.specs.Order.{answer_error, refuses};
-ghost use Rattle.um_machine.specs.Table.{cleared_first};
+ghost use Rattle.um_machine.specs.{Order.{answer_error, refuses}, Table.{cleared_first}};
 ghost use Rattle.um_fine.specs.Continues.{after_access, after_reserve, after_set, goes_on};
 
 use crate::context::Context;

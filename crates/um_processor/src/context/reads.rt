@@ -1,10 +1,11 @@
 //! What a processor reads of a thread's own part.
 
-ghost use Rattle.std.specs.Prelude.{◌≡◌, ◌<◌, ◌≤◌, ◌∷◌, [], drop, is_some, length, nat_lt, IfSome, MatchOption};
-ghost use Rattle.std.specs.List.{All};
+ghost use Rattle.std.specs.{
+  Prelude.{◌≡◌, ◌<◌, ◌≤◌, ◌∷◌, [], drop, is_some, length, nat_lt, IfSome, MatchOption},
+  List.{All},
+};
 ghost use Rattle.um_base.specs.declared.limits.TheConstants.{ROWS};
-ghost use Rattle.um_machine.specs.Limits.{IsSound};
-ghost use Rattle.um_machine.specs.State.{instruction_at};
+ghost use Rattle.um_machine.specs.{Limits.{IsSound}, State.{instruction_at}};
 ghost use Rattle.um_fine.specs.Continues.{reply_of};
 
 use crate::context::Context;

@@ -1,10 +1,12 @@
 //! The steps behind a call: its claims end, and the woken are told.
 
 ghost use Rattle.std.specs.Prelude.{◌≡◌, ◌<◌, [], false, length};
-ghost use Rattle.um_processor.specs.Phases.{is_idle};
-ghost use Rattle.um_processor.specs.Processors.{UnlessMade};
-ghost use Rattle.um_processor.specs.Standing.{whole};
-ghost use Rattle.um_processor.specs.Turns.{MayTurn, TurnsAt};
+ghost use Rattle.um_processor.specs.{
+  Phases.{is_idle},
+  Processors.{UnlessMade},
+  Standing.{whole},
+  Turns.{MayTurn, TurnsAt},
+};
 
 use crate::phase::Turn;
 use crate::processor::Processor;

@@ -2,10 +2,12 @@
 
 ghost use Rattle.std.specs.Prelude.{◌≡◌, ◌<◌, ◌∷◌, drop, false};
 ghost use Rattle.um_fine.specs.Places.{Todo};
-ghost use Rattle.um_processor.specs.Phases.{is_idle};
-ghost use Rattle.um_processor.specs.Processors.{UnlessMade};
-ghost use Rattle.um_processor.specs.Standing.{whole};
-ghost use Rattle.um_processor.specs.Turns.{MayTurn, TurnsAt};
+ghost use Rattle.um_processor.specs.{
+  Phases.{is_idle},
+  Processors.{UnlessMade},
+  Standing.{whole},
+  Turns.{MayTurn, TurnsAt},
+};
 
 use crate::cleaning::MOST;
 use crate::heap_act::HeapAct;

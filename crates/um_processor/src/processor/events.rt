@@ -3,11 +3,13 @@
 ghost use Rattle.std.specs.Prelude.{◌≡◌, [], drop, IsTrue};
 ghost use Rattle.um_machine.specs.Limits.{IsSound, is_sound_ask};
 ghost use Rattle.um_machine.specs.declared.pending.Pending.TheVariants as Pending;
-ghost use Rattle.um_processor.specs.Events.{about_to, about_to_park, at_event};
-ghost use Rattle.um_processor.specs.Processors.{UnlessMade};
-ghost use Rattle.um_processor.specs.Standing.{whole};
-ghost use Rattle.um_processor.specs.Subjects.{ends_claims, is_plain};
-ghost use Rattle.um_processor.specs.Turns.{MayTurn, TurnsAt};
+ghost use Rattle.um_processor.specs.{
+  Events.{about_to, about_to_park, at_event},
+  Processors.{UnlessMade},
+  Standing.{whole},
+  Subjects.{ends_claims, is_plain},
+  Turns.{MayTurn, TurnsAt},
+};
 
 use crate::phase::{Phase, Turn};
 use crate::processor::Processor;

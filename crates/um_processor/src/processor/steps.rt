@@ -1,12 +1,14 @@
 //! A step of a processor, whatever it is.
 
 ghost use Rattle.std.specs.Prelude.{◌≡◌, ◌∷◌, [], drop, false, true, IsTrue};
-ghost use Rattle.um_processor.specs.Cleanings.{clean_todo};
-ghost use Rattle.um_processor.specs.Given.{IsGiven};
-ghost use Rattle.um_processor.specs.Phases.{is_idle, is_plain_phase};
-ghost use Rattle.um_processor.specs.Processors.{UnlessMade, in_phase};
-ghost use Rattle.um_processor.specs.Standing.{whole};
-ghost use Rattle.um_processor.specs.Turns.{MayTurn, TurnsAt};
+ghost use Rattle.um_processor.specs.{
+  Cleanings.{clean_todo},
+  Given.{IsGiven},
+  Phases.{is_idle, is_plain_phase},
+  Processors.{UnlessMade, in_phase},
+  Standing.{whole},
+  Turns.{MayTurn, TurnsAt},
+};
 ghost use Rattle.um_processor.specs.declared.phase.Phase.TheVariants as Phase;
 
 use crate::cleaning::CleanStep;

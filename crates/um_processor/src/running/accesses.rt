@@ -3,9 +3,11 @@
 ghost use Rattle.std.specs.Prelude.{◌≡◌};
 ghost use Rattle.um_fine.specs.Processor.{is_of, key_of, same_key};
 ghost use Rattle.um_machine.specs.State.{is_user};
-ghost use Rattle.um_processor.specs.Parked.{some_if};
-ghost use Rattle.um_processor.specs.Processors.{UnlessMade, in_phase, processor_of};
-ghost use Rattle.um_processor.specs.Turns.{MayTurn, TurnsAt};
+ghost use Rattle.um_processor.specs.{
+  Parked.{some_if},
+  Processors.{UnlessMade, in_phase, processor_of},
+  Turns.{MayTurn, TurnsAt},
+};
 
 use crate::domain_act::DomainAct;
 use crate::phase::{Phase, Turn};

@@ -1,13 +1,14 @@
 //! A call's checks and its answer.
 
 ghost use Rattle.std.specs.Prelude.{◌≡◌, ◌<◌, [], false, length, Some, None};
-ghost use Rattle.um_base.specs.declared.limits.TheConstants.{ROWS};
-ghost use Rattle.um_base.specs.Places.{row_at};
+ghost use Rattle.um_base.specs.{declared.limits.TheConstants.{ROWS}, Places.{row_at}};
 ghost use Rattle.um_machine.specs.declared.pending.Pending.TheVariants as Pending;
-ghost use Rattle.um_processor.specs.Events.{about_to, with_ends};
-ghost use Rattle.um_processor.specs.Phases.{is_idle};
-ghost use Rattle.um_processor.specs.Processors.{OnMade, UnlessMade, processor_of};
-ghost use Rattle.um_processor.specs.Turns.{MayTurn, TurnsAt};
+ghost use Rattle.um_processor.specs.{
+  Events.{about_to, with_ends},
+  Phases.{is_idle},
+  Processors.{OnMade, UnlessMade, processor_of},
+  Turns.{MayTurn, TurnsAt},
+};
 
 use crate::phase::{Phase, Turn};
 use crate::row_act::RowAct;

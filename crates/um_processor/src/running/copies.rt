@@ -4,9 +4,11 @@ ghost use Rattle.std.specs.Prelude.{◌≡◌};
 ghost use Rattle.um_fine.specs.Asks.{amount};
 ghost use Rattle.um_machine.specs.declared.pending.Pending.TheVariants as Pending;
 ghost use Rattle.um_processor.specs.declared.phase.Phase.TheVariants as Phase;
-ghost use Rattle.um_processor.specs.Events.{about_to};
-ghost use Rattle.um_processor.specs.Processors.{UnlessMade, in_phase, processor_of};
-ghost use Rattle.um_processor.specs.Turns.{MayTurn, TurnsAt};
+ghost use Rattle.um_processor.specs.{
+  Events.{about_to},
+  Processors.{UnlessMade, in_phase, processor_of},
+  Turns.{MayTurn, TurnsAt},
+};
 
 use crate::memory_act::MemoryAct;
 use crate::phase::{Phase, Turn};

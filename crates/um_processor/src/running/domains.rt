@@ -1,8 +1,10 @@
 //! The steps before the event of a domain's call.
 
 ghost use Rattle.std.specs.Prelude.{◌≡◌};
-ghost use Rattle.um_processor.specs.Processors.{UnlessMade, in_phase, processor_of};
-ghost use Rattle.um_processor.specs.Turns.{MayTurn, TurnsAt};
+ghost use Rattle.um_processor.specs.{
+  Processors.{UnlessMade, in_phase, processor_of},
+  Turns.{MayTurn, TurnsAt},
+};
 
 use crate::domain_act::DomainAct;
 use crate::phase::{Phase, Turn};

@@ -1,12 +1,13 @@
 //! The events of calls on domains, with the reply that was worked out before.
 
 ghost use Rattle.std.specs.Prelude.{◌≡◌, IsTrue};
-ghost use Rattle.um_fine.specs.Continues.{goes_on};
-ghost use Rattle.um_fine.specs.Processor.{fails};
+ghost use Rattle.um_fine.specs.{Continues.{goes_on}, Processor.{fails}};
 ghost use Rattle.um_machine.specs.declared.pending.Pending.TheVariants as Pending;
-ghost use Rattle.um_processor.specs.Events.{about_to, behind_event, rest_of};
-ghost use Rattle.um_processor.specs.Processors.{UnlessMade, processor_of};
-ghost use Rattle.um_processor.specs.Turns.{MayTurn, TurnsAt};
+ghost use Rattle.um_processor.specs.{
+  Events.{about_to, behind_event, rest_of},
+  Processors.{UnlessMade, processor_of},
+  Turns.{MayTurn, TurnsAt},
+};
 
 use crate::domain_act::DomainAct;
 use crate::phase::{Phase, Turn};

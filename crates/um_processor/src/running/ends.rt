@@ -2,10 +2,12 @@
 
 ghost use Rattle.std.specs.Prelude.{◌≡◌, [], false};
 ghost use Rattle.um_machine.specs.declared.pending.Pending.TheVariants as Pending;
-ghost use Rattle.um_processor.specs.Events.{about_to, with_ends};
-ghost use Rattle.um_processor.specs.Phases.{is_idle};
-ghost use Rattle.um_processor.specs.Processors.{OnMade, UnlessMade, cleaned, in_phase, processor_of};
-ghost use Rattle.um_processor.specs.Turns.{MayTurn, TurnsAt};
+ghost use Rattle.um_processor.specs.{
+  Events.{about_to, with_ends},
+  Phases.{is_idle},
+  Processors.{OnMade, UnlessMade, cleaned, in_phase, processor_of},
+  Turns.{MayTurn, TurnsAt},
+};
 ghost use Rattle.um_fine.specs.Addresses.{row_named};
 
 use crate::phase::{Phase, Turn};

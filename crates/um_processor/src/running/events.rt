@@ -4,9 +4,11 @@ ghost use Rattle.std.specs.Prelude.{◌≡◌, ◌<◌, drop};
 ghost use Rattle.um_base.specs.Places.{own_row};
 ghost use Rattle.um_fine.specs.Continues.{goes_on};
 ghost use Rattle.um_machine.specs.declared.pending.Pending.TheVariants as Pending;
-ghost use Rattle.um_processor.specs.Events.{about_to, behind_event, rest_of};
-ghost use Rattle.um_processor.specs.Processors.{UnlessMade, processor_of};
-ghost use Rattle.um_processor.specs.Turns.{MayTurn, TurnsAt};
+ghost use Rattle.um_processor.specs.{
+  Events.{about_to, behind_event, rest_of},
+  Processors.{UnlessMade, processor_of},
+  Turns.{MayTurn, TurnsAt},
+};
 
 use crate::heap_act::HeapAct;
 use crate::phase::{Phase, Turn};

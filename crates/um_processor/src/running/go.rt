@@ -1,10 +1,12 @@
 //! The steps of a thread, by the phase in which its processor is.
 
 ghost use Rattle.std.specs.Prelude.{◌≡◌, IsTrue};
-ghost use Rattle.um_processor.specs.Given.{IsGiven};
-ghost use Rattle.um_processor.specs.Phases.{is_plain_phase};
-ghost use Rattle.um_processor.specs.Processors.{UnlessMade, processor_of};
-ghost use Rattle.um_processor.specs.Turns.{MayTurn, TurnsAt};
+ghost use Rattle.um_processor.specs.{
+  Given.{IsGiven},
+  Phases.{is_plain_phase},
+  Processors.{UnlessMade, processor_of},
+  Turns.{MayTurn, TurnsAt},
+};
 
 use crate::phase::{Phase, Turn};
 use crate::running::Running;

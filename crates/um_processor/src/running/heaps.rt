@@ -4,12 +4,13 @@ ghost use Rattle.std.specs.Prelude.{◌≡◌};
 ghost use Rattle.um_base.specs.declared.names.Errno.TheVariants as Errno;
 ghost use Rattle.um_base.specs.declared.names.Mode.TheVariants as Mode;
 ghost use Rattle.um_fine.specs.Continues.{after_access, after_reserve};
-ghost use Rattle.um_machine.specs.Order.{answer_error};
-ghost use Rattle.um_machine.specs.State.{first_place};
+ghost use Rattle.um_machine.specs.{Order.{answer_error}, State.{first_place}};
 ghost use Rattle.um_machine.specs.declared.pending.Pending.TheVariants as Pending;
-ghost use Rattle.um_processor.specs.Events.{about_to, behind_event, rest_of};
-ghost use Rattle.um_processor.specs.Processors.{UnlessMade, processor_of};
-ghost use Rattle.um_processor.specs.Turns.{MayTurn, TurnsAt};
+ghost use Rattle.um_processor.specs.{
+  Events.{about_to, behind_event, rest_of},
+  Processors.{UnlessMade, processor_of},
+  Turns.{MayTurn, TurnsAt},
+};
 
 use crate::heap_act::HeapAct;
 use crate::phase::{Phase, Turn};

@@ -2,9 +2,11 @@
 
 ghost use Rattle.std.specs.Prelude.{◌≡◌, ◌+◌, false, true, is_some, MatchOption};
 ghost use Rattle.um_machine.specs.State.{instruction_at};
-ghost use Rattle.um_processor.specs.Given.{IsGiven};
-ghost use Rattle.um_processor.specs.Processors.{UnlessMade, in_phase, processor_of};
-ghost use Rattle.um_processor.specs.Turns.{MayTurn, TurnsAt};
+ghost use Rattle.um_processor.specs.{
+  Given.{IsGiven},
+  Processors.{UnlessMade, in_phase, processor_of},
+  Turns.{MayTurn, TurnsAt},
+};
 
 use crate::phase::{Phase, Turn};
 use crate::running::Running;

@@ -3,10 +3,12 @@
 ghost use Rattle.std.specs.Prelude.{◌≡◌, if◌then◌else◌};
 ghost use Rattle.um_machine.specs.declared.pending.Pending.TheVariants as Pending;
 ghost use Rattle.um_processor.specs.declared.memory_act.MemoryAct.TheVariants as MemoryAct;
-ghost use Rattle.um_processor.specs.Accesses.{behind_access, behind_load};
-ghost use Rattle.um_processor.specs.Events.{about_to, behind_event, rest_of};
-ghost use Rattle.um_processor.specs.Processors.{UnlessMade, processor_of};
-ghost use Rattle.um_processor.specs.Turns.{MayTurn, TurnsAt};
+ghost use Rattle.um_processor.specs.{
+  Accesses.{behind_access, behind_load},
+  Events.{about_to, behind_event, rest_of},
+  Processors.{UnlessMade, processor_of},
+  Turns.{MayTurn, TurnsAt},
+};
 
 use crate::memory_act::MemoryAct;
 use crate::phase::{Phase, Turn};

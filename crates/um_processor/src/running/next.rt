@@ -2,13 +2,13 @@
 
 ghost use Rattle.std.specs.Prelude.{◌≡◌, ◌<◌, ◌∷◌, [], slice_get, IfSome, MatchOption};
 ghost use Rattle.um_base.specs.declared.limits.TheConstants.{ROWS};
-ghost use Rattle.um_fine.specs.Addresses.{row_named};
-ghost use Rattle.um_fine.specs.Continues.{newborn};
-ghost use Rattle.um_fine.specs.Places.{but};
+ghost use Rattle.um_fine.specs.{Addresses.{row_named}, Continues.{newborn}, Places.{but}};
 ghost use Rattle.um_machine.specs.Limits.{IsSound};
-ghost use Rattle.um_processor.specs.Events.{rest_of};
-ghost use Rattle.um_processor.specs.Phases.{born, domain_named, first_of, first_phase, phase_of_amount, queue_of, row_of_amount, steps_behind};
-ghost use Rattle.um_processor.specs.Processors.{in_phase, processor_of, refilled};
+ghost use Rattle.um_processor.specs.{
+  Events.{rest_of},
+  Phases.{born, domain_named, first_of, first_phase, phase_of_amount, queue_of, row_of_amount, steps_behind},
+  Processors.{in_phase, processor_of, refilled},
+};
 
 use crate::context::Context;
 use crate::newborn::{NOBODY, Newborn};

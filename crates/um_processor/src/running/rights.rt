@@ -1,12 +1,12 @@
 //! What the region table of a processor allows.
 
-ghost use Rattle.std.specs.Prelude.{◌≡◌, ◌+◌, ◌≤◌, ◌&&◌, nat_le};
-ghost use Rattle.std.specs.List.{list_any};
-ghost use Rattle.um_base.specs.declared.attr.Attr.{Attr};
-ghost use Rattle.um_base.specs.declared.names.Range.{Range};
-ghost use Rattle.um_base.specs.Regions.{partition_region, region_allows};
-ghost use Rattle.um_fine.specs.Asks.{allows, readable};
-ghost use Rattle.um_fine.specs.Processor.{mode_of};
+ghost use Rattle.std.specs.{Prelude.{◌≡◌, ◌+◌, ◌≤◌, ◌&&◌, nat_le}, List.{list_any}};
+ghost use Rattle.um_base.specs.{
+  declared.attr.Attr.{Attr},
+  declared.names.Range.{Range},
+  Regions.{partition_region, region_allows},
+};
+ghost use Rattle.um_fine.specs.{Asks.{allows, readable}, Processor.{mode_of}};
 ghost use Rattle.um_processor.specs.declared.phase.Phase.TheVariants as Phase;
 ghost use Rattle.um_processor.specs.Processors.{in_phase};
 

@@ -1,10 +1,12 @@
 //! The event of a thread's next step, by what the step is about.
 
 ghost use Rattle.std.specs.Prelude.{◌≡◌, IsTrue};
-ghost use Rattle.um_processor.specs.Events.{about_to};
-ghost use Rattle.um_processor.specs.Processors.{UnlessMade, processor_of};
-ghost use Rattle.um_processor.specs.Subjects.{is_on_domain, is_on_heap, is_on_memory, is_on_row, is_on_thread, is_plain};
-ghost use Rattle.um_processor.specs.Turns.{MayTurn, TurnsAt};
+ghost use Rattle.um_processor.specs.{
+  Events.{about_to},
+  Processors.{UnlessMade, processor_of},
+  Subjects.{is_on_domain, is_on_heap, is_on_memory, is_on_row, is_on_thread, is_plain},
+  Turns.{MayTurn, TurnsAt},
+};
 
 use crate::phase::{Phase, Turn};
 use crate::running::Running;

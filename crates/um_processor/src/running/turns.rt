@@ -1,9 +1,11 @@
 //! The begin and the end of a turn.
 
 ghost use Rattle.std.specs.Prelude.{◌≡◌};
-ghost use Rattle.um_processor.specs.Events.{about_to_park};
-ghost use Rattle.um_processor.specs.Processors.{UnlessMade, in_phase, processor_of, turning};
-ghost use Rattle.um_processor.specs.Turns.{MayTurn, TurnsAt};
+ghost use Rattle.um_processor.specs.{
+  Events.{about_to_park},
+  Processors.{UnlessMade, in_phase, processor_of, turning},
+  Turns.{MayTurn, TurnsAt},
+};
 
 use crate::phase::{Phase, Turn};
 use crate::running::Running;

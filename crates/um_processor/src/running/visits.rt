@@ -2,9 +2,11 @@
 
 ghost use Rattle.std.specs.Prelude.{◌≡◌, ◌∷◌, drop, false};
 ghost use Rattle.um_machine.specs.declared.pending.Pending.TheVariants as Pending;
-ghost use Rattle.um_processor.specs.Phases.{is_idle, passed_to};
-ghost use Rattle.um_processor.specs.Processors.{OnMade, UnlessMade, cleaned, in_phase, processor_of, visiting};
-ghost use Rattle.um_processor.specs.Turns.{MayTurn, TurnsAt};
+ghost use Rattle.um_processor.specs.{
+  Phases.{is_idle, passed_to},
+  Processors.{OnMade, UnlessMade, cleaned, in_phase, processor_of, visiting},
+  Turns.{MayTurn, TurnsAt},
+};
 
 use crate::phase::{Phase, Turn};
 use crate::row_act::RowAct;

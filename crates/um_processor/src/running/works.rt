@@ -3,14 +3,14 @@
 ghost use Rattle.std.specs.Prelude.{◌≡◌, ◌<◌, false, IsTrue};
 ghost use Rattle.um_base.specs.declared.limits.TheConstants.{THREADS};
 ghost use Rattle.um_fine.specs.Continues.{after_work};
-ghost use Rattle.um_machine.specs.Limits.{is_sound_ask};
-ghost use Rattle.um_machine.specs.Order.{to_thread};
-ghost use Rattle.um_machine.specs.Table.{bytes_given};
+ghost use Rattle.um_machine.specs.{Limits.{is_sound_ask}, Order.{to_thread}, Table.{bytes_given}};
 ghost use Rattle.um_machine.specs.declared.pending.Pending.TheVariants as Pending;
-ghost use Rattle.um_processor.specs.Events.{about_to, behind_event, rest_of, with_woken};
-ghost use Rattle.um_processor.specs.Phases.{is_idle};
-ghost use Rattle.um_processor.specs.Processors.{OnMade, UnlessMade, processor_of};
-ghost use Rattle.um_processor.specs.Turns.{MayTurn, TurnsAt};
+ghost use Rattle.um_processor.specs.{
+  Events.{about_to, behind_event, rest_of, with_woken},
+  Phases.{is_idle},
+  Processors.{OnMade, UnlessMade, processor_of},
+  Turns.{MayTurn, TurnsAt},
+};
 
 use crate::phase::{Phase, Turn};
 use crate::running::Running;

@@ -1,9 +1,11 @@
 //! A grant that was checked before the last pair was revoked: it says that the object is gone.
 
 ghost use Rattle.std.specs.Prelude.{◌≡◌, ◌<◌, ◌≤◌, ◌+◌, ◌*◌, IfOk, [], ◌∷◌, length, false, Some, None, pos, codes};
-ghost use Rattle.um_base.specs.declared.limits.TheConstants.{STACK_AREA, OBJECTS};
-ghost use Rattle.um_base.specs.declared.instr.Instr.{Instr};
-ghost use Rattle.um_base.specs.Lawful.{IsLawful};
+ghost use Rattle.um_base.specs.{
+  declared.limits.TheConstants.{STACK_AREA, OBJECTS},
+  declared.instr.Instr.{Instr},
+  Lawful.{IsLawful},
+};
 
 use std::alloc::Global;
 use std::process::Abort;

@@ -3,8 +3,7 @@
 ghost use Rattle.std.specs.Prelude.{◌≡◌, ◌≤◌, ◌%◌, ◌^◌, ℕ, IsTrue};
 ghost use Rattle.um_base.specs.declared.image.Image.{Image};
 ghost use Rattle.um_machine.specs.Order.{steps_of};
-ghost use Rattle.um_steps.specs.Accesses.{is_sized};
-ghost use Rattle.um_steps.specs.Subjects.{is_access};
+ghost use Rattle.um_steps.specs.{Accesses.{is_sized}, Subjects.{is_access}};
 
 use crate::order::operands::value_of;
 use um_base::{Addr, Instr};

@@ -4,8 +4,7 @@ ghost use Rattle.std.specs.Prelude.{◌≡◌, ◌<◌, ◌≤◌, ◌^◌, ◌�
 ghost use Rattle.um_base.specs.Lawful.{is_within};
 ghost use Rattle.um_base.specs.declared.names.Errno.TheVariants as Errno;
 ghost use Rattle.um_base.specs.declared.names.Want.TheVariants as Want;
-ghost use Rattle.um_machine.specs.Limits.{is_sound_ask};
-ghost use Rattle.um_machine.specs.Order.{needs, buffered, answer_error};
+ghost use Rattle.um_machine.specs.{Limits.{is_sound_ask}, Order.{needs, buffered, answer_error}};
 
 use crate::order::steps::{ANSWER_INVALID, ANSWER_ZERO, mark, needs, rounded, turn, work};
 use um_base::{Ask, Kind, Want};

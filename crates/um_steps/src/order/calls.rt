@@ -1,12 +1,13 @@
 //! The forms that the calls of several subjects share.
 
-ghost use Rattle.std.specs.Prelude.{◌≡◌, ◌≤◌, ◌∷◌, length, IsTrue};
-ghost use Rattle.std.specs.List.{list_all};
+ghost use Rattle.std.specs.{Prelude.{◌≡◌, ◌≤◌, ◌∷◌, length, IsTrue}, List.{list_all}};
 ghost use Rattle.um_base.specs.declared.names.Want.TheVariants as Want;
 ghost use Rattle.um_machine.specs.declared.pending.Pending.TheVariants as Pending;
-ghost use Rattle.um_machine.specs.State.{value_of};
-ghost use Rattle.um_machine.specs.Limits.{is_sound, is_sound_ask};
-ghost use Rattle.um_machine.specs.Order.{privileged, needs, work, simple, answer, answer_to, to_addr};
+ghost use Rattle.um_machine.specs.{
+  State.{value_of},
+  Limits.{is_sound, is_sound_ask},
+  Order.{privileged, needs, work, simple, answer, answer_to, to_addr},
+};
 
 use crate::order::operands::value_of;
 use crate::order::steps::{ANSWER, answer_to, needs, turn, work};

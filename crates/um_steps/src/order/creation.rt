@@ -1,8 +1,7 @@
 //! The steps of a thread's creation.
 
 ghost use Rattle.std.specs.Prelude.{◌≡◌, ◌∷◌, ◌++◌, ◌<◌, ◌≤◌, [], Some, None, true, if◌then◌else◌, length, unwrap_or};
-ghost use Rattle.um_base.specs.Places.{thread_of_addr, row_at, setup_at};
-ghost use Rattle.um_base.specs.Lawful.{is_priority};
+ghost use Rattle.um_base.specs.{Places.{thread_of_addr, row_at, setup_at}, Lawful.{is_priority}};
 ghost use Rattle.um_base.specs.declared.names.Kind.TheVariants as Kind;
 ghost use Rattle.um_base.specs.declared.names.Reply.TheVariants as Reply;
 ghost use Rattle.um_base.specs.declared.names.Want.TheVariants as Want;

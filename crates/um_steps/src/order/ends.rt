@@ -1,8 +1,7 @@
 //! The steps of an end, and of what dooms threads.
 
 ghost use Rattle.std.specs.Prelude.{◌≡◌, ◌<◌, ◌+◌};
-ghost use Rattle.um_machine.specs.Order.{end_steps, fatal_steps};
-ghost use Rattle.um_machine.specs.Table.{next_doom};
+ghost use Rattle.um_machine.specs.{Order.{end_steps, fatal_steps}, Table.{next_doom}};
 
 use crate::rows::{addr_of, own_row};
 use um_base::{Addr, Image, Policy, THREADS};

@@ -2,9 +2,11 @@
 
 ghost use Rattle.std.specs.Prelude.{◌≡◌, ◌∷◌, [], drop, Some, IsTrue};
 ghost use Rattle.um_base.specs.declared.act.Cause.TheVariants as Cause;
-ghost use Rattle.um_machine.specs.Limits.{IsSound, is_sound_ask};
-ghost use Rattle.um_machine.specs.Order.{refuses, copy_fails, answer_error};
-ghost use Rattle.um_machine.specs.Table.{at_steps, after_check, after_error};
+ghost use Rattle.um_machine.specs.{
+  Limits.{IsSound, is_sound_ask},
+  Order.{refuses, copy_fails, answer_error},
+  Table.{at_steps, after_check, after_error},
+};
 
 use crate::order::steps::{refusal_reason, rounded};
 use um_base::{Ask, Cause, Errno, Image, Mode, Reply};

@@ -2,8 +2,7 @@
 
 ghost use Rattle.std.specs.Prelude.{◌≡◌};
 ghost use Rattle.um_base.specs.Places.{thread_of_addr};
-ghost use Rattle.um_machine.specs.State.{value_of};
-ghost use Rattle.um_machine.specs.Order.{number_of};
+ghost use Rattle.um_machine.specs.{State.{value_of}, Order.{number_of}};
 
 use crate::rows::{row_at, thread_of_row};
 use um_base::{Image, Ref, Term, ThreadIx};

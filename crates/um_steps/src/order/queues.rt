@@ -1,16 +1,17 @@
 //! Calls on message queues.
 
 ghost use Rattle.std.specs.Prelude.{◌≡◌, ◌*◌, ◌&&◌, ◌∷◌, [], ℕ, IsTrue};
-ghost use Rattle.um_base.specs.Lawful.{is_within};
+ghost use Rattle.um_base.specs.{Lawful.{is_within}, declared.image.Image.{Image}};
 ghost use Rattle.um_base.specs.declared.ask.Ask.TheVariants as AskOf;
-ghost use Rattle.um_base.specs.declared.image.Image.{Image};
 ghost use Rattle.um_base.specs.declared.names.Kind.TheVariants as Kind;
 ghost use Rattle.um_base.specs.declared.names.Want.TheVariants as Want;
 ghost use Rattle.um_machine.specs.declared.pending.Amount.TheVariants as Amount;
 ghost use Rattle.um_machine.specs.declared.pending.Pending.TheVariants as Pending;
-ghost use Rattle.um_machine.specs.State.{value_of};
-ghost use Rattle.um_machine.specs.Limits.{is_sound_ask};
-ghost use Rattle.um_machine.specs.Order.{steps_of, needs, work, buffered, answer, to_addr};
+ghost use Rattle.um_machine.specs.{
+  State.{value_of},
+  Limits.{is_sound_ask},
+  Order.{steps_of, needs, work, buffered, answer, to_addr},
+};
 ghost use Rattle.um_steps.specs.Subjects.{is_on_queue};
 
 use crate::order::buffers::{buffered, is_within, pool_of, unbuffered};

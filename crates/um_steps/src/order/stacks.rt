@@ -1,9 +1,8 @@
 //! Calls on stacks.
 
 ghost use Rattle.std.specs.Prelude.{◌≡◌, ◌*◌, ℕ, IsTrue};
-ghost use Rattle.um_base.specs.Lawful.{is_within};
+ghost use Rattle.um_base.specs.{Lawful.{is_within}, declared.image.Image.{Image}};
 ghost use Rattle.um_base.specs.declared.ask.Ask.TheVariants as AskOf;
-ghost use Rattle.um_base.specs.declared.image.Image.{Image};
 ghost use Rattle.um_base.specs.declared.names.Kind.TheVariants as Kind;
 ghost use Rattle.um_machine.specs.Order.{steps_of, buffered};
 ghost use Rattle.um_steps.specs.Subjects.{is_on_stack};

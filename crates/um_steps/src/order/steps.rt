@@ -1,9 +1,13 @@
 //! Single steps, and lists of them.
 
-ghost use Rattle.std.specs.Prelude.{◌≡◌, ◌≤◌, ◌+◌, ◌<◌, ◌^◌, length, false, IsTrue, None, Some};
-ghost use Rattle.std.specs.List.{list_all};
-ghost use Rattle.um_machine.specs.Limits.{is_sound};
-ghost use Rattle.um_machine.specs.Order.{needs, needs_any, work, rounded, refusal_reason, to_addr};
+ghost use Rattle.std.specs.{
+  Prelude.{◌≡◌, ◌≤◌, ◌+◌, ◌<◌, ◌^◌, length, false, IsTrue, None, Some},
+  List.{list_all},
+};
+ghost use Rattle.um_machine.specs.{
+  Limits.{is_sound},
+  Order.{needs, needs_any, work, rounded, refusal_reason, to_addr},
+};
 
 use um_base::{Addr, Ask, Errno, Kind, Mode, Reply, Want};
 use um_machine::{Pending, Pendings, Refusal};

@@ -1,9 +1,13 @@
 //! The domains and pools of a dump.
 
-ghost use Rattle.std.specs.Prelude.{◌≡◌, ◌+◌, ◌*◌, ◌≤◌, ◌<◌, ◌++◌, None, length, slice_index, slice_index_or, vec_len, vec_capacity};
-ghost use Rattle.std.specs.List.{flat_map};
-ghost use Rattle.um_trace.specs.Dump.{numbers, lead, part_of, listed, parts_text, domain_line, pool_text, pool_line};
-ghost use Rattle.um_trace.specs.Room.{Puts};
+ghost use Rattle.std.specs.{
+  Prelude.{◌≡◌, ◌+◌, ◌*◌, ◌≤◌, ◌<◌, ◌++◌, None, length, slice_index, slice_index_or, vec_len, vec_capacity},
+  List.{flat_map},
+};
+ghost use Rattle.um_trace.specs.{
+  Dump.{numbers, lead, part_of, listed, parts_text, domain_line, pool_text, pool_line},
+  Room.{Puts},
+};
 
 use crate::dump::lists::{put_lead, put_share};
 use crate::names::{put_domain, put_part};

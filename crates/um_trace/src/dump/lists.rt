@@ -1,8 +1,7 @@
 //! Lists with commas, and shares.
 
 ghost use Rattle.std.specs.Prelude.{◌≡◌, ◌+◌, ◌≤◌, vec_len, vec_capacity};
-ghost use Rattle.um_trace.specs.Dump.{lead, share_text};
-ghost use Rattle.um_trace.specs.Room.{Puts};
+ghost use Rattle.um_trace.specs.{Dump.{lead, share_text}, Room.{Puts}};
 
 use crate::room::{put_decimal, put_text};
 

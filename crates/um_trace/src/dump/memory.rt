@@ -1,9 +1,10 @@
 //! The memory of a dump: the blocks of 32 bytes that aren't all zero.
 
-ghost use Rattle.std.specs.Prelude.{◌≡◌, ◌==◌, ◌+◌, ◌*◌, ◌≤◌, ◌<◌, ◌^◌, IfSome, length, vec_len, vec_capacity};
-ghost use Rattle.std.specs.List.{flat_map, list_all, range_with_len};
-ghost use Rattle.um_trace.specs.Dump.{block_line, area_lines};
-ghost use Rattle.um_trace.specs.Room.{Puts};
+ghost use Rattle.std.specs.{
+  Prelude.{◌≡◌, ◌==◌, ◌+◌, ◌*◌, ◌≤◌, ◌<◌, ◌^◌, IfSome, length, vec_len, vec_capacity},
+  List.{flat_map, list_all, range_with_len},
+};
+ghost use Rattle.um_trace.specs.{Dump.{block_line, area_lines}, Room.{Puts}};
 
 use crate::room::{put_address, put_bytes, put_newline, put_space, put_text};
 use um_base::{AREA_SIZE, Addr, STACK_AREA};

@@ -1,11 +1,15 @@
 //! The objects of a dump.
 
-ghost use Rattle.std.specs.Prelude.{◌≡◌, ◌+◌, ◌*◌, ◌≤◌, ◌<◌, ◌++◌, ◌&&◌, [], length, not, vec_len, vec_capacity, if◌then◌else◌};
-ghost use Rattle.std.specs.List.{flat_map};
+ghost use Rattle.std.specs.{
+  Prelude.{◌≡◌, ◌+◌, ◌*◌, ◌≤◌, ◌<◌, ◌++◌, ◌&&◌, [], length, not, vec_len, vec_capacity, if◌then◌else◌},
+  List.{flat_map},
+};
 ghost use Rattle.um_machine.specs.State.{pair_at};
-ghost use Rattle.um_trace.specs.Dump.{numbers, lead, state_word, flag_word, marks_text, holders_text, owner_text, kept_text, digits_text, name_text, content_text, object_line, object_line_of};
-ghost use Rattle.um_trace.specs.Names.{thread_text};
-ghost use Rattle.um_trace.specs.Room.{Puts};
+ghost use Rattle.um_trace.specs.{
+  Dump.{numbers, lead, state_word, flag_word, marks_text, holders_text, owner_text, kept_text, digits_text, name_text, content_text, object_line, object_line_of},
+  Names.{thread_text},
+  Room.{Puts},
+};
 
 use crate::dump::lists::{put_lead, put_share};
 use crate::dump::state::{is_shown, object_at, pair_at};

@@ -1,7 +1,6 @@
 //! How the threads of a dump are.
 
-ghost use Rattle.std.specs.Prelude.{◌≡◌, ◌<◌, ◌≤◌, length, position, IfSome};
-ghost use Rattle.std.specs.List.{list_any};
+ghost use Rattle.std.specs.{Prelude.{◌≡◌, ◌<◌, ◌≤◌, length, position, IfSome}, List.{list_any}};
 ghost use Rattle.um_trace.specs.Dump.{is_waiter, awaited, waits, is_ended, standing_of, shown_thread};
 
 use crate::dump::state::{is_shown, thread_of_row};

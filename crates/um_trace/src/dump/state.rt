@@ -2,8 +2,7 @@
 
 ghost use Rattle.std.specs.Prelude.{◌≡◌, ◌<◌, not, slice_index, IfSome};
 ghost use Rattle.um_base.specs.Places.{thread_of_row, setup_thread, setup_at};
-ghost use Rattle.um_machine.specs.State.{object_at, pair_at};
-ghost use Rattle.um_machine.specs.Objects.{is_free};
+ghost use Rattle.um_machine.specs.{State.{object_at, pair_at}, Objects.{is_free}};
 ghost use Rattle.um_trace.specs.Dump.{is_shown};
 
 use um_base::{Image, ROWS, STATIC_ROWS, STATIC_THREADS, Setup, THREADS};

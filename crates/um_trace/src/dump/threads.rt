@@ -1,10 +1,11 @@
 //! The threads of a dump.
 
-ghost use Rattle.std.specs.Prelude.{◌≡◌, ◌+◌, ◌*◌, ◌≤◌, ◌<◌, vec_len, vec_capacity};
-ghost use Rattle.std.specs.List.{flat_map};
+ghost use Rattle.std.specs.{Prelude.{◌≡◌, ◌+◌, ◌*◌, ◌≤◌, ◌<◌, vec_len, vec_capacity}, List.{flat_map}};
 ghost use Rattle.um_machine.specs.State.{thread_at};
-ghost use Rattle.um_trace.specs.Dump.{numbers, standing_text, rights_text, life_text, thread_line, thread_line_of};
-ghost use Rattle.um_trace.specs.Room.{Puts};
+ghost use Rattle.um_trace.specs.{
+  Dump.{numbers, standing_text, rights_text, life_text, thread_line, thread_line_of},
+  Room.{Puts},
+};
 
 use crate::dump::standing::{Standing, shown_thread, standing_of};
 use crate::names::{put_domain, put_row};

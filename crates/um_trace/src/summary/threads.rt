@@ -2,8 +2,7 @@
 
 ghost use Rattle.std.specs.Prelude.{◌≡◌, ◌<◌, ◌≤◌, if◌then◌else◌};
 ghost use Rattle.um_machine.specs.State.{thread_at};
-ghost use Rattle.um_trace.specs.Dump.{standing_of, shown_thread};
-ghost use Rattle.um_trace.specs.Summary.{is_so, stands_so, threads_that};
+ghost use Rattle.um_trace.specs.{Dump.{standing_of, shown_thread}, Summary.{is_so, stands_so, threads_that}};
 
 use crate::dump::standing::{Standing, shown_thread, standing_of};
 use um_base::{Image, ROWS};
