@@ -105,12 +105,10 @@ is_setup_of mpu kind Setup.Bare = true
 is_setup_of mpu kind setup = false
 
 abbrev pub is_thread : Kind → Bool
-is_thread Kind.Thread = true
-is_thread _ = false
+is_thread kind = elim kind as (λ _. Bool) [ Kind.Thread ↦ true | _ ↦ false ]
 
 abbrev pub is_stack : Kind → Bool
-is_stack Kind.ThreadStack = true
-is_stack _ = false
+is_stack kind = elim kind as (λ _. Bool) [ Kind.ThreadStack ↦ true | _ ↦ false ]
 
 -- the thread indices of objects, which count up from t in their order
 abbrev pub has_index : Setup → ℕ → Bool

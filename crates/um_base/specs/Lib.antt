@@ -1,3 +1,5 @@
+pub mod Exact
+pub mod Equality
 pub mod Room
 pub mod Short
 pub mod Places

@@ -21,14 +21,10 @@ pub record Region : Type 0 where
   pub rights : Access → Bool
 
 abbrev pub read_only : Access → Bool
-read_only Access.Read = true
-read_only Access.Write = false
-read_only Access.Exec = false
+read_only access = elim access as (λ _. Bool) [ Access.Read ↦ true | _ ↦ false ]
 
 abbrev pub read_write : Access → Bool
-read_write Access.Read = true
-read_write Access.Write = true
-read_write Access.Exec = false
+read_write access = elim access as (λ _. Bool) [ Access.Exec ↦ false | _ ↦ true ]
 
 -- the bit of a right in a partition's attribute
 abbrev pub right_bit : Mode → Access → ℕ

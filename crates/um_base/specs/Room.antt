@@ -41,3 +41,15 @@ IsRoom-push {room = room} {blank = blank} {items = items} {len = len} x r h = re
 pub front-push : {A : Type 0} {room : ℕ} {blank : A} {items : List A} {len : ℕ} (x : A) → IsRoom room blank items len → len < room → take (len + 1) (slice_set items len x) ≡ take len items ++ x ∷ []
 front-push {items = items} {len = len} x r h =
     let inside : len < length items = omega (arith, r.size) in rw (add-one len) (take-suc-set items len x inside)
+
+room_left : {A : Type 0} {room : ℕ} {blank : A} {items : List A} {len : ℕ} {front : List A} → IsRoom room blank items len → take len items ≡ front → length front < room → len < room
+room_left r e h = omega (arith, length-front r, ap length e)
+
+-- the same of a list that is known to be the front
+pub room_after_push : {A : Type 0} {room : ℕ} {blank : A} {items : List A} {len : ℕ} {front : List A} (x : A) → IsRoom room blank items len → take len items ≡ front → length front < room
+    → IsRoom room blank (slice_set items len x) (len + 1)
+room_after_push x r e h = IsRoom-push x r (room_left r e h)
+
+pub front_after_push : {A : Type 0} {room : ℕ} {blank : A} {items : List A} {len : ℕ} {front : List A} (x : A) → IsRoom room blank items len → take len items ≡ front → length front < room
+    → take (len + 1) (slice_set items len x) ≡ front ++ x ∷ []
+front_after_push x r e h = front-push x r (room_left r e h) ∙ ap (λ xs. xs ++ x ∷ []) e

@@ -1,6 +1,6 @@
 //! Short lists of a fixed room, which take no memory.
 
-ghost use Rattle.std.specs.Prelude.{◌≡◌, ◌<◌, ◌≤◌, [], ◌∷◌, ◌++◌, length, slice_index_or};
+ghost use Rattle.std.specs.Prelude.{◌≡◌, ◌↔◌, ◌<◌, ◌≤◌, [], ◌∷◌, ◌++◌, length, slice_index_or, IsTrue};
 ghost use Rattle.um_base.specs.Short.{IsShort, reply_of};
 
 use crate::attr::Attr;
@@ -9,7 +9,7 @@ use crate::names::{Addr, Errno, PartRef, Range, Reply, ThreadIx};
 use std::marker::Model;
 
 /// A reply as it is kept: a number up to 256, or an error.
-#[derive(Clone, Copy, PartialEq, Eq)]
+#[derive(Clone, Copy)]
 enum ShortReply {
     /// The number 0.
     Zero,
@@ -43,7 +43,7 @@ fn short_of(reply: Reply) -> ShortReply
 }
 
 /// The woken threads, each with what its call answers: a number up to 256, or an error.
-#[derive(Clone, Copy, PartialEq, Eq)]
+#[derive(Clone, Copy)]
 pub struct Replies {
     items: [(ThreadIx, ShortReply); THREADS],
     len: usize,
@@ -112,6 +112,46 @@ impl Replies {
     }
 }
 
+impl PartialEq for Replies {
+    ghost use Rattle.std.specs.Cmp.Lexicographic.{pointwise};
+    ghost use Rattle.um_base.specs.Equality.{same_told, told_per};
+
+    ghost eq = { pointwise same_told };
+
+    ghost laws = { told_per };
+
+    fn eq(&self, other: &Replies) -> bool {
+        same_replies(self, other)
+    }
+}
+
+impl Eq for Replies {
+    ghost use Rattle.um_base.specs.Equality.{told_equiv};
+
+    ghost laws = { told_equiv };
+}
+
+fn same_told(a: (ThreadIx, Reply), b: (ThreadIx, Reply)) -> bool
+    ensures { IsTrue result ↔ (a ≡ b) }
+{
+    a == b
+}
+
+/// Whether the same threads are woken, in the same order, each with the same reply.
+fn same_replies(a: &Replies, b: &Replies) -> bool
+    ensures { IsTrue result ↔ (a.now ≡ b.now) }
+{
+    if a.len() != b.len() {
+        return false;
+    }
+    for i in 0..a.len() {
+        if !same_told(a.at(i), b.at(i)) {
+            return false;
+        }
+    }
+    true
+}
+
 /// The partitions that an initialisation of a domain names.
 #[derive(Clone, Copy, PartialEq, Eq)]
 pub struct PartRefs {
@@ -167,6 +207,7 @@ impl PartRefs {
     }
 
     /// One more at the end.
+    #[tactic(auto, using(crate::specs::Room::front_after_push))]
     pub fn push(&mut self, part: &PartRef)
         requires { length self.old < NAMED_PARTITIONS }
         ensures { self.new ≡ self.old ++ part.now ∷ [] }
@@ -240,6 +281,7 @@ impl Parts {
     }
 
     /// One more at the end.
+    #[tactic(auto, using(crate::specs::Room::front_after_push))]
     pub fn push(&mut self, range: Range, attr: Attr)
         requires { length self.old < DOMAIN_PARTITIONS }
         ensures { self.new ≡ self.old ++ (range, attr) ∷ [] }
@@ -299,6 +341,7 @@ impl Piece {
     }
 
     /// One more byte at the end.
+    #[tactic(auto, using(crate::specs::Room::front_after_push))]
     pub fn push(&mut self, byte: u8)
         requires { length self.old < PIECE }
         ensures { self.new ≡ self.old ++ byte ∷ [] }

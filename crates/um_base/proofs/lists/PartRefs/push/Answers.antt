@@ -1,15 +1,6 @@
 -- One more at the end of the front keeps the room behind it blank.
-use Rattle.std.proofs.Common.{◌<◌, arith, ap, length, ◌∙◌, ◌++◌, ◌∷◌, []}
-use Rattle.um_base.specs.declared.limits.TheConstants.{NAMED_PARTITIONS}
-use Rattle.um_base.specs.Room.{IsRoom-push, front-push, length-front}
+use Rattle.um_base.specs.Room.{room_after_push}
 use Rattle.um_base.proofs.lists.PartRefs.push.Goals as goal
 
 pub invariant_of-self : goal.invariant_of-self
-invariant_of-self c =
-    let room : c.self.inside.len < NAMED_PARTITIONS = omega (arith, length-front c.self.invariant, ap length c.self.view_is) in
-    IsRoom-push _ c.self.invariant room
-
-pub returns : goal.returns
-returns c =
-    let room : c.self.inside.len < NAMED_PARTITIONS = omega (arith, length-front c.self.invariant, ap length c.self.view_is) in
-    front-push _ c.self.invariant room ∙ ap (λ xs. xs ++ c.args.part.now ∷ []) c.self.view_is
+invariant_of-self c = room_after_push _ c.self.invariant c.self.view_is c.requires
