@@ -1,3 +1,4 @@
+mod ActLemmas
 mod ByteLemmas
 pub mod OrderLemmas
 pub mod RegionLemmas

@@ -1,5 +1,5 @@
 -- What instructions are about.
-use Rattle.std.specs.Prelude.{Bool, true, false, ◌||◌}
+use Rattle.std.specs.Prelude.{Bool, true, false, ◌||◌, not}
 use Rattle.um_base.specs.declared.instr.Instr.{Instr}
 
 -- loads, stores and executes in memory
@@ -33,43 +33,16 @@ is_on_thread (Instr.UserMode script) = true
 is_on_thread (Instr.NameSet thread addr) = true
 is_on_thread _ = false
 
-abbrev pub is_on_semaphore : Instr → Bool
-is_on_semaphore (Instr.SemInit object count limit) = true
-is_on_semaphore (Instr.SemTake object timeout) = true
-is_on_semaphore (Instr.SemGive object) = true
-is_on_semaphore (Instr.SemReset object) = true
-is_on_semaphore (Instr.SemCount object to) = true
-is_on_semaphore _ = false
-
-abbrev pub is_on_mutex : Instr → Bool
-is_on_mutex (Instr.MutexInit object) = true
-is_on_mutex (Instr.MutexLock object timeout) = true
-is_on_mutex (Instr.MutexUnlock object) = true
-is_on_mutex _ = false
-
-abbrev pub is_on_queue : Instr → Bool
-is_on_queue (Instr.MsgqInit object msg_size max_msgs) = true
-is_on_queue (Instr.MsgqPut object addr timeout) = true
-is_on_queue (Instr.MsgqGet object addr timeout) = true
-is_on_queue (Instr.MsgqPeek object addr) = true
-is_on_queue (Instr.MsgqPurge object) = true
-is_on_queue (Instr.MsgqUsed object to) = true
-is_on_queue _ = false
-
-abbrev pub is_on_stack : Instr → Bool
-is_on_stack (Instr.StackInit object entries) = true
-is_on_stack (Instr.StackPush object value) = true
-is_on_stack (Instr.StackPop object addr timeout) = true
-is_on_stack _ = false
-
-abbrev pub is_on_pipe : Instr → Bool
-is_on_pipe (Instr.PipeInit object size) = true
-is_on_pipe (Instr.PipeWrite object addr length timeout) = true
-is_on_pipe (Instr.PipeRead object addr length timeout) = true
-is_on_pipe (Instr.PipeReset object) = true
-is_on_pipe (Instr.PipeClose object) = true
-is_on_pipe _ = false
+-- works out a register, goes on in a script, or fails
+abbrev pub is_alone : Instr → Bool
+is_alone (Instr.Set to value) = true
+is_alone (Instr.Add to value) = true
+is_alone Instr.End = true
+is_alone (Instr.Repeat times) = true
+is_alone Instr.Oops = true
+is_alone Instr.Panic = true
+is_alone _ = false
 
 -- calls one of the five services
 abbrev pub is_service : Instr → Bool
-is_service instr = is_on_semaphore instr || is_on_mutex instr || is_on_queue instr || is_on_stack instr || is_on_pipe instr
+is_service instr = not (is_alone instr || is_access instr || is_on_domain instr || is_on_object instr || is_on_thread instr)

@@ -1,21 +1,16 @@
 //! The order of an instruction: the steps that follow its begin, and what follows a refusal or an error.
 
 mod accesses;
-mod buffers;
 mod calls;
 mod creation;
 mod domains;
 mod ends;
 mod follow;
+mod initialisations;
 mod instructions;
-mod mutexes;
 mod objects;
 mod operands;
-mod pipes;
-mod queues;
-mod semaphores;
 mod services;
-mod stacks;
 mod steps;
 mod threads;
 

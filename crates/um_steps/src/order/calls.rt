@@ -12,7 +12,7 @@ ghost use Rattle.um_machine.specs.{
 use crate::order::operands::value_of;
 use crate::order::steps::{ANSWER, answer_to, needs, turn, work};
 use um_base::{Addr, Ask, Cause, Kind, Mode, Term, Want};
-use um_machine::{Amount, Pending, Pendings, Thread};
+use um_machine::{Amount, Pending, Thread};
 
 /// What only a supervisor may do.
 pub fn privileged(me: &mut Thread, steps: &[Pending])
@@ -55,32 +55,37 @@ pub fn counts(me: &mut Thread, object: &Term, kind: Kind, ask: &Ask, to: u8)
 }
 
 /// Work that gives bytes, which are copied in before it.
-pub fn gives(pending: &mut Pendings, x: u32, kind: Kind, a: u32, amount: Amount, ask: &Ask)
+pub fn gives(me: &mut Thread, object: &Term, kind: Kind, addr: &Term, amount: Amount, ask: &Ask)
     requires { IsTrue (is_sound_ask ask.now) }
-    ensures { pending.new ≡ needs x kind Want.Init ∷ Pending.CopyIn (to_addr a) amount ∷ work x ask.now ∷ answer }
+    ensures { let x = value_of me.old.registers object.now in
+        me.new ≡ record me.old {
+          pending = needs x kind Want.Init ∷ Pending.CopyIn (to_addr (value_of me.old.registers addr.now)) amount ∷ work x ask.now ∷ answer;
+        } }
 {
+    let x = value_of(&me.registers, object);
     let copy = Pending::CopyIn {
-        addr: Addr(a),
+        addr: Addr(value_of(&me.registers, addr)),
         amount,
     };
     turn(
-        pending,
+        &mut me.pending,
         &[needs(x, kind, Want::Init), copy, work(x, ask), ANSWER],
     );
 }
 
 /// Work that takes bytes, which are copied out to a buffer.
-pub fn takes(pending: &mut Pendings, x: u32, kind: Kind, a: u32, amount: Amount, ask: &Ask)
+pub fn takes(me: &mut Thread, object: &Term, kind: Kind, addr: &Term, amount: Amount, ask: &Ask)
     requires { IsTrue (is_sound_ask ask.now) }
-    ensures { pending.new ≡ needs x kind Want.Init ∷ Pending.Probe (to_addr a) amount ∷ work x ask.now ∷ Pending.CopyOut (to_addr a) ∷ answer }
+    ensures { let x = value_of me.old.registers object.now in
+        let a = to_addr (value_of me.old.registers addr.now) in
+        me.new ≡ record me.old { pending = needs x kind Want.Init ∷ Pending.Probe a amount ∷ work x ask.now ∷ Pending.CopyOut a ∷ answer } }
 {
-    let probe = Pending::Probe {
-        addr: Addr(a),
-        amount,
-    };
-    let copy = Pending::CopyOut { addr: Addr(a) };
+    let x = value_of(&me.registers, object);
+    let addr = Addr(value_of(&me.registers, addr));
+    let probe = Pending::Probe { addr, amount };
+    let copy = Pending::CopyOut { addr };
     turn(
-        pending,
+        &mut me.pending,
         &[
             needs(x, kind, Want::Init),
             probe,

@@ -39,27 +39,6 @@ pub fn begins(image: &Image, t: usize, me: &mut Thread, instr: &Instr)
         Instr::Create { .. } | Instr::UserMode { .. } | Instr::NameSet { .. } => {
             threads::begins(image, me, instr);
         }
-        Instr::SemInit { .. }
-        | Instr::SemTake { .. }
-        | Instr::SemGive { .. }
-        | Instr::SemReset { .. }
-        | Instr::SemCount { .. }
-        | Instr::MutexInit { .. }
-        | Instr::MutexLock { .. }
-        | Instr::MutexUnlock { .. }
-        | Instr::MsgqInit { .. }
-        | Instr::MsgqPut { .. }
-        | Instr::MsgqGet { .. }
-        | Instr::MsgqPeek { .. }
-        | Instr::MsgqPurge { .. }
-        | Instr::MsgqUsed { .. }
-        | Instr::StackInit { .. }
-        | Instr::StackPush { .. }
-        | Instr::StackPop { .. }
-        | Instr::PipeInit { .. }
-        | Instr::PipeWrite { .. }
-        | Instr::PipeRead { .. }
-        | Instr::PipeReset { .. }
-        | Instr::PipeClose { .. } => services::begins(me, instr),
+        _ => services::begins(me, instr),
     }
 }
