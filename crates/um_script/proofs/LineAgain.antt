@@ -64,17 +64,8 @@ free_parts [] rest free = free
 free_parts (p ∷ ps) rest free = ap (λ (t : List ℕ). prefix_len is_word_byte (t ++ rest)) (with_parts-front (32 ∷ part_text p) ps)
 
 free_operand : (form : Form) (value : Value form) (rest : List ℕ) → IsFree rest → IsFree (with_operand [] form value ++ rest)
-free_operand Times value rest free = refl
-free_operand Register value rest free = refl
-free_operand Size value rest free = refl
-free_operand AnyTerm value rest free = refl
-free_operand Named value rest free = refl
-free_operand Part value rest free = refl
 free_operand Parts value rest free = free_parts value rest free
-free_operand ObjectKind value rest free = refl
-free_operand Wait value rest free = refl
-free_operand Priority value rest free = refl
-free_operand OptionSet value rest free = refl
+free_operand _ value rest free = refl
 
 free_operands : (os : List Operand) → IsFree (with_operands [] os)
 free_operands [] = refl
@@ -144,17 +135,8 @@ data Follows : Syntax → List Operand → Instr → Type 0 where
   step : (form : Form) (value : Value form) (rest : Value form → Syntax) (os : List Operand) (instr : Instr) → Stands form os → Follows (rest value) os instr → Follows (takes form rest) ((form, value) ∷ os) instr
 
 stands_text : (form : Form) (os : List Operand) → Stands form os → Stands form (with_operands [] os)
-stands_text Times os stands = tt
-stands_text Register os stands = tt
-stands_text Size os stands = tt
-stands_text AnyTerm os stands = tt
-stands_text Named os stands = tt
-stands_text Part os stands = tt
 stands_text Parts os stands = ap (with_operands []) stands
-stands_text ObjectKind os stands = tt
-stands_text Wait os stands = tt
-stands_text Priority os stands = tt
-stands_text OptionSet os stands = tt
+stands_text _ os stands = tt
 
 reads_again : (s : Syntax) (os : List Operand) (instr : Instr) (column : ℕ) → Follows s os instr → IsTrue (all_fit os) → GivesBack (reading s (words_from false column (with_operands [] os))) instr []
 reads_again s os instr column (done i) h = (column, refl)

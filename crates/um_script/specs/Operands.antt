@@ -61,6 +61,10 @@ term bytes =
     if begins_with 64 bytes then place (drop 1 bytes)
     else (if begins_with 114 bytes then (register bytes >>= λ r. Ok (Term.Reg r)) else (number bytes >>= λ n. Ok (Term.Num n)))
 
+-- a lawful name
+abbrev pub name : List ℕ → Result (List ℕ) LineKind
+name bytes = if is_name bytes then Ok bytes else Err LineKind.Operand
+
 -- the name of a domain or of a script
 abbrev pub named : List ℕ → Result Ref LineKind
 named bytes = if is_name bytes then Ok (Ref.Named bytes) else Err LineKind.Operand

@@ -1,6 +1,6 @@
 //! The words that lines begin with, by what they are about. The calls have Zephyr's names.
 
-ghost use Rattle.std.specs.Prelude.{◌≡◌, find, bytes_eq};
+ghost use Rattle.std.specs.Prelude.{◌≡◌, ◌==◌, length, find, filter, bytes_eq};
 ghost use Rattle.um_script.specs.Instructions.{spelling, mnemonics};
 
 /// Lines that are no calls.
@@ -346,6 +346,27 @@ impl PipeCall {
     }
 }
 
+/// Some that hold all whose words have this length.
+fn of_length(size: usize) -> &'static [Mnemonic]
+    ensures { filter (λ m. length (spelling m) == size) result.now ≡ filter (λ m. length (spelling m) == size) mnemonics }
+{
+    match size {
+        3 => &OF_THREE,
+        4 => &OF_FOUR,
+        5 => &OF_FIVE,
+        6 => &OF_SIX,
+        7 => &OF_SEVEN,
+        10 => &OF_TEN,
+        11 => &OF_ELEVEN,
+        12 => &OF_TWELVE,
+        14 => &OF_FOURTEEN,
+        15 => &OF_FIFTEEN,
+        16 => &OF_SIXTEEN,
+        17 => &OF_SEVENTEEN,
+        _ => &ALL,
+    }
+}
+
 /// The one among some whose word this is.
 fn among(some: &[Mnemonic], word: &[u8]) -> Option<Mnemonic>
     ensures { result ≡ find (λ m. bytes_eq word.now (spelling m)) some.now }
@@ -377,20 +398,6 @@ impl Mnemonic {
     pub fn of_word(word: &[u8]) -> Option<Mnemonic>
         ensures { result ≡ find (λ m. bytes_eq word.now (spelling m)) mnemonics }
     {
-        match word.len() {
-            3 => among(&OF_THREE, word),
-            4 => among(&OF_FOUR, word),
-            5 => among(&OF_FIVE, word),
-            6 => among(&OF_SIX, word),
-            7 => among(&OF_SEVEN, word),
-            10 => among(&OF_TEN, word),
-            11 => among(&OF_ELEVEN, word),
-            12 => among(&OF_TWELVE, word),
-            14 => among(&OF_FOURTEEN, word),
-            15 => among(&OF_FIFTEEN, word),
-            16 => among(&OF_SIXTEEN, word),
-            17 => among(&OF_SEVENTEEN, word),
-            _ => among(&ALL, word),
-        }
+        among(of_length(word.len()), word)
     }
 }

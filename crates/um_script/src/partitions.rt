@@ -8,8 +8,9 @@ ghost use Rattle.um_script.specs.Writable.{is_part};
 use crate::cut::cut;
 use crate::fault::LineKind;
 use crate::numbers::{is_number, number};
-use um_base::{Addr, Attr, Name, PartRef, Range};
-use um_vocabulary::{attr_named, is_name};
+use crate::terms::name;
+use um_base::{Addr, Attr, PartRef, Range};
+use um_vocabulary::attr_named;
 
 fn rights(word: &[u8]) -> Result<Attr, LineKind>
     ensures value { result ≡ operands.rights word.now }
@@ -60,9 +61,5 @@ fn named_part(word: &[u8]) -> Result<PartRef, LineKind>
     ensures value { result ≡ operands.named_part word.now }
     ensures fits { IfOk result (λ p. IsTrue (is_part p)) }
 {
-    if is_name(word) {
-        Ok(PartRef::Named(Name::from_bytes(word)))
-    } else {
-        Err(LineKind::Operand)
-    }
+    Ok(PartRef::Named(name(word)?))
 }

@@ -74,6 +74,13 @@ fn put_two(text: &mut Vec<u8>, first: &Term, second: &Term) -> Result<(), Memory
     put_term(text, second)
 }
 
+fn put_three(text: &mut Vec<u8>, first: &Term, second: &Term, third: &Term) -> Result<(), Memory>
+    ensures { OnOk result (text.new.items ≡ text.old.items ++ (32 ∷ canonical.term_text first.now) ++ (32 ∷ canonical.term_text second.now) ++ (32 ∷ canonical.term_text third.now)) }
+{
+    put_two(text, first, second)?;
+    put_term(text, third)
+}
+
 /// The operands, each behind a space.
 fn put_operands(text: &mut Vec<u8>, line: &Instr) -> Result<(), Memory>
     ensures { OnOk result (text.new.items ≡ canonical.with_operands text.old.items (canonical.operands_of line.now)) }
@@ -120,8 +127,7 @@ fn put_operands(text: &mut Vec<u8>, line: &Instr) -> Result<(), Memory>
             priority,
             options,
         } => {
-            put_two(text, thread, stack)?;
-            put_term(text, size)?;
+            put_three(text, thread, stack, size)?;
             put_named(text, script)?;
             put_priority(text, *priority)?;
             put_options(text, *options)
@@ -167,10 +173,7 @@ fn put_operands(text: &mut Vec<u8>, line: &Instr) -> Result<(), Memory>
             object,
             msg_size: count,
             max_msgs: limit,
-        } => {
-            put_two(text, object, count)?;
-            put_term(text, limit)
-        }
+        } => put_three(text, object, count, limit),
         Instr::SemTake { object, timeout } | Instr::MutexLock { object, timeout } => {
             put_term(text, object)?;
             put_timeout(text, *timeout)
@@ -209,8 +212,7 @@ fn put_operands(text: &mut Vec<u8>, line: &Instr) -> Result<(), Memory>
             length,
             timeout,
         } => {
-            put_two(text, object, addr)?;
-            put_term(text, length)?;
+            put_three(text, object, addr, length)?;
             put_timeout(text, *timeout)
         }
     }

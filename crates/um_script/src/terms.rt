@@ -1,7 +1,7 @@
 //! Registers, places and numbers.
 
 ghost use Rattle.std.specs.Prelude.{◌≡◌, ◌≤◌, IfOk, IsTrue};
-ghost use Rattle.um_base.specs.Lawful.{is_register};
+ghost use Rattle.um_base.specs.Lawful.{is_name, is_register};
 ghost use Rattle.um_script.specs.Operands as operands;
 ghost use Rattle.um_script.specs.Writable.{is_term, is_named};
 
@@ -67,14 +67,22 @@ pub fn term(word: &[u8]) -> Result<Term, LineKind>
     }
 }
 
+/// A lawful name.
+pub fn name(word: &[u8]) -> Result<Name, LineKind>
+    ensures value { result ≡ operands.name word.now }
+    ensures fits { IfOk result (λ name. IsTrue (is_name name)) }
+{
+    if is_name(word) {
+        Ok(Name::from_bytes(word))
+    } else {
+        Err(LineKind::Operand)
+    }
+}
+
 /// The name of a domain or of a script.
 pub fn named(word: &[u8]) -> Result<Ref, LineKind>
     ensures value { result ≡ operands.named word.now }
     ensures fits { IfOk result (λ r. IsTrue (is_named r)) }
 {
-    if is_name(word) {
-        Ok(Ref::Named(Name::from_bytes(word)))
-    } else {
-        Err(LineKind::Operand)
-    }
+    Ok(Ref::Named(name(word)?))
 }
