@@ -6,7 +6,7 @@ use Rattle.toml.specs.declared.value.Value.{Value}
 use Rattle.um_document.specs.declared.check.Check.{Check}
 use Rattle.um_document.specs.declared.place.Place.{Place}
 use Rattle.um_document.specs.Broken.{is_broken}
-use Rattle.um_document.specs.First.{first_place}
+use Rattle.um_document.specs.First.{first_of, first_place}
 use Rattle.um_document.specs.Parts.{Part, each_item}
 
 abbrev pub or_else : Option Place → Option Place → Option Place
@@ -53,8 +53,8 @@ pub flat_before : {A : Type 0} (check : Check) (f : A → List Part) (xs : List 
 flat_before check f xs k d found total lt first there so_far =
     sym (before check (f (get_or xs k d)) (flat_map f (drop (k + 1) xs)) found first there) ∙ ap (first_place check) (sym (flat_cut f xs k d lt)) ∙ so_far
 
--- the parts of items, of which one is next
-items_cut : (f : ℕ → Data → List Part) (vs : List Value) (i k : ℕ) (v : Value) → k < length vs → v ≡ get_or vs k v
+-- what items give, of which one is next
+items_cut : {A : Type 0} (f : ℕ → Data → List A) (vs : List Value) (i k : ℕ) (v : Value) → k < length vs → v ≡ get_or vs k v
     → each_item f i (items_view (drop k vs)) ≡ f i (view v) ++ each_item f (i + 1) (items_view (drop (k + 1) vs))
 items_cut f vs i k v lt is =
     let cut : drop k vs ≡ v ∷ drop (k + 1) vs = rw add-one (drop-cons vs k v lt ∙ ap (λ w. w ∷ drop (suc k) vs) (sym is)) in
@@ -72,3 +72,23 @@ pub items_before : (check : Check) (f : ℕ → Data → List Part) (vs : List V
 items_before check f vs i k v found total lt is first there so_far =
     sym (before check (f i (view v)) (each_item f (i + 1) (items_view (drop (k + 1) vs))) found first there)
     ∙ ap (first_place check) (sym (items_cut f vs i k v lt is)) ∙ so_far
+
+-- the first of two lists, where the first list has one
+pub first_before : {A : Type 0} (xs ys : List A) (found : Option A) → found ≡ first_of xs → is_some found ≡ true → first_of (xs ++ ys) ≡ found
+first_before [] ys found is there = let gone : found ≡ None = is in cc (gone, there)
+first_before (x ∷ xs) ys found is there = sym is
+
+-- where it has none
+pub first_behind : {A : Type 0} (xs ys : List A) (found : Option A) → found ≡ first_of xs → is_some found ≡ false → first_of (xs ++ ys) ≡ first_of ys
+first_behind [] ys found is gone = refl
+first_behind (x ∷ xs) ys found is gone = let there : found ≡ Some x = is in cc (gone, there)
+
+pub items_first_behind : {A : Type 0} (f : ℕ → Data → List A) (vs : List Value) (i : ℕ) (v : Value) (found total : Option A) → i < length vs → v ≡ get_or vs i v
+    → found ≡ first_of (f i (view v)) → is_some found ≡ false → first_of (each_item f i (items_view (drop i vs))) ≡ total → first_of (each_item f (i + 1) (items_view (drop (i + 1) vs))) ≡ total
+items_first_behind f vs i v found total lt is first gone so_far =
+    sym (first_behind (f i (view v)) (each_item f (i + 1) (items_view (drop (i + 1) vs))) found first gone) ∙ ap (first_of {A = _}) (sym (items_cut f vs i i v lt is)) ∙ so_far
+
+pub items_first_before : {A : Type 0} (f : ℕ → Data → List A) (vs : List Value) (i : ℕ) (v : Value) (found total : Option A) → i < length vs → v ≡ get_or vs i v
+    → found ≡ first_of (f i (view v)) → is_some found ≡ true → first_of (each_item f i (items_view (drop i vs))) ≡ total → found ≡ total
+items_first_before f vs i v found total lt is first there so_far =
+    sym (first_before (f i (view v)) (each_item f (i + 1) (items_view (drop (i + 1) vs))) found first there) ∙ ap (first_of {A = _}) (sym (items_cut f vs i i v lt is)) ∙ so_far

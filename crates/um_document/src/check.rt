@@ -1,8 +1,13 @@
 //! The parts of a document, one after the other, held to what has to stand there.
 
-ghost use Rattle.std.specs.Prelude.{◌≡◌, ◌++◌, map, flat_map, option_map};
-ghost use Rattle.toml.specs.View.{view, array_view, table_view};
-ghost use Rattle.um_document.specs.{Broken.{breaks}, First.{first_place}};
+ghost use Rattle.std.specs.Prelude.{◌≡◌, ◌++◌, ℕ, List, Option, map, flat_map, option_map};
+ghost use Rattle.toml.specs.{Data.{Data}, View.{view, items_view, array_view, table_view}};
+ghost use Rattle.um_document.specs.{
+  declared.place.Place.{Place},
+  Broken.{breaks},
+  First.{first_place},
+  Parts.{Part},
+};
 ghost use Rattle.um_document.specs.Parts as parts;
 ghost use Rattle.um_document.specs.Shape as shape;
 
@@ -46,6 +51,32 @@ fn breaks_at(check: Check, table: &Table, field: Field) -> bool
         is_needed(table, field.2),
         value_at(table, field.0),
     )
+}
+
+/// The first of what fails at some items, each with its number counted from 0.
+fn broken_at_items<F: Fn(usize, &Value) -> Option<Place>>(items: &[Value], find: F) -> Option<Place>
+    requires { F.IsAlwaysCallable find }
+    ensures { (check : Check) (f : ℕ → Data → List Part) → ((i : ℕ) (item : _) (found : Option Place) → F.post find i item found → found ≡ first_place check (f i (view item.now))) → result ≡ first_place check (parts.each_item f 0 (items_view items.now)) }
+{
+    for (index, item) in items.iter().enumerate() {
+        if let Some(found) = find(index, item) {
+            return Some(found);
+        }
+    }
+    None
+}
+
+/// The first of what fails among some keys or sections.
+fn broken_among<T, F: Fn(&T) -> Option<Place>>(all: &[T], find: F) -> Option<Place>
+    requires { F.IsAlwaysCallable find }
+    ensures { (check : Check) (f : T → List Part) → ((one : _) (found : Option Place) → F.post find one found → found ≡ first_place check (f one.now)) → result ≡ first_place check (flat_map f all.now) }
+{
+    for one in all {
+        if let Some(found) = find(one) {
+            return Some(found);
+        }
+    }
+    None
 }
 
 /// The first key at the top that fails.
@@ -111,15 +142,10 @@ fn broken_variable(check: Check, partition: usize, index: usize, value: &Value) 
 fn broken_variables(check: Check, partition: usize, items: &Array) -> Option<Place>
     ensures { result ≡ first_place check (parts.each_item (parts.variable_parts partition) 0 (array_view items.now)) }
 {
-    let mut index = 0usize;
-    for item in items {
-        let found = broken_variable(check, partition, index, item);
-        if found.is_some() {
-            return found;
-        }
-        index += 1;
-    }
-    None
+    broken_at_items(
+        items.as_slice(),
+        |index, item| broken_variable(check, partition, index, item),
+    )
 }
 
 /// A key of an entry, or the first item of its list, that fails.
@@ -149,7 +175,7 @@ fn broken_field(
 }
 
 /// The first of some keys of an entry, or of the items of their lists, that fails.
-fn broken_among(
+fn broken_fields(
     check: Check,
     section: Section,
     entry: usize,
@@ -158,13 +184,10 @@ fn broken_among(
 ) -> Option<Place>
     ensures { result ≡ first_place check (flat_map (parts.field_parts section entry (table_view table.now)) fields.now) }
 {
-    for field in fields {
-        let found = broken_field(check, section, entry, table, *field);
-        if found.is_some() {
-            return found;
-        }
-    }
-    None
+    broken_among(
+        fields,
+        |field| broken_field(check, section, entry, table, *field),
+    )
 }
 
 /// The keys that an entry has beside those of each entry: an object has those of its kind.
@@ -172,10 +195,7 @@ fn further_fields(section: Section, table: &Table) -> &'static [Field]
     ensures { result.now ≡ parts.further_fields section (table_view table.now) }
 {
     match section {
-        Section::Object => match kind_of(table) {
-            Some(kind) => kind_fields(kind),
-            None => &[],
-        },
+        Section::Object => kind_of(table).map_or(&[], kind_fields),
         _ => &[],
     }
 }
@@ -184,11 +204,11 @@ fn further_fields(section: Section, table: &Table) -> &'static [Field]
 fn broken_key(check: Check, section: Section, entry: usize, table: &Table) -> Option<Place>
     ensures { result ≡ first_place check (parts.key_parts section entry (table_view table.now)) }
 {
-    let found = broken_among(check, section, entry, table, section.fields());
+    let found = broken_fields(check, section, entry, table, section.fields());
     if found.is_some() {
         return found;
     }
-    broken_among(check, section, entry, table, further_fields(section, table))
+    broken_fields(check, section, entry, table, further_fields(section, table))
 }
 
 /// An entry, or the first of its keys, that fails.
@@ -208,15 +228,10 @@ fn broken_entry(check: Check, section: Section, entry: usize, value: &Value) -> 
 fn broken_entries(check: Check, section: Section, items: &Array) -> Option<Place>
     ensures { result ≡ first_place check (parts.entries_parts section 0 (array_view items.now)) }
 {
-    let mut index = 0usize;
-    for item in items {
-        let found = broken_entry(check, section, index, item);
-        if found.is_some() {
-            return found;
-        }
-        index += 1;
-    }
-    None
+    broken_at_items(
+        items.as_slice(),
+        |index, item| broken_entry(check, section, index, item),
+    )
 }
 
 /// The first part of a section that fails.
@@ -233,13 +248,7 @@ fn broken_section(check: Check, table: &Table, section: Section) -> Option<Place
 fn broken_sections(check: Check, table: &Table, sections: &[Section]) -> Option<Place>
     ensures { result ≡ first_place check (flat_map (parts.section_parts (table_view table.now)) sections.now) }
 {
-    for section in sections {
-        let found = broken_section(check, table, *section);
-        if found.is_some() {
-            return found;
-        }
-    }
-    None
+    broken_among(sections, |section| broken_section(check, table, *section))
 }
 
 /// The first part of a document that fails the check.

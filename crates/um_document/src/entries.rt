@@ -70,26 +70,6 @@ impl Entry for PoolEntry {
     }
 }
 
-/// The rights of a partition.
-fn attr_at(table: &Table) -> Attr
-    ensures { result ≡ reading.attr_at (table_view table.now) }
-{
-    match text_given(table, Key::Attr) {
-        Some(word) => given_attr_named(word).unwrap_or(Attr::P_RW_U_RW),
-        None => Attr::P_RW_U_RW,
-    }
-}
-
-/// How a variable is aligned, at each byte where nothing is said.
-fn alignment_at(table: &Table) -> Alignment
-    ensures { result ≡ reading.alignment_at (table_view table.now) }
-{
-    match number_given(table, Key::Align) {
-        Some(number) => alignment_of(number).unwrap_or(Alignment::One),
-        None => Alignment::One,
-    }
-}
-
 impl Entry for VariableEntry {
     ghost of = { reading.variable_of };
 
@@ -97,7 +77,9 @@ impl Entry for VariableEntry {
         Ok(VariableEntry {
             name: name_at(table),
             size: number_at(table, Key::Size),
-            align: alignment_at(table),
+            align: number_given(table, Key::Align)
+                .and_then(alignment_of)
+                .unwrap_or(Alignment::One),
             data: bytes_given(alloc, table, Key::Data)?,
         })
     }
@@ -122,7 +104,9 @@ impl Entry for PartitionEntry {
     fn read(alloc: Global, table: &Table) -> Result<PartitionEntry, Memory> {
         Ok(PartitionEntry {
             name: name_at(table),
-            attr: attr_at(table),
+            attr: text_given(table, Key::Attr)
+                .and_then(|word| given_attr_named(word))
+                .unwrap_or(Attr::P_RW_U_RW),
             contents: contents_of(alloc, table)?,
         })
     }
@@ -194,16 +178,6 @@ impl Entry for ObjectEntry {
     }
 }
 
-/// The mode of a thread, a user's where none is said.
-fn mode_at(table: &Table) -> Mode
-    ensures { result ≡ reading.mode_at (table_view table.now) }
-{
-    match text_given(table, Key::Mode) {
-        Some(word) => mode_named(word).unwrap_or(Mode::User),
-        None => Mode::User,
-    }
-}
-
 impl Entry for BootEntry {
     ghost of = { reading.boot_of };
 
@@ -214,7 +188,9 @@ impl Entry for BootEntry {
             script: copy_at(alloc, table, Key::Script)?,
             priority: number_at(table, Key::Priority),
             domain: copy_at(alloc, table, Key::Domain)?,
-            mode: mode_at(table),
+            mode: text_given(table, Key::Mode)
+                .and_then(|word| mode_named(word))
+                .unwrap_or(Mode::User),
             pool: copy_given(alloc, table, Key::Pool)?,
             grants: copies_at(alloc, table, Key::Grants)?,
         })

@@ -16,32 +16,18 @@ use toml::Table;
 use um_base::{Memory, Mpu, Policy};
 use um_vocabulary::{mpu_named, policy_named};
 
-fn mpu_at(table: &Table) -> Mpu
-    ensures { result ≡ reading.mpu_at (table_view table.now) }
-{
-    match text_given(table, Key::Mpu) {
-        Some(word) => mpu_named(word).unwrap_or(Mpu::V7),
-        None => Mpu::V7,
-    }
-}
-
-fn policy_at(table: &Table) -> Policy
-    ensures { result ≡ reading.policy_at (table_view table.now) }
-{
-    match text_given(table, Key::Oops) {
-        Some(word) => policy_named(word).unwrap_or(Policy::Abort),
-        None => Policy::Abort,
-    }
-}
-
 /// What a document describes.
 fn description(alloc: Global, table: &Table) -> Result<Description, Memory>
     ensures { IfOk result (λ d. d ≡ reading.description_of (table_view table.now)) }
 {
     Ok(Description {
-        mpu: mpu_at(table),
+        mpu: text_given(table, Key::Mpu)
+            .and_then(|word| mpu_named(word))
+            .unwrap_or(Mpu::V7),
         regions: number_at(table, Key::Regions),
-        policy: policy_at(table),
+        policy: text_given(table, Key::Oops)
+            .and_then(|word| policy_named(word))
+            .unwrap_or(Policy::Abort),
         rodata: bytes_at(alloc, table, Key::Rodata)?,
         pools: entries_at(alloc, table, Section::Pool)?,
         partitions: entries_at(alloc, table, Section::Partition)?,

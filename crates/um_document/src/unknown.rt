@@ -1,7 +1,7 @@
 //! Keys that mean nothing at their places.
 
-ghost use Rattle.std.specs.Prelude.{◌≡◌, flat_map, option_map, IfOk};
-ghost use Rattle.toml.specs.{Data.{as_table}, View.{view, array_view, table_view}};
+ghost use Rattle.std.specs.Prelude.{◌≡◌, ℕ, List, flat_map, option_map, IfOk};
+ghost use Rattle.toml.specs.{Data.{Data, as_table}, View.{view, items_view, array_view, table_view}};
 ghost use Rattle.um_document.specs.{First.{first_of}, Parts.{each_item}};
 ghost use Rattle.um_document.specs.Unknown as unknown;
 
@@ -36,15 +36,29 @@ fn stray<'a>(table: &'a Table, fields: &[Field], further: &[Field]) -> Option<&'
     None
 }
 
+/// The first of such keys below some items, each with its number counted from 0.
+fn stray_at_items<F: Fn(usize, &Value) -> Result<Option<Spot>, Memory>>(
+    items: &[Value],
+    find: F,
+) -> Result<Option<Spot>, Memory>
+    requires { F.IsAlwaysCallable find }
+    ensures { (f : ℕ → Data → List (List ℕ)) → ((i : ℕ) (item : _) (found : _) → F.post find i item found → IfOk found (λ found. found ≡ first_of (f i (view item.now)))) → IfOk result (λ found. found ≡ first_of (each_item f 0 (items_view items.now))) }
+{
+    for (index, item) in items.iter().enumerate() {
+        let found = find(index, item)?;
+        if found.is_some() {
+            return Ok(found);
+        }
+    }
+    Ok(None)
+}
+
 /// The further keys that may stand in an entry: in an object those of its kind, and of any kind where it has none.
 fn known_further(section: Section, table: &Table) -> &'static [Field]
     ensures { result.now ≡ unknown.known_further section (table_view table.now) }
 {
     match section {
-        Section::Object => match kind_of(table) {
-            Some(kind) => kind_fields(kind),
-            None => any_kind_fields(),
-        },
+        Section::Object => kind_of(table).map_or(any_kind_fields(), kind_fields),
         _ => &[],
     }
 }
@@ -75,15 +89,10 @@ fn stray_of_variables(
 ) -> Result<Option<Spot>, Memory>
     ensures { IfOk result (λ found. found ≡ first_of (each_item (unknown.strays_of_variable partition) 0 (array_view items.now))) }
 {
-    let mut index = 0usize;
-    for item in items {
-        let found = stray_of_variable(alloc, partition, index, item)?;
-        if found.is_some() {
-            return Ok(found);
-        }
-        index += 1;
-    }
-    Ok(None)
+    stray_at_items(
+        items.as_slice(),
+        |index, item| stray_of_variable(alloc, partition, index, item),
+    )
 }
 
 /// The first such key below an entry, in its variables.
@@ -156,15 +165,10 @@ fn stray_of_entry(
 fn stray_of_entries(alloc: Global, section: Section, items: &Array) -> Result<Option<Spot>, Memory>
     ensures { IfOk result (λ found. found ≡ first_of (unknown.strays_of_entries section 0 (array_view items.now))) }
 {
-    let mut index = 0usize;
-    for item in items {
-        let found = stray_of_entry(alloc, section, index, item)?;
-        if found.is_some() {
-            return Ok(found);
-        }
-        index += 1;
-    }
-    Ok(None)
+    stray_at_items(
+        items.as_slice(),
+        |index, item| stray_of_entry(alloc, section, index, item),
+    )
 }
 
 /// The first such key of a section.

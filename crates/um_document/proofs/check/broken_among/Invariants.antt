@@ -1,9 +1,11 @@
-use Rattle.std.proofs.Common.{◌≡◌, flat_map, drop}
-use Rattle.toml.specs.View.{table_view}
+use Rattle.std.proofs.Common.{◌≡◌, List, Option, flat_map, drop}
+use Rattle.um_document.specs.declared.check.Check.{Check}
+use Rattle.um_document.specs.declared.place.Place.{Place}
 use Rattle.um_document.specs.First.{first_place}
-use Rattle.um_document.specs.Parts.{field_parts}
+use Rattle.um_document.specs.Parts.{Part}
 use Rattle.um_document.proofs.check.broken_among.Given as goal
 
-abbrev pub invariant-loop-field : goal.invariant-loop-field
-invariant-loop-field l =
-    first_place l.check (flat_map (field_parts l.section l.entry (table_view l.table)) (drop l.field-index l.fields)) ≡ first_place l.check (flat_map (field_parts l.section l.entry (table_view l.table)) l.fields)
+abbrev pub invariant-loop-one : goal.invariant-loop-one
+invariant-loop-one g l =
+    (check : Check) (f : g.row.T.Denot → List Part) → ((one : _) (found : Option Place) → goal.F-post g l.find one found → found ≡ first_place check (f one.now))
+    → first_place check (flat_map f (drop l.one-index l.all)) ≡ first_place check (flat_map f l.all)
