@@ -1,9 +1,0 @@
-use Rattle.std.proofs.Common.{ℕ, sym, subst}
-use Rattle.um_words.specs.Steps.{WordMay}
-use Rattle.um_site.proofs.Lawful.{thread-lawful}
-use Rattle.um_site.proofs.board.Board.step_thread.Goals as goal
-
-pub step-requires-clause-lawful : goal.step-requires-clause-lawful
-step-requires-clause-lawful g c = let a = c.args in
-    subst (λ (site : ℕ). (next : ℕ) × WordMay site a.seen a.act.now next) (sym c.thread_site.ensures)
-    (thread-lawful a.who.0 a.seen a.act.now c.requires.at.1 c.requires.at.2 c.requires.at.3 c.requires.takes c.requires.says)
