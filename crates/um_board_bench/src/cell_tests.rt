@@ -8,8 +8,8 @@ use crate::blank::empty_image;
 use std::marker::Brand;
 use std::mem::size_of;
 use um_cell::{Cells, Held};
-use um_site::{are_unstepped, have_no_turn};
-use um_words::{Content, FineAct, Local, Unseen};
+use um_site::{Board, Seat, are_unstepped, have_no_turn};
+use um_words::{AnyStep, Content, FineAct, Local, Unseen};
 
 /// The cell of the first row's object.
 const CELL: u16 = 168;

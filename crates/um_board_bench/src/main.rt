@@ -2,17 +2,12 @@
 //! prints how many steps were made. The measurement of the speed of the board runs it. Its tests are those of the calls on a board.
 #![tactic(auto)]
 
-ghost use Rattle.std.specs.Prelude.{◌≡◌, ◌≤◌, ◌<◌, [], true};
-
 mod blank;
 #[cfg(test)]
-mod calls;
-#[cfg(test)]
 mod cell_tests;
-mod now;
 mod plain;
 mod play;
-mod seen;
+mod seated;
 mod tally;
 #[cfg(test)]
 mod tests;
@@ -27,9 +22,7 @@ use std::sync::Wait;
 use std::thread::Threads;
 use tally::Tally;
 use um_base::Memory;
-use um_site::{Board, Seat};
-use um_words::AnyStep;
-use work::{Job, eight, four, one, two};
+use work::{Job, work_by};
 
 /// The words of a board without cells.
 const WORDS: u16 = 168;
@@ -74,28 +67,6 @@ fn read_asked<R: Env + AllocGlobal>(rt: &R) -> Option<Asked> {
         own,
         times,
     })
-}
-
-/// Does the job in so many threads: 1, 2, 4 or 8.
-fn work_by<R: Threads + Sync>(
-    rt: &R,
-    board: &Board<(), AnyStep>,
-    seat: Seat<()>,
-    job: Job,
-    threads: u8,
-) -> (Seat<()>, Tally)
-    requires here { seat.token.table_id ≡ board.now.table.shared.table_id }
-    requires sites { 160 ≤ board.now.table.shared.table_id.words }
-    requires few { (seat.split < 1000) × (seat.joined < 1000) }
-    requires slots { seat.token.me.1 ≡ [] }
-    ensures here { result.0.token.table_id ≡ seat.token.table_id }
-{
-    match threads {
-        1 => one(board, seat, job, 0),
-        2 => two(rt, board, seat, job, 0),
-        4 => four(rt, board, seat, job, 0),
-        _ => eight(rt, board, seat, job, 0),
-    }
 }
 
 /// What so many threads made on a board of these words, and the word of a site at its end.

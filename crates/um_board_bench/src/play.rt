@@ -1,36 +1,29 @@
 //! A seat that makes steps of many kinds on one row.
 
-ghost use Rattle.std.specs.Prelude.{true, Some};
-ghost use Rattle.um_site.specs.{Calls.{Stays}, Lives.{Cleans}};
-ghost use Rattle.um_board_bench.specs.Seats.{OnRow};
+ghost use Rattle.std.specs.Prelude.{◌≡◌, true, false};
+ghost use Rattle.um_site.specs.Lives.{Cleans};
+ghost use Rattle.um_board_bench.specs.Seats.{OnRow, Remains};
 
-use crate::now::{born_now, check_now, drop_now, end_now, grant_now, vacate_now};
+use crate::seated::{OBJECT, Seated};
 use crate::tally::Tally;
 use um_base::{Row, ThreadIx, Want};
-use um_perm::Dropped;
-use um_site::{Board, Seat};
+use um_perm::{Answer, Dropped, RowCall};
 use um_verify::Checked;
-use um_words::{AnyStep, RowWord, Stage};
+use um_words::{RowWord, Stage};
 
 /// How often a step is tried at most.
 const MOST_TRIES: u32 = 100_000_000;
 
 /// Vacates the row that is this seat's to clean.
-fn clean(
-    board: &Board<(), AnyStep>,
-    seat: &mut Seat<()>,
-    row: Row,
-    who: ThreadIx,
-    tally: &mut Tally,
-)
-    requires on { OnRow board.now.table.shared.table_id seat.old row.0 }
-    requires cleans { Cleans row.0 seat.old.token.me.0 }
-    ensures stays { Stays seat.old seat.new }
+fn clean(at: &mut Seated<'_>, row: Row, who: ThreadIx, tally: &mut Tally)
+    requires on { OnRow at.old row.0 }
+    requires cleans { Cleans row.0 at.old.seat.token.me.0 }
+    ensures stays { Remains at.old at.new }
 {
     tally.told = tally.told.saturating_add(1);
     'tries: for _ in 0..MOST_TRIES {
-        match vacate_now(board, seat, row, who) {
-            Some(Ok(())) => {
+        match at.row(row, who, RowCall::Vacate) {
+            Some(Ok(_)) => {
                 tally.step();
                 tally.cleaned = tally.cleaned.saturating_add(1);
                 break;
@@ -41,160 +34,114 @@ fn clean(
     }
 }
 
-/// Drops a permission, and cleans the object where that is its own to do.
-fn drop_turn(
-    board: &Board<(), AnyStep>,
-    seat: &mut Seat<()>,
-    row: Row,
-    by: ThreadIx,
-    who: ThreadIx,
-    tally: &mut Tally,
-)
-    requires on { OnRow board.now.table.shared.table_id seat.old row.0 }
-    ensures stays { Stays seat.old seat.new }
+/// A call on the row. True: the object is now this seat's to clean.
+fn call_turn(at: &mut Seated<'_>, row: Row, by: ThreadIx, call: RowCall, tally: &mut Tally) -> bool
+    requires on { OnRow at.old row.0 }
+    requires cleans { call ≡ RowCall.Vacate → Cleans row.0 at.old.seat.token.me.0 }
+    ensures stays { Remains at.old at.new }
+    ensures cleans { result ≡ true → Cleans row.0 at.new.seat.token.me.0 }
 {
-    match drop_now(board, seat, row, by, who) {
-        Some(Ok(Dropped::Gone { clean: true })) => {
-            tally.step();
+    let Some(Ok(answer)) = at.row(row, by, call) else {
+        return false;
+    };
+    tally.step();
+    match answer {
+        Answer::Dropped(Dropped::Gone { clean }) => {
             tally.gone = tally.gone.saturating_add(1);
-            clean(board, seat, row, by, tally);
+            clean
         }
-        Some(Ok(Dropped::Gone { clean: false })) => {
-            tally.step();
-            tally.gone = tally.gone.saturating_add(1);
+        Answer::Done => {
+            tally.born = tally.born.saturating_add(1);
+            false
         }
-        Some(Ok(_)) => tally.step(),
-        _ => {}
+        _ => false,
     }
 }
 
-/// Ends a hold of its own, and cleans the object where that is its own to do.
-fn end_turn(
-    board: &Board<(), AnyStep>,
-    seat: &mut Seat<()>,
-    row: Row,
-    who: ThreadIx,
-    tally: &mut Tally,
-)
-    requires on { OnRow board.now.table.shared.table_id seat.old row.0 }
-    ensures stays { Stays seat.old seat.new }
+/// The end of a hold of its own. True: the object is now this seat's to clean.
+fn end_turn(at: &mut Seated<'_>, row: Row, tally: &mut Tally) -> bool
+    requires on { OnRow at.old row.0 }
+    ensures stays { Remains at.old at.new }
+    ensures cleans { result ≡ true → Cleans row.0 at.new.seat.token.me.0 }
 {
     if tally.ended >= tally.held {
-        return;
+        return false;
     }
-    match end_now(board, seat, row) {
-        Some(Ok(true)) => {
-            tally.step();
-            tally.ended = tally.ended.saturating_add(1);
-            clean(board, seat, row, who, tally);
-        }
-        Some(Ok(false)) => {
-            tally.step();
-            tally.ended = tally.ended.saturating_add(1);
-        }
-        _ => {}
-    }
+    let Some(Ok(is_last)) = at.end(row) else {
+        return false;
+    };
+    tally.step();
+    tally.ended = tally.ended.saturating_add(1);
+    is_last
 }
 
-/// A check, which may hold the object.
-fn check_turn(
-    board: &Board<(), AnyStep>,
-    seat: &mut Seat<()>,
-    row: Row,
-    who: ThreadIx,
-    tally: &mut Tally,
-)
-    requires on { OnRow board.now.table.shared.table_id seat.old row.0 }
-    ensures stays { Stays seat.old seat.new }
+/// A check, which may hold the object. It leaves nothing to clean.
+fn check_turn(at: &mut Seated<'_>, row: Row, who: ThreadIx, tally: &mut Tally) -> bool
+    requires on { OnRow at.old row.0 }
+    ensures stays { Remains at.old at.new }
+    ensures nothing { result ≡ false }
 {
-    match check_now(board, seat, row, who, Want::Any) {
-        Some(Ok(Checked::Held)) => {
-            tally.step();
+    if let Some(Ok(checked)) = at.check(row, who, Want::Any) {
+        tally.step();
+        if checked == Checked::Held {
             tally.held = tally.held.saturating_add(1);
         }
-        Some(Ok(Checked::Refused(_))) => tally.step(),
-        _ => {}
     }
+    false
 }
 
-/// The thread that a thread plays with.
-fn other(who: ThreadIx) -> ThreadIx {
-    ThreadIx((who.0 ^ 1) % 32)
-}
-
-/// A grant to the other thread, late where the object is gone.
-fn grant_turn(
-    board: &Board<(), AnyStep>,
-    seat: &mut Seat<()>,
-    row: Row,
-    who: ThreadIx,
-    tally: &mut Tally,
-)
-    requires on { OnRow board.now.table.shared.table_id seat.old row.0 }
-    ensures stays { Stays seat.old seat.new }
+/// One try at a step, by what stands in the row. True: the object is now this seat's to clean.
+///
+/// The thread plays with one other, and grants late where the object is gone.
+fn turn(at: &mut Seated<'_>, row: Row, who: ThreadIx, number: u32, tally: &mut Tally) -> bool
+    requires on { OnRow at.old row.0 }
+    ensures stays { Remains at.old at.new }
+    ensures cleans { result ≡ true → Cleans row.0 at.new.seat.token.me.0 }
 {
-    if let Some(Ok(_)) = grant_now(board, seat, row, who, other(who)) {
-        tally.step();
-    }
-}
-
-/// A birth.
-fn born_turn(
-    board: &Board<(), AnyStep>,
-    seat: &mut Seat<()>,
-    row: Row,
-    who: ThreadIx,
-    tally: &mut Tally,
-)
-    requires on { OnRow board.now.table.shared.table_id seat.old row.0 }
-    ensures stays { Stays seat.old seat.new }
-{
-    if let Some(Ok(())) = born_now(board, seat, row, who) {
-        tally.step();
-        tally.born = tally.born.saturating_add(1);
-    }
-}
-
-/// One try at a step, by what stands in the row.
-fn turn(
-    board: &Board<(), AnyStep>,
-    seat: &mut Seat<()>,
-    row: Row,
-    who: ThreadIx,
-    number: u32,
-    tally: &mut Tally,
-)
-    requires on { OnRow board.now.table.shared.table_id seat.old row.0 }
-    ensures stays { Stays seat.old seat.new }
-{
-    let seen = board.look(seat, u16::from(row.0));
+    let seen = at.board.look(&mut at.seat, u16::from(row.0));
+    let addr = OBJECT;
+    let is_shown = true;
+    let other = ThreadIx((who.0 ^ 1) % 32);
     match (RowWord::read(seen).stage, number % 5) {
-        (Stage::Free, _) => born_turn(board, seat, row, who, tally),
-        (Stage::Live, 0) => check_turn(board, seat, row, who, tally),
-        (Stage::Live, 2) => drop_turn(board, seat, row, who, who, tally),
-        (Stage::Live, 3) => drop_turn(board, seat, row, who, other(who), tally),
-        (_, 1) => grant_turn(board, seat, row, who, tally),
-        _ => end_turn(board, seat, row, who, tally),
+        (Stage::Free, _) => call_turn(at, row, who, RowCall::Born { addr }, tally),
+        (Stage::Live, 0) => check_turn(at, row, who, tally),
+        (Stage::Live, 2) => call_turn(
+            at,
+            row,
+            who,
+            RowCall::Drop {
+                who,
+                is_shown,
+                addr,
+            },
+            tally,
+        ),
+        (Stage::Live, 3) => {
+            let call = RowCall::Drop {
+                who: other,
+                is_shown,
+                addr,
+            };
+            call_turn(at, row, who, call, tally)
+        }
+        (_, 1) => call_turn(at, row, who, RowCall::Grant { who: other, addr }, tally),
+        _ => end_turn(at, row, tally),
     }
 }
 
 /// So many steps on the row.
-pub fn play(
-    board: &Board<(), AnyStep>,
-    seat: &mut Seat<()>,
-    row: Row,
-    who: ThreadIx,
-    steps: u32,
-) -> Tally
-    requires on { OnRow board.now.table.shared.table_id seat.old row.0 }
-    ensures stays { Stays seat.old seat.new }
+pub fn play(at: &mut Seated<'_>, row: Row, who: ThreadIx, steps: u32) -> Tally
+    requires on { OnRow at.old row.0 }
+    ensures stays { Remains at.old at.new }
 {
     let mut tally = Tally::none();
     'tries: for number in 0..MOST_TRIES {
         if tally.steps >= steps {
             break;
         }
-        turn(board, seat, row, who, number, &mut tally);
+        if turn(at, row, who, number, &mut tally) {
+            clean(at, row, who, &mut tally);
+        }
     }
     tally
 }

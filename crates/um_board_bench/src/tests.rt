@@ -1,19 +1,19 @@
 //! The calls on a board by worked rows, and many threads at one row.
 
-ghost use Rattle.std.specs.Prelude.{◌≡◌, ◌<◌, ◌≤◌, [], IfOk, IfSome};
-ghost use Rattle.um_site.specs.Calls.{AtRow, Stays};
+ghost use Rattle.std.specs.Prelude.{◌≡◌, ◌<◌, ◌≤◌, [], IfOk};
+ghost use Rattle.um_board_bench.specs.Seats.{OnDomain, OnRow, OnThread, Remains};
 
 use super::*;
-use crate::calls::*;
-use crate::now::*;
-use crate::seen::row_seen;
+use crate::seated::{LAST, OBJECT, Seated};
 use std::mem::size_of;
-use um_base::{Errno, Given, Row, ThreadIx, Want};
-use um_perm::{Dropped, Passed, Set};
-use um_site::{Changed, StillOut};
-use um_thread::{Going, Move, Reading, Writing};
+use um_base::{
+    Act, Addr, Attr, Cause, Errno, Given, Kind, Mode, Range, Reply, Row, ThreadIx, Want,
+};
+use um_perm::{Answer, Dropped, Passed, RowCall, Set};
+use um_site::{Board, Changed, Seat, StillOut, domain_site};
+use um_thread::{DomainCall, Outcome, ThreadCall, call_domain};
 use um_verify::Checked;
-use um_words::{RowWord, Stage};
+use um_words::{AnyStep, DomWord, RowWord, Stage, ThreadWord};
 
 const ROW: Row = Row(0);
 
@@ -21,244 +21,340 @@ const FIRST: ThreadIx = ThreadIx(0);
 
 const SECOND: ThreadIx = ThreadIx(1);
 
-/// The board of one row with this word, with its first seat.
-fn row_of(alloc: Global, word: u64) -> Result<Option<(Board<(), AnyStep>, Seat<()>)>, Memory>
-    ensures same { IfOk result (λ r. IfSome r (λ b. b.1.token.table_id ≡ b.0.table.shared.table_id)) }
-    ensures sites { IfOk result (λ r. IfSome r (λ b. 0 < b.0.table.shared.table_id.words)) }
-    ensures first { IfOk result (λ r. IfSome r (λ b. (b.1.split ≡ 0) × (b.1.joined ≡ 0) × (b.1.token.me.1 ≡ []))) }
-{
-    let words = words_with(alloc, 1, 0, word)?;
-    if words.len() < 1 {
-        return Ok(None);
+/// Why there is no board.
+#[derive(Debug, Drop)]
+enum NoBoard {
+    Memory(Memory),
+    /// None opens with these words.
+    Words,
+}
+
+impl From<Memory> for NoBoard {
+    fn from(e: Memory) -> NoBoard {
+        NoBoard::Memory(e)
     }
-    board_of(alloc, words)
+}
+
+/// The board of so many words, one of which is this one at its site, with its first seat.
+fn board_with(
+    alloc: Global,
+    count: u16,
+    site: u16,
+    word: u64,
+) -> Result<(Board<(), AnyStep>, Seat<()>), NoBoard>
+    ensures same { IfOk result (λ b. b.1.token.table_id ≡ b.0.table.shared.table_id) }
+    ensures sites { IfOk result (λ b. count ≤ b.0.table.shared.table_id.words) }
+    ensures first { IfOk result (λ b. (b.1.split ≡ 0) × (b.1.joined ≡ 0) × (b.1.token.me.1 ≡ [])) }
+{
+    let words = words_with(alloc, count, site, word)?;
+    if words.len() < usize::from(count) {
+        return Err(NoBoard::Words);
+    }
+    match board_of(alloc, words)? {
+        Some(board) => Ok(board),
+        None => Err(NoBoard::Words),
+    }
 }
 
 /// Whether this word stands at the site.
-fn stands(board: &Board<(), AnyStep>, seat: &mut Seat<()>, site: u16, word: u64) -> bool
-    requires here { seat.old.token.table_id ≡ board.now.table.shared.table_id }
-    requires site { site < board.now.table.shared.table_id.words }
-    ensures stays { Stays seat.old seat.new }
+fn stands(at: &mut Seated<'_>, site: u16, word: u64) -> bool
+    requires here { at.old.seat.token.table_id ≡ at.old.board.now.table.shared.table_id }
+    requires site { site < at.old.board.now.table.shared.table_id.words }
+    ensures stays { Remains at.old at.new }
 {
-    board.look(seat, site) == word
+    at.board.look(&mut at.seat, site) == word
+}
+
+/// Whether a call on the row, but for the end of a cleaning, has this answer.
+fn answers(at: &mut Seated<'_>, by: ThreadIx, call: RowCall, answer: Answer) -> bool
+    requires on { OnRow at.old 0 }
+    ensures stays { Remains at.old at.new }
+{
+    match call {
+        RowCall::Vacate => false,
+        _ => at.row(ROW, by, call) == Some(Ok(answer)),
+    }
 }
 
 /// A check that holds the object, and one that is refused.
 #[test]
-fn checks(rt: HostRuntime) -> Result<(), Memory> {
-    let Some((board, mut seat)) = row_of(rt.alloc(), 0x0000_0009_0000_0001)? else {
-        assert!(rt; false, "a board");
-        return Ok(());
-    };
-    let refused = check_now(&board, &mut seat, ROW, SECOND, Want::Uninit);
+fn checks(rt: HostRuntime) -> Result<(), NoBoard> {
+    let (board, seat) = board_with(rt.alloc(), 1, 0, 0x0000_0009_0000_0001)?;
+    let mut at = Seated::new(&board, seat);
+    let refused = at.check(ROW, SECOND, Want::Uninit);
     assert!(rt; refused == Some(Ok(Checked::Refused(Errno::EPERM))));
-    assert!(rt; stands(&board, &mut seat, 0, 0x0000_1009_0000_0001));
-    let held = check_now(&board, &mut seat, ROW, FIRST, Want::Init);
+    assert!(rt; stands(&mut at, 0, 0x0000_1009_0000_0001));
+    let held = at.check(ROW, FIRST, Want::Init);
     assert!(rt; held == Some(Ok(Checked::Held)));
+    let seat = at.seat;
     assert!(rt; last_word(board, seat, 0) == Some(0x0000_2029_0000_0001));
     Ok(())
 }
 
+/// A drop that is an event.
+fn drop_of(who: ThreadIx) -> RowCall {
+    RowCall::Drop {
+        who,
+        is_shown: true,
+        addr: OBJECT,
+    }
+}
+
 /// The last permission goes while nobody holds the object.
 #[test]
-fn cleaned_at_once(rt: HostRuntime) -> Result<(), Memory> {
-    let Some((board, mut seat)) = row_of(rt.alloc(), 0x0000_000c_0000_0001)? else {
-        assert!(rt; false, "a board");
-        return Ok(());
-    };
-    let gone = drop_now(&board, &mut seat, ROW, FIRST, FIRST);
-    assert!(rt; gone == Some(Ok(Dropped::Gone { clean: true })));
-    assert!(rt; last_word(board, seat, 0) == Some(0x0000_101c_0000_0000));
+fn cleaned_at_once(rt: HostRuntime) -> Result<(), NoBoard> {
+    let (board, seat) = board_with(rt.alloc(), 1, 0, 0x0000_000c_0000_0001)?;
+    let mut at = Seated::new(&board, seat);
+    let gone = Answer::Dropped(Dropped::Gone { clean: true });
+    assert!(rt; answers(&mut at, FIRST, drop_of(FIRST), gone));
+    assert!(rt; stands(&mut at, 0, 0x0000_101c_0000_0000));
     Ok(())
 }
 
 /// From a last drop under a hold to the next birth.
 #[test]
-fn a_life(rt: HostRuntime) -> Result<(), Memory> {
-    let Some((board, mut seat)) = row_of(rt.alloc(), 0x0000_002c_0000_0001)? else {
-        assert!(rt; false, "a board");
-        return Ok(());
-    };
-    let gone = drop_now(&board, &mut seat, ROW, FIRST, FIRST);
-    assert!(rt; gone == Some(Ok(Dropped::Gone { clean: false })));
-    assert!(rt; stands(&board, &mut seat, 0, 0x0000_1034_0000_0000));
-    let late = grant_now(&board, &mut seat, ROW, FIRST, SECOND);
-    assert!(rt; late == Some(Ok(Given::Gone)));
-    assert!(rt; stands(&board, &mut seat, 0, 0x0000_2034_0000_0000));
-    let Some(Ok(true)) = end_now(&board, &mut seat, ROW) else {
+fn a_life(rt: HostRuntime) -> Result<(), NoBoard> {
+    let (board, seat) = board_with(rt.alloc(), 1, 0, 0x0000_002c_0000_0001)?;
+    let mut at = Seated::new(&board, seat);
+    let addr = OBJECT;
+    let gone = Answer::Dropped(Dropped::Gone { clean: false });
+    assert!(rt; answers(&mut at, FIRST, drop_of(FIRST), gone));
+    assert!(rt; stands(&mut at, 0, 0x0000_1034_0000_0000));
+    let late = RowCall::Grant { who: SECOND, addr };
+    assert!(rt; answers(&mut at, FIRST, late, Answer::Given(Given::Gone)));
+    assert!(rt; stands(&mut at, 0, 0x0000_2034_0000_0000));
+    let Some(Ok(true)) = at.end(ROW) else {
         assert!(rt; false, "the last claim");
         return Ok(());
     };
-    let vacated = vacate_now(&board, &mut seat, ROW, FIRST);
-    assert!(rt; vacated == Some(Ok(())));
-    assert!(rt; stands(&board, &mut seat, 0, 0x0000_4000_0000_0000));
-    let born = born_now(&board, &mut seat, ROW, SECOND);
-    assert!(rt; born == Some(Ok(())));
-    assert!(rt; last_word(board, seat, 0) == Some(0x0000_500c_0000_0002));
+    let vacated = at.row(ROW, FIRST, RowCall::Vacate);
+    assert!(rt; vacated == Some(Ok(Answer::Done)));
+    assert!(rt; stands(&mut at, 0, 0x0000_4000_0000_0000));
+    assert!(rt; answers(&mut at, SECOND, RowCall::Born { addr }, Answer::Done));
+    assert!(rt; stands(&mut at, 0, 0x0000_500c_0000_0002));
     Ok(())
 }
 
 /// Permissions that are given, passed on and dropped, and an object that is opened and marked.
 #[test]
-fn pairs(rt: HostRuntime) -> Result<(), Memory> {
-    let Some((board, mut seat)) = row_of(rt.alloc(), 0x0000_0008_0000_0001)? else {
-        assert!(rt; false, "a board");
-        return Ok(());
-    };
-    let seat = &mut seat;
-    assert!(rt; grant_now(&board, seat, ROW, FIRST, SECOND) == Some(Ok(Given::Done)));
-    assert!(rt; inherit_now(&board, seat, ROW, FIRST, ThreadIx(2)) == Some(Ok(Passed::Pair)));
-    assert!(rt; inherit_now(&board, seat, ROW, FIRST, SECOND) == Some(Ok(Passed::Nothing)));
-    assert!(rt; own_now(&board, seat, ROW, FIRST, ThreadIx(31)) == Some(Ok(Given::Done)));
-    assert!(rt; stands(&board, seat, 0, 0x0000_4028_8000_0007));
-    assert!(rt; drop_now(&board, seat, ROW, SECOND, SECOND) == Some(Ok(Dropped::Kept)));
-    assert!(rt; drop_now(&board, seat, ROW, SECOND, SECOND) == Some(Ok(Dropped::NoPair)));
-    assert!(rt; set_now(&board, seat, ROW, FIRST) == Some(Ok(Set::Done)));
-    assert!(rt; set_now(&board, seat, ROW, FIRST) == Some(Ok(Set::Already)));
-    assert!(rt; publish_now(&board, seat, ROW, FIRST) == Some(Ok(Given::Done)));
-    assert!(rt; stands(&board, seat, 0, 0x0000_902b_8000_0005));
-    assert!(rt; clear_now(&board, seat, ROW, FIRST) == Some(Ok(())));
-    assert!(rt; stands(&board, seat, 0, 0x0000_a02a_8000_0005));
+fn pairs(rt: HostRuntime) -> Result<(), NoBoard> {
+    let (board, seat) = board_with(rt.alloc(), 1, 0, 0x0000_0008_0000_0001)?;
+    let mut at = Seated::new(&board, seat);
+    let at = &mut at;
+    let addr = OBJECT;
+    let given = Answer::Given(Given::Done);
+    assert!(rt; answers(at, FIRST, RowCall::Grant { who: SECOND, addr }, given));
+    let child = ThreadIx(2);
+    assert!(rt;
+        answers(
+            at,
+            FIRST,
+            RowCall::Inherit { child, addr },
+            Answer::Passed(Passed::Pair)
+        )
+    );
+    let child = SECOND;
+    assert!(rt;
+        answers(
+            at,
+            FIRST,
+            RowCall::Inherit { child, addr },
+            Answer::Passed(Passed::Nothing)
+        )
+    );
+    assert!(rt; answers(at, FIRST, RowCall::Own { who: ThreadIx(31) }, given));
+    assert!(rt; stands(at, 0, 0x0000_4028_8000_0007));
+    assert!(rt; answers(at, SECOND, drop_of(SECOND), Answer::Dropped(Dropped::Kept)));
+    assert!(rt;
+        answers(
+            at,
+            SECOND,
+            drop_of(SECOND),
+            Answer::Dropped(Dropped::NoPair)
+        )
+    );
+    let set = RowCall::SetInit { strict: true, addr };
+    assert!(rt; answers(at, FIRST, set, Answer::Set(Set::Done)));
+    assert!(rt; answers(at, FIRST, set, Answer::Set(Set::Already)));
+    assert!(rt; answers(at, FIRST, RowCall::Publish { addr }, given));
+    assert!(rt; stands(at, 0, 0x0000_902b_8000_0005));
+    assert!(rt; answers(at, FIRST, RowCall::ClearInit { addr }, Answer::Done));
+    assert!(rt; stands(at, 0, 0x0000_a02a_8000_0005));
     Ok(())
 }
 
-/// The board of all sites but the cells, with this word at the site, with its first seat.
-fn sites_of(
-    alloc: Global,
-    site: u16,
-    word: u64,
-) -> Result<Option<(Board<(), AnyStep>, Seat<()>)>, Memory>
-    ensures same { IfOk result (λ r. IfSome r (λ b. b.1.token.table_id ≡ b.0.table.shared.table_id)) }
-    ensures sites { IfOk result (λ r. IfSome r (λ b. 168 ≤ b.0.table.shared.table_id.words)) }
+/// What the word said on which a call on a thread was recorded.
+fn recorded(
+    at: &mut Seated<'_>,
+    who: ThreadIx,
+    by: ThreadIx,
+    call: ThreadCall,
+) -> Option<ThreadWord>
+    requires on { OnThread at.old who.0 }
+    ensures stays { Remains at.old at.new }
 {
-    let words = words_with(alloc, WORDS, site, word)?;
-    if words.len() < 168 {
-        return Ok(None);
+    match at.thread(who, by, call) {
+        Some(Ok(Outcome::Recorded { before })) => Some(before),
+        _ => None,
     }
-    board_of(alloc, words)
 }
+
+/// Whether a thread's word, which is this one, forbids a call by the thread.
+fn forbids(at: &mut Seated<'_>, who: ThreadIx, call: ThreadCall, word: u64) -> bool
+    requires on { OnThread at.old who.0 }
+    ensures stays { Remains at.old at.new }
+{
+    match at.thread(who, who, call) {
+        Some(Ok(Outcome::Forbidden { word: found })) => found == word,
+        _ => false,
+    }
+}
+
+const BEGIN: ThreadCall = ThreadCall::Begin { script: 0, line: 1 };
+
+const MOVE: ThreadCall = ThreadCall::Move { domain: 0 };
 
 /// A hold keeps a thread's domain, and a doomed thread begins no line.
 #[test]
-fn threads(rt: HostRuntime) -> Result<(), Memory> {
-    let Some((board, mut seat)) = sites_of(rt.alloc(), 128, 0x41)? else {
-        assert!(rt; false, "a board");
+fn threads(rt: HostRuntime) -> Result<(), NoBoard> {
+    let (board, seat) = board_with(rt.alloc(), WORDS, 128, 0x41)?;
+    let mut at = Seated::new(&board, seat);
+    let at = &mut at;
+    let Some(before) = recorded(at, FIRST, FIRST, ThreadCall::Hold) else {
+        assert!(rt; false, "a hold");
         return Ok(());
     };
-    let seat = &mut seat;
-    assert!(rt; hold_now(&board, seat, FIRST) == Some(Ok(2)));
+    assert!(rt; before.domain == 2);
     let held = 0x0000_0010_0000_0049;
-    assert!(rt; stands(&board, seat, 128, held));
-    assert!(rt; move_now(&board, seat, FIRST) == Some(Ok(Move::Held { word: held })));
-    assert!(rt; stands(&board, seat, 128, held));
-    assert!(rt; let_go_now(&board, seat, FIRST) == Some(Ok(())));
-    assert!(rt; stands(&board, seat, 128, 0x0000_0020_0000_0041));
-    assert!(rt; move_now(&board, seat, FIRST) == Some(Ok(Move::Moved)));
-    assert!(rt; begin_now(&board, seat, FIRST) == Some(Ok(Going::Begun)));
-    assert!(rt; reply_now(&board, seat, FIRST) == Some(Ok(())));
-    assert!(rt; stands(&board, seat, 128, 0x0000_0050_0000_0001));
-    assert!(rt; doom_now(&board, seat, FIRST, SECOND) == Some(Ok(())));
+    assert!(rt; stands(at, 128, held));
+    assert!(rt; forbids(at, FIRST, MOVE, held));
+    assert!(rt; stands(at, 128, held));
+    assert!(rt; recorded(at, FIRST, FIRST, ThreadCall::LetGo).is_some());
+    assert!(rt; stands(at, 128, 0x0000_0020_0000_0041));
+    assert!(rt; recorded(at, FIRST, FIRST, MOVE).is_some());
+    assert!(rt; recorded(at, FIRST, FIRST, BEGIN).is_some());
+    assert!(rt; recorded(at, FIRST, FIRST, ThreadCall::Reply(Reply::Num(0))).is_some());
+    assert!(rt; stands(at, 128, 0x0000_0050_0000_0001));
+    assert!(rt; recorded(at, FIRST, SECOND, ThreadCall::Doom).is_some());
     let doomed = 0x0000_0060_0000_0005;
-    assert!(rt; stands(&board, seat, 128, doomed));
-    assert!(rt; begin_now(&board, seat, FIRST) == Some(Ok(Going::Doomed { word: doomed })));
-    assert!(rt; read_now(&board, seat, FIRST) == Some(Ok(())));
-    assert!(rt; fatal_now(&board, seat, FIRST) == Some(Ok(())));
-    assert!(rt; stands(&board, seat, 128, 0x0000_0080_0000_0006));
+    assert!(rt; stands(at, 128, doomed));
+    assert!(rt; forbids(at, FIRST, BEGIN, doomed));
+    let cause = Cause::Refused(Errno::EBADF);
+    assert!(rt; recorded(at, FIRST, FIRST, ThreadCall::ReadWord).is_some());
+    assert!(rt; recorded(at, FIRST, FIRST, ThreadCall::Fatal { reason: 3, cause }).is_some());
+    assert!(rt; stands(at, 128, 0x0000_0080_0000_0006));
     Ok(())
 }
 
 /// A thread from its start to its end.
 #[test]
-fn a_thread(rt: HostRuntime) -> Result<(), Memory> {
-    let Some((board, mut seat)) = sites_of(rt.alloc(), 129, 0)? else {
-        assert!(rt; false, "a board");
-        return Ok(());
+fn a_thread(rt: HostRuntime) -> Result<(), NoBoard> {
+    let (board, seat) = board_with(rt.alloc(), WORDS, 129, 0)?;
+    let mut at = Seated::new(&board, seat);
+    let start = ThreadCall::Start {
+        mode: Mode::Supervisor,
+        domain: 1,
     };
-    let seat = &mut seat;
-    assert!(rt; start_now(&board, seat, SECOND, FIRST) == Some(Ok(())));
-    assert!(rt; stands(&board, seat, 129, 0x0000_0010_0000_0031));
-    assert!(rt; miss_now(&board, seat, SECOND) == Some(Ok(())));
-    assert!(rt; enter_user_now(&board, seat, SECOND) == Some(Ok(())));
-    assert!(rt; exit_now(&board, seat, SECOND) == Some(Ok(Going::Begun)));
-    assert!(rt; stands(&board, seat, 129, 0x0000_0040_0000_0022));
+    assert!(rt; recorded(&mut at, SECOND, FIRST, start).is_some());
+    assert!(rt; stands(&mut at, 129, 0x0000_0010_0000_0031));
+    let miss = ThreadCall::Miss {
+        addr: Addr(0),
+        kind: Some(Kind::Sem),
+        want: Want::Init,
+    };
+    assert!(rt; recorded(&mut at, SECOND, SECOND, miss).is_some());
+    assert!(rt; recorded(&mut at, SECOND, SECOND, ThreadCall::EnterUser).is_some());
+    assert!(rt; recorded(&mut at, SECOND, SECOND, ThreadCall::Exit).is_some());
+    assert!(rt; stands(&mut at, 129, 0x0000_0040_0000_0022));
     Ok(())
+}
+
+/// The call of the first thread on the first domain, where its word allows it.
+fn domain_now(at: &mut Seated<'_>, call: DomainCall) -> Option<Result<Outcome<DomWord>, Changed>>
+    requires on { OnDomain at.old 0 }
+    ensures stays { Remains at.old at.new }
+{
+    let seen = at.board.look(&mut at.seat, domain_site(0));
+    let word = DomWord::unpack(seen)?;
+    if word.number >= LAST || !call.fits(0, &word) {
+        return None;
+    }
+    Some(call_domain(at.board, &mut at.seat, 0, FIRST, call, seen))
+}
+
+/// Whether a call on the first domain is recorded, where the domain is initialised and in its first version.
+fn records(at: &mut Seated<'_>, call: DomainCall) -> bool
+    requires on { OnDomain at.old 0 }
+    ensures stays { Remains at.old at.new }
+{
+    match domain_now(at, call) {
+        Some(Ok(Outcome::Recorded { before })) => before.init && before.version == 0,
+        _ => false,
+    }
+}
+
+/// Whether the first domain's word, which is this one, forbids a call.
+fn keeps_out(at: &mut Seated<'_>, call: DomainCall, word: u64) -> bool
+    requires on { OnDomain at.old 0 }
+    ensures stays { Remains at.old at.new }
+{
+    match domain_now(at, call) {
+        Some(Ok(Outcome::Forbidden { word: found })) => found == word,
+        _ => false,
+    }
 }
 
 /// Nobody writes while somebody reads, and nobody reads while somebody writes.
 #[test]
-fn claims(rt: HostRuntime) -> Result<(), Memory> {
-    let Some((board, mut seat)) = sites_of(rt.alloc(), 160, 1)? else {
-        assert!(rt; false, "a board");
-        return Ok(());
-    };
-    let seat = &mut seat;
-    let claim = Reading::Claim {
-        version: 0,
-        ready: true,
-    };
-    assert!(rt; read_claim_now(&board, seat, 0) == Some(Ok(claim)));
+fn claims(rt: HostRuntime) -> Result<(), NoBoard> {
+    let (board, seat) = board_with(rt.alloc(), WORDS, 160, 1)?;
+    let mut at = Seated::new(&board, seat);
+    let at = &mut at;
+    assert!(rt; records(at, DomainCall::ReadClaim));
     let read = 0x0000_0010_0000_0005;
-    assert!(rt; stands(&board, seat, 160, read));
-    assert!(rt; write_claim_now(&board, seat, 0) == Some(Ok(Writing::Readers { word: read })));
-    assert!(rt; read_done_now(&board, seat, 0) == Some(Ok(())));
-    assert!(rt; stands(&board, seat, 160, 0x0000_0020_0000_0001));
-    assert!(rt; write_claim_now(&board, seat, 0) == Some(Ok(Writing::Claimed)));
+    assert!(rt; stands(at, 160, read));
+    assert!(rt; keeps_out(at, DomainCall::WriteClaim, read));
+    assert!(rt; records(at, DomainCall::ReadDone { failed: None }));
+    assert!(rt; stands(at, 160, 0x0000_0020_0000_0001));
+    assert!(rt; records(at, DomainCall::WriteClaim));
     let written = 0x0000_0030_0000_0003;
-    assert!(rt; stands(&board, seat, 160, written));
-    assert!(rt; read_claim_now(&board, seat, 0) == Some(Ok(Reading::Writer { word: written })));
-    assert!(rt; write_done_now(&board, seat, 0) == Some(Ok(())));
-    assert!(rt; stands(&board, seat, 160, 0x0000_0040_0000_0201));
+    assert!(rt; stands(at, 160, written));
+    assert!(rt; keeps_out(at, DomainCall::ReadClaim, written));
+    let range = Range {
+        start: Addr(0x2000_0000),
+        size: 32,
+    };
+    let edit = Act::DomAdd {
+        domain: 0,
+        range,
+        attr: Attr(27),
+        reply: Reply::Num(0),
+    };
+    assert!(rt; records(at, DomainCall::WriteDone { edit }));
+    assert!(rt; stands(at, 160, 0x0000_0040_0000_0201));
     Ok(())
-}
-
-/// A user's check of the first row, on the word that the seat saw.
-fn check_seen(
-    board: &Board<(), AnyStep>,
-    seat: &mut Seat<()>,
-    seen: u64,
-) -> Option<Result<Checked, Changed>>
-    requires at { AtRow board.now.table.shared.table_id seat.old 0 seen }
-    ensures stays { Stays seat.old seat.new }
-{
-    if RowWord::read(seen).claims >= 127 {
-        return None;
-    }
-    Some(um_verify::check(
-        board,
-        seat,
-        ROW,
-        FIRST,
-        um_base::Mode::User,
-        Some(um_base::Kind::Sem),
-        true,
-        Want::Init,
-        OBJECT,
-        seen,
-    ))
 }
 
 /// Both seats see one word; the first one's check is recorded, the second's isn't. The board closes once the second is joined in.
 #[test]
-fn two_seats(rt: HostRuntime) -> Result<(), Memory> {
-    let Some((board, mut first)) = row_of(rt.alloc(), 0x0000_0009_0000_0001)? else {
-        assert!(rt; false, "a board");
-        return Ok(());
-    };
-    let mut second = board.split(&mut first);
-    let Some((seen, _)) = row_seen(&board, &mut first, ROW) else {
+fn two_seats(rt: HostRuntime) -> Result<(), NoBoard> {
+    let (board, mut seat) = board_with(rt.alloc(), 1, 0, 0x0000_0009_0000_0001)?;
+    let other = board.split(&mut seat);
+    let mut first = Seated::new(&board, seat);
+    let mut second = Seated::new(&board, other);
+    let (Some((seen, _)), Some((too_late, _))) = (first.row_seen(ROW), second.row_seen(ROW)) else {
         assert!(rt; false, "the word that both see");
         return Ok(());
     };
-    let Some((too_late, _)) = row_seen(&board, &mut second, ROW) else {
-        assert!(rt; false, "the word that both see");
-        return Ok(());
-    };
-    assert!(rt; check_seen(&board, &mut first, seen) == Some(Ok(Checked::Held)));
+    let held = first.check_seen(ROW, FIRST, Want::Init, seen);
+    assert!(rt; held == Some(Ok(Checked::Held)));
     let word = Changed {
         seen: 0x0000_1029_0000_0001,
     };
-    assert!(rt; check_seen(&board, &mut second, too_late) == Some(Err(word)));
-    let out = match board.close(first) {
+    assert!(rt; second.check_seen(ROW, FIRST, Want::Init, too_late) == Some(Err(word)));
+    let seat = first.seat;
+    let other = second.seat;
+    let out = match board.close(seat) {
         Ok(closed) => {
             assert!(rt; false, "closed while a seat was out");
             closed.free();
@@ -272,7 +368,7 @@ fn two_seats(rt: HostRuntime) -> Result<(), Memory> {
         seats,
     } = out;
     assert!(rt; seats == 1);
-    board.join(&mut seat, second);
+    board.join(&mut seat, other);
     assert!(rt; last_word(board, seat, 0) == Some(0x0000_1029_0000_0001));
     Ok(())
 }

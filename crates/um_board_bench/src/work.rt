@@ -1,16 +1,16 @@
 //! What a thread does with its seat, and many threads at once.
 
-ghost use Rattle.std.specs.Prelude.{◌≡◌, ◌<◌, ◌≤◌, ◌+◌, []};
-ghost use Rattle.um_site.specs.Calls.{Stays};
-ghost use Rattle.um_board_bench.specs.Seats.{ComesBack, IsSameKin};
+ghost use Rattle.std.specs.Prelude.{◌≡◌, ◌<◌, ◌≤◌, []};
+ghost use Rattle.um_board_bench.specs.Seats.{ComesBack, IsSameKin, Remains};
 ghost use denote.Param.Send.{IsSync};
 
-use crate::now::read_now;
 use crate::play::play;
+use crate::seated::Seated;
 use crate::tally::Tally;
 use std::thread::{Threads, join};
 use um_base::{Row, ThreadIx};
 use um_site::{Board, Seat};
+use um_thread::{Outcome, ThreadCall};
 use um_words::AnyStep;
 
 /// How often a step is tried at most.
@@ -26,18 +26,18 @@ pub enum Job {
 }
 
 /// So many recorded reads of a thread's word.
-fn reads(board: &Board<(), AnyStep>, seat: &mut Seat<()>, who: ThreadIx, times: u32) -> Tally
-    requires here { seat.old.token.table_id ≡ board.now.table.shared.table_id }
+fn reads(at: &mut Seated<'_>, who: ThreadIx, times: u32) -> Tally
+    requires here { at.old.seat.token.table_id ≡ at.old.board.now.table.shared.table_id }
     requires who { who.0 < 32 }
-    requires sites { 160 ≤ board.now.table.shared.table_id.words }
-    ensures stays { Stays seat.old seat.new }
+    requires sites { 160 ≤ at.old.board.now.table.shared.table_id.words }
+    ensures stays { Remains at.old at.new }
 {
     let mut tally = Tally::none();
     'tries: for _ in 0..MOST_TRIES {
         if tally.steps >= times {
             break;
         }
-        if let Some(Ok(())) = read_now(board, seat, who) {
+        if let Some(Ok(Outcome::Recorded { .. })) = at.thread(who, who, ThreadCall::ReadWord) {
             tally.step();
         }
     }
@@ -45,29 +45,25 @@ fn reads(board: &Board<(), AnyStep>, seat: &mut Seat<()>, who: ThreadIx, times: 
 }
 
 /// Does the job in the caller's thread.
-pub fn one(board: &Board<(), AnyStep>, seat: Seat<()>, job: Job, me: u8) -> (Seat<()>, Tally)
+fn one(board: &Board<(), AnyStep>, seat: Seat<()>, job: Job, me: u8) -> (Seat<()>, Tally)
     requires here { seat.token.table_id ≡ board.now.table.shared.table_id }
     requires sites { 160 ≤ board.now.table.shared.table_id.words }
     ensures back { ComesBack 0 seat result.0 }
     ensures kin { IsSameKin seat result.0 }
 {
-    let mut seat = seat;
+    let mut at = Seated::new(board, seat);
     let tally = match job {
-        Job::Play { steps } => play(board, &mut seat, Row(0), ThreadIx(me % 32), steps),
+        Job::Play { steps } => play(&mut at, Row(0), ThreadIx(me % 32), steps),
         Job::Read { own, times } => {
-            let who = if own {
-                ThreadIx(me % 4 * 8)
-            } else {
-                ThreadIx(0)
-            };
-            reads(board, &mut seat, who, times)
+            let who = if own { me % 4 * 8 } else { 0 };
+            reads(&mut at, ThreadIx(who), times)
         }
     };
-    (seat, tally)
+    (at.seat, tally)
 }
 
 /// Does it in two threads.
-pub fn two<R: Threads + Sync>(
+fn two<R: Threads + Sync>(
     rt: &R,
     board: &Board<(), AnyStep>,
     seat: Seat<()>,
@@ -105,7 +101,7 @@ pub fn two<R: Threads + Sync>(
 }
 
 /// Does it in four threads.
-pub fn four<R: Threads + Sync>(
+fn four<R: Threads + Sync>(
     rt: &R,
     board: &Board<(), AnyStep>,
     seat: Seat<()>,
@@ -149,7 +145,7 @@ pub fn four<R: Threads + Sync>(
 }
 
 /// Does it in eight threads.
-pub fn eight<R: Threads + Sync>(
+fn eight<R: Threads + Sync>(
     rt: &R,
     board: &Board<(), AnyStep>,
     seat: Seat<()>,
@@ -190,4 +186,26 @@ pub fn eight<R: Threads + Sync>(
     let (other, more) = theirs;
     board.join(&mut seat, other);
     (seat, tally.and(more))
+}
+
+/// Does the job in so many threads: 1, 2, 4 or 8.
+pub fn work_by<R: Threads + Sync>(
+    rt: &R,
+    board: &Board<(), AnyStep>,
+    seat: Seat<()>,
+    job: Job,
+    threads: u8,
+) -> (Seat<()>, Tally)
+    requires here { seat.token.table_id ≡ board.now.table.shared.table_id }
+    requires sites { 160 ≤ board.now.table.shared.table_id.words }
+    requires few { (seat.split < 1000) × (seat.joined < 1000) }
+    requires slots { seat.token.me.1 ≡ [] }
+    ensures here { result.0.token.table_id ≡ seat.token.table_id }
+{
+    match threads {
+        1 => one(board, seat, job, 0),
+        2 => two(rt, board, seat, job, 0),
+        4 => four(rt, board, seat, job, 0),
+        _ => eight(rt, board, seat, job, 0),
+    }
 }

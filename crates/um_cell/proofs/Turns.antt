@@ -30,17 +30,17 @@ module _ {T : Type 0} (opens : Image → ℕ → T → Type 0) (follows : T → 
       contents = subst (λ (im : Image). ContentsAre opens follows im i past (Some x)) (sym (ap (λ (u : View). u.image) now')) contents;
     }
 
-    -- of a take
-    pub taken_held : (goes : Image → List ℕ → List Made → Made → Type 0) (y : Option T) (x : T) (c : List (ℕ × Option T)) → Took opens follows goes v i r y me.0 → me.1 ≡ (i - 168, y) ∷ c → me.1 ≡ (slot, Some x) ∷ rest me.1 → me' ≡ (me.0, (slot, None) ∷ rest me.1)
-        → HasTurn opens follows me' i r None x
-    taken_held goes y x c took there at new = let same = same_place me.1 c (rest me.1) (i - 168, y) (slot, Some x) there at in
-        turn_held (by_site i took.moment.history) (Some x) None x took.now at (sym (ap (λ p. p.0) same)) new (subst (ContentsAre opens follows v.image i (by_site i took.moment.history)) (ap (λ p. p.1) same) took.contents)
-
-    -- the contents that were taken are those that the slot had
-    pub took_some : (goes : Image → List ℕ → List Made → Made → Type 0) (y : Option T) (x : T) (c : List (ℕ × Option T)) → Took opens follows goes v i r y me.0 → me.1 ≡ (i - 168, y) ∷ c → me.1 ≡ (slot, Some x) ∷ rest me.1 → me' ≡ (me.0, (slot, None) ∷ rest me.1)
-        → Took opens follows goes v i r (Some x) me'.0
-    took_some goes y x c took there at new = let same = same_place me.1 c (rest me.1) (i - 168, y) (slot, Some x) there at in
-        subst (λ (p : Option T × View). Took opens follows goes v i r p.0 p.1) (λ j. ((same j).1, (sym new j).0)) took
+    -- of a take that found the turn free, and these contents in the slot
+    pub taken : (goes : Image → List ℕ → List Made → Made → Type 0) (y z : Option T) (x : T) (c : List (ℕ × Option T)) → me.1 ≡ (i - 168, y) ∷ c → Took opens follows goes v i r y me.0
+        → me.1 ≡ (slot, z) ∷ rest me.1 → z ≡ Some x → me' ≡ (me.0, (slot, None) ∷ rest me.1)
+        → HasTurn opens follows me' i r None x × (rest me'.1 ≡ c) × Took opens follows goes v i r (Some x) me'.0
+    taken goes y z x c there took found is new =
+        let at = found ∙ ap (λ k. (slot, k) ∷ rest me.1) is in
+        let same = same_place me.1 c (rest me.1) (i - 168, y) (slot, Some x) there at in (
+          turn_held (by_site i took.moment.history) (Some x) None x took.now at (sym (ap (λ p. p.0) same)) new (subst (ContentsAre opens follows v.image i (by_site i took.moment.history)) (ap (λ p. p.1) same) took.contents),
+          ap (λ (m : Me (Option T) View). rest m.1) new ∙ ap rest there,
+          subst (λ (p : Option T × View). Took opens follows goes v i r p.0 p.1) (λ j. ((same j).1, (sym new j).0)) took,
+        )
 
     -- of a cell that is opened
     pub opened_held : (old : Option T) (x : T) (c : List (ℕ × Option T)) (y : Option T) → me.0 ≡ taking v i r [] → me.1 ≡ (i - 168, y) ∷ c → me.1 ≡ (slot, old) ∷ rest me.1 → me' ≡ (me.0, (slot, Some x) ∷ rest me.1) → opens v.image i x

@@ -1,6 +1,6 @@
 //! Turns that are given back.
 
-ghost use Rattle.std.specs.Prelude.{◌≡◌, ℕ, None};
+ghost use Rattle.std.specs.Prelude.{◌≡◌, ℕ, ◌-◌, ◌≤◌, ◌∷◌, Some, None};
 ghost use Rattle.um_words.specs.Steps.{WordMay};
 ghost use Rattle.um_site.specs.{Calls.{SameSeat}, Tells.{HasTurn, returning}};
 ghost use Rattle.um_cell.specs.Contents.{AtCell, HasPut, KeepsKin};
@@ -10,6 +10,24 @@ use crate::cells::Cells;
 use crate::held::Held;
 use um_site::{Board, Seat, Step};
 use um_words::{Content, Local, step_number};
+
+/// Puts the contents into the empty slot of a cell whose turn the seat has.
+fn fill_slot<T: Content, L: Local>(board: &Board<T, L>, seat: &mut Seat<T>, cell: u16, contents: T)
+    requires here { seat.old.token.table_id ≡ board.now.table.shared.table_id }
+    requires cell { 168 ≤ cell }
+    requires empty { seat.old.token.me.1 ≡ (cell - 168, None) ∷ rest seat.old.token.me.1 }
+    ensures same { SameSeat seat.old seat.new }
+    ensures filled { seat.new.token.me ≡ (seat.old.token.me.0, (cell - 168, Some contents) ∷ rest seat.old.token.me.1) }
+{
+    let slot = (cell - 168) as usize;
+    let emptied = board
+        .table
+        .shared
+        .exchange(&mut seat.token, slot, Some(contents));
+    let None = emptied else {
+        unreachable!();
+    };
+}
 
 impl<T: Content> Cells<T> {
     /// Records a step of a cell by which this word comes to stand, leaves what was made of the contents, and gives the turn back. The step
@@ -32,14 +50,7 @@ impl<T: Content> Cells<T> {
         ensures told { HasPut L.goes seat.old.token.me held.word D.made result seat.new.token.me }
     {
         let Held { cell, contents, .. } = held;
-        let slot = (cell - 168) as usize;
-        let emptied = board
-            .table
-            .shared
-            .exchange(&mut seat.token, slot, Some(contents));
-        let None = emptied else {
-            unreachable!();
-        };
+        fill_slot(board, seat, cell, contents);
         board.record::<D>(seat, cell, next);
         step_number(cell, next)
     }
@@ -58,14 +69,7 @@ impl<T: Content> Cells<T> {
             word,
             contents,
         } = held;
-        let slot = (cell - 168) as usize;
-        let emptied = board
-            .table
-            .shared
-            .exchange(&mut seat.token, slot, Some(contents));
-        let None = emptied else {
-            unreachable!();
-        };
+        fill_slot(board, seat, cell, contents);
         board.give_back(seat, cell, word);
     }
 }

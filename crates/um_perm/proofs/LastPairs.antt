@@ -6,6 +6,7 @@ use Rattle.um_base.specs.declared.act.Leftover.{Leftover}
 use Rattle.um_base.specs.declared.image.Image.{Image}
 use Rattle.um_base.specs.declared.names.Addr.{Addr}
 use Rattle.um_base.specs.declared.names.ThreadIx.{ThreadIx}
+use Rattle.um_words.specs.declared.fine.FineAct.{FineAct}
 use Rattle.um_words.specs.declared.made.Made.{Made}
 use Rattle.um_words.specs.declared.row_word.RowWord.{RowWord}
 use Rattle.um_words.specs.declared.row_word.Stage.{Stage}
@@ -16,8 +17,10 @@ use Rattle.um_site.specs.Tells.{made}
 use Rattle.um_site.specs.Calls.{shown, Recorded}
 use Rattle.um_site.specs.Lives.{stage, begins_cleaning, takes_last, Cleans}
 use Rattle.um_site.proofs.Lives.{row-step, row-left, in-cleaning, to-clean}
-use Rattle.um_perm.specs.declared.drops.Dropped.{Dropped}
-use Rattle.um_perm.specs.Pairs.{visit, drop_act, dropped_of, is_to_clean, Leaves, TellsCleaning}
+use Rattle.um_perm.specs.declared.answer.Answer.{Answer}
+use Rattle.um_perm.specs.declared.answer.Dropped.{Dropped}
+use Rattle.um_perm.specs.declared.calls.RowCall.{RowCall}
+use Rattle.um_perm.specs.Pairs.{visit, drop_act, row_act, dropped_of, answer_of, IfDropped, is_to_clean, Leaves, TellsCleaning}
 
 abbrev left_by : Bool → Bool → Leftover
 left_by there last = if not there then Leftover.NoPair else if last then Leftover.Gone else Leftover.Kept
@@ -72,19 +75,40 @@ three : (a b c : Bool) → a ≡ true → b ≡ true → c ≡ true → (a && b 
 three a b c x y z = λ i. x i && y i && z i
 
 module _ (goes : Image → List ℕ → List Made → Made → Type 0) (v w : View) (row seen : ℕ) (by who : ThreadIx) (is_shown : Bool) (addr : Addr) (here : row < 128)
-    (told : Recorded goes v row seen (drop_act by who is_shown addr seen) w) where
+    (told : Recorded goes v row seen (drop_act by who is_shown addr (row_of seen)) w) where
   abbrev dropped : Dropped
   dropped = dropped_of (left_of (row_of seen) who.0) (row_of seen).claims
 
-  pub stages : Leaves dropped (stage seen) (stage told.1.0)
-  stages = subst (Leaves dropped (stage seen)) (sym (ap (λ (r : RowWord). r.stage) (row-left seen (drop_act by who is_shown addr seen) told.1.0 (row-step row seen (drop_act by who is_shown addr seen) told.1.0 here told.1.1)))) (acts (row_of seen) who.0 by addr is_shown (has (row_of seen) who.0) refl)
+  stages : Leaves dropped (stage seen) (stage told.1.0)
+  stages = subst (Leaves dropped (stage seen)) (sym (ap (λ (r : RowWord). r.stage) (row-left seen (drop_act by who is_shown addr (row_of seen)) told.1.0 (row-step row seen (drop_act by who is_shown addr (row_of seen)) told.1.0 here told.1.1)))) (acts (row_of seen) who.0 by addr is_shown (has (row_of seen) who.0) refl)
 
-  pub tells : TellsCleaning row seen (drop_act by who is_shown addr seen) v dropped w
+  tells : TellsCleaning row seen (drop_act by who is_shown addr (row_of seen)) v dropped w
   tells = (told.1.0, told.1.4, stages, begins dropped (stage seen) (stage told.1.0) stages)
 
-  pub cleans : is_to_clean dropped ≡ true → Cleans row w
+  cleans : is_to_clean dropped ≡ true → Cleans row w
   cleans e =
-      let m : Made = made row (drop_act by who is_shown addr seen) told.1.0 in
+      let m : Made = made row (drop_act by who is_shown addr (row_of seen)) told.1.0 in
       subst (Cleans row) (sym told.1.4) (to-clean row v m (three (row == row) (takes_last m.act) (is_cleaning (stage told.1.0)) (eq-eqb row row refl)
       (last (row_of seen) who.0 by addr is_shown (has (row_of seen) who.0) (is_last (row_of seen) who.0) refl refl e)
       (in-cleaning (stage seen) (stage told.1.0) (begins dropped (stage seen) (stage told.1.0) stages ∙ e))))
+
+module _ (goes : Image → List ℕ → List Made → Made → Type 0) (v w : View) (row seen : ℕ) (by : ThreadIx) (here : row < 128) where
+  abbrev Cleaner : FineAct → Answer → Type 0
+  Cleaner act answer = IfDropped answer (λ dropped. TellsCleaning row seen act v dropped w × (is_to_clean dropped ≡ true → Cleans row w))
+
+  cleaner-of : (call : RowCall) → Recorded goes v row seen (row_act by call (row_of seen)) w → Cleaner (row_act by call (row_of seen)) (answer_of by call (row_of seen))
+  cleaner-of (RowCall.Drop who is_shown addr) told = (tells goes v w row seen by who is_shown addr here told, cleans goes v w row seen by who is_shown addr here told)
+  cleaner-of (RowCall.Grant who addr) told = tt
+  cleaner-of (RowCall.Own who) told = tt
+  cleaner-of (RowCall.Inherit child addr) told = tt
+  cleaner-of (RowCall.Publish addr) told = tt
+  cleaner-of (RowCall.SetInit strict addr) told = tt
+  cleaner-of (RowCall.ClearInit addr) told = tt
+  cleaner-of (RowCall.Born addr) told = tt
+  cleaner-of RowCall.Vacate told = tt
+
+  -- of each call whose step and whose answer are those of the word
+  pub cleaner : (call : RowCall) (r : RowWord) (act : FineAct) (answer : Answer) → r ≡ row_of seen → act ≡ row_act by call r → answer ≡ answer_of by call r → Recorded goes v row seen act w
+      → Cleaner (row_act by call (row_of seen)) answer
+  cleaner call r act answer read acts answers told =
+      subst (Cleaner (row_act by call (row_of seen))) (sym (answers ∙ ap (answer_of by call) read)) (cleaner-of call (subst (λ z. Recorded goes v row seen z w) (acts ∙ ap (row_act by call) read) told))

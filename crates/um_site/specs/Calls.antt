@@ -1,15 +1,19 @@
 -- What a call on a board asks of its seat, and what it tells.
-use Rattle.std.specs.Prelude.{◌≡◌, ◌≢◌, ℕ, ◌+◌, ◌<◌, true, List, Some, Result, MatchResult}
+use Rattle.std.specs.Prelude.{◌≡◌, ◌≢◌, ℕ, ◌+◌, ◌<◌, true, List, Some, Result, MatchResult, IsTrue}
 use Rattle.atomic_table.specs.Seated.{TableId}
 use Rattle.um_base.specs.declared.act.Act.{Act}
 use Rattle.um_base.specs.declared.image.Image.{Image}
 use Rattle.um_base.specs.declared.names.ThreadIx.{ThreadIx}
 use Rattle.um_words.specs.Packed.{row_of, is_thread, thread_in, is_domain, domain_in}
+use Rattle.um_words.specs.Rows.{row_takes, row_says}
+use Rattle.um_words.specs.Threads.{thread_takes, thread_says}
+use Rattle.um_words.specs.Domains.{domain_takes}
 use Rattle.um_words.specs.Steps.{WordMay}
 use Rattle.um_words.specs.declared.fine.FineAct.{FineAct}
 use Rattle.um_words.specs.declared.fine.More.{More}
 use Rattle.um_words.specs.declared.made.Made.{Made}
 use Rattle.um_site.specs.declared.board.Changed.{Changed}
+use Rattle.um_site.specs.declared.place.Place.{Place}
 use Rattle.um_site.specs.declared.seat.Seat.{Seat}
 use Rattle.um_site.specs.declared.view.View.{View}
 use Rattle.um_site.specs.Tells.{made, Looked, Steps, last_got}
@@ -24,6 +28,17 @@ thread_site who = 128 + who
 
 abbrev pub domain_site : ℕ → ℕ
 domain_site domain = 160 + domain
+
+abbrev pub site_of : Place → ℕ
+site_of (Place.Row row) = row.0
+site_of (Place.Thread who) = thread_site who.0
+site_of (Place.Domain domain) = domain_site domain
+
+-- there is such a row, thread or domain
+abbrev pub IsPlace : Place → Type 0
+IsPlace (Place.Row row) = row.0 < 128
+IsPlace (Place.Thread who) = who.0 < 32
+IsPlace (Place.Domain domain) = domain < 8
 
 -- the seat is the same one of its board, with the same counts
 abbrev pub SameSeat : {T : Type 0} → Seat T → Seat T → Type 0
@@ -50,6 +65,17 @@ AtThread board s who seen = HasSeen board s (thread_site who) seen × (who < 32)
 
 abbrev pub AtDomain : {T : Type 0} → TableId → Seat T → ℕ → ℕ → Type 0
 AtDomain board s domain seen = HasSeen board s (domain_site domain) seen × (domain < 8) × (is_domain seen ≡ true) × ((domain_in seen).number < 268435455)
+
+abbrev pub AtPlace : {T : Type 0} → TableId → Seat T → Place → ℕ → Type 0
+AtPlace board s (Place.Row row) seen = AtRow board s row.0 seen
+AtPlace board s (Place.Thread who) seen = AtThread board s who.0 seen
+AtPlace board s (Place.Domain domain) seen = AtDomain board s domain seen
+
+-- the word takes the act, which has the answers that the word gives
+abbrev pub Takes : Place → ℕ → FineAct → Type 0
+Takes (Place.Row row) seen act = IsTrue (row_takes (row_of seen) act) × (row_says (row_of seen) act ≡ act)
+Takes (Place.Thread who) seen act = IsTrue (thread_takes (thread_in seen) act) × (thread_says act ≡ act)
+Takes (Place.Domain domain) seen act = IsTrue (domain_takes (domain_in seen) act)
 
 module _ (goes : Image → List ℕ → List Made → Made → Type 0) where
   -- the seat may make this act next, where it is lawful

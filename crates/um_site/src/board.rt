@@ -8,6 +8,7 @@ ghost use Rattle.um_words.specs.Steps.{number, WordMay};
 ghost use Rattle.um_site.specs.{
   Tells.{made, last_got, with_made, GoesOn, Looked, StandsWithFact, Steps, stepped_by},
   History.{opening_view, splitter, newborn, joiner, AmongNames, IsClosed, IsClosedWithFact, shadow_of},
+  Calls.{HasSeen, Missed, Stays},
   Cells.{IsClosedWithCells, Moment},
 };
 ghost use Rattle.atomic_table.specs.Table.{step};
@@ -158,19 +159,12 @@ impl<T: Content, L: Local> Board<T, L> {
         word: u64,
         act: &FineAct,
     ) -> Result<u32, Changed>
-        requires here { seat.old.token.table_id ≡ self.now.table.shared.table_id }
-        requires site { site < self.now.table.shared.table_id.words }
-        requires no_cell { site < 168 }
-        requires seen { last_got seat.old.token.me.0.got site ≡ Some seen }
+        requires at { HasSeen self.now.table.shared.table_id seat.old site seen × (site < 168) }
         requires step { D.made ≡ made site act.now word }
         requires lawful { WordMay site seen act.now word }
         requires goes { L.goes seat.old.token.me.0.image seat.old.token.me.0.name seat.old.token.me.0.made (made site act.now word) }
-        ensures same { (seat.new.token.table_id ≡ seat.old.token.table_id) × (seat.new.token.id ≡ seat.old.token.id) }
-        ensures told { MatchResult result (λ n. Steps L.goes seat.old.token.me.0 site act.now seen n seat.new.token.me.0) (λ e. (e.seen ≢ seen) × Looked L.goes seat.old.token.me.0 site e.seen seat.new.token.me.0) }
-        ensures counts { (seat.new.split ≡ seat.old.split) × (seat.new.joined ≡ seat.old.joined) × (seat.new.first ≡ seat.old.first) }
-        ensures slots { seat.new.token.me.1 ≡ seat.old.token.me.1 }
-        ensures kin { (seat.new.token.me.0.name ≡ seat.old.token.me.0.name) × (seat.new.token.me.0.children ≡ seat.old.token.me.0.children) × (seat.new.token.me.0.turn ≡ seat.old.token.me.0.turn) × (seat.new.token.me.0.filled ≡ seat.old.token.me.0.filled) }
-        ensures last { IfErr result (λ e. last_got seat.new.token.me.0.got site ≡ Some (e.seen)) }
+        ensures stays { Stays seat.old seat.new }
+        ensures told { MatchResult result (λ n. Steps L.goes seat.old.token.me.0 site act.now seen n seat.new.token.me.0) (λ e. Missed L.goes seat.old.token.me.0 site seen e.seen seat.new.token.me.0) }
     {
         let _ = act;
         self.step_to::<D>(seat, site, seen, word)

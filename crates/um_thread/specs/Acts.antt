@@ -1,69 +1,79 @@
--- The steps of threads and of domains.
-use Rattle.std.specs.Prelude.{◌≡◌, ℕ, Option, Some, None}
-use Rattle.um_base.specs.declared.names.Addr.{Addr}
+-- The steps of calls on threads and on domains, what each asks of the word, and what forbids it.
+use Rattle.std.specs.Prelude.{ℕ, Bool, true, false, ◌==◌, ◌&&◌, ◌||◌, not, nat_lt, Some, None}
 use Rattle.um_base.specs.declared.names.Errno.{Errno}
-use Rattle.um_base.specs.declared.names.Kind.{Kind}
-use Rattle.um_base.specs.declared.names.Mode.{Mode}
 use Rattle.um_base.specs.declared.names.Reply.{Reply}
 use Rattle.um_base.specs.declared.names.ThreadIx.{ThreadIx}
-use Rattle.um_base.specs.declared.names.Want.{Want}
 use Rattle.um_base.specs.declared.act.Act.{Act}
-use Rattle.um_base.specs.declared.act.Cause.{Cause}
+use Rattle.um_base.specs.declared.limits.TheConstants.{DOMAINS}
+use Rattle.um_machine.specs.State.{is_living}
 use Rattle.um_words.specs.declared.fine.FineAct.{FineAct}
 use Rattle.um_words.specs.declared.fine.More.{More}
 use Rattle.um_words.specs.declared.fine.Unseen.{Unseen}
+use Rattle.um_words.specs.declared.thread_word.ThreadWord.{ThreadWord}
+use Rattle.um_words.specs.declared.dom_word.DomWord.{DomWord}
+use Rattle.um_words.specs.Domains.{writes}
 use Rattle.um_site.specs.Calls.{shown}
+use Rattle.um_thread.specs.declared.threads.ThreadCall.{ThreadCall}
+use Rattle.um_thread.specs.declared.domains.DomainCall.{DomainCall}
 
 -- Threads.
 
-abbrev pub start_act : ThreadIx → ThreadIx → Mode → ℕ → FineAct
-start_act by who mode domain = FineAct.Shown (record { thread = by; act = Act.Start who }) (More.Starts mode domain)
+abbrev pub thread_act : ThreadIx → ThreadIx → ThreadCall → FineAct
+thread_act by who (ThreadCall.Start mode domain) = FineAct.Shown (record { thread = by; act = Act.Start who }) (More.Starts mode domain)
+thread_act by who (ThreadCall.Begin script line) = shown by (Act.Begin script line)
+thread_act by who (ThreadCall.Reply reply) = shown by (Act.Answered reply)
+thread_act by who (ThreadCall.Miss addr kind want) = shown by (Act.Check addr kind want (Some Errno.EBADF))
+thread_act by who (ThreadCall.Fatal reason cause) = shown by (Act.Fatal reason cause)
+thread_act by who ThreadCall.Exit = shown by Act.Exit
+thread_act by who ThreadCall.Doom = shown by (Act.Doom who)
+thread_act by who ThreadCall.Hold = FineAct.Unseen Unseen.Hold
+thread_act by who ThreadCall.LetGo = FineAct.Unseen Unseen.LetGo
+thread_act by who (ThreadCall.Move domain) = shown by (Act.DomMove domain who (Reply.Num 0))
+thread_act by who ThreadCall.EnterUser = shown by Act.EnterUser
+thread_act by who ThreadCall.ReadWord = FineAct.Unseen Unseen.WordRead
 
-abbrev pub begin_act : ThreadIx → ℕ → ℕ → FineAct
-begin_act by script line = shown by (Act.Begin script line)
+-- a doomed thread begins no line, and doesn't end by itself; one that is held keeps its domain
+abbrev pub forbids_thread : ThreadCall → ThreadWord → Bool
+forbids_thread (ThreadCall.Begin script line) w = w.doomed
+forbids_thread ThreadCall.Exit w = w.doomed
+forbids_thread (ThreadCall.Move domain) w = w.held
+forbids_thread call w = false
 
-abbrev pub reply_act : ThreadIx → Reply → FineAct
-reply_act by reply = shown by (Act.Answered reply)
-
--- the check of an address where no object stands
-abbrev pub miss_act : ThreadIx → Addr → Option Kind → Want → FineAct
-miss_act by addr kind want = shown by (Act.Check addr kind want (Some Errno.EBADF))
-
-abbrev pub fatal_act : ThreadIx → ℕ → Cause → FineAct
-fatal_act by reason cause = shown by (Act.Fatal reason cause)
-
-abbrev pub exit_act : ThreadIx → FineAct
-exit_act by = shown by Act.Exit
-
-abbrev pub doom_act : ThreadIx → ThreadIx → FineAct
-doom_act by who = shown by (Act.Doom who)
-
-abbrev pub move_act : ThreadIx → ThreadIx → ℕ → FineAct
-move_act by who domain = shown by (Act.DomMove domain who (Reply.Num 0))
-
-abbrev pub enter_user_act : ThreadIx → FineAct
-enter_user_act by = shown by Act.EnterUser
-
-abbrev pub unseen : Unseen → FineAct
-unseen step = FineAct.Unseen step
+-- what each call asks of the word
+abbrev pub fits_thread : ThreadCall → ThreadWord → Bool
+fits_thread (ThreadCall.Start mode domain) w = nat_lt domain DOMAINS
+fits_thread (ThreadCall.Begin script line) w = w.doomed || is_living w.life
+fits_thread ThreadCall.Exit w = w.doomed || is_living w.life
+fits_thread ThreadCall.Hold w = not w.held
+fits_thread ThreadCall.LetGo w = w.held
+fits_thread (ThreadCall.Move domain) w = nat_lt domain DOMAINS
+fits_thread call w = true
 
 -- Domains.
 
--- a move of a thread to a domain that isn't initialised
-abbrev pub IsFailedMove : ThreadIx → ℕ → FineAct → Type 0
-IsFailedMove by domain act = (who : ThreadIx) × (act ≡ shown by (Act.DomMove domain who (Reply.Fail Errno.EINVAL)))
+abbrev pub domain_act : ThreadIx → ℕ → DomainCall → FineAct
+domain_act by domain DomainCall.ReadClaim = FineAct.Unseen Unseen.ReadClaim
+domain_act by domain (DomainCall.ReadDone None) = FineAct.Unseen Unseen.ReadDone
+domain_act by domain (DomainCall.ReadDone (Some who)) = shown by (Act.DomMove domain who (Reply.Fail Errno.EINVAL))
+domain_act by domain DomainCall.WriteClaim = FineAct.Unseen Unseen.WriteClaim
+domain_act by domain (DomainCall.WriteDone edit) = shown by edit
 
--- the step that ends a reader's claim: a failed move, or one that no trace shows
-abbrev pub read_done_act : Option FineAct → FineAct
-read_done_act None = unseen Unseen.ReadDone
-read_done_act (Some act) = act
+-- nobody reads while somebody writes, and nobody writes while somebody reads or writes
+abbrev pub forbids_domain : DomainCall → DomWord → Bool
+forbids_domain DomainCall.ReadClaim w = w.writer
+forbids_domain DomainCall.WriteClaim w = w.writer || nat_lt 0 w.readers
+forbids_domain call w = false
 
-abbrev pub IsEditOf : ℕ → Act → Type 0
-IsEditOf domain (Act.DomInit d reply) = d ≡ domain
-IsEditOf domain (Act.DomAdd d range attr reply) = d ≡ domain
-IsEditOf domain (Act.DomRemove d range attr reply) = d ≡ domain
-IsEditOf domain act = ⊥
+-- an edit of the domain's partitions
+abbrev pub is_edit_of : ℕ → Act → Bool
+is_edit_of domain (Act.DomInit d reply) = d == domain
+is_edit_of domain (Act.DomAdd d range attr reply) = d == domain
+is_edit_of domain (Act.DomRemove d range attr reply) = d == domain
+is_edit_of domain act = false
 
--- an edit of the domain's partitions by this thread
-abbrev pub IsEdit : ThreadIx → ℕ → FineAct → Type 0
-IsEdit by domain act = (edit : Act) × (act ≡ shown by edit) × IsEditOf domain edit
+abbrev pub fits_domain : ℕ → DomainCall → DomWord → Bool
+fits_domain domain DomainCall.ReadClaim w = w.writer || nat_lt w.readers 127
+fits_domain domain (DomainCall.ReadDone None) w = nat_lt 0 w.readers
+fits_domain domain (DomainCall.ReadDone (Some who)) w = nat_lt 0 w.readers && not w.init
+fits_domain domain DomainCall.WriteClaim w = true
+fits_domain domain (DomainCall.WriteDone edit) w = writes w && is_edit_of domain edit

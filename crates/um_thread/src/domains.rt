@@ -1,137 +1,108 @@
 //! Claims to read and to write the partitions of a domain.
 
-ghost use Rattle.std.specs.Prelude.{◌≡◌, ◌<◌, true, false, IfSome};
-ghost use Rattle.um_words.specs.{Packed.{domain_in}, declared.fine.Unseen.{Unseen}};
-ghost use Rattle.um_site.specs.Calls.{domain_site, Stays, AtDomain, MayNext, Records};
-ghost use Rattle.um_thread.specs.{
-  Acts.{unseen, IsFailedMove, read_done_act, IsEdit},
-  Tells.{TellsReading, TellsWriting},
-};
+ghost use Rattle.std.specs.Prelude.{◌≡◌, IsTrue};
+ghost use Rattle.um_words.specs.Packed.{domain_in};
+ghost use Rattle.um_site.specs.Calls.{domain_site, Stays, AtDomain, MayNext};
+ghost use Rattle.um_thread.specs.{Acts.{domain_act, forbids_domain, fits_domain, is_edit_of}, Tells.{Tells}};
 
-use um_base::ThreadIx;
-use um_site::{Board, Changed, Seat, domain_site};
+use crate::outcome::{Outcome, tried};
+use um_base::{Act, Errno, Reply, ThreadIx};
+use um_site::{Board, Changed, Place, Seat, shown};
 use um_words::{Content, DomWord, FineAct, Local, Unseen};
 
-/// Whether somebody may read a domain's partitions.
-#[derive(Clone, Copy, PartialEq, Eq)]
-pub enum Reading {
-    /// They are kept, in this version. Ready: the domain is initialised.
-    Claim { version: u32, ready: bool },
-    /// Somebody changes them, as the word tells that stood there. Nothing was recorded.
-    Writer { word: u64 },
+/// What a call does with a domain's partitions.
+#[derive(Clone, Copy)]
+pub enum DomainCall {
+    /// A claim to read them, where nobody changes them.
+    ReadClaim,
+    /// A claim to read ends: with the failed move of this thread, since the domain isn't initialised, or with a step that no trace shows.
+    ReadDone { failed: Option<ThreadIx> },
+    /// A claim to change them, where nobody reads or changes them.
+    WriteClaim,
+    /// A claim to change them ends, with the edit.
+    WriteDone { edit: Act },
 }
 
-/// Whether somebody may change a domain's partitions.
-#[derive(Clone, Copy, PartialEq, Eq)]
-pub enum Writing {
-    Claimed,
-    /// Somebody reads or changes them, as the word tells that stood there. Nothing was recorded.
-    Readers { word: u64 },
+/// Whether an act is an edit of a domain's partitions.
+fn is_edit_of(domain: u8, act: &Act) -> bool
+    ensures { result ≡ is_edit_of domain act.now }
+{
+    match act {
+        Act::DomInit { domain: of, .. }
+        | Act::DomAdd { domain: of, .. }
+        | Act::DomRemove { domain: of, .. } => *of == domain,
+        _ => false,
+    }
 }
 
-/// A claim to read a domain's partitions, where nobody changes them.
-pub fn read_claim<T: Content, L: Local>(
+impl DomainCall {
+    /// Whether a domain with this word takes the call, where the word doesn't forbid it.
+    pub fn fits(&self, domain: u8, word: &DomWord) -> bool
+        ensures { result ≡ fits_domain domain self.now word.now }
+    {
+        match self {
+            DomainCall::ReadClaim => word.writer || word.readers < 127,
+            DomainCall::ReadDone { failed: None } => word.readers > 0,
+            DomainCall::ReadDone { failed: Some(_) } => word.readers > 0 && !word.init,
+            DomainCall::WriteClaim => true,
+            DomainCall::WriteDone { edit } => {
+                word.writer && word.version < 0xf_ffff && is_edit_of(domain, edit)
+            }
+        }
+    }
+
+    /// The step of the call, on this domain.
+    fn act(&self, by: ThreadIx, domain: u8) -> FineAct
+        ensures { result ≡ domain_act by domain self.now }
+    {
+        match self {
+            DomainCall::ReadClaim => FineAct::Unseen(Unseen::ReadClaim),
+            DomainCall::ReadDone { failed: None } => FineAct::Unseen(Unseen::ReadDone),
+            DomainCall::ReadDone { failed: Some(who) } => {
+                let act = Act::DomMove {
+                    domain,
+                    who: *who,
+                    reply: Reply::Fail(Errno::EINVAL),
+                };
+                shown(by, act)
+            }
+            DomainCall::WriteClaim => FineAct::Unseen(Unseen::WriteClaim),
+            DomainCall::WriteDone { edit } => shown(by, *edit),
+        }
+    }
+
+    /// Whether the word forbids the call.
+    fn is_forbidden(&self, word: &DomWord) -> bool
+        ensures { result ≡ forbids_domain self.now word.now }
+    {
+        match self {
+            DomainCall::ReadClaim => word.writer,
+            DomainCall::WriteClaim => word.writer || word.readers > 0,
+            _ => false,
+        }
+    }
+}
+
+/// A call on a domain's word.
+pub fn call_domain<T: Content, L: Local>(
     board: &Board<T, L>,
     seat: &mut Seat<T>,
     domain: u8,
     by: ThreadIx,
+    call: DomainCall,
     seen: u64,
-) -> Result<Reading, Changed>
+) -> Result<Outcome<DomWord>, Changed>
     requires at { AtDomain board.now.table.shared.table_id seat.old domain seen }
-    requires readers { (domain_in seen).writer ≡ false → (domain_in seen).readers < 127 }
-    requires goes { MayNext L.goes seat.old (domain_site domain) seen (unseen Unseen.ReadClaim) }
+    requires fits { IsTrue (fits_domain domain call (domain_in seen)) }
+    requires goes { MayNext L.goes seat.old (domain_site domain) seen (domain_act by domain call) }
     ensures stays { Stays seat.old seat.new }
-    ensures told { TellsReading L.goes seat.old (domain_site domain) seen result seat.new }
+    ensures told { Tells L.goes seat.old (domain_site domain) seen (forbids_domain call (domain_in seen)) (domain_act by domain call) (domain_in seen) result seat.new }
 {
-    let _ = by;
     let Some(word) = DomWord::unpack(seen) else {
         unreachable!();
     };
-    if word.writer {
-        let word = board.look(seat, domain_site(domain));
-        if word != seen {
-            return Err(Changed { seen: word });
-        }
-        return Ok(Reading::Writer { word });
-    }
-    board.step_domain(seat, domain, seen, &FineAct::Unseen(Unseen::ReadClaim))?;
-    Ok(Reading::Claim {
-        version: word.version,
-        ready: word.init,
-    })
-}
-
-/// A claim to read ends: with the step that no trace shows, or with a thread's move that fails since the domain isn't initialised.
-pub fn read_done<T: Content, L: Local>(
-    board: &Board<T, L>,
-    seat: &mut Seat<T>,
-    domain: u8,
-    by: ThreadIx,
-    act: Option<FineAct>,
-    seen: u64,
-) -> Result<(), Changed>
-    requires at { AtDomain board.now.table.shared.table_id seat.old domain seen }
-    requires claim { 0 < (domain_in seen).readers }
-    requires act { IfSome act (λ a. IsFailedMove by domain a × ((domain_in seen).init ≡ false)) }
-    requires goes { MayNext L.goes seat.old (domain_site domain) seen (read_done_act act) }
-    ensures stays { Stays seat.old seat.new }
-    ensures told { Records L.goes seat.old (domain_site domain) seen (read_done_act act) result seat.new }
-{
-    let _ = by;
-    let act = match act {
-        None => FineAct::Unseen(Unseen::ReadDone),
-        Some(act) => act,
-    };
-    board.step_domain(seat, domain, seen, &act)?;
-    Ok(())
-}
-
-/// A claim to change a domain's partitions, where nobody reads or changes them.
-pub fn write_claim<T: Content, L: Local>(
-    board: &Board<T, L>,
-    seat: &mut Seat<T>,
-    domain: u8,
-    by: ThreadIx,
-    seen: u64,
-) -> Result<Writing, Changed>
-    requires at { AtDomain board.now.table.shared.table_id seat.old domain seen }
-    requires goes { MayNext L.goes seat.old (domain_site domain) seen (unseen Unseen.WriteClaim) }
-    ensures stays { Stays seat.old seat.new }
-    ensures told { TellsWriting L.goes seat.old (domain_site domain) seen result seat.new }
-{
-    let _ = by;
-    let Some(word) = DomWord::unpack(seen) else {
-        unreachable!();
-    };
-    if word.writer || word.readers > 0 {
-        let word = board.look(seat, domain_site(domain));
-        if word != seen {
-            return Err(Changed { seen: word });
-        }
-        return Ok(Writing::Readers { word });
-    }
-    board.step_domain(seat, domain, seen, &FineAct::Unseen(Unseen::WriteClaim))?;
-    Ok(Writing::Claimed)
-}
-
-/// A claim to change a domain's partitions ends, with the edit.
-pub fn write_done<T: Content, L: Local>(
-    board: &Board<T, L>,
-    seat: &mut Seat<T>,
-    domain: u8,
-    by: ThreadIx,
-    act: FineAct,
-    seen: u64,
-) -> Result<(), Changed>
-    requires at { AtDomain board.now.table.shared.table_id seat.old domain seen }
-    requires claim { (domain_in seen).writer ≡ true }
-    requires versions { (domain_in seen).version < 1048575 }
-    requires edit { IsEdit by domain act }
-    requires goes { MayNext L.goes seat.old (domain_site domain) seen act }
-    ensures stays { Stays seat.old seat.new }
-    ensures told { Records L.goes seat.old (domain_site domain) seen act result seat.new }
-{
-    let _ = by;
-    board.step_domain(seat, domain, seen, &act)?;
-    Ok(())
+    let act = call.act(by, domain);
+    let is_forbidden = call.is_forbidden(&word);
+    let place = Place::Domain(domain);
+    tried(board, seat, place, act, word, is_forbidden, seen)
 }

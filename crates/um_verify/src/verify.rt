@@ -6,7 +6,7 @@ ghost use Rattle.um_site.specs.{Calls.{Stays, AtRow, MayNext, Records}, Lives.{C
 ghost use Rattle.um_verify.specs.Checks.{check_act, checked_of, end_act, cleans, TellsCleaning};
 
 use um_base::{Act, Addr, Errno, Event, Kind, Mode, Row, ThreadIx, Want};
-use um_site::{Board, Changed, Seat};
+use um_site::{Board, Changed, Place, Seat};
 use um_words::{Content, FineAct, Local, More, RowWord, Unseen};
 
 /// What a check found.
@@ -60,28 +60,16 @@ pub fn check<T: Content, L: Local>(
         },
         more: More::By { mode, fits },
     };
-    board.step_row(seat, row, seen, &act)?;
+    board.step_at(seat, Place::Row(row), seen, &act)?;
     Ok(to_checked(verdict))
 }
 
-/// The end of a claim as one step.
-fn end_claim<T: Content, L: Local>(
-    board: &Board<T, L>,
-    seat: &mut Seat<T>,
-    row: Row,
-    seen: u64,
-) -> Result<bool, Changed>
-    requires at { AtRow board.now.table.shared.table_id seat.old row.0 seen }
-    requires claim { 0 < (row_of seen).claims }
-    requires goes { MayNext L.goes seat.old row.0 seen end_act }
-    ensures stays { Stays seat.old seat.new }
-    ensures told { Records L.goes seat.old row.0 seen end_act result seat.new }
-    ensures answer { IfOk result (λ clean. clean ≡ cleans seen) }
+/// Whether the end of a claim leaves the object to be cleaned.
+fn cleans(seen: u64) -> bool
+    ensures { result ≡ cleans seen }
 {
     let word = RowWord::read(seen);
-    let clean = word.is_dying() && word.claims == 1;
-    board.step_row(seat, row, seen, &FineAct::Unseen(Unseen::EndCall))?;
-    Ok(clean)
+    word.is_dying() && word.claims == 1
 }
 
 /// Ends a claim of an object. True: it was the last one of an object that is gone, which is now this seat's to clean.
@@ -101,6 +89,8 @@ pub fn end_call<T: Content, L: Local>(
     ensures cleans { IfOk result (λ clean. clean ≡ true → Cleans row.0 seat.new.token.me.0) }
     ensures once { CleansOnce L.goes seat.old.token.me.0 row.0 }
 {
-    let clean = end_claim(board, seat, row, seen)?;
+    let clean = cleans(seen);
+    let act = FineAct::Unseen(Unseen::EndCall);
+    board.step_at(seat, Place::Row(row), seen, &act)?;
     Ok(clean)
 }

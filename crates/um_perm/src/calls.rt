@@ -1,0 +1,165 @@
+//! Calls on the word of a row.
+
+ghost use Rattle.std.specs.Prelude.{◌≡◌, true, IfOk, IsTrue};
+ghost use Rattle.um_words.specs.Packed.{row_of};
+ghost use Rattle.um_site.specs.{Calls.{Stays, AtRow, MayNext, Records}, Lives.{Cleans, CleansOnce}};
+ghost use Rattle.um_perm.specs.Pairs.{row_act, answer_of, passes, fits_row, IfDropped, is_to_clean, TellsCleaning};
+
+use crate::answer::{Answer, Dropped, Passed, Set};
+use um_base::{Act, Addr, Event, Row, ThreadIx};
+use um_site::{Board, Changed, Place, Seat, shown};
+use um_words::{Content, FineAct, Local, More, RowWord, Unseen};
+
+/// What a call does with the object of a row.
+#[derive(Clone, Copy)]
+pub enum RowCall {
+    /// Gives a thread a permission, where the object stands (Zephyr: User Mode, Kernel Objects).
+    Grant {
+        who: ThreadIx,
+        addr: Addr,
+    },
+    /// Gives a new thread the permission on its own object, where that stands, and holds the object for its life, whatever the answer is.
+    Own {
+        who: ThreadIx,
+    },
+    /// Passes the caller's permission on to a new thread, where the caller has it and the child hasn't.
+    Inherit {
+        child: ThreadIx,
+        addr: Addr,
+    },
+    /// Opens the object to all threads, where it stands.
+    Publish {
+        addr: Addr,
+    },
+    /// Takes a thread's permission away. A dynamic object is gone with its last one, in this very step.
+    ///
+    /// Shown: a drop that finds no permission is an event too, and else a visit that no trace shows.
+    Drop {
+        who: ThreadIx,
+        is_shown: bool,
+        addr: Addr,
+    },
+    /// Marks the object as initialised, where it stands. Strict: it must not be so before.
+    SetInit {
+        strict: bool,
+        addr: Addr,
+    },
+    /// Marks the object as uninitialised.
+    ClearInit {
+        addr: Addr,
+    },
+    /// A dynamic object comes to stand in a free row, with the permission of the thread that made it.
+    Born {
+        addr: Addr,
+    },
+    /// The object that this seat cleaned leaves its row.
+    Vacate,
+}
+
+/// Whether the parent has a permission that the child hasn't.
+fn passes(word: &RowWord, parent: ThreadIx, child: ThreadIx) -> bool
+    ensures { result ≡ passes word.now parent.0 child.0 }
+{
+    word.has(parent.0) && !word.has(child.0)
+}
+
+impl RowCall {
+    /// Whether a row with this word takes the call.
+    pub fn fits(self, word: &RowWord) -> bool
+        ensures { result ≡ fits_row self word.now }
+    {
+        match self {
+            RowCall::Own { .. } => word.claims < 127 && !word.is_free() && !word.is_cleaning(),
+            RowCall::Inherit { .. } | RowCall::Drop { .. } => true,
+            RowCall::Born { .. } => word.is_free(),
+            RowCall::Vacate => word.is_cleaning() && word.claims == 0,
+            _ => !word.is_free(),
+        }
+    }
+
+    /// The step of the call, with the answers of the word.
+    fn act(self, by: ThreadIx, word: &RowWord) -> FineAct
+        ensures { result ≡ row_act by self word.now }
+    {
+        let given = word.given();
+        let act = match self {
+            RowCall::Grant { who, addr } => Act::Grant { who, addr, given },
+            RowCall::Own { who } => Act::Own { who, given },
+            RowCall::Inherit { child, addr } if passes(word, by, child) => {
+                Act::Inherit { who: child, addr }
+            }
+            RowCall::Publish { addr } => Act::Publish { addr, given },
+            RowCall::Drop {
+                who,
+                is_shown,
+                addr,
+            } if word.has(who.0) || is_shown => {
+                let left = word.left(who.0);
+                Act::DropPair { who, addr, left }
+            }
+            RowCall::Inherit { .. } | RowCall::Drop { .. } => {
+                return FineAct::Unseen(Unseen::Visit);
+            }
+            RowCall::SetInit { strict, addr } => {
+                let set = word.set(strict);
+                return FineAct::Shown {
+                    event: Event {
+                        thread: by,
+                        act: Act::SetInit { addr, set },
+                    },
+                    more: More::Strict(strict),
+                };
+            }
+            RowCall::ClearInit { addr } => Act::ClearInit { addr },
+            RowCall::Born { addr } => Act::Born { addr },
+            RowCall::Vacate => return FineAct::Unseen(Unseen::Vacate),
+        };
+        shown(by, act)
+    }
+
+    /// What the word answers.
+    fn answer(self, by: ThreadIx, word: &RowWord) -> Answer
+        ensures { result ≡ answer_of by self word.now }
+    {
+        match self {
+            RowCall::Grant { .. } | RowCall::Own { .. } | RowCall::Publish { .. } => {
+                Answer::Given(word.given())
+            }
+            RowCall::Inherit { child, .. } if passes(word, by, child) => {
+                Answer::Passed(Passed::Pair)
+            }
+            RowCall::Inherit { .. } => Answer::Passed(Passed::Nothing),
+            RowCall::Drop { who, .. } => Answer::Dropped(Dropped::of(
+                word.left(who.0),
+                word.claims,
+            )),
+            RowCall::SetInit { strict, .. } => Answer::Set(Set::of(word.set(strict))),
+            RowCall::ClearInit { .. } | RowCall::Born { .. } | RowCall::Vacate => Answer::Done,
+        }
+    }
+}
+
+/// A call on a row's word.
+pub fn call_row<T: Content, L: Local>(
+    board: &Board<T, L>,
+    seat: &mut Seat<T>,
+    row: Row,
+    by: ThreadIx,
+    call: RowCall,
+    seen: u64,
+) -> Result<Answer, Changed>
+    requires at { AtRow board.now.table.shared.table_id seat.old row.0 seen }
+    requires fits { IsTrue (fits_row call (row_of seen)) }
+    requires cleans { call ≡ RowCall.Vacate → Cleans row.0 seat.old.token.me.0 }
+    requires goes { MayNext L.goes seat.old row.0 seen (row_act by call (row_of seen)) }
+    ensures stays { Stays seat.old seat.new }
+    ensures told { Records L.goes seat.old row.0 seen (row_act by call (row_of seen)) result seat.new }
+    ensures answer { IfOk result (λ answer. answer ≡ answer_of by call (row_of seen)) }
+    ensures cleaner { IfOk result (λ answer. IfDropped answer (λ dropped. TellsCleaning row.0 seen (row_act by call (row_of seen)) seat.old.token.me.0 dropped seat.new.token.me.0 × (is_to_clean dropped ≡ true → Cleans row.0 seat.new.token.me.0))) }
+    ensures once { CleansOnce L.goes seat.old.token.me.0 row.0 }
+{
+    let word = RowWord::read(seen);
+    let act = call.act(by, &word);
+    board.step_at(seat, Place::Row(row), seen, &act)?;
+    Ok(call.answer(by, &word))
+}

@@ -1,0 +1,11 @@
+//! What has a word that a call steps.
+
+use um_base::{Row, ThreadIx};
+
+/// A row, a thread or a domain.
+#[derive(Clone, Copy)]
+pub enum Place {
+    Row(Row),
+    Thread(ThreadIx),
+    Domain(u8),
+}
