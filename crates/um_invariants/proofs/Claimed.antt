@@ -3,6 +3,7 @@ use Rattle.um_invariants.proofs.Facts.{is_standing, is_not}
 use Rattle.std.proofs.Common.{◌≡◌, ◌≢◌, ◌⊎◌, inl, inr, ℕ, ◌<◌, Bool, true, false, List, [], ◌∷◌, length, refl, sym, ap, subst, ◌∙◌, Option, Some, None, slice_index_or, slice_set, arith}
 use Rattle.std.proofs.lemmas.List.{get_or-set_same, length-set, get_or-set_other}
 use Rattle.um_base.specs.declared.act.Act.{Act}
+use Rattle.um_base.specs.declared.limits.TheConstants.{ROWS}
 use Rattle.um_base.specs.declared.names.Kind.{Kind}
 use Rattle.um_base.specs.Places.{own_row, addr_of}
 use Rattle.um_machine.specs.declared.object.Status.{Status}
@@ -63,19 +64,24 @@ claimed_turn : (c : Core) (t : ℕ) (c2 : Core) → IsClaimed c → Turn c t c2 
 claimed_turn c t _ inv same = inv
 claimed_turn c t _ inv (turns steps g l) = claimed_call c t (record (call_at c t) { pending = steps }) inv (goes_follow c t steps inv l)
 
--- pairs say nothing of this
-pub claimed_pairs : (c : Core) (pairs : List (List Bool)) → IsClaimed c → IsClaimed (record c { pairs = pairs })
-claimed_pairs c pairs inv =
+-- no call changes, and of the rows still holds what they say; pairs say nothing of this
+claimed_rows : (c : Core) (statuses : List Status) (inits : List Bool) (kinds : List (Option Kind)) (pairs : List (List Bool)) → IsClaimed c
+    → length inits ≡ ROWS → ((x : ℕ) (k : Kind) → slice_index_or kinds x None ≡ Some k → k ≡ row_kind c.image x)
+    → ((w : ℕ) → (call_at c w).keeps ≡ true → slice_index_or inits (own_row c.image w) false ≡ true)
+    → ((w : ℕ) → (call_at c w).keeps ≡ true → is_standing (slice_index_or statuses (own_row c.image w) Status.Free) ≡ true)
+    → ((u w : ℕ) → claims c.image w (call_at c u).pending ≡ true → slice_index_or inits (own_row c.image w) false ≡ true)
+    → IsClaimed (record c { statuses = statuses; inits = inits; kinds = kinds; pairs = pairs })
+claimed_rows c statuses inits kinds pairs inv many fits marked kept inited =
     record {
-      many = inv.many;
-      kinds = inv.kinds;
+      many = many;
+      kinds = fits;
       shaped = inv.shaped;
       real = inv.real;
-      marked = inv.marked;
-      kept = inv.kept;
+      marked = marked;
+      kept = kept;
       stacked = inv.stacked;
       claimed = inv.claimed;
-      inited = inv.inited;
+      inited = inited;
       held = inv.held;
       free = inv.free;
       sole = inv.sole;
@@ -84,68 +90,30 @@ claimed_pairs c pairs inv =
       living = inv.living;
     }
 
+pub claimed_pairs : (c : Core) (pairs : List (List Bool)) → IsClaimed c → IsClaimed (record c { pairs = pairs })
+claimed_pairs c pairs inv = claimed_rows c c.statuses c.inits c.kinds pairs inv inv.many inv.kinds inv.marked inv.kept inv.inited
+
 -- a row gets another status
 claimed_status : (c : Core) (x : ℕ) (status : Status) → IsClaimed c → ((w : ℕ) → (call_at c w).keeps ≡ true → own_row c.image w ≡ x → is_standing status ≡ true) → IsClaimed (with_status c x status)
 claimed_status c x status inv stands =
-    record {
-      many = inv.many;
-      kinds = inv.kinds;
-      shaped = inv.shaped;
-      real = inv.real;
-      marked = inv.marked;
-      kept = λ w k. at_set (λ n st. own_row c.image w ≡ n → is_standing st ≡ true) c.statuses x (own_row c.image w) status Status.Free (stands w k) (λ e. inv.kept w k) refl;
-      stacked = inv.stacked;
-      claimed = inv.claimed;
-      inited = inv.inited;
-      held = inv.held;
-      free = inv.free;
-      sole = inv.sole;
-      idle = inv.idle;
-      bare = inv.bare;
-      living = inv.living;
-    }
+    claimed_rows c (slice_set c.statuses x status) c.inits c.kinds c.pairs inv inv.many inv.kinds inv.marked
+    (λ w k. at_set (λ n st. own_row c.image w ≡ n → is_standing st ≡ true) c.statuses x (own_row c.image w) status Status.Free (stands w k) (λ e. inv.kept w k) refl)
+    inv.inited
 
 -- a row is marked, or a mark is cleared that nobody relies on
 claimed_init : (c : Core) (y : ℕ) (init : Bool) → IsClaimed c → ((w : ℕ) → (call_at c w).keeps ≡ true → own_row c.image w ≡ y → init ≡ true)
     → ((u w : ℕ) → claims c.image w (call_at c u).pending ≡ true → own_row c.image w ≡ y → init ≡ true) → IsClaimed (with_init c y init)
 claimed_init c y init inv owner maker =
-    record {
-      many = length-set c.inits y init ∙ inv.many;
-      kinds = inv.kinds;
-      shaped = inv.shaped;
-      real = inv.real;
-      marked = λ w k. at_set (λ n b. own_row c.image w ≡ n → b ≡ true) c.inits y (own_row c.image w) init false (owner w k) (λ e. inv.marked w k) refl;
-      kept = inv.kept;
-      stacked = inv.stacked;
-      claimed = inv.claimed;
-      inited = λ u w h. at_set (λ n b. own_row c.image w ≡ n → b ≡ true) c.inits y (own_row c.image w) init false (maker u w h) (λ e. inv.inited u w h) refl;
-      held = inv.held;
-      free = inv.free;
-      sole = inv.sole;
-      idle = inv.idle;
-      bare = inv.bare;
-      living = inv.living;
-    }
+    claimed_rows c c.statuses (slice_set c.inits y init) c.kinds c.pairs inv (length-set c.inits y init ∙ inv.many) inv.kinds
+    (λ w k. stays w (owner w k) (inv.marked w k)) inv.kept (λ u w h. stays w (maker u w h) (inv.inited u w h))
+  where
+    stays : (w : ℕ) → (own_row c.image w ≡ y → init ≡ true) → init_at c (own_row c.image w) ≡ true → slice_index_or (slice_set c.inits y init) (own_row c.image w) false ≡ true
+    stays w new old = at_set (λ n b. own_row c.image w ≡ n → b ≡ true) c.inits y (own_row c.image w) init false new (λ e. old) refl
 
 claimed_kind : (c : Core) (x : ℕ) (kind : Option Kind) → IsClaimed c → ((k : Kind) → kind ≡ Some k → k ≡ row_kind c.image x) → IsClaimed (with_kind c x kind)
 claimed_kind c x kind inv fits =
-    record {
-      many = inv.many;
-      kinds = λ y k. at_set (λ n o. o ≡ Some k → k ≡ row_kind c.image n) c.kinds x y kind None (fits k) (inv.kinds y k);
-      shaped = inv.shaped;
-      real = inv.real;
-      marked = inv.marked;
-      kept = inv.kept;
-      stacked = inv.stacked;
-      claimed = inv.claimed;
-      inited = inv.inited;
-      held = inv.held;
-      free = inv.free;
-      sole = inv.sole;
-      idle = inv.idle;
-      bare = inv.bare;
-      living = inv.living;
-    }
+    claimed_rows c c.statuses c.inits (slice_set c.kinds x kind) c.pairs inv inv.many
+    (λ y k. at_set (λ n o. o ≡ Some k → k ≡ row_kind c.image n) c.kinds x y kind None (fits k) (inv.kinds y k)) inv.marked inv.kept inv.inited
 
 -- a row that nobody relies on loses its status and its mark
 no_owner : (c : Core) → IsClaimed c → (x : ℕ) → is_standing (status_at c x) ≡ false → (w : ℕ) → (call_at c w).keeps ≡ true → own_row c.image w ≡ x → ⊥

@@ -1,5 +1,5 @@
 -- Small facts that many proofs share: of numbers and tests, of statuses, kinds and lists.
-use Rattle.std.proofs.Common.{◌≡◌, ◌≢◌, ℕ, zero, suc, ◌<◌, ◌≤◌, Bool, true, false, not, ◌==◌, ◌&&◌, ◌||◌, nat_lt, nat_le, IsTrue, List, [], ◌∷◌, length, replicate, refl, sym, ap, ◌∙◌, None, slice_get, slice_index_or, if◌then◌else◌, arith}
+use Rattle.std.proofs.Common.{◌≡◌, ◌≢◌, ℕ, zero, suc, ◌<◌, ◌≤◌, Bool, true, false, not, ◌==◌, ◌&&◌, ◌||◌, nat_lt, nat_le, IsTrue, List, [], ◌∷◌, length, replicate, refl, sym, ap, ◌∙◌, None, slice_get, slice_index_or, slice_set, if◌then◌else◌, arith}
 use Rattle.std.proofs.lemmas.Bool.Decides.{nat_tests}
 use Rattle.um_base.specs.declared.image.ObjectDef.{ObjectDef}
 use Rattle.um_base.specs.declared.names.Kind.{Kind}
@@ -130,3 +130,11 @@ lively Status.Live h = refl
 lively Status.Gone h = cc
 lively Status.Free h = cc
 lively Status.Reserved h = cc
+
+-- a flag that is set, once one of them stays set on a condition, was set before
+pub set-less : (flags : List Bool) (x r : ℕ) (stays : Bool) → slice_index_or (slice_set flags x (slice_index_or flags x false && stays)) r false ≡ true → slice_index_or flags r false ≡ true
+set-less [] x r stays h = h
+set-less (flag ∷ flags) zero zero stays h = (both_of flag stays h).0
+set-less (flag ∷ flags) zero (suc r) stays h = h
+set-less (flag ∷ flags) (suc x) zero stays h = h
+set-less (flag ∷ flags) (suc x) (suc r) stays h = set-less flags x r stays h

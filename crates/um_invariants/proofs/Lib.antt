@@ -16,3 +16,4 @@ pub mod SitedImages
 pub mod BootClaims
 pub mod Opening
 pub mod Starts
+pub mod Outcomes

@@ -140,21 +140,11 @@ kind_passes p (Some o) x k only h = only o h
 
 is_thread_kind : (k : Kind) → is_thread k ≡ true → k ≡ Kind.Thread
 is_thread_kind Kind.Thread h = refl
-is_thread_kind Kind.ThreadStack h = cc
-is_thread_kind Kind.Sem h = cc
-is_thread_kind Kind.Mutex h = cc
-is_thread_kind Kind.Msgq h = cc
-is_thread_kind Kind.Stack h = cc
-is_thread_kind Kind.Pipe h = cc
+is_thread_kind _ h = cc
 
 is_stack_kind : (k : Kind) → is_stack k ≡ true → k ≡ Kind.ThreadStack
 is_stack_kind Kind.ThreadStack h = refl
-is_stack_kind Kind.Thread h = cc
-is_stack_kind Kind.Sem h = cc
-is_stack_kind Kind.Mutex h = cc
-is_stack_kind Kind.Msgq h = cc
-is_stack_kind Kind.Stack h = cc
-is_stack_kind Kind.Pipe h = cc
+is_stack_kind _ h = cc
 
 -- the thread of a boot entry: its index, and its stack
 pub record IsBoot (image : Image) (boot : Boot) : Type 0 where

@@ -1,7 +1,6 @@
 -- The steps of each instruction name only objects that it checks before.
-use Rattle.um_invariants.proofs.Facts.{is_equal, itself}
+use Rattle.um_invariants.proofs.Facts.{is_equal, itself, same_kind}
 use Rattle.um_invariants.proofs.Claims.{IsReal, IsStackRow, IsClaim, claims, Shaped}
-use Rattle.um_machine.specs.Objects.{has_kind}
 use Rattle.std.specs.Option.{option_and_then}
 use Rattle.std.proofs.Common.{◌≡◌, inl, inr, ℕ, ◌*◌, Bool, true, false, List, [], ◌∷◌, ◌++◌, sym, subst, Option, Some, None, slice_index_or, slice_set, if◌then◌else◌, ℤ, ◌==◌, ◌||◌, ◌&&◌, nat_lt, unwrap_or, ap, ◌∙◌, refl}
 use Rattle.um_base.specs.declared.act.Cause.{Cause}
@@ -131,24 +130,6 @@ shaped_creates image t living checked mode stack a b script priority options Non
       (there, again who ∙ itself who, shaped_inherit image t living checked options.inherit (to_thread who) rest (row, (λ w. refl), (λ other. refl))),
     )
 
-thread_kind : (k : Kind) → has_kind (Some Kind.Thread) (Some k) ≡ true → k ≡ Kind.Thread
-thread_kind Kind.Thread h = refl
-thread_kind Kind.ThreadStack h = cc
-thread_kind Kind.Sem h = cc
-thread_kind Kind.Mutex h = cc
-thread_kind Kind.Msgq h = cc
-thread_kind Kind.Stack h = cc
-thread_kind Kind.Pipe h = cc
-
-stack_kind : (k : Kind) → has_kind (Some Kind.ThreadStack) (Some k) ≡ true → k ≡ Kind.ThreadStack
-stack_kind Kind.ThreadStack h = refl
-stack_kind Kind.Thread h = cc
-stack_kind Kind.Sem h = cc
-stack_kind Kind.Mutex h = cc
-stack_kind Kind.Msgq h = cc
-stack_kind Kind.Stack h = cc
-stack_kind Kind.Pipe h = cc
-
 shaped_create : (image : Image) → IsSited image → (t : ℕ) (living : Bool) (checked : List Bool) (mode : Mode) (a b script : ℕ) (priority : ℤ) (options : Options) (cause : Option Cause)
     → (y z : ℕ) → row_at image a ≡ Some y → row_kind image y ≡ Kind.Thread → slice_index_or checked y false ≡ true → row_at image b ≡ Some z → row_kind image z ≡ Kind.ThreadStack
     → Shaped image t living checked (creates mode (thread_of_addr image a) (unwrap_or (row_at image b) 0) a b script priority options cause)
@@ -188,7 +169,7 @@ shaped_steps image sited t living me (Instr.Revoke object thread) =
 shaped_steps image sited t living me (Instr.Release object) = λ x e k h. (inl refl, refl)
 shaped_steps image sited t living me (Instr.Create thread stack size script priority options) =
     λ y e k h z f l g. shaped_create image sited t living (slice_set (slice_set me.checked y true) z true) me.mode (value_of me.registers thread) (value_of me.registers stack) _ _ options _
-    y z e (thread_kind (row_kind image y) k) (keeps (slice_set me.checked y true) y z h) f (stack_kind (row_kind image z) l)
+    y z e (sym (same_kind Kind.Thread (row_kind image y) k)) (keeps (slice_set me.checked y true) y z h) f (sym (same_kind Kind.ThreadStack (row_kind image z) l))
 shaped_steps image sited t living me (Instr.MutexInit object) = λ x e k h. ((λ w h. cc), refl)
 shaped_steps image sited t living me (Instr.SemInit object count limit) =
     let c = value_of me.registers count in

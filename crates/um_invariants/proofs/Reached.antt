@@ -54,20 +54,29 @@ reached_turn : (c : Core) (t : ℕ) (c2 : Core) → IsReached c → Turn c t c2 
 reached_turn c t _ inv same = inv
 reached_turn c t _ inv (turns steps g l) = reached_call c t (record (call_at c t) { pending = steps }) inv g (inv.wide t) (inv.standing t)
 
-pub reached_seat : (c : Core) (u x : ℕ) (there : Bool) → IsReached c → (there ≡ true → is_live (status_at c x) ≡ true) → IsReached (with_seat c u x there)
-reached_seat c u x there inv lives =
+-- other pairs, each with an object that lives; what rows are marked with says nothing of this
+reached_pairs : (c : Core) (inits : List Bool) (kinds : List (Option Kind)) (pairs : List (List Bool)) → IsReached c
+    → ((u x : ℕ) → slice_index_or (slice_index_or pairs x []) u false ≡ true → is_live (status_at c x) ≡ true) → IsReached (record c { inits = inits; kinds = kinds; pairs = pairs })
+reached_pairs c inits kinds pairs inv living =
     record {
       sited = inv.sited;
       rows = inv.rows;
       wide = inv.wide;
       guarded = inv.guarded;
       standing = inv.standing;
-      living = pair_set (λ v y b. b ≡ true → is_live (status_at c y) ≡ true) c u x there lives inv.living;
+      living = living;
       static = inv.static;
       used = inv.used;
       reserved = inv.reserved;
       alone = inv.alone;
     }
+
+reached_marks : (c : Core) (inits : List Bool) (kinds : List (Option Kind)) → IsReached c → IsReached (record c { inits = inits; kinds = kinds })
+reached_marks c inits kinds inv = reached_pairs c inits kinds c.pairs inv inv.living
+
+pub reached_seat : (c : Core) (u x : ℕ) (there : Bool) → IsReached c → (there ≡ true → is_live (status_at c x) ≡ true) → IsReached (with_seat c u x there)
+reached_seat c u x there inv lives =
+    reached_pairs c c.inits c.kinds (with_seat c u x there).pairs inv (pair_set (λ v y b. b ≡ true → is_live (status_at c y) ≡ true) c u x there lives inv.living)
 
 -- which status a row may get
 record MayBecome (c : Core) (x : ℕ) (status : Status) : Type 0 where
@@ -211,22 +220,6 @@ reached_recycles c x inv gone unheld =
       used = λ k. cc;
       reserved = λ u a k f. let r : is_gone (status_at c x) ≡ false = ap is_gone (reserved_here c inv x u a k f) in cc;
     })
-
--- what rows are marked with says nothing of this
-reached_marks : (c : Core) (inits : List Bool) (kinds : List (Option Kind)) → IsReached c → IsReached (record c { inits = inits; kinds = kinds })
-reached_marks c inits kinds inv =
-    record {
-      sited = inv.sited;
-      rows = inv.rows;
-      wide = inv.wide;
-      guarded = inv.guarded;
-      standing = inv.standing;
-      living = inv.living;
-      static = inv.static;
-      used = inv.used;
-      reserved = inv.reserved;
-      alone = inv.alone;
-    }
 
 -- each move keeps what holds
 pub reached_move : (c : Core) (t : ℕ) (act : Act) (c2 : Core) → IsReached c → Move c t act c2 → IsReached c2

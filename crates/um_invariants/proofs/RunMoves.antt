@@ -1,7 +1,7 @@
 -- Each event of a run is a move, and what is reached from a state that is reached is reached.
 use Rattle.um_invariants.proofs.Claimed.{known_move}
 use Rattle.um_invariants.proofs.Claims.{Shaped, claims}
-use Rattle.std.proofs.Common.{◌≡◌, ℕ, List, [], ◌∷◌, refl, sym, ap, subst, ◌∙◌, IsTrue, Bool, true, false}
+use Rattle.std.proofs.Common.{◌≡◌, ℕ, List, [], ◌∷◌, ◌++◌, append_assoc, append-nil, refl, sym, ap, subst, ◌∙◌, IsTrue, Bool, true, false}
 use Rattle.um_base.specs.declared.act.Act.{Act}
 use Rattle.um_base.specs.declared.act.Event.{Event}
 use Rattle.um_machine.specs.declared.pending.Pending.{Pending}
@@ -57,28 +57,22 @@ keeps_now s t p rest inv e = keeps_or (core_of s) t inv.claimed (call_at (core_o
 lives_now : (s : State) (t : ℕ) → IsKnown (core_of s) → IsTrue (is_living (thread_at s t).life) → (call_at (core_of s) t).keeps ≡ true
 lives_now s t inv h = inv.claimed.living t (ap (λ (call : Call). call.living) (call_is s t) ∙ h)
 
+-- the step behind one that is skipped, and that claims nothing
+ready_behind : (s : State) (t : ℕ) (skipped p : Pending) (rest : Steps) → IsKnown (core_of s) → (thread_at s t).pending ≡ skipped ∷ p ∷ rest
+    → Guarded s.image (call_at (core_of s) t).checked (p ∷ rest) → Shaped s.image t (call_at (core_of s) t).living (call_at (core_of s) t).checked (p ∷ rest)
+    → ((w : ℕ) → claims s.image w (p ∷ rest) ≡ true → claims s.image w (call_at (core_of s) t).pending ≡ true) → IsReady (core_of s) t p rest
+ready_behind s t skipped p rest inv e g shaped no_more =
+    ready_later (core_of s) t p rest g
+    (record { guarded = all_behind s.image (call_at (core_of s) t).checked (p ∷ rest) g; shaped = shaped; no_more = no_more; keeps = keeps_now s t skipped (p ∷ rest) inv e })
+
 ready_offer : (s : State) (t : ℕ) (p : Pending) (rest : Steps) → IsKnown (core_of s) → Offers s t p rest → IsReady (core_of s) t p rest
 ready_offer s t p rest inv (goes e) =
     ready_next (core_of s) t p rest (pending_is s t (p ∷ rest) e)
     (record { guarded = guarded_now s t (p ∷ rest) inv e; shaped = shaped_now s t (p ∷ rest) inv e; no_more = claims_now s t (p ∷ rest) e; keeps = keeps_now s t p rest inv e })
 ready_offer s t p rest inv (skips_inherit {who = who} e due) =
-    let g = guarded_now s t (Pending.Inherit who ∷ p ∷ rest) inv e in
-    ready_later (core_of s) t p rest g
-    (record {
-      guarded = all_behind s.image (call_at (core_of s) t).checked (p ∷ rest) g;
-      shaped = shaped_now s t (Pending.Inherit who ∷ p ∷ rest) inv e;
-      no_more = claims_now s t (Pending.Inherit who ∷ p ∷ rest) e;
-      keeps = keeps_now s t (Pending.Inherit who) (p ∷ rest) inv e;
-    })
+    let steps = Pending.Inherit who ∷ p ∷ rest in ready_behind s t (Pending.Inherit who) p rest inv e (guarded_now s t steps inv e) (shaped_now s t steps inv e) (claims_now s t steps e)
 ready_offer s t p rest inv (skips_drops {from = from} e due) =
-    let g = guarded_now s t (Pending.Drops from ∷ p ∷ rest) inv e in
-    ready_later (core_of s) t p rest g
-    (record {
-      guarded = all_behind s.image (call_at (core_of s) t).checked (p ∷ rest) g;
-      shaped = shaped_now s t (Pending.Drops from ∷ p ∷ rest) inv e;
-      no_more = claims_now s t (Pending.Drops from ∷ p ∷ rest) e;
-      keeps = keeps_now s t (Pending.Drops from) (p ∷ rest) inv e;
-    })
+    let steps = Pending.Drops from ∷ p ∷ rest in ready_behind s t (Pending.Drops from) p rest inv e (guarded_now s t steps inv e) (shaped_now s t steps inv e) (claims_now s t steps e)
 ready_offer s t _ _ inv (begins e living well line) = (tt, (tt, (λ w h. cc), lives_now s t inv living))
 ready_offer s t _ _ inv (exits e living well line) = (tt, (tt, (λ w h. cc), lives_now s t inv living))
 ready_offer s t _ _ inv (cleans_pair started) = tt
@@ -97,3 +91,12 @@ known_step s s2 event inv step = known_move (core_of s) event.thread.0 event.act
 pub known_run : (s : State) (events : List Event) (s2 : State) → IsKnown (core_of s) → Runs s events s2 → IsKnown (core_of s2)
 known_run s [] s2 inv run = subst (λ (now : State). IsKnown (core_of now)) (sym run) inv
 known_run s (event ∷ events) s2 inv (mid, step, rest) = known_run mid events s2 (known_step s mid event inv step) rest
+
+-- what each event keeps, of the events so far and the state behind them, a run keeps
+pub kept_run : (P : List Event → Core → Type 0)
+    → ((s s2 : State) (before : List Event) (event : Event) → IsKnown (core_of s) → Step s event s2 → P before (core_of s) → P (before ++ event ∷ []) (core_of s2))
+    → (s : State) (before events : List Event) (s2 : State) → IsKnown (core_of s) → P before (core_of s) → Runs s events s2 → P (before ++ events) (core_of s2)
+kept_run P keep s before [] s2 inv h run = subst (λ (all : List Event). P all (core_of s2)) (sym (append-nil before)) (subst (λ (now : State). P before (core_of now)) (sym run) h)
+kept_run P keep s before (event ∷ events) s2 inv h (mid, step, rest) =
+    subst (λ (all : List Event). P all (core_of s2)) (append_assoc before (event ∷ []) events)
+    (kept_run P keep mid (before ++ event ∷ []) events s2 (known_step s mid event inv step) (keep s mid before event inv step h) rest)

@@ -104,13 +104,7 @@ index_least (o ∷ os) t h = let later = index_least os (index_after o.setup t) 
 
 index_first : (setup : Setup) (t k : ℕ) → has_index setup t ≡ true → setup_thread setup ≡ Some k → (k ≡ t) × (index_after setup t ≡ t + 1)
 index_first (Setup.Thread index) t k h e = let same : index.0 ≡ k = cc in (sym same ∙ is_equal index.0 t h, refl)
-index_first Setup.Bare t k h e = cc
-index_first Setup.Mutex t k h e = cc
-index_first (Setup.ThreadStack range declared) t k h e = cc
-index_first (Setup.Sem count limit) t k h e = cc
-index_first (Setup.Msgq size most) t k h e = cc
-index_first (Setup.Stack most) t k h e = cc
-index_first (Setup.Pipe size) t k h e = cc
+index_first _ t k h e = cc
 
 pub index_small : (os : List ObjectDef) (t x k : ℕ) → has_indices os t ≡ true → setup_thread (slice_index_or (map (λ (o : ObjectDef). o.setup) os) x Setup.Bare) ≡ Some k → k < STATIC_THREADS
 index_small [] t x k h e = cc
@@ -146,23 +140,11 @@ thread_owns image lawful some d x false false e f = inl (own_small image some d 
 
 thread_setup : (mpu : Mpu) (setup : Setup) → is_setup_of mpu Kind.Thread setup ≡ true → (index : ThreadIx) × (setup ≡ Setup.Thread index)
 thread_setup mpu (Setup.Thread index) h = (index, refl)
-thread_setup mpu Setup.Bare h = cc
-thread_setup mpu Setup.Mutex h = cc
-thread_setup mpu (Setup.ThreadStack range declared) h = cc
-thread_setup mpu (Setup.Sem count limit) h = cc
-thread_setup mpu (Setup.Msgq size most) h = cc
-thread_setup mpu (Setup.Stack most) h = cc
-thread_setup mpu (Setup.Pipe size) h = cc
+thread_setup mpu _ h = cc
 
 stack_setup : (mpu : Mpu) (setup : Setup) → is_setup_of mpu Kind.ThreadStack setup ≡ true → setup_thread setup ≡ None
 stack_setup mpu (Setup.Thread index) h = cc
-stack_setup mpu Setup.Bare h = refl
-stack_setup mpu Setup.Mutex h = refl
-stack_setup mpu (Setup.ThreadStack range declared) h = refl
-stack_setup mpu (Setup.Sem count limit) h = refl
-stack_setup mpu (Setup.Msgq size most) h = refl
-stack_setup mpu (Setup.Stack most) h = refl
-stack_setup mpu (Setup.Pipe size) h = refl
+stack_setup mpu _ h = refl
 
 index_above : (os : List ObjectDef) (t x n : ℕ) (d : ObjectDef) → has_indices os t ≡ true → x < length os → setup_thread (get_or os x d).setup ≡ Some n → t ≤ n
 index_above [] t x n d h inside e = absurd (omega (arith, inside))

@@ -129,12 +129,7 @@ stack_some mpu Kind.ThreadStack range declared h =
     let (low, high) = both_of (nat_le 1 declared) _ within in
     let e : rounded mpu declared ≡ range.size = is_equal (rounded mpu declared) range.size same in
     let some = rounded_some mpu declared (is_le 1 declared low) (is_le declared 65536 high) in omega (arith, e, some)
-stack_some mpu Kind.Thread range declared h = cc
-stack_some mpu Kind.Sem range declared h = cc
-stack_some mpu Kind.Mutex range declared h = cc
-stack_some mpu Kind.Msgq range declared h = cc
-stack_some mpu Kind.Stack range declared h = cc
-stack_some mpu Kind.Pipe range declared h = cc
+stack_some mpu _ range declared h = cc
 
 -- how many thread stacks stand before a row
 abbrev after_stack : Setup → ℕ → ℕ

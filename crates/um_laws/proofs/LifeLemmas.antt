@@ -12,7 +12,7 @@ use Rattle.um_base.specs.Places.{row_at, addr_of}
 use Rattle.um_machine.specs.declared.object.Status.{Status}
 use Rattle.um_machine.specs.Objects.{is_live, is_gone, is_free}
 use Rattle.um_machine.specs.Order.{to_addr}
-use Rattle.um_machine.specs.Run.{Step, Runs}
+use Rattle.um_machine.specs.Run.{Step}
 use Rattle.um_machine.specs.State.{State}
 use Rattle.um_invariants.specs.Acts.{EndsCall}
 use Rattle.um_laws.specs.Lives.{Mark, born, gone, recycled, act_marks, marks, next, InTurns, WasBornAndGone, IsWithoutBirth}
@@ -21,7 +21,7 @@ use Rattle.um_invariants.proofs.Guards.{IsRow, bearing}
 use Rattle.um_invariants.proofs.Moves.{IsReached, is_quiet, same, turns, Move, goes, checks, ends, starts, gives, bears, drops, kills, reserves, recycles}
 use Rattle.um_invariants.proofs.Turns.{below_rows, IsKnown}
 use Rattle.um_invariants.proofs.Reached.{status_now, reserved_here, image_move}
-use Rattle.um_invariants.proofs.RunMoves.{step_move, known_step}
+use Rattle.um_invariants.proofs.RunMoves.{step_move}
 
 -- the mark that is due after these
 abbrev due : Mark → List Mark → Mark
@@ -153,7 +153,7 @@ life_move c t _ _ inv (recycles y h unheld unkept) a =
 abbrev pub AreInTurns : List Event → Core → Type 0
 AreInTurns events c = (a : ℕ) → Leads born (marks a events) (due_at c (row_at c.image a))
 
-turns_step : (s s2 : State) (before : List Event) (event : Event) → IsKnown (core_of s) → Step s event s2 → AreInTurns before (core_of s) → AreInTurns (before ++ event ∷ []) (core_of s2)
+pub turns_step : (s s2 : State) (before : List Event) (event : Event) → IsKnown (core_of s) → Step s event s2 → AreInTurns before (core_of s) → AreInTurns (before ++ event ∷ []) (core_of s2)
 turns_step s s2 before event inv step h a =
     let move = step_move s s2 event inv step in
     let (ordered, leads) = h a in
@@ -165,13 +165,6 @@ turns_step s s2 before event inv step h a =
       turns-append born (marks a before) ms ordered (subst (λ (mark : Mark). InTurns mark ms) (sym leads) more),
       due-append born (marks a before) ms ∙ ap (λ (mark : Mark). due mark ms) leads ∙ end ∙ ap (λ (o : Option ℕ). due_at (core_of s2) o) (ap (λ i. row_at i a) (sym e)),
     )
-
-pub turns_run : (s : State) (before events : List Event) (s2 : State) → IsKnown (core_of s) → AreInTurns before (core_of s) → Runs s events s2 → AreInTurns (before ++ events) (core_of s2)
-turns_run s before [] s2 inv h run =
-    subst (λ (all : List Event). AreInTurns all (core_of s2)) (sym (append-nil before)) (subst (λ (now : State). AreInTurns before (core_of now)) (sym run) h)
-turns_run s before (event ∷ events) s2 inv h (mid, step, rest) =
-    subst (λ (all : List Event). AreInTurns all (core_of s2)) (append_assoc before (event ∷ []) events)
-    (turns_run mid (before ++ event ∷ []) events s2 (known_step s mid event inv step) (turns_step s mid before event inv step h) rest)
 
 -- at the opening every dynamic row is free
 pub turns_first : (c : Core) → ((x : ℕ) → STATIC_ROWS ≤ x → status_at c x ≡ Status.Free) → AreInTurns [] c
@@ -230,12 +223,8 @@ one_life (m ∷ n ∷ born ∷ ms) h e b = absurd (ends_in m n ms b)
   where
     ends_in : (m n : Mark) (ms : List Mark) → IsBirthless (m ∷ n ∷ born ∷ ms) → ⊥
     ends_in born n ms b = b
-    ends_in gone born ms b = b
-    ends_in gone gone ms b = b
-    ends_in gone recycled ms b = b
-    ends_in recycled born ms b = b
-    ends_in recycled gone ms b = b
-    ends_in recycled recycled ms b = b
+    ends_in _ born ms b = b
+    ends_in _ _ ms b = b
 one_life (m ∷ n ∷ gone ∷ ms) h e b = let third = h.1.1.0 in cc
 one_life (m ∷ n ∷ recycled ∷ ms) h e b = let third = h.1.1.0 in cc
 

@@ -1,5 +1,5 @@
 -- Each pair has its origin among the events before.
-use Rattle.std.proofs.Common.{◌≡◌, ◌⊎◌, inl, inr, ℕ, Bool, true, false, not, ◌&&◌, List, [], ◌∷◌, ◌++◌, append_assoc, append-nil, refl, sym, ap, subst, ◌∙◌, Option, Some, None, slice_index_or, slice_set, if◌then◌else◌}
+use Rattle.std.proofs.Common.{◌≡◌, ◌⊎◌, inl, inr, ℕ, Bool, true, false, not, ◌&&◌, List, [], ◌∷◌, ◌++◌, append_assoc, refl, sym, ap, subst, ◌∙◌, Option, Some, None, slice_index_or, slice_set, if◌then◌else◌}
 use Rattle.um_invariants.specs.Acts.{ActDrops, ActGives, EndsCall}
 use Rattle.um_base.specs.declared.act.Act.{Act}
 use Rattle.um_base.specs.declared.act.Event.{Event}
@@ -91,7 +91,7 @@ origin_more image t x events event (given before e since split g k) d =
 abbrev pub AreOwned : List Event → Core → Type 0
 AreOwned events c = (u x : ℕ) → has_pair c u x ≡ true → HasOrigin c.image u x events
 
-owned_step : (s s2 : State) (before : List Event) (event : Event) → IsKnown (core_of s) → Step s event s2 → AreOwned before (core_of s) → AreOwned (before ++ event ∷ []) (core_of s2)
+pub owned_step : (s s2 : State) (before : List Event) (event : Event) → IsKnown (core_of s) → Step s event s2 → AreOwned before (core_of s) → AreOwned (before ++ event ∷ []) (core_of s2)
 owned_step s s2 before event inv step owned u x k =
     let move = step_move s s2 event inv step in
     let e : s2.image ≡ s.image = image_move (core_of s) event.thread.0 event.act (core_of s2) move in
@@ -100,13 +100,6 @@ owned_step s s2 before event inv step owned u x k =
       | inl g ↦ given before event [] refl g tt
       | inr h ↦ origin_more s.image u x before event (owned u x h.0) h.1
     ])
-
-pub owned_run : (s : State) (before events : List Event) (s2 : State) → IsKnown (core_of s) → AreOwned before (core_of s) → Runs s events s2 → AreOwned (before ++ events) (core_of s2)
-owned_run s before [] s2 inv owned run =
-    subst (λ (all : List Event). AreOwned all (core_of s2)) (sym (append-nil before)) (subst (λ (now : State). AreOwned before (core_of now)) (sym run) owned)
-owned_run s before (event ∷ events) s2 inv owned (mid, step, rest) =
-    subst (λ (all : List Event). AreOwned all (core_of s2)) (append_assoc before (event ∷ []) events)
-    (owned_run mid (before ++ event ∷ []) events s2 (known_step s mid event inv step) (owned_step s mid before event inv step owned) rest)
 
 -- a user that passes a check of an object that isn't public has a pair with it
 passed_pair : (lives user pair shared : Bool) (e f : Errno) (rest : Option Errno) → (if not lives then Some e else if user && not pair && not shared then Some f else rest) ≡ None

@@ -12,7 +12,7 @@ use Rattle.um_machine.specs.Run.{Step, IsRun, opening}
 use Rattle.um_machine.specs.State.{State}
 use Rattle.um_invariants.specs.Described.{IsDescribed}
 use Rattle.um_invariants.proofs.Opening.{IsOpening}
-use Rattle.um_laws.proofs.OriginLemmas.{AreOwned, owned_run, is_owned, image_run, image_step}
+use Rattle.um_laws.proofs.OriginLemmas.{AreOwned, owned_step, is_owned, image_run, image_step}
 use Rattle.um_invariants.proofs.Starts.{starts, starts_run, steps_inside}
 use Rattle.um_base.specs.declared.act.Act.{Act}
 use Rattle.um_base.specs.declared.names.Addr.{Addr}
@@ -20,9 +20,9 @@ use Rattle.um_base.specs.declared.limits.TheConstants.{STATIC_ROWS}
 use Rattle.um_machine.specs.declared.object.Status.{Status}
 use Rattle.um_laws.specs.Lives.{born, gone, recycled, marks, InTurns, IsWithoutBirth, WasBornAndGone}
 use Rattle.um_invariants.proofs.Cores.{core_of, status_at}
-use Rattle.um_laws.proofs.LifeLemmas.{turns_run, turns_first, between_births, before_recycling}
+use Rattle.um_laws.proofs.LifeLemmas.{AreInTurns, turns_step, turns_first, between_births, before_recycling}
 use Rattle.um_machine.proofs.RunLemmas.{runs-push, runs-parts}
-use Rattle.um_invariants.proofs.RunMoves.{known_run, known_step}
+use Rattle.um_invariants.proofs.RunMoves.{kept_run, known_run, known_step}
 
 owned_first : (image : Image) → IsOpening image → AreOwned [] (core_of (opening image))
 owned_first image o u x h = subst (λ (i : Image). HasOrigin i u x []) (sym o.image_is) (booted (o.owned u x h) tt)
@@ -31,14 +31,14 @@ pub owned_event : (image : Image) (before : List Event) (event : Event) (s s2 : 
 owned_event image before event s s2 given run step =
     let o = starts image before event s s2 given run step in
     let same : s.image ≡ image = image_run (opening image) before s o.known run ∙ o.image_is in
-    subst (λ (i : Image). IsOwned i before s event) same (is_owned s s2 before event (owned_run (opening image) [] before s o.known (owned_first image o) run) step)
+    subst (λ (i : Image). IsOwned i before s event) same (is_owned s s2 before event (kept_run AreOwned owned_step (opening image) [] before s o.known (owned_first image o) run) step)
 
 pub marks_turn : (image : Image) (events : List Event) (s : State) → IsDescribed image → IsRun image events s → (a : ℕ) → InTurns born (marks a events)
 marks_turn image [] s given run a = tt
 marks_turn image (event ∷ events) s given run a =
     let o = starts_run image event events s given run in
     let free : (x : ℕ) → STATIC_ROWS ≤ x → status_at (core_of (opening image)) x ≡ Status.Free = λ x low. o.fresh x (omega (arith, low, given.few)) in
-    (turns_run (opening image) [] (event ∷ events) s o.known (turns_first (core_of (opening image)) free) run a).0
+    (kept_run AreInTurns turns_step (opening image) [] (event ∷ events) s o.known (turns_first (core_of (opening image)) free) run a).0
 
 pub lives_between : (image : Image) (before middle : List Event) (birth rebirth : Event) (a : Addr) (s s2 : State) → IsDescribed image → IsRun image (before ++ birth ∷ middle) s → Step s rebirth s2
     → birth.act ≡ Act.Born a → rebirth.act ≡ Act.Born a → IsWithoutBirth a middle → marks a.0 middle ≡ gone ∷ recycled ∷ []
