@@ -1,5 +1,5 @@
 -- What the steps of a line cost, and that they are those of a living thread.
-use Rattle.std.proofs.Common.{◌≡◌, ◌≤◌, ℕ, ◌+◌, Bool, true, false, ◌&&◌, ◌||◌, [], ◌∷◌, ◌++◌, refl, arith, Option, Some, None, if◌then◌else◌}
+use Rattle.std.proofs.Common.{◌≡◌, ◌≤◌, ℕ, ◌+◌, Bool, true, false, ◌&&◌, ◌||◌, ◌∷◌, refl, arith, Option, Some, None, if◌then◌else◌}
 use Rattle.std.specs.Prelude.{◌==◌, nat_lt, unwrap_or, ℤ}
 use Rattle.std.specs.List.{list_all}
 use Rattle.std.proofs.lemmas.Bool.{and_parts, false≢true, eq-eqb}
@@ -15,12 +15,11 @@ use Rattle.um_base.specs.declared.names.Errno.{Errno}
 use Rattle.um_base.specs.declared.names.Kind.{Kind}
 use Rattle.um_base.specs.declared.names.Mode.{Mode}
 use Rattle.um_base.specs.declared.names.Ref.{Ref}
-use Rattle.um_base.specs.declared.names.Reply.TheVariants as Reply
 use Rattle.um_base.specs.declared.names.ThreadIx.{ThreadIx}
 use Rattle.um_base.specs.declared.names.Want.{Want}
 use Rattle.um_machine.specs.declared.pending.Pending.{Pending}
 use Rattle.um_machine.specs.declared.thread.Thread.{Thread}
-use Rattle.um_machine.specs.Order.{Steps, to_addr, to_thread, to_row, needs, work, answer_error, answer_zero, buffered, privileged, creates, creation_refusal, stack_declared, new_mode, number_of, steps_of}
+use Rattle.um_machine.specs.Order.{Steps, to_addr, to_thread, needs, work, answer_error, answer_zero, buffered, privileged, creates, creation_refusal, stack_declared, number_of, steps_of}
 use Rattle.um_machine.specs.State.{value_of, first_place}
 use Rattle.um_measure.specs.Measure.{total, step_cost, lines_left, weights_behind}
 use Rattle.um_measure.specs.Reached.{is_of_living, passes_on, is_child, makes_steps}
@@ -55,21 +54,16 @@ script-cost image lawful i script h =
 own-child : (image : Image) → IsLawful image → (a : ℕ) → is_child (Some (to_thread (thread_of_addr image a))) (to_thread (thread_of_addr image a)) ≡ true
 own-child image lawful a = let same = eq-eqb (thread_of_addr image a) (thread_of_addr image a) refl in rw (same, addr-below image lawful a) refl
 
-inherit-plan : (image : Image) → IsLawful image → (a most script stack stack_addr : ℕ) (priority : ℤ) (mode : Mode) (inherit : Bool)
-    → lines_left image (first_place image script) + 440 ≤ most
-    → IsPlan image most (needs a Kind.Thread Want.Uninit ∷ needs stack_addr Kind.ThreadStack Want.Uninit
-    ∷ Pending.SetInit (to_addr a) true None ∷ Pending.SetInit (to_addr stack_addr) true (Some (to_addr a))
-    ∷ Pending.Erase (to_row stack) ∷ Pending.Own (to_thread (thread_of_addr image a))
-    ∷ ((if inherit then Pending.Inherit (to_thread (thread_of_addr image a)) ∷ [] else [])
-    ++ Pending.Start (to_thread (thread_of_addr image a)) script (to_row stack) priority mode
-    ∷ Pending.Answer (Some (Reply.At (to_addr a))) None ∷ []))
-inherit-plan image lawful a most script stack stack_addr priority mode true h = record { cost = omega (arith, h); waits = refl; passes = λ child. rw (own-child image lawful a) refl }
-inherit-plan image lawful a most script stack stack_addr priority mode false h = record { cost = omega (arith, h); waits = refl; passes = λ child. refl }
-
 creates-plan : (image : Image) → IsLawful image → (mode : Mode) (a most script stack stack_addr : ℕ) (priority : ℤ) (options : Options) (refusal : Option Cause)
     → lines_left image (first_place image script) + 440 ≤ most
     → IsPlan image most (needs a Kind.Thread Want.Uninit ∷ needs stack_addr Kind.ThreadStack Want.Uninit ∷ creates mode (thread_of_addr image a) stack a stack_addr script priority options refusal)
-creates-plan image lawful mode a most script stack stack_addr priority options None h = inherit-plan image lawful a most script stack stack_addr priority (new_mode options) options.inherit h
+creates-plan image lawful mode a most script stack stack_addr priority options None h = by options.inherit
+  where
+    by : (inherits : Bool)
+        → IsPlan image most (needs a Kind.Thread Want.Uninit ∷ needs stack_addr Kind.ThreadStack Want.Uninit
+        ∷ creates mode (thread_of_addr image a) stack a stack_addr script priority (record options { inherit = inherits }) None)
+    by true = record { cost = omega (arith, h); waits = refl; passes = λ child. rw (own-child image lawful a) refl }
+    by false = record { cost = omega (arith, h); waits = refl; passes = λ child. refl }
 creates-plan image lawful mode a most script stack stack_addr priority options (Some cause) h = record { cost = omega (arith, h); waits = refl; passes = λ child. refl }
 
 -- the steps of a line cost less than the line
