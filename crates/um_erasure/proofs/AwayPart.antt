@@ -1,5 +1,5 @@
 -- A thread whose own part lies nowhere has no step left, and was never started, has ended, or is doomed, after every lawful step.
-use Rattle.std.proofs.Common.{◌≡◌, ◌≢◌, ◌⊎◌, inl, inr, ℕ, zero, suc, ◌+◌, ◌<◌, ◌≤◌, Bool, true, false, cond, List, [], ◌∷◌, Option, Some, None, refl, sym, ap, ◌∙◌, subst, arith, eq-eqb}
+use Rattle.std.proofs.Common.{◌≡◌, ◌≢◌, ◌⊎◌, inl, inr, ℕ, zero, suc, ◌+◌, ◌<◌, ◌≤◌, Bool, true, false, cond, [], ◌∷◌, Option, Some, None, refl, sym, ap, ◌∙◌, subst, arith, eq-eqb}
 use Rattle.std.specs.Prelude.{◌==◌, ◌&&◌, if◌then◌else◌, is_some, not}
 use Rattle.std.specs.List.{list_any}
 use Rattle.std.proofs.lemmas.Bool.{and_parts, eqb-false, eqb-true, false≢true, not-true, true≢false}
@@ -17,13 +17,12 @@ use Rattle.um_machine.specs.State.{State, thread_at}
 use Rattle.um_words.specs.declared.fine.FineAct.{FineAct}
 use Rattle.um_words.specs.declared.fine.Unseen.{Unseen}
 use Rattle.um_fine.specs.Answers.{act_in, context_in, ready_in}
-use Rattle.um_fine.specs.Asks.{says_idle}
 use Rattle.um_fine.specs.Context.{Context}
 use Rattle.um_fine.specs.Continues.{continues, resumed, resumed_at}
 use Rattle.um_fine.specs.Follows.{after_show, after_take, dropped_at, p_next}
 use Rattle.um_fine.specs.Places.{Todo, Todos}
 use Rattle.um_fine.specs.Processor.{Processor}
-use Rattle.um_fine.specs.Scheduler.{Scheduler, first_taken, one_less, parked_at, put_back, told_at}
+use Rattle.um_fine.specs.Scheduler.{Scheduler, parked_at, put_back}
 use Rattle.um_fine.specs.Sites.{same_site}
 use Rattle.um_fine.specs.Steps.{Exchange, FineStep, Site}
 use Rattle.um_erasure.specs.Cleaning.{AreBlocks}
@@ -34,7 +33,7 @@ use Rattle.um_erasure.specs.Offers.{Fits, is_over}
 use Rattle.um_erasure.specs.Threads.{AwayIs, IsOf, places, runs_on}
 use Rattle.um_erasure.proofs.ContextsPart.{apart-scheduling, ended-not, is_shown, now-context, quiet-context}
 use Rattle.um_erasure.proofs.DonePart.{doomed-kept}
-use Rattle.um_erasure.proofs.Erased.{stepped}
+use Rattle.um_erasure.proofs.Erased.{around, stepped}
 use Rattle.um_erasure.proofs.LawfulSteps.{Suits}
 use Rattle.um_erasure.proofs.Leaves.{HasStep, Lawful, Leaves, cleans, drops, event, nothing, passes, recycles, resumes}
 use Rattle.um_erasure.proofs.ListClaims.{IsThread}
@@ -48,8 +47,8 @@ use Rattle.um_erasure.proofs.OfKept.{of-kept}
 use Rattle.um_erasure.proofs.OncePart as O
 use Rattle.um_erasure.proofs.OncePart.{no-steps, no-thread, resumed-thread}
 use Rattle.um_erasure.proofs.Others.{doing, starts_other}
-use Rattle.um_erasure.proofs.PartsElsewhere.{Apart, stays, taken-parked, takes-first}
-use Rattle.um_erasure.proofs.RunningPart.{idle-after, todo-elsewhere}
+use Rattle.um_erasure.proofs.PartsElsewhere.{Apart, IsTaken, parks-after, stays, taken-parked, takes-first}
+use Rattle.um_erasure.proofs.RunningPart.{todo-elsewhere}
 use Rattle.um_erasure.proofs.SchedulerSteps.{made-at, made-moves, made-says, sched-else, sched-later}
 use Rattle.um_erasure.proofs.StepsLeft.{drops-on, passes-on, rests-on, steps-on}
 
@@ -77,14 +76,7 @@ none-false false h = refl
 
 module _ (f : Fine) (m : State) (e : FineStep) (law : Lawful f m e) (suits : Suits f m) (all : InDomains f m) (s : State) (leaves : Leaves f m e s) (has : HasStep f m e s leaves)
     (t : ℕ) (few : t < THREADS) (gone : places (stepped f.image f.cpus f.processors f.sites e) t ≡ 0) where
-  abbrev later : Fine
-  later = stepped f.image f.cpus f.processors f.sites e
-
-  abbrev p : Processor
-  p = f.processors e.cpu
-
-  abbrev now : Processor
-  now = p_next f.image p e
+  open around f e use {later, processor as p, now}
 
   abbrev lies : Processor → ℕ
   lies z = one_if (runs_on t z) + of_thread t (adders z.todo)
@@ -205,42 +197,39 @@ module _ (f : Fine) (m : State) (e : FineStep) (law : Lawful f m e) (suits : Sui
 
   -- a thread that is taken lies with the processor
   took : p.todo ≡ [] → 0 < places f t → ⊥
-  took at some = which (t == first.0) refl
+  took at some = which (t == first.thread) refl
     where
-      first : (u : ℕ) × (list : List ℕ) × (d : Context) × (told : Option Told) × ((scheduler f).ready ≡ u ∷ list) × (e.moved ≡ Exchange.thread d told) × (d.thread ≡ u) × (told ≡ told_at (scheduler f) u)
+      first : IsTaken f e
       first = takes-first f m e law at
 
-      context : now.context ≡ (after_take f.image p (Exchange.thread first.2 first.3)).context
-      context = now-context f m e law [] at ∙ ap (λ (mv : Exchange). (after_take f.image p mv).context) first.5
+      context : now.context ≡ (after_take f.image p (Exchange.thread first.context first.told)).context
+      context = now-context f m e law [] at ∙ ap (λ (mv : Exchange). (after_take f.image p mv).context) first.moved
 
-      thread-of : (told : Option Told) → (after_take f.image p (Exchange.thread first.2 told)).context.thread ≡ first.2.thread
+      thread-of : (told : Option Told) → (after_take f.image p (Exchange.thread first.context told)).context.thread ≡ first.context.thread
       thread-of None = refl
-      thread-of (Some w) = resumed-thread f.image first.2 w
+      thread-of (Some w) = resumed-thread f.image first.context w
 
-      ended-of : (told : Option Told) → (after_take f.image p (Exchange.thread first.2 told)).context.ended ≡ first.2.ended
+      ended-of : (told : Option Told) → (after_take f.image p (Exchange.thread first.context told)).context.ended ≡ first.context.ended
       ended-of None = refl
-      ended-of (Some w) = resumed-ended f.image first.2 w
+      ended-of (Some w) = resumed-ended f.image first.context w
 
-      stands : parked_at (scheduler f) first.2.thread ≡ Some first.2
-      stands = taken-parked f m e law at first.2 first.3 first.5
+      stands : parked_at (scheduler f) first.context.thread ≡ Some first.context
+      stands = taken-parked f m e law at first.context first.told first.moved
 
       still : is_over now.context ≡ false
-      still = rests-on now.context (ap (λ (c : Context). c.ended) context ∙ (ended-of first.3 ∙ (law.rel.contexts.parked first.2.thread first.2 stands).2))
+      still = rests-on now.context (ap (λ (c : Context). c.ended) context ∙ (ended-of first.told ∙ (law.rel.contexts.parked first.context.thread first.context stands).2))
 
-      after : scheduler later ≡ first_taken (scheduler f) (first.0 ∷ first.1)
-      after = sched-later f m e law (made-at f m e law [] at) (says_idle f.image p e.moved) (made-says f m e law [] at) ∙ (idle-after f.image p (scheduler f) e.moved ∙ ap (first_taken (scheduler f)) first.4)
-
-      which : (b : Bool) → (t == first.0) ≡ b → ⊥
+      which : (b : Bool) → (t == first.thread) ≡ b → ⊥
       which true same =
-          let steps = takes-runs f.image p e at (subst IsThread (sym first.5) tt) in
-          let thread : now.context.thread ≡ t = ap (λ (c : Context). c.thread) context ∙ (thread-of first.3 ∙ (first.6 ∙ sym (eqb-true t first.0 same))) in
+          let steps = takes-runs f.image p e at (subst IsThread (sym first.moved) tt) in
+          let thread : now.context.thread ≡ t = ap (λ (c : Context). c.thread) context ∙ (thread-of first.told ∙ (first.same ∙ sym (eqb-true t first.thread same))) in
           let runs-it : runs_on t now ≡ true = λ i. (steps i && eq-eqb now.context.thread t thread i) && not (still i) in
           let one = ap one_if runs-it in
           let none = now-none in
           omega (arith, one, none)
       which false other =
           let parked : rests later ≡ rests f =
-          ap (λ (z : Scheduler). one_if (is_some (parked_at z t))) after ∙ ap (λ (o : Option Context). one_if (is_some o)) (get_or-set_other (scheduler f).parked first.0 t None None (eqb-false t first.0 other)) in
+          ap (λ (z : Scheduler). one_if (is_some (parked_at z t))) first.after ∙ ap (λ (o : Option Context). one_if (is_some o)) (get_or-set_other (scheduler f).parked first.thread t None None (eqb-false t first.thread other)) in
           let none = now-none in
           let sum = sums in
           let idle : one_if (runs_on t p) ≡ 0 = no-steps (runs p) (p.context.thread == t) (not (is_over p.context)) (ap has_steps at) in
@@ -260,22 +249,14 @@ module _ (f : Fine) (m : State) (e : FineStep) (law : Lawful f m e) (suits : Sui
   parks : (todo : Todos) → p.todo ≡ Todo.park ∷ todo → 0 < places f t → ⊥
   parks todo at some = which (p.context.thread == t) refl
     where
-      act : FineAct
-      act = FineAct.Unseen (Unseen.Park (to_thread p.context.thread) (ready_in e.act))
-
-      after : scheduler later ≡ one_less (put_back (scheduler f) (ready_in e.act) p.context)
-      after =
-          sched-later f m e law (made-at f m e law (Todo.park ∷ todo) at) act (made-says f m e law (Todo.park ∷ todo) at)
-          ∙ ap (λ (mv : Exchange). one_less (put_back (scheduler f) (ready_in e.act) (context_in mv))) (made-moves f m e law (Todo.park ∷ todo) at)
-
       last : todo ≡ []
       last = (subst (Fits f.image p.context) at (law.rel.processors e.cpu law.by.named).list.fits).2
 
       which : (b : Bool) → (p.context.thread == t) ≡ b → ⊥
       which true same =
-          let one : rests later ≡ 1 = ap (λ (z : Scheduler). one_if (is_some (parked_at z t))) after ∙ put-there (ready_in e.act) p.context same in omega (arith, one, gone)
+          let one : rests later ≡ 1 = ap (λ (z : Scheduler). one_if (is_some (parked_at z t))) (parks-after f m e law todo at) ∙ put-there (ready_in e.act) p.context same in omega (arith, one, gone)
       which false other =
-          let parked : rests later ≡ rests f = ap (λ (z : Scheduler). one_if (is_some (parked_at z t))) after ∙ ap one_if (put-other (ready_in e.act) p.context other) in
+          let parked : rests later ≡ rests f = ap (λ (z : Scheduler). one_if (is_some (parked_at z t))) (parks-after f m e law todo at) ∙ ap one_if (put-other (ready_in e.act) p.context other) in
           let lacks = no-thread (runs p) (p.context.thread == t) (not (is_over p.context)) other in
           let bare : of_thread t (adders p.todo) ≡ 0 = ap (λ (z : Todos). of_thread t (adders z)) at ∙ ap (λ (z : Todos). of_thread t (adders z)) last in
           let none = now-none in

@@ -26,16 +26,15 @@ use Rattle.um_scheduler.proofs.ThreadServes.{served}
 use Rattle.um_scheduler.proofs.ThreadWaits.{IsServed, numbers}
 use Rattle.um_scheduler.proofs.ThreadWords.{AreKept, are_orderly, is_resume}
 use Rattle.um_scheduler.specs.Lines.{stands}
-use Rattle.um_fine.specs.Answers.{act_in, is_visit, is_word_read, outcome_in, verdict_in}
-use Rattle.um_fine.specs.Asks.{begins_cleaning, says, says_idle, says_show}
+use Rattle.um_fine.specs.Answers.{act_in, is_visit, outcome_in, verdict_in}
+use Rattle.um_fine.specs.Asks.{begins_cleaning, says, says_idle}
 use Rattle.um_fine.specs.Context.{Context}
 use Rattle.um_fine.specs.Follows.{after_show, after_take, p_next}
 use Rattle.um_fine.specs.Objects.{outcome_of}
 use Rattle.um_fine.specs.Places.{Todo, Todos}
 use Rattle.um_fine.specs.Processor.{Processor}
-use Rattle.um_fine.specs.Scheduler.{told_at}
 use Rattle.um_fine.specs.Steps.{Exchange, FineStep}
-use Rattle.um_erasure.specs.Fine.{Fine, scheduler}
+use Rattle.um_erasure.specs.Fine.{Fine}
 use Rattle.um_erasure.specs.Frames.{AreFramed}
 use Rattle.um_erasure.specs.Lists.{Adds, counted, has_steps, is_end_call, runs}
 use Rattle.um_erasure.specs.Offers.{Fits, behind_shown, is_over}
@@ -46,7 +45,7 @@ use Rattle.um_erasure.proofs.CallBounds.{bounded-few}
 use Rattle.um_erasure.proofs.CallBoundsKept.{IsBounded, Makes, Passes, continues-bounded, drops-bounded, newborn-bounded, offered-makes, resumes-bounded}
 use Rattle.um_erasure.proofs.CallsKnown.{RestsHoldNothing}
 use Rattle.um_erasure.proofs.ContextsPart.{flags-none, is_shown, now-context, quiet-context, read-only}
-use Rattle.um_erasure.proofs.Erased.{stepped}
+use Rattle.um_erasure.proofs.Erased.{around}
 use Rattle.um_erasure.proofs.LawfulSteps.{Suits}
 use Rattle.um_erasure.proofs.Leaves.{Lawful, Leaves, cleans, drops, event, nothing, passes, recycles, resumes}
 use Rattle.um_erasure.proofs.ListAdders.{next-adds, takes-none}
@@ -55,13 +54,14 @@ use Rattle.um_erasure.proofs.ListGrips.{read-rests}
 use Rattle.um_erasure.proofs.ListRuns.{ends-rests}
 use Rattle.um_erasure.proofs.ListSingles.{AreSingle, next-are-single}
 use Rattle.um_erasure.proofs.ListGrowth.{ReadsLast, is_end}
-use Rattle.um_erasure.proofs.ListWakes.{LastRead, Wakes, named, next-wakers, takes-wakers, wakers, woken_by}
+use Rattle.um_erasure.proofs.ListWakes.{Wakes, named, next-wakers, takes-wakers, wakers, woken_by}
 use Rattle.um_erasure.proofs.MemoryPart.{InDomains}
 use Rattle.um_erasure.proofs.Offered.{IsStep, Shows, own-part}
 use Rattle.um_erasure.proofs.OwnKept.{acts, carries}
-use Rattle.um_erasure.proofs.PartsElsewhere.{taken-parked, takes-first}
+use Rattle.um_erasure.proofs.PartsElsewhere.{IsTaken, taken-parked, takes-first}
 use Rattle.um_erasure.proofs.SchedulerBounds.{inside-kept, parked-kept, ready-kept}
 use Rattle.um_erasure.proofs.SchedulerSteps.{made-says}
+use Rattle.um_erasure.proofs.StepReads.{last-read}
 use Rattle.um_erasure.proofs.StepsLeft.{rests-on}
 
 -- Lists of threads.
@@ -83,14 +83,7 @@ waits-inside (t ∷ ts) zero h = omega arith
 waits-inside (t ∷ ts) (suc u) h = let l = waits-inside ts u h in omega (arith, l)
 
 module _ (f : Fine) (m : State) (e : FineStep) (law : Lawful f m e) (was : AreBounded f) where
-  abbrev p : Processor
-  p = f.processors e.cpu
-
-  abbrev now : Processor
-  now = p_next f.image p e
-
-  abbrev later : Fine
-  later = stepped f.image f.cpus f.processors f.sites e
+  open around f e use {later, processor as p, now}
 
   fits-at : (todo : Todos) → p.todo ≡ todo → Fits f.image p.context todo
   fits-at todo at = subst (Fits f.image p.context) at (law.rel.processors e.cpu law.by.named).list.fits
@@ -143,15 +136,15 @@ module _ (f : Fine) (m : State) (e : FineStep) (law : Lawful f m e) (was : AreBo
     found q x is = tt
 
     taken : p.todo ≡ [] → is_shown e.act ≡ false → IsBounded f.image now.context
-    taken at quiet = by first.3 first.5
+    taken at quiet = by first.told first.moved
       where
-        first : (u : ℕ) × (list : List ℕ) × (d : Context) × (told : Option Told) × ((scheduler f).ready ≡ u ∷ list) × (e.moved ≡ Exchange.thread d told) × (d.thread ≡ u) × (told ≡ told_at (scheduler f) u)
+        first : IsTaken f e
         first = takes-first f m e law at
 
-        by : (told : Option Told) → e.moved ≡ Exchange.thread first.2 told → IsBounded f.image now.context
+        by : (told : Option Told) → e.moved ≡ Exchange.thread first.context told → IsBounded f.image now.context
         by None moved =
             subst (IsBounded f.image) (sym (now-context f m e law [] at ∙ ap (λ (mv : Exchange). (after_take f.image p mv).context) moved))
-            (was.parked first.2.thread first.2 (taken-parked f m e law at first.2 None moved))
+            (was.parked first.context.thread first.context (taken-parked f m e law at first.context None moved))
         by (Some w) moved = absurd (false≢true (sym quiet ∙ ap is_shown (made-says f m e law [] at ∙ ap (says_idle f.image p) moved)))
 
     quiet-mine : runs now ≡ true → is_shown e.act ≡ false → (todo : Todos) → p.todo ≡ todo → IsBounded f.image now.context
@@ -277,21 +270,9 @@ module _ (f : Fine) (m : State) (e : FineStep) (law : Lawful f m e) (was : AreBo
       tail-threads (Todo.wake who told) todo h = (and_parts _ _ h).1
       tail-threads q todo h = h
 
-      -- nobody is woken by the read of a word
-      last-read : (q : Todo) (todo : Todos) → p.todo ≡ q ∷ todo → LastRead f.image e q todo
-      last-read (Todo.show r rest) todo at = λ read. (
-        (fits-at (Todo.show r rest ∷ todo) at).1 ∙ read-rests f.image p p.context r e.act (made-says f m e law (Todo.show r rest ∷ todo) at) read,
-        by r (made-says f m e law (Todo.show r rest ∷ todo) at) read,
-      )
-        where
-          by : (r : Pending) → e.act ≡ says_show f.image p r e.act → is_word_read e.act ≡ true → woken_by e (Todo.show r rest) ≡ []
-          by (Pending.Work a ask) said read = absurd (true≢false (sym read ∙ ap is_word_read said))
-          by r said read = refl
-      last-read q todo at = tt
-
       wakes-by : (q : Todo) (todo : Todos) → p.todo ≡ q ∷ todo → AreThreads (woken_by e q) → AreThreads (wakers now.todo)
       wakes-by q todo at h =
-          subst AreThreads (sym (next-wakers f.image p e q todo at (frame q todo at).0 (last-read q todo at)))
+          subst AreThreads (sym (next-wakers f.image p e q todo at (frame q todo at).0 (last-read f m e law q todo at)))
           (threads-append (woken_by e q) (wakers todo) h (tail-threads q todo (subst (λ (z : Todos). AreThreads (wakers z)) at (was.wakes e.cpu law.by.named))))
 
       wakes-none : p.todo ≡ [] → AreThreads (wakers now.todo)
@@ -301,7 +282,7 @@ module _ (f : Fine) (m : State) (e : FineStep) (law : Lawful f m e) (was : AreBo
       quiet-wakes quiet [] at = wakes-none at
       quiet-wakes quiet (Todo.show q rest ∷ todo) at =
           wakes-by (Todo.show q rest) todo at
-          (ap (list_all (λ w. nat_lt w.0 THREADS)) (last-read (Todo.show q rest) todo at (read-only f m e law q (made-says f m e law (Todo.show q rest ∷ todo) at) quiet)).1)
+          (ap (list_all (λ w. nat_lt w.0 THREADS)) (last-read f m e law (Todo.show q rest) todo at (read-only f m e law q (made-says f m e law (Todo.show q rest ∷ todo) at) quiet)).1)
       quiet-wakes quiet (q ∷ todo) at = wakes-by q todo at refl
 
       wakes-mine : (s : State) (leaves : Leaves f m e s) → AreThreads (wakers now.todo)

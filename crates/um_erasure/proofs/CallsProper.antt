@@ -19,7 +19,6 @@ use Rattle.um_base.specs.declared.names.Access.TheVariants as Access
 use Rattle.um_base.specs.declared.names.Addr.{Addr}
 use Rattle.um_base.specs.declared.names.Errno.{Errno}
 use Rattle.um_base.specs.declared.names.Kind.{Kind}
-use Rattle.um_base.specs.declared.names.Mode.{Mode}
 use Rattle.um_base.specs.declared.names.Policy.{Policy}
 use Rattle.um_base.specs.declared.names.Reply.{Reply}
 use Rattle.um_base.specs.declared.names.Want.{Want}
@@ -45,6 +44,7 @@ use Rattle.um_invariants.proofs.RunMoves.{known_step, step_move}
 use Rattle.um_invariants.proofs.Turns.{IsKnown, below_rows, core-bytes, core-erased, core-moved, core-published, passed, row_is}
 use Rattle.um_invariants.proofs.Guards.{IsSited}
 use Rattle.um_erasure.proofs.CallSteps.{Bare, Proper, line-lawful, proper-steps}
+use Rattle.um_erasure.proofs.Failures.{HoldsOfFailures, copy-left, either-state, error-left, fails-left, refused-left}
 
 -- the steps of a thread that has ended
 abbrev pub Closing : Steps → Type 0
@@ -67,6 +67,13 @@ none-held x = none_checked x ROWS
 lives-on : (b : Bool) {A : Type 0} → (b ≡ false → A × ⊥) → b ≡ true
 lives-on true h = refl
 lives-on false h = absurd (h refl).1
+
+-- a check that is passed found a row, whose object the call holds from then on
+pub passed-held : (m : State) → IsKnown (core_of m) → (t a y : ℕ) → row_at m.image a ≡ Some y → slice_index_or (slice_set (thread_at m t).checked y true) y false ≡ true
+passed-held m known t a y e =
+    let few = below_rows m.image y known.reached.sited (known.reached.sited.found a y e).0 in
+    let wide : length (thread_at m t).checked ≡ ROWS = ap (λ (c : Call). length c.checked) (sym (call_is m t)) ∙ known.reached.wide t in
+    get_or-set_same (thread_at m t).checked y true false (omega (arith, few, wide))
 
 module _ (m : State) (t x : ℕ) where
   abbrev me : Thread
@@ -136,38 +143,27 @@ module _ (m : State) (t x : ℕ) where
           let call = call-same s e t in on s e (thread_at s t) rest (ap (λ (c : Call). c.checked) call) (ap (λ (c : Call). c.living) call ∙ lives) h
 
       either : (b : Bool) (s1 s2 : State) → AreProper m.image s1 → AreProper m.image s2 → AreProper m.image (if b then s1 else s2)
-      either true s1 s2 h k = h
-      either false s1 s2 h k = k
+      either = either-state (AreProper m.image)
+
+      failures : HoldsOfFailures (Proper m.image me.checked)
+      failures = record { fatal = λ reason cause. tt; unbuffer = λ size reason cause. tt; answer = λ reply. refl }
 
       fails : AreProper m.image (T.goes_on m t me (copy_fails me.mode))
-      fails = by me.mode
-        where
-          by : (mode : Mode) → AreProper m.image (T.goes_on m t me (copy_fails mode))
-          by Mode.User = here me (copy_fails Mode.User) refl refl tt
-          by Mode.Supervisor = here me (copy_fails Mode.Supervisor) refl refl tt
+      fails = here me (copy_fails me.mode) refl refl (fails-left (Proper m.image me.checked) failures me.mode)
 
       faults : AreProper m.image (T.goes_on m t me T.fault)
       faults = here me T.fault refl refl tt
 
       -- A check.
 
-      refused : (mode : Mode) (rest : Steps) (refusal : Refusal) (e : Errno) → Proper m.image me.checked (T.after_check mode rest refusal (Some e))
-      refused mode rest Refusal.Fails e = tt
-      refused Mode.User rest Refusal.FailsUser e = tt
-      refused Mode.Supervisor rest Refusal.FailsUser e = refl
-      refused mode rest (Refusal.Answers reply) e = refl
-
       checks : IsKnown (core_of m) → (a : Addr) (kind : Option Kind) (want : Want) (refusal : Refusal) (rest : Steps)
           → Proper m.image me.checked (Pending.Check a kind want refusal ∷ rest) → (v : Option Errno) → verdict m t a.0 kind want ≡ v
           → AreProper m.image (T.goes_on m t (T.with_checked m a v me) (T.after_check me.mode rest refusal v))
-      checks known a kind want refusal rest h (Some e) said = here me (T.after_check me.mode rest refusal (Some e)) refl refl (refused me.mode rest refusal e)
+      checks known a kind want refusal rest h (Some e) said = here me (T.after_check me.mode rest refusal (Some e)) refl refl (refused-left (Proper m.image me.checked) failures me.mode rest refusal e)
       checks known a kind want refusal rest h None said =
           let p = passed m t kind want (row_at m.image a.0) said in
           let y = p.0 in
-          let row = (known.reached.sited.found a.0 y p.1).0 in
-          let few = below_rows m.image y known.reached.sited row in
-          let wide : length me.checked ≡ ROWS = ap (λ (c : Call). length c.checked) (sym (call_is m t)) ∙ known.reached.wide t in
-          let held : slice_index_or (slice_set me.checked y true) y false ≡ true = get_or-set_same me.checked y true false (omega (arith, few, wide)) in
+          let held = passed-held m known t a.0 y p.1 in
           let steps : Proper m.image (slice_set me.checked (T.row_of m a) true) rest =
           subst (λ n. Proper m.image (slice_set me.checked n true) rest) (sym (row_is m a y p.1)) (h y p.1 held) in
           set m all t (T.at_steps m.image (T.with_checked m a None me) rest) (steps, λ dead. absurd (true≢false (sym lives ∙ dead)))
@@ -175,17 +171,7 @@ module _ (m : State) (t x : ℕ) where
       -- A call that goes on, answers or fails.
 
       without-copy : (rest : Steps) → Proper m.image me.checked rest → Proper m.image me.checked (T.without_copy rest)
-      without-copy [] h = h
-      without-copy (Pending.CopyOut a ∷ rest) h = h
-      without-copy (p ∷ rest) h = h
-
-      errs : (mode : Mode) (ask : Ask) (e : Errno) (rest : Steps) → Proper m.image me.checked rest → Proper m.image me.checked (T.after_error mode ask e rest)
-      errs mode (Ask.SemInit count limit) e rest h = tt
-      errs mode Ask.MutexInit e rest h = tt
-      errs mode (Ask.MsgqInit size most pool) e rest h = tt
-      errs mode (Ask.StackInit most pool) e rest h = tt
-      errs mode (Ask.PipeInit size pool) e rest h = tt
-      errs mode ask e rest h = without-copy rest h
+      without-copy = copy-left (Proper m.image me.checked) (λ a rest h. h)
 
       answers : (s : State) → Alike s → (ask : Ask) (taken : List ℕ) (rest : Steps) (answer : Answer) → Proper m.image me.checked rest
           → AreProper m.image (T.after_answer s t (thread_at s t) ask taken rest answer)
@@ -204,7 +190,7 @@ module _ (m : State) (t x : ℕ) where
           by Answer.Wait = on s e (thread_at s t) (Pending.Resume ∷ rest) held life h
           by (Answer.Now (Reply.Fail error)) =
               on s e (record (thread_at s t) { reply = Reply.Fail error; buffer = taken }) (T.after_error (thread_at s t).mode ask error rest) held life
-              (errs (thread_at s t).mode ask error rest h)
+              (error-left (Proper m.image me.checked) failures (thread_at s t).mode ask error rest (without-copy rest h))
           by (Answer.Now reply) = on s e (record (thread_at s t) { reply = reply; buffer = taken }) rest held life h
 
       resumed : (rest : Steps) (told : Option Told) → Proper m.image me.checked rest → AreProper m.image (T.resumed m t me rest told)

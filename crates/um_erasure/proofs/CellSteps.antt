@@ -21,17 +21,17 @@ use Rattle.um_erasure.specs.Cleaning.{AreBlocks}
 use Rattle.um_erasure.specs.Fine.{Fine, object, object_state, one_if, over_processors, row, total}
 use Rattle.um_erasure.specs.Lists.{counted, is_recycle, is_wipe}
 use Rattle.um_erasure.specs.Objects.{recyclers, wipers}
-use Rattle.um_erasure.proofs.CleaningFacts.{count-cons}
-use Rattle.um_erasure.proofs.CleanersSteps.{frame, gain}
+use Rattle.um_erasure.proofs.CleanersSteps.{gain}
 use Rattle.um_erasure.proofs.DomainFacts.{two-parts}
-use Rattle.um_erasure.proofs.Erased.{stepped}
+use Rattle.um_erasure.proofs.Erased.{around}
 use Rattle.um_erasure.proofs.FirstThreads.{one-most}
-use Rattle.um_erasure.proofs.HeldRows.{clears-none, total-zero}
+use Rattle.um_erasure.proofs.HeldRows.{total-zero}
 use Rattle.um_erasure.proofs.Leaves.{Lawful}
-use Rattle.um_erasure.proofs.ListCounts.{begun, next-counts, wipes-of}
+use Rattle.um_erasure.proofs.ListCounts.{begun, cleans-none, count-cons, next-counts, wipes-of}
 use Rattle.um_erasure.proofs.ListGrowth.{ReadsLast}
 use Rattle.um_erasure.proofs.MemorySteps.{part-total}
 use Rattle.um_erasure.proofs.SchedulerSteps.{made-says}
+use Rattle.um_erasure.proofs.StepReads.{is-behind}
 use Rattle.um_erasure.proofs.Sums.{over-changed}
 use Rattle.um_erasure.proofs.WorkSteps.{object-sort}
 
@@ -83,11 +83,8 @@ off-cell image p (Pending.Named who) x h = absurd (subst (λ (b : Bool). elim b 
 off-cell image p q x h = refl
 
 module _ (f : Fine) (m : State) (e : FineStep) (law : Lawful f m e) (x : ℕ) (few : x < ROWS) where
-  abbrev later : Fine
-  later = stepped f.image f.cpus f.processors f.sites e
-
-  abbrev p : Processor
-  p = f.processors e.cpu
+  open around f e use {later, processor as p}
+  open is-behind f m e law use {frame}
 
   -- a step that takes a thread begins no cleaning
   pub takes-quiet : p.todo ≡ [] → begins_cleaning e ≡ false
@@ -119,7 +116,7 @@ module _ (f : Fine) (m : State) (e : FineStep) (law : Lawful f m e) (x : ℕ) (f
   wipe-sum q todo at last =
       let all = over-changed f e (λ z. counted (is_wipe x) z.todo) law.by.named in
       let before = ap (counted (is_wipe x)) at ∙ count-cons (is_wipe x) q todo in
-      let after = next-counts (is_wipe x) (wipes-of x) f.image p e q todo at (frame f m e law x few q todo at) last in
+      let after = next-counts (is_wipe x) (wipes-of x) f.image p e q todo at (frame q todo at) last in
       let more = wipes-gain (begins_cleaning e) in
       omega (arith, all, before, after, more)
 
@@ -160,7 +157,7 @@ module _ (f : Fine) (m : State) (e : FineStep) (law : Lawful f m e) (x : ℕ) (f
       by k l true q =
           ap (λ n. counted (is_wipe x) (f.processors n).todo) (sym (eqb-true e.cpu k q))
           ∙ (ap (counted (is_wipe x)) at
-          ∙ clears-none f.image x todo (subst (AreBlocks f.image) at (law.rel.processors e.cpu law.by.named).blocks) (omega (arith, part, here, most)))
+          ∙ (cleans-none f.image x todo (subst (AreBlocks f.image) at (law.rel.processors e.cpu law.by.named).blocks) (omega (arith, part, here, most))).0)
       by k l false q =
           let both = two-parts (λ j. counted (is_recycle x) (f.processors j).todo) f.cpus e.cpu k law.by.named l (eqb-false e.cpu k q) in
-          clears-none f.image x (f.processors k).todo (law.rel.processors k l).blocks (omega (arith, both, here, most))
+          (cleans-none f.image x (f.processors k).todo (law.rel.processors k l).blocks (omega (arith, both, here, most))).0

@@ -32,26 +32,24 @@ use Rattle.um_erasure.specs.Cleaning.{AreBlocks, CleaningIs, Cleans}
 use Rattle.um_erasure.specs.Fine.{Fine, object, one_if, row}
 use Rattle.um_erasure.specs.Lists.{counted, has_steps, is_cleared, is_recycle, is_wipe}
 use Rattle.um_erasure.specs.Objects.{cell_of, recyclers, wipers}
-use Rattle.um_erasure.specs.Offers.{Fits}
 use Rattle.um_erasure.proofs.CellSteps.{clears-few, takes-quiet, wipers-few, wipes-gain}
-use Rattle.um_erasure.proofs.CleanersSteps.{frame, gain, no-gain, recycles-gain}
-use Rattle.um_erasure.proofs.CleaningFacts.{count-cons}
+use Rattle.um_erasure.proofs.CleanersSteps.{gain, no-gain, recycles-gain}
 use Rattle.um_erasure.proofs.ContentsKept.{beside-kept, cell-beside, drop-kept, work-objects}
 use Rattle.um_erasure.proofs.DomainFacts.{two-parts}
-use Rattle.um_erasure.proofs.Erased.{later}
+use Rattle.um_erasure.proofs.Erased.{around, later}
 use Rattle.um_erasure.proofs.FirstThreads.{one-most}
 use Rattle.um_erasure.proofs.HeldRows.{checked-claimed, claimed-kept}
 use Rattle.um_erasure.proofs.LawfulSteps.{Suits}
 use Rattle.um_erasure.proofs.Leaves.{Lawful, Leaves, cleans, drops, event, nothing, passes, recycles, resumes}
 use Rattle.um_erasure.proofs.ListBlocks.{blocks-next}
-use Rattle.um_erasure.proofs.ListCounts.{next-counts, recycles-of, takes-counts, wipes-of}
-use Rattle.um_erasure.proofs.ListGrips.{read-rests}
+use Rattle.um_erasure.proofs.ListCounts.{count-cons, next-counts, recycles-of, takes-counts, wipes-of}
 use Rattle.um_erasure.proofs.ListGrowth.{ReadsLast}
 use Rattle.um_erasure.proofs.ListTails.{exact-next}
 use Rattle.um_erasure.proofs.MemorySteps.{part-total}
 use Rattle.um_erasure.proofs.ObjectsKept.{set-kept}
 use Rattle.um_erasure.proofs.Offered.{IsStep, Shows, shown-offers, shown-on}
 use Rattle.um_erasure.proofs.SchedulerSteps.{made-at, made-says}
+use Rattle.um_erasure.proofs.StepReads.{is-behind}
 use Rattle.um_erasure.proofs.WordsKept.{IsShown}
 use Rattle.um_erasure.proofs.WorkSteps.{object-sort}
 
@@ -77,11 +75,8 @@ one-cleared true h = refl
 one-cleared false h = absurd (omega (arith, h))
 
 module _ (f : Fine) (m : State) (e : FineStep) (law : Lawful f m e) (x : ℕ) (few : x < ROWS) where
-  abbrev p : Processor
-  p = f.processors e.cpu
-
-  abbrev now : Processor
-  now = p_next f.image p e
+  open around f e use {processor as p, now}
+  open is-behind f m e law use {frame, last-shown}
 
   abbrev Recs : Todos → ℕ
   Recs todo = counted (is_recycle x) todo
@@ -109,21 +104,16 @@ module _ (f : Fine) (m : State) (e : FineStep) (law : Lawful f m e) (x : ℕ) (f
       by true c = let more = cleared-more f.image x now.todo (blocks-next f.image p e (law.rel.processors e.cpu law.by.named).blocks) c in absurd (omega (arith, same, more))
       by false c = let none = ap one_if c in omega (arith, same, none)
 
-  last-shown : (q : Pending) (rest : Steps) (todo : Todos) → p.todo ≡ Todo.show q rest ∷ todo → ReadsLast e (Todo.show q rest) todo
-  last-shown q rest todo at read =
-      (subst (Fits f.image p.context) at (law.rel.processors e.cpu law.by.named).list.fits).1
-      ∙ read-rests f.image p p.context q e.act (made-says f m e law (Todo.show q rest ∷ todo) at) read
-
   module _ (q : Todo) (todo : Todos) (at : p.todo ≡ q ∷ todo) (last : ReadsLast e q todo) where
     recs-now : Recs now.todo ≡ gain f m e law x few (begins_cleaning e) (row_number e.site) + Recs todo
     recs-now =
-        let all = next-counts (is_recycle x) (recycles-of x) f.image p e q todo at (frame f m e law x few q todo at) last in
+        let all = next-counts (is_recycle x) (recycles-of x) f.image p e q todo at (frame q todo at) last in
         let more = recycles-gain f m e law x few (begins_cleaning e) in
         omega (arith, all, more)
 
     wipes-now : Wipes now.todo ≡ gain f m e law x few (begins_cleaning e) (row_number e.site) + Wipes todo
     wipes-now =
-        let all = next-counts (is_wipe x) (wipes-of x) f.image p e q todo at (frame f m e law x few q todo at) last in
+        let all = next-counts (is_wipe x) (wipes-of x) f.image p e q todo at (frame q todo at) last in
         let more = wipes-gain f m e law x few (begins_cleaning e) in
         omega (arith, all, more)
 

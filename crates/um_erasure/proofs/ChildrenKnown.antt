@@ -15,7 +15,6 @@ use Rattle.um_base.specs.declared.names.Access.TheVariants as Access
 use Rattle.um_base.specs.declared.names.Addr.{Addr}
 use Rattle.um_base.specs.declared.names.Errno.{Errno}
 use Rattle.um_base.specs.declared.names.Kind.{Kind}
-use Rattle.um_base.specs.declared.names.Mode.{Mode}
 use Rattle.um_base.specs.declared.names.Policy.{Policy}
 use Rattle.um_base.specs.declared.names.Reply.{Reply}
 use Rattle.um_base.specs.declared.names.ThreadIx.{ThreadIx}
@@ -25,7 +24,6 @@ use Rattle.um_base.specs.Regions.{Partitions, stack_range}
 use Rattle.um_machine.specs.declared.contents.Contents.TheVariants as Contents
 use Rattle.um_machine.specs.declared.object.Status.TheVariants as Status
 use Rattle.um_machine.specs.declared.pending.Pending.{Pending}
-use Rattle.um_machine.specs.declared.pending.Refusal.{Refusal}
 use Rattle.um_machine.specs.declared.thread.Thread.{Thread}
 use Rattle.um_machine.specs.Domains.{added, domain_after, initialised, part_named, removed, reply_to}
 use Rattle.um_machine.specs.Memory.{allowed, bytes_at, le_bytes, le_value, string_bytes, string_read, with_bytes}
@@ -37,6 +35,7 @@ use Rattle.um_machine.specs.Table as T
 use Rattle.um_invariants.proofs.Cores.{at_set}
 use Rattle.um_erasure.proofs.ChildSteps.{Creates, InOrder, goes-in-order, order-steps}
 use Rattle.um_erasure.proofs.Erased.{IsReachable}
+use Rattle.um_erasure.proofs.Failures.{HoldsOfFailures, check-left, copy-left, either-state, error-left, fails-left}
 use Rattle.um_erasure.proofs.FirstThreads.{new-thread}
 use Rattle.um_erasure.proofs.ThreadKeys.{Ignores, key-same, keys, keys-bytes, keys-dropped, keys-erased, keys-given, keys-moved, keys-paired, keys-set, keys-woken}
 
@@ -86,36 +85,17 @@ module _ (m : State) (t x : ℕ) (all : AllCreate m) where
   there s e rest none h = on s e (thread_at s t) rest (ap (λ (k : Key). k.child) (key-same key_of m s e t) ∙ none) h
 
   either : (b : Bool) (s1 s2 : State) → AllCreate s1 → AllCreate s2 → AllCreate (if b then s1 else s2)
-  either true s1 s2 h k = h
-  either false s1 s2 h k = k
+  either = either-state AllCreate
 
-  fails-order : (mode : Mode) → InOrder (copy_fails mode)
-  fails-order Mode.User = tt
-  fails-order Mode.Supervisor = tt
-
-  check-order : (mode : Mode) (rest : Steps) (refusal : Refusal) (v : Option Errno) → InOrder rest → InOrder (T.after_check mode rest refusal v)
-  check-order mode rest refusal None h = h
-  check-order mode rest Refusal.Fails (Some e) h = tt
-  check-order Mode.User rest Refusal.FailsUser (Some e) h = tt
-  check-order Mode.Supervisor rest Refusal.FailsUser (Some e) h = tt
-  check-order mode rest (Refusal.Answers reply) (Some e) h = tt
+  failures : HoldsOfFailures InOrder
+  failures = record { fatal = λ reason cause. tt; unbuffer = λ size reason cause. tt; answer = λ reply. tt }
 
   checks : (a : Addr) (v : Option Errno) (rest : Steps) → me.child ≡ None → InOrder rest → AllCreate (T.goes_on m t (T.with_checked m a v me) rest)
   checks a None rest none h = on m refl (T.with_checked m a None me) rest none h
   checks a (Some e) rest none h = on m refl me rest none h
 
   without-copy : (rest : Steps) → InOrder rest → InOrder (T.without_copy rest)
-  without-copy [] h = h
-  without-copy (Pending.CopyOut a ∷ rest) h = h
-  without-copy (p ∷ rest) h = h
-
-  errs : (mode : Mode) (ask : Ask) (e : Errno) (rest : Steps) → InOrder rest → InOrder (T.after_error mode ask e rest)
-  errs mode (Ask.SemInit count limit) e rest h = tt
-  errs mode Ask.MutexInit e rest h = tt
-  errs mode (Ask.MsgqInit size most pool) e rest h = tt
-  errs mode (Ask.StackInit most pool) e rest h = tt
-  errs mode (Ask.PipeInit size pool) e rest h = tt
-  errs mode ask e rest h = without-copy rest h
+  without-copy = copy-left InOrder (λ a rest h. h)
 
   answers : (s : State) → Alike s → (ask : Ask) (taken : List ℕ) (rest : Steps) (answer : Answer) → me.child ≡ None → InOrder rest
       → AllCreate (T.after_answer s t (thread_at s t) ask taken rest answer)
@@ -127,7 +107,7 @@ module _ (m : State) (t x : ℕ) (all : AllCreate m) where
       by : (answer : Answer) → AllCreate (T.after_answer s t (thread_at s t) ask taken rest answer)
       by Answer.Wait = on s e (thread_at s t) (Pending.Resume ∷ rest) child h
       by (Answer.Now (Reply.Fail error)) =
-          on s e (record (thread_at s t) { reply = Reply.Fail error; buffer = taken }) (T.after_error (thread_at s t).mode ask error rest) child (errs (thread_at s t).mode ask error rest h)
+          on s e (record (thread_at s t) { reply = Reply.Fail error; buffer = taken }) (T.after_error (thread_at s t).mode ask error rest) child (error-left InOrder failures (thread_at s t).mode ask error rest (without-copy rest h))
       by (Answer.Now reply) = on s e (record (thread_at s t) { reply = reply; buffer = taken }) rest child h
 
   resumed : (rest : Steps) (told : Option Told) → me.child ≡ None → InOrder rest → AllCreate (T.resumed m t me rest told)
@@ -185,40 +165,36 @@ module _ (m : State) (t x : ℕ) (all : AllCreate m) where
   stands Pending.Recycle rest h = tt
   stands q rest h = h
 
-  pub offered-stands : (q : Pending) (rest : Steps) → Offers m t q rest → Stands q rest
-  offered-stands q rest offers = by offers
-    where
-      at : (steps : Steps) → me.pending ≡ steps → Creates me.child steps
-      at steps e = subst (Creates me.child) e (all t)
+  at : (steps : Steps) → me.pending ≡ steps → Creates me.child steps
+  at steps e = subst (Creates me.child) e (all t)
 
-      by : {q : Pending} {rest : Steps} → Offers m t q rest → Stands q rest
-      by (goes {p} {rest} e) = stands p rest (at (p ∷ rest) e)
-      by (skips_inherit {who} {p} {rest} e due) = stands p rest (inherit-next me.child who p rest (at (Pending.Inherit who ∷ p ∷ rest) e))
-      by (skips_drops {from} {p} {rest} e due) =
-          let was = at (Pending.Drops from ∷ p ∷ rest) e in stands p rest (goes-in-order me.child (p ∷ rest) was.0 was.1)
-      by (begins e lives doomed there) = at [] e
-      by (exits e lives doomed there) = at [] e
-      by (cleans_pair started) = tt
-      by (recycles started) = tt
+  pub offered-stands : (q : Pending) (rest : Steps) → Offers m t q rest → Stands q rest
+  offered-stands q rest (goes e) = stands q rest (at (q ∷ rest) e)
+  offered-stands q rest (skips_inherit {who = who} e due) = stands q rest (inherit-next me.child who q rest (at (Pending.Inherit who ∷ q ∷ rest) e))
+  offered-stands q rest (skips_drops {from = from} e due) = let was = at (Pending.Drops from ∷ q ∷ rest) e in stands q rest (goes-in-order me.child (q ∷ rest) was.0 was.1)
+  offered-stands _ _ (begins e lives doomed there) = at [] e
+  offered-stands _ _ (exits e lives doomed there) = at [] e
+  offered-stands _ _ (cleans_pair started) = tt
+  offered-stands _ _ (recycles started) = tt
 
   creates-after : (q : Pending) (rest : Steps) → Stands q rest → AllCreate (T.after m t x q rest)
   creates-after Pending.Begin rest h = begun (instruction_at m.image me.place) h.0
   creates-after Pending.Exit rest h = set m all t _ (refl, tt)
   creates-after (Pending.Check a kind want refusal) rest h =
-      let v = verdict m t a.0 kind want in checks a v (T.after_check me.mode rest refusal v) h.0 (check-order me.mode rest refusal v h.1)
+      let v = verdict m t a.0 kind want in checks a v (T.after_check me.mode rest refusal v) h.0 (check-left InOrder failures me.mode rest refusal v h.1)
   creates-after (Pending.Load to a n) rest h =
       either (allowed m t Access.Read a.0 n) _ _ (on m refl (record me { registers = slice_set me.registers to (le_value (bytes_at m a.0 n)) }) rest h.0 h.1) (on m refl me T.fault h.0 tt)
   creates-after (Pending.Store a n value) rest h =
       either (allowed m t Access.Write a.0 n) _ _ (on (with_bytes m a.0 (le_bytes n value)) (keys-bytes key_of m a.0 (le_bytes n value)) me rest h.0 h.1) (on m refl me T.fault h.0 tt)
   creates-after (Pending.Fetch a) rest h = either (allowed m t Access.Exec a.0 4) _ _ (on m refl me rest h.0 h.1) (on m refl me T.fault h.0 tt)
   creates-after (Pending.Probe a amount) rest h =
-      either (allowed m t Access.Write a.0 (T.amount_of m amount)) _ _ (on m refl me rest h.0 h.1) (on m refl me (copy_fails me.mode) h.0 (fails-order me.mode))
+      either (allowed m t Access.Write a.0 (T.amount_of m amount)) _ _ (on m refl me rest h.0 h.1) (on m refl me (copy_fails me.mode) h.0 (fails-left InOrder failures me.mode))
   creates-after (Pending.CopyIn a amount) rest h =
       either (allowed m t Access.Read a.0 (T.amount_of m amount)) _ _ (on m refl (record me { buffer = take PIECE (bytes_at m a.0 (T.amount_of m amount)) }) rest h.0 h.1)
-      (on m refl me (copy_fails me.mode) h.0 (fails-order me.mode))
+      (on m refl me (copy_fails me.mode) h.0 (fails-left InOrder failures me.mode))
   creates-after (Pending.CopyOut a) rest h =
       either (allowed m t Access.Write a.0 (length me.buffer)) _ _ (on (with_bytes m a.0 me.buffer) (keys-bytes key_of m a.0 me.buffer) me rest h.0 h.1)
-      (on m refl me (copy_fails me.mode) h.0 (fails-order me.mode))
+      (on m refl me (copy_fails me.mode) h.0 (fails-left InOrder failures me.mode))
   creates-after (Pending.CopyStr a) rest h = texts a rest (string_read m t a.0 32) h.0 h.1
   creates-after (Pending.Erase stack) rest h =
       let range = stack_range (setup_at m.image stack.0) in on (T.erased m range) (keys-erased key_of m range) me rest h.0 h.1

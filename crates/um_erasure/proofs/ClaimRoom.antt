@@ -28,7 +28,7 @@ use Rattle.um_erasure.proofs.First.{none-some}
 use Rattle.um_erasure.proofs.FirstThreads.{one-most}
 use Rattle.um_erasure.proofs.ListEnds.{occurs-few}
 use Rattle.um_erasure.proofs.Reachable.{IsSound}
-use Rattle.um_erasure.proofs.Totals.{total-fours, total-most, total-sole, total-twos}
+use Rattle.um_erasure.proofs.Totals.{total-each, total-most, total-sole}
 
 same-thread : {v w : ThreadIx} → Some v ≡ Some w → v.0 ≡ w.0
 same-thread {v} h = ap (λ (o : Option ThreadIx). (unwrap_or o v).0) h
@@ -115,8 +115,8 @@ module _ (f : Fine) (m : State) (rel : Rel f m) (sound : IsSound m) (children : 
   pub claim-room : (x : ℕ) → x < ROWS → (row f x).claims < 127
   claim-room x low =
       let all = (rel.rows x low).claims.claimed in
-      let mine = total-fours (λ k. call_claims x (f.processors k)) f.cpus (λ k l. mine-most k x l) in
-      let parked = total-twos (λ t. context_claims x (parked_at (scheduler f) t)) THREADS (λ t l. parked-most t x) in
+      let mine = total-each (λ k. call_claims x (f.processors k)) 4 f.cpus (λ k l. mine-most k x l) in
+      let parked = total-each (λ t. context_claims x (parked_at (scheduler f) t)) 2 THREADS (λ t l. parked-most t x) in
       let lives = lives-most x in
       let begins = begins-most x in
       omega (arith, all, mine, parked, lives, begins, few)

@@ -33,7 +33,6 @@ use Rattle.um_fine.specs.Addresses.{row_named}
 use Rattle.um_fine.specs.Answers.{act_in, context_in, given_in, is_word_read, verdict_in}
 use Rattle.um_fine.specs.Asks.{check_site, says_show, site_at}
 use Rattle.um_fine.specs.Places.{Todo, Todos}
-use Rattle.um_fine.specs.Processor.{Processor}
 use Rattle.um_fine.specs.Sites.{SiteState, same_site, site_answers}
 use Rattle.um_fine.specs.Steps.{FineStep, Site}
 use Rattle.um_fine.proofs.Keys.{same-sound}
@@ -51,7 +50,7 @@ use Rattle.um_erasure.proofs.CleanersPart.{is_birth, is_born_act, is_claiming, k
 use Rattle.um_erasure.proofs.CleanersSteps.{row-else, row-here, row-takes-it}
 use Rattle.um_erasure.proofs.ContextsPart.{flags-none, is_shown, read-only}
 use Rattle.um_erasure.proofs.DomainReads.{eqb-swap}
-use Rattle.um_erasure.proofs.Erased.{stepped}
+use Rattle.um_erasure.proofs.Erased.{around}
 use Rattle.um_erasure.proofs.LawfulSteps.{Suits}
 use Rattle.um_erasure.proofs.Leaves.{Lawful, Leaves, cleans, drops, event, nothing, passes, recycles, resumes}
 use Rattle.um_erasure.proofs.LifeClaims.{births, lives, sums-clear, sums-own, sums-start, sums-stay}
@@ -78,11 +77,7 @@ is_still Todo.done = false
 is_still q = true
 
 module _ (f : Fine) (m : State) (e : FineStep) (law : Lawful f m e) (x : ℕ) (few : x < ROWS) where
-  abbrev later : Fine
-  later = stepped f.image f.cpus f.processors f.sites e
-
-  abbrev p : Processor
-  p = f.processors e.cpu
+  open around f e use {later, processor as p}
 
   -- The word.
 
@@ -129,7 +124,7 @@ module _ (f : Fine) (m : State) (e : FineStep) (law : Lawful f m e) (x : ℕ) (f
   calls g = over_processors g (call_claims x)
 
   idle : (p.todo ≡ []) → (p.context.claims ≡ []) × IsThread e.moved
-  idle at = ((law.rel.processors e.cpu law.by.named).idle.idle (ap has_steps at), subst IsThread (sym (takes-first f m e law at).5) tt)
+  idle at = ((law.rel.processors e.cpu law.by.named).idle.idle (ap has_steps at), subst IsThread (sym (takes-first f m e law at).moved) tt)
 
   calls-changed : (todo : Todos) → p.todo ≡ todo → calls later + gone f.image x p e todo ≡ calls f + come_to f.image x p e todo
   calls-changed todo at =

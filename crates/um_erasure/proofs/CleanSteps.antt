@@ -16,15 +16,13 @@ use Rattle.um_machine.specs.Order.{to_thread}
 use Rattle.um_machine.specs.Run.{MayChoose, MayClean, NoPairsOf, cleans_pair, recycles}
 use Rattle.um_machine.specs.State.{State, nobody, object_at, pair_at, thread_at}
 use Rattle.um_machine.specs.Table as T
-use Rattle.um_words.specs.declared.fine.FineAct.{FineAct}
 use Rattle.um_words.specs.declared.row_word.Stage.{Stage}
-use Rattle.um_words.specs.Rows.{has, is_dying, is_free, is_last, left_of}
+use Rattle.um_words.specs.Rows.{has, is_dying, is_free, is_last}
 use Rattle.um_fine.specs.Addresses.{address_of}
 use Rattle.um_fine.specs.Answers.{act_in, left_in, row_in}
 use Rattle.um_fine.specs.Context.{Context}
 use Rattle.um_fine.specs.Scheduler.{parked_at}
-use Rattle.um_fine.specs.Steps.{FineStep, Site}
-use Rattle.um_fine.specs.Sites.{SiteState, site_answers}
+use Rattle.um_fine.specs.Steps.{FineStep}
 use Rattle.um_fine.specs.Places.{Todo, Todos, emptying}
 use Rattle.um_fine.specs.Asks.{CpuMay, by_me, fits, is_dropped, says}
 use Rattle.um_erasure.specs.Fine.{Fine, one_if, row, scheduler}
@@ -36,12 +34,12 @@ use Rattle.um_erasure.specs.Objects.{is_reserved, status_of}
 use Rattle.um_erasure.specs.Threads.{IsOf, flags_of, occurs, places, runs_on}
 use Rattle.um_erasure.specs.Relation.{Rel}
 use Rattle.um_erasure.proofs.Erased.{Goes, GoesBy}
-use Rattle.um_erasure.proofs.DropSteps.{Held, dropped-has, left-here}
+use Rattle.um_erasure.proofs.DropSteps.{Held, dropped-has, left-here, left-there}
 use Rattle.um_erasure.proofs.FirstThreads.{one-most}
 use Rattle.um_erasure.proofs.HeldRows.{flagged-occurs, one-some, some-part}
 use Rattle.um_erasure.proofs.MemorySteps.{part-total}
 use Rattle.um_erasure.proofs.ResumeSteps.{some-is}
-use Rattle.um_erasure.proofs.RowSteps.{row-stands, settled}
+use Rattle.um_erasure.proofs.RowSteps.{settled}
 use Rattle.um_erasure.proofs.VisitSteps.{Visits, pair-is, visit-act, visit-part, visit-shows, visit-site}
 
 -- What is known of the machine: it has no more threads and rows than the bounds say, and a thread that is in no call holds nothing by one.
@@ -250,9 +248,7 @@ module _ {f : Fine} {m : State} {k : ℕ} {e : FineStep} {y who : ℕ} {todo : T
       let t = (f.processors k).context.thread in
       let act = Act.DropPair (to_thread who) (address_of f.image y) (left_in (act_in e.act)) in
       let said = visit-shows h act (visit-act h) in
-      let here = subst (λ (s : SiteState). site_answers f.image s e.moved (by_me f.image (f.processors k) act) ≡ by_me f.image (f.processors k) act) (row-stands f m h.rel y)
-      (subst (λ (z : Site × FineAct). site_answers f.image (f.sites z.0) e.moved z.1 ≡ z.1) (λ j. (visit-site h j, said j)) (ap (λ (s : FineStep). s.act) h.taken.filled_in)) in
-      let left : left_of (row f y) who ≡ left_in (act_in e.act) = ap (λ z. left_in (act_in z)) here in
+      let left = left-there h who (visit-site h) said in
       let there : has (row f y) who ≡ true = dropped-has (has (row f y) who) (is_last (row f y) who) (ap is_dropped left ∙ drop-found) in
       let few : own_row f.image who < ROWS = subst (λ n. n < ROWS) (sym object-at.0) object-at.1 in
       let may = cleans-may f m h.rel calls k (own_row f.image who) h.there few cleans-own in

@@ -27,23 +27,22 @@ use Rattle.um_erasure.specs.Fine.{Fine, one_if, row}
 use Rattle.um_erasure.specs.Frames.{Behind}
 use Rattle.um_erasure.specs.Lists.{counted, is_recycle}
 use Rattle.um_erasure.specs.Objects.{recyclers}
-use Rattle.um_erasure.specs.Offers.{Fits}
 use Rattle.um_erasure.proofs.CellSteps.{idle-count, takes-quiet}
 use Rattle.um_erasure.proofs.CleanersPart.{cleaners-part}
-use Rattle.um_erasure.proofs.CleanersSteps.{frame, rec-sum}
-use Rattle.um_erasure.proofs.CleaningFacts.{count-cons}
+use Rattle.um_erasure.proofs.CleanersSteps.{rec-sum}
 use Rattle.um_erasure.proofs.CleanSteps.{OwnRows}
 use Rattle.um_erasure.proofs.ContentsKept.{IsBeside, beside-kept, drop-kept, work-objects}
 use Rattle.um_erasure.proofs.DomainFacts.{two-parts}
-use Rattle.um_erasure.proofs.Erased.{later}
+use Rattle.um_erasure.proofs.Erased.{around, later}
 use Rattle.um_erasure.proofs.FirstThreads.{one-most}
 use Rattle.um_erasure.proofs.Leaves.{Lawful, Leaves, cleans, drops, event, nothing, passes, recycles, resumes}
-use Rattle.um_erasure.proofs.ListCounts.{recycles-of, takes-counts}
-use Rattle.um_erasure.proofs.ListGrips.{next-thread, read-rests}
+use Rattle.um_erasure.proofs.ListCounts.{count-cons, recycles-of, takes-counts}
+use Rattle.um_erasure.proofs.ListGrips.{next-thread}
 use Rattle.um_erasure.proofs.ListGrowth.{ReadsLast, is_end}
 use Rattle.um_erasure.proofs.MemorySteps.{part-total}
 use Rattle.um_erasure.proofs.ObjectsKept.{set-kept}
 use Rattle.um_erasure.proofs.SchedulerSteps.{made-says}
+use Rattle.um_erasure.proofs.StepReads.{is-behind}
 use Rattle.um_erasure.proofs.Sums.{over-changed}
 use Rattle.um_erasure.proofs.WordsKept.{IsShown}
 
@@ -54,19 +53,11 @@ cleaner-beside : IsBeside cleaner_of
 cleaner-beside = record { status = λ o status. refl; public = λ o. refl; init = λ o init. refl }
 
 module _ (f : Fine) (m : State) (e : FineStep) (law : Lawful f m e) (x : ℕ) (few : x < ROWS) where
-  abbrev p : Processor
-  p = f.processors e.cpu
-
-  abbrev now : Processor
-  now = p_next f.image p e
+  open around f e use {processor as p, now}
+  open is-behind f m e law use {frame, last-shown}
 
   abbrev Recs : Todos → ℕ
   Recs todo = counted (is_recycle x) todo
-
-  last-shown : (q : Pending) (rest : Steps) (todo : Todos) → p.todo ≡ Todo.show q rest ∷ todo → ReadsLast e (Todo.show q rest) todo
-  last-shown q rest todo at read =
-      (subst (Fits f.image p.context) at (law.rel.processors e.cpu law.by.named).list.fits).1
-      ∙ read-rests f.image p p.context q e.act (made-says f m e law (Todo.show q rest ∷ todo) at) read
 
   -- What the machine makes of the cleaner: it stays, it is none, or it is the thread that visits a permission of the object's thread.
 
@@ -202,7 +193,7 @@ module _ (f : Fine) (m : State) (e : FineStep) (law : Lawful f m e) (x : ℕ) (f
     where
       ends : (q : Todo) (todo : Todos) → p.todo ≡ q ∷ todo → (b : Bool) → is_end q ≡ b → now.context.thread ≡ p.context.thread
       ends q todo at false h = next-thread f.image p e q todo at h
-      ends q todo at true h = absurd (last q h at (frame f m e law x few q todo at))
+      ends q todo at true h = absurd (last q h at (frame q todo at))
         where
           last : (q : Todo) → is_end q ≡ true → p.todo ≡ q ∷ todo → Behind f.image q todo → ⊥
           last Todo.park h at b = let none : Recs p.todo ≡ 0 = ap Recs (at ∙ ap (λ (z : Todos). Todo.park ∷ z) b) in omega (arith, some, none)

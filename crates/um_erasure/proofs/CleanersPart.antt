@@ -41,12 +41,10 @@ use Rattle.um_erasure.specs.Cleaning.{AreBlocks, CleanersAre}
 use Rattle.um_erasure.specs.Fine.{Fine, one_if, row}
 use Rattle.um_erasure.specs.Lists.{counted, is_recycle, is_vacate}
 use Rattle.um_erasure.specs.Objects.{recyclers, vacaters}
-use Rattle.um_erasure.specs.Offers.{Fits}
 use Rattle.um_erasure.proofs.ListGrowth.{ReadsLast}
-use Rattle.um_erasure.proofs.Erased.{stepped}
+use Rattle.um_erasure.proofs.Erased.{around}
 use Rattle.um_erasure.proofs.Leaves.{Lawful, Leaves}
-use Rattle.um_erasure.proofs.ListCounts.{vacates-none}
-use Rattle.um_erasure.proofs.ListGrips.{read-rests}
+use Rattle.um_erasure.proofs.ListCounts.{cleans-none}
 use Rattle.um_erasure.proofs.SchedulerSteps.{made-at, made-says}
 use Rattle.um_erasure.proofs.DomainFacts.{two-parts}
 use Rattle.um_erasure.proofs.FirstThreads.{one-most}
@@ -60,6 +58,7 @@ use Rattle.um_erasure.proofs.Offered.{IsStep, Shows, shown-offers, site-is}
 use Rattle.um_erasure.proofs.PairsKept.{row-untouched}
 use Rattle.um_erasure.proofs.RowClaims.{row-claims, won}
 use Rattle.um_erasure.proofs.RowSteps.{named-row, row-says}
+use Rattle.um_erasure.proofs.StepReads.{is-behind}
 use Rattle.um_erasure.proofs.VisitSteps.{visit-site}
 use Rattle.um_erasure.proofs.WordsKept.{IsShown}
 use Rattle.um_erasure.proofs.Writes.{Makes}
@@ -123,22 +122,14 @@ verdict_from stands w t mode want =
     else Plain.init_verdict want w.init
 
 module _ (f : Fine) (m : State) (e : FineStep) (law : Lawful f m e) (x : ℕ) (few : x < ROWS) where
-  abbrev later : Fine
-  later = stepped f.image f.cpus f.processors f.sites e
-
-  abbrev p : Processor
-  p = f.processors e.cpu
+  open around f e use {later, processor as p}
+  open is-behind f m e law use {last-shown}
 
   abbrev Gone : State → Bool
   Gone s = Plain.is_gone (object_at s x).status
 
   abbrev Result : State → Type 0
   Result s = CleanersAre later s x
-
-  last-shown : (q : Pending) (rest : Steps) (todo : Todos) → p.todo ≡ Todo.show q rest ∷ todo → ReadsLast e (Todo.show q rest) todo
-  last-shown q rest todo at read =
-      (subst (Fits f.image p.context) at (law.rel.processors e.cpu law.by.named).list.fits).1
-      ∙ read-rests f.image p p.context q e.act (made-says f m e law (Todo.show q rest ∷ todo) at) read
 
   -- A step that no trace shows.
 
@@ -387,12 +378,12 @@ module _ (f : Fine) (m : State) (e : FineStep) (law : Lawful f m e) (x : ℕ) (f
           let all = most in
           ap (λ n. counted (is_vacate x) (f.processors n).todo) (sym (eqb-true e.cpu k q))
           ∙ (ap (counted (is_vacate x)) at
-          ∙ vacates-none f.image x todo (subst (AreBlocks f.image) at (law.rel.processors e.cpu law.by.named).blocks) (omega (arith, part, mine, all)))
+          ∙ (cleans-none f.image x todo (subst (AreBlocks f.image) at (law.rel.processors e.cpu law.by.named).blocks) (omega (arith, part, mine, all))).1)
       by k l false q =
           let both = two-parts (λ j. counted (is_recycle x) (f.processors j).todo) f.cpus e.cpu k law.by.named l (eqb-false e.cpu k q) in
           let mine = here in
           let all = most in
-          vacates-none f.image x (f.processors k).todo (law.rel.processors k l).blocks (omega (arith, both, mine, all))
+          (cleans-none f.image x (f.processors k).todo (law.rel.processors k l).blocks (omega (arith, both, mine, all))).1
 
   recycle-case : (y : ℕ) (rest : Steps) (todo : Todos) → p.todo ≡ Todo.recycle y ∷ todo → e.act ≡ by_me f.image p (Act.Recycle (address_of f.image y)) → Result (T.after m p.context.thread y Pending.Recycle rest)
   recycle-case y rest todo at said = by (x == y) refl

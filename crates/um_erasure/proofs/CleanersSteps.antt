@@ -21,38 +21,31 @@ use Rattle.um_words.specs.declared.row_word.Stage.{Stage}
 use Rattle.um_words.specs.Rows.{counted_row, dropped, gone_stage, has, is_cleaning, is_dying, is_free, is_last, is_live, left_of, permitted, row_after, row_takes}
 use Rattle.um_fine.specs.Answers.{act_in, left_in, row_in}
 use Rattle.um_fine.specs.Asks.{begins_cleaning}
-use Rattle.um_fine.specs.Follows.{p_next, row_number}
+use Rattle.um_fine.specs.Follows.{row_number}
 use Rattle.um_fine.specs.Places.{Todo, Todos}
-use Rattle.um_fine.specs.Processor.{Processor}
 use Rattle.um_fine.specs.Sites.{SiteState, s_next, same_site, site_after, site_answers, site_takes, word_of}
 use Rattle.um_fine.specs.Steps.{FineStep, Site}
 use Rattle.um_fine.proofs.Keys.{same-sound}
 use Rattle.um_erasure.specs.Cleaning.{CleanersAre}
 use Rattle.um_erasure.specs.Fine.{Fine, one_if, over_processors, row, row_state}
-use Rattle.um_erasure.specs.Frames.{AreFramed, Behind}
 use Rattle.um_erasure.specs.Lists.{counted, is_recycle, is_vacate}
 use Rattle.um_erasure.specs.Objects.{is_reserved, recyclers, status_of, vacaters}
 use Rattle.um_erasure.proofs.ListGrowth.{ReadsLast}
 use Rattle.um_erasure.proofs.DomainReads.{eqb-swap}
 use Rattle.um_erasure.proofs.DropSteps.{left-here}
-use Rattle.um_erasure.proofs.Erased.{stepped}
+use Rattle.um_erasure.proofs.Erased.{around}
 use Rattle.um_erasure.proofs.Leaves.{Lawful}
-use Rattle.um_erasure.proofs.ListCounts.{begun, next-counts, recycles-of, takes-counts, vacates-of}
+use Rattle.um_erasure.proofs.ListCounts.{begun, count-cons, next-counts, recycles-of, takes-counts, vacates-of}
 use Rattle.um_erasure.proofs.Reachable.{sound-held}
 use Rattle.um_erasure.proofs.RowSteps.{row-stands, settled}
 use Rattle.um_erasure.proofs.SchedulerSteps.{made-at, made-says, word-left}
+use Rattle.um_erasure.proofs.StepReads.{is-behind}
 use Rattle.um_erasure.proofs.Sums.{over-changed}
-use Rattle.um_erasure.proofs.CleaningFacts.{begins-stage, count-cons, left-gone, loud-left, quiet-left, row-site, takes_last}
+use Rattle.um_erasure.proofs.CleaningFacts.{begins-stage, left-gone, loud-left, quiet-left, row-site, takes_last}
 
 module _ (f : Fine) (m : State) (e : FineStep) (law : Lawful f m e) (x : ℕ) (few : x < ROWS) where
-  abbrev pub later : Fine
-  later = stepped f.image f.cpus f.processors f.sites e
-
-  abbrev pub p : Processor
-  p = f.processors e.cpu
-
-  abbrev pub now : Processor
-  now = p_next f.image p e
+  open around f e use {later, processor as p, now}
+  open is-behind f m e law use {frame}
 
   pub was : CleanersAre f m x
   was = (law.rel.rows x few).cleaners
@@ -91,9 +84,6 @@ module _ (f : Fine) (m : State) (e : FineStep) (law : Lawful f m e) (x : ℕ) (f
   abbrev pub gain : Bool → ℕ → ℕ
   gain true y = one_if (x == y)
   gain false y = 0
-
-  pub frame : (q : Todo) (todo : Todos) → p.todo ≡ q ∷ todo → Behind f.image q todo
-  frame q todo at = (subst (AreFramed f.image) at (law.rel.processors e.cpu law.by.named).frames).0
 
   pub vacates-gain : (b : Bool) → begun (is_vacate x) (vacates-of x) f.image e b ≡ gain b (row_number e.site)
   vacates-gain true = elim (x == row_number e.site) as (λ c. (if c then 0 + 1 else 0) ≡ one_if c) [ true ↦ refl | false ↦ refl ]

@@ -1,5 +1,5 @@
 -- Facts of steps that begin a cleaning, and of drops that take the last permission.
-use Rattle.std.proofs.Common.{◌≡◌, ℕ, ◌+◌, ◌<◌, Bool, true, false, ◌∷◌, refl, ap, arith}
+use Rattle.std.proofs.Common.{◌≡◌, ℕ, ◌<◌, Bool, true, false, refl, ap}
 use Rattle.std.specs.Prelude.{◌&&◌, not, IsTrue, if◌then◌else◌, length}
 use Rattle.std.proofs.lemmas.Bool.{false≢true, true≢false}
 use Rattle.std.proofs.lemmas.List.{get_or-set_other, get_or-set_same}
@@ -11,15 +11,13 @@ use Rattle.um_machine.specs.State.{State, object_at, vacant, with_object}
 use Rattle.um_machine.specs.Table as T
 use Rattle.um_words.specs.declared.fine.FineAct.{FineAct}
 use Rattle.um_words.specs.declared.fine.Unseen.{Unseen}
-use Rattle.um_words.specs.Rows.{is_cleaning}
+use Rattle.um_words.specs.declared.row_word.Stage.{Stage}
+use Rattle.um_words.specs.Rows.{is_cleaning, is_dying, is_free}
 use Rattle.um_fine.specs.Answers.{left_in, row_in}
 use Rattle.um_fine.specs.Asks.{begins_cleaning}
 use Rattle.um_fine.specs.Follows.{row_number}
-use Rattle.um_fine.specs.Places.{Todo, Todos}
 use Rattle.um_fine.specs.Sites.{SiteState, is_sort, site_after, word_of}
 use Rattle.um_fine.specs.Steps.{Exchange, FineStep, Site}
-use Rattle.um_erasure.specs.Fine.{one_if}
-use Rattle.um_erasure.specs.Lists.{counted}
 
 -- A step that begins a cleaning is made at a row, and leaves it in cleaning.
 
@@ -83,5 +81,8 @@ drop-status s who y x = by (T.dropped s who y)
       λ l h. ap (λ (o : Object). o.status) (get_or-set_same s.objects y (record (object_at s y) { status = Status.Gone }) vacant l),
     )
 
-pub count-cons : (test : Todo → Bool) (q : Todo) (todo : Todos) → counted test (q ∷ todo) ≡ one_if (test q) + counted test todo
-count-cons test q todo = elim (test q) as (λ b. (if b then counted test todo + 1 else counted test todo) ≡ one_if b + counted test todo) [ true ↦ omega arith | false ↦ omega arith ]
+-- a row whose last claim ends is free as before
+pub ends-free : (st : Stage) (b : Bool) → is_free (if is_dying st && b then Stage.Cleaning else st) ≡ is_free st
+ends-free Stage.Dying true = refl
+ends-free Stage.Dying false = refl
+ends-free st b = refl

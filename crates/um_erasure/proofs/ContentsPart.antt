@@ -31,29 +31,27 @@ use Rattle.um_fine.specs.Asks.{begins_cleaning, moves, says_show}
 use Rattle.um_fine.specs.Follows.{row_number}
 use Rattle.um_fine.specs.Objects.{ObjectCell, work_on}
 use Rattle.um_fine.specs.Places.{Todo, Todos}
-use Rattle.um_fine.specs.Processor.{Processor}
 use Rattle.um_fine.specs.Sites.{same_site}
 use Rattle.um_fine.specs.Steps.{FineStep, Site}
 use Rattle.um_erasure.specs.Fine.{Fine, object, one_if, row}
 use Rattle.um_erasure.specs.Lists.{has_steps, is_recycle, is_wipe}
 use Rattle.um_erasure.specs.Objects.{ContentsAre, cell_of, empty_cell, recyclers, wipers}
-use Rattle.um_erasure.specs.Offers.{Fits}
 use Rattle.um_erasure.proofs.CellSteps.{cell-else, cell-here, idle-count, is_on_cell, none-wipes, off-cell, recycles-cleared, takes-quiet, wipe-sum, wipers-few}
 use Rattle.um_erasure.proofs.CleanersSteps.{gain, no-gain, rec-sum}
 use Rattle.um_erasure.proofs.ContentsKept.{beside-kept, cell-beside, drop-kept, work-objects}
 use Rattle.um_erasure.proofs.DomainReads.{eqb-swap}
-use Rattle.um_erasure.proofs.Erased.{stepped}
+use Rattle.um_erasure.proofs.Erased.{around}
 use Rattle.um_erasure.proofs.HeldRows.{checked-claimed, claimed-whole}
 use Rattle.um_erasure.proofs.LawfulSteps.{Suits}
 use Rattle.um_erasure.proofs.Leaves.{Lawful, Leaves, cleans, drops, event, nothing, passes, recycles, resumes}
 use Rattle.um_erasure.proofs.ListCounts.{recycles-of, takes-counts, wipes-of}
-use Rattle.um_erasure.proofs.ListGrips.{read-rests}
 use Rattle.um_erasure.proofs.ListGrowth.{ReadsLast}
 use Rattle.um_erasure.proofs.ObjectsKept.{NoStatuses, born-reserved, drop-free, paired-live, set-kept, status-kept}
 use Rattle.um_erasure.proofs.Offered.{IsStep, Shows, own-part, shown-offers, shown-on, site-is}
 use Rattle.um_erasure.proofs.RowSteps.{named-row}
 use Rattle.um_erasure.proofs.Says.{work-agrees}
 use Rattle.um_erasure.proofs.SchedulerSteps.{made-at, made-says}
+use Rattle.um_erasure.proofs.StepReads.{is-behind}
 use Rattle.um_erasure.proofs.WordsKept.{IsShown}
 use Rattle.um_erasure.proofs.Writes.{Makes}
 
@@ -75,11 +73,8 @@ live-not Status.Free h = absurd (false≢true h)
 live-not Status.Reserved h = absurd (false≢true h)
 
 module _ (f : Fine) (m : State) (e : FineStep) (law : Lawful f m e) (suits : Suits f m) (names : NamesHeld m) (x : ℕ) (few : x < ROWS) where
-  abbrev later : Fine
-  later = stepped f.image f.cpus f.processors f.sites e
-
-  abbrev p : Processor
-  p = f.processors e.cpu
+  open around f e use {later, processor as p}
+  open is-behind f m e law use {last-shown}
 
   abbrev Result : State → Type 0
   Result s = ContentsAre later s x
@@ -124,11 +119,6 @@ module _ (f : Fine) (m : State) (e : FineStep) (law : Lawful f m e) (suits : Sui
       let wipes = idle-count f m e law x few (is_wipe x) (takes-counts (is_wipe x) (wipes-of x) f.image p e at quiet) at in
       let recs = idle-count f m e law x few (is_recycle x) (takes-counts (is_recycle x) (recycles-of x) f.image p e at quiet) at in
       same s 0 (omega (arith, wipes)) (omega (arith, recs)) (cell-else f m e law x few (ap (λ i. same_site i (Site.object x)) (made-at f m e law [] at))) contents free
-
-  last-shown : (q : Pending) (rest : Steps) (todo : Todos) → p.todo ≡ Todo.show q rest ∷ todo → ReadsLast e (Todo.show q rest) todo
-  last-shown q rest todo at read =
-      (subst (Fits f.image p.context) at (law.rel.processors e.cpu law.by.named).list.fits).1
-      ∙ read-rests f.image p p.context q e.act (made-says f m e law (Todo.show q rest ∷ todo) at) read
 
   -- the cell is cleared
   wipes : (z : ℕ) (todo : Todos) → p.todo ≡ Todo.wipe z ∷ todo → Result m

@@ -27,8 +27,7 @@ use Rattle.um_fine.specs.Context.{Context, as_thread}
 use Rattle.um_fine.specs.Continues.{continues, newborn, resumed}
 use Rattle.um_fine.specs.Follows.{after_claim, after_show, after_take, dropped_at, goes_on_by, p_next}
 use Rattle.um_fine.specs.Places.{Todo, Todos}
-use Rattle.um_fine.specs.Processor.{Processor}
-use Rattle.um_fine.specs.Scheduler.{Scheduler, first_taken, one_less, parked_at, put_back, told_at, waits}
+use Rattle.um_fine.specs.Scheduler.{Scheduler, parked_at, put_back, waits}
 use Rattle.um_fine.specs.Sites.{same_site}
 use Rattle.um_fine.specs.Steps.{Exchange, FineStep, Site}
 use Rattle.um_erasure.specs.Fine.{Fine, one_if, scheduler}
@@ -38,7 +37,7 @@ use Rattle.um_erasure.specs.Offers.{Fits, IsPutBack, behind_shown, is_over}
 use Rattle.um_erasure.specs.Threads.{IsOf, IsRun, flags_of, is_ended, own_part, runs_on}
 use Rattle.um_erasure.proofs.CallsKnown.{RestsHoldNothing, starts-below}
 use Rattle.um_erasure.proofs.CallsProper.{AreProper, Closing}
-use Rattle.um_erasure.proofs.Erased.{stepped}
+use Rattle.um_erasure.proofs.Erased.{around}
 use Rattle.um_erasure.proofs.LawfulSteps.{Suits}
 use Rattle.um_erasure.proofs.Leaves.{HasStep, Lawful, Leaves, cleans, drops, event, nothing, passes, recycles, resumes}
 use Rattle.um_erasure.proofs.ListAdders.{next-adds, takes-none}
@@ -50,9 +49,9 @@ use Rattle.um_erasure.proofs.Offered.{Shows, behind-is, own-part, shown-offers}
 use Rattle.um_erasure.proofs.OfKept.{of-kept}
 use Rattle.um_erasure.proofs.OfVisits.{of-drops, of-passes, of-resumes}
 use Rattle.um_erasure.proofs.OwnKept.{starts-another}
-use Rattle.um_erasure.proofs.PartsElsewhere.{Apart, apart-from, of-stays, started-kept, taken-parked, taken-told, takes-first}
+use Rattle.um_erasure.proofs.PartsElsewhere.{Apart, IsTaken, apart-from, of-stays, parks-after, started-kept, taken-parked, taken-told, takes-first}
 use Rattle.um_erasure.proofs.PlacesFacts.{adds-count, lies-here, lies-once, lies-unparked, running-unparked, set-none}
-use Rattle.um_erasure.proofs.RunningPart.{idle-after, is_scheduling, todo-elsewhere}
+use Rattle.um_erasure.proofs.RunningPart.{is_scheduling, todo-elsewhere}
 use Rattle.um_erasure.proofs.SchedulerSteps.{made-at, made-moves, made-says, sched-else, sched-later}
 use Rattle.um_erasure.proofs.StepsLeft.{rests-on, steps-on}
 use Rattle.um_erasure.proofs.ThreadLists.{at-here, set-else}
@@ -94,11 +93,7 @@ is_shown (FineAct.Shown said more) = true
 is_shown (FineAct.Unseen u) = false
 
 module _ (f : Fine) (m : State) (e : FineStep) (law : Lawful f m e) where
-  abbrev p : Processor
-  p = f.processors e.cpu
-
-  abbrev now : Processor
-  now = p_next f.image p e
+  open around f e use {processor as p, now}
 
   -- the own part that the maker has then
   pub now-context : (todo : Todos) → p.todo ≡ todo → now.context ≡ (goes_on_by f.image p e todo).context
@@ -144,8 +139,7 @@ module _ (f : Fine) (m : State) (e : FineStep) (law : Lawful f m e) where
       by Todo.done h said = absurd (true≢false h)
       by r h said = refl
 
-  abbrev later : Fine
-  later = stepped f.image f.cpus f.processors f.sites e
+  open around f e use {later}
 
   -- An own part that lies elsewhere is that of the machine's thread as before.
 
@@ -176,15 +170,15 @@ module _ (f : Fine) (m : State) (e : FineStep) (law : Lawful f m e) where
     -- The thread of the processor that makes the step.
 
     taken-run : (s : State) → RestsHoldNothing m → p.todo ≡ [] → is_shown e.act ≡ false → IsRun m now.context
-    taken-run s rests at quiet = by first.3 first.5
+    taken-run s rests at quiet = by first.told first.moved
       where
-        first : (u : ℕ) × (list : List ℕ) × (d : Context) × (told : Option Told) × ((scheduler f).ready ≡ u ∷ list) × (e.moved ≡ Exchange.thread d told) × (d.thread ≡ u) × (told ≡ told_at (scheduler f) u)
+        first : IsTaken f e
         first = takes-first f m e law at
 
-        by : (told : Option Told) → e.moved ≡ Exchange.thread first.2 told → IsRun m now.context
+        by : (told : Option Told) → e.moved ≡ Exchange.thread first.context told → IsRun m now.context
         by None moved =
             subst (IsRun m) (sym (now-context [] at ∙ ap (λ (mv : Exchange). (after_take f.image p mv).context) moved))
-            (run-of m first.2 rests (law.rel.contexts.parked first.2.thread first.2 (taken-parked f m e law at first.2 None moved)).0)
+            (run-of m first.context rests (law.rel.contexts.parked first.context.thread first.context (taken-parked f m e law at first.context None moved)).0)
         by (Some w) moved = absurd (false≢true (sym quiet ∙ ap is_shown (made-says f m e law [] at ∙ ap (says_idle f.image p) moved)))
 
     quiet-run : RestsHoldNothing m → runs now ≡ true → is_shown e.act ≡ false → (todo : Todos) → p.todo ≡ todo → IsRun m now.context
@@ -306,47 +300,36 @@ module _ (f : Fine) (m : State) (e : FineStep) (law : Lawful f m e) where
       old q todo at c there = parked-stays s leaves t c there (λ d told idle. absurd (not-idle q todo at idle))
 
       taken : p.todo ≡ [] → IsParked s t c
-      taken at = which (t == first.0) refl
+      taken at = which (t == first.thread) refl
         where
-          first : (u : ℕ) × (list : List ℕ) × (d : Context) × (told : Option Told) × ((scheduler f).ready ≡ u ∷ list) × (e.moved ≡ Exchange.thread d told) × (d.thread ≡ u) × (told ≡ told_at (scheduler f) u)
+          first : IsTaken f e
           first = takes-first f m e law at
 
-          after : scheduler later ≡ first_taken (scheduler f) (first.0 ∷ first.1)
-          after = sched-later f m e law (made-at f m e law [] at) (says_idle f.image p e.moved) (made-says f m e law [] at) ∙ (idle-after f.image p (scheduler f) e.moved ∙ ap (first_taken (scheduler f)) first.4)
-
-          stands : slice_index_or (slice_set (scheduler f).parked first.0 None) t None ≡ Some c
-          stands = sym (ap (λ (z : Scheduler). parked_at z t) after) ∙ there
+          stands : slice_index_or (slice_set (scheduler f).parked first.thread None) t None ≡ Some c
+          stands = sym (ap (λ (z : Scheduler). parked_at z t) first.after) ∙ there
 
           thread_in : Exchange → ℕ
           thread_in (Exchange.thread d w) = d.thread
           thread_in moved = 0
 
-          which : (b : Bool) → (t == first.0) ≡ b → IsParked s t c
+          which : (b : Bool) → (t == first.thread) ≡ b → IsParked s t c
           which true same =
-              absurd (false≢true (ap is_some (sym (subst (λ n. slice_index_or (slice_set (scheduler f).parked first.0 None) n None ≡ None) (sym (eqb-true t first.0 same)) (set-none (scheduler f).parked first.0)) ∙ stands)))
+              absurd (false≢true (ap is_some (sym (subst (λ n. slice_index_or (slice_set (scheduler f).parked first.thread None) n None ≡ None) (sym (eqb-true t first.thread same)) (set-none (scheduler f).parked first.thread)) ∙ stands)))
           which false other =
-              let apart = eqb-false t first.0 other in
-              parked-stays s leaves t c (sym (get_or-set_other (scheduler f).parked first.0 t None None apart) ∙ stands)
-              (λ d told idle moved same. apart (sym same ∙ (ap thread_in (sym moved ∙ first.5) ∙ first.6)))
+              let apart = eqb-false t first.thread other in
+              parked-stays s leaves t c (sym (get_or-set_other (scheduler f).parked first.thread t None None apart) ∙ stands)
+              (λ d told idle moved same. apart (sym same ∙ (ap thread_in (sym moved ∙ first.moved) ∙ first.same)))
 
       parks : (todo : Todos) → p.todo ≡ Todo.park ∷ todo → IsParked s t c
       parks todo at =
           puts-back s t (ready_in e.act) p.context c (of-stays f m e law s leaves p.context of (apart-scheduling s leaves Todo.park todo at refl p.context.thread), refl, lives, fits.0) of.index
-          (sym (ap (λ (z : Scheduler). parked_at z t) after) ∙ there) (old Todo.park todo at)
+          (sym (ap (λ (z : Scheduler). parked_at z t) (parks-after f m e law todo at)) ∙ there) (old Todo.park todo at)
         where
           fits : IsPutBack p.context × (is_over p.context ≡ false) × (todo ≡ [])
           fits = subst (Fits f.image p.context) at (law.rel.processors e.cpu law.by.named).list.fits
 
           of : IsOf m p.context
           of = (law.rel.contexts.running e.cpu law.by.named (ap has_steps at)).of fits.1
-
-          act : FineAct
-          act = FineAct.Unseen (Unseen.Park (to_thread p.context.thread) (ready_in e.act))
-
-          after : scheduler later ≡ one_less (put_back (scheduler f) (ready_in e.act) p.context)
-          after =
-              sched-later f m e law (made-at f m e law (Todo.park ∷ todo) at) act (made-says f m e law (Todo.park ∷ todo) at)
-              ∙ ap (λ (mv : Exchange). one_less (put_back (scheduler f) (ready_in e.act) (context_in mv))) (made-moves f m e law (Todo.park ∷ todo) at)
 
           -- one that has ended has no step to wait for, so it would be over
           lives : p.context.ended ≡ false

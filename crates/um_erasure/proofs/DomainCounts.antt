@@ -15,22 +15,23 @@ use Rattle.um_words.specs.declared.fine.Unseen.{Unseen}
 use Rattle.um_words.specs.Domains.{counted_domain, domain_after, domain_takes}
 use Rattle.um_fine.specs.Answers.{domain_in}
 use Rattle.um_fine.specs.Asks.{begins_cleaning, check_site, says, site_of_step}
-use Rattle.um_fine.specs.Follows.{after_claim, goes_on_by, p_next, unless_loaded}
+use Rattle.um_fine.specs.Follows.{after_claim, goes_on_by, unless_loaded}
 use Rattle.um_fine.specs.Places.{Todo, Todos}
 use Rattle.um_fine.specs.Processor.{Processor, fails, is_of, key_of}
 use Rattle.um_fine.specs.Sites.{same_site}
 use Rattle.um_fine.specs.Steps.{FineStep, Site}
 use Rattle.um_erasure.specs.Domains.{reads}
 use Rattle.um_erasure.specs.Fine.{Fine, domain, one_if, over_processors}
-use Rattle.um_erasure.specs.Frames.{AreFramed, Behind, access_over}
+use Rattle.um_erasure.specs.Frames.{Behind, access_over}
 use Rattle.um_erasure.specs.Lists.{edits, edits_step, is_hold, is_move_done, moves_step, moves_to}
 use Rattle.um_erasure.specs.Offers.{Fits, behind_shown}
-use Rattle.um_erasure.proofs.Erased.{later}
+use Rattle.um_erasure.proofs.Erased.{around, later}
 use Rattle.um_erasure.proofs.Leaves.{Lawful}
 use Rattle.um_erasure.proofs.ListGrips.{read-rests}
 use Rattle.um_erasure.proofs.ListGrowth.{ReadsLast, is_read_claim}
 use Rattle.um_erasure.proofs.ListTails.{exact-next, tail-read, takes-read}
 use Rattle.um_erasure.proofs.SchedulerSteps.{made-at, made-says}
+use Rattle.um_erasure.proofs.StepReads.{is-behind}
 use Rattle.um_erasure.proofs.Sums.{over-changed, over-same}
 use Rattle.um_erasure.proofs.DomainWords.{word-else, word-here, word-takes}
 use Rattle.um_erasure.proofs.DomainReads.{claimed, claimed-reads, edits-behind, edits-no-move, edits-one, edits-reads, either-claimed, either-edits, either-moves, eqb-swap, is_plain, is_told, memory-moves-none, moves-behind, moves-reads, next-domain, next-reply, or-false, plain-claim, plain-last, plain-list, plain-site}
@@ -46,17 +47,11 @@ pub record CountsAre (g : Fine) (d : ℕ) : Type 0 where
   pub apart : (domain g d).writer ≡ true → (domain g d).readers ≡ 0
 
 module _ (f : Fine) (m : State) (e : FineStep) (law : Lawful f m e) (d : ℕ) (few : d < length f.image.domains) where
-  abbrev p : Processor
-  p = f.processors e.cpu
-
-  abbrev now : Processor
-  now = p_next f.image p e
+  open around f e use {processor as p, now}
+  open is-behind f m e law use {frame}
 
   abbrev reading : Processor → Bool
   reading z = (claimed z.todo && (z.domain == d)) || moves_to d z.reply z.todo
-
-  frame : (q : Todo) (todo : Todos) → p.todo ≡ q ∷ todo → Behind f.image q todo
-  frame q todo at = (subst (AreFramed f.image) at (law.rel.processors e.cpu law.by.named).frames).0
 
   edit-counts : (n k : ℕ) → one_if (edits d p.todo) ≡ n → one_if (edits d now.todo) ≡ k
       → over_processors (later f e) (λ z. one_if (edits d z.todo)) + n ≡ over_processors f (λ z. one_if (edits d z.todo)) + k

@@ -26,7 +26,7 @@ use Rattle.um_erasure.proofs.ListGrowth.{either-look}
 use Rattle.um_erasure.proofs.ListTails.{Reads, is_passed}
 use Rattle.um_erasure.proofs.DomainReads.{or-false}
 use Rattle.um_erasure.proofs.MemorySteps.{part-total}
-use Rattle.um_erasure.proofs.Writes.{Keeping, Makes, Part, after-kept, domains, reads-keeping}
+use Rattle.um_erasure.proofs.Writes.{Makes, Part, domains, read-same, reads-keeping}
 
 -- The machine: which steps leave its domains.
 
@@ -34,15 +34,8 @@ abbrev pub NoDomains : Part → Type 0
 NoDomains domains = ⊥
 NoDomains part = Unit {0}
 
-module _ (m : State) where
-  abbrev SameDomains : State → Type 0
-  SameDomains s = s.domains ≡ m.domains
-
-  domains-keeping : Keeping NoDomains SameDomains
-  domains-keeping = reads-keeping NoDomains (λ s. s.domains) m.domains (λ s threads. refl) (λ s objects. refl) (λ s bytes. (refl, refl)) (λ may s u x there. refl) (λ may s left. refl) (λ may s d ps. absurd may)
-
-  pub domains-same : (t x : ℕ) (q : Pending) (rest : Steps) → Makes NoDomains q → (T.after m t x q rest).domains ≡ m.domains
-  domains-same t x q rest h = after-kept NoDomains SameDomains domains-keeping m t refl x q rest h
+pub domains-same : (m : State) (t x : ℕ) (q : Pending) (rest : Steps) → Makes NoDomains q → (T.after m t x q rest).domains ≡ m.domains
+domains-same m = read-same NoDomains (λ s. s.domains) m (reads-keeping NoDomains (λ s. s.domains) m.domains (λ s threads. refl) (λ s objects. refl) (λ s bytes. (refl, refl)) (λ may s u x there. refl) (λ may s left. refl) (λ may s d ps. absurd may))
 
 -- what an edit makes of a domain leaves it initialised, and initialises it where it replies so
 pub some-stays : (ps : Partitions) (made : Result Partitions Errno) → is_some (domain_after (Some ps) made) ≡ true

@@ -31,13 +31,13 @@ use Rattle.um_fine.specs.Steps.{Exchange, FineStep, Site}
 use Rattle.um_fine.proofs.Keys.{same-itself, same-sound}
 use Rattle.um_erasure.specs.Domains.{DomainIs}
 use Rattle.um_erasure.specs.Fine.{Fine, domain, domain_state, one_if, parts, parts_state, total}
-use Rattle.um_erasure.specs.Frames.{AreFramed, Behind, OnMemory, access_over}
+use Rattle.um_erasure.specs.Frames.{Behind, OnMemory, access_over}
 use Rattle.um_erasure.specs.Lists.{edited, edits, edits_step}
 use Rattle.um_erasure.specs.Offers.{Fits, behind_shown}
 use Rattle.um_erasure.proofs.DomainCounts.{domain-counts}
 use Rattle.um_erasure.proofs.DomainWords.{word-else, word-here}
 use Rattle.um_erasure.proofs.DomainReads.{edits-one, eqb-swap, is_told, memory-edits-none, next-reply, or-false}
-use Rattle.um_erasure.proofs.Erased.{stepped}
+use Rattle.um_erasure.proofs.Erased.{around}
 use Rattle.um_erasure.proofs.Leaves.{Lawful, Leaves, cleans, drops, event, nothing, passes, recycles, resumes}
 use Rattle.um_erasure.proofs.ListGrips.{read-rests}
 use Rattle.um_erasure.proofs.ListGrowth.{ReadsLast, is_read_claim}
@@ -45,6 +45,7 @@ use Rattle.um_erasure.proofs.ListTails.{exact-next, tail-read, takes-read}
 use Rattle.um_erasure.proofs.MemorySteps.{part-total}
 use Rattle.um_erasure.proofs.Offered.{IsStep, Shows, site-is}
 use Rattle.um_erasure.proofs.SchedulerSteps.{made-at, made-says}
+use Rattle.um_erasure.proofs.StepReads.{is-behind}
 use Rattle.um_erasure.proofs.WordsKept.{IsShown}
 use Rattle.um_erasure.proofs.Writes.{Makes}
 use Rattle.um_erasure.proofs.DomainFacts.{init-else, NoDomains, adds-some, domains-same, edited-edits, edited-reads, inits-some, is_edit, is_init, is_init_act, is_neither, is_unseen, one-at-most, removes-some, two-parts, visits-no-edit}
@@ -57,14 +58,8 @@ record StandsFor (g : Fine) (s : State) (d : ℕ) : Type 0 where
       → let made = edit_of g.image q (T.domain_at s d) in (parts g d ≡ domain_after (T.domain_at s d) made) × ((g.processors k).reply ≡ reply_to made)
 
 module _ (f : Fine) (m : State) (e : FineStep) (law : Lawful f m e) (d : ℕ) (few : d < length f.image.domains) where
-  abbrev later : Fine
-  later = stepped f.image f.cpus f.processors f.sites e
-
-  abbrev p : Processor
-  p = f.processors e.cpu
-
-  abbrev now : Processor
-  now = p_next f.image p e
+  open around f e use {later, processor as p, now}
+  open is-behind f m e law use {frame}
 
   was : DomainIs f m d
   was = law.rel.domains d few
@@ -145,9 +140,6 @@ module _ (f : Fine) (m : State) (e : FineStep) (law : Lawful f m e) (d : ℕ) (f
         | true ↦ ap (λ (w : DomWord). w.init) word-left ∙ init-else (domain f d) e.act quiet
         | false ↦ refl
       ]
-
-  frame : (q : Todo) (todo : Todos) → p.todo ≡ q ∷ todo → Behind f.image q todo
-  frame q todo at = (subst (AreFramed f.image) at (law.rel.processors e.cpu law.by.named).frames).0
 
   edited-after : (q : Todo) (todo : Todos) → p.todo ≡ q ∷ todo → is_read_claim q ≡ false → ReadsLast e q todo → edited d now.todo ≡ edited d todo
   edited-after q todo at other last = tail-read f.image (edited d) None (edited-reads f.image d) p e q todo at other (frame q todo at) last

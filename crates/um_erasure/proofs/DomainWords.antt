@@ -23,7 +23,7 @@ use Rattle.um_fine.specs.Steps.{FineStep, Site}
 use Rattle.um_fine.proofs.Keys.{same-itself}
 use Rattle.um_erasure.specs.Fine.{Fine, domain, domain_state}
 use Rattle.um_erasure.proofs.DomainFacts.{NoDomains, domains-same}
-use Rattle.um_erasure.proofs.Erased.{stepped}
+use Rattle.um_erasure.proofs.Erased.{around}
 use Rattle.um_erasure.proofs.Leaves.{Lawful, Leaves, cleans, drops, event, mine, nothing, passes, recycles, resumes}
 use Rattle.um_erasure.proofs.Offered.{IsStep, Shows, site-is}
 use Rattle.um_erasure.proofs.WordsKept.{IsShown}
@@ -59,8 +59,7 @@ either-dom true one two h k = h
 either-dom false one two h k = k
 
 module _ (f : Fine) (m : State) (e : FineStep) (law : Lawful f m e) (d : ℕ) where
-  abbrev later : Fine
-  later = stepped f.image f.cpus f.processors f.sites e
+  open around f e use {later}
 
   pub is-domain : f.sites (Site.domain d) ≡ SiteState.domain (domain f d)
   is-domain = by (f.sites (Site.domain d)) (law.rel.sorts (Site.domain d))

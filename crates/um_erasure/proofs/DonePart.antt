@@ -29,7 +29,7 @@ use Rattle.um_erasure.specs.Threads.{IsOf}
 use Rattle.um_erasure.proofs.CallSteps.{Proper}
 use Rattle.um_erasure.proofs.CallsProper.{AreProper}
 use Rattle.um_erasure.proofs.ContextsPart.{now-context}
-use Rattle.um_erasure.proofs.Erased.{later}
+use Rattle.um_erasure.proofs.Erased.{around, later}
 use Rattle.um_erasure.proofs.Leaves.{Lawful, Leaves}
 use Rattle.um_erasure.proofs.ListDone.{Done, Ends, Read, goes-done, says_done, take-ends, with-cleaned-done}
 use Rattle.um_erasure.proofs.PartsElsewhere.{takes-first}
@@ -50,11 +50,7 @@ word-doomed w (FineAct.Unseen Unseen.LetGo) h = h
 word-doomed w (FineAct.Unseen u) h = h
 
 module _ (f : Fine) (m : State) (e : FineStep) (law : Lawful f m e) where
-  abbrev p : Processor
-  p = f.processors e.cpu
-
-  abbrev now : Processor
-  now = p_next f.image p e
+  open around f e use {processor as p, now}
 
   pub doomed-kept : (s : State) → Leaves f m e s → (v : ℕ) → v < THREADS → (thread_at m v).doomed ≡ true → (thread_at s v).doomed ≡ true
   doomed-kept s leaves v few h = sym (words-part f m e law v few s leaves).doomed ∙ by (same_site e.site (Site.thread v)) refl ((law.rel.threads v few).word.doomed ∙ h)
@@ -139,9 +135,9 @@ module _ (f : Fine) (m : State) (e : FineStep) (law : Lawful f m e) where
       taken : p.todo ≡ [] → IsDone s now.context
       taken at =
           let first = takes-first f m e law at in
-          let after = ap (λ (z : Todos). goes_on_by f.image p e z) at ∙ ap (after_take f.image p) first.5 in
-          let ends = take-ends f.image p first.2 first.3 (ap (λ (z : Processor). says_done z.todo) (sym after) ∙ listed) in
-          ends-done s now.context (subst Ends (sym (now-context f m e law [] at ∙ ap (λ (mv : Exchange). (after_take f.image p mv).context) first.5)) ends)
+          let after = ap (λ (z : Todos). goes_on_by f.image p e z) at ∙ ap (after_take f.image p) first.moved in
+          let ends = take-ends f.image p first.context first.told (ap (λ (z : Processor). says_done z.todo) (sym after) ∙ listed) in
+          ends-done s now.context (subst Ends (sym (now-context f m e law [] at ∙ ap (λ (mv : Exchange). (after_take f.image p mv).context) first.moved)) ends)
 
       goes : (q : Todo) (todo : Todos) → p.todo ≡ q ∷ todo → Done f.image p e q todo → IsDone s now.context
       goes q todo at (inl read) = reads q at read

@@ -102,6 +102,16 @@ clear-below [] (suc n) h = refl
 clear-below (b ∷ bs) zero h = refl
 clear-below (b ∷ bs) (suc n) h = and_from _ _ (not_from_false b (h 0 (omega arith))) (clear-below bs n (λ y l. h (suc y) (omega (arith, l))))
 
+module _ {f : Fine} {m : State} {k : ℕ} {e : FineStep} {x : ℕ} {step : Todo} {todo : Todos} (h : Visits f m k e x step todo) where
+  -- what a dropped permission leaves is what the word of the row tells
+  pub left-there : (who : ℕ) → e.site ≡ Site.row x → e.act ≡ by_me f.image (f.processors k) (Act.DropPair (to_thread who) (address_of f.image x) (left_in (act_in e.act)))
+      → left_of (row f x) who ≡ left_in (act_in e.act)
+  left-there who site said =
+      let act = Act.DropPair (to_thread who) (address_of f.image x) (left_in (act_in e.act)) in
+      ap (λ z. left_in (act_in z))
+      (subst (λ (s : SiteState). site_answers f.image s e.moved (by_me f.image (f.processors k) act) ≡ by_me f.image (f.processors k) act) (row-stands f m h.rel x)
+      (subst (λ (z : Site × FineAct). site_answers f.image (f.sites z.0) e.moved z.1 ≡ z.1) (λ j. (site j, said j)) (ap (λ (s : FineStep). s.act) h.taken.filled_in)))
+
 module _ {f : Fine} {m : State} {k : ℕ} {e : FineStep} {x : ℕ} {todo : Todos} (h : Visits f m k e x (Todo.drop x) todo) where
   drop-fits : Drops f.image (f.processors k).context todo
   drop-fits = subst (Fits f.image (f.processors k).context) h.at (h.rel.processors k h.there).list.fits
@@ -121,9 +131,7 @@ module _ {f : Fine} {m : State} {k : ℕ} {e : FineStep} {x : ℕ} {todo : Todos
       let t = (f.processors k).context.thread in
       let act = Act.DropPair (to_thread t) (address_of f.image x) (left_in (act_in e.act)) in
       let said = visit-shows h act (visit-act h) in
-      let here = subst (λ (s : SiteState). site_answers f.image s e.moved (by_me f.image (f.processors k) act) ≡ by_me f.image (f.processors k) act) (row-stands f m h.rel x)
-      (subst (λ (z : Site × FineAct). site_answers f.image (f.sites z.0) e.moved z.1 ≡ z.1) (λ j. (visit-site h j, said j)) (ap (λ (s : FineStep). s.act) h.taken.filled_in)) in
-      let left : left_of (row f x) t ≡ left_in (act_in e.act) = ap (λ z. left_in (act_in z)) here in
+      let left = left-there h t (visit-site h) said in
       let fit : is_dropped (left_in (act_in e.act)) ≡ true = drop-found in
       let there : has (row f x) t ≡ true = dropped-has (has (row f x) t) (is_last (row f x) t) (ap is_dropped left ∙ fit) in
       let dues = (h.rel.processors k h.there).dues in

@@ -12,7 +12,6 @@ use Rattle.um_base.specs.declared.image.Image.{Image}
 use Rattle.um_base.specs.declared.instr.Instr.{Instr}
 use Rattle.um_base.specs.declared.limits.TheConstants.{ROWS, THREADS}
 use Rattle.um_base.specs.declared.names.Addr.{Addr}
-use Rattle.um_base.specs.declared.names.Errno.{Errno}
 use Rattle.um_base.specs.declared.names.Mode.{Mode}
 use Rattle.um_base.specs.declared.names.Policy.{Policy}
 use Rattle.um_base.specs.declared.names.Reply.{Reply}
@@ -20,7 +19,6 @@ use Rattle.um_base.specs.declared.names.ThreadIx.{ThreadIx}
 use Rattle.um_base.specs.Lawful.{IsLawful}
 use Rattle.um_base.specs.Places.{own_row}
 use Rattle.um_machine.specs.declared.pending.Pending.{Pending}
-use Rattle.um_machine.specs.declared.pending.Refusal.{Refusal}
 use Rattle.um_machine.specs.declared.thread.Thread.{Thread}
 use Rattle.um_machine.specs.Order.{Steps, copy_fails, end_steps, fatal_steps, privileged, steps_of}
 use Rattle.um_machine.specs.Run.{Offers, begins, cleans_pair, exits, goes, recycles, skips_drops, skips_inherit}
@@ -41,6 +39,7 @@ use Rattle.um_erasure.specs.Offers.{behind_shown}
 use Rattle.um_erasure.proofs.ChildSteps.{Creates, InOrder}
 use Rattle.um_erasure.proofs.ChildrenKnown.{AllCreate, Stands}
 use Rattle.um_erasure.proofs.DuesKept.{is_due}
+use Rattle.um_erasure.proofs.Failures.{HoldsOfFailures, check-left, error-left, fails-left}
 use Rattle.um_erasure.proofs.ListDues.{drops-visited, fine-visited, passes-visited}
 use Rattle.um_erasure.proofs.Reachable.{IsSound}
 use Rattle.um_erasure.proofs.WordsKept.{IsShown}
@@ -201,20 +200,8 @@ steps-few image t me (Instr.AllGrant object) = privileged-few me.mode _ tt
 steps-few image t me (Instr.Revoke object thread) = privileged-few me.mode _ tt
 steps-few image t me instr = tt
 
-error-few : (mode : Mode) (ask : Ask) (e : Errno) (rest : Steps) → are_plain rest ≡ true → IsFew (T.after_error mode ask e rest)
-error-few mode (Ask.SemInit count limit) e rest h = tt
-error-few mode Ask.MutexInit e rest h = tt
-error-few mode (Ask.MsgqInit size most pool) e rest h = tt
-error-few mode (Ask.StackInit most pool) e rest h = tt
-error-few mode (Ask.PipeInit size pool) e rest h = tt
-error-few mode ask e rest h = without-few rest h
-
-check-few : (mode : Mode) (rest : Steps) (refusal : Refusal) (v : Option Errno) → are_plain rest ≡ true → IsFew (T.after_check mode rest refusal v)
-check-few mode rest refusal None h = plain-few rest h
-check-few mode rest Refusal.Fails (Some e) h = tt
-check-few Mode.User rest Refusal.FailsUser (Some e) h = tt
-check-few Mode.Supervisor rest Refusal.FailsUser (Some e) h = tt
-check-few mode rest (Refusal.Answers reply) (Some e) h = tt
+failures-few : HoldsOfFailures IsFew
+failures-few = record { fatal = λ reason cause. tt; unbuffer = λ size reason cause. tt; answer = λ reply. tt }
 
 doom-few : (from : ℕ) → IsFew (T.next_doom from)
 doom-few from = elim (nat_lt (from + 1) THREADS) as (λ b. IsFew (if b then Pending.Dooms (from + 1) ∷ [] else [])) [ true ↦ tt | false ↦ tt ]
@@ -234,10 +221,6 @@ module _ (image : Image) (c : Context) where
   abbrev Few : Context → Type 0
   Few d = IsFew d.pending
 
-  fails-few : (mode : Mode) → IsFew (copy_fails mode)
-  fails-few Mode.User = tt
-  fails-few Mode.Supervisor = tt
-
   begun-few : (instr : Option Instr) → Few c → Few (begun image c instr)
   begun-few None h = h
   begun-few (Some instr) h = steps-few image c.thread (as_thread c) instr
@@ -253,7 +236,7 @@ module _ (image : Image) (c : Context) where
 
   work-few : (ask : Ask) (taken : List ℕ) (rest : Steps) (answer : Answer) → are_plain rest ≡ true → Few (after_work image c ask taken rest answer)
   work-few ask taken rest Answer.Wait h = tt
-  work-few ask taken rest (Answer.Now (Reply.Fail e)) h = error-few c.mode ask e rest h
+  work-few ask taken rest (Answer.Now (Reply.Fail e)) h = error-left IsFew failures-few c.mode ask e rest (without-few rest h)
   work-few ask taken rest (Answer.Now Reply.Void) h = plain-few rest h
   work-few ask taken rest (Answer.Now (Reply.Num n)) h = plain-few rest h
   work-few ask taken rest (Answer.Now (Reply.At a)) h = plain-few rest h
@@ -280,13 +263,13 @@ module _ (image : Image) (c : Context) where
   pub continued-few : (q : Pending) (rest : Steps) (act : Act) (moved : Exchange) → Few c → are_plain rest ≡ true → Few (continues image c 0 q rest act moved)
   continued-few Pending.Begin rest act moved was h = begun-few (instruction_at image c.place) was
   continued-few Pending.Exit rest act moved was h = omega arith
-  continued-few (Pending.Check a kind want refusal) rest act moved was h = check-few c.mode rest refusal (verdict_in act) h
+  continued-few (Pending.Check a kind want refusal) rest act moved was h = check-left IsFew failures-few c.mode rest refusal (verdict_in act) (plain-few rest h)
   continued-few (Pending.Load to a n) rest act moved was h = either Few (is_fault act) _ _ tt (plain-few rest h)
   continued-few (Pending.Store a n value) rest act moved was h = either Few (is_fault act) _ _ tt (plain-few rest h)
   continued-few (Pending.Fetch a) rest act moved was h = either Few (is_fault act) _ _ tt (plain-few rest h)
-  continued-few (Pending.Probe a amount) rest act moved was h = access-few (fits_in act) rest _ (plain-few rest h) (fails-few c.mode)
-  continued-few (Pending.CopyIn a amount) rest act moved was h = either Few (fits_in act) _ _ (plain-few rest h) (fails-few c.mode)
-  continued-few (Pending.CopyOut a) rest act moved was h = access-few (fits_in act) rest _ (plain-few rest h) (fails-few c.mode)
+  continued-few (Pending.Probe a amount) rest act moved was h = access-few (fits_in act) rest _ (plain-few rest h) (fails-left IsFew failures-few c.mode)
+  continued-few (Pending.CopyIn a amount) rest act moved was h = either Few (fits_in act) _ _ (plain-few rest h) (fails-left IsFew failures-few c.mode)
+  continued-few (Pending.CopyOut a) rest act moved was h = access-few (fits_in act) rest _ (plain-few rest h) (fails-left IsFew failures-few c.mode)
   continued-few (Pending.CopyStr a) rest act moved was h = text-few (bytes_in moved) rest (found_in act) (plain-few rest h)
   continued-few (Pending.Work a ask) rest act moved was h = let w = outcome_in moved in work-few ask w.taken rest w.answer h
   continued-few Pending.Resume rest act moved was h = was

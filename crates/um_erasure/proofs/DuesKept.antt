@@ -2,7 +2,7 @@
 -- and those are rows; each other step leaves what is due, or fewer rows of it.
 use Rattle.std.proofs.Common.{◌≡◌, ℕ, zero, suc, ◌+◌, ◌≤◌, Bool, true, false, List, [], ◌∷◌, length, Option, Some, None, refl, sym, ap, ◌∙◌, subst, arith}
 use Rattle.std.specs.Prelude.{◌&&◌, if◌then◌else◌, not, replicate, slice_index_or, slice_set}
-use Rattle.std.proofs.lemmas.Bool.{and_parts, false≢true}
+use Rattle.std.proofs.lemmas.Bool.{false≢true}
 use Rattle.std.proofs.lemmas.List.{length-map, length-set}
 use Rattle.um_base.specs.declared.act.Answer.{Answer}
 use Rattle.um_base.specs.declared.act.Event.{Event}
@@ -34,6 +34,7 @@ use Rattle.um_machine.specs.Run.{Runs, opening}
 use Rattle.um_machine.specs.State.{State, instruction_at, no_rows, nobody, object_at, thread_at, vacant, with_object, with_pair, with_thread}
 use Rattle.um_machine.specs.Table as T
 use Rattle.um_invariants.proofs.Cores.{at_set}
+use Rattle.um_invariants.proofs.Facts.{set-less as flags-less}
 use Rattle.um_erasure.proofs.CallsProper.{none-held}
 use Rattle.um_erasure.proofs.Erased.{IsReachable}
 use Rattle.um_erasure.proofs.FirstThreads.{copies-long, new-thread}
@@ -197,17 +198,10 @@ module _ (m : State) (t x : ℕ) (Same : State → Type 0) (kept : DuesKeeping t
 
 -- What is due of another thread.
 
-flag-less : (due : List Bool) (r x : ℕ) (b : Bool) → slice_index_or (slice_set due r (slice_index_or due r false && b)) x false ≡ true → slice_index_or due x false ≡ true
-flag-less [] r x b h = h
-flag-less (d ∷ due) zero zero b h = (and_parts d b h).0
-flag-less (d ∷ due) zero (suc x) b h = h
-flag-less (d ∷ due) (suc r) zero b h = h
-flag-less (d ∷ due) (suc r) (suc x) b h = flag-less due r x b h
-
 dues-less : (r i : ℕ) (holders : List Bool) (ts : List Thread) (u x : ℕ) → slice_index_or (slice_index_or (T.with_dues r i holders ts) u nobody).due x false ≡ true
     → slice_index_or (slice_index_or ts u nobody).due x false ≡ true
 dues-less r i holders [] u x h = h
-dues-less r i holders (th ∷ ts) zero x h = flag-less th.due r x (T.stays_due i th.child holders) h
+dues-less r i holders (th ∷ ts) zero x h = flags-less th.due r x (T.stays_due i th.child holders) h
 dues-less r i holders (th ∷ ts) (suc u) x h = dues-less r (i + 1) holders ts u x h
 
 abbrev pub is_due : State → ℕ → ℕ → Bool

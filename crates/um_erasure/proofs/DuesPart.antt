@@ -31,12 +31,11 @@ use Rattle.um_fine.specs.Continues.{continues, resumed, resumed_at}
 use Rattle.um_fine.specs.Follows.{after_show, after_take, dropped_at, filled_up, goes_on_by, p_next}
 use Rattle.um_fine.specs.Places.{Todo, Todos, but, drops, next_steps, passes}
 use Rattle.um_fine.specs.Processor.{Processor}
-use Rattle.um_fine.specs.Scheduler.{told_at, waits}
+use Rattle.um_fine.specs.Scheduler.{waits}
 use Rattle.um_fine.specs.Sites.{same_site}
 use Rattle.um_fine.specs.Steps.{Exchange, FineStep, Site}
 use Rattle.um_erasure.specs.Dues.{DuesAre, is_visiting}
-use Rattle.um_erasure.specs.Fine.{Fine, one_if, scheduler}
-use Rattle.um_erasure.specs.Frames.{AreFramed, Behind}
+use Rattle.um_erasure.specs.Fine.{Fine, one_if}
 use Rattle.um_erasure.specs.Lists.{has_steps, names_row, runs, visited}
 use Rattle.um_erasure.specs.Offers.{Drops, Fits, IsPutBack, Passes, behind_shown, is_over}
 use Rattle.um_erasure.specs.Threads.{IsOf, IsRun, runs_on}
@@ -46,7 +45,7 @@ use Rattle.um_erasure.proofs.CleanersSteps.{row-here, word-here}
 use Rattle.um_erasure.proofs.ContextsPart.{apart-with, is_shown, now-context, quiet-context, read-only}
 use Rattle.um_erasure.proofs.DuesFilled.{Begun, IsFew, Passed, behind-order, behind-still, but-below, child-below, continued-few, due-held, due-passed, inherit-begun, next-begun, next-passed, offers-plain, resumes-plain, still-begun, still-passed, told-few}
 use Rattle.um_erasure.proofs.DuesKept.{IsLess, IsShort, clean-less, inherit-less, is_due, others-less, short-known}
-use Rattle.um_erasure.proofs.Erased.{IsReachable, later}
+use Rattle.um_erasure.proofs.Erased.{IsReachable, around, later}
 use Rattle.um_erasure.proofs.Leaves.{HasStep, Lawful, Leaves}
 use Rattle.um_erasure.proofs.Leaves as L
 use Rattle.um_erasure.proofs.ListDues.{Filled, behind-visited, drops-visited, filled-visited, fine-visited, goes-visited, passes-visited, skips-own, visited-bounded, with-cleaned-visited}
@@ -54,8 +53,9 @@ use Rattle.um_erasure.proofs.ListGrips.{read-rests}
 use Rattle.um_erasure.proofs.ListGrowth.{is_end}
 use Rattle.um_erasure.proofs.ListRuns.{ends-rests}
 use Rattle.um_erasure.proofs.Offered.{IsStep, Shows, behind-is, shown-offers}
-use Rattle.um_erasure.proofs.PartsElsewhere.{Apart, taken-parked, takes-first}
+use Rattle.um_erasure.proofs.PartsElsewhere.{Apart, IsTaken, taken-parked, takes-first}
 use Rattle.um_erasure.proofs.SchedulerSteps.{made-at, made-says}
+use Rattle.um_erasure.proofs.StepReads.{is-behind}
 use Rattle.um_erasure.proofs.StepsLeft.{steps-on}
 use Rattle.um_erasure.proofs.SuitsKnown.{kept-known}
 use Rattle.um_erasure.proofs.VisitSteps.{Visits, pair-is}
@@ -92,11 +92,8 @@ visits-on c h = by c.pending refl
     by (q ∷ rest) e = steps-on c q rest e
 
 module _ (f : Fine) (m : State) (e : FineStep) (law : Lawful f m e) where
-  abbrev p : Processor
-  p = f.processors e.cpu
-
-  abbrev now : Processor
-  now = p_next f.image p e
+  open around f e use {processor as p, now}
+  open is-behind f m e law use {frame}
 
   -- a step of another thread makes nothing due
   less : (s : State) (leaves : Leaves f m e s) (v : ℕ) → Apart f m e law s leaves s leaves v → IsLess m v s
@@ -107,9 +104,6 @@ module _ (f : Fine) (m : State) (e : FineStep) (law : Lawful f m e) where
   less _ (L.drops from x rest todo h said) v apart = others-less m p.context.thread v apart x (Pending.Drops from) rest
   less _ (L.cleans who x rest todo h said) v apart = clean-less m p.context.thread x (to_thread who) rest v
   less _ (L.recycles x rest todo at few said chosen) v apart = λ y d. d
-
-  frame : (q : Todo) (todo : Todos) → p.todo ≡ q ∷ todo → Behind f.image q todo
-  frame q todo at = (subst (AreFramed f.image) at (law.rel.processors e.cpu law.by.named).frames).0
 
   fits-at : (todo : Todos) → p.todo ≡ todo → Fits f.image p.context todo
   fits-at todo at = subst (Fits f.image p.context) at (law.rel.processors e.cpu law.by.named).list.fits
@@ -254,15 +248,15 @@ module _ (f : Fine) (m : State) (e : FineStep) (law : Lawful f m e) where
 
   -- a step that no trace shows
   quiet-visits : DuesKnown m → (runs now ≡ true → IsRun m now.context) → runs now ≡ true → (u : Unseen) → e.act ≡ FineAct.Unseen u → (todo : Todos) → p.todo ≡ todo → VisitsAt m now.context (visited now.todo)
-  quiet-visits known run on u said [] at = by first.3 first.5
+  quiet-visits known run on u said [] at = by first.told first.moved
     where
-      first : (v : ℕ) × (list : List ℕ) × (d : Context) × (told : Option Told) × ((scheduler f).ready ≡ v ∷ list) × (e.moved ≡ Exchange.thread d told) × (d.thread ≡ v) × (told ≡ told_at (scheduler f) v)
+      first : IsTaken f e
       first = takes-first f m e law at
 
-      by : (told : Option Told) → e.moved ≡ Exchange.thread first.2 told → VisitsAt m now.context (visited now.todo)
+      by : (told : Option Told) → e.moved ≡ Exchange.thread first.context told → VisitsAt m now.context (visited now.todo)
       by None moved =
           subst (λ (c : Context). VisitsAt m c (visited now.todo)) (sym (now-context f m e law [] at ∙ ap (λ (mv : Exchange). (after_take f.image p mv).context) moved))
-          (still-visits m first.2 (visited now.todo) (put-back-still first.2 (law.rel.contexts.parked first.2.thread first.2 (taken-parked f m e law at first.2 None moved)).3))
+          (still-visits m first.context (visited now.todo) (put-back-still first.context (law.rel.contexts.parked first.context.thread first.context (taken-parked f m e law at first.context None moved)).3))
       by (Some w) moved = absurd (false≢true (sym (ap is_shown said) ∙ ap is_shown (made-says f m e law [] at ∙ ap (says_idle f.image p) moved)))
   quiet-visits known run on u said (q ∷ todo) at = by (is_end q) refl
     where

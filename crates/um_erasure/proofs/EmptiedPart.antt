@@ -45,17 +45,15 @@ use Rattle.um_erasure.specs.Offers.{Fits, Passes, is_over}
 use Rattle.um_erasure.proofs.CallSteps.{StartsOne}
 use Rattle.um_erasure.proofs.CellSteps.{takes-quiet}
 use Rattle.um_erasure.proofs.CleanersPart.{cleaners-part, visit-is}
-use Rattle.um_erasure.proofs.CleanersSteps.{frame, gain, recycles-gain, row-here, word-here}
-use Rattle.um_erasure.proofs.CleaningFacts.{count-cons}
+use Rattle.um_erasure.proofs.CleanersSteps.{gain, recycles-gain, row-here, word-here}
 use Rattle.um_erasure.proofs.CleanSteps.{OwnRows}
-use Rattle.um_erasure.proofs.Erased.{later}
+use Rattle.um_erasure.proofs.Erased.{around, later}
 use Rattle.um_erasure.proofs.FirstThreads.{one-most}
 use Rattle.um_erasure.proofs.HeldRows.{checked-claimed, claimed-kept}
 use Rattle.um_erasure.proofs.Leaves.{Lawful, Leaves}
 use Rattle.um_erasure.proofs.Leaves as L
 use Rattle.um_erasure.proofs.ListBlocks.{goes-blocks}
-use Rattle.um_erasure.proofs.ListCounts.{goes-count, next-counts, recycles-of, takes-counts}
-use Rattle.um_erasure.proofs.ListGrips.{read-rests}
+use Rattle.um_erasure.proofs.ListCounts.{count-cons, goes-count, next-counts, recycles-of, takes-counts}
 use Rattle.um_erasure.proofs.ListGrowth.{ReadsLast, is_clean_pair}
 use Rattle.um_erasure.proofs.ListVisits.{cleaned-apart, cleaned-bounded, cleaned-first, goes-visits, skips-visit}
 use Rattle.um_erasure.proofs.MemorySteps.{part-total}
@@ -64,6 +62,7 @@ use Rattle.um_erasure.proofs.PairsKept.{pairs-same}
 use Rattle.um_erasure.proofs.PairsPart.{dropped-pairs}
 use Rattle.um_erasure.proofs.RowsPart.{rows-part}
 use Rattle.um_erasure.proofs.SchedulerSteps.{made-at, made-says}
+use Rattle.um_erasure.proofs.StepReads.{is-behind}
 use Rattle.um_erasure.proofs.Sums.{over-changed}
 use Rattle.um_erasure.proofs.VisitSteps.{pair-is}
 use Rattle.um_erasure.proofs.WordsKept.{IsShown}
@@ -134,11 +133,8 @@ over-not c q steps e = ap (λ (z : Steps). c.ended && is_empty z) e ∙ no c.end
     no false = refl
 
 module _ (f : Fine) (m : State) (e : FineStep) (law : Lawful f m e) (gives : GivesHeld m) (own : OwnRows f.image) (x : ℕ) (few : x < ROWS) (who : ℕ) (thread : thread_of_row f.image x ≡ Some who) where
-  abbrev p : Processor
-  p = f.processors e.cpu
-
-  abbrev now : Processor
-  now = p_next f.image p e
+  open around f e use {processor as p, now}
+  open is-behind f m e law use {frame, last-shown}
 
   abbrev Recs : Todos → ℕ
   Recs todo = counted (is_recycle x) todo
@@ -152,11 +148,6 @@ module _ (f : Fine) (m : State) (e : FineStep) (law : Lawful f m e) (gives : Giv
 
   same-row : own_row m.image who ≡ x
   same-row = ap (λ (i : Image). own_row i who) law.rel.image ∙ mine-row
-
-  last-shown : (q : Pending) (rest : Steps) (todo : Todos) → p.todo ≡ Todo.show q rest ∷ todo → ReadsLast e (Todo.show q rest) todo
-  last-shown q rest todo at read =
-      (subst (Fits f.image p.context) at (law.rel.processors e.cpu law.by.named).list.fits).1
-      ∙ read-rests f.image p p.context q e.act (made-says f m e law (Todo.show q rest ∷ todo) at) read
 
   -- Nobody gives a permission to a thread whose object is cleaned.
 
@@ -283,7 +274,7 @@ module _ (f : Fine) (m : State) (e : FineStep) (law : Lawful f m e) (gives : Giv
 
         recs : Recs now.todo ≡ gain f m e law x few (begins_cleaning e) (row_number e.site) + Recs todo
         recs =
-            let all = next-counts (is_recycle x) (recycles-of x) f.image p e q todo at (frame f m e law x few q todo at) last in
+            let all = next-counts (is_recycle x) (recycles-of x) f.image p e q todo at (frame q todo at) last in
             let more = recycles-gain f m e law x few (begins_cleaning e) in
             omega (arith, all, more)
 
@@ -300,7 +291,7 @@ module _ (f : Fine) (m : State) (e : FineStep) (law : Lawful f m e) (gives : Giv
             let one = most-later s leaves in
             let changed = over-changed f e (λ z. Recs z.todo) law.by.named in
             let part = part-total (λ j. Recs (f.processors j).todo) f.cpus e.cpu law.by.named in
-            let counted-left : Recs (goes_on_by f.image p e (q ∷ todo)).todo ≡ Recs todo = goes-count (is_recycle x) (recycles-of x) f.image p e q todo (frame f m e law x few q todo at) last in
+            let counted-left : Recs (goes_on_by f.image p e (q ∷ todo)).todo ≡ Recs todo = goes-count (is_recycle x) (recycles-of x) f.image p e q todo (frame q todo at) last in
             let blocks = (law.rel.processors e.cpu law.by.named).blocks in
             inl
             (ap At (list true k)
@@ -334,7 +325,7 @@ module _ (f : Fine) (m : State) (e : FineStep) (law : Lawful f m e) (gives : Giv
         by : (At now.todo ≡ 0) ⊎ ((At now.todo ≡ At (goes_on_by f.image p e (q ∷ todo)).todo) × (0 < Recs p.todo)) → pair_at s who y ≡ false
         by (inl none) = absurd (omega (arith, l, none))
         by (inr (same, here)) =
-            let list : At now.todo ≡ At p.todo = same ∙ (goes-visits f.image who p e q todo free (frame f m e law x few q todo at) last ∙ (sym (skips-visit f.image who q todo free) ∙ ap At (sym at))) in
+            let list : At now.todo ≡ At p.todo = same ∙ (goes-visits f.image who p e q todo free (frame q todo at) last ∙ (sym (skips-visit f.image who q todo free) ∙ ap At (sym at))) in
             away (one-of here) s leaves y (was who thread here y (omega (arith, l, list)))
 
     -- a visit

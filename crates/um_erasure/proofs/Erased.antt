@@ -89,3 +89,12 @@ module _ (image : Image) (cpus : ℕ) where
 -- what there is after a step
 abbrev pub later : Fine → FineStep → Fine
 later f e = stepped f.image f.cpus f.processors f.sites e
+
+-- a step: what there is after it, and the processor that makes it, before it and now
+pub record Around : Type 0 where
+  pub later : Fine
+  pub processor : Processor
+  pub now : Processor
+
+abbrev pub around : Fine → FineStep → Around
+around f e = record { later = stepped f.image f.cpus f.processors f.sites e; processor = f.processors e.cpu; now = p_next f.image (f.processors e.cpu) e }

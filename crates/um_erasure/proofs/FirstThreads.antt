@@ -1,7 +1,7 @@
 -- Threads at the opening: each is none or that of a boot entry. So what they are told, their own parts, those that lie nowhere and what
 -- is due are as the relation says.
 use Rattle.std.proofs.Common.{◌≡◌, ◌≢◌, inl, ℕ, zero, suc, ◌+◌, ◌<◌, ◌≤◌, Bool, true, false, List, [], ◌∷◌, length, replicate, Option, Some, None, refl, sym, ap, ◌∙◌, subst, arith}
-use Rattle.std.specs.Prelude.{◌-◌, is_some, slice_index_or, slice_set, unwrap_or}
+use Rattle.std.specs.Prelude.{is_some, slice_index_or, slice_set, unwrap_or}
 use Rattle.std.proofs.lemmas.Bool.{false≢true, true≢false}
 use Rattle.um_base.specs.declared.ask.Told.{Told}
 use Rattle.um_base.specs.declared.image.Boot.{Boot}

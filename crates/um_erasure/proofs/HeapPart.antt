@@ -36,9 +36,9 @@ use Rattle.um_erasure.specs.Lists.{counted, is_recycle, is_wipe}
 use Rattle.um_erasure.specs.Cleaning.{AreBlocks}
 use Rattle.um_erasure.specs.Resources.{HeapIs}
 use Rattle.um_erasure.proofs.FirstThreads.{one-most}
-use Rattle.um_erasure.proofs.Erased.{stepped}
-use Rattle.um_erasure.proofs.HeldRows.{clears-none}
+use Rattle.um_erasure.proofs.Erased.{around}
 use Rattle.um_erasure.proofs.Leaves.{Lawful, Leaves, cleans, drops, event, maker, mine, nothing, passes, recycles, resumes}
+use Rattle.um_erasure.proofs.ListCounts.{cleans-none}
 use Rattle.um_erasure.proofs.MemorySteps.{part-total}
 use Rattle.um_erasure.proofs.ObjectsKept.{NoBirths, NoStatuses, born-reserved, drop-free, gone-dynamic, gone-row, lasting-kept, paired-live, row-again, set-kept, status-kept}
 use Rattle.um_erasure.proofs.Offered.{IsStep, Shows, own-part, shown-offers, site-is}
@@ -64,8 +64,7 @@ and-false true = refl
 and-false false = refl
 
 module _ (f : Fine) (m : State) (e : FineStep) (law : Lawful f m e) where
-  abbrev later : Fine
-  later = stepped f.image f.cpus f.processors f.sites e
+  open around f e use {later}
 
   -- the heap is left, but for what its pools have, and so is what objects cost and which rows are free
   left-alone : (s : State) → (heap later).costs ≡ (heap f).costs → (heap later).free ≡ (heap f).free → (heap later).pools ≡ s.pools
@@ -249,7 +248,7 @@ module _ (f : Fine) (m : State) (e : FineStep) (law : Lawful f m e) where
           let most = one-most (Plain.is_gone (object_at m x).status && not (is_dying (row f x).stage)) in
           let here = mine-left in
           ap (counted (is_wipe x)) at
-          ∙ clears-none f.image x todo (subst (AreBlocks f.image) at (law.rel.processors e.cpu law.by.named).blocks) (omega (arith, part, one, most, here))
+          ∙ (cleans-none f.image x todo (subst (AreBlocks f.image) at (law.rel.processors e.cpu law.by.named).blocks) (omega (arith, part, one, most, here))).0
 
       charged : charge_in e.moved ≡ (object_at m x).buffer
       charged =

@@ -30,17 +30,17 @@ use Rattle.um_fine.specs.Sites.{SiteState, s_next, same_site, site_after, site_t
 use Rattle.um_fine.specs.Steps.{FineStep, Site}
 use Rattle.um_fine.proofs.Keys.{same-sound}
 use Rattle.um_erasure.specs.Fine.{Fine, one_if, scheduler, thread_state, word}
-use Rattle.um_erasure.specs.Frames.{AreFramed, Behind}
+use Rattle.um_erasure.specs.Frames.{Behind}
 use Rattle.um_erasure.specs.Lists.{has_held, has_steps, is_hold, is_move_done, runs, runs_thread}
 use Rattle.um_erasure.specs.Offers.{Fits}
 use Rattle.um_erasure.specs.Threads.{DomainKept, is_ended}
 use Rattle.um_erasure.proofs.CallsKnown.{starts-known}
 use Rattle.um_erasure.proofs.DomainReads.{is_told, next-domain, next-reply}
 use Rattle.um_erasure.proofs.Endings.{Ends, TakesLiving, continues-ended, ending-alone, is_last, last-alone, next-ends}
-use Rattle.um_erasure.proofs.Erased.{stepped}
+use Rattle.um_erasure.proofs.Erased.{around}
 use Rattle.um_erasure.proofs.Kept.{idle-moves}
 use Rattle.um_erasure.proofs.Leaves.{Lawful, Leaves, cleans, drops, event, nothing, passes, recycles, resumes}
-use Rattle.um_erasure.proofs.ListGrips.{cleaned-context, filled-grip, grip, is_gripping, next-grips, next-thread, read-rests, takes-grip}
+use Rattle.um_erasure.proofs.ListGrips.{cleaned-context, filled-grip, grip, is_gripping, next-grips, next-thread, takes-grip}
 use Rattle.um_erasure.proofs.ListRuns.{ends-rests}
 use Rattle.um_erasure.proofs.ListGrowth.{ReadsLast, either-look, is_end, is_read_claim}
 use Rattle.um_erasure.proofs.ListTails.{Reads, exact-next, is_passed, tail-read, takes-read}
@@ -48,6 +48,7 @@ use Rattle.um_erasure.proofs.MemorySteps.{part-total}
 use Rattle.um_erasure.proofs.Offered.{IsStep, Shows, shown-offers, site-is}
 use Rattle.um_erasure.proofs.RowSteps.{thread-sort}
 use Rattle.um_erasure.proofs.SchedulerSteps.{made-at, made-says, sched-moved, word-left}
+use Rattle.um_erasure.proofs.StepReads.{is-behind}
 
 -- What a processor was told of a move, and whose domain it has.
 
@@ -101,27 +102,14 @@ lives-now Life.Unborn s n = absurd (false≢true s)
 lives-now Life.Ended s n = absurd (true≢false n)
 
 module _ (f : Fine) (m : State) (e : FineStep) (law : Lawful f m e) where
-  abbrev later : Fine
-  later = stepped f.image f.cpus f.processors f.sites e
-
-  abbrev p : Processor
-  p = f.processors e.cpu
-
-  abbrev now : Processor
-  now = p_next f.image p e
+  open around f e use {later, processor as p, now}
+  open is-behind f m e law use {frame, last-shown}
 
   was : (k : ℕ) → k < f.cpus → DomainKept f k
   was k l = (law.rel.processors k l).domain
 
-  frame : (q : Todo) (todo : Todos) → p.todo ≡ q ∷ todo → Behind f.image q todo
-  frame q todo at = (subst (AreFramed f.image) at (law.rel.processors e.cpu law.by.named).frames).0
-
   fits : Fits f.image p.context p.todo
   fits = (law.rel.processors e.cpu law.by.named).list.fits
-
-  last-shown : (q : Pending) (rest : Steps) (todo : Todos) → p.todo ≡ Todo.show q rest ∷ todo → ReadsLast e (Todo.show q rest) todo
-  last-shown q rest todo at read =
-      (subst (Fits f.image p.context) at fits).1 ∙ read-rests f.image p p.context q e.act (made-says f m e law (Todo.show q rest ∷ todo) at) read
 
   -- The word of a thread that a processor holds keeps its domain.
 

@@ -21,17 +21,18 @@ use Rattle.um_fine.specs.Sites.{SiteState, s_next, same_site, site_after, site_t
 use Rattle.um_fine.specs.Steps.{Exchange, FineStep, Site}
 use Rattle.um_erasure.specs.Cleaning.{AreBlocks}
 use Rattle.um_erasure.specs.Fine.{Fine, one_if, over_processors, thread_state, word}
-use Rattle.um_erasure.specs.Frames.{AreFramed, Behind}
+use Rattle.um_erasure.specs.Frames.{Behind}
 use Rattle.um_erasure.specs.Lists.{has_held, has_steps, is_let_go, runs_thread}
 use Rattle.um_erasure.specs.Offers.{Fits}
 use Rattle.um_erasure.specs.Threads.{HeldIs}
 use Rattle.um_erasure.proofs.ListGrowth.{ReadsLast, is_end}
-use Rattle.um_erasure.proofs.Erased.{stepped}
+use Rattle.um_erasure.proofs.Erased.{around}
 use Rattle.um_erasure.proofs.Leaves.{Lawful}
 use Rattle.um_erasure.proofs.ListGrips.{filled-grip, grip, is_gripping, next-grips, next-thread, read-rests, takes-grip}
 use Rattle.um_erasure.proofs.ListRuns.{ends-rests, goes-runs}
 use Rattle.um_erasure.proofs.RowSteps.{thread-sort}
 use Rattle.um_erasure.proofs.SchedulerSteps.{made-at, made-says}
+use Rattle.um_erasure.proofs.StepReads.{is-behind}
 use Rattle.um_erasure.proofs.Sums.{over-changed}
 
 -- a step that holds a thread, or lets go of it
@@ -90,11 +91,8 @@ and-true true = refl
 and-true false = refl
 
 module _ (f : Fine) (m : State) (e : FineStep) (law : Lawful f m e) (t : ℕ) (few : t < THREADS) where
-  abbrev later : Fine
-  later = stepped f.image f.cpus f.processors f.sites e
-
-  abbrev p : Processor
-  p = f.processors e.cpu
+  open around f e use {later, processor as p}
+  open is-behind f m e law use {frame}
 
   -- whether a processor holds the thread
   abbrev holds : Processor → Bool
@@ -137,9 +135,6 @@ module _ (f : Fine) (m : State) (e : FineStep) (law : Lawful f m e) (t : ℕ) (f
       let before = was in
       let now = ap one_if held in
       record { held = omega (arith, sums, before, now) }
-
-  frame : (q : Todo) (todo : Todos) → p.todo ≡ q ∷ todo → Behind f.image q todo
-  frame q todo at = (subst (AreFramed f.image) at (law.rel.processors e.cpu law.by.named).frames).0
 
   -- what holds of a list with these steps
   holds-as : (z : Processor) (steps grip-there : Bool) → has_steps z.todo ≡ steps → grip z.todo ≡ grip-there → holds z ≡ ((steps && (z.context.thread == t)) && grip-there)

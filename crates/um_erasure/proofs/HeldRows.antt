@@ -2,21 +2,19 @@
 use Rattle.std.proofs.Common.{◌≡◌, ℕ, zero, suc, ◌+◌, ◌<◌, Bool, true, false, List, [], ◌∷◌, replicate, refl, sym, ap, ◌∙◌, subst, arith}
 use Rattle.std.specs.Prelude.{◌==◌, ◌&&◌, not, if◌then◌else◌, slice_index_or, slice_set}
 use Rattle.std.proofs.lemmas.Bool.{eqb-false, false≢true}
-use Rattle.um_base.specs.declared.image.Image.{Image}
 use Rattle.um_base.specs.declared.limits.TheConstants.{ROWS}
 use Rattle.um_machine.specs.Objects as Plain
 use Rattle.um_machine.specs.State.{State, object_at, thread_at}
 use Rattle.um_words.specs.declared.row_word.Stage.{Stage}
 use Rattle.um_words.specs.Rows.{is_dying, is_free}
-use Rattle.um_fine.specs.Places.{Todo, Todos}
 use Rattle.um_erasure.specs.Fine.{Fine, one_if, row, total}
 use Rattle.um_erasure.specs.Lists.{counted, is_recycle, is_wipe, runs}
 use Rattle.um_erasure.specs.Claims.{call_claims}
-use Rattle.um_erasure.specs.Cleaning.{AreBlocks}
 use Rattle.um_erasure.specs.Objects.{is_reserved, recyclers, status_of, vacaters, wipers}
 use Rattle.um_erasure.specs.Offers.{is_over}
 use Rattle.um_erasure.specs.Threads.{flags_of, occurs}
 use Rattle.um_erasure.specs.Relation.{Rel}
+use Rattle.um_erasure.proofs.ListCounts.{cleans-none}
 use Rattle.um_erasure.proofs.MemorySteps.{part-total}
 use Rattle.um_erasure.proofs.RowSteps.{settled}
 
@@ -44,30 +42,6 @@ flagged-occurs x (y ∷ ys) h = by (x == y) refl (flagged-occurs x ys)
     by false e more =
         subst (λ b. 0 < (if b then occurs x ys + 1 else occurs x ys)) (sym e)
         (more (sym (flag-else (flags_of ys) y x (λ q. eqb-false x y e (sym q))) ∙ h))
-
--- A processor that doesn't recycle an object has nothing left of its cleaning.
-
-recycled-behind : (x z : ℕ) (todo : Todos) → (x == z) ≡ true → 0 < counted (is_recycle x) (Todo.vacate z ∷ Todo.recycle z ∷ todo)
-recycled-behind x z todo e = subst (λ b. 0 < (if b then counted (is_recycle x) todo + 1 else counted (is_recycle x) todo)) (sym e) (omega arith)
-
-pub clears-none : (image : Image) (x : ℕ) (todo : Todos) → AreBlocks image todo → counted (is_recycle x) todo ≡ 0 → counted (is_wipe x) todo ≡ 0
-clears-none image x [] h none = refl
-clears-none image x (Todo.wipe z ∷ todo) h none = by (x == z) refl (clears-none image x todo h.1 none)
-  where
-    by : (b : Bool) → (x == z) ≡ b → counted (is_wipe x) todo ≡ 0 → (if x == z then counted (is_wipe x) todo + 1 else counted (is_wipe x) todo) ≡ 0
-    by true e more =
-        let some = recycled-behind x z h.0.0 e in
-        let same : counted (is_recycle x) todo ≡ counted (is_recycle x) (Todo.vacate z ∷ Todo.recycle z ∷ h.0.0) = ap (counted (is_recycle x)) h.0.1 in
-        absurd (omega (arith, some, same, none))
-    by false e more = ap (λ b. if b then counted (is_wipe x) todo + 1 else counted (is_wipe x) todo) e ∙ more
-clears-none image x (Todo.recycle z ∷ todo) h none = by (x == z) none (clears-none image x todo h)
-  where
-    by : (b : Bool) → (if b then counted (is_recycle x) todo + 1 else counted (is_recycle x) todo) ≡ 0 → (counted (is_recycle x) todo ≡ 0 → counted (is_wipe x) todo ≡ 0) → counted (is_wipe x) todo ≡ 0
-    by true e more = absurd (omega (arith, e))
-    by false e more = more e
-clears-none image x (Todo.vacate z ∷ todo) h none = clears-none image x todo h.1 none
-clears-none image x (Todo.clean_pair who y ∷ todo) h none = clears-none image x todo h.1 none
-clears-none image x (q ∷ todo) h none = clears-none image x todo h none
 
 pub total-zero : (g : ℕ → ℕ) (n : ℕ) → ((k : ℕ) → k < n → g k ≡ 0) → total g n ≡ 0
 total-zero g zero h = refl
@@ -123,7 +97,7 @@ module _ (f : Fine) (m : State) (rel : Rel f m) where
       total-zero (λ k. counted (is_wipe x) (f.processors k).todo) f.cpus
       (λ k l.
       let part = part-total (λ j. counted (is_recycle x) (f.processors j).todo) f.cpus k l in
-      clears-none f.image x (f.processors k).todo (rel.processors k l).blocks (omega (arith, part, none)))
+      (cleans-none f.image x (f.processors k).todo (rel.processors k l).blocks (omega (arith, part, none))).0)
       ∙ sym none
 
   -- the row that a thread's call holds is claimed, while it has steps left

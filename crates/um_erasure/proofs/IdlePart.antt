@@ -15,7 +15,7 @@ use Rattle.um_erasure.specs.Cleaning.{AreBlocks}
 use Rattle.um_erasure.specs.Fine.{Fine, scheduler}
 use Rattle.um_erasure.specs.Frames.{AreFramed}
 use Rattle.um_erasure.specs.Lists.{runs}
-use Rattle.um_erasure.proofs.Erased.{later}
+use Rattle.um_erasure.proofs.Erased.{around, later}
 use Rattle.um_erasure.proofs.Kept.{idle-moves, idle-takes}
 use Rattle.um_erasure.proofs.Leaves.{Lawful}
 use Rattle.um_erasure.proofs.ListClaims.{IsThread}
@@ -25,11 +25,7 @@ use Rattle.um_erasure.proofs.ListRuns.{goes-runs, takes-runs}
 use Rattle.um_erasure.proofs.SchedulerSteps.{made-at, made-says, sched-moved, sched-took}
 
 module _ (f : Fine) (m : State) (e : FineStep) (law : Lawful f m e) where
-  abbrev p : Processor
-  p = f.processors e.cpu
-
-  abbrev now : Processor
-  now = p_next f.image p e
+  open around f e use {processor as p, now}
 
   -- a thread is taken
   takes : p.todo ≡ [] → runs now ≡ true

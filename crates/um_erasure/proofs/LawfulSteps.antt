@@ -26,7 +26,6 @@ use Rattle.um_fine.specs.Answers.{act_in, is_visit, is_word_read, left_in}
 use Rattle.um_fine.specs.Asks.{by_me, says_idle, says_show, shows}
 use Rattle.um_fine.specs.Cells.{Cell}
 use Rattle.um_fine.specs.Places.{Todo, Todos}
-use Rattle.um_fine.specs.Processor.{Processor}
 use Rattle.um_fine.specs.Sites.{SiteState, site_takes}
 use Rattle.um_fine.specs.Steps.{Exchange, FineStep, Site}
 use Rattle.um_erasure.specs.Fine.{Fine, bytes}
@@ -35,7 +34,7 @@ use Rattle.um_erasure.proofs.CallsKnown.{RestsHoldNothing, calls-known}
 use Rattle.um_erasure.proofs.CleanSteps.{Calls, OwnRows, clean-pair-step, recycle-chosen, recycle-step}
 use Rattle.um_erasure.proofs.DomainSteps.{add-step, init-step, remove-step}
 use Rattle.um_erasure.proofs.DropSteps.{drop-pair-step, drop-step}
-use Rattle.um_erasure.proofs.Erased.{Goes, GoesBy}
+use Rattle.um_erasure.proofs.Erased.{Goes, GoesBy, around}
 use Rattle.um_erasure.proofs.HeapSteps.{buffer-step, reserve-step}
 use Rattle.um_erasure.proofs.Leaves.{HasStep, Lawful, Leaves, cleans, drops, event, nothing, passes, recycles, resumes}
 use Rattle.um_erasure.proofs.MemoryPart.{InDomains, held-domain}
@@ -79,8 +78,7 @@ module _ (f : Fine) (m : State) (e : FineStep) (law : Lawful f m e) (suits : Sui
   calls : Calls m
   calls = calls-known m law.sound suits.rests
 
-  abbrev p : Processor
-  p = f.processors e.cpu
+  open around f e use {processor as p}
 
   quietly : (u : Unseen) → e.act ≡ FineAct.Unseen u → Next f m e
   quietly u said = record { state = m; goes = subst (λ act. GoesBy m act m) (sym said) refl; leaves = nothing u said; has = tt }

@@ -60,6 +60,7 @@ pub mod HeapPart
 pub mod PairsPart
 pub mod Sums
 pub mod SchedulerSteps
+pub mod StepReads
 pub mod ListRuns
 pub mod RunningPart
 pub mod SchedulerPart
@@ -83,6 +84,7 @@ pub mod CleanersPart
 pub mod Endings
 pub mod ContentsKept
 pub mod CellSteps
+pub mod Failures
 pub mod CallsKnown
 pub mod DomainsKnown
 pub mod CallSteps

@@ -1,6 +1,6 @@
 -- How many steps of cleanings are on a processor's list after a step of it: those behind that step, and those of a cleaning that it begins.
 use Rattle.std.proofs.Common.{◌≡◌, ℕ, ◌+◌, Bool, true, false, ◌∷◌, ◌++◌, Option, Some, None, refl, sym, ap, ◌∙◌, arith, []}
-use Rattle.std.specs.Prelude.{◌==◌, ◌||◌, if◌then◌else◌}
+use Rattle.std.specs.Prelude.{◌||◌, if◌then◌else◌}
 use Rattle.std.specs.List.{list_any}
 use Rattle.std.proofs.lemmas.Bool.{false≢true, true≢false}
 use Rattle.um_base.specs.declared.image.Image.{Image}
@@ -10,10 +10,11 @@ use Rattle.um_machine.specs.Order.{Steps}
 use Rattle.um_fine.specs.Asks.{begins_cleaning}
 use Rattle.um_fine.specs.Context.{Context}
 use Rattle.um_fine.specs.Follows.{goes_on_by, p_next, row_number, with_cleaned}
-use Rattle.um_fine.specs.Places.{Todo, Todos, cleaning, cleaning_of, emptying, end_of_turn, fine_steps, next_steps, turn, with_cleaning}
+use Rattle.um_fine.specs.Places.{Todo, Todos, cleaning, cleaning_of, emptying, end_of_turn, fine_steps, next_steps, with_cleaning}
 use Rattle.um_fine.specs.Processor.{Processor}
 use Rattle.um_fine.specs.Steps.{FineStep}
 use Rattle.um_erasure.specs.Cleaning.{AreBlocks}
+use Rattle.um_erasure.specs.Fine.{one_if}
 use Rattle.um_erasure.specs.Frames.{Behind}
 use Rattle.um_erasure.specs.Lists.{counted, is_recycle, is_vacate, is_wipe, names_row}
 use Rattle.um_erasure.proofs.ListGrowth.{EndsWell, ReadsLast, behind-kept, cleaning-kept, either-look, ends-behind, next-kept, quiet-kept, show-kept, take-kept, turn-kept, visits_row}
@@ -144,22 +145,33 @@ module _ (test : Todo → Bool) (of : IsOfEmptying test) where
         let rest = ap (λ (z : Todos). Count (goes_on_by image p e z).todo) at ∙ take-kept image (Is 0) All (expands 0) p turn e.moved tt refl (ap Count at) in
         omega (arith, all, none, rest)
 
--- A processor that doesn't recycle an object doesn't vacate its row.
-pub vacates-none : (image : Image) (x : ℕ) (todo : Todos) → AreBlocks image todo → counted (is_recycle x) todo ≡ 0 → counted (is_vacate x) todo ≡ 0
-vacates-none image x [] h none = refl
-vacates-none image x (Todo.vacate z ∷ todo) h none = by (x == z) refl (vacates-none image x todo h.1 none)
-  where
-    by : (b : Bool) → (x == z) ≡ b → counted (is_vacate x) todo ≡ 0 → (if x == z then counted (is_vacate x) todo + 1 else counted (is_vacate x) todo) ≡ 0
-    by true e more =
-        let same : counted (is_recycle x) todo ≡ (if x == z then counted (is_recycle x) h.0.0 + 1 else counted (is_recycle x) h.0.0) = ap (counted (is_recycle x)) h.0.1 in
-        let some = same ∙ ap (λ b. if b then counted (is_recycle x) h.0.0 + 1 else counted (is_recycle x) h.0.0) e in
-        absurd (omega (arith, some, none))
-    by false e more = ap (λ b. if b then counted (is_vacate x) todo + 1 else counted (is_vacate x) todo) e ∙ more
-vacates-none image x (Todo.recycle z ∷ todo) h none = by (x == z) none (vacates-none image x todo h)
-  where
-    by : (b : Bool) → (if b then counted (is_recycle x) todo + 1 else counted (is_recycle x) todo) ≡ 0 → (counted (is_recycle x) todo ≡ 0 → counted (is_vacate x) todo ≡ 0) → counted (is_vacate x) todo ≡ 0
-    by true e more = absurd (omega (arith, e))
-    by false e more = more e
-vacates-none image x (Todo.wipe z ∷ todo) h none = vacates-none image x todo h.1 none
-vacates-none image x (Todo.clean_pair who y ∷ todo) h none = vacates-none image x todo h.1 none
-vacates-none image x (q ∷ todo) h none = vacates-none image x todo h none
+-- A processor that doesn't recycle an object has nothing left of its cleaning: it clears no cell, and vacates no row.
+
+pub count-cons : (test : Todo → Bool) (q : Todo) (todo : Todos) → counted test (q ∷ todo) ≡ one_if (test q) + counted test todo
+count-cons test q todo = elim (test q) as (λ b. (if b then counted test todo + 1 else counted test todo) ≡ one_if b + counted test todo) [ true ↦ omega arith | false ↦ omega arith ]
+
+blocks-behind : (image : Image) (q : Todo) (todo : Todos) → AreBlocks image (q ∷ todo) → AreBlocks image todo
+blocks-behind image (Todo.clean_pair who y) todo h = h.1
+blocks-behind image (Todo.wipe z) todo h = h.1
+blocks-behind image (Todo.vacate z) todo h = h.1
+blocks-behind image q todo h = h
+
+begins-none : (image : Image) (x : ℕ) (q : Todo) (todo : Todos) → AreBlocks image (q ∷ todo) → counted (is_recycle x) (q ∷ todo) ≡ 0 → (one_if (is_wipe x q) ≡ 0) × (one_if (is_vacate x q) ≡ 0)
+begins-none image x (Todo.wipe z) todo h none =
+    let recycled = count-cons (is_recycle x) (Todo.recycle z) h.0.0 in
+    let same = ap (counted (is_recycle x)) h.0.1 in (omega (arith, recycled, same, none), refl)
+begins-none image x (Todo.vacate z) todo h none =
+    let recycled = count-cons (is_recycle x) (Todo.recycle z) h.0.0 in
+    let same = ap (counted (is_recycle x)) h.0.1 in (refl, omega (arith, recycled, same, none))
+begins-none image x q todo h none = (refl, refl)
+
+pub cleans-none : (image : Image) (x : ℕ) (todo : Todos) → AreBlocks image todo → counted (is_recycle x) todo ≡ 0 → (counted (is_wipe x) todo ≡ 0) × (counted (is_vacate x) todo ≡ 0)
+cleans-none image x [] h none = (refl, refl)
+cleans-none image x (q ∷ todo) h none =
+    let recycles = count-cons (is_recycle x) q todo in
+    let wipes = count-cons (is_wipe x) q todo in
+    let vacates = count-cons (is_vacate x) q todo in
+    let here = begins-none image x q todo h none in
+    let behind = cleans-none image x todo (blocks-behind image q todo h) (omega (arith, recycles, none)) in
+    let (wipe, vacate) = here in
+    let (no_wipe, no_vacate) = behind in (omega (arith, wipes, wipe, no_wipe), omega (arith, vacates, vacate, no_vacate))

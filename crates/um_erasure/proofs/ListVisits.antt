@@ -18,8 +18,8 @@ use Rattle.um_fine.specs.Steps.{FineStep}
 use Rattle.um_erasure.specs.Cleaning.{AreBlocks}
 use Rattle.um_erasure.specs.Frames.{Behind}
 use Rattle.um_erasure.specs.Lists.{cleaned_pairs, counted, is_recycle, names_row}
-use Rattle.um_erasure.proofs.CleaningFacts.{count-cons}
 use Rattle.um_erasure.proofs.CleanSteps.{OwnRows}
+use Rattle.um_erasure.proofs.ListCounts.{count-cons}
 use Rattle.um_erasure.proofs.ListGrowth.{ends-behind, ReadsLast, either-look, is_clean_pair, next-kept, visits_row, EndsWell, cleaning-kept, show-kept, behind-kept, claim-kept, pass-kept, drop-kept, goes-kept}
 
 -- the steps named are rows, so a visit is of one

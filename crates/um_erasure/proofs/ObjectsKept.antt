@@ -6,7 +6,6 @@ use Rattle.std.proofs.lemmas.Bool.{false≢true}
 use Rattle.um_base.specs.declared.act.Leftover.{Leftover}
 use Rattle.um_base.specs.declared.limits.TheConstants.{ROWS, STATIC_ROWS, THREADS}
 use Rattle.um_base.specs.declared.names.Addr.{Addr}
-use Rattle.um_base.specs.declared.names.ThreadIx.{ThreadIx}
 use Rattle.um_base.specs.Places.{addr_of, row_at}
 use Rattle.um_machine.specs.declared.object.Object.{Object}
 use Rattle.um_machine.specs.declared.object.Status.{Status}
@@ -20,16 +19,13 @@ use Rattle.um_invariants.proofs.Cores.{call_is, status_is}
 use Rattle.um_invariants.proofs.Guards.{IsRow, bearing, behind_birth, Guarded}
 use Rattle.um_invariants.proofs.Turns.{below_rows}
 use Rattle.um_erasure.proofs.Reachable.{IsSound}
+use Rattle.um_erasure.proofs.ThreadLists.{read-set}
 use Rattle.um_erasure.proofs.Writes.{Keeping, Makes, Part, after-kept, births, lasting_of, statuses, bytes-kept}
 
 -- an object that is written with the same of something leaves that of all
 pub set-kept : {A : Type 0} (g : Object → A) (xs : List Object) (x y : ℕ) (o : Object) → g o ≡ g (slice_index_or xs x vacant)
     → g (slice_index_or (slice_set xs x o) y vacant) ≡ g (slice_index_or xs y vacant)
-set-kept g [] x y o e = refl
-set-kept g (z ∷ zs) zero zero o e = e
-set-kept g (z ∷ zs) zero (suc y) o e = refl
-set-kept g (z ∷ zs) (suc x) zero o e = refl
-set-kept g (z ∷ zs) (suc x) (suc y) o e = set-kept g zs x y o e
+set-kept g = read-set g vacant
 
 -- all that a step may write but whole objects, and but these and their status
 abbrev pub NoBirths : Part → Type 0
@@ -170,19 +166,15 @@ module _ (m : State) (sound : IsSound m) where
       by who true p = absurd (false≢true (sym lives ∙ paired-live x who p))
       by who false p = refl
 
+  -- the steps that a thread has left are guarded
+  guarded-next : (t : ℕ) {steps : Steps} → (thread_at m t).pending ≡ steps → Guarded m.image (thread_at m t).checked (behind_birth steps)
+  guarded-next t e =
+      subst (λ (left : Steps). Guarded m.image (thread_at m t).checked (behind_birth left)) e
+      (subst (λ (c : _). Guarded m.image c.checked (behind_birth c.pending)) (call_is m t) (sound.known.reached.guarded t))
+
   -- an object that is to be born is reserved
   pub born-reserved : (t : ℕ) (a : Addr) (rest : Steps) → Offers m t (Pending.Born a) rest → (y : ℕ) × (row_at m.image a.0 ≡ Some y) × ((object_at m y).status ≡ Status.Reserved)
   born-reserved t a rest (goes e) =
       let r = sound.known.reached.reserved t a.0 (ap (λ (c : _). bearing c.pending) (call_is m t) ∙ ap bearing e) in (r.0, r.1, sym (status_is m r.0) ∙ r.2)
-  born-reserved t a rest (skips_inherit e due) = absurd (guard e)
-    where
-      guard : {who : ThreadIx} → (thread_at m t).pending ≡ Pending.Inherit who ∷ Pending.Born a ∷ rest → ⊥
-      guard e =
-          subst (λ (steps : Steps). Guarded m.image (thread_at m t).checked (behind_birth steps)) e
-          (subst (λ (c : _). Guarded m.image c.checked (behind_birth c.pending)) (call_is m t) (sound.known.reached.guarded t))
-  born-reserved t a rest (skips_drops e due) = absurd (guard e)
-    where
-      guard : {from : ℕ} → (thread_at m t).pending ≡ Pending.Drops from ∷ Pending.Born a ∷ rest → ⊥
-      guard e =
-          subst (λ (steps : Steps). Guarded m.image (thread_at m t).checked (behind_birth steps)) e
-          (subst (λ (c : _). Guarded m.image c.checked (behind_birth c.pending)) (call_is m t) (sound.known.reached.guarded t))
+  born-reserved t a rest (skips_inherit e due) = absurd (guarded-next t e)
+  born-reserved t a rest (skips_drops e due) = absurd (guarded-next t e)

@@ -25,10 +25,10 @@ use Rattle.um_fine.specs.Answers.{act_in, verdict_in}
 use Rattle.um_fine.specs.Context.{Context}
 use Rattle.um_fine.specs.Continues.{continues, with_claim}
 use Rattle.um_fine.specs.Places.{Todos}
-use Rattle.um_fine.specs.Processor.{Processor}
 use Rattle.um_fine.specs.Steps.{FineStep}
 use Rattle.um_erasure.specs.Fine.{Fine}
 use Rattle.um_erasure.specs.Threads.{IsOf, flags_of, is_ended, own_part}
+use Rattle.um_erasure.proofs.Erased.{around}
 use Rattle.um_erasure.proofs.LawfulSteps.{Suits}
 use Rattle.um_erasure.proofs.Leaves.{Lawful}
 use Rattle.um_erasure.proofs.Continued.{Held, KeepsHeld, continues-held, continues-thread, held_of}
@@ -95,8 +95,7 @@ work-calls m t a ask rest u =
     ∙ map_at call_of m.threads u nobody)
 
 module _ (f : Fine) (m : State) (e : FineStep) (law : Lawful f m e) (suits : Suits f m) (all : InDomains f m) (rest : Steps) (todo : Todos) (x : ℕ) where
-  abbrev p : Processor
-  p = f.processors e.cpu
+  open around f e use {processor as p}
 
   abbrev t : ℕ
   t = p.context.thread

@@ -1,5 +1,5 @@
 -- An own part lies in one place at most, after every lawful step.
-use Rattle.std.proofs.Common.{◌≡◌, ℕ, zero, suc, ◌+◌, ◌<◌, ◌≤◌, Bool, true, false, List, [], ◌∷◌, Option, Some, None, refl, sym, ap, ◌∙◌, subst, arith, eq-eqb}
+use Rattle.std.proofs.Common.{◌≡◌, ℕ, zero, suc, ◌+◌, ◌<◌, ◌≤◌, Bool, true, false, [], ◌∷◌, Option, Some, None, refl, sym, ap, ◌∙◌, subst, arith, eq-eqb}
 use Rattle.std.specs.Prelude.{ℤ, ◌==◌, ◌&&◌, if◌then◌else◌, is_some, not, slice_index_or, slice_set}
 use Rattle.std.proofs.lemmas.Bool.{and_parts, eqb-false, eqb-true, not-true, true≢false}
 use Rattle.std.proofs.lemmas.List.{get_or-set_other}
@@ -15,13 +15,13 @@ use Rattle.um_machine.specs.State.{State}
 use Rattle.um_words.specs.declared.fine.FineAct.{FineAct}
 use Rattle.um_words.specs.declared.fine.Unseen.{Unseen}
 use Rattle.um_fine.specs.Answers.{context_in, ready_in}
-use Rattle.um_fine.specs.Asks.{begins_cleaning, says_idle}
+use Rattle.um_fine.specs.Asks.{begins_cleaning}
 use Rattle.um_fine.specs.Context.{Context}
 use Rattle.um_fine.specs.Continues.{resumed, resumed_at}
-use Rattle.um_fine.specs.Follows.{after_take, p_next}
+use Rattle.um_fine.specs.Follows.{after_take}
 use Rattle.um_fine.specs.Places.{Todo, Todos}
 use Rattle.um_fine.specs.Processor.{Processor}
-use Rattle.um_fine.specs.Scheduler.{Scheduler, first_taken, one_less, parked_at, put_back, told_at}
+use Rattle.um_fine.specs.Scheduler.{Scheduler, parked_at, put_back}
 use Rattle.um_fine.specs.Sites.{same_site}
 use Rattle.um_fine.specs.Steps.{Exchange, FineStep, Site}
 use Rattle.um_erasure.specs.Fine.{Fine, one_if, over_processors, scheduler}
@@ -31,7 +31,7 @@ use Rattle.um_erasure.specs.Offers.{Fits, is_over}
 use Rattle.um_erasure.specs.Threads.{IsOf, places, runs_on}
 use Rattle.um_erasure.proofs.CleanSteps.{adds-one}
 use Rattle.um_erasure.proofs.ContextsPart.{is_shown, now-context, quiet-context, read-only}
-use Rattle.um_erasure.proofs.Erased.{stepped}
+use Rattle.um_erasure.proofs.Erased.{around}
 use Rattle.um_erasure.proofs.FirstThreads.{one-most}
 use Rattle.um_erasure.proofs.HeldRows.{some-part}
 use Rattle.um_erasure.proofs.Leaves.{Lawful, Leaves, cleans, drops, event, nothing, passes, recycles, resumes}
@@ -40,10 +40,10 @@ use Rattle.um_erasure.proofs.ListGrips.{next-thread, read-rests}
 use Rattle.um_erasure.proofs.ListRuns.{ends-rests}
 use Rattle.um_erasure.proofs.ListGrowth.{ReadsLast, is_end}
 use Rattle.um_erasure.proofs.Offered.{Shows, behind-is, shown-on}
-use Rattle.um_erasure.proofs.PartsElsewhere.{starts-apart, taken-parked, takes-first}
+use Rattle.um_erasure.proofs.PartsElsewhere.{IsTaken, parks-after, starts-apart, taken-parked, takes-first}
 use Rattle.um_erasure.proofs.PlacesFacts.{set-none}
 use Rattle.um_erasure.proofs.ResumeSteps.{some-is}
-use Rattle.um_erasure.proofs.RunningPart.{idle-after, todo-elsewhere}
+use Rattle.um_erasure.proofs.RunningPart.{todo-elsewhere}
 use Rattle.um_erasure.proofs.SchedulerSteps.{made-at, made-moves, made-says, sched-else, sched-later}
 use Rattle.um_erasure.proofs.StepsLeft.{drops-on, passes-on, rests-on}
 use Rattle.um_erasure.proofs.Sums.{over-changed}
@@ -78,14 +78,7 @@ no-steps false b c h = refl
 no-steps true b c h = absurd (true≢false h)
 
 module _ (f : Fine) (m : State) (e : FineStep) (law : Lawful f m e) (s : State) (leaves : Leaves f m e s) (t : ℕ) (few : t < THREADS) where
-  abbrev later : Fine
-  later = stepped f.image f.cpus f.processors f.sites e
-
-  abbrev p : Processor
-  p = f.processors e.cpu
-
-  abbrev now : Processor
-  now = p_next f.image p e
+  open around f e use {later, processor as p, now}
 
   abbrev pub lies : Processor → ℕ
   lies z = one_if (runs_on t z) + of_thread t (adders z.todo)
@@ -242,23 +235,20 @@ module _ (f : Fine) (m : State) (e : FineStep) (law : Lawful f m e) (s : State) 
 
   -- a thread is taken
   takes : p.todo ≡ [] → places later t ≤ 1
-  takes at = which (t == first.0) refl
+  takes at = which (t == first.thread) refl
     where
-      first : (u : ℕ) × (list : List ℕ) × (d : Context) × (told : Option Told) × ((scheduler f).ready ≡ u ∷ list) × (e.moved ≡ Exchange.thread d told) × (d.thread ≡ u) × (told ≡ told_at (scheduler f) u)
+      first : IsTaken f e
       first = takes-first f m e law at
 
-      after : scheduler later ≡ first_taken (scheduler f) (first.0 ∷ first.1)
-      after = sched-later f m e law (made-at f m e law [] at) (says_idle f.image p e.moved) (made-says f m e law [] at) ∙ (idle-after f.image p (scheduler f) e.moved ∙ ap (first_taken (scheduler f)) first.4)
+      parked : rests later ≡ one_if (is_some (slice_index_or (slice_set (scheduler f).parked first.thread None) t None))
+      parked = ap (λ (z : Scheduler). one_if (is_some (parked_at z t))) first.after
 
-      parked : rests later ≡ one_if (is_some (slice_index_or (slice_set (scheduler f).parked first.0 None) t None))
-      parked = ap (λ (z : Scheduler). one_if (is_some (parked_at z t))) after
-
-      thread : now.context.thread ≡ first.0
-      thread = ap (λ (c : Context). c.thread) (now-context f m e law [] at ∙ ap (λ (mv : Exchange). (after_take f.image p mv).context) first.5) ∙ (by first.3 ∙ first.6)
+      thread : now.context.thread ≡ first.thread
+      thread = ap (λ (c : Context). c.thread) (now-context f m e law [] at ∙ ap (λ (mv : Exchange). (after_take f.image p mv).context) first.moved) ∙ (by first.told ∙ first.same)
         where
-          by : (told : Option Told) → (after_take f.image p (Exchange.thread first.2 told)).context.thread ≡ first.2.thread
+          by : (told : Option Told) → (after_take f.image p (Exchange.thread first.context told)).context.thread ≡ first.context.thread
           by None = refl
-          by (Some w) = resumed-thread f.image first.2 w
+          by (Some w) = resumed-thread f.image first.context w
 
       idle-runs : one_if (runs_on t p) ≡ 0
       idle-runs = no-steps (runs p) (p.context.thread == t) (not (is_over p.context)) (ap has_steps at)
@@ -269,33 +259,33 @@ module _ (f : Fine) (m : State) (e : FineStep) (law : Lawful f m e) (s : State) 
       now-adds : of_thread t (adders now.todo) ≡ 0
       now-adds = ap (of_thread t) (takes-adders f.image p e at)
 
-      which : (b : Bool) → (t == first.0) ≡ b → places later t ≤ 1
+      which : (b : Bool) → (t == first.thread) ≡ b → places later t ≤ 1
       which true same =
-          let gone : slice_index_or (slice_set (scheduler f).parked first.0 None) t None ≡ None =
-          subst (λ n. slice_index_or (slice_set (scheduler f).parked first.0 None) n None ≡ None) (sym (eqb-true t first.0 same)) (set-none (scheduler f).parked first.0) in
+          let gone : slice_index_or (slice_set (scheduler f).parked first.thread None) t None ≡ None =
+          subst (λ n. slice_index_or (slice_set (scheduler f).parked first.thread None) n None ≡ None) (sym (eqb-true t first.thread same)) (set-none (scheduler f).parked first.thread) in
           let none = parked ∙ ap (λ (o : Option Context). one_if (is_some o)) gone in
           let all = sums in
           let before = was in
           let most = one-most (runs_on t now) in
-          let there : rests f ≡ 1 = ap (λ n. one_if (is_some (parked_at (scheduler f) n))) (eqb-true t first.0 same) ∙ ap (λ (o : Option Context). one_if (is_some o)) (stood first.0) in
+          let there : rests f ≡ 1 = ap (λ n. one_if (is_some (parked_at (scheduler f) n))) (eqb-true t first.thread same) ∙ ap (λ (o : Option Context). one_if (is_some o)) (stood first.thread) in
           omega (arith, none, all, before, most, there, idle-runs, idle-adds, now-adds)
         where
-          stood : (u : ℕ) → parked_at (scheduler f) first.0 ≡ Some first.2
-          stood u = subst (λ n. parked_at (scheduler f) n ≡ Some first.2) first.6 (taken-parked f m e law at first.2 first.3 first.5)
+          stood : (u : ℕ) → parked_at (scheduler f) first.thread ≡ Some first.context
+          stood u = subst (λ n. parked_at (scheduler f) n ≡ Some first.context) first.same (taken-parked f m e law at first.context first.told first.moved)
       which false other =
-          let apart = eqb-false t first.0 other in
-          let kept = parked ∙ ap (λ (o : Option Context). one_if (is_some o)) (get_or-set_other (scheduler f).parked first.0 t None None apart) in
+          let apart = eqb-false t first.thread other in
+          let kept = parked ∙ ap (λ (o : Option Context). one_if (is_some o)) (get_or-set_other (scheduler f).parked first.thread t None None apart) in
           let all = sums in
           let before = was in
           let lacks = no-thread (runs now) (now.context.thread == t) (not (is_over now.context)) (ap (λ n. n == t) thread ∙ swapped) in
           omega (arith, kept, all, before, lacks, idle-runs, idle-adds, now-adds)
         where
-          swapped : (first.0 == t) ≡ false
-          swapped = by (first.0 == t) refl
+          swapped : (first.thread == t) ≡ false
+          swapped = by (first.thread == t) refl
             where
-              by : (b : Bool) → (first.0 == t) ≡ b → b ≡ false
+              by : (b : Bool) → (first.thread == t) ≡ b → b ≡ false
               by false h = refl
-              by true h = absurd (true≢false (sym (eq-eqb t first.0 (sym (eqb-true first.0 t h))) ∙ other))
+              by true h = absurd (true≢false (sym (eq-eqb t first.thread (sym (eqb-true first.thread t h))) ∙ other))
 
   -- the end of a turn
   pub ends : (q : Todo) (todo : Todos) → p.todo ≡ q ∷ todo → is_end q ≡ true → begins_cleaning e ≡ false → lies now ≡ 0
@@ -324,10 +314,7 @@ module _ (f : Fine) (m : State) (e : FineStep) (law : Lawful f m e) (s : State) 
   by-todo : (todo : Todos) → p.todo ≡ todo → places later t ≤ 1
   by-todo [] at = takes at
   by-todo (Todo.park ∷ todo) at =
-      let act = FineAct.Unseen (Unseen.Park (to_thread p.context.thread) (ready_in e.act)) in
-      let after = sched-later f m e law (made-at f m e law (Todo.park ∷ todo) at) act (made-says f m e law (Todo.park ∷ todo) at)
-      ∙ ap (λ (mv : Exchange). one_less (put_back (scheduler f) (ready_in e.act) (context_in mv))) (made-moves f m e law (Todo.park ∷ todo) at) in
-      let now-parked = ap (λ (z : Scheduler). one_if (is_some (parked_at z t))) after in
+      let now-parked = ap (λ (z : Scheduler). one_if (is_some (parked_at z t))) (parks-after f m e law todo at) in
       let more = puts (ready_in e.act) p.context now-parked in
       let none = ends Todo.park todo at refl (ap (λ a. begins_cleaning (record e { act = a })) (made-says f m e law (Todo.park ∷ todo) at)) in
       let on = (subst (Fits f.image p.context) at (law.rel.processors e.cpu law.by.named).list.fits).1 in

@@ -1,6 +1,6 @@
 -- A step of one thread leaves what another thread does: its own part, its life, and what it has checked.
 use Rattle.std.proofs.Common.{◌≡◌, ℕ, zero, suc, ◌+◌, Bool, true, false, List, [], ◌∷◌, length, Option, Some, None, refl, ap, ◌∙◌}
-use Rattle.std.specs.Prelude.{if◌then◌else◌, nat_lt, ◌-◌, replicate, slice_index_or, slice_set}
+use Rattle.std.specs.Prelude.{if◌then◌else◌, nat_lt, ◌-◌, replicate, slice_index_or}
 use Rattle.um_base.specs.declared.names.Access.TheVariants as Access
 use Rattle.um_base.specs.declared.names.Addr.{Addr}
 use Rattle.um_base.specs.declared.names.Range.{Range}
@@ -25,18 +25,11 @@ use Rattle.um_machine.specs.Order.{Steps}
 use Rattle.um_machine.specs.State.{State, instruction_at, nobody, object_at, thread_at, with_object, with_pair, with_thread}
 use Rattle.um_machine.specs.Table as T
 use Rattle.um_erasure.specs.Threads.{own_part}
-use Rattle.um_erasure.proofs.ThreadLists.{set-else}
+use Rattle.um_erasure.proofs.ThreadLists.{read-set, set-else}
 
 -- what a thread does
 abbrev pub doing : Thread → Thread
 doing me = record (own_part me) { checked = me.checked; life = me.life }
-
-set-same : (xs : List Thread) (v u : ℕ) (th : Thread) → doing th ≡ doing (slice_index_or xs v nobody) → doing (slice_index_or (slice_set xs v th) u nobody) ≡ doing (slice_index_or xs u nobody)
-set-same [] v u th e = refl
-set-same (y ∷ ys) zero zero th e = e
-set-same (y ∷ ys) zero (suc u) th e = refl
-set-same (y ∷ ys) (suc v) zero th e = refl
-set-same (y ∷ ys) (suc v) (suc u) th e = set-same ys v u th e
 
 pub dues-same : (x i : ℕ) (holders : List Bool) (xs : List Thread) (u : ℕ) → doing (slice_index_or (T.with_dues x i holders xs) u nobody) ≡ doing (slice_index_or xs u nobody)
 dues-same x i holders [] u = refl
@@ -62,7 +55,7 @@ module _ (m : State) (t u : ℕ) (other : t ≡ u → ⊥) where
   here th rest = on m th rest refl
 
   same : (s : State) (v : ℕ) (th : Thread) → doing th ≡ doing (thread_at s v) → Kept s → Kept (with_thread s v th)
-  same s v th e k = set-same s.threads v u th e ∙ k
+  same s v th e k = read-set doing nobody s.threads v u th e ∙ k
 
   pairs : (s : State) (v x : ℕ) (b : Bool) → Kept s → Kept (T.paired s v x b)
   pairs s v x b k = dues-same x 0 (slice_index_or (with_pair s v x b).pairs x []) s.threads u ∙ k

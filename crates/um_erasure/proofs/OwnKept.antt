@@ -32,13 +32,13 @@ use Rattle.um_fine.specs.Continues.{continues}
 use Rattle.um_fine.specs.Memory.{read, text_bytes}
 use Rattle.um_fine.specs.Objects.{ObjectCell, outcome_of, work_on}
 use Rattle.um_fine.specs.Places.{Todo, Todos}
-use Rattle.um_fine.specs.Processor.{Processor}
 use Rattle.um_fine.specs.Sites.{SiteState, site_moves}
 use Rattle.um_fine.specs.Steps.{Exchange, FineStep, Site}
 use Rattle.um_erasure.specs.Fine.{Fine, bytes, object, row}
 use Rattle.um_erasure.specs.Lists.{has_steps}
 use Rattle.um_erasure.specs.Threads.{own_part}
 use Rattle.um_erasure.proofs.CallsKnown.{starts-known}
+use Rattle.um_erasure.proofs.Erased.{around}
 use Rattle.um_erasure.proofs.HeldRows.{checked-claimed, claimed-whole}
 use Rattle.um_erasure.proofs.LawfulSteps.{Suits}
 use Rattle.um_erasure.proofs.Leaves.{Lawful}
@@ -124,8 +124,7 @@ offers-some m t who script stack priority mode rest (skips_inherit e due) none =
 offers-some m t who script stack priority mode rest (skips_drops e due) none = true≢false (ap is_empty (sym none ∙ e))
 
 module _ (f : Fine) (m : State) (e : FineStep) (law : Lawful f m e) (suits : Suits f m) (all : InDomains f m) (rest : Steps) (todo : Todos) where
-  abbrev p : Processor
-  p = f.processors e.cpu
+  open around f e use {processor as p}
 
   abbrev t : ℕ
   t = p.context.thread

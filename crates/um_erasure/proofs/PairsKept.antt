@@ -29,22 +29,15 @@ use Rattle.um_erasure.proofs.Erased.{stepped}
 use Rattle.um_erasure.proofs.Offered.{Shows}
 use Rattle.um_erasure.proofs.RowSteps.{row-stands}
 use Rattle.um_erasure.proofs.WordsKept.{IsShown}
-use Rattle.um_erasure.proofs.Writes.{Keeping, Makes, Part, after-kept, pairs, reads-keeping}
+use Rattle.um_erasure.proofs.Writes.{Makes, Part, pairs, read-same, reads-keeping}
 
 -- all that a step may write but permissions
 abbrev pub NoPairs : Part → Type 0
 NoPairs pairs = ⊥
 NoPairs part = Unit {0}
 
-module _ (m : State) where
-  abbrev SamePairs : State → Type 0
-  SamePairs s = s.pairs ≡ m.pairs
-
-  pairs-keeping : Keeping NoPairs SamePairs
-  pairs-keeping = reads-keeping NoPairs (λ s. s.pairs) m.pairs (λ s threads. refl) (λ s objects. refl) (λ s bytes. (refl, refl)) (λ may s u x there. absurd may) (λ may s left. refl) (λ may s d ps. refl)
-
-  pub pairs-same : (t x : ℕ) (q : Pending) (rest : Steps) → Makes NoPairs q → (T.after m t x q rest).pairs ≡ m.pairs
-  pairs-same t x q rest h = after-kept NoPairs SamePairs pairs-keeping m t refl x q rest h
+pub pairs-same : (m : State) (t x : ℕ) (q : Pending) (rest : Steps) → Makes NoPairs q → (T.after m t x q rest).pairs ≡ m.pairs
+pairs-same m = read-same NoPairs (λ s. s.pairs) m (reads-keeping NoPairs (λ s. s.pairs) m.pairs (λ s threads. refl) (λ s objects. refl) (λ s bytes. (refl, refl)) (λ may s u x there. absurd may) (λ may s left. refl) (λ may s d ps. refl))
 
 -- The fine machine.
 

@@ -21,7 +21,7 @@ use Rattle.um_words.specs.declared.fine.More.{More}
 use Rattle.um_words.specs.declared.fine.Unseen.{Unseen}
 use Rattle.um_words.specs.declared.row_word.RowWord.{RowWord}
 use Rattle.um_words.specs.declared.row_word.Stage.{Stage}
-use Rattle.um_words.specs.Rows.{dropped, given_of, gone_stage, has, is_cleaning, is_dying, is_free, is_last, is_live, permitted, row_after, row_after_act, row_after_unseen, row_takes_unseen}
+use Rattle.um_words.specs.Rows.{dropped, given_of, gone_stage, has, is_cleaning, is_free, is_last, is_live, permitted, row_after, row_after_act, row_after_unseen, row_takes_unseen}
 use Rattle.um_fine.specs.Addresses.{row_named}
 use Rattle.um_fine.specs.Answers.{act_in, given_in}
 use Rattle.um_fine.specs.Places.{Todos}
@@ -30,7 +30,8 @@ use Rattle.um_fine.specs.Steps.{FineStep, Site}
 use Rattle.um_fine.proofs.Keys.{same-sound}
 use Rattle.um_erasure.specs.Fine.{Fine, row, row_state}
 use Rattle.um_erasure.specs.Objects.{PairsAre, is_reserved, status_of}
-use Rattle.um_erasure.proofs.Erased.{stepped}
+use Rattle.um_erasure.proofs.CleaningFacts.{ends-free}
+use Rattle.um_erasure.proofs.Erased.{around}
 use Rattle.um_erasure.proofs.Leaves.{Lawful, Leaves, cleans, drops, event, mine, nothing, passes, recycles, resumes}
 use Rattle.um_erasure.proofs.ObjectsKept.{born-reserved, unlived-dynamic, unlived-none}
 use Rattle.um_erasure.proofs.Offered.{IsStep, Shows, shown-offers, site-is}
@@ -103,8 +104,7 @@ given-live true true e = absurd (subst (λ z. elim z as (λ _. Type 0) [ Given.D
 given-live false false e = absurd (subst (λ z. elim z as (λ _. Type 0) [ Given.Done ↦ ⊥ | Given.Gone ↦ Unit {0} ]) e tt)
 
 module _ (f : Fine) (m : State) (e : FineStep) (law : Lawful f m e) (x : ℕ) (few : x < ROWS) where
-  abbrev later : Fine
-  later = stepped f.image f.cpus f.processors f.sites e
+  open around f e use {later}
 
   was : Has (row f x) (slice_index_or m.pairs x []) x
   was = record { pairs = (law.rel.rows x few).pairs.pairs; dynamic = (law.rel.rows x few).pairs.dynamic }
@@ -188,18 +188,11 @@ module _ (f : Fine) (m : State) (e : FineStep) (law : Lawful f m e) (x : ℕ) (f
   cleaning-is Stage.Live h = absurd (false≢true h)
   cleaning-is Stage.Dying h = absurd (false≢true h)
 
-  ended-free : (s : Stage) (b : Bool) → is_free (if is_dying s && b then Stage.Cleaning else s) ≡ is_free s
-  ended-free Stage.Free b = refl
-  ended-free Stage.Live b = refl
-  ended-free Stage.Cleaning b = refl
-  ended-free Stage.Dying true = refl
-  ended-free Stage.Dying false = refl
-
   quiet-has : (u : Unseen) → row_takes_unseen (row f x) u ≡ true → Has (row_after_unseen (row f x) u) (slice_index_or m.pairs x []) x
   quiet-has Unseen.EndCall h =
       record {
         pairs = was.pairs;
-        dynamic = was.dynamic ∙ ap (λ b. nat_le STATIC_ROWS x && not b) (sym (ended-free (row f x).stage ((row f x).claims == 1)));
+        dynamic = was.dynamic ∙ ap (λ b. nat_le STATIC_ROWS x && not b) (sym (ends-free (row f x).stage ((row f x).claims == 1)));
       }
   quiet-has Unseen.Vacate h =
       let stage = cleaning-is (row f x).stage (and_parts _ _ h).0 in

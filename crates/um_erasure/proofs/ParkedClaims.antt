@@ -10,11 +10,9 @@ use Rattle.um_machine.specs.State.{State}
 use Rattle.um_words.specs.declared.fine.FineAct.{FineAct}
 use Rattle.um_words.specs.declared.fine.Unseen.{Unseen}
 use Rattle.um_fine.specs.Answers.{context_in, ready_in}
-use Rattle.um_fine.specs.Asks.{says_idle}
 use Rattle.um_fine.specs.Context.{Context}
 use Rattle.um_fine.specs.Places.{Todo, Todos}
-use Rattle.um_fine.specs.Processor.{Processor}
-use Rattle.um_fine.specs.Scheduler.{Scheduler, first_taken, one_less, parked_at, put_back}
+use Rattle.um_fine.specs.Scheduler.{Scheduler, one_less, parked_at, put_back}
 use Rattle.um_fine.specs.Sites.{same_site}
 use Rattle.um_fine.specs.Steps.{Exchange, FineStep, Site}
 use Rattle.um_erasure.specs.Claims.{context_claims}
@@ -23,11 +21,11 @@ use Rattle.um_erasure.specs.Frames.{AreFramed}
 use Rattle.um_erasure.specs.Lists.{Adds, has_steps}
 use Rattle.um_erasure.specs.Offers.{Fits}
 use Rattle.um_erasure.specs.Threads.{occurs}
-use Rattle.um_erasure.proofs.Erased.{stepped}
+use Rattle.um_erasure.proofs.Erased.{around}
 use Rattle.um_erasure.proofs.Leaves.{Lawful}
 use Rattle.um_erasure.proofs.PartsElsewhere.{taken-parked, takes-first}
 use Rattle.um_erasure.proofs.PlacesFacts.{added-unparked, adds-count, running-unparked, set-none}
-use Rattle.um_erasure.proofs.RunningPart.{idle-after, is_scheduling, todo-elsewhere}
+use Rattle.um_erasure.proofs.RunningPart.{is_scheduling, todo-elsewhere}
 use Rattle.um_erasure.proofs.SchedulerSteps.{made-at, made-moves, made-says, sched-else, sched-later}
 use Rattle.um_erasure.proofs.Sums.{total-one}
 
@@ -41,11 +39,7 @@ none-claimed x None h = refl
 none-claimed x (Some c) h = absurd (false≢true (sym h))
 
 module _ (f : Fine) (m : State) (e : FineStep) (law : Lawful f m e) (x : ℕ) where
-  abbrev later : Fine
-  later = stepped f.image f.cpus f.processors f.sites e
-
-  abbrev p : Processor
-  p = f.processors e.cpu
+  open around f e use {later, processor as p}
 
   -- a step that is none of the scheduler's, but for a wake
   pub parked-else : (q : Todo) (todo : Todos) → p.todo ≡ q ∷ todo → is_scheduling q ≡ false → parked_claims x (scheduler later) ≡ parked_claims x (scheduler f)
@@ -64,17 +58,15 @@ module _ (f : Fine) (m : State) (e : FineStep) (law : Lawful f m e) (x : ℕ) wh
   pub parked-taken : p.todo ≡ [] → parked_claims x (scheduler later) + occurs x (context_in e.moved).claims ≡ parked_claims x (scheduler f)
   parked-taken at =
       let first = takes-first f m e law at in
-      let d = first.2 in
-      let stood = taken-parked f m e law at d first.3 first.5 in
+      let d = first.context in
+      let stood = taken-parked f m e law at d first.told first.moved in
       let of = (law.rel.contexts.parked d.thread d stood).0 in
-      let after : scheduler later ≡ first_taken (scheduler f) (first.0 ∷ first.1) =
-      sched-later f m e law (made-at f m e law [] at) (says_idle f.image p e.moved) (made-says f m e law [] at) ∙ (idle-after f.image p (scheduler f) e.moved ∙ ap (first_taken (scheduler f)) first.4) in
-      let list : (scheduler later).parked ≡ slice_set (scheduler f).parked d.thread None = ap (λ (s : Scheduler). s.parked) after ∙ ap (λ n. slice_set (scheduler f).parked n None) (sym first.6) in
+      let list : (scheduler later).parked ≡ slice_set (scheduler f).parked d.thread None = ap (λ (s : Scheduler). s.parked) first.after ∙ ap (λ n. slice_set (scheduler f).parked n None) (sym first.same) in
       let sum = total-one (λ t. context_claims x (parked_at (scheduler later) t)) (λ t. context_claims x (parked_at (scheduler f) t)) THREADS d.thread of.index
       (λ k ne. ap (λ ps. context_claims x (slice_index_or ps k None)) list ∙ ap (context_claims x) (get_or-set_other (scheduler f).parked d.thread k None None ne)) in
       let here : context_claims x (parked_at (scheduler later) d.thread) ≡ 0 = ap (λ ps. context_claims x (slice_index_or ps d.thread None)) list ∙ ap (context_claims x) (set-none (scheduler f).parked d.thread) in
       let was : context_claims x (parked_at (scheduler f) d.thread) ≡ occurs x d.claims = ap (context_claims x) stood in
-      let moved : occurs x (context_in e.moved).claims ≡ occurs x d.claims = ap (λ (mv : Exchange). occurs x (context_in mv).claims) first.5 in
+      let moved : occurs x (context_in e.moved).claims ≡ occurs x d.claims = ap (λ (mv : Exchange). occurs x (context_in mv).claims) first.moved in
       omega (arith, sum, here, was, moved)
 
   -- one is put back that wasn't parked

@@ -33,7 +33,7 @@ use Rattle.um_erasure.proofs.DomainsKnown.{started-placed}
 use Rattle.um_erasure.proofs.DonePart.{done-part}
 use Rattle.um_erasure.proofs.DuesPart.{DuesKnown, dues-known, dues-part}
 use Rattle.um_erasure.proofs.EmptiedPart.{GivesHeld, emptied-part}
-use Rattle.um_erasure.proofs.Erased.{Goes, IsReachable, Keeps, fine, reach-on, stepped}
+use Rattle.um_erasure.proofs.Erased.{Goes, IsReachable, Keeps, around, fine, reach-on, stepped}
 use Rattle.um_erasure.proofs.FirstObjects.{opening-image}
 use Rattle.um_erasure.proofs.HeapPart.{heap-part}
 use Rattle.um_erasure.proofs.HeldDomainPart.{held-domain-part}
@@ -76,8 +76,7 @@ module _ (m : State) where
   image-same t x q rest = after-kept Any SameImage image-keeping m t refl x q rest (makes-any q)
 
 module _ (f : Fine) (m : State) (e : FineStep) (law : Lawful f m e) where
-  abbrev later : Fine
-  later = stepped f.image f.cpus f.processors f.sites e
+  open around f e use {later}
 
   image-part : (s : State) → Leaves f m e s → s.image ≡ f.image
   image-part _ (nothing u said) = law.rel.image

@@ -20,11 +20,11 @@ use Rattle.um_words.specs.declared.fine.FineAct.{FineAct}
 use Rattle.um_words.specs.declared.fine.Unseen.{Unseen}
 use Rattle.um_words.specs.declared.thread_word.ThreadWord.{ThreadWord}
 use Rattle.um_words.specs.Threads.{thread_after, thread_after_act}
+use Rattle.um_fine.specs.Answers.{context_in, ready_in}
 use Rattle.um_fine.specs.Asks.{says_idle}
 use Rattle.um_fine.specs.Context.{Context, no_context}
-use Rattle.um_fine.specs.Places.{Todos}
-use Rattle.um_fine.specs.Processor.{Processor}
-use Rattle.um_fine.specs.Scheduler.{first_ready, has_ready, parked_at, told_at}
+use Rattle.um_fine.specs.Places.{Todo, Todos}
+use Rattle.um_fine.specs.Scheduler.{first_ready, first_taken, has_ready, one_less, parked_at, put_back, told_at}
 use Rattle.um_fine.specs.Sites.{SiteState, s_next, same_site, site_after}
 use Rattle.um_fine.specs.Steps.{Exchange, FineStep, Site}
 use Rattle.um_erasure.specs.Fine.{Fine, scheduler, thread_state, word}
@@ -32,14 +32,15 @@ use Rattle.um_erasure.specs.Lists.{has_steps}
 use Rattle.um_erasure.specs.Offers.{Fits, is_over}
 use Rattle.um_erasure.specs.Threads.{IsOf, is_ended, own_part, runs_on}
 use Rattle.um_erasure.proofs.CallsKnown.{starts-known}
-use Rattle.um_erasure.proofs.Erased.{stepped}
+use Rattle.um_erasure.proofs.Erased.{around}
 use Rattle.um_erasure.proofs.Kept.{idle-moves, idle-takes}
 use Rattle.um_erasure.proofs.Leaves.{Lawful, Leaves, cleans, drops, event, mine, nothing, passes, recycles, resumes}
 use Rattle.um_erasure.proofs.Offered.{Shows, shown-offers, shown-on}
 use Rattle.um_erasure.proofs.Others.{doing, dues-same, others, starts_other}
 use Rattle.um_erasure.proofs.ResumeSteps.{some-is}
 use Rattle.um_erasure.proofs.RowSteps.{thread-sort}
-use Rattle.um_erasure.proofs.SchedulerSteps.{made-at, made-says, sched-moved, sched-took}
+use Rattle.um_erasure.proofs.RunningPart.{idle-after}
+use Rattle.um_erasure.proofs.SchedulerSteps.{made-at, made-moves, made-says, sched-later, sched-moved, sched-took}
 use Rattle.um_erasure.proofs.StepsLeft.{drops-on, passes-on}
 use Rattle.um_erasure.proofs.WordsPart.{words-part}
 
@@ -68,12 +69,20 @@ clean-doing m t x who u =
       | Leftover.Gone ↦ paired
     ]
 
-module _ (f : Fine) (m : State) (e : FineStep) (law : Lawful f m e) where
-  abbrev later : Fine
-  later = stepped f.image f.cpus f.processors f.sites e
+-- the thread that a step takes: the first of the ready list
+pub record IsTaken (f : Fine) (e : FineStep) : Type 0 where
+  pub thread : ℕ
+  pub list : List ℕ
+  pub context : Context
+  pub told : Option Told
+  pub ready : (scheduler f).ready ≡ thread ∷ list
+  pub moved : e.moved ≡ Exchange.thread context told
+  pub same : context.thread ≡ thread
+  pub tells : told ≡ told_at (scheduler f) thread
+  pub after : scheduler (around f e).later ≡ first_taken (scheduler f) (thread ∷ list)
 
-  abbrev p : Processor
-  p = f.processors e.cpu
+module _ (f : Fine) (m : State) (e : FineStep) (law : Lawful f m e) where
+  open around f e use {later, processor as p}
 
   -- somebody is ready, and the first of them is what is taken
   first-ready : p.todo ≡ [] → IsTrue (has_ready (scheduler f) (scheduler f).ready) × (e.moved ≡ first_ready (scheduler f) (scheduler f).ready)
@@ -107,7 +116,7 @@ module _ (f : Fine) (m : State) (e : FineStep) (law : Lawful f m e) where
           thread_of moved = no_context
 
   -- what is taken is a thread, the first of the ready list
-  pub takes-first : p.todo ≡ [] → (u : ℕ) × (list : List ℕ) × (d : Context) × (told : Option Told) × ((scheduler f).ready ≡ u ∷ list) × (e.moved ≡ Exchange.thread d told) × (d.thread ≡ u) × (told ≡ told_at (scheduler f) u)
+  pub takes-first : p.todo ≡ [] → IsTaken f e
   takes-first at = by (scheduler f).ready refl
     where
       ready : IsTrue (has_ready (scheduler f) (scheduler f).ready)
@@ -116,28 +125,35 @@ module _ (f : Fine) (m : State) (e : FineStep) (law : Lawful f m e) where
       first : e.moved ≡ first_ready (scheduler f) (scheduler f).ready
       first = (first-ready at).1
 
-      by : (list : List ℕ) → (scheduler f).ready ≡ list
-          → (u : ℕ) × (list : List ℕ) × (d : Context) × (told : Option Told) × ((scheduler f).ready ≡ u ∷ list) × (e.moved ≡ Exchange.thread d told) × (d.thread ≡ u) × (told ≡ told_at (scheduler f) u)
+      by : (list : List ℕ) → (scheduler f).ready ≡ list → IsTaken f e
       by [] q = absurd (false≢true (subst (λ (l : List ℕ). IsTrue (has_ready (scheduler f) l)) q ready))
       by (u ∷ list) q =
-          let some = some-is (parked_at (scheduler f) u) (and_parts _ _ (subst (λ (l : List ℕ). IsTrue (has_ready (scheduler f) l)) q ready)).0 in (
-            u,
-            list,
-            unwrap_or (parked_at (scheduler f) u) no_context,
-            told_at (scheduler f) u,
-            q,
-            first ∙ ap (first_ready (scheduler f)) q,
-            ap (λ (o : Option Context). (unwrap_or o no_context).thread) some.1 ∙ (law.rel.contexts.parked u some.0 some.1).1,
-            refl,
-          )
+          let some = some-is (parked_at (scheduler f) u) (and_parts _ _ (subst (λ (l : List ℕ). IsTrue (has_ready (scheduler f) l)) q ready)).0 in
+          record {
+            thread = u;
+            list = list;
+            context = unwrap_or (parked_at (scheduler f) u) no_context;
+            told = told_at (scheduler f) u;
+            ready = q;
+            moved = first ∙ ap (first_ready (scheduler f)) q;
+            same = ap (λ (o : Option Context). (unwrap_or o no_context).thread) some.1 ∙ (law.rel.contexts.parked u some.0 some.1).1;
+            tells = refl;
+            after = sched-later f m e law (made-at f m e law [] at) (says_idle f.image p e.moved) (made-says f m e law [] at) ∙ (idle-after f.image p (scheduler f) e.moved ∙ ap (first_taken (scheduler f)) q);
+          }
+
+  -- what the scheduler has once a thread is parked
+  pub parks-after : (todo : Todos) → p.todo ≡ Todo.park ∷ todo → scheduler later ≡ one_less (put_back (scheduler f) (ready_in e.act) p.context)
+  parks-after todo at =
+      sched-later f m e law (made-at f m e law (Todo.park ∷ todo) at) (FineAct.Unseen (Unseen.Park (to_thread p.context.thread) (ready_in e.act))) (made-says f m e law (Todo.park ∷ todo) at)
+      ∙ ap (λ (mv : Exchange). one_less (put_back (scheduler f) (ready_in e.act) (context_in mv))) (made-moves f m e law (Todo.park ∷ todo) at)
 
   -- and what it is told stands with the scheduler
   pub taken-told : p.todo ≡ [] → (c : Context) (told : Told) → e.moved ≡ Exchange.thread c (Some told) → told_at (scheduler f) c.thread ≡ Some told
   taken-told at c told moved =
       let first = takes-first at in
-      let same : Exchange.thread first.2 first.3 ≡ Exchange.thread c (Some told) = sym first.5 ∙ moved in
-      let index : first.0 ≡ c.thread = sym first.6 ∙ ap thread_in same in
-      subst (λ n. told_at (scheduler f) n ≡ Some told) index (sym first.7 ∙ ap told_in same)
+      let same : Exchange.thread first.context first.told ≡ Exchange.thread c (Some told) = sym first.moved ∙ moved in
+      let index : first.thread ≡ c.thread = sym first.same ∙ ap thread_in same in
+      subst (λ n. told_at (scheduler f) n ≡ Some told) index (sym first.tells ∙ ap told_in same)
     where
       thread_in : Exchange → ℕ
       thread_in (Exchange.thread d w) = d.thread

@@ -31,22 +31,15 @@ use Rattle.um_erasure.proofs.MemoryKept.{Untouched, after-untouched}
 use Rattle.um_erasure.proofs.MemorySteps.{memory-sort}
 use Rattle.um_erasure.proofs.Offered.{Shows, act-is, own-part, site-is}
 use Rattle.um_erasure.proofs.WordsKept.{IsShown}
-use Rattle.um_erasure.proofs.Writes.{Keeping, Makes, Part, after-kept, pools, reads-keeping}
+use Rattle.um_erasure.proofs.Writes.{Makes, Part, pools, read-same, reads-keeping}
 
 -- all that a step may write but the pools
 abbrev pub NoPools : Part → Type 0
 NoPools pools = ⊥
 NoPools part = Unit {0}
 
-module _ (m : State) where
-  abbrev SamePools : State → Type 0
-  SamePools s = s.pools ≡ m.pools
-
-  pools-keeping : Keeping NoPools SamePools
-  pools-keeping = reads-keeping NoPools (λ s. s.pools) m.pools (λ s threads. refl) (λ s objects. refl) (λ s bytes. (refl, refl)) (λ may s u x there. refl) (λ may s left. absurd may) (λ may s d ps. refl)
-
-  pub pools-same : (t x : ℕ) (q : Pending) (rest : Steps) → Makes NoPools q → (T.after m t x q rest).pools ≡ m.pools
-  pools-same t x q rest h = after-kept NoPools SamePools pools-keeping m t refl x q rest h
+pub pools-same : (m : State) (t x : ℕ) (q : Pending) (rest : Steps) → Makes NoPools q → (T.after m t x q rest).pools ≡ m.pools
+pools-same m = read-same NoPools (λ s. s.pools) m (reads-keeping NoPools (λ s. s.pools) m.pools (λ s threads. refl) (λ s objects. refl) (λ s bytes. (refl, refl)) (λ may s u x there. refl) (λ may s left. absurd may) (λ may s d ps. refl))
 
 -- The fine machine.
 

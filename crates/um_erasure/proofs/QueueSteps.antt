@@ -70,21 +70,11 @@ other-kind want k apart found same = false≢true (sym apart ∙ (ap (λ (n : Ki
 
 pub queue-kind : (k : Kind) → has_kind (Some Kind.Msgq) (Some k) ≡ true → k ≡ Kind.Msgq
 queue-kind Kind.Msgq h = refl
-queue-kind Kind.Thread h = absurd (false≢true h)
-queue-kind Kind.ThreadStack h = absurd (false≢true h)
-queue-kind Kind.Sem h = absurd (false≢true h)
-queue-kind Kind.Mutex h = absurd (false≢true h)
-queue-kind Kind.Stack h = absurd (false≢true h)
-queue-kind Kind.Pipe h = absurd (false≢true h)
+queue-kind _ h = absurd (false≢true h)
 
 thread-kind : (k : Kind) → has_kind (Some Kind.Thread) (Some k) ≡ true → k ≡ Kind.Thread
 thread-kind Kind.Thread h = refl
-thread-kind Kind.ThreadStack h = absurd (false≢true h)
-thread-kind Kind.Sem h = absurd (false≢true h)
-thread-kind Kind.Mutex h = absurd (false≢true h)
-thread-kind Kind.Msgq h = absurd (false≢true h)
-thread-kind Kind.Stack h = absurd (false≢true h)
-thread-kind Kind.Pipe h = absurd (false≢true h)
+thread-kind _ h = absurd (false≢true h)
 
 -- the thread object at an address is no queue
 thread-row : (image : Image) → IsSited image → (a x : ℕ) → row_at image a ≡ Some x → has_kind (Some Kind.Thread) (Some (row_kind image x)) ≡ true

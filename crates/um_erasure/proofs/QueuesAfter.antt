@@ -1,8 +1,7 @@
 -- What the calls of threads know to be message queues, they know after each step of the access-matrix machine, if what was one still is and
 -- what the step fills or finds initialised is one.
-use Rattle.std.proofs.Common.{◌≡◌, ◌⊎◌, inl, inr, ℕ, zero, suc, ◌+◌, Bool, true, false, List, [], ◌∷◌, length, map, Option, Some, None, refl, sym, ap, ◌∙◌, subst, arith}
+use Rattle.std.proofs.Common.{◌≡◌, ◌⊎◌, inl, inr, ℕ, zero, suc, ◌+◌, Bool, true, false, List, [], ◌∷◌, length, map, Option, Some, None, refl, sym, ap, ◌∙◌, subst}
 use Rattle.std.specs.Prelude.{◌==◌, ◌&&◌, not, if◌then◌else◌, nat_lt, slice_index_or, slice_set, take}
-use Rattle.std.proofs.lemmas.List.{get_or-set_same}
 use Rattle.um_base.specs.declared.act.Answer.{Answer}
 use Rattle.um_base.specs.declared.act.Cause.TheVariants as Cause
 use Rattle.um_base.specs.declared.act.Found.{Found}
@@ -12,12 +11,11 @@ use Rattle.um_base.specs.declared.ask.Told.{Told}
 use Rattle.um_base.specs.declared.ask.Waiter.{Waiter}
 use Rattle.um_base.specs.declared.image.Image.{Image}
 use Rattle.um_base.specs.declared.instr.Instr.{Instr}
-use Rattle.um_base.specs.declared.limits.TheConstants.{PIECE, ROWS, THREADS}
+use Rattle.um_base.specs.declared.limits.TheConstants.{PIECE, THREADS}
 use Rattle.um_base.specs.declared.names.Access.TheVariants as Access
 use Rattle.um_base.specs.declared.names.Addr.{Addr}
 use Rattle.um_base.specs.declared.names.Errno.{Errno}
 use Rattle.um_base.specs.declared.names.Kind.{Kind}
-use Rattle.um_base.specs.declared.names.Mode.{Mode}
 use Rattle.um_base.specs.declared.names.Policy.{Policy}
 use Rattle.um_base.specs.declared.names.Reply.{Reply}
 use Rattle.um_base.specs.declared.names.Want.{Want}
@@ -38,9 +36,11 @@ use Rattle.um_machine.specs.Run.{Offers, begins, cleans_pair, exits, goes, recyc
 use Rattle.um_machine.specs.Services.{Acted, fills, queue}
 use Rattle.um_machine.specs.State.{State, instruction_at, is_user, nobody, object_at, pair_at, thread_at, vacant, with_object, with_thread}
 use Rattle.um_machine.specs.Table as T
-use Rattle.um_invariants.proofs.Cores.{Call, at_set, call_is, call_of, core_of, kind_is}
+use Rattle.um_invariants.proofs.Cores.{Call, at_set, call_of, core_of, kind_is}
 use Rattle.um_invariants.proofs.Guards.{IsSited, row_kind}
-use Rattle.um_invariants.proofs.Turns.{IsKnown, below_rows, passed, row_has, row_is}
+use Rattle.um_invariants.proofs.Turns.{IsKnown, passed, row_has, row_is}
+use Rattle.um_erasure.proofs.CallsProper.{passed-held}
+use Rattle.um_erasure.proofs.Failures.{HoldsOfFailures, copy-left, either-state, error-left, fails-left, refused-left}
 use Rattle.um_erasure.proofs.QueueSteps.{Queued, queue-kind, queue_checked, queued-steps}
 use Rattle.um_erasure.proofs.ThreadKeys.{Ignores, key-same, keys, keys-bytes, keys-dropped, keys-erased, keys-given, keys-moved, keys-paired, keys-set, keys-woken}
 
@@ -100,22 +100,19 @@ module _ (m : State) (t x : ℕ) (IsOne : ℕ → Type 0) (all : AreQueued m.ima
   stands Pending.Recycle rest h = tt
   stands q rest h = h
 
-  pub offered-queued : (q : Pending) (rest : Steps) → Offers m t q rest → Stands q rest
-  offered-queued q rest offers = by offers
-    where
-      at : (steps : Steps) → (thread_at m t).pending ≡ steps → IsQueued m.image IsOne (record (call_of (thread_at m t)) { pending = steps })
-      at steps e = subst (λ (left : Steps). IsQueued m.image IsOne (record (call_of (thread_at m t)) { pending = left })) e (all t)
+  at : (steps : Steps) → me.pending ≡ steps → IsQueued m.image IsOne (record (call_of me) { pending = steps })
+  at steps e = subst (λ (left : Steps). IsQueued m.image IsOne (record (call_of me) { pending = left })) e (all t)
 
-      by : {q : Pending} {rest : Steps} → Offers m t q rest → Stands q rest
-      by (goes {p} {rest} e) = stands p rest (at (p ∷ rest) e)
-      by (skips_inherit {who} {p} {rest} e due) =
-          let was = at (Pending.Inherit who ∷ p ∷ rest) e in stands p rest (record { known = was.known; holds = was.holds; steps = was.steps })
-      by (skips_drops {from} {p} {rest} e due) =
-          let was = at (Pending.Drops from ∷ p ∷ rest) e in stands p rest (record { known = was.known; holds = was.holds; steps = was.steps })
-      by (begins e lives doomed there) = tt
-      by (exits e lives doomed there) = tt
-      by (cleans_pair started) = tt
-      by (recycles started) = tt
+  pub offered-queued : (q : Pending) (rest : Steps) → Offers m t q rest → Stands q rest
+  offered-queued q rest (goes e) = stands q rest (at (q ∷ rest) e)
+  offered-queued q rest (skips_inherit {who = who} e due) =
+      let was = at (Pending.Inherit who ∷ q ∷ rest) e in stands q rest (record { known = was.known; holds = was.holds; steps = was.steps })
+  offered-queued q rest (skips_drops {from = from} e due) =
+      let was = at (Pending.Drops from ∷ q ∷ rest) e in stands q rest (record { known = was.known; holds = was.holds; steps = was.steps })
+  offered-queued _ _ (begins e lives doomed there) = tt
+  offered-queued _ _ (exits e lives doomed there) = tt
+  offered-queued _ _ (cleans_pair started) = tt
+  offered-queued _ _ (recycles started) = tt
 
   -- a state with the same calls
   abbrev Alike : State → Type 0
@@ -133,15 +130,13 @@ module _ (m : State) (t x : ℕ) (IsOne : ℕ → Type 0) (all : AreQueued m.ima
   bare s e th rest h = set s (keeps s e) t (T.at_steps s.image th rest) (record { known = None; holds = tt; steps = h })
 
   either : (b : Bool) (s1 s2 : State) → All s1 → All s2 → All (if b then s1 else s2)
-  either true s1 s2 h k = h
-  either false s1 s2 h k = k
+  either = either-state All
+
+  failures : (known : Option ℕ) → HoldsOfFailures (Queued m.image known)
+  failures known = record { fatal = λ reason cause. tt; unbuffer = λ size reason cause. tt; answer = λ reply. tt }
 
   fails : All (T.goes_on m t me (copy_fails me.mode))
-  fails = by me.mode
-    where
-      by : (mode : Mode) → All (T.goes_on m t me (copy_fails mode))
-      by Mode.User = bare m refl me (copy_fails Mode.User) tt
-      by Mode.Supervisor = bare m refl me (copy_fails Mode.Supervisor) tt
+  fails = bare m refl me (copy_fails me.mode) (fails-left (Queued m.image None) (failures None) me.mode)
 
   faults : All (T.goes_on m t me T.fault)
   faults = bare m refl me T.fault tt
@@ -149,12 +144,6 @@ module _ (m : State) (t x : ℕ) (IsOne : ℕ → Type 0) (all : AreQueued m.ima
   begun : IsSited m.image → (instr : Option Instr) → All (T.after_begin m t me instr)
   begun sited None = all
   begun sited (Some instr) = bare m refl (record me { registers = T.with_begin me.registers instr }) _ (queued-steps m.image None sited t me instr)
-
-  refused : (mode : Mode) (rest : Steps) (refusal : Refusal) (e : Errno) → Queued m.image None (T.after_check mode rest refusal (Some e))
-  refused mode rest Refusal.Fails e = tt
-  refused Mode.User rest Refusal.FailsUser e = tt
-  refused Mode.Supervisor rest Refusal.FailsUser e = tt
-  refused mode rest (Refusal.Answers reply) e = tt
 
   fatal-queued : (reason : ℕ) (policy : Policy) → Queued m.image None (fatal_steps m.image t me reason policy)
   fatal-queued reason Policy.Halt = tt
@@ -186,17 +175,7 @@ module _ (m : State) (t x : ℕ) (IsOne : ℕ → Type 0) (all : AreQueued m.ima
     there s e rest h = on s e (thread_at s t) rest (ap (λ (c : Call). c.checked) (key-same call_of m s e t)) h
 
     without-copy : (rest : Steps) → Queued m.image known rest → Queued m.image known (T.without_copy rest)
-    without-copy [] h = h
-    without-copy (Pending.CopyOut a ∷ rest) h = h
-    without-copy (p ∷ rest) h = h
-
-    errs : (mode : Mode) (ask : Ask) (e : Errno) (rest : Steps) → Queued m.image known rest → Queued m.image known (T.after_error mode ask e rest)
-    errs mode (Ask.SemInit count limit) e rest h = tt
-    errs mode Ask.MutexInit e rest h = tt
-    errs mode (Ask.MsgqInit size most pool) e rest h = tt
-    errs mode (Ask.StackInit most pool) e rest h = tt
-    errs mode (Ask.PipeInit size pool) e rest h = tt
-    errs mode ask e rest h = without-copy rest h
+    without-copy = copy-left (Queued m.image known) (λ a rest h. h)
 
     answers : (s : State) → Alike s → (ask : Ask) (taken : List ℕ) (rest : Steps) (answer : Answer) → Queued m.image known rest
         → All (T.after_answer s t (thread_at s t) ask taken rest answer)
@@ -208,7 +187,7 @@ module _ (m : State) (t x : ℕ) (IsOne : ℕ → Type 0) (all : AreQueued m.ima
         by : (answer : Answer) → All (T.after_answer s t (thread_at s t) ask taken rest answer)
         by Answer.Wait = on s e (thread_at s t) (Pending.Resume ∷ rest) held h
         by (Answer.Now (Reply.Fail error)) =
-            on s e (record (thread_at s t) { reply = Reply.Fail error; buffer = taken }) (T.after_error (thread_at s t).mode ask error rest) held (errs (thread_at s t).mode ask error rest h)
+            on s e (record (thread_at s t) { reply = Reply.Fail error; buffer = taken }) (T.after_error (thread_at s t).mode ask error rest) held (error-left (Queued m.image known) (failures known) (thread_at s t).mode ask error rest (without-copy rest h))
         by (Answer.Now reply) = on s e (record (thread_at s t) { reply = reply; buffer = taken }) rest held h
 
     works : (a : Addr) (ask : Ask) (rest : Steps) → Queued m.image known rest → All (T.after m t x (Pending.Work a ask) rest)
@@ -283,14 +262,11 @@ module _ (m : State) (t x : ℕ) (IsOne : ℕ → Type 0) (all : AreQueued m.ima
 
     checks : (a : Addr) (kind : Option Kind) (want : Want) (refusal : Refusal) (rest : Steps) → (before : Option ℕ) → Queued m.image before (Pending.Check a kind want refusal ∷ rest)
         → (v : Option Errno) → verdict m t a.0 kind want ≡ v → All (T.goes_on m t (T.with_checked m a v me) (T.after_check me.mode rest refusal v))
-    checks a kind want refusal rest before h (Some e) said = bare m refl me (T.after_check me.mode rest refusal (Some e)) (refused me.mode rest refusal e)
+    checks a kind want refusal rest before h (Some e) said = bare m refl me (T.after_check me.mode rest refusal (Some e)) (refused-left (Queued m.image None) (failures None) me.mode rest refusal e)
     checks a kind want refusal rest before h None said =
         let p = passed m t kind want (row_at m.image a.0) said in
         let y = p.0 in
-        let row = (known.reached.sited.found a.0 y p.1).0 in
-        let few = below_rows m.image y known.reached.sited row in
-        let wide : length me.checked ≡ ROWS = ap (λ (c : Call). length c.checked) (sym (call_is m t)) ∙ known.reached.wide t in
-        let held : slice_index_or (slice_set me.checked y true) y false ≡ true = get_or-set_same me.checked y true false (omega (arith, few, wide)) in
+        let held = passed-held m known t a.0 y p.1 in
         let kinds : has_kind kind (Some (row_kind m.image y)) ≡ true = row_has kind (object_at m y).kind (row_kind m.image y) p.3 (λ h f. known.claimed.kinds y h (kind_is m y ∙ f)) in
         let said-y : verdict_at m t kind want (Some y) ≡ None = ap (verdict_at m t kind want) (sym p.1) ∙ said in
         set m all t (T.at_steps m.image (T.with_checked m a None me) rest)

@@ -47,24 +47,12 @@ module _ (image : Image) where
   thread-after (SiteState.cell n c) u moved = same-word _
 
   bytes-after : (s : SiteState) (u : Unseen) (moved : Exchange) → bytes_state (site_after image s (FineAct.Unseen u) moved) ≡ bytes_state s
-  bytes-after (SiteState.row w) u moved = refl
-  bytes-after (SiteState.thread w) u moved = refl
-  bytes-after (SiteState.domain w) u moved = refl
-  bytes-after (SiteState.cell n (Cell.object o)) u moved = refl
-  bytes-after (SiteState.cell n (Cell.parts d)) u moved = refl
   bytes-after (SiteState.cell n (Cell.memory m)) u moved = refl
-  bytes-after (SiteState.cell n (Cell.heap h)) u moved = refl
-  bytes-after (SiteState.cell n (Cell.scheduler s)) u moved = refl
+  bytes-after _ u moved = refl
 
   heap-after : (s : SiteState) (u : Unseen) (moved : Exchange) → heap_state (site_after image s (FineAct.Unseen u) moved) ≡ heap_state s
-  heap-after (SiteState.row w) u moved = refl
-  heap-after (SiteState.thread w) u moved = refl
-  heap-after (SiteState.domain w) u moved = refl
-  heap-after (SiteState.cell n (Cell.object o)) u moved = refl
-  heap-after (SiteState.cell n (Cell.parts d)) u moved = refl
-  heap-after (SiteState.cell n (Cell.memory m)) u moved = refl
   heap-after (SiteState.cell n (Cell.heap h)) u moved = refl
-  heap-after (SiteState.cell n (Cell.scheduler s)) u moved = refl
+  heap-after _ u moved = refl
 
 module _ (f : Fine) (m : State) (rel : Rel f m) (e : FineStep) (u : Unseen) (unseen : e.act ≡ FineAct.Unseen u) where
   -- it is no step of the machine
@@ -84,22 +72,23 @@ module _ (f : Fine) (m : State) (rel : Rel f m) (e : FineStep) (u : Unseen) (uns
       let now = thread-next (Site.thread t) in
       record { life = now.life ∙ was.life; doomed = now.doomed ∙ was.doomed; mode = now.mode ∙ was.mode; domain = now.domain ∙ was.domain }
 
-  bytes-next : bytes (stepped f.image f.cpus f.processors f.sites e) ≡ bytes f
-  bytes-next =
-      elim (same_site e.site Site.memory) as (λ b. bytes_state (cond b (s_next f.image (f.sites Site.memory) e) (f.sites Site.memory)) ≡ bytes f) [
-        | true ↦ ap (λ act. bytes_state (site_after f.image (f.sites Site.memory) act e.moved)) unseen ∙ bytes-after f.image (f.sites Site.memory) u e.moved
+  -- what a step that no trace shows leaves of a site's state is left
+  site-left : {A : Type 0} (of : SiteState → A) → ((s : SiteState) (u : Unseen) (moved : Exchange) → of (site_after f.image s (FineAct.Unseen u) moved) ≡ of s)
+      → (i : Site) → of (changed same_site site_of (s_next f.image) f.sites e i) ≡ of (f.sites i)
+  site-left of after i =
+      elim (same_site e.site i) as (λ b. of (cond b (s_next f.image (f.sites i) e) (f.sites i)) ≡ of (f.sites i)) [
+        | true ↦ ap (λ act. of (site_after f.image (f.sites i) act e.moved)) unseen ∙ after (f.sites i) u e.moved
         | false ↦ refl
       ]
+
+  bytes-next : bytes (stepped f.image f.cpus f.processors f.sites e) ≡ bytes f
+  bytes-next = site-left bytes_state (bytes-after f.image) Site.memory
 
   pub memory-quiet : MemoryIs (stepped f.image f.cpus f.processors f.sites e) m
   memory-quiet = record { memory = ap (λ (b : Bytes). b.memory) bytes-next ∙ rel.memory.memory; stacks = ap (λ (b : Bytes). b.stacks) bytes-next ∙ rel.memory.stacks }
 
   heap-next : heap (stepped f.image f.cpus f.processors f.sites e) ≡ heap f
-  heap-next =
-      elim (same_site e.site Site.heap) as (λ b. heap_state (cond b (s_next f.image (f.sites Site.heap) e) (f.sites Site.heap)) ≡ heap f) [
-        | true ↦ ap (λ act. heap_state (site_after f.image (f.sites Site.heap) act e.moved)) unseen ∙ heap-after f.image (f.sites Site.heap) u e.moved
-        | false ↦ refl
-      ]
+  heap-next = site-left heap_state (heap-after f.image) Site.heap
 
   pub heap-quiet : HeapIs (stepped f.image f.cpus f.processors f.sites e) m
   heap-quiet =

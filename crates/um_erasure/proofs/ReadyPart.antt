@@ -15,7 +15,6 @@ use Rattle.um_fine.specs.Answers.{context_in, ready_in, wake_in}
 use Rattle.um_fine.specs.Asks.{says_idle}
 use Rattle.um_fine.specs.Context.{Context}
 use Rattle.um_fine.specs.Places.{Todo, Todos}
-use Rattle.um_fine.specs.Processor.{Processor}
 use Rattle.um_fine.specs.Scheduler.{Scheduler, behind, first_taken, has_ready, is_ready, one_less, parked_at, put_back, told_at, waits}
 use Rattle.um_fine.specs.Sites.{same_site}
 use Rattle.um_fine.specs.Steps.{Exchange, FineStep, Site}
@@ -23,7 +22,7 @@ use Rattle.um_erasure.specs.Fine.{Fine, one_if, scheduler}
 use Rattle.um_erasure.specs.Lists.{Adds, adders, counted, has_steps, is_wake, of_thread, wake_of}
 use Rattle.um_erasure.specs.Offers.{Fits, is_over}
 use Rattle.um_erasure.specs.Threads.{ReadyIs, is_ready_there, occurs}
-use Rattle.um_erasure.proofs.Erased.{stepped}
+use Rattle.um_erasure.proofs.Erased.{around}
 use Rattle.um_erasure.proofs.FirstThreads.{one-most}
 use Rattle.um_erasure.proofs.Kept.{idle-takes}
 use Rattle.um_erasure.proofs.Leaves.{Lawful}
@@ -60,11 +59,7 @@ told-ready true o h = h
 told-ready false o h = refl
 
 module _ (f : Fine) (m : State) (e : FineStep) (law : Lawful f m e) (waiters : TellsWaiters m) (t : ℕ) (few : t < THREADS) where
-  abbrev later : Fine
-  later = stepped f.image f.cpus f.processors f.sites e
-
-  abbrev p : Processor
-  p = f.processors e.cpu
+  open around f e use {later, processor as p}
 
   abbrev s : Scheduler
   s = scheduler f

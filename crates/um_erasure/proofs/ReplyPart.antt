@@ -34,13 +34,13 @@ use Rattle.um_erasure.specs.Offers as O
 use Rattle.um_erasure.proofs.DomainPart.{domain-part}
 use Rattle.um_erasure.proofs.DomainReads.{is_told, next-reply}
 use Rattle.um_erasure.proofs.DomainWords.{IsEdited, Stays, is-domain, stays-or-edited, word-else, word-here}
-use Rattle.um_erasure.proofs.Erased.{stepped}
+use Rattle.um_erasure.proofs.Erased.{around}
 use Rattle.um_erasure.proofs.Leaves.{Lawful, Leaves}
-use Rattle.um_erasure.proofs.ListGrips.{read-rests}
 use Rattle.um_erasure.proofs.ListGrowth.{ReadsLast, either-look, is_read_claim}
 use Rattle.um_erasure.proofs.ListTails.{Reads, exact-next, is_passed, tail-read, takes-read}
 use Rattle.um_erasure.proofs.MemorySteps.{part-total}
 use Rattle.um_erasure.proofs.SchedulerSteps.{made-at, made-says, word-left}
+use Rattle.um_erasure.proofs.StepReads.{is-behind}
 use Rattle.um_erasure.proofs.StepsLeft.{offered-on}
 
 -- A thread moves to domains of the image alone.
@@ -137,14 +137,8 @@ init-stays w (FineAct.Unseen Unseen.WriteClaim) h = h
 init-stays w (FineAct.Unseen u) h = h
 
 module _ (f : Fine) (m : State) (e : FineStep) (law : Lawful f m e) (moves : MovesIn m (length f.image.domains)) where
-  abbrev later : Fine
-  later = stepped f.image f.cpus f.processors f.sites e
-
-  abbrev p : Processor
-  p = f.processors e.cpu
-
-  abbrev now : Processor
-  now = p_next f.image p e
+  open around f e use {later, processor as p, now}
+  open is-behind f m e law use {frame, last-shown}
 
   -- a domain to which a thread is offered to move is one of the image
   offered-in : (k d : ℕ) → k < f.cpus → has_steps (f.processors k).todo ≡ true → (who : ThreadIx) (rest : Steps) → IsOffered f.image (f.processors k).context (Pending.DomMove d who) rest → d < length f.image.domains
@@ -207,17 +201,9 @@ module _ (f : Fine) (m : State) (e : FineStep) (law : Lawful f m e) (moves : Mov
 
   -- The processor that makes the step.
 
-  frame : (q : Todo) (todo : Todos) → p.todo ≡ q ∷ todo → Behind f.image q todo
-  frame q todo at = (subst (AreFramed f.image) at (law.rel.processors e.cpu law.by.named).frames).0
-
   reply-mine : (s : State) → Leaves f m e s → (d : ℕ) → moving now.todo ≡ Some d → now.reply ≡ move_reply (domain_at s d)
   reply-mine s leaves d there = by p.todo refl
     where
-      last-shown : (q : Pending) (rest : Steps) (todo : Todos) → p.todo ≡ Todo.show q rest ∷ todo → ReadsLast e (Todo.show q rest) todo
-      last-shown q rest todo at read =
-          (subst (Fits f.image p.context) at (law.rel.processors e.cpu law.by.named).list.fits).1
-          ∙ read-rests f.image p p.context q e.act (made-says f m e law (Todo.show q rest ∷ todo) at) read
-
       -- what stands behind the step is read then
       behind : (q : Todo) (todo : Todos) → p.todo ≡ q ∷ todo → is_read_claim q ≡ false → ReadsLast e q todo → moving todo ≡ Some d
       behind q todo at free last = sym (tail-read f.image moving None (moving-reads f.image) p e q todo at free (frame q todo at) last) ∙ there

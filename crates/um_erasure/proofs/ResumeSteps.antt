@@ -15,7 +15,7 @@ use Rattle.um_fine.specs.Context.{Context, no_context}
 use Rattle.um_fine.specs.Steps.{Exchange, FineStep}
 use Rattle.um_fine.specs.Scheduler.{first_ready, has_ready, parked_at, told_at, waits}
 use Rattle.um_fine.specs.Sites.{SiteMay}
-use Rattle.um_fine.specs.Asks.{CpuMay, says, says_idle}
+use Rattle.um_fine.specs.Asks.{CpuMay, says_idle}
 use Rattle.um_erasure.specs.Fine.{Fine, scheduler}
 use Rattle.um_erasure.specs.Lists.{wake_of}
 use Rattle.um_erasure.specs.Threads.{IsOf, first_told, told_by}

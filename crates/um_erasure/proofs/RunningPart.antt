@@ -20,7 +20,7 @@ use Rattle.um_erasure.specs.Fine.{Fine, one_if, over_processors, scheduler}
 use Rattle.um_erasure.specs.Frames.{AreFramed}
 use Rattle.um_erasure.specs.Lists.{has_steps, runs}
 use Rattle.um_erasure.specs.Threads.{RunningIs}
-use Rattle.um_erasure.proofs.Erased.{stepped}
+use Rattle.um_erasure.proofs.Erased.{around}
 use Rattle.um_erasure.proofs.Kept.{idle-moves, idle-takes}
 use Rattle.um_erasure.proofs.Leaves.{Lawful}
 use Rattle.um_erasure.proofs.ListClaims.{IsThread}
@@ -51,8 +51,7 @@ todo-elsewhere image p Todo.done todo h = absurd (false≢true (sym h))
 todo-elsewhere image p q todo h = refl
 
 module _ (f : Fine) (m : State) (e : FineStep) (law : Lawful f m e) where
-  abbrev later : Fine
-  later = stepped f.image f.cpus f.processors f.sites e
+  open around f e use {later}
 
   -- whether a processor that has steps to make has some left then
   counts : (n k : ℕ) → one_if (runs (f.processors e.cpu)) ≡ n → one_if (runs (p_next f.image (f.processors e.cpu) e)) ≡ k

@@ -11,25 +11,23 @@ use Rattle.um_words.specs.declared.fine.FineAct.{FineAct}
 use Rattle.um_words.specs.declared.fine.Unseen.{Unseen}
 use Rattle.um_words.specs.Threads.{thread_after}
 use Rattle.um_fine.specs.Answers.{context_in, ready_in}
-use Rattle.um_fine.specs.Asks.{says_idle}
 use Rattle.um_fine.specs.Context.{Context}
 use Rattle.um_fine.specs.Places.{Todo, Todos}
-use Rattle.um_fine.specs.Processor.{Processor}
-use Rattle.um_fine.specs.Scheduler.{Scheduler, behind, first_taken, one_less, parked_at, put_back}
+use Rattle.um_fine.specs.Scheduler.{Scheduler, behind, first_taken, parked_at, put_back}
 use Rattle.um_fine.specs.Sites.{SiteState, s_next, same_site, site_after}
 use Rattle.um_fine.specs.Steps.{Exchange, FineStep, Site}
 use Rattle.um_erasure.specs.Fine.{Fine, scheduler, thread_state, word}
 use Rattle.um_erasure.specs.Lists.{Adds, has_steps}
 use Rattle.um_erasure.proofs.Bounds.{AreBounded, AreThreads}
 use Rattle.um_erasure.proofs.CallBoundsKept.{IsBounded}
-use Rattle.um_erasure.proofs.Erased.{stepped}
+use Rattle.um_erasure.proofs.Erased.{around}
 use Rattle.um_erasure.proofs.First.{none-some}
 use Rattle.um_erasure.proofs.HeldPart.{grips, held-same, idle-no-grip, says-no-grip}
 use Rattle.um_erasure.proofs.Leaves.{Lawful}
 use Rattle.um_erasure.proofs.ListWakes.{wakers}
-use Rattle.um_erasure.proofs.PartsElsewhere.{takes-first}
+use Rattle.um_erasure.proofs.PartsElsewhere.{parks-after, takes-first}
 use Rattle.um_erasure.proofs.RowSteps.{thread-sort}
-use Rattle.um_erasure.proofs.RunningPart.{idle-after, is_scheduling, todo-elsewhere}
+use Rattle.um_erasure.proofs.RunningPart.{is_scheduling, todo-elsewhere}
 use Rattle.um_erasure.proofs.SchedulerSteps.{made-at, made-moves, made-says, sched-else, sched-later}
 
 some-one : {c d : Context} → Some c ≡ Some d → c ≡ d
@@ -47,11 +45,7 @@ below-behind true t ready l h = by ready h
     by (u ∷ ready) h = let parts = and_parts (nat_lt u THREADS) _ h in and_from _ _ parts.0 (by ready parts.1)
 
 module _ (f : Fine) (m : State) (e : FineStep) (law : Lawful f m e) (was : AreBounded f) where
-  abbrev p : Processor
-  p = f.processors e.cpu
-
-  abbrev later : Fine
-  later = stepped f.image f.cpus f.processors f.sites e
+  open around f e use {later, processor as p}
 
   park-index : (todo : Todos) → p.todo ≡ Todo.park ∷ todo → nat_lt p.context.thread THREADS ≡ true
   park-index todo at = lt-ltb p.context.thread THREADS (law.rel.contexts.running e.cpu law.by.named (ap has_steps at)).index
@@ -59,24 +53,13 @@ module _ (f : Fine) (m : State) (e : FineStep) (law : Lawful f m e) (was : AreBo
   adds-index : (d : Context) (todo : Todos) → p.todo ≡ Todo.add d ∷ todo → nat_lt d.thread THREADS ≡ true
   adds-index d todo at = lt-ltb d.thread THREADS (law.rel.contexts.added e.cpu d law.by.named (subst (Adds d) (sym at) (inl refl))).0.index
 
-  parks : (todo : Todos) → p.todo ≡ Todo.park ∷ todo → scheduler later ≡ one_less (put_back (scheduler f) (ready_in e.act) p.context)
-  parks todo at =
-      sched-later f m e law (made-at f m e law (Todo.park ∷ todo) at) (FineAct.Unseen (Unseen.Park (to_thread p.context.thread) (ready_in e.act))) (made-says f m e law (Todo.park ∷ todo) at)
-      ∙ ap (λ (mv : Exchange). one_less (put_back (scheduler f) (ready_in e.act) (context_in mv))) (made-moves f m e law (Todo.park ∷ todo) at)
-
   adds-it : (d : Context) (todo : Todos) → p.todo ≡ Todo.add d ∷ todo → scheduler later ≡ put_back (scheduler f) true d
   adds-it d todo at =
       sched-later f m e law (made-at f m e law (Todo.add d ∷ todo) at) (FineAct.Unseen (Unseen.Add (to_thread d.thread))) (made-says f m e law (Todo.add d ∷ todo) at)
       ∙ ap (λ (mv : Exchange). put_back (scheduler f) true (context_in mv)) (made-moves f m e law (Todo.add d ∷ todo) at)
 
   takes-one : p.todo ≡ [] → (u : ℕ) × (list : List ℕ) × ((scheduler f).ready ≡ u ∷ list) × (scheduler later ≡ first_taken (scheduler f) (u ∷ list))
-  takes-one at =
-      let first = takes-first f m e law at in (
-        first.0,
-        first.1,
-        first.4,
-        sched-later f m e law (made-at f m e law [] at) (says_idle f.image p e.moved) (made-says f m e law [] at) ∙ (idle-after f.image p (scheduler f) e.moved ∙ ap (first_taken (scheduler f)) first.4),
-      )
+  takes-one at = let first = takes-first f m e law at in (first.thread, first.list, first.ready, first.after)
 
   elsewhere : (q : Todo) (todo : Todos) → p.todo ≡ q ∷ todo → is_scheduling q ≡ false → scheduler later ≡ scheduler f
   elsewhere q todo at off = sched-else f m e law (ap (λ i. same_site i Site.scheduler) (made-at f m e law (q ∷ todo) at) ∙ todo-elsewhere f.image p q todo off)
@@ -89,7 +72,7 @@ module _ (f : Fine) (m : State) (e : FineStep) (law : Lawful f m e) (was : AreBo
 
       by : (todo : Todos) → p.todo ≡ todo → Below (scheduler later).ready
       by [] at = let one = takes-one at in on one.3 (and_parts _ _ (subst Below one.2 was.ready)).1
-      by (Todo.park ∷ todo) at = on (parks todo at) (below-behind (ready_in e.act) p.context.thread (scheduler f).ready (park-index todo at) was.ready)
+      by (Todo.park ∷ todo) at = on (parks-after f m e law todo at) (below-behind (ready_in e.act) p.context.thread (scheduler f).ready (park-index todo at) was.ready)
       by (Todo.add d ∷ todo) at = on (adds-it d todo at) (below-behind true d.thread (scheduler f).ready (adds-index d todo at) was.ready)
       by (Todo.wake who told ∷ todo) at =
           on (sched-later f m e law (made-at f m e law (Todo.wake who told ∷ todo) at) _ (made-says f m e law (Todo.wake who told ∷ todo) at))
@@ -111,7 +94,7 @@ module _ (f : Fine) (m : State) (e : FineStep) (law : Lawful f m e) (was : AreBo
       by [] at =
           let one = takes-one at in
           at_set (λ n (o : Option Context). o ≡ Some c → IsBounded f.image c) (scheduler f).parked one.0 t None None (λ e. absurd (none-some e)) (was.parked t c) (on one.3)
-      by (Todo.park ∷ todo) at = puts p.context (was.running e.cpu law.by.named (ap has_steps at)) (on (parks todo at))
+      by (Todo.park ∷ todo) at = puts p.context (was.running e.cpu law.by.named (ap has_steps at)) (on (parks-after f m e law todo at))
       by (Todo.add d ∷ todo) at = puts d (was.added e.cpu d law.by.named (subst (Adds d) (sym at) (inl refl))) (on (adds-it d todo at))
       by (Todo.wake who told ∷ todo) at =
           was.parked t c (on (sched-later f m e law (made-at f m e law (Todo.wake who told ∷ todo) at) _ (made-says f m e law (Todo.wake who told ∷ todo) at)))

@@ -10,7 +10,7 @@ use Rattle.um_fine.specs.Steps.{Exchange, FineStep, Site}
 use Rattle.um_fine.proofs.Keys.{same-sound}
 use Rattle.um_erasure.specs.Fine.{Fine, scheduler}
 use Rattle.um_erasure.specs.Threads.{SchedulerIs}
-use Rattle.um_erasure.proofs.Erased.{stepped}
+use Rattle.um_erasure.proofs.Erased.{around}
 use Rattle.um_erasure.proofs.Leaves.{Lawful}
 use Rattle.um_erasure.proofs.SchedulerSteps.{sched-else, sched-later}
 
@@ -32,8 +32,7 @@ after-wide s (FineAct.Unseen (Unseen.Add who)) moved = record { parked = length-
 after-wide s (FineAct.Unseen u) moved = record { parked = refl; told = refl }
 
 module _ (f : Fine) (m : State) (e : FineStep) (law : Lawful f m e) where
-  abbrev later : Fine
-  later = stepped f.image f.cpus f.processors f.sites e
+  open around f e use {later}
 
   pub scheduler-part : SchedulerIs later
   scheduler-part = by (same_site e.site Site.scheduler) refl

@@ -15,7 +15,7 @@ use Rattle.um_fine.specs.Sites.{SiteState, s_next, same_site, site_after, site_a
 use Rattle.um_fine.specs.Steps.{Exchange, FineStep, Site}
 use Rattle.um_fine.proofs.Keys.{same-itself}
 use Rattle.um_erasure.specs.Fine.{Fine, scheduler, scheduler_state}
-use Rattle.um_erasure.proofs.Erased.{stepped}
+use Rattle.um_erasure.proofs.Erased.{around}
 use Rattle.um_erasure.proofs.Kept.{scheduler-sort}
 use Rattle.um_erasure.proofs.Leaves.{Lawful, maker}
 use Rattle.um_machine.specs.State.{State}
@@ -32,8 +32,7 @@ shown-elsewhere image p (Pending.DomMove d who) =
 shown-elsewhere image p q = refl
 
 module _ (f : Fine) (m : State) (e : FineStep) (law : Lawful f m e) where
-  abbrev later : Fine
-  later = stepped f.image f.cpus f.processors f.sites e
+  open around f e use {later}
 
   -- where a step is made, and what it says and moves
   pub made-at : (todo : Todos) → (maker f m e).todo ≡ todo → e.site ≡ site_at f.image (maker f m e) todo

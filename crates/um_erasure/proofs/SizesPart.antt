@@ -30,15 +30,14 @@ use Rattle.um_fine.specs.Processor.{Processor, is_of, key_of}
 use Rattle.um_fine.specs.Sites.{SiteState, site_moves}
 use Rattle.um_fine.specs.Steps.{Exchange, FineStep, Site}
 use Rattle.um_erasure.specs.Fine.{Fine, object}
-use Rattle.um_erasure.specs.Frames.{AreFramed, Behind}
+use Rattle.um_erasure.specs.Frames.{AreFramed}
 use Rattle.um_erasure.specs.Lists.{has_steps, looked, queue_in}
 use Rattle.um_erasure.specs.Looks.{IsSized}
 use Rattle.um_erasure.specs.Offers.{Fits, IsOffered, behind_shown}
 use Rattle.um_erasure.specs.Offers as O
-use Rattle.um_erasure.proofs.Erased.{stepped}
+use Rattle.um_erasure.proofs.Erased.{around}
 use Rattle.um_erasure.proofs.HeldRows.{checked-claimed, claimed-whole}
 use Rattle.um_erasure.proofs.Leaves.{Lawful, Leaves, cleans, drops, event, mine, nothing, passes, recycles, resumes}
-use Rattle.um_erasure.proofs.ListGrips.{read-rests}
 use Rattle.um_erasure.proofs.ListGrowth.{ReadsLast, is_read_claim}
 use Rattle.um_erasure.proofs.ListTails.{Reads, exact-next, is_passed, tail-read, takes-read}
 use Rattle.um_erasure.proofs.Offered.{shown-offers}
@@ -48,6 +47,7 @@ use Rattle.um_erasure.proofs.QueuesKept.{IsQueue, size-kept, size_of}
 use Rattle.um_erasure.proofs.QueuesKnown.{AreQueues, kept-apart, size-stays}
 use Rattle.um_erasure.proofs.ReplyPart.{none-some}
 use Rattle.um_erasure.proofs.SchedulerSteps.{made-at, made-says}
+use Rattle.um_erasure.proofs.StepReads.{is-behind}
 use Rattle.um_erasure.proofs.StepsLeft.{offered-on}
 use Rattle.um_erasure.proofs.WorkSteps.{object-sort}
 
@@ -129,14 +129,8 @@ next-size image p e q todo at h =
     ∙ (ap (λ (z : Todos). (goes_on_by image p e z).size) at ∙ goes-size image p e q todo h)
 
 module _ (f : Fine) (m : State) (e : FineStep) (law : Lawful f m e) (queues : AreQueues m) where
-  abbrev later : Fine
-  later = stepped f.image f.cpus f.processors f.sites e
-
-  abbrev p : Processor
-  p = f.processors e.cpu
-
-  abbrev now : Processor
-  now = p_next f.image p e
+  open around f e use {later, processor as p, now}
+  open is-behind f m e law use {frame, last-shown}
 
   abbrev Is : ℕ → Type 0
   Is x = IsQueue (object_at m x).contents
@@ -235,17 +229,9 @@ module _ (f : Fine) (m : State) (e : FineStep) (law : Lawful f m e) (queues : Ar
 
   -- The processor that makes the step.
 
-  frame : (q : Todo) (todo : Todos) → p.todo ≡ q ∷ todo → Behind f.image q todo
-  frame q todo at = (subst (AreFramed f.image) at (law.rel.processors e.cpu law.by.named).frames).0
-
   size-mine : (s : State) → Leaves f m e s → (a : Addr) → looked now.todo ≡ Some a → now.size ≡ message_size (object_at s (row_named f.image a)).contents
   size-mine s leaves a there = by p.todo refl
     where
-      last-shown : (q : Pending) (rest : Steps) (todo : Todos) → p.todo ≡ Todo.show q rest ∷ todo → ReadsLast e (Todo.show q rest) todo
-      last-shown q rest todo at read =
-          (subst (Fits f.image p.context) at (law.rel.processors e.cpu law.by.named).list.fits).1
-          ∙ read-rests f.image p p.context q e.act (made-says f m e law (Todo.show q rest ∷ todo) at) read
-
       -- what stands behind the step is read then
       behind : (q : Todo) (todo : Todos) → p.todo ≡ q ∷ todo → is_read_claim q ≡ false → ReadsLast e q todo → looked todo ≡ Some a
       behind q todo at free last = sym (tail-read f.image looked None (looked-reads f.image) p e q todo at free (frame q todo at) last) ∙ there

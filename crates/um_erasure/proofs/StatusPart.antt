@@ -34,24 +34,22 @@ use Rattle.um_fine.specs.Answers.{act_in, left_in, set_in}
 use Rattle.um_fine.specs.Asks.{begins_cleaning, by_me, says_show, site_at}
 use Rattle.um_fine.specs.Follows.{row_number}
 use Rattle.um_fine.specs.Places.{Todo, Todos}
-use Rattle.um_fine.specs.Processor.{Processor, kind_in, kind_of}
+use Rattle.um_fine.specs.Processor.{kind_in, kind_of}
 use Rattle.um_fine.specs.Sites.{same_site}
 use Rattle.um_fine.specs.Steps.{FineStep, Site}
 use Rattle.um_erasure.specs.Fine.{Fine, one_if, row}
 use Rattle.um_erasure.specs.Lists.{is_recycle, is_vacate}
 use Rattle.um_erasure.specs.Objects.{StatusIs, is_reserved, recyclers, status_of, vacaters}
-use Rattle.um_erasure.specs.Offers.{Fits}
 use Rattle.um_erasure.proofs.CellSteps.{idle-count, recycles-cleared, takes-quiet}
 use Rattle.um_erasure.proofs.CleanersPart.{none-vacates, visit-is}
 use Rattle.um_erasure.proofs.CleanersSteps.{gain, no-gain, rec-sum, row-else, row-here, row-takes-it, vac-sum}
-use Rattle.um_erasure.proofs.CleaningFacts.{left-gone, takes_last}
+use Rattle.um_erasure.proofs.CleaningFacts.{ends-free, left-gone, takes_last}
 use Rattle.um_erasure.proofs.ContentsKept.{work-objects}
 use Rattle.um_erasure.proofs.DomainReads.{eqb-swap}
 use Rattle.um_erasure.proofs.DropSteps.{left-here}
-use Rattle.um_erasure.proofs.Erased.{stepped}
+use Rattle.um_erasure.proofs.Erased.{around}
 use Rattle.um_erasure.proofs.Leaves.{Lawful, Leaves, cleans, drops, event, nothing, passes, recycles, resumes}
 use Rattle.um_erasure.proofs.ListCounts.{recycles-of, takes-counts, vacates-of}
-use Rattle.um_erasure.proofs.ListGrips.{read-rests}
 use Rattle.um_erasure.proofs.ListGrowth.{ReadsLast}
 use Rattle.um_erasure.proofs.ObjectsKept.{born-reserved, set-kept}
 use Rattle.um_erasure.proofs.Offered.{IsStep, Shows, shown-offers, site-is}
@@ -60,6 +58,7 @@ use Rattle.um_erasure.proofs.RowSteps.{named-row, settled, stands}
 use Rattle.um_erasure.proofs.Says as Says
 use Rattle.um_erasure.proofs.SchedulerSteps.{made-at, made-says}
 use Rattle.um_erasure.proofs.StatusKept.{Marks, Traits, drop-object, is_marking, marks-untouched, marks_of, traits-kept, traits_of}
+use Rattle.um_erasure.proofs.StepReads.{is-behind}
 use Rattle.um_erasure.proofs.VisitSteps.{visit-site}
 use Rattle.um_erasure.proofs.WordsKept.{IsShown}
 
@@ -108,19 +107,9 @@ ends-status Stage.Free c b = refl
 ends-status Stage.Live c b = refl
 ends-status Stage.Cleaning c b = refl
 
-ends-free : (st : Stage) (c : Bool) → is_free (if is_dying st && c then Stage.Cleaning else st) ≡ is_free st
-ends-free Stage.Dying true = refl
-ends-free Stage.Dying false = refl
-ends-free Stage.Free c = refl
-ends-free Stage.Live c = refl
-ends-free Stage.Cleaning c = refl
-
 module _ (f : Fine) (m : State) (e : FineStep) (law : Lawful f m e) (x : ℕ) (few : x < ROWS) where
-  abbrev later : Fine
-  later = stepped f.image f.cpus f.processors f.sites e
-
-  abbrev p : Processor
-  p = f.processors e.cpu
+  open around f e use {later, processor as p}
+  open is-behind f m e law use {last-shown}
 
   abbrev Result : State → Type 0
   Result s = StatusIs later s x
@@ -130,11 +119,6 @@ module _ (f : Fine) (m : State) (e : FineStep) (law : Lawful f m e) (x : ℕ) (f
 
   in-objects : {y : ℕ} → y < ROWS → y < length m.objects
   in-objects l = let long = law.sound.wide.objects in omega (arith, l, long)
-
-  last-shown : (q : Pending) (rest : Steps) (todo : Todos) → p.todo ≡ Todo.show q rest ∷ todo → ReadsLast e (Todo.show q rest) todo
-  last-shown q rest todo at read =
-      (subst (Fits f.image p.context) at (law.rel.processors e.cpu law.by.named).list.fits).1
-      ∙ read-rests f.image p p.context q e.act (made-says f m e law (Todo.show q rest ∷ todo) at) read
 
   -- What is so then.
 

@@ -24,13 +24,13 @@ use Rattle.um_fine.specs.Steps.{FineStep, Site}
 use Rattle.um_fine.proofs.Keys.{same-itself}
 use Rattle.um_erasure.specs.Domains.{TableIs, reads}
 use Rattle.um_erasure.specs.Fine.{Fine, domain, domain_state, one_if, parts, parts_state}
-use Rattle.um_erasure.specs.Frames.{AreFramed, Behind, OnMemory, access_over}
+use Rattle.um_erasure.specs.Frames.{Behind, OnMemory, access_over}
 use Rattle.um_erasure.specs.Lists.{edited, edits, has_loaded, is_hold, is_region_load, moves_to}
 use Rattle.um_erasure.specs.Offers.{Fits, behind_shown}
 use Rattle.um_erasure.proofs.DomainReads.{claimed, claimed-reads, next-domain}
 use Rattle.um_erasure.proofs.DomainFacts.{edited-edits}
 use Rattle.um_erasure.proofs.DomainWords.{IsEdited, Stays, stays-or-edited}
-use Rattle.um_erasure.proofs.Erased.{stepped}
+use Rattle.um_erasure.proofs.Erased.{around}
 use Rattle.um_erasure.proofs.Leaves.{Lawful, Leaves}
 use Rattle.um_erasure.proofs.ListGrips.{cleaned-context, read-rests}
 use Rattle.um_erasure.proofs.ListGrowth.{ReadsLast, is_read_claim}
@@ -39,17 +39,12 @@ use Rattle.um_erasure.proofs.MemoryPart.{InDomains}
 use Rattle.um_erasure.proofs.MemorySteps.{part-total}
 use Rattle.um_erasure.proofs.RowSteps.{sort-next}
 use Rattle.um_erasure.proofs.SchedulerSteps.{made-at, made-says, word-left}
+use Rattle.um_erasure.proofs.StepReads.{is-behind}
 use Rattle.um_erasure.proofs.TableReads.{SameOwn, claimed-grip, claimed-memory, claimed-steps, is-of-key, is_claim, loads, memory-own, next-table, next-version, ready-reads, ready-table}
 
 module _ (f : Fine) (m : State) (e : FineStep) (law : Lawful f m e) (all : InDomains f m) (s : State) (leaves : Leaves f m e s) where
-  abbrev later : Fine
-  later = stepped f.image f.cpus f.processors f.sites e
-
-  abbrev p : Processor
-  p = f.processors e.cpu
-
-  abbrev now : Processor
-  now = p_next f.image p e
+  open around f e use {later, processor as p, now}
+  open is-behind f m e law use {frame}
 
   -- A claim of a domain keeps its version.
 
@@ -129,9 +124,6 @@ module _ (f : Fine) (m : State) (e : FineStep) (law : Lawful f m e) (all : InDom
 
   same : later.processors e.cpu ≡ now
   same = ap (λ b. cond b (p_next f.image p e) p) (eq-eqb e.cpu e.cpu refl)
-
-  frame : (q : Todo) (todo : Todos) → p.todo ≡ q ∷ todo → Behind f.image q todo
-  frame q todo at = (subst (AreFramed f.image) at (law.rel.processors e.cpu law.by.named).frames).0
 
   was : TableIs f m e.cpu
   was = (law.rel.processors e.cpu law.by.named).table

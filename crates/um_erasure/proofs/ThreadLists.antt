@@ -11,13 +11,17 @@ at-here [] t x h = absurd (omega arith)
 at-here (y ∷ ys) zero x h = refl
 at-here (y ∷ ys) (suc t) x h = at-here ys t x (omega arith)
 
--- a thread that is written with the same own part, and dues that leave, change nothing of anybody's own part
+-- what is written reads as what stood there leaves all that is read
+pub read-set : {A K : Type 0} (read : A → K) (d : A) (xs : List A) (u t : ℕ) (x : A) → read x ≡ read (slice_index_or xs u d) → read (slice_index_or (slice_set xs u x) t d) ≡ read (slice_index_or xs t d)
+read-set read d [] u t x e = refl
+read-set read d (y ∷ ys) zero zero x e = e
+read-set read d (y ∷ ys) zero (suc t) x e = refl
+read-set read d (y ∷ ys) (suc u) zero x e = refl
+read-set read d (y ∷ ys) (suc u) (suc t) x e = read-set read d ys u t x e
+
+-- a thread that is written with the same own part changes nothing of anybody's own part
 pub set-own : (xs : List Thread) (u t : ℕ) (th : Thread) → own_part th ≡ own_part (slice_index_or xs u nobody) → own_part (slice_index_or (slice_set xs u th) t nobody) ≡ own_part (slice_index_or xs t nobody)
-set-own [] u t th e = refl
-set-own (y ∷ ys) zero zero th e = e
-set-own (y ∷ ys) zero (suc t) th e = refl
-set-own (y ∷ ys) (suc u) zero th e = refl
-set-own (y ∷ ys) (suc u) (suc t) th e = set-own ys u t th e
+set-own = read-set own_part nobody
 
 pub set-long : (xs : List Thread) (u : ℕ) (th : Thread) → length (slice_set xs u th) ≡ length xs
 set-long [] u th = refl

@@ -35,27 +35,26 @@ use Rattle.um_machine.specs.declared.object.Object.{Object}
 use Rattle.um_machine.specs.Services.{Acted}
 use Rattle.um_scheduler.proofs.ThreadServes.{served}
 use Rattle.um_scheduler.proofs.ThreadWaits.{IsServed, times, wakings, wakings-more}
-use Rattle.um_fine.specs.Answers.{is_word_read, outcome_in, ready_in, wake_in}
-use Rattle.um_fine.specs.Asks.{says_idle, says_show}
+use Rattle.um_fine.specs.Answers.{outcome_in, ready_in, wake_in}
+use Rattle.um_fine.specs.Asks.{says_idle}
 use Rattle.um_fine.specs.Follows.{p_next}
 use Rattle.um_fine.specs.Objects.{outcome_of}
-use Rattle.um_fine.specs.Scheduler.{Scheduler, first_taken, told_at}
+use Rattle.um_fine.specs.Scheduler.{Scheduler, told_at}
 use Rattle.um_fine.specs.Sites.{same_site}
 use Rattle.um_erasure.specs.Fine.{one_if, over_processors, scheduler}
 use Rattle.um_erasure.specs.Frames.{AreFramed}
 use Rattle.um_erasure.specs.Lists.{counted, is_wake, wake_of}
-use Rattle.um_erasure.specs.Offers.{Fits}
 use Rattle.um_erasure.specs.Threads.{ToldIs, first_told, tellers}
-use Rattle.um_erasure.proofs.Erased.{stepped}
+use Rattle.um_erasure.proofs.Erased.{around}
 use Rattle.um_erasure.proofs.LawfulSteps.{Suits}
-use Rattle.um_erasure.proofs.ListGrips.{read-rests}
-use Rattle.um_erasure.proofs.ListWakes.{LastRead, named, next-wakers, takes-wakers, told_first, told_times, wake-first, wake-times, wakers, woken_by}
+use Rattle.um_erasure.proofs.ListWakes.{named, next-wakers, takes-wakers, told_first, told_times, wake-first, wake-times, wakers, woken_by}
 use Rattle.um_erasure.proofs.MemoryPart.{InDomains}
 use Rattle.um_erasure.proofs.Offered.{IsStep, behind-is, own-part}
 use Rattle.um_erasure.proofs.OwnKept.{carries}
 use Rattle.um_erasure.proofs.ResumeSteps.{some-is}
-use Rattle.um_erasure.proofs.RunningPart.{idle-after, is_scheduling, todo-elsewhere}
+use Rattle.um_erasure.proofs.RunningPart.{is_scheduling, todo-elsewhere}
 use Rattle.um_erasure.proofs.SchedulerSteps.{made-at, made-moves, made-says, sched-else, sched-later}
+use Rattle.um_erasure.proofs.StepReads.{last-read}
 use Rattle.um_erasure.proofs.Sums.{over-changed}
 use Rattle.um_erasure.proofs.ToldFacts.{last-first, none-first, none-told, scheduler-told, some-first, told-alike, told_last, untold, wake-is-told, woken-told}
 use Rattle.um_words.specs.declared.fine.FineAct.{FineAct}
@@ -65,7 +64,7 @@ use Rattle.um_erasure.specs.Threads.{IsOf}
 use Rattle.um_erasure.proofs.ContextsPart.{is_shown, read-only}
 use Rattle.um_erasure.proofs.MemorySteps.{part-total}
 use Rattle.um_erasure.proofs.OfVisits.{scheduler-tells}
-use Rattle.um_erasure.proofs.PartsElsewhere.{taken-parked, taken-told, takes-first}
+use Rattle.um_erasure.proofs.PartsElsewhere.{IsTaken, taken-parked, taken-told, takes-first}
 use Rattle.um_erasure.proofs.PlacesFacts.{set-none}
 use Rattle.um_erasure.proofs.ThreadLists.{at-here, set-else}
 use Rattle.um_erasure.proofs.WordsKept.{IsShown}
@@ -137,14 +136,7 @@ wakings-named t [] = refl
 wakings-named t (w ∷ ws) = wakings-more t w ws ∙ ap (λ n. if w.0.0 == t then n + 1 else n) (wakings-named t ws)
 
 module _ (f : Fine) (m : State) (e : FineStep) (law : Lawful f m e) (suits : Suits f m) (all : InDomains f m) (kept : AreKept m) (t : ℕ) (few : t < THREADS) where
-  abbrev later : Fine
-  later = stepped f.image f.cpus f.processors f.sites e
-
-  abbrev p : Processor
-  p = f.processors e.cpu
-
-  abbrev now : Processor
-  now = p_next f.image p e
+  open around f e use {later, processor as p, now}
 
   abbrev count : Processor → ℕ
   count z = counted (is_wake t) z.todo
@@ -173,19 +165,8 @@ module _ (f : Fine) (m : State) (e : FineStep) (law : Lawful f m e) (suits : Sui
           by true q = subst (λ n. wake_of t (p_next f.image (f.processors n) e).todo ≡ wake_of t (f.processors n).todo) (eqb-true e.cpu k q) wake
           by false q = refl
 
-  last-read : (q : Todo) (todo : Todos) → p.todo ≡ q ∷ todo → LastRead f.image e q todo
-  last-read (Todo.show r rest) todo at = λ read. (
-    (subst (Fits f.image p.context) at (law.rel.processors e.cpu law.by.named).list.fits).1 ∙ read-rests f.image p p.context r e.act (made-says f m e law (Todo.show r rest ∷ todo) at) read,
-    by r (made-says f m e law (Todo.show r rest ∷ todo) at) read,
-  )
-    where
-      by : (r : Pending) → e.act ≡ says_show f.image p r e.act → is_word_read e.act ≡ true → woken_by e (Todo.show r rest) ≡ []
-      by (Pending.Work a ask) said read = absurd (true≢false (sym read ∙ ap is_word_read said))
-      by r said read = refl
-  last-read q todo at = tt
-
   wakers-now : (q : Todo) (todo : Todos) → p.todo ≡ q ∷ todo → wakers now.todo ≡ woken_by e q ++ wakers todo
-  wakers-now q todo at = next-wakers f.image p e q todo at (subst (AreFramed f.image) at (law.rel.processors e.cpu law.by.named).frames).0 (last-read q todo at)
+  wakers-now q todo at = next-wakers f.image p e q todo at (subst (AreFramed f.image) at (law.rel.processors e.cpu law.by.named).frames).0 (last-read f m e law q todo at)
 
   -- a step that leaves the wakes on the list
   wakes-same : (s : State) → (thread_at s t).told ≡ (thread_at m t).told → wakers now.todo ≡ wakers p.todo → told_at (scheduler later) t ≡ told_at (scheduler f) t → ToldIs later s t
@@ -278,25 +259,22 @@ module _ (f : Fine) (m : State) (e : FineStep) (law : Lawful f m e) (suits : Sui
   took-none : (s : State) → (thread_at s t).told ≡ (thread_at m t).told → p.todo ≡ [] → is_shown e.act ≡ false → ToldIs later s t
   took-none s machine at quiet = wakes-same s machine (takes-wakers f.image p e at ∙ sym (ap wakers at)) here
     where
-      first : (u : ℕ) × (list : List ℕ) × (d : Context) × (told : Option Told) × ((scheduler f).ready ≡ u ∷ list) × (e.moved ≡ Exchange.thread d told) × (d.thread ≡ u) × (told ≡ told_at (scheduler f) u)
+      first : IsTaken f e
       first = takes-first f m e law at
 
-      untold-it : (o : Option Told) → first.3 ≡ o → o ≡ None
+      untold-it : (o : Option Told) → first.told ≡ o → o ≡ None
       untold-it None q = refl
       untold-it (Some w) q =
-          absurd (false≢true (sym quiet ∙ ap is_shown (made-says f m e law [] at ∙ ap (says_idle f.image p) (first.5 ∙ ap (Exchange.thread first.2) q))))
-
-      after : scheduler later ≡ first_taken (scheduler f) (first.0 ∷ first.1)
-      after = sched-later f m e law (made-at f m e law [] at) (says_idle f.image p e.moved) (made-says f m e law [] at) ∙ (idle-after f.image p (scheduler f) e.moved ∙ ap (first_taken (scheduler f)) first.4)
+          absurd (false≢true (sym quiet ∙ ap is_shown (made-says f m e law [] at ∙ ap (says_idle f.image p) (first.moved ∙ ap (Exchange.thread first.context) q))))
 
       here : told_at (scheduler later) t ≡ told_at (scheduler f) t
-      here = ap (λ (z : Scheduler). told_at z t) after ∙ which (t == first.0) refl
+      here = ap (λ (z : Scheduler). told_at z t) first.after ∙ which (t == first.thread) refl
         where
-          which : (b : Bool) → (t == first.0) ≡ b → slice_index_or (slice_set (scheduler f).told first.0 None) t None ≡ told_at (scheduler f) t
+          which : (b : Bool) → (t == first.thread) ≡ b → slice_index_or (slice_set (scheduler f).told first.thread None) t None ≡ told_at (scheduler f) t
           which true same =
-              subst (λ n. slice_index_or (slice_set (scheduler f).told first.0 None) n None ≡ told_at (scheduler f) n) (sym (eqb-true t first.0 same))
-              (set-none (scheduler f).told first.0 ∙ sym (sym first.7 ∙ untold-it first.3 refl))
-          which false other = get_or-set_other (scheduler f).told first.0 t None None (eqb-false t first.0 other)
+              subst (λ n. slice_index_or (slice_set (scheduler f).told first.thread None) n None ≡ told_at (scheduler f) n) (sym (eqb-true t first.thread same))
+              (set-none (scheduler f).told first.thread ∙ sym (sym first.tells ∙ untold-it first.told refl))
+          which false other = get_or-set_other (scheduler f).told first.thread t None None (eqb-false t first.thread other)
 
   took-told : (c : Context) (told : Told) (rest : Steps) → p.todo ≡ [] → e.moved ≡ Exchange.thread c (Some told) → ToldIs later (T.after m c.thread 0 Pending.Resume rest) t
   took-told c told rest at moved = which (t == c.thread) refl
@@ -322,21 +300,18 @@ module _ (f : Fine) (m : State) (e : FineStep) (law : Lawful f m e) (suits : Sui
       written : (n : ℕ) → thread_at (T.after m c.thread 0 Pending.Resume rest) n ≡ thread_at (with_thread m c.thread th) n
       written n = λ i. thread_at (T.resumed m c.thread (thread_at m c.thread) rest (scheduler-tells f m law.rel c.thread is.index told stands i)) n
 
-      first : (u : ℕ) × (list : List ℕ) × (d : Context) × (told : Option Told) × ((scheduler f).ready ≡ u ∷ list) × (e.moved ≡ Exchange.thread d told) × (d.thread ≡ u) × (told ≡ told_at (scheduler f) u)
+      first : IsTaken f e
       first = takes-first f m e law at
 
       thread_in : Exchange → ℕ
       thread_in (Exchange.thread d w) = d.thread
       thread_in moved = 0
 
-      index : first.0 ≡ c.thread
-      index = sym first.6 ∙ ap thread_in (sym first.5 ∙ moved)
-
-      after : scheduler later ≡ first_taken (scheduler f) (first.0 ∷ first.1)
-      after = sched-later f m e law (made-at f m e law [] at) (says_idle f.image p e.moved) (made-says f m e law [] at) ∙ (idle-after f.image p (scheduler f) e.moved ∙ ap (first_taken (scheduler f)) first.4)
+      index : first.thread ≡ c.thread
+      index = sym first.same ∙ ap thread_in (sym first.moved ∙ moved)
 
       here : told_at (scheduler later) t ≡ slice_index_or (slice_set (scheduler f).told c.thread None) t None
-      here = ap (λ (z : Scheduler). told_at z t) after ∙ ap (λ n. slice_index_or (slice_set (scheduler f).told n None) t None) index
+      here = ap (λ (z : Scheduler). told_at z t) first.after ∙ ap (λ n. slice_index_or (slice_set (scheduler f).told n None) t None) index
 
       lists : wakers now.todo ≡ wakers p.todo
       lists = takes-wakers f.image p e at ∙ sym (ap wakers at)
@@ -414,7 +389,7 @@ module _ (f : Fine) (m : State) (e : FineStep) (law : Lawful f m e) (suits : Sui
       wakes-same s machine (wakers-now Todo.done todo at ∙ sym (ap wakers at))
       (ap (λ (z : Scheduler). told_at z t) (sched-later f m e law (made-at f m e law (Todo.done ∷ todo) at) _ (made-says f m e law (Todo.done ∷ todo) at)))
   quiet-told s machine quiet (Todo.show q rest ∷ todo) at =
-      wakes-same s machine (wakers-now (Todo.show q rest) todo at ∙ ((λ i. (last-read (Todo.show q rest) todo at (read-only f m e law q (made-says f m e law (Todo.show q rest ∷ todo) at) quiet)).1 i ++ wakers todo) ∙ sym (ap wakers at)))
+      wakes-same s machine (wakers-now (Todo.show q rest) todo at ∙ ((λ i. (last-read f m e law (Todo.show q rest) todo at (read-only f m e law q (made-says f m e law (Todo.show q rest ∷ todo) at) quiet)).1 i ++ wakers todo) ∙ sym (ap wakers at)))
       (elsewhere (Todo.show q rest) todo at refl)
   quiet-told s machine quiet (q ∷ todo) at = wakes-same s machine (wakers-now q todo at ∙ sym (ap wakers at)) (elsewhere q todo at refl)
 

@@ -1,5 +1,6 @@
 -- Bounds of sums.
 use Rattle.std.proofs.Common.{◌≡◌, ℕ, zero, suc, ◌+◌, ◌*◌, ◌<◌, ◌≤◌, Bool, true, false, List, [], ◌∷◌, length, refl, sym, ap, ◌∙◌, arith, eq-eqb}
+use Rattle.std.proofs.Math.Nat.{suc-mul}
 use Rattle.std.specs.Prelude.{◌==◌, if◌then◌else◌, nat_lt}
 use Rattle.std.specs.List.{list_all}
 use Rattle.std.proofs.lemmas.Bool.{and_parts, eqb-false, eqb-true, ltb-false, ltb-true}
@@ -12,27 +13,15 @@ use Rattle.um_erasure.proofs.HeldRows.{total-zero}
 use Rattle.um_erasure.proofs.Sums.{total-one}
 
 -- what is added up is at most so much each
+pub total-each : (g : ℕ → ℕ) (most n : ℕ) → ((k : ℕ) → k < n → g k ≤ most) → total g n ≤ n * most
+total-each g most zero h = omega arith
+total-each g most (suc n) h =
+    let before = total-each g most n (λ k l. h k (omega (arith, l))) in
+    let last = h n (omega arith) in
+    let product = suc-mul n most in omega (arith, before, last, product)
 
 pub total-most : (g : ℕ → ℕ) (n : ℕ) → ((k : ℕ) → k < n → g k ≤ 1) → total g n ≤ n
-total-most g zero h = omega arith
-total-most g (suc n) h =
-    let before = total-most g n (λ k l. h k (omega (arith, l))) in
-    let last = h n (omega arith) in
-    omega (arith, before, last)
-
-pub total-twos : (g : ℕ → ℕ) (n : ℕ) → ((k : ℕ) → k < n → g k ≤ 2) → total g n ≤ 2 * n
-total-twos g zero h = omega arith
-total-twos g (suc n) h =
-    let before = total-twos g n (λ k l. h k (omega (arith, l))) in
-    let last = h n (omega arith) in
-    omega (arith, before, last)
-
-pub total-fours : (g : ℕ → ℕ) (n : ℕ) → ((k : ℕ) → k < n → g k ≤ 4) → total g n ≤ 4 * n
-total-fours g zero h = omega arith
-total-fours g (suc n) h =
-    let before = total-fours g n (λ k l. h k (omega (arith, l))) in
-    let last = h n (omega arith) in
-    omega (arith, before, last)
+total-most g n h = let each = total-each g 1 n h in omega (arith, each)
 
 -- one number at most is so
 pub total-sole : (g : ℕ → Bool) (n : ℕ) → ((a b : ℕ) → a < n → b < n → g a ≡ true → g b ≡ true → a ≡ b) → total (λ k. one_if (g k)) n ≤ 1

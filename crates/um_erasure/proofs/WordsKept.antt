@@ -38,7 +38,7 @@ use Rattle.um_erasure.specs.Relation.{Rel}
 use Rattle.um_erasure.proofs.Erased.{stepped}
 use Rattle.um_erasure.proofs.Offered.{Shows, act-is, behind-is, own-part, shows-rest, site-is}
 use Rattle.um_erasure.proofs.RowSteps.{thread-sort}
-use Rattle.um_erasure.proofs.ThreadLists.{at-here, set-else}
+use Rattle.um_erasure.proofs.ThreadLists.{at-here, read-set, set-else}
 use Rattle.um_erasure.proofs.Writes.{Keeping, Makes, Part, Said, after-kept, said_of, words, bytes-kept}
 
 abbrev pub word_says : ThreadWord → Said
@@ -50,13 +50,6 @@ NoWords words = ⊥
 NoWords part = Unit {0}
 
 -- The access-matrix machine.
-
-set-same : (xs : List Thread) (v u : ℕ) (th : Thread) → said_of th ≡ said_of (slice_index_or xs v nobody) → said_of (slice_index_or (slice_set xs v th) u nobody) ≡ said_of (slice_index_or xs u nobody)
-set-same [] v u th e = refl
-set-same (y ∷ ys) zero zero th e = e
-set-same (y ∷ ys) zero (suc u) th e = refl
-set-same (y ∷ ys) (suc v) zero th e = refl
-set-same (y ∷ ys) (suc v) (suc u) th e = set-same ys v u th e
 
 -- a thread that is written says this, and the others what they said
 set-said : (xs : List Thread) (v u : ℕ) (th : Thread) → u < length xs
@@ -81,7 +74,7 @@ module _ (m : State) (u : ℕ) where
   says-keeping : Keeping NoWords SaysSame
   says-keeping =
       record {
-        own = λ s v th e k. set-same s.threads v u th e ∙ k;
+        own = λ s v th e k. read-set said_of nobody s.threads v u th e ∙ k;
         word = λ may s v th k. absurd may;
         object = λ may s x o e q k. k;
         status = λ may s x o e k. k;
@@ -237,7 +230,7 @@ module _ {f : Fine} {m : State} {k : ℕ} {e : FineStep} {rest : Steps} {todo : 
       let t = (f.processors k).context.thread in
       let th = record (thread_at m from) { doomed = true } in
       words-put f m h.rel e _ More.Nothing (act-is h) (T.after m t x (Pending.Dooms from) rest) from u (λ z. record z { doomed = true }) l (site-is h) (λ w. refl)
-      (set-same (slice_set m.threads from th) t u _ refl ∙ set-said m.threads from u th (is-thread m u long l))
+      (read-set said_of nobody (slice_set m.threads from th) t u _ refl ∙ set-said m.threads from u th (is-thread m u long l))
 
   pub start-words : (who : ThreadIx) (script : ℕ) (stack : Row) (priority : ℤ) (mode : Mode) → Shows f m k e (Pending.Start who script stack priority mode) rest todo
       → WordIs (stepped f.image f.cpus f.processors f.sites e) (T.after m (f.processors k).context.thread x (Pending.Start who script stack priority mode) rest) u
@@ -251,7 +244,7 @@ module _ {f : Fine} {m : State} {k : ℕ} {e : FineStep} {rest : Steps} {todo : 
       let domain : p.domain ≡ (thread_at m t).domain = (h.rel.processors k h.there).domain.kept held ∙ (h.rel.threads t (own-part h).index).word.domain in
       let says : Said → ℕ → Said = λ z d. record z { life = Life.Living; mode = mode; domain = d } in
       words-put f m h.rel e _ (More.Starts mode p.domain) (act-is h) (T.after m t x q rest) who.0 u (λ z. says z p.domain) l (site-is h) (λ w. refl)
-      (set-same (slice_set m.threads who.0 th) t u _ refl
+      (read-set said_of nobody (slice_set m.threads who.0 th) t u _ refl
       ∙ (set-said m.threads who.0 u th (is-thread m u long l)
       ∙ ap (λ d. if who.0 == u then says (said_of (thread_at m who.0)) d else said_of (thread_at m u)) (sym domain)))
 
@@ -274,11 +267,11 @@ module _ {f : Fine} {m : State} {k : ℕ} {e : FineStep} {rest : Steps} {todo : 
 
       with-parts : (parts : Option Partitions) → T.domain_at m d ≡ parts → WordIs (stepped f.image f.cpus f.processors f.sites e) (after-by parts) u
       with-parts None q =
-          words-elsewhere f m h.rel e _ More.Nothing (act-is h) (after-by None) d u l (site-by (T.move_reply None) (reply-is None q)) (set-same m.threads (f.processors k).context.thread u _ refl)
+          words-elsewhere f m h.rel e _ More.Nothing (act-is h) (after-by None) d u l (site-by (T.move_reply None) (reply-is None q)) (read-set said_of nobody m.threads (f.processors k).context.thread u _ refl)
       with-parts (Some parts) q =
           let th = record (thread_at m who.0) { domain = d } in
           words-put f m h.rel e _ More.Nothing (act-is h) (after-by (Some parts)) who.0 u (λ z. record z { domain = d }) l (site-by (T.move_reply (Some parts)) (reply-is (Some parts) q)) (λ w. refl)
-          (set-same (slice_set m.threads who.0 th) (f.processors k).context.thread u _ refl ∙ set-said m.threads who.0 u th (is-thread m u long l))
+          (read-set said_of nobody (slice_set m.threads who.0 th) (f.processors k).context.thread u _ refl ∙ set-said m.threads who.0 u th (is-thread m u long l))
 
       by : (parts : Option Partitions) → T.domain_at m d ≡ parts → WordIs (stepped f.image f.cpus f.processors f.sites e) (T.after m (f.processors k).context.thread x (Pending.DomMove d who) rest) u
       by parts q = subst (λ (s : State). WordIs (stepped f.image f.cpus f.processors f.sites e) s u) (ap after-by (sym q)) (with-parts parts q)

@@ -306,3 +306,7 @@ module _ (May : Part → Type 0) (Same : State → Type 0) (kept : Keeping May S
       let y = own_row m.image who.0 in drops (T.cleaned_by m t y) who.0 x h.0 h.1 (kept.object h.2 m y (record (object_at m y) { cleaner = Some (to_thread t) }) refl refl first)
   after-kept x Pending.Recycle rest h =
       let o = object_at m x in kept.pool h.1 (with_object m x vacant) (T.paid_back o.buffer (T.paid_back o.cost m.pools)) (kept.birth h.0 m x vacant first)
+
+-- what is read of a state stays at a step that makes none of the writes that it shows
+pub read-same : {A : Type 0} (May : Part → Type 0) (read : State → A) (m : State) → Keeping May (λ s. read s ≡ read m) → (t x : ℕ) (q : Pending) (rest : Steps) → Makes May q → read (T.after m t x q rest) ≡ read m
+read-same May read m keeping t x q rest = after-kept May (λ s. read s ≡ read m) keeping m t refl x q rest

@@ -1,0 +1,45 @@
+-- What stands behind the entry of a list whose step a processor makes.
+use Rattle.std.proofs.Common.{◌≡◌, [], ◌∷◌, ◌∙◌, ap, refl, subst, sym, true}
+use Rattle.std.proofs.lemmas.Bool.{true≢false}
+use Rattle.um_machine.specs.declared.pending.Pending.{Pending}
+use Rattle.um_machine.specs.Order.{Steps}
+use Rattle.um_machine.specs.State.{State}
+use Rattle.um_fine.specs.Answers.{is_word_read}
+use Rattle.um_fine.specs.Asks.{says_show}
+use Rattle.um_fine.specs.Places.{Todo, Todos}
+use Rattle.um_fine.specs.Steps.{FineStep}
+use Rattle.um_erasure.specs.Fine.{Fine}
+use Rattle.um_erasure.specs.Frames.{AreFramed, Behind}
+use Rattle.um_erasure.specs.Offers.{Fits}
+use Rattle.um_erasure.proofs.Erased.{around}
+use Rattle.um_erasure.proofs.Leaves.{Lawful}
+use Rattle.um_erasure.proofs.ListGrips.{read-rests}
+use Rattle.um_erasure.proofs.ListGrowth.{ReadsLast}
+use Rattle.um_erasure.proofs.ListWakes.{LastRead, woken_by}
+use Rattle.um_erasure.proofs.SchedulerSteps.{made-says}
+
+pub record IsBehind (f : Fine) (e : FineStep) : Type 0 where
+  pub frame : (q : Todo) (todo : Todos) → (f.processors e.cpu).todo ≡ q ∷ todo → Behind f.image q todo
+  -- what reads the word of an object stands alone
+  pub last-shown : (q : Pending) (rest : Steps) (todo : Todos) → (f.processors e.cpu).todo ≡ Todo.show q rest ∷ todo → ReadsLast e (Todo.show q rest) todo
+
+module _ (f : Fine) (m : State) (e : FineStep) (law : Lawful f m e) where
+  open around f e use {processor as p}
+
+  pub is-behind : IsBehind f e
+  is-behind =
+      record {
+        frame = λ q todo at. (subst (AreFramed f.image) at (law.rel.processors e.cpu law.by.named).frames).0;
+        last-shown = λ q rest todo at read.
+            (subst (Fits f.image p.context) at (law.rel.processors e.cpu law.by.named).list.fits).1
+            ∙ read-rests f.image p p.context q e.act (made-says f m e law (Todo.show q rest ∷ todo) at) read;
+      }
+
+  -- and nobody is woken by it
+  pub last-read : (q : Todo) (todo : Todos) → p.todo ≡ q ∷ todo → LastRead f.image e q todo
+  last-read (Todo.show r rest) todo at = λ read. (is-behind.last-shown r rest todo at read, by r (made-says f m e law (Todo.show r rest ∷ todo) at) read)
+    where
+      by : (r : Pending) → e.act ≡ says_show f.image p r e.act → is_word_read e.act ≡ true → woken_by e (Todo.show r rest) ≡ []
+      by (Pending.Work a ask) said read = absurd (true≢false (sym read ∙ ap is_word_read said))
+      by r said read = refl
+  last-read q todo at = tt
