@@ -2,7 +2,6 @@
 use Rattle.std.proofs.Common.{◌≡◌, inl, inr, ◌<◌, ℕ, true, List, [], ◌∷◌, length, Option, Some, None, refl, sym, subst, ap, ◌∙◌, arith}
 use Rattle.std.specs.Prelude.{IsTrue, if◌then◌else◌, slice_get, slice_set}
 use Rattle.std.proofs.lemmas.List.{get_or-set_same, length-set}
-use Rattle.um_base.specs.declared.act.Act.{Act}
 use Rattle.um_base.specs.declared.act.Event.{Event}
 use Rattle.um_base.specs.declared.image.Image.{Image}
 use Rattle.um_base.specs.declared.names.ThreadIx.{ThreadIx}
@@ -17,7 +16,7 @@ use Rattle.um_scheduler.specs.declared.processor.Processor.{Processor}
 use Rattle.um_scheduler.specs.InOrder.{AreInOrder, CleansNone, Follows, IsCleaning, IsInOrder, Point}
 use Rattle.um_scheduler.specs.Schedule.{CleansFirst, CleansNothing, Goes, RunsOn, Turn, came_up, goes_on, idle, left_ready, left_to_clean, opening_turn, processor_at, ready_after, settled, with_processor}
 use Rattle.um_scheduler.specs.Lines.{all_join}
-use Rattle.um_scheduler.proofs.EndLemmas.{IsGoing, IsKept, going-opens, goes-kept}
+use Rattle.um_scheduler.proofs.EndLemmas.{IsKept, going-opens, goes-kept}
 use Rattle.um_scheduler.proofs.FollowLemmas.{FollowsAlone, length-goes}
 use Rattle.um_scheduler.proofs.RowKept.{rests-pairs, rests-recycles}
 use Rattle.um_scheduler.proofs.RowTurns.{goes-advances}

@@ -14,7 +14,7 @@ use Rattle.um_machine.specs.Objects.{is_gone, has_no_pair}
 use Rattle.um_machine.specs.State.{State, nobody, vacant, no_rows, thread_at, object_at, with_object, pair_at, with_pair}
 use Rattle.um_machine.specs.Table.{with_due, with_dues, stays_due, paired, after_given, after_drop, dropped, moved}
 use Rattle.um_invariants.proofs.Cores.{at_set}
-use Rattle.um_invariants.proofs.Facts.{both_of, none_checked}
+use Rattle.um_invariants.proofs.Facts.{both_of, none_checked, set-less}
 use Rattle.um_scheduler.proofs.ThreadCounts.{equal_or_not}
 use Rattle.um_scheduler.proofs.ThreadWaits.{times}
 use Rattle.um_scheduler.proofs.ThreadWords.{has_pair, MayPass, AreDue, AreKept, IsAlike, IsBase}
@@ -37,13 +37,6 @@ dues-alike : (x u : ℕ) (holders : List Bool) (ts : List Thread) (t : ℕ) → 
 dues-alike x u holders [] t = alike-self nobody
 dues-alike x u holders (me ∷ ts) zero =
     record { life = refl; doomed = refl; pending = refl; told = refl; child = refl; due = λ r h. set-less me.due x r (stays_due u me.child holders) h }
-  where
-    set-less : (due : List Bool) (x r : ℕ) (stays : Bool) → slice_index_or (slice_set due x (slice_index_or due x false && stays)) r false ≡ true → slice_index_or due r false ≡ true
-    set-less [] x r stays h = h
-    set-less (flag ∷ due) zero zero stays h = (both_of flag stays h).0
-    set-less (flag ∷ due) zero (suc r) stays h = h
-    set-less (flag ∷ due) (suc x) zero stays h = h
-    set-less (flag ∷ due) (suc x) (suc r) stays h = set-less due x r stays h
 dues-alike x u holders (me ∷ ts) (suc t) = dues-alike x (u + 1) holders ts t
 
 -- the flag of the row that changed
