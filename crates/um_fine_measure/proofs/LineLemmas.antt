@@ -1,5 +1,5 @@
 -- What the steps of a line cost, with its begin and the end of its turn.
-use Rattle.std.proofs.Common.{◌≡◌, ◌≤◌, ℕ, ◌+◌, Bool, true, false, ◌&&◌, ◌||◌, [], ◌∷◌, ◌++◌, arith, if◌then◌else◌, Option, Some, None}
+use Rattle.std.proofs.Common.{◌≡◌, ◌≤◌, ℕ, ◌+◌, Bool, true, false, ◌&&◌, ◌||◌, ◌∷◌, arith, if◌then◌else◌, Option, Some, None}
 use Rattle.std.specs.Prelude.{◌==◌, nat_lt, unwrap_or, ℤ}
 use Rattle.std.proofs.lemmas.Bool.{and_parts, false≢true}
 use Rattle.um_base.specs.Lawful.{IsLawful, is_lawful_line, is_later, is_operand}
@@ -14,11 +14,10 @@ use Rattle.um_base.specs.declared.names.Errno.{Errno}
 use Rattle.um_base.specs.declared.names.Kind.{Kind}
 use Rattle.um_base.specs.declared.names.Mode.{Mode}
 use Rattle.um_base.specs.declared.names.Ref.{Ref}
-use Rattle.um_base.specs.declared.names.Reply.TheVariants as Reply
 use Rattle.um_base.specs.declared.names.Want.{Want}
 use Rattle.um_machine.specs.declared.pending.Pending.{Pending}
 use Rattle.um_machine.specs.declared.thread.Thread.{Thread}
-use Rattle.um_machine.specs.Order.{Steps, to_addr, to_thread, to_row, needs, work, answer_error, answer_zero, buffered, privileged, creates, creation_refusal, stack_declared, new_mode, number_of, steps_of}
+use Rattle.um_machine.specs.Order.{Steps, to_addr, needs, work, answer_error, answer_zero, buffered, privileged, creates, creation_refusal, stack_declared, number_of, steps_of}
 use Rattle.um_machine.specs.State.{value_of, first_place}
 use Rattle.um_measure.specs.Measure.{lines_left, weights_behind}
 use Rattle.um_measure.specs.Reached.{makes_steps}
@@ -49,20 +48,16 @@ module _ (image : Image) where
       let first = first-stands image lawful (number_of script) in
       let weight = weight-later image i script h in omega (arith, first.cost, weight)
 
-  inherit-cost : (a most script stack stack_addr : ℕ) (priority : ℤ) (mode : Mode) (inherit : Bool) → lines_left image (first_place image script) + 440 ≤ most
-      → CostsMost image most (needs a Kind.Thread Want.Uninit ∷ needs stack_addr Kind.ThreadStack Want.Uninit
-      ∷ Pending.SetInit (to_addr a) true None ∷ Pending.SetInit (to_addr stack_addr) true (Some (to_addr a))
-      ∷ Pending.Erase (to_row stack) ∷ Pending.Own (to_thread (thread_of_addr image a))
-      ∷ ((if inherit then Pending.Inherit (to_thread (thread_of_addr image a)) ∷ [] else [])
-      ++ Pending.Start (to_thread (thread_of_addr image a)) script (to_row stack) priority mode
-      ∷ Pending.Answer (Some (Reply.At (to_addr a))) None ∷ []))
-  inherit-cost a most script stack stack_addr priority mode true h = omega (arith, h)
-  inherit-cost a most script stack stack_addr priority mode false h = omega (arith, h)
-
   creates-cost : (mode : Mode) (a most script stack stack_addr : ℕ) (priority : ℤ) (options : Options) (refusal : Option Cause) → lines_left image (first_place image script) + 440 ≤ most
       → CostsMost image most (needs a Kind.Thread Want.Uninit ∷ needs stack_addr Kind.ThreadStack Want.Uninit ∷ creates mode (thread_of_addr image a) stack a stack_addr script priority options refusal)
-  creates-cost mode a most script stack stack_addr priority options None h = inherit-cost a most script stack stack_addr priority (new_mode options) options.inherit h
   creates-cost mode a most script stack stack_addr priority options (Some cause) h = omega (arith, h)
+  creates-cost mode a most script stack stack_addr priority options None h = by options.inherit
+    where
+      by : (inherits : Bool)
+          → CostsMost image most (needs a Kind.Thread Want.Uninit ∷ needs stack_addr Kind.ThreadStack Want.Uninit
+          ∷ creates mode (thread_of_addr image a) stack a stack_addr script priority (record options { inherit = inherits }) None)
+      by true = omega (arith, h)
+      by false = omega (arith, h)
 
   -- a line costs what its weight says, at most
   pub line-cost : IsLawful image → (i t : ℕ) (me : Thread) (line : Instr) → is_lawful_line image i line ≡ true → makes_steps (Some line) ≡ true

@@ -1,5 +1,5 @@
 -- What a processor's list costs: the fine steps of a pending step, the claims and wakes behind an event, and the cleaning of an object.
-use Rattle.std.proofs.Common.{◌≡◌, ◌≤◌, ℕ, ◌+◌, ◌-◌, ◌*◌, Bool, true, false, List, [], ◌∷◌, ◌++◌, length, refl, arith, if◌then◌else◌, Option, Some, None}
+use Rattle.std.proofs.Common.{◌≡◌, ◌<◌, ◌≤◌, ℕ, ◌+◌, ◌-◌, ◌*◌, Bool, true, false, List, [], ◌∷◌, ◌++◌, length, refl, arith, if◌then◌else◌, Option, Some, None}
 use Rattle.std.specs.Prelude.{◌==◌, nat_lt}
 use Rattle.std.specs.List.{list_all}
 use Rattle.std.proofs.lemmas.Bool.{false≢true, ltb-true}
@@ -36,26 +36,22 @@ module _ (image : Image) where
 
     -- Visits.
 
-    pub passes-cost : (who x : ℕ) (todo : Todos) → cost (passes who x todo) ≤ ROWS - x + cost todo
-    passes-cost who x todo = by (nat_lt x ROWS) refl
+    -- a visit of a row costs one, and there are as many as rows from it on
+    visit-cost : (x : ℕ) (q : Todo) (todo : Todos) → (x < ROWS → cost (q ∷ todo) ≤ ROWS - x + cost todo) → cost (if nat_lt x ROWS then q ∷ todo else todo) ≤ ROWS - x + cost todo
+    visit-cost x q todo here = by (nat_lt x ROWS) refl
       where
-        by : (b : Bool) → nat_lt x ROWS ≡ b → cost (if b then Todo.pass who x ∷ todo else todo) ≤ ROWS - x + cost todo
-        by true h = let below = ltb-true x ROWS h in omega (arith, below)
+        by : (b : Bool) → nat_lt x ROWS ≡ b → cost (if b then q ∷ todo else todo) ≤ ROWS - x + cost todo
+        by true h = here (ltb-true x ROWS h)
         by false h = omega arith
+
+    pub passes-cost : (who x : ℕ) (todo : Todos) → cost (passes who x todo) ≤ ROWS - x + cost todo
+    passes-cost who x todo = visit-cost x (Todo.pass who x) todo (λ below. omega (arith, below))
 
     pub drops-cost : (x : ℕ) (todo : Todos) → cost (drops x todo) ≤ ROWS - x + cost todo
-    drops-cost x todo = by (nat_lt x ROWS) refl
-      where
-        by : (b : Bool) → nat_lt x ROWS ≡ b → cost (if b then Todo.drop x ∷ todo else todo) ≤ ROWS - x + cost todo
-        by true h = let below = ltb-true x ROWS h in omega (arith, below)
-        by false h = omega arith
+    drops-cost x todo = visit-cost x (Todo.drop x) todo (λ below. omega (arith, below))
 
     pub clean-cost : (who x : ℕ) (todo : Todos) → cost (clean_pairs who x todo) ≤ ROWS - x + cost todo
-    clean-cost who x todo = by (nat_lt x ROWS) refl
-      where
-        by : (b : Bool) → nat_lt x ROWS ≡ b → cost (if b then Todo.clean_pair who x ∷ todo else todo) ≤ ROWS - x + cost todo
-        by true h = let below = ltb-true x ROWS h in omega (arith, below)
-        by false h = omega arith
+    clean-cost who x todo = visit-cost x (Todo.clean_pair who x) todo (λ below. omega (arith, below))
 
     -- The fine steps of a pending step.
 
