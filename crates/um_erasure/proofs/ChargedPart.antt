@@ -20,7 +20,7 @@ use Rattle.um_words.specs.declared.fine.FineAct.{FineAct}
 use Rattle.um_words.specs.declared.fine.Unseen.{Unseen}
 use Rattle.um_words.specs.Rows.{is_dying}
 use Rattle.um_fine.specs.Answers.{charge_in}
-use Rattle.um_fine.specs.Asks.{begins_cleaning}
+use Rattle.um_fine.specs.Asks.{begins_cleaning, says}
 use Rattle.um_fine.specs.Cells.{Cell}
 use Rattle.um_fine.specs.Follows.{goes_on_by, p_next, row_number}
 use Rattle.um_fine.specs.Objects.{ObjectCell}
@@ -153,35 +153,32 @@ module _ (f : Fine) (m : State) (e : FineStep) (law : Lawful f m e) (x : ℕ) (f
       takes-counts (is_recycle x) (recycles-of x) f.image p e at (takes-quiet f m e law x few at)
       ∙ sym (takes-counts (is_wipe x) (wipes-of x) f.image p e at (takes-quiet f m e law x few at))
 
+  -- a step that clears this object's cell, or vacates its row, leaves the rest of its cleaning
+  order-after : (q : Todo) (todo : Todos) → p.todo ≡ q ∷ todo → ReadsLast e q todo → begins_cleaning (record e { act = says f.image p (q ∷ todo) e.act e.moved }) ≡ false
+      → is_cleared x (goes_on_by f.image p e (q ∷ todo)).todo ≡ true → Recs todo ≡ Wipes todo + 1 → Order now.todo
+  order-after q todo at last quiet cleared one-more =
+      let next = list-is q todo at (ap (λ a. begins_cleaning (record e { act = a })) (made-says f m e law (q ∷ todo) at) ∙ quiet) in
+      let one = ap one_if (ap (λ (z : Processor). is_cleared x z.todo) next ∙ cleared) in
+      let r = recs-now q todo at last in
+      let w = wipes-now q todo at last in
+      omega (arith, r, w, one, one-more)
+
   order-mine : Order now.todo
   order-mine = by p.todo refl
     where
       by-wipe : (z : ℕ) (todo : Todos) → p.todo ≡ Todo.wipe z ∷ todo → (b : Bool) → (x == z) ≡ b → Order now.todo
       by-wipe z todo at false k = even (level (Todo.wipe z) todo at tt (wipe-other z todo at k))
       by-wipe z todo at true k =
-          let said = made-says f m e law (Todo.wipe z ∷ todo) at in
-          let next = ap (λ (z : Processor). z.todo) (list-is (Todo.wipe z) todo at (ap (λ a. begins_cleaning (record e { act = a })) said)) in
-          let cleared : is_cleared x now.todo ≡ true = ap (is_cleared x) (next ∙ (blocks (Todo.wipe z ∷ todo) at).0.1) ∙ k in
-          let r = recs-now (Todo.wipe z) todo at tt in
-          let w = wipes-now (Todo.wipe z) todo at tt in
           let before = order-was (Todo.wipe z ∷ todo) at in
           let wipes = count-cons (is_wipe x) (Todo.wipe z) todo in
           let one = ap one_if k in
-          let two = ap one_if cleared in
-          omega (arith, r, w, before, wipes, one, two)
+          order-after (Todo.wipe z) todo at tt refl (ap (is_cleared x) (blocks (Todo.wipe z ∷ todo) at).0.1 ∙ k) (omega (arith, before, wipes, one))
 
       by-vacate : (z : ℕ) (todo : Todos) → p.todo ≡ Todo.vacate z ∷ todo → (b : Bool) → (x == z) ≡ b → Order now.todo
       by-vacate z todo at false k = even (level (Todo.vacate z) todo at tt (vacate-other z todo at k))
       by-vacate z todo at true k =
-          let said = made-says f m e law (Todo.vacate z ∷ todo) at in
-          let next = ap (λ (z : Processor). z.todo) (list-is (Todo.vacate z) todo at (ap (λ a. begins_cleaning (record e { act = a })) said)) in
-          let cleared : is_cleared x now.todo ≡ true = ap (is_cleared x) (next ∙ (blocks (Todo.vacate z ∷ todo) at).0.1) ∙ k in
-          let r = recs-now (Todo.vacate z) todo at tt in
-          let w = wipes-now (Todo.vacate z) todo at tt in
           let before = order-was (Todo.vacate z ∷ todo) at in
-          let one = ap one_if k in
-          let two = ap one_if cleared in
-          omega (arith, r, w, before, one, two)
+          let one = ap one_if k in order-after (Todo.vacate z) todo at tt refl (ap (is_cleared x) (blocks (Todo.vacate z ∷ todo) at).0.1 ∙ k) (omega (arith, before, one))
 
       by : (todo : Todos) → p.todo ≡ todo → Order now.todo
       by [] at = even (nothing-left at)

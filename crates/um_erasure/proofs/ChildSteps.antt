@@ -14,7 +14,8 @@ use Rattle.um_base.specs.declared.names.Row.{Row}
 use Rattle.um_base.specs.declared.names.ThreadIx.{ThreadIx}
 use Rattle.um_machine.specs.declared.pending.Pending.{Pending}
 use Rattle.um_machine.specs.declared.thread.Thread.{Thread}
-use Rattle.um_machine.specs.Order.{Steps, answer_error, answer_zero, buffered, creates, privileged, steps_of, to_addr, work}
+use Rattle.um_machine.specs.Order.{Steps, answer_error, answer_zero, buffered, creates, steps_of, to_addr, work}
+use Rattle.um_erasure.proofs.Failures.{HoldsOfFailures, either-steps, privileged-left}
 
 -- behind the permission on its own object a new thread inherits, or is started; and nowhere else
 abbrev pub InOrder : Steps → Type 0
@@ -40,17 +41,14 @@ goes-in-order child (Pending.Inherit w ∷ rest) e h = absurd h
 goes-in-order child (Pending.Start u script stack priority mode ∷ rest) e h = absurd h
 goes-in-order child (q ∷ rest) e h = (e, h)
 
-order-privileged : (mode : Mode) (steps : Steps) → InOrder steps → InOrder (privileged mode steps)
-order-privileged Mode.User steps h = tt
-order-privileged Mode.Supervisor steps h = h
+pub failures : HoldsOfFailures InOrder
+failures = record { fatal = λ reason cause. tt; unbuffer = λ size reason cause. tt; answer = λ reply. tt }
 
 order-init : (a : ℕ) (ask : Ask) (refused : Bool) → InOrder (if refused then answer_error Errno.EINVAL else work a ask ∷ Pending.SetInit (to_addr a) false None ∷ answer_zero)
-order-init a ask true = tt
-order-init a ask false = tt
+order-init a ask refused = either-steps InOrder refused _ _ tt tt
 
 order-buffered : (a : ℕ) (kind : Kind) (lawful : Bool) (size : ℕ) (ask : Ask) → InOrder (buffered a kind lawful size ask)
-order-buffered a kind true size ask = tt
-order-buffered a kind false size ask = tt
+order-buffered a kind lawful size ask = either-steps InOrder lawful _ _ tt tt
 
 order-inherit : (inherits : Bool) (who : ThreadIx) (script : ℕ) (stack : Row) (priority : ℤ) (mode : Mode) (rest : Steps) → InOrder rest
     → InOrder (Pending.Own who ∷ ((if inherits then Pending.Inherit who ∷ [] else []) ++ Pending.Start who script stack priority mode ∷ rest))
@@ -63,13 +61,13 @@ order-creates mode who stack a b script priority options None = order-inherit op
 
 module _ (image : Image) (t : ℕ) (me : Thread) where
   pub order-steps : (instr : Instr) → InOrder (steps_of image t me instr)
-  order-steps (Instr.DomainInit domain parts) = order-privileged me.mode _ tt
-  order-steps (Instr.DomainAdd domain part) = order-privileged me.mode _ tt
-  order-steps (Instr.DomainRemove domain part) = order-privileged me.mode _ tt
-  order-steps (Instr.DomainMove domain thread) = order-privileged me.mode _ tt
-  order-steps (Instr.UserMode script) = order-privileged me.mode _ tt
-  order-steps (Instr.AllGrant object) = order-privileged me.mode _ tt
-  order-steps (Instr.Revoke object thread) = order-privileged me.mode _ tt
+  order-steps (Instr.DomainInit domain parts) = privileged-left InOrder failures me.mode _ tt
+  order-steps (Instr.DomainAdd domain part) = privileged-left InOrder failures me.mode _ tt
+  order-steps (Instr.DomainRemove domain part) = privileged-left InOrder failures me.mode _ tt
+  order-steps (Instr.DomainMove domain thread) = privileged-left InOrder failures me.mode _ tt
+  order-steps (Instr.UserMode script) = privileged-left InOrder failures me.mode _ tt
+  order-steps (Instr.AllGrant object) = privileged-left InOrder failures me.mode _ tt
+  order-steps (Instr.Revoke object thread) = privileged-left InOrder failures me.mode _ tt
   order-steps (Instr.Create thread stack size script priority options) = order-creates me.mode _ _ _ _ _ _ options _
   order-steps (Instr.SemInit object count limit) = order-init _ _ _
   order-steps (Instr.MsgqInit object msg_size max_msgs) = order-buffered _ Kind.Msgq _ _ _

@@ -33,11 +33,11 @@ use Rattle.um_machine.specs.Run.{Offers, Runs, begins, cleans_pair, exits, goes,
 use Rattle.um_machine.specs.State.{State, instruction_at, no_rows, nobody, object_at, thread_at, vacant, with_object, with_thread}
 use Rattle.um_machine.specs.Table as T
 use Rattle.um_invariants.proofs.Cores.{at_set}
-use Rattle.um_erasure.proofs.ChildSteps.{Creates, InOrder, goes-in-order, order-steps}
+use Rattle.um_erasure.proofs.ChildSteps.{Creates, InOrder, failures, goes-in-order, order-steps}
 use Rattle.um_erasure.proofs.Erased.{IsReachable}
-use Rattle.um_erasure.proofs.Failures.{HoldsOfFailures, check-left, copy-left, either-state, error-left, fails-left}
+use Rattle.um_erasure.proofs.Failures.{check-left, copy-left, either-state, error-left, fails-left}
 use Rattle.um_erasure.proofs.FirstThreads.{new-thread}
-use Rattle.um_erasure.proofs.ThreadKeys.{Ignores, key-same, keys, keys-bytes, keys-dropped, keys-erased, keys-given, keys-moved, keys-paired, keys-set, keys-woken}
+use Rattle.um_erasure.proofs.ThreadKeys.{AreAlike, Ignores, key-same, keys-bytes, keys-dropped, keys-erased, keys-given, keys-moved, keys-paired, keys-set, keys-woken}
 
 -- what is followed of a thread
 record Key : Type 0 where
@@ -67,28 +67,22 @@ module _ (m : State) (t x : ℕ) (all : AllCreate m) where
   abbrev me : Thread
   me = thread_at m t
 
-  abbrev Alike : State → Type 0
-  Alike s = keys key_of s ≡ keys key_of m
-
-  keeps : (s : State) → Alike s → AllCreate s
+  keeps : (s : State) → AreAlike key_of m s → AllCreate s
   keeps s e u = let k = key-same key_of m s e u in subst (λ (z : Key). Creates z.child z.pending) (sym k) (all u)
 
   set : (s : State) → AllCreate s → (v : ℕ) (th : Thread) → Creates th.child th.pending → AllCreate (with_thread s v th)
   set s was v th new u = at_set (λ n (z : Thread). Creates z.child z.pending) s.threads v u th nobody new (was u)
 
   -- it goes on with steps in order, and has no child
-  on : (s : State) → Alike s → (th : Thread) (rest : Steps) → th.child ≡ None → InOrder rest → AllCreate (T.goes_on s t th rest)
+  on : (s : State) → AreAlike key_of m s → (th : Thread) (rest : Steps) → th.child ≡ None → InOrder rest → AllCreate (T.goes_on s t th rest)
   on s e th rest none h = set s (keeps s e) t (T.at_steps s.image th rest) (goes-in-order th.child rest none h)
 
   -- it is the thread of a state with the same keys
-  there : (s : State) → Alike s → (rest : Steps) → me.child ≡ None → InOrder rest → AllCreate (T.goes_on s t (thread_at s t) rest)
+  there : (s : State) → AreAlike key_of m s → (rest : Steps) → me.child ≡ None → InOrder rest → AllCreate (T.goes_on s t (thread_at s t) rest)
   there s e rest none h = on s e (thread_at s t) rest (ap (λ (k : Key). k.child) (key-same key_of m s e t) ∙ none) h
 
   either : (b : Bool) (s1 s2 : State) → AllCreate s1 → AllCreate s2 → AllCreate (if b then s1 else s2)
   either = either-state AllCreate
-
-  failures : HoldsOfFailures InOrder
-  failures = record { fatal = λ reason cause. tt; unbuffer = λ size reason cause. tt; answer = λ reply. tt }
 
   checks : (a : Addr) (v : Option Errno) (rest : Steps) → me.child ≡ None → InOrder rest → AllCreate (T.goes_on m t (T.with_checked m a v me) rest)
   checks a None rest none h = on m refl (T.with_checked m a None me) rest none h
@@ -97,7 +91,7 @@ module _ (m : State) (t x : ℕ) (all : AllCreate m) where
   without-copy : (rest : Steps) → InOrder rest → InOrder (T.without_copy rest)
   without-copy = copy-left InOrder (λ a rest h. h)
 
-  answers : (s : State) → Alike s → (ask : Ask) (taken : List ℕ) (rest : Steps) (answer : Answer) → me.child ≡ None → InOrder rest
+  answers : (s : State) → AreAlike key_of m s → (ask : Ask) (taken : List ℕ) (rest : Steps) (answer : Answer) → me.child ≡ None → InOrder rest
       → AllCreate (T.after_answer s t (thread_at s t) ask taken rest answer)
   answers s e ask taken rest answer none h = by answer
     where
@@ -255,7 +249,7 @@ module _ (m : State) (t x : ℕ) (all : AllCreate m) where
   creates-after (Pending.Dooms from) rest h =
       let th = record (thread_at m from) { doomed = true } in
       let s = with_thread m from th in
-      let e : Alike s = keys-set key_of m.threads from th refl in
+      let e : AreAlike key_of m s = keys-set key_of m.threads from th refl in
       set s (keeps s e) t _ (goes-in-order _ (T.next_doom from) (ap (λ (k : Key). k.child) (key-same key_of m s e t) ∙ h.0) (doom-order from))
   creates-after (Pending.CleanPair who) rest h = keeps (T.after_drop (T.cleaned_by m t (own_row m.image who.0)) who.0 x) (keys-dropped key_of ignores (T.cleaned_by m t (own_row m.image who.0)) who.0 x)
   creates-after Pending.Recycle rest h = all

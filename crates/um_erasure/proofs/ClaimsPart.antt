@@ -46,8 +46,9 @@ use Rattle.um_erasure.specs.Threads.{occurs}
 use Rattle.um_erasure.proofs.CallsKnown.{starts-below, starts-claims, starts-known}
 use Rattle.um_erasure.proofs.ChildrenKnown.{AllCreate, offered-stands}
 use Rattle.um_erasure.proofs.ChildSteps.{Creates}
-use Rattle.um_erasure.proofs.CleanersPart.{is_birth, is_born_act, is_claiming, keeps-claims, visit-is}
+use Rattle.um_erasure.proofs.CleanersPart.{is_born_act, is_claiming, keeps-claims, visit-is}
 use Rattle.um_erasure.proofs.CleanersSteps.{row-else, row-here, row-takes-it}
+use Rattle.um_erasure.proofs.CleaningFacts.{is_birth}
 use Rattle.um_erasure.proofs.ContextsPart.{flags-none, is_shown, read-only}
 use Rattle.um_erasure.proofs.DomainReads.{eqb-swap}
 use Rattle.um_erasure.proofs.Erased.{around}

@@ -1,5 +1,5 @@
 -- A processor that begins to clean an object has fewer to clean than there are dynamic rows: those that it has are others, each once, and dynamic.
-use Rattle.std.proofs.Common.{◌≡◌, inl, inr, ℕ, ◌+◌, ◌-◌, ◌<◌, ◌≤◌, Bool, true, false, [], ◌∷◌, Option, Some, None, refl, sym, ap, ◌∙◌, subst, arith}
+use Rattle.std.proofs.Common.{◌≡◌, ℕ, ◌+◌, ◌-◌, ◌<◌, ◌≤◌, Bool, true, false, [], ◌∷◌, Option, Some, None, refl, sym, ap, ◌∙◌, subst, arith}
 use Rattle.std.specs.Prelude.{◌==◌, ◌&&◌, if◌then◌else◌, nat_le, nat_lt, not, unwrap_or}
 use Rattle.std.specs.List.{list_all}
 use Rattle.std.proofs.lemmas.Bool.{and_parts, false≢true, leb-true, ltb-true, true≢false}
@@ -11,12 +11,9 @@ use Rattle.um_base.specs.Places.{row_at}
 use Rattle.um_base.specs.declared.image.Image.{Image}
 use Rattle.um_machine.specs.declared.pending.Pending.{Pending}
 use Rattle.um_base.specs.declared.names.ThreadIx.{ThreadIx}
-use Rattle.um_machine.specs.declared.object.Status.{Status}
 use Rattle.um_machine.specs.Objects as Plain
 use Rattle.um_machine.specs.Order.{to_thread}
 use Rattle.um_machine.specs.State.{State, object_at}
-use Rattle.um_invariants.proofs.Cores.{status_is}
-use Rattle.um_invariants.proofs.Guards.{IsRow}
 use Rattle.um_words.specs.declared.fine.FineAct.{FineAct}
 use Rattle.um_words.specs.declared.fine.More.{More}
 use Rattle.um_words.specs.declared.fine.Unseen.{Unseen}
@@ -39,7 +36,7 @@ use Rattle.um_erasure.proofs.CleaningFacts.{begins-stage}
 use Rattle.um_erasure.proofs.FirstThreads.{one-most}
 use Rattle.um_erasure.proofs.HeldPart.{and-false}
 use Rattle.um_erasure.proofs.MemorySteps.{part-total}
-use Rattle.um_erasure.proofs.ObjectsKept.{found-below}
+use Rattle.um_erasure.proofs.ObjectsKept.{found-below, gone-dynamic}
 use Rattle.um_erasure.proofs.Reachable.{IsSound}
 use Rattle.um_erasure.proofs.RowSteps.{row-stands, settled}
 use Rattle.um_erasure.proofs.Totals.{recycles-total, total-gap}
@@ -66,36 +63,17 @@ last-drop w who h = by (has w who) refl
             absurd (false≢true (sym (λ i. gone (if not (e i) then Leftover.NoPair else if q i then Leftover.Gone else Leftover.Kept)) ∙ ap gone h))
 
 module _ (f : Fine) (m : State) (rel : Rel f m) (sound : IsSound m) where
-  -- an object that is gone is a dynamic one
-  gone-dynamic : (x : ℕ) → Plain.is_gone (object_at m x).status ≡ true → STATIC_ROWS ≤ x
-  gone-dynamic x h = by (sound.known.reached.used x (not-free (object_at m x).status h (ap Plain.is_free (status_is m x))))
-    where
-      not-free : (s : Status) → Plain.is_gone s ≡ true → {b : Bool} → b ≡ Plain.is_free s → b ≡ false
-      not-free s h e = e ∙ gone-not s h
-        where
-          gone-not : (s : Status) → Plain.is_gone s ≡ true → Plain.is_free s ≡ false
-          gone-not Status.Gone h = refl
-          gone-not s h = absurd (false≢true h)
-
-      by : IsRow m.image x → STATIC_ROWS ≤ x
-      by (inl l) = absurd (lives-not (object_at m x).status (ap Plain.is_live (sym (status_is m x)) ∙ sound.known.reached.static x l) h)
-        where
-          lives-not : (s : Status) → Plain.is_live s ≡ true → Plain.is_gone s ≡ true → ⊥
-          lives-not Status.Live h k = false≢true k
-          lives-not s h k = false≢true h
-      by (inr r) = r.0
-
-  recyclers-few : (x : ℕ) → x < ROWS → recyclers f x ≤ 1
+  pub recyclers-few : (x : ℕ) → x < ROWS → recyclers f x ≤ 1
   recyclers-few x few =
       let count = (rel.rows x few).cleaners.cleaner in
       let most = one-most (Plain.is_gone (object_at m x).status && not (is_dying (row f x).stage)) in
       omega (arith, count, most)
 
-  recyclers-static : (x : ℕ) → x < STATIC_ROWS → recyclers f x ≡ 0
+  pub recyclers-static : (x : ℕ) → x < STATIC_ROWS → recyclers f x ≡ 0
   recyclers-static x low = by (Plain.is_gone (object_at m x).status) refl
     where
       by : (b : Bool) → Plain.is_gone (object_at m x).status ≡ b → recyclers f x ≡ 0
-      by true e = let high = gone-dynamic x e in absurd (omega (arith, low, high))
+      by true e = let high = gone-dynamic m sound x e in absurd (omega (arith, low, high))
       by false e = (rel.rows x (omega (arith, low))).cleaners.cleaner ∙ ap (λ b. one_if (b && not (is_dying (row f x).stage))) e
 
   -- a row that no processor cleans, of an object that may be gone
@@ -117,7 +95,7 @@ module _ (f : Fine) (m : State) (rel : Rel f m) (sound : IsSound m) where
   dying-begins x few e =
       let at = settled f m rel x few (ap is_free e) in
       let status = (rel.rows x few).status.status at ∙ ap (λ z. status_of z (is_reserved (object_at m x).status)) e in (
-        gone-dynamic x (ap Plain.is_gone status),
+        gone-dynamic m sound x (ap Plain.is_gone status),
         (rel.rows x few).cleaners.cleaner ∙ (ap (λ z. one_if (Plain.is_gone (object_at m x).status && not (is_dying z))) e ∙ ap one_if (and-false (Plain.is_gone (object_at m x).status))),
       )
 

@@ -50,7 +50,7 @@ use Rattle.um_erasure.proofs.DomainFacts.{two-parts}
 use Rattle.um_erasure.proofs.FirstThreads.{one-most}
 use Rattle.um_erasure.proofs.HeldRows.{total-zero}
 use Rattle.um_erasure.proofs.MemorySteps.{part-total}
-use Rattle.um_erasure.proofs.CleaningFacts.{drop-status, takes_last}
+use Rattle.um_erasure.proofs.CleaningFacts.{drop-status, is_birth, takes_last}
 use Rattle.um_erasure.proofs.CleanersSteps.{beside, drop-case, elsewhere, end-call, idle, leaves-word, no-gain, rec-same, rec-sum, recycled, row-else, row-here, row-takes-it, vac-same, vacate-row}
 use Rattle.um_erasure.proofs.Leaves.{cleans, drops, event, nothing, passes, recycles, resumes}
 use Rattle.um_erasure.proofs.ObjectsKept.{NoStatuses, born-reserved, set-kept, status-kept}
@@ -88,10 +88,6 @@ no-left image p q act h = refl
 abbrev pub is_born_act : Act → Bool
 is_born_act (Act.Born a) = true
 is_born_act act = false
-
-abbrev pub is_birth : Pending → Bool
-is_birth (Pending.Born a) = true
-is_birth q = false
 
 no-birth : (image : Image) (p : Processor) (q : Pending) (act : Act) → is_birth q ≡ false → is_born_act (says_step image p q act) ≡ false
 no-birth image p (Pending.Born a) act h = absurd (true≢false h)

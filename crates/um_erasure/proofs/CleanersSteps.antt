@@ -35,13 +35,13 @@ use Rattle.um_erasure.proofs.DomainReads.{eqb-swap}
 use Rattle.um_erasure.proofs.DropSteps.{left-here}
 use Rattle.um_erasure.proofs.Erased.{around}
 use Rattle.um_erasure.proofs.Leaves.{Lawful}
-use Rattle.um_erasure.proofs.ListCounts.{begun, count-cons, next-counts, recycles-of, takes-counts, vacates-of}
+use Rattle.um_erasure.proofs.ListCounts.{IsOfEmptying, begun, count-cons, next-counts, recycles-of, takes-counts, vacates-of}
 use Rattle.um_erasure.proofs.Reachable.{sound-held}
 use Rattle.um_erasure.proofs.RowSteps.{row-stands, settled}
 use Rattle.um_erasure.proofs.SchedulerSteps.{made-at, made-says, word-left}
 use Rattle.um_erasure.proofs.StepReads.{is-behind}
 use Rattle.um_erasure.proofs.Sums.{over-changed}
-use Rattle.um_erasure.proofs.CleaningFacts.{begins-stage, left-gone, loud-left, quiet-left, row-site, takes_last}
+use Rattle.um_erasure.proofs.CleaningFacts.{begins-stage, cleaning-is, left-gone, loud-left, quiet-left, row-site, takes_last}
 
 module _ (f : Fine) (m : State) (e : FineStep) (law : Lawful f m e) (x : ℕ) (few : x < ROWS) where
   open around f e use {later, processor as p, now}
@@ -94,21 +94,19 @@ module _ (f : Fine) (m : State) (e : FineStep) (law : Lawful f m e) (x : ℕ) (f
   recycles-gain false = refl
 
   module _ (q : Todo) (todo : Todos) (at : p.todo ≡ q ∷ todo) (last : ReadsLast e q todo) where
-    pub vac-sum : vacaters later x + one_if (is_vacate x q) ≡ vacaters f x + gain (begins_cleaning e) (row_number e.site)
-    vac-sum =
-        let all = over-changed f e (λ z. counted (is_vacate x) z.todo) law.by.named in
-        let before = ap (counted (is_vacate x)) at ∙ count-cons (is_vacate x) q todo in
-        let after = next-counts (is_vacate x) (vacates-of x) f.image p e q todo at (frame q todo at) last in
-        let more = vacates-gain (begins_cleaning e) in
+    test-sum : (test : Todo → Bool) (of : IsOfEmptying test) (g : ℕ) → begun test of f.image e (begins_cleaning e) ≡ g
+        → over_processors later (λ z. counted test z.todo) + one_if (test q) ≡ over_processors f (λ z. counted test z.todo) + g
+    test-sum test of g more =
+        let all = over-changed f e (λ z. counted test z.todo) law.by.named in
+        let before = ap (counted test) at ∙ count-cons test q todo in
+        let after = next-counts test of f.image p e q todo at (frame q todo at) last in
         omega (arith, all, before, after, more)
 
+    pub vac-sum : vacaters later x + one_if (is_vacate x q) ≡ vacaters f x + gain (begins_cleaning e) (row_number e.site)
+    vac-sum = test-sum (is_vacate x) (vacates-of x) _ (vacates-gain (begins_cleaning e))
+
     pub rec-sum : recyclers later x + one_if (is_recycle x q) ≡ recyclers f x + gain (begins_cleaning e) (row_number e.site)
-    rec-sum =
-        let all = over-changed f e (λ z. counted (is_recycle x) z.todo) law.by.named in
-        let before = ap (counted (is_recycle x)) at ∙ count-cons (is_recycle x) q todo in
-        let after = next-counts (is_recycle x) (recycles-of x) f.image p e q todo at (frame q todo at) last in
-        let more = recycles-gain (begins_cleaning e) in
-        omega (arith, all, before, after, more)
+    rec-sum = test-sum (is_recycle x) (recycles-of x) _ (recycles-gain (begins_cleaning e))
 
     -- where the step is no end of a cleaning and begins none of this object
     pub vac-same : is_vacate x q ≡ false → gain (begins_cleaning e) (row_number e.site) ≡ 0 → vacaters later x ≡ vacaters f x
@@ -315,33 +313,18 @@ module _ (f : Fine) (m : State) (e : FineStep) (law : Lawful f m e) (x : ℕ) (f
 
   -- A row is vacated.
   pub vacate-row : (z : ℕ) (todo : Todos) → p.todo ≡ Todo.vacate z ∷ todo → CleanersAre later m x
-  vacate-row z todo at = by (z == x) refl
+  vacate-row z todo at = by (z == x) refl (made-says f m e law (Todo.vacate z ∷ todo) at) (made-at f m e law (Todo.vacate z ∷ todo) at)
     where
-      said : e.act ≡ FineAct.Unseen Unseen.Vacate
-      said = made-says f m e law (Todo.vacate z ∷ todo) at
-
-      site : e.site ≡ Site.row z
-      site = made-at f m e law (Todo.vacate z ∷ todo) at
-
-      quiet : gain (begins_cleaning e) (row_number e.site) ≡ 0
-      quiet = no-gain (ap (λ a. begins_cleaning (record e { act = a })) said)
-
-      cleaning-is : (st : Stage) → is_cleaning st ≡ true → st ≡ Stage.Cleaning
-      cleaning-is Stage.Cleaning h = refl
-      cleaning-is Stage.Free h = absurd (false≢true h)
-      cleaning-is Stage.Live h = absurd (false≢true h)
-      cleaning-is Stage.Dying h = absurd (false≢true h)
-
-      by : (b : Bool) → (z == x) ≡ b → CleanersAre later m x
-      by true k =
+      by : (b : Bool) → (z == x) ≡ b → e.act ≡ FineAct.Unseen Unseen.Vacate → e.site ≡ Site.row z → CleanersAre later m x
+      by true k said site =
           let on = ap (λ i. same_site i (Site.row x)) site ∙ k in
           let word = row-here on (FineAct.Unseen Unseen.Vacate) said in
           let takes = and_parts (is_cleaning (row f x).stage) _ (row-takes-it on (FineAct.Unseen Unseen.Vacate) said) in
           let sum = vac-sum (Todo.vacate z) todo at tt in
           let one = ap one_if (eqb-swap x z ∙ k) in
-          let none = quiet in
-          vacated m (omega (arith, sum, one, none)) (rec-same (Todo.vacate z) todo at tt refl quiet) (ap (λ (w : RowWord). w.stage) word) (cleaning-is (row f x).stage takes.0) refl
-      by false k = elsewhere m (Todo.vacate z) todo at tt (eqb-swap x z ∙ k) refl (ap (λ i. same_site i (Site.row x)) site ∙ k) refl
+          let none = no-gain (ap (λ a. begins_cleaning (record e { act = a })) said) in
+          vacated m (omega (arith, sum, one, none)) (rec-same (Todo.vacate z) todo at tt refl none) (ap (λ (w : RowWord). w.stage) word) (cleaning-is (row f x).stage takes.0) refl
+      by false k said site = elsewhere m (Todo.vacate z) todo at tt (eqb-swap x z ∙ k) refl (ap (λ i. same_site i (Site.row x)) site ∙ k) refl
 
   -- A permission is dropped.
   pub drop-case : (s : State) (who : ThreadIx) (addr : Addr) (left : Leftover) (y t : ℕ) (more : More) (q : Todo) (todo : Todos) → p.todo ≡ q ∷ todo → ReadsLast e q todo

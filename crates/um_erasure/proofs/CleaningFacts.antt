@@ -7,6 +7,7 @@ use Rattle.um_base.specs.declared.act.Leftover.{Leftover}
 use Rattle.um_base.specs.declared.image.Image.{Image}
 use Rattle.um_machine.specs.declared.object.Object.{Object}
 use Rattle.um_machine.specs.declared.object.Status.{Status}
+use Rattle.um_machine.specs.declared.pending.Pending.{Pending}
 use Rattle.um_machine.specs.State.{State, object_at, vacant, with_object}
 use Rattle.um_machine.specs.Table as T
 use Rattle.um_words.specs.declared.fine.FineAct.{FineAct}
@@ -86,3 +87,12 @@ pub ends-free : (st : Stage) (b : Bool) → is_free (if is_dying st && b then St
 ends-free Stage.Dying true = refl
 ends-free Stage.Dying false = refl
 ends-free st b = refl
+
+-- an object comes to live
+abbrev pub is_birth : Pending → Bool
+is_birth (Pending.Born a) = true
+is_birth q = false
+
+pub cleaning-is : (st : Stage) → is_cleaning st ≡ true → st ≡ Stage.Cleaning
+cleaning-is Stage.Cleaning h = refl
+cleaning-is st h = absurd (false≢true h)

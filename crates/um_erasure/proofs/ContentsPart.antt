@@ -122,17 +122,11 @@ module _ (f : Fine) (m : State) (e : FineStep) (law : Lawful f m e) (suits : Sui
 
   -- the cell is cleared
   wipes : (z : ℕ) (todo : Todos) → p.todo ≡ Todo.wipe z ∷ todo → Result m
-  wipes z todo at = by (x == z) refl
+  wipes z todo at = by (x == z) refl (made-says f m e law (Todo.wipe z ∷ todo) at) (ap (λ i. same_site i (Site.object x)) (made-at f m e law (Todo.wipe z ∷ todo) at))
     where
-      said : e.act ≡ FineAct.Unseen Unseen.Wipe
-      said = made-says f m e law (Todo.wipe z ∷ todo) at
-
-      site : same_site e.site (Site.object x) ≡ (z == x)
-      site = ap (λ i. same_site i (Site.object x)) (made-at f m e law (Todo.wipe z ∷ todo) at)
-
-      by : (b : Bool) → (x == z) ≡ b → Result m
-      by false k = beside m (Todo.wipe z) todo at tt k refl (cell-else f m e law x few (site ∙ (eqb-swap z x ∙ k))) refl (λ h. h)
-      by true k =
+      by : (b : Bool) → (x == z) ≡ b → e.act ≡ FineAct.Unseen Unseen.Wipe → same_site e.site (Site.object x) ≡ (z == x) → Result m
+      by false k said site = beside m (Todo.wipe z) todo at tt k refl (cell-else f m e law x few (site ∙ (eqb-swap z x ∙ k))) refl (λ h. h)
+      by true k said site =
           let wipes = wipe-sum f m e law x few (Todo.wipe z) todo at tt in
           let recs = rec-sum f m e law x few (Todo.wipe z) todo at tt in
           let one = ap one_if k in
@@ -331,9 +325,6 @@ module _ (f : Fine) (m : State) (e : FineStep) (law : Lawful f m e) (suits : Sui
       q : Pending
       q = Pending.Reserve kind
 
-      some-not : suc n ≡ 0 → ⊥
-      some-not z = omega (arith, z)
-
       me : Thread
       me = thread_at m p.context.thread
 
@@ -353,7 +344,7 @@ module _ (f : Fine) (m : State) (e : FineStep) (law : Lawful f m e) (suits : Sui
           record { whole = λ z. cell ∙ (empty ∙ sym now); cleared = λ z. cell ∙ empty; vacant = λ z. cell ∙ empty }
 
       by-choice : MayChoose m p.context.thread (suc n) (Pending.Reserve kind) → Result (T.after m p.context.thread (suc n) q rest)
-      by-choice (inr none) = absurd (some-not none.0)
+      by-choice (inr none) = let no = none.0 in absurd (omega (arith, no))
       by-choice (inl pays) = by (and_parts _ (Plain.is_free (object_at m (suc n)).status) pays.1).1 (suc n == x) refl
 
   by-event : (q : Pending) (rest : Steps) (todo : Todos) (n : ℕ) → Shows f m e.cpu e q rest todo → IsShown q → IsStep f m e.cpu e n q → Result (T.after m p.context.thread n q rest)

@@ -53,6 +53,7 @@ use Rattle.um_erasure.proofs.PartsElsewhere.{Apart, IsTaken, apart-from, of-stay
 use Rattle.um_erasure.proofs.PlacesFacts.{adds-count, lies-here, lies-once, lies-unparked, running-unparked, set-none}
 use Rattle.um_erasure.proofs.RunningPart.{is_scheduling, todo-elsewhere}
 use Rattle.um_erasure.proofs.SchedulerSteps.{made-at, made-moves, made-says, sched-else, sched-later}
+use Rattle.um_erasure.proofs.StepReads.{behind_first, shows_first}
 use Rattle.um_erasure.proofs.StepsLeft.{rests-on, steps-on}
 use Rattle.um_erasure.proofs.ThreadLists.{at-here, set-else}
 
@@ -471,22 +472,14 @@ module _ (f : Fine) (m : State) (e : FineStep) (law : Lawful f m e) where
             list : Adds c todo
             list = behind (Todo.show q rest) todo at (shows-last q rest todo at)
 
-            tail : Todos → Todos
-            tail [] = []
-            tail (r ∷ more) = more
-
-            head-shows : Todos → Bool
-            head-shows (Todo.show r more ∷ rest) = true
-            head-shows rest = false
-
             by-leaves : (z : State) → Leaves f m e z → IsAdded z c
             by-leaves _ (nothing u said) = absurd (subst (Adds c) (shows-last q rest todo at (read-only q (made-says f m e law (Todo.show q rest ∷ todo) at) (ap is_shown said))) list)
-            by-leaves _ (event r more later-todo x h shown is) = shown-adds x r more later-todo h c (subst (Adds c) (ap tail (sym at ∙ h.at)) list)
+            by-leaves _ (event r more later-todo x h shown is) = shown-adds x r more later-todo h c (subst (Adds c) (ap behind_first (sym at ∙ h.at)) list)
             by-leaves _ (resumes d told more idle moved said) = absurd (not-idle (Todo.show q rest) todo at idle)
-            by-leaves _ (passes who x more l h said) = absurd (true≢false (ap head-shows (sym at ∙ h.at)))
-            by-leaves _ (drops from x more l h said) = absurd (true≢false (ap head-shows (sym at ∙ h.at)))
-            by-leaves _ (cleans who x more l h said) = absurd (true≢false (ap head-shows (sym at ∙ h.at)))
-            by-leaves _ (recycles x more l there few said chosen) = absurd (true≢false (ap head-shows (sym at ∙ there)))
+            by-leaves _ (passes who x more l h said) = absurd (true≢false (ap shows_first (sym at ∙ h.at)))
+            by-leaves _ (drops from x more l h said) = absurd (true≢false (ap shows_first (sym at ∙ h.at)))
+            by-leaves _ (cleans who x more l h said) = absurd (true≢false (ap shows_first (sym at ∙ h.at)))
+            by-leaves _ (recycles x more l there few said chosen) = absurd (true≢false (ap shows_first (sym at ∙ there)))
 
         by : (todo : Todos) → p.todo ≡ todo → IsAdded s c
         by [] at = absurd (takes-none f.image p e c at adds)

@@ -47,6 +47,7 @@ use Rattle.um_erasure.proofs.CellSteps.{takes-quiet}
 use Rattle.um_erasure.proofs.CleanersPart.{cleaners-part, visit-is}
 use Rattle.um_erasure.proofs.CleanersSteps.{gain, recycles-gain, row-here, word-here}
 use Rattle.um_erasure.proofs.CleanSteps.{OwnRows}
+use Rattle.um_erasure.proofs.CleaningFacts.{is_birth}
 use Rattle.um_erasure.proofs.Erased.{around, later}
 use Rattle.um_erasure.proofs.FirstThreads.{one-most}
 use Rattle.um_erasure.proofs.HeldRows.{checked-claimed, claimed-kept}
@@ -106,12 +107,8 @@ live-gone Status.Free l g = false≢true l
 live-gone Status.Reserved l g = false≢true l
 live-gone Status.Gone l g = false≢true l
 
--- a thread that is offered a step of its own keeps its object
-abbrev is_own_step : Pending → Bool
-is_own_step (Pending.Born a) = true
-is_own_step q = false
-
-keeps-own : (m : State) → IsKnown (core_of m) → (t : ℕ) (q : Pending) (rest : Steps) → Offers m t q rest → is_own_step q ≡ true → (call_at (core_of m) t).keeps ≡ true
+-- a thread that is offered the birth of an object keeps its own
+keeps-own : (m : State) → IsKnown (core_of m) → (t : ℕ) (q : Pending) (rest : Steps) → Offers m t q rest → is_birth q ≡ true → (call_at (core_of m) t).keeps ≡ true
 keeps-own m known t q rest (goes e) h = keeps_now m t q rest known e
 keeps-own m known t q rest (skips_inherit {who} e due) h = keeps_now m t (Pending.Inherit who) (q ∷ rest) known e
 keeps-own m known t q rest (skips_drops {from} e due) h = keeps_now m t (Pending.Drops from) (q ∷ rest) known e

@@ -8,7 +8,7 @@ use Rattle.um_base.specs.declared.names.Mode.{Mode}
 use Rattle.um_base.specs.declared.names.Reply.{Reply}
 use Rattle.um_machine.specs.declared.pending.Pending.{Pending}
 use Rattle.um_machine.specs.declared.pending.Refusal.{Refusal}
-use Rattle.um_machine.specs.Order.{Steps, copy_fails}
+use Rattle.um_machine.specs.Order.{Steps, copy_fails, privileged}
 use Rattle.um_machine.specs.State.{State}
 use Rattle.um_machine.specs.Table as T
 
@@ -34,6 +34,10 @@ module _ (P : Steps → Type 0) (holds : HoldsOfFailures P) where
   refused-left Mode.Supervisor rest Refusal.FailsUser e = holds.answer Reply.Void
   refused-left mode rest (Refusal.Answers reply) e = holds.answer reply
 
+  pub privileged-left : (mode : Mode) (steps : Steps) → P steps → P (privileged mode steps)
+  privileged-left Mode.User steps h = holds.fatal _ _
+  privileged-left Mode.Supervisor steps h = h
+
   pub check-left : (mode : Mode) (rest : Steps) (refusal : Refusal) (v : Option Errno) → P rest → P (T.after_check mode rest refusal v)
   check-left mode rest refusal None h = h
   check-left mode rest refusal (Some e) h = refused-left mode rest refusal e
@@ -46,7 +50,11 @@ module _ (P : Steps → Type 0) (holds : HoldsOfFailures P) where
   error-left mode (Ask.PipeInit size pool) e rest h = holds.unbuffer _ _ _
   error-left mode ask e rest h = h
 
--- one of two states
+-- one of two lists, and one of two states
+pub either-steps : (P : Steps → Type 0) (b : Bool) (one two : Steps) → P one → P two → P (if b then one else two)
+either-steps P true one two h k = h
+either-steps P false one two h k = k
+
 pub either-state : (P : State → Type 0) (b : Bool) (s1 s2 : State) → P s1 → P s2 → P (if b then s1 else s2)
 either-state P true s1 s2 h k = h
 either-state P false s1 s2 h k = k

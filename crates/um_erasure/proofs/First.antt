@@ -34,13 +34,7 @@ none-some {A} h = subst is-none h tt
 module _ (image : Image) where
   sort-first : (i : Site) → IsTrue (is_sort i (s_start image i))
   sort-first (Site.row x) = refl
-  sort-first (Site.thread t) = refl
-  sort-first (Site.domain d) = refl
-  sort-first (Site.object x) = refl
-  sort-first (Site.parts d) = refl
-  sort-first Site.memory = refl
-  sort-first Site.heap = refl
-  sort-first Site.scheduler = refl
+  sort-first i = refl
 
   sort-ends : (i : Site) (h : List FineStep) (s : _) → IsTrue (is_sort i s) → IsTrue (is_sort i (ends (s_next image) s h))
   sort-ends i [] s is = is

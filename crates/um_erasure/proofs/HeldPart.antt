@@ -14,7 +14,7 @@ use Rattle.um_words.specs.declared.thread_word.ThreadWord.{ThreadWord}
 use Rattle.um_words.specs.Threads.{thread_after, thread_after_act, thread_takes}
 use Rattle.um_fine.specs.Answers.{is_visit, is_word_read}
 use Rattle.um_fine.specs.Asks.{begins, begins_cleaning, says, says_idle, says_show, shows}
-use Rattle.um_fine.specs.Follows.{filled_up, goes_on_by, p_next, with_cleaned}
+use Rattle.um_fine.specs.Follows.{goes_on_by, p_next, with_cleaned}
 use Rattle.um_fine.specs.Places.{Todo, Todos}
 use Rattle.um_fine.specs.Processor.{Processor}
 use Rattle.um_fine.specs.Sites.{SiteState, s_next, same_site, site_after, site_takes}
@@ -146,21 +146,32 @@ module _ (f : Fine) (m : State) (e : FineStep) (law : Lawful f m e) (t : ℕ) (f
   holding : (z : Processor) → has_steps z.todo ≡ true → grip z.todo ≡ true → one_if (holds z) ≡ one_if (z.context.thread == t)
   holding z s g = ap one_if (holds-as z true true s g ∙ and-true (z.context.thread == t))
 
+  -- a hold, or its end: where the word of the thread is, and what it and the list are then
+  record IsGrip (q : Todo) (todo : Todos) (u : Unseen) : Type 0 where
+    list : (p_next f.image p e).todo ≡ (goes_on_by f.image p e (q ∷ todo)).todo
+    here : (p.context.thread == t) ≡ true → (thread_takes (word f t) (FineAct.Unseen u) ≡ true) × ((word later t).held ≡ (thread_after (word f t) (FineAct.Unseen u)).held)
+    other : (p.context.thread == t) ≡ false → (word later t).held ≡ (word f t).held
+
+  grip-made : (q : Todo) (todo : Todos) (u : Unseen) → p.todo ≡ q ∷ todo → e.act ≡ FineAct.Unseen u → e.site ≡ Site.thread p.context.thread
+      → begins_cleaning (record e { act = FineAct.Unseen u }) ≡ false → IsGrip q todo u
+  grip-made q todo u at said site quiet =
+      record {
+        list =
+            ap (λ b. (with_cleaned f.image (goes_on_by f.image p e p.todo) e b).todo) (ap (λ a. begins_cleaning (record e { act = a })) said ∙ quiet)
+            ∙ ap (λ (z : Todos). (goes_on_by f.image p e z).todo) at;
+        here = λ q. (
+          takes-here p.context.thread (FineAct.Unseen u) site said (eqb-true p.context.thread t q),
+          word-here (ap (λ i. same_site i (Site.thread t)) site ∙ q) ∙ ap (λ a. (thread_after (word f t) a).held) said,
+        );
+        other = λ q. word-else (ap (λ i. same_site i (Site.thread t)) site ∙ q);
+      }
+
   -- the thread is held
   takes-hold : (todo : Todos) → p.todo ≡ Todo.hold ∷ todo → HeldIs later t
   takes-hold todo at = by (p.context.thread == t) refl (shape (frame Todo.hold todo at))
     where
-      said : e.act ≡ FineAct.Unseen Unseen.Hold
-      said = made-says f m e law (Todo.hold ∷ todo) at
-
-      site : e.site ≡ Site.thread p.context.thread
-      site = made-at f m e law (Todo.hold ∷ todo) at
-
-      quiet : begins_cleaning e ≡ false
-      quiet = ap (λ a. begins_cleaning (record e { act = a })) said
-
-      list : (p_next f.image p e).todo ≡ todo
-      list = ap (λ b. (with_cleaned f.image (goes_on_by f.image p e p.todo) e b).todo) quiet ∙ ap (λ (z : Todos). (goes_on_by f.image p e z).todo) at
+      made : IsGrip Todo.hold todo Unseen.Hold
+      made = grip-made Todo.hold todo Unseen.Hold at (made-says f m e law (Todo.hold ∷ todo) at) (made-at f m e law (Todo.hold ∷ todo) at) refl
 
       same : (p_next f.image p e).context.thread ≡ p.context.thread
       same = next-thread f.image p e Todo.hold todo at refl
@@ -176,32 +187,22 @@ module _ (f : Fine) (m : State) (e : FineStep) (law : Lawful f m e) (t : ℕ) (f
       by b q h = which b q
         where
           after : (b : Bool) → (p.context.thread == t) ≡ b → one_if (holds (p_next f.image p e)) ≡ one_if b
-          after b q = holding (p_next f.image p e) (ap has_steps list ∙ h.0) (ap grip list ∙ h.1) ∙ ap one_if (ap (λ n. n == t) same ∙ q)
+          after b q = holding (p_next f.image p e) (ap has_steps made.list ∙ h.0) (ap grip made.list ∙ h.1) ∙ ap one_if (ap (λ n. n == t) same ∙ q)
 
           which : (b : Bool) → (p.context.thread == t) ≡ b → HeldIs later t
           which true q =
               let sums = counts 0 1 before (after true q) in
-              let free = not-true _ (takes-here p.context.thread (FineAct.Unseen Unseen.Hold) site said (eqb-true p.context.thread t q)) in
-              let first = sym (ap one_if free) ∙ was in
-              let now = ap one_if (word-here (ap (λ i. same_site i (Site.thread t)) site ∙ q) ∙ ap (λ a. (thread_after (word f t) a).held) said) in
+              let first = sym (ap one_if (not-true _ (made.here q).0)) ∙ was in
+              let now = ap one_if (made.here q).1 in
               record { held = omega (arith, sums, first, now) }
-          which false q = still (after false q ∙ sym before) (word-else (ap (λ i. same_site i (Site.thread t)) site ∙ q))
+          which false q = still (after false q ∙ sym before) (made.other q)
 
   -- the hold ends
   lets-go : (todo : Todos) → p.todo ≡ Todo.let_go ∷ todo → HeldIs later t
   lets-go todo at = by (p.context.thread == t) refl (shape (frame Todo.let_go todo at))
     where
-      said : e.act ≡ FineAct.Unseen Unseen.LetGo
-      said = made-says f m e law (Todo.let_go ∷ todo) at
-
-      site : e.site ≡ Site.thread p.context.thread
-      site = made-at f m e law (Todo.let_go ∷ todo) at
-
-      quiet : begins_cleaning e ≡ false
-      quiet = ap (λ a. begins_cleaning (record e { act = a })) said
-
-      list : (p_next f.image p e).todo ≡ filled_up f.image p.context todo
-      list = ap (λ b. (with_cleaned f.image (goes_on_by f.image p e p.todo) e b).todo) quiet ∙ ap (λ (z : Todos). (goes_on_by f.image p e z).todo) at
+      made : IsGrip Todo.let_go todo Unseen.LetGo
+      made = grip-made Todo.let_go todo Unseen.LetGo at (made-says f m e law (Todo.let_go ∷ todo) at) (made-at f m e law (Todo.let_go ∷ todo) at) refl
 
       shape : Behind f.image Todo.let_go todo → (grip (Todo.let_go ∷ todo) ≡ true) × (grip todo ≡ false)
       shape (inl h) = (ap (λ (z : Todos). grip (Todo.let_go ∷ z)) h, ap grip h)
@@ -214,16 +215,15 @@ module _ (f : Fine) (m : State) (e : FineStep) (law : Lawful f m e) (t : ℕ) (f
           before b q = holding p (ap has_steps at) (ap grip at ∙ h.0) ∙ ap one_if q
 
           after : one_if (holds (p_next f.image p e)) ≡ 0
-          after = not-holding (p_next f.image p e) (ap grip list ∙ (filled-grip f.image p.context todo ∙ h.1))
+          after = not-holding (p_next f.image p e) (ap grip made.list ∙ (filled-grip f.image p.context todo ∙ h.1))
 
           which : (b : Bool) → (p.context.thread == t) ≡ b → HeldIs later t
           which true q =
               let sums = counts 1 0 (before true q) after in
-              let there = takes-here p.context.thread (FineAct.Unseen Unseen.LetGo) site said (eqb-true p.context.thread t q) in
-              let first = sym (ap one_if there) ∙ was in
-              let now = ap one_if (word-here (ap (λ i. same_site i (Site.thread t)) site ∙ q) ∙ ap (λ a. (thread_after (word f t) a).held) said) in
+              let first = sym (ap one_if (made.here q).0) ∙ was in
+              let now = ap one_if (made.here q).1 in
               record { held = omega (arith, sums, first, now) }
-          which false q = still (after ∙ sym (before false q)) (word-else (ap (λ i. same_site i (Site.thread t)) site ∙ q))
+          which false q = still (after ∙ sym (before false q)) (made.other q)
 
   -- any other step
   goes-on : (q : Todo) (todo : Todos) → p.todo ≡ q ∷ todo → is_gripping q ≡ false → is_end q ≡ false → ReadsLast e q todo → HeldIs later t

@@ -45,6 +45,7 @@ use Rattle.um_erasure.proofs.PlacesFacts.{set-none}
 use Rattle.um_erasure.proofs.ResumeSteps.{some-is}
 use Rattle.um_erasure.proofs.RunningPart.{todo-elsewhere}
 use Rattle.um_erasure.proofs.SchedulerSteps.{made-at, made-moves, made-says, sched-else, sched-later}
+use Rattle.um_erasure.proofs.StepReads.{behind_first, shows_first}
 use Rattle.um_erasure.proofs.StepsLeft.{drops-on, passes-on, rests-on}
 use Rattle.um_erasure.proofs.Sums.{over-changed}
 
@@ -193,14 +194,6 @@ module _ (f : Fine) (m : State) (e : FineStep) (law : Lawful f m e) (s : State) 
   shows : (q : Pending) (rest : Steps) (todo : Todos) → p.todo ≡ Todo.show q rest ∷ todo → rests later ≡ rests f → places later t ≤ 1
   shows q rest todo at same = by s leaves
     where
-      tail : Todos → Todos
-      tail [] = []
-      tail (r ∷ more) = more
-
-      is-show : Todos → Bool
-      is-show (Todo.show r more ∷ todo) = true
-      is-show todo = false
-
       plain : of_thread t (adders todo) ≡ 0 → places later t ≤ 1
       plain none = goes-on (Todo.show q rest) todo at refl (omega (arith, none)) same
 
@@ -226,12 +219,12 @@ module _ (f : Fine) (m : State) (e : FineStep) (law : Lawful f m e) (s : State) 
           plain (ap (λ (z : Todos). of_thread t (adders z))
           ((subst (Fits f.image p.context) at (law.rel.processors e.cpu law.by.named).list.fits).1
           ∙ read-rests f.image p p.context q e.act (made-says f m e law (Todo.show q rest ∷ todo) at) (read-only f m e law q (made-says f m e law (Todo.show q rest ∷ todo) at) (ap is_shown said))))
-      by _ (event r more later-todo x h shown is) = started r more x (subst (λ (z : Todos). Shows f m e.cpu e r more z) (ap tail (sym h.at ∙ at)) h)
+      by _ (event r more later-todo x h shown is) = started r more x (subst (λ (z : Todos). Shows f m e.cpu e r more z) (ap behind_first (sym h.at ∙ at)) h)
       by _ (resumes c told more idle moved said) = absurd (true≢false (ap has_steps (sym at ∙ idle)))
-      by _ (passes who x more l h said) = absurd (true≢false (ap is-show (sym at ∙ h.at)))
-      by _ (drops from x more l h said) = absurd (true≢false (ap is-show (sym at ∙ h.at)))
-      by _ (cleans who x more l h said) = absurd (true≢false (ap is-show (sym at ∙ h.at)))
-      by _ (recycles x more l there few said chosen) = absurd (true≢false (ap is-show (sym at ∙ there)))
+      by _ (passes who x more l h said) = absurd (true≢false (ap shows_first (sym at ∙ h.at)))
+      by _ (drops from x more l h said) = absurd (true≢false (ap shows_first (sym at ∙ h.at)))
+      by _ (cleans who x more l h said) = absurd (true≢false (ap shows_first (sym at ∙ h.at)))
+      by _ (recycles x more l there few said chosen) = absurd (true≢false (ap shows_first (sym at ∙ there)))
 
   -- a thread is taken
   takes : p.todo ≡ [] → places later t ≤ 1

@@ -21,7 +21,7 @@ use Rattle.um_words.specs.declared.fine.More.{More}
 use Rattle.um_words.specs.declared.fine.Unseen.{Unseen}
 use Rattle.um_words.specs.declared.row_word.RowWord.{RowWord}
 use Rattle.um_words.specs.declared.row_word.Stage.{Stage}
-use Rattle.um_words.specs.Rows.{dropped, given_of, gone_stage, has, is_cleaning, is_free, is_last, is_live, permitted, row_after, row_after_act, row_after_unseen, row_takes_unseen}
+use Rattle.um_words.specs.Rows.{dropped, given_of, gone_stage, has, is_free, is_last, is_live, permitted, row_after, row_after_act, row_after_unseen, row_takes_unseen}
 use Rattle.um_fine.specs.Addresses.{row_named}
 use Rattle.um_fine.specs.Answers.{act_in, given_in}
 use Rattle.um_fine.specs.Places.{Todos}
@@ -30,7 +30,7 @@ use Rattle.um_fine.specs.Steps.{FineStep, Site}
 use Rattle.um_fine.proofs.Keys.{same-sound}
 use Rattle.um_erasure.specs.Fine.{Fine, row, row_state}
 use Rattle.um_erasure.specs.Objects.{PairsAre, is_reserved, status_of}
-use Rattle.um_erasure.proofs.CleaningFacts.{ends-free}
+use Rattle.um_erasure.proofs.CleaningFacts.{cleaning-is, ends-free}
 use Rattle.um_erasure.proofs.Erased.{around}
 use Rattle.um_erasure.proofs.Leaves.{Lawful, Leaves, cleans, drops, event, mine, nothing, passes, recycles, resumes}
 use Rattle.um_erasure.proofs.ObjectsKept.{born-reserved, unlived-dynamic, unlived-none}
@@ -181,12 +181,6 @@ module _ (f : Fine) (m : State) (e : FineStep) (law : Lawful f m e) (x : ℕ) (f
   drops-else s who y z pairs same ne = dropped-else s who z x (λ k. ne (k ∙ same)) ∙ ap (λ (ps : List (List Bool)). slice_index_or ps x []) pairs
 
   -- A step that no trace shows: a row is vacated only where nobody has a permission on it.
-
-  cleaning-is : (s : Stage) → is_cleaning s ≡ true → s ≡ Stage.Cleaning
-  cleaning-is Stage.Cleaning h = refl
-  cleaning-is Stage.Free h = absurd (false≢true h)
-  cleaning-is Stage.Live h = absurd (false≢true h)
-  cleaning-is Stage.Dying h = absurd (false≢true h)
 
   quiet-has : (u : Unseen) → row_takes_unseen (row f x) u ≡ true → Has (row_after_unseen (row f x) u) (slice_index_or m.pairs x []) x
   quiet-has Unseen.EndCall h =

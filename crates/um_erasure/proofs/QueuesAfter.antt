@@ -42,7 +42,7 @@ use Rattle.um_invariants.proofs.Turns.{IsKnown, passed, row_has, row_is}
 use Rattle.um_erasure.proofs.CallsProper.{passed-held}
 use Rattle.um_erasure.proofs.Failures.{HoldsOfFailures, copy-left, either-state, error-left, fails-left, refused-left}
 use Rattle.um_erasure.proofs.QueueSteps.{Queued, queue-kind, queue_checked, queued-steps}
-use Rattle.um_erasure.proofs.ThreadKeys.{Ignores, key-same, keys, keys-bytes, keys-dropped, keys-erased, keys-given, keys-moved, keys-paired, keys-set, keys-woken}
+use Rattle.um_erasure.proofs.ThreadKeys.{AreAlike, Ignores, key-same, keys-bytes, keys-dropped, keys-erased, keys-given, keys-moved, keys-paired, keys-set, keys-woken}
 
 module _ (image : Image) (IsOne : ℕ → Type 0) where
   -- the row that a call knows to be a queue is one of queues, the call holds its object, and that is a queue
@@ -114,11 +114,7 @@ module _ (m : State) (t x : ℕ) (IsOne : ℕ → Type 0) (all : AreQueued m.ima
   offered-queued _ _ (cleans_pair started) = tt
   offered-queued _ _ (recycles started) = tt
 
-  -- a state with the same calls
-  abbrev Alike : State → Type 0
-  Alike s = keys call_of s ≡ keys call_of m
-
-  keeps : (s : State) → Alike s → All s
+  keeps : (s : State) → AreAlike call_of m s → All s
   keeps s e u = subst (IsQueued m.image IsOne) (sym (key-same call_of m s e u)) (all u)
 
   -- the thread is written
@@ -126,7 +122,7 @@ module _ (m : State) (t x : ℕ) (IsOne : ℕ → Type 0) (all : AreQueued m.ima
   set s was v th new u = at_set (λ n (z : Thread). IsQueued m.image IsOne (call_of z)) s.threads v u th nobody new (was u)
 
   -- it goes on with steps that need no queue
-  bare : (s : State) → Alike s → (th : Thread) (rest : Steps) → Queued m.image None rest → All (T.goes_on s t th rest)
+  bare : (s : State) → AreAlike call_of m s → (th : Thread) (rest : Steps) → Queued m.image None rest → All (T.goes_on s t th rest)
   bare s e th rest h = set s (keeps s e) t (T.at_steps s.image th rest) (record { known = None; holds = tt; steps = h })
 
   either : (b : Bool) (s1 s2 : State) → All s1 → All s2 → All (if b then s1 else s2)
@@ -160,24 +156,24 @@ module _ (m : State) (t x : ℕ) (IsOne : ℕ → Type 0) (all : AreQueued m.ima
       by true = tt
       by false = tt
 
-  published : (y : ℕ) (b : Bool) → Alike (if b then m else with_object m y (record (object_at m y) { public = true }))
+  published : (y : ℕ) (b : Bool) → AreAlike call_of m (if b then m else with_object m y (record (object_at m y) { public = true }))
   published y true = refl
   published y false = refl
 
   module _ (known : Option ℕ) (holds : Holds m.image IsOne me.checked known) where
     -- it goes on with steps of a call that knows this row
-    on : (s : State) → Alike s → (th : Thread) (rest : Steps) → th.checked ≡ me.checked → Queued m.image known rest → All (T.goes_on s t th rest)
+    on : (s : State) → AreAlike call_of m s → (th : Thread) (rest : Steps) → th.checked ≡ me.checked → Queued m.image known rest → All (T.goes_on s t th rest)
     on s e th rest checked h =
         set s (keeps s e) t (T.at_steps s.image th rest) (record { known = known; holds = subst (λ (held : List Bool). Holds m.image IsOne held known) (sym checked) holds; steps = h })
 
     -- it is the thread of a state with the same calls
-    there : (s : State) → Alike s → (rest : Steps) → Queued m.image known rest → All (T.goes_on s t (thread_at s t) rest)
+    there : (s : State) → AreAlike call_of m s → (rest : Steps) → Queued m.image known rest → All (T.goes_on s t (thread_at s t) rest)
     there s e rest h = on s e (thread_at s t) rest (ap (λ (c : Call). c.checked) (key-same call_of m s e t)) h
 
     without-copy : (rest : Steps) → Queued m.image known rest → Queued m.image known (T.without_copy rest)
     without-copy = copy-left (Queued m.image known) (λ a rest h. h)
 
-    answers : (s : State) → Alike s → (ask : Ask) (taken : List ℕ) (rest : Steps) (answer : Answer) → Queued m.image known rest
+    answers : (s : State) → AreAlike call_of m s → (ask : Ask) (taken : List ℕ) (rest : Steps) (answer : Answer) → Queued m.image known rest
         → All (T.after_answer s t (thread_at s t) ask taken rest answer)
     answers s e ask taken rest answer h = by answer
       where
@@ -240,7 +236,7 @@ module _ (m : State) (t x : ℕ) (IsOne : ℕ → Type 0) (all : AreQueued m.ima
       s3 : State
       s3 = T.all_woken w.woken s
 
-      same : Alike s3
+      same : AreAlike call_of m s3
       same = keys-woken call_of ignores w.woken s
 
       Goal : Answer → Type 0

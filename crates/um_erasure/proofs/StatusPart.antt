@@ -43,7 +43,7 @@ use Rattle.um_erasure.specs.Objects.{StatusIs, is_reserved, recyclers, status_of
 use Rattle.um_erasure.proofs.CellSteps.{idle-count, recycles-cleared, takes-quiet}
 use Rattle.um_erasure.proofs.CleanersPart.{none-vacates, visit-is}
 use Rattle.um_erasure.proofs.CleanersSteps.{gain, no-gain, rec-sum, row-else, row-here, row-takes-it, vac-sum}
-use Rattle.um_erasure.proofs.CleaningFacts.{ends-free, left-gone, takes_last}
+use Rattle.um_erasure.proofs.CleaningFacts.{cleaning-is, ends-free, left-gone, takes_last}
 use Rattle.um_erasure.proofs.ContentsKept.{work-objects}
 use Rattle.um_erasure.proofs.DomainReads.{eqb-swap}
 use Rattle.um_erasure.proofs.DropSteps.{left-here}
@@ -86,12 +86,6 @@ live-is Stage.Live h = refl
 live-is Stage.Free h = absurd (false≢true h)
 live-is Stage.Dying h = absurd (false≢true h)
 live-is Stage.Cleaning h = absurd (false≢true h)
-
-cleaning-is : (st : Stage) → is_cleaning st ≡ true → st ≡ Stage.Cleaning
-cleaning-is Stage.Cleaning h = refl
-cleaning-is Stage.Free h = absurd (false≢true h)
-cleaning-is Stage.Live h = absurd (false≢true h)
-cleaning-is Stage.Dying h = absurd (false≢true h)
 
 status-free : (s : Status) → Plain.is_free s ≡ true → s ≡ Status.Free
 status-free Status.Free h = refl
@@ -363,38 +357,52 @@ module _ (f : Fine) (m : State) (e : FineStep) (law : Lawful f m e) (x : ℕ) (f
   used : (q : Pending) (rest : Steps) (todo : Todos) → Shows f m e.cpu e q rest todo → (act : FineAct) → e.act ≡ act → same_site e.site (Site.row x) ≡ true → row_takes (row f x) act ≡ not (is_free (row f x).stage) → is_free (row f x).stage ≡ false
   used q rest todo h act said on takes = not-true _ (sym takes ∙ row-takes-it f m e law x few on act said)
 
+  -- an event at the row of an object that it names: at another row it leaves the marks
+  at-named : (q : Pending) (a : Addr) (rest : Steps) (todo : Todos) (n : ℕ) → Shows f m e.cpu e q rest todo → IsStep f m e.cpu e n q → e.site ≡ Site.row (row_named f.image a)
+      → ((T.row_of m a == x) ≡ false → traits_of (object_at (T.after m p.context.thread n q rest) x) ≡ traits_of (object_at m x))
+      → (T.row_of m a ≡ x → same_site e.site (Site.row x) ≡ true → Result (T.after m p.context.thread n q rest)) → Result (T.after m p.context.thread n q rest)
+  at-named q a rest todo n h is site others here = by (row_named f.image a == x) refl
+    where
+      by : (b : Bool) → (row_named f.image a == x) ≡ b → Result (T.after m p.context.thread n q rest)
+      by false k = apart q rest todo n h is (row_named f.image a) site k (others (ap (λ r. r == x) (named-row f m law.rel a) ∙ k))
+      by true k = here (named-row f m law.rel a ∙ eqb-true (row_named f.image a) x k) (ap (λ i. same_site i (Site.row x)) site ∙ k)
+
+  -- a row that isn't free gets other marks, and its object what they say
+  marked : (q : Pending) (rest : Steps) (todo : Todos) (n : ℕ) → Shows f m e.cpu e q rest todo → IsStep f m e.cpu e n q → is_free (row f x).stage ≡ false → (w : RowWord) (o : Object)
+      → row later x ≡ counted_row w → object_at (T.after m p.context.thread n q rest) x ≡ o → w.stage ≡ (row f x).stage → o.status ≡ (object_at m x).status → o.kind ≡ (object_at m x).kind
+      → w.init ≡ o.init → w.public ≡ o.public → Result (T.after m p.context.thread n q rest)
+  marked q rest todo n h is free w o word object stage status kind init public =
+      let even = settled f m law.rel x few free in
+      let now = ap (λ (w : RowWord). w.stage) word ∙ stage in
+      let kept = ap (λ (o : Object). o.status) object ∙ status in
+      writes (T.after m p.context.thread n q rest) _ (rises q rest todo n h is) even (ap is_free now ∙ free)
+      (kept ∙ (was.status even ∙ sym (λ i. status_of (now i) (is_reserved (kept i)))))
+      (ap (λ (w : RowWord). w.init) word ∙ (init ∙ sym (ap (λ (o : Object). o.init) object)))
+      (ap (λ (w : RowWord). w.public) word ∙ (public ∙ sym (ap (λ (o : Object). o.public) object)))
+      (ap (λ (o : Object). o.kind) object ∙ (kind ∙ kind-there free))
+
   on-publish : (a : Addr) (rest : Steps) (todo : Todos) (n : ℕ) → Shows f m e.cpu e (Pending.Publish a) rest todo → IsStep f m e.cpu e n (Pending.Publish a)
       → Result (T.after m p.context.thread n (Pending.Publish a) rest)
-  on-publish a rest todo n h is = by-row (row_named f.image a == x) refl
+  on-publish a rest todo n h is = at-named (Pending.Publish a) a rest todo n h is (site-is h) (λ other. away other (Plain.is_gone (object_at m y).status)) here
     where
       y : ℕ
       y = T.row_of m a
 
-      q : Pending
-      q = Pending.Publish a
+      o : Object
+      o = record (object_at m y) { public = true }
 
       After-by : Bool → State
-      After-by b = T.goes_on (if b then m else with_object m y (record (object_at m y) { public = true })) p.context.thread (thread_at m p.context.thread) rest
+      After-by b = T.goes_on (if b then m else with_object m y o) p.context.thread (thread_at m p.context.thread) rest
 
-      away : (row_named f.image a == x) ≡ false → (b : Bool) → traits_of (object_at (After-by b) x) ≡ traits_of (object_at m x)
-      away k true = refl
-      away k false = other-row y (record (object_at m y) { public = true }) (ap (λ r. r == x) (named-row f m law.rel a) ∙ k)
+      away : (y == x) ≡ false → (b : Bool) → traits_of (object_at (After-by b) x) ≡ traits_of (object_at m x)
+      away other true = refl
+      away other false = other-row y o other
 
-      by-row : (b : Bool) → (row_named f.image a == x) ≡ b → Result (T.after m p.context.thread n q rest)
-      by-row false k = apart q rest todo n h is (row_named f.image a) (site-is h) k (away k (Plain.is_gone (object_at m y).status))
-      by-row true k = by-live (is_live (row f x).stage) refl
+      here : y ≡ x → same_site e.site (Site.row x) ≡ true → Result (T.after m p.context.thread n (Pending.Publish a) rest)
+      here at on = by-live (is_live (row f x).stage) refl
         where
-          at : y ≡ x
-          at = named-row f m law.rel a ∙ eqb-true (row_named f.image a) x k
-
-          on : same_site e.site (Site.row x) ≡ true
-          on = ap (λ i. same_site i (Site.row x)) (site-is h) ∙ k
-
           free : is_free (row f x).stage ≡ false
-          free = used q rest todo h _ is.said on refl
-
-          even : vacaters f x ≡ recyclers f x
-          even = settled f m law.rel x few free
+          free = used (Pending.Publish a) rest todo h _ is.said on refl
 
           gone : Plain.is_gone (object_at m y).status ≡ not (is_live (row f x).stage)
           gone = ap (λ r. Plain.is_gone (object_at m r).status) at ∙ Says.gone (stands f m law.rel x few free) (λ z. true≢false (sym (ap is_free z) ∙ free))
@@ -402,24 +410,18 @@ module _ (f : Fine) (m : State) (e : FineStep) (law : Lawful f m e) (x : ℕ) (f
           word-by : (b : Bool) → is_live (row f x).stage ≡ b → row later x ≡ counted_row (if b then record (row f x) { public = true } else row f x)
           word-by b z = row-here f m e law x few on _ is.said ∙ ap (λ c. counted_row (if c then record (row f x) { public = true } else row f x)) z
 
-          by-live : (b : Bool) → is_live (row f x).stage ≡ b → Result (T.after m p.context.thread n q rest)
+          by-live : (b : Bool) → is_live (row f x).stage ≡ b → Result (T.after m p.context.thread n (Pending.Publish a) rest)
           by-live false z =
-              beside (T.after m p.context.thread n q rest) (Todo.show q rest) todo h.at (last-shown q rest todo h.at) refl refl (ap marks_of (word-by false z))
+              beside (T.after m p.context.thread n (Pending.Publish a) rest) (Todo.show (Pending.Publish a) rest) todo h.at (last-shown (Pending.Publish a) rest todo h.at) refl refl (ap marks_of (word-by false z))
               (ap (λ b. traits_of (object_at (After-by b) x)) (gone ∙ ap not z))
           by-live true z =
-              let word = word-by true z in
-              let object : object_at (T.after m p.context.thread n q rest) x ≡ record (object_at m x) { public = true } =
-              ap (λ b. object_at (After-by b) x) (gone ∙ ap not z) ∙ (this-row y (record (object_at m y) { public = true }) at ∙ ap (λ r. record (object_at m r) { public = true }) at) in
-              let stage = ap (λ (w : RowWord). w.stage) word in
-              writes (T.after m p.context.thread n q rest) _ (rises q rest todo n h is) even (ap is_free stage ∙ free)
-              (ap (λ (o : Object). o.status) object ∙ (was.status even ∙ sym (λ i. status_of (stage i) (is_reserved (object i).status))))
-              (ap (λ (w : RowWord). w.init) word ∙ (was.init even ∙ sym (ap (λ (o : Object). o.init) object)))
-              (ap (λ (w : RowWord). w.public) word ∙ sym (ap (λ (o : Object). o.public) object))
-              (ap (λ (o : Object). o.kind) object ∙ kind-there free)
+              marked (Pending.Publish a) rest todo n h is free (record (row f x) { public = true }) (record (object_at m x) { public = true }) (word-by true z)
+              (ap (λ b. object_at (After-by b) x) (gone ∙ ap not z) ∙ (this-row y o at ∙ ap (λ r. record (object_at m r) { public = true }) at))
+              refl refl refl (was.init (settled f m law.rel x few free)) refl
 
   on-set : (a : Addr) (strict : Bool) (undo : Option Addr) (rest : Steps) (todo : Todos) (n : ℕ) → Shows f m e.cpu e (Pending.SetInit a strict undo) rest todo
       → IsStep f m e.cpu e n (Pending.SetInit a strict undo) → Result (T.after m p.context.thread n (Pending.SetInit a strict undo) rest)
-  on-set a strict undo rest todo n h is = by-row (row_named f.image a == x) refl
+  on-set a strict undo rest todo n h is = at-named q a rest todo n h is (site-is h) (λ other. away other (T.set_said (object_at m y) strict)) here
     where
       y : ℕ
       y = T.row_of m a
@@ -430,32 +432,16 @@ module _ (f : Fine) (m : State) (e : FineStep) (law : Lawful f m e) (x : ℕ) (f
       After-by : SetSaid → State
       After-by said = T.after_set m p.context.thread (thread_at m p.context.thread) a undo rest said
 
-      away : (row_named f.image a == x) ≡ false → (said : SetSaid) → traits_of (object_at (After-by said) x) ≡ traits_of (object_at m x)
-      away k SetSaid.Done = other-row y (record (object_at m y) { init = true }) (ap (λ r. r == x) (named-row f m law.rel a) ∙ k)
-      away k SetSaid.Gone = refl
-      away k (SetSaid.Fail error) = refl
+      away : (y == x) ≡ false → (said : SetSaid) → traits_of (object_at (After-by said) x) ≡ traits_of (object_at m x)
+      away other SetSaid.Done = other-row y (record (object_at m y) { init = true }) other
+      away other SetSaid.Gone = refl
+      away other (SetSaid.Fail error) = refl
 
-      says : set_in (act_in e.act) ≡ T.set_said (object_at m y) strict
-      says = ap set_in is.says
-
-      by-row : (b : Bool) → (row_named f.image a == x) ≡ b → Result (T.after m p.context.thread n q rest)
-      by-row false k = apart q rest todo n h is (row_named f.image a) (site-is h) k (away k (T.set_said (object_at m y) strict))
-      by-row true k = by-said (T.set_said (object_at m y) strict) refl
+      here : y ≡ x → same_site e.site (Site.row x) ≡ true → Result (T.after m p.context.thread n q rest)
+      here at on = by-said (T.set_said (object_at m y) strict) refl
         where
-          at : y ≡ x
-          at = named-row f m law.rel a ∙ eqb-true (row_named f.image a) x k
-
-          on : same_site e.site (Site.row x) ≡ true
-          on = ap (λ i. same_site i (Site.row x)) (site-is h) ∙ k
-
-          free : is_free (row f x).stage ≡ false
-          free = used q rest todo h _ is.said on refl
-
-          even : vacaters f x ≡ recyclers f x
-          even = settled f m law.rel x few free
-
           word-by : (said : SetSaid) → T.set_said (object_at m y) strict ≡ said → row later x ≡ counted_row (after_set (row f x) said)
-          word-by said z = row-here f m e law x few on _ is.said ∙ ap (λ v. counted_row (after_set (row f x) v)) (says ∙ z)
+          word-by said z = row-here f m e law x few on _ is.said ∙ ap (λ v. counted_row (after_set (row f x) v)) (ap set_in is.says ∙ z)
 
           same : (said : SetSaid) → T.set_said (object_at m y) strict ≡ said → marks_of (after_set (row f x) said) ≡ marks_of (row f x) → traits_of (object_at (After-by said) x) ≡ traits_of (object_at m x)
               → Result (T.after m p.context.thread n q rest)
@@ -467,83 +453,60 @@ module _ (f : Fine) (m : State) (e : FineStep) (law : Lawful f m e) (x : ℕ) (f
           by-said SetSaid.Gone z = same SetSaid.Gone z refl refl
           by-said (SetSaid.Fail error) z = same (SetSaid.Fail error) z refl refl
           by-said SetSaid.Done z =
-              let word = word-by SetSaid.Done z in
-              let object : object_at (T.after m p.context.thread n q rest) x ≡ record (object_at m x) { init = true } =
-              ap (λ v. object_at (After-by v) x) z ∙ (this-row y (record (object_at m y) { init = true }) at ∙ ap (λ r. record (object_at m r) { init = true }) at) in
-              let stage = ap (λ (w : RowWord). w.stage) word in
-              writes (T.after m p.context.thread n q rest) _ (rises q rest todo n h is) even (ap is_free stage ∙ free)
-              (ap (λ (o : Object). o.status) object ∙ (was.status even ∙ sym (λ i. status_of (stage i) (is_reserved (object i).status))))
-              (ap (λ (w : RowWord). w.init) word ∙ sym (ap (λ (o : Object). o.init) object))
-              (ap (λ (w : RowWord). w.public) word ∙ (was.public even ∙ sym (ap (λ (o : Object). o.public) object)))
-              (ap (λ (o : Object). o.kind) object ∙ kind-there free)
+              let free = used q rest todo h _ is.said on refl in
+              marked q rest todo n h is free (after_set (row f x) SetSaid.Done) (record (object_at m x) { init = true }) (word-by SetSaid.Done z)
+              (ap (λ v. object_at (After-by v) x) z ∙ (this-row y (record (object_at m y) { init = true }) at ∙ ap (λ r. record (object_at m r) { init = true }) at))
+              refl refl refl refl (was.public (settled f m law.rel x few free))
 
   on-clear : (a : Addr) (rest : Steps) (todo : Todos) (n : ℕ) → Shows f m e.cpu e (Pending.ClearInit a) rest todo → IsStep f m e.cpu e n (Pending.ClearInit a)
       → Result (T.after m p.context.thread n (Pending.ClearInit a) rest)
-  on-clear a rest todo n h is = by-row (row_named f.image a == x) refl
+  on-clear a rest todo n h is = at-named (Pending.ClearInit a) a rest todo n h is (site-is h) (other-row (T.row_of m a) o) here
     where
-      y : ℕ
-      y = T.row_of m a
-
-      q : Pending
-      q = Pending.ClearInit a
-
       o : Object
-      o = record (object_at m y) { init = false }
+      o = record (object_at m (T.row_of m a)) { init = false }
 
-      by-row : (b : Bool) → (row_named f.image a == x) ≡ b → Result (T.after m p.context.thread n q rest)
-      by-row false k = apart q rest todo n h is (row_named f.image a) (site-is h) k (other-row y o (ap (λ r. r == x) (named-row f m law.rel a) ∙ k))
-      by-row true k =
-          let at = named-row f m law.rel a ∙ eqb-true (row_named f.image a) x k in
-          let on = ap (λ i. same_site i (Site.row x)) (site-is h) ∙ k in
-          let free = used q rest todo h _ is.said on refl in
-          let even = settled f m law.rel x few free in
-          let word = row-here f m e law x few on _ is.said in
-          let object : object_at (T.after m p.context.thread n q rest) x ≡ record (object_at m x) { init = false } = this-row y o at ∙ ap (λ r. record (object_at m r) { init = false }) at in
-          let stage = ap (λ (w : RowWord). w.stage) word in
-          writes (T.after m p.context.thread n q rest) _ (rises q rest todo n h is) even (ap is_free stage ∙ free)
-          (ap (λ (o : Object). o.status) object ∙ (was.status even ∙ sym (λ i. status_of (stage i) (is_reserved (object i).status))))
-          (ap (λ (w : RowWord). w.init) word ∙ sym (ap (λ (o : Object). o.init) object))
-          (ap (λ (w : RowWord). w.public) word ∙ (was.public even ∙ sym (ap (λ (o : Object). o.public) object)))
-          (ap (λ (o : Object). o.kind) object ∙ kind-there free)
+      here : T.row_of m a ≡ x → same_site e.site (Site.row x) ≡ true → Result (T.after m p.context.thread n (Pending.ClearInit a) rest)
+      here at on =
+          let free = used (Pending.ClearInit a) rest todo h _ is.said on refl in
+          marked (Pending.ClearInit a) rest todo n h is free (record (row f x) { init = false }) (record (object_at m x) { init = false }) (row-here f m e law x few on _ is.said)
+          (this-row (T.row_of m a) o at ∙ ap (λ r. record (object_at m r) { init = false }) at)
+          refl refl refl refl (was.public (settled f m law.rel x few free))
 
   -- an object stands where it was reserved
   on-birth : (a : Addr) (rest : Steps) (todo : Todos) (n : ℕ) → Shows f m e.cpu e (Pending.Born a) rest todo → IsStep f m e.cpu e n (Pending.Born a)
       → Result (T.after m p.context.thread n (Pending.Born a) rest)
-  on-birth a rest todo n h is = by-row (row_named f.image a == x) refl
+  on-birth a rest todo n h is = at-named (Pending.Born a) a rest todo n h is (site-is h) (other-row y o) here
     where
       y : ℕ
       y = T.row_of m a
 
-      q : Pending
-      q = Pending.Born a
-
       o : Object
       o = record (object_at m y) { status = Status.Live }
+
+      After : State
+      After = T.after m p.context.thread n (Pending.Born a) rest
 
       reserved : (object_at m y).status ≡ Status.Reserved
       reserved =
           let r = born-reserved m law.sound p.context.thread a rest (shown-offers h) in ap (λ (w : Option ℕ). (object_at m (unwrap_or w 0)).status) r.1 ∙ r.2
 
-      by-row : (b : Bool) → (row_named f.image a == x) ≡ b → Result (T.after m p.context.thread n q rest)
-      by-row false k = apart q rest todo n h is (row_named f.image a) (site-is h) k (other-row y o (ap (λ r. r == x) (named-row f m law.rel a) ∙ k))
-      by-row true k =
-          let at = named-row f m law.rel a ∙ eqb-true (row_named f.image a) x k in
-          let on = ap (λ i. same_site i (Site.row x)) (site-is h) ∙ k in
+      unvacated : (object_at m x).status ≡ Status.Reserved → (vacaters f x ≡ recyclers f x) ⊎ (vacaters f x < recyclers f x) → vacaters f x ≡ recyclers f x
+      unvacated status (inl even) = even
+      unvacated status (inr l) = absurd (true≢false (ap Plain.is_gone (sym (was.vacated l).1 ∙ status)))
+
+      here : y ≡ x → same_site e.site (Site.row x) ≡ true → Result After
+      here at on =
           let status : (object_at m x).status ≡ Status.Reserved = ap (λ r. (object_at m r).status) (sym at) ∙ reserved in
           let bare = was.bare (free-is (row f x).stage (row-takes-it f m e law x few on _ is.said)) in
           let even = unvacated status (eq-or-lt_of_le (law.rel.rows x few).cleaners.order) in
           let word = row-here f m e law x few on _ is.said in
-          let object : object_at (T.after m p.context.thread n q rest) x ≡ record (object_at m x) { status = Status.Live } = this-row y o at ∙ ap (λ r. record (object_at m r) { status = Status.Live }) at in
+          let object : object_at After x ≡ record (object_at m x) { status = Status.Live } = this-row y o at ∙ ap (λ r. record (object_at m r) { status = Status.Live }) at in
           let stage = ap (λ (w : RowWord). w.stage) word in
-          writes (T.after m p.context.thread n q rest) _ (rises q rest todo n h is) even (ap is_free stage)
-          (ap (λ (o : Object). o.status) object ∙ sym (ap (λ st. status_of st (is_reserved (object_at (T.after m p.context.thread n q rest) x).status)) stage))
+          writes After _ (rises (Pending.Born a) rest todo n h is) even (ap is_free stage)
+          (ap (λ (o : Object). o.status) object ∙ sym (ap (λ st. status_of st (is_reserved (object_at After x).status)) stage))
           (ap (λ (w : RowWord). w.init) word ∙ (sym bare.0 ∙ (was.init even ∙ sym (ap (λ (o : Object). o.init) object))))
           (ap (λ (w : RowWord). w.public) word ∙ (sym bare.1 ∙ (was.public even ∙ sym (ap (λ (o : Object). o.public) object))))
           (ap (λ (o : Object). o.kind) object ∙ was.kind (λ z. true≢false (ap Plain.is_free (sym z ∙ status))))
-        where
-          unvacated : (object_at m x).status ≡ Status.Reserved → (vacaters f x ≡ recyclers f x) ⊎ (vacaters f x < recyclers f x) → vacaters f x ≡ recyclers f x
-          unvacated status (inl even) = even
-          unvacated status (inr l) = absurd (true≢false (ap Plain.is_gone (sym (was.vacated l).1 ∙ status)))
 
   -- an object is reserved at a free row
   on-reserve : (kind : Kind) (rest : Steps) (todo : Todos) (n : ℕ) → Shows f m e.cpu e (Pending.Reserve kind) rest todo → IsStep f m e.cpu e n (Pending.Reserve kind)
@@ -553,9 +516,6 @@ module _ (f : Fine) (m : State) (e : FineStep) (law : Lawful f m e) (x : ℕ) (f
     where
       q : Pending
       q = Pending.Reserve kind
-
-      some-not : suc n ≡ 0 → ⊥
-      some-not z = omega (arith, z)
 
       o : Object
       o = record vacant { kind = Some kind; status = Status.Reserved; cost = T.cost_of (thread_at m p.context.thread).pool 64 }
@@ -594,7 +554,7 @@ module _ (f : Fine) (m : State) (e : FineStep) (law : Lawful f m e) (x : ℕ) (f
               ∙ ap (λ b. if b then None else Some (dynamic_kind r)) (not_less r STATIC_ROWS dynamic)
 
       by-choice : MayChoose m p.context.thread (suc n) (Pending.Reserve kind) → Result (T.after m p.context.thread (suc n) q rest)
-      by-choice (inr none) = absurd (some-not none.0)
+      by-choice (inr none) = let no = none.0 in absurd (omega (arith, no))
       by-choice (inl pays) =
           let all = and_parts _ (Plain.is_free (object_at m (suc n)).status) pays.1 in
           let kinds = and_parts _ (Plain.kind_number (dynamic_kind (suc n)) == Plain.kind_number kind) all.0 in

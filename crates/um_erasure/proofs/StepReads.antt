@@ -1,5 +1,5 @@
 -- What stands behind the entry of a list whose step a processor makes.
-use Rattle.std.proofs.Common.{◌≡◌, [], ◌∷◌, ◌∙◌, ap, refl, subst, sym, true}
+use Rattle.std.proofs.Common.{◌≡◌, Bool, false, [], ◌∷◌, ◌∙◌, ap, refl, subst, sym, true}
 use Rattle.std.proofs.lemmas.Bool.{true≢false}
 use Rattle.um_machine.specs.declared.pending.Pending.{Pending}
 use Rattle.um_machine.specs.Order.{Steps}
@@ -17,6 +17,15 @@ use Rattle.um_erasure.proofs.ListGrips.{read-rests}
 use Rattle.um_erasure.proofs.ListGrowth.{ReadsLast}
 use Rattle.um_erasure.proofs.ListWakes.{LastRead, woken_by}
 use Rattle.um_erasure.proofs.SchedulerSteps.{made-says}
+
+-- whether an event is first on a list, and what stands behind the first
+abbrev pub shows_first : Todos → Bool
+shows_first (Todo.show q rest ∷ todo) = true
+shows_first todo = false
+
+abbrev pub behind_first : Todos → Todos
+behind_first [] = []
+behind_first (q ∷ todo) = todo
 
 pub record IsBehind (f : Fine) (e : FineStep) : Type 0 where
   pub frame : (q : Todo) (todo : Todos) → (f.processors e.cpu).todo ≡ q ∷ todo → Behind f.image q todo

@@ -7,6 +7,7 @@ use Rattle.std.proofs.lemmas.Bool.{and_parts, eqb-true, false≢true, lt-ltb, lt
 use Rattle.std.proofs.Math.Bool.{or-true}
 use Rattle.um_base.specs.declared.limits.TheConstants.{THREADS}
 use Rattle.um_base.specs.declared.names.Reply.{Reply}
+use Rattle.um_base.specs.declared.names.ThreadIx.{ThreadIx}
 use Rattle.um_machine.specs.declared.pending.Pending.{Pending}
 use Rattle.um_machine.specs.Order.{Steps}
 use Rattle.um_machine.specs.Services.{is_empty}
@@ -38,6 +39,10 @@ use Rattle.um_erasure.proofs.StepsLeft.{offered-on}
 use Rattle.um_erasure.proofs.Stuck as S
 use Rattle.um_erasure.proofs.StuckEvents.{EventsStand, IsHeldMove, edit-in, guarded, offered-in, own-domain}
 use Rattle.um_erasure.proofs.Stuck.{HasRoom, domain-is}
+
+-- a grip that hasn't ended: its end is on the list, and its beginning isn't
+abbrev is_between : (Todo → Bool) → (Todo → Bool) → Todos → Bool
+is_between ends begins todo = list_any ends todo && not (list_any begins todo)
 
 -- an edit is no move
 edits-moves-none : (e d : ℕ) (reply : Reply) (q : Pending) → edits_step e q ≡ true → moves_step d reply q ≡ false
@@ -143,7 +148,7 @@ module _ (f : Fine) (m : State) (rel : Rel f m) (proper : AreProper m.image m) (
       let p = f.processors k in
       let list : p.todo ≡ Todo.read_done None ∷ Todo.let_go ∷ [] = at ∙ ap (λ (z : Todos). Todo.read_done None ∷ z) (frames-at k (Todo.read_done None ∷ rest) l.inside at).0 in
       let held : has_held p ≡ true = ap (λ (z : Todos). list_any is_let_go z && not (list_any is_hold z)) list in
-      let claimed : has_claimed p ≡ true = ap (λ (z : Todos). list_any is_own_done z && not (list_any is_own_claim z)) list in
+      let claimed : has_claimed p ≡ true = ap (is_between is_own_done is_own_claim) list in
       ends-read k p.domain None rest l at refl (own-domain f m rel proper all sound room events k l (ap has_steps at) held)
       (λ i. (claimed i && eq-eqb p.domain p.domain refl i) || moves_to p.domain p.reply p.todo)
   read-done k (Some d) rest l at =
@@ -272,20 +277,23 @@ module _ (f : Fine) (m : State) (rel : Rel f m) (proper : AreProper m.image m) (
 
   -- Nobody reads a domain: who does has an event next.
 
-  claimed-held : (k : ℕ) (c : Context) (q : Pending) (rest : Steps) (todo : Todos) → todo ≡ behind_shown f.image c q
-      → (list_any is_own_done (Todo.show q rest ∷ todo) && not (list_any is_own_claim (Todo.show q rest ∷ todo))) ≡ true → IsHeldMove f k q → ⊥
-  claimed-held k c (Pending.DomMove e who) rest todo behind h held = false≢true (sym (ap (λ (z : Todos). list_any is_own_done z && not (list_any is_own_claim z)) behind) ∙ h)
-  claimed-held k c q rest todo behind h held = held
+  -- an event behind which a grip ends is no move
+  gripped-other : (ends begins : Todo → Bool) (k : ℕ) (c : Context)
+      → ((d : ℕ) (who : ThreadIx) (rest : Steps) → is_between ends begins (Todo.show (Pending.DomMove d who) rest ∷ behind_shown f.image c (Pending.DomMove d who)) ≡ false)
+      → (q : Pending) (rest : Steps) (todo : Todos) → todo ≡ behind_shown f.image c q → is_between ends begins (Todo.show q rest ∷ todo) ≡ true → IsHeldMove f k q → ⊥
+  gripped-other ends begins k c none (Pending.DomMove d who) rest todo behind h held =
+      false≢true (sym (ap (λ (z : Todos). is_between ends begins (Todo.show (Pending.DomMove d who) rest ∷ z)) behind ∙ none d who rest) ∙ h)
+  gripped-other ends begins k c none q rest todo behind h held = held
 
-  no-claim : (k : ℕ) (todo : Todos) → k < f.cpus → (f.processors k).todo ≡ todo → Waits todo → (list_any is_own_done todo && not (list_any is_own_claim todo)) ≡ true → ⊥
+  no-claim : (k : ℕ) (todo : Todos) → k < f.cpus → (f.processors k).todo ≡ todo → Waits todo → is_between is_own_done is_own_claim todo ≡ true → ⊥
   no-claim k [] l at w h = false≢true h
   no-claim k (Todo.show q rest ∷ todo) l at w h =
-      no-event k q rest todo l at (claimed-held k (f.processors k).context q rest todo (fits-at f m rel proper all sound room events k (Todo.show q rest ∷ todo) l at).1 h)
+      no-event k q rest todo l at (gripped-other is_own_done is_own_claim k (f.processors k).context (λ d who more. refl) q rest todo (fits-at f m rel proper all sound room events k (Todo.show q rest ∷ todo) l at).1 h)
   no-claim k (Todo.read_claim None ∷ todo) l at w h = false≢true (and_parts (list_any is_own_done todo) false h).1
   no-claim k (Todo.read_claim (Some e) ∷ todo) l at w h =
-      false≢true (sym (ap (λ (z : Todos). list_any is_own_done z && not (list_any is_own_claim z)) (frames-at f m rel proper all sound room events k (Todo.read_claim (Some e) ∷ todo) l at).0.2) ∙ h)
+      false≢true (sym (ap (is_between is_own_done is_own_claim) (frames-at f m rel proper all sound room events k (Todo.read_claim (Some e) ∷ todo) l at).0.2) ∙ h)
   no-claim k (Todo.write_claim e ∷ todo) l at w h =
-      false≢true (sym (ap (λ (z : Todos). list_any is_own_done z && not (list_any is_own_claim z)) (frames-at f m rel proper all sound room events k (Todo.write_claim e ∷ todo) l at).0.2) ∙ h)
+      false≢true (sym (ap (is_between is_own_done is_own_claim) (frames-at f m rel proper all sound room events k (Todo.write_claim e ∷ todo) l at).0.2) ∙ h)
   no-claim k todo l at w h = absurd w
 
   fails-held : (k d : ℕ) (q : Pending) → moves_step d (f.processors k).reply q ≡ true → IsHeldMove f k q → ⊥
@@ -337,15 +345,10 @@ module _ (f : Fine) (m : State) (rel : Rel f m) (proper : AreProper m.image m) (
 
   -- Nobody holds a thread: who does has an event next, and no move.
 
-  held-other : (k : ℕ) (c : Context) (q : Pending) (rest : Steps) (todo : Todos) → todo ≡ behind_shown f.image c q
-      → (list_any is_let_go (Todo.show q rest ∷ todo) && not (list_any is_hold (Todo.show q rest ∷ todo))) ≡ true → IsHeldMove f k q → ⊥
-  held-other k c (Pending.DomMove e who) rest todo behind h held = false≢true (sym (ap (λ (z : Todos). list_any is_let_go z && not (list_any is_hold z)) behind) ∙ h)
-  held-other k c q rest todo behind h held = held
-
-  no-holder : (k : ℕ) (todo : Todos) → k < f.cpus → (f.processors k).todo ≡ todo → Waits todo → (list_any is_let_go todo && not (list_any is_hold todo)) ≡ true → ⊥
+  no-holder : (k : ℕ) (todo : Todos) → k < f.cpus → (f.processors k).todo ≡ todo → Waits todo → is_between is_let_go is_hold todo ≡ true → ⊥
   no-holder k [] l at w h = false≢true h
   no-holder k (Todo.show q rest ∷ todo) l at w h =
-      no-event k q rest todo l at (held-other k (f.processors k).context q rest todo (fits-at f m rel proper all sound room events k (Todo.show q rest ∷ todo) l at).1 h)
+      no-event k q rest todo l at (gripped-other is_let_go is_hold k (f.processors k).context (λ d who more. refl) q rest todo (fits-at f m rel proper all sound room events k (Todo.show q rest ∷ todo) l at).1 h)
   no-holder k (Todo.read_claim which ∷ todo) l at w h = read-claim k which todo l at
   no-holder k (Todo.write_claim d ∷ todo) l at w h = write-claim k d todo l at
   no-holder k todo l at w h = absurd w

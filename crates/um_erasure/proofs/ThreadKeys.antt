@@ -21,6 +21,10 @@ module _ {K : Type 0} (of : Thread → K) where
   abbrev pub keys : State → List K
   keys s = map of s.threads
 
+  -- of all threads the same is so in two states
+  abbrev pub AreAlike : State → State → Type 0
+  AreAlike m s = keys s ≡ keys m
+
   pub record Ignores : Type 0 where
     pub due : (me : Thread) (due : List Bool) → of (record me { due = due }) ≡ of me
     pub told : (me : Thread) (told : Option Told) → of (record me { told = told }) ≡ of me

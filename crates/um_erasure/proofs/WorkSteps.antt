@@ -1,12 +1,12 @@
 -- A processor's event on the contents of an object that its thread holds is that step of the machine, where the relation holds. So is a
 -- copy or a probe of a queue's message, whose size it has looked at, and a move to a domain, which it has claimed.
-use Rattle.std.proofs.Common.{◌≡◌, ℕ, ◌<◌, true, false, ◌∷◌, Some, refl, sym, ap, ◌∙◌, subst, length}
+use Rattle.std.proofs.Common.{◌≡◌, ℕ, ◌<◌, Bool, true, false, ◌∷◌, Some, refl, sym, ap, ◌∙◌, subst, length}
 use Rattle.std.specs.Prelude.{IsTrue, slice_index_or}
 use Rattle.std.proofs.lemmas.Bool.{false≢true}
 use Rattle.um_base.specs.declared.act.Act.{Act}
 use Rattle.um_base.specs.declared.ask.Ask.{Ask}
 use Rattle.um_base.specs.declared.limits.TheConstants.{ROWS}
-use Rattle.um_base.specs.declared.names.Access.TheVariants as Access
+use Rattle.um_base.specs.declared.names.Access.{Access}
 use Rattle.um_base.specs.declared.names.Addr.{Addr}
 use Rattle.um_base.specs.declared.names.ThreadIx.{ThreadIx}
 use Rattle.um_machine.specs.declared.pending.Amount.TheVariants as Amount
@@ -24,7 +24,7 @@ use Rattle.um_fine.specs.Objects.{ObjectCell, work_on}
 use Rattle.um_fine.specs.Steps.{Exchange, FineStep, Site}
 use Rattle.um_fine.specs.Sites.{SiteState, is_sort, site_answers}
 use Rattle.um_fine.specs.Places.{Todo, Todos}
-use Rattle.um_fine.specs.Asks.{caller, moves, shows}
+use Rattle.um_fine.specs.Asks.{allows, caller, moves, shows}
 use Rattle.um_erasure.specs.Fine.{Fine, object, object_state}
 use Rattle.um_erasure.specs.Lists.{has_steps, looked, moving}
 use Rattle.um_erasure.proofs.HeldRows.{checked-claimed, claimed-whole}
@@ -68,23 +68,24 @@ module _ {f : Fine} {m : State} {k : ℕ} {e : FineStep} {rest : Steps} {todo : 
   size-is q b at h =
       (h.rel.processors k h.there).looks.size b (ap looked h.at ∙ at) ∙ ap (λ x. T.message_size (object_at m x).contents) (sym (named-row f m h.rel b))
 
+  -- what is said of a message's size, and of whether so many bytes may be accessed, is what the machine says
+  sized-says : (said : ℕ → Bool → Act) (access : Access) (q : Pending) (a b : Addr) → looked (Todo.show q rest ∷ todo) ≡ Some b → (h : Shows f m k e q rest todo)
+      → allows f.image (f.processors k) access a.0 (f.processors k).size ≡ allowed m (f.processors k).context.thread access a.0 (f.processors k).size
+      → said (f.processors k).size (allows f.image (f.processors k) access a.0 (f.processors k).size)
+      ≡ said (T.amount_of m (Amount.MessageOf b)) (allowed m (f.processors k).context.thread access a.0 (T.amount_of m (Amount.MessageOf b)))
+  sized-says said access q a b at h may = ap (said (f.processors k).size) may ∙ ap (λ n. said n (allowed m (f.processors k).context.thread access a.0 n)) (size-is q b at h)
+
   pub put-copy-step : (a b : Addr) → (f.processors k).domain < length f.image.domains → Shows f m k e (Pending.CopyIn a (Amount.MessageOf b)) rest todo
       → IsStep f m k e 0 (Pending.CopyIn a (Amount.MessageOf b))
   put-copy-step a b few h =
-      let t = (f.processors k).context.thread in
-      let size = size-is (Pending.CopyIn a (Amount.MessageOf b)) b refl h in
       machine-step h 0 (act-is h) tt
-      (ap (Act.CopyIn a (f.processors k).size) (allows-it h (behind-is h) few Access.Read a.0 (f.processors k).size)
-      ∙ ap (λ n. Act.CopyIn a n (allowed m t Access.Read a.0 n)) size)
+      (sized-says (Act.CopyIn a) Access.Read (Pending.CopyIn a (Amount.MessageOf b)) a b refl h (allows-it h (behind-is h) few Access.Read a.0 (f.processors k).size))
 
   pub get-probe-step : (a b : Addr) → (f.processors k).domain < length f.image.domains → Shows f m k e (Pending.Probe a (Amount.MessageOf b)) rest todo
       → IsStep f m k e 0 (Pending.Probe a (Amount.MessageOf b))
   get-probe-step a b few h =
-      let t = (f.processors k).context.thread in
-      let size = size-is (Pending.Probe a (Amount.MessageOf b)) b refl h in
       machine-step h 0 (act-is h) tt
-      (ap (Act.Probe a (f.processors k).size) (allows-it h (behind-is h) few Access.Write a.0 (f.processors k).size)
-      ∙ ap (λ n. Act.Probe a n (allowed m t Access.Write a.0 n)) size)
+      (sized-says (Act.Probe a) Access.Write (Pending.Probe a (Amount.MessageOf b)) a b refl h (allows-it h (behind-is h) few Access.Write a.0 (f.processors k).size))
 
   pub move-step : (d : ℕ) (who : ThreadIx) → Shows f m k e (Pending.DomMove d who) rest todo
       → IsStep f m k e 0 (Pending.DomMove d who)

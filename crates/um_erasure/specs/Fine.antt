@@ -7,13 +7,13 @@ use Rattle.um_words.specs.declared.row_word.RowWord.{RowWord}
 use Rattle.um_words.specs.declared.thread_word.ThreadWord.{ThreadWord}
 use Rattle.um_words.specs.declared.dom_word.DomWord.{DomWord}
 use Rattle.um_fine.specs.Steps.{Site}
-use Rattle.um_fine.specs.Answers.{no_domain, no_row, no_thread}
+use Rattle.um_fine.specs.Answers.{domain_in, row_in, thread_in}
 use Rattle.um_fine.specs.Objects.{ObjectCell}
 use Rattle.um_fine.specs.Memory.{Bytes}
 use Rattle.um_fine.specs.Heap.{Heap}
 use Rattle.um_fine.specs.Scheduler.{Scheduler}
 use Rattle.um_fine.specs.Cells.{Cell}
-use Rattle.um_fine.specs.Sites.{SiteState}
+use Rattle.um_fine.specs.Sites.{SiteState, word_of}
 use Rattle.um_fine.specs.Processor.{Processor}
 
 pub record Fine : Type 0 where
@@ -25,16 +25,13 @@ pub record Fine : Type 0 where
 -- What a state of a site keeps, by its sort.
 
 abbrev pub row_state : SiteState → RowWord
-row_state (SiteState.row w) = w
-row_state _ = no_row
+row_state s = row_in (word_of s)
 
 abbrev pub thread_state : SiteState → ThreadWord
-thread_state (SiteState.thread w) = w
-thread_state _ = no_thread
+thread_state s = thread_in (word_of s)
 
 abbrev pub domain_state : SiteState → DomWord
-domain_state (SiteState.domain w) = w
-domain_state _ = no_domain
+domain_state s = domain_in (word_of s)
 
 abbrev pub object_state : SiteState → ObjectCell
 object_state (SiteState.cell n (Cell.object o)) = o
