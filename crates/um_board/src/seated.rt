@@ -27,6 +27,7 @@ use std::snapshot::Snapshot;
 use um_base::{Event, Image};
 use um_cell::{Cells, Held};
 use um_merge::Log;
+use um_processor::Here;
 use um_site::{Board, Seat};
 use um_words::{CellWord, step_number};
 
@@ -154,8 +155,7 @@ impl<'a> Seated<'a> {
     #[inline(always)]
     pub(crate) fn step<D: Fine, A>(
         &mut self,
-        image: &Image,
-        cpu: u8,
+        here: &Here,
         which: u8,
         site: u16,
         seen: u64,
@@ -163,18 +163,18 @@ impl<'a> Seated<'a> {
         event: &Option<Event>,
         about: &A,
     ) -> bool
-        requires image { IsAt image.now self.old }
+        requires image { IsAt here.now.image.now self.old }
         requires site { site < 168 }
         requires free { length self.old.log.items < self.old.log.room }
         requires seen { last_got self.old.seat.token.me.0.got site ≡ Some seen }
         requires step { made_of D.step ≡ record { site = site; act = D.step.act; word = next; moved = Exchange.nothing } }
         requires numbered { number site next ≡ number_of D.step.word }
         requires back { IsReadBack D.step }
-        requires cpu { D.step.cpu ≡ cpu }
+        requires cpu { D.step.cpu ≡ here.now.cpu }
         requires event { event.now ≡ event_of D.step.act }
         requires lawful { WordMay site seen D.step.act next }
-        requires goes { IsNext image.now self.old.seat.token.me.0.name self.old.seat.token.me.0.made D.step }
-        ensures image { IsAt image.now self.new }
+        requires goes { IsNext here.now.image.now self.old.seat.token.me.0.name self.old.seat.token.me.0.made D.step }
+        ensures image { IsAt here.now.image.now self.new }
         ensures made { result ≡ true → HasMadeThere self.old D.step self.new }
         ensures changed { result ≡ false → HasMadeNone self.old self.new }
         ensures moved { result ≡ false → (z : ℕ) × (z ≢ seen) × (self.new.seat.token.me.0.got ≡ (site, z) ∷ self.old.seat.token.me.0.got) }
@@ -187,7 +187,7 @@ impl<'a> Seated<'a> {
         {
             Err(_) => false,
             Ok(number) => {
-                self.log.note(cpu, site, number, event);
+                self.log.note(here.cpu, site, number, event);
                 true
             }
         }
@@ -265,8 +265,7 @@ impl<'a> Seated<'a> {
     #[inline(always)]
     pub(crate) fn leave<D: Fine, K: Kind, A>(
         &mut self,
-        image: &Image,
-        cpu: u8,
+        here: &Here,
         site: u16,
         which: u8,
         turn: Turn<K>,
@@ -274,21 +273,21 @@ impl<'a> Seated<'a> {
         event: &Option<Event>,
         about: &A,
     )
-        requires turn { HasTurnAt image.now self.old site turn.word turn.number (K.cell turn.before.value) }
+        requires turn { HasTurnAt here.now.image.now self.old site turn.word turn.number (K.cell turn.before.value) }
         requires free { length self.old.log.items < self.old.log.room }
-        requires takes { Takes image.now (SiteState.cell turn.number (K.cell turn.before.value)) D.step
+        requires takes { Takes here.now.image.now (SiteState.cell turn.number (K.cell turn.before.value)) D.step
             (SiteState.cell (turn.number + 1) (K.cell cell)) }
         requires site { site_number D.step.site ≡ site }
         requires there { IsTrue (is_site D.step.site) }
-        requires cpu { D.step.cpu ≡ cpu }
+        requires cpu { D.step.cpu ≡ here.now.cpu }
         requires event { event.now ≡ event_of D.step.act }
-        requires goes { IsNext image.now self.old.seat.token.me.0.name self.old.seat.token.me.0.made D.step }
-        ensures image { IsAt image.now self.new }
+        requires goes { IsNext here.now.image.now self.old.seat.token.me.0.name self.old.seat.token.me.0.made D.step }
+        ensures image { IsAt here.now.image.now self.new }
         ensures made { HasMadeThere self.old D.step self.new }
     {
         let _ = which;
         let _ = about;
-        let contents = Contents::new(image, cell.into_kept());
+        let contents = Contents::new(here.image, cell.into_kept());
         let (ready, running) = contents.counts();
         let next = CellWord {
             turn: false,
@@ -306,7 +305,7 @@ impl<'a> Seated<'a> {
         let number = self
             .cells
             .put::<_, AsMade<D>>(self.board, &mut self.seat, held, next);
-        self.log.note(cpu, site, number, event);
+        self.log.note(here.cpu, site, number, event);
     }
 
     /// The seat with the log of its steps.

@@ -6,7 +6,7 @@ use std::snapshot::Snapshot;
 use um_base::{Addr, Image, Parts, Piece, Reply, Row, ThreadIx, Told, Waiter};
 use um_machine::{Cost, Pending};
 use um_processor::{
-    Bytes, Context, DomainAct, DomainCell, Heap, HeapAct, HeapSaid, MemoryAct, MemorySaid,
+    Bytes, Context, DomainAct, DomainCell, Heap, HeapAct, HeapSaid, Here, MemoryAct, MemorySaid,
     ObjectCell, RowAct, RowSaid, Said, Scheduler, Sites, ThreadAct, edited, named, parts_or_none,
     resumed, worked,
 };
@@ -51,9 +51,9 @@ impl Sites for Seated<'_> {
 
     ghost Contended = { λ image old site new. Hinders old.log.room old.log.items old.seat new.seat (site_number site) };
 
-    fn row(&mut self, image: &Image, cpu: u8, row: Row, act: &RowAct) -> Said<RowSaid> {
+    fn row(&mut self, here: &Here, row: Row, act: &RowAct) -> Said<RowSaid> {
         let site = row.0 as u16;
-        let Some(seen) = self.look_to_step(image, site) else {
+        let Some(seen) = self.look_to_step(here.image, site) else {
             return Said::Changed;
         };
         let word = RowWord::read(seen);
@@ -62,21 +62,15 @@ impl Sites for Seated<'_> {
             Some(made) => made,
         };
         let event = act.event(&said);
-        if !self.step::<Brand, _>(image, cpu, row.0, site, seen, next.pack(), &event, act) {
+        if !self.step::<Brand, _>(here, row.0, site, seen, next.pack(), &event, act) {
             return Said::Changed;
         }
         Said::Made(said)
     }
 
-    fn thread(
-        &mut self,
-        image: &Image,
-        cpu: u8,
-        thread: ThreadIx,
-        act: &ThreadAct,
-    ) -> Said<ThreadWord> {
+    fn thread(&mut self, here: &Here, thread: ThreadIx, act: &ThreadAct) -> Said<ThreadWord> {
         let site = THREADS_FROM + thread.0 as u16;
-        let Some(seen) = self.look_to_step(image, site) else {
+        let Some(seen) = self.look_to_step(here.image, site) else {
             return Said::Changed;
         };
         let word = match ThreadWord::unpack(seen) {
@@ -89,8 +83,7 @@ impl Sites for Seated<'_> {
         };
         let event = act.event(&next);
         if !self.step::<Brand, _>(
-            image,
-            cpu,
+            here,
             thread.0,
             site,
             seen,
@@ -103,9 +96,9 @@ impl Sites for Seated<'_> {
         Said::Made(next)
     }
 
-    fn domain(&mut self, image: &Image, cpu: u8, domain: u8, act: &DomainAct) -> Said<DomWord> {
+    fn domain(&mut self, here: &Here, domain: u8, act: &DomainAct) -> Said<DomWord> {
         let site = DOMAINS_FROM + domain as u16;
-        let Some(seen) = self.look_to_step(image, site) else {
+        let Some(seen) = self.look_to_step(here.image, site) else {
             return Said::Changed;
         };
         let word = match DomWord::unpack(seen) {
@@ -117,221 +110,184 @@ impl Sites for Seated<'_> {
             Some(next) => next,
         };
         let event = act.event();
-        if !self.step::<Brand, _>(
-            image,
-            cpu,
-            domain,
-            site,
-            seen,
-            next.pack(),
-            &event,
-            &(word, act),
-        ) {
+        if !self.step::<Brand, _>(here, domain, site, seen, next.pack(), &event, &(word, act)) {
             return Said::Changed;
         }
         Said::Made(next)
     }
 
-    fn load_parts(&mut self, image: &Image, cpu: u8, domain: u8, parts: &mut Parts) -> Said<()> {
+    fn load_parts(&mut self, here: &Here, domain: u8, parts: &mut Parts) -> Said<()> {
         let site = PARTS_FROM + domain as u16;
-        let Some((turn, cell)) = self.turn::<Box<DomainCell>>(image, site) else {
+        let Some((turn, cell)) = self.turn::<Box<DomainCell>>(here.image, site) else {
             return Said::Changed;
         };
         *parts = parts_or_none(&cell.parts);
-        self.leave::<Brand, _, _>(image, cpu, site, domain, turn, cell, &None, &());
+        self.leave::<Brand, _, _>(here, site, domain, turn, cell, &None, &());
         Said::Made(())
     }
 
-    fn edit(&mut self, image: &Image, cpu: u8, domain: u8, call: &Pending) -> Said<Reply> {
+    fn edit(&mut self, here: &Here, domain: u8, call: &Pending) -> Said<Reply> {
         let site = PARTS_FROM + domain as u16;
-        let Some((turn, mut cell)) = self.turn::<Box<DomainCell>>(image, site) else {
+        let Some((turn, mut cell)) = self.turn::<Box<DomainCell>>(here.image, site) else {
             return Said::Changed;
         };
-        let (parts, reply) = edited(image, call, &cell.parts);
+        let (parts, reply) = edited(here.image, call, &cell.parts);
         cell.parts = parts;
-        self.leave::<Brand, _, _>(image, cpu, site, domain, turn, cell, &None, call);
+        self.leave::<Brand, _, _>(here, site, domain, turn, cell, &None, call);
         Said::Made(reply)
     }
 
     fn work(
         &mut self,
-        image: &Image,
-        cpu: u8,
+        here: &Here,
         row: Row,
         addr: Addr,
         who: &Waiter,
         outcome: &mut Outcome,
     ) -> Said<()> {
         let site = OBJECTS_FROM + row.0 as u16;
-        let Some((turn, mut cell)) = self.turn::<Box<ObjectCell>>(image, site) else {
+        let Some((turn, mut cell)) = self.turn::<Box<ObjectCell>>(here.image, site) else {
             return Said::Changed;
         };
         cell.work(who, outcome);
         let event = Some(worked(addr, who, outcome));
-        self.leave::<Brand, _, _>(image, cpu, site, row.0, turn, cell, &event, &(addr, who));
+        self.leave::<Brand, _, _>(here, site, row.0, turn, cell, &event, &(addr, who));
         Said::Made(())
     }
 
     fn name(
         &mut self,
-        image: &Image,
-        cpu: u8,
+        here: &Here,
         row: Row,
         thread: ThreadIx,
         who: ThreadIx,
         bytes: &Piece,
     ) -> Said<()> {
         let site = OBJECTS_FROM + row.0 as u16;
-        let Some((turn, mut cell)) = self.turn::<Box<ObjectCell>>(image, site) else {
+        let Some((turn, mut cell)) = self.turn::<Box<ObjectCell>>(here.image, site) else {
             return Said::Changed;
         };
         cell.name(bytes);
         let event = Some(named(thread, who));
-        self.leave::<Brand, _, _>(
-            image,
-            cpu,
-            site,
-            row.0,
-            turn,
-            cell,
-            &event,
-            &(thread, who, bytes),
-        );
+        self.leave::<Brand, _, _>(here, site, row.0, turn, cell, &event, &(thread, who, bytes));
         Said::Made(())
     }
 
-    fn message_size(&mut self, image: &Image, cpu: u8, row: Row) -> Said<u32> {
+    fn message_size(&mut self, here: &Here, row: Row) -> Said<u32> {
         let site = OBJECTS_FROM + row.0 as u16;
-        let Some((turn, cell)) = self.turn::<Box<ObjectCell>>(image, site) else {
+        let Some((turn, cell)) = self.turn::<Box<ObjectCell>>(here.image, site) else {
             return Said::Changed;
         };
         let size = cell.message_size();
-        self.leave::<Brand, _, _>(image, cpu, site, row.0, turn, cell, &None, &());
+        self.leave::<Brand, _, _>(here, site, row.0, turn, cell, &None, &());
         Said::Made(size)
     }
 
-    fn clear(&mut self, image: &Image, cpu: u8, row: Row) -> Said<Option<Cost>> {
+    fn clear(&mut self, here: &Here, row: Row) -> Said<Option<Cost>> {
         let site = OBJECTS_FROM + row.0 as u16;
-        let Some((turn, mut cell)) = self.turn::<Box<ObjectCell>>(image, site) else {
+        let Some((turn, mut cell)) = self.turn::<Box<ObjectCell>>(here.image, site) else {
             return Said::Changed;
         };
         let buffer = cell.clear();
-        self.leave::<Brand, _, _>(image, cpu, site, row.0, turn, cell, &None, &());
+        self.leave::<Brand, _, _>(here, site, row.0, turn, cell, &None, &());
         Said::Made(buffer)
     }
 
-    fn memory(
-        &mut self,
-        image: &Image,
-        cpu: u8,
-        act: &MemoryAct,
-        buffer: &mut Piece,
-    ) -> Said<MemorySaid> {
-        let Some((turn, mut cell)) = self.turn::<Box<Bytes>>(image, MEMORY) else {
+    fn memory(&mut self, here: &Here, act: &MemoryAct, buffer: &mut Piece) -> Said<MemorySaid> {
+        let Some((turn, mut cell)) = self.turn::<Box<Bytes>>(here.image, MEMORY) else {
             return Said::Changed;
         };
         let sent = Snapshot::of(buffer);
-        let said = cell.make(image, self.rodata, act, buffer);
+        let said = cell.make(here.image, self.rodata, act, buffer);
         let event = act.event(&said);
-        self.leave::<Brand, _, _>(image, cpu, MEMORY, 0, turn, cell, &event, &(act, sent));
+        self.leave::<Brand, _, _>(here, MEMORY, 0, turn, cell, &event, &(act, sent));
         Said::Made(said)
     }
 
-    fn heap(
-        &mut self,
-        image: &Image,
-        cpu: u8,
-        act: &HeapAct,
-        charge: Option<Cost>,
-    ) -> Said<HeapSaid> {
-        let Some((turn, mut cell)) = self.turn::<Box<Heap>>(image, HEAP) else {
+    fn heap(&mut self, here: &Here, act: &HeapAct, charge: Option<Cost>) -> Said<HeapSaid> {
+        let Some((turn, mut cell)) = self.turn::<Box<Heap>>(here.image, HEAP) else {
             return Said::Changed;
         };
-        let said = cell.make(image, act, charge);
+        let said = cell.make(here.image, act, charge);
         let event = act.event(&said);
-        self.leave::<Brand, _, _>(image, cpu, HEAP, 0, turn, cell, &event, &(act, charge));
+        self.leave::<Brand, _, _>(here, HEAP, 0, turn, cell, &event, &(act, charge));
         Said::Made(said)
     }
 
-    fn take(
-        &mut self,
-        image: &Image,
-        cpu: u8,
-        context: &mut Box<Context>,
-        told: &mut Told,
-    ) -> Said<bool> {
-        let seen = self.look(image, SCHEDULER);
+    fn take(&mut self, here: &Here, context: &mut Box<Context>, told: &mut Told) -> Said<bool> {
+        let seen = self.look(here.image, SCHEDULER);
         if CellWord::read(seen).ready == 0 {
             return Said::Busy;
         }
-        let Some((turn, mut cell)) = self.turn_at_once::<Box<Scheduler>>(image, SCHEDULER) else {
+        let Some((turn, mut cell)) = self.turn_at_once::<Box<Scheduler>>(here.image, SCHEDULER)
+        else {
             return Said::Changed;
         };
         let woken = match cell.take(context, told) {
             None => {
-                self.put_back(image, SCHEDULER, turn, cell);
+                self.put_back(here.image, SCHEDULER, turn, cell);
                 return Said::Busy;
             }
             Some(woken) => woken,
         };
         let event = resumed(context.thread(), woken);
-        self.leave::<Brand, _, _>(image, cpu, SCHEDULER, 0, turn, cell, &event, &());
+        self.leave::<Brand, _, _>(here, SCHEDULER, 0, turn, cell, &event, &());
         Said::Made(woken)
     }
 
-    fn wake(&mut self, image: &Image, cpu: u8, who: ThreadIx, told: &Told) -> Said<()> {
-        let Some((turn, mut cell)) = self.turn::<Box<Scheduler>>(image, SCHEDULER) else {
+    fn wake(&mut self, here: &Here, who: ThreadIx, told: &Told) -> Said<()> {
+        let Some((turn, mut cell)) = self.turn::<Box<Scheduler>>(here.image, SCHEDULER) else {
             return Said::Changed;
         };
         let _ready = match cell.wake(who, told) {
             None => {
-                self.put_back(image, SCHEDULER, turn, cell);
+                self.put_back(here.image, SCHEDULER, turn, cell);
                 return Said::Busy;
             }
             Some(ready) => ready,
         };
-        self.leave::<Brand, _, _>(image, cpu, SCHEDULER, 0, turn, cell, &None, &(who, told));
+        self.leave::<Brand, _, _>(here, SCHEDULER, 0, turn, cell, &None, &(who, told));
         Said::Made(())
     }
 
-    fn add(&mut self, image: &Image, cpu: u8, context: &mut Box<Context>) -> Said<()> {
-        let Some((turn, mut cell)) = self.turn::<Box<Scheduler>>(image, SCHEDULER) else {
+    fn add(&mut self, here: &Here, context: &mut Box<Context>) -> Said<()> {
+        let Some((turn, mut cell)) = self.turn::<Box<Scheduler>>(here.image, SCHEDULER) else {
             return Said::Changed;
         };
         let given = Snapshot::of(context);
         if !cell.add(context) {
-            self.put_back(image, SCHEDULER, turn, cell);
+            self.put_back(here.image, SCHEDULER, turn, cell);
             return Said::Busy;
         }
-        self.leave::<Brand, _, _>(image, cpu, SCHEDULER, 0, turn, cell, &None, &given);
+        self.leave::<Brand, _, _>(here, SCHEDULER, 0, turn, cell, &None, &given);
         Said::Made(())
     }
 
-    fn park(&mut self, image: &Image, cpu: u8, context: &mut Box<Context>) -> Said<()> {
-        let Some((turn, mut cell)) = self.turn::<Box<Scheduler>>(image, SCHEDULER) else {
+    fn park(&mut self, here: &Here, context: &mut Box<Context>) -> Said<()> {
+        let Some((turn, mut cell)) = self.turn::<Box<Scheduler>>(here.image, SCHEDULER) else {
             return Said::Changed;
         };
         let given = Snapshot::of(context);
         let _ready = match cell.park(context) {
             None => {
-                self.put_back(image, SCHEDULER, turn, cell);
+                self.put_back(here.image, SCHEDULER, turn, cell);
                 return Said::Busy;
             }
             Some(ready) => ready,
         };
-        self.leave::<Brand, _, _>(image, cpu, SCHEDULER, 0, turn, cell, &None, &given);
+        self.leave::<Brand, _, _>(here, SCHEDULER, 0, turn, cell, &None, &given);
         Said::Made(())
     }
 
-    fn done(&mut self, image: &Image, cpu: u8) -> Said<()> {
-        let Some((turn, mut cell)) = self.turn::<Box<Scheduler>>(image, SCHEDULER) else {
+    fn done(&mut self, here: &Here) -> Said<()> {
+        let Some((turn, mut cell)) = self.turn::<Box<Scheduler>>(here.image, SCHEDULER) else {
             return Said::Changed;
         };
         if !cell.done() {
-            self.put_back(image, SCHEDULER, turn, cell);
+            self.put_back(here.image, SCHEDULER, turn, cell);
             return Said::Busy;
         }
-        self.leave::<Brand, _, _>(image, cpu, SCHEDULER, 0, turn, cell, &None, &());
+        self.leave::<Brand, _, _>(here, SCHEDULER, 0, turn, cell, &None, &());
         Said::Made(())
     }
 }

@@ -13,7 +13,7 @@ use um_base::{
     Term, ThreadIx, Told, Want,
 };
 use um_machine::{Cost, Life};
-use um_processor::{Context, DomainAct, HeapAct, RowAct, Said, Sites, Tables, ThreadAct};
+use um_processor::{Context, DomainAct, HeapAct, Here, RowAct, Said, Sites, Tables, ThreadAct};
 
 /// The list of one item.
 fn sole<T: Drop, const MOST: usize>(alloc: Global, item: T) -> Result<BoundedVec<T, MOST>, Memory>
@@ -146,7 +146,7 @@ fn is_verdict(sites: &mut Tables, image: &Image, thread: u8, verdict: Option<Err
         mode: Mode::User,
         fits: true,
     };
-    match sites.row(image, 0, Row(2), &check) {
+    match sites.row(&Here { image, cpu: 0 }, Row(2), &check) {
         Said::Made(said) => said.verdict == verdict,
         _ => false,
     }
@@ -157,22 +157,21 @@ fn is_verdict(sites: &mut Tables, image: &Image, thread: u8, verdict: Option<Err
 fn some_words(rt: HostRuntime) -> Result<(), Fail> {
     let image = image(rt.alloc())?;
     let mut sites = opening(rt.alloc(), &image, 8)?;
+    let here = &Here {
+        image: &image,
+        cpu: 0,
+    };
     assert!(rt; is_verdict(&mut sites, &image, 0, None));
     assert!(rt; is_verdict(&mut sites, &image, 1, Some(Errno::EPERM)));
-    assert!(rt;
-        matches!(
-            sites.row(&image, 0, Row(0), &RowAct::EndCall),
-            Said::Made(_)
-        )
-    );
-    assert!(rt; matches!(sites.row(&image, 0, Row(0), &RowAct::EndCall), Said::Busy));
-    match sites.thread(&image, 0, ThreadIx(0), &ThreadAct::Hold) {
+    assert!(rt; matches!(sites.row(here, Row(0), &RowAct::EndCall), Said::Made(_)));
+    assert!(rt; matches!(sites.row(here, Row(0), &RowAct::EndCall), Said::Busy));
+    match sites.thread(here, ThreadIx(0), &ThreadAct::Hold) {
         Said::Made(word) => assert!(rt;
             word.life == Life::Living && !word.doomed && word.domain == 0
         ),
         _ => assert!(rt; false),
     }
-    match sites.domain(&image, 0, 0, &DomainAct::ReadClaim) {
+    match sites.domain(here, 0, &DomainAct::ReadClaim) {
         Said::Made(word) => assert!(rt; word.init && word.readers == 1),
         _ => assert!(rt; false),
     }
@@ -184,26 +183,30 @@ fn some_words(rt: HostRuntime) -> Result<(), Fail> {
 fn some_cells(rt: HostRuntime) -> Result<(), Fail> {
     let image = image(rt.alloc())?;
     let mut sites = opening(rt.alloc(), &image, 8)?;
+    let here = &Here {
+        image: &image,
+        cpu: 0,
+    };
     let mut context = Box::new(rt.alloc(), Context::idle())?;
     let mut told = Told {
         reply: Reply::Void,
         taken: Piece::new(),
     };
-    match sites.take(&image, 0, &mut context, &mut told) {
+    match sites.take(here, &mut context, &mut told) {
         Said::Made(woken) => assert!(rt; !woken && context.thread() == 0 && !context.waits()),
         _ => assert!(rt; false),
     }
-    assert!(rt; matches!(sites.take(&image, 0, &mut context, &mut told), Said::Busy));
+    assert!(rt; matches!(sites.take(here, &mut context, &mut told), Said::Busy));
     let reserve = HeapAct::Reserve {
         thread: ThreadIx(0),
         kind: Kind::Sem,
     };
     let cost = Some(Cost { pool: 0, bytes: 64 });
-    match sites.heap(&image, 0, &reserve, cost) {
+    match sites.heap(here, &reserve, cost) {
         Said::Made(said) => assert!(rt; said.addr == Some(Addr(0x4800_0100))),
         _ => assert!(rt; false),
     }
-    match sites.heap(&image, 0, &reserve, cost) {
+    match sites.heap(here, &reserve, cost) {
         Said::Made(said) => assert!(rt; said.addr == None),
         _ => assert!(rt; false),
     }

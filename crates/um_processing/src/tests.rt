@@ -17,8 +17,8 @@ use um_base::{
 };
 use um_machine::{Cost, Life, Pending};
 use um_processor::{
-    Bytes, Context, DomainAct, DomainCell, Heap, HeapAct, ObjectCell, RowAct, Said, Scheduler,
-    Sites, Tables, ThreadAct,
+    Bytes, Context, DomainAct, DomainCell, Heap, HeapAct, Here, ObjectCell, RowAct, Said,
+    Scheduler, Sites, Tables, ThreadAct,
 };
 use um_service::Outcome;
 use um_words::{DomWord, Permissions, RowWord, Stage, ThreadWord};
@@ -242,6 +242,14 @@ fn tables(alloc: Global) -> Result<Tables, Memory>
 #[test]
 fn over_tables(rt: HostRuntime) -> Result<(), Fail> {
     let image = image(rt.alloc());
+    let here = &Here {
+        image: &image,
+        cpu: 0,
+    };
+    let there = &Here {
+        image: &image,
+        cpu: 1,
+    };
     let mut sites = tables(rt.alloc())?;
     let pass = RowAct::Pass {
         thread: ThreadIx(3),
@@ -249,22 +257,22 @@ fn over_tables(rt: HostRuntime) -> Result<(), Fail> {
         addr: Addr(0x4000_0000),
     };
     for (row, visits) in [(9, false), (9, true), (10, false)] {
-        match sites.row(&image, 0, Row(row), &pass) {
+        match sites.row(here, Row(row), &pass) {
             Said::Made(said) => assert!(rt; said.visits == visits),
             _ => assert!(rt; false),
         }
     }
-    match sites.thread(&image, 1, ThreadIx(3), &ThreadAct::Hold) {
+    match sites.thread(there, ThreadIx(3), &ThreadAct::Hold) {
         Said::Made(word) => assert!(rt; word.held && word.number == 1),
         _ => assert!(rt; false),
     }
     assert!(rt;
         matches!(
-            sites.thread(&image, 0, ThreadIx(3), &ThreadAct::Hold),
+            sites.thread(here, ThreadIx(3), &ThreadAct::Hold),
             Said::Busy
         )
     );
-    assert!(rt; matches!(sites.done(&image, 0), Said::Busy));
+    assert!(rt; matches!(sites.done(here), Said::Busy));
     Ok(())
 }
 
@@ -272,6 +280,10 @@ fn over_tables(rt: HostRuntime) -> Result<(), Fail> {
 #[test]
 fn a_domain_cell(rt: HostRuntime) -> Result<(), Fail> {
     let image = image(rt.alloc());
+    let here = &Here {
+        image: &image,
+        cpu: 0,
+    };
     let mut sites = tables(rt.alloc())?;
     let init = Pending::DomInit {
         domain: 1,
@@ -291,14 +303,14 @@ fn a_domain_cell(rt: HostRuntime) -> Result<(), Fail> {
         (&init, Reply::Fail(Errno::EINVAL)),
         (&add, Reply::Num(0)),
     ] {
-        match sites.edit(&image, 0, 1, call) {
+        match sites.edit(here, 1, call) {
             Said::Made(said) => assert!(rt; said == reply),
             _ => assert!(rt; false),
         }
     }
     let mut parts = Parts::new();
     for (domain, few) in [(1, 1), (2, 0)] {
-        match sites.load_parts(&image, 0, domain, &mut parts) {
+        match sites.load_parts(here, domain, &mut parts) {
             Said::Made(()) => assert!(rt; parts.len() == few),
             _ => assert!(rt; false),
         }
@@ -310,6 +322,10 @@ fn a_domain_cell(rt: HostRuntime) -> Result<(), Fail> {
 #[test]
 fn a_heap(rt: HostRuntime) -> Result<(), Fail> {
     let image = image(rt.alloc());
+    let here = &Here {
+        image: &image,
+        cpu: 0,
+    };
     let mut sites = tables(rt.alloc())?;
     let thread = ThreadIx(0);
     let reserve = HeapAct::Reserve {
@@ -332,7 +348,7 @@ fn a_heap(rt: HostRuntime) -> Result<(), Fail> {
         ),
         (&reserve, cost, Some(first)),
     ] {
-        match sites.heap(&image, 0, act, charge) {
+        match sites.heap(here, act, charge) {
             Said::Made(said) => assert!(rt; said.addr == addr && !said.fits),
             _ => assert!(rt; false),
         }
@@ -356,6 +372,10 @@ fn waiter(ask: &Ask) -> Waiter
 #[test]
 fn an_object(rt: HostRuntime) -> Result<(), Fail> {
     let image = image(rt.alloc());
+    let here = &Here {
+        image: &image,
+        cpu: 0,
+    };
     let mut sites = tables(rt.alloc())?;
     let mut outcome = Outcome::new();
     let init = waiter(&Ask::MsgqInit {
@@ -364,16 +384,16 @@ fn an_object(rt: HostRuntime) -> Result<(), Fail> {
         pool: 1,
     });
     let addr = Addr(0x4000_0000);
-    match sites.work(&image, 0, Row(3), addr, &init, &mut outcome) {
+    match sites.work(here, Row(3), addr, &init, &mut outcome) {
         Said::Made(()) => assert!(rt; outcome.answer == Answer::Now(Reply::Num(0))),
         _ => assert!(rt; false),
     }
-    match sites.message_size(&image, 0, Row(3)) {
+    match sites.message_size(here, Row(3)) {
         Said::Made(size) => assert!(rt; size == 3),
         _ => assert!(rt; false),
     }
     for cost in [Some(Cost { pool: 1, bytes: 8 }), None] {
-        match sites.clear(&image, 0, Row(3)) {
+        match sites.clear(here, Row(3)) {
             Said::Made(said) => assert!(rt; said == cost),
             _ => assert!(rt; false),
         }

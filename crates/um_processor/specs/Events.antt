@@ -28,13 +28,23 @@ rest_of r = drop 1 (steps_behind r.visited r.context.value.pending)
 abbrev pub about_to : Phase → Pending → Running → Processor
 about_to phase step r = with_todo r (Todo.show step (rest_of r) ∷ todo_after phase (born r.newborn))
 
+-- the same in the phase in which it is
+abbrev pub shows : Pending → Running → Processor
+shows step r = about_to r.phase step r
+
 -- a processor that puts its thread back next
 abbrev pub about_to_park : Phase → Running → Processor
 about_to_park phase r = with_todo r (Todo.park ∷ todo_after phase (born r.newborn))
 
+abbrev pub parks : Running → Processor
+parks r = about_to_park r.phase r
+
 -- a processor that makes the event of its thread's next step next, or puts its thread back where there is no step
 abbrev pub at_event : Phase → Running → Processor
 at_event phase r = with_todo r (showing (steps_behind r.visited r.context.value.pending) (todo_after phase (born r.newborn)))
+
+abbrev pub shows_next : Running → Processor
+shows_next r = at_event r.phase r
 
 -- the processor behind the event, by which the thread's own part became this
 abbrev pub behind_event : Image → Phase → Context → Running → Processor

@@ -2,9 +2,11 @@
 use Rattle.std.specs.Prelude.{◌≡◌, ℕ}
 use Rattle.um_base.specs.declared.image.Image.{Image}
 use Rattle.um_fine.specs.Processor.{Processor}
+use Rattle.um_processor.specs.declared.here.Here.{Here}
 use Rattle.um_processor.specs.declared.phase.Turn.{Turn}
+use Rattle.um_processor.specs.declared.running.Running.{Running}
 use Rattle.um_processor.specs.declared.sites.Sites.{Ghosts as SitesOf}
-use Rattle.um_processor.specs.Processors.{MayNext, Turned}
+use Rattle.um_processor.specs.Processors.{MayNext, Turned, UnlessMade, processor_of}
 
 -- whatever step the processor of this number asks for next, the sites let it make
 abbrev pub MayTurn : {S : Type 0} → SitesOf S → ℕ → Image → S → Processor → Type 0
@@ -19,3 +21,16 @@ TurnsAt sites turn cpu image s t p z =
     (λ e. sites.Kept s t × sites.Shut image s e t)
     (λ site. sites.Kept s t × sites.Contended image s site t)
     (t ≡ s)
+
+-- what a step here asks for: the sites are those of the image, and let this processor make its next step
+abbrev pub CanTurn : {S : Type 0} → SitesOf S → Here → S → Processor → Type 0
+CanTurn sites here s p = sites.IsOf here.image.now s × MayTurn sites here.cpu here.image.now s p
+
+-- What comes of it: the sites are still those of the image; unless a step was made, the processor that was y is as before; and its turn leaves it z.
+abbrev pub HasTurned : {S : Type 0} → SitesOf S → Turn → Here → S → S → Processor → Processor → Processor → Type 0
+HasTurned sites turn here s t p y z =
+    sites.IsOf here.image.now t × UnlessMade turn (z ≡ y) × TurnsAt sites turn here.cpu here.image.now s t p z
+
+-- the same of a processor that its thread's steps keep busy
+abbrev pub HasRun : {S : Type 0} → SitesOf S → Turn → Here → S → S → Processor → Running → Running → Type 0
+HasRun sites turn here s t p r q = HasTurned sites turn here s t p (processor_of r) (processor_of q)

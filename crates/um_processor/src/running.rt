@@ -21,7 +21,8 @@ mod turns;
 mod visits;
 mod works;
 
-ghost use Rattle.std.specs.Prelude.{◌≡◌, IfOk};
+ghost use Rattle.std.specs.Prelude.{◌≡◌, ◌<◌, IfOk};
+ghost use Rattle.um_base.specs.declared.limits.TheConstants.{THREADS};
 ghost use Rattle.um_fine.specs.Processor.{idle};
 ghost use Rattle.um_processor.specs.{Phases.{is_idle}, Processors.{processor_of}};
 
@@ -132,7 +133,8 @@ impl Running {
 
     /// Its thread.
     pub fn thread(&self) -> ThreadIx
-        ensures { result.0 ≡ self.now.context.value.thread }
+        ensures value { result.0 ≡ self.now.context.value.thread }
+        ensures small { result.0 < THREADS }
     {
         ThreadIx(self.context.thread())
     }

@@ -10,3 +10,16 @@ pub enum Said<T> {
     /// Another step came before it: nothing was made.
     Changed,
 }
+
+/// What the site says of a step that was made. Where none was, the turn of the function around it ends.
+macro_rules! made {
+    ($said:expr) => {
+        match $said {
+            $crate::Said::Made(said) => said,
+            $crate::Said::Busy => return $crate::Turn::Busy,
+            $crate::Said::Changed => return $crate::Turn::Changed,
+        }
+    };
+}
+
+pub(crate) use made;

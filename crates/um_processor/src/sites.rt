@@ -33,6 +33,7 @@ ghost use Rattle.um_processor.specs.{
 use crate::context::Context;
 use crate::domain_act::DomainAct;
 use crate::heap_act::{HeapAct, HeapSaid};
+use crate::here::Here;
 use crate::memory_act::{MemoryAct, MemorySaid};
 use crate::row_act::{RowAct, RowSaid};
 use crate::said::Said;
@@ -67,216 +68,190 @@ pub trait Sites {
     ghost Contended: { Image → Self → Site → Self → Type 0 };
 
     /// A step at the word of a row, and what the word says.
-    fn row(&mut self, image: &Image, cpu: u8, row: Row, act: &RowAct) -> Said<RowSaid>
-        requires image { IsOf image.now self.old }
+    fn row(&mut self, here: &Here, row: Row, act: &RowAct) -> Said<RowSaid>
+        requires image { IsOf here.now.image.now self.old }
         requires row { row.0 < ROWS }
-        requires goes { (w : RowWord) → May image.now self.old (row_made image.now cpu row.0 w act.now) }
-        ensures image { IsOf image.now self.new }
+        requires goes { (w : RowWord) → May here.now.image.now self.old (row_made here.now.image.now here.now.cpu row.0 w act.now) }
+        ensures image { IsOf here.now.image.now self.new }
         ensures said { MatchSaid result
-            (λ said. (w : RowWord) × Took image.now self.old (row_made image.now cpu row.0 w act.now) self.new × (said ≡ row_said (row_made image.now cpu row.0 w act.now)))
-            ((w : RowWord) × Kept self.old self.new × Shut image.now self.old (row_made image.now cpu row.0 w act.now) self.new)
-            (Kept self.old self.new × Contended image.now self.old (Site.row row.0) self.new) };
+            (λ said. (w : RowWord) × Took here.now.image.now self.old (row_made here.now.image.now here.now.cpu row.0 w act.now) self.new × (said ≡ row_said (row_made here.now.image.now here.now.cpu row.0 w act.now)))
+            ((w : RowWord) × Kept self.old self.new × Shut here.now.image.now self.old (row_made here.now.image.now here.now.cpu row.0 w act.now) self.new)
+            (Kept self.old self.new × Contended here.now.image.now self.old (Site.row row.0) self.new) };
 
     /// A step at the word of a thread index, and the word that it leaves.
-    fn thread(
-        &mut self,
-        image: &Image,
-        cpu: u8,
-        thread: ThreadIx,
-        act: &ThreadAct,
-    ) -> Said<ThreadWord>
-        requires image { IsOf image.now self.old }
+    fn thread(&mut self, here: &Here, thread: ThreadIx, act: &ThreadAct) -> Said<ThreadWord>
+        requires image { IsOf here.now.image.now self.old }
         requires thread { thread.0 < THREADS }
-        requires goes { (w : ThreadWord) → May image.now self.old (thread_made image.now cpu thread.0 w act.now) }
-        ensures image { IsOf image.now self.new }
+        requires goes { (w : ThreadWord) → May here.now.image.now self.old (thread_made here.now.image.now here.now.cpu thread.0 w act.now) }
+        ensures image { IsOf here.now.image.now self.new }
         ensures domain { IfMade result (λ word. word.domain < DOMAINS) }
         ensures said { MatchSaid result
-            (λ word. (w : ThreadWord) × Took image.now self.old (thread_made image.now cpu thread.0 w act.now) self.new × (word ≡ thread_in (thread_made image.now cpu thread.0 w act.now).word))
-            ((w : ThreadWord) × Kept self.old self.new × Shut image.now self.old (thread_made image.now cpu thread.0 w act.now) self.new)
-            (Kept self.old self.new × Contended image.now self.old (Site.thread thread.0) self.new) };
+            (λ word. (w : ThreadWord) × Took here.now.image.now self.old (thread_made here.now.image.now here.now.cpu thread.0 w act.now) self.new × (word ≡ thread_in (thread_made here.now.image.now here.now.cpu thread.0 w act.now).word))
+            ((w : ThreadWord) × Kept self.old self.new × Shut here.now.image.now self.old (thread_made here.now.image.now here.now.cpu thread.0 w act.now) self.new)
+            (Kept self.old self.new × Contended here.now.image.now self.old (Site.thread thread.0) self.new) };
 
     /// A step at the word of a domain, and the word that it leaves.
-    fn domain(&mut self, image: &Image, cpu: u8, domain: u8, act: &DomainAct) -> Said<DomWord>
-        requires image { IsOf image.now self.old }
+    fn domain(&mut self, here: &Here, domain: u8, act: &DomainAct) -> Said<DomWord>
+        requires image { IsOf here.now.image.now self.old }
         requires domain { domain < DOMAINS }
-        requires goes { (w : DomWord) → May image.now self.old (domain_made image.now cpu domain w act.now) }
-        ensures image { IsOf image.now self.new }
+        requires goes { (w : DomWord) → May here.now.image.now self.old (domain_made here.now.image.now here.now.cpu domain w act.now) }
+        ensures image { IsOf here.now.image.now self.new }
         ensures said { MatchSaid result
-            (λ word. (w : DomWord) × Took image.now self.old (domain_made image.now cpu domain w act.now) self.new × (word ≡ domain_in (domain_made image.now cpu domain w act.now).word))
-            ((w : DomWord) × Kept self.old self.new × Shut image.now self.old (domain_made image.now cpu domain w act.now) self.new)
-            (Kept self.old self.new × Contended image.now self.old (Site.domain domain) self.new) };
+            (λ word. (w : DomWord) × Took here.now.image.now self.old (domain_made here.now.image.now here.now.cpu domain w act.now) self.new × (word ≡ domain_in (domain_made here.now.image.now here.now.cpu domain w act.now).word))
+            ((w : DomWord) × Kept self.old self.new × Shut here.now.image.now self.old (domain_made here.now.image.now here.now.cpu domain w act.now) self.new)
+            (Kept self.old self.new × Contended here.now.image.now self.old (Site.domain domain) self.new) };
 
     /// The partitions of a domain are read for a region table: none where it isn't initialised.
-    fn load_parts(&mut self, image: &Image, cpu: u8, domain: u8, parts: &mut Parts) -> Said<()>
-        requires image { IsOf image.now self.old }
+    fn load_parts(&mut self, here: &Here, domain: u8, parts: &mut Parts) -> Said<()>
+        requires image { IsOf here.now.image.now self.old }
         requires domain { domain < DOMAINS }
-        requires goes { (n : ℕ) (before : Option Partitions) → May image.now self.old (loaded_made image.now cpu domain n before) }
-        ensures image { IsOf image.now self.new }
+        requires goes { (n : ℕ) (before : Option Partitions) → May here.now.image.now self.old (loaded_made here.now.image.now here.now.cpu domain n before) }
+        ensures image { IsOf here.now.image.now self.new }
         ensures said { MatchSaid result
-            (λ said. (n : ℕ) × (before : Option Partitions) × Took image.now self.old (loaded_made image.now cpu domain n before) self.new × ((loaded_made image.now cpu domain n before).moved ≡ Exchange.parts parts.new))
-            ((n : ℕ) × (before : Option Partitions) × Kept self.old self.new × Shut image.now self.old (loaded_made image.now cpu domain n before) self.new × (parts.new ≡ parts.old))
-            (Kept self.old self.new × Contended image.now self.old (Site.parts domain) self.new × (parts.new ≡ parts.old)) };
+            (λ said. (n : ℕ) × (before : Option Partitions) × Took here.now.image.now self.old (loaded_made here.now.image.now here.now.cpu domain n before) self.new × ((loaded_made here.now.image.now here.now.cpu domain n before).moved ≡ Exchange.parts parts.new))
+            ((n : ℕ) × (before : Option Partitions) × Kept self.old self.new × Shut here.now.image.now self.old (loaded_made here.now.image.now here.now.cpu domain n before) self.new × (parts.new ≡ parts.old))
+            (Kept self.old self.new × Contended here.now.image.now self.old (Site.parts domain) self.new × (parts.new ≡ parts.old)) };
 
     /// The partitions of a domain become what a call makes of them, which is a step of its thread. Answers its reply.
-    fn edit(&mut self, image: &Image, cpu: u8, domain: u8, call: &Pending) -> Said<Reply>
-        requires image { IsOf image.now self.old }
+    fn edit(&mut self, here: &Here, domain: u8, call: &Pending) -> Said<Reply>
+        requires image { IsOf here.now.image.now self.old }
         requires domain { domain < DOMAINS }
-        requires goes { (n : ℕ) (before : Option Partitions) → May image.now self.old (edited_made image.now cpu domain n before call.now) }
-        ensures image { IsOf image.now self.new }
+        requires goes { (n : ℕ) (before : Option Partitions) → May here.now.image.now self.old (edited_made here.now.image.now here.now.cpu domain n before call.now) }
+        ensures image { IsOf here.now.image.now self.new }
         ensures said { MatchSaid result
-            (λ reply. (n : ℕ) × (before : Option Partitions) × Took image.now self.old (edited_made image.now cpu domain n before call.now) self.new × (reply ≡ reply_to (edit_of image.now call.now before)))
-            ((n : ℕ) × (before : Option Partitions) × Kept self.old self.new × Shut image.now self.old (edited_made image.now cpu domain n before call.now) self.new)
-            (Kept self.old self.new × Contended image.now self.old (Site.parts domain) self.new) };
+            (λ reply. (n : ℕ) × (before : Option Partitions) × Took here.now.image.now self.old (edited_made here.now.image.now here.now.cpu domain n before call.now) self.new × (reply ≡ reply_to (edit_of here.now.image.now call.now before)))
+            ((n : ℕ) × (before : Option Partitions) × Kept self.old self.new × Shut here.now.image.now self.old (edited_made here.now.image.now here.now.cpu domain n before call.now) self.new)
+            (Kept self.old self.new × Contended here.now.image.now self.old (Site.parts domain) self.new) };
 
     /// A call's work on the object of a row, at this address. Writes what comes of it.
     fn work(
         &mut self,
-        image: &Image,
-        cpu: u8,
+        here: &Here,
         row: Row,
         addr: Addr,
         who: &Waiter,
         outcome: &mut Outcome,
     ) -> Said<()>
-        requires image { IsOf image.now self.old }
+        requires image { IsOf here.now.image.now self.old }
         requires row { row.0 < ROWS }
         requires thread { who.now.thread.0 < THREADS }
         requires sound { IsTrue (is_sound_ask who.now.ask) }
-        requires goes { (n : ℕ) (o : ObjectCell) → May image.now self.old (worked_made image.now cpu row.0 n o addr who.now) }
-        ensures image { IsOf image.now self.new }
+        requires goes { (n : ℕ) (o : ObjectCell) → May here.now.image.now self.old (worked_made here.now.image.now here.now.cpu row.0 n o addr who.now) }
+        ensures image { IsOf here.now.image.now self.new }
         ensures said { MatchSaid result
-            (λ said. (n : ℕ) × (o : ObjectCell) × Took image.now self.old (worked_made image.now cpu row.0 n o addr who.now) self.new × ((worked_made image.now cpu row.0 n o addr who.now).moved ≡ Exchange.asked who.now (outcome_by outcome.new)))
-            ((n : ℕ) × (o : ObjectCell) × Kept self.old self.new × Shut image.now self.old (worked_made image.now cpu row.0 n o addr who.now) self.new × (outcome.new ≡ outcome.old))
-            (Kept self.old self.new × Contended image.now self.old (Site.object row.0) self.new × (outcome.new ≡ outcome.old)) };
+            (λ said. (n : ℕ) × (o : ObjectCell) × Took here.now.image.now self.old (worked_made here.now.image.now here.now.cpu row.0 n o addr who.now) self.new × ((worked_made here.now.image.now here.now.cpu row.0 n o addr who.now).moved ≡ Exchange.asked who.now (outcome_by outcome.new)))
+            ((n : ℕ) × (o : ObjectCell) × Kept self.old self.new × Shut here.now.image.now self.old (worked_made here.now.image.now here.now.cpu row.0 n o addr who.now) self.new × (outcome.new ≡ outcome.old))
+            (Kept self.old self.new × Contended here.now.image.now self.old (Site.object row.0) self.new × (outcome.new ≡ outcome.old)) };
 
     /// A thread gives a thread object, which is that of a row, this name.
     fn name(
         &mut self,
-        image: &Image,
-        cpu: u8,
+        here: &Here,
         row: Row,
         thread: ThreadIx,
         who: ThreadIx,
         bytes: &Piece,
     ) -> Said<()>
-        requires image { IsOf image.now self.old }
+        requires image { IsOf here.now.image.now self.old }
         requires row { row.0 < ROWS }
-        requires goes { (n : ℕ) (o : ObjectCell) → May image.now self.old (named_made image.now cpu row.0 n o thread who bytes.now) }
-        ensures image { IsOf image.now self.new }
+        requires goes { (n : ℕ) (o : ObjectCell) → May here.now.image.now self.old (named_made here.now.image.now here.now.cpu row.0 n o thread who bytes.now) }
+        ensures image { IsOf here.now.image.now self.new }
         ensures said { MatchSaid result
-            (λ said. (n : ℕ) × (o : ObjectCell) × Took image.now self.old (named_made image.now cpu row.0 n o thread who bytes.now) self.new)
-            ((n : ℕ) × (o : ObjectCell) × Kept self.old self.new × Shut image.now self.old (named_made image.now cpu row.0 n o thread who bytes.now) self.new)
-            (Kept self.old self.new × Contended image.now self.old (Site.object row.0) self.new) };
+            (λ said. (n : ℕ) × (o : ObjectCell) × Took here.now.image.now self.old (named_made here.now.image.now here.now.cpu row.0 n o thread who bytes.now) self.new)
+            ((n : ℕ) × (o : ObjectCell) × Kept self.old self.new × Shut here.now.image.now self.old (named_made here.now.image.now here.now.cpu row.0 n o thread who bytes.now) self.new)
+            (Kept self.old self.new × Contended here.now.image.now self.old (Site.object row.0) self.new) };
 
     /// A look at the size of the messages of the object of a row: 0 where it is no queue.
-    fn message_size(&mut self, image: &Image, cpu: u8, row: Row) -> Said<u32>
-        requires image { IsOf image.now self.old }
+    fn message_size(&mut self, here: &Here, row: Row) -> Said<u32>
+        requires image { IsOf here.now.image.now self.old }
         requires row { row.0 < ROWS }
-        requires goes { (n : ℕ) (o : ObjectCell) → May image.now self.old (looked_made image.now cpu row.0 n o) }
-        ensures image { IsOf image.now self.new }
+        requires goes { (n : ℕ) (o : ObjectCell) → May here.now.image.now self.old (looked_made here.now.image.now here.now.cpu row.0 n o) }
+        ensures image { IsOf here.now.image.now self.new }
         ensures said { MatchSaid result
-            (λ size. (n : ℕ) × (o : ObjectCell) × Took image.now self.old (looked_made image.now cpu row.0 n o) self.new × ((looked_made image.now cpu row.0 n o).moved ≡ Exchange.size size))
-            ((n : ℕ) × (o : ObjectCell) × Kept self.old self.new × Shut image.now self.old (looked_made image.now cpu row.0 n o) self.new)
-            (Kept self.old self.new × Contended image.now self.old (Site.object row.0) self.new) };
+            (λ size. (n : ℕ) × (o : ObjectCell) × Took here.now.image.now self.old (looked_made here.now.image.now here.now.cpu row.0 n o) self.new × ((looked_made here.now.image.now here.now.cpu row.0 n o).moved ≡ Exchange.size size))
+            ((n : ℕ) × (o : ObjectCell) × Kept self.old self.new × Shut here.now.image.now self.old (looked_made here.now.image.now here.now.cpu row.0 n o) self.new)
+            (Kept self.old self.new × Contended here.now.image.now self.old (Site.object row.0) self.new) };
 
     /// What the object of a row keeps is cleared. Answers what its buffer cost.
-    fn clear(&mut self, image: &Image, cpu: u8, row: Row) -> Said<Option<Cost>>
-        requires image { IsOf image.now self.old }
+    fn clear(&mut self, here: &Here, row: Row) -> Said<Option<Cost>>
+        requires image { IsOf here.now.image.now self.old }
         requires row { row.0 < ROWS }
-        requires goes { (n : ℕ) (o : ObjectCell) → May image.now self.old (cleared_made image.now cpu row.0 n o) }
-        ensures image { IsOf image.now self.new }
+        requires goes { (n : ℕ) (o : ObjectCell) → May here.now.image.now self.old (cleared_made here.now.image.now here.now.cpu row.0 n o) }
+        ensures image { IsOf here.now.image.now self.new }
         ensures said { MatchSaid result
-            (λ cost. (n : ℕ) × (o : ObjectCell) × Took image.now self.old (cleared_made image.now cpu row.0 n o) self.new × ((cleared_made image.now cpu row.0 n o).moved ≡ Exchange.charge cost))
-            ((n : ℕ) × (o : ObjectCell) × Kept self.old self.new × Shut image.now self.old (cleared_made image.now cpu row.0 n o) self.new)
-            (Kept self.old self.new × Contended image.now self.old (Site.object row.0) self.new) };
+            (λ cost. (n : ℕ) × (o : ObjectCell) × Took here.now.image.now self.old (cleared_made here.now.image.now here.now.cpu row.0 n o) self.new × ((cleared_made here.now.image.now here.now.cpu row.0 n o).moved ≡ Exchange.charge cost))
+            ((n : ℕ) × (o : ObjectCell) × Kept self.old self.new × Shut here.now.image.now self.old (cleared_made here.now.image.now here.now.cpu row.0 n o) self.new)
+            (Kept self.old self.new × Contended here.now.image.now self.old (Site.object row.0) self.new) };
 
     /// A step at the memory's cell, and what the cell says. A copy reads or writes the buffer.
-    fn memory(
-        &mut self,
-        image: &Image,
-        cpu: u8,
-        act: &MemoryAct,
-        buffer: &mut Piece,
-    ) -> Said<MemorySaid>
-        requires image { IsOf image.now self.old }
+    fn memory(&mut self, here: &Here, act: &MemoryAct, buffer: &mut Piece) -> Said<MemorySaid>
+        requires image { IsOf here.now.image.now self.old }
         requires few { IsTrue (has_room act.now) }
-        requires goes { (n : ℕ) (m : Bytes) → May image.now self.old (memory_made image.now cpu n m act.now buffer.old) }
-        ensures image { IsOf image.now self.new }
+        requires goes { (n : ℕ) (m : Bytes) → May here.now.image.now self.old (memory_made here.now.image.now here.now.cpu n m act.now buffer.old) }
+        ensures image { IsOf here.now.image.now self.new }
         ensures said { MatchSaid result
-            (λ said. (n : ℕ) × (m : Bytes) × Took image.now self.old (memory_made image.now cpu n m act.now buffer.old) self.new × Tells (memory_made image.now cpu n m act.now buffer.old) said buffer.old buffer.new)
-            ((n : ℕ) × (m : Bytes) × Kept self.old self.new × Shut image.now self.old (memory_made image.now cpu n m act.now buffer.old) self.new × (buffer.new ≡ buffer.old))
-            (Kept self.old self.new × Contended image.now self.old Site.memory self.new × (buffer.new ≡ buffer.old)) };
+            (λ said. (n : ℕ) × (m : Bytes) × Took here.now.image.now self.old (memory_made here.now.image.now here.now.cpu n m act.now buffer.old) self.new × Tells (memory_made here.now.image.now here.now.cpu n m act.now buffer.old) said buffer.old buffer.new)
+            ((n : ℕ) × (m : Bytes) × Kept self.old self.new × Shut here.now.image.now self.old (memory_made here.now.image.now here.now.cpu n m act.now buffer.old) self.new × (buffer.new ≡ buffer.old))
+            (Kept self.old self.new × Contended here.now.image.now self.old Site.memory self.new × (buffer.new ≡ buffer.old)) };
 
     /// A step at the heap's cell, where a pool pays this or gets it back, and what the cell says.
-    fn heap(
-        &mut self,
-        image: &Image,
-        cpu: u8,
-        act: &HeapAct,
-        charge: Option<Cost>,
-    ) -> Said<HeapSaid>
-        requires image { IsOf image.now self.old }
-        requires goes { (n : ℕ) (h : Heap) → May image.now self.old (heap_made image.now cpu n h act.now charge) }
-        ensures image { IsOf image.now self.new }
+    fn heap(&mut self, here: &Here, act: &HeapAct, charge: Option<Cost>) -> Said<HeapSaid>
+        requires image { IsOf here.now.image.now self.old }
+        requires goes { (n : ℕ) (h : Heap) → May here.now.image.now self.old (heap_made here.now.image.now here.now.cpu n h act.now charge) }
+        ensures image { IsOf here.now.image.now self.new }
         ensures said { MatchSaid result
-            (λ said. (n : ℕ) × (h : Heap) × Took image.now self.old (heap_made image.now cpu n h act.now charge) self.new × (said ≡ heap_said (heap_made image.now cpu n h act.now charge).act))
-            ((n : ℕ) × (h : Heap) × Kept self.old self.new × Shut image.now self.old (heap_made image.now cpu n h act.now charge) self.new)
-            (Kept self.old self.new × Contended image.now self.old Site.heap self.new) };
+            (λ said. (n : ℕ) × (h : Heap) × Took here.now.image.now self.old (heap_made here.now.image.now here.now.cpu n h act.now charge) self.new × (said ≡ heap_said (heap_made here.now.image.now here.now.cpu n h act.now charge).act))
+            ((n : ℕ) × (h : Heap) × Kept self.old self.new × Shut here.now.image.now self.old (heap_made here.now.image.now here.now.cpu n h act.now charge) self.new)
+            (Kept self.old self.new × Contended here.now.image.now self.old Site.heap self.new) };
 
     /// The first ready thread is taken, for the room that is given for it. Answers whether it was woken, and by what.
-    fn take(
-        &mut self,
-        image: &Image,
-        cpu: u8,
-        context: &mut Box<Context>,
-        told: &mut Told,
-    ) -> Said<bool>
-        requires image { IsOf image.now self.old }
-        requires goes { (n : ℕ) (s : Scheduler) → May image.now self.old (taken_made image.now cpu n s) }
-        ensures image { IsOf image.now self.new }
+    fn take(&mut self, here: &Here, context: &mut Box<Context>, told: &mut Told) -> Said<bool>
+        requires image { IsOf here.now.image.now self.old }
+        requires goes { (n : ℕ) (s : Scheduler) → May here.now.image.now self.old (taken_made here.now.image.now here.now.cpu n s) }
+        ensures image { IsOf here.now.image.now self.new }
         ensures said { MatchSaid result
-            (λ woken. (n : ℕ) × (s : Scheduler) × Took image.now self.old (taken_made image.now cpu n s) self.new × ((taken_made image.now cpu n s).moved ≡ Exchange.thread context.new.value (some_if woken told.new)))
-            ((n : ℕ) × (s : Scheduler) × Kept self.old self.new × Shut image.now self.old (taken_made image.now cpu n s) self.new × (context.new ≡ context.old) × (told.new ≡ told.old))
-            (Kept self.old self.new × Contended image.now self.old Site.scheduler self.new × (context.new ≡ context.old) × (told.new ≡ told.old)) };
+            (λ woken. (n : ℕ) × (s : Scheduler) × Took here.now.image.now self.old (taken_made here.now.image.now here.now.cpu n s) self.new × ((taken_made here.now.image.now here.now.cpu n s).moved ≡ Exchange.thread context.new.value (some_if woken told.new)))
+            ((n : ℕ) × (s : Scheduler) × Kept self.old self.new × Shut here.now.image.now self.old (taken_made here.now.image.now here.now.cpu n s) self.new × (context.new ≡ context.old) × (told.new ≡ told.old))
+            (Kept self.old self.new × Contended here.now.image.now self.old Site.scheduler self.new × (context.new ≡ context.old) × (told.new ≡ told.old)) };
 
     /// A thread is told what woke it.
-    fn wake(&mut self, image: &Image, cpu: u8, who: ThreadIx, told: &Told) -> Said<()>
-        requires image { IsOf image.now self.old }
+    fn wake(&mut self, here: &Here, who: ThreadIx, told: &Told) -> Said<()>
+        requires image { IsOf here.now.image.now self.old }
         requires thread { who.0 < THREADS }
-        requires goes { (n : ℕ) (s : Scheduler) → May image.now self.old (woken_made image.now cpu n s who told.now) }
-        ensures image { IsOf image.now self.new }
+        requires goes { (n : ℕ) (s : Scheduler) → May here.now.image.now self.old (woken_made here.now.image.now here.now.cpu n s who told.now) }
+        ensures image { IsOf here.now.image.now self.new }
         ensures said { MatchSaid result
-            (λ said. (n : ℕ) × (s : Scheduler) × Took image.now self.old (woken_made image.now cpu n s who told.now) self.new)
-            ((n : ℕ) × (s : Scheduler) × Kept self.old self.new × Shut image.now self.old (woken_made image.now cpu n s who told.now) self.new)
-            (Kept self.old self.new × Contended image.now self.old Site.scheduler self.new) };
+            (λ said. (n : ℕ) × (s : Scheduler) × Took here.now.image.now self.old (woken_made here.now.image.now here.now.cpu n s who told.now) self.new)
+            ((n : ℕ) × (s : Scheduler) × Kept self.old self.new × Shut here.now.image.now self.old (woken_made here.now.image.now here.now.cpu n s who told.now) self.new)
+            (Kept self.old self.new × Contended here.now.image.now self.old Site.scheduler self.new) };
 
     /// A new thread gets ready, for the room that was there. What is in that room, nothing says.
-    fn add(&mut self, image: &Image, cpu: u8, context: &mut Box<Context>) -> Said<()>
-        requires image { IsOf image.now self.old }
-        requires goes { (n : ℕ) (s : Scheduler) → May image.now self.old (added_made image.now cpu n s context.old.value) }
-        ensures image { IsOf image.now self.new }
+    fn add(&mut self, here: &Here, context: &mut Box<Context>) -> Said<()>
+        requires image { IsOf here.now.image.now self.old }
+        requires goes { (n : ℕ) (s : Scheduler) → May here.now.image.now self.old (added_made here.now.image.now here.now.cpu n s context.old.value) }
+        ensures image { IsOf here.now.image.now self.new }
         ensures said { MatchSaid result
-            (λ said. (n : ℕ) × (s : Scheduler) × Took image.now self.old (added_made image.now cpu n s context.old.value) self.new)
-            ((n : ℕ) × (s : Scheduler) × Kept self.old self.new × Shut image.now self.old (added_made image.now cpu n s context.old.value) self.new × (context.new ≡ context.old))
-            (Kept self.old self.new × Contended image.now self.old Site.scheduler self.new × (context.new ≡ context.old)) };
+            (λ said. (n : ℕ) × (s : Scheduler) × Took here.now.image.now self.old (added_made here.now.image.now here.now.cpu n s context.old.value) self.new)
+            ((n : ℕ) × (s : Scheduler) × Kept self.old self.new × Shut here.now.image.now self.old (added_made here.now.image.now here.now.cpu n s context.old.value) self.new × (context.new ≡ context.old))
+            (Kept self.old self.new × Contended here.now.image.now self.old Site.scheduler self.new × (context.new ≡ context.old)) };
 
     /// A thread is put back, for the room that was there. What is in that room, nothing says.
-    fn park(&mut self, image: &Image, cpu: u8, context: &mut Box<Context>) -> Said<()>
-        requires image { IsOf image.now self.old }
-        requires goes { (n : ℕ) (s : Scheduler) → May image.now self.old (parked_made image.now cpu n s context.old.value) }
-        ensures image { IsOf image.now self.new }
+    fn park(&mut self, here: &Here, context: &mut Box<Context>) -> Said<()>
+        requires image { IsOf here.now.image.now self.old }
+        requires goes { (n : ℕ) (s : Scheduler) → May here.now.image.now self.old (parked_made here.now.image.now here.now.cpu n s context.old.value) }
+        ensures image { IsOf here.now.image.now self.new }
         ensures said { MatchSaid result
-            (λ said. (n : ℕ) × (s : Scheduler) × Took image.now self.old (parked_made image.now cpu n s context.old.value) self.new)
-            ((n : ℕ) × (s : Scheduler) × Kept self.old self.new × Shut image.now self.old (parked_made image.now cpu n s context.old.value) self.new × (context.new ≡ context.old))
-            (Kept self.old self.new × Contended image.now self.old Site.scheduler self.new × (context.new ≡ context.old)) };
+            (λ said. (n : ℕ) × (s : Scheduler) × Took here.now.image.now self.old (parked_made here.now.image.now here.now.cpu n s context.old.value) self.new)
+            ((n : ℕ) × (s : Scheduler) × Kept self.old self.new × Shut here.now.image.now self.old (parked_made here.now.image.now here.now.cpu n s context.old.value) self.new × (context.new ≡ context.old))
+            (Kept self.old self.new × Contended here.now.image.now self.old Site.scheduler self.new × (context.new ≡ context.old)) };
 
     /// A thread that isn't put back doesn't run any longer.
-    fn done(&mut self, image: &Image, cpu: u8) -> Said<()>
-        requires image { IsOf image.now self.old }
-        requires goes { (n : ℕ) (s : Scheduler) → May image.now self.old (done_made image.now cpu n s) }
-        ensures image { IsOf image.now self.new }
+    fn done(&mut self, here: &Here) -> Said<()>
+        requires image { IsOf here.now.image.now self.old }
+        requires goes { (n : ℕ) (s : Scheduler) → May here.now.image.now self.old (done_made here.now.image.now here.now.cpu n s) }
+        ensures image { IsOf here.now.image.now self.new }
         ensures said { MatchSaid result
-            (λ said. (n : ℕ) × (s : Scheduler) × Took image.now self.old (done_made image.now cpu n s) self.new)
-            ((n : ℕ) × (s : Scheduler) × Kept self.old self.new × Shut image.now self.old (done_made image.now cpu n s) self.new)
-            (Kept self.old self.new × Contended image.now self.old Site.scheduler self.new) };
+            (λ said. (n : ℕ) × (s : Scheduler) × Took here.now.image.now self.old (done_made here.now.image.now here.now.cpu n s) self.new)
+            ((n : ℕ) × (s : Scheduler) × Kept self.old self.new × Shut here.now.image.now self.old (done_made here.now.image.now here.now.cpu n s) self.new)
+            (Kept self.old self.new × Contended here.now.image.now self.old Site.scheduler self.new) };
 }

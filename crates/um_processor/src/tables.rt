@@ -10,6 +10,7 @@ use crate::domain_act::DomainAct;
 use crate::domain_cell::{DomainCell, edited, parts_or_none};
 use crate::heap::Heap;
 use crate::heap_act::{HeapAct, HeapSaid};
+use crate::here::Here;
 use crate::log::{is_full, named, note, resumed, worked};
 use crate::memory_act::{MemoryAct, MemorySaid};
 use crate::object_cell::ObjectCell;
@@ -158,7 +159,7 @@ impl Sites for Tables {
 
     ghost Contended = { λ image old site new. IsFull old };
 
-    fn row(&mut self, image: &Image, cpu: u8, row: Row, act: &RowAct) -> Said<RowSaid> {
+    fn row(&mut self, here: &Here, row: Row, act: &RowAct) -> Said<RowSaid> {
         if is_full(&self.log) {
             return Said::Changed;
         }
@@ -171,13 +172,7 @@ impl Sites for Tables {
         Said::Made(said)
     }
 
-    fn thread(
-        &mut self,
-        image: &Image,
-        cpu: u8,
-        thread: ThreadIx,
-        act: &ThreadAct,
-    ) -> Said<ThreadWord> {
+    fn thread(&mut self, here: &Here, thread: ThreadIx, act: &ThreadAct) -> Said<ThreadWord> {
         if is_full(&self.log) {
             return Said::Changed;
         }
@@ -190,7 +185,7 @@ impl Sites for Tables {
         Said::Made(next)
     }
 
-    fn domain(&mut self, image: &Image, cpu: u8, domain: u8, act: &DomainAct) -> Said<DomWord> {
+    fn domain(&mut self, here: &Here, domain: u8, act: &DomainAct) -> Said<DomWord> {
         if is_full(&self.log) {
             return Said::Changed;
         }
@@ -203,7 +198,7 @@ impl Sites for Tables {
         Said::Made(next)
     }
 
-    fn load_parts(&mut self, image: &Image, cpu: u8, domain: u8, parts: &mut Parts) -> Said<()> {
+    fn load_parts(&mut self, here: &Here, domain: u8, parts: &mut Parts) -> Said<()> {
         let cell = &mut self.domain_cells[domain as usize];
         if cell.steps >= LAST {
             return Said::Busy;
@@ -213,12 +208,12 @@ impl Sites for Tables {
         Said::Made(())
     }
 
-    fn edit(&mut self, image: &Image, cpu: u8, domain: u8, call: &Pending) -> Said<Reply> {
+    fn edit(&mut self, here: &Here, domain: u8, call: &Pending) -> Said<Reply> {
         let cell = &mut self.domain_cells[domain as usize];
         if cell.steps >= LAST {
             return Said::Busy;
         }
-        let (parts, reply) = edited(image, call, &cell.parts);
+        let (parts, reply) = edited(here.image, call, &cell.parts);
         cell.parts = parts;
         cell.steps += 1;
         Said::Made(reply)
@@ -226,8 +221,7 @@ impl Sites for Tables {
 
     fn work(
         &mut self,
-        image: &Image,
-        cpu: u8,
+        here: &Here,
         row: Row,
         addr: Addr,
         who: &Waiter,
@@ -248,8 +242,7 @@ impl Sites for Tables {
 
     fn name(
         &mut self,
-        image: &Image,
-        cpu: u8,
+        here: &Here,
         row: Row,
         thread: ThreadIx,
         who: ThreadIx,
@@ -268,7 +261,7 @@ impl Sites for Tables {
         Said::Made(())
     }
 
-    fn message_size(&mut self, image: &Image, cpu: u8, row: Row) -> Said<u32> {
+    fn message_size(&mut self, here: &Here, row: Row) -> Said<u32> {
         let cell = &mut self.objects[row.0 as usize];
         if cell.steps >= LAST {
             return Said::Busy;
@@ -278,7 +271,7 @@ impl Sites for Tables {
         Said::Made(size)
     }
 
-    fn clear(&mut self, image: &Image, cpu: u8, row: Row) -> Said<Option<Cost>> {
+    fn clear(&mut self, here: &Here, row: Row) -> Said<Option<Cost>> {
         let cell = &mut self.objects[row.0 as usize];
         if cell.steps >= LAST {
             return Said::Busy;
@@ -288,51 +281,35 @@ impl Sites for Tables {
         Said::Made(buffer)
     }
 
-    fn memory(
-        &mut self,
-        image: &Image,
-        cpu: u8,
-        act: &MemoryAct,
-        buffer: &mut Piece,
-    ) -> Said<MemorySaid> {
+    fn memory(&mut self, here: &Here, act: &MemoryAct, buffer: &mut Piece) -> Said<MemorySaid> {
         if is_full(&self.log) {
             return Said::Changed;
         }
         if self.memory_steps >= LAST {
             return Said::Busy;
         }
-        let said = self.memory.make(image, self.rodata.as_slice(), act, buffer);
+        let said = self
+            .memory
+            .make(here.image, self.rodata.as_slice(), act, buffer);
         self.memory_steps += 1;
         note(&mut self.log, &act.event(&said));
         Said::Made(said)
     }
 
-    fn heap(
-        &mut self,
-        image: &Image,
-        cpu: u8,
-        act: &HeapAct,
-        charge: Option<Cost>,
-    ) -> Said<HeapSaid> {
+    fn heap(&mut self, here: &Here, act: &HeapAct, charge: Option<Cost>) -> Said<HeapSaid> {
         if is_full(&self.log) {
             return Said::Changed;
         }
         if self.heap_steps >= LAST {
             return Said::Busy;
         }
-        let said = self.heap.make(image, act, charge);
+        let said = self.heap.make(here.image, act, charge);
         self.heap_steps += 1;
         note(&mut self.log, &act.event(&said));
         Said::Made(said)
     }
 
-    fn take(
-        &mut self,
-        image: &Image,
-        cpu: u8,
-        context: &mut Box<Context>,
-        told: &mut Told,
-    ) -> Said<bool> {
+    fn take(&mut self, here: &Here, context: &mut Box<Context>, told: &mut Told) -> Said<bool> {
         if is_full(&self.log) {
             return Said::Changed;
         }
@@ -348,7 +325,7 @@ impl Sites for Tables {
         Said::Made(woken)
     }
 
-    fn wake(&mut self, image: &Image, cpu: u8, who: ThreadIx, told: &Told) -> Said<()> {
+    fn wake(&mut self, here: &Here, who: ThreadIx, told: &Told) -> Said<()> {
         if self.scheduler_steps >= LAST {
             return Said::Busy;
         }
@@ -360,7 +337,7 @@ impl Sites for Tables {
         Said::Made(())
     }
 
-    fn add(&mut self, image: &Image, cpu: u8, context: &mut Box<Context>) -> Said<()> {
+    fn add(&mut self, here: &Here, context: &mut Box<Context>) -> Said<()> {
         if self.scheduler_steps >= LAST {
             return Said::Busy;
         }
@@ -371,7 +348,7 @@ impl Sites for Tables {
         Said::Made(())
     }
 
-    fn park(&mut self, image: &Image, cpu: u8, context: &mut Box<Context>) -> Said<()> {
+    fn park(&mut self, here: &Here, context: &mut Box<Context>) -> Said<()> {
         if self.scheduler_steps >= LAST {
             return Said::Busy;
         }
@@ -383,7 +360,7 @@ impl Sites for Tables {
         Said::Made(())
     }
 
-    fn done(&mut self, image: &Image, cpu: u8) -> Said<()> {
+    fn done(&mut self, here: &Here) -> Said<()> {
         if self.scheduler_steps >= LAST {
             return Said::Busy;
         }

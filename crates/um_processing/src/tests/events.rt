@@ -3,12 +3,20 @@
 use super::{EVENTS, image};
 use std::test::Fail;
 use um_base::{Act, Addr, Errno, Event, Kind, Mode, Row, ThreadIx, Want};
-use um_processor::{HeapAct, RowAct, Said, Sites};
+use um_processor::{HeapAct, Here, RowAct, Said, Sites};
 
 /// A permission is passed on, which a second look finds, and another thread's check is refused. An address isn't paid for, until the log is full.
 #[test]
 fn a_log(rt: HostRuntime) -> Result<(), Fail> {
     let image = image(rt.alloc());
+    let here = &Here {
+        image: &image,
+        cpu: 1,
+    };
+    let there = &Here {
+        image: &image,
+        cpu: 0,
+    };
     let mut sites = super::tables(rt.alloc())?;
     let thread = ThreadIx(3);
     let who = ThreadIx(4);
@@ -25,13 +33,13 @@ fn a_log(rt: HostRuntime) -> Result<(), Fail> {
         fits: true,
     };
     for act in [&pass, &pass, &check] {
-        assert!(rt; matches!(sites.row(&image, 0, Row(9), act), Said::Made(_)));
+        assert!(rt; matches!(sites.row(there, Row(9), act), Said::Made(_)));
     }
     let reserve = HeapAct::Reserve { thread, kind };
     for _ in 2..EVENTS {
-        assert!(rt; matches!(sites.heap(&image, 1, &reserve, None), Said::Made(_)));
+        assert!(rt; matches!(sites.heap(here, &reserve, None), Said::Made(_)));
     }
-    assert!(rt; matches!(sites.heap(&image, 1, &reserve, None), Said::Changed));
+    assert!(rt; matches!(sites.heap(here, &reserve, None), Said::Changed));
     let inherited = Event {
         thread,
         act: Act::Inherit { who, addr },

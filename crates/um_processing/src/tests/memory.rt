@@ -3,12 +3,16 @@
 use super::image;
 use std::test::Fail;
 use um_base::{Addr, Found, Piece, ThreadIx};
-use um_processor::{MemoryAct, Said, Sites};
+use um_processor::{Here, MemoryAct, Said, Sites};
 
 /// Bytes are stored, loaded, copied in, and read as a text as far as the thread may read.
 #[test]
 fn a_memory(rt: HostRuntime) -> Result<(), Fail> {
     let image = image(rt.alloc());
+    let here = &Here {
+        image: &image,
+        cpu: 0,
+    };
     let mut sites = super::tables(rt.alloc())?;
     let mut buffer = Piece::new();
     let thread = ThreadIx(0);
@@ -19,13 +23,13 @@ fn a_memory(rt: HostRuntime) -> Result<(), Fail> {
         size: 4,
         value: 0x41_4243,
     };
-    assert!(rt; matches!(sites.memory(&image, 0, &store, &mut buffer), Said::Made(_)));
+    assert!(rt; matches!(sites.memory(here, &store, &mut buffer), Said::Made(_)));
     let load = MemoryAct::Load {
         thread,
         addr,
         size: 2,
     };
-    match sites.memory(&image, 0, &load, &mut buffer) {
+    match sites.memory(here, &load, &mut buffer) {
         Said::Made(said) => assert!(rt; said.value == 0x4243),
         _ => assert!(rt; false),
     }
@@ -34,7 +38,7 @@ fn a_memory(rt: HostRuntime) -> Result<(), Fail> {
         addr,
         readable: 3,
     };
-    match sites.memory(&image, 0, &short, &mut buffer) {
+    match sites.memory(here, &short, &mut buffer) {
         Said::Made(said) => assert!(rt; said.found == Found::Unreadable && buffer.len() == 0),
         _ => assert!(rt; false),
     }
@@ -43,7 +47,7 @@ fn a_memory(rt: HostRuntime) -> Result<(), Fail> {
         addr,
         readable: 32,
     };
-    match sites.memory(&image, 0, &whole, &mut buffer) {
+    match sites.memory(here, &whole, &mut buffer) {
         Said::Made(said) => assert!(rt;
             said.found == Found::Length(3) && buffer.as_slice() == b"CBA".as_slice()
         ),

@@ -5,68 +5,59 @@ ghost use Rattle.um_processor.specs.{
   Phases.{is_idle},
   Processors.{UnlessMade},
   Standing.{whole},
-  Turns.{MayTurn, TurnsAt},
+  Turns.{TurnsAt, MayTurn},
 };
 
+use crate::here::Here;
 use crate::phase::Turn;
 use crate::processor::Processor;
 use crate::row_act::RowAct;
-use crate::said::Said;
+use crate::said::made;
 use crate::sites::Sites;
-use um_base::{Image, ROWS, Row, THREADS};
+use um_base::{ROWS, Row, THREADS};
 
 impl Processor {
     /// The first claim ends. Where its row comes to cleaning by that, the object is to be cleaned.
-    pub fn end_call<S: Sites>(&mut self, image: &Image, cpu: u8, sites: &mut S) -> Turn
-        requires sites { S.IsOf image.now sites.old }
+    pub fn end_call<S: Sites>(&mut self, here: &Here, sites: &mut S) -> Turn
+        requires sites { S.IsOf here.now.image.now sites.old }
         requires runs { is_idle self.old.running.phase ≡ false }
         requires cleans { self.old.cleans ≡ [] }
         requires ends { 0 < length self.old.ends.items }
-        requires goes { MayTurn S.Sites cpu image.now sites.old (whole self.old) }
-        ensures image { S.IsOf image.now sites.new }
+        requires goes { MayTurn S.Sites here.now.cpu here.now.image.now sites.old (whole self.old) }
+        ensures image { S.IsOf here.now.image.now sites.new }
         ensures same { UnlessMade result (whole self.new ≡ whole self.old) }
-        ensures turn { TurnsAt S.Sites result cpu image.now sites.old sites.new
+        ensures turn { TurnsAt S.Sites result here.now.cpu here.now.image.now sites.old sites.new
             (whole self.old) (whole self.new) }
     {
         let row = self.ends.as_slice()[0];
         if row as usize >= ROWS {
             return Turn::Stuck;
         }
-        match sites.row(image, cpu, Row(row), &RowAct::EndCall) {
-            Said::Made(said) => {
-                self.ends.remove(0);
-                self.cleans.take_in_if(image, row, said.cleans);
-                Turn::Made
-            }
-            Said::Busy => Turn::Busy,
-            Said::Changed => Turn::Changed,
-        }
+        let said = made!(sites.row(here, Row(row), &RowAct::EndCall));
+        self.ends.remove(0);
+        self.cleans.take_in_if(here.image, row, said.cleans);
+        Turn::Made
     }
 
     /// The first woken thread that wasn't told is told what it waited for.
-    pub fn wake<S: Sites>(&mut self, image: &Image, cpu: u8, sites: &mut S) -> Turn
-        requires sites { S.IsOf image.now sites.old }
+    pub fn wake<S: Sites>(&mut self, here: &Here, sites: &mut S) -> Turn
+        requires sites { S.IsOf here.now.image.now sites.old }
         requires runs { is_idle self.old.running.phase ≡ false }
         requires cleans { self.old.cleans ≡ [] }
         requires ends { self.old.ends.items ≡ [] }
         requires woken { self.old.told < length self.old.outcome.woken }
-        requires goes { MayTurn S.Sites cpu image.now sites.old (whole self.old) }
-        ensures image { S.IsOf image.now sites.new }
+        requires goes { MayTurn S.Sites here.now.cpu here.now.image.now sites.old (whole self.old) }
+        ensures image { S.IsOf here.now.image.now sites.new }
         ensures same { UnlessMade result (whole self.new ≡ whole self.old) }
-        ensures turn { TurnsAt S.Sites result cpu image.now sites.old sites.new
+        ensures turn { TurnsAt S.Sites result here.now.cpu here.now.image.now sites.old sites.new
             (whole self.old) (whole self.new) }
     {
         let (who, told) = &self.outcome.woken.as_slice()[self.told];
         if who.0 as usize >= THREADS {
             return Turn::Stuck;
         }
-        match sites.wake(image, cpu, *who, told) {
-            Said::Made(_) => {
-                self.told += 1;
-                Turn::Made
-            }
-            Said::Busy => Turn::Busy,
-            Said::Changed => Turn::Changed,
-        }
+        made!(sites.wake(here, *who, told));
+        self.told += 1;
+        Turn::Made
     }
 }

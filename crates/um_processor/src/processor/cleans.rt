@@ -6,36 +6,30 @@ ghost use Rattle.um_processor.specs.{
   Phases.{is_idle},
   Processors.{UnlessMade},
   Standing.{whole},
-  Turns.{MayTurn, TurnsAt},
+  Turns.{TurnsAt, MayTurn},
 };
 
 use crate::cleaning::MOST;
 use crate::heap_act::HeapAct;
+use crate::here::Here;
 use crate::phase::Turn;
 use crate::processor::Processor;
 use crate::row_act::RowAct;
-use crate::said::Said;
+use crate::said::made;
 use crate::sites::Sites;
-use um_base::{Addr, Image, ROWS, Row, ThreadIx};
+use um_base::{Addr, ROWS, Row, ThreadIx};
 use um_steps::rows::addr_of;
 
 impl Processor {
     /// The permission of a thread that is gone is dropped at a row, where there is one. Where that row comes to cleaning, its object is to be cleaned too.
-    pub fn clean_pair<S: Sites>(
-        &mut self,
-        image: &Image,
-        cpu: u8,
-        who: u8,
-        row: u8,
-        sites: &mut S,
-    ) -> Turn
-        requires sites { S.IsOf image.now sites.old }
+    pub fn clean_pair<S: Sites>(&mut self, here: &Here, who: u8, row: u8, sites: &mut S) -> Turn
+        requires sites { S.IsOf here.now.image.now sites.old }
         requires runs { is_idle self.old.running.phase ≡ false }
         requires first { self.old.cleans ≡ Todo.clean_pair who row ∷ drop 1 self.old.cleans }
-        requires goes { MayTurn S.Sites cpu image.now sites.old (whole self.old) }
-        ensures image { S.IsOf image.now sites.new }
+        requires goes { MayTurn S.Sites here.now.cpu here.now.image.now sites.old (whole self.old) }
+        ensures image { S.IsOf here.now.image.now sites.new }
         ensures same { UnlessMade result (whole self.new ≡ whole self.old) }
-        ensures turn { TurnsAt S.Sites result cpu image.now sites.old sites.new
+        ensures turn { TurnsAt S.Sites result here.now.cpu here.now.image.now sites.old sites.new
             (whole self.old) (whole self.new) }
     {
         let x = row as usize;
@@ -48,90 +42,70 @@ impl Processor {
         let act = RowAct::Sweep {
             thread: self.running.thread(),
             who: ThreadIx(who),
-            addr: Addr(addr_of(image, x)),
+            addr: Addr(addr_of(here.image, x)),
         };
-        match sites.row(image, cpu, Row(row), &act) {
-            Said::Made(said) => {
-                self.cleans.advance();
-                self.cleans.take_in_if(image, row, said.cleans);
-                Turn::Made
-            }
-            Said::Busy => Turn::Busy,
-            Said::Changed => Turn::Changed,
-        }
+        let said = made!(sites.row(here, Row(row), &act));
+        self.cleans.advance();
+        self.cleans.take_in_if(here.image, row, said.cleans);
+        Turn::Made
     }
 
     /// What the object of a row keeps is cleared.
-    pub fn wipe<S: Sites>(&mut self, image: &Image, cpu: u8, row: u8, sites: &mut S) -> Turn
-        requires sites { S.IsOf image.now sites.old }
+    pub fn wipe<S: Sites>(&mut self, here: &Here, row: u8, sites: &mut S) -> Turn
+        requires sites { S.IsOf here.now.image.now sites.old }
         requires runs { is_idle self.old.running.phase ≡ false }
         requires first { self.old.cleans ≡ Todo.wipe row ∷ drop 1 self.old.cleans }
-        requires goes { MayTurn S.Sites cpu image.now sites.old (whole self.old) }
-        ensures image { S.IsOf image.now sites.new }
+        requires goes { MayTurn S.Sites here.now.cpu here.now.image.now sites.old (whole self.old) }
+        ensures image { S.IsOf here.now.image.now sites.new }
         ensures same { UnlessMade result (whole self.new ≡ whole self.old) }
-        ensures turn { TurnsAt S.Sites result cpu image.now sites.old sites.new
+        ensures turn { TurnsAt S.Sites result here.now.cpu here.now.image.now sites.old sites.new
             (whole self.old) (whole self.new) }
     {
         if row as usize >= ROWS {
             return Turn::Stuck;
         }
-        match sites.clear(image, cpu, Row(row)) {
-            Said::Made(cost) => {
-                self.cleans.advance();
-                self.running.set_charge(cost);
-                Turn::Made
-            }
-            Said::Busy => Turn::Busy,
-            Said::Changed => Turn::Changed,
-        }
+        let cost = made!(sites.clear(here, Row(row)));
+        self.cleans.advance();
+        self.running.set_charge(cost);
+        Turn::Made
     }
 
     /// The object leaves its row.
-    pub fn vacate<S: Sites>(&mut self, image: &Image, cpu: u8, row: u8, sites: &mut S) -> Turn
-        requires sites { S.IsOf image.now sites.old }
+    pub fn vacate<S: Sites>(&mut self, here: &Here, row: u8, sites: &mut S) -> Turn
+        requires sites { S.IsOf here.now.image.now sites.old }
         requires runs { is_idle self.old.running.phase ≡ false }
         requires first { self.old.cleans ≡ Todo.vacate row ∷ drop 1 self.old.cleans }
-        requires goes { MayTurn S.Sites cpu image.now sites.old (whole self.old) }
-        ensures image { S.IsOf image.now sites.new }
+        requires goes { MayTurn S.Sites here.now.cpu here.now.image.now sites.old (whole self.old) }
+        ensures image { S.IsOf here.now.image.now sites.new }
         ensures same { UnlessMade result (whole self.new ≡ whole self.old) }
-        ensures turn { TurnsAt S.Sites result cpu image.now sites.old sites.new
+        ensures turn { TurnsAt S.Sites result here.now.cpu here.now.image.now sites.old sites.new
             (whole self.old) (whole self.new) }
     {
         if row as usize >= ROWS {
             return Turn::Stuck;
         }
-        match sites.row(image, cpu, Row(row), &RowAct::Vacate) {
-            Said::Made(_) => {
-                self.cleans.advance();
-                Turn::Made
-            }
-            Said::Busy => Turn::Busy,
-            Said::Changed => Turn::Changed,
-        }
+        made!(sites.row(here, Row(row), &RowAct::Vacate));
+        self.cleans.advance();
+        Turn::Made
     }
 
     /// The object is recycled, and its pool gets back what it and its buffer cost.
-    pub fn recycle<S: Sites>(&mut self, image: &Image, cpu: u8, row: u8, sites: &mut S) -> Turn
-        requires sites { S.IsOf image.now sites.old }
+    pub fn recycle<S: Sites>(&mut self, here: &Here, row: u8, sites: &mut S) -> Turn
+        requires sites { S.IsOf here.now.image.now sites.old }
         requires runs { is_idle self.old.running.phase ≡ false }
         requires first { self.old.cleans ≡ Todo.recycle row ∷ drop 1 self.old.cleans }
-        requires goes { MayTurn S.Sites cpu image.now sites.old (whole self.old) }
-        ensures image { S.IsOf image.now sites.new }
+        requires goes { MayTurn S.Sites here.now.cpu here.now.image.now sites.old (whole self.old) }
+        ensures image { S.IsOf here.now.image.now sites.new }
         ensures same { UnlessMade result (whole self.new ≡ whole self.old) }
-        ensures turn { TurnsAt S.Sites result cpu image.now sites.old sites.new
+        ensures turn { TurnsAt S.Sites result here.now.cpu here.now.image.now sites.old sites.new
             (whole self.old) (whole self.new) }
     {
         let act = HeapAct::Recycle {
             thread: self.running.thread(),
-            addr: Addr(addr_of(image, row as usize)),
+            addr: Addr(addr_of(here.image, row as usize)),
         };
-        match sites.heap(image, cpu, &act, self.running.charge()) {
-            Said::Made(_) => {
-                self.cleans.advance();
-                Turn::Made
-            }
-            Said::Busy => Turn::Busy,
-            Said::Changed => Turn::Changed,
-        }
+        made!(sites.heap(here, &act, self.running.charge()));
+        self.cleans.advance();
+        Turn::Made
     }
 }

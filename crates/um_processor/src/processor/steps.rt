@@ -1,17 +1,18 @@
 //! A step of a processor, whatever it is.
 
 ghost use Rattle.std.specs.Prelude.{◌≡◌, ◌∷◌, [], drop, false, true, IsTrue};
+ghost use Rattle.um_processor.specs.Given.{IsGiven};
 ghost use Rattle.um_processor.specs.{
   Cleanings.{clean_todo},
-  Given.{IsGiven},
   Phases.{is_idle, is_plain_phase},
   Processors.{UnlessMade, in_phase},
   Standing.{whole},
-  Turns.{MayTurn, TurnsAt},
+  Turns.{TurnsAt, MayTurn},
 };
 ghost use Rattle.um_processor.specs.declared.phase.Phase.TheVariants as Phase;
 
 use crate::cleaning::CleanStep;
+use crate::here::Here;
 use crate::phase::{Phase, Turn};
 use crate::processor::Processor;
 use crate::sites::Sites;
@@ -32,16 +33,16 @@ impl Processor {
     }
 
     /// The first ready thread is taken.
-    fn take<S: Sites>(&mut self, image: &Image, cpu: u8, sites: &mut S) -> Turn
-        requires sites { S.IsOf image.now sites.old }
+    fn take<S: Sites>(&mut self, here: &Here, sites: &mut S) -> Turn
+        requires sites { S.IsOf here.now.image.now sites.old }
         requires idle { is_idle self.old.running.phase ≡ true }
-        requires goes { MayTurn S.Sites cpu image.now sites.old (whole self.old) }
-        ensures image { S.IsOf image.now sites.new }
+        requires goes { MayTurn S.Sites here.now.cpu here.now.image.now sites.old (whole self.old) }
+        ensures image { S.IsOf here.now.image.now sites.new }
         ensures same { UnlessMade result (whole self.new ≡ whole self.old) }
-        ensures turn { TurnsAt S.Sites result cpu image.now sites.old sites.new
+        ensures turn { TurnsAt S.Sites result here.now.cpu here.now.image.now sites.old sites.new
             (whole self.old) (whole self.new) }
     {
-        match self.running.take(image, cpu, sites) {
+        match self.running.take(here, sites) {
             Turn::Made => {
                 self.clears();
                 Turn::Made
@@ -53,119 +54,119 @@ impl Processor {
     }
 
     /// A step of cleaning.
-    fn clean<S: Sites>(&mut self, image: &Image, cpu: u8, step: CleanStep, sites: &mut S) -> Turn
-        requires sites { S.IsOf image.now sites.old }
+    fn clean<S: Sites>(&mut self, here: &Here, step: CleanStep, sites: &mut S) -> Turn
+        requires sites { S.IsOf here.now.image.now sites.old }
         requires runs { is_idle self.old.running.phase ≡ false }
         requires first { self.old.cleans ≡ clean_todo step ∷ drop 1 self.old.cleans }
-        requires goes { MayTurn S.Sites cpu image.now sites.old (whole self.old) }
-        ensures image { S.IsOf image.now sites.new }
+        requires goes { MayTurn S.Sites here.now.cpu here.now.image.now sites.old (whole self.old) }
+        ensures image { S.IsOf here.now.image.now sites.new }
         ensures same { UnlessMade result (whole self.new ≡ whole self.old) }
-        ensures turn { TurnsAt S.Sites result cpu image.now sites.old sites.new
+        ensures turn { TurnsAt S.Sites result here.now.cpu here.now.image.now sites.old sites.new
             (whole self.old) (whole self.new) }
     {
         match step {
-            CleanStep::Pair { who, row } => self.clean_pair(image, cpu, who, row, sites),
-            CleanStep::Wipe(row) => self.wipe(image, cpu, row, sites),
-            CleanStep::Vacate(row) => self.vacate(image, cpu, row, sites),
-            CleanStep::Recycle(row) => self.recycle(image, cpu, row, sites),
+            CleanStep::Pair { who, row } => self.clean_pair(here, who, row, sites),
+            CleanStep::Wipe(row) => self.wipe(here, row, sites),
+            CleanStep::Vacate(row) => self.vacate(here, row, sites),
+            CleanStep::Recycle(row) => self.recycle(here, row, sites),
         }
     }
 
     /// The thread exits after its last line.
-    fn exit<S: Sites>(&mut self, image: &Image, cpu: u8, sites: &mut S) -> Turn
-        requires sites { S.IsOf image.now sites.old }
+    fn exit<S: Sites>(&mut self, here: &Here, sites: &mut S) -> Turn
+        requires sites { S.IsOf here.now.image.now sites.old }
         requires cleans { self.old.cleans ≡ [] }
         requires ends { self.old.ends.items ≡ [] }
         requires woken { drop self.old.told self.old.outcome.woken ≡ [] }
-        requires goes { MayTurn S.Sites cpu image.now sites.old (in_phase Phase.Exit self.old.running) }
-        ensures image { S.IsOf image.now sites.new }
+        requires goes { MayTurn S.Sites here.now.cpu here.now.image.now sites.old (in_phase Phase.Exit self.old.running) }
+        ensures image { S.IsOf here.now.image.now sites.new }
         ensures same { UnlessMade result (whole self.new ≡ whole self.old) }
-        ensures turn { TurnsAt S.Sites result cpu image.now sites.old sites.new
+        ensures turn { TurnsAt S.Sites result here.now.cpu here.now.image.now sites.old sites.new
             (in_phase Phase.Exit self.old.running) (whole self.new) }
     {
-        self.running.exit(image, cpu, &mut self.ends, sites)
+        self.running.exit(here, &mut self.ends, sites)
     }
 
     /// A row is visited to drop its permission. Where it comes to cleaning by that, its object is to be cleaned.
-    fn drop_permission<S: Sites>(&mut self, image: &Image, cpu: u8, sites: &mut S) -> Turn
-        requires sites { S.IsOf image.now sites.old }
+    fn drop_permission<S: Sites>(&mut self, here: &Here, sites: &mut S) -> Turn
+        requires sites { S.IsOf here.now.image.now sites.old }
         requires cleans { self.old.cleans ≡ [] }
         requires ends { self.old.ends.items ≡ [] }
         requires woken { drop self.old.told self.old.outcome.woken ≡ [] }
-        requires goes { MayTurn S.Sites cpu image.now sites.old (in_phase Phase.Drop self.old.running) }
-        ensures image { S.IsOf image.now sites.new }
+        requires goes { MayTurn S.Sites here.now.cpu here.now.image.now sites.old (in_phase Phase.Drop self.old.running) }
+        ensures image { S.IsOf here.now.image.now sites.new }
         ensures same { UnlessMade result (whole self.new ≡ whole self.old) }
-        ensures turn { TurnsAt S.Sites result cpu image.now sites.old sites.new
+        ensures turn { TurnsAt S.Sites result here.now.cpu here.now.image.now sites.old sites.new
             (in_phase Phase.Drop self.old.running) (whole self.new) }
     {
         let row = self.running.row();
         let mut cleans = false;
-        let turn = self.running.drop_permission(image, cpu, &mut cleans, sites);
-        self.cleans.take_in_if(image, row, cleans);
+        let turn = self.running.drop_permission(here, &mut cleans, sites);
+        self.cleans.take_in_if(here.image, row, cleans);
         turn
     }
 
     /// A step behind which no more is to be done before the next one.
-    fn go_plain<S: Sites>(&mut self, image: &Image, cpu: u8, sites: &mut S) -> Turn
-        requires sites { S.IsOf image.now sites.old }
-        requires given { IsGiven image.now }
+    fn go_plain<S: Sites>(&mut self, here: &Here, sites: &mut S) -> Turn
+        requires sites { S.IsOf here.now.image.now sites.old }
+        requires given { IsGiven here.now.image.now }
         requires plain { IsTrue (is_plain_phase self.old.running.phase) }
         requires cleans { self.old.cleans ≡ [] }
         requires ends { self.old.ends.items ≡ [] }
         requires woken { drop self.old.told self.old.outcome.woken ≡ [] }
-        requires goes { MayTurn S.Sites cpu image.now sites.old (whole self.old) }
-        ensures image { S.IsOf image.now sites.new }
+        requires goes { MayTurn S.Sites here.now.cpu here.now.image.now sites.old (whole self.old) }
+        ensures image { S.IsOf here.now.image.now sites.new }
         ensures same { UnlessMade result (whole self.new ≡ whole self.old) }
-        ensures turn { TurnsAt S.Sites result cpu image.now sites.old sites.new
+        ensures turn { TurnsAt S.Sites result here.now.cpu here.now.image.now sites.old sites.new
             (whole self.old) (whole self.new) }
     {
-        self.running.go(image, cpu, sites)
+        self.running.go(here, sites)
     }
 
     /// The thread's next step, in whatever phase it is.
-    fn go<S: Sites>(&mut self, image: &Image, cpu: u8, sites: &mut S) -> Turn
-        requires sites { S.IsOf image.now sites.old }
-        requires given { IsGiven image.now }
+    fn go<S: Sites>(&mut self, here: &Here, sites: &mut S) -> Turn
+        requires sites { S.IsOf here.now.image.now sites.old }
+        requires given { IsGiven here.now.image.now }
         requires runs { is_idle self.old.running.phase ≡ false }
         requires cleans { self.old.cleans ≡ [] }
         requires ends { self.old.ends.items ≡ [] }
         requires woken { drop self.old.told self.old.outcome.woken ≡ [] }
-        requires goes { MayTurn S.Sites cpu image.now sites.old (whole self.old) }
-        ensures image { S.IsOf image.now sites.new }
+        requires goes { MayTurn S.Sites here.now.cpu here.now.image.now sites.old (whole self.old) }
+        ensures image { S.IsOf here.now.image.now sites.new }
         ensures same { UnlessMade result (whole self.new ≡ whole self.old) }
-        ensures turn { TurnsAt S.Sites result cpu image.now sites.old sites.new
+        ensures turn { TurnsAt S.Sites result here.now.cpu here.now.image.now sites.old sites.new
             (whole self.old) (whole self.new) }
     {
         match self.running.phase() {
-            Phase::Access => self.show(image, cpu, Phase::Access, sites),
-            Phase::Start => self.show(image, cpu, Phase::Start, sites),
-            Phase::Show => self.show(image, cpu, Phase::Show, sites),
-            Phase::Exit => self.exit(image, cpu, sites),
-            Phase::Drop => self.drop_permission(image, cpu, sites),
-            _ => self.go_plain(image, cpu, sites),
+            Phase::Access => self.show(here, sites),
+            Phase::Start => self.show(here, sites),
+            Phase::Show => self.show(here, sites),
+            Phase::Exit => self.exit(here, sites),
+            Phase::Drop => self.drop_permission(here, sites),
+            _ => self.go_plain(here, sites),
         }
     }
 
     /// The next step where no object is to be cleaned.
     #[tactic(auto, using(crate::proofs::Lifted::none_left, std::proofs::lemmas::List::drop_all))]
-    fn step_behind<S: Sites>(&mut self, image: &Image, cpu: u8, sites: &mut S) -> Turn
-        requires sites { S.IsOf image.now sites.old }
-        requires given { IsGiven image.now }
+    fn step_behind<S: Sites>(&mut self, here: &Here, sites: &mut S) -> Turn
+        requires sites { S.IsOf here.now.image.now sites.old }
+        requires given { IsGiven here.now.image.now }
         requires runs { is_idle self.old.running.phase ≡ false }
         requires cleans { self.old.cleans ≡ [] }
-        requires goes { MayTurn S.Sites cpu image.now sites.old (whole self.old) }
-        ensures image { S.IsOf image.now sites.new }
+        requires goes { MayTurn S.Sites here.now.cpu here.now.image.now sites.old (whole self.old) }
+        ensures image { S.IsOf here.now.image.now sites.new }
         ensures same { UnlessMade result (whole self.new ≡ whole self.old) }
-        ensures turn { TurnsAt S.Sites result cpu image.now sites.old sites.new
+        ensures turn { TurnsAt S.Sites result here.now.cpu here.now.image.now sites.old sites.new
             (whole self.old) (whole self.new) }
     {
         if self.ends.len() > 0 {
-            return self.end_call(image, cpu, sites);
+            return self.end_call(here, sites);
         }
         if self.told < self.outcome.woken.len() {
-            return self.wake(image, cpu, sites);
+            return self.wake(here, sites);
         }
-        self.go(image, cpu, sites)
+        self.go(here, sites)
     }
 
     /// Makes its next step: it takes a thread where it has none; else it cleans, then ends claims, then wakes, and then its thread goes on.
@@ -178,12 +179,13 @@ impl Processor {
         ensures turn { TurnsAt S.Sites result cpu image.now sites.old sites.new
             (whole self.old) (whole self.new) }
     {
+        let here = &Here { image, cpu };
         if self.running.is_idle() {
-            return self.take(image, cpu, sites);
+            return self.take(here, sites);
         }
         match self.cleans.next() {
-            Some(step) => self.clean(image, cpu, step, sites),
-            None => self.step_behind(image, cpu, sites),
+            Some(step) => self.clean(here, step, sites),
+            None => self.step_behind(here, sites),
         }
     }
 }

@@ -4,21 +4,22 @@ ghost use Rattle.std.specs.Prelude.{◌≡◌, ◌<◌, [], false, length, Some,
 ghost use Rattle.um_base.specs.{declared.limits.TheConstants.{ROWS}, Places.{row_at}};
 ghost use Rattle.um_machine.specs.declared.pending.Pending.TheVariants as Pending;
 ghost use Rattle.um_processor.specs.{
-  Events.{about_to, with_ends},
+  Events.{shows, with_ends},
   Phases.{is_idle},
   Processors.{OnMade, UnlessMade, processor_of},
-  Turns.{MayTurn, TurnsAt},
+  Turns.{CanTurn, HasRun, TurnsAt},
 };
 
-use crate::phase::{Phase, Turn};
+use crate::here::Here;
+use crate::phase::Turn;
 use crate::row_act::RowAct;
 use crate::running::Running;
 use crate::running::kinds::kind_of;
-use crate::said::Said;
+use crate::said::made;
 use crate::sites::Sites;
 use crate::thread_act::ThreadAct;
 use arrayvec::ArrayVec;
-use um_base::{Addr, Errno, Image, Kind, Reply, Row, ThreadIx, Want};
+use um_base::{Addr, Errno, Kind, Reply, Row, ThreadIx, Want};
 use um_machine::Refusal;
 use um_steps::kinds::has_kind;
 use um_steps::rows::row_at;
@@ -27,66 +28,53 @@ impl Running {
     /// The call answers. Its claims are to end.
     pub fn answer<S: Sites>(
         &mut self,
-        image: &Image,
-        cpu: u8,
-        phase: Phase,
+        here: &Here,
         ends: &mut ArrayVec<u8, 2>,
         reply: Option<Reply>,
         to: Option<u8>,
         sites: &mut S,
     ) -> Turn
-        requires sites { S.IsOf image.now sites.old }
         requires none { ends.old.items ≡ [] }
-        requires goes { MayTurn S.Sites cpu image.now sites.old (about_to phase (Pending.Answer reply to) self.old) }
-        ensures image { S.IsOf image.now sites.new }
+        requires goes { CanTurn S.Sites here.now sites.old (shows (Pending.Answer reply to) self.old) }
+        ensures image { S.IsOf here.now.image.now sites.new }
         ensures ends { UnlessMade result (ends.new.items ≡ ends.old.items) }
         ensures same { UnlessMade result (processor_of self.new ≡ processor_of self.old) }
         ensures runs { OnMade result (is_idle self.new.phase ≡ false) }
-        ensures turn { TurnsAt S.Sites result cpu image.now sites.old sites.new
-            (about_to phase (Pending.Answer reply to) self.old)
+        ensures turn { TurnsAt S.Sites result here.now.cpu here.now.image.now sites.old sites.new
+            (shows (Pending.Answer reply to) self.old)
             (with_ends ends.new.items (processor_of self.new)) }
     {
-        let thread = ThreadIx(self.context.thread());
-        let said = self.context.reply_of(image, reply);
+        let thread = self.thread();
+        let said = self.context.reply_of(here.image, reply);
         let act = ThreadAct::Answered {
             thread,
             reply: said,
         };
-        match sites.thread(image, cpu, thread, &act) {
-            Said::Made(_) => {
-                let taken = self.taken();
-                self.context.gives_claims(ends);
-                self.context.answers(image, reply, to, taken);
-                self.leaves(image, phase);
-                Turn::Made
-            }
-            Said::Busy => Turn::Busy,
-            Said::Changed => Turn::Changed,
-        }
+        made!(sites.thread(here, thread, &act));
+        let taken = self.taken();
+        self.context.gives_claims(ends);
+        self.context.answers(here.image, reply, to, taken);
+        self.leaves(here.image);
+        Turn::Made
     }
 
     /// An address is checked where an object may stand.
     fn check_row<S: Sites>(
         &mut self,
-        image: &Image,
-        cpu: u8,
+        here: &Here,
         row: Row,
-        phase: Phase,
         addr: Addr,
         kind: Option<Kind>,
         want: Want,
         refusal: Refusal,
         sites: &mut S,
     ) -> Turn
-        requires sites { S.IsOf image.now sites.old }
-        requires row { row_at image.now addr.0 ≡ Some row.0 }
+        requires row { row_at here.now.image.now addr.0 ≡ Some row.0 }
         requires small { row.0 < ROWS }
         requires room { length self.old.context.value.claims < 2 }
-        requires goes { MayTurn S.Sites cpu image.now sites.old (about_to phase (Pending.Check addr kind want refusal) self.old) }
-        ensures image { S.IsOf image.now sites.new }
-        ensures same { UnlessMade result (processor_of self.new ≡ processor_of self.old) }
-        ensures turn { TurnsAt S.Sites result cpu image.now sites.old sites.new
-            (about_to phase (Pending.Check addr kind want refusal) self.old) (processor_of self.new) }
+        requires goes { CanTurn S.Sites here.now sites.old (shows (Pending.Check addr kind want refusal) self.old) }
+        ensures turn { HasRun S.Sites result here.now sites.old sites.new
+            (shows (Pending.Check addr kind want refusal) self.old) self.old self.new }
     {
         let act = RowAct::Check {
             thread: ThreadIx(self.context.thread()),
@@ -94,43 +82,33 @@ impl Running {
             kind,
             want,
             mode: self.context.mode(),
-            fits: has_kind(kind, kind_of(image, row.0 as usize)),
+            fits: has_kind(kind, kind_of(here.image, row.0 as usize)),
         };
-        match sites.row(image, cpu, row, &act) {
-            Said::Made(said) => {
-                let taken = self.taken();
-                self.context
-                    .checks(image, addr, refusal, said.verdict, taken);
-                self.leaves(image, phase);
-                Turn::Made
-            }
-            Said::Busy => Turn::Busy,
-            Said::Changed => Turn::Changed,
-        }
+        let said = made!(sites.row(here, row, &act));
+        let taken = self.taken();
+        self.context
+            .checks(here.image, addr, refusal, said.verdict, taken);
+        self.leaves(here.image);
+        Turn::Made
     }
 
     /// An address is checked where no object can stand.
     fn check_nothing<S: Sites>(
         &mut self,
-        image: &Image,
-        cpu: u8,
-        phase: Phase,
+        here: &Here,
         addr: Addr,
         kind: Option<Kind>,
         want: Want,
         refusal: Refusal,
         sites: &mut S,
     ) -> Turn
-        requires sites { S.IsOf image.now sites.old }
-        requires row { row_at image.now addr.0 ≡ None }
+        requires row { row_at here.now.image.now addr.0 ≡ None }
         requires room { length self.old.context.value.claims < 2 }
-        requires goes { MayTurn S.Sites cpu image.now sites.old (about_to phase (Pending.Check addr kind want refusal) self.old) }
-        ensures image { S.IsOf image.now sites.new }
-        ensures same { UnlessMade result (processor_of self.new ≡ processor_of self.old) }
-        ensures turn { TurnsAt S.Sites result cpu image.now sites.old sites.new
-            (about_to phase (Pending.Check addr kind want refusal) self.old) (processor_of self.new) }
+        requires goes { CanTurn S.Sites here.now sites.old (shows (Pending.Check addr kind want refusal) self.old) }
+        ensures turn { HasRun S.Sites result here.now sites.old sites.new
+            (shows (Pending.Check addr kind want refusal) self.old) self.old self.new }
     {
-        let thread = ThreadIx(self.context.thread());
+        let thread = self.thread();
         let act = ThreadAct::Miss {
             thread,
             addr,
@@ -138,54 +116,34 @@ impl Running {
             want,
             mode: self.context.mode(),
         };
-        match sites.thread(image, cpu, thread, &act) {
-            Said::Made(_) => {
-                let taken = self.taken();
-                self.context
-                    .checks(image, addr, refusal, Some(Errno::EBADF), taken);
-                self.leaves(image, phase);
-                Turn::Made
-            }
-            Said::Busy => Turn::Busy,
-            Said::Changed => Turn::Changed,
-        }
+        made!(sites.thread(here, thread, &act));
+        let taken = self.taken();
+        self.context
+            .checks(here.image, addr, refusal, Some(Errno::EBADF), taken);
+        self.leaves(here.image);
+        Turn::Made
     }
 
     /// An object is looked for, which the call holds where it passes the check.
     pub fn check<S: Sites>(
         &mut self,
-        image: &Image,
-        cpu: u8,
-        phase: Phase,
+        here: &Here,
         addr: Addr,
         kind: Option<Kind>,
         want: Want,
         refusal: Refusal,
         sites: &mut S,
     ) -> Turn
-        requires sites { S.IsOf image.now sites.old }
-        requires goes { MayTurn S.Sites cpu image.now sites.old (about_to phase (Pending.Check addr kind want refusal) self.old) }
-        ensures image { S.IsOf image.now sites.new }
-        ensures same { UnlessMade result (processor_of self.new ≡ processor_of self.old) }
-        ensures turn { TurnsAt S.Sites result cpu image.now sites.old sites.new
-            (about_to phase (Pending.Check addr kind want refusal) self.old) (processor_of self.new) }
+        requires goes { CanTurn S.Sites here.now sites.old (shows (Pending.Check addr kind want refusal) self.old) }
+        ensures turn { HasRun S.Sites result here.now sites.old sites.new
+            (shows (Pending.Check addr kind want refusal) self.old) self.old self.new }
     {
         if !self.context.has_room() {
             return Turn::Stuck;
         }
-        match row_at(image, addr.0) {
-            None => self.check_nothing(image, cpu, phase, addr, kind, want, refusal, sites),
-            Some(x) => self.check_row(
-                image,
-                cpu,
-                Row(x as u8),
-                phase,
-                addr,
-                kind,
-                want,
-                refusal,
-                sites,
-            ),
+        match row_at(here.image, addr.0) {
+            None => self.check_nothing(here, addr, kind, want, refusal, sites),
+            Some(x) => self.check_row(here, Row(x as u8), addr, kind, want, refusal, sites),
         }
     }
 }

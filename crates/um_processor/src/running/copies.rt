@@ -5,17 +5,18 @@ ghost use Rattle.um_fine.specs.Asks.{amount};
 ghost use Rattle.um_machine.specs.declared.pending.Pending.TheVariants as Pending;
 ghost use Rattle.um_processor.specs.declared.phase.Phase.TheVariants as Phase;
 ghost use Rattle.um_processor.specs.{
-  Events.{about_to},
-  Processors.{UnlessMade, in_phase, processor_of},
-  Turns.{MayTurn, TurnsAt},
+  Events.{shows},
+  Processors.{in_phase},
+  Turns.{CanTurn, HasRun},
 };
 
+use crate::here::Here;
 use crate::memory_act::MemoryAct;
 use crate::phase::{Phase, Turn};
 use crate::running::Running;
-use crate::said::Said;
+use crate::said::made;
 use crate::sites::Sites;
-use um_base::{Access, Addr, Image, Piece, ThreadIx};
+use um_base::{Access, Addr, Image, Piece};
 use um_machine::Amount;
 
 impl Running {
@@ -32,23 +33,18 @@ impl Running {
     /// Whether so many bytes may be written is looked at.
     pub fn probe<S: Sites>(
         &mut self,
-        image: &Image,
-        cpu: u8,
-        phase: Phase,
+        here: &Here,
         addr: Addr,
         amount: &Amount,
         sites: &mut S,
     ) -> Turn
-        requires sites { S.IsOf image.now sites.old }
-        requires goes { MayTurn S.Sites cpu image.now sites.old (about_to phase (Pending.Probe addr amount.now) self.old) }
-        ensures image { S.IsOf image.now sites.new }
-        ensures same { UnlessMade result (processor_of self.new ≡ processor_of self.old) }
-        ensures turn { TurnsAt S.Sites result cpu image.now sites.old sites.new
-            (about_to phase (Pending.Probe addr amount.now) self.old) (processor_of self.new) }
+        requires goes { CanTurn S.Sites here.now sites.old (shows (Pending.Probe addr amount.now) self.old) }
+        ensures turn { HasRun S.Sites result here.now sites.old sites.new
+            (shows (Pending.Probe addr amount.now) self.old) self.old self.new }
     {
-        let thread = ThreadIx(self.context.thread());
-        let size = self.amount(image, amount);
-        let fits = self.allows(image, Access::Write, addr.0, size);
+        let thread = self.thread();
+        let size = self.amount(here.image, amount);
+        let fits = self.allows(here.image, Access::Write, addr.0, size);
         let act = MemoryAct::Probe {
             thread,
             addr,
@@ -56,38 +52,28 @@ impl Running {
             fits,
         };
         let mut none = Piece::new();
-        match sites.memory(image, cpu, &act, &mut none) {
-            Said::Made(_) => {
-                let taken = self.taken();
-                self.context.copies_out(image, fits, taken);
-                self.leaves(image, phase);
-                Turn::Made
-            }
-            Said::Busy => Turn::Busy,
-            Said::Changed => Turn::Changed,
-        }
+        made!(sites.memory(here, &act, &mut none));
+        let taken = self.taken();
+        self.context.copies_out(here.image, fits, taken);
+        self.leaves(here.image);
+        Turn::Made
     }
 
     /// Bytes are copied from memory, where that is allowed.
     pub fn copy_in<S: Sites>(
         &mut self,
-        image: &Image,
-        cpu: u8,
-        phase: Phase,
+        here: &Here,
         addr: Addr,
         amount: &Amount,
         sites: &mut S,
     ) -> Turn
-        requires sites { S.IsOf image.now sites.old }
-        requires goes { MayTurn S.Sites cpu image.now sites.old (about_to phase (Pending.CopyIn addr amount.now) self.old) }
-        ensures image { S.IsOf image.now sites.new }
-        ensures same { UnlessMade result (processor_of self.new ≡ processor_of self.old) }
-        ensures turn { TurnsAt S.Sites result cpu image.now sites.old sites.new
-            (about_to phase (Pending.CopyIn addr amount.now) self.old) (processor_of self.new) }
+        requires goes { CanTurn S.Sites here.now sites.old (shows (Pending.CopyIn addr amount.now) self.old) }
+        ensures turn { HasRun S.Sites result here.now sites.old sites.new
+            (shows (Pending.CopyIn addr amount.now) self.old) self.old self.new }
     {
-        let thread = ThreadIx(self.context.thread());
-        let size = self.amount(image, amount);
-        let fits = self.allows(image, Access::Read, addr.0, size);
+        let thread = self.thread();
+        let size = self.amount(here.image, amount);
+        let fits = self.allows(here.image, Access::Read, addr.0, size);
         let act = MemoryAct::CopyIn {
             thread,
             addr,
@@ -95,89 +81,55 @@ impl Running {
             fits,
         };
         let mut bytes = Piece::new();
-        match sites.memory(image, cpu, &act, &mut bytes) {
-            Said::Made(_) => {
-                let taken = self.taken();
-                self.context.copies_in(image, fits, &bytes, taken);
-                self.leaves(image, phase);
-                Turn::Made
-            }
-            Said::Busy => Turn::Busy,
-            Said::Changed => Turn::Changed,
-        }
+        made!(sites.memory(here, &act, &mut bytes));
+        let taken = self.taken();
+        self.context.copies_in(here.image, fits, &bytes, taken);
+        self.leaves(here.image);
+        Turn::Made
     }
 
     /// The bytes of the buffer are copied to memory, where that is allowed.
-    pub fn copy_out<S: Sites>(
-        &mut self,
-        image: &Image,
-        cpu: u8,
-        phase: Phase,
-        addr: Addr,
-        sites: &mut S,
-    ) -> Turn
-        requires sites { S.IsOf image.now sites.old }
-        requires goes { MayTurn S.Sites cpu image.now sites.old (about_to phase (Pending.CopyOut addr) self.old) }
-        ensures image { S.IsOf image.now sites.new }
-        ensures same { UnlessMade result (processor_of self.new ≡ processor_of self.old) }
-        ensures turn { TurnsAt S.Sites result cpu image.now sites.old sites.new
-            (about_to phase (Pending.CopyOut addr) self.old) (processor_of self.new) }
+    pub fn copy_out<S: Sites>(&mut self, here: &Here, addr: Addr, sites: &mut S) -> Turn
+        requires goes { CanTurn S.Sites here.now sites.old (shows (Pending.CopyOut addr) self.old) }
+        ensures turn { HasRun S.Sites result here.now sites.old sites.new
+            (shows (Pending.CopyOut addr) self.old) self.old self.new }
     {
-        let thread = ThreadIx(self.context.thread());
+        let thread = self.thread();
         let mut bytes = *self.context.buffer();
         let size = bytes.len() as u32;
-        let fits = self.allows(image, Access::Write, addr.0, size);
+        let fits = self.allows(here.image, Access::Write, addr.0, size);
         let act = MemoryAct::CopyOut {
             thread,
             addr,
             size,
             fits,
         };
-        match sites.memory(image, cpu, &act, &mut bytes) {
-            Said::Made(_) => {
-                let taken = self.taken();
-                self.context.copies_out(image, fits, taken);
-                self.leaves(image, phase);
-                Turn::Made
-            }
-            Said::Busy => Turn::Busy,
-            Said::Changed => Turn::Changed,
-        }
+        made!(sites.memory(here, &act, &mut bytes));
+        let taken = self.taken();
+        self.context.copies_out(here.image, fits, taken);
+        self.leaves(here.image);
+        Turn::Made
     }
 
     /// A text is copied from memory, as far as it may be read.
-    pub fn copy_text<S: Sites>(
-        &mut self,
-        image: &Image,
-        cpu: u8,
-        phase: Phase,
-        addr: Addr,
-        sites: &mut S,
-    ) -> Turn
-        requires sites { S.IsOf image.now sites.old }
-        requires goes { MayTurn S.Sites cpu image.now sites.old (about_to phase (Pending.CopyStr addr) self.old) }
-        ensures image { S.IsOf image.now sites.new }
-        ensures same { UnlessMade result (processor_of self.new ≡ processor_of self.old) }
-        ensures turn { TurnsAt S.Sites result cpu image.now sites.old sites.new
-            (about_to phase (Pending.CopyStr addr) self.old) (processor_of self.new) }
+    pub fn copy_text<S: Sites>(&mut self, here: &Here, addr: Addr, sites: &mut S) -> Turn
+        requires goes { CanTurn S.Sites here.now sites.old (shows (Pending.CopyStr addr) self.old) }
+        ensures turn { HasRun S.Sites result here.now sites.old sites.new
+            (shows (Pending.CopyStr addr) self.old) self.old self.new }
     {
-        let thread = ThreadIx(self.context.thread());
-        let readable = self.readable(image, addr.0, 32);
+        let thread = self.thread();
+        let readable = self.readable(here.image, addr.0, 32);
         let act = MemoryAct::CopyStr {
             thread,
             addr,
             readable,
         };
         let mut bytes = Piece::new();
-        match sites.memory(image, cpu, &act, &mut bytes) {
-            Said::Made(said) => {
-                let taken = self.taken();
-                self.context.copies_text(image, said.found, &bytes, taken);
-                self.leaves(image, phase);
-                Turn::Made
-            }
-            Said::Busy => Turn::Busy,
-            Said::Changed => Turn::Changed,
-        }
+        let said = made!(sites.memory(here, &act, &mut bytes));
+        let taken = self.taken();
+        self.context
+            .copies_text(here.image, said.found, &bytes, taken);
+        self.leaves(here.image);
+        Turn::Made
     }
 }

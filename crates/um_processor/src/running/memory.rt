@@ -5,15 +5,16 @@ ghost use Rattle.um_machine.specs.declared.pending.Pending.TheVariants as Pendin
 ghost use Rattle.um_processor.specs.declared.memory_act.MemoryAct.TheVariants as MemoryAct;
 ghost use Rattle.um_processor.specs.{
   Accesses.{behind_access, behind_load},
-  Events.{about_to, behind_event, rest_of},
-  Processors.{UnlessMade, processor_of},
-  Turns.{MayTurn, TurnsAt},
+  Events.{shows, behind_event},
+  Processors.{processor_of},
+  Turns.{CanTurn, HasRun},
 };
 
+use crate::here::Here;
 use crate::memory_act::MemoryAct;
-use crate::phase::{Phase, Turn};
+use crate::phase::Turn;
 use crate::running::Running;
-use crate::said::Said;
+use crate::said::made;
 use crate::sites::Sites;
 use um_base::{Access, Addr, Image, Piece, Row, ThreadIx};
 
@@ -42,8 +43,8 @@ fn or_fault(
 
 impl Running {
     /// Goes on behind a load of this number, or after its fault.
-    fn loads_or_faults(&mut self, image: &Image, phase: Phase, allowed: bool, to: u8, value: u32)
-        ensures { processor_of self.new ≡ behind_event image.now phase (behind_load image.now self.old allowed to value) self.old }
+    fn loads_or_faults(&mut self, image: &Image, allowed: bool, to: u8, value: u32)
+        ensures { processor_of self.new ≡ behind_event image.now self.old.phase (behind_load image.now self.old allowed to value) self.old }
     {
         if allowed {
             let taken = self.taken();
@@ -51,77 +52,62 @@ impl Running {
         } else {
             self.context.faults(image);
         }
-        self.leaves(image, phase);
+        self.leaves(image);
     }
 
     /// Goes on behind another access, or after its fault.
-    fn goes_on_or_faults(&mut self, image: &Image, phase: Phase, allowed: bool)
-        ensures { processor_of self.new ≡ behind_event image.now phase (behind_access image.now self.old allowed) self.old }
+    fn goes_on_or_faults(&mut self, image: &Image, allowed: bool)
+        ensures { processor_of self.new ≡ behind_event image.now self.old.phase (behind_access image.now self.old allowed) self.old }
     {
         if allowed {
-            self.goes_on(image, phase);
+            self.goes_on(image);
             return;
         }
         self.context.faults(image);
-        self.leaves(image, phase);
+        self.leaves(image);
     }
 
     /// A number is loaded into a register, or a fault comes in its place.
     pub fn load<S: Sites>(
         &mut self,
-        image: &Image,
-        cpu: u8,
-        phase: Phase,
+        here: &Here,
         to: u8,
         addr: Addr,
         size: u32,
         sites: &mut S,
     ) -> Turn
-        requires sites { S.IsOf image.now sites.old }
-        requires goes { MayTurn S.Sites cpu image.now sites.old (about_to phase (Pending.Load to addr size) self.old) }
-        ensures image { S.IsOf image.now sites.new }
-        ensures same { UnlessMade result (processor_of self.new ≡ processor_of self.old) }
-        ensures turn { TurnsAt S.Sites result cpu image.now sites.old sites.new
-            (about_to phase (Pending.Load to addr size) self.old) (processor_of self.new) }
+        requires goes { CanTurn S.Sites here.now sites.old (shows (Pending.Load to addr size) self.old) }
+        ensures turn { HasRun S.Sites result here.now sites.old sites.new
+            (shows (Pending.Load to addr size) self.old) self.old self.new }
     {
         if size > 4 {
             return Turn::Stuck;
         }
-        let thread = ThreadIx(self.context.thread());
-        let allowed = self.allows(image, Access::Read, addr.0, size);
+        let thread = self.thread();
+        let allowed = self.allows(here.image, Access::Read, addr.0, size);
         let load = MemoryAct::Load { thread, addr, size };
         let act = or_fault(allowed, load, thread, Access::Read, addr, size);
         let mut none = Piece::new();
-        match sites.memory(image, cpu, &act, &mut none) {
-            Said::Made(said) => {
-                self.loads_or_faults(image, phase, allowed, to, said.value);
-                Turn::Made
-            }
-            Said::Busy => Turn::Busy,
-            Said::Changed => Turn::Changed,
-        }
+        let said = made!(sites.memory(here, &act, &mut none));
+        self.loads_or_faults(here.image, allowed, to, said.value);
+        Turn::Made
     }
 
     /// A number is stored, or a fault comes in its place.
     pub fn store<S: Sites>(
         &mut self,
-        image: &Image,
-        cpu: u8,
-        phase: Phase,
+        here: &Here,
         addr: Addr,
         size: u32,
         value: u32,
         sites: &mut S,
     ) -> Turn
-        requires sites { S.IsOf image.now sites.old }
-        requires goes { MayTurn S.Sites cpu image.now sites.old (about_to phase (Pending.Store addr size value) self.old) }
-        ensures image { S.IsOf image.now sites.new }
-        ensures same { UnlessMade result (processor_of self.new ≡ processor_of self.old) }
-        ensures turn { TurnsAt S.Sites result cpu image.now sites.old sites.new
-            (about_to phase (Pending.Store addr size value) self.old) (processor_of self.new) }
+        requires goes { CanTurn S.Sites here.now sites.old (shows (Pending.Store addr size value) self.old) }
+        ensures turn { HasRun S.Sites result here.now sites.old sites.new
+            (shows (Pending.Store addr size value) self.old) self.old self.new }
     {
-        let thread = ThreadIx(self.context.thread());
-        let allowed = self.allows(image, Access::Write, addr.0, size);
+        let thread = self.thread();
+        let allowed = self.allows(here.image, Access::Write, addr.0, size);
         let store = MemoryAct::Store {
             thread,
             addr,
@@ -130,73 +116,38 @@ impl Running {
         };
         let act = or_fault(allowed, store, thread, Access::Write, addr, size);
         let mut none = Piece::new();
-        match sites.memory(image, cpu, &act, &mut none) {
-            Said::Made(_) => {
-                self.goes_on_or_faults(image, phase, allowed);
-                Turn::Made
-            }
-            Said::Busy => Turn::Busy,
-            Said::Changed => Turn::Changed,
-        }
+        made!(sites.memory(here, &act, &mut none));
+        self.goes_on_or_faults(here.image, allowed);
+        Turn::Made
     }
 
     /// An instruction is fetched, or a fault comes in its place.
-    pub fn fetch<S: Sites>(
-        &mut self,
-        image: &Image,
-        cpu: u8,
-        phase: Phase,
-        addr: Addr,
-        sites: &mut S,
-    ) -> Turn
-        requires sites { S.IsOf image.now sites.old }
-        requires goes { MayTurn S.Sites cpu image.now sites.old (about_to phase (Pending.Fetch addr) self.old) }
-        ensures image { S.IsOf image.now sites.new }
-        ensures same { UnlessMade result (processor_of self.new ≡ processor_of self.old) }
-        ensures turn { TurnsAt S.Sites result cpu image.now sites.old sites.new
-            (about_to phase (Pending.Fetch addr) self.old) (processor_of self.new) }
+    pub fn fetch<S: Sites>(&mut self, here: &Here, addr: Addr, sites: &mut S) -> Turn
+        requires goes { CanTurn S.Sites here.now sites.old (shows (Pending.Fetch addr) self.old) }
+        ensures turn { HasRun S.Sites result here.now sites.old sites.new
+            (shows (Pending.Fetch addr) self.old) self.old self.new }
     {
-        let thread = ThreadIx(self.context.thread());
-        let allowed = self.allows(image, Access::Exec, addr.0, 4);
+        let thread = self.thread();
+        let allowed = self.allows(here.image, Access::Exec, addr.0, 4);
         let fetch = MemoryAct::Fetch { thread, addr };
         let act = or_fault(allowed, fetch, thread, Access::Exec, addr, 4);
         let mut none = Piece::new();
-        match sites.memory(image, cpu, &act, &mut none) {
-            Said::Made(_) => {
-                self.goes_on_or_faults(image, phase, allowed);
-                Turn::Made
-            }
-            Said::Busy => Turn::Busy,
-            Said::Changed => Turn::Changed,
-        }
+        made!(sites.memory(here, &act, &mut none));
+        self.goes_on_or_faults(here.image, allowed);
+        Turn::Made
     }
 
     /// The bytes of a thread stack become zero.
-    pub fn erase<S: Sites>(
-        &mut self,
-        image: &Image,
-        cpu: u8,
-        phase: Phase,
-        stack: Row,
-        sites: &mut S,
-    ) -> Turn
-        requires sites { S.IsOf image.now sites.old }
-        requires goes { MayTurn S.Sites cpu image.now sites.old (about_to phase (Pending.Erase stack) self.old) }
-        ensures image { S.IsOf image.now sites.new }
-        ensures same { UnlessMade result (processor_of self.new ≡ processor_of self.old) }
-        ensures turn { TurnsAt S.Sites result cpu image.now sites.old sites.new
-            (about_to phase (Pending.Erase stack) self.old) (processor_of self.new) }
+    pub fn erase<S: Sites>(&mut self, here: &Here, stack: Row, sites: &mut S) -> Turn
+        requires goes { CanTurn S.Sites here.now sites.old (shows (Pending.Erase stack) self.old) }
+        ensures turn { HasRun S.Sites result here.now sites.old sites.new
+            (shows (Pending.Erase stack) self.old) self.old self.new }
     {
-        let thread = ThreadIx(self.context.thread());
+        let thread = self.thread();
         let act = MemoryAct::Erase { thread, stack };
         let mut none = Piece::new();
-        match sites.memory(image, cpu, &act, &mut none) {
-            Said::Made(_) => {
-                self.goes_on(image, phase);
-                Turn::Made
-            }
-            Said::Busy => Turn::Busy,
-            Said::Changed => Turn::Changed,
-        }
+        made!(sites.memory(here, &act, &mut none));
+        self.goes_on(here.image);
+        Turn::Made
     }
 }

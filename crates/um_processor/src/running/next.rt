@@ -1,13 +1,13 @@
 //! The first fine step of a thread's next step.
 
-ghost use Rattle.std.specs.Prelude.{◌≡◌, ◌<◌, ◌∷◌, [], slice_get, IfSome, MatchOption};
+ghost use Rattle.std.specs.Prelude.{◌≡◌, ◌<◌, ◌∷◌, [], IfSome, MatchOption};
 ghost use Rattle.um_base.specs.declared.limits.TheConstants.{ROWS};
 ghost use Rattle.um_fine.specs.{Addresses.{row_named}, Continues.{newborn}, Places.{but}};
 ghost use Rattle.um_machine.specs.Limits.{IsSound};
 ghost use Rattle.um_processor.specs.{
   Events.{rest_of},
   Phases.{born, domain_named, first_of, first_phase, phase_of_amount, queue_of, row_of_amount, steps_behind},
-  Processors.{in_phase, processor_of, refilled},
+  Processors.{processor_of, refilled},
 };
 
 use crate::context::Context;

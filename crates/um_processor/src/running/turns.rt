@@ -2,14 +2,15 @@
 
 ghost use Rattle.std.specs.Prelude.{◌≡◌};
 ghost use Rattle.um_processor.specs.{
-  Events.{about_to_park},
-  Processors.{UnlessMade, in_phase, processor_of, turning},
-  Turns.{MayTurn, TurnsAt},
+  Events.{parks},
+  Processors.{in_phase, processor_of, turning},
+  Turns.{CanTurn, HasRun},
 };
 
+use crate::here::Here;
 use crate::phase::{Phase, Turn};
 use crate::running::Running;
-use crate::said::Said;
+use crate::said::made;
 use crate::sites::Sites;
 use um_base::Image;
 use um_machine::places::instruction_at;
@@ -26,64 +27,40 @@ impl Running {
     }
 
     /// The first ready thread is taken, and goes on where it was woken.
-    pub fn take<S: Sites>(&mut self, image: &Image, cpu: u8, sites: &mut S) -> Turn
-        requires sites { S.IsOf image.now sites.old }
-        requires goes { MayTurn S.Sites cpu image.now sites.old (in_phase Phase.Idle self.old) }
-        ensures image { S.IsOf image.now sites.new }
-        ensures same { UnlessMade result (processor_of self.new ≡ processor_of self.old) }
-        ensures turn { TurnsAt S.Sites result cpu image.now sites.old sites.new
-            (in_phase Phase.Idle self.old) (processor_of self.new) }
+    pub fn take<S: Sites>(&mut self, here: &Here, sites: &mut S) -> Turn
+        requires goes { CanTurn S.Sites here.now sites.old (in_phase Phase.Idle self.old) }
+        ensures turn { HasRun S.Sites result here.now sites.old sites.new
+            (in_phase Phase.Idle self.old) self.old self.new }
     {
-        match sites.take(image, cpu, &mut self.context, &mut self.told) {
-            Said::Made(woken) => {
-                if woken {
-                    self.context.resumes(image, &self.told);
-                    self.expands(image);
-                } else {
-                    self.turns(image);
-                }
-                Turn::Made
-            }
-            Said::Busy => Turn::Busy,
-            Said::Changed => Turn::Changed,
+        let woken = made!(sites.take(here, &mut self.context, &mut self.told));
+        if woken {
+            self.context.resumes(here.image, &self.told);
+            self.expands(here.image);
+        } else {
+            self.turns(here.image);
         }
+        Turn::Made
     }
 
     /// The thread is put back.
-    pub fn park<S: Sites>(&mut self, image: &Image, cpu: u8, phase: Phase, sites: &mut S) -> Turn
-        requires sites { S.IsOf image.now sites.old }
-        requires goes { MayTurn S.Sites cpu image.now sites.old (about_to_park phase self.old) }
-        ensures image { S.IsOf image.now sites.new }
-        ensures same { UnlessMade result (processor_of self.new ≡ processor_of self.old) }
-        ensures turn { TurnsAt S.Sites result cpu image.now sites.old sites.new
-            (about_to_park phase self.old) (processor_of self.new) }
+    pub fn park<S: Sites>(&mut self, here: &Here, sites: &mut S) -> Turn
+        requires goes { CanTurn S.Sites here.now sites.old (parks self.old) }
+        ensures turn { HasRun S.Sites result here.now sites.old sites.new
+            (parks self.old) self.old self.new }
     {
-        match sites.park(image, cpu, &mut self.context) {
-            Said::Made(_) => {
-                self.phase = Phase::Idle;
-                Turn::Made
-            }
-            Said::Busy => Turn::Busy,
-            Said::Changed => Turn::Changed,
-        }
+        made!(sites.park(here, &mut self.context));
+        self.phase = Phase::Idle;
+        Turn::Made
     }
 
     /// The thread isn't put back.
-    pub fn finish<S: Sites>(&mut self, image: &Image, cpu: u8, sites: &mut S) -> Turn
-        requires sites { S.IsOf image.now sites.old }
-        requires goes { MayTurn S.Sites cpu image.now sites.old (in_phase Phase.Done self.old) }
-        ensures image { S.IsOf image.now sites.new }
-        ensures same { UnlessMade result (processor_of self.new ≡ processor_of self.old) }
-        ensures turn { TurnsAt S.Sites result cpu image.now sites.old sites.new
-            (in_phase Phase.Done self.old) (processor_of self.new) }
+    pub fn finish<S: Sites>(&mut self, here: &Here, sites: &mut S) -> Turn
+        requires goes { CanTurn S.Sites here.now sites.old (in_phase Phase.Done self.old) }
+        ensures turn { HasRun S.Sites result here.now sites.old sites.new
+            (in_phase Phase.Done self.old) self.old self.new }
     {
-        match sites.done(image, cpu) {
-            Said::Made(_) => {
-                self.phase = Phase::Idle;
-                Turn::Made
-            }
-            Said::Busy => Turn::Busy,
-            Said::Changed => Turn::Changed,
-        }
+        made!(sites.done(here));
+        self.phase = Phase::Idle;
+        Turn::Made
     }
 }

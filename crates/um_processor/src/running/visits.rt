@@ -5,16 +5,17 @@ ghost use Rattle.um_machine.specs.declared.pending.Pending.TheVariants as Pendin
 ghost use Rattle.um_processor.specs.{
   Phases.{is_idle, passed_to},
   Processors.{OnMade, UnlessMade, cleaned, in_phase, processor_of, visiting},
-  Turns.{MayTurn, TurnsAt},
+  Turns.{CanTurn, HasRun, TurnsAt},
 };
 
+use crate::here::Here;
 use crate::phase::{Phase, Turn};
 use crate::row_act::RowAct;
 use crate::running::Running;
 use crate::running::next::{but, first_phase};
-use crate::said::Said;
+use crate::said::made;
 use crate::sites::Sites;
-use um_base::{Addr, Image, ROWS, Row, ThreadIx};
+use um_base::{Addr, ROWS, Row, ThreadIx};
 use um_machine::Pending;
 use um_steps::rows::{addr_of, own_row};
 
@@ -51,13 +52,10 @@ impl Running {
     }
 
     /// The permission on the object of a row is passed on, where the other thread hasn't it.
-    pub fn pass<S: Sites>(&mut self, image: &Image, cpu: u8, sites: &mut S) -> Turn
-        requires sites { S.IsOf image.now sites.old }
-        requires goes { MayTurn S.Sites cpu image.now sites.old (in_phase Phase.Pass self.old) }
-        ensures image { S.IsOf image.now sites.new }
-        ensures same { UnlessMade result (processor_of self.new ≡ processor_of self.old) }
-        ensures turn { TurnsAt S.Sites result cpu image.now sites.old sites.new
-            (in_phase Phase.Pass self.old) (processor_of self.new) }
+    pub fn pass<S: Sites>(&mut self, here: &Here, sites: &mut S) -> Turn
+        requires goes { CanTurn S.Sites here.now sites.old (in_phase Phase.Pass self.old) }
+        ensures turn { HasRun S.Sites result here.now sites.old sites.new
+            (in_phase Phase.Pass self.old) self.old self.new }
     {
         let x = self.row as usize;
         if x >= ROWS {
@@ -67,61 +65,49 @@ impl Running {
         let act = RowAct::Pass {
             thread: ThreadIx(thread),
             who: self.passed_to(),
-            addr: Addr(addr_of(image, x)),
+            addr: Addr(addr_of(here.image, x)),
         };
-        match sites.row(image, cpu, Row(self.row), &act) {
-            Said::Made(_) => {
-                let own = own_row(image, thread as usize);
-                self.visits(but(own, self.row + 1), Phase::Pass);
-                Turn::Made
-            }
-            Said::Busy => Turn::Busy,
-            Said::Changed => Turn::Changed,
-        }
+        made!(sites.row(here, Row(self.row), &act));
+        let own = own_row(here.image, thread as usize);
+        self.visits(but(own, self.row + 1), Phase::Pass);
+        Turn::Made
     }
 
     /// The permission on the object of a row is dropped, where there is one. Answers in `cleans` whether the row came to cleaning.
     pub fn drop_permission<S: Sites>(
         &mut self,
-        image: &Image,
-        cpu: u8,
+        here: &Here,
         cleans: &mut bool,
         sites: &mut S,
     ) -> Turn
-        requires sites { S.IsOf image.now sites.old }
-        requires goes { MayTurn S.Sites cpu image.now sites.old (in_phase Phase.Drop self.old) }
-        ensures image { S.IsOf image.now sites.new }
+        requires goes { CanTurn S.Sites here.now sites.old (in_phase Phase.Drop self.old) }
+        ensures image { S.IsOf here.now.image.now sites.new }
         ensures cleans { UnlessMade result (cleans.new ≡ cleans.old) }
         ensures same { UnlessMade result (processor_of self.new ≡ processor_of self.old) }
         ensures runs { OnMade result (is_idle self.new.phase ≡ false) }
-        ensures turn { TurnsAt S.Sites result cpu image.now sites.old sites.new
+        ensures turn { TurnsAt S.Sites result here.now.cpu here.now.image.now sites.old sites.new
             (in_phase Phase.Drop self.old)
-            (cleaned image.now self.old.row cleans.new (processor_of self.new)) }
+            (cleaned here.now.image.now self.old.row cleans.new (processor_of self.new)) }
     {
         let x = self.row as usize;
         if x >= ROWS {
             return Turn::Stuck;
         }
-        let me = ThreadIx(self.context.thread());
+        let me = self.thread();
         let act = RowAct::Sweep {
             thread: me,
             who: me,
-            addr: Addr(addr_of(image, x)),
+            addr: Addr(addr_of(here.image, x)),
         };
-        match sites.row(image, cpu, Row(self.row), &act) {
-            Said::Made(said) => {
-                *cleans = said.cleans;
-                let next = self.row + 1;
-                if said.visits {
-                    self.visits(next, Phase::Drop);
-                    return Turn::Made;
-                }
-                self.drops_from(next);
-                self.visits(next, Phase::Drop);
-                Turn::Made
-            }
-            Said::Busy => Turn::Busy,
-            Said::Changed => Turn::Changed,
+        let said = made!(sites.row(here, Row(self.row), &act));
+        *cleans = said.cleans;
+        let next = self.row + 1;
+        if said.visits {
+            self.visits(next, Phase::Drop);
+            return Turn::Made;
         }
+        self.drops_from(next);
+        self.visits(next, Phase::Drop);
+        Turn::Made
     }
 }

@@ -6,16 +6,17 @@ ghost use Rattle.um_fine.specs.Continues.{after_work};
 ghost use Rattle.um_machine.specs.{Limits.{is_sound_ask}, Order.{to_thread}, Table.{bytes_given}};
 ghost use Rattle.um_machine.specs.declared.pending.Pending.TheVariants as Pending;
 ghost use Rattle.um_processor.specs.{
-  Events.{about_to, behind_event, rest_of, with_woken},
+  Events.{shows, behind_event, rest_of, with_woken},
   Phases.{is_idle},
   Processors.{OnMade, UnlessMade, processor_of},
-  Turns.{MayTurn, TurnsAt},
+  Turns.{CanTurn, TurnsAt},
 };
 
-use crate::phase::{Phase, Turn};
+use crate::here::Here;
+use crate::phase::Turn;
 use crate::running::Running;
 use crate::running::next::row_named;
-use crate::said::Said;
+use crate::said::made;
 use crate::sites::Sites;
 use um_base::{Addr, Answer, Ask, Image, Piece, Row, ThreadIx, Waiter};
 use um_service::Outcome;
@@ -36,50 +37,38 @@ impl Running {
     }
 
     /// Goes on after the work of the thread's call.
-    #[tactic(auto, using(crate::proofs::Fronts::dropped_twice))]
-    fn works(&mut self, image: &Image, phase: Phase, ask: &Ask, answer: Answer, taken: &Piece)
+    fn works(&mut self, image: &Image, ask: &Ask, answer: Answer, bytes: &Piece)
         requires { IsTrue (is_sound_ask ask.now) }
-        ensures { processor_of self.new ≡ behind_event image.now phase (after_work image.now self.old.context.value ask.now taken.now (rest_of self.old) answer) self.old }
+        ensures { processor_of self.new ≡ behind_event image.now self.old.phase (after_work image.now self.old.context.value ask.now bytes.now (rest_of self.old) answer) self.old }
     {
-        if self.visited {
-            self.context.works(image, ask, answer, taken, 2);
-        } else {
-            self.context.works(image, ask, answer, taken, 1);
-        }
-        self.leaves(image, phase);
+        let taken = self.taken();
+        self.context.works(image, ask, answer, bytes, taken);
+        self.leaves(image);
     }
 
     /// The work of a call on the object at an address. Writes what comes of it: the threads that it wakes are to be told.
     pub fn work<S: Sites>(
         &mut self,
-        image: &Image,
-        cpu: u8,
-        phase: Phase,
+        here: &Here,
         addr: Addr,
         ask: &Ask,
         outcome: &mut Outcome,
         sites: &mut S,
     ) -> Turn
-        requires sites { S.IsOf image.now sites.old }
         requires sound { IsTrue (is_sound_ask ask.now) }
-        requires goes { MayTurn S.Sites cpu image.now sites.old (about_to phase (Pending.Work addr ask.now) self.old) }
-        ensures image { S.IsOf image.now sites.new }
+        requires goes { CanTurn S.Sites here.now sites.old (shows (Pending.Work addr ask.now) self.old) }
+        ensures image { S.IsOf here.now.image.now sites.new }
         ensures outcome { UnlessMade result (outcome.new ≡ outcome.old) }
         ensures same { UnlessMade result (processor_of self.new ≡ processor_of self.old) }
         ensures runs { OnMade result (is_idle self.new.phase ≡ false) }
-        ensures turn { TurnsAt S.Sites result cpu image.now sites.old sites.new
-            (about_to phase (Pending.Work addr ask.now) self.old)
+        ensures turn { TurnsAt S.Sites result here.now.cpu here.now.image.now sites.old sites.new
+            (shows (Pending.Work addr ask.now) self.old)
             (with_woken outcome.new.woken (processor_of self.new)) }
     {
-        let row = Row(row_named(image, addr));
+        let row = Row(row_named(here.image, addr));
         let who = self.caller(ask);
-        match sites.work(image, cpu, row, addr, &who, outcome) {
-            Said::Made(_) => {
-                self.works(image, phase, ask, outcome.answer, &outcome.taken);
-                Turn::Made
-            }
-            Said::Busy => Turn::Busy,
-            Said::Changed => Turn::Changed,
-        }
+        made!(sites.work(here, row, addr, &who, outcome));
+        self.works(here.image, ask, outcome.answer, &outcome.taken);
+        Turn::Made
     }
 }

@@ -3,4 +3,4 @@ use Rattle.um_machine.specs.Memory.{rodata_of}
 use Rattle.um_processing.proofs.tests.over_tables.Given as goal
 
 abbrev pub invariant-loop-row : goal.invariant-loop-row
-invariant-loop-row g l = l.sites.rodata ≡ rodata_of l.image
+invariant-loop-row g l = l.sites.rodata ≡ rodata_of l.here.image.now

@@ -24,12 +24,12 @@ put-number-requires-clause-step g c =
     let n = c.args.turn.number in
     let e = g.D.Fine.step in
     let counts = counts-of _ _ _ _ _ _ c.new-contents.ensures c.into_kept.ensures c.counts-ready.ensures (n + 1) in
-    let left = cell-left c.args.image.now n c.pack-next.result _ _ _ e c.requires.takes counts c.pack-next.ensures.value in
+    let left = cell-left c.args.here.now.image.now n c.pack-next.result _ _ _ e c.requires.takes counts c.pack-next.ensures.value in
     λ i. record { site = c.requires.site i; act = e.act; word = left i; moved = e.moved }
 
 pub put-number-requires-clause-held : goal.put-number-requires-clause-held
 put-number-requires-clause-held g c =
-    let image = c.args.image.now in
+    let image = c.args.here.now.image.now in
     let n = c.args.turn.number in
     let before = g.K.Kind.cell c.args.turn.before.value in
     let of = c.new-contents.ensures in
@@ -41,7 +41,7 @@ put-number-requires-clause-lawful g c =
     let t = c.requires.turn in
     let n = c.args.turn.number in
     let counts = counts-of _ _ _ _ _ _ c.new-contents.ensures c.into_kept.ensures c.counts-ready.ensures (n + 1) in
-    cell-lawful c.args.image.now c.args.site c.args.turn.word n _ _ g.D.Fine.step t.low t.kind t.says c.requires.takes _ (c.pack-next.ensures.value ∙ ap packed_cell (sym counts))
+    cell-lawful c.args.here.now.image.now c.args.site c.args.turn.word n _ _ g.D.Fine.step t.low t.kind t.says c.requires.takes _ (c.pack-next.ensures.value ∙ ap packed_cell (sym counts))
 
 pub put-number-requires-clause-goes : goal.put-number-requires-clause-goes
 put-number-requires-clause-goes g c =
@@ -50,8 +50,8 @@ put-number-requires-clause-goes g c =
     let n = c.args.turn.number in
     let e = g.D.Fine.step in
     let counts = counts-of _ _ _ _ _ _ c.new-contents.ensures c.into_kept.ensures c.counts-ready.ensures (n + 1) in
-    let back = cell-reads-back c.args.image.now c.args.site n _ _ _ _ e c.requires.takes counts c.requires.there t.low c.requires.site c.pack-next.ensures.value c.pack-next.ensures.back in
-    subst (λ (i : Image). NextGoes i v.name v.made (made_of e)) (sym t.image_is) (next-goes c.args.image.now v.name v.made e back c.requires.goes)
+    let back = cell-reads-back c.args.here.now.image.now c.args.site n _ _ _ _ e c.requires.takes counts c.requires.there t.low c.requires.site c.pack-next.ensures.value c.pack-next.ensures.back in
+    subst (λ (i : Image). NextGoes i v.name v.made (made_of e)) (sym t.image_is) (next-goes c.args.here.now.image.now v.name v.made e back c.requires.goes)
 
 pub returns-clause-made : goal.returns-clause-made
 returns-clause-made g c =
@@ -61,8 +61,8 @@ returns-clause-made g c =
     let next = c.pack-next.ensures in
     let told = c.put-number.ensures.told in
     let counts = counts-of _ _ _ _ _ _ c.new-contents.ensures c.into_kept.ensures c.counts-ready.ensures (n + 1) in
-    let numbered = put-number c.args.image.now c.args.site n _ _ e _ _ _ _ _ t.low t.kind c.requires.takes c.requires.site next.value next.back counts told.numbered in
-    let back = cell-reads-back c.args.image.now c.args.site n _ _ _ _ e c.requires.takes counts c.requires.there t.low c.requires.site next.value next.back in
+    let numbered = put-number c.args.here.now.image.now c.args.site n _ _ e _ _ _ _ _ t.low t.kind c.requires.takes c.requires.site next.value next.back counts told.numbered in
+    let back = cell-reads-back c.args.here.now.image.now c.args.site n _ _ _ _ e c.requires.takes counts c.requires.there t.low c.requires.site next.value next.back in
     put-turn _ _ e _ _ c.put-number.ensures.same told.now
     (c.note.ensures.noted ∙ ap (λ (l : Logged). c.args.self.now.log.items ++ l ∷ []) (logged-is e _ _ _ _ c.requires.cpu c.requires.site numbered c.requires.event))
     back

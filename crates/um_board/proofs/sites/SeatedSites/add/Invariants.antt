@@ -2,4 +2,4 @@ use Rattle.um_processor.specs.SchedulerActs.{added_made}
 use Rattle.um_board.proofs.sites.SeatedSites.add.Given as goal
 
 abbrev pub ghosts-leave : goal.ghosts-leave
-ghosts-leave a = record { step = added_made a.image.now a.cpu a.turn.number a.turn.before.value.value a.about.now.value.value }
+ghosts-leave a = record { step = added_made a.here.now.image.now a.here.now.cpu a.turn.number a.turn.before.value.value a.about.now.value.value }

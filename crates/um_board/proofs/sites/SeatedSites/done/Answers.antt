@@ -16,7 +16,7 @@ leave-requires-clause-takes c =
     let d = c.in-Some.turn.before.value.value in
     let was : c.deref_mut.result.now ≡ d = search rules in
     let e = subst (λ (s : Scheduler). (0 < s.running) × (c.done.new.self ≡ one_less s)) was (c.if-not-done.ensures.made refl) in
-    cell-takes c.args.image.now c.args.cpu Site.scheduler c.in-Some.turn.number (Cell.scheduler d) _ (FineAct.Unseen Unseen.Done) Exchange.nothing c.in-Some.ensures.turn.1.turn.room (lt-ltb 0 _ e.0) (ap Cell.scheduler e.1)
+    cell-takes c.args.here.now.image.now c.args.here.now.cpu Site.scheduler c.in-Some.turn.number (Cell.scheduler d) _ (FineAct.Unseen Unseen.Done) Exchange.nothing c.in-Some.ensures.turn.1.turn.room (lt-ltb 0 _ e.0) (ap Cell.scheduler e.1)
 
 pub leave-requires-clause-goes : goal.leave-requires-clause-goes
 leave-requires-clause-goes c = next-then _ _ _ _ _ _ c.in-Some.ensures.unnoted (c.requires.goes c.in-Some.turn.number c.in-Some.turn.before.value.value)
@@ -30,7 +30,7 @@ returns-then-not-done-clause-said c =
     let was : c.deref_mut.result.now ≡ d = search rules in
     let t = c.in-Some.ensures.turn.1 in
     let denied = subst (λ (x : Scheduler). nat_lt 0 x.running ≡ false) was (ap (nat_lt 0) (c.if-not-done.ensures.refused refl).1) in
-    let shut = refused c.args.image.now c.args.cpu c.in-Some.turn.number _ d Unseen.Done Exchange.nothing _ _ _ _ _ _ c.in-Some.ensures.unnoted c.put_back.ensures.unnoted t.turn.says t.got t.saw denied in
+    let shut = refused c.args.here.now.image.now c.args.here.now.cpu c.in-Some.turn.number _ d Unseen.Done Exchange.nothing _ _ _ _ _ _ c.in-Some.ensures.unnoted c.put_back.ensures.unnoted t.turn.says t.got t.saw denied in
     (c.in-Some.turn.number, d, shut.0, shut.1)
 
 pub put_back-requires-clause-same : goal.put_back-requires-clause-same

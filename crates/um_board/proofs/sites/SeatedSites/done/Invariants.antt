@@ -2,4 +2,4 @@ use Rattle.um_processor.specs.SchedulerActs.{done_made}
 use Rattle.um_board.proofs.sites.SeatedSites.done.Given as goal
 
 abbrev pub ghosts-leave : goal.ghosts-leave
-ghosts-leave a = record { step = done_made a.image.now a.cpu a.turn.number a.turn.before.value.value }
+ghosts-leave a = record { step = done_made a.here.now.image.now a.here.now.cpu a.turn.number a.turn.before.value.value }

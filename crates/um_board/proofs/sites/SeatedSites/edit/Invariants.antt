@@ -2,4 +2,4 @@ use Rattle.um_processor.specs.DomainCells.{edited_made}
 use Rattle.um_board.proofs.sites.SeatedSites.edit.Given as goal
 
 abbrev pub ghosts-leave : goal.ghosts-leave
-ghosts-leave a = record { step = edited_made a.image.now a.cpu a.which a.turn.number a.turn.before.value.value.parts a.about.now }
+ghosts-leave a = record { step = edited_made a.here.now.image.now a.here.now.cpu a.which a.turn.number a.turn.before.value.value.parts a.about.now }

@@ -24,18 +24,18 @@ pub leave-requires-clause-takes : goal.leave-requires-clause-takes
 leave-requires-clause-takes c =
     let d = c.in-Some.turn.before.value.value in
     let was : c.deref_mut.result.now ≡ d = search rules in
-    let image = c.args.image.now in
+    let image = c.args.here.now.image.now in
     let paid = Exchange.charge c.args.charge in
     let says = λ (h : Heap). heap_says image h paid (heap_act c.args.act.now) in
-    cell-takes image c.args.cpu Site.heap c.in-Some.turn.number (Cell.heap d) _ (heap_act c.args.act.now) paid c.in-Some.ensures.turn.1.turn.room (heap-takes image d paid c.args.act.now)
+    cell-takes image c.args.here.now.cpu Site.heap c.in-Some.turn.number (Cell.heap d) _ (heap_act c.args.act.now) paid c.in-Some.ensures.turn.1.turn.room (heap-takes image d paid c.args.act.now)
     (ap Cell.heap (c.make-said.ensures.leaves ∙ ap (λ (h : Heap). heap_after image h (act_in (says h)) paid) was))
 
 pub leave-requires-clause-event : goal.leave-requires-clause-event
 leave-requires-clause-event c =
     let d = c.in-Some.turn.before.value.value in
     let act = c.args.act.now in
-    let said = said-of c.args.image.now act c.args.charge c.deref_mut.result.now d _ (search rules) c.make-said.ensures.said in
-    c.event-event.ensures ∙ (ap (λ (s : HeapSaid). Some (heap_event act s)) said ∙ heap-event c.args.image.now d (Exchange.charge c.args.charge) act)
+    let said = said-of c.args.here.now.image.now act c.args.charge c.deref_mut.result.now d _ (search rules) c.make-said.ensures.said in
+    c.event-event.ensures ∙ (ap (λ (s : HeapSaid). Some (heap_event act s)) said ∙ heap-event c.args.here.now.image.now d (Exchange.charge c.args.charge) act)
 
 pub leave-requires-clause-goes : goal.leave-requires-clause-goes
 leave-requires-clause-goes c = next-then _ _ _ _ _ _ c.in-Some.ensures.unnoted (c.requires.goes c.in-Some.turn.number c.in-Some.turn.before.value.value)
@@ -43,7 +43,7 @@ leave-requires-clause-goes c = next-then _ _ _ _ _ _ c.in-Some.ensures.unnoted (
 pub returns-clause-said : goal.returns-clause-said
 returns-clause-said c =
     let d = c.in-Some.turn.before.value.value in
-    let said = said-of c.args.image.now c.args.act.now c.args.charge c.deref_mut.result.now d _ (search rules) c.make-said.ensures.said in
+    let said = said-of c.args.here.now.image.now c.args.act.now c.args.charge c.deref_mut.result.now d _ (search rules) c.make-said.ensures.said in
     (c.in-Some.turn.number, d, noted-then _ _ _ _ _ _ _ c.in-Some.ensures.unnoted c.leave.ensures.made, said)
 
 pub returns-in_default-clause-said : goal.returns-in_default-clause-said

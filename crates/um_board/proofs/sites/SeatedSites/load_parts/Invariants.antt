@@ -2,4 +2,4 @@ use Rattle.um_processor.specs.DomainCells.{loaded_made}
 use Rattle.um_board.proofs.sites.SeatedSites.load_parts.Given as goal
 
 abbrev pub ghosts-leave : goal.ghosts-leave
-ghosts-leave a = record { step = loaded_made a.image.now a.cpu a.which a.turn.number a.turn.before.value.value.parts }
+ghosts-leave a = record { step = loaded_made a.here.now.image.now a.here.now.cpu a.which a.turn.number a.turn.before.value.value.parts }

@@ -24,36 +24,36 @@ pub leave-requires-clause-takes : goal.leave-requires-clause-takes
 leave-requires-clause-takes c =
     let d = c.in-Some.turn.before.value.value in
     let was : c.deref_mut.result.now ≡ d = search rules in
-    let image = c.args.image.now in
+    let image = c.args.here.now.image.now in
     let act = c.args.act.now in
     let sent = c.of-sent.result.value in
     let same : c.args.buffer.now ≡ sent = sym c.of-sent.ensures in
-    cell-takes image c.args.cpu Site.memory c.in-Some.turn.number (Cell.memory d) _ (memory_act act) (memory_sent act sent) c.in-Some.ensures.turn.1.turn.room (memory-takes image d (memory_sent act sent) act) (ap Cell.memory (c.make-said.ensures.leaves ∙ (λ i. memory_after image (was i) (act_in (memory_answered image (was i) act (same i))) (memory_given image (was i) act (same i)))))
+    cell-takes image c.args.here.now.cpu Site.memory c.in-Some.turn.number (Cell.memory d) _ (memory_act act) (memory_sent act sent) c.in-Some.ensures.turn.1.turn.room (memory-takes image d (memory_sent act sent) act) (ap Cell.memory (c.make-said.ensures.leaves ∙ (λ i. memory_after image (was i) (act_in (memory_answered image (was i) act (same i))) (memory_given image (was i) act (same i)))))
 
 pub leave-requires-clause-event : goal.leave-requires-clause-event
 leave-requires-clause-event c =
     let d = c.in-Some.turn.before.value.value in
     let act = c.args.act.now in
-    let said = said-of c.args.image.now act c.deref_mut.result.now d _ _ _ (search rules) (sym c.of-sent.ensures) c.make-said.ensures.said in
-    c.event-event.ensures ∙ (ap (λ (s : MemorySaid). Some (memory_event act s)) said ∙ memory-event c.args.image.now d (memory_sent act c.of-sent.result.value) act)
+    let said = said-of c.args.here.now.image.now act c.deref_mut.result.now d _ _ _ (search rules) (sym c.of-sent.ensures) c.make-said.ensures.said in
+    c.event-event.ensures ∙ (ap (λ (s : MemorySaid). Some (memory_event act s)) said ∙ memory-event c.args.here.now.image.now d (memory_sent act c.of-sent.result.value) act)
 
 pub leave-requires-clause-goes : goal.leave-requires-clause-goes
 leave-requires-clause-goes c =
     let seat = c.args.self.now.seat in
-    next-then _ _ _ _ _ _ c.in-Some.ensures.unnoted (subst (λ (p : List ℕ). IsNext c.args.image.now seat.token.me.0.name seat.token.me.0.made (memory_made c.args.image.now c.args.cpu c.in-Some.turn.number c.in-Some.turn.before.value.value c.args.act.now p)) (sym c.of-sent.ensures) (c.requires.goes c.in-Some.turn.number c.in-Some.turn.before.value.value))
+    next-then _ _ _ _ _ _ c.in-Some.ensures.unnoted (subst (λ (p : List ℕ). IsNext c.args.here.now.image.now seat.token.me.0.name seat.token.me.0.made (memory_made c.args.here.now.image.now c.args.here.now.cpu c.in-Some.turn.number c.in-Some.turn.before.value.value c.args.act.now p)) (sym c.of-sent.ensures) (c.requires.goes c.in-Some.turn.number c.in-Some.turn.before.value.value))
 
 pub returns-clause-said : goal.returns-clause-said
 returns-clause-said c =
     let d = c.in-Some.turn.before.value.value in
     let was : c.deref_mut.result.now ≡ d = search rules in
-    let answered = λ (b : Bytes). memory_answered c.args.image.now b c.args.act.now c.args.buffer.now in
-    let given = λ (b : Bytes). memory_given c.args.image.now b c.args.act.now c.args.buffer.now in
+    let answered = λ (b : Bytes). memory_answered c.args.here.now.image.now b c.args.act.now c.args.buffer.now in
+    let given = λ (b : Bytes). memory_given c.args.here.now.image.now b c.args.act.now c.args.buffer.now in
     let made = noted-then _ _ _ _ _ _ _ c.in-Some.ensures.unnoted c.leave.ensures.made in (
       c.in-Some.turn.number,
       d,
-      subst (λ (p : List ℕ). HasMadeThere c.args.self.now (memory_made c.args.image.now c.args.cpu c.in-Some.turn.number d c.args.act.now p) c.leave.new.self) c.of-sent.ensures made,
+      subst (λ (p : List ℕ). HasMadeThere c.args.self.now (memory_made c.args.here.now.image.now c.args.here.now.cpu c.in-Some.turn.number d c.args.act.now p) c.leave.new.self) c.of-sent.ensures made,
       record {
-        said_is = said-of c.args.image.now c.args.act.now _ _ _ _ _ was refl c.make-said.ensures.said;
+        said_is = said-of c.args.here.now.image.now c.args.act.now _ _ _ _ _ was refl c.make-said.ensures.said;
         taken = c.make-said.ensures.taken ∙ ap (λ (b : Bytes). taken_after (act_in (answered b)) (given b) c.args.buffer.now) was;
       },
     )

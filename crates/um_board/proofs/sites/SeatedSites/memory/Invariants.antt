@@ -2,4 +2,4 @@ use Rattle.um_processor.specs.MemoryActs.{memory_made}
 use Rattle.um_board.proofs.sites.SeatedSites.memory.Given as goal
 
 abbrev pub ghosts-leave : goal.ghosts-leave
-ghosts-leave a = record { step = memory_made a.image.now a.cpu a.turn.number a.turn.before.value.value a.about.now.0.now a.about.now.1.value }
+ghosts-leave a = record { step = memory_made a.here.now.image.now a.here.now.cpu a.turn.number a.turn.before.value.value a.about.now.0.now a.about.now.1.value }

@@ -3,4 +3,4 @@ use Rattle.um_processor.specs.RowActs.{row_made}
 use Rattle.um_board.proofs.sites.SeatedSites.row.Given as goal
 
 abbrev pub ghosts-step : goal.ghosts-step
-ghosts-step a = record { step = row_made a.image.now a.cpu a.which (row_of a.seen) a.about.now }
+ghosts-step a = record { step = row_made a.here.now.image.now a.here.now.cpu a.which (row_of a.seen) a.about.now }

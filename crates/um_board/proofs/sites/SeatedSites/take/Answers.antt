@@ -26,7 +26,7 @@ pub leave-requires-clause-takes : goal.leave-requires-clause-takes
 leave-requires-clause-takes c =
     let d = c.in-Some.turn.before.value.value in
     let e = given-of c.deref_mut.result.now d c.take.new.self _ (search rules) c.in-Some-take.ensures in
-    cell-takes c.args.image.now c.args.cpu Site.scheduler c.in-Some.turn.number (Cell.scheduler d) _ (FineAct.Unseen (Unseen.Next (to_thread 0))) Exchange.nothing c.in-Some.ensures.turn.1.turn.room (next-takes d (to_thread 0) ∙ e.0) (ap Cell.scheduler (e.1 ∙ sym (next-after d (to_thread 0) _)))
+    cell-takes c.args.here.now.image.now c.args.here.now.cpu Site.scheduler c.in-Some.turn.number (Cell.scheduler d) _ (FineAct.Unseen (Unseen.Next (to_thread 0))) Exchange.nothing c.in-Some.ensures.turn.1.turn.room (next-takes d (to_thread 0) ∙ e.0) (ap Cell.scheduler (e.1 ∙ sym (next-after d (to_thread 0) _)))
 
 pub leave-requires-clause-event : goal.leave-requires-clause-event
 leave-requires-clause-event c =
@@ -53,13 +53,13 @@ returns-in-None-clause-said c =
     let denied = next-takes d (to_thread 0) ∙ subst (λ (x : Scheduler). has_ready x x.ready ≡ false) was r.3 in
     let looked = c.look-seen.ensures.unnoted in
     let t = c.in-Some.ensures.turn.1 in
-    let shut = refused c.args.image.now c.args.cpu c.in-Some.turn.number _ d (Unseen.Next (to_thread 0)) Exchange.nothing _ _ _ _ _ _ (unnoted-then _ _ _ _ _ _ looked c.in-Some.ensures.unnoted) c.put_back.ensures.unnoted t.turn.says (got-first _ _ _ looked.got.0 _ _ looked.got.1 t.got) (cell-first _ _ _ _ _ _ _ looked t.saw) denied in
+    let shut = refused c.args.here.now.image.now c.args.here.now.cpu c.in-Some.turn.number _ d (Unseen.Next (to_thread 0)) Exchange.nothing _ _ _ _ _ _ (unnoted-then _ _ _ _ _ _ looked c.in-Some.ensures.unnoted) c.put_back.ensures.unnoted t.turn.says (got-first _ _ _ looked.got.0 _ _ looked.got.1 t.got) (cell-first _ _ _ _ _ _ _ looked t.saw) denied in
     (c.in-Some.turn.number, d, shut.0, shut.1, r.1, r.2)
 
 pub returns-then-read-eq0-clause-said : goal.returns-then-read-eq0-clause-said
 returns-then-read-eq0-clause-said c =
     let none = ap (λ (w : CellWord). w.ready) (sym c.read.ensures.value) ∙ c.if-read-eq0.true in
-    (0, nobody, c.look-seen.ensures.unnoted, none-shut c.args.image.now c.args.cpu c.look-seen.result _ _ (got-one _ _ _ _ c.look-seen.ensures.got) c.look-seen.ensures.saw none, refl, refl)
+    (0, nobody, c.look-seen.ensures.unnoted, none-shut c.args.here.now.image.now c.args.here.now.cpu c.look-seen.result _ _ (got-one _ _ _ _ c.look-seen.ensures.got) c.look-seen.ensures.saw none, refl, refl)
 
 pub returns-in_default-clause-said : goal.returns-in_default-clause-said
 returns-in_default-clause-said c =

@@ -16,7 +16,7 @@ leave-requires-clause-takes c =
     let d = c.in-Some.turn.before.value.value in
     let was : c.deref_mut.result.now ≡ d = search rules in
     let e = subst (λ (s : Scheduler). IsTrue (has_place s) × (c.in-Some-wake.ready ≡ is_some (parked_at s c.args.who.0)) × (c.wake.new.self ≡ awake s c.in-Some-wake.ready c.args.who.0 c.args.told.now)) was c.in-Some-wake.ensures in
-    cell-takes c.args.image.now c.args.cpu Site.scheduler c.in-Some.turn.number (Cell.scheduler d) _ (FineAct.Unseen (Unseen.Wake c.args.who false)) (Exchange.told c.args.told.now) c.in-Some.ensures.turn.1.turn.room e.0 (ap Cell.scheduler (e.2 ∙ ap (λ (b : Bool). awake d b c.args.who.0 c.args.told.now) e.1))
+    cell-takes c.args.here.now.image.now c.args.here.now.cpu Site.scheduler c.in-Some.turn.number (Cell.scheduler d) _ (FineAct.Unseen (Unseen.Wake c.args.who false)) (Exchange.told c.args.told.now) c.in-Some.ensures.turn.1.turn.room e.0 (ap Cell.scheduler (e.2 ∙ ap (λ (b : Bool). awake d b c.args.who.0 c.args.told.now) e.1))
 
 pub leave-requires-clause-goes : goal.leave-requires-clause-goes
 leave-requires-clause-goes c = next-then _ _ _ _ _ _ c.in-Some.ensures.unnoted (c.requires.goes c.in-Some.turn.number c.in-Some.turn.before.value.value)
@@ -30,7 +30,7 @@ returns-in-None-clause-said c =
     let was : c.deref_mut.result.now ≡ d = search rules in
     let t = c.in-Some.ensures.turn.1 in
     let denied = subst (λ (x : Scheduler). has_place x ≡ false) was c.in-None.ensures.1 in
-    let shut = refused c.args.image.now c.args.cpu c.in-Some.turn.number _ d (Unseen.Wake c.args.who false) (Exchange.told c.args.told.now) _ _ _ _ _ _ c.in-Some.ensures.unnoted c.put_back.ensures.unnoted t.turn.says t.got t.saw denied in
+    let shut = refused c.args.here.now.image.now c.args.here.now.cpu c.in-Some.turn.number _ d (Unseen.Wake c.args.who false) (Exchange.told c.args.told.now) _ _ _ _ _ _ c.in-Some.ensures.unnoted c.put_back.ensures.unnoted t.turn.says t.got t.saw denied in
     (c.in-Some.turn.number, d, shut.0, shut.1)
 
 pub put_back-requires-clause-same : goal.put_back-requires-clause-same

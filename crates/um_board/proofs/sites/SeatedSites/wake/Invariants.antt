@@ -2,4 +2,4 @@ use Rattle.um_processor.specs.SchedulerActs.{woken_made}
 use Rattle.um_board.proofs.sites.SeatedSites.wake.Given as goal
 
 abbrev pub ghosts-leave : goal.ghosts-leave
-ghosts-leave a = record { step = woken_made a.image.now a.cpu a.turn.number a.turn.before.value.value a.about.now.0 a.about.now.1.now }
+ghosts-leave a = record { step = woken_made a.here.now.image.now a.here.now.cpu a.turn.number a.turn.before.value.value a.about.now.0 a.about.now.1.now }

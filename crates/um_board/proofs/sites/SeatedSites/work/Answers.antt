@@ -32,7 +32,7 @@ leave-requires-clause-takes c =
     let who = c.args.who.now in
     let work = work-of who c.deref_mut.result.now d _ was c.work.ensures.work in
     let buffer : c.work.new.self.buffer ≡ buffer_cost who.ask c.work.new.outcome.answer d.buffer = c.work.ensures.buffer ∙ ap (λ (o : ObjectCell). buffer_cost who.ask c.work.new.outcome.answer o.buffer) was in
-    cell-takes c.args.image.now c.args.cpu (Site.object c.args.row.0) c.in-Some.turn.number (Cell.object (kept_in d)) _ (work_act c.args.addr who) (Exchange.asked who no_outcome) c.in-Some.ensures.turn.1.turn.room refl (ap (λ (b : Option Cost). Cell.object (record { contents = c.work.new.self.contents; waiters = c.work.new.self.waiters; buffer = b })) buffer ∙ ap (λ (w : Acted). Cell.object (record { contents = w.contents; waiters = w.waiters; buffer = buffer_cost who.ask w.answer d.buffer })) (sym work))
+    cell-takes c.args.here.now.image.now c.args.here.now.cpu (Site.object c.args.row.0) c.in-Some.turn.number (Cell.object (kept_in d)) _ (work_act c.args.addr who) (Exchange.asked who no_outcome) c.in-Some.ensures.turn.1.turn.room refl (ap (λ (b : Option Cost). Cell.object (record { contents = c.work.new.self.contents; waiters = c.work.new.self.waiters; buffer = b })) buffer ∙ ap (λ (w : Acted). Cell.object (record { contents = w.contents; waiters = w.waiters; buffer = buffer_cost who.ask w.answer d.buffer })) (sym work))
 
 pub leave-requires-clause-event : goal.leave-requires-clause-event
 leave-requires-clause-event c =

@@ -8,10 +8,10 @@ use Rattle.um_processor.specs.Processors.{IsStuck}
 use Rattle.um_processor.proofs.Wholes.{cleanings-stood, pair-goes, pair-asks}
 use Rattle.um_processor.proofs.processor.Processor.clean_pair.Goals as goal
 
-pub returns-in-Made-clause-turn : goal.returns-in-Made-clause-turn
-returns-in-Made-clause-turn g c =
+pub returns-clause-turn : goal.returns-clause-turn
+returns-clause-turn g c =
     let h = c.in-Made.ensures.said in
-    let image = c.args.image.now in
+    let image = c.args.here.now.image.now in
     let k = c.args.self.now in
     let rest = drop 1 k.cleans in
     let pairs = clean_pairs c.args.who (c.args.row + 1) rest in
@@ -19,7 +19,7 @@ returns-in-Made-clause-turn g c =
     let new = c.take_in_if.ensures ∙ ap (λ (t : Todos). t ++ block_if image c.args.row c.in-Made.said.cleans) after in (
       _,
       h.1,
-      pair-goes image c.args.cpu k.running c.requires.runs k.cleans _ rest k.ends.items _ c.args.who c.args.row _ _ h.0 _ c.requires.first (ap all_clean (sym after) ∙ c.advance.ensures.clean) c.thread.ensures c.addr_of.ensures
+      pair-goes image c.args.here.now.cpu k.running c.requires.runs k.cleans _ rest k.ends.items _ c.args.who c.args.row _ _ h.0 _ c.requires.first (ap all_clean (sym after) ∙ c.advance.ensures.clean) c.thread.ensures.value c.addr_of.ensures
           (ap (λ (s : RowSaid). s.cleans) h.2)
           new,
     )
@@ -30,11 +30,11 @@ returns-in-Busy-clause-turn g c =
     let k = c.args.self.now in (
       _,
       (h.1, h.2),
-      pair-asks c.args.image.now c.args.cpu k.running c.requires.runs k.cleans _ k.ends.items _ c.args.who c.args.row _ _ h.0 c.requires.first c.thread.ensures c.addr_of.ensures,
+      pair-asks c.args.here.now.image.now c.args.here.now.cpu k.running c.requires.runs k.cleans _ k.ends.items _ c.args.who c.args.row _ _ h.0 c.requires.first c.thread.ensures.value c.addr_of.ensures,
     )
 
 pub returns-then-len-ge-MOST-clause-turn : goal.returns-then-len-ge-MOST-clause-turn
 returns-then-len-ge-MOST-clause-turn g c =
     let k = c.args.self.now in
     let many : MOST ≤ cleanings k.cleans = rw c.len.ensures at c.if-len-ge-MOST.true in
-    (refl, IsStuck.full (ap (λ (n : ℕ). nat_le MOST n) (cleanings-stood c.args.image.now c.args.cpu k.running c.requires.runs k.cleans k.ends.items _) ∙ le-leb MOST _ many))
+    (refl, IsStuck.full (ap (λ (n : ℕ). nat_le MOST n) (cleanings-stood c.args.here.now.image.now c.args.here.now.cpu k.running c.requires.runs k.cleans k.ends.items _) ∙ le-leb MOST _ many))

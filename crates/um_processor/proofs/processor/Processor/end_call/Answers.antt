@@ -6,16 +6,16 @@ use Rattle.um_processor.specs.Cleanings.{block_if}
 use Rattle.um_processor.proofs.Wholes.{end-goes, first-removed}
 use Rattle.um_processor.proofs.processor.Processor.end_call.Goals as goal
 
-pub returns-in-Made-clause-turn : goal.returns-in-Made-clause-turn
-returns-in-Made-clause-turn g c =
+pub returns-clause-turn : goal.returns-clause-turn
+returns-clause-turn g c =
     let h = c.in-Made.ensures.said in
-    let image = c.args.image.now in
+    let image = c.args.here.now.image.now in
     let k = c.args.self.now in
     let x = get_or c.as_slice.result.now 0 0 in
     let first : k.ends.items ≡ x ∷ c.remove.new.self.items =
     first-removed k.ends.items 0 c.requires.ends ∙ (λ i. get_or (sym c.as_slice.ensures.value i) 0 0 ∷ sym c.remove.ensures.items i) in
     let new = c.take_in_if.ensures ∙ ap (λ (t : Todos). t ++ block_if image x c.in-Made.said.cleans) c.requires.cleans in
-    (_, h.1, end-goes image c.args.cpu k.running c.requires.runs k.cleans _ k.ends.items _ _ x h.0 _ c.requires.cleans first (ap (λ (s : RowSaid). s.cleans) h.2) new)
+    (_, h.1, end-goes image c.args.here.now.cpu k.running c.requires.runs k.cleans _ k.ends.items _ _ x h.0 _ c.requires.cleans first (ap (λ (s : RowSaid). s.cleans) h.2) new)
 
 pub returns-in-Busy-clause-turn : goal.returns-in-Busy-clause-turn
 returns-in-Busy-clause-turn g c =
@@ -23,5 +23,5 @@ returns-in-Busy-clause-turn g c =
     let k = c.args.self.now in
     let x = get_or c.as_slice.result.now 0 0 in
     let first : k.ends.items ≡ x ∷ remove k.ends.items 0 = first-removed k.ends.items 0 c.requires.ends ∙ (λ i. get_or (sym c.as_slice.ensures.value i) 0 0 ∷ remove k.ends.items 0) in
-    let goes = end-goes c.args.image.now c.args.cpu k.running c.requires.runs k.cleans _ k.ends.items _ (drop k.told k.outcome.woken) x h.0 _ c.requires.cleans first refl refl in
+    let goes = end-goes c.args.here.now.image.now c.args.here.now.cpu k.running c.requires.runs k.cleans _ k.ends.items _ (drop k.told k.outcome.woken) x h.0 _ c.requires.cleans first refl refl in
     (_, (h.1, h.2), goes.asks)

@@ -6,7 +6,7 @@ use Rattle.um_processor.proofs.processor.Processor.work.Goals as goal
 pub returns-in-Made-clause-turn : goal.returns-in-Made-clause-turn
 returns-in-Made-clause-turn g c =
     let h = c.in-Made.ensures.turn in
-    (h.0, h.1, goes-as c.args.cpu c.args.image.now _ _ _ h.0 (woken-stand c.work.new.self c.in-Made.ensures.runs _ _ _ c.requires.cleans c.requires.ends) h.2)
+    (h.0, h.1, goes-as c.args.here.now.cpu c.args.here.now.image.now _ _ _ h.0 (woken-stand c.work.new.self c.in-Made.ensures.runs _ _ _ c.requires.cleans c.requires.ends) h.2)
 
 pub returns-in-Busy-clause-same : goal.returns-in-Busy-clause-same
 returns-in-Busy-clause-same g c =

@@ -9,13 +9,13 @@ use Rattle.um_processor.proofs.Runs.{runs-behind}
 use Rattle.um_processor.proofs.Released.{answered-goes}
 use Rattle.um_processor.proofs.running.Running.answer.Goals as goal
 
-pub returns-in-Made-clause-turn : goal.returns-in-Made-clause-turn
-returns-in-Made-clause-turn g c =
+pub returns-clause-turn : goal.returns-clause-turn
+returns-clause-turn g c =
     let h = c.in-Made.ensures.said in
-    let image = c.args.image.now in
+    let image = c.args.here.now.image.now in
     let r = c.args.self.now in
-    let thread = c.thread.ensures.value ∙ ap (λ (own : Context). own.thread) c.deref.ensures in
-    let free : c.deref_mut-in-Made.result.now ≡ record r.context.value { claims = [] } = search rules in
+    let thread = c.thread-thread.ensures.value in
+    let free : c.deref_mut-2.result.now ≡ record r.context.value { claims = [] } = search rules in
     let left : Context → Steps → Context = λ own rest.
     goes_on image (record own { claims = []; registers = with_answer own.registers c.args.to (reply_of image own c.args.reply) }) rest in
     let after =
@@ -23,11 +23,11 @@ returns-in-Made-clause-turn g c =
     ∙ (ap (λ (own : Context). left own (drop c.taken-taken.result own.pending)) free ∙ ap (left r.context.value) c.taken-taken.ensures.rest) in (
       _,
       h.1,
-      answered-goes image c.args.cpu r c.args.phase h.0 c.args.reply c.args.to _ c.reply_of-said.result c.gives_claims.new.claims.items (processor_of c.leaves.new.self) thread
+      answered-goes image c.args.here.now.cpu r c.args.self.now.phase h.0 c.args.reply c.args.to _ c.reply_of-said.result c.gives_claims.new.claims.items (processor_of c.leaves.new.self) thread
           (search rules)
           (search rules)
-          (c.leaves.ensures ∙ ap (λ (own : Context). behind_event image c.args.phase own r) after),
+          (c.leaves.ensures ∙ ap (λ (own : Context). behind_event image c.args.self.now.phase own r) after),
     )
 
-pub returns-in-Made-clause-runs : goal.returns-in-Made-clause-runs
-returns-in-Made-clause-runs g c = runs-behind c.args.image.now c.args.phase _ c.args.self.now _ c.leaves.ensures
+pub returns-clause-runs : goal.returns-clause-runs
+returns-clause-runs g c = runs-behind c.args.here.now.image.now c.args.self.now.phase _ c.args.self.now _ c.leaves.ensures

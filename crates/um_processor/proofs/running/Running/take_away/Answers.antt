@@ -5,23 +5,23 @@ use Rattle.um_processor.proofs.Runs.{runs-behind}
 use Rattle.um_processor.proofs.Shown.{taken-goes}
 use Rattle.um_processor.proofs.running.Running.take_away.Goals as goal
 
-pub returns-in-Made-clause-turn : goal.returns-in-Made-clause-turn
-returns-in-Made-clause-turn g c =
+pub returns-clause-turn : goal.returns-clause-turn
+returns-clause-turn g c =
     let h = c.in-Made.ensures.said in
-    let image = c.args.image.now in
+    let image = c.args.here.now.image.now in
     let r = c.args.self.now in
-    let thread = c.thread.ensures.value ∙ ap (λ (own : Context). own.thread) c.deref.ensures in (
+    let thread = c.thread-thread.ensures.value in (
       _,
       h.1,
-      taken-goes image c.args.cpu r c.args.phase c.args.who c.args.addr h.0 _ _ _ _ thread c.row_named.ensures.value (ap (λ (s : RowSaid). s.cleans) h.2) c.goes_on.ensures,
+      taken-goes image c.args.here.now.cpu r c.args.self.now.phase c.args.who c.args.addr h.0 _ _ _ _ thread c.row_named.ensures.value (ap (λ (s : RowSaid). s.cleans) h.2) c.goes_on.ensures,
     )
 
 pub returns-in-Busy-clause-turn : goal.returns-in-Busy-clause-turn
 returns-in-Busy-clause-turn g c =
     let h = c.in-Busy.ensures.said in
-    let thread = c.thread.ensures.value ∙ ap (λ (own : Context). own.thread) c.deref.ensures in
-    let goes = taken-goes c.args.image.now c.args.cpu c.args.self.now c.args.phase c.args.who c.args.addr h.0 _ _ _ _ thread c.row_named.ensures.value refl refl in
+    let thread = c.thread-thread.ensures.value in
+    let goes = taken-goes c.args.here.now.image.now c.args.here.now.cpu c.args.self.now c.args.self.now.phase c.args.who c.args.addr h.0 _ _ _ _ thread c.row_named.ensures.value refl refl in
     (_, (h.1, h.2), goes.asks)
 
-pub returns-in-Made-clause-runs : goal.returns-in-Made-clause-runs
-returns-in-Made-clause-runs g c = runs-behind c.args.image.now c.args.phase _ c.args.self.now _ c.goes_on.ensures
+pub returns-clause-runs : goal.returns-clause-runs
+returns-clause-runs g c = runs-behind c.args.here.now.image.now c.args.self.now.phase _ c.args.self.now _ c.goes_on.ensures

@@ -14,12 +14,12 @@ returns-clause-said c =
     rw c.clear-buffer.ensures.left (
       d.steps,
       kept_in d,
-      cell-taken c.args.image.now _ _ c.self.view_is c.args.cpu (Site.object c.args.row.0) d.steps (Cell.object (kept_in d)) (Cell.object (kept_in (cleared d.steps))) (FineAct.Unseen Unseen.Wipe) Exchange.nothing here (omega arith) refl refl _ _ refl refl,
+      cell-taken c.args.here.now.image.now _ _ c.self.view_is c.args.here.now.cpu (Site.object c.args.row.0) d.steps (Cell.object (kept_in d)) (Cell.object (kept_in (cleared d.steps))) (FineAct.Unseen Unseen.Wipe) Exchange.nothing here (omega arith) refl refl _ _ refl refl,
       ap Exchange.charge (sym c.clear-buffer.ensures.cost),
     )
 
 pub returns-then-cell-ge-LAST-clause-said : goal.returns-then-cell-ge-LAST-clause-said
 returns-then-cell-ge-LAST-clause-said c =
     let d = c.index_mut-cell.result.now in
-    let ends = object-ends c.args.image.now _ _ c.self.view_is c.args.cpu c.args.row.0 d (FineAct.Unseen Unseen.Wipe) Exchange.nothing (omega arith) c.index_mut-cell.ensures.value (search arith) in
+    let ends = object-ends c.args.here.now.image.now _ _ c.self.view_is c.args.here.now.cpu c.args.row.0 d (FineAct.Unseen Unseen.Wipe) Exchange.nothing (omega arith) c.index_mut-cell.ensures.value (search arith) in
     (d.steps, kept_in d, ends.0, ends.1)

@@ -14,11 +14,11 @@ pub returns-clause-said : goal.returns-clause-said
 returns-clause-said c =
     let w = c.index.result.now in
     let here : w ≡ slice_index_or c.self.inside.domains.items c.args.domain no_domain = get_or_read c.self.inside.domains.items _ _ (omega arith) c.index.ensures no_domain in
-    let e = domain_made c.args.image.now c.args.cpu c.args.domain w c.args.act.now in
-    let t = c.in-Some.ensures c.args.image.now c.args.cpu c.args.domain in
+    let e = domain_made c.args.here.now.image.now c.args.here.now.cpu c.args.domain w c.args.act.now in
+    let t = c.in-Some.ensures c.args.here.now.image.now c.args.here.now.cpu c.args.domain in
     let log = c.self.inside.log.items in (
       w,
-      taken c.args.image.now _ _ c.self.view_is e (SiteState.domain w) (SiteState.domain c.in-Some.next) (ap SiteState.domain here) t
+      taken c.args.here.now.image.now _ _ c.self.view_is e (SiteState.domain w) (SiteState.domain c.in-Some.next) (ap SiteState.domain here) t
           _
           _
           (c.note.ensures.events ∙ ap (logged log) c.event.ensures)
@@ -30,7 +30,7 @@ pub returns-in-None-clause-said : goal.returns-in-None-clause-said
 returns-in-None-clause-said c =
     let w = c.index.result.now in
     let here : w ≡ slice_index_or c.self.inside.domains.items c.args.domain no_domain = get_or_read c.self.inside.domains.items _ _ (omega arith) c.index.ensures no_domain in
-    let e = domain_made c.args.image.now c.args.cpu c.args.domain w c.args.act.now in
-    let r = c.in-None.ensures c.args.image.now c.args.cpu c.args.domain in
-    let fill = filled-twice c.args.image.now (SiteState.domain w) (asked c.args.cpu (Site.domain c.args.domain) (domain_act c.args.act.now) Exchange.nothing) in
-    (w, refl, refused c.args.image.now _ _ c.self.view_is e (SiteState.domain w) (ap SiteState.domain here) r fill tt)
+    let e = domain_made c.args.here.now.image.now c.args.here.now.cpu c.args.domain w c.args.act.now in
+    let r = c.in-None.ensures c.args.here.now.image.now c.args.here.now.cpu c.args.domain in
+    let fill = filled-twice c.args.here.now.image.now (SiteState.domain w) (asked c.args.here.now.cpu (Site.domain c.args.domain) (domain_act c.args.act.now) Exchange.nothing) in
+    (w, refl, refused c.args.here.now.image.now _ _ c.self.view_is e (SiteState.domain w) (ap SiteState.domain here) r fill tt)

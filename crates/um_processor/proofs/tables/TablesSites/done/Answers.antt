@@ -10,7 +10,7 @@ returns-clause-said c =
     let s = c.self.inside.scheduler in let e = c.if-not-done.ensures.made refl in (
       c.self.inside.scheduler_steps,
       s,
-      scheduler-taken c.args.image.now _ _ c.self.view_is c.args.cpu _ (Unseen.Done) (Exchange.nothing) (omega arith) (lt-ltb 0 _ e.0) (e.1) _ _ refl refl,
+      scheduler-taken c.args.here.now.image.now _ _ c.self.view_is c.args.here.now.cpu _ (Unseen.Done) (Exchange.nothing) (omega arith) (lt-ltb 0 _ e.0) (e.1) _ _ refl refl,
     )
 
 pub returns-then-not-done-clause-said : goal.returns-then-not-done-clause-said
@@ -19,9 +19,9 @@ returns-then-not-done-clause-said c =
       c.self.inside.scheduler_steps,
       s,
       kept _ _ c.self.view_is _ e.0,
-      scheduler-refused c.args.image.now _ _ c.self.view_is c.args.cpu (Unseen.Done) (Exchange.nothing) (ap (nat_lt 0) e.1),
+      scheduler-refused c.args.here.now.image.now _ _ c.self.view_is c.args.here.now.cpu (Unseen.Done) (Exchange.nothing) (ap (nat_lt 0) e.1),
     )
 
 pub returns-then-self-ge-LAST-clause-said : goal.returns-then-self-ge-LAST-clause-said
 returns-then-self-ge-LAST-clause-said c =
-    (_, c.self.inside.scheduler, refl, scheduler-ends c.args.image.now _ _ c.self.view_is c.args.cpu (Unseen.Done) (Exchange.nothing) (search arith))
+    (_, c.self.inside.scheduler, refl, scheduler-ends c.args.here.now.image.now _ _ c.self.view_is c.args.here.now.cpu (Unseen.Done) (Exchange.nothing) (search arith))

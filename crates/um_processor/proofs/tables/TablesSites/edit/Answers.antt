@@ -14,12 +14,12 @@ returns-clause-said c =
     let here = domain-read c.self.inside.domain_cells.items c.args.domain d (omega arith) c.index_mut-cell.ensures.value in (
       d.steps,
       d.parts,
-      cell-taken c.args.image.now _ _ c.self.view_is c.args.cpu (Site.parts c.args.domain) d.steps (Cell.parts d.parts) (Cell.parts c.edited-parts.result.0) (FineAct.Unseen Unseen.Edit) (Exchange.edited None (domain_after d.parts (edit_of c.args.image.now c.args.call.now d.parts))) here (omega arith) refl (ap Cell.parts c.edited-parts.ensures.parts) _ _ refl refl,
+      cell-taken c.args.here.now.image.now _ _ c.self.view_is c.args.here.now.cpu (Site.parts c.args.domain) d.steps (Cell.parts d.parts) (Cell.parts c.edited-parts.result.0) (FineAct.Unseen Unseen.Edit) (Exchange.edited None (domain_after d.parts (edit_of c.args.here.now.image.now c.args.call.now d.parts))) here (omega arith) refl (ap Cell.parts c.edited-parts.ensures.parts) _ _ refl refl,
       c.edited-parts.ensures.reply,
     )
 
 pub returns-then-cell-ge-LAST-clause-said : goal.returns-then-cell-ge-LAST-clause-said
 returns-then-cell-ge-LAST-clause-said c =
     let d = c.index_mut-cell.result.now in
-    let ends = domain-ends c.args.image.now _ _ c.self.view_is c.args.cpu c.args.domain d (FineAct.Unseen Unseen.Edit) (Exchange.edited None (domain_after d.parts (edit_of c.args.image.now c.args.call.now d.parts))) (omega arith) c.index_mut-cell.ensures.value (search arith) in
+    let ends = domain-ends c.args.here.now.image.now _ _ c.self.view_is c.args.here.now.cpu c.args.domain d (FineAct.Unseen Unseen.Edit) (Exchange.edited None (domain_after d.parts (edit_of c.args.here.now.image.now c.args.call.now d.parts))) (omega arith) c.index_mut-cell.ensures.value (search arith) in
     (d.steps, d.parts, ends.0, ends.1)

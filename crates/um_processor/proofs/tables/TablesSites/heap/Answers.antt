@@ -14,13 +14,13 @@ returns-clause-said c =
     let h = c.self.inside.heap in (
       c.self.inside.heap_steps,
       h,
-      cell-taken c.args.image.now _ _ c.self.view_is c.args.cpu Site.heap c.self.inside.heap_steps (Cell.heap h) (Cell.heap c.make-said.new.self) (heap_act c.args.act.now) (Exchange.charge c.args.charge) refl (omega arith) (heap-takes c.args.image.now h (Exchange.charge c.args.charge) c.args.act.now) (ap Cell.heap c.make-said.ensures.leaves)
+      cell-taken c.args.here.now.image.now _ _ c.self.view_is c.args.here.now.cpu Site.heap c.self.inside.heap_steps (Cell.heap h) (Cell.heap c.make-said.new.self) (heap_act c.args.act.now) (Exchange.charge c.args.charge) refl (omega arith) (heap-takes c.args.here.now.image.now h (Exchange.charge c.args.charge) c.args.act.now) (ap Cell.heap c.make-said.ensures.leaves)
           _
           _
           (c.note.ensures.events
           ∙ ap (logged c.self.inside.log.items)
           (c.event.ensures
-          ∙ (ap (λ (said : HeapSaid). Some (heap_event c.args.act.now said)) c.make-said.ensures.said ∙ heap-event c.args.image.now h (Exchange.charge c.args.charge) c.args.act.now)))
+          ∙ (ap (λ (said : HeapSaid). Some (heap_event c.args.act.now said)) c.make-said.ensures.said ∙ heap-event c.args.here.now.image.now h (Exchange.charge c.args.charge) c.args.act.now)))
           c.note.ensures.room,
       c.make-said.ensures.said,
     )
@@ -30,5 +30,5 @@ returns-then-self-ge-LAST-clause-said c = (
   c.self.inside.heap_steps,
   c.self.inside.heap,
   refl,
-  cell-ends c.args.image.now _ _ c.self.view_is c.args.cpu Site.heap c.self.inside.heap_steps (Cell.heap c.self.inside.heap) (heap_act c.args.act.now) (Exchange.charge c.args.charge) refl (search arith),
+  cell-ends c.args.here.now.image.now _ _ c.self.view_is c.args.here.now.cpu Site.heap c.self.inside.heap_steps (Cell.heap c.self.inside.heap) (heap_act c.args.act.now) (Exchange.charge c.args.charge) refl (search arith),
 )

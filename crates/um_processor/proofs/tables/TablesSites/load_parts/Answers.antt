@@ -12,12 +12,12 @@ returns-clause-said c =
     let here = domain-read c.self.inside.domain_cells.items c.args.domain d (omega arith) c.index_mut-cell.ensures.value in (
       d.steps,
       d.parts,
-      cell-taken c.args.image.now _ _ c.self.view_is c.args.cpu (Site.parts c.args.domain) d.steps (Cell.parts d.parts) (Cell.parts d.parts) (FineAct.Unseen Unseen.RegionLoad) Exchange.nothing here (omega arith) refl refl _ _ refl refl,
+      cell-taken c.args.here.now.image.now _ _ c.self.view_is c.args.here.now.cpu (Site.parts c.args.domain) d.steps (Cell.parts d.parts) (Cell.parts d.parts) (FineAct.Unseen Unseen.RegionLoad) Exchange.nothing here (omega arith) refl refl _ _ refl refl,
       ap Exchange.parts (sym c.parts_or_none.ensures),
     )
 
 pub returns-then-cell-ge-LAST-clause-said : goal.returns-then-cell-ge-LAST-clause-said
 returns-then-cell-ge-LAST-clause-said c =
     let d = c.index_mut-cell.result.now in
-    let ends = domain-ends c.args.image.now _ _ c.self.view_is c.args.cpu c.args.domain d (FineAct.Unseen Unseen.RegionLoad) Exchange.nothing (omega arith) c.index_mut-cell.ensures.value (search arith) in
+    let ends = domain-ends c.args.here.now.image.now _ _ c.self.view_is c.args.here.now.cpu c.args.domain d (FineAct.Unseen Unseen.RegionLoad) Exchange.nothing (omega arith) c.index_mut-cell.ensures.value (search arith) in
     (d.steps, d.parts, ends.0, ends.1, refl)

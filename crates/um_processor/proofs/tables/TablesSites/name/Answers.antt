@@ -17,7 +17,7 @@ returns-clause-said c =
     rw c.name.ensures (
       d.steps,
       kept_in d,
-      cell-taken c.args.image.now _ _ c.self.view_is c.args.cpu (Site.object c.args.row.0) d.steps (Cell.object (kept_in d)) (Cell.object (kept_in (named_as d c.args.bytes.now))) (shown c.args.thread (Act.Named c.args.who) More.Nothing) (Exchange.bytes c.args.bytes.now) here (omega arith) refl refl
+      cell-taken c.args.here.now.image.now _ _ c.self.view_is c.args.here.now.cpu (Site.object c.args.row.0) d.steps (Cell.object (kept_in d)) (Cell.object (kept_in (named_as d c.args.bytes.now))) (shown c.args.thread (Act.Named c.args.who) More.Nothing) (Exchange.bytes c.args.bytes.now) here (omega arith) refl refl
           _
           _
           (c.note.ensures.events ∙ ap (λ (event : Event). logged c.self.inside.log.items (Some event)) c.named.ensures)
@@ -27,5 +27,5 @@ returns-clause-said c =
 pub returns-then-cell-ge-LAST-clause-said : goal.returns-then-cell-ge-LAST-clause-said
 returns-then-cell-ge-LAST-clause-said c =
     let d = c.index_mut-cell.result.now in
-    let ends = object-ends c.args.image.now _ _ c.self.view_is c.args.cpu c.args.row.0 d (shown c.args.thread (Act.Named c.args.who) More.Nothing) (Exchange.bytes c.args.bytes.now) (omega arith) c.index_mut-cell.ensures.value (search arith) in
+    let ends = object-ends c.args.here.now.image.now _ _ c.self.view_is c.args.here.now.cpu c.args.row.0 d (shown c.args.thread (Act.Named c.args.who) More.Nothing) (Exchange.bytes c.args.bytes.now) (omega arith) c.index_mut-cell.ensures.value (search arith) in
     (d.steps, kept_in d, ends.0, ends.1)

@@ -11,7 +11,7 @@ returns-clause-said c =
     let s = c.self.inside.scheduler in let e = c.in-Some.ensures in (
       c.self.inside.scheduler_steps,
       s,
-      scheduler-taken c.args.image.now _ _ c.self.view_is c.args.cpu _ (Unseen.Park (to_thread c.args.context.now.value.thread) false) (Exchange.thread c.args.context.now.value None) (omega arith) (e.0) (e.2 ∙ ap (λ (b : Bool). one_less (put_back s b c.args.context.now.value)) e.1) _ _ refl refl,
+      scheduler-taken c.args.here.now.image.now _ _ c.self.view_is c.args.here.now.cpu _ (Unseen.Park (to_thread c.args.context.now.value.thread) false) (Exchange.thread c.args.context.now.value None) (omega arith) (e.0) (e.2 ∙ ap (λ (b : Bool). one_less (put_back s b c.args.context.now.value)) e.1) _ _ refl refl,
     )
 
 pub returns-in-None-clause-said : goal.returns-in-None-clause-said
@@ -20,10 +20,10 @@ returns-in-None-clause-said c =
       c.self.inside.scheduler_steps,
       s,
       kept _ _ c.self.view_is _ e.0,
-      scheduler-refused c.args.image.now _ _ c.self.view_is c.args.cpu (Unseen.Park (to_thread c.args.context.now.value.thread) false) (Exchange.thread c.args.context.now.value None) (e.2),
+      scheduler-refused c.args.here.now.image.now _ _ c.self.view_is c.args.here.now.cpu (Unseen.Park (to_thread c.args.context.now.value.thread) false) (Exchange.thread c.args.context.now.value None) (e.2),
       e.1,
     )
 
 pub returns-then-self-ge-LAST-clause-said : goal.returns-then-self-ge-LAST-clause-said
 returns-then-self-ge-LAST-clause-said c =
-    (_, c.self.inside.scheduler, refl, scheduler-ends c.args.image.now _ _ c.self.view_is c.args.cpu (Unseen.Park (to_thread c.args.context.now.value.thread) false) (Exchange.thread c.args.context.now.value None) (search arith), refl)
+    (_, c.self.inside.scheduler, refl, scheduler-ends c.args.here.now.image.now _ _ c.self.view_is c.args.here.now.cpu (Unseen.Park (to_thread c.args.context.now.value.thread) false) (Exchange.thread c.args.context.now.value None) (search arith), refl)

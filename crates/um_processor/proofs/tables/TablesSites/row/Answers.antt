@@ -15,13 +15,13 @@ pub returns-clause-said : goal.returns-clause-said
 returns-clause-said c =
     let w = c.index.result.now in
     let here : w ≡ slice_index_or c.self.inside.rows.items c.args.row.0 no_row = get_or_read c.self.inside.rows.items _ _ (omega arith) c.index.ensures no_row in
-    let e = row_made c.args.image.now c.args.cpu c.args.row.0 w c.args.act.now in
-    let t = c.in-Some.ensures c.args.image.now c.args.cpu c.args.row.0 in
+    let e = row_made c.args.here.now.image.now c.args.here.now.cpu c.args.row.0 w c.args.act.now in
+    let t = c.in-Some.ensures c.args.here.now.image.now c.args.here.now.cpu c.args.row.0 in
     let log = c.self.inside.log.items in
     let event : c.event.result ≡ event_of e.act =
-    c.event.ensures ∙ (ap (row_event c.args.act.now) t.1 ∙ row-event c.args.image.now c.args.cpu c.args.row.0 w c.args.act.now) in (
+    c.event.ensures ∙ (ap (row_event c.args.act.now) t.1 ∙ row-event c.args.here.now.image.now c.args.here.now.cpu c.args.row.0 w c.args.act.now) in (
       w,
-      taken c.args.image.now _ _ c.self.view_is e (SiteState.row w) (SiteState.row c.in-Some.made.0) (ap SiteState.row here) t.0
+      taken c.args.here.now.image.now _ _ c.self.view_is e (SiteState.row w) (SiteState.row c.in-Some.made.0) (ap SiteState.row here) t.0
           _
           _
           (c.note.ensures.events ∙ ap (logged log) event)
@@ -33,8 +33,8 @@ pub returns-in-None-clause-said : goal.returns-in-None-clause-said
 returns-in-None-clause-said c =
     let w = c.index.result.now in
     let here : w ≡ slice_index_or c.self.inside.rows.items c.args.row.0 no_row = get_or_read c.self.inside.rows.items _ _ (omega arith) c.index.ensures no_row in
-    let e = row_made c.args.image.now c.args.cpu c.args.row.0 w c.args.act.now in
-    let r = c.in-None.ensures c.args.image.now c.args.cpu c.args.row.0 in
-    let fill = filled-twice c.args.image.now (SiteState.row w) (asked c.args.cpu (Site.row c.args.row.0) (row_act w c.args.act.now) Exchange.nothing) in
-    let seen = row-seen c.args.image.now c.args.cpu c.args.row.0 w c.args.act.now in
-    (w, refl, refused c.args.image.now _ _ c.self.view_is e (SiteState.row w) (ap SiteState.row here) r fill seen)
+    let e = row_made c.args.here.now.image.now c.args.here.now.cpu c.args.row.0 w c.args.act.now in
+    let r = c.in-None.ensures c.args.here.now.image.now c.args.here.now.cpu c.args.row.0 in
+    let fill = filled-twice c.args.here.now.image.now (SiteState.row w) (asked c.args.here.now.cpu (Site.row c.args.row.0) (row_act w c.args.act.now) Exchange.nothing) in
+    let seen = row-seen c.args.here.now.image.now c.args.here.now.cpu c.args.row.0 w c.args.act.now in
+    (w, refl, refused c.args.here.now.image.now _ _ c.self.view_is e (SiteState.row w) (ap SiteState.row here) r fill seen)

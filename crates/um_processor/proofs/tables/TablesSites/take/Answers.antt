@@ -24,7 +24,7 @@ returns-clause-said c =
     ∙ sym (ap (λ (f : Exchange). event_of (turn_in (FineAct.Unseen (Unseen.Next (to_thread 0))) f)) e.2))) in (
       c.self.inside.scheduler_steps,
       s,
-      scheduler-taken c.args.image.now _ _ c.self.view_is c.args.cpu _ (Unseen.Next (to_thread 0)) (Exchange.nothing) (omega arith) (next-takes s (to_thread 0) ∙ e.0) (e.1 ∙ sym (next-after s (to_thread 0) _))
+      scheduler-taken c.args.here.now.image.now _ _ c.self.view_is c.args.here.now.cpu _ (Unseen.Next (to_thread 0)) (Exchange.nothing) (omega arith) (next-takes s (to_thread 0) ∙ e.0) (e.1 ∙ sym (next-after s (to_thread 0) _))
           _
           _
           (c.note.ensures.events ∙ ap (logged c.self.inside.log.items) event)
@@ -38,11 +38,11 @@ returns-in-None-clause-said c =
       c.self.inside.scheduler_steps,
       s,
       kept _ _ c.self.view_is _ e.0,
-      scheduler-refused c.args.image.now _ _ c.self.view_is c.args.cpu (Unseen.Next (to_thread 0)) (Exchange.nothing) (next-takes s (to_thread 0) ∙ e.3),
+      scheduler-refused c.args.here.now.image.now _ _ c.self.view_is c.args.here.now.cpu (Unseen.Next (to_thread 0)) (Exchange.nothing) (next-takes s (to_thread 0) ∙ e.3),
       e.1,
       e.2,
     )
 
 pub returns-then-self-ge-LAST-clause-said : goal.returns-then-self-ge-LAST-clause-said
 returns-then-self-ge-LAST-clause-said c =
-    (_, c.self.inside.scheduler, refl, scheduler-ends c.args.image.now _ _ c.self.view_is c.args.cpu (Unseen.Next (to_thread 0)) (Exchange.nothing) (search arith), refl, refl)
+    (_, c.self.inside.scheduler, refl, scheduler-ends c.args.here.now.image.now _ _ c.self.view_is c.args.here.now.cpu (Unseen.Next (to_thread 0)) (Exchange.nothing) (search arith), refl, refl)

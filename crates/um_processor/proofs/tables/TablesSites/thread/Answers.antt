@@ -15,14 +15,14 @@ pub returns-clause-said : goal.returns-clause-said
 returns-clause-said c =
     let w = c.index.result.now in
     let here : w ≡ slice_index_or c.self.inside.threads.items c.args.thread.0 no_thread = get_or_read c.self.inside.threads.items _ _ (omega arith) c.index.ensures no_thread in
-    let e = thread_made c.args.image.now c.args.cpu c.args.thread.0 w c.args.act.now in
-    let t = c.in-Some.ensures.made c.args.image.now c.args.cpu c.args.thread.0 in
+    let e = thread_made c.args.here.now.image.now c.args.here.now.cpu c.args.thread.0 w c.args.act.now in
+    let t = c.in-Some.ensures.made c.args.here.now.image.now c.args.here.now.cpu c.args.thread.0 in
     let left : c.in-Some.next ≡ thread_in e.word = ap (λ (s : SiteState). thread_in (word_of s)) t.leaves in
     let log = c.self.inside.log.items in
     let event : c.event.result ≡ event_of e.act =
-    c.event.ensures ∙ (ap (thread_event c.args.act.now) left ∙ thread-event c.args.image.now c.args.cpu c.args.thread.0 w c.args.act.now) in (
+    c.event.ensures ∙ (ap (thread_event c.args.act.now) left ∙ thread-event c.args.here.now.image.now c.args.here.now.cpu c.args.thread.0 w c.args.act.now) in (
       w,
-      taken c.args.image.now _ _ c.self.view_is e (SiteState.thread w) (SiteState.thread c.in-Some.next) (ap SiteState.thread here) t
+      taken c.args.here.now.image.now _ _ c.self.view_is e (SiteState.thread w) (SiteState.thread c.in-Some.next) (ap SiteState.thread here) t
           _
           _
           (c.note.ensures.events ∙ ap (logged log) event)
@@ -34,7 +34,7 @@ pub returns-in-None-clause-said : goal.returns-in-None-clause-said
 returns-in-None-clause-said c =
     let w = c.index.result.now in
     let here : w ≡ slice_index_or c.self.inside.threads.items c.args.thread.0 no_thread = get_or_read c.self.inside.threads.items _ _ (omega arith) c.index.ensures no_thread in
-    let e = thread_made c.args.image.now c.args.cpu c.args.thread.0 w c.args.act.now in
-    let r = c.in-None.ensures.made c.args.image.now c.args.cpu c.args.thread.0 in
-    let fill = filled-twice c.args.image.now (SiteState.thread w) (asked c.args.cpu (Site.thread c.args.thread.0) (thread_act c.args.act.now) Exchange.nothing) in
-    (w, refl, refused c.args.image.now _ _ c.self.view_is e (SiteState.thread w) (ap SiteState.thread here) r fill tt)
+    let e = thread_made c.args.here.now.image.now c.args.here.now.cpu c.args.thread.0 w c.args.act.now in
+    let r = c.in-None.ensures.made c.args.here.now.image.now c.args.here.now.cpu c.args.thread.0 in
+    let fill = filled-twice c.args.here.now.image.now (SiteState.thread w) (asked c.args.here.now.cpu (Site.thread c.args.thread.0) (thread_act c.args.act.now) Exchange.nothing) in
+    (w, refl, refused c.args.here.now.image.now _ _ c.self.view_is e (SiteState.thread w) (ap SiteState.thread here) r fill tt)

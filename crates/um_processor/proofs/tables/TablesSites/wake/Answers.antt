@@ -10,7 +10,7 @@ returns-clause-said c =
     let s = c.self.inside.scheduler in let e = c.in-Some.ensures in (
       c.self.inside.scheduler_steps,
       s,
-      scheduler-taken c.args.image.now _ _ c.self.view_is c.args.cpu _ (Unseen.Wake c.args.who false) (Exchange.told c.args.told.now) (omega arith) (e.0) (e.2 ∙ ap (λ (b : Bool). awake s b c.args.who.0 c.args.told.now) e.1) _ _ refl refl,
+      scheduler-taken c.args.here.now.image.now _ _ c.self.view_is c.args.here.now.cpu _ (Unseen.Wake c.args.who false) (Exchange.told c.args.told.now) (omega arith) (e.0) (e.2 ∙ ap (λ (b : Bool). awake s b c.args.who.0 c.args.told.now) e.1) _ _ refl refl,
     )
 
 pub returns-in-None-clause-said : goal.returns-in-None-clause-said
@@ -19,9 +19,9 @@ returns-in-None-clause-said c =
       c.self.inside.scheduler_steps,
       s,
       kept _ _ c.self.view_is _ e.0,
-      scheduler-refused c.args.image.now _ _ c.self.view_is c.args.cpu (Unseen.Wake c.args.who false) (Exchange.told c.args.told.now) (e.1),
+      scheduler-refused c.args.here.now.image.now _ _ c.self.view_is c.args.here.now.cpu (Unseen.Wake c.args.who false) (Exchange.told c.args.told.now) (e.1),
     )
 
 pub returns-then-self-ge-LAST-clause-said : goal.returns-then-self-ge-LAST-clause-said
 returns-then-self-ge-LAST-clause-said c =
-    (_, c.self.inside.scheduler, refl, scheduler-ends c.args.image.now _ _ c.self.view_is c.args.cpu (Unseen.Wake c.args.who false) (Exchange.told c.args.told.now) (search arith))
+    (_, c.self.inside.scheduler, refl, scheduler-ends c.args.here.now.image.now _ _ c.self.view_is c.args.here.now.cpu (Unseen.Wake c.args.who false) (Exchange.told c.args.told.now) (search arith))

@@ -22,7 +22,7 @@ returns-clause-said c =
     rw c.work.ensures.steps (
       d.steps,
       kept_in d,
-      cell-taken c.args.image.now _ _ c.self.view_is c.args.cpu (Site.object c.args.row.0) d.steps (Cell.object (kept_in d)) (Cell.object (kept_in c.work.new.self)) (work_act c.args.addr who) (Exchange.asked who no_outcome) here (omega arith) refl
+      cell-taken c.args.here.now.image.now _ _ c.self.view_is c.args.here.now.cpu (Site.object c.args.row.0) d.steps (Cell.object (kept_in d)) (Cell.object (kept_in c.work.new.self)) (work_act c.args.addr who) (Exchange.asked who no_outcome) here (omega arith) refl
           (rw c.work.ensures.buffer
           (ap (λ (w : Acted). Cell.object (record { contents = w.contents; waiters = w.waiters; buffer = buffer_cost who.ask w.answer d.buffer })) (sym c.work.ensures.work)))
           _
@@ -37,5 +37,5 @@ returns-clause-said c =
 pub returns-then-cell-ge-LAST-clause-said : goal.returns-then-cell-ge-LAST-clause-said
 returns-then-cell-ge-LAST-clause-said c =
     let d = c.index_mut-cell.result.now in
-    let ends = object-ends c.args.image.now _ _ c.self.view_is c.args.cpu c.args.row.0 d (work_act c.args.addr c.args.who.now) (Exchange.asked c.args.who.now no_outcome) (omega arith) c.index_mut-cell.ensures.value (search arith) in
+    let ends = object-ends c.args.here.now.image.now _ _ c.self.view_is c.args.here.now.cpu c.args.row.0 d (work_act c.args.addr c.args.who.now) (Exchange.asked c.args.who.now no_outcome) (omega arith) c.index_mut-cell.ensures.value (search arith) in
     (d.steps, kept_in d, ends.0, ends.1, refl)
