@@ -1,5 +1,5 @@
 -- A thread's own part: what no site keeps of a thread while a processor runs it.
-use Rattle.std.specs.Prelude.{ℕ, Bool, false, List, [], replicate, Option, None, ℤ, pos}
+use Rattle.std.specs.Prelude.{ℕ, Bool, false, List, [], Option, ℤ}
 use Rattle.um_base.specs.declared.names.Mode.{Mode}
 use Rattle.um_base.specs.declared.names.Reply.{Reply}
 use Rattle.um_base.specs.declared.names.Row.{Row}
@@ -21,23 +21,6 @@ pub record Context : Type 0 where
   pub reply : Reply
   pub buffer : List ℕ
   pub claims : List ℕ  -- the rows that its call holds, in the order of the checks
-
-abbrev pub no_context : Context
-no_context =
-    record {
-      thread = 0;
-      ended = false;
-      mode = Mode.User;
-      stack = record { 0 = 0 };
-      priority = pos 0;
-      pool = None;
-      registers = replicate 8 0;
-      place = record { script = 0; line = 0; left = 0 };
-      pending = [];
-      reply = Reply.Void;
-      buffer = [];
-      claims = [];
-    }
 
 -- a thread of the access-matrix machine with this own part, as the order of an instruction sees it
 abbrev pub as_thread : Context → Thread
@@ -71,3 +54,6 @@ context_of t me =
       buffer = me.buffer;
       claims = [];
     }
+
+abbrev pub no_context : Context
+no_context = context_of 0 nobody

@@ -32,10 +32,7 @@ stage-small Stage.Dying = omega arith
 stage-small Stage.Cleaning = omega arith
 
 stage-back : (s : Stage) → stage_of (stage_code s) ≡ s
-stage-back Stage.Free = refl
-stage-back Stage.Live = refl
-stage-back Stage.Dying = refl
-stage-back Stage.Cleaning = refl
+stage-back s = elim s as (λ z. stage_of (stage_code z) ≡ z) [ Stage.Free ↦ refl | Stage.Live ↦ refl | Stage.Dying ↦ refl | Stage.Cleaning ↦ refl ]
 
 stage-test : (n : ℕ) → n < 4 → stage_code (stage_of n) ≡ n
 stage-test n h = grind (arith, nat_tests)
@@ -74,9 +71,7 @@ life-small Life.Living = omega arith
 life-small Life.Ended = omega arith
 
 life-back : (l : Life) → life_of (life_code l) ≡ l
-life-back Life.Unborn = refl
-life-back Life.Living = refl
-life-back Life.Ended = refl
+life-back l = elim l as (λ z. life_of (life_code z) ≡ z) [ Life.Unborn ↦ refl | Life.Living ↦ refl | Life.Ended ↦ refl ]
 
 life-test : (n : ℕ) → n < 3 → life_code (life_of n) ≡ n
 life-test n h = grind (arith, nat_tests)

@@ -86,7 +86,7 @@ module _ (w : DomWord) (readers : w.readers < 128) (version : w.version < 104857
   domain-unseen Unseen.WriteClaim h = record { readers = readers; version = version; number = refl }
   domain-unseen unseen h = absurd (cc)
 
-  domain-keeps : (act : FineAct) → IsTrue (domain_takes w act) → KeepsDomain w (domain_after w act)
+  pub domain-keeps : (act : FineAct) → IsTrue (domain_takes w act) → KeepsDomain w (domain_after w act)
   domain-keeps (FineAct.Shown event more) h = domain-act event.act h
   domain-keeps (FineAct.Unseen unseen) h = domain-unseen unseen h
 

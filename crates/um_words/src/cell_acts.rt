@@ -4,7 +4,7 @@ ghost use Rattle.std.specs.Prelude.{◌≡◌, ◌<◌, ℕ, IsTrue, MatchOption
 ghost use Rattle.um_words.specs.{
   Packed.{FitsCell, packed_cell},
   CellActs.{object_takes, parts_takes, memory_takes, heap_takes, is_resume},
-  Cells.{has_ready, has_place, scheduler_takes, scheduler_takes_unseen, word_takes, with_ready, first_taken, one_less, scheduler_after, scheduler_after_unseen, word_after, counted_cell},
+  Cells.{has_ready, has_place, scheduler_takes, word_takes, with_ready, first_taken, one_less, scheduler_after, word_after, counted_cell},
   Steps.{CellStep},
 };
 
@@ -99,25 +99,18 @@ impl CellWord {
     }
 
     #[inline(always)]
-    fn schedules_unseen(&self, unseen: &Unseen) -> bool
-        ensures { result ≡ scheduler_takes_unseen self.now unseen.now }
-    {
-        match unseen {
-            Unseen::Next(_) => self.has_ready(),
-            Unseen::Wake { .. } | Unseen::Add(_) => self.has_place(),
-            Unseen::Park { .. } => 0 < self.running && self.has_place(),
-            Unseen::Done => 0 < self.running,
-            _ => false,
-        }
-    }
-
-    #[inline(always)]
     fn schedules(&self, act: &FineAct) -> bool
         ensures { result ≡ scheduler_takes self.now act.now }
     {
         match act {
             FineAct::Shown { event, .. } => is_resume(&event.act) && self.has_ready(),
-            FineAct::Unseen(unseen) => self.schedules_unseen(unseen),
+            FineAct::Unseen(Unseen::Next(_)) => self.has_ready(),
+            FineAct::Unseen(Unseen::Wake { .. }) | FineAct::Unseen(Unseen::Add(_)) => {
+                self.has_place()
+            }
+            FineAct::Unseen(Unseen::Park { .. }) => 0 < self.running && self.has_place(),
+            FineAct::Unseen(Unseen::Done) => 0 < self.running,
+            FineAct::Unseen(_) => false,
         }
     }
 
@@ -160,31 +153,21 @@ impl CellWord {
     }
 
     #[inline(always)]
-    fn schedule_unseen(&mut self, unseen: &Unseen)
-        requires { IsTrue (scheduler_takes_unseen self.old unseen.now) }
-        ensures { self.new ≡ scheduler_after_unseen self.old unseen.now }
-    {
-        match unseen {
-            Unseen::Next(_) => self.take_first(),
-            Unseen::Wake { ready, .. } => self.take_ready(*ready),
-            Unseen::Park { ready, .. } => {
-                self.take_ready(*ready);
-                self.end_one();
-            }
-            Unseen::Add(_) => self.take_ready(true),
-            Unseen::Done => self.end_one(),
-            _ => {}
-        }
-    }
-
-    #[inline(always)]
     fn schedule(&mut self, act: &FineAct)
         requires { IsTrue (scheduler_takes self.old act.now) }
         ensures { self.new ≡ scheduler_after self.old act.now }
     {
         match act {
             FineAct::Shown { .. } => self.take_first(),
-            FineAct::Unseen(unseen) => self.schedule_unseen(unseen),
+            FineAct::Unseen(Unseen::Next(_)) => self.take_first(),
+            FineAct::Unseen(Unseen::Wake { ready, .. }) => self.take_ready(*ready),
+            FineAct::Unseen(Unseen::Park { ready, .. }) => {
+                self.take_ready(*ready);
+                self.end_one();
+            }
+            FineAct::Unseen(Unseen::Add(_)) => self.take_ready(true),
+            FineAct::Unseen(Unseen::Done) => self.end_one(),
+            FineAct::Unseen(_) => {}
         }
     }
 

@@ -2,8 +2,7 @@
 
 ghost use Rattle.std.specs.Prelude.{◌≡◌, ◌<◌, ℕ, IsTrue, MatchOption};
 ghost use Rattle.um_words.specs.{
-  Packed.{FitsDomain, packed_domain},
-  Domains.{is_zero, writes, written, left_by_reader, domain_takes, domain_takes_act, domain_takes_unseen, domain_after, domain_after_act, domain_after_unseen, counted_domain},
+  Domains.{is_zero, writes, written, left_by_reader, domain_takes, domain_after},
   Steps.{DomainStep},
 };
 
@@ -50,85 +49,40 @@ impl DomWord {
     }
 
     #[inline(always)]
-    fn takes_act(&self, act: &Act) -> bool
-        ensures { result ≡ domain_takes_act self.now act.now }
-    {
-        match act {
-            Act::DomInit { .. } | Act::DomAdd { .. } | Act::DomRemove { .. } => self.writes(),
-            Act::DomMove { .. } => 0 < self.readers && !self.init,
-            _ => false,
-        }
-    }
-
-    #[inline(always)]
-    fn takes_unseen(&self, unseen: &Unseen) -> bool
-        ensures { result ≡ domain_takes_unseen self.now unseen.now }
-    {
-        match unseen {
-            Unseen::ReadClaim => !self.writer && self.readers < 127,
-            Unseen::ReadDone => 0 < self.readers,
-            Unseen::WriteClaim => !self.writer && self.readers == 0,
-            _ => false,
-        }
-    }
-
-    #[inline(always)]
     fn takes(&self, act: &FineAct) -> bool
         ensures { result ≡ domain_takes self.now act.now }
     {
         match act {
-            FineAct::Shown { event, .. } => self.takes_act(&event.act),
-            FineAct::Unseen(unseen) => self.takes_unseen(unseen),
-        }
-    }
-
-    #[inline(always)]
-    fn take_act(&mut self, act: &Act)
-        requires { IsTrue (domain_takes_act self.old act.now) }
-        ensures { self.new ≡ domain_after_act self.old act.now }
-    {
-        match act {
-            Act::DomInit { reply, .. } => self.write_done(is_zero(reply)),
-            Act::DomAdd { .. } | Act::DomRemove { .. } => self.write_done(false),
-            Act::DomMove { .. } => self.read_done(),
-            _ => {}
-        }
-    }
-
-    #[inline(always)]
-    fn take_unseen(&mut self, unseen: &Unseen)
-        requires { IsTrue (domain_takes_unseen self.old unseen.now) }
-        ensures { self.new ≡ domain_after_unseen self.old unseen.now }
-    {
-        match unseen {
-            Unseen::ReadClaim => self.readers += 1,
-            Unseen::ReadDone => self.read_done(),
-            Unseen::WriteClaim => self.writer = true,
-            _ => {}
+            FineAct::Shown { event, .. } => match &event.act {
+                Act::DomInit { .. } | Act::DomAdd { .. } | Act::DomRemove { .. } => self.writes(),
+                Act::DomMove { .. } => 0 < self.readers && !self.init,
+                _ => false,
+            },
+            FineAct::Unseen(Unseen::ReadClaim) => !self.writer && self.readers < 127,
+            FineAct::Unseen(Unseen::ReadDone) => 0 < self.readers,
+            FineAct::Unseen(Unseen::WriteClaim) => !self.writer && self.readers == 0,
+            FineAct::Unseen(_) => false,
         }
     }
 
     #[inline(always)]
     fn take(&mut self, act: &FineAct)
         requires { IsTrue (domain_takes self.old act.now) }
-        ensures { self.new ≡ domain_after self.old act.now }
+        ensures value { self.new ≡ domain_after self.old act.now }
+        ensures number { self.new.number ≡ self.old.number }
     {
         match act {
-            FineAct::Shown { event, .. } => self.take_act(&event.act),
-            FineAct::Unseen(unseen) => self.take_unseen(unseen),
+            FineAct::Shown { event, .. } => match &event.act {
+                Act::DomInit { reply, .. } => self.write_done(is_zero(reply)),
+                Act::DomAdd { .. } | Act::DomRemove { .. } => self.write_done(false),
+                Act::DomMove { .. } => self.read_done(),
+                _ => {}
+            },
+            FineAct::Unseen(Unseen::ReadClaim) => self.readers += 1,
+            FineAct::Unseen(Unseen::ReadDone) => self.read_done(),
+            FineAct::Unseen(Unseen::WriteClaim) => self.writer = true,
+            FineAct::Unseen(_) => {}
         }
-    }
-
-    /// The word with this said and one step more.
-    pub fn counted(&self) -> u64
-        requires { FitsDomain (counted_domain self.now) }
-        ensures { result ≡ packed_domain (counted_domain self.now) }
-    {
-        let next = DomWord {
-            number: self.number + 1,
-            ..*self
-        };
-        next.pack()
     }
 }
 
@@ -143,5 +97,6 @@ pub fn domain_step(word: u64, act: &FineAct) -> Option<u64>
     }
     let mut next = domain;
     next.take(act);
-    Some(next.counted())
+    next.number += 1;
+    Some(next.pack())
 }

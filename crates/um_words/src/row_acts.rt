@@ -3,7 +3,7 @@
 ghost use Rattle.std.specs.Prelude.{◌≡◌, ◌↔◌, ◌<◌, ℕ, IsTrue, MatchOption};
 ghost use Rattle.um_words.specs.{
   Packed.{FitsRow, row_of},
-  Rows.{row_takes, row_takes_act, row_takes_unseen, row_says, row_says_act, row_after, row_after_act, row_after_unseen},
+  Rows.{row_takes, row_says, row_says_act, row_after},
   Steps.{RowStep},
 };
 
@@ -16,42 +16,28 @@ use um_base::{Act, SetSaid};
 const LAST: u32 = 0xf_ffff;
 
 impl RowWord {
-    #[inline(always)]
-    fn takes_act(&self, thread: u8, act: &Act) -> bool
-        ensures { result ≡ row_takes_act self.now thread act.now }
-    {
-        match act {
-            Act::Check { .. } => self.claims < 127,
-            Act::Own { .. } => self.claims < 127 && !self.is_free() && !self.is_cleaning(),
-            Act::Inherit { who, .. } => self.has(thread) && !self.has(who.0),
-            Act::DropPair { .. } => true,
-            Act::Grant { .. } | Act::Publish { .. } | Act::SetInit { .. } | Act::ClearInit { .. } =>
-                { !self.is_free() }
-            Act::Born { .. } => self.is_free(),
-            _ => false,
-        }
-    }
-
-    #[inline(always)]
-    fn takes_unseen(&self, unseen: &Unseen) -> bool
-        ensures { result ≡ row_takes_unseen self.now unseen.now }
-    {
-        match unseen {
-            Unseen::EndCall => 0 < self.claims,
-            Unseen::Visit => true,
-            Unseen::Vacate => self.is_cleaning() && self.claims == 0,
-            _ => false,
-        }
-    }
-
     /// Whether it takes the step.
     #[inline(always)]
     fn takes(&self, act: &FineAct) -> bool
         ensures { result ≡ row_takes self.now act.now }
     {
         match act {
-            FineAct::Shown { event, .. } => self.takes_act(event.thread.0, &event.act),
-            FineAct::Unseen(unseen) => self.takes_unseen(unseen),
+            FineAct::Shown { event, .. } => match &event.act {
+                Act::Check { .. } => self.claims < 127,
+                Act::Own { .. } => self.claims < 127 && !self.is_free() && !self.is_cleaning(),
+                Act::Inherit { who, .. } => self.has(event.thread.0) && !self.has(who.0),
+                Act::DropPair { .. } => true,
+                Act::Grant { .. }
+                | Act::Publish { .. }
+                | Act::SetInit { .. }
+                | Act::ClearInit { .. } => !self.is_free(),
+                Act::Born { .. } => self.is_free(),
+                _ => false,
+            },
+            FineAct::Unseen(Unseen::EndCall) => 0 < self.claims,
+            FineAct::Unseen(Unseen::Visit) => true,
+            FineAct::Unseen(Unseen::Vacate) => self.is_cleaning() && self.claims == 0,
+            FineAct::Unseen(_) => false,
         }
     }
 
@@ -84,60 +70,42 @@ impl RowWord {
     }
 
     #[inline(always)]
-    fn take_act(&mut self, thread: u8, act: &Act)
-        requires { IsTrue (row_takes_act self.old thread act.now) }
-        ensures { self.new ≡ row_after_act self.old thread act.now }
-    {
-        match act {
-            Act::Check { verdict, .. } => {
-                if verdict.is_none() {
-                    self.claims += 1;
-                }
-            }
-            Act::Grant { who, .. } => {
-                self.grant(who.0);
-            }
-            Act::Own { who, .. } => {
-                self.own(who.0);
-            }
-            Act::Inherit { who, .. } => self.inherit(who.0),
-            Act::DropPair { who, .. } => {
-                self.drop_one(who.0);
-            }
-            Act::Publish { .. } => {
-                self.publish();
-            }
-            Act::SetInit { set, .. } => {
-                if let SetSaid::Done = set {
-                    self.init = true;
-                }
-            }
-            Act::ClearInit { .. } => self.init = false,
-            Act::Born { .. } => self.born(thread),
-            _ => {}
-        }
-    }
-
-    #[inline(always)]
-    fn take_unseen(&mut self, unseen: &Unseen)
-        requires { IsTrue (row_takes_unseen self.old unseen.now) }
-        ensures { self.new ≡ row_after_unseen self.old unseen.now }
-    {
-        match unseen {
-            Unseen::EndCall => self.end_call(),
-            Unseen::Vacate => self.vacate(),
-            _ => {}
-        }
-    }
-
-    #[inline(always)]
     fn take(&mut self, act: &FineAct)
         requires { IsTrue (row_takes self.old act.now) }
         ensures { self.new ≡ row_after self.old act.now }
     {
         match act {
-            FineAct::Shown { event, .. } => self.take_act(event.thread.0, &event.act),
-            FineAct::Unseen(unseen) => self.take_unseen(unseen),
+            FineAct::Shown { event, .. } => match &event.act {
+                Act::Check { verdict, .. } => {
+                    if verdict.is_none() {
+                        self.claims += 1;
+                    }
+                }
+                Act::Grant { who, .. } => {
+                    self.grant(who.0);
+                }
+                Act::Own { who, .. } => {
+                    self.own(who.0);
+                }
+                Act::Inherit { who, .. } => self.inherit(who.0),
+                Act::DropPair { who, .. } => {
+                    self.drop_one(who.0);
+                }
+                Act::Publish { .. } => {
+                    self.publish();
+                }
+                Act::SetInit { set, .. } => {
+                    if let SetSaid::Done = set {
+                        self.init = true;
+                    }
+                }
+                Act::ClearInit { .. } => self.init = false,
+                Act::Born { .. } => self.born(event.thread.0),
+                _ => {}
+            },
+            FineAct::Unseen(Unseen::EndCall) => self.end_call(),
+            FineAct::Unseen(Unseen::Vacate) => self.vacate(),
+            FineAct::Unseen(_) => {}
         }
     }
 }

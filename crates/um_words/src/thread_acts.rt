@@ -3,14 +3,14 @@
 ghost use Rattle.std.specs.Prelude.{◌≡◌, ◌↔◌, ◌<◌, ◌/◌, ◌&&◌, not, ℕ, IsTrue, MatchOption};
 ghost use Rattle.um_machine.specs.State.{is_living};
 ghost use Rattle.um_words.specs.{
-  Packed.{FitsThread, packed_thread},
-  Threads.{thread_takes, thread_takes_act, thread_takes_unseen, thread_says, thread_says_act, thread_after, thread_after_act, thread_after_unseen, counted_thread},
+  Packed.{packed_thread},
+  Threads.{thread_takes, thread_says, thread_says_act, thread_after, counted_thread},
   Steps.{ThreadStep},
   declared.thread_word.ThreadWord.{ThreadWord},
 };
 
 use crate::extra::{mode, starts};
-use crate::fine::{FineAct, More, Unseen};
+use crate::fine::{FineAct, Unseen};
 use crate::thread_word::ThreadWord;
 use um_base::{Act, DOMAINS, Errno, Mode};
 use um_machine::Life;
@@ -30,93 +30,50 @@ impl ThreadWord {
     }
 
     #[inline(always)]
-    fn takes_act(&self, more: &More, act: &Act) -> bool
-        ensures { result ≡ thread_takes_act self.now more.now act.now }
-    {
-        match act {
-            Act::Begin { .. } | Act::Exit => self.may_begin(),
-            Act::Check { .. }
-            | Act::Answered { .. }
-            | Act::Fatal { .. }
-            | Act::Doom { .. }
-            | Act::EnterUser => true,
-            Act::DomMove { domain, .. } => !self.held && (*domain as usize) < DOMAINS,
-            Act::Start { .. } => (starts(more) as usize) < DOMAINS,
-            _ => false,
-        }
-    }
-
-    #[inline(always)]
-    fn takes_unseen(&self, unseen: &Unseen) -> bool
-        ensures { result ≡ thread_takes_unseen self.now unseen.now }
-    {
-        match unseen {
-            Unseen::Hold => !self.held,
-            Unseen::LetGo => self.held,
-            Unseen::WordRead => true,
-            _ => false,
-        }
-    }
-
-    #[inline(always)]
     fn takes(&self, act: &FineAct) -> bool
         ensures { result ≡ thread_takes self.now act.now }
     {
         match act {
-            FineAct::Shown { event, more } => self.takes_act(more, &event.act),
-            FineAct::Unseen(unseen) => self.takes_unseen(unseen),
-        }
-    }
-
-    #[inline(always)]
-    fn take_act(&mut self, more: &More, act: &Act)
-        ensures { self.new ≡ thread_after_act self.old more.now act.now }
-    {
-        match act {
-            Act::Exit | Act::Fatal { .. } => self.life = Life::Ended,
-            Act::Doom { .. } => self.doomed = true,
-            Act::DomMove { domain, .. } => self.domain = *domain,
-            Act::Start { .. } => {
-                self.life = Life::Living;
-                self.mode = mode(more);
-                self.domain = starts(more);
-            }
-            Act::EnterUser => self.mode = Mode::User,
-            _ => {}
-        }
-    }
-
-    #[inline(always)]
-    fn take_unseen(&mut self, unseen: &Unseen)
-        ensures { self.new ≡ thread_after_unseen self.old unseen.now }
-    {
-        match unseen {
-            Unseen::Hold => self.held = true,
-            Unseen::LetGo => self.held = false,
-            _ => {}
+            FineAct::Shown { event, more } => match &event.act {
+                Act::Begin { .. } | Act::Exit => self.may_begin(),
+                Act::Check { .. }
+                | Act::Answered { .. }
+                | Act::Fatal { .. }
+                | Act::Doom { .. }
+                | Act::EnterUser => true,
+                Act::DomMove { domain, .. } => !self.held && (*domain as usize) < DOMAINS,
+                Act::Start { .. } => (starts(more) as usize) < DOMAINS,
+                _ => false,
+            },
+            FineAct::Unseen(Unseen::Hold) => !self.held,
+            FineAct::Unseen(Unseen::LetGo) => self.held,
+            FineAct::Unseen(Unseen::WordRead) => true,
+            FineAct::Unseen(_) => false,
         }
     }
 
     #[inline(always)]
     fn take(&mut self, act: &FineAct)
-        ensures { self.new ≡ thread_after self.old act.now }
+        ensures value { self.new ≡ thread_after self.old act.now }
+        ensures number { self.new.number ≡ self.old.number }
     {
         match act {
-            FineAct::Shown { event, more } => self.take_act(more, &event.act),
-            FineAct::Unseen(unseen) => self.take_unseen(unseen),
+            FineAct::Shown { event, more } => match &event.act {
+                Act::Exit | Act::Fatal { .. } => self.life = Life::Ended,
+                Act::Doom { .. } => self.doomed = true,
+                Act::DomMove { domain, .. } => self.domain = *domain,
+                Act::Start { .. } => {
+                    self.life = Life::Living;
+                    self.mode = mode(more);
+                    self.domain = starts(more);
+                }
+                Act::EnterUser => self.mode = Mode::User,
+                _ => {}
+            },
+            FineAct::Unseen(Unseen::Hold) => self.held = true,
+            FineAct::Unseen(Unseen::LetGo) => self.held = false,
+            FineAct::Unseen(_) => {}
         }
-    }
-
-    /// The word with this said and one step more.
-    pub fn counted(&self) -> u64
-        requires { FitsThread (counted_thread self.now) }
-        ensures { result ≡ packed_thread (counted_thread self.now) }
-    {
-        let next = ThreadWord {
-            number: self.number + 1,
-            ..*self
-        };
-        next.pack()
     }
 }
 
@@ -179,5 +136,6 @@ pub fn thread_step(word: u64, act: &FineAct) -> Option<u64>
     }
     let mut next = thread;
     next.take(act);
-    Some(next.counted())
+    next.number += 1;
+    Some(next.pack())
 }
