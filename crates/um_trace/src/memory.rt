@@ -27,15 +27,14 @@ pub fn put_range(room: &mut Vec<u8>, addr: Addr, size: u32)
     put_decimal(room, size);
 }
 
-/// A word, bytes of memory, and the value there.
-fn put_access(room: &mut Vec<u8>, word: &str, addr: Addr, size: u32, number: u32)
-    requires { vec_len room.old + length word.now + 32 ≤ vec_capacity room.old }
-    ensures { Puts room.old room.new (word.now ++ range_text addr.0 size ++ codes " " ++ value number) (length word.now + 32) }
+/// A word, bytes of memory, and a space.
+fn put_span(room: &mut Vec<u8>, word: &str, addr: Addr, size: u32)
+    requires { vec_len room.old + length word.now + 22 ≤ vec_capacity room.old }
+    ensures { Puts room.old room.new (word.now ++ range_text addr.0 size ++ codes " ") (length word.now + 22) }
 {
     put_text(room, word);
     put_range(room, addr, size);
     put_space(room);
-    put_value(room, number);
 }
 
 /// A word, bytes of memory, and whether the thread may do that with them.
@@ -43,9 +42,7 @@ fn put_reach(room: &mut Vec<u8>, word: &str, addr: Addr, size: u32, fits: bool)
     requires { vec_len room.old + length word.now + 28 ≤ vec_capacity room.old }
     ensures { Puts room.old room.new (word.now ++ range_text addr.0 size ++ codes " " ++ reach_word fits) (length word.now + 28) }
 {
-    put_text(room, word);
-    put_range(room, addr, size);
-    put_space(room);
+    put_span(room, word, addr, size);
     put(room, reach_word(fits));
 }
 
@@ -69,8 +66,14 @@ pub fn put_act(room: &mut Vec<u8>, image: &Image, act: &Act)
     ensures { Puts room.old room.new (act_text image.now act.now) (100 + 64 * woken_by act.now) }
 {
     match act {
-        Act::Load { addr, size, value } => put_access(room, "load ", *addr, *size, *value),
-        Act::Store { addr, size, value } => put_access(room, "store ", *addr, *size, *value),
+        Act::Load { addr, size, value } => {
+            put_span(room, "load ", *addr, *size);
+            put_value(room, *value);
+        }
+        Act::Store { addr, size, value } => {
+            put_span(room, "store ", *addr, *size);
+            put_value(room, *value);
+        }
         Act::Fetch { addr } => {
             put_text(room, "exec ");
             put_address(room, *addr);

@@ -7,6 +7,7 @@ ghost use Rattle.std.specs.{
 ghost use Rattle.um_base.specs.declared.names.{Reply.{Reply}, ThreadIx.{ThreadIx}};
 ghost use Rattle.um_trace.specs.{
   Acts.{answer_text, wake_text, object_act_text},
+  Names.{object_text},
   Room.{Puts},
   Text.{woken_by},
   Words.{any_kind_word, verdict_word},
@@ -17,7 +18,7 @@ use crate::heap::put_heap_act;
 use crate::names::{put_of, put_on, put_reply};
 use crate::room::{put, put_space, put_text};
 use crate::words::{any_kind_word, given_word, set_word, verdict_word};
-use um_base::{Act, Answer, Errno, Image, Kind, Replies, Reply, ThreadIx, Want};
+use um_base::{Act, Addr, Answer, Errno, Image, Kind, Replies, Reply, ThreadIx, Want};
 use um_vocabulary::want_word;
 
 /// The kind and the state that a check wants, and what it says.
@@ -66,6 +67,16 @@ fn put_wakes(room: &mut Vec<u8>, image: &Image, woken: &Replies)
     }
 }
 
+/// A word, the object at an address, and what an act said of it.
+fn put_said(room: &mut Vec<u8>, image: &Image, word: &str, addr: Addr, said: &[u8])
+    requires { vec_len room.old + length word.now + 25 + length said.now ≤ vec_capacity room.old }
+    ensures { Puts room.old room.new (word.now ++ object_text image.now addr.0 ++ codes " " ++ said.now) (length word.now + 25 + length said.now) }
+{
+    put_on(room, image, word, addr);
+    put_space(room);
+    put(room, said);
+}
+
 /// The text of an act on an object, or of any other that isn't about memory.
 #[tactic(auto, unfolding(crate::specs::Acts::object_act_text))]
 pub fn put_object_act(room: &mut Vec<u8>, image: &Image, act: &Act)
@@ -93,14 +104,10 @@ pub fn put_object_act(room: &mut Vec<u8>, image: &Image, act: &Act)
             put_wakes(room, image, woken);
         }
         Act::Publish { addr, given } => {
-            put_on(room, image, "public ", *addr);
-            put_space(room);
-            put(room, given_word(*given));
+            put_said(room, image, "public ", *addr, given_word(*given));
         }
         Act::SetInit { addr, set } => {
-            put_on(room, image, "setinit ", *addr);
-            put_space(room);
-            put(room, set_word(*set));
+            put_said(room, image, "setinit ", *addr, set_word(*set));
         }
         Act::ClearInit { addr } => put_on(room, image, "uninit ", *addr),
         _ => put_heap_act(room, image, act),

@@ -125,32 +125,14 @@ fn digits(n: u32) -> [u8; 8]
     ]
 }
 
-/// `0x` and the eight digits of a number.
-#[tactic(auto, unfolding(crate::specs::Digits::address, crate::specs::Digits::hex8))]
-fn address_digits(n: u32) -> [u8; 10]
-    ensures value { result ≡ address n }
-    ensures len { length (address n) ≡ 10 }
-{
-    [
-        b'0',
-        b'x',
-        glyph(n / 0x1000_0000),
-        glyph(n / 0x100_0000 % 16),
-        glyph(n / 0x10_0000 % 16),
-        glyph(n / 0x1_0000 % 16),
-        glyph(n / 0x1000 % 16),
-        glyph(n / 0x100 % 16),
-        glyph(n / 0x10 % 16),
-        glyph(n % 16),
-    ]
-}
-
 /// An address in memory: `0x` and eight digits.
+#[tactic(auto, unfolding(crate::specs::Digits::address))]
 pub fn put_address(room: &mut Vec<u8>, addr: Addr)
     requires { vec_len room.old + 10 ≤ vec_capacity room.old }
     ensures { Puts room.old room.new (address addr.0) 10 }
 {
-    put(room, &address_digits(addr.0))
+    put_text(room, "0x");
+    put(room, &digits(addr.0))
 }
 
 /// How many of a number's eight digits are zeros in front.

@@ -1,7 +1,7 @@
 //! What a summary counts of events.
 
 ghost use Rattle.std.specs.Prelude.{◌≡◌};
-ghost use Rattle.um_trace.specs.Summary.{is_begin, is_check, is_refused, is_fatal, is_wait, is_recycle, counts, events_that};
+ghost use Rattle.um_trace.specs.Summary.{counts, events_that};
 
 use um_base::{Act, Answer, Event};
 
@@ -19,83 +19,30 @@ pub enum Counted {
     Recycles,
 }
 
-fn is_begin(act: &Act) -> bool
-    ensures { result ≡ is_begin act.now }
-{
-    matches!(act, Act::Begin { script: _, line: _ })
-}
-
-fn is_check(act: &Act) -> bool
-    ensures { result ≡ is_check act.now }
-{
-    matches!(
-        act,
-        Act::Check {
-            addr: _,
-            kind: _,
-            want: _,
-            verdict: _
-        }
-    )
-}
-
-fn is_refused(act: &Act) -> bool
-    ensures { result ≡ is_refused act.now }
-{
-    matches!(
-        act,
-        Act::Check {
-            addr: _,
-            kind: _,
-            want: _,
-            verdict: Some(_)
-        }
-    )
-}
-
-fn is_fatal(act: &Act) -> bool
-    ensures { result ≡ is_fatal act.now }
-{
-    matches!(
-        act,
-        Act::Fatal {
-            reason: _,
-            cause: _
-        }
-    )
-}
-
-fn is_wait(act: &Act) -> bool
-    ensures { result ≡ is_wait act.now }
-{
-    matches!(
-        act,
-        Act::Work {
-            addr: _,
-            answer: Answer::Wait,
-            woken: _
-        }
-    )
-}
-
-fn is_recycle(act: &Act) -> bool
-    ensures { result ≡ is_recycle act.now }
-{
-    matches!(act, Act::Recycle { addr: _ })
-}
-
 /// Whether an act is counted.
 #[tactic(auto, unfolding(crate::specs::Summary::counts))]
 fn counts(counted: Counted, act: &Act) -> bool
     ensures { result ≡ counts counted act.now }
 {
     match counted {
-        Counted::Begins => is_begin(act),
-        Counted::Checks => is_check(act),
-        Counted::Refused => is_refused(act),
-        Counted::Fatals => is_fatal(act),
-        Counted::Waits => is_wait(act),
-        Counted::Recycles => is_recycle(act),
+        Counted::Begins => matches!(act, Act::Begin { .. }),
+        Counted::Checks => matches!(act, Act::Check { .. }),
+        Counted::Refused => matches!(
+            act,
+            Act::Check {
+                verdict: Some(_),
+                ..
+            }
+        ),
+        Counted::Fatals => matches!(act, Act::Fatal { .. }),
+        Counted::Waits => matches!(
+            act,
+            Act::Work {
+                answer: Answer::Wait,
+                ..
+            }
+        ),
+        Counted::Recycles => matches!(act, Act::Recycle { .. }),
     }
 }
 
