@@ -17,13 +17,10 @@ use Rattle.um_words.specs.declared.dom_word.DomWord.{DomWord}
 use Rattle.um_words.specs.declared.fine.FineAct.{FineAct}
 use Rattle.um_words.specs.declared.fine.Unseen.{Unseen}
 use Rattle.um_words.specs.Domains as Words
-use Rattle.um_fine.specs.Context.{Context}
-use Rattle.um_fine.specs.Places.{Todo, Todos, fine_steps}
+use Rattle.um_fine.specs.Places.{Todo, Todos}
 use Rattle.um_fine.specs.Processor.{edit_of}
 use Rattle.um_erasure.specs.Fine.{one_if, parts, total}
 use Rattle.um_erasure.specs.Lists.{edited, edits, edits_step}
-use Rattle.um_erasure.proofs.ListGrowth.{either-look}
-use Rattle.um_erasure.proofs.ListTails.{Reads, is_passed}
 use Rattle.um_erasure.proofs.DomainReads.{or-false}
 use Rattle.um_erasure.proofs.MemorySteps.{part-total}
 use Rattle.um_erasure.proofs.Writes.{Makes, Part, domains, read-same, reads-keeping}
@@ -120,20 +117,6 @@ two-parts g (suc n) a b l k ne = by (a == n) refl (b == n) refl (λ less more. t
 pub one-at-most : (b : Bool) → one_if b ≤ 1
 one-at-most true = omega arith
 one-at-most false = omega arith
-
-pub edited-passed : (d : ℕ) (q : Todo) (todo : Todos) → is_passed q ≡ true → edited d (q ∷ todo) ≡ edited d todo
-edited-passed d (Todo.show q rest) todo h = absurd (false≢true h)
-edited-passed d (Todo.write_claim e) todo h = absurd (false≢true h)
-edited-passed d (Todo.edit e q) todo h = absurd (false≢true h)
-edited-passed d q todo h = refl
-
-pub edited-none : (image : Image) (d : ℕ) (c : Context) (q : Pending) (rest : Steps) → edited d (fine_steps image c q rest) ≡ None
-edited-none image d c (Pending.Probe a amount) rest = either-look image (λ todo. edited d todo ≡ None) amount _ (λ x h. h) refl
-edited-none image d c (Pending.CopyIn a amount) rest = either-look image (λ todo. edited d todo ≡ None) amount _ (λ x h. h) refl
-edited-none image d c q rest = refl
-
-pub edited-reads : (image : Image) (d : ℕ) → Reads image (edited d) None
-edited-reads image d = record { empty = refl; passed = edited-passed d; expanded = edited-none image d; begins = refl; exits = refl }
 
 -- whether a domain is initialised changes by an event of an initialisation alone
 pub init-else : (w : DomWord) (act : FineAct) → is_init act ≡ false → (Words.domain_after w act).init ≡ w.init

@@ -36,7 +36,7 @@ use Rattle.um_erasure.specs.Lists.{edited, edits, edits_step}
 use Rattle.um_erasure.specs.Offers.{Fits, behind_shown}
 use Rattle.um_erasure.proofs.DomainCounts.{domain-counts}
 use Rattle.um_erasure.proofs.DomainWords.{word-else, word-here}
-use Rattle.um_erasure.proofs.DomainReads.{edits-one, eqb-swap, is_told, memory-edits-none, next-reply, or-false}
+use Rattle.um_erasure.proofs.DomainReads.{edited-reads, edits-one, eqb-swap, is_told, memory-edits-none, next-reply, or-false}
 use Rattle.um_erasure.proofs.Erased.{around}
 use Rattle.um_erasure.proofs.Leaves.{Lawful, Leaves, cleans, drops, event, nothing, passes, recycles, resumes}
 use Rattle.um_erasure.proofs.ListGrips.{read-rests}
@@ -48,7 +48,7 @@ use Rattle.um_erasure.proofs.SchedulerSteps.{made-at, made-says}
 use Rattle.um_erasure.proofs.StepReads.{is-behind}
 use Rattle.um_erasure.proofs.WordsKept.{IsShown}
 use Rattle.um_erasure.proofs.Writes.{Makes}
-use Rattle.um_erasure.proofs.DomainFacts.{init-else, NoDomains, adds-some, domains-same, edited-edits, edited-reads, inits-some, is_edit, is_init, is_init_act, is_neither, is_unseen, one-at-most, removes-some, two-parts, visits-no-edit}
+use Rattle.um_erasure.proofs.DomainFacts.{init-else, NoDomains, adds-some, domains-same, edited-edits, inits-some, is_edit, is_init, is_init_act, is_neither, is_unseen, one-at-most, removes-some, two-parts, visits-no-edit}
 
 -- Cell and word of a domain stand for the machine's, where an edit counts from its event.
 record StandsFor (g : Fine) (s : State) (d : ℕ) : Type 0 where

@@ -1,6 +1,6 @@
 -- What is read of a processor's list of domains: which one it edits, whether it has a claim to read its thread's, and to which one a thread
 -- moves; and which steps leave what a processor was told.
-use Rattle.std.proofs.Common.{◌≡◌, ℕ, Bool, true, false, [], ◌∷◌, Some, None, refl, sym, ap, ◌∙◌, eq-eqb, ne_eqb}
+use Rattle.std.proofs.Common.{◌≡◌, ℕ, Bool, true, false, [], ◌∷◌, Option, Some, None, refl, sym, ap, ◌∙◌, eq-eqb, ne_eqb}
 use Rattle.std.specs.Prelude.{◌==◌, ◌&&◌, ◌||◌, not, if◌then◌else◌}
 use Rattle.std.specs.List.{list_any}
 use Rattle.std.proofs.lemmas.Bool.{eqb-false, eqb-true, false≢true, true≢false}
@@ -17,29 +17,39 @@ use Rattle.um_fine.specs.Processor.{Processor}
 use Rattle.um_fine.specs.Sites.{same_site}
 use Rattle.um_fine.specs.Steps.{FineStep, Site}
 use Rattle.um_erasure.specs.Frames.{OnMemory, access_over}
-use Rattle.um_erasure.specs.Lists.{edits, edits_step, is_hold, is_own_claim, is_own_done, moves_step, moves_to}
+use Rattle.um_erasure.specs.Lists.{edited, edits, edits_step, is_hold, is_own_claim, is_own_done, moves_step, moves_to}
 use Rattle.um_erasure.specs.Offers.{behind_shown}
 use Rattle.um_erasure.proofs.ListGrowth.{ReadsLast, either-look, is_read_claim}
-use Rattle.um_erasure.proofs.ListTails.{Reads, is_passed}
+use Rattle.um_erasure.proofs.ListTails.{Reads, is_passed, reads-through}
 
 -- What is read of lists.
 
 abbrev pub claimed : Todos → Bool
 claimed todo = list_any is_own_done todo && not (list_any is_own_claim todo)
 
-pub edits-passed : (d : ℕ) (q : Todo) (todo : Todos) → is_passed q ≡ true → edits d (q ∷ todo) ≡ edits d todo
-edits-passed d (Todo.show q rest) todo h = absurd (false≢true h)
-edits-passed d (Todo.write_claim e) todo h = absurd (false≢true h)
-edits-passed d (Todo.edit e q) todo h = absurd (false≢true h)
-edits-passed d q todo h = refl
+-- whether a domain is edited, and the edit that was made
+abbrev edit_read : ℕ → Todos → Bool × Option Pending
+edit_read d todo = (edits d todo, edited d todo)
 
-pub edits-none : (image : Image) (d : ℕ) (c : Context) (q : Pending) (rest : Steps) → edits d (fine_steps image c q rest) ≡ false
-edits-none image d c (Pending.Probe a amount) rest = either-look image (λ todo. edits d todo ≡ false) amount _ (λ x h. h) refl
-edits-none image d c (Pending.CopyIn a amount) rest = either-look image (λ todo. edits d todo ≡ false) amount _ (λ x h. h) refl
-edits-none image d c q rest = refl
+edit-passed : (d : ℕ) (q : Todo) (todo : Todos) → is_passed q ≡ true → edit_read d (q ∷ todo) ≡ edit_read d todo
+edit-passed d (Todo.show q rest) todo h = absurd (false≢true h)
+edit-passed d (Todo.write_claim e) todo h = absurd (false≢true h)
+edit-passed d (Todo.edit e q) todo h = absurd (false≢true h)
+edit-passed d q todo h = refl
+
+edit-none : (image : Image) (d : ℕ) (c : Context) (q : Pending) (rest : Steps) → edit_read d (fine_steps image c q rest) ≡ (false, None)
+edit-none image d c (Pending.Probe a amount) rest = either-look image (λ todo. edit_read d todo ≡ (false, None)) amount _ (λ x h. h) refl
+edit-none image d c (Pending.CopyIn a amount) rest = either-look image (λ todo. edit_read d todo ≡ (false, None)) amount _ (λ x h. h) refl
+edit-none image d c q rest = refl
+
+edit-reads : (image : Image) (d : ℕ) → Reads image (edit_read d) (false, None)
+edit-reads image d = record { empty = refl; passed = edit-passed d; expanded = edit-none image d; begins = refl; exits = refl }
 
 pub edits-reads : (image : Image) (d : ℕ) → Reads image (edits d) false
-edits-reads image d = record { empty = refl; passed = edits-passed d; expanded = edits-none image d; begins = refl; exits = refl }
+edits-reads image d = reads-through (λ (r : Bool × Option Pending). r.0) (edit-reads image d)
+
+pub edited-reads : (image : Image) (d : ℕ) → Reads image (edited d) None
+edited-reads image d = reads-through (λ (r : Bool × Option Pending). r.1) (edit-reads image d)
 
 pub claimed-passed : (q : Todo) (todo : Todos) → is_passed q ≡ true → claimed (q ∷ todo) ≡ claimed todo
 claimed-passed (Todo.read_claim d) todo h = absurd (false≢true h)

@@ -68,6 +68,7 @@ pub mod PlacesFacts
 pub mod ReadyPart
 pub mod ListTails
 pub mod ListGrips
+pub mod ListLooks
 pub mod HeldPart
 pub mod RowsPart
 pub mod DomainReads

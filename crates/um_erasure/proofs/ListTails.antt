@@ -53,6 +53,17 @@ pub record Reads {A : Type 0} (image : Image) (read : Todos → A) (none : A) : 
   pub begins : read (Todo.show Pending.Begin [] ∷ []) ≡ none
   pub exits : read (Todo.show Pending.Exit [] ∷ []) ≡ none
 
+-- what is told by what is read
+pub reads-through : {A B : Type 0} {image : Image} {read : Todos → A} {none : A} (tell : A → B) → Reads image read none → Reads image (λ todo. tell (read todo)) (tell none)
+reads-through tell reads =
+    record {
+      empty = ap tell reads.empty;
+      passed = λ q todo h. ap tell (reads.passed q todo h);
+      expanded = λ c q rest. ap tell (reads.expanded c q rest);
+      begins = ap tell reads.begins;
+      exits = ap tell reads.exits;
+    }
+
 module _ {A : Type 0} (image : Image) (read : Todos → A) (none : A) (reads : Reads image read none) where
   abbrev Is : A → Todos → Type 0
   Is v todo = read todo ≡ v

@@ -20,7 +20,7 @@ use Rattle.um_fine.specs.Answers.{domain_in}
 use Rattle.um_fine.specs.Asks.{begins_cleaning}
 use Rattle.um_fine.specs.Context.{Context}
 use Rattle.um_fine.specs.Follows.{after_claim, p_next, unless_loaded}
-use Rattle.um_fine.specs.Places.{Todo, Todos, fine_steps}
+use Rattle.um_fine.specs.Places.{Todo, Todos}
 use Rattle.um_fine.specs.Processor.{Processor, fails, is_of, key_of}
 use Rattle.um_fine.specs.Sites.{SiteState, s_next, same_site, site_after, word_of}
 use Rattle.um_fine.specs.Steps.{FineStep, Site}
@@ -36,8 +36,9 @@ use Rattle.um_erasure.proofs.DomainReads.{is_told, next-reply}
 use Rattle.um_erasure.proofs.DomainWords.{IsEdited, Stays, is-domain, stays-or-edited, word-else, word-here}
 use Rattle.um_erasure.proofs.Erased.{around}
 use Rattle.um_erasure.proofs.Leaves.{Lawful, Leaves}
-use Rattle.um_erasure.proofs.ListGrowth.{ReadsLast, either-look, is_read_claim}
-use Rattle.um_erasure.proofs.ListTails.{Reads, exact-next, is_passed, tail-read, takes-read}
+use Rattle.um_erasure.proofs.ListGrowth.{ReadsLast, is_read_claim}
+use Rattle.um_erasure.proofs.ListLooks.{known-behind, moving-reads}
+use Rattle.um_erasure.proofs.ListTails.{exact-next, tail-read, takes-read}
 use Rattle.um_erasure.proofs.MemorySteps.{part-total}
 use Rattle.um_erasure.proofs.SchedulerSteps.{made-at, made-says, word-left}
 use Rattle.um_erasure.proofs.StepReads.{is-behind}
@@ -50,24 +51,6 @@ pub record MovesIn (m : State) (n : ℕ) : Type 0 where
   pub dropped : (t d from : ℕ) (who : ThreadIx) (rest : Steps) → (thread_at m t).pending ≡ Pending.Drops from ∷ Pending.DomMove d who ∷ rest → d < n
 
 -- What is read of a list.
-
-moving-passed : (q : Todo) (todo : Todos) → is_passed q ≡ true → moving (q ∷ todo) ≡ moving todo
-moving-passed (Todo.read_claim d) todo h = absurd (false≢true h)
-moving-passed (Todo.read_done d) todo h = absurd (false≢true h)
-moving-passed (Todo.show q rest) todo h = absurd (false≢true h)
-moving-passed q todo h = refl
-
-moving-none : (image : Image) (c : Context) (q : Pending) (rest : Steps) → moving (fine_steps image c q rest) ≡ None
-moving-none image c (Pending.Probe a amount) rest = either-look image (λ todo. moving todo ≡ None) amount _ (λ x h. h) refl
-moving-none image c (Pending.CopyIn a amount) rest = either-look image (λ todo. moving todo ≡ None) amount _ (λ x h. h) refl
-moving-none image c q rest = refl
-
-moving-reads : (image : Image) → Reads image moving None
-moving-reads image = record { empty = refl; passed = moving-passed; expanded = moving-none image; begins = refl; exits = refl }
-
-moving-behind : (image : Image) (c : Context) (q : Pending) → moving (behind_shown image c q) ≡ None
-moving-behind image c (Pending.Load to a n) = refl
-moving-behind image c q = refl
 
 memory-moving : (q : Pending) → OnMemory q → domain_moved q ≡ None
 memory-moving (Pending.DomMove d who) on = absurd on
@@ -101,8 +84,8 @@ moving-offered : (image : Image) (c : Context) (d : ℕ) (todo : Todos) → Fits
 moving-offered image c d [] h f k = none-some k
 moving-offered image c d (Todo.show (Pending.DomMove e who) rest ∷ todo) h f k = (who, rest, subst (λ n. IsOffered image c (Pending.DomMove n who) rest) (some-is k) h.0)
 moving-offered image c d (Todo.show q rest ∷ todo) h f k = none-some k
-moving-offered image c d (Todo.pass who x ∷ todo) h f k = none-some (sym (ap moving h.0.behind ∙ moving-none image c h.0.step h.0.rest) ∙ k)
-moving-offered image c d (Todo.drop x ∷ todo) h f k = none-some (sym (ap moving h.behind ∙ moving-none image c h.step h.rest) ∙ k)
+moving-offered image c d (Todo.pass who x ∷ todo) h f k = none-some (sym (ap moving h.0.behind ∙ (moving-reads image).expanded c h.0.step h.0.rest) ∙ k)
+moving-offered image c d (Todo.drop x ∷ todo) h f k = none-some (sym (ap moving h.behind ∙ (moving-reads image).expanded c h.step h.rest) ∙ k)
 moving-offered image c d (Todo.park ∷ todo) h f k = none-some (sym (ap moving h.2) ∙ k)
 moving-offered image c d (Todo.add e ∷ todo) h f k = moving-offered image c d todo h.1 f.1 k
 moving-offered image c d (Todo.read_claim (Some e) ∷ todo) h f k = none-some k
@@ -263,7 +246,7 @@ module _ (f : Fine) (m : State) (e : FineStep) (law : Lawful f m e) (moves : Mov
       by [] at = none-some (sym (takes-read f.image moving None (moving-reads f.image) p e at) ∙ there)
       by (Todo.show q rest ∷ todo) at =
           lacks (Todo.show q rest) todo at refl (last-shown q rest todo at)
-          (ap moving (subst (Fits f.image p.context) at (law.rel.processors e.cpu law.by.named).list.fits).1 ∙ moving-behind f.image p.context q)
+          (ap moving (subst (Fits f.image p.context) at (law.rel.processors e.cpu law.by.named).list.fits).1 ∙ (known-behind f.image p.context q).0)
       by (Todo.read_claim None ∷ todo) at = own-claim todo at
       by (Todo.read_claim (Some u) ∷ todo) at = claim u todo at
       by (Todo.edit u q ∷ todo) at =

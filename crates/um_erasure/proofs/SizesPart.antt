@@ -25,7 +25,7 @@ use Rattle.um_fine.specs.Cells.{Cell}
 use Rattle.um_fine.specs.Context.{Context}
 use Rattle.um_fine.specs.Follows.{after_claim, after_show, goes_on_by, p_next, unless_loaded, with_cleaned}
 use Rattle.um_fine.specs.Objects.{ObjectCell}
-use Rattle.um_fine.specs.Places.{Todo, Todos, fine_steps}
+use Rattle.um_fine.specs.Places.{Todo, Todos}
 use Rattle.um_fine.specs.Processor.{Processor, is_of, key_of}
 use Rattle.um_fine.specs.Sites.{SiteState, site_moves}
 use Rattle.um_fine.specs.Steps.{Exchange, FineStep, Site}
@@ -39,7 +39,8 @@ use Rattle.um_erasure.proofs.Erased.{around}
 use Rattle.um_erasure.proofs.HeldRows.{checked-claimed, claimed-whole}
 use Rattle.um_erasure.proofs.Leaves.{Lawful, Leaves, cleans, drops, event, mine, nothing, passes, recycles, resumes}
 use Rattle.um_erasure.proofs.ListGrowth.{ReadsLast, is_read_claim}
-use Rattle.um_erasure.proofs.ListTails.{Reads, exact-next, is_passed, tail-read, takes-read}
+use Rattle.um_erasure.proofs.ListLooks.{known-behind, looked-reads}
+use Rattle.um_erasure.proofs.ListTails.{exact-next, tail-read, takes-read}
 use Rattle.um_erasure.proofs.Offered.{shown-offers}
 use Rattle.um_erasure.proofs.QueueSteps.{IsKnownAt, Queued}
 use Rattle.um_erasure.proofs.QueuesAfter.{Holds}
@@ -50,27 +51,6 @@ use Rattle.um_erasure.proofs.SchedulerSteps.{made-at, made-says}
 use Rattle.um_erasure.proofs.StepReads.{is-behind}
 use Rattle.um_erasure.proofs.StepsLeft.{offered-on}
 use Rattle.um_erasure.proofs.WorkSteps.{object-sort}
-
--- What is read of a list.
-
-looked-passed : (q : Todo) (todo : Todos) → is_passed q ≡ true → looked (q ∷ todo) ≡ looked todo
-looked-passed (Todo.size_look x) todo h = absurd (false≢true h)
-looked-passed (Todo.show q rest) todo h = absurd (false≢true h)
-looked-passed q todo h = refl
-
-looked-none : (image : Image) (c : Context) (q : Pending) (rest : Steps) → looked (fine_steps image c q rest) ≡ None
-looked-none image c (Pending.Probe a (Amount.Bytes n)) rest = refl
-looked-none image c (Pending.Probe a (Amount.MessageOf b)) rest = refl
-looked-none image c (Pending.CopyIn a (Amount.Bytes n)) rest = refl
-looked-none image c (Pending.CopyIn a (Amount.MessageOf b)) rest = refl
-looked-none image c q rest = refl
-
-looked-reads : (image : Image) → Reads image looked None
-looked-reads image = record { empty = refl; passed = looked-passed; expanded = looked-none image; begins = refl; exits = refl }
-
-looked-behind : (image : Image) (c : Context) (q : Pending) → looked (behind_shown image c q) ≡ None
-looked-behind image c (Pending.Load to a n) = refl
-looked-behind image c q = refl
 
 some-is : {a b : Addr} → Some a ≡ Some b → a ≡ b
 some-is {a} {b} h = ap (λ (o : Option Addr). unwrap_or o a) h
@@ -86,8 +66,8 @@ looks-for : (image : Image) (c : Context) (a : Addr) (todo : Todos) → Fits ima
 looks-for image c a [] h f k = none-some k
 looks-for image c a (Todo.show q rest ∷ todo) h f k = record { step = q; rest = rest; offered = h.0; queue = k }
 looks-for image c a (Todo.size_look x ∷ todo) h f k = none-some k
-looks-for image c a (Todo.pass who x ∷ todo) h f k = none-some (sym (ap looked h.0.behind ∙ looked-none image c h.0.step h.0.rest) ∙ k)
-looks-for image c a (Todo.drop x ∷ todo) h f k = none-some (sym (ap looked h.behind ∙ looked-none image c h.step h.rest) ∙ k)
+looks-for image c a (Todo.pass who x ∷ todo) h f k = none-some (sym (ap looked h.0.behind ∙ (looked-reads image).expanded c h.0.step h.0.rest) ∙ k)
+looks-for image c a (Todo.drop x ∷ todo) h f k = none-some (sym (ap looked h.behind ∙ (looked-reads image).expanded c h.step h.rest) ∙ k)
 looks-for image c a (Todo.park ∷ todo) h f k = none-some (sym (ap looked h.2) ∙ k)
 looks-for image c a (Todo.add d ∷ todo) h f k = looks-for image c a todo h.1 f.1 k
 looks-for image c a (q ∷ todo) h f k = looks-for image c a todo h f.1 k
@@ -304,7 +284,7 @@ module _ (f : Fine) (m : State) (e : FineStep) (law : Lawful f m e) (queues : Ar
       by [] at = none-some (sym (takes-read f.image looked None (looked-reads f.image) p e at) ∙ there)
       by (Todo.show q rest ∷ todo) at =
           none-some
-          (sym (ap looked (subst (Fits f.image p.context) at (law.rel.processors e.cpu law.by.named).list.fits).1 ∙ looked-behind f.image p.context q)
+          (sym (ap looked (subst (Fits f.image p.context) at (law.rel.processors e.cpu law.by.named).list.fits).1 ∙ (known-behind f.image p.context q).1)
           ∙ behind (Todo.show q rest) todo at refl (last-shown q rest todo at))
       by (Todo.read_claim None ∷ todo) at = own-claim todo at
       by (Todo.read_claim (Some u) ∷ todo) at = claim u todo at

@@ -1,0 +1,43 @@
+-- What is read of a list of what its processor knows for the event on it: the domain to which a thread moves, and the queue that is looked at.
+use Rattle.std.proofs.Common.{◌≡◌, ℕ, true, ◌∷◌, Option, None, refl}
+use Rattle.std.proofs.lemmas.Bool.{false≢true}
+use Rattle.um_base.specs.declared.image.Image.{Image}
+use Rattle.um_base.specs.declared.names.Addr.{Addr}
+use Rattle.um_machine.specs.declared.pending.Amount.{Amount}
+use Rattle.um_machine.specs.declared.pending.Pending.{Pending}
+use Rattle.um_machine.specs.Order.{Steps}
+use Rattle.um_fine.specs.Context.{Context}
+use Rattle.um_fine.specs.Places.{Todo, Todos, fine_steps}
+use Rattle.um_erasure.specs.Lists.{looked, moving}
+use Rattle.um_erasure.specs.Offers.{behind_shown}
+use Rattle.um_erasure.proofs.ListTails.{Reads, is_passed, reads-through}
+
+abbrev known : Todos → Option ℕ × Option Addr
+known todo = (moving todo, looked todo)
+
+known-passed : (q : Todo) (todo : Todos) → is_passed q ≡ true → known (q ∷ todo) ≡ known todo
+known-passed (Todo.read_claim d) todo h = absurd (false≢true h)
+known-passed (Todo.read_done d) todo h = absurd (false≢true h)
+known-passed (Todo.size_look x) todo h = absurd (false≢true h)
+known-passed (Todo.show q rest) todo h = absurd (false≢true h)
+known-passed q todo h = refl
+
+known-none : (image : Image) (c : Context) (q : Pending) (rest : Steps) → known (fine_steps image c q rest) ≡ (None, None)
+known-none image c (Pending.Probe a (Amount.Bytes n)) rest = refl
+known-none image c (Pending.Probe a (Amount.MessageOf b)) rest = refl
+known-none image c (Pending.CopyIn a (Amount.Bytes n)) rest = refl
+known-none image c (Pending.CopyIn a (Amount.MessageOf b)) rest = refl
+known-none image c q rest = refl
+
+known-reads : (image : Image) → Reads image known (None, None)
+known-reads image = record { empty = refl; passed = known-passed; expanded = known-none image; begins = refl; exits = refl }
+
+pub moving-reads : (image : Image) → Reads image moving None
+moving-reads image = reads-through (λ (k : Option ℕ × Option Addr). k.0) (known-reads image)
+
+pub looked-reads : (image : Image) → Reads image looked None
+looked-reads image = reads-through (λ (k : Option ℕ × Option Addr). k.1) (known-reads image)
+
+pub known-behind : (image : Image) (c : Context) (q : Pending) → (moving (behind_shown image c q) ≡ None) × (looked (behind_shown image c q) ≡ None)
+known-behind image c (Pending.Load to a n) = (refl, refl)
+known-behind image c q = (refl, refl)
