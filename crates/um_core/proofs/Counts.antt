@@ -115,13 +115,7 @@ module _ (image : Image) where
 
   number-first : (i : Site) → number_of (s_start image i) ≡ 0
   number-first (Site.row x) = refl
-  number-first (Site.thread t) = refl
-  number-first (Site.domain d) = refl
-  number-first (Site.object x) = refl
-  number-first (Site.parts d) = refl
-  number-first Site.memory = refl
-  number-first Site.heap = refl
-  number-first Site.scheduler = refl
+  number-first i = refl
 
   shorter : (p : FineStep → Bool) (steps : List FineStep) → length (sub p steps) ≤ length steps
   shorter p [] = omega arith

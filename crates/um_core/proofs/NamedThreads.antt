@@ -17,7 +17,6 @@ use Rattle.um_base.specs.declared.names.Access.TheVariants as Access
 use Rattle.um_base.specs.declared.names.Addr.{Addr}
 use Rattle.um_base.specs.declared.names.Errno.{Errno}
 use Rattle.um_base.specs.declared.names.Kind.{Kind}
-use Rattle.um_base.specs.declared.names.Mode.{Mode}
 use Rattle.um_base.specs.declared.names.Reply.{Reply}
 use Rattle.um_base.specs.Lawful.{IsLawful, most_parts}
 use Rattle.um_base.specs.Places.{addr_of, own_row, setup_at}
@@ -25,7 +24,6 @@ use Rattle.um_base.specs.Regions.{Partitions, stack_range}
 use Rattle.um_machine.specs.declared.contents.Contents.TheVariants as Contents
 use Rattle.um_machine.specs.declared.object.Status.TheVariants as Status
 use Rattle.um_machine.specs.declared.pending.Pending.{Pending}
-use Rattle.um_machine.specs.declared.pending.Refusal.{Refusal}
 use Rattle.um_machine.specs.declared.thread.Thread.{Thread}
 use Rattle.um_machine.specs.Domains.{added, domain_after, initialised, part_named, removed, reply_to}
 use Rattle.um_machine.specs.Memory.{allowed, bytes_at, le_bytes, le_value, string_bytes, string_read, with_bytes}
@@ -39,10 +37,11 @@ use Rattle.um_invariants.proofs.Reached.{image_move}
 use Rattle.um_invariants.proofs.RunMoves.{known_step, step_move}
 use Rattle.um_invariants.proofs.Turns.{IsKnown}
 use Rattle.um_erasure.proofs.Erased.{IsReachable}
+use Rattle.um_erasure.proofs.Failures.{check-left, copy-left, either-state, error-left, fails-left}
 use Rattle.um_erasure.proofs.FirstObjects.{opening-image}
 use Rattle.um_erasure.proofs.FirstThreads.{new-thread}
-use Rattle.um_erasure.proofs.ThreadKeys.{Ignores, key-same, keys, keys-bytes, keys-dropped, keys-erased, keys-given, keys-moved, keys-paired, keys-set, keys-woken}
-use Rattle.um_core.proofs.NamedSteps.{AreNamed, doom-named, fatal-named, named-steps, names_thread}
+use Rattle.um_erasure.proofs.ThreadKeys.{AreAlike, Ignores, key-same, keys-bytes, keys-dropped, keys-erased, keys-given, keys-moved, keys-paired, keys-set, keys-woken}
+use Rattle.um_core.proofs.NamedSteps.{AreNamed, doom-named, failures-named, fatal-named, named-steps, names_thread}
 
 -- what is followed of a thread
 abbrev steps_left : Thread → Steps
@@ -61,63 +60,38 @@ module _ (m : State) (t x : ℕ) (all : AllNamed m) where
   abbrev me : Thread
   me = thread_at m t
 
-  abbrev Alike : State → Type 0
-  Alike s = keys steps_left s ≡ keys steps_left m
-
-  keeps : (s : State) → Alike s → AllNamed s
+  keeps : (s : State) → AreAlike steps_left m s → AllNamed s
   keeps s e u = let k = key-same steps_left m s e u in subst AreNamed (sym k) (all u)
 
   set : (s : State) → AllNamed s → (v : ℕ) (th : Thread) → AreNamed th.pending → AllNamed (with_thread s v th)
   set s was v th new u = at_set (λ n (z : Thread). AreNamed z.pending) s.threads v u th nobody new (was u)
 
   -- it goes on with other steps
-  on : (s : State) → Alike s → (th : Thread) (rest : Steps) → AreNamed rest → AllNamed (T.goes_on s t th rest)
+  on : (s : State) → AreAlike steps_left m s → (th : Thread) (rest : Steps) → AreNamed rest → AllNamed (T.goes_on s t th rest)
   on s e th rest h = set s (keeps s e) t (T.at_steps s.image th rest) h
 
   -- it is the thread of a state in which all have the same steps left
-  there : (s : State) → Alike s → (rest : Steps) → AreNamed rest → AllNamed (T.goes_on s t (thread_at s t) rest)
+  there : (s : State) → AreAlike steps_left m s → (rest : Steps) → AreNamed rest → AllNamed (T.goes_on s t (thread_at s t) rest)
   there s e rest h = on s e (thread_at s t) rest h
 
   either : (b : Bool) (s1 s2 : State) → AllNamed s1 → AllNamed s2 → AllNamed (if b then s1 else s2)
-  either true s1 s2 h k = h
-  either false s1 s2 h k = k
-
-  fails-named : (mode : Mode) → AreNamed (copy_fails mode)
-  fails-named Mode.User = refl
-  fails-named Mode.Supervisor = refl
-
-  check-named : (mode : Mode) (rest : Steps) (refusal : Refusal) (v : Option Errno) → AreNamed rest → AreNamed (T.after_check mode rest refusal v)
-  check-named mode rest refusal None h = h
-  check-named mode rest Refusal.Fails (Some e) h = refl
-  check-named Mode.User rest Refusal.FailsUser (Some e) h = refl
-  check-named Mode.Supervisor rest Refusal.FailsUser (Some e) h = refl
-  check-named mode rest (Refusal.Answers reply) (Some e) h = refl
+  either = either-state AllNamed
 
   checks : (a : Addr) (v : Option Errno) (rest : Steps) → AreNamed rest → AllNamed (T.goes_on m t (T.with_checked m a v me) rest)
   checks a None rest h = on m refl (T.with_checked m a None me) rest h
   checks a (Some e) rest h = on m refl me rest h
 
   without-copy : (rest : Steps) → AreNamed rest → AreNamed (T.without_copy rest)
-  without-copy [] h = h
-  without-copy (Pending.CopyOut a ∷ rest) h = h
-  without-copy (p ∷ rest) h = h
+  without-copy = copy-left AreNamed (λ a rest h. h)
 
-  errs : (mode : Mode) (ask : Ask) (e : Errno) (rest : Steps) → AreNamed rest → AreNamed (T.after_error mode ask e rest)
-  errs mode (Ask.SemInit count limit) e rest h = refl
-  errs mode Ask.MutexInit e rest h = refl
-  errs mode (Ask.MsgqInit size most pool) e rest h = refl
-  errs mode (Ask.StackInit most pool) e rest h = refl
-  errs mode (Ask.PipeInit size pool) e rest h = refl
-  errs mode ask e rest h = without-copy rest h
-
-  answers : (s : State) → Alike s → (ask : Ask) (taken : List ℕ) (rest : Steps) (answer : Answer) → AreNamed rest
+  answers : (s : State) → AreAlike steps_left m s → (ask : Ask) (taken : List ℕ) (rest : Steps) (answer : Answer) → AreNamed rest
       → AllNamed (T.after_answer s t (thread_at s t) ask taken rest answer)
   answers s e ask taken rest answer h = by answer
     where
       by : (answer : Answer) → AllNamed (T.after_answer s t (thread_at s t) ask taken rest answer)
       by Answer.Wait = on s e (thread_at s t) (Pending.Resume ∷ rest) h
       by (Answer.Now (Reply.Fail error)) =
-          on s e (record (thread_at s t) { reply = Reply.Fail error; buffer = taken }) (T.after_error (thread_at s t).mode ask error rest) (errs (thread_at s t).mode ask error rest h)
+          on s e (record (thread_at s t) { reply = Reply.Fail error; buffer = taken }) (T.after_error (thread_at s t).mode ask error rest) (error-left AreNamed failures-named (thread_at s t).mode ask error rest (without-copy rest h))
       by (Answer.Now reply) = on s e (record (thread_at s t) { reply = reply; buffer = taken }) rest h
 
   resumed : (rest : Steps) (told : Option Told) → AreNamed rest → AllNamed (T.resumed m t me rest told)
@@ -154,39 +128,36 @@ module _ (m : State) (t x : ℕ) (all : AllNamed m) where
   begun lawful (Some instr) = on m refl (record me { registers = T.with_begin me.registers instr }) _ (named-steps m.image lawful t me instr)
 
   -- the steps behind one that the thread is offered
-  offered-named : (q : Pending) (rest : Steps) → Offers m t q rest → AreNamed rest
-  offered-named q rest offers = by offers
-    where
-      at : (steps : Steps) → me.pending ≡ steps → AreNamed steps
-      at steps e = subst AreNamed e (all t)
+  at : (steps : Steps) → me.pending ≡ steps → AreNamed steps
+  at steps e = subst AreNamed e (all t)
 
-      by : {q : Pending} {rest : Steps} → Offers m t q rest → AreNamed rest
-      by (goes {p} {rest} e) = tail-named p rest (at (p ∷ rest) e)
-      by (skips_inherit {who} {p} {rest} e due) = tail-named p rest (at (Pending.Inherit who ∷ p ∷ rest) e)
-      by (skips_drops {from} {p} {rest} e due) = tail-named p rest (at (Pending.Drops from ∷ p ∷ rest) e)
-      by (begins e lives doomed there) = refl
-      by (exits e lives doomed there) = refl
-      by (cleans_pair started) = all t
-      by (recycles started) = all t
+  offered-named : (q : Pending) (rest : Steps) → Offers m t q rest → AreNamed rest
+  offered-named q rest (goes e) = tail-named q rest (at (q ∷ rest) e)
+  offered-named q rest (skips_inherit {who = who} e due) = tail-named q rest (at (Pending.Inherit who ∷ q ∷ rest) e)
+  offered-named q rest (skips_drops {from = from} e due) = tail-named q rest (at (Pending.Drops from ∷ q ∷ rest) e)
+  offered-named _ _ (begins e lives doomed there) = refl
+  offered-named _ _ (exits e lives doomed there) = refl
+  offered-named _ _ (cleans_pair started) = all t
+  offered-named _ _ (recycles started) = all t
 
   named-after : IsLawful m.image → (q : Pending) (rest : Steps) → AreNamed rest → AllNamed (T.after m t x q rest)
   named-after lawful Pending.Begin rest h = begun lawful (instruction_at m.image me.place)
   named-after lawful Pending.Exit rest h = set m all t _ refl
   named-after lawful (Pending.Check a kind want refusal) rest h =
-      let v = verdict m t a.0 kind want in checks a v (T.after_check me.mode rest refusal v) (check-named me.mode rest refusal v h)
+      let v = verdict m t a.0 kind want in checks a v (T.after_check me.mode rest refusal v) (check-left AreNamed failures-named me.mode rest refusal v h)
   named-after lawful (Pending.Load to a n) rest h =
       either (allowed m t Access.Read a.0 n) _ _ (on m refl (record me { registers = slice_set me.registers to (le_value (bytes_at m a.0 n)) }) rest h) (on m refl me T.fault refl)
   named-after lawful (Pending.Store a n value) rest h =
       either (allowed m t Access.Write a.0 n) _ _ (on (with_bytes m a.0 (le_bytes n value)) (keys-bytes steps_left m a.0 (le_bytes n value)) me rest h) (on m refl me T.fault refl)
   named-after lawful (Pending.Fetch a) rest h = either (allowed m t Access.Exec a.0 4) _ _ (on m refl me rest h) (on m refl me T.fault refl)
   named-after lawful (Pending.Probe a amount) rest h =
-      either (allowed m t Access.Write a.0 (T.amount_of m amount)) _ _ (on m refl me rest h) (on m refl me (copy_fails me.mode) (fails-named me.mode))
+      either (allowed m t Access.Write a.0 (T.amount_of m amount)) _ _ (on m refl me rest h) (on m refl me (copy_fails me.mode) (fails-left AreNamed failures-named me.mode))
   named-after lawful (Pending.CopyIn a amount) rest h =
       either (allowed m t Access.Read a.0 (T.amount_of m amount)) _ _ (on m refl (record me { buffer = take PIECE (bytes_at m a.0 (T.amount_of m amount)) }) rest h)
-      (on m refl me (copy_fails me.mode) (fails-named me.mode))
+      (on m refl me (copy_fails me.mode) (fails-left AreNamed failures-named me.mode))
   named-after lawful (Pending.CopyOut a) rest h =
       either (allowed m t Access.Write a.0 (length me.buffer)) _ _ (on (with_bytes m a.0 me.buffer) (keys-bytes steps_left m a.0 me.buffer) me rest h)
-      (on m refl me (copy_fails me.mode) (fails-named me.mode))
+      (on m refl me (copy_fails me.mode) (fails-left AreNamed failures-named me.mode))
   named-after lawful (Pending.CopyStr a) rest h = texts a rest (string_read m t a.0 32) h
   named-after lawful (Pending.Erase stack) rest h =
       let range = stack_range (setup_at m.image stack.0) in on (T.erased m range) (keys-erased steps_left m range) me rest h
@@ -247,7 +218,7 @@ module _ (m : State) (t x : ℕ) (all : AllNamed m) where
   named-after lawful (Pending.Dooms from) rest h =
       let th = record (thread_at m from) { doomed = true } in
       let s = with_thread m from th in
-      let e : Alike s = keys-set steps_left m.threads from th refl in
+      let e : AreAlike steps_left m s = keys-set steps_left m.threads from th refl in
       set s (keeps s e) t _ (doom-named from)
   named-after lawful (Pending.CleanPair who) rest h = keeps (T.after_drop (T.cleaned_by m t (own_row m.image who.0)) who.0 x) (keys-dropped steps_left ignores (T.cleaned_by m t (own_row m.image who.0)) who.0 x)
   named-after lawful Pending.Recycle rest h = all

@@ -118,25 +118,17 @@ module _ (image : Image) (p : Processor) where
       by true false one other h k = (sym one ∙ read g r other (doomed e l h one), same-moved)
       by false true one other h k = (sym (read e l one (doomed g r k other)) ∙ other, same-moved)
 
-  begin-rests : Rests Pending.Begin
-  begin-rests = record { begins = λ e. refl; place = place; turned = turned }
-    where
-      place : (s : SiteState) (rest : Steps) (todo : Todos) → IsTrue (is_sort (Site.thread p.context.thread) s) → (w : ThreadWord) × (s ≡ SiteState.thread w)
-      place (SiteState.thread w) rest todo h = (w, refl)
-      place s rest todo h = absurd (false≢true h)
+  -- a state of a thread's sort is a word of a thread
+  thread-there : (s : SiteState) → IsTrue (is_sort (Site.thread p.context.thread) s) → (w : ThreadWord) × (s ≡ SiteState.thread w)
+  thread-there (SiteState.thread w) h = (w, refl)
+  thread-there s h = absurd (false≢true h)
 
-      turned : (w : ThreadWord) (moved : Exchange) (e : FineAct) → w.doomed ≡ true → site_answers image (SiteState.thread w) moved (shows image p Pending.Begin e) ≡ FineAct.Unseen Unseen.WordRead
-      turned w moved e h = ap (λ b. unless_doomed b (shows image p Pending.Begin e)) h
+  begin-rests : Rests Pending.Begin
+  begin-rests =
+      record { begins = λ e. refl; place = λ s rest todo h. thread-there s h; turned = λ w moved e h. ap (λ b. unless_doomed b (shows image p Pending.Begin e)) h }
 
   exit-rests : Rests Pending.Exit
-  exit-rests = record { begins = λ e. refl; place = place; turned = turned }
-    where
-      place : (s : SiteState) (rest : Steps) (todo : Todos) → IsTrue (is_sort (Site.thread p.context.thread) s) → (w : ThreadWord) × (s ≡ SiteState.thread w)
-      place (SiteState.thread w) rest todo h = (w, refl)
-      place s rest todo h = absurd (false≢true h)
-
-      turned : (w : ThreadWord) (moved : Exchange) (e : FineAct) → w.doomed ≡ true → site_answers image (SiteState.thread w) moved (shows image p Pending.Exit e) ≡ FineAct.Unseen Unseen.WordRead
-      turned w moved e h = ap (λ b. unless_doomed b (shows image p Pending.Exit e)) h
+  exit-rests = record { begins = λ e. refl; place = λ s rest todo h. thread-there s h; turned = λ w moved e h. ap (λ b. unless_doomed b (shows image p Pending.Exit e)) h }
 
   show-same : (q : Pending) (rest : Steps) (todo : Todos) (s : SiteState) (e g : FineStep) → IsTrue (is_sort (site_at image p (Todo.show q rest ∷ todo)) s)
       → Filled (Todo.show q rest ∷ todo) s e → Filled (Todo.show q rest ∷ todo) s g → Same e g
