@@ -439,13 +439,6 @@ module _ (f : Fine) (m : State) (e : FineStep) (law : Lawful f m e) where
       where
         by : (q : Pending) → starts-none q → Adds c (behind_shown f.image p.context q) → ⊥
         by (Pending.Start who script stack priority mode) none h = none
-        by (Pending.Load to a n) none h = h
-        by (Pending.Store a n value) none h = h
-        by (Pending.Fetch a) none h = h
-        by (Pending.Probe a amount) none h = h
-        by (Pending.CopyIn a amount) none h = h
-        by (Pending.CopyOut a) none h = h
-        by (Pending.CopyStr a) none h = h
         by q none h = h
 
     shown-adds : (x : ℕ) (q : Pending) (rest : Steps) (todo : Todos) → Shows f m e.cpu e q rest todo → (c : Context) → Adds c todo → IsAdded (T.after m p.context.thread x q rest) c
