@@ -98,6 +98,20 @@ module _ (image : Image) (p : Processor) where
   thread-shown w (Pending.Dooms from) e h = refl
   thread-shown w q e h = absurd (false≢true h)
 
+  -- no step that shows something is at the scheduler
+  no-scheduler : (n : ℕ) (s : Scheduler) (q : Pending) → IsTrue (is_sort (site_of_step image p q) (SiteState.cell n (Cell.scheduler s))) → ⊥
+  no-scheduler n s (Pending.Check a kind want refusal) h = by (row_at image a.0) h
+    where
+      by : (x : Option ℕ) → IsTrue (is_sort (check_site image p x) (SiteState.cell n (Cell.scheduler s))) → ⊥
+      by None h = false≢true h
+      by (Some x) h = false≢true h
+  no-scheduler n s (Pending.DomMove d who) h = by (fails p.reply) h
+    where
+      by : (b : Bool) → IsTrue (is_sort (if b then Site.domain d else Site.thread who.0) (SiteState.cell n (Cell.scheduler s))) → ⊥
+      by true h = false≢true h
+      by false h = false≢true h
+  no-scheduler n s q h = false≢true h
+
   shown-says : (q : Pending) (s : SiteState) (moved : Exchange) (e : FineAct) → IsTrue (is_sort (site_of_step image p q) s)
       → says_show image p q (site_answers image s moved (shows image p q e)) ≡ site_answers image s moved (shows image p q e)
   shown-says Pending.Begin (SiteState.thread w) moved e h = thread-shown w Pending.Begin e h
@@ -111,20 +125,7 @@ module _ (image : Image) (p : Processor) where
   shown-says q (SiteState.cell n (Cell.parts d)) moved e h = ap (says_act q) (plain-step 0 q (act_in e))
   shown-says q (SiteState.cell n (Cell.memory m)) moved e h = ap (says_act q) (memory-step m moved q (act_in e))
   shown-says q (SiteState.cell n (Cell.heap k)) moved e h = ap (says_act q) (heap-step k moved q (act_in e))
-  shown-says q (SiteState.cell n (Cell.scheduler s)) moved e h = absurd (no-scheduler q h)
-    where
-      no-scheduler : (q : Pending) → IsTrue (is_sort (site_of_step image p q) (SiteState.cell n (Cell.scheduler s))) → ⊥
-      no-scheduler (Pending.Check a kind want refusal) h = by (row_at image a.0) h
-        where
-          by : (x : Option ℕ) → IsTrue (is_sort (check_site image p x) (SiteState.cell n (Cell.scheduler s))) → ⊥
-          by None h = false≢true h
-          by (Some x) h = false≢true h
-      no-scheduler (Pending.DomMove d who) h = by (fails p.reply) h
-        where
-          by : (b : Bool) → IsTrue (is_sort (if b then Site.domain d else Site.thread who.0) (SiteState.cell n (Cell.scheduler s))) → ⊥
-          by true h = false≢true h
-          by false h = false≢true h
-      no-scheduler q h = false≢true h
+  shown-says q (SiteState.cell n (Cell.scheduler s)) moved e h = absurd (no-scheduler n s q h)
 
   -- what goes with it
   plain-moves : (q : Pending) (moved : Exchange) → moves_step image p q (moves_step image p q moved) ≡ moves_step image p q moved
@@ -160,20 +161,7 @@ module _ (image : Image) (p : Processor) where
       → let z = site_moves image s (shows image p q e) (moves_step image p q moved) in moves_step image p q z ≡ z
   shown-moves q (SiteState.cell n (Cell.object o)) moved e h = object-moves n o q moved (act_in e) h
   shown-moves q (SiteState.cell n (Cell.memory m)) moved e h = memory-moves m q moved (act_in e)
-  shown-moves q (SiteState.cell n (Cell.scheduler s)) moved e h = absurd (no-sched q h)
-    where
-      no-sched : (q : Pending) → IsTrue (is_sort (site_of_step image p q) (SiteState.cell n (Cell.scheduler s))) → ⊥
-      no-sched (Pending.Check a kind want refusal) h = by (row_at image a.0) h
-        where
-          by : (x : Option ℕ) → IsTrue (is_sort (check_site image p x) (SiteState.cell n (Cell.scheduler s))) → ⊥
-          by None h = false≢true h
-          by (Some x) h = false≢true h
-      no-sched (Pending.DomMove d who) h = by (fails p.reply) h
-        where
-          by : (b : Bool) → IsTrue (is_sort (if b then Site.domain d else Site.thread who.0) (SiteState.cell n (Cell.scheduler s))) → ⊥
-          by true h = false≢true h
-          by false h = false≢true h
-      no-sched q h = false≢true h
+  shown-moves q (SiteState.cell n (Cell.scheduler s)) moved e h = absurd (no-scheduler n s q h)
   shown-moves q s moved e h = plain-moves q moved
 
   -- what is shown, or the read of a doomed thread's word
