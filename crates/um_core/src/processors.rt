@@ -4,7 +4,8 @@ ghost use Rattle.std.specs.Prelude.{◌≡◌, ◌<◌, ◌≤◌, ℕ, IfOk, Li
 ghost use Rattle.um_base.specs.Lawful.{IsLawful};
 ghost use Rattle.um_machine.specs.Memory.{rodata_of};
 ghost use Rattle.um_fine.specs.{Processor.{idle}, Steps.{FineStep}};
-ghost use Rattle.um_processor.specs.{Given.{IsGiven}, Standing.{whole}};
+ghost use Rattle.um_steps.specs.Given.{IsGiven};
+ghost use Rattle.um_processor.specs.Standing.{whole};
 ghost use Rattle.um_core.specs.{
   Cores.{IsOpened},
   CoreSteps.{AllHalt, FirstSteps, GoesOn, Halts, IsCoreOf, Steps, is_made},

@@ -4,7 +4,7 @@ ghost use Rattle.std.specs.Prelude.{◌≡◌, ◌≤◌, ℕ, [], IfOk, length,
 ghost use Rattle.um_base.specs.{Lawful.{IsLawful}, Weight.{weight}};
 ghost use Rattle.um_invariants.specs.Described.{IsDescribed};
 ghost use Rattle.um_erasure.specs.Room.{CanRun};
-ghost use Rattle.um_processor.specs.Given.{IsGiven};
+ghost use Rattle.um_steps.specs.Given.{IsGiven};
 ghost use Rattle.um_cpu.specs.Ended.{Begins, EachAt, Ends, Gathered, HasEnded};
 
 use crate::cpu::Cpu;

@@ -3,7 +3,7 @@
 ghost use Rattle.std.specs.Prelude.{◌≡◌};
 ghost use Rattle.um_invariants.specs.Described.{IsDescribed};
 ghost use Rattle.um_erasure.specs.Room.{CanRun};
-ghost use Rattle.um_processor.specs.Given.{IsGiven};
+ghost use Rattle.um_steps.specs.Given.{IsGiven};
 ghost use Rattle.um_board.specs.{Placed.{IsAt}, Seated.{KeepsPlace}};
 ghost use Rattle.um_cpu.specs.Playing.{IsPlaying, PlaysOut};
 

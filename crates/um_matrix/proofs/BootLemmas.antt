@@ -1,4 +1,5 @@
 -- States by their parts, and what a lawful description sets up.
+use Rattle.std.proofs.lemmas.Bool.{and_parts}
 use Rattle.std.proofs.Common.{◌≡◌, ◌<◌, ℕ, zero, suc, List, [], ◌∷◌, Bool, true, false, ◌&&◌, Option, length, get_or, arith, refl}
 use Rattle.std.specs.Prelude.{IsTrue, nat_le}
 use Rattle.std.specs.List.{list_all}
@@ -22,19 +23,11 @@ pub state-like : (image : Image) {threads threads2 : List Thread} {objects objec
     (record { image = image; threads = threads2; objects = objects2; pairs = pairs2; domains = domains2; memory = memory2; stacks = stacks2; pools = pools2 })
 state-like image t o p d m s q = cc
 
-first-of : (a b : Bool) → IsTrue (a && b) → IsTrue a
-first-of true b h = refl
-first-of false b h = cc
-
-rest-of : (a b : Bool) → IsTrue (a && b) → IsTrue b
-rest-of true b h = h
-rest-of false b h = cc
-
 -- a setup of a kind keeps the limits
 setup-limits : (mpu : Mpu) (kind : Kind) (setup : Setup) → IsTrue (is_setup_of mpu kind setup) → IsTrue (is_in_limits setup)
-setup-limits mpu Kind.Msgq (Setup.Msgq size most) h = rest-of (nat_le 1 most) (nat_le most 64) (rest-of (is_within 1 256 size) (is_within 1 64 most) h)
-setup-limits mpu Kind.Stack (Setup.Stack most) h = rest-of (nat_le 1 most) (nat_le most 64) h
-setup-limits mpu Kind.Pipe (Setup.Pipe size) h = rest-of (nat_le 1 size) (nat_le size 256) h
+setup-limits mpu Kind.Msgq (Setup.Msgq size most) h = (and_parts (nat_le 1 most) (nat_le most 64) (and_parts (is_within 1 256 size) (is_within 1 64 most) h).1).1
+setup-limits mpu Kind.Stack (Setup.Stack most) h = (and_parts (nat_le 1 most) (nat_le most 64) h).1
+setup-limits mpu Kind.Pipe (Setup.Pipe size) h = (and_parts (nat_le 1 size) (nat_le size 256) h).1
 setup-limits mpu kind (Setup.Thread index) h = refl
 setup-limits mpu kind (Setup.ThreadStack range declared) h = refl
 setup-limits mpu kind (Setup.Sem count limit) h = refl
@@ -46,9 +39,9 @@ all-in-limits : (mpu : Mpu) (objects : List ObjectDef) (x : ℕ) (d : ObjectDef)
     → IsTrue (is_in_limits (get_or objects x d).setup)
 all-in-limits mpu [] x d h all = absurd (omega arith)
 all-in-limits mpu (o ∷ os) zero d h all =
-    setup-limits mpu o.kind o.setup (first-of (is_setup_of mpu o.kind o.setup) (list_all (λ (o : ObjectDef). is_setup_of mpu o.kind o.setup) os) all)
+    setup-limits mpu o.kind o.setup (and_parts (is_setup_of mpu o.kind o.setup) (list_all (λ (o : ObjectDef). is_setup_of mpu o.kind o.setup) os) all).0
 all-in-limits mpu (o ∷ os) (suc x) d h all =
-    all-in-limits mpu os x d (omega arith) (rest-of (is_setup_of mpu o.kind o.setup) (list_all (λ (o : ObjectDef). is_setup_of mpu o.kind o.setup) os) all)
+    all-in-limits mpu os x d (omega arith) (and_parts (is_setup_of mpu o.kind o.setup) (list_all (λ (o : ObjectDef). is_setup_of mpu o.kind o.setup) os) all).1
 
 -- the objects of a lawful image keep the limits
 pub in_limits : (image : Image) (x : ℕ) (d : ObjectDef) → IsLawful image → x < length image.objects → IsTrue (is_in_limits (get_or image.objects x d).setup)

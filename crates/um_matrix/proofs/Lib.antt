@@ -4,7 +4,6 @@ mod ByteLemmas
 pub mod OfferLemmas
 mod PairLemmas
 mod RunLemmas
-mod SizeLemmas
 mod StartLemmas
 mod StringLemmas
 mod WorkLemmas

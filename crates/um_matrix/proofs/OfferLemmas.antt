@@ -2,7 +2,7 @@
 use Rattle.std.proofs.Common.{◌≡◌, ◌⊎◌, inl, inr, ℕ, ◌+◌, ◌<◌, ◌≤◌, Bool, true, false, ◌&&◌, not, ap, sym, subst, ◌∙◌, refl, arith, [], ◌∷◌, drop, length, Option, Some, None, slice_get, slice_index_or, if◌then◌else◌}
 use Rattle.std.specs.Prelude.{IsTrue, IfSome, IfNone, nat_lt, is_some}
 use Rattle.std.proofs.Math.ListN.{get_or-eq_default}
-use Rattle.std.proofs.lemmas.Bool.{le-ltb}
+use Rattle.std.proofs.lemmas.Bool.{and_parts, le-ltb}
 use Rattle.std.proofs.lemmas.Bool.Decides.{leb_tells}
 use Rattle.um_base.specs.declared.limits.TheConstants.{THREADS, ROWS}
 use Rattle.um_base.specs.declared.names.Kind.{Kind}
@@ -47,16 +47,8 @@ pub not-gone-past : (s : State) (x : ℕ) → length s.objects ≡ ROWS → ROWS
 not-gone-past s x whole past h =
     let none : is_gone (object_at s x).status ≡ false = rw (get_or-eq_default s.objects vacant {n = x} (omega arith)) refl in cc
 
-and-left : (a b : Bool) → IsTrue (a && b) → IsTrue a
-and-left true b h = refl
-and-left false b h = cc
-
-and-right : (a b : Bool) → IsTrue (a && b) → IsTrue b
-and-right true b h = h
-and-right false b h = cc
-
 inside-of : (a b c d : Bool) → IsTrue (a && b && c && d) → IsTrue b
-inside-of a b c d h = and-right a b (and-left (a && b) c (and-left (a && b && c) d h))
+inside-of a b c d h = (and_parts a b (and_parts (a && b) c (and_parts (a && b && c) d h).0).0).1
 
 reserve-past : (s : State) (t x : ℕ) (kind : Kind) → ROWS ≤ x → MayChoose s t x (Pending.Reserve kind) → ⊥
 reserve-past s t x kind past (inl m) = let within : IsTrue (nat_lt x ROWS) = inside-of _ _ _ _ m.1 in let outside : nat_lt x ROWS ≡ false = le-ltb x ROWS past in cc
@@ -165,7 +157,7 @@ pub rest-conditions : (s : State) (t : ℕ) (act : Act) → rest_act s t ≡ Som
 rest-conditions s t act h =
     let me = thread_at s t in
     let both = chosen-some (is_living me.life && not me.doomed) (line_act me.place (instruction_at s.image me.place)) act h in
-    (and-left (is_living me.life) (not me.doomed) both.0, not-true me.doomed (and-right (is_living me.life) (not me.doomed) both.0), both.1)
+    ((and_parts (is_living me.life) (not me.doomed) both.0).0, not-true me.doomed (and_parts (is_living me.life) (not me.doomed) both.0).1, both.1)
 
 pub line-begins : (place : Place) (o : Option Instr) → IsTrue (is_some o) → line_act place o ≡ Act.Begin place.script (place.line + 1)
 line-begins place None h = cc

@@ -1,5 +1,4 @@
 pub mod Alone
-pub mod Given
 pub mod Offered
 pub mod Worked
 pub mod Lending

@@ -56,7 +56,7 @@ impl<'a> Model for Matrix<'a> {
     ghost use Rattle.std.specs.Prelude.{◌≡◌, ◌≤◌, length};
     ghost use Rattle.um_base.specs.declared.limits.TheConstants.{THREADS, ROWS, DOMAINS, AREA_SIZE, POOLS};
     ghost use Rattle.um_machine.specs.{State.{State}, Memory.{rodata_of}};
-    ghost use Rattle.um_matrix.specs.Given.{IsGiven};
+    ghost use Rattle.um_steps.specs.Given.{IsGiven};
 
     ghost Value = { State };
 

@@ -2,7 +2,7 @@
 
 ghost use Rattle.std.specs.Prelude.{◌≡◌, ◌<◌, IfSome};
 ghost use Rattle.um_base.specs.Places.{row_at};
-ghost use Rattle.um_matrix.specs.Given.{IsGiven};
+ghost use Rattle.um_steps.specs.Given.{IsGiven};
 
 use um_base::{Image, OBJECT_STEP, OBJECTS, ROWS};
 use um_steps::rows;

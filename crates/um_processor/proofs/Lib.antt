@@ -15,7 +15,6 @@ pub mod Readable
 pub mod Runs
 pub mod Scheduled
 pub mod Shown
-pub mod SizeLemmas
 pub mod Standings
 pub mod Tabled
 pub mod TextLemmas

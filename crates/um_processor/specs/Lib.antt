@@ -5,7 +5,6 @@ pub mod ThreadActs
 pub mod DomainActs
 pub mod Sited
 pub mod Contexts
-pub mod Given
 pub mod Parked
 pub mod SchedulerActs
 pub mod DomainCells

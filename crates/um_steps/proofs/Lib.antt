@@ -2,3 +2,4 @@ mod ActLemmas
 mod ByteLemmas
 pub mod OrderLemmas
 pub mod RegionLemmas
+pub mod SizeLemmas

@@ -169,17 +169,12 @@ impl<'a> Matrix<'a> {
         ensures some { IfSome result (λ choice. IsChoice self.now t act.now choice) }
         ensures none { IfNone result ((step : Pending) → first_step self.now t ≡ Some step → SaysNot self.now t act.now step) }
     {
-        match self.next_step(t) {
-            None => self.at_rest(t, act),
-            Some(step) => match self.row_for(t, &step, act) {
-                Some(row) => Some(Choice::Makes {
-                    step,
-                    row,
-                    taken: 1,
-                }),
-                None => None,
-            },
-        }
+        let Some(step) = self.next_step(t) else {
+            return self.at_rest(t, act);
+        };
+        let row = self.row_for(t, &step, act)?;
+        let taken = 1;
+        Some(Choice::Makes { step, row, taken })
     }
 
     /// The act as the step after one that is left out.
@@ -188,17 +183,10 @@ impl<'a> Matrix<'a> {
         ensures some { IfSome result (λ choice. IsChoice self.now t act.now choice) }
         ensures none { IfNone result ((step : Pending) → second_step self.now t ≡ Some step → SaysNot self.now t act.now step) }
     {
-        match self.second_step(t) {
-            None => None,
-            Some(step) => match self.row_for(t, &step, act) {
-                Some(row) => Some(Choice::Makes {
-                    step,
-                    row,
-                    taken: 2,
-                }),
-                None => None,
-            },
-        }
+        let step = self.second_step(t)?;
+        let row = self.row_for(t, &step, act)?;
+        let taken = 2;
+        Some(Choice::Makes { step, row, taken })
     }
 
     /// The act as one of a thread's own steps.

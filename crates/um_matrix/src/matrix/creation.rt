@@ -39,7 +39,7 @@ impl<'a> Matrix<'a> {
     };
 
     /// The instruction at a thread's place. It loads or stores a word at most.
-    #[tactic(auto, using(crate::proofs::SizeLemmas::sized_instruction))]
+    #[tactic(auto, using(um_steps::proofs::SizeLemmas::sized_instruction))]
     fn instruction(&self, t: usize) -> Option<&'a Instr>
         requires { t < THREADS }
         ensures value { option_copied result ≡ instruction_at self.now.image (thread_at self.now t).place }

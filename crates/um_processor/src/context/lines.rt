@@ -10,7 +10,7 @@ ghost use Rattle.um_machine.specs.{
 };
 ghost use Rattle.um_steps.specs.Accesses.{is_sized};
 ghost use Rattle.um_fine.specs.Continues.{begun};
-ghost use Rattle.um_processor.specs.Given.{IsGiven};
+ghost use Rattle.um_steps.specs.Given.{IsGiven};
 
 use crate::context::Context;
 use um_base::{Image, Instr, Mode};
@@ -32,7 +32,7 @@ fn begin(image: &Image, t: usize, me: &mut Thread, instr: &Instr)
 
 impl Context {
     /// The instruction at its place. It loads or stores a word at most.
-    #[tactic(auto, using(crate::proofs::SizeLemmas::sized_instruction))]
+    #[tactic(auto, using(um_steps::proofs::SizeLemmas::sized_instruction))]
     fn instruction<'a>(&self, image: &'a Image) -> Option<&'a Instr>
         requires { IsGiven image.now }
         ensures value { option_copied result ≡ instruction_at image.now self.now.place }

@@ -1,7 +1,7 @@
 //! A step of a processor, whatever it is.
 
 ghost use Rattle.std.specs.Prelude.{◌≡◌, ◌∷◌, [], drop, false, true, IsTrue};
-ghost use Rattle.um_processor.specs.Given.{IsGiven};
+ghost use Rattle.um_steps.specs.Given.{IsGiven};
 ghost use Rattle.um_processor.specs.{
   Cleanings.{clean_todo},
   Phases.{is_idle, is_plain_phase},

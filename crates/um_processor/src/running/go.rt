@@ -1,7 +1,7 @@
 //! The steps of a thread, by the phase in which its processor is.
 
 ghost use Rattle.std.specs.Prelude.{◌≡◌, IsTrue};
-ghost use Rattle.um_processor.specs.Given.{IsGiven};
+ghost use Rattle.um_steps.specs.Given.{IsGiven};
 ghost use Rattle.um_processor.specs.{
   Phases.{is_plain_phase},
   Processors.{processor_of},

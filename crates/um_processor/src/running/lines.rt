@@ -2,7 +2,7 @@
 
 ghost use Rattle.std.specs.Prelude.{◌≡◌, ◌+◌, false, true, is_some, MatchOption};
 ghost use Rattle.um_machine.specs.State.{instruction_at};
-ghost use Rattle.um_processor.specs.Given.{IsGiven};
+ghost use Rattle.um_steps.specs.Given.{IsGiven};
 ghost use Rattle.um_processor.specs.{
   Processors.{in_phase},
   Turns.{CanTurn, HasRun},

@@ -1,5 +1,5 @@
 use Rattle.std.proofs.Common.{◌≡◌, ℕ, ◌+◌, ◌≤◌, ◌∙◌, ap, arith}
-use Rattle.um_processor.specs.Given.{IsGiven}
+use Rattle.um_steps.specs.Given.{IsGiven}
 use Rattle.um_core.specs.Cores.{Core}
 use Rattle.um_core.proofs.CoreRuns.{new-most, so-goes, so-opens, so-over, so-short}
 use Rattle.um_core.proofs.running.picked.Goals as goal

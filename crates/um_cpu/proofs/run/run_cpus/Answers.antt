@@ -1,6 +1,6 @@
 use Rattle.std.proofs.Common.{◌≡◌, ◌++◌, List, ap, arith, drop, length, length-append, take}
 use Rattle.std.proofs.lemmas.List.{length-take}
-use Rattle.um_processor.specs.Given.{IsGiven}
+use Rattle.um_steps.specs.Given.{IsGiven}
 use Rattle.um_cpu.specs.declared.cpu.Cpu.{Cpu}
 use Rattle.um_cpu.proofs.Gathers.{all-ended}
 use Rattle.um_cpu.proofs.run.run_cpus.Goals as goal

@@ -5,7 +5,7 @@ use Rattle.std.proofs.lemmas.Grind.{common_steps}
 use Rattle.um_base.specs.declared.image.ObjectDef.{ObjectDef}
 use Rattle.um_base.specs.Places.{dynamic_row, or_else}
 use Rattle.um_invariants.proofs.SitedImages.{static_position}
-use Rattle.um_matrix.specs.Given.{IsGiven}
+use Rattle.um_steps.specs.Given.{IsGiven}
 use Rattle.um_matrix.proofs.places.row_at.Goals as goal
 
 pub returns-in-Some-clause-value : goal.returns-in-Some-clause-value

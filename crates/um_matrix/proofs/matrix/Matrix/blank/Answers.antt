@@ -1,5 +1,5 @@
 use Rattle.um_machine.specs.Run.{blank}
-use Rattle.um_matrix.specs.Given.{IsGiven}
+use Rattle.um_steps.specs.Given.{IsGiven}
 use Rattle.um_matrix.proofs.BootLemmas.{state-like}
 use Rattle.um_matrix.proofs.matrix.Matrix.blank.Goals as goal
 
