@@ -3,7 +3,7 @@ use Rattle.std.proofs.Common.{◌≡◌, ℕ, ◌+◌, ◌<◌, suc, length, get
 use Rattle.um_document.specs.First.{first_of}
 use Rattle.um_description.specs.Names.{each}
 
-cut_at : {A : Type 0} (xs : List A) (k : ℕ) (x : A) → k < length xs → x ≡ get_or xs k x → drop k xs ≡ x ∷ drop (k + 1) xs
+pub cut_at : {A : Type 0} (xs : List A) (k : ℕ) (x : A) → k < length xs → x ≡ get_or xs k x → drop k xs ≡ x ∷ drop (k + 1) xs
 cut_at xs k x lt is = rw add-one (drop-cons xs k x lt ∙ ap (λ w. w ∷ drop (suc k) xs) (sym is))
 
 front : {B : Type 0} (xs ys : List B) (found : Option B) → found ≡ first_of xs → is_some found ≡ true → first_of (xs ++ ys) ≡ found

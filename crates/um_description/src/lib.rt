@@ -4,6 +4,7 @@
 mod blocks;
 mod duplicates;
 mod fault;
+mod first;
 mod flaw;
 mod indexed;
 mod kinds;

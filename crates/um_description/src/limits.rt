@@ -10,6 +10,7 @@ ghost use Rattle.um_document.specs.{
 ghost use Rattle.um_description.specs.Limits as limits;
 ghost use Rattle.um_description.specs.Names as names;
 
+use crate::first::first_found;
 use crate::flaw::{Counted, Flaw};
 use crate::packing::packed_size;
 use um_base::{
@@ -129,15 +130,10 @@ fn variable_limit(partition: usize, i: usize, variable: &VariableEntry) -> Optio
 fn variable_limits(partition: usize, variables: &[VariableEntry]) -> Option<Flaw>
     ensures { result ≡ first_of (names.each (limits.variable_limits partition) 0 variables.now) }
 {
-    let mut index = 0usize;
-    for variable in variables {
-        let found = variable_limit(partition, index, variable);
-        if found.is_some() {
-            return found;
-        }
-        index += 1;
-    }
-    None
+    first_found(
+        variables,
+        |i, variable| variable_limit(partition, i, variable),
+    )
 }
 
 #[tactic(auto, using(crate::proofs::Firsts::first_or), unfolding(crate::specs::Limits::contents_limits))]
@@ -323,49 +319,6 @@ fn script_limit(i: usize, script: &ScriptEntry) -> Option<Flaw>
     ))
 }
 
-fn pool_limits(pools: &[PoolEntry]) -> Option<Flaw>
-    ensures { result ≡ first_of (names.each limits.pool_limits 0 pools.now) }
-{
-    let mut index = 0usize;
-    for pool in pools {
-        let found = pool_limit(index, pool);
-        if found.is_some() {
-            return found;
-        }
-        index += 1;
-    }
-    None
-}
-
-fn partition_limits(partitions: &[PartitionEntry]) -> Option<Flaw>
-    ensures { result ≡ first_of (names.each limits.partition_limits 0 partitions.now) }
-{
-    let mut index = 0usize;
-    for partition in partitions {
-        let found = partition_limit(index, partition);
-        if found.is_some() {
-            return found;
-        }
-        index += 1;
-    }
-    None
-}
-
-fn domain_limits(most: usize, domains: &[DomainEntry]) -> Option<Flaw>
-    requires { most ≤ 16 }
-    ensures { result ≡ first_of (names.each (limits.domain_limits most) 0 domains.now) }
-{
-    let mut index = 0usize;
-    for domain in domains {
-        let found = domain_limit(most, index, domain);
-        if found.is_some() {
-            return found;
-        }
-        index += 1;
-    }
-    None
-}
-
 fn object_limits(objects: &[ObjectEntry]) -> Option<Flaw>
     ensures { result ≡ first_of (limits.objects_limits 0 0 objects.now) }
 {
@@ -378,34 +331,6 @@ fn object_limits(objects: &[ObjectEntry]) -> Option<Flaw>
         }
         if is_thread(object) {
             threads += 1;
-        }
-        index += 1;
-    }
-    None
-}
-
-fn boot_limits(boots: &[BootEntry]) -> Option<Flaw>
-    ensures { result ≡ first_of (names.each limits.boot_limits 0 boots.now) }
-{
-    let mut index = 0usize;
-    for boot in boots {
-        let found = boot_limit(index, boot);
-        if found.is_some() {
-            return found;
-        }
-        index += 1;
-    }
-    None
-}
-
-fn script_limits(scripts: &[ScriptEntry]) -> Option<Flaw>
-    ensures { result ≡ first_of (names.each limits.script_limits 0 scripts.now) }
-{
-    let mut index = 0usize;
-    for script in scripts {
-        let found = script_limit(index, script);
-        if found.is_some() {
-            return found;
         }
         index += 1;
     }
@@ -428,11 +353,16 @@ fn top_limit(d: &Description) -> Option<Flaw>
 pub fn first_limit(d: &Description) -> Option<Flaw>
     ensures { result ≡ first_of (limits.limits d.now) }
 {
+    let most = most_parts(d);
+    let domains = first_found(
+        d.domains.as_slice(),
+        |i, domain| domain_limit(most, i, domain),
+    );
     top_limit(d)
-        .or(pool_limits(d.pools.as_slice()))
-        .or(partition_limits(d.partitions.as_slice()))
-        .or(domain_limits(most_parts(d), d.domains.as_slice()))
+        .or(first_found(d.pools.as_slice(), pool_limit))
+        .or(first_found(d.partitions.as_slice(), partition_limit))
+        .or(domains)
         .or(object_limits(d.objects.as_slice()))
-        .or(boot_limits(d.boots.as_slice()))
-        .or(script_limits(d.scripts.as_slice()))
+        .or(first_found(d.boots.as_slice(), boot_limit))
+        .or(first_found(d.scripts.as_slice(), script_limit))
 }

@@ -5,6 +5,7 @@ ghost use Rattle.um_document.specs.First.{first_of};
 ghost use Rattle.um_description.specs.Lines as spec;
 ghost use Rattle.um_description.specs.Names as names;
 
+use crate::first::first_found;
 use crate::flaw::Flaw;
 use crate::read::{ReadLine, ReadScript};
 use um_document::{Key, Place, Section};
@@ -36,28 +37,12 @@ fn unread(script: usize, index: usize, line: &ReadLine<'_>) -> Option<Flaw>
 fn unread_line(script: usize, lines: &[ReadLine<'_>]) -> Option<Flaw>
     ensures { result ≡ first_of (spec.unread_in script lines.now) }
 {
-    let mut index = 0usize;
-    for line in lines {
-        let found = unread(script, index, line);
-        if found.is_some() {
-            return found;
-        }
-        index += 1;
-    }
-    None
+    first_found(lines, |index, line| unread(script, index, line))
 }
 
 /// The first line of some scripts that can't be read.
 pub fn first_unread(scripts: &[ReadScript<'_>]) -> Option<Flaw>
     ensures { result ≡ first_of (names.each spec.unread_lines 0 scripts.now) }
 {
-    let mut index = 0usize;
-    for script in scripts {
-        let found = unread_line(index, script.lines());
-        if found.is_some() {
-            return found;
-        }
-        index += 1;
-    }
-    None
+    first_found(scripts, |index, script| unread_line(index, script.lines()))
 }

@@ -1,20 +1,14 @@
 //! The names in script lines.
 
-ghost use Rattle.std.specs.Prelude.{◌≡◌, ◌≤◌, ◌+◌, [], ◌∷◌, length, map};
-ghost use Rattle.um_document.specs.{
-  declared.description.DomainEntry.{DomainEntry},
-  declared.description.ObjectEntry.{ObjectEntry},
-  declared.description.PartitionEntry.{PartitionEntry},
-  declared.description.ScriptEntry.{ScriptEntry},
-  First.{first_of},
-};
+ghost use Rattle.std.specs.Prelude.{◌≡◌, ◌≤◌, ◌+◌, [], ◌∷◌, length};
+ghost use Rattle.um_document.specs.First.{first_of};
 ghost use Rattle.um_description.specs.declared.mentions.Wanted.{Wanted};
 ghost use Rattle.um_description.specs.Mentions as spec;
-ghost use Rattle.um_description.specs.Names as names;
 
 use crate::indexed::Indexed;
+use crate::named::has_name;
 use um_base::{Instr, Name, PartRef, Ref, Term};
-use um_document::{Description, DomainEntry, ObjectEntry, PartitionEntry, ScriptEntry};
+use um_document::Description;
 
 /// What a name in a line is to name.
 #[derive(Clone, Copy, PartialEq, Eq)]
@@ -24,50 +18,6 @@ pub enum Wanted {
     Domain,
     Partition,
     Script,
-}
-
-fn is_object(objects: &[ObjectEntry], name: &[u8]) -> bool
-    ensures { result ≡ names.is_among name.now (map (λ (o : ObjectEntry). o.name) objects.now) }
-{
-    for object in objects {
-        if name == object.name.as_slice() {
-            return true;
-        }
-    }
-    false
-}
-
-fn is_partition(partitions: &[PartitionEntry], name: &[u8]) -> bool
-    ensures { result ≡ names.is_among name.now (map (λ (p : PartitionEntry). p.name) partitions.now) }
-{
-    for partition in partitions {
-        if name == partition.name.as_slice() {
-            return true;
-        }
-    }
-    false
-}
-
-fn is_domain(domains: &[DomainEntry], name: &[u8]) -> bool
-    ensures { result ≡ names.is_among name.now (map (λ (m : DomainEntry). m.name) domains.now) }
-{
-    for domain in domains {
-        if name == domain.name.as_slice() {
-            return true;
-        }
-    }
-    false
-}
-
-pub fn is_script(scripts: &[ScriptEntry], name: &[u8]) -> bool
-    ensures { result ≡ names.is_among name.now (map (λ (s : ScriptEntry). s.name) scripts.now) }
-{
-    for script in scripts {
-        if name == script.name.as_slice() {
-            return true;
-        }
-    }
-    false
 }
 
 const RODATA: &[u8] = b"rodata";
@@ -84,8 +34,16 @@ fn is_place(d: &Indexed<'_>, name: &[u8]) -> bool
     ensures { result ≡ spec.is_known d.now Wanted.Place name.now }
 {
     d.is_variable(name)
-        || is_object(d.description().objects.as_slice(), name)
-        || is_partition(d.description().partitions.as_slice(), name)
+        || has_name(
+            d.description().objects.as_slice(),
+            |object| object.name,
+            name,
+        )
+        || has_name(
+            d.description().partitions.as_slice(),
+            |partition| partition.name,
+            name,
+        )
         || names_rodata(d.description(), name)
 }
 
@@ -93,11 +51,16 @@ fn is_place(d: &Indexed<'_>, name: &[u8]) -> bool
 pub fn is_known(d: &Indexed<'_>, wanted: Wanted, name: &[u8]) -> bool
     ensures { result ≡ spec.is_known d.now wanted name.now }
 {
+    let description = d.description();
     match wanted {
         Wanted::Place => is_place(d, name),
-        Wanted::Domain => is_domain(d.description().domains.as_slice(), name),
-        Wanted::Partition => is_partition(d.description().partitions.as_slice(), name),
-        Wanted::Script => is_script(d.description().scripts.as_slice(), name),
+        Wanted::Domain => has_name(description.domains.as_slice(), |domain| domain.name, name),
+        Wanted::Partition => has_name(
+            description.partitions.as_slice(),
+            |partition| partition.name,
+            name,
+        ),
+        Wanted::Script => has_name(description.scripts.as_slice(), |script| script.name, name),
     }
 }
 

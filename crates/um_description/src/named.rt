@@ -1,17 +1,9 @@
-//! What a text names.
+//! What a text names, among entries that a call gives the names of.
 
-ghost use Rattle.std.specs.Prelude.{◌≡◌, ◌<◌, IfSome, bytes_eq, length, map, unwrap_or};
-ghost use Rattle.um_document.specs.declared.description.{
-  PoolEntry.{PoolEntry},
-  PartitionEntry.{PartitionEntry},
-  DomainEntry.{DomainEntry},
-  ObjectEntry.{ObjectEntry},
-  ScriptEntry.{ScriptEntry},
-};
-ghost use Rattle.um_description.specs.Names.{named};
+ghost use Rattle.std.specs.Prelude.{◌≡◌, ◌<◌, IfSome, List, ℕ, bytes_eq, length, map, unwrap_or};
+ghost use Rattle.um_description.specs.Names.{is_among, named};
 
 use um_base::Name;
-use um_document::{DomainEntry, ObjectEntry, PartitionEntry, PoolEntry, ScriptEntry};
 
 /// Whether a name is this text.
 pub fn is_named(name: &Name, text: &[u8]) -> bool
@@ -20,74 +12,26 @@ pub fn is_named(name: &Name, text: &[u8]) -> bool
     name.as_slice() == text
 }
 
-/// The number of the pool with this name.
-#[tactic(auto, using(crate::proofs::NameLemmas::naming))]
-pub fn pool_named(entries: &[PoolEntry], text: &[u8]) -> Option<usize>
-    ensures value { result ≡ named (map (λ (e : PoolEntry). e.name) entries.now) text.now }
+/// The number of the entry with this name.
+pub fn number_of<T, F: Fn(&T) -> Name>(entries: &[T], name_of: F, text: &[u8]) -> Option<usize>
+    requires { F.IsAlwaysCallable name_of }
+    ensures value { (f : T → List ℕ) → ((entry : _) (name : _) → F.post name_of entry name → name ≡ f entry.now) → result ≡ named (map f entries.now) text.now }
     ensures inside { IfSome result (λ i. i < length entries.now) }
 {
     for (i, entry) in entries.iter().enumerate() {
-        if is_named(&entry.name, text) {
+        if is_named(&name_of(entry), text) {
             return Some(i);
         }
     }
     None
 }
 
-/// The number of the partition with this name.
-#[tactic(auto, using(crate::proofs::NameLemmas::naming))]
-pub fn partition_named(entries: &[PartitionEntry], text: &[u8]) -> Option<usize>
-    ensures value { result ≡ named (map (λ (e : PartitionEntry). e.name) entries.now) text.now }
-    ensures inside { IfSome result (λ i. i < length entries.now) }
+/// Whether an entry has this name.
+pub fn has_name<T, F: Fn(&T) -> Name>(entries: &[T], name_of: F, text: &[u8]) -> bool
+    requires { F.IsAlwaysCallable name_of }
+    ensures { (f : T → List ℕ) → ((entry : _) (name : _) → F.post name_of entry name → name ≡ f entry.now) → result ≡ is_among text.now (map f entries.now) }
 {
-    for (i, entry) in entries.iter().enumerate() {
-        if is_named(&entry.name, text) {
-            return Some(i);
-        }
-    }
-    None
-}
-
-/// The number of the domain with this name.
-#[tactic(auto, using(crate::proofs::NameLemmas::naming))]
-pub fn domain_named(entries: &[DomainEntry], text: &[u8]) -> Option<usize>
-    ensures value { result ≡ named (map (λ (e : DomainEntry). e.name) entries.now) text.now }
-    ensures inside { IfSome result (λ i. i < length entries.now) }
-{
-    for (i, entry) in entries.iter().enumerate() {
-        if is_named(&entry.name, text) {
-            return Some(i);
-        }
-    }
-    None
-}
-
-/// The number of the object with this name.
-#[tactic(auto, using(crate::proofs::NameLemmas::naming))]
-pub fn object_named(entries: &[ObjectEntry], text: &[u8]) -> Option<usize>
-    ensures value { result ≡ named (map (λ (e : ObjectEntry). e.name) entries.now) text.now }
-    ensures inside { IfSome result (λ i. i < length entries.now) }
-{
-    for (i, entry) in entries.iter().enumerate() {
-        if is_named(&entry.name, text) {
-            return Some(i);
-        }
-    }
-    None
-}
-
-/// The number of the script with this name.
-#[tactic(auto, using(crate::proofs::NameLemmas::naming))]
-pub fn script_named(entries: &[ScriptEntry], text: &[u8]) -> Option<usize>
-    ensures value { result ≡ named (map (λ (e : ScriptEntry). e.name) entries.now) text.now }
-    ensures inside { IfSome result (λ i. i < length entries.now) }
-{
-    for (i, entry) in entries.iter().enumerate() {
-        if is_named(&entry.name, text) {
-            return Some(i);
-        }
-    }
-    None
+    number_of(entries, name_of, text).is_some()
 }
 
 /// The number that was found for a name, or 0.

@@ -5,8 +5,9 @@ ghost use Rattle.um_document.specs.First.{first_of};
 ghost use Rattle.um_description.specs.Lines as spec;
 ghost use Rattle.um_description.specs.Names as names;
 
+use crate::first::first_found;
 use crate::lines::line_place;
-use crate::mentions::is_script;
+use crate::named::has_name;
 use crate::read::{ReadLine, ReadScript};
 use um_base::{Instr, Name, Ref};
 use um_document::{Description, Place};
@@ -47,7 +48,13 @@ fn is_misordered(d: &Description, script: usize, name: Option<Name>) -> bool
     ensures { result ≡ spec.is_misordered d.now script name }
 {
     match name {
-        Some(name) => is_script(&d.scripts.as_slice()[..script + 1], name.as_slice()),
+        Some(name) => {
+            has_name(
+                &d.scripts.as_slice()[..script + 1],
+                |script| script.name,
+                name.as_slice(),
+            )
+        },
         None => false,
     }
 }
@@ -76,15 +83,7 @@ fn misordered_script(d: &Description, script: usize, lines: &[ReadLine<'_>]) -> 
     requires { script < length d.now.scripts }
     ensures { result ≡ first_of (spec.misordered_in d.now script lines.now) }
 {
-    let mut index = 0usize;
-    for line in lines {
-        let found = misordered_line(d, script, index, line);
-        if found.is_some() {
-            return found;
-        }
-        index += 1;
-    }
-    None
+    first_found(lines, |index, line| misordered_line(d, script, index, line))
 }
 
 /// The first line of a description that names a script that doesn't stand behind its own.
@@ -92,13 +91,8 @@ pub fn first_misordered(d: &Description, scripts: &[ReadScript<'_>]) -> Option<P
     requires { scripts.now ≡ d.now.scripts }
     ensures { result ≡ first_of (names.each (spec.misordered_script d.now) 0 d.now.scripts) }
 {
-    let mut index = 0usize;
-    for script in scripts {
-        let found = misordered_script(d, index, script.lines());
-        if found.is_some() {
-            return found;
-        }
-        index += 1;
-    }
-    None
+    first_found(
+        scripts,
+        |index, script| misordered_script(d, index, script.lines()),
+    )
 }

@@ -7,6 +7,7 @@ ghost use Rattle.um_description.specs.Lines as spec;
 ghost use Rattle.um_description.specs.Mentions as mentions;
 ghost use Rattle.um_description.specs.Names as names;
 
+use crate::first::first_found;
 use crate::flaw::Flaw;
 use crate::indexed::Indexed;
 use crate::lines::line_place;
@@ -194,15 +195,7 @@ fn unknown_in_line(
 fn unknown_in_script(d: &Indexed<'_>, script: usize, lines: &[ReadLine<'_>]) -> Option<Flaw>
     ensures { result ≡ first_of (spec.unknown_in d.now script lines.now) }
 {
-    let mut index = 0usize;
-    for line in lines {
-        let found = unknown_in_line(d, script, index, line);
-        if found.is_some() {
-            return found;
-        }
-        index += 1;
-    }
-    None
+    first_found(lines, |index, line| unknown_in_line(d, script, index, line))
 }
 
 /// The first name of some scripts' lines that names nothing.
@@ -214,13 +207,8 @@ pub fn first_stranger(
     ensures { IfOk result (λ found. found ≡ first_of (names.each (spec.unknown_in_script d.now) 0 scripts.now)) }
 {
     let indexed = Indexed::new(alloc, d)?;
-    let mut index = 0usize;
-    for script in scripts {
-        let found = unknown_in_script(&indexed, index, script.lines());
-        if found.is_some() {
-            return Ok(found);
-        }
-        index += 1;
-    }
-    Ok(None)
+    Ok(first_found(
+        scripts,
+        |index, script| unknown_in_script(&indexed, index, script.lines()),
+    ))
 }

@@ -15,8 +15,9 @@ ghost use Rattle.um_description.specs.Names as names;
 ghost use Rattle.um_description.specs.Unknown as spec;
 
 use crate::duplicates::{object_names, partition_names};
+use crate::first::first_found;
 use crate::limits::is_thread;
-use crate::named::{domain_named, object_named, pool_named, script_named};
+use crate::named::number_of;
 use crate::seen::Seen;
 use std::alloc::Global;
 use um_base::{Memory, Name};
@@ -53,14 +54,12 @@ fn unknown_item(
 ) -> Option<Place>
     ensures { result ≡ first_of (names.each (listed.unknown_item known.now section entry key) 0 texts.now) }
 {
-    let mut index = 0usize;
-    for text in texts {
-        if !known.has(text.as_slice()) {
-            return Some(Place::Item(section, entry, key, index));
-        }
-        index += 1;
-    }
-    None
+    first_found(texts, |index, text| {
+        unless(
+            known.has(text.as_slice()),
+            Place::Item(section, entry, key, index),
+        )
+    })
 }
 
 /// The first partition of a domain that isn't known.
@@ -81,22 +80,6 @@ fn unknown_part(d: &Description, known: &Seen, index: usize, domain: &DomainEntr
     }
 }
 
-/// The first partition of some domains that isn't known.
-fn unknown_in_domains(d: &Description, known: &Seen, domains: &[DomainEntry]) -> Option<Place>
-    requires { SameTexts known.now (names.partition_names d.now) }
-    ensures { result ≡ first_of (names.each (spec.unknown_in_domain d.now) 0 domains.now) }
-{
-    let mut index = 0usize;
-    for domain in domains {
-        let found = unknown_part(d, known, index, domain);
-        if found.is_some() {
-            return found;
-        }
-        index += 1;
-    }
-    None
-}
-
 fn is_thread_stack(object: &ObjectEntry) -> bool
     ensures { result ≡ names.is_thread_stack object.now }
 {
@@ -107,7 +90,7 @@ fn is_thread_stack(object: &ObjectEntry) -> bool
 fn names_thread(objects: &[ObjectEntry], text: &[u8]) -> bool
     ensures { result ≡ names.passes names.is_thread objects.now (names.named (map (λ (o : ObjectEntry). o.name) objects.now) text.now) }
 {
-    match object_named(objects, text) {
+    match number_of(objects, |object| object.name, text) {
         Some(i) => is_thread(&objects[i]),
         None => false,
     }
@@ -117,7 +100,7 @@ fn names_thread(objects: &[ObjectEntry], text: &[u8]) -> bool
 fn names_thread_stack(objects: &[ObjectEntry], text: &[u8]) -> bool
     ensures { result ≡ names.passes names.is_thread_stack objects.now (names.named (map (λ (o : ObjectEntry). o.name) objects.now) text.now) }
 {
-    match object_named(objects, text) {
+    match number_of(objects, |object| object.name, text) {
         Some(i) => is_thread_stack(&objects[i]),
         None => false,
     }
@@ -127,7 +110,7 @@ fn names_thread_stack(objects: &[ObjectEntry], text: &[u8]) -> bool
 fn names_initialised(domains: &[DomainEntry], text: &[u8]) -> bool
     ensures { result ≡ names.passes names.is_initialised domains.now (names.named (map (λ (m : DomainEntry). m.name) domains.now) text.now) }
 {
-    match domain_named(domains, text) {
+    match number_of(domains, |domain| domain.name, text) {
         Some(i) => domains[i].partitions.is_some(),
         None => false,
     }
@@ -140,7 +123,7 @@ fn unknown_pool(d: &Description, index: usize, boot: &BootEntry) -> Option<Place
 {
     match &boot.pool {
         Some(pool) => unless(
-            pool_named(d.pools.as_slice(), pool.as_slice()).is_some(),
+            number_of(d.pools.as_slice(), |pool| pool.name, pool.as_slice()).is_some(),
             Place::Field(Section::Boot, index, Key::Pool),
         ),
         None => None,
@@ -154,7 +137,12 @@ fn unknown_key(d: &Description, index: usize, boot: &BootEntry) -> Option<Place>
     let objects = d.objects.as_slice();
     let thread = names_thread(objects, boot.thread.as_slice());
     let stack = names_thread_stack(objects, boot.stack.as_slice());
-    let script = script_named(d.scripts.as_slice(), boot.script.as_slice()).is_some();
+    let script = number_of(
+        d.scripts.as_slice(),
+        |script| script.name,
+        boot.script.as_slice(),
+    )
+    .is_some();
     let domain = names_initialised(d.domains.as_slice(), boot.domain.as_slice());
     unless(thread, Place::Field(Section::Boot, index, Key::Thread))
         .or(unless(stack, Place::Field(Section::Boot, index, Key::Stack)))
@@ -172,22 +160,6 @@ fn unknown_in_boot(d: &Description, objects: &Seen, index: usize, boot: &BootEnt
     unknown_key(d, index, boot).or(unknown_item(objects, Section::Boot, index, Key::Grants, grants))
 }
 
-/// The first name of some boot entries that names nothing of the kind wanted.
-fn unknown_in_boots(d: &Description, objects: &Seen, boots: &[BootEntry]) -> Option<Place>
-    requires { SameTexts objects.now (names.object_names d.now) }
-    ensures { result ≡ first_of (names.each (spec.unknown_in_boot d.now) 0 boots.now) }
-{
-    let mut index = 0usize;
-    for boot in boots {
-        let found = unknown_in_boot(d, objects, index, boot);
-        if found.is_some() {
-            return found;
-        }
-        index += 1;
-    }
-    None
-}
-
 /// The first name in a key of a description that names nothing of the kind wanted.
 pub fn first_unknown(alloc: Global, d: &Description) -> Result<Option<Place>, Memory>
     ensures { IfOk result (λ found. found ≡ first_of (spec.unknown_names d.now)) }
@@ -196,6 +168,8 @@ pub fn first_unknown(alloc: Global, d: &Description) -> Result<Option<Place>, Me
     let partitions = set_of(alloc, &names)?;
     let names = object_names(alloc, d.objects.as_slice())?;
     let objects = set_of(alloc, &names)?;
-    let domains = unknown_in_domains(d, &partitions, d.domains.as_slice());
-    Ok(domains.or(unknown_in_boots(d, &objects, d.boots.as_slice())))
+    let domains = d.domains.as_slice();
+    let boots = d.boots.as_slice();
+    let found = first_found(domains, |i, domain| unknown_part(d, &partitions, i, domain));
+    Ok(found.or(first_found(boots, |i, boot| unknown_in_boot(d, &objects, i, boot))))
 }

@@ -7,7 +7,7 @@ ghost use Rattle.um_description.specs.{
   Resolve.{number_named, row_named, rows_among, lowered, boot_of},
 };
 
-use crate::named::{domain_named, number, object_named, pool_named, script_named};
+use crate::named::{number, number_of};
 use std::alloc::Global;
 use um_base::{BOOTS, Boot, BoundedVec, DOMAINS, Memory, Name, POOLS, Row, SCRIPTS, STATIC_ROWS};
 use um_document::{BootEntry, Description, ObjectEntry, Sequence, Text};
@@ -55,7 +55,7 @@ fn row_of(d: &Description, text: &Text) -> Row
     requires { length d.now.objects ≤ STATIC_ROWS }
     ensures { result ≡ row_named (object_names d.now) text.now }
 {
-    Row(number(object_named(d.objects.as_slice(), text.as_slice())))
+    Row(number(number_of(d.objects.as_slice(), |object| object.name, text.as_slice())))
 }
 
 /// The number of the script that an entry names.
@@ -63,7 +63,7 @@ fn script_of(d: &Description, text: &Text) -> u8
     requires { length d.now.scripts ≤ SCRIPTS }
     ensures { result ≡ number_named (script_names d.now) text.now }
 {
-    number(script_named(d.scripts.as_slice(), text.as_slice()))
+    number(number_of(d.scripts.as_slice(), |script| script.name, text.as_slice()))
 }
 
 /// The number of the domain that an entry names.
@@ -71,7 +71,7 @@ fn domain_of(d: &Description, text: &Text) -> u8
     requires { length d.now.domains ≤ DOMAINS }
     ensures { result ≡ number_named (domain_names d.now) text.now }
 {
-    number(domain_named(d.domains.as_slice(), text.as_slice()))
+    number(number_of(d.domains.as_slice(), |domain| domain.name, text.as_slice()))
 }
 
 /// The number of the pool that an entry names.
@@ -80,7 +80,11 @@ fn pool_of(d: &Description, name: &Option<Text>) -> Option<u8>
     ensures { result ≡ option_map (number_named (pool_names d.now)) name.now }
 {
     match name {
-        Some(text) => Some(number(pool_named(d.pools.as_slice(), text.as_slice()))),
+        Some(text) => Some(number(number_of(
+            d.pools.as_slice(),
+            |pool| pool.name,
+            text.as_slice(),
+        ))),
         None => None,
     }
 }

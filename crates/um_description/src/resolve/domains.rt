@@ -4,7 +4,7 @@ ghost use Rattle.std.specs.Prelude.{◌≡◌, ◌≤◌, IfOk, length, map, All
 ghost use Rattle.um_document.specs.declared.description.PartitionEntry.{PartitionEntry};
 ghost use Rattle.um_description.specs.{Names.{items}, Resolve.{number_named, domain_of}};
 
-use crate::named::{number, partition_named};
+use crate::named::{number, number_of};
 use std::alloc::Global;
 use um_base::{BoundedVec, DOMAINS, DomainDef, Memory, PARTITIONS};
 use um_document::{DomainEntry, PartitionEntry, Text};
@@ -21,7 +21,7 @@ fn numbers(
 {
     let mut all = BoundedVec::new(alloc);
     for text in texts {
-        all.push(number(partition_named(partitions, text.as_slice())))?;
+        all.push(number(number_of(partitions, |partition| partition.name, text.as_slice())))?;
     }
     Ok(all)
 }

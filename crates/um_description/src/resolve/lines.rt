@@ -8,7 +8,7 @@ ghost use Rattle.um_description.specs.{
 };
 
 use crate::indexed::Indexed;
-use crate::named::{domain_named, is_named, number, partition_named, script_named};
+use crate::named::{is_named, number, number_of};
 use um_base::{Image, Instr, Name, ObjectDef, PartRef, PartRefs, Partition, Ref, Term};
 
 /// The start of the partition with this name, or another address.
@@ -65,7 +65,7 @@ fn domain_ref(d: &Indexed<'_>, domain: &Ref) -> Ref
         Ref::At(i) => Ref::At(*i),
         Ref::Named(name) => {
             let entries = d.description().domains.as_slice();
-            Ref::At(number(domain_named(entries, name.as_slice())))
+            Ref::At(number(number_of(entries, |domain| domain.name, name.as_slice())))
         }
     }
 }
@@ -78,7 +78,7 @@ fn script_ref(d: &Indexed<'_>, script: &Ref) -> Ref
         Ref::At(i) => Ref::At(*i),
         Ref::Named(name) => {
             let entries = d.description().scripts.as_slice();
-            Ref::At(number(script_named(entries, name.as_slice())))
+            Ref::At(number(number_of(entries, |script| script.name, name.as_slice())))
         }
     }
 }
@@ -95,7 +95,7 @@ fn part_ref(d: &Indexed<'_>, part: &PartRef) -> PartRef
         },
         PartRef::Named(name) => {
             let entries = d.description().partitions.as_slice();
-            PartRef::At(number(partition_named(entries, name.as_slice())))
+            PartRef::At(number(number_of(entries, |partition| partition.name, name.as_slice())))
         }
     }
 }

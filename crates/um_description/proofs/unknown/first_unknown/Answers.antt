@@ -1,6 +1,10 @@
+use Rattle.std.proofs.Common.{rules}
+use Rattle.um_description.specs.Unknown.{unknown_in_domain, unknown_in_boot}
 use Rattle.um_description.proofs.Firsts.{or_two}
 use Rattle.um_description.proofs.unknown.first_unknown.Goals as goal
 
 pub returns : goal.returns
 returns c =
-    or_two _ _ (rw c.as_slice-3.ensures at c.unknown_in_domains-domains.ensures) (rw c.as_slice-4.ensures at c.unknown_in_boots.ensures) c.or.ensures
+    let domains = c.first_found-found.ensures (unknown_in_domain c.args.d.now) (λ i entry found is. search rules) in
+    let boots = c.first_found.ensures (unknown_in_boot c.args.d.now) (λ i entry found is. search rules) in
+    or_two _ _ (rw c.as_slice-domains.ensures at domains) (rw c.as_slice-boots.ensures at boots) c.or.ensures
