@@ -1,2 +1,3 @@
+-- Texts that are written piece by piece (WriteLemmas), and which names and calls a draw gives (KeptLemmas).
 pub mod WriteLemmas
 pub mod KeptLemmas

@@ -1,3 +1,6 @@
+-- What holds of each state that a run reaches. First Facts, Cores (the parts of a state that matter), Guards, Claims and Orders (the steps of instructions);
+-- then Moves: what a step can change, with Turns, MarkMoves, PairMoves, Outcomes, and StepMoves, which shows it of each step. Reached and Claimed keep the two invariants
+-- at each move; Sites, SitedImages, BootClaims, Opening and Starts are of the opening, and RunMoves is of whole runs.
 pub mod Facts
 pub mod Cores
 pub mod Guards

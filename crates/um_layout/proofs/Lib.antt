@@ -1,3 +1,5 @@
+-- Where entries stand that are placed by falling size. Powers and Order come first; Stand and Bytes are what stands before an entry, Aligned that each
+-- stands at a multiple of its size, and Laid, last, the whole layout.
 pub mod Powers
 pub mod Order
 pub mod Stand

@@ -1,3 +1,6 @@
+-- Each step lowers a measure, so a run ends. First sums (TotalLemmas, StoreLemmas), lines and places (LineLemmas, ScriptLemmas, PlaceLemmas, NextLemmas, SettledLemmas, IndexLemmas) and
+-- threads that are no dearer (EasedLemmas); MadeLemmas is what has to be shown of a step, and AccessLemmas, WorkLemmas, PassLemmas, LifeLemmas, StartLemmas and CleanLemmas show it,
+-- StepLemmas of all. OpenLemmas is of the opening, RunLemmas of whole runs.
 pub mod TotalLemmas
 mod EasedLemmas
 pub mod PlaceLemmas

@@ -1,3 +1,6 @@
+-- The order of processors, that it comes to an end, and that nothing is left then. FollowLemmas to SettleLemmas are of the rule and its lists. The files named Thread show that
+-- a thread with a step is ready or run (ThreadWords, what holds in each state; ThreadHeld to ThreadRuns, of turns), those named Row that an object to clean is in one
+-- processor's line. EndLemmas has both, and InOrder says the order in events and states.
 mod FollowLemmas
 mod JoinLemmas
 mod LineLemmas

@@ -1,3 +1,6 @@
+-- Runs with equal texts are equal. First texts: PlainLemmas, SplitLemmas, NameLemmas, ActLemmas, TextLemmas; who is named by them: IdentityLemmas, AddressLemmas, PlaceLemmas, OwnLemmas.
+-- StateLemmas, FitLemmas, KeptLemmas and OpeningLemmas have what holds in each state; CoreLemmas, SaidLemmas and AfterLemmas what of a state matters. MarkLemmas, RowLemmas, ReadLemmas,
+-- DropLemmas and StepLemmas compare two steps, and RunLemmas, last, two runs.
 pub mod PlainLemmas
 pub mod SplitLemmas
 pub mod NameLemmas
