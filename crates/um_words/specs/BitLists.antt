@@ -1,9 +1,9 @@
 -- Bits of a number, and the list of them.
 use Rattle.std.proofs.Common.{◌≡◌, ℕ, zero, suc, ◌+◌, ◌-◌, ◌*◌, ◌<◌, ◌≤◌, ◌/◌, ◌%◌, ◌^◌, Bool, true, false, not, List, [], ◌∷◌, replicate, slice_index_or, slice_set, length, refl, sym, ap, ◌∙◌, arith, subst}
-use Rattle.std.specs.Prelude.{◌==◌, ◌&&◌, ◌≢◌, bit_and}
+use Rattle.std.specs.Prelude.{◌==◌, ◌&&◌}
 use Rattle.std.specs.List.{list_all}
 use Rattle.std.proofs.lemmas.Bool.Decides.{nat_tests}
-use Rattle.std.proofs.lemmas.Nat.Bits.{bit_at-suc, shr_and_one}
+use Rattle.std.proofs.lemmas.Nat.Bits.{bit_at-suc}
 use Rattle.um_words.specs.Bits.{bit, bits_of, number_of}
 
 bit-odd : (n : ℕ) → bit (n % 2 == 1) ≡ n % 2
@@ -109,22 +109,8 @@ set-beyond [] t b h = refl
 set-beyond (x ∷ xs) zero b h = absurd (omega arith)
 set-beyond (x ∷ xs) (suc t) b h = ap (λ ys. x ∷ ys) (set-beyond xs t b (omega arith))
 
--- a bit of a number as the list has it
-pub reads-bit : (n t b : ℕ) → b < 2 → n / 2 ^ t % 2 ≡ b → t < 32 → slice_index_or (bits_of 32 n) t false ≡ (b == 1)
-reads-bit n t b small e h = index-bits 32 n t h ∙ ap (λ m. m == 1) e
-
 pub length-list : (n : ℕ) (bs : List Bool) → bits_of 32 n ≡ bs → length bs ≡ 32
 length-list n bs is = ap length (sym is) ∙ length-bits 32 n
-
--- what a test of a bit says of it
-pub bit-is : (n t b : ℕ) → bit_and (n / 2 ^ t) 1 ≡ b → n / 2 ^ t % 2 ≡ b
-bit-is n t b e = sym (shr_and_one n t) ∙ e
-
-pub bit-is-not-one : (n t : ℕ) → bit_and (n / 2 ^ t) 1 ≢ 1 → n / 2 ^ t % 2 ≡ 0
-bit-is-not-one n t ne = let e = shr_and_one n t in let other : n / 2 ^ t % 2 ≢ 1 = λ q. ne (e ∙ q) in omega arith
-
-pub bit-is-not-zero : (n t : ℕ) → bit_and (n / 2 ^ t) 1 ≢ 0 → n / 2 ^ t % 2 ≡ 1
-bit-is-not-zero n t ne = let e = shr_and_one n t in let other : n / 2 ^ t % 2 ≢ 0 = λ q. ne (e ∙ q) in omega arith
 
 twice : (n : ℕ) → 2 ^ suc n ≡ 2 * 2 ^ n
 twice n = omega arith

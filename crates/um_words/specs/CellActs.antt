@@ -20,6 +20,11 @@ parts_takes (FineAct.Unseen Unseen.RegionLoad) = true
 parts_takes (FineAct.Unseen Unseen.Edit) = true
 parts_takes act = false
 
+-- where the cell takes no step but shown ones
+abbrev pub takes_shown : (Act → Bool) → FineAct → Bool
+takes_shown takes (FineAct.Shown event more) = takes event.act
+takes_shown takes (FineAct.Unseen unseen) = false
+
 abbrev pub memory_takes_act : Act → Bool
 memory_takes_act (Act.Load a n value) = true
 memory_takes_act (Act.Store a n value) = true
@@ -33,8 +38,7 @@ memory_takes_act (Act.Erase stack) = true
 memory_takes_act act = false
 
 abbrev pub memory_takes : FineAct → Bool
-memory_takes (FineAct.Shown event more) = memory_takes_act event.act
-memory_takes (FineAct.Unseen unseen) = false
+memory_takes act = takes_shown memory_takes_act act
 
 abbrev pub heap_takes_act : Act → Bool
 heap_takes_act (Act.Reserve kind addr) = true
@@ -44,8 +48,7 @@ heap_takes_act (Act.Recycle a) = true
 heap_takes_act act = false
 
 abbrev pub heap_takes : FineAct → Bool
-heap_takes (FineAct.Shown event more) = heap_takes_act event.act
-heap_takes (FineAct.Unseen unseen) = false
+heap_takes act = takes_shown heap_takes_act act
 
 -- a thread that was woken is taken
 abbrev pub is_resume : Act → Bool

@@ -15,13 +15,17 @@ has_ready w = nat_lt 0 w.ready && nat_lt w.running 255
 abbrev pub has_place : CellWord → Bool
 has_place w = nat_lt w.ready THREADS
 
+-- by whether the first ready thread can be taken, the ready list has a place, and a processor runs a thread
+abbrev pub takes_scheduling : (ready place running : Bool) → Unseen → Bool
+takes_scheduling ready place running (Unseen.Next who) = ready
+takes_scheduling ready place running (Unseen.Wake who there) = place
+takes_scheduling ready place running (Unseen.Park who there) = running && place
+takes_scheduling ready place running (Unseen.Add who) = place
+takes_scheduling ready place running Unseen.Done = running
+takes_scheduling ready place running unseen = false
+
 abbrev pub scheduler_takes_unseen : CellWord → Unseen → Bool
-scheduler_takes_unseen w (Unseen.Next who) = has_ready w
-scheduler_takes_unseen w (Unseen.Wake who ready) = has_place w
-scheduler_takes_unseen w (Unseen.Park who ready) = nat_lt 0 w.running && has_place w
-scheduler_takes_unseen w (Unseen.Add who) = has_place w
-scheduler_takes_unseen w Unseen.Done = nat_lt 0 w.running
-scheduler_takes_unseen w unseen = false
+scheduler_takes_unseen w unseen = takes_scheduling (has_ready w) (has_place w) (nat_lt 0 w.running) unseen
 
 abbrev pub scheduler_takes : CellWord → FineAct → Bool
 scheduler_takes w (FineAct.Shown event more) = is_resume event.act && has_ready w

@@ -4,6 +4,7 @@ pub mod Packed
 pub mod Inverse
 pub mod Extra
 pub mod Context
+pub mod Answering
 pub mod Exchanges
 pub mod Rows
 pub mod Threads

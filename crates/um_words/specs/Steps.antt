@@ -1,11 +1,9 @@
 -- The step of a site's word: where the word of each kind stands, and from which word to which a step goes.
-use Rattle.std.specs.Prelude.{◌≡◌, ℕ, ◌/◌, nat_lt, ◌==◌, if◌then◌else◌, Some}
+use Rattle.std.specs.Prelude.{◌≡◌, ℕ, ◌/◌, nat_lt, ◌==◌, if◌then◌else◌, Option, Some}
 use Rattle.um_words.specs.declared.fine.FineAct.{FineAct}
 use Rattle.um_words.specs.declared.kind.CellKind.{CellKind}
 use Rattle.um_words.specs.declared.kind.WordKind.{WordKind}
 use Rattle.um_words.specs.declared.row_word.RowWord.{RowWord}
-use Rattle.um_words.specs.declared.thread_word.ThreadWord.{ThreadWord}
-use Rattle.um_words.specs.declared.dom_word.DomWord.{DomWord}
 use Rattle.um_words.specs.declared.cell_word.CellWord.{CellWord}
 use Rattle.um_words.specs.Packed.{packed_row, row_of, packed_thread, thread_of, packed_domain, domain_of, packed_cell, cell_of}
 use Rattle.um_words.specs.Rows.{RowMay}
@@ -44,19 +42,19 @@ pub record RowStep (w : ℕ) (act : FineAct) (next : ℕ) : Type 0 where
   pub may : RowMay (row_of w) act left
   pub is : next ≡ packed_row left
 
-pub record ThreadStep (w : ℕ) (act : FineAct) (next : ℕ) : Type 0 where
-  pub found : ThreadWord
-  pub reads : thread_of w ≡ Some found
-  pub left : ThreadWord
-  pub may : ThreadMay found act left
-  pub is : next ≡ packed_thread left
+-- a step at a word that says something, as not every one does
+pub record ReadStep {W : Type 0} (said : Option W) (May : W → W → Type 0) (packed : W → ℕ) (next : ℕ) : Type 0 where
+  pub found : W
+  pub reads : said ≡ Some found
+  pub left : W
+  pub may : May found left
+  pub is : next ≡ packed left
 
-pub record DomainStep (w : ℕ) (act : FineAct) (next : ℕ) : Type 0 where
-  pub found : DomWord
-  pub reads : domain_of w ≡ Some found
-  pub left : DomWord
-  pub may : DomainMay found act left
-  pub is : next ≡ packed_domain left
+abbrev pub ThreadStep : ℕ → FineAct → ℕ → Type 0
+ThreadStep w act next = ReadStep (thread_of w) (λ found left. ThreadMay found act left) packed_thread next
+
+abbrev pub DomainStep : ℕ → FineAct → ℕ → Type 0
+DomainStep w act next = ReadStep (domain_of w) (λ found left. DomainMay found act left) packed_domain next
 
 pub record CellStep (kind : CellKind) (w : ℕ) (act : FineAct) (next : ℕ) : Type 0 where
   pub left : CellWord

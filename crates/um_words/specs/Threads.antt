@@ -1,5 +1,5 @@
 -- The word of a thread index: what it answers, which steps it takes, and the word that each leaves.
-use Rattle.std.specs.Prelude.{◌≡◌, ◌+◌, ◌<◌, Bool, true, false, ◌&&◌, not, nat_lt, IsTrue, Some}
+use Rattle.std.specs.Prelude.{◌+◌, Bool, true, false, ◌&&◌, not, nat_lt, Some}
 use Rattle.um_base.specs.declared.names.Errno.{Errno}
 use Rattle.um_base.specs.declared.names.Mode.{Mode}
 use Rattle.um_base.specs.declared.act.Act.{Act}
@@ -10,6 +10,7 @@ use Rattle.um_words.specs.declared.fine.FineAct.{FineAct}
 use Rattle.um_words.specs.declared.fine.More.{More}
 use Rattle.um_words.specs.declared.fine.Unseen.{Unseen}
 use Rattle.um_words.specs.declared.thread_word.ThreadWord.{ThreadWord}
+use Rattle.um_words.specs.Answering.{Answering}
 use Rattle.um_words.specs.Extra.{mode_in, starts_in}
 
 -- the act with the answer that the word gives: a check of an address where nothing stands is refused
@@ -68,8 +69,5 @@ abbrev pub counted_thread : ThreadWord → ThreadWord
 counted_thread w = record w { number = w.number + 1 }
 
 -- the step is lawful at a thread index with this word, and leaves that one
-pub record ThreadMay (w : ThreadWord) (act : FineAct) (z : ThreadWord) : Type 0 where
-  pub room : w.number < 268435455
-  pub takes : IsTrue (thread_takes w act)
-  pub says : thread_says act ≡ act
-  pub leaves : z ≡ counted_thread (thread_after w act)
+abbrev pub ThreadMay : ThreadWord → FineAct → ThreadWord → Type 0
+ThreadMay w act z = Answering w.number 268435455 (thread_takes w act) (thread_says act) act (counted_thread (thread_after w act)) z

@@ -13,7 +13,7 @@ use Rattle.um_words.specs.declared.cell_word.CellWord.{CellWord}
 use Rattle.um_words.specs.declared.kind.CellKind.{CellKind}
 use Rattle.um_words.specs.Bits.{bit}
 use Rattle.um_words.specs.CellActs.{is_resume}
-use Rattle.um_words.specs.Packed.{packed_thread, thread_in, is_thread, thread_of, packed_domain, domain_in, is_domain, domain_of, packed_cell, cell_of}
+use Rattle.um_words.specs.Packed.{packed_thread, thread_in, is_thread, packed_domain, domain_in, is_domain, packed_cell, cell_of}
 use Rattle.um_words.specs.Inverse.{thread-number, domain-number, cell-number, cell-turn}
 use Rattle.um_words.specs.Threads.{thread_takes_act, thread_takes, thread_after_act, thread_after_unseen, thread_after, counted_thread}
 use Rattle.um_words.specs.Domains.{writes, domain_takes_act, domain_takes_unseen, domain_takes, domain_after_act, domain_after_unseen, domain_after, counted_domain}
@@ -28,6 +28,11 @@ second b n m h = grind (arith, nat_tests)
 last-of : (a b : Bool) → IsTrue (a && b) → IsTrue b
 last-of true b h = h
 last-of false b h = absurd (cc)
+
+-- what a word says, where it says something
+said-is : {W : Type 0} (b : Bool) (all said : W) → (if b then Some all else None) ≡ Some said → all ≡ said
+said-is true all said e = cc
+said-is false all said e = absurd (cc)
 
 -- Threads.
 
@@ -50,12 +55,9 @@ module _ (w : ThreadWord) (domain : w.domain < 8) where
   thread-keeps (FineAct.Shown event more) h = thread-act more event.act h
   thread-keeps (FineAct.Unseen unseen) h = thread-unseen unseen
 
-thread-is : (w : ℕ) (t : ThreadWord) → thread_of w ≡ Some t → thread_in w ≡ t
-thread-is w t e = elim (is_thread w) as (λ b. (if b then Some (thread_in w) else None) ≡ Some t → thread_in w ≡ t) [ true ↦ λ q. cc | false ↦ λ q. absurd (cc) ] e
-
 thread-counts : (w : ℕ) (act : FineAct) (next : ℕ) → ThreadStep w act next → next / 68719476736 ≡ w / 68719476736 + 1
 thread-counts w act next s =
-    let is = thread-is w s.found s.reads in
+    let is = said-is (is_thread w) (thread_in w) s.found s.reads in
     let small : s.found.domain < 8 = subst (λ (t : ThreadWord). t.domain < 8) is (omega arith) in
     let k = thread-keeps s.found small act s.may.takes in
     let z = counted_thread (thread_after s.found act) in
@@ -90,12 +92,9 @@ module _ (w : DomWord) (readers : w.readers < 128) (version : w.version < 104857
   domain-keeps (FineAct.Shown event more) h = domain-act event.act h
   domain-keeps (FineAct.Unseen unseen) h = domain-unseen unseen h
 
-domain-is : (w : ℕ) (d : DomWord) → domain_of w ≡ Some d → domain_in w ≡ d
-domain-is w d e = elim (is_domain w) as (λ b. (if b then Some (domain_in w) else None) ≡ Some d → domain_in w ≡ d) [ true ↦ λ q. cc | false ↦ λ q. absurd (cc) ] e
-
 domain-counts : (w : ℕ) (act : FineAct) (next : ℕ) → DomainStep w act next → next / 68719476736 ≡ w / 68719476736 + 1
 domain-counts w act next s =
-    let is = domain-is w s.found s.reads in
+    let is = said-is (is_domain w) (domain_in w) s.found s.reads in
     let few : s.found.readers < 128 = subst (λ (d : DomWord). d.readers < 128) is (omega arith) in
     let old : s.found.version < 1048576 = subst (λ (d : DomWord). d.version < 1048576) is (omega arith) in
     let k = domain-keeps s.found few old act s.may.takes in

@@ -8,10 +8,8 @@ ghost use Rattle.um_words.specs.{
 
 use crate::dom_word::DomWord;
 use crate::fine::{FineAct, Unseen};
+use crate::kind::LAST;
 use um_base::{Act, Reply};
-
-/// The greatest step number: there the word takes no step.
-const LAST: u32 = 0xfff_ffff;
 
 #[inline(always)]
 fn is_zero(reply: &Reply) -> bool

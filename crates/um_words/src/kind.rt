@@ -3,6 +3,9 @@
 ghost use Rattle.std.specs.Prelude.{◌≡◌};
 ghost use Rattle.um_words.specs.Steps.{cell_kind_at, kind_at, number, number_in};
 
+/// The greatest step number of all words but a row's: there the word takes no step.
+pub(crate) const LAST: u32 = 0xfff_ffff;
+
 /// What a cell is of.
 #[derive(Clone, Copy, PartialEq, Eq)]
 pub enum CellKind {
@@ -20,18 +23,13 @@ impl CellKind {
     fn at(site: u16) -> CellKind
         ensures { result ≡ cell_kind_at site }
     {
-        if site < 296 {
-            CellKind::Object
-        } else if site < 304 {
-            CellKind::Domain
-        } else if site == 304 {
-            CellKind::Memory
-        } else if site == 305 {
-            CellKind::Heap
-        } else if site == 306 {
-            CellKind::Scheduler
-        } else {
-            CellKind::Unused
+        match site {
+            0..296 => CellKind::Object,
+            296..304 => CellKind::Domain,
+            304 => CellKind::Memory,
+            305 => CellKind::Heap,
+            306 => CellKind::Scheduler,
+            _ => CellKind::Unused,
         }
     }
 }
@@ -50,14 +48,11 @@ impl WordKind {
     pub fn at(site: u16) -> WordKind
         ensures { result ≡ kind_at site }
     {
-        if site < 128 {
-            WordKind::Row
-        } else if site < 160 {
-            WordKind::Thread
-        } else if site < 168 {
-            WordKind::Domain
-        } else {
-            WordKind::Cell(CellKind::at(site))
+        match site {
+            0..128 => WordKind::Row,
+            128..160 => WordKind::Thread,
+            160..168 => WordKind::Domain,
+            _ => WordKind::Cell(CellKind::at(site)),
         }
     }
 }

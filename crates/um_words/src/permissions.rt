@@ -71,27 +71,32 @@ impl Permissions {
     pub fn add(&mut self, thread: u8)
         ensures { self.new ≡ slice_set self.old thread true }
     {
-        let bits = self.bits;
-        if (thread as usize) >= THREADS {
-            return;
-        }
-        if bits >> thread & 1 == 1 {
-            return;
-        }
-        self.bits = bits + (1 << thread);
+        self.set(thread, true);
     }
 
     /// Takes the thread's away.
     pub fn remove(&mut self, thread: u8)
         ensures { self.new ≡ slice_set self.old thread false }
     {
+        self.set(thread, false);
+    }
+
+    /// There: whether the thread has one from now on, where there is such an index.
+    #[inline(always)]
+    fn set(&mut self, thread: u8, there: bool)
+        ensures { self.new ≡ slice_set self.old thread there }
+    {
         let bits = self.bits;
         if (thread as usize) >= THREADS {
             return;
         }
-        if bits >> thread & 1 == 0 {
+        if self.has(thread) == there {
             return;
         }
-        self.bits = bits - (1 << thread);
+        self.bits = if there {
+            bits + (1 << thread)
+        } else {
+            bits - (1 << thread)
+        };
     }
 }

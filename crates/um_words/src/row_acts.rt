@@ -121,5 +121,6 @@ pub fn row_step(word: u64, act: &FineAct) -> Option<u64>
     }
     let mut next = row;
     next.take(act);
-    Some(next.counted())
+    next.number += 1;
+    Some(next.pack())
 }

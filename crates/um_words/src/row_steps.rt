@@ -2,8 +2,7 @@
 
 ghost use Rattle.std.specs.Prelude.{◌≡◌, ◌<◌, ◌+◌, true};
 ghost use Rattle.um_words.specs.{
-  Rows.{has, permitted, vacated, verdict_of, given_of, left_of, set_of, given_to, claimed, after_verdict, gone_stage, dropped, call_ended, published, after_set, born, counted_row},
-  Packed.{FitsRow, packed_row},
+  Rows.{has, permitted, vacated, verdict_of, given_of, left_of, set_of, given_to, claimed, after_verdict, gone_stage, dropped, call_ended, published, after_set, born},
 };
 ghost use Rattle.um_machine.specs.Objects.{init_verdict};
 
@@ -25,37 +24,25 @@ impl RowWord {
     pub fn is_live(&self) -> bool
         ensures { result ≡ Rattle.um_words.specs.Rows.is_live self.now.stage }
     {
-        match self.stage {
-            Stage::Live => true,
-            _ => false,
-        }
+        matches!(self.stage, Stage::Live)
     }
 
     pub fn is_free(&self) -> bool
         ensures { result ≡ Rattle.um_words.specs.Rows.is_free self.now.stage }
     {
-        match self.stage {
-            Stage::Free => true,
-            _ => false,
-        }
+        matches!(self.stage, Stage::Free)
     }
 
     pub fn is_dying(&self) -> bool
         ensures { result ≡ Rattle.um_words.specs.Rows.is_dying self.now.stage }
     {
-        match self.stage {
-            Stage::Dying => true,
-            _ => false,
-        }
+        matches!(self.stage, Stage::Dying)
     }
 
     pub fn is_cleaning(&self) -> bool
         ensures { result ≡ Rattle.um_words.specs.Rows.is_cleaning self.now.stage }
     {
-        match self.stage {
-            Stage::Cleaning => true,
-            _ => false,
-        }
+        matches!(self.stage, Stage::Cleaning)
     }
 
     /// Whether a thread has a permission on the object.
@@ -249,17 +236,5 @@ impl RowWord {
         self.dynamic = false;
         self.stage = Stage::Free;
         self.claims = 0;
-    }
-
-    /// The word with this said and one step more.
-    pub fn counted(&self) -> u64
-        requires { FitsRow (counted_row self.now) }
-        ensures { result ≡ packed_row (counted_row self.now) }
-    {
-        let next = RowWord {
-            number: self.number + 1,
-            ..*self
-        };
-        next.pack()
     }
 }

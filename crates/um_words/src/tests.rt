@@ -55,12 +55,12 @@ fn is_refused(site: u16, word: u64, act: &FineAct) -> bool {
 fn rows(rt: HostRuntime) {
     let row = 96;
     let held = check(Want::Init, 0, None);
-    assert!(rt; leaves(row, 0x0000_0009_0000_0001, &held, 0x0000_1029_0000_0001));
+    assert!(rt; leaves(row, 0x9_0000_0001, &held, 0x1029_0000_0001));
     let refused = check(Want::Uninit, 1, Some(um_base::Errno::EPERM));
-    assert!(rt; leaves(row, 0x0000_0009_0000_0001, &refused, 0x0000_1009_0000_0001));
+    assert!(rt; leaves(row, 0x9_0000_0001, &refused, 0x1009_0000_0001));
     let gone = drop_of(0, Leftover::Gone);
-    assert!(rt; leaves(row, 0x0000_000c_0000_0001, &gone, 0x0000_101c_0000_0000));
-    assert!(rt; leaves(row, 0x0000_002c_0000_0001, &gone, 0x0000_1034_0000_0000));
+    assert!(rt; leaves(row, 0xc_0000_0001, &gone, 0x101c_0000_0000));
+    assert!(rt; leaves(row, 0x2c_0000_0001, &gone, 0x1034_0000_0000));
     let late = shown(
         0,
         Act::Grant {
@@ -70,22 +70,22 @@ fn rows(rt: HostRuntime) {
         },
         More::Nothing,
     );
-    assert!(rt; leaves(row, 0x0000_1034_0000_0000, &late, 0x0000_2034_0000_0000));
+    assert!(rt; leaves(row, 0x1034_0000_0000, &late, 0x2034_0000_0000));
     let end = FineAct::Unseen(Unseen::EndCall);
-    assert!(rt; leaves(row, 0x0000_2034_0000_0000, &end, 0x0000_301c_0000_0000));
+    assert!(rt; leaves(row, 0x2034_0000_0000, &end, 0x301c_0000_0000));
     let vacate = FineAct::Unseen(Unseen::Vacate);
-    assert!(rt; leaves(row, 0x0000_301c_0000_0000, &vacate, 0x0000_4000_0000_0000));
+    assert!(rt; leaves(row, 0x301c_0000_0000, &vacate, 0x4000_0000_0000));
     let born = shown(1, Act::Born { addr: OBJECT }, More::Nothing);
-    assert!(rt; leaves(row, 0x0000_4000_0000_0000, &born, 0x0000_500c_0000_0002));
+    assert!(rt; leaves(row, 0x4000_0000_0000, &born, 0x500c_0000_0002));
 }
 
 /// Steps that no row takes: a wrong answer, a claim that isn't there, an object that isn't gone, and a number that ends.
 #[test]
 fn refused_rows(rt: HostRuntime) {
-    assert!(rt; is_refused(0, 0x0000_0009_0000_0001, &check(Want::Init, 1, None)));
-    assert!(rt; is_refused(0, 0x0000_000c_0000_0001, &drop_of(0, Leftover::Kept)));
-    assert!(rt; is_refused(0, 0x0000_000c_0000_0001, &FineAct::Unseen(Unseen::EndCall)));
-    assert!(rt; is_refused(0, 0x0000_000c_0000_0001, &FineAct::Unseen(Unseen::Vacate)));
+    assert!(rt; is_refused(0, 0x9_0000_0001, &check(Want::Init, 1, None)));
+    assert!(rt; is_refused(0, 0xc_0000_0001, &drop_of(0, Leftover::Kept)));
+    assert!(rt; is_refused(0, 0xc_0000_0001, &FineAct::Unseen(Unseen::EndCall)));
+    assert!(rt; is_refused(0, 0xc_0000_0001, &FineAct::Unseen(Unseen::Vacate)));
     assert!(rt; is_refused(0, 0xffff_f00c_0000_0001, &FineAct::Unseen(Unseen::Visit)));
     assert!(rt; is_refused(168, 0, &FineAct::Unseen(Unseen::Done)));
 }
@@ -95,7 +95,7 @@ fn refused_rows(rt: HostRuntime) {
 fn threads_and_domains(rt: HostRuntime) {
     let thread = 128;
     let hold = FineAct::Unseen(Unseen::Hold);
-    assert!(rt; leaves(thread, 0x41, &hold, 0x0000_0010_0000_0049));
+    assert!(rt; leaves(thread, 0x41, &hold, 0x10_0000_0049));
     let moved = shown(
         0,
         Act::DomMove {
@@ -105,42 +105,21 @@ fn threads_and_domains(rt: HostRuntime) {
         },
         More::Nothing,
     );
-    assert!(rt; is_refused(thread, 0x0000_0010_0000_0049, &moved));
+    assert!(rt; is_refused(thread, 0x10_0000_0049, &moved));
     let let_go = FineAct::Unseen(Unseen::LetGo);
-    assert!(rt;
-        leaves(
-            thread,
-            0x0000_0010_0000_0049,
-            &let_go,
-            0x0000_0020_0000_0041
-        )
-    );
+    assert!(rt; leaves(thread, 0x10_0000_0049, &let_go, 0x20_0000_0041));
     let begin = shown(0, Act::Begin { script: 0, line: 1 }, More::Nothing);
     assert!(rt; is_refused(thread, 0x45, &begin));
-    assert!(rt; leaves(thread, 0x41, &begin, 0x0000_0010_0000_0041));
+    assert!(rt; leaves(thread, 0x41, &begin, 0x10_0000_0041));
     let domain = 160;
     let read_claim = FineAct::Unseen(Unseen::ReadClaim);
-    assert!(rt; leaves(domain, 0x1, &read_claim, 0x0000_0010_0000_0005));
+    assert!(rt; leaves(domain, 0x1, &read_claim, 0x10_0000_0005));
     let write_claim = FineAct::Unseen(Unseen::WriteClaim);
-    assert!(rt; is_refused(domain, 0x0000_0010_0000_0005, &write_claim));
+    assert!(rt; is_refused(domain, 0x10_0000_0005, &write_claim));
     let read_done = FineAct::Unseen(Unseen::ReadDone);
-    assert!(rt;
-        leaves(
-            domain,
-            0x0000_0010_0000_0005,
-            &read_done,
-            0x0000_0020_0000_0001
-        )
-    );
-    assert!(rt;
-        leaves(
-            domain,
-            0x0000_0020_0000_0001,
-            &write_claim,
-            0x0000_0030_0000_0003
-        )
-    );
-    assert!(rt; is_refused(domain, 0x0000_0030_0000_0003, &read_claim));
+    assert!(rt; leaves(domain, 0x10_0000_0005, &read_done, 0x20_0000_0001));
+    assert!(rt; leaves(domain, 0x20_0000_0001, &write_claim, 0x30_0000_0003));
+    assert!(rt; is_refused(domain, 0x30_0000_0003, &read_claim));
     let added = shown(
         0,
         Act::DomAdd {
@@ -154,7 +133,7 @@ fn threads_and_domains(rt: HostRuntime) {
         },
         More::Nothing,
     );
-    assert!(rt; leaves(domain, 0x0000_0030_0000_0003, &added, 0x0000_0040_0000_0201));
+    assert!(rt; leaves(domain, 0x30_0000_0003, &added, 0x40_0000_0201));
 }
 
 /// The steps of cells: a cell takes those of its kind alone while nobody has its turn, and the scheduler's counts threads.

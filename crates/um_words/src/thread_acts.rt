@@ -11,12 +11,10 @@ ghost use Rattle.um_words.specs.{
 
 use crate::extra::{mode, starts};
 use crate::fine::{FineAct, Unseen};
+use crate::kind::LAST;
 use crate::thread_word::ThreadWord;
 use um_base::{Act, DOMAINS, Errno, Mode};
 use um_machine::Life;
-
-/// The greatest step number: there the word takes no step.
-const LAST: u32 = 0xfff_ffff;
 
 impl ThreadWord {
     /// Whether it may begin a line, or end by itself.

@@ -5,8 +5,8 @@ use Rattle.um_words.specs.Rows.{row_takes, row_after, counted_row}
 use Rattle.um_words.specs.RowFacts.{row-fits}
 use Rattle.um_words.proofs.row_acts.row_step.Goals as goal
 
-pub counted-requires : goal.counted-requires
-counted-requires c = let w = c.args.word in let r = c.read-row.result in let e = c.read-row.ensures.value in
+pub pack-requires : goal.pack-requires
+pack-requires c = let w = c.args.word in let r = c.read-row.result in let e = c.read-row.ensures.value in
     let takes : IsTrue (row_takes r c.args.act.now) = search rules in
     let room : (row_of w).number < 1048575 = search rules in
     subst (λ z. FitsRow (counted_row z)) (sym c.take.ensures)
