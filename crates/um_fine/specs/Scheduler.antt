@@ -6,6 +6,7 @@ use Rattle.um_base.specs.declared.limits.TheConstants.{THREADS}
 use Rattle.um_machine.specs.declared.pending.Pending.{Pending}
 use Rattle.um_machine.specs.Order.{Steps, to_thread}
 use Rattle.um_words.specs.CellActs.{is_resume}
+use Rattle.um_words.specs.Cells.{takes_scheduling}
 use Rattle.um_words.specs.declared.fine.FineAct.{FineAct}
 use Rattle.um_words.specs.declared.fine.More.{More}
 use Rattle.um_words.specs.declared.fine.Unseen.{Unseen}
@@ -82,12 +83,7 @@ abbrev pub has_place : Scheduler → Bool
 has_place s = nat_lt (length s.ready) THREADS
 
 abbrev pub sched_takes_unseen : Scheduler → Unseen → Bool
-sched_takes_unseen s (Unseen.Next who) = has_ready s s.ready
-sched_takes_unseen s (Unseen.Wake who ready) = has_place s
-sched_takes_unseen s (Unseen.Park who ready) = nat_lt 0 s.running && has_place s
-sched_takes_unseen s (Unseen.Add who) = has_place s
-sched_takes_unseen s Unseen.Done = nat_lt 0 s.running
-sched_takes_unseen s unseen = false
+sched_takes_unseen s unseen = takes_scheduling (has_ready s s.ready) (has_place s) (nat_lt 0 s.running) unseen
 
 abbrev pub sched_takes : Scheduler → FineAct → Bool
 sched_takes s (FineAct.Shown event more) = is_resume event.act && has_ready s s.ready
