@@ -8,6 +8,8 @@ use Rattle.um_base.specs.declared.ask.Waiter.{Waiter}
 use Rattle.um_base.specs.declared.names.Reply.TheVariants as Reply
 use Rattle.um_base.specs.declared.names.ThreadIx.{ThreadIx}
 use Rattle.um_machine.specs.Contents.{Pipe}
+use Rattle.um_service.specs.declared.pipe.Side.{Side}
+use Rattle.um_service.specs.Sides.{side_served, is_idle, bytes_after, told_first}
 use Rattle.um_machine.specs.Services.{told, without, still_waiting, read_length, readers_served, writers_served, is_empty}
 
 -- of those who are served some were: these are woken, and with the others it comes to the whole
@@ -54,6 +56,16 @@ pub writer-served : (whole : List ℕ × List (ThreadIx × Told)) (size : ℕ) (
 writer-served whole size before after w bytes woken e room h =
     let put = take (size - length bytes) w.bytes in
     SoFar-more whole (writers_served size (w ∷ after) bytes) (writers_served size after (bytes ++ put)) woken (told w (Reply.Num (length put)) []) (rw room refl) (rw room refl) (rw e at h)
+
+-- nobody is served, or one of a side is
+pub side-idle : (side : Side) (size : ℕ) (ws : List Waiter) (bytes : List ℕ) → is_idle side size bytes ≡ true → side_served side size ws bytes ≡ (bytes, [])
+side-idle Side.Readers size ws bytes e = readers-no_byte ws bytes (grind (arith, nat_tests))
+side-idle Side.Writers size ws bytes e = writers-no_room size ws bytes e
+
+pub side-more : (side : Side) (whole : List ℕ × List (ThreadIx × Told)) (size : ℕ) (before after : List Waiter) (w : Waiter) (bytes : List ℕ) (woken : List (ThreadIx × Told)) → before ≡ w ∷ after → is_idle side size bytes ≡ false
+    → SoFar whole (side_served side size before bytes) woken → SoFar whole (side_served side size after (bytes_after side size w bytes)) (woken ++ told_first side size w bytes ∷ [])
+side-more Side.Readers whole size before after w bytes woken e busy h = reader-served whole before after w bytes woken e (grind (arith, nat_tests)) h
+side-more Side.Writers whole size before after w bytes woken e busy h = writer-served whole size before after w bytes woken e busy h
 
 -- all wait where none is woken
 pub still_waiting-none : (ws : List Waiter) → still_waiting [] ws ≡ ws

@@ -56,23 +56,6 @@ fn pass(queue: &mut MessageQueue, waiters: &mut Waiters, message: &Piece, outcom
     }
 }
 
-/// Takes the oldest message, or waits for one.
-fn get(
-    queue: &mut MessageQueue,
-    waiters: &mut Waiters,
-    who: &Waiter,
-    timeout: Timeout,
-    outcome: &mut Outcome,
-)
-    requires { who.now.thread.0 < THREADS }
-    ensures { msgq_get queue.old.size queue.old.most queue.old.messages waiters.old who.now timeout ≡ left (Contents.Msgq queue.new) waiters.new outcome.new }
-{
-    match queue.pop() {
-        Some(message) => pass(queue, waiters, &message, outcome),
-        None => blocks(waiters, who, timeout, Errno::ENOMSG, outcome),
-    }
-}
-
 /// Copies the oldest message, which stays.
 fn peek(queue: &MessageQueue, outcome: &mut Outcome)
     ensures { (waiters : List Waiter) → msgq_peek queue.now.size queue.now.most queue.now.messages waiters ≡ left (Contents.Msgq queue.now) waiters outcome.new }
@@ -99,7 +82,10 @@ pub fn act(queue: &mut MessageQueue, waiters: &mut Waiters, who: &Waiter, outcom
 {
     match who.ask {
         Ask::MsgqPut { timeout } => put(queue, waiters, who, timeout, outcome),
-        Ask::MsgqGet { timeout } => get(queue, waiters, who, timeout, outcome),
+        Ask::MsgqGet { timeout } => match queue.pop() {
+            Some(message) => pass(queue, waiters, &message, outcome),
+            None => blocks(waiters, who, timeout, Errno::ENOMSG, outcome),
+        },
         Ask::MsgqPeek => peek(queue, outcome),
         Ask::MsgqPurge => purge(queue, waiters, outcome),
         Ask::MsgqUsed => answers(Reply::Num(queue.len() as u32), outcome),

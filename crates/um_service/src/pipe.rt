@@ -1,17 +1,42 @@
 //! Pipes.
 
-ghost use Rattle.std.specs.Prelude.{◌≡◌, ◌-◌, ◌<◌, ◌≤◌, ◌++◌, ◌∷◌, [], length, take, drop, filter};
+ghost use Rattle.std.specs.Prelude.{◌≡◌, ◌-◌, ◌<◌, ◌≤◌, ◌++◌, ◌∷◌, [], length, take, drop};
 ghost use Rattle.um_base.specs.declared.ask.Waiter.{Waiter};
 ghost use Rattle.um_base.specs.declared.names.Reply.TheVariants as Reply;
 ghost use Rattle.um_machine.specs.declared.contents.Contents.TheVariants as Contents;
-ghost use Rattle.um_machine.specs.Services.{in_order, told, is_empty, is_reader, is_writer, read_length, readers_served, writers_served, still_waiting, pipe_write, pipe_take, pipe_read, pipe_act};
-ghost use Rattle.um_service.specs.{Left.{left}, Preview.{said}};
+ghost use Rattle.um_machine.specs.{
+  Services.{in_order, told, is_empty, read_length, still_waiting, pipe_write, pipe_take, pipe_read, pipe_act},
+  Serving.{served},
+};
+ghost use Rattle.um_service.specs.{
+  Left.{left},
+  Preview.{said},
+  Sides.{served_on, side_served, is_idle, bytes_after, told_first},
+};
 
 use crate::outcome::{Outcome, Woken};
 use crate::preview::{Said, all_go, at_once, blocked, shares};
 use crate::waking::{answers, blocks, gives, wakes_all};
 use um_base::{Answer, Ask, Errno, Piece, Reply, THREADS, Timeout, Told, Waiter};
 use um_machine::{BytePipe, Served, Waiters};
+
+/// Those who wait on a pipe and are served together.
+#[derive(Clone, Copy)]
+enum Side {
+    Readers,
+    Writers,
+}
+
+impl Side {
+    fn served(self) -> Served
+        ensures { result ≡ served_on self }
+    {
+        match self {
+            Side::Readers => Served::Readers,
+            Side::Writers => Served::Writers,
+        }
+    }
+}
 
 /// At most so many of the first bytes.
 fn first_bytes(bytes: &[u8], n: usize) -> &[u8]
@@ -46,26 +71,6 @@ fn serve_reader(pipe: &mut BytePipe, first: &Waiter, woken: &mut Woken)
     woken.push(first.thread, &told);
 }
 
-/// Readers are served in the order of service while a byte is there.
-fn serve_readers(pipe: &mut BytePipe, waiters: &mut Waiters, woken: &mut Woken)
-    ensures bytes { pipe.new ≡ record pipe.old { bytes = (readers_served (in_order (filter is_reader waiters.old)) pipe.old.bytes).0 } }
-    ensures woken { woken.new ≡ (readers_served (in_order (filter is_reader waiters.old)) pipe.old.bytes).1 }
-    ensures waiters { waiters.new ≡ still_waiting woken.new waiters.old }
-{
-    let waiting = waiters.len();
-    prove!(waiting <= THREADS);
-    woken.clear();
-    'serving: loop {
-        if pipe.len() == 0 {
-            return;
-        }
-        match waiters.take_first(Served::Readers) {
-            Some(first) => serve_reader(pipe, &first, woken),
-            None => return,
-        }
-    }
-}
-
 /// A writer puts its bytes as far as there is room, and is told how many.
 fn serve_writer(pipe: &mut BytePipe, first: &Waiter, woken: &mut Woken)
     requires room { length woken.old < THREADS }
@@ -83,21 +88,43 @@ fn serve_writer(pipe: &mut BytePipe, first: &Waiter, woken: &mut Woken)
     woken.push(first.thread, &told);
 }
 
-/// Writers are served in the order of service while there is room.
-fn serve_writers(pipe: &mut BytePipe, waiters: &mut Waiters, woken: &mut Woken)
-    ensures bytes { pipe.new ≡ record pipe.old { bytes = (writers_served pipe.old.size (in_order (filter is_writer waiters.old)) pipe.old.bytes).0 } }
-    ensures woken { woken.new ≡ (writers_served pipe.old.size (in_order (filter is_writer waiters.old)) pipe.old.bytes).1 }
+/// Whether a pipe serves nobody of a side: readers want a byte, writers room.
+fn is_idle(pipe: &BytePipe, side: Side) -> bool
+    ensures { result ≡ is_idle side pipe.now.size pipe.now.bytes }
+{
+    match side {
+        Side::Readers => pipe.len() == 0,
+        Side::Writers => pipe.len() >= pipe.size() as usize,
+    }
+}
+
+/// One of a side is served.
+fn serve_one(pipe: &mut BytePipe, side: Side, first: &Waiter, woken: &mut Woken)
+    requires { length woken.old < THREADS }
+    ensures left { pipe.new ≡ record pipe.old { bytes = bytes_after side pipe.old.size first.now pipe.old.bytes } }
+    ensures woken { woken.new ≡ woken.old ++ told_first side pipe.old.size first.now pipe.old.bytes ∷ [] }
+{
+    match side {
+        Side::Readers => serve_reader(pipe, first, woken),
+        Side::Writers => serve_writer(pipe, first, woken),
+    }
+}
+
+/// Those of a side are served in the order of service while the pipe serves any.
+fn serve(pipe: &mut BytePipe, waiters: &mut Waiters, side: Side, woken: &mut Woken)
+    ensures bytes { pipe.new ≡ record pipe.old { bytes = (side_served side pipe.old.size (in_order (served (served_on side) waiters.old)) pipe.old.bytes).0 } }
+    ensures woken { woken.new ≡ (side_served side pipe.old.size (in_order (served (served_on side) waiters.old)) pipe.old.bytes).1 }
     ensures waiters { waiters.new ≡ still_waiting woken.new waiters.old }
 {
     let waiting = waiters.len();
     prove!(waiting <= THREADS);
     woken.clear();
     'serving: loop {
-        if pipe.len() >= pipe.size() as usize {
+        if is_idle(pipe, side) {
             return;
         }
-        match waiters.take_first(Served::Writers) {
-            Some(first) => serve_writer(pipe, &first, woken),
+        match waiters.take_first(side.served()) {
+            Some(first) => serve_one(pipe, side, &first, woken),
             None => return,
         }
     }
@@ -128,7 +155,7 @@ fn write(
     let put = first_bytes(who.bytes.as_slice(), pipe.size() as usize - pipe.len());
     pipe.append(put);
     answers(Reply::Num(put.len() as u32), outcome);
-    serve_readers(pipe, waiters, &mut outcome.woken);
+    serve(pipe, waiters, Side::Readers, &mut outcome.woken);
 }
 
 /// Takes bytes that are there, and serves writers.
@@ -137,7 +164,7 @@ fn take(pipe: &mut BytePipe, waiters: &mut Waiters, n: u32, outcome: &mut Outcom
 {
     let taken = pipe.take(n as usize);
     gives(Reply::Num(taken.len() as u32), &taken, outcome);
-    serve_writers(pipe, waiters, &mut outcome.woken);
+    serve(pipe, waiters, Side::Writers, &mut outcome.woken);
 }
 
 /// Whether a pipe has no byte.

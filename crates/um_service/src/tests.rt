@@ -1,6 +1,7 @@
 //! Acts on the contents of each kind, one after another.
 
-ghost use Rattle.std.specs.Prelude.{◌<◌, IsTrue};
+ghost use Rattle.std.specs.Prelude.{◌≡◌, ◌<◌, IsTrue};
+ghost use Rattle.um_base.specs.declared.ask.Ask.TheVariants as AskOf;
 ghost use Rattle.um_base.specs.declared.limits.TheConstants.{THREADS};
 ghost use Rattle.um_machine.specs.Limits.{is_sound_ask};
 
@@ -12,7 +13,9 @@ use um_machine::{BytePipe, Contents, MessageQueue, ValueStack, Waiters};
 
 const WAITS: Timeout = Timeout::Forever;
 
-const DONE: Answer = Answer::Now(Reply::Num(0));
+const ZERO: Reply = Reply::Num(0);
+
+const DONE: Answer = Answer::Now(ZERO);
 
 const VOID: Answer = Answer::Now(Reply::Void);
 
@@ -20,35 +23,60 @@ fn fails(error: Errno) -> Answer {
     Answer::Now(Reply::Fail(error))
 }
 
-/// What an act of a thread, by its index and priority, says beforehand and comes to.
-fn acts(contents: &mut Contents, waiters: &mut Waiters, who: (u8, i8), ask: &Ask) -> (Said, Outcome)
-    requires thread { who.0 < THREADS }
-    requires sound { IsTrue (is_sound_ask ask.now) }
+/// A read of so many bytes.
+fn read_of(length: u32, timeout: Timeout) -> Ask
+    ensures { result ≡ AskOf.PipeRead length timeout }
 {
-    acts_with(contents, waiters, who, ask, &Piece::new())
+    Ask::PipeRead { length, timeout }
 }
 
-/// The same of a call that gives bytes.
-fn acts_with(
-    contents: &mut Contents,
-    waiters: &mut Waiters,
-    who: (u8, i8),
-    ask: &Ask,
-    bytes: &Piece,
-) -> (Said, Outcome)
-    requires thread { who.0 < THREADS }
-    requires sound { IsTrue (is_sound_ask ask.now) }
+/// A write of so many bytes.
+fn write_of(length: u32, timeout: Timeout) -> Ask
+    ensures { result ≡ AskOf.PipeWrite length timeout }
 {
-    let waiter = Waiter {
-        thread: ThreadIx(who.0),
-        priority: who.1,
-        ask: *ask,
-        bytes: *bytes,
-    };
-    let said = says(contents, waiters, &waiter);
-    let mut outcome = Outcome::new();
-    act(contents, waiters, &waiter, &mut outcome);
-    (said, outcome)
+    Ask::PipeWrite { length, timeout }
+}
+
+/// Contents, and those who wait on them.
+#[derive(Drop)]
+struct Trial {
+    contents: Contents,
+    waiters: Waiters,
+}
+
+impl Trial {
+    /// Contents on which nobody waits.
+    fn of(contents: Contents) -> Trial {
+        Trial {
+            contents,
+            waiters: Waiters::new(),
+        }
+    }
+
+    /// What an act of a thread, by its index and priority, says beforehand and comes to.
+    fn act(&mut self, who: (u8, i8), ask: &Ask) -> (Said, Outcome)
+        requires thread { who.0 < THREADS }
+        requires sound { IsTrue (is_sound_ask ask.now) }
+    {
+        self.act_with(who, ask, &Piece::new())
+    }
+
+    /// The same of a call that gives bytes.
+    fn act_with(&mut self, who: (u8, i8), ask: &Ask, bytes: &Piece) -> (Said, Outcome)
+        requires thread { who.0 < THREADS }
+        requires sound { IsTrue (is_sound_ask ask.now) }
+    {
+        let waiter = Waiter {
+            thread: ThreadIx(who.0),
+            priority: who.1,
+            ask: *ask,
+            bytes: *bytes,
+        };
+        let said = says(&self.contents, &self.waiters, &waiter);
+        let mut outcome = Outcome::new();
+        act(&mut self.contents, &mut self.waiters, &waiter, &mut outcome);
+        (said, outcome)
+    }
 }
 
 /// What was said is what the outcome answers and tells the woken.
@@ -83,281 +111,124 @@ fn is<R: Abort>(
     }
 }
 
+/// The same of an act that gives no bytes and wakes nobody.
+fn answers<R: Abort>(rt: &R, acted: &(Said, Outcome), answer: Answer) {
+    is(rt, acted, answer, &[], &[]);
+}
+
+/// The same of an act that wakes nobody.
+fn gives<R: Abort>(rt: &R, acted: &(Said, Outcome), answer: Answer, taken: &[u8]) {
+    is(rt, acted, answer, taken, &[]);
+}
+
+/// The same of an act that gives no bytes.
+fn wakes<R: Abort>(rt: &R, acted: &(Said, Outcome), answer: Answer, woken: &[(u8, Reply, &[u8])]) {
+    is(rt, acted, answer, &[], woken);
+}
+
 /// Threads of priority 5, 3 and 3 wait, and gives wake the second, the third and the first.
 #[test]
 fn semaphores(rt: HostRuntime) {
-    let mut sem = Contents::Sem { count: 0, limit: 1 };
-    let mut ws = Waiters::new();
+    let mut sem = Trial::of(Contents::Sem { count: 0, limit: 1 });
     let take = Ask::SemTake { timeout: WAITS };
-    is(
-        &rt,
-        &acts(&mut sem, &mut ws, (1, 5), &take),
-        Answer::Wait,
-        &[],
-        &[],
-    );
-    is(
-        &rt,
-        &acts(&mut sem, &mut ws, (2, 3), &take),
-        Answer::Wait,
-        &[],
-        &[],
-    );
-    is(
-        &rt,
-        &acts(&mut sem, &mut ws, (3, 3), &take),
-        Answer::Wait,
-        &[],
-        &[],
-    );
+    answers(&rt, &sem.act((1, 5), &take), Answer::Wait);
+    answers(&rt, &sem.act((2, 3), &take), Answer::Wait);
+    answers(&rt, &sem.act((3, 3), &take), Answer::Wait);
     let give = Ask::SemGive;
-    is(
-        &rt,
-        &acts(&mut sem, &mut ws, (4, 0), &give),
-        VOID,
-        &[],
-        &[(2, Reply::Num(0), &[])],
-    );
-    is(
-        &rt,
-        &acts(&mut sem, &mut ws, (4, 0), &give),
-        VOID,
-        &[],
-        &[(3, Reply::Num(0), &[])],
-    );
-    is(
-        &rt,
-        &acts(&mut sem, &mut ws, (4, 0), &give),
-        VOID,
-        &[],
-        &[(1, Reply::Num(0), &[])],
-    );
-    is(&rt, &acts(&mut sem, &mut ws, (4, 0), &give), VOID, &[], &[]);
+    wakes(&rt, &sem.act((4, 0), &give), VOID, &[(2, ZERO, &[])]);
+    wakes(&rt, &sem.act((4, 0), &give), VOID, &[(3, ZERO, &[])]);
+    wakes(&rt, &sem.act((4, 0), &give), VOID, &[(1, ZERO, &[])]);
+    answers(&rt, &sem.act((4, 0), &give), VOID);
     let count = Ask::SemCount;
-    is(
-        &rt,
-        &acts(&mut sem, &mut ws, (4, 0), &count),
-        Answer::Now(Reply::Num(1)),
-        &[],
-        &[],
-    );
+    answers(&rt, &sem.act((4, 0), &count), Answer::Now(Reply::Num(1)));
 }
 
 /// The owner locks again, and nobody else unlocks; what is free isn't unlocked.
 #[test]
 fn mutexes(rt: HostRuntime) {
-    let mut mutex = Contents::Mutex {
+    let mut mutex = Trial::of(Contents::Mutex {
         owner: None,
         depth: 0,
-    };
-    let mut ws = Waiters::new();
+    });
     let try_lock = Ask::MutexLock {
         timeout: Timeout::NoWait,
     };
     let lock = Ask::MutexLock { timeout: WAITS };
     let unlock = Ask::MutexUnlock;
-    is(
-        &rt,
-        &acts(&mut mutex, &mut ws, (0, 5), &unlock),
-        fails(Errno::EINVAL),
-        &[],
-        &[],
-    );
-    is(
-        &rt,
-        &acts(&mut mutex, &mut ws, (0, 5), &try_lock),
-        DONE,
-        &[],
-        &[],
-    );
-    is(
-        &rt,
-        &acts(&mut mutex, &mut ws, (1, 5), &unlock),
-        fails(Errno::EPERM),
-        &[],
-        &[],
-    );
-    is(
-        &rt,
-        &acts(&mut mutex, &mut ws, (0, 5), &try_lock),
-        DONE,
-        &[],
-        &[],
-    );
-    is(
-        &rt,
-        &acts(&mut mutex, &mut ws, (1, 5), &try_lock),
-        fails(Errno::EBUSY),
-        &[],
-        &[],
-    );
-    is(
-        &rt,
-        &acts(&mut mutex, &mut ws, (1, 5), &lock),
-        Answer::Wait,
-        &[],
-        &[],
-    );
-    is(
-        &rt,
-        &acts(&mut mutex, &mut ws, (0, 5), &unlock),
-        DONE,
-        &[],
-        &[],
-    );
-    is(
-        &rt,
-        &acts(&mut mutex, &mut ws, (0, 5), &unlock),
-        DONE,
-        &[],
-        &[(1, Reply::Num(0), &[])],
-    );
-    is(
-        &rt,
-        &acts(&mut mutex, &mut ws, (1, 5), &unlock),
-        DONE,
-        &[],
-        &[],
-    );
+    answers(&rt, &mutex.act((0, 5), &unlock), fails(Errno::EINVAL));
+    answers(&rt, &mutex.act((0, 5), &try_lock), DONE);
+    answers(&rt, &mutex.act((1, 5), &unlock), fails(Errno::EPERM));
+    answers(&rt, &mutex.act((0, 5), &try_lock), DONE);
+    answers(&rt, &mutex.act((1, 5), &try_lock), fails(Errno::EBUSY));
+    answers(&rt, &mutex.act((1, 5), &lock), Answer::Wait);
+    answers(&rt, &mutex.act((0, 5), &unlock), DONE);
+    wakes(&rt, &mutex.act((0, 5), &unlock), DONE, &[(1, ZERO, &[])]);
+    answers(&rt, &mutex.act((1, 5), &unlock), DONE);
 }
 
 /// A queue of one message, with a second one that waits.
-fn queue_of_one() -> (Contents, Waiters) {
-    let mut queue = Contents::Msgq(MessageQueue::new(1, 1));
-    let mut ws = Waiters::new();
+fn queue_of_one() -> Trial {
+    let mut queue = Trial::of(Contents::Msgq(MessageQueue::new(1, 1)));
     let put = Ask::MsgqPut { timeout: WAITS };
-    let _ = acts_with(&mut queue, &mut ws, (0, 5), &put, &piece(&[1]));
-    let _ = acts_with(&mut queue, &mut ws, (0, 5), &put, &piece(&[2]));
-    (queue, ws)
+    let _ = queue.act_with((0, 5), &put, &piece(&[1]));
+    let _ = queue.act_with((0, 5), &put, &piece(&[2]));
+    queue
 }
 
 /// A get lets the waiting message in, and a purge lets its putter go.
 #[test]
 fn message_queues(rt: HostRuntime) {
-    let (mut queue, mut ws) = queue_of_one();
+    let mut queue = queue_of_one();
     let get = Ask::MsgqGet { timeout: WAITS };
     let peek = Ask::MsgqPeek;
-    is(
-        &rt,
-        &acts(&mut queue, &mut ws, (1, 5), &peek),
-        DONE,
-        &[1],
-        &[],
-    );
-    is(
-        &rt,
-        &acts(&mut queue, &mut ws, (1, 5), &get),
-        DONE,
-        &[1],
-        &[(0, Reply::Num(0), &[])],
-    );
-    is(
-        &rt,
-        &acts(&mut queue, &mut ws, (1, 5), &get),
-        DONE,
-        &[2],
-        &[],
-    );
-    is(
-        &rt,
-        &acts(&mut queue, &mut ws, (1, 5), &peek),
-        fails(Errno::ENOMSG),
-        &[],
-        &[],
-    );
-    is(
-        &rt,
-        &acts(&mut queue, &mut ws, (1, 5), &get),
-        Answer::Wait,
-        &[],
-        &[],
-    );
-    let (mut queue, mut ws) = queue_of_one();
+    gives(&rt, &queue.act((1, 5), &peek), DONE, &[1]);
+    is(&rt, &queue.act((1, 5), &get), DONE, &[1], &[(0, ZERO, &[])]);
+    gives(&rt, &queue.act((1, 5), &get), DONE, &[2]);
+    answers(&rt, &queue.act((1, 5), &peek), fails(Errno::ENOMSG));
+    answers(&rt, &queue.act((1, 5), &get), Answer::Wait);
+    let mut queue = queue_of_one();
     let gone = Reply::Fail(Errno::ENOMSG);
-    is(
+    wakes(
         &rt,
-        &acts(&mut queue, &mut ws, (1, 5), &Ask::MsgqPurge),
+        &queue.act((1, 5), &Ask::MsgqPurge),
         VOID,
-        &[],
         &[(0, gone, &[])],
     );
-    is(
-        &rt,
-        &acts(&mut queue, &mut ws, (1, 5), &Ask::MsgqUsed),
-        DONE,
-        &[],
-        &[],
-    );
+    answers(&rt, &queue.act((1, 5), &Ask::MsgqUsed), DONE);
 }
 
 /// The newest value first, no more than there is room for, and one that waits for a value.
 #[test]
 fn stacks(rt: HostRuntime) {
-    let mut stack = Contents::Stack(ValueStack::new(2));
-    let mut ws = Waiters::new();
+    let mut stack = Trial::of(Contents::Stack(ValueStack::new(2)));
     let pop = Ask::StackPop { timeout: WAITS };
-    is(
+    answers(&rt, &stack.act((0, 5), &Ask::StackPush { value: 7 }), DONE);
+    answers(
         &rt,
-        &acts(&mut stack, &mut ws, (0, 5), &Ask::StackPush { value: 7 }),
+        &stack.act((0, 5), &Ask::StackPush { value: 0x0102 }),
         DONE,
-        &[],
-        &[],
     );
-    is(
+    answers(
         &rt,
-        &acts(
-            &mut stack,
-            &mut ws,
-            (0, 5),
-            &Ask::StackPush { value: 0x0102 },
-        ),
-        DONE,
-        &[],
-        &[],
-    );
-    is(
-        &rt,
-        &acts(&mut stack, &mut ws, (0, 5), &Ask::StackPush { value: 9 }),
+        &stack.act((0, 5), &Ask::StackPush { value: 9 }),
         fails(Errno::ENOMEM),
-        &[],
-        &[],
     );
-    is(
-        &rt,
-        &acts(&mut stack, &mut ws, (1, 5), &pop),
-        DONE,
-        &[2, 1, 0, 0],
-        &[],
-    );
-    is(
-        &rt,
-        &acts(&mut stack, &mut ws, (1, 5), &pop),
-        DONE,
-        &[7, 0, 0, 0],
-        &[],
-    );
-    is(
-        &rt,
-        &acts(&mut stack, &mut ws, (1, 5), &pop),
-        Answer::Wait,
-        &[],
-        &[],
-    );
+    gives(&rt, &stack.act((1, 5), &pop), DONE, &[2, 1, 0, 0]);
+    gives(&rt, &stack.act((1, 5), &pop), DONE, &[7, 0, 0, 0]);
+    answers(&rt, &stack.act((1, 5), &pop), Answer::Wait);
     let push = Ask::StackPush { value: 3 };
-    is(
+    wakes(
         &rt,
-        &acts(&mut stack, &mut ws, (0, 5), &push),
+        &stack.act((0, 5), &push),
         DONE,
-        &[],
-        &[(1, Reply::Num(0), &[3, 0, 0, 0])],
+        &[(1, ZERO, &[3, 0, 0, 0])],
     );
 }
 
 /// A pipe of four bytes: what it takes, what it gives, and what is left of it once it is closed.
 #[test]
 fn pipes(rt: HostRuntime) {
-    let mut pipe = Contents::Pipe(BytePipe::new(4));
-    let mut ws = Waiters::new();
+    let mut pipe = Trial::of(Contents::Pipe(BytePipe::new(4)));
     for (length, bytes, timeout, answer) in [
         (0, &[] as &[u8], Timeout::NoWait, DONE),
         (
@@ -368,69 +239,44 @@ fn pipes(rt: HostRuntime) {
         ),
         (1, &[9], Timeout::NoWait, fails(Errno::EAGAIN)),
     ] {
-        let write = Ask::PipeWrite { length, timeout };
+        let write = write_of(length, timeout);
         let given = if bytes.len() <= 256 {
             piece(bytes)
         } else {
             Piece::new()
         };
-        is(
-            &rt,
-            &acts_with(&mut pipe, &mut ws, (0, 5), &write, &given),
-            answer,
-            &[],
-            &[],
-        );
+        answers(&rt, &pipe.act_with((0, 5), &write, &given), answer);
     }
-    let read = Ask::PipeRead {
-        length: 3,
-        timeout: Timeout::NoWait,
-    };
-    is(
+    let read = read_of(3, Timeout::NoWait);
+    gives(
         &rt,
-        &acts(&mut pipe, &mut ws, (0, 5), &read),
+        &pipe.act((0, 5), &read),
         Answer::Now(Reply::Num(3)),
         &[1, 2, 3],
-        &[],
     );
-    is(
+    answers(&rt, &pipe.act((0, 5), &Ask::PipeClose), VOID);
+    gives(
         &rt,
-        &acts(&mut pipe, &mut ws, (0, 5), &Ask::PipeClose),
-        VOID,
-        &[],
-        &[],
-    );
-    is(
-        &rt,
-        &acts(&mut pipe, &mut ws, (0, 5), &read),
+        &pipe.act((0, 5), &read),
         Answer::Now(Reply::Num(1)),
         &[4],
-        &[],
     );
-    is(
-        &rt,
-        &acts(&mut pipe, &mut ws, (0, 5), &read),
-        fails(Errno::EPIPE),
-        &[],
-        &[],
-    );
+    answers(&rt, &pipe.act((0, 5), &read), fails(Errno::EPIPE));
 }
 
 /// A reset lets all go who wait, the least priority number first.
 #[test]
 fn resets(rt: HostRuntime) {
-    let mut sem = Contents::Sem { count: 0, limit: 1 };
-    let mut ws = Waiters::new();
+    let mut sem = Trial::of(Contents::Sem { count: 0, limit: 1 });
     let take = Ask::SemTake { timeout: WAITS };
-    let _ = acts(&mut sem, &mut ws, (1, 5), &take);
-    let _ = acts(&mut sem, &mut ws, (2, 3), &take);
-    let _ = acts(&mut sem, &mut ws, (3, 5), &take);
+    let _ = sem.act((1, 5), &take);
+    let _ = sem.act((2, 3), &take);
+    let _ = sem.act((3, 5), &take);
     let gone = Reply::Fail(Errno::EAGAIN);
-    is(
+    wakes(
         &rt,
-        &acts(&mut sem, &mut ws, (4, 0), &Ask::SemReset),
+        &sem.act((4, 0), &Ask::SemReset),
         VOID,
-        &[],
         &[(2, gone, &[]), (1, gone, &[]), (3, gone, &[])],
     );
 }
@@ -438,28 +284,17 @@ fn resets(rt: HostRuntime) {
 /// Readers of a pipe share the bytes that are written, the least priority number first.
 #[test]
 fn readers_share(rt: HostRuntime) {
-    let mut pipe = Contents::Pipe(BytePipe::new(4));
-    let mut ws = Waiters::new();
-    let three = Ask::PipeRead {
-        length: 3,
-        timeout: WAITS,
-    };
-    let two = Ask::PipeRead {
-        length: 2,
-        timeout: WAITS,
-    };
-    let _ = acts(&mut pipe, &mut ws, (1, 5), &three);
-    let _ = acts(&mut pipe, &mut ws, (2, 3), &two);
-    let _ = acts(&mut pipe, &mut ws, (3, 5), &two);
-    let write = Ask::PipeWrite {
-        length: 4,
-        timeout: WAITS,
-    };
-    is(
+    let mut pipe = Trial::of(Contents::Pipe(BytePipe::new(4)));
+    let three = read_of(3, WAITS);
+    let two = read_of(2, WAITS);
+    let _ = pipe.act((1, 5), &three);
+    let _ = pipe.act((2, 3), &two);
+    let _ = pipe.act((3, 5), &two);
+    let write = write_of(4, WAITS);
+    wakes(
         &rt,
-        &acts_with(&mut pipe, &mut ws, (4, 0), &write, &piece(&[1, 2, 3, 4])),
+        &pipe.act_with((4, 0), &write, &piece(&[1, 2, 3, 4])),
         Answer::Now(Reply::Num(4)),
-        &[],
         &[(2, Reply::Num(2), &[1, 2]), (1, Reply::Num(2), &[3, 4])],
     );
 }
@@ -467,26 +302,16 @@ fn readers_share(rt: HostRuntime) {
 /// Writers to a pipe share the room that a read leaves.
 #[test]
 fn writers_share(rt: HostRuntime) {
-    let mut pipe = Contents::Pipe(BytePipe::new(4));
-    let mut ws = Waiters::new();
-    let four = Ask::PipeWrite {
-        length: 4,
-        timeout: WAITS,
-    };
-    let two = Ask::PipeWrite {
-        length: 2,
-        timeout: WAITS,
-    };
-    let _ = acts_with(&mut pipe, &mut ws, (0, 5), &four, &piece(&[1, 2, 3, 4]));
-    let _ = acts_with(&mut pipe, &mut ws, (1, 5), &four, &piece(&[1, 2, 3, 4]));
-    let _ = acts_with(&mut pipe, &mut ws, (2, 3), &two, &piece(&[5, 6]));
-    let read = Ask::PipeRead {
-        length: 3,
-        timeout: WAITS,
-    };
+    let mut pipe = Trial::of(Contents::Pipe(BytePipe::new(4)));
+    let four = write_of(4, WAITS);
+    let two = write_of(2, WAITS);
+    let _ = pipe.act_with((0, 5), &four, &piece(&[1, 2, 3, 4]));
+    let _ = pipe.act_with((1, 5), &four, &piece(&[1, 2, 3, 4]));
+    let _ = pipe.act_with((2, 3), &two, &piece(&[5, 6]));
+    let read = read_of(3, WAITS);
     is(
         &rt,
-        &acts(&mut pipe, &mut ws, (4, 0), &read),
+        &pipe.act((4, 0), &read),
         Answer::Now(Reply::Num(3)),
         &[1, 2, 3],
         &[(2, Reply::Num(2), &[]), (1, Reply::Num(1), &[])],

@@ -1,11 +1,10 @@
 -- One more at the end of the front, whose reply is short.
-use Rattle.std.proofs.Common.{◌≡◌, ◌∙◌, ◌+◌, ◌≤◌, ◌<◌, ◌∷◌, ◌++◌, [], ap, add-one, arith, length, length-take, sym, take, slice_set}
+use Rattle.std.proofs.Common.{◌≡◌, ◌∙◌, ◌+◌, ◌<◌, ◌∷◌, ◌++◌, [], ap, add-one, arith, length, length-take, take, slice_set}
 use Rattle.std.proofs.Math.Seq.{take-suc-set}
 use Rattle.std.proofs.lemmas.List.{length-set}
 use Rattle.um_base.specs.declared.ask.Told.{Told}
 use Rattle.um_base.specs.declared.limits.TheConstants.{THREADS}
 use Rattle.um_base.specs.declared.names.ThreadIx.{ThreadIx}
-use Rattle.um_service.specs.Told.{AreShort}
 use Rattle.um_service.proofs.ToldLemmas.{one-more-short}
 use Rattle.um_service.proofs.outcome.Woken.push.Goals as goal
 
