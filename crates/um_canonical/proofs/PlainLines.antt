@@ -18,15 +18,6 @@ use Rattle.um_base.specs.Lawful.{is_within, is_name, is_name_byte, is_register, 
 use Rattle.um_document.proofs.EmptyLists.{and_true}
 use Rattle.um_script.specs.Canonical.{Operand, operands_of, mnemonic, canonical, term_text, named_text, part_text, offset_text, with_parts, with_operand, with_operands, options_by, options_word}
 use Rattle.um_script.specs.declared.mnemonic.Mnemonic.{Mnemonic}
-use Rattle.um_script.specs.declared.mnemonic.Plain.{Plain}
-use Rattle.um_script.specs.declared.mnemonic.DomainCall.{DomainCall}
-use Rattle.um_script.specs.declared.mnemonic.ObjectCall.{ObjectCall}
-use Rattle.um_script.specs.declared.mnemonic.ThreadCall.{ThreadCall}
-use Rattle.um_script.specs.declared.mnemonic.SemCall.{SemCall}
-use Rattle.um_script.specs.declared.mnemonic.MutexCall.{MutexCall}
-use Rattle.um_script.specs.declared.mnemonic.MsgqCall.{MsgqCall}
-use Rattle.um_script.specs.declared.mnemonic.StackCall.{StackCall}
-use Rattle.um_script.specs.declared.mnemonic.PipeCall.{PipeCall}
 use Rattle.um_script.specs.Instructions.{spelling}
 use Rattle.um_script.specs.Numbers.{is_digit}
 use Rattle.um_script.specs.Operands.{Form, Times, Register, Size, AnyTerm, Named, Part, Parts, ObjectKind, Wait, Priority, OptionSet, Value}
@@ -165,49 +156,8 @@ operands_plain text (o ∷ os) ok h =
     operands_plain (with_operand text o.0 o.1) os (operand_plain text o.0 o.1 ok both.0) both.1
 
 spelling_plain : (m : Mnemonic) → is_plain (spelling m) ≡ true
-spelling_plain (Mnemonic.Plain Plain.End) = refl
-spelling_plain (Mnemonic.Plain Plain.Oops) = refl
-spelling_plain (Mnemonic.Plain Plain.Panic) = refl
-spelling_plain (Mnemonic.Plain Plain.Repeat) = refl
-spelling_plain (Mnemonic.Plain Plain.Set) = refl
-spelling_plain (Mnemonic.Plain Plain.Add) = refl
-spelling_plain (Mnemonic.Plain Plain.Load) = refl
-spelling_plain (Mnemonic.Plain Plain.Store) = refl
-spelling_plain (Mnemonic.Plain Plain.Exec) = refl
-spelling_plain (Mnemonic.Domain DomainCall.Init) = refl
-spelling_plain (Mnemonic.Domain DomainCall.AddPartition) = refl
-spelling_plain (Mnemonic.Domain DomainCall.RemovePartition) = refl
-spelling_plain (Mnemonic.Domain DomainCall.AddThread) = refl
-spelling_plain (Mnemonic.Object ObjectCall.Alloc) = refl
-spelling_plain (Mnemonic.Object ObjectCall.AccessGrant) = refl
-spelling_plain (Mnemonic.Object ObjectCall.AccessRevoke) = refl
-spelling_plain (Mnemonic.Object ObjectCall.Release) = refl
-spelling_plain (Mnemonic.Object ObjectCall.AccessAllGrant) = refl
-spelling_plain (Mnemonic.Thread ThreadCall.Create) = refl
-spelling_plain (Mnemonic.Thread ThreadCall.UserModeEnter) = refl
-spelling_plain (Mnemonic.Thread ThreadCall.NameSet) = refl
-spelling_plain (Mnemonic.Sem SemCall.Init) = refl
-spelling_plain (Mnemonic.Sem SemCall.Take) = refl
-spelling_plain (Mnemonic.Sem SemCall.Give) = refl
-spelling_plain (Mnemonic.Sem SemCall.Reset) = refl
-spelling_plain (Mnemonic.Sem SemCall.CountGet) = refl
-spelling_plain (Mnemonic.Mutex MutexCall.Init) = refl
-spelling_plain (Mnemonic.Mutex MutexCall.Lock) = refl
-spelling_plain (Mnemonic.Mutex MutexCall.Unlock) = refl
-spelling_plain (Mnemonic.Msgq MsgqCall.AllocInit) = refl
-spelling_plain (Mnemonic.Msgq MsgqCall.Put) = refl
-spelling_plain (Mnemonic.Msgq MsgqCall.Get) = refl
-spelling_plain (Mnemonic.Msgq MsgqCall.Peek) = refl
-spelling_plain (Mnemonic.Msgq MsgqCall.Purge) = refl
-spelling_plain (Mnemonic.Msgq MsgqCall.NumUsedGet) = refl
-spelling_plain (Mnemonic.Stack StackCall.AllocInit) = refl
-spelling_plain (Mnemonic.Stack StackCall.Push) = refl
-spelling_plain (Mnemonic.Stack StackCall.Pop) = refl
-spelling_plain (Mnemonic.Pipe PipeCall.Init) = refl
-spelling_plain (Mnemonic.Pipe PipeCall.Write) = refl
-spelling_plain (Mnemonic.Pipe PipeCall.Read) = refl
-spelling_plain (Mnemonic.Pipe PipeCall.Reset) = refl
-spelling_plain (Mnemonic.Pipe PipeCall.Close) = refl
+spelling_plain Mnemonic.End = refl
+spelling_plain _ = refl
 
 pub line_plain : (line : Instr) → IsTrue (is_line line) → is_plain (canonical line) ≡ true
 line_plain line h = operands_plain (spelling (mnemonic line)) (operands_of line) (spelling_plain (mnemonic line)) h

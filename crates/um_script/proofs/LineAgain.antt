@@ -8,15 +8,6 @@ use Rattle.um_base.specs.declared.instr.Instr.{Instr}
 use Rattle.um_base.specs.declared.names.PartRef.{PartRef}
 use Rattle.um_script.specs.declared.fault.LineFault.{LineFault}
 use Rattle.um_script.specs.declared.mnemonic.Mnemonic.{Mnemonic}
-use Rattle.um_script.specs.declared.mnemonic.Plain.{Plain}
-use Rattle.um_script.specs.declared.mnemonic.DomainCall.{DomainCall}
-use Rattle.um_script.specs.declared.mnemonic.ObjectCall.{ObjectCall}
-use Rattle.um_script.specs.declared.mnemonic.ThreadCall.{ThreadCall}
-use Rattle.um_script.specs.declared.mnemonic.SemCall.{SemCall}
-use Rattle.um_script.specs.declared.mnemonic.MutexCall.{MutexCall}
-use Rattle.um_script.specs.declared.mnemonic.MsgqCall.{MsgqCall}
-use Rattle.um_script.specs.declared.mnemonic.StackCall.{StackCall}
-use Rattle.um_script.specs.declared.mnemonic.PipeCall.{PipeCall}
 use Rattle.um_script.specs.Canonical.{Operand, part_text, with_parts, with_operand, with_operands, term_text, named_text, options_word, mnemonic, operands_of, canonical}
 use Rattle.um_script.specs.Instructions.{spelling, syntax}
 use Rattle.um_script.specs.Lines.{mnemonic_of, whole, behind_first, line_of_words, line_of}
@@ -199,49 +190,8 @@ record IsMnemonic (m : Mnemonic) : Type 0 where
   one_word : IsWord (spelling m)
 
 is_mnemonic : (m : Mnemonic) → IsMnemonic m
-is_mnemonic (Mnemonic.Plain Plain.End) = record { known = refl; one_word = record { bytes = refl; some = lit< tt } }
-is_mnemonic (Mnemonic.Plain Plain.Oops) = record { known = refl; one_word = record { bytes = refl; some = lit< tt } }
-is_mnemonic (Mnemonic.Plain Plain.Panic) = record { known = refl; one_word = record { bytes = refl; some = lit< tt } }
-is_mnemonic (Mnemonic.Plain Plain.Repeat) = record { known = refl; one_word = record { bytes = refl; some = lit< tt } }
-is_mnemonic (Mnemonic.Plain Plain.Set) = record { known = refl; one_word = record { bytes = refl; some = lit< tt } }
-is_mnemonic (Mnemonic.Plain Plain.Add) = record { known = refl; one_word = record { bytes = refl; some = lit< tt } }
-is_mnemonic (Mnemonic.Plain Plain.Load) = record { known = refl; one_word = record { bytes = refl; some = lit< tt } }
-is_mnemonic (Mnemonic.Plain Plain.Store) = record { known = refl; one_word = record { bytes = refl; some = lit< tt } }
-is_mnemonic (Mnemonic.Plain Plain.Exec) = record { known = refl; one_word = record { bytes = refl; some = lit< tt } }
-is_mnemonic (Mnemonic.Domain DomainCall.Init) = record { known = refl; one_word = record { bytes = refl; some = lit< tt } }
-is_mnemonic (Mnemonic.Domain DomainCall.AddPartition) = record { known = refl; one_word = record { bytes = refl; some = lit< tt } }
-is_mnemonic (Mnemonic.Domain DomainCall.RemovePartition) = record { known = refl; one_word = record { bytes = refl; some = lit< tt } }
-is_mnemonic (Mnemonic.Domain DomainCall.AddThread) = record { known = refl; one_word = record { bytes = refl; some = lit< tt } }
-is_mnemonic (Mnemonic.Object ObjectCall.Alloc) = record { known = refl; one_word = record { bytes = refl; some = lit< tt } }
-is_mnemonic (Mnemonic.Object ObjectCall.AccessGrant) = record { known = refl; one_word = record { bytes = refl; some = lit< tt } }
-is_mnemonic (Mnemonic.Object ObjectCall.AccessRevoke) = record { known = refl; one_word = record { bytes = refl; some = lit< tt } }
-is_mnemonic (Mnemonic.Object ObjectCall.Release) = record { known = refl; one_word = record { bytes = refl; some = lit< tt } }
-is_mnemonic (Mnemonic.Object ObjectCall.AccessAllGrant) = record { known = refl; one_word = record { bytes = refl; some = lit< tt } }
-is_mnemonic (Mnemonic.Thread ThreadCall.Create) = record { known = refl; one_word = record { bytes = refl; some = lit< tt } }
-is_mnemonic (Mnemonic.Thread ThreadCall.UserModeEnter) = record { known = refl; one_word = record { bytes = refl; some = lit< tt } }
-is_mnemonic (Mnemonic.Thread ThreadCall.NameSet) = record { known = refl; one_word = record { bytes = refl; some = lit< tt } }
-is_mnemonic (Mnemonic.Sem SemCall.Init) = record { known = refl; one_word = record { bytes = refl; some = lit< tt } }
-is_mnemonic (Mnemonic.Sem SemCall.Take) = record { known = refl; one_word = record { bytes = refl; some = lit< tt } }
-is_mnemonic (Mnemonic.Sem SemCall.Give) = record { known = refl; one_word = record { bytes = refl; some = lit< tt } }
-is_mnemonic (Mnemonic.Sem SemCall.Reset) = record { known = refl; one_word = record { bytes = refl; some = lit< tt } }
-is_mnemonic (Mnemonic.Sem SemCall.CountGet) = record { known = refl; one_word = record { bytes = refl; some = lit< tt } }
-is_mnemonic (Mnemonic.Mutex MutexCall.Init) = record { known = refl; one_word = record { bytes = refl; some = lit< tt } }
-is_mnemonic (Mnemonic.Mutex MutexCall.Lock) = record { known = refl; one_word = record { bytes = refl; some = lit< tt } }
-is_mnemonic (Mnemonic.Mutex MutexCall.Unlock) = record { known = refl; one_word = record { bytes = refl; some = lit< tt } }
-is_mnemonic (Mnemonic.Msgq MsgqCall.AllocInit) = record { known = refl; one_word = record { bytes = refl; some = lit< tt } }
-is_mnemonic (Mnemonic.Msgq MsgqCall.Put) = record { known = refl; one_word = record { bytes = refl; some = lit< tt } }
-is_mnemonic (Mnemonic.Msgq MsgqCall.Get) = record { known = refl; one_word = record { bytes = refl; some = lit< tt } }
-is_mnemonic (Mnemonic.Msgq MsgqCall.Peek) = record { known = refl; one_word = record { bytes = refl; some = lit< tt } }
-is_mnemonic (Mnemonic.Msgq MsgqCall.Purge) = record { known = refl; one_word = record { bytes = refl; some = lit< tt } }
-is_mnemonic (Mnemonic.Msgq MsgqCall.NumUsedGet) = record { known = refl; one_word = record { bytes = refl; some = lit< tt } }
-is_mnemonic (Mnemonic.Stack StackCall.AllocInit) = record { known = refl; one_word = record { bytes = refl; some = lit< tt } }
-is_mnemonic (Mnemonic.Stack StackCall.Push) = record { known = refl; one_word = record { bytes = refl; some = lit< tt } }
-is_mnemonic (Mnemonic.Stack StackCall.Pop) = record { known = refl; one_word = record { bytes = refl; some = lit< tt } }
-is_mnemonic (Mnemonic.Pipe PipeCall.Init) = record { known = refl; one_word = record { bytes = refl; some = lit< tt } }
-is_mnemonic (Mnemonic.Pipe PipeCall.Write) = record { known = refl; one_word = record { bytes = refl; some = lit< tt } }
-is_mnemonic (Mnemonic.Pipe PipeCall.Read) = record { known = refl; one_word = record { bytes = refl; some = lit< tt } }
-is_mnemonic (Mnemonic.Pipe PipeCall.Reset) = record { known = refl; one_word = record { bytes = refl; some = lit< tt } }
-is_mnemonic (Mnemonic.Pipe PipeCall.Close) = record { known = refl; one_word = record { bytes = refl; some = lit< tt } }
+is_mnemonic Mnemonic.End = record { known = refl; one_word = record { bytes = refl; some = lit< tt } }
+is_mnemonic _ = record { known = refl; one_word = record { bytes = refl; some = lit< tt } }
 
 -- the canonical line of an instruction that lines can give is read back to it
 pub canonical_again : (instr : Instr) → IsTrue (is_line instr) → line_of (canonical instr) ≡ Ok instr

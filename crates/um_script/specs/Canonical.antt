@@ -7,15 +7,6 @@ use Rattle.um_base.specs.declared.names.PartRef.{PartRef}
 use Rattle.um_base.specs.declared.names.Ref.{Ref}
 use Rattle.um_base.specs.declared.names.Term.{Term}
 use Rattle.um_script.specs.declared.mnemonic.Mnemonic.{Mnemonic}
-use Rattle.um_script.specs.declared.mnemonic.Plain.{Plain}
-use Rattle.um_script.specs.declared.mnemonic.DomainCall.{DomainCall}
-use Rattle.um_script.specs.declared.mnemonic.ObjectCall.{ObjectCall}
-use Rattle.um_script.specs.declared.mnemonic.ThreadCall.{ThreadCall}
-use Rattle.um_script.specs.declared.mnemonic.SemCall.{SemCall}
-use Rattle.um_script.specs.declared.mnemonic.MutexCall.{MutexCall}
-use Rattle.um_script.specs.declared.mnemonic.MsgqCall.{MsgqCall}
-use Rattle.um_script.specs.declared.mnemonic.StackCall.{StackCall}
-use Rattle.um_script.specs.declared.mnemonic.PipeCall.{PipeCall}
 use Rattle.um_script.specs.Instructions.{spelling}
 use Rattle.um_script.specs.Operands.{Form, Times, Register, Size, AnyTerm, Named, Part, Parts, ObjectKind, Wait, Priority, OptionSet, Value}
 use Rattle.um_vocabulary.specs.Words.{kind_word, timeout_word, attr_word}
@@ -81,49 +72,49 @@ with_operands text (operand ∷ operands) = with_operands (with_operand text ope
 
 -- what a line of the instruction begins with
 abbrev pub mnemonic : Instr → Mnemonic
-mnemonic Instr.End = Mnemonic.Plain Plain.End
-mnemonic Instr.Oops = Mnemonic.Plain Plain.Oops
-mnemonic Instr.Panic = Mnemonic.Plain Plain.Panic
-mnemonic (Instr.Repeat times) = Mnemonic.Plain Plain.Repeat
-mnemonic (Instr.Set to value) = Mnemonic.Plain Plain.Set
-mnemonic (Instr.Add to value) = Mnemonic.Plain Plain.Add
-mnemonic (Instr.Load to addr size) = Mnemonic.Plain Plain.Load
-mnemonic (Instr.Store addr size value) = Mnemonic.Plain Plain.Store
-mnemonic (Instr.Exec addr) = Mnemonic.Plain Plain.Exec
-mnemonic (Instr.DomainInit domain parts) = Mnemonic.Domain DomainCall.Init
-mnemonic (Instr.DomainAdd domain part) = Mnemonic.Domain DomainCall.AddPartition
-mnemonic (Instr.DomainRemove domain part) = Mnemonic.Domain DomainCall.RemovePartition
-mnemonic (Instr.DomainMove domain thread) = Mnemonic.Domain DomainCall.AddThread
-mnemonic (Instr.ObjectAlloc kind to) = Mnemonic.Object ObjectCall.Alloc
-mnemonic (Instr.Grant object thread) = Mnemonic.Object ObjectCall.AccessGrant
-mnemonic (Instr.Revoke object thread) = Mnemonic.Object ObjectCall.AccessRevoke
-mnemonic (Instr.Release object) = Mnemonic.Object ObjectCall.Release
-mnemonic (Instr.AllGrant object) = Mnemonic.Object ObjectCall.AccessAllGrant
-mnemonic (Instr.Create thread stack size script priority options) = Mnemonic.Thread ThreadCall.Create
-mnemonic (Instr.UserMode script) = Mnemonic.Thread ThreadCall.UserModeEnter
-mnemonic (Instr.NameSet thread addr) = Mnemonic.Thread ThreadCall.NameSet
-mnemonic (Instr.SemInit object count limit) = Mnemonic.Sem SemCall.Init
-mnemonic (Instr.SemTake object timeout) = Mnemonic.Sem SemCall.Take
-mnemonic (Instr.SemGive object) = Mnemonic.Sem SemCall.Give
-mnemonic (Instr.SemReset object) = Mnemonic.Sem SemCall.Reset
-mnemonic (Instr.SemCount object to) = Mnemonic.Sem SemCall.CountGet
-mnemonic (Instr.MutexInit object) = Mnemonic.Mutex MutexCall.Init
-mnemonic (Instr.MutexLock object timeout) = Mnemonic.Mutex MutexCall.Lock
-mnemonic (Instr.MutexUnlock object) = Mnemonic.Mutex MutexCall.Unlock
-mnemonic (Instr.MsgqInit object msg_size max_msgs) = Mnemonic.Msgq MsgqCall.AllocInit
-mnemonic (Instr.MsgqPut object addr timeout) = Mnemonic.Msgq MsgqCall.Put
-mnemonic (Instr.MsgqGet object addr timeout) = Mnemonic.Msgq MsgqCall.Get
-mnemonic (Instr.MsgqPeek object addr) = Mnemonic.Msgq MsgqCall.Peek
-mnemonic (Instr.MsgqPurge object) = Mnemonic.Msgq MsgqCall.Purge
-mnemonic (Instr.MsgqUsed object to) = Mnemonic.Msgq MsgqCall.NumUsedGet
-mnemonic (Instr.StackInit object entries) = Mnemonic.Stack StackCall.AllocInit
-mnemonic (Instr.StackPush object value) = Mnemonic.Stack StackCall.Push
-mnemonic (Instr.StackPop object addr timeout) = Mnemonic.Stack StackCall.Pop
-mnemonic (Instr.PipeInit object size) = Mnemonic.Pipe PipeCall.Init
-mnemonic (Instr.PipeWrite object addr length timeout) = Mnemonic.Pipe PipeCall.Write
-mnemonic (Instr.PipeRead object addr length timeout) = Mnemonic.Pipe PipeCall.Read
-mnemonic (Instr.PipeReset object) = Mnemonic.Pipe PipeCall.Reset
-mnemonic (Instr.PipeClose object) = Mnemonic.Pipe PipeCall.Close
+mnemonic Instr.End = Mnemonic.End
+mnemonic Instr.Oops = Mnemonic.Oops
+mnemonic Instr.Panic = Mnemonic.Panic
+mnemonic (Instr.Repeat times) = Mnemonic.Repeat
+mnemonic (Instr.Set to value) = Mnemonic.Set
+mnemonic (Instr.Add to value) = Mnemonic.Add
+mnemonic (Instr.Load to addr size) = Mnemonic.Load
+mnemonic (Instr.Store addr size value) = Mnemonic.Store
+mnemonic (Instr.Exec addr) = Mnemonic.Exec
+mnemonic (Instr.DomainInit domain parts) = Mnemonic.DomainInit
+mnemonic (Instr.DomainAdd domain part) = Mnemonic.DomainAdd
+mnemonic (Instr.DomainRemove domain part) = Mnemonic.DomainRemove
+mnemonic (Instr.DomainMove domain thread) = Mnemonic.DomainMove
+mnemonic (Instr.ObjectAlloc kind to) = Mnemonic.ObjectAlloc
+mnemonic (Instr.Grant object thread) = Mnemonic.Grant
+mnemonic (Instr.Revoke object thread) = Mnemonic.Revoke
+mnemonic (Instr.Release object) = Mnemonic.Release
+mnemonic (Instr.AllGrant object) = Mnemonic.AllGrant
+mnemonic (Instr.Create thread stack size script priority options) = Mnemonic.Create
+mnemonic (Instr.UserMode script) = Mnemonic.UserMode
+mnemonic (Instr.NameSet thread addr) = Mnemonic.NameSet
+mnemonic (Instr.SemInit object count limit) = Mnemonic.SemInit
+mnemonic (Instr.SemTake object timeout) = Mnemonic.SemTake
+mnemonic (Instr.SemGive object) = Mnemonic.SemGive
+mnemonic (Instr.SemReset object) = Mnemonic.SemReset
+mnemonic (Instr.SemCount object to) = Mnemonic.SemCount
+mnemonic (Instr.MutexInit object) = Mnemonic.MutexInit
+mnemonic (Instr.MutexLock object timeout) = Mnemonic.MutexLock
+mnemonic (Instr.MutexUnlock object) = Mnemonic.MutexUnlock
+mnemonic (Instr.MsgqInit object msg_size max_msgs) = Mnemonic.MsgqInit
+mnemonic (Instr.MsgqPut object addr timeout) = Mnemonic.MsgqPut
+mnemonic (Instr.MsgqGet object addr timeout) = Mnemonic.MsgqGet
+mnemonic (Instr.MsgqPeek object addr) = Mnemonic.MsgqPeek
+mnemonic (Instr.MsgqPurge object) = Mnemonic.MsgqPurge
+mnemonic (Instr.MsgqUsed object to) = Mnemonic.MsgqUsed
+mnemonic (Instr.StackInit object entries) = Mnemonic.StackInit
+mnemonic (Instr.StackPush object value) = Mnemonic.StackPush
+mnemonic (Instr.StackPop object addr timeout) = Mnemonic.StackPop
+mnemonic (Instr.PipeInit object size) = Mnemonic.PipeInit
+mnemonic (Instr.PipeWrite object addr length timeout) = Mnemonic.PipeWrite
+mnemonic (Instr.PipeRead object addr length timeout) = Mnemonic.PipeRead
+mnemonic (Instr.PipeReset object) = Mnemonic.PipeReset
+mnemonic (Instr.PipeClose object) = Mnemonic.PipeClose
 
 -- its operands, from left to right
 abbrev pub operands_of : Instr → List Operand

@@ -1,11 +1,11 @@
-//! The words that lines begin with, by what they are about. The calls have Zephyr's names.
+//! The words that lines begin with, each by the name of its instruction. The calls have Zephyr's names.
 
 ghost use Rattle.std.specs.Prelude.{◌≡◌, ◌==◌, length, find, filter, bytes_eq};
 ghost use Rattle.um_script.specs.Instructions.{spelling, mnemonics};
 
-/// Lines that are no calls.
+/// What a line does.
 #[derive(Clone, Copy)]
-pub enum Plain {
+pub enum Mnemonic {
     End,
     Oops,
     Panic,
@@ -15,355 +15,108 @@ pub enum Plain {
     Load,
     Store,
     Exec,
-}
-
-/// Calls on memory domains.
-#[derive(Clone, Copy)]
-pub enum DomainCall {
-    Init,
-    AddPartition,
-    RemovePartition,
-    AddThread,
-}
-
-/// Calls on kernel objects of any kind.
-#[derive(Clone, Copy)]
-pub enum ObjectCall {
-    Alloc,
-    AccessGrant,
-    AccessRevoke,
+    DomainInit,
+    DomainAdd,
+    DomainRemove,
+    DomainMove,
+    ObjectAlloc,
+    Grant,
+    Revoke,
     Release,
-    AccessAllGrant,
-}
-
-/// Calls on threads.
-#[derive(Clone, Copy)]
-pub enum ThreadCall {
+    AllGrant,
     Create,
-    UserModeEnter,
+    UserMode,
     NameSet,
+    SemInit,
+    SemTake,
+    SemGive,
+    SemReset,
+    SemCount,
+    MutexInit,
+    MutexLock,
+    MutexUnlock,
+    MsgqInit,
+    MsgqPut,
+    MsgqGet,
+    MsgqPeek,
+    MsgqPurge,
+    MsgqUsed,
+    StackInit,
+    StackPush,
+    StackPop,
+    PipeInit,
+    PipeWrite,
+    PipeRead,
+    PipeReset,
+    PipeClose,
 }
 
-/// Calls on semaphores.
-#[derive(Clone, Copy)]
-pub enum SemCall {
-    Init,
-    Take,
-    Give,
-    Reset,
-    CountGet,
-}
-
-/// Calls on mutexes.
-#[derive(Clone, Copy)]
-pub enum MutexCall {
-    Init,
-    Lock,
-    Unlock,
-}
-
-/// Calls on message queues.
-#[derive(Clone, Copy)]
-pub enum MsgqCall {
-    AllocInit,
-    Put,
-    Get,
-    Peek,
-    Purge,
-    NumUsedGet,
-}
-
-/// Calls on stacks.
-#[derive(Clone, Copy)]
-pub enum StackCall {
-    AllocInit,
-    Push,
-    Pop,
-}
-
-/// Calls on pipes.
-#[derive(Clone, Copy)]
-pub enum PipeCall {
-    Init,
-    Write,
-    Read,
-    Reset,
-    Close,
-}
-
-/// What a line does.
-#[derive(Clone, Copy)]
-pub enum Mnemonic {
-    Plain(Plain),
-    Domain(DomainCall),
-    Object(ObjectCall),
-    Thread(ThreadCall),
-    Sem(SemCall),
-    Mutex(MutexCall),
-    Msgq(MsgqCall),
-    Stack(StackCall),
-    Pipe(PipeCall),
-}
-
-/// All of them.
+/// All of them, the shortest words first.
 const ALL: [Mnemonic; 43] = [
-    Mnemonic::Plain(Plain::End),
-    Mnemonic::Plain(Plain::Oops),
-    Mnemonic::Plain(Plain::Panic),
-    Mnemonic::Plain(Plain::Repeat),
-    Mnemonic::Plain(Plain::Set),
-    Mnemonic::Plain(Plain::Add),
-    Mnemonic::Plain(Plain::Load),
-    Mnemonic::Plain(Plain::Store),
-    Mnemonic::Plain(Plain::Exec),
-    Mnemonic::Domain(DomainCall::Init),
-    Mnemonic::Domain(DomainCall::AddPartition),
-    Mnemonic::Domain(DomainCall::RemovePartition),
-    Mnemonic::Domain(DomainCall::AddThread),
-    Mnemonic::Object(ObjectCall::Alloc),
-    Mnemonic::Object(ObjectCall::AccessGrant),
-    Mnemonic::Object(ObjectCall::AccessRevoke),
-    Mnemonic::Object(ObjectCall::Release),
-    Mnemonic::Object(ObjectCall::AccessAllGrant),
-    Mnemonic::Thread(ThreadCall::Create),
-    Mnemonic::Thread(ThreadCall::UserModeEnter),
-    Mnemonic::Thread(ThreadCall::NameSet),
-    Mnemonic::Sem(SemCall::Init),
-    Mnemonic::Sem(SemCall::Take),
-    Mnemonic::Sem(SemCall::Give),
-    Mnemonic::Sem(SemCall::Reset),
-    Mnemonic::Sem(SemCall::CountGet),
-    Mnemonic::Mutex(MutexCall::Init),
-    Mnemonic::Mutex(MutexCall::Lock),
-    Mnemonic::Mutex(MutexCall::Unlock),
-    Mnemonic::Msgq(MsgqCall::AllocInit),
-    Mnemonic::Msgq(MsgqCall::Put),
-    Mnemonic::Msgq(MsgqCall::Get),
-    Mnemonic::Msgq(MsgqCall::Peek),
-    Mnemonic::Msgq(MsgqCall::Purge),
-    Mnemonic::Msgq(MsgqCall::NumUsedGet),
-    Mnemonic::Stack(StackCall::AllocInit),
-    Mnemonic::Stack(StackCall::Push),
-    Mnemonic::Stack(StackCall::Pop),
-    Mnemonic::Pipe(PipeCall::Init),
-    Mnemonic::Pipe(PipeCall::Write),
-    Mnemonic::Pipe(PipeCall::Read),
-    Mnemonic::Pipe(PipeCall::Reset),
-    Mnemonic::Pipe(PipeCall::Close),
+    Mnemonic::End,
+    Mnemonic::Set,
+    Mnemonic::Add,
+    Mnemonic::Load,
+    Mnemonic::Exec,
+    Mnemonic::Store,
+    Mnemonic::Oops,
+    Mnemonic::Repeat,
+    Mnemonic::Panic,
+    Mnemonic::SemInit,
+    Mnemonic::SemTake,
+    Mnemonic::SemGive,
+    Mnemonic::MsgqPut,
+    Mnemonic::MsgqGet,
+    Mnemonic::SemReset,
+    Mnemonic::MsgqPeek,
+    Mnemonic::StackPop,
+    Mnemonic::PipeInit,
+    Mnemonic::PipeRead,
+    Mnemonic::MutexInit,
+    Mnemonic::MutexLock,
+    Mnemonic::MsgqPurge,
+    Mnemonic::StackPush,
+    Mnemonic::PipeWrite,
+    Mnemonic::PipeReset,
+    Mnemonic::PipeClose,
+    Mnemonic::ObjectAlloc,
+    Mnemonic::MutexUnlock,
+    Mnemonic::Create,
+    Mnemonic::SemCount,
+    Mnemonic::Release,
+    Mnemonic::DomainInit,
+    Mnemonic::NameSet,
+    Mnemonic::MsgqInit,
+    Mnemonic::StackInit,
+    Mnemonic::MsgqUsed,
+    Mnemonic::Grant,
+    Mnemonic::Revoke,
+    Mnemonic::DomainMove,
+    Mnemonic::UserMode,
+    Mnemonic::AllGrant,
+    Mnemonic::DomainAdd,
+    Mnemonic::DomainRemove,
 ];
-
-/// Those of three letters.
-const OF_THREE: [Mnemonic; 3] = [
-    Mnemonic::Plain(Plain::End),
-    Mnemonic::Plain(Plain::Set),
-    Mnemonic::Plain(Plain::Add),
-];
-
-/// Those of four letters.
-const OF_FOUR: [Mnemonic; 2] = [Mnemonic::Plain(Plain::Load), Mnemonic::Plain(Plain::Exec)];
-
-/// Those of five letters.
-const OF_FIVE: [Mnemonic; 1] = [Mnemonic::Plain(Plain::Store)];
-
-/// Those of six letters.
-const OF_SIX: [Mnemonic; 2] = [Mnemonic::Plain(Plain::Oops), Mnemonic::Plain(Plain::Repeat)];
-
-/// Those of seven letters.
-const OF_SEVEN: [Mnemonic; 1] = [Mnemonic::Plain(Plain::Panic)];
-
-/// Those of ten letters.
-const OF_TEN: [Mnemonic; 5] = [
-    Mnemonic::Sem(SemCall::Init),
-    Mnemonic::Sem(SemCall::Take),
-    Mnemonic::Sem(SemCall::Give),
-    Mnemonic::Msgq(MsgqCall::Put),
-    Mnemonic::Msgq(MsgqCall::Get),
-];
-
-/// Those of eleven letters.
-const OF_ELEVEN: [Mnemonic; 5] = [
-    Mnemonic::Sem(SemCall::Reset),
-    Mnemonic::Msgq(MsgqCall::Peek),
-    Mnemonic::Stack(StackCall::Pop),
-    Mnemonic::Pipe(PipeCall::Init),
-    Mnemonic::Pipe(PipeCall::Read),
-];
-
-/// Those of twelve letters.
-const OF_TWELVE: [Mnemonic; 7] = [
-    Mnemonic::Mutex(MutexCall::Init),
-    Mnemonic::Mutex(MutexCall::Lock),
-    Mnemonic::Msgq(MsgqCall::Purge),
-    Mnemonic::Stack(StackCall::Push),
-    Mnemonic::Pipe(PipeCall::Write),
-    Mnemonic::Pipe(PipeCall::Reset),
-    Mnemonic::Pipe(PipeCall::Close),
-];
-
-/// Those of fourteen letters.
-const OF_FOURTEEN: [Mnemonic; 2] = [
-    Mnemonic::Object(ObjectCall::Alloc),
-    Mnemonic::Mutex(MutexCall::Unlock),
-];
-
-/// Those of fifteen letters.
-const OF_FIFTEEN: [Mnemonic; 2] = [
-    Mnemonic::Thread(ThreadCall::Create),
-    Mnemonic::Sem(SemCall::CountGet),
-];
-
-/// Those of sixteen letters.
-const OF_SIXTEEN: [Mnemonic; 1] = [Mnemonic::Object(ObjectCall::Release)];
-
-/// Those of seventeen letters.
-const OF_SEVENTEEN: [Mnemonic; 3] = [
-    Mnemonic::Domain(DomainCall::Init),
-    Mnemonic::Thread(ThreadCall::NameSet),
-    Mnemonic::Msgq(MsgqCall::AllocInit),
-];
-
-impl Plain {
-    fn word(self) -> &'static [u8]
-        ensures { result.now ≡ spelling (Mnemonic.Plain self) }
-    {
-        match self {
-            Plain::End => b"end",
-            Plain::Oops => b"k_oops",
-            Plain::Panic => b"k_panic",
-            Plain::Repeat => b"repeat",
-            Plain::Set => b"set",
-            Plain::Add => b"add",
-            Plain::Load => b"load",
-            Plain::Store => b"store",
-            Plain::Exec => b"exec",
-        }
-    }
-}
-
-impl DomainCall {
-    fn word(self) -> &'static [u8]
-        ensures { result.now ≡ spelling (Mnemonic.Domain self) }
-    {
-        match self {
-            DomainCall::Init => b"k_mem_domain_init",
-            DomainCall::AddPartition => b"k_mem_domain_add_partition",
-            DomainCall::RemovePartition => b"k_mem_domain_remove_partition",
-            DomainCall::AddThread => b"k_mem_domain_add_thread",
-        }
-    }
-}
-
-impl ObjectCall {
-    fn word(self) -> &'static [u8]
-        ensures { result.now ≡ spelling (Mnemonic.Object self) }
-    {
-        match self {
-            ObjectCall::Alloc => b"k_object_alloc",
-            ObjectCall::AccessGrant => b"k_object_access_grant",
-            ObjectCall::AccessRevoke => b"k_object_access_revoke",
-            ObjectCall::Release => b"k_object_release",
-            ObjectCall::AccessAllGrant => b"k_object_access_all_grant",
-        }
-    }
-}
-
-impl ThreadCall {
-    fn word(self) -> &'static [u8]
-        ensures { result.now ≡ spelling (Mnemonic.Thread self) }
-    {
-        match self {
-            ThreadCall::Create => b"k_thread_create",
-            ThreadCall::UserModeEnter => b"k_thread_user_mode_enter",
-            ThreadCall::NameSet => b"k_thread_name_set",
-        }
-    }
-}
-
-impl SemCall {
-    fn word(self) -> &'static [u8]
-        ensures { result.now ≡ spelling (Mnemonic.Sem self) }
-    {
-        match self {
-            SemCall::Init => b"k_sem_init",
-            SemCall::Take => b"k_sem_take",
-            SemCall::Give => b"k_sem_give",
-            SemCall::Reset => b"k_sem_reset",
-            SemCall::CountGet => b"k_sem_count_get",
-        }
-    }
-}
-
-impl MutexCall {
-    fn word(self) -> &'static [u8]
-        ensures { result.now ≡ spelling (Mnemonic.Mutex self) }
-    {
-        match self {
-            MutexCall::Init => b"k_mutex_init",
-            MutexCall::Lock => b"k_mutex_lock",
-            MutexCall::Unlock => b"k_mutex_unlock",
-        }
-    }
-}
-
-impl MsgqCall {
-    fn word(self) -> &'static [u8]
-        ensures { result.now ≡ spelling (Mnemonic.Msgq self) }
-    {
-        match self {
-            MsgqCall::AllocInit => b"k_msgq_alloc_init",
-            MsgqCall::Put => b"k_msgq_put",
-            MsgqCall::Get => b"k_msgq_get",
-            MsgqCall::Peek => b"k_msgq_peek",
-            MsgqCall::Purge => b"k_msgq_purge",
-            MsgqCall::NumUsedGet => b"k_msgq_num_used_get",
-        }
-    }
-}
-
-impl StackCall {
-    fn word(self) -> &'static [u8]
-        ensures { result.now ≡ spelling (Mnemonic.Stack self) }
-    {
-        match self {
-            StackCall::AllocInit => b"k_stack_alloc_init",
-            StackCall::Push => b"k_stack_push",
-            StackCall::Pop => b"k_stack_pop",
-        }
-    }
-}
-
-impl PipeCall {
-    fn word(self) -> &'static [u8]
-        ensures { result.now ≡ spelling (Mnemonic.Pipe self) }
-    {
-        match self {
-            PipeCall::Init => b"k_pipe_init",
-            PipeCall::Write => b"k_pipe_write",
-            PipeCall::Read => b"k_pipe_read",
-            PipeCall::Reset => b"k_pipe_reset",
-            PipeCall::Close => b"k_pipe_close",
-        }
-    }
-}
 
 /// Some that hold all whose words have this length.
 fn of_length(size: usize) -> &'static [Mnemonic]
     ensures { filter (λ m. length (spelling m) == size) result.now ≡ filter (λ m. length (spelling m) == size) mnemonics }
 {
+    let all: &'static [Mnemonic] = &ALL;
     match size {
-        3 => &OF_THREE,
-        4 => &OF_FOUR,
-        5 => &OF_FIVE,
-        6 => &OF_SIX,
-        7 => &OF_SEVEN,
-        10 => &OF_TEN,
-        11 => &OF_ELEVEN,
-        12 => &OF_TWELVE,
-        14 => &OF_FOURTEEN,
-        15 => &OF_FIFTEEN,
-        16 => &OF_SIXTEEN,
-        17 => &OF_SEVENTEEN,
-        _ => &ALL,
+        3 => &all[..3],
+        4 => &all[3..5],
+        5 => &all[5..6],
+        6 => &all[6..8],
+        7 => &all[8..9],
+        10 => &all[9..14],
+        11 => &all[14..19],
+        12 => &all[19..26],
+        14 => &all[26..28],
+        15 => &all[28..30],
+        16 => &all[30..31],
+        17 => &all[31..34],
+        _ => all,
     }
 }
 
@@ -382,15 +135,49 @@ impl Mnemonic {
         ensures { result.now ≡ spelling self }
     {
         match self {
-            Mnemonic::Plain(call) => call.word(),
-            Mnemonic::Domain(call) => call.word(),
-            Mnemonic::Object(call) => call.word(),
-            Mnemonic::Thread(call) => call.word(),
-            Mnemonic::Sem(call) => call.word(),
-            Mnemonic::Mutex(call) => call.word(),
-            Mnemonic::Msgq(call) => call.word(),
-            Mnemonic::Stack(call) => call.word(),
-            Mnemonic::Pipe(call) => call.word(),
+            Mnemonic::End => b"end",
+            Mnemonic::Oops => b"k_oops",
+            Mnemonic::Panic => b"k_panic",
+            Mnemonic::Repeat => b"repeat",
+            Mnemonic::Set => b"set",
+            Mnemonic::Add => b"add",
+            Mnemonic::Load => b"load",
+            Mnemonic::Store => b"store",
+            Mnemonic::Exec => b"exec",
+            Mnemonic::DomainInit => b"k_mem_domain_init",
+            Mnemonic::DomainAdd => b"k_mem_domain_add_partition",
+            Mnemonic::DomainRemove => b"k_mem_domain_remove_partition",
+            Mnemonic::DomainMove => b"k_mem_domain_add_thread",
+            Mnemonic::ObjectAlloc => b"k_object_alloc",
+            Mnemonic::Grant => b"k_object_access_grant",
+            Mnemonic::Revoke => b"k_object_access_revoke",
+            Mnemonic::Release => b"k_object_release",
+            Mnemonic::AllGrant => b"k_object_access_all_grant",
+            Mnemonic::Create => b"k_thread_create",
+            Mnemonic::UserMode => b"k_thread_user_mode_enter",
+            Mnemonic::NameSet => b"k_thread_name_set",
+            Mnemonic::SemInit => b"k_sem_init",
+            Mnemonic::SemTake => b"k_sem_take",
+            Mnemonic::SemGive => b"k_sem_give",
+            Mnemonic::SemReset => b"k_sem_reset",
+            Mnemonic::SemCount => b"k_sem_count_get",
+            Mnemonic::MutexInit => b"k_mutex_init",
+            Mnemonic::MutexLock => b"k_mutex_lock",
+            Mnemonic::MutexUnlock => b"k_mutex_unlock",
+            Mnemonic::MsgqInit => b"k_msgq_alloc_init",
+            Mnemonic::MsgqPut => b"k_msgq_put",
+            Mnemonic::MsgqGet => b"k_msgq_get",
+            Mnemonic::MsgqPeek => b"k_msgq_peek",
+            Mnemonic::MsgqPurge => b"k_msgq_purge",
+            Mnemonic::MsgqUsed => b"k_msgq_num_used_get",
+            Mnemonic::StackInit => b"k_stack_alloc_init",
+            Mnemonic::StackPush => b"k_stack_push",
+            Mnemonic::StackPop => b"k_stack_pop",
+            Mnemonic::PipeInit => b"k_pipe_init",
+            Mnemonic::PipeWrite => b"k_pipe_write",
+            Mnemonic::PipeRead => b"k_pipe_read",
+            Mnemonic::PipeReset => b"k_pipe_reset",
+            Mnemonic::PipeClose => b"k_pipe_close",
         }
     }
 

@@ -9,265 +9,76 @@ ghost use Rattle.um_script.specs.{
 };
 
 use crate::fault::{LineFault, LineKind};
-use crate::mnemonic::{
-    DomainCall, Mnemonic, MsgqCall, MutexCall, ObjectCall, PipeCall, Plain, SemCall, StackCall,
-    ThreadCall,
-};
+use crate::mnemonic::Mnemonic;
 use crate::words::Words;
 use um_base::Instr;
 
+/// An instruction whose operands are read from left to right, each by the method for its form.
+macro_rules! read {
+    ($words:ident => $instr:ident { $($field:ident: $form:ident),* }) => {
+        Ok(Instr::$instr { $($field: $words.$form()?),* })
+    };
+}
+
 impl Words<'_> {
-    fn plain(&mut self, call: Plain) -> Result<Instr, LineFault>
-        ensures value { Gives result (instruction (Mnemonic.Plain call) (words_left self.old)) (words_left self.new) }
-        ensures writable { IfOk result (λ i. IsTrue (is_line i)) }
-    {
-        match call {
-            Plain::End => Ok(Instr::End),
-            Plain::Oops => Ok(Instr::Oops),
-            Plain::Panic => Ok(Instr::Panic),
-            Plain::Repeat => Ok(Instr::Repeat {
-                times: self.times()?,
-            }),
-            Plain::Set => Ok(Instr::Set {
-                to: self.register()?,
-                value: self.term()?,
-            }),
-            Plain::Add => Ok(Instr::Add {
-                to: self.register()?,
-                value: self.term()?,
-            }),
-            Plain::Load => Ok(Instr::Load {
-                to: self.register()?,
-                addr: self.term()?,
-                size: self.size()?,
-            }),
-            Plain::Store => Ok(Instr::Store {
-                addr: self.term()?,
-                size: self.size()?,
-                value: self.term()?,
-            }),
-            Plain::Exec => Ok(Instr::Exec { addr: self.term()? }),
-        }
-    }
-
-    fn domain_call(&mut self, call: DomainCall) -> Result<Instr, LineFault>
-        ensures value { Gives result (instruction (Mnemonic.Domain call) (words_left self.old)) (words_left self.new) }
-        ensures writable { IfOk result (λ i. IsTrue (is_line i)) }
-    {
-        match call {
-            DomainCall::Init => Ok(Instr::DomainInit {
-                domain: self.named()?,
-                parts: self.parts()?,
-            }),
-            DomainCall::AddPartition => Ok(Instr::DomainAdd {
-                domain: self.named()?,
-                part: self.part()?,
-            }),
-            DomainCall::RemovePartition => Ok(Instr::DomainRemove {
-                domain: self.named()?,
-                part: self.part()?,
-            }),
-            DomainCall::AddThread => Ok(Instr::DomainMove {
-                domain: self.named()?,
-                thread: self.term()?,
-            }),
-        }
-    }
-
-    fn object_call(&mut self, call: ObjectCall) -> Result<Instr, LineFault>
-        ensures value { Gives result (instruction (Mnemonic.Object call) (words_left self.old)) (words_left self.new) }
-        ensures writable { IfOk result (λ i. IsTrue (is_line i)) }
-    {
-        match call {
-            ObjectCall::Alloc => Ok(Instr::ObjectAlloc {
-                kind: self.kind()?,
-                to: self.register()?,
-            }),
-            ObjectCall::AccessGrant => Ok(Instr::Grant {
-                object: self.term()?,
-                thread: self.term()?,
-            }),
-            ObjectCall::AccessRevoke => Ok(Instr::Revoke {
-                object: self.term()?,
-                thread: self.term()?,
-            }),
-            ObjectCall::Release => Ok(Instr::Release {
-                object: self.term()?,
-            }),
-            ObjectCall::AccessAllGrant => Ok(Instr::AllGrant {
-                object: self.term()?,
-            }),
-        }
-    }
-
-    fn thread_call(&mut self, call: ThreadCall) -> Result<Instr, LineFault>
-        ensures value { Gives result (instruction (Mnemonic.Thread call) (words_left self.old)) (words_left self.new) }
-        ensures writable { IfOk result (λ i. IsTrue (is_line i)) }
-    {
-        match call {
-            ThreadCall::Create => Ok(Instr::Create {
-                thread: self.term()?,
-                stack: self.term()?,
-                size: self.term()?,
-                script: self.named()?,
-                priority: self.priority()?,
-                options: self.options()?,
-            }),
-            ThreadCall::UserModeEnter => Ok(Instr::UserMode {
-                script: self.named()?,
-            }),
-            ThreadCall::NameSet => Ok(Instr::NameSet {
-                thread: self.term()?,
-                addr: self.term()?,
-            }),
-        }
-    }
-
-    fn sem_call(&mut self, call: SemCall) -> Result<Instr, LineFault>
-        ensures value { Gives result (instruction (Mnemonic.Sem call) (words_left self.old)) (words_left self.new) }
-        ensures writable { IfOk result (λ i. IsTrue (is_line i)) }
-    {
-        match call {
-            SemCall::Init => Ok(Instr::SemInit {
-                object: self.term()?,
-                count: self.term()?,
-                limit: self.term()?,
-            }),
-            SemCall::Take => Ok(Instr::SemTake {
-                object: self.term()?,
-                timeout: self.timeout()?,
-            }),
-            SemCall::Give => Ok(Instr::SemGive {
-                object: self.term()?,
-            }),
-            SemCall::Reset => Ok(Instr::SemReset {
-                object: self.term()?,
-            }),
-            SemCall::CountGet => Ok(Instr::SemCount {
-                object: self.term()?,
-                to: self.register()?,
-            }),
-        }
-    }
-
-    fn mutex_call(&mut self, call: MutexCall) -> Result<Instr, LineFault>
-        ensures value { Gives result (instruction (Mnemonic.Mutex call) (words_left self.old)) (words_left self.new) }
-        ensures writable { IfOk result (λ i. IsTrue (is_line i)) }
-    {
-        match call {
-            MutexCall::Init => Ok(Instr::MutexInit {
-                object: self.term()?,
-            }),
-            MutexCall::Lock => Ok(Instr::MutexLock {
-                object: self.term()?,
-                timeout: self.timeout()?,
-            }),
-            MutexCall::Unlock => Ok(Instr::MutexUnlock {
-                object: self.term()?,
-            }),
-        }
-    }
-
-    fn msgq_call(&mut self, call: MsgqCall) -> Result<Instr, LineFault>
-        ensures value { Gives result (instruction (Mnemonic.Msgq call) (words_left self.old)) (words_left self.new) }
-        ensures writable { IfOk result (λ i. IsTrue (is_line i)) }
-    {
-        match call {
-            MsgqCall::AllocInit => Ok(Instr::MsgqInit {
-                object: self.term()?,
-                msg_size: self.term()?,
-                max_msgs: self.term()?,
-            }),
-            MsgqCall::Put => Ok(Instr::MsgqPut {
-                object: self.term()?,
-                addr: self.term()?,
-                timeout: self.timeout()?,
-            }),
-            MsgqCall::Get => Ok(Instr::MsgqGet {
-                object: self.term()?,
-                addr: self.term()?,
-                timeout: self.timeout()?,
-            }),
-            MsgqCall::Peek => Ok(Instr::MsgqPeek {
-                object: self.term()?,
-                addr: self.term()?,
-            }),
-            MsgqCall::Purge => Ok(Instr::MsgqPurge {
-                object: self.term()?,
-            }),
-            MsgqCall::NumUsedGet => Ok(Instr::MsgqUsed {
-                object: self.term()?,
-                to: self.register()?,
-            }),
-        }
-    }
-
-    fn stack_call(&mut self, call: StackCall) -> Result<Instr, LineFault>
-        ensures value { Gives result (instruction (Mnemonic.Stack call) (words_left self.old)) (words_left self.new) }
-        ensures writable { IfOk result (λ i. IsTrue (is_line i)) }
-    {
-        match call {
-            StackCall::AllocInit => Ok(Instr::StackInit {
-                object: self.term()?,
-                entries: self.term()?,
-            }),
-            StackCall::Push => Ok(Instr::StackPush {
-                object: self.term()?,
-                value: self.term()?,
-            }),
-            StackCall::Pop => Ok(Instr::StackPop {
-                object: self.term()?,
-                addr: self.term()?,
-                timeout: self.timeout()?,
-            }),
-        }
-    }
-
-    fn pipe_call(&mut self, call: PipeCall) -> Result<Instr, LineFault>
-        ensures value { Gives result (instruction (Mnemonic.Pipe call) (words_left self.old)) (words_left self.new) }
-        ensures writable { IfOk result (λ i. IsTrue (is_line i)) }
-    {
-        match call {
-            PipeCall::Init => Ok(Instr::PipeInit {
-                object: self.term()?,
-                size: self.term()?,
-            }),
-            PipeCall::Write => Ok(Instr::PipeWrite {
-                object: self.term()?,
-                addr: self.term()?,
-                length: self.term()?,
-                timeout: self.timeout()?,
-            }),
-            PipeCall::Read => Ok(Instr::PipeRead {
-                object: self.term()?,
-                addr: self.term()?,
-                length: self.term()?,
-                timeout: self.timeout()?,
-            }),
-            PipeCall::Reset => Ok(Instr::PipeReset {
-                object: self.term()?,
-            }),
-            PipeCall::Close => Ok(Instr::PipeClose {
-                object: self.term()?,
-            }),
-        }
-    }
-
     /// The operands of an instruction.
     fn instruction(&mut self, mnemonic: Mnemonic) -> Result<Instr, LineFault>
         ensures value { Gives result (instruction mnemonic (words_left self.old)) (words_left self.new) }
         ensures writable { IfOk result (λ i. IsTrue (is_line i)) }
     {
         match mnemonic {
-            Mnemonic::Plain(call) => self.plain(call),
-            Mnemonic::Domain(call) => self.domain_call(call),
-            Mnemonic::Object(call) => self.object_call(call),
-            Mnemonic::Thread(call) => self.thread_call(call),
-            Mnemonic::Sem(call) => self.sem_call(call),
-            Mnemonic::Mutex(call) => self.mutex_call(call),
-            Mnemonic::Msgq(call) => self.msgq_call(call),
-            Mnemonic::Stack(call) => self.stack_call(call),
-            Mnemonic::Pipe(call) => self.pipe_call(call),
+            Mnemonic::End => Ok(Instr::End),
+            Mnemonic::Oops => Ok(Instr::Oops),
+            Mnemonic::Panic => Ok(Instr::Panic),
+            Mnemonic::Repeat => read!(self => Repeat { times: times }),
+            Mnemonic::Set => read!(self => Set { to: register, value: term }),
+            Mnemonic::Add => read!(self => Add { to: register, value: term }),
+            Mnemonic::Load => read!(self => Load { to: register, addr: term, size: size }),
+            Mnemonic::Store => read!(self => Store { addr: term, size: size, value: term }),
+            Mnemonic::Exec => read!(self => Exec { addr: term }),
+            Mnemonic::DomainInit => read!(self => DomainInit { domain: named, parts: parts }),
+            Mnemonic::DomainAdd => read!(self => DomainAdd { domain: named, part: part }),
+            Mnemonic::DomainRemove => read!(self => DomainRemove { domain: named, part: part }),
+            Mnemonic::DomainMove => read!(self => DomainMove { domain: named, thread: term }),
+            Mnemonic::ObjectAlloc => read!(self => ObjectAlloc { kind: kind, to: register }),
+            Mnemonic::Grant => read!(self => Grant { object: term, thread: term }),
+            Mnemonic::Revoke => read!(self => Revoke { object: term, thread: term }),
+            Mnemonic::Release => read!(self => Release { object: term }),
+            Mnemonic::AllGrant => read!(self => AllGrant { object: term }),
+            Mnemonic::Create => read!(self => Create {
+                thread: term, stack: term, size: term,
+                script: named, priority: priority, options: options
+            }),
+            Mnemonic::UserMode => read!(self => UserMode { script: named }),
+            Mnemonic::NameSet => read!(self => NameSet { thread: term, addr: term }),
+            Mnemonic::SemInit => read!(self => SemInit { object: term, count: term, limit: term }),
+            Mnemonic::SemTake => read!(self => SemTake { object: term, timeout: timeout }),
+            Mnemonic::SemGive => read!(self => SemGive { object: term }),
+            Mnemonic::SemReset => read!(self => SemReset { object: term }),
+            Mnemonic::SemCount => read!(self => SemCount { object: term, to: register }),
+            Mnemonic::MutexInit => read!(self => MutexInit { object: term }),
+            Mnemonic::MutexLock => read!(self => MutexLock { object: term, timeout: timeout }),
+            Mnemonic::MutexUnlock => read!(self => MutexUnlock { object: term }),
+            Mnemonic::MsgqInit =>
+                read!(self => MsgqInit { object: term, msg_size: term, max_msgs: term }),
+            Mnemonic::MsgqPut =>
+                read!(self => MsgqPut { object: term, addr: term, timeout: timeout }),
+            Mnemonic::MsgqGet =>
+                read!(self => MsgqGet { object: term, addr: term, timeout: timeout }),
+            Mnemonic::MsgqPeek => read!(self => MsgqPeek { object: term, addr: term }),
+            Mnemonic::MsgqPurge => read!(self => MsgqPurge { object: term }),
+            Mnemonic::MsgqUsed => read!(self => MsgqUsed { object: term, to: register }),
+            Mnemonic::StackInit => read!(self => StackInit { object: term, entries: term }),
+            Mnemonic::StackPush => read!(self => StackPush { object: term, value: term }),
+            Mnemonic::StackPop =>
+                read!(self => StackPop { object: term, addr: term, timeout: timeout }),
+            Mnemonic::PipeInit => read!(self => PipeInit { object: term, size: term }),
+            Mnemonic::PipeWrite =>
+                read!(self => PipeWrite { object: term, addr: term, length: term, timeout: timeout }),
+            Mnemonic::PipeRead =>
+                read!(self => PipeRead { object: term, addr: term, length: term, timeout: timeout }),
+            Mnemonic::PipeReset => read!(self => PipeReset { object: term }),
+            Mnemonic::PipeClose => read!(self => PipeClose { object: term }),
         }
     }
 
