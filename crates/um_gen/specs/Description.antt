@@ -60,22 +60,22 @@ boot i = in_turn (
     ∷ grants ∷ words "]\n" ∷ [])
 
 -- what the i-th script does in a drawn line
-unfoldable pub take : Piece
+abbrev pub take : Piece
 take = in_turn (words "k_sem_take @s" ∷ drawn_number 4 ∷ words " K_NO_WAIT" ∷ [])
 
-unfoldable pub give : Piece
+abbrev pub give : Piece
 give = in_turn (words "k_sem_give @s" ∷ drawn_number 4 ∷ [])
 
-unfoldable pub store : ℕ → Piece
+abbrev pub store : ℕ → Piece
 store i = in_turn (words "store @k" ∷ number i ∷ words "+" ∷ drawn_offset ∷ words " 4 " ∷ drawn_number 65536 ∷ [])
 
-unfoldable pub load : ℕ → Piece
+abbrev pub load : ℕ → Piece
 load i = in_turn (words "load r0 @k" ∷ number i ∷ words "+" ∷ drawn_offset ∷ words " 4" ∷ [])
 
-unfoldable pub send : ℕ → Piece
+abbrev pub send : ℕ → Piece
 send i = in_turn (words "k_msgq_put @q" ∷ drawn_number 2 ∷ words " @k" ∷ number i ∷ words " K_NO_WAIT" ∷ [])
 
-unfoldable pub receive : ℕ → Piece
+abbrev pub receive : ℕ → Piece
 receive i = in_turn (words "k_msgq_get @q" ∷ drawn_number 2 ∷ words " @k" ∷ number i ∷ words " K_NO_WAIT" ∷ [])
 
 -- the call that a draw of 6 chooses

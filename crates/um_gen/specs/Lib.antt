@@ -2,3 +2,4 @@ pub mod Draws
 pub mod Pieces
 pub mod Description
 pub mod Kept
+pub mod Parts

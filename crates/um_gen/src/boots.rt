@@ -2,48 +2,36 @@
 
 ghost use Rattle.std.specs.Prelude.{◌≡◌, ◌+◌, ◌*◌, ◌≤◌, ◌==◌, ◌&&◌, All, length, map, vec_len, vec_capacity};
 ghost use Rattle.um_gen.specs.Description as description;
-ghost use Rattle.um_gen.specs.{Draws.{draw}, Kept.{name_text}, Pieces.{Writes, each}};
+ghost use Rattle.um_gen.specs.{Draws.{draw}, Kept.{name_text}, Pieces.{Writes}};
 
+use crate::parts::Part::{self, Drawn, Grants, Number, Words};
 use crate::writer::Writer;
 
 /// What a thread may be granted.
 const GRANTABLE: [&str; 6] = ["\"s0\"", "\"s1\"", "\"s2\"", "\"s3\"", "\"q0\"", "\"q1\""];
 
+/// A thread's boot entry.
+pub const BOOT: [Part; 13] = [
+    Words("[[boot]]\nthread = \"t"),
+    Number,
+    Words("\"\nstack = \"k"),
+    Number,
+    Words("\"\nscript = \"c"),
+    Number,
+    Words("\"\npriority = "),
+    Number,
+    Words("\ndomain = \"d"),
+    Drawn(2),
+    Words("\"\npool = \"heap\"\ngrants = ["),
+    Grants,
+    Words("]\n"),
+];
+
 impl Writer {
-    /// The boot entries of all threads.
-    pub fn put_boots(&mut self)
-        requires { vec_len self.old.text + 220 * 8 ≤ vec_capacity self.old.text }
-        ensures { Writes self.old self.new (each description.boot 8) (220 * 8) }
-    {
-        for i in 0..8 {
-            self.put_boot(i);
-        }
-    }
-
-    /// A thread's boot entry.
-    fn put_boot(&mut self, i: u32)
-        requires { vec_len self.old.text + 220 ≤ vec_capacity self.old.text }
-        ensures { Writes self.old self.new (description.boot i) 220 }
-    {
-        self.put("[[boot]]\nthread = \"t");
-        self.put_number(i);
-        self.put("\"\nstack = \"k");
-        self.put_number(i);
-        self.put("\"\nscript = \"c");
-        self.put_number(i);
-        self.put("\"\npriority = ");
-        self.put_number(i);
-        self.put("\ndomain = \"d");
-        self.put_drawn(2);
-        self.put("\"\npool = \"heap\"\ngrants = [");
-        self.put_grants();
-        self.put("]\n");
-    }
-
     /// The names that a thread is granted.
     #[tactic(auto, unfolding(crate::specs::Description::grants))]
-    fn put_grants(&mut self)
-        requires { vec_len self.old.text + 40 ≤ vec_capacity self.old.text }
+    pub fn put_grants(&mut self)
+        requires { vec_len self.old.text + 36 ≤ vec_capacity self.old.text }
         ensures { Writes self.old self.new description.grants 36 }
     {
         self.put_kept(&GRANTABLE);

@@ -4,6 +4,7 @@ ghost use Rattle.std.specs.Prelude.{◌≡◌, ◌+◌, ◌≤◌, vec_len, vec_
 ghost use Rattle.um_gen.specs.Description as description;
 ghost use Rattle.um_gen.specs.Pieces.{Writes};
 
+use crate::boots::BOOT;
 use crate::writer::Writer;
 use rand_core::SeedableRng;
 use rand_pcg::Lcg64Xsh32;
@@ -21,7 +22,7 @@ impl Writer {
     {
         self.put_head();
         self.put_objects();
-        self.put_boots();
+        self.put_each(&BOOT, 8);
         self.put_scripts();
     }
 }

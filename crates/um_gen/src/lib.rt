@@ -4,6 +4,7 @@
 mod boots;
 mod generating;
 mod objects;
+mod parts;
 mod scripts;
 mod writer;
 

@@ -1,10 +1,33 @@
 //! What stands before the boot entries: the header, and the objects.
 
-ghost use Rattle.std.specs.Prelude.{◌≡◌, ◌+◌, ◌*◌, ◌≤◌, vec_len, vec_capacity};
+ghost use Rattle.std.specs.Prelude.{◌≡◌, ◌+◌, ◌≤◌, vec_len, vec_capacity};
 ghost use Rattle.um_gen.specs.Description as description;
-ghost use Rattle.um_gen.specs.Pieces.{Writes, each};
+ghost use Rattle.um_gen.specs.Pieces.{Writes};
 
+use crate::parts::Part::{self, Number, Words};
 use crate::writer::Writer;
+
+/// A thread and its stack.
+const THREAD: [Part; 6] = [
+    Words("{name = \"t"),
+    Number,
+    Words("\", kind = \"thread\"},\n"),
+    Words("{name = \"k"),
+    Number,
+    Words("\", kind = \"thread_stack\", size = 128},\n"),
+];
+
+const SEMAPHORE: [Part; 3] = [
+    Words("{name = \"s"),
+    Number,
+    Words("\", kind = \"sem\", count = 1, limit = 4},\n"),
+];
+
+const QUEUE: [Part; 3] = [
+    Words("{name = \"q"),
+    Number,
+    Words("\", kind = \"msgq\", msg_size = 4, max_msgs = 4},\n"),
+];
 
 impl Writer {
     /// The protection unit, the pool, the partitions and the domains.
@@ -28,67 +51,9 @@ impl Writer {
         ensures { Writes self.old self.new description.objects 1500 }
     {
         self.put("object = [\n");
-        self.put_threads();
-        self.put_semaphores();
-        self.put_queues();
+        self.put_each(&THREAD, 8);
+        self.put_each(&SEMAPHORE, 4);
+        self.put_each(&QUEUE, 2);
         self.put("]\n");
-    }
-
-    fn put_threads(&mut self)
-        requires { vec_len self.old.text + 120 * 8 ≤ vec_capacity self.old.text }
-        ensures { Writes self.old self.new (each description.thread 8) (120 * 8) }
-    {
-        for i in 0..8 {
-            self.put_thread(i);
-        }
-    }
-
-    /// A thread and its stack.
-    fn put_thread(&mut self, i: u32)
-        requires { vec_len self.old.text + 120 ≤ vec_capacity self.old.text }
-        ensures { Writes self.old self.new (description.thread i) 120 }
-    {
-        self.put("{name = \"t");
-        self.put_number(i);
-        self.put("\", kind = \"thread\"},\n");
-        self.put("{name = \"k");
-        self.put_number(i);
-        self.put("\", kind = \"thread_stack\", size = 128},\n");
-    }
-
-    fn put_semaphores(&mut self)
-        requires { vec_len self.old.text + 70 * 4 ≤ vec_capacity self.old.text }
-        ensures { Writes self.old self.new (each description.semaphore 4) (70 * 4) }
-    {
-        for j in 0..4 {
-            self.put_semaphore(j);
-        }
-    }
-
-    fn put_semaphore(&mut self, j: u32)
-        requires { vec_len self.old.text + 70 ≤ vec_capacity self.old.text }
-        ensures { Writes self.old self.new (description.semaphore j) 70 }
-    {
-        self.put("{name = \"s");
-        self.put_number(j);
-        self.put("\", kind = \"sem\", count = 1, limit = 4},\n");
-    }
-
-    fn put_queues(&mut self)
-        requires { vec_len self.old.text + 80 * 2 ≤ vec_capacity self.old.text }
-        ensures { Writes self.old self.new (each description.queue 2) (80 * 2) }
-    {
-        for j in 0..2 {
-            self.put_queue(j);
-        }
-    }
-
-    fn put_queue(&mut self, j: u32)
-        requires { vec_len self.old.text + 80 ≤ vec_capacity self.old.text }
-        ensures { Writes self.old self.new (description.queue j) 80 }
-    {
-        self.put("{name = \"q");
-        self.put_number(j);
-        self.put("\", kind = \"msgq\", msg_size = 4, max_msgs = 4},\n");
     }
 }

@@ -4,10 +4,42 @@ ghost use Rattle.std.specs.Prelude.{◌≡◌, ◌+◌, ◌*◌, ◌≤◌, ◌<
 ghost use Rattle.um_gen.specs.Description as description;
 ghost use Rattle.um_gen.specs.Pieces.{Writes, each};
 
+use crate::parts::Part::{self, Drawn, Number, Offset, Words};
 use crate::writer::Writer;
 
 /// The drawn lines of a script.
 const LINES: u32 = 30;
+
+const TAKE: [Part; 3] = [Words("k_sem_take @s"), Drawn(4), Words(" K_NO_WAIT")];
+
+const GIVE: [Part; 2] = [Words("k_sem_give @s"), Drawn(4)];
+
+const STORE: [Part; 6] = [
+    Words("store @k"),
+    Number,
+    Words("+"),
+    Offset,
+    Words(" 4 "),
+    Drawn(65_536),
+];
+
+const LOAD: [Part; 5] = [Words("load r0 @k"), Number, Words("+"), Offset, Words(" 4")];
+
+const SEND: [Part; 5] = [
+    Words("k_msgq_put @q"),
+    Drawn(2),
+    Words(" @k"),
+    Number,
+    Words(" K_NO_WAIT"),
+];
+
+const RECEIVE: [Part; 5] = [
+    Words("k_msgq_get @q"),
+    Drawn(2),
+    Words(" @k"),
+    Number,
+    Words(" K_NO_WAIT"),
+];
 
 impl Writer {
     /// The scripts of all threads.
@@ -40,17 +72,10 @@ impl Writer {
         ensures { Writes self.old self.new (each (λ line. description.drawn_line i) 30) (50 * 30) }
     {
         for _ in 0..LINES {
-            self.put_line(i);
+            self.put("\"");
+            self.put_call(i);
+            self.put("\",\n");
         }
-    }
-
-    fn put_line(&mut self, i: u32)
-        requires { vec_len self.old.text + 50 ≤ vec_capacity self.old.text }
-        ensures { Writes self.old self.new (description.drawn_line i) 50 }
-    {
-        self.put("\"");
-        self.put_call(i);
-        self.put("\",\n");
     }
 
     /// The call that the next draw chooses.
@@ -59,74 +84,12 @@ impl Writer {
         ensures { Writes self.old self.new (description.drawn_call i) 46 }
     {
         match self.draw(6) {
-            0 => self.put_take(),
-            1 => self.put_give(),
-            2 => self.put_store(i),
-            3 => self.put_load(i),
-            4 => self.put_send(i),
-            _ => self.put_receive(i),
+            0 => self.put_parts(&TAKE, i),
+            1 => self.put_parts(&GIVE, i),
+            2 => self.put_parts(&STORE, i),
+            3 => self.put_parts(&LOAD, i),
+            4 => self.put_parts(&SEND, i),
+            _ => self.put_parts(&RECEIVE, i),
         }
-    }
-
-    fn put_take(&mut self)
-        requires { vec_len self.old.text + 46 ≤ vec_capacity self.old.text }
-        ensures { Writes self.old self.new description.take 46 }
-    {
-        self.put("k_sem_take @s");
-        self.put_drawn(4);
-        self.put(" K_NO_WAIT");
-    }
-
-    fn put_give(&mut self)
-        requires { vec_len self.old.text + 46 ≤ vec_capacity self.old.text }
-        ensures { Writes self.old self.new description.give 46 }
-    {
-        self.put("k_sem_give @s");
-        self.put_drawn(4);
-    }
-
-    fn put_store(&mut self, i: u32)
-        requires { vec_len self.old.text + 46 ≤ vec_capacity self.old.text }
-        ensures { Writes self.old self.new (description.store i) 46 }
-    {
-        self.put("store @k");
-        self.put_number(i);
-        self.put("+");
-        self.put_offset();
-        self.put(" 4 ");
-        self.put_drawn(65_536);
-    }
-
-    fn put_load(&mut self, i: u32)
-        requires { vec_len self.old.text + 46 ≤ vec_capacity self.old.text }
-        ensures { Writes self.old self.new (description.load i) 46 }
-    {
-        self.put("load r0 @k");
-        self.put_number(i);
-        self.put("+");
-        self.put_offset();
-        self.put(" 4");
-    }
-
-    fn put_send(&mut self, i: u32)
-        requires { vec_len self.old.text + 46 ≤ vec_capacity self.old.text }
-        ensures { Writes self.old self.new (description.send i) 46 }
-    {
-        self.put("k_msgq_put @q");
-        self.put_drawn(2);
-        self.put(" @k");
-        self.put_number(i);
-        self.put(" K_NO_WAIT");
-    }
-
-    fn put_receive(&mut self, i: u32)
-        requires { vec_len self.old.text + 46 ≤ vec_capacity self.old.text }
-        ensures { Writes self.old self.new (description.receive i) 46 }
-    {
-        self.put("k_msgq_get @q");
-        self.put_drawn(2);
-        self.put(" @k");
-        self.put_number(i);
-        self.put(" K_NO_WAIT");
     }
 }

@@ -1,7 +1,0 @@
-use Rattle.std.proofs.Common.{◌*◌}
-use Rattle.um_gen.specs.Description.{boot}
-use Rattle.um_gen.specs.Pieces.{Writes, each}
-use Rattle.um_gen.proofs.writer.Writer.put_boots.Given as goal
-
-abbrev pub invariant-loop-i : goal.invariant-loop-i
-invariant-loop-i l = Writes l.fn.self l.self (each boot l.i) (220 * l.i)
