@@ -4,31 +4,31 @@ use crate::{NoRoom, place, rounded};
 use std::test::Fail;
 use um_base::{Addr, Mpu, Range};
 
-const AREA: Range = Range {
-    start: Addr(0x2000_0000),
-    size: 0x8_0000,
-};
+macro_rules! range {
+    ($start:expr, $size:expr) => {
+        Range {
+            start: Addr($start),
+            size: $size,
+        }
+    };
+}
 
-const EMPTY: Range = Range {
-    start: Addr(0),
-    size: 0,
-};
+const AREA: Range = range!(0x2000_0000, 0x8_0000);
 
-const LAST: Range = Range {
-    start: Addr(0xffff_0000),
-    size: 65_536,
-};
+const EMPTY: Range = range!(0, 0);
 
-const ONE_LESS: Range = Range {
-    start: Addr(0xffff_0000),
-    size: 65_535,
-};
+const LAST: Range = range!(0xffff_0000, 65_536);
 
-fn range(start: u32, size: u32) -> Range {
-    Range {
-        start: Addr(start),
-        size,
-    }
+const ONE_LESS: Range = range!(0xffff_0000, 65_535);
+
+/// Whether ranges start at these addresses, and have these sizes.
+fn are(ranges: &[Range], starts: &[u32], sizes: &[u32]) -> bool {
+    ranges.len() == starts.len()
+        && starts.len() == sizes.len()
+        && ranges
+            .iter()
+            .zip(starts.iter().zip(sizes))
+            .all(|(one, (start, size))| *one == range!(*start, *size))
 }
 
 #[test]
@@ -46,24 +46,15 @@ fn rounds_up_to_what_the_unit_guards(rt: HostRuntime) {
 }
 
 #[test]
-fn places_larger_ones_first(rt: HostRuntime) -> Result<(), Fail> {
-    let ranges = place(rt.alloc(), Mpu::V7, AREA, &[33, 100, 4096, 1])?;
-    assert!(rt; ranges.len() == 4);
-    assert!(rt; ranges[0] == range(0x2000_1080, 64));
-    assert!(rt; ranges[1] == range(0x2000_1000, 128));
-    assert!(rt; ranges[2] == range(0x2000_0000, 4096));
-    assert!(rt; ranges[3] == range(0x2000_10c0, 32));
-    Ok(())
-}
-
-#[test]
-fn places_in_the_order_given(rt: HostRuntime) -> Result<(), Fail> {
-    let ranges = place(rt.alloc(), Mpu::V8, AREA, &[33, 100, 4096, 1])?;
-    assert!(rt; ranges.len() == 4);
-    assert!(rt; ranges[0] == range(0x2000_0000, 64));
-    assert!(rt; ranges[1] == range(0x2000_0040, 128));
-    assert!(rt; ranges[2] == range(0x2000_00c0, 4096));
-    assert!(rt; ranges[3] == range(0x2000_10c0, 32));
+fn places_larger_ones_first_or_in_the_order_given(rt: HostRuntime) -> Result<(), Fail> {
+    let sizes = [33, 100, 4096, 1];
+    let rounded = [64, 128, 4096, 32];
+    let ranges = place(rt.alloc(), Mpu::V7, AREA, &sizes)?;
+    let starts = [0x2000_1080, 0x2000_1000, 0x2000_0000, 0x2000_10c0];
+    assert!(rt; are(&ranges, &starts, &rounded));
+    let ranges = place(rt.alloc(), Mpu::V8, AREA, &sizes)?;
+    let starts = [0x2000_0000, 0x2000_0040, 0x2000_00c0, 0x2000_10c0];
+    assert!(rt; are(&ranges, &starts, &rounded));
     Ok(())
 }
 
@@ -88,9 +79,7 @@ fn refuses_nine_of_the_greatest_size(rt: HostRuntime) {
 #[test]
 fn fills_an_area_to_its_end(rt: HostRuntime) -> Result<(), Fail> {
     let ranges = place(rt.alloc(), Mpu::V7, LAST, &[32_768, 32_767])?;
-    assert!(rt; ranges.len() == 2);
-    assert!(rt; ranges[0] == range(0xffff_0000, 32_768));
-    assert!(rt; ranges[1] == range(0xffff_8000, 32_768));
+    assert!(rt; are(&ranges, &[0xffff_0000, 0xffff_8000], &[32_768, 32_768]));
     let full = NoRoom::Full {
         need: 65_536,
         have: 65_535,
@@ -106,7 +95,7 @@ fn places_128_at_once(rt: HostRuntime) -> Result<(), Fail> {
     let sizes = [4096; 128];
     let ranges = place(rt.alloc(), Mpu::V7, AREA, &sizes)?;
     assert!(rt; ranges.len() == 128);
-    assert!(rt; ranges[0] == range(0x2000_0000, 4096));
-    assert!(rt; ranges[127] == range(0x2007_f000, 4096));
+    assert!(rt; ranges[0] == range!(0x2000_0000, 4096));
+    assert!(rt; ranges[127] == range!(0x2007_f000, 4096));
     Ok(())
 }
