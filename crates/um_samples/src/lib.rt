@@ -1,17 +1,26 @@
 //! Descriptions that tests of several crates read, and texts of their runs.
 #![tactic(auto)]
 
+/// A description of version 1 for a unit of eight regions of the seventh version, with this behind its head.
+#[macro_export]
+macro_rules! described {
+    ($sections:literal) => {
+        concat!(
+            "version = 1\nmpu = \"pmsav7\"\nregions = 8\noops = \"abort\"\n",
+            $sections
+        )
+    };
+}
+
 /// A store to the last byte of a partition, and a load past it.
-pub const LAST_BYTE: &str = "version = 1
-mpu = \"pmsav7\"
-regions = 8
-oops = \"abort\"
-partition = [{name = \"p\", size = 32, attr = \"P_RW_U_RW\"}]
+pub const LAST_BYTE: &str = described!(
+    "partition = [{name = \"p\", size = 32, attr = \"P_RW_U_RW\"}]
 domain = [{name = \"d\", partitions = [\"p\"]}]
 object = [{name = \"a\", kind = \"thread\"}, {name = \"sa\", kind = \"thread_stack\", size = 64}]
 boot = [{thread = \"a\", stack = \"sa\", script = \"m\", priority = 0, domain = \"d\"}]
 script = [{name = \"m\", lines = [\"store @p+31 1 0xab\", \"load r0 @p+32 1\"]}]
-";
+"
+);
 
 /// The text of its run.
 pub const LAST_BYTE_RUN: &str = "a begin m 1
@@ -62,36 +71,29 @@ lines = [\"store 536870943 1 171\", \"load r0 536870944 1\"]
 ";
 
 /// A thread creates another, which gets its permissions.
-pub const INHERITANCE: &str = "version = 1
-mpu = \"pmsav7\"
-regions = 8
-oops = \"abort\"
-domain = [{name = \"d\", partitions = []}]
+pub const INHERITANCE: &str = described!(
+    "domain = [{name = \"d\", partitions = []}]
 object = [{name = \"a\", kind = \"thread\"}, {name = \"sa\", kind = \"thread_stack\", size = 64}, {name = \"b\", kind = \"thread\"}, {name = \"sb\", kind = \"thread_stack\", size = 64}, {name = \"s\", kind = \"sem\", count = 0, limit = 1}]
 boot = [{thread = \"a\", stack = \"sa\", script = \"m\", priority = 0, domain = \"d\", grants = [\"b\", \"sb\", \"s\"]}]
 script = [{name = \"m\", lines = [\"k_thread_create @b @sb 64 c 0 K_USER+K_INHERIT_PERMS\"]}, {name = \"c\", lines = [\"k_sem_give @s\", \"k_object_release @a\"]}]
-";
+"
+);
 
 /// One thread grants a semaphore to another, which takes it.
-pub const GRANT_RACE: &str = "version = 1
-mpu = \"pmsav7\"
-regions = 8
-oops = \"abort\"
-domain = [{name = \"d\", partitions = []}]
+pub const GRANT_RACE: &str = described!(
+    "domain = [{name = \"d\", partitions = []}]
 object = [{name = \"t0\", kind = \"thread\"}, {name = \"k0\", kind = \"thread_stack\", size = 64},
  {name = \"t1\", kind = \"thread\"}, {name = \"k1\", kind = \"thread_stack\", size = 64},
  {name = \"s0\", kind = \"sem\", count = 0, limit = 1}]
 boot = [{thread = \"t0\", stack = \"k0\", script = \"c0\", priority = 0, domain = \"d\", grants = [\"t1\", \"s0\"]},
  {thread = \"t1\", stack = \"k1\", script = \"c1\", priority = 0, domain = \"d\"}]
 script = [{name = \"c0\", lines = [\"k_object_access_grant @s0 @t1\"]}, {name = \"c1\", lines = [\"k_sem_take @s0 K_NO_WAIT\"]}]
-";
+"
+);
 
 /// Two threads have a permission on a dynamic queue, and both release it.
-pub const LAST_RELEASE: &str = "version = 1
-mpu = \"pmsav7\"
-regions = 8
-oops = \"abort\"
-pool = [{name = \"h\", size = 64}]
+pub const LAST_RELEASE: &str = described!(
+    "pool = [{name = \"h\", size = 64}]
 domain = [{name = \"d\", partitions = []}]
 object = [{name = \"a\", kind = \"thread\"}, {name = \"sa\", kind = \"thread_stack\", size = 64},
  {name = \"b\", kind = \"thread\"}, {name = \"sb\", kind = \"thread_stack\", size = 64}]
@@ -99,14 +101,12 @@ boot = [{thread = \"a\", stack = \"sa\", script = \"m\", priority = 0, domain = 
  {thread = \"b\", stack = \"sb\", script = \"c\", priority = 0, domain = \"d\"}]
 script = [{name = \"m\", lines = [\"k_object_alloc msgq r0\", \"k_object_access_grant r0 @b\", \"k_object_release r0\"]},
  {name = \"c\", lines = [\"set r0 0\", \"set r0 0\", \"k_object_release 0x48000400\"]}]
-";
+"
+);
 
 /// A supervisor sets up a domain and two user threads; one stores a value and sends it to the other.
-pub const REALISTIC: &str = "version = 1
-mpu = \"pmsav7\"
-regions = 8
-oops = \"abort\"
-rodata = \"73656e736f7200\"
+pub const REALISTIC: &str = described!(
+    "rodata = \"73656e736f7200\"
 partition = [
  {name = \"p_app\", size = 256, attr = \"P_RW_U_RW\"}]
 domain = [
@@ -150,14 +150,12 @@ lines = [
 name = \"idle\"
 lines = [
  \"set r0 1\"]
-";
+"
+);
 
 /// A supervisor works on a domain, and moves a user to it who loads, stores and executes.
-pub const DOMAINS: &str = "version = 1
-mpu = \"pmsav7\"
-regions = 8
-oops = \"abort\"
-rodata = \"6e616d6500\"
+pub const DOMAINS: &str = described!(
+    "rodata = \"6e616d6500\"
 partition = [{name = \"p\", size = 64, attr = \"P_RW_U_RW\"}, {name = \"x\", size = 32, attr = \"P_RX_U_RX\"}]
 domain = [{name = \"d\", partitions = [\"p\", \"x\"]}, {name = \"e\"}]
 object = [{name = \"a\", kind = \"thread\"}, {name = \"sa\", kind = \"thread_stack\", size = 64},
@@ -170,14 +168,12 @@ script = [{name = \"m\", lines = [\"k_mem_domain_init e p\", \"k_mem_domain_add_
   \"k_mem_domain_add_thread e @b\", \"k_thread_user_mode_enter u\"]},
  {name = \"n\", lines = [\"store @p 4 0x2a\", \"load r0 @p 4\", \"exec @x\", \"k_thread_name_set @b @rodata\", \"load r0 @sa 4\"]},
  {name = \"u\", lines = [\"set r0 1\"]}]
-";
+"
+);
 
 /// A user allocates, grants and releases objects, sends to another who waits, and creates a third that inherits.
-pub const OBJECTS: &str = "version = 1
-mpu = \"pmsav7\"
-regions = 8
-oops = \"abort\"
-pool = [{name = \"h\", size = 1024}]
+pub const OBJECTS: &str = described!(
+    "pool = [{name = \"h\", size = 1024}]
 partition = [{name = \"p\", size = 64, attr = \"P_RW_U_RW\"}]
 domain = [{name = \"d\", partitions = [\"p\"]}]
 object = [{name = \"a\", kind = \"thread\"}, {name = \"sa\", kind = \"thread_stack\", size = 64},
@@ -191,21 +187,20 @@ script = [{name = \"m\", lines = [\"k_object_alloc sem r0\", \"k_object_access_g
   \"k_object_alloc msgq r1\", \"k_object_release r1\"]},
  {name = \"n\", lines = [\"k_msgq_get @q @p K_FOREVER\"]},
  {name = \"w\", lines = [\"set r0 1\"]}]
-";
+"
+);
 
 /// Two users initialise one stack at the same time.
-pub const RACE: &str = "version = 1
-mpu = \"pmsav7\"
-regions = 8
-oops = \"abort\"
-pool = [{name = \"h\", size = 64}]
+pub const RACE: &str = described!(
+    "pool = [{name = \"h\", size = 64}]
 domain = [{name = \"d\", partitions = []}]
 object = [{name = \"a\", kind = \"thread\"}, {name = \"sa\", kind = \"thread_stack\", size = 64},
  {name = \"b\", kind = \"thread\"}, {name = \"sb\", kind = \"thread_stack\", size = 64}, {name = \"r\", kind = \"stack\"}]
 boot = [{thread = \"a\", stack = \"sa\", script = \"m\", priority = 0, domain = \"d\", pool = \"h\", grants = [\"r\"]},
  {thread = \"b\", stack = \"sb\", script = \"m\", priority = 0, domain = \"d\", pool = \"h\", grants = [\"r\"]}]
 script = [{name = \"m\", lines = [\"k_stack_alloc_init @r 2\"]}]
-";
+"
+);
 
 /// A user's fatal error, which dooms all threads.
 pub const HALT: &str = "version = 1
