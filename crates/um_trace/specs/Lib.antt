@@ -1,7 +1,9 @@
 pub mod Room
 pub mod Digits
 pub mod Words
+pub mod Said
 pub mod Names
+pub mod Operands
 pub mod Rows
 pub mod Acts
 pub mod Dump

@@ -1,33 +1,60 @@
 //! The texts of acts on domains.
 
-ghost use Rattle.std.specs.Prelude.{◌+◌, ◌≤◌, ◌++◌, length, codes, vec_len, vec_capacity};
+ghost use Rattle.std.specs.Prelude.{◌+◌, ◌≤◌, length, vec_len, vec_capacity};
 ghost use Rattle.um_trace.specs.{
   Acts.{domain_act_text},
-  Names.{domain_text, part_text, reply_text},
+  Operands.{operand_text, domain_call_text},
   Room.{Puts},
 };
 
-use crate::names::{put_domain, put_part, put_reply, put_thread};
+use self::Operand::{Alone, Part, Thread};
+use crate::names::{put_domain, put_of, put_part, put_reply};
 use crate::room::{put_space, put_text};
 use crate::threads::put_thread_act;
-use um_base::{Act, Attr, Image, Range, Reply};
+use um_base::{Act, Attr, Image, Range, Reply, ThreadIx};
 
-/// A word, and a domain.
-fn put_on(room: &mut Vec<u8>, image: &Image, word: &str, domain: u8)
-    requires { vec_len room.old + length word.now + 24 ≤ vec_capacity room.old }
-    ensures { Puts room.old room.new (word.now ++ domain_text image.now domain) (length word.now + 24) }
-{
-    put_text(room, word);
-    put_domain(room, image, domain);
+/// What a call on a domain is about besides the domain.
+#[derive(Clone, Copy)]
+pub enum Operand {
+    /// Nothing.
+    Alone,
+    /// Memory with its rights.
+    Part(Range, Attr),
+    /// A thread.
+    Thread(ThreadIx),
 }
 
-/// What a call with a partition answers.
-fn put_outcome(room: &mut Vec<u8>, image: &Image, range: Range, attr: Attr, reply: Reply)
-    requires { vec_len room.old + 59 ≤ vec_capacity room.old }
-    ensures { Puts room.old room.new (codes " " ++ part_text range attr ++ codes " " ++ reply_text image.now reply) 59 }
+/// What a call is about, with a space before it.
+fn put_operand(room: &mut Vec<u8>, image: &Image, operand: Operand)
+    requires { vec_len room.old + 34 ≤ vec_capacity room.old }
+    ensures { Puts room.old room.new (operand_text image.now operand) 34 }
 {
-    put_space(room);
-    put_part(room, range, attr);
+    match operand {
+        Part(range, attr) => {
+            put_space(room);
+            put_part(room, range, attr);
+        }
+        Thread(who) => put_of(room, image, " ", who),
+        Alone => {}
+    }
+}
+
+/// A call on a domain, with what it is answered.
+fn put_call(
+    room: &mut Vec<u8>,
+    image: &Image,
+    word: &str,
+    domain: u8,
+    operand: Operand,
+    reply: Reply,
+)
+    requires { vec_len room.old + length word.now + 90 ≤ vec_capacity room.old }
+    ensures { Puts room.old room.new (domain_call_text image.now word.now domain operand reply) (length word.now + 90) }
+{
+    put_text(room, "domain ");
+    put_text(room, word);
+    put_domain(room, image, domain);
+    put_operand(room, image, operand);
     put_space(room);
     put_reply(room, image, reply);
 }
@@ -39,19 +66,14 @@ pub fn put_domain_act(room: &mut Vec<u8>, image: &Image, act: &Act)
     ensures { Puts room.old room.new (domain_act_text image.now act.now) 100 }
 {
     match act {
-        Act::DomInit { domain, reply } => {
-            put_on(room, image, "domain init ", *domain);
-            put_space(room);
-            put_reply(room, image, *reply);
-        }
+        Act::DomInit { domain, reply } => put_call(room, image, "init ", *domain, Alone, *reply),
         Act::DomAdd {
             domain,
             range,
             attr,
             reply,
         } => {
-            put_on(room, image, "domain add ", *domain);
-            put_outcome(room, image, *range, *attr, *reply);
+            put_call(room, image, "add ", *domain, Part(*range, *attr), *reply);
         }
         Act::DomRemove {
             domain,
@@ -59,15 +81,10 @@ pub fn put_domain_act(room: &mut Vec<u8>, image: &Image, act: &Act)
             attr,
             reply,
         } => {
-            put_on(room, image, "domain remove ", *domain);
-            put_outcome(room, image, *range, *attr, *reply);
+            put_call(room, image, "remove ", *domain, Part(*range, *attr), *reply);
         }
         Act::DomMove { domain, who, reply } => {
-            put_on(room, image, "domain move ", *domain);
-            put_space(room);
-            put_thread(room, image, who.0);
-            put_space(room);
-            put_reply(room, image, *reply);
+            put_call(room, image, "move ", *domain, Thread(*who), *reply);
         }
         _ => put_thread_act(room, image, act),
     }

@@ -1,9 +1,6 @@
 //! The text of the addresses of an image.
 
-ghost use Rattle.std.specs.{
-  Prelude.{◌≡◌, ◌+◌, ◌*◌, ◌≤◌, ◌++◌, length, codes, vec_len, vec_capacity},
-  List.{flat_map},
-};
+ghost use Rattle.std.specs.Prelude.{◌≡◌, ◌+◌, ◌*◌, ◌≤◌, ◌++◌, length, codes, vec_len, vec_capacity};
 ghost use Rattle.um_trace.specs.{
   Layout.{rodata_line, partition_line, stack_size_text, place_line, layout_text, layout_room},
   Room.{Puts},
@@ -53,16 +50,6 @@ fn put_partition(room: &mut Vec<u8>, partition: &Partition)
     put_newline(room);
 }
 
-/// The lines of partitions.
-fn put_partitions(room: &mut Vec<u8>, partitions: &[Partition])
-    requires { vec_len room.old + 72 * length partitions.now ≤ vec_capacity room.old }
-    ensures { Puts room.old room.new (flat_map partition_line partitions.now) (72 * length partitions.now) }
-{
-    for partition in partitions {
-        put_partition(room, partition);
-    }
-}
-
 /// The rounded size of a thread stack.
 #[tactic(auto, unfolding(crate::specs::Layout::stack_size_text))]
 fn put_stack_size(room: &mut Vec<u8>, setup: Setup)
@@ -92,16 +79,6 @@ fn put_place(room: &mut Vec<u8>, object: &ObjectDef)
     put_newline(room);
 }
 
-/// The lines of objects.
-fn put_places(room: &mut Vec<u8>, objects: &[ObjectDef])
-    requires { vec_len room.old + 72 * length objects.now ≤ vec_capacity room.old }
-    ensures { Puts room.old room.new (flat_map place_line objects.now) (72 * length objects.now) }
-{
-    for object in objects {
-        put_place(room, object);
-    }
-}
-
 /// How many bytes the text of an image's addresses takes at most.
 #[tactic(auto, unfolding(crate::specs::Layout::layout_room))]
 pub fn layout_room(image: &Image) -> usize
@@ -119,6 +96,10 @@ pub fn layout_text(image: &Image, room: &mut Vec<u8>)
     ensures capacity { vec_capacity room.old ≤ vec_capacity room.new }
 {
     put_rodata(room, image.rodata);
-    put_partitions(room, image.partitions.as_slice());
-    put_places(room, image.objects.as_slice());
+    for partition in image.partitions.as_slice() {
+        put_partition(room, partition);
+    }
+    for object in image.objects.as_slice() {
+        put_place(room, object);
+    }
 }

@@ -12,7 +12,7 @@ ghost use Rattle.um_trace.specs.{
 use crate::names::put_row;
 use crate::objects::put_object_act;
 use crate::room::{put, put_address, put_decimal, put_space, put_text, put_value};
-use crate::words::reach_word;
+use crate::words::{Said, put_said};
 use um_base::{Act, Addr, Found, Image};
 use um_vocabulary::access_word;
 
@@ -39,11 +39,12 @@ fn put_span(room: &mut Vec<u8>, word: &str, addr: Addr, size: u32)
 
 /// A word, bytes of memory, and whether the thread may do that with them.
 fn put_reach(room: &mut Vec<u8>, word: &str, addr: Addr, size: u32, fits: bool)
-    requires { vec_len room.old + length word.now + 28 ≤ vec_capacity room.old }
-    ensures { Puts room.old room.new (word.now ++ range_text addr.0 size ++ codes " " ++ reach_word fits) (length word.now + 28) }
+    requires { vec_len room.old + length word.now + 32 ≤ vec_capacity room.old }
+    ensures { Puts room.old room.new (word.now ++ range_text addr.0 size ++ codes " " ++ reach_word fits) (length word.now + 32) }
 {
-    put_span(room, word, addr, size);
-    put(room, reach_word(fits));
+    put_text(room, word);
+    put_range(room, addr, size);
+    put_said(room, Said::Reach(fits));
 }
 
 /// What a string read found.

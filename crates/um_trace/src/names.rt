@@ -2,7 +2,7 @@
 
 ghost use Rattle.std.specs.Prelude.{◌+◌, ◌<◌, ◌≤◌, ◌++◌, length, vec_len, vec_capacity};
 ghost use Rattle.um_trace.specs.{
-  Names.{row_text, thread_text, object_text, domain_text, script_text, part_text, reply_text},
+  Names.{row_text, thread_text, object_text, domain_text, part_text, reply_text},
   Room.{Puts},
 };
 
@@ -56,18 +56,6 @@ pub fn put_domain(room: &mut Vec<u8>, image: &Image, domain: u8)
 {
     match image.domains.as_slice().get(domain as usize) {
         Some(domain) => put(room, domain.name.as_slice()),
-        None => {}
-    }
-}
-
-/// A script by its name.
-#[tactic(auto, unfolding(crate::specs::Names::script_text))]
-pub fn put_script(room: &mut Vec<u8>, image: &Image, script: u8)
-    requires { vec_len room.old + 24 ≤ vec_capacity room.old }
-    ensures { Puts room.old room.new (script_text image.now script) 24 }
-{
-    match image.scripts.as_slice().get(script as usize) {
-        Some(script) => put_short(room, script.name.as_slice()),
         None => {}
     }
 }

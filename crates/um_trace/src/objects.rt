@@ -7,7 +7,6 @@ ghost use Rattle.std.specs.{
 ghost use Rattle.um_base.specs.declared.names.{Reply.{Reply}, ThreadIx.{ThreadIx}};
 ghost use Rattle.um_trace.specs.{
   Acts.{answer_text, wake_text, object_act_text},
-  Names.{object_text},
   Room.{Puts},
   Text.{woken_by},
   Words.{any_kind_word, verdict_word},
@@ -17,7 +16,7 @@ ghost use Rattle.um_vocabulary.specs.Words.{want_word};
 use crate::heap::put_heap_act;
 use crate::names::{put_of, put_on, put_reply};
 use crate::room::{put, put_space, put_text};
-use crate::words::{any_kind_word, given_word, set_word, verdict_word};
+use crate::words::{Said, any_kind_word, put_said};
 use um_base::{Act, Addr, Answer, Errno, Image, Kind, Replies, Reply, ThreadIx, Want};
 use um_vocabulary::want_word;
 
@@ -30,8 +29,7 @@ fn put_check(room: &mut Vec<u8>, kind: Option<Kind>, want: Want, verdict: Option
     put(room, any_kind_word(kind));
     put_space(room);
     put(room, want_word(want));
-    put_space(room);
-    put(room, verdict_word(verdict));
+    put_said(room, Said::Verdict(verdict));
 }
 
 /// What an act on an object's contents answers.
@@ -67,16 +65,6 @@ fn put_wakes(room: &mut Vec<u8>, image: &Image, woken: &Replies)
     }
 }
 
-/// A word, the object at an address, and what an act said of it.
-fn put_said(room: &mut Vec<u8>, image: &Image, word: &str, addr: Addr, said: &[u8])
-    requires { vec_len room.old + length word.now + 25 + length said.now ≤ vec_capacity room.old }
-    ensures { Puts room.old room.new (word.now ++ object_text image.now addr.0 ++ codes " " ++ said.now) (length word.now + 25 + length said.now) }
-{
-    put_on(room, image, word, addr);
-    put_space(room);
-    put(room, said);
-}
-
 /// The text of an act on an object, or of any other that isn't about memory.
 #[tactic(auto, unfolding(crate::specs::Acts::object_act_text))]
 pub fn put_object_act(room: &mut Vec<u8>, image: &Image, act: &Act)
@@ -104,10 +92,12 @@ pub fn put_object_act(room: &mut Vec<u8>, image: &Image, act: &Act)
             put_wakes(room, image, woken);
         }
         Act::Publish { addr, given } => {
-            put_said(room, image, "public ", *addr, given_word(*given));
+            put_on(room, image, "public ", *addr);
+            put_said(room, Said::Given(*given));
         }
         Act::SetInit { addr, set } => {
-            put_said(room, image, "setinit ", *addr, set_word(*set));
+            put_on(room, image, "setinit ", *addr);
+            put_said(room, Said::Set(*set));
         }
         Act::ClearInit { addr } => put_on(room, image, "uninit ", *addr),
         _ => put_heap_act(room, image, act),

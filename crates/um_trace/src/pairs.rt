@@ -5,8 +5,7 @@ ghost use Rattle.um_trace.specs.{Acts.{pair_act_text}, Room.{Puts}};
 
 use crate::domains::put_domain_act;
 use crate::names::{put_of, put_on};
-use crate::room::{put, put_space};
-use crate::words::{given_word, leftover_word};
+use crate::words::{Said, put_said};
 use um_base::{Act, Image};
 
 /// The text of an act on permissions, on a domain, or of what a thread does by itself. Of any other it puts nothing.
@@ -19,13 +18,11 @@ pub fn put_pair_act(room: &mut Vec<u8>, image: &Image, act: &Act)
         Act::Grant { who, addr, given } => {
             put_of(room, image, "grant ", *who);
             put_on(room, image, " ", *addr);
-            put_space(room);
-            put(room, given_word(*given));
+            put_said(room, Said::Given(*given));
         }
         Act::Own { who, given } => {
             put_of(room, image, "own ", *who);
-            put_space(room);
-            put(room, given_word(*given));
+            put_said(room, Said::Given(*given));
         }
         Act::Inherit { who, addr } => {
             put_of(room, image, "inherit ", *who);
@@ -34,8 +31,7 @@ pub fn put_pair_act(room: &mut Vec<u8>, image: &Image, act: &Act)
         Act::DropPair { who, addr, left } => {
             put_of(room, image, "drop ", *who);
             put_on(room, image, " ", *addr);
-            put_space(room);
-            put(room, leftover_word(*left));
+            put_said(room, Said::Left(*left));
         }
         _ => put_domain_act(room, image, act),
     }

@@ -1,7 +1,7 @@
 //! Text, appended into reserved room.
 
 ghost use Rattle.std.specs.{
-  Prelude.{◌≡◌, ◌+◌, ◌*◌, ◌≤◌, ◌<◌, codes, length, vec_len, vec_capacity, decimal},
+  Prelude.{◌≡◌, ◌+◌, ◌*◌, ◌≤◌, ◌<◌, ◌++◌, codes, length, vec_len, vec_capacity, decimal},
   Fmt.{signed_decimal},
   List.{flat_map},
 };
@@ -79,6 +79,15 @@ pub fn put_decimal(room: &mut Vec<u8>, n: u32)
     }
     let mut buffer = Buffer::new();
     put_text(room, buffer.format(n))
+}
+
+/// A word, and a number.
+pub fn put_numbered(room: &mut Vec<u8>, word: &str, n: u32)
+    requires { vec_len room.old + length word.now + 10 ≤ vec_capacity room.old }
+    ensures { Puts room.old room.new (word.now ++ decimal n) (length word.now + 10) }
+{
+    put_text(room, word);
+    put_decimal(room, n);
 }
 
 /// A count.

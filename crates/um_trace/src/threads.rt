@@ -1,12 +1,25 @@
 //! The texts of what threads do by themselves.
 
-ghost use Rattle.std.specs.Prelude.{◌+◌, ◌≤◌, vec_len, vec_capacity};
-ghost use Rattle.um_trace.specs.{Acts.{thread_act_text}, Room.{Puts}};
+ghost use Rattle.std.specs.Prelude.{◌+◌, ◌≤◌, ◌++◌, length, vec_len, vec_capacity};
+ghost use Rattle.um_trace.specs.{Acts.{thread_act_text}, Names.{script_text}, Room.{Puts}};
 
-use crate::names::{put_of, put_reply, put_script};
-use crate::room::{put, put_decimal, put_space, put_text};
+use crate::names::{put_of, put_reply};
+use crate::room::{put, put_decimal, put_numbered, put_short, put_space, put_text};
 use crate::words::cause_word;
 use um_base::{Act, Image};
+
+/// A word, and a script by its name.
+#[tactic(auto, unfolding(crate::specs::Names::script_text))]
+fn put_script(room: &mut Vec<u8>, image: &Image, word: &str, script: u8)
+    requires { vec_len room.old + length word.now + 24 ≤ vec_capacity room.old }
+    ensures { Puts room.old room.new (word.now ++ script_text image.now script) (length word.now + 24) }
+{
+    put_text(room, word);
+    match image.scripts.as_slice().get(script as usize) {
+        Some(script) => put_short(room, script.name.as_slice()),
+        None => {}
+    }
+}
 
 /// The text of such an act. Of any other it puts nothing.
 #[tactic(auto, unfolding(crate::specs::Acts::thread_act_text))]
@@ -16,8 +29,7 @@ pub fn put_thread_act(room: &mut Vec<u8>, image: &Image, act: &Act)
 {
     match act {
         Act::Begin { script, line } => {
-            put_text(room, "begin ");
-            put_script(room, image, *script);
+            put_script(room, image, "begin ", *script);
             put_space(room);
             put_decimal(room, *line as u32);
         }
@@ -30,15 +42,11 @@ pub fn put_thread_act(room: &mut Vec<u8>, image: &Image, act: &Act)
         Act::Start { who } => put_of(room, image, "start ", *who),
         Act::EnterUser => put_text(room, "user"),
         Act::Fatal { reason, cause } => {
-            put_text(room, "fatal ");
-            put_decimal(room, *reason as u32);
+            put_numbered(room, "fatal ", *reason as u32);
             put_space(room);
             put(room, cause_word(*cause));
         }
-        Act::Doom { who } => {
-            put_text(room, "doom ");
-            put_decimal(room, who.0 as u32);
-        }
+        Act::Doom { who } => put_numbered(room, "doom ", who.0 as u32),
         Act::Exit => put_text(room, "exit"),
         _ => {}
     }

@@ -1,22 +1,11 @@
 //! The words that traces and dumps have besides those of the vocabulary.
 
-ghost use Rattle.std.specs.Prelude.{◌≡◌, ◌≤◌, length};
-ghost use Rattle.um_trace.specs.Words.{verdict_word, any_kind_word, reach_word, pool_word, given_word, leftover_word, set_word, cause_word};
+ghost use Rattle.std.specs.Prelude.{◌≡◌, ◌+◌, ◌≤◌, ◌++◌, codes, length, vec_len, vec_capacity};
+ghost use Rattle.um_trace.specs.{Room.{Puts}, Said.{said_word}, Words.{any_kind_word, cause_word}};
 
+use crate::room::{put, put_space};
 use um_base::{Cause, Errno, Given, Kind, Leftover, SetSaid};
 use um_vocabulary::{errno_word, kind_word};
-
-/// What a check says.
-#[tactic(auto, unfolding(crate::specs::Words::verdict_word))]
-pub fn verdict_word(verdict: Option<Errno>) -> &'static [u8]
-    ensures value { result.now ≡ verdict_word verdict }
-    ensures short { length result.now ≤ 10 }
-{
-    match verdict {
-        None => b"ok",
-        Some(error) => errno_word(error),
-    }
-}
 
 /// A kind of object, or any.
 #[tactic(auto, unfolding(crate::specs::Words::any_kind_word))]
@@ -30,68 +19,53 @@ pub fn any_kind_word(kind: Option<Kind>) -> &'static [u8]
     }
 }
 
-/// Whether a thread may do what it tries with memory.
-#[tactic(auto, unfolding(crate::specs::Words::reach_word))]
-pub fn reach_word(fits: bool) -> &'static [u8]
-    ensures value { result.now ≡ reach_word fits }
-    ensures short { length result.now ≤ 6 }
-{
-    if fits {
-        b"ok"
-    } else {
-        errno_word(Errno::EFAULT)
-    }
+/// What an act says in a word.
+#[derive(Clone, Copy)]
+pub enum Said {
+    /// What a check says.
+    Verdict(Option<Errno>),
+    /// Whether a thread may do what it tries with memory.
+    Reach(bool),
+    /// Whether a pool has the bytes.
+    Pool(bool),
+    /// Whether an object still stood.
+    Given(Given),
+    /// What a dropped permission left.
+    Left(Leftover),
+    /// What marking an object as initialised said.
+    Set(SetSaid),
 }
 
-/// Whether a pool has the bytes.
-#[tactic(auto, unfolding(crate::specs::Words::pool_word))]
-pub fn pool_word(fits: bool) -> &'static [u8]
-    ensures value { result.now ≡ pool_word fits }
-    ensures short { length result.now ≤ 6 }
-{
-    if fits {
-        b"ok"
-    } else {
-        errno_word(Errno::ENOMEM)
-    }
-}
-
-/// Whether an object still stood.
-#[tactic(auto, unfolding(crate::specs::Words::given_word))]
-pub fn given_word(given: Given) -> &'static [u8]
-    ensures value { result.now ≡ given_word given }
-    ensures short { length result.now ≤ 4 }
-{
-    match given {
-        Given::Done => b"ok",
-        Given::Gone => b"gone",
-    }
-}
-
-/// What a dropped permission left.
-#[tactic(auto, unfolding(crate::specs::Words::leftover_word))]
-pub fn leftover_word(left: Leftover) -> &'static [u8]
-    ensures value { result.now ≡ leftover_word left }
-    ensures short { length result.now ≤ 4 }
-{
-    match left {
-        Leftover::Kept => b"kept",
-        Leftover::Gone => b"gone",
-        Leftover::NoPair => b"none",
-    }
-}
-
-/// What marking an object as initialised said.
-#[tactic(auto, unfolding(crate::specs::Words::set_word))]
-pub fn set_word(said: SetSaid) -> &'static [u8]
-    ensures value { result.now ≡ set_word said }
+#[tactic(auto, unfolding(crate::specs::Words::verdict_word, crate::specs::Words::reach_word, crate::specs::Words::pool_word, crate::specs::Words::given_word, crate::specs::Words::leftover_word, crate::specs::Words::set_word,))]
+fn said_word(said: Said) -> &'static [u8]
+    ensures value { result.now ≡ said_word said }
     ensures short { length result.now ≤ 10 }
 {
     match said {
-        SetSaid::Done => b"ok",
-        SetSaid::Gone => b"gone",
-        SetSaid::Fail(error) => errno_word(error),
+        Said::Verdict(None) => b"ok",
+        Said::Verdict(Some(error)) => errno_word(error),
+        Said::Reach(true) => b"ok",
+        Said::Reach(false) => errno_word(Errno::EFAULT),
+        Said::Pool(true) => b"ok",
+        Said::Pool(false) => errno_word(Errno::ENOMEM),
+        Said::Given(Given::Done) => b"ok",
+        Said::Given(Given::Gone) => b"gone",
+        Said::Left(Leftover::Kept) => b"kept",
+        Said::Left(Leftover::Gone) => b"gone",
+        Said::Left(Leftover::NoPair) => b"none",
+        Said::Set(SetSaid::Done) => b"ok",
+        Said::Set(SetSaid::Gone) => b"gone",
+        Said::Set(SetSaid::Fail(error)) => errno_word(error),
     }
+}
+
+/// A space, and what an act says.
+pub fn put_said(room: &mut Vec<u8>, said: Said)
+    requires { vec_len room.old + 11 ≤ vec_capacity room.old }
+    ensures { Puts room.old room.new (codes " " ++ said_word said) 11 }
+{
+    put_space(room);
+    put(room, said_word(said));
 }
 
 /// Why a thread fails.
