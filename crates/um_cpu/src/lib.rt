@@ -3,7 +3,6 @@
 
 mod cpu;
 mod events;
-mod rodata;
 mod run;
 mod seats;
 mod turn;

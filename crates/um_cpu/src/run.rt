@@ -8,7 +8,6 @@ ghost use Rattle.um_steps.specs.Given.{IsGiven};
 ghost use Rattle.um_cpu.specs.Ended.{Begins, EachAt, Ends, Gathered, HasEnded};
 
 use crate::cpu::Cpu;
-use crate::rodata::rodata;
 use crate::seats::seats;
 use crate::turns::turns;
 use std::alloc::Global;
@@ -20,6 +19,7 @@ use um_board::{Contents, NextStep, opening};
 use um_io::Gate;
 use um_merge::{Log, PROCESSORS};
 use um_site::{Board, Closed, Seat};
+use um_steps::rodata::rodata;
 
 /// What is left of processors that have ended.
 pub struct Ended {

@@ -18,7 +18,7 @@ use Rattle.um_machine.specs.Order.{Steps}
 use Rattle.um_machine.specs.Table.{act_of, after}
 use Rattle.um_machine.specs.Run.{Offers, goes, skips_inherit, skips_drops, begins, exits, cleans_pair, recycles, MayChoose, Step, IsComplete, none_due}
 use Rattle.um_matrix.specs.declared.matrix.choice.Choice.{Choice}
-use Rattle.um_matrix.specs.Offered.{line_act, line_step, rest_act, rest_step, first_step, second_step, is_skipped, chooses, row_count, SaysNot, ChoosesNone, is_cleaning, IsStep, IsNoStep, IsIdle, event_of, pair_of}
+use Rattle.um_matrix.specs.Offered.{line_act, line_step, rest_act, rest_step, first_step, second_step, is_skipped, chooses, row_count, Says, SaysNot, ChoosesNone, is_cleaning, IsStep, IsNoStep, IsIdle, event_of, pair_of}
 
 -- Rows.
 
@@ -131,6 +131,15 @@ pub step-second : (s : State) (t x : ℕ) (act : Act) (p : Pending) → second_s
 step-second s t x act p next chosen says =
     let both = skips-of (thread_at s t).pending (none_due (thread_at s t)) p next in
     record { step = p; rest = drop 2 (thread_at s t).pending; row = x; offered = skips-offer s t p both.0 both.1; chosen = chosen; says = says; leaves = refl }
+
+-- what a thread says by a step that it is offered is a step
+pub says-first : (s : State) (t : ℕ) (p : Pending) (o : Option Act) → slice_get (thread_at s t).pending 0 ≡ Some p → IfSome o (λ act. Says s t act p) → IfSome o (λ act. IsStep s (event_of t act))
+says-first s t p None head says = tt
+says-first s t p (Some act) head says = (_, step-first s t says.0 act p head says.1 says.2)
+
+pub says-second : (s : State) (t : ℕ) (p : Pending) (o : Option Act) → second_step s t ≡ Some p → IfSome o (λ act. Says s t act p) → IfSome o (λ act. IsStep s (event_of t act))
+says-second s t p None next says = tt
+says-second s t p (Some act) next says = (_, step-second s t says.0 act p next says.1 says.2)
 
 -- the steps that clean
 pub step-cleans : (s : State) (t x : ℕ) (act : Act) (who : ThreadIx) → IsTrue (is_started (thread_at s t).life) → MayChoose s t x (Pending.CleanPair who) → act ≡ act_of s t x (Pending.CleanPair who)
@@ -279,6 +288,16 @@ only-none P e p f = absurd (let bad : None ≡ Some p = sym e ∙ f in cc)
 
 pub only-first : (s : State) (t : ℕ) (P : Pending → Type 0) (q : Pending) → slice_get (thread_at s t).pending 0 ≡ Some q → P q → (p : Pending) → first_step s t ≡ Some p → P p
 only-first s t P q e h = only-some P q (rw e refl) h
+
+-- where nothing is said by the step that a thread is offered, no step is one that it is offered
+pub none-first : (s : State) (t : ℕ) (q : Pending) (o : Option Act) → slice_get (thread_at s t).pending 0 ≡ Some q → IfNone o (ChoosesNone s t q)
+    → IfNone o ((p : Pending) → first_step s t ≡ Some p → ChoosesNone s t p)
+none-first s t q None e none = only-first s t (λ p. ChoosesNone s t p) q e none
+none-first s t q (Some act) e none = tt
+
+pub none-second : (s : State) (t : ℕ) (q : Pending) (o : Option Act) → second_step s t ≡ Some q → IfNone o (ChoosesNone s t q) → IfNone o ((p : Pending) → second_step s t ≡ Some p → ChoosesNone s t p)
+none-second s t q None e none = only-some (λ p. ChoosesNone s t p) q e none
+none-second s t q (Some act) e none = tt
 
 pub only-rest : (s : State) (t : ℕ) (P : Pending → Type 0) → slice_get (thread_at s t).pending 0 ≡ None → ((p : Pending) → rest_step s t ≡ Some p → P p) → (p : Pending) → first_step s t ≡ Some p → P p
 only-rest s t P e h p f = h p (let same : first_step s t ≡ rest_step s t = rw e refl in sym same ∙ f)

@@ -104,7 +104,7 @@ impl ObjectTable {
     }
 
     /// The object of a row.
-    pub fn row(&self, x: usize) -> &Object
+    pub(crate) fn row(&self, x: usize) -> &Object
         requires { x < ROWS }
         ensures { result.now ≡ slice_index_or self.now x vacant }
     {
@@ -120,7 +120,7 @@ impl ObjectTable {
     }
 
     /// The object of a row, to change it. It takes no memory.
-    pub fn row_mut(&mut self, x: usize) -> &mut Object
+    pub(crate) fn row_mut(&mut self, x: usize) -> &mut Object
         requires { x < ROWS }
         ensures* lends { sem 𝓛 (LendsRow self.entry x result) }
         ensures value { result.now ≡ slice_index_or self.old x vacant }

@@ -9,7 +9,7 @@ use um_steps::rows;
 
 /// The row whose address is exactly this. That of an object which is no thread stack is known by its address alone, so that
 /// the others aren't looked at.
-pub fn row_at(image: &Image, a: u32) -> Option<usize>
+pub(crate) fn row_at(image: &Image, a: u32) -> Option<usize>
     requires { IsGiven image.now }
     ensures value { result ≡ row_at image.now a }
     ensures small { IfSome result (λ x. x < ROWS) }

@@ -1,21 +1,12 @@
--- Zero bytes that are written, and that the memory's cell takes each step that is asked of it.
-use Rattle.std.proofs.Common.{◌≡◌, ℕ, suc, ◌+◌, ◌-◌, ◌<◌, List, replicate, slice_set, arith, ap, refl, IsTrue, Some}
+-- The memory's cell takes each step that is asked of it.
+use Rattle.std.proofs.Common.{◌≡◌, refl, IsTrue, Some}
 use Rattle.um_base.specs.declared.image.Image.{Image}
-use Rattle.um_machine.specs.Memory.{put_bytes}
 use Rattle.um_words.specs.CellActs.{memory_takes}
 use Rattle.um_fine.specs.Memory.{Bytes, memory_says}
 use Rattle.um_fine.specs.Steps.{Exchange}
 use Rattle.um_processor.specs.Asked.{event_of}
 use Rattle.um_processor.specs.MemoryActs.{memory_act, memory_event, memory_said}
 use Rattle.um_processor.specs.declared.memory_act.MemoryAct.{MemoryAct}
-
--- a zero is written, and then the rest of them
-pub zeros_more : (memory : List ℕ) (a k n : ℕ) → k < n
-    → put_bytes memory (a + k) (replicate {A = ℕ} (n - k) 0) ≡ put_bytes (slice_set memory (a + k) 0) (a + (k + 1)) (replicate {A = ℕ} (n - (k + 1)) 0)
-zeros_more memory a k n h =
-    let e : n - k ≡ suc (n - (k + 1)) = omega arith in
-    let next : a + k + 1 ≡ a + (k + 1) = omega arith in
-    rw e (ap (λ (i : ℕ). put_bytes (slice_set memory (a + k) 0) i (replicate {A = ℕ} (n - (k + 1)) 0)) next)
 
 -- the event by what the cell says of a step is that of the step
 pub memory-made : (image : Image) (m : Bytes) (moved : Exchange) (act : MemoryAct)

@@ -7,7 +7,7 @@ ghost use Rattle.um_base.specs.{
   Places.{setup_at},
   Regions.{stack_range},
 };
-ghost use Rattle.um_machine.specs.Memory.{le_bytes, le_value, put_bytes, rodata_of};
+ghost use Rattle.um_machine.specs.Memory.{le_bytes, le_value, rodata_of};
 ghost use Rattle.um_fine.specs.{
   Answers.{act_in},
   Memory.{byte_at, memory_after, read, text_bytes, text_found, write},
@@ -21,7 +21,7 @@ use um_base::{
     AREA_SIZE, Found, Image, PARTITION_AREA, Piece, RODATA, Range, Row, STACK_AREA, Setup,
 };
 use um_steps::buffers::first_bytes;
-use um_steps::bytes::{le_value, part, put, write};
+use um_steps::bytes::{clear, le_value, part, write};
 use um_steps::rows::setup_at;
 
 /// How many bytes of a text are read at most.
@@ -69,17 +69,6 @@ fn stack_of(image: &Image, stack: Row) -> Option<Range>
     match setup_at(image, stack.0 as usize) {
         Setup::ThreadStack { range, .. } => Some(range),
         _ => None,
-    }
-}
-
-/// Writes so many zero bytes one after another, as far as there is memory.
-#[tactic(auto, using(crate::proofs::ByteLemmas::zeros_more))]
-fn clear(memory: &mut [u8], i: usize, n: usize)
-    requires { i + n < 2 ^ 64 }
-    ensures { memory.new ≡ put_bytes memory.old i (replicate {A = ℕ} n 0) }
-{
-    for k in 0..n {
-        put(memory, i + k, 0);
     }
 }
 

@@ -1,3 +1,4 @@
+-- Facts of the steps' parts, each by itself: ActLemmas, ByteLemmas, RegionLemmas, SizeLemmas; OrderLemmas is of the steps of an instruction.
 mod ActLemmas
 mod ByteLemmas
 pub mod OrderLemmas

@@ -1,6 +1,6 @@
 //! Bytes in memory.
 
-ghost use Rattle.std.specs.Prelude.{◌≡◌, ◌+◌, ◌-◌, ◌*◌, ◌<◌, ◌≤◌, ◌^◌, ◌++◌, length, take, drop, slice_set};
+ghost use Rattle.std.specs.Prelude.{◌≡◌, ◌+◌, ◌-◌, ◌*◌, ◌<◌, ◌≤◌, ◌^◌, ◌++◌, length, replicate, take, drop, slice_set, ℕ};
 ghost use Rattle.um_machine.specs.Memory.{le_value, le_bytes, put_bytes};
 
 /// The number of a few bytes, the lowest first.
@@ -32,6 +32,17 @@ pub fn write(memory: &mut [u8], i: usize, bytes: &[u8])
 {
     for (k, b) in bytes.iter().enumerate() {
         put(memory, i + k, *b);
+    }
+}
+
+/// Writes so many zero bytes one after another, as far as there is memory.
+#[tactic(auto, using(crate::proofs::ByteLemmas::zeros_more))]
+pub fn clear(memory: &mut [u8], i: usize, n: usize)
+    requires { i + n < 2 ^ 64 }
+    ensures { memory.new ≡ put_bytes memory.old i (replicate {A = ℕ} n 0) }
+{
+    for k in 0..n {
+        put(memory, i + k, 0);
     }
 }
 

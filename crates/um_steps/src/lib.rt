@@ -11,5 +11,6 @@ pub mod kinds;
 pub mod order;
 pub mod regions;
 pub mod registers;
+pub mod rodata;
 pub mod rows;
 pub mod same;

@@ -8,7 +8,6 @@ ghost use Rattle.um_base.specs.{
 };
 ghost use Rattle.um_machine.specs.{
   State.{nobody, vacant},
-  Memory.{rodata_of},
   Domains.{part_at},
   Run.{boot_thread, objects_from, parts_of},
 };
@@ -24,21 +23,8 @@ use um_base::{
 use um_machine::Thread;
 use um_service::Outcome;
 use um_steps::blank::{boot_thread, nobody};
+use um_steps::rodata::rodata;
 use um_steps::rows::thread_of_row;
-
-/// The bytes of the read-only data, filled up with zeros.
-fn rodata(alloc: Global, image: &Image) -> Result<Vec<u8>, Memory>
-    ensures { IfOk result (λ bytes. bytes.items ≡ rodata_of image.now) }
-{
-    let size = match image.rodata {
-        Some(range) => range.size as usize,
-        None => 0,
-    };
-    let given = image.rodata_bytes.as_slice();
-    let mut bytes = given.to_vec(alloc)?;
-    bytes.resize(size.max(given.len()), 0)?;
-    Ok(bytes)
-}
 
 /// Indices on which no thread was started.
 fn threads(alloc: Global) -> Result<Vec<Thread>, Memory>

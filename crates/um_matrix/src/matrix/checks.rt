@@ -26,7 +26,7 @@ impl<'a> Matrix<'a> {
     };
 
     /// The row at an address.
-    pub fn row_of(&self, a: Addr) -> usize
+    pub(crate) fn row_of(&self, a: Addr) -> usize
         ensures value { result ≡ row_of self.now a }
         ensures small { result < ROWS }
     {
@@ -37,7 +37,7 @@ impl<'a> Matrix<'a> {
     }
 
     /// The row of a thread's own object, which is past the table where there is no such thread.
-    pub fn own_row(&self, who: ThreadIx) -> usize
+    pub(crate) fn own_row(&self, who: ThreadIx) -> usize
         ensures value { result ≡ own_row self.now.image who.0 }
         ensures bound { result < 512 }
     {
@@ -50,7 +50,13 @@ impl<'a> Matrix<'a> {
     }
 
     /// The verdict on the object of a row.
-    pub fn row_verdict(&self, t: usize, kind: Option<Kind>, want: Want, x: usize) -> Option<Errno>
+    pub(crate) fn row_verdict(
+        &self,
+        t: usize,
+        kind: Option<Kind>,
+        want: Want,
+        x: usize,
+    ) -> Option<Errno>
         requires thread { t < THREADS }
         requires row { x < ROWS }
         ensures { result ≡ row_verdict self.now t kind want x }
@@ -66,7 +72,7 @@ impl<'a> Matrix<'a> {
     }
 
     /// What a thread's check of an address says: none where it is ok.
-    pub fn verdict(&self, t: usize, a: Addr, kind: Option<Kind>, want: Want) -> Option<Errno>
+    pub(crate) fn verdict(&self, t: usize, a: Addr, kind: Option<Kind>, want: Want) -> Option<Errno>
         requires { t < THREADS }
         ensures { result ≡ verdict self.now t a.0 kind want }
     {
@@ -77,7 +83,7 @@ impl<'a> Matrix<'a> {
     }
 
     /// What dropping a pair says.
-    pub fn dropped(&self, t: usize, x: usize) -> Leftover
+    pub(crate) fn dropped(&self, t: usize, x: usize) -> Leftover
         requires { x < ROWS }
         ensures { result ≡ dropped self.now t x }
     {
@@ -92,7 +98,7 @@ impl<'a> Matrix<'a> {
     }
 
     /// Whether the object of a row still stands.
-    pub fn given(&self, x: usize) -> Given
+    pub(crate) fn given(&self, x: usize) -> Given
         ensures { result ≡ given self.now x }
     {
         let objects = &self.objects;
@@ -104,7 +110,7 @@ impl<'a> Matrix<'a> {
     }
 
     /// Whether any thread holds an object.
-    pub fn is_held(&self, x: usize) -> bool
+    pub(crate) fn is_held(&self, x: usize) -> bool
         requires { x < ROWS }
         ensures { result ≡ is_held self.now x }
     {
@@ -112,14 +118,14 @@ impl<'a> Matrix<'a> {
     }
 
     /// Whether a thread index has no pair.
-    pub fn has_none(&self, t: usize) -> bool
+    pub(crate) fn has_none(&self, t: usize) -> bool
         ensures { result ≡ has_none self.now t }
     {
         no_flag_at(self.pairs.as_slice(), t)
     }
 
     /// Whether a thread's pool pays for this.
-    pub fn pays(&self, pool: Option<u8>, size: u32) -> bool
+    pub(crate) fn pays(&self, pool: Option<u8>, size: u32) -> bool
         ensures { result ≡ pays self.now pool size }
     {
         match pool {
@@ -151,7 +157,7 @@ fn init_verdict(want: Want, init: bool) -> Option<Errno>
 }
 
 /// What marking an object as initialised says.
-pub fn set_said(object: &Object, strict: bool) -> SetSaid
+pub(crate) fn set_said(object: &Object, strict: bool) -> SetSaid
     ensures { result ≡ set_said object.now strict }
 {
     if object.status == Status::Gone {
@@ -190,7 +196,7 @@ fn no_flag_at(pairs: &[[bool; THREADS]], t: usize) -> bool
 }
 
 /// Whether no flag is set.
-pub fn none_set(flags: &[bool]) -> bool
+pub(crate) fn none_set(flags: &[bool]) -> bool
     ensures { result ≡ list_all not flags.now }
 {
     flags.iter().all(|flag| !*flag)

@@ -126,7 +126,7 @@ impl<'a> Matrix<'a> {
     }
 
     /// The row with which a step is this act.
-    pub fn row_for(&self, t: usize, step: &Pending, act: &Act) -> Option<usize>
+    pub(crate) fn row_for(&self, t: usize, step: &Pending, act: &Act) -> Option<usize>
         requires thread { t < THREADS }
         requires sound { IsSound step.now }
         ensures inside { IfSome result (λ x. x < ROWS) }
@@ -264,7 +264,7 @@ impl<'a> Matrix<'a> {
 
     /// What is made of an event, where it is a step.
     #[tactic(auto, using(crate::proofs::OfferLemmas::no_steps))]
-    pub fn choice(&self, event: &Event) -> Option<Choice>
+    pub(crate) fn choice(&self, event: &Event) -> Option<Choice>
         ensures thread { IfSome result (λ _. event.now.thread.0 < THREADS) }
         ensures some { IfSome result (λ choice. IsChoice self.now event.now.thread.0 event.now.act choice) }
         ensures none { IfNone result (IsNoStep self.now event.now) }

@@ -91,7 +91,7 @@ impl<'a> Matrix<'a> {
     }
 
     /// The start of a new thread.
-    pub fn start(&mut self, t: usize, who: ThreadIx, start: Beginning, taken: usize)
+    pub(crate) fn start(&mut self, t: usize, who: ThreadIx, start: Beginning, taken: usize)
         requires { t < THREADS }
         ensures { self.new ≡ after self.old t 0 (Pending.Start who start.script start.stack start.priority start.mode) (drop taken (thread_at self.old t).pending) }
     {
@@ -124,7 +124,7 @@ impl<'a> Matrix<'a> {
     }
 
     /// A thread goes on as a user, at the first line of a script.
-    pub fn enter_user(&mut self, t: usize, script: u8, taken: usize)
+    pub(crate) fn enter_user(&mut self, t: usize, script: u8, taken: usize)
         requires { t < THREADS }
         ensures { self.new ≡ after self.old t 0 (Pending.EnterUser script) (drop taken (thread_at self.old t).pending) }
     {

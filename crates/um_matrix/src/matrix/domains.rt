@@ -38,6 +38,22 @@ impl<'a> Matrix<'a> {
         thread.goes_on(self.image, taken);
     }
 
+    /// What an edit makes of a domain, and its thread is told.
+    fn edit_domain(
+        &mut self,
+        t: usize,
+        domain: u8,
+        before: Option<Parts>,
+        made: Result<Parts, Errno>,
+        taken: usize,
+    )
+        requires { t < THREADS }
+        ensures { self.new ≡ after_domain self.old t (thread_at self.old t) domain (domain_after before made) (reply_to made) (drop taken (thread_at self.old t).pending) }
+    {
+        let reply = reply_to(&made);
+        self.put_domain(t, domain, domain_after(before, made), reply, taken);
+    }
+
     /// What an initialisation makes of a domain.
     fn initialised(&self, domain: u8, parts: &PartRefs) -> Result<Parts, Errno>
         ensures { result ≡ initialised self.now.image.mpu (most_parts self.now.image) (domain_at self.now domain) (map (part_named self.now.image) parts.now) }
@@ -46,7 +62,7 @@ impl<'a> Matrix<'a> {
     }
 
     /// What the initialisation of a domain says.
-    pub fn says_domain_init(&self, domain: u8, parts: &PartRefs, act: &mut Act)
+    pub(crate) fn says_domain_init(&self, domain: u8, parts: &PartRefs, act: &mut Act)
         ensures { (t x : ℕ) → act.new ≡ act_of self.now t x (Pending.DomInit domain parts.now) }
     {
         let made = self.initialised(domain, parts);
@@ -57,7 +73,7 @@ impl<'a> Matrix<'a> {
     }
 
     /// What the addition of a partition to a domain says.
-    pub fn says_domain_add(&self, domain: u8, range: Range, attr: Attr, act: &mut Act)
+    pub(crate) fn says_domain_add(&self, domain: u8, range: Range, attr: Attr, act: &mut Act)
         ensures { (t x : ℕ) → act.new ≡ act_of self.now t x (Pending.DomAdd domain range attr) }
     {
         let made = added(self.image, &self.domain_at(domain), range, attr);
@@ -70,7 +86,7 @@ impl<'a> Matrix<'a> {
     }
 
     /// What the removal of a partition from a domain says.
-    pub fn says_domain_remove(&self, domain: u8, range: Range, attr: Attr, act: &mut Act)
+    pub(crate) fn says_domain_remove(&self, domain: u8, range: Range, attr: Attr, act: &mut Act)
         ensures { (t x : ℕ) → act.new ≡ act_of self.now t x (Pending.DomRemove domain range attr) }
     {
         let made = removed(&self.domain_at(domain), range);
@@ -83,40 +99,50 @@ impl<'a> Matrix<'a> {
     }
 
     /// The initialisation of a domain.
-    pub fn domain_init(&mut self, t: usize, domain: u8, parts: &PartRefs, taken: usize)
+    pub(crate) fn domain_init(&mut self, t: usize, domain: u8, parts: &PartRefs, taken: usize)
         requires { t < THREADS }
         ensures { self.new ≡ after self.old t 0 (Pending.DomInit domain parts.now) (drop taken (thread_at self.old t).pending) }
     {
-        let before = self.domain_at(domain);
         let made = self.initialised(domain, parts);
-        let reply = reply_to(&made);
-        self.put_domain(t, domain, domain_after(before, made), reply, taken);
+        self.edit_domain(t, domain, self.domain_at(domain), made, taken);
     }
 
     /// The addition of a partition to a domain.
-    pub fn domain_add(&mut self, t: usize, domain: u8, range: Range, attr: Attr, taken: usize)
+    pub(crate) fn domain_add(
+        &mut self,
+        t: usize,
+        domain: u8,
+        range: Range,
+        attr: Attr,
+        taken: usize,
+    )
         requires { t < THREADS }
         ensures { self.new ≡ after self.old t 0 (Pending.DomAdd domain range attr) (drop taken (thread_at self.old t).pending) }
     {
         let before = self.domain_at(domain);
         let made = added(self.image, &before, range, attr);
-        let reply = reply_to(&made);
-        self.put_domain(t, domain, domain_after(before, made), reply, taken);
+        self.edit_domain(t, domain, before, made, taken);
     }
 
     /// The removal of a partition from a domain.
-    pub fn domain_remove(&mut self, t: usize, domain: u8, range: Range, attr: Attr, taken: usize)
+    pub(crate) fn domain_remove(
+        &mut self,
+        t: usize,
+        domain: u8,
+        range: Range,
+        attr: Attr,
+        taken: usize,
+    )
         requires { t < THREADS }
         ensures { self.new ≡ after self.old t 0 (Pending.DomRemove domain range attr) (drop taken (thread_at self.old t).pending) }
     {
         let before = self.domain_at(domain);
         let made = removed(&before, range);
-        let reply = reply_to(&made);
-        self.put_domain(t, domain, domain_after(before, made), reply, taken);
+        self.edit_domain(t, domain, before, made, taken);
     }
 
     /// What moving a thread into a domain replies.
-    pub fn move_reply(&self, domain: u8) -> Reply
+    pub(crate) fn move_reply(&self, domain: u8) -> Reply
         ensures { result ≡ move_reply (domain_at self.now domain) }
     {
         match self.domains.get(domain as usize) {
@@ -127,7 +153,7 @@ impl<'a> Matrix<'a> {
 
     /// A thread moves into a domain, where that is initialised.
     #[tactic(auto, using(crate::proofs::PairLemmas::pendings_kept))]
-    pub fn domain_move(&mut self, t: usize, domain: u8, who: ThreadIx, taken: usize)
+    pub(crate) fn domain_move(&mut self, t: usize, domain: u8, who: ThreadIx, taken: usize)
         requires { t < THREADS }
         ensures { self.new ≡ after self.old t 0 (Pending.DomMove domain who) (drop taken (thread_at self.old t).pending) }
     {

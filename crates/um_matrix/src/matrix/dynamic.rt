@@ -17,7 +17,7 @@ impl<'a> Matrix<'a> {
     ghost use Rattle.um_machine.specs.{State.{thread_at}, Table.{after}};
 
     /// The reservation of a row, or NULL.
-    pub fn reserve(&mut self, t: usize, x: usize, kind: Kind, taken: usize)
+    pub(crate) fn reserve(&mut self, t: usize, x: usize, kind: Kind, taken: usize)
         requires thread { t < THREADS }
         requires row { x < ROWS }
         requires taken { 0 < taken }
@@ -43,7 +43,7 @@ impl<'a> Matrix<'a> {
 
     /// The birth of a reserved object, which its creator holds.
     #[tactic(auto, using(crate::proofs::PairLemmas::pendings_kept))]
-    pub fn born(&mut self, t: usize, a: Addr, taken: usize)
+    pub(crate) fn born(&mut self, t: usize, a: Addr, taken: usize)
         requires { t < THREADS }
         ensures { self.new ≡ after self.old t 0 (Pending.Born a) (drop taken (thread_at self.old t).pending) }
     {
@@ -54,7 +54,7 @@ impl<'a> Matrix<'a> {
     }
 
     /// A buffer from the pool, or the answer that there is none.
-    pub fn buffer(&mut self, t: usize, size: u32, taken: usize)
+    pub(crate) fn buffer(&mut self, t: usize, size: u32, taken: usize)
         requires { t < THREADS }
         ensures { self.new ≡ after self.old t 0 (Pending.Buffer size) (drop taken (thread_at self.old t).pending) }
     {
@@ -68,7 +68,7 @@ impl<'a> Matrix<'a> {
     }
 
     /// The pool gets a buffer back.
-    pub fn unbuffer(&mut self, t: usize, size: u32, taken: usize)
+    pub(crate) fn unbuffer(&mut self, t: usize, size: u32, taken: usize)
         requires { t < THREADS }
         ensures { self.new ≡ after self.old t 0 (Pending.Unbuffer size) (drop taken (thread_at self.old t).pending) }
     {

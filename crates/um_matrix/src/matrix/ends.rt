@@ -23,7 +23,7 @@ impl<'a> Matrix<'a> {
     }
 
     /// A fatal error: the end of the thread, or of all threads.
-    pub fn fatal(&mut self, t: usize, reason: u8, cause: Cause, taken: usize)
+    pub(crate) fn fatal(&mut self, t: usize, reason: u8, cause: Cause, taken: usize)
         requires { t < THREADS }
         ensures { self.new ≡ after self.old t 0 (Pending.Fatal reason cause) (drop taken (thread_at self.old t).pending) }
     {
@@ -35,7 +35,7 @@ impl<'a> Matrix<'a> {
 
     /// One drop of an end.
     #[tactic(auto, using(crate::proofs::PairLemmas::pendings_kept))]
-    pub fn end_drop(&mut self, t: usize, x: usize, from: u8, taken: usize)
+    pub(crate) fn end_drop(&mut self, t: usize, x: usize, from: u8, taken: usize)
         requires thread { t < THREADS }
         requires row { x < ROWS }
         requires taken { 0 < taken }
@@ -47,7 +47,7 @@ impl<'a> Matrix<'a> {
     }
 
     /// The dooming of one thread.
-    pub fn doom(&mut self, t: usize, from: u8, taken: usize)
+    pub(crate) fn doom(&mut self, t: usize, from: u8, taken: usize)
         requires { t < THREADS }
         ensures { self.new ≡ after self.old t 0 (Pending.Dooms from) (drop taken (thread_at self.old t).pending) }
     {

@@ -1,11 +1,10 @@
 //! Memory, and what a thread may do there.
 
 ghost use Rattle.std.specs.Prelude.{◌≡◌, ◌<◌, ◌≤◌, ◌+◌, ◌^◌, length, replicate, ℕ};
-ghost use Rattle.um_machine.specs.Memory.{put_bytes};
 
 use crate::matrix::Matrix;
 use um_base::{Access, PARTITION_AREA, RODATA, Range, STACK_AREA, THREADS};
-use um_steps::bytes::{part, put, write};
+use um_steps::bytes::{clear, part, write};
 use um_steps::regions;
 
 impl<'a> Matrix<'a> {
@@ -13,7 +12,7 @@ impl<'a> Matrix<'a> {
 
     /// Whether a thread may do this with n bytes from an address on.
     #[tactic(auto, using(um_steps::proofs::RegionLemmas::regions_allow))]
-    pub fn allowed(&self, t: usize, access: Access, a: u32, n: u32) -> bool
+    pub(crate) fn allowed(&self, t: usize, access: Access, a: u32, n: u32) -> bool
         requires { t < THREADS }
         ensures { result ≡ allowed self.now t access a n }
     {
@@ -45,7 +44,7 @@ impl<'a> Matrix<'a> {
     }
 
     /// n bytes from an address on, which lie in one area.
-    pub fn bytes_at(&self, a: u32, n: u32) -> &[u8]
+    pub(crate) fn bytes_at(&self, a: u32, n: u32) -> &[u8]
         ensures value { result.now ≡ bytes_at self.now a n }
         ensures few { length result.now ≤ n }
     {
@@ -71,7 +70,7 @@ impl<'a> Matrix<'a> {
     }
 
     /// Writes bytes from an address on.
-    pub fn write(&mut self, a: u32, bytes: &[u8])
+    pub(crate) fn write(&mut self, a: u32, bytes: &[u8])
         requires { length bytes.now < 2 ^ 32 }
         ensures { self.new ≡ with_bytes self.old a bytes.now }
     {
@@ -87,8 +86,7 @@ impl<'a> Matrix<'a> {
     }
 
     /// Writes a number of at most four bytes from an address on, the lowest byte first.
-
-    pub fn write_number(&mut self, a: u32, n: u32, value: u32)
+    pub(crate) fn write_number(&mut self, a: u32, n: u32, value: u32)
         ensures { self.new ≡ with_bytes self.old a (le_bytes n value) }
     {
         let bytes = value.to_le_bytes();
@@ -96,7 +94,7 @@ impl<'a> Matrix<'a> {
     }
 
     /// Writes zero bytes over a range.
-    pub fn clear(&mut self, range: Range)
+    pub(crate) fn clear(&mut self, range: Range)
         ensures { self.new ≡ with_bytes self.old range.start.0 (replicate range.size 0) }
     {
         let a = range.start.0;
@@ -110,16 +108,5 @@ impl<'a> Matrix<'a> {
         } else {
             clear(&mut self.stacks, (a - STACK_AREA) as usize, n);
         }
-    }
-}
-
-/// Writes so many zero bytes one after another, as far as there is memory.
-#[tactic(auto, using(crate::proofs::ByteLemmas::zeros_more))]
-fn clear(memory: &mut [u8], i: usize, n: usize)
-    requires { i + n < 2 ^ 64 }
-    ensures { memory.new ≡ put_bytes memory.old i (replicate {A = ℕ} n 0) }
-{
-    for k in 0..n {
-        put(memory, i + k, 0);
     }
 }

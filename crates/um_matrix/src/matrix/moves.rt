@@ -11,7 +11,7 @@ impl<'a> Matrix<'a> {
     ghost use Rattle.um_machine.specs.Table.{paired, after_drop, after_given};
 
     /// A pair comes or goes, and the row leaves what is due.
-    pub fn paired(&mut self, t: usize, x: usize, there: bool)
+    pub(crate) fn paired(&mut self, t: usize, x: usize, there: bool)
         ensures { self.new ≡ paired self.old t x there }
     {
         if x < ROWS {
@@ -21,7 +21,7 @@ impl<'a> Matrix<'a> {
     }
 
     /// Drops a pair: a dynamic object that lost its last pair is gone.
-    pub fn drop_pair(&mut self, t: usize, x: usize)
+    pub(crate) fn drop_pair(&mut self, t: usize, x: usize)
         requires { x < ROWS }
         ensures { self.new ≡ after_drop self.old t x }
     {
@@ -36,7 +36,7 @@ impl<'a> Matrix<'a> {
     }
 
     /// Gives a pair, unless the object is gone.
-    pub fn give_pair(&mut self, t: usize, x: usize)
+    pub(crate) fn give_pair(&mut self, t: usize, x: usize)
         ensures { self.new ≡ after_given self.old t x }
     {
         match self.given(x) {
@@ -47,7 +47,7 @@ impl<'a> Matrix<'a> {
 }
 
 /// Who has a pair with the object of a row: nobody past the table.
-pub fn holders_of(pairs: &[[bool; THREADS]], x: usize) -> &[bool]
+pub(crate) fn holders_of(pairs: &[[bool; THREADS]], x: usize) -> &[bool]
     ensures value { result.now ≡ slice_index_or pairs.now x [] }
     ensures few { length result.now ≤ THREADS }
 {
@@ -58,14 +58,14 @@ pub fn holders_of(pairs: &[[bool; THREADS]], x: usize) -> &[bool]
 }
 
 /// Whether a flag is set. None is past the end.
-pub fn flag(flags: &[bool], i: usize) -> bool
+pub(crate) fn flag(flags: &[bool], i: usize) -> bool
     ensures { result ≡ slice_index_or flags.now i false }
 {
     i < flags.len() && flags[i]
 }
 
 /// Writes a flag, if there is one.
-pub fn put(flags: &mut [bool], i: usize, there: bool)
+pub(crate) fn put(flags: &mut [bool], i: usize, there: bool)
     ensures { flags.new ≡ slice_set flags.old i there }
 {
     if i < flags.len() {
@@ -74,7 +74,7 @@ pub fn put(flags: &mut [bool], i: usize, there: bool)
 }
 
 /// The rows with which a thread has a pair.
-pub fn rows_held(pairs: &[[bool; THREADS]], t: usize) -> [bool; ROWS]
+pub(crate) fn rows_held(pairs: &[[bool; THREADS]], t: usize) -> [bool; ROWS]
     requires { length pairs.now ≡ ROWS }
     ensures { result ≡ map (λ (flags : List Bool). slice_index_or flags t false) pairs.now }
 {
@@ -86,7 +86,7 @@ pub fn rows_held(pairs: &[[bool; THREADS]], t: usize) -> [bool; ROWS]
 }
 
 /// The rows with which a thread has a pair and another has none.
-pub fn rows_to_pass(pairs: &[[bool; THREADS]], t: usize, who: usize) -> [bool; ROWS]
+pub(crate) fn rows_to_pass(pairs: &[[bool; THREADS]], t: usize, who: usize) -> [bool; ROWS]
     requires { length pairs.now ≡ ROWS }
     ensures { result ≡ map (λ (holders : List Bool). slice_index_or holders t false && not (slice_index_or holders who false)) pairs.now }
 {

@@ -11,7 +11,7 @@ use um_machine::Pending;
 
 impl<'a> Matrix<'a> {
     ghost use Rattle.um_machine.specs.{Run.{MayChoose, IsComplete}, State.{thread_at, is_started}};
-    ghost use Rattle.um_matrix.specs.Offered.{IsStep, event_of, first_step, second_step, is_cleaning, ChoosesNone, IsIdle};
+    ghost use Rattle.um_matrix.specs.Offered.{IsStep, event_of, first_step, second_step, is_cleaning, Says, ChoosesNone, IsIdle};
 
     /// The first row that a step may choose.
     fn least_row(&self, t: usize, step: &Pending) -> Option<usize>
@@ -29,6 +29,17 @@ impl<'a> Matrix<'a> {
         None
     }
 
+    /// What a thread says by a step, with the first row that it may choose.
+    fn act_with(&self, t: usize, step: &Pending) -> Option<Act>
+        requires thread { t < THREADS }
+        requires sound { IsSound step.now }
+        ensures says { IfSome result (λ act. Says self.now t act step.now) }
+        ensures none { IfNone result (ChoosesNone self.now t step.now) }
+    {
+        let x = self.least_row(t, step)?;
+        Some(self.says(t, x, step))
+    }
+
     /// What a thread says by its next step.
     fn first_act(&self, t: usize) -> Option<Act>
         requires { t < THREADS }
@@ -37,10 +48,7 @@ impl<'a> Matrix<'a> {
     {
         match self.next_step(t) {
             None => self.rest_act(t),
-            Some(step) => match self.least_row(t, &step) {
-                Some(x) => Some(self.says(t, x, &step)),
-                None => None,
-            },
+            Some(step) => self.act_with(t, &step),
         }
     }
 
@@ -52,10 +60,7 @@ impl<'a> Matrix<'a> {
     {
         match self.second_step(t) {
             None => None,
-            Some(step) => match self.least_row(t, &step) {
-                Some(x) => Some(self.says(t, x, &step)),
-                None => None,
-            },
+            Some(step) => self.act_with(t, &step),
         }
     }
 

@@ -26,7 +26,7 @@ impl<'a> Matrix<'a> {
     ghost use Rattle.um_machine.specs.{State.{thread_at}, Table.{after}};
 
     /// A check: the object of one that is ok is held.
-    pub fn check(
+    pub(crate) fn check(
         &mut self,
         t: usize,
         a: Addr,
@@ -51,7 +51,7 @@ impl<'a> Matrix<'a> {
     }
 
     /// An answer: what the call has checked is let go.
-    pub fn answer(&mut self, t: usize, reply: Option<Reply>, to: Option<u8>, taken: usize)
+    pub(crate) fn answer(&mut self, t: usize, reply: Option<Reply>, to: Option<u8>, taken: usize)
         requires { t < THREADS }
         ensures { self.new ≡ after self.old t 0 (Pending.Answer reply to) (drop taken (thread_at self.old t).pending) }
     {
@@ -63,7 +63,7 @@ impl<'a> Matrix<'a> {
     }
 
     /// An object becomes public, unless it is gone.
-    pub fn publish(&mut self, t: usize, a: Addr, taken: usize)
+    pub(crate) fn publish(&mut self, t: usize, a: Addr, taken: usize)
         requires { t < THREADS }
         ensures { self.new ≡ after self.old t 0 (Pending.Publish a) (drop taken (thread_at self.old t).pending) }
     {
@@ -76,7 +76,14 @@ impl<'a> Matrix<'a> {
     }
 
     /// The marking of an object as initialised.
-    pub fn set_init(&mut self, t: usize, a: Addr, strict: bool, undo: Option<Addr>, taken: usize)
+    pub(crate) fn set_init(
+        &mut self,
+        t: usize,
+        a: Addr,
+        strict: bool,
+        undo: Option<Addr>,
+        taken: usize,
+    )
         requires { t < THREADS }
         ensures { self.new ≡ after self.old t 0 (Pending.SetInit a strict undo) (drop taken (thread_at self.old t).pending) }
     {
@@ -92,7 +99,7 @@ impl<'a> Matrix<'a> {
     }
 
     /// The clearing of an object's initialised state.
-    pub fn clear_init(&mut self, t: usize, a: Addr, taken: usize)
+    pub(crate) fn clear_init(&mut self, t: usize, a: Addr, taken: usize)
         requires { t < THREADS }
         ensures { self.new ≡ after self.old t 0 (Pending.ClearInit a) (drop taken (thread_at self.old t).pending) }
     {
@@ -105,7 +112,7 @@ impl<'a> Matrix<'a> {
     }
 
     /// A thread object gets the name in the buffer.
-    pub fn named(&mut self, t: usize, who: ThreadIx, taken: usize)
+    pub(crate) fn named(&mut self, t: usize, who: ThreadIx, taken: usize)
         requires { t < THREADS }
         ensures { self.new ≡ after self.old t 0 (Pending.Named who) (drop taken (thread_at self.old t).pending) }
     {

@@ -13,7 +13,7 @@ impl<'a> Matrix<'a> {
 
     /// A grant, unless the object is gone.
     #[tactic(auto, using(crate::proofs::PairLemmas::pendings_kept))]
-    pub fn grant(&mut self, t: usize, who: ThreadIx, a: Addr, taken: usize)
+    pub(crate) fn grant(&mut self, t: usize, who: ThreadIx, a: Addr, taken: usize)
         requires { t < THREADS }
         ensures { self.new ≡ after self.old t 0 (Pending.Grant who a) (drop taken (thread_at self.old t).pending) }
     {
@@ -24,7 +24,7 @@ impl<'a> Matrix<'a> {
 
     /// A new thread gets its own object, and what its creator has to pass on is due.
     #[tactic(auto, using(crate::proofs::PairLemmas::pendings_kept))]
-    pub fn own(&mut self, t: usize, who: ThreadIx, taken: usize)
+    pub(crate) fn own(&mut self, t: usize, who: ThreadIx, taken: usize)
         requires { t < THREADS }
         ensures { self.new ≡ after self.old t 0 (Pending.Own who) (drop taken (thread_at self.old t).pending) }
     {
@@ -49,7 +49,7 @@ impl<'a> Matrix<'a> {
 
     /// One pair of an inheritance.
     #[tactic(auto, using(crate::proofs::PairLemmas::pendings_kept))]
-    pub fn inherit(&mut self, t: usize, x: usize, who: ThreadIx, taken: usize)
+    pub(crate) fn inherit(&mut self, t: usize, x: usize, who: ThreadIx, taken: usize)
         requires thread { t < THREADS }
         requires taken { 0 < taken }
         ensures { self.new ≡ after self.old t x (Pending.Inherit who) (drop taken (thread_at self.old t).pending) }
@@ -60,7 +60,7 @@ impl<'a> Matrix<'a> {
 
     /// The drop of one pair by a call.
     #[tactic(auto, using(crate::proofs::PairLemmas::pendings_kept))]
-    pub fn drop_by_call(&mut self, t: usize, who: ThreadIx, a: Addr, taken: usize)
+    pub(crate) fn drop_by_call(&mut self, t: usize, who: ThreadIx, a: Addr, taken: usize)
         requires { t < THREADS }
         ensures { self.new ≡ after self.old t 0 (Pending.DropPair who a) (drop taken (thread_at self.old t).pending) }
     {

@@ -93,7 +93,7 @@ impl<'a> Matrix<'a> {
     }
 
     /// Whether the pair of a thread with a row may be cleaned.
-    pub fn may_clean_pair(&self, t: usize, x: usize, who: ThreadIx) -> bool
+    pub(crate) fn may_clean_pair(&self, t: usize, x: usize, who: ThreadIx) -> bool
         requires { x < ROWS }
         ensures { IsTrue result ↔ MayChoose self.now t x (Pending.CleanPair who) }
     {
@@ -112,7 +112,7 @@ impl<'a> Matrix<'a> {
     }
 
     /// Whether the object of a row may be recycled.
-    pub fn may_recycle(&self, t: usize, x: usize) -> bool
+    pub(crate) fn may_recycle(&self, t: usize, x: usize) -> bool
         requires { x < ROWS }
         ensures { IsTrue result ↔ MayChoose self.now t x Pending.Recycle }
     {

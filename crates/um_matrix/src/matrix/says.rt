@@ -99,7 +99,7 @@ impl<'a> Matrix<'a> {
     }
 
     /// Writes what a step says, with the row that it chooses, where it does.
-    pub fn puts_said(&self, t: usize, x: usize, step: &Pending, act: &mut Act)
+    pub(crate) fn puts_said(&self, t: usize, x: usize, step: &Pending, act: &mut Act)
         requires thread { t < THREADS }
         requires row { x < ROWS }
         requires sound { IsSound step.now }

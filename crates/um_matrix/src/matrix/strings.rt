@@ -38,7 +38,7 @@ impl<'a> Matrix<'a> {
 
     /// What a string read finds from an address on.
     #[tactic(auto, using(crate::proofs::StringLemmas::string_more))]
-    pub fn string_read(&self, t: usize, a: u32) -> Found
+    pub(crate) fn string_read(&self, t: usize, a: u32) -> Found
         requires { t < THREADS }
         ensures value { result ≡ string_read self.now t a 32 }
         ensures short { IsShort result }
@@ -55,7 +55,7 @@ impl<'a> Matrix<'a> {
     }
 
     /// The bytes of a string.
-    pub fn string_bytes(&self, a: u32, n: u32) -> Piece
+    pub(crate) fn string_bytes(&self, a: u32, n: u32) -> Piece
         requires { n ≤ 32 }
         ensures { result ≡ string_bytes self.now a n }
     {

@@ -19,11 +19,11 @@ const FAULT: Pending = Pending::Fatal {
 };
 
 impl<'a> Matrix<'a> {
-    ghost use Rattle.um_machine.specs.{State.{thread_at}, Table.{after, after_string, amount_of, erased}};
+    ghost use Rattle.um_machine.specs.{Order.{copy_fails}, State.{thread_at}, Table.{after, after_string, amount_of, erased, goes_on}};
     ghost use Rattle.um_base.specs.Places.{setup_at};
 
     /// How many bytes are copied or probed.
-    pub fn amount_of(&self, amount: Amount) -> u32
+    pub(crate) fn amount_of(&self, amount: Amount) -> u32
         ensures { result ≡ amount_of self.now amount }
     {
         match amount {
@@ -33,7 +33,7 @@ impl<'a> Matrix<'a> {
     }
 
     /// A load, or its fault.
-    pub fn load(&mut self, t: usize, to: u8, a: Addr, n: u32, taken: usize)
+    pub(crate) fn load(&mut self, t: usize, to: u8, a: Addr, n: u32, taken: usize)
         requires thread { t < THREADS }
         requires few { n ≤ 4 }
         ensures { self.new ≡ after self.old t 0 (Pending.Load to a n) (drop taken (thread_at self.old t).pending) }
@@ -49,7 +49,7 @@ impl<'a> Matrix<'a> {
     }
 
     /// A store, or its fault.
-    pub fn store(&mut self, t: usize, a: Addr, n: u32, value: u32, taken: usize)
+    pub(crate) fn store(&mut self, t: usize, a: Addr, n: u32, value: u32, taken: usize)
         requires { t < THREADS }
         ensures { self.new ≡ after self.old t 0 (Pending.Store a n value) (drop taken (thread_at self.old t).pending) }
     {
@@ -62,7 +62,7 @@ impl<'a> Matrix<'a> {
     }
 
     /// A fetch, or its fault.
-    pub fn fetch(&mut self, t: usize, a: Addr, taken: usize)
+    pub(crate) fn fetch(&mut self, t: usize, a: Addr, taken: usize)
         requires { t < THREADS }
         ensures { self.new ≡ after self.old t 0 (Pending.Fetch a) (drop taken (thread_at self.old t).pending) }
     {
@@ -73,54 +73,57 @@ impl<'a> Matrix<'a> {
         }
     }
 
+    /// A thread that may not copy what its call asks for fails the call, or ends where it isn't a user.
+    fn copy_fails(&mut self, t: usize)
+        requires { t < THREADS }
+        ensures { self.new ≡ goes_on self.old t (thread_at self.old t) (copy_fails (thread_at self.old t).mode) }
+    {
+        let thread = &mut self.threads[t];
+        thread.turns_to(&copy_fails(thread.mode));
+    }
+
     /// The test of a buffer that a call will write.
-    pub fn probe(&mut self, t: usize, a: Addr, amount: Amount, taken: usize)
+    pub(crate) fn probe(&mut self, t: usize, a: Addr, amount: Amount, taken: usize)
         requires { t < THREADS }
         ensures { self.new ≡ after self.old t 0 (Pending.Probe a amount) (drop taken (thread_at self.old t).pending) }
     {
         let n = self.amount_of(amount);
-        if self.allowed(t, Access::Write, a.0, n) {
-            self.threads[t].goes_on(self.image, taken);
-        } else {
-            let thread = &mut self.threads[t];
-            thread.turns_to(&copy_fails(thread.mode));
+        if !self.allowed(t, Access::Write, a.0, n) {
+            return self.copy_fails(t);
         }
+        self.threads[t].goes_on(self.image, taken);
     }
 
     /// A copy from a caller's memory.
-    pub fn copy_in(&mut self, t: usize, a: Addr, amount: Amount, taken: usize)
+    pub(crate) fn copy_in(&mut self, t: usize, a: Addr, amount: Amount, taken: usize)
         requires { t < THREADS }
         ensures { self.new ≡ after self.old t 0 (Pending.CopyIn a amount) (drop taken (thread_at self.old t).pending) }
     {
         let n = self.amount_of(amount);
-        if self.allowed(t, Access::Read, a.0, n) {
-            let buffer = first_bytes(self.bytes_at(a.0, n));
-            let thread = &mut self.threads[t];
-            thread.buffer = buffer;
-            thread.goes_on(self.image, taken);
-        } else {
-            let thread = &mut self.threads[t];
-            thread.turns_to(&copy_fails(thread.mode));
+        if !self.allowed(t, Access::Read, a.0, n) {
+            return self.copy_fails(t);
         }
+        let buffer = first_bytes(self.bytes_at(a.0, n));
+        let thread = &mut self.threads[t];
+        thread.buffer = buffer;
+        thread.goes_on(self.image, taken);
     }
 
     /// A copy of the buffer to a caller's memory.
-    pub fn copy_out(&mut self, t: usize, a: Addr, taken: usize)
+    pub(crate) fn copy_out(&mut self, t: usize, a: Addr, taken: usize)
         requires { t < THREADS }
         ensures { self.new ≡ after self.old t 0 (Pending.CopyOut a) (drop taken (thread_at self.old t).pending) }
     {
         let buffer = self.threads[t].buffer;
-        if self.allowed(t, Access::Write, a.0, buffer.len() as u32) {
-            self.write(a.0, buffer.as_slice());
-            self.threads[t].goes_on(self.image, taken);
-        } else {
-            let thread = &mut self.threads[t];
-            thread.turns_to(&copy_fails(thread.mode));
+        if !self.allowed(t, Access::Write, a.0, buffer.len() as u32) {
+            return self.copy_fails(t);
         }
+        self.write(a.0, buffer.as_slice());
+        self.threads[t].goes_on(self.image, taken);
     }
 
     /// A copy of a string from a caller's memory.
-    pub fn copy_string(&mut self, t: usize, a: Addr, taken: usize)
+    pub(crate) fn copy_string(&mut self, t: usize, a: Addr, taken: usize)
         requires { t < THREADS }
         ensures { self.new ≡ after self.old t 0 (Pending.CopyStr a) (drop taken (thread_at self.old t).pending) }
     {
@@ -147,7 +150,7 @@ impl<'a> Matrix<'a> {
     }
 
     /// Zero bytes over a thread stack.
-    pub fn erase(&mut self, t: usize, stack: Row, taken: usize)
+    pub(crate) fn erase(&mut self, t: usize, stack: Row, taken: usize)
         requires { t < THREADS }
         ensures { self.new ≡ after self.old t 0 (Pending.Erase stack) (drop taken (thread_at self.old t).pending) }
     {

@@ -86,7 +86,7 @@ impl<'a> Matrix<'a> {
 
     /// What the work on an object says.
     #[inline(never)]
-    pub fn says_work(&self, t: usize, a: Addr, ask: &Ask, act: &mut Act)
+    pub(crate) fn says_work(&self, t: usize, a: Addr, ask: &Ask, act: &mut Act)
         requires thread { t < THREADS }
         requires sound { IsTrue (is_sound_ask ask.now) }
         ensures { (x : ℕ) → act.new ≡ act_of self.now t x (Pending.Work a ask.now) }
@@ -103,7 +103,7 @@ impl<'a> Matrix<'a> {
 
     /// The work of a call on an object, and what it says.
     #[inline(never)]
-    pub fn work(&mut self, t: usize, a: Addr, ask: &Ask, taken: usize, said: &mut Act)
+    pub(crate) fn work(&mut self, t: usize, a: Addr, ask: &Ask, taken: usize, said: &mut Act)
         requires thread { t < THREADS }
         requires sound { IsTrue (is_sound_ask ask.now) }
         requires taken { 0 < taken }
@@ -134,7 +134,7 @@ impl<'a> Matrix<'a> {
 
     /// A waiter goes on with what it was told.
     #[inline(never)]
-    pub fn resume(&mut self, t: usize, taken: usize)
+    pub(crate) fn resume(&mut self, t: usize, taken: usize)
         requires { t < THREADS }
         ensures { self.new ≡ after self.old t 0 Pending.Resume (drop taken (thread_at self.old t).pending) }
     {

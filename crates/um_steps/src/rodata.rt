@@ -1,15 +1,13 @@
 //! The read-only data of an image.
 
 ghost use Rattle.std.specs.Prelude.{◌≡◌, IfOk};
-ghost use Rattle.um_base.specs.Lawful.{IsLawful};
 ghost use Rattle.um_machine.specs.Memory.{rodata_of};
 
 use std::alloc::Global;
 use um_base::{Image, Memory};
 
-/// The bytes of the read-only data.
-pub(crate) fn rodata(alloc: Global, image: &Image) -> Result<Vec<u8>, Memory>
-    requires lawful { IsLawful image.now }
+/// The bytes of the read-only data, filled up with zeros.
+pub fn rodata(alloc: Global, image: &Image) -> Result<Vec<u8>, Memory>
     ensures { IfOk result (λ bytes. bytes.items ≡ rodata_of image.now) }
 {
     let size = match image.rodata {
