@@ -6,9 +6,10 @@ ghost use Rattle.um_trace.specs.{
   Room.{Puts},
 };
 
-use crate::places::{own_row, row_at};
+use crate::places::own_row;
 use crate::room::{put, put_address, put_decimal, put_short, put_text};
 use um_base::{Addr, Attr, Image, Range, Reply, STATIC_ROWS, ThreadIx};
+use um_steps::rows::row_at;
 use um_vocabulary::{attr_word, errno_word};
 
 /// The object of a row: a static one by its name, the dynamic address j as `#j`.
@@ -42,7 +43,7 @@ pub fn put_object(room: &mut Vec<u8>, image: &Image, addr: Addr)
     requires { vec_len room.old + 24 ≤ vec_capacity room.old }
     ensures { Puts room.old room.new (object_text image.now addr.0) 24 }
 {
-    match row_at(image, addr) {
+    match row_at(image, addr.0) {
         Some(row) => put_row(room, image, row),
         None => put_address(room, addr),
     }
