@@ -15,47 +15,27 @@ use Rattle.um_board.specs.Noted.{logged_of, made_of, number_of}
 use Rattle.um_board.specs.ReadBack.{IsReadBack}
 use Rattle.um_board.specs.Seated.{KeepsPlace, Noted, Unnoted}
 
-pub keeps-same : (s : Seat Known) → KeepsPlace s s
-keeps-same s = record { board = refl; place = refl; split = refl; joined = refl; first = refl; image = refl; opening = refl; name = refl; splits = refl; children = refl; lists = refl; filled = refl }
-
-pub keeps-then : (s t u : Seat Known) → KeepsPlace s t → KeepsPlace t u → KeepsPlace s u
-keeps-then s t u a b =
-    record {
-      board = b.board ∙ a.board;
-      place = b.place ∙ a.place;
-      split = b.split ∙ a.split;
-      joined = b.joined ∙ a.joined;
-      first = b.first ∙ a.first;
-      image = b.image ∙ a.image;
-      opening = b.opening ∙ a.opening;
-      name = b.name ∙ a.name;
-      splits = b.splits ∙ a.splits;
-      children = b.children ∙ a.children;
-      lists = b.lists ∙ a.lists;
-      filled = b.filled ∙ a.filled;
-    }
-
 -- the seat has this view now, which has what the one before had
 pub keeps-by : (s t : Seat Known) (v : View) → SameSeat s t → t.token.me.0 ≡ v → v.image ≡ s.token.me.0.image → v.opening ≡ s.token.me.0.opening → v.name ≡ s.token.me.0.name → v.splits ≡ s.token.me.0.splits
     → v.children ≡ s.token.me.0.children → v.joined ≡ s.token.me.0.joined → v.filled ≡ s.token.me.0.filled → KeepsPlace s t
 keeps-by s t v same is image opening name splits children lists filled =
-    record {
-      board = same.0;
-      place = same.1;
-      split = same.2;
-      joined = same.3;
-      first = same.4;
-      image = ap (λ (w : View). w.image) is ∙ image;
-      opening = ap (λ (w : View). w.opening) is ∙ opening;
-      name = ap (λ (w : View). w.name) is ∙ name;
-      splits = ap (λ (w : View). w.splits) is ∙ splits;
-      children = ap (λ (w : View). w.children) is ∙ children;
-      lists = ap (λ (w : View). w.joined) is ∙ lists;
-      filled = ap (λ (w : View). w.filled) is ∙ filled;
+    λ i. record {
+      board = same.0 i;
+      place = same.1 i;
+      split = same.2 i;
+      joined = same.3 i;
+      first = same.4 i;
+      image = (ap (λ (w : View). w.image) is ∙ image) i;
+      opening = (ap (λ (w : View). w.opening) is ∙ opening) i;
+      name = (ap (λ (w : View). w.name) is ∙ name) i;
+      splits = (ap (λ (w : View). w.splits) is ∙ splits) i;
+      children = (ap (λ (w : View). w.children) is ∙ children) i;
+      lists = (ap (λ (w : View). w.joined) is ∙ lists) i;
+      filled = (ap (λ (w : View). w.filled) is ∙ filled) i;
     }
 
 pub unnoted-same : (s : Seat Known) (log : List Logged) → Unnoted s log s log
-unnoted-same s log = record { keeps = keeps-same s; made = refl; log = refl; got = ([], refl) }
+unnoted-same s log = record { keeps = refl; made = refl; log = refl; got = ([], refl) }
 
 -- a look
 pub looked-at : (s t : Seat Known) (i w : ℕ) (log : List Logged) → SameSeat s t → t.token.me.0 ≡ with_got s.token.me.0 i w → Unnoted s log t log
@@ -117,7 +97,7 @@ logged-is e cpu site number event at here n shows = λ i. record { cpu = sym at 
 pub unnoted-then : (s t u : Seat Known) (a b c : List Logged) → Unnoted s a t b → Unnoted t b u c → Unnoted s a u c
 unnoted-then s t u a b c x y =
     record {
-      keeps = keeps-then s t u x.keeps y.keeps;
+      keeps = y.keeps ∙ x.keeps;
       made = y.made ∙ x.made;
       log = y.log ∙ x.log;
       got = (y.got.0 ++ x.got.0, y.got.1 ∙ (ap (λ g. y.got.0 ++ g) x.got.1 ∙ sym (append_assoc y.got.0 x.got.0 s.token.me.0.got)));
@@ -126,7 +106,7 @@ unnoted-then s t u a b c x y =
 pub noted-then : (s t u : Seat Known) (a b c : List Logged) (e : FineStep) → Unnoted s a t b → Noted t b e u c → Noted s a e u c
 noted-then s t u a b c e x y =
     record {
-      keeps = keeps-then s t u x.keeps y.keeps;
+      keeps = y.keeps ∙ x.keeps;
       made = y.made ∙ ap (λ m. m ++ made_of e ∷ []) x.made;
       log = y.log ∙ ap (λ l. l ++ logged_of e ∷ []) x.log;
       back = y.back;

@@ -69,4 +69,4 @@ next-goes image name made e back next =
 pub next-then : (image : Image) (s t : Seat Known) (a b : List Logged) (e : FineStep) → Unnoted s a t b → IsNext image s.token.me.0.name s.token.me.0.made e
     → IsNext image t.token.me.0.name t.token.me.0.made e
 next-then image s t a b e u next =
-    subst (λ (v : List ℕ × List Made). IsNext image v.0 v.1 e) (λ i. (sym u.keeps.name i, sym u.made i)) next
+    subst (λ (v : List ℕ × List Made). IsNext image v.0 v.1 e) (λ i. ((sym u.keeps i).name, sym u.made i)) next

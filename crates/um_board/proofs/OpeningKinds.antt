@@ -11,22 +11,14 @@ use Rattle.um_fine.specs.Opening.{site_state}
 use Rattle.um_fine.specs.Sites.{SiteState, site_numbered}
 use Rattle.um_fine.specs.Steps.{Site}
 use Rattle.um_board.specs.Contents.{Known, Opens}
-use Rattle.um_board.specs.Turned.{kind_of}
+use Rattle.um_board.specs.Turned.{cell_kind, kind_of}
 
 kind_in : SiteState → CellKind
 kind_in (SiteState.cell n c) = kind_of c
 kind_in _ = CellKind.Unused
 
-kind_at : Site → CellKind
-kind_at (Site.object x) = CellKind.Object
-kind_at (Site.parts d) = CellKind.Domain
-kind_at Site.memory = CellKind.Memory
-kind_at Site.heap = CellKind.Heap
-kind_at Site.scheduler = CellKind.Scheduler
-kind_at _ = CellKind.Unused
-
-starts : (s : State) (site : Site) → kind_in (site_state s site) ≡ kind_at site
-unfolding kind_in kind_at
+starts : (s : State) (site : Site) → kind_in (site_state s site) ≡ cell_kind site
+unfolding kind_in
 starts s (Site.row x) = refl
 starts s (Site.thread t) = refl
 starts s (Site.domain d) = refl
@@ -37,7 +29,7 @@ starts s Site.heap = refl
 starts s Site.scheduler = refl
 
 numbered : (a b c d e m h s : Bool) (x t w o p : ℕ) → a ≡ false → b ≡ false → c ≡ false → (d ≡ false → e ≡ false → m ≡ false → h ≡ false → s ≡ true)
-    → kind_at
+    → cell_kind
     (if a then Site.row x
     else if b then Site.thread t
     else if c then Site.domain w
@@ -52,7 +44,6 @@ numbered : (a b c d e m h s : Bool) (x t w o p : ℕ) → a ≡ false → b ≡ 
     else if h then CellKind.Heap
     else if s then CellKind.Scheduler
     else CellKind.Unused)
-unfolding kind_at
 numbered true b c d e m h s x t w o p no-a no-b no-c last = absurd (false≢true (sym no-a))
 numbered false true c d e m h s x t w o p no-a no-b no-c last = absurd (false≢true (sym no-b))
 numbered false false true d e m h s x t w o p no-a no-b no-c last = absurd (false≢true (sym no-c))

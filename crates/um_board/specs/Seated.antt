@@ -1,10 +1,11 @@
 -- A processor's seat at a board: that it knows all that its steps need, and what becomes of its list and its processor's log.
-use Rattle.std.specs.Prelude.{◌≡◌, ℕ, List, [], ◌∷◌, ◌++◌, None}
+use Rattle.std.specs.Prelude.{◌≡◌, ℕ, Bool, List, [], ◌∷◌, ◌++◌, None}
 use Rattle.atomic_table.specs.Seated.{TableId}
 use Rattle.um_base.specs.declared.image.Image.{Image}
 use Rattle.um_site.specs.declared.seat.Seat.{Seat}
 use Rattle.um_cell.specs.declared.cells.Cells.{Cells}
 use Rattle.um_cell.specs.Contents.{KnowsFilled}
+use Rattle.um_words.specs.declared.made.Made.{Made}
 use Rattle.um_fine.specs.Steps.{FineStep}
 use Rattle.um_merge.specs.declared.logged.Logged.{Logged}
 use Rattle.um_board.specs.Contents.{Known}
@@ -32,20 +33,39 @@ pub record IsSeated (image : Image) (board : TableId) (cells : Cells Known) (sea
   pub idle : seat.token.me.0.turn ≡ None
   pub empty : seat.token.me.1 ≡ []
 
--- The seat keeps its place, its counts, what the board is of, its name and the seats that it has split off and taken in.
-pub record KeepsPlace (s t : Seat Known) : Type 0 where
-  pub board : t.token.table_id ≡ s.token.table_id
-  pub place : t.token.id ≡ s.token.id
-  pub split : t.split ≡ s.split
-  pub joined : t.joined ≡ s.joined
-  pub first : t.first ≡ s.first
-  pub image : t.token.me.0.image ≡ s.token.me.0.image
-  pub opening : t.token.me.0.opening ≡ s.token.me.0.opening
-  pub name : t.token.me.0.name ≡ s.token.me.0.name
-  pub splits : t.token.me.0.splits ≡ s.token.me.0.splits
-  pub children : t.token.me.0.children ≡ s.token.me.0.children
-  pub lists : t.token.me.0.joined ≡ s.token.me.0.joined
-  pub filled : t.token.me.0.filled ≡ s.token.me.0.filled
+-- What a seat keeps: its place at a board, its counts, what the board is of, its name, the seats that it has split off and taken in, and the cells that it knows as filled.
+pub record KeptPlace : Type 0 where
+  pub board : TableId
+  pub place : ℕ
+  pub split : ℕ
+  pub joined : ℕ
+  pub first : Bool
+  pub image : Image
+  pub opening : List ℕ
+  pub name : List ℕ
+  pub splits : ℕ
+  pub children : List (List ℕ)
+  pub lists : List (List ℕ × List Made)
+  pub filled : List ℕ
+
+abbrev pub place_of : Seat Known → KeptPlace
+place_of s = record {
+  board = s.token.table_id;
+  place = s.token.id;
+  split = s.split;
+  joined = s.joined;
+  first = s.first;
+  image = s.token.me.0.image;
+  opening = s.token.me.0.opening;
+  name = s.token.me.0.name;
+  splits = s.token.me.0.splits;
+  children = s.token.me.0.children;
+  lists = s.token.me.0.joined;
+  filled = s.token.me.0.filled;
+}
+
+abbrev pub KeepsPlace : Seat Known → Seat Known → Type 0
+KeepsPlace s t = place_of t ≡ place_of s
 
 -- The step was made: it stands behind the others in the seat's list and in the log, its word was left last at its site, and it can be read back from there.
 pub record Noted (s : Seat Known) (old : List Logged) (e : FineStep) (t : Seat Known) (new : List Logged) : Type 0 where

@@ -9,6 +9,7 @@ use Rattle.um_words.specs.declared.kind.CellKind.{CellKind}
 use Rattle.um_words.specs.Packed.{cell_of}
 use Rattle.um_words.specs.Steps.{cell_kind_at}
 use Rattle.um_fine.specs.Cells.{Cell, cell_word}
+use Rattle.um_fine.specs.Steps.{Site}
 use Rattle.um_site.specs.declared.seat.Seat.{Seat}
 use Rattle.um_site.specs.Tells.{HasTurn}
 use Rattle.um_cell.specs.declared.cells.Cells.{Cells}
@@ -28,6 +29,15 @@ kind_of (Cell.parts d) = CellKind.Domain
 kind_of (Cell.memory m) = CellKind.Memory
 kind_of (Cell.heap h) = CellKind.Heap
 kind_of (Cell.scheduler s) = CellKind.Scheduler
+
+-- the kind of the cell at a site
+abbrev pub cell_kind : Site → CellKind
+cell_kind (Site.object x) = CellKind.Object
+cell_kind (Site.parts d) = CellKind.Domain
+cell_kind Site.memory = CellKind.Memory
+cell_kind Site.heap = CellKind.Heap
+cell_kind Site.scheduler = CellKind.Scheduler
+cell_kind _ = CellKind.Unused
 
 -- The same, but the seat has the turn of the cell at this site: what the cell keeps is of the site's kind, its word says how many steps the
 -- cell has taken and what its contents count, and it can take one more.

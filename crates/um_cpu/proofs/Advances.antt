@@ -16,7 +16,7 @@ use Rattle.um_board.specs.NextSteps.{IsNext, stands_at}
 use Rattle.um_board.specs.Noted.{logged_of, made_of}
 use Rattle.um_board.specs.Opening.{AreOpening}
 use Rattle.um_board.specs.ReadBack.{IsReadBack, fine_at}
-use Rattle.um_board.specs.Seated.{KeepsPlace, Noted, Unnoted}
+use Rattle.um_board.specs.Seated.{KeepsPlace, KeptPlace, Noted, Unnoted}
 use Rattle.um_board.specs.declared.seated.Seated.{Seated}
 use Rattle.um_board.proofs.Keeping.{unnoted-same}
 use Rattle.um_history.specs.Played.{Each, SCHEDULER, SawNone}
@@ -152,8 +152,8 @@ module _ (image : Image) (k : ℕ) where
       let on = goes stands.steps stands.made in
       record {
         few = stands.few;
-        named = keeps.name ∙ stands.named;
-        opening = subst (AreOpening image) (sym keeps.opening) stands.opening;
+        named = ap (λ (p : KeptPlace). p.name) keeps ∙ stands.named;
+        opening = subst (λ (p : KeptPlace). AreOpening image p.opening) (sym keeps) stands.opening;
         steps = stands.steps ++ on.more;
         made = on.made;
       }

@@ -5,10 +5,14 @@ use Rattle.std.specs.Prelude.{IsTrue, Option, Some, None}
 use Rattle.std.specs.Mem.Slots.{slots_items}
 use Rattle.um_base.specs.declared.act.Event.{Event}
 use Rattle.um_base.specs.declared.image.Image.{Image}
+use Rattle.um_base.specs.declared.limits.TheConstants.{DOMAINS, STATIC_ROWS}
+use Rattle.um_base.specs.Lawful.{IsLawful}
+use Rattle.um_invariants.specs.Described.{IsDescribed}
 use Rattle.um_fine.specs.FineRun.{cpu_of, same_cpu}
 use Rattle.um_fine.specs.Runs.{sub, sublist}
 use Rattle.um_fine.specs.Sites.{is_site}
 use Rattle.um_fine.specs.Steps.{FineStep}
+use Rattle.um_erasure.specs.Room.{CanRun}
 use Rattle.um_fine.proofs.Keys.{number-bound}
 use Rattle.um_merge.specs.Logs.{Log, event_on, events_of}
 use Rattle.um_merge.specs.Merged.{AreAtSites, ArePlaced, log_at}
@@ -22,6 +26,14 @@ use Rattle.um_board.specs.Noted.{logged_of, made_of}
 use Rattle.um_history.specs.Fine.{IsFineOf}
 use Rattle.um_history.specs.Played.{Each, IsPlayed, StandsUnder}
 use Rattle.um_cpu.specs.OnBoard.{HasRun}
+
+-- a lawful image with as many objects and domains as its lists allow is described, and so many processors can run it
+pub runs-on : (image : Image) (cpus : ℕ) {objects domains : ℕ} → IsLawful image → objects ≡ length image.objects → objects ≤ STATIC_ROWS → domains ≡ length image.domains → domains ≤ DOMAINS
+    → 1 ≤ cpus → cpus ≤ 8 → IsDescribed image × CanRun image cpus
+runs-on image cpus lawful objects most domains all some few = (
+  record { lawful = lawful; few = omega (arith, objects, most) },
+  record { domains = omega (arith, domains, all); some = omega (arith, some); few = few },
+)
 
 abbrev Sited : FineStep → Type 0
 Sited e = IsTrue (is_site e.site)

@@ -18,7 +18,7 @@ use Rattle.um_site.specs.declared.view.View.{View}
 use Rattle.um_cell.specs.declared.cells.Cells.{Cells}
 use Rattle.um_board.specs.Contents.{Known}
 use Rattle.um_board.specs.Opening.{AreOpening, IsFirst}
-use Rattle.um_board.specs.Seated.{IsSeated, KeepsPlace}
+use Rattle.um_board.specs.Seated.{IsSeated, KeepsPlace, KeptPlace}
 use Rattle.um_board.specs.Turned.{IsPlaced}
 use Rattle.um_cpu.specs.Cpus.{HasMade, Plays}
 use Rattle.um_cpu.specs.Ended.{Begins, EachAt, Ends, Gathered, HasGathered}
@@ -31,36 +31,32 @@ placed-same image b b2 c c2 r r2 s s2 most p q m n it =
     subst (λ (x : TableId). IsPlaced image x c2 r2 s2 most) (sym p) (subst (λ (x : Cells Known). IsPlaced image b x r2 s2 most) (sym q)
     (subst (λ (x : List ℕ). IsPlaced image b c x s2 most) (sym m) (subst (λ (x : Seat Known). IsPlaced image b c r x most) (sym n) it)))
 
--- the first seat behind a split
-pub split-seated : (image : Image) (board : TableId) (cells : Cells Known) (s t : Seat Known) → t.token.table_id ≡ s.token.table_id → t.token.me.0 ≡ splitter s.token.me.0 → t.token.me.1 ≡ s.token.me.1
-    → IsSeated image board cells s → IsSeated image board cells t
-split-seated image board cells s t here now none seated =
+-- another seat at the board, which knows the same cells as filled, has no turn and nothing with it
+seated-as : (image : Image) (board : TableId) (cells : Cells Known) (s t : Seat Known) → t.token.table_id ≡ s.token.table_id → t.token.me.0.filled ≡ s.token.me.0.filled → t.token.me.0.image ≡ s.token.me.0.image
+    → t.token.me.0.turn ≡ None → t.token.me.1 ≡ [] → IsSeated image board cells s → IsSeated image board cells t
+seated-as image board cells s t here same of idle none seated =
     record {
       here = here ∙ seated.here;
       words = seated.words;
       first = seated.first;
       count = seated.count;
-      filled = λ i is. subst (λ (v : View). AmongCells v.filled i) (sym now) (seated.filled i is);
-      image_is = ap (λ (v : View). v.image) now ∙ seated.image_is;
-      idle = ap (λ (v : View). v.turn) now ∙ seated.idle;
-      empty = none ∙ seated.empty;
+      filled = λ i is. subst (λ (filled : List ℕ). AmongCells filled i) (sym same) (seated.filled i is);
+      image_is = of ∙ seated.image_is;
+      idle = idle;
+      empty = none;
     }
+
+-- the first seat behind a split
+pub split-seated : (image : Image) (board : TableId) (cells : Cells Known) (s t : Seat Known) → t.token.table_id ≡ s.token.table_id → t.token.me.0 ≡ splitter s.token.me.0 → t.token.me.1 ≡ s.token.me.1
+    → IsSeated image board cells s → IsSeated image board cells t
+split-seated image board cells s t here now none seated =
+    seated-as image board cells s t here (ap (λ (v : View). v.filled) now) (ap (λ (v : View). v.image) now) (ap (λ (v : View). v.turn) now ∙ seated.idle) (none ∙ seated.empty) seated
 
 -- the seat that is split off
 module _ (image : Image) (board : TableId) (cells : Cells Known) (s own : Seat Known) (n : ℕ) (gathered : HasGathered image s.token.me.0 n n []) (seated : IsSeated image board cells s)
     (here : own.token.table_id ≡ s.token.table_id) (born : own.token.me.0 ≡ newborn s.token.me.0) (none : own.token.me.1 ≡ []) where
   born-seated : IsSeated image board cells own
-  born-seated =
-      record {
-        here = here ∙ seated.here;
-        words = seated.words;
-        first = seated.first;
-        count = seated.count;
-        filled = λ i is. subst (λ (v : View). AmongCells v.filled i) (sym born) (seated.filled i is);
-        image_is = ap (λ (v : View). v.image) born ∙ seated.image_is;
-        idle = ap (λ (v : View). v.turn) born;
-        empty = none;
-      }
+  born-seated = seated-as image board cells s own here (ap (λ (v : View). v.filled) born) (ap (λ (v : View). v.image) born) (ap (λ (v : View). v.turn) born) none seated
 
   pub begins-there : (c : Cpu) (rodata : List ℕ) → n < 8 → c.number ≡ n → c.place.board.now.table.shared.table_id ≡ board → c.place.cells.now ≡ cells → c.place.rodata.now ≡ rodata → rodata ≡ rodata_of image
       → c.place.seat ≡ own → c.place.log.items ≡ [] → whole c.processor ≡ idle → own.split ≡ 0 → own.joined ≡ 0 → weight image < c.place.log.room → Begins image board n c
@@ -95,12 +91,12 @@ ends-there image board k c d begins number place keeps plays =
       sits = record {
         number = number ∙ sits.number;
         place = place;
-        here = keeps.board ∙ sits.here;
-        name = keeps.name ∙ sits.name;
-        split = keeps.split ∙ sits.split;
-        joined = keeps.joined ∙ sits.joined;
-        children = keeps.children ∙ sits.children;
-        lists = keeps.lists ∙ sits.lists;
+        here = ap (λ (p : KeptPlace). p.board) keeps ∙ sits.here;
+        name = ap (λ (p : KeptPlace). p.name) keeps ∙ sits.name;
+        split = ap (λ (p : KeptPlace). p.split) keeps ∙ sits.split;
+        joined = ap (λ (p : KeptPlace). p.joined) keeps ∙ sits.joined;
+        children = ap (λ (p : KeptPlace). p.children) keeps ∙ sits.children;
+        lists = ap (λ (p : KeptPlace). p.lists) keeps ∙ sits.lists;
       };
       steps = all.0;
       made = subst (λ (m : ℕ). HasMade image m (whole d.processor) d.place.seat d.place.log.items all.0) sits.number all.1;

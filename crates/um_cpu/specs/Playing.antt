@@ -1,13 +1,25 @@
 -- A processor that plays at a board, by all that it is made of, and what its turns make of it.
 use Rattle.std.specs.Prelude.{ℕ}
 use Rattle.um_base.specs.declared.image.Image.{Image}
+use Rattle.um_invariants.specs.Described.{IsDescribed}
+use Rattle.um_erasure.specs.Room.{CanRun}
+use Rattle.um_steps.specs.Given.{IsGiven}
 use Rattle.um_processor.specs.Standing.{whole}
+use Rattle.um_board.specs.Placed.{IsAt}
 use Rattle.um_cpu.specs.Cpus.{Advances, HadWork, HasAsked, Plays, Rests, Stands}
 use Rattle.um_cpu.specs.declared.cpu.Cpu.{Cpu}
 
 -- it stands where the steps lead that it has made
 abbrev pub IsPlaying : Image → Cpu → Type 0
 IsPlaying image c = Stands image c.number (whole c.processor) c.place.seat c.place.log.items
+
+-- it can go on: it is at its place at a board of a described image, and stands where its steps lead
+pub record CanPlay (image : Image) (c : Cpu) : Type 0 where
+  pub given : IsGiven image
+  pub described : IsDescribed image
+  pub can : CanRun image 8
+  pub place : IsAt image c.place
+  pub stands : IsPlaying image c
 
 -- it goes on by one step at most
 abbrev pub GoesOnTo : Image → Cpu → Cpu → Type 0

@@ -1,11 +1,8 @@
 //! A processor at its place at a board.
 
 ghost use Rattle.std.specs.Prelude.{◌≡◌};
-ghost use Rattle.um_invariants.specs.Described.{IsDescribed};
-ghost use Rattle.um_erasure.specs.Room.{CanRun};
-ghost use Rattle.um_steps.specs.Given.{IsGiven};
 ghost use Rattle.um_board.specs.{Placed.{IsAt}, Seated.{KeepsPlace}};
-ghost use Rattle.um_cpu.specs.{Cpus.{Tells}, Playing.{AskedOnce, GoesOnTo, IsPlaying, Rested, Worked}};
+ghost use Rattle.um_cpu.specs.{Cpus.{Tells}, Playing.{AskedOnce, CanPlay, GoesOnTo, IsPlaying, Rested, Worked}};
 
 use crate::turn::Turn;
 use um_base::Image;
@@ -27,11 +24,7 @@ impl<'a> Cpu<'a> {
     /// It asks once for its next step, and makes it where it can. It always has one that it could ask for: where it had none, a look would tell of a fine
     /// run that leaves it so, and no fine run does.
     fn ask(&mut self, image: &Image)
-        requires given { IsGiven image.now }
-        requires described { IsDescribed image.now }
-        requires can { CanRun image.now 8 }
-        requires place { IsAt image.now self.old.place }
-        requires stands { IsPlaying image.now self.old }
+        requires plays { CanPlay image.now self.old }
         ensures number { self.new.number ≡ self.old.number }
         ensures place { IsAt image.now self.new.place }
         ensures keeps { KeepsPlace self.old.place.seat self.new.place.seat }
@@ -54,11 +47,7 @@ impl<'a> Cpu<'a> {
     /// stand there, or the site refused it as it stood, and it waits; the seat has got the word that tells so. Where it has no thread it looks first whether one is ready,
     /// and asks for nothing where none is.
     pub fn step(&mut self, image: &Image) -> Turn
-        requires given { IsGiven image.now }
-        requires described { IsDescribed image.now }
-        requires can { CanRun image.now 8 }
-        requires place { IsAt image.now self.old.place }
-        requires stands { IsPlaying image.now self.old }
+        requires plays { CanPlay image.now self.old }
         ensures number { self.new.number ≡ self.old.number }
         ensures place { IsAt image.now self.new.place }
         ensures keeps { KeepsPlace self.old.place.seat self.new.place.seat }

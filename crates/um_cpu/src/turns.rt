@@ -1,11 +1,8 @@
 //! All turns of a processor.
 
 ghost use Rattle.std.specs.Prelude.{◌≡◌};
-ghost use Rattle.um_invariants.specs.Described.{IsDescribed};
-ghost use Rattle.um_erasure.specs.Room.{CanRun};
-ghost use Rattle.um_steps.specs.Given.{IsGiven};
 ghost use Rattle.um_board.specs.{Placed.{IsAt}, Seated.{KeepsPlace}};
-ghost use Rattle.um_cpu.specs.Playing.{IsPlaying, PlaysOut};
+ghost use Rattle.um_cpu.specs.Playing.{CanPlay, PlaysOut};
 
 use crate::cpu::Cpu;
 use crate::turn::Turn;
@@ -37,15 +34,11 @@ fn wait() {
 /// A processor takes its turns until it has no thread and none is ready, none runs, and nothing is owed. Before each turn it can be held, by
 /// its number and by how many turns it has taken. Behind one that made no step it waits for a moment.
 pub(crate) fn turns<R: Wait, G: Gate>(rt: &R, image: &Image, cpu: &mut Cpu<'_>, gate: &G)
-    requires given { IsGiven image.now }
-    requires described { IsDescribed image.now }
-    requires can { CanRun image.now 8 }
-    requires place { IsAt image.now cpu.old.place }
-    requires stands { IsPlaying image.now cpu.old }
+    requires plays { CanPlay image.now cpu.old }
     ensures number { cpu.new.number ≡ cpu.old.number }
     ensures place { IsAt image.now cpu.new.place }
     ensures keeps { KeepsPlace cpu.old.place.seat cpu.new.place.seat }
-    ensures plays { PlaysOut image.now cpu.old cpu.new }
+    ensures out { PlaysOut image.now cpu.old cpu.new }
 {
     let mut turn: u64 = 0;
     let mut missed: u32 = 0;

@@ -6,8 +6,8 @@ use Rattle.um_base.specs.declared.limits.TheConstants.{ROWS, THREADS}
 use Rattle.um_machine.specs.declared.thread.Life.{Life}
 use Rattle.um_machine.specs.declared.thread.Thread.{Thread}
 use Rattle.um_machine.specs.declared.pending.Pending.{Pending}
-use Rattle.um_machine.specs.State.{State, is_started, nobody, no_rows, thread_at}
-use Rattle.um_fine.specs.Context.{Context, as_thread}
+use Rattle.um_machine.specs.State.{State, is_started, no_rows, thread_at}
+use Rattle.um_fine.specs.Context.{Context, as_thread, context_of}
 use Rattle.um_fine.specs.Scheduler.{parked_at, told_at, waits}
 use Rattle.um_erasure.specs.Offers.{IsPutBack, is_over}
 use Rattle.um_erasure.specs.Fine.{Fine, one_if, over_processors, scheduler, word}
@@ -23,18 +23,7 @@ pub record WordIs (f : Fine) (m : State) (t : ℕ) : Type 0 where
 
 -- a thread without what sites keep of it
 abbrev pub own_part : Thread → Thread
-own_part me =
-    record nobody {
-      mode = me.mode;
-      stack = me.stack;
-      priority = me.priority;
-      pool = me.pool;
-      registers = me.registers;
-      place = me.place;
-      pending = me.pending;
-      reply = me.reply;
-      buffer = me.buffer;
-    }
+own_part me = as_thread (context_of 0 me)
 
 -- rows as flags
 abbrev pub flags_of : List ℕ → List Bool

@@ -1,6 +1,6 @@
 -- The steps of a cell: its word goes on with its contents.
 use Rattle.std.proofs.Common.{◌≡◌, ℕ, ◌+◌, ◌-◌, ◌<◌, Bool, true, false, List, [], ◌∷◌, length, refl, sym, ap, ◌∙◌, subst, arith, length-append}
-use Rattle.std.specs.Prelude.{nat_lt, IsTrue}
+use Rattle.std.specs.Prelude.{◌&&◌, nat_lt, IsTrue}
 use Rattle.std.proofs.lemmas.Bool.{and_from, and_parts, lt-ltb}
 use Rattle.std.proofs.lemmas.Bool.Decides.{nat_tests}
 use Rattle.um_base.specs.declared.image.Image.{Image}
@@ -27,12 +27,16 @@ use Rattle.um_site.specs.Cells.{Follow}
 use Rattle.um_board.specs.Contents.{Follows, Known, Opens}
 use Rattle.um_board.specs.Noted.{packed}
 use Rattle.um_board.specs.ReadBack.{unpacked}
+use Rattle.um_board.specs.Turned.{cell_kind}
 use Rattle.um_history.proofs.Entries.{fine_of}
 use Rattle.um_history.proofs.Numbers.{kind_of_site}
 use Rattle.um_history.proofs.SiteRuns.{Goes}
-use Rattle.um_history.proofs.WordRuns.{read-at, second-below, step-in}
+use Rattle.um_history.proofs.WordRuns.{read-at, step-in}
 
 -- What a step leaves of the counts in a word.
+
+second-below : (b : Bool) (n m : ℕ) → IsTrue (b && nat_lt n m) → n < m
+second-below b n m h = grind (arith, nat_tests)
 
 abbrev Counts : CellWord → Type 0
 Counts w = (w.ready < 256) × (w.running < 256)
@@ -110,14 +114,6 @@ module _ (s : Scheduler) (n : ℕ) where
   scheduler-word (FineAct.Unseen unseen) moved h = unseen-word unseen moved h
 
 -- Cells of all kinds.
-
-abbrev pub cell_kind : Site → CellKind
-cell_kind (Site.object x) = CellKind.Object
-cell_kind (Site.parts d) = CellKind.Domain
-cell_kind Site.memory = CellKind.Memory
-cell_kind Site.heap = CellKind.Heap
-cell_kind Site.scheduler = CellKind.Scheduler
-cell_kind i = CellKind.Unused
 
 -- whether a site is a cell
 abbrev pub is_cell : Site → Bool

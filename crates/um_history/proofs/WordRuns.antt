@@ -1,8 +1,7 @@
 -- The steps of a row, of a thread index and of a domain.
-use Rattle.std.proofs.Common.{◌≡◌, ℕ, ◌+◌, ◌<◌, Bool, true, false, List, ◌∷◌, length, Some, None, refl, sym, ap, ◌∙◌, subst, arith}
-use Rattle.std.specs.Prelude.{◌&&◌, nat_lt, not, if◌then◌else◌, IsTrue}
+use Rattle.std.proofs.Common.{◌≡◌, ℕ, ◌+◌, Bool, true, false, List, ◌∷◌, length, Some, None, refl, sym, ap, ◌∙◌, subst, arith}
+use Rattle.std.specs.Prelude.{◌&&◌, not, if◌then◌else◌, IsTrue}
 use Rattle.std.proofs.lemmas.Bool.{and_from, lt-ltb}
-use Rattle.std.proofs.lemmas.Bool.Decides.{nat_tests}
 use Rattle.um_base.specs.declared.act.Act.{Act}
 use Rattle.um_base.specs.declared.image.Image.{Image}
 use Rattle.um_base.specs.declared.names.ThreadIx.{ThreadIx}
@@ -15,7 +14,7 @@ use Rattle.um_words.specs.declared.kind.WordKind.{WordKind}
 use Rattle.um_words.specs.declared.made.Made.{Made}
 use Rattle.um_words.specs.declared.row_word.RowWord.{RowWord}
 use Rattle.um_words.specs.declared.thread_word.ThreadWord.{ThreadWord}
-use Rattle.um_words.specs.Domains.{DomainMay, counted_domain, domain_after, domain_after_act, domain_after_unseen, domain_takes, domain_takes_act, domain_takes_unseen, writes}
+use Rattle.um_words.specs.Domains.{DomainMay, counted_domain, domain_after}
 use Rattle.um_words.specs.BitLists.{bits_of-number, number-small}
 use Rattle.um_words.specs.Bits.{bits_of, number_of}
 use Rattle.um_words.specs.History.{Entry}
@@ -24,7 +23,8 @@ use Rattle.um_words.specs.Packed.{FitsDomain, FitsRow, FitsThread, packed_domain
 use Rattle.um_words.specs.RowFacts.{row-fits, row-keeps}
 use Rattle.um_words.specs.Rows.{RowMay, counted_row, row_after}
 use Rattle.um_words.specs.Steps.{DomainStep, RowStep, StepIn, ThreadStep, WordMay}
-use Rattle.um_words.specs.Threads.{ThreadMay, counted_thread, thread_after, thread_after_act, thread_takes, thread_takes_act}
+use Rattle.um_words.specs.Threads.{ThreadMay, counted_thread, thread_after, thread_takes, thread_takes_act}
+use Rattle.um_words.specs.WordFacts.{domain-keeps, thread-keeps}
 use Rattle.um_fine.specs.Sites.{SiteState, is_site, site_number, site_numbered, word_of}
 use Rattle.um_fine.specs.Steps.{Site, Word}
 use Rattle.um_fine.specs.Threads.{thread_answers, turned, unless_doomed}
@@ -99,35 +99,6 @@ turned-same : (w : ThreadWord) (act : FineAct) → IsTrue (thread_takes w act) �
 turned-same w (FineAct.Shown event more) h = turned-act w event.thread more event.act h
 turned-same w (FineAct.Unseen unseen) h = refl
 
-pub second-below : (b : Bool) (n m : ℕ) → IsTrue (b && nat_lt n m) → n < m
-second-below b n m h = grind (arith, nat_tests)
-
-domain-act-small : (w : ThreadWord) → w.domain < 8 → (more : More) (act : Act) → IsTrue (thread_takes_act w more act) → (thread_after_act w more act).domain < 8
-domain-act-small w small more (Act.DomMove d who reply) h = second-below (not w.held) d 8 h
-domain-act-small w small more (Act.Start who) h = grind (arith, nat_tests)
-domain-act-small w small more act h = small
-
-domain-small : (w : ThreadWord) → w.domain < 8 → (act : FineAct) → IsTrue (thread_takes w act) → (thread_after w act).domain < 8
-domain-small w small (FineAct.Shown event more) h = domain-act-small w small more event.act h
-domain-small w small (FineAct.Unseen Unseen.Hold) h = small
-domain-small w small (FineAct.Unseen Unseen.LetGo) h = small
-domain-small w small (FineAct.Unseen unseen) h = small
-
-thread-act-number : (w : ThreadWord) (more : More) (act : Act) → (thread_after_act w more act).number ≡ w.number
-thread-act-number w more Act.Exit = refl
-thread-act-number w more (Act.Fatal reason cause) = refl
-thread-act-number w more (Act.Doom who) = refl
-thread-act-number w more (Act.DomMove d who reply) = refl
-thread-act-number w more (Act.Start who) = refl
-thread-act-number w more Act.EnterUser = refl
-thread-act-number w more act = refl
-
-thread-number-kept : (w : ThreadWord) (act : FineAct) → (thread_after w act).number ≡ w.number
-thread-number-kept w (FineAct.Shown event more) = thread-act-number w more event.act
-thread-number-kept w (FineAct.Unseen Unseen.Hold) = refl
-thread-number-kept w (FineAct.Unseen Unseen.LetGo) = refl
-thread-number-kept w (FineAct.Unseen unseen) = refl
-
 pub thread-reads : (w : ThreadWord) → FitsThread w → thread_in (packed_thread w) ≡ w
 thread-reads w fits = by (is_thread (packed_thread w)) (thread-back w fits)
   where
@@ -144,9 +115,10 @@ thread-known image t there w e ms here is step =
     let found : step.found ≡ w = let r = step.reads in let b = thread-back w is in cc in
     let may : ThreadMay w e.1.act step.left = subst (λ (v : ThreadWord). ThreadMay v e.1.act step.left) found step.may in
     let next = counted_thread (thread_after w e.1.act) in
-    let number = thread-number-kept w e.1.act in
+    let keeps = thread-keeps w is.domain e.1.act may.takes in
+    let number = keeps.number in
     let room = may.room in
-    let fits : FitsThread next = record { domain = domain-small w is.domain e.1.act may.takes; number = omega (arith, number, room) } in
+    let fits : FitsThread next = record { domain = keeps.domain; number = omega (arith, number, room) } in
     let word : e.1.word ≡ packed_thread next = step.is ∙ ap packed_thread may.leaves in
     let says : thread_answers w e.1.act ≡ e.1.act = ap (turned w) may.says ∙ turned-same w e.1.act may.takes in
     let read : Word.thread next ≡ (fine_of e).word = sym (read-at (Site.thread t) there e here ∙ ap (λ (n : ℕ). Word.thread (thread_in n)) word ∙ ap Word.thread (thread-reads next fits)) in
@@ -167,33 +139,6 @@ thread-goes image t there (SiteState.domain w) e ms here known may = absurd know
 thread-goes image t there (SiteState.cell n c) e ms here known may = absurd known
 
 -- Domains.
-
--- what a step of a domain keeps
-pub record Keeps (w z : DomWord) : Type 0 where
-  pub readers : z.readers < 128
-  pub version : z.version < 1048576
-  pub number : z.number ≡ w.number
-
-module _ (w : DomWord) (readers : w.readers < 128) (version : w.version < 1048576) where
-  writing : IsTrue (writes w) → w.version + 1 < 1048576
-  writing h = grind (arith, nat_tests)
-
-  keeps-act : (act : Act) → IsTrue (domain_takes_act w act) → Keeps w (domain_after_act w act)
-  keeps-act (Act.DomInit d reply) h = record { readers = readers; version = writing h; number = refl }
-  keeps-act (Act.DomAdd d range attr reply) h = record { readers = readers; version = writing h; number = refl }
-  keeps-act (Act.DomRemove d range attr reply) h = record { readers = readers; version = writing h; number = refl }
-  keeps-act (Act.DomMove d who reply) h = record { readers = omega arith; version = version; number = refl }
-  keeps-act act h = absurd (cc)
-
-  keeps-unseen : (unseen : Unseen) → IsTrue (domain_takes_unseen w unseen) → Keeps w (domain_after_unseen w unseen)
-  keeps-unseen Unseen.ReadClaim h = record { readers = let l = second-below (not w.writer) w.readers 127 h in omega arith; version = version; number = refl }
-  keeps-unseen Unseen.ReadDone h = record { readers = omega arith; version = version; number = refl }
-  keeps-unseen Unseen.WriteClaim h = record { readers = readers; version = version; number = refl }
-  keeps-unseen unseen h = absurd (cc)
-
-  domain-keeps : (act : FineAct) → IsTrue (domain_takes w act) → Keeps w (domain_after w act)
-  domain-keeps (FineAct.Shown event more) h = keeps-act event.act h
-  domain-keeps (FineAct.Unseen unseen) h = keeps-unseen unseen h
 
 pub domain-reads : (w : DomWord) → FitsDomain w → domain_in (packed_domain w) ≡ w
 domain-reads w fits = by (is_domain (packed_domain w)) (domain-back w fits)

@@ -17,7 +17,7 @@ use Rattle.um_machine.specs.Order.{Steps, to_thread}
 use Rattle.um_machine.specs.Table.{pays}
 use Rattle.um_machine.specs.Run.{is_free_for, Offers, MayChoose, MayClean, NoPairsOf, IsComplete}
 use Rattle.um_rows.specs.Evaluate.{Way, goes, skips, begins, exits, offer_if, next_offer, later_offer, unless_due, rests, is_at_rest, offered, numbers, all_rows, is_cleaner, may_clean, no_pairs_of, may_reserve, may_choose, can_take, can_go, is_stuck, is_cleanable, keeps_limits, is_complete}
-use Rattle.um_rows.proofs.Sound.{any-numbers}
+use Rattle.um_rows.proofs.Sound.{any-numbers, first-or-later}
 
 -- A state that keeps the limits.
 record Small (s : State) : Type 0 where
@@ -71,11 +71,7 @@ all-numbers : (p : ℕ → Bool) (i n : ℕ) → list_all p (numbers i n) ≡ tr
 all-numbers p i zero h k low high = absurd (omega arith)
 all-numbers p i (suc n) h k low high =
     let parts = and_parts (p i) (list_all p (numbers (i + 1) n)) h in
-    first-or-later (eq-or-lt_of_le low) parts.0 λ l. all-numbers p (i + 1) n parts.1 k (omega (arith, l)) (omega (arith, high))
-  where
-    first-or-later : (i ≡ k) ⊎ (i < k) → p i ≡ true → (i < k → p k ≡ true) → p k ≡ true
-    first-or-later (inl e) first later = rw (sym e) first
-    first-or-later (inr l) first later = later l
+    first-or-later p true (eq-or-lt_of_le low) parts.0 λ l. all-numbers p (i + 1) n parts.1 k (omega (arith, l)) (omega (arith, high))
 
 -- what the machine may choose passes the tests
 

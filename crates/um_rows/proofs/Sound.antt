@@ -73,16 +73,17 @@ offered-sound s t exits = exit-sound s t _ refl
 offered-sound s t (cleans who) = clean-sound s t who (is_started (thread_at s t).life) refl
 offered-sound s t recycles = recycle-sound s t (is_started (thread_at s t).life) refl
 
+-- the first number, or one behind it
+pub first-or-later : (p : ℕ → Bool) (b : Bool) {i k : ℕ} → (i ≡ k) ⊎ (i < k) → p i ≡ b → (i < k → p k ≡ b) → p k ≡ b
+first-or-later p b (inl e) first later = rw (sym e) first
+first-or-later p b (inr l) first later = later l
+
 -- numbers that fail a test
 pub any-numbers : (p : ℕ → Bool) (i n : ℕ) → list_any p (numbers i n) ≡ false → (k : ℕ) → i ≤ k → k < i + n → p k ≡ false
 any-numbers p i zero h k low high = absurd (omega arith)
 any-numbers p i (suc n) h k low high =
     let parts = or_parts (p i) (list_any p (numbers (i + 1) n)) h in
-    first-or-later (eq-or-lt_of_le low) parts.0 λ l. any-numbers p (i + 1) n parts.1 k (omega (arith, l)) (omega (arith, high))
-  where
-    first-or-later : (i ≡ k) ⊎ (i < k) → p i ≡ false → (i < k → p k ≡ false) → p k ≡ false
-    first-or-later (inl e) first later = rw (sym e) first
-    first-or-later (inr l) first later = later l
+    first-or-later p false (eq-or-lt_of_le low) parts.0 λ l. any-numbers p (i + 1) n parts.1 k (omega (arith, l)) (omega (arith, high))
 
 cleaner-sound : (t : ℕ) (o : Option ThreadIx) → IsTrue (is_cleaner t o) → (o ≡ None) ⊎ (o ≡ Some (to_thread t))
 cleaner-sound t None h = inl refl

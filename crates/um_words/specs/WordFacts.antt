@@ -51,7 +51,7 @@ module _ (w : ThreadWord) (domain : w.domain < 8) where
   thread-unseen Unseen.LetGo = record { domain = domain; number = refl }
   thread-unseen unseen = record { domain = domain; number = refl }
 
-  thread-keeps : (act : FineAct) → IsTrue (thread_takes w act) → KeepsThread w (thread_after w act)
+  pub thread-keeps : (act : FineAct) → IsTrue (thread_takes w act) → KeepsThread w (thread_after w act)
   thread-keeps (FineAct.Shown event more) h = thread-act more event.act h
   thread-keeps (FineAct.Unseen unseen) h = thread-unseen unseen
 

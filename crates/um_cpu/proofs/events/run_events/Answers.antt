@@ -2,30 +2,26 @@ use Rattle.std.proofs.Common.{List, length, arith, sym, ap, ◌∙◌, subst}
 use Rattle.um_base.specs.declared.act.Event.{Event}
 use Rattle.um_machine.specs.Run.{IsComplete, IsRun}
 use Rattle.um_machine.specs.State.{State}
-use Rattle.um_invariants.specs.Described.{IsDescribed}
 use Rattle.um_merge.specs.Logs.{Log, events_of}
 use Rattle.um_merge.specs.Merged.{AreAtSites, HaveOrder, IsOrder}
-use Rattle.um_erasure.specs.Room.{CanRun}
 use Rattle.um_history.proofs.Ordered.{noted-long, shown-noted}
-use Rattle.um_cpu.proofs.Shows.{at-sites, left-on, shows-few}
+use Rattle.um_cpu.proofs.Shows.{at-sites, left-on, runs-on, shows-few}
 use Rattle.um_cpu.proofs.events.run_events.Goals as goal
 
 pub merge-requires-clause-sites : goal.merge-requires-clause-sites
 merge-requires-clause-sites g c =
     let image = c.args.image.now in
-    let described : IsDescribed image = record { lawful = c.requires.lawful; few = omega (arith, c.len-objects.ensures.value, c.len-objects.ensures.few) } in
-    let can : CanRun image c.args.cpus = record { domains = omega (arith, c.len-domains.ensures.value, c.len-domains.ensures.few); some = omega (arith, c.requires.some); few = c.requires.few } in
+    let is = runs-on image c.args.cpus c.requires.lawful c.len-objects.ensures.value c.len-objects.ensures.few c.len-domains.ensures.value c.len-domains.ensures.few c.requires.some c.requires.few in
     let ended = c.in_ok-logs.ensures in
-    let fine = c.every_played_board.ensures.fine image c.args.cpus ended.view _ _ ended.steps described can ended.played in
+    let fine = c.every_played_board.ensures.fine image c.args.cpus ended.view _ _ ended.steps is.0 is.1 ended.played in
     subst AreAtSites (sym c.as_slice.ensures.value) (at-sites image c.args.cpus ended.view _ _ ended.steps ended.played fine.0 fine.1)
 
 pub merge-requires-clause-fits : goal.merge-requires-clause-fits
 merge-requires-clause-fits g c =
     let image = c.args.image.now in
-    let described : IsDescribed image = record { lawful = c.requires.lawful; few = omega (arith, c.len-objects.ensures.value, c.len-objects.ensures.few) } in
-    let can : CanRun image c.args.cpus = record { domains = omega (arith, c.len-domains.ensures.value, c.len-domains.ensures.few); some = omega (arith, c.requires.some); few = c.requires.few } in
+    let is = runs-on image c.args.cpus c.requires.lawful c.len-objects.ensures.value c.len-objects.ensures.few c.len-domains.ensures.value c.len-domains.ensures.few c.requires.some c.requires.few in
     let ended = c.in_ok-logs.ensures in
-    let order = c.every_played_board.ensures.order image c.args.cpus ended.view _ _ ended.steps described can ended.played in
+    let order = c.every_played_board.ensures.order image c.args.cpus ended.view _ _ ended.steps is.0 is.1 ended.played in
     let long = order.2 in
     let room = c.in_ok-steps.ensures.room in
     let most = c.requires.room in
@@ -34,34 +30,31 @@ merge-requires-clause-fits g c =
 pub returns-clause-run : goal.returns-clause-run
 returns-clause-run g c =
     let image = c.args.image.now in
-    let described : IsDescribed image = record { lawful = c.requires.lawful; few = omega (arith, c.len-objects.ensures.value, c.len-objects.ensures.few) } in
-    let can : CanRun image c.args.cpus = record { domains = omega (arith, c.len-domains.ensures.value, c.len-domains.ensures.few); some = omega (arith, c.requires.some); few = c.requires.few } in
+    let is = runs-on image c.args.cpus c.requires.lawful c.len-objects.ensures.value c.len-objects.ensures.few c.len-domains.ensures.value c.len-domains.ensures.few c.requires.some c.requires.few in
     let ended = c.in_ok-logs.ensures in
-    let last = c.every_played_board.ensures.complete image c.args.cpus ended.view _ _ ended.steps described can ended.played ended.saw c.merge.new.room.items
+    let last = c.every_played_board.ensures.complete image c.args.cpus ended.view _ _ ended.steps is.0 is.1 ended.played ended.saw c.merge.new.room.items
     (λ order is. c.merge.ensures order (subst (λ (l : List Log). IsOrder l order) (sym c.as_slice.ensures.value) is)) in
     subst (λ (l : List Event). (last : State) × IsRun image l last × IsComplete last) (sym c.into_events.ensures) last
 
 pub returns-clause-board : goal.returns-clause-board
 returns-clause-board g c =
     let image = c.args.image.now in
-    let described : IsDescribed image = record { lawful = c.requires.lawful; few = omega (arith, c.len-objects.ensures.value, c.len-objects.ensures.few) } in
-    let can : CanRun image c.args.cpus = record { domains = omega (arith, c.len-domains.ensures.value, c.len-domains.ensures.few); some = omega (arith, c.requires.some); few = c.requires.few } in
+    let is = runs-on image c.args.cpus c.requires.lawful c.len-objects.ensures.value c.len-objects.ensures.few c.len-domains.ensures.value c.len-domains.ensures.few c.requires.some c.requires.few in
     let ended = c.in_ok-logs.ensures in
-    let run = c.every_played_board.ensures.run image c.args.cpus ended.view _ _ ended.steps described can ended.played c.merge.new.room.items
+    let run = c.every_played_board.ensures.run image c.args.cpus ended.view _ _ ended.steps is.0 is.1 ended.played c.merge.new.room.items
     (λ order is. c.merge.ensures order (subst (λ (l : List Log). IsOrder l order) (sym c.as_slice.ensures.value) is)) in
     (run.0, left-on image c.args.cpus _ ended.view _ ended.steps ended.seen ended.played run.0 run.2, c.into_events.ensures ∙ ap events_of (sym run.1) ∙ shown-noted run.0)
 
 pub returns-clause-few : goal.returns-clause-few
 returns-clause-few g c =
     let image = c.args.image.now in
-    let described : IsDescribed image = record { lawful = c.requires.lawful; few = omega (arith, c.len-objects.ensures.value, c.len-objects.ensures.few) } in
-    let can : CanRun image c.args.cpus = record { domains = omega (arith, c.len-domains.ensures.value, c.len-domains.ensures.few); some = omega (arith, c.requires.some); few = c.requires.few } in
+    let is = runs-on image c.args.cpus c.requires.lawful c.len-objects.ensures.value c.len-objects.ensures.few c.len-domains.ensures.value c.len-domains.ensures.few c.requires.some c.requires.few in
     let ended = c.in_ok-logs.ensures in
-    let run = c.every_played_board.ensures.run image c.args.cpus ended.view _ _ ended.steps described can ended.played c.merge.new.room.items
+    let run = c.every_played_board.ensures.run image c.args.cpus ended.view _ _ ended.steps is.0 is.1 ended.played c.merge.new.room.items
     (λ order is. c.merge.ensures order (subst (λ (l : List Log). IsOrder l order) (sym c.as_slice.ensures.value) is)) in
     let shown = ap length c.into_events.ensures in
     let few = shows-few c.merge.new.room.items in
     let noted = ap length run.1 in
     let long = noted-long run.0 in
-    let most = c.longest_fine_run.ensures image c.args.cpus run.0 described run.2.run in
+    let most = c.longest_fine_run.ensures image c.args.cpus run.0 is.0 run.2.run in
     omega (arith, shown, few, noted, long, most)

@@ -16,4 +16,4 @@ turns-requires-clause-stands g c =
     (stands-first c.args.image.now c.args.number (whole cpu.processor) cpu.place.seat cpu.place.log.items it.few it.sits.name it.opening it.idle_is it.made it.log)
 
 pub returns : goal.returns
-returns g c = let e = c.turns.ensures in ends-there c.args.image.now c.args.board.now.table.shared.table_id c.args.number c.args.cpu.now c.turns.new.cpu c.requires.begins e.number e.place e.keeps e.plays
+returns g c = let e = c.turns.ensures in ends-there c.args.image.now c.args.board.now.table.shared.table_id c.args.number c.args.cpu.now c.turns.new.cpu c.requires.begins e.number e.place e.keeps e.out

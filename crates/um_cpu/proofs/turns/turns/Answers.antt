@@ -4,8 +4,8 @@ use Rattle.um_processor.specs.Standing.{whole}
 use Rattle.um_cpu.proofs.Advances.{plays-out}
 use Rattle.um_cpu.proofs.turns.turns.Goals as goal
 
-pub returns-in-Quiet-clause-plays : goal.returns-in-Quiet-clause-plays
-returns-in-Quiet-clause-plays g c =
+pub returns-in-Quiet-clause-out : goal.returns-in-Quiet-clause-out
+returns-in-Quiet-clause-out g c =
     let first = c.args.cpu.now in
     let before = c.loop.cpu in
     let last = c.step.new.self in

@@ -13,7 +13,7 @@ ask-requires-then-says-gt0-clause-stands c =
     let old = c.args.self.now in
     let seen = c.look_scheduler-word.new.self in
     let unnoted = c.look_scheduler-word.ensures.unnoted in
-    stands-on c.args.image.now old.number (whole old.processor) (whole old.processor) old.place.seat old.place.log.items seen.seat seen.log.items c.requires.stands unnoted.keeps
+    stands-on c.args.image.now old.number (whole old.processor) (whole old.processor) old.place.seat old.place.log.items seen.seat seen.log.items c.requires.plays.stands unnoted.keeps
     (looks-on c.args.image.now old.number (whole old.processor) (whole old.processor) old.place.seat old.place.log.items seen.seat seen.log.items unnoted refl)
 
 pub returns-then-not-is_idle-clause-told : goal.returns-then-not-is_idle-clause-told
@@ -43,7 +43,7 @@ pub returns-then-says-eq0-2-clause-stands : goal.returns-then-says-eq0-2-clause-
 returns-then-says-eq0-2-clause-stands c =
     let old = c.args.self.now in
     let seen = c.look_scheduler-word.new.self in
-    stands-on c.args.image.now old.number (whole old.processor) (whole old.processor) old.place.seat old.place.log.items seen.seat seen.log.items c.requires.stands
+    stands-on c.args.image.now old.number (whole old.processor) (whole old.processor) old.place.seat old.place.log.items seen.seat seen.log.items c.requires.plays.stands
     c.look_scheduler-word.ensures.unnoted.keeps
     (returns-then-says-eq0-2-clause-goes c)
 
@@ -51,7 +51,7 @@ pub returns-clause-stands : goal.returns-clause-stands
 returns-clause-stands c =
     let old = c.args.self.now in
     let seen = c.look_scheduler-word.new.self in
-    stands-on c.args.image.now old.number (whole old.processor) (whole old.processor) old.place.seat old.place.log.items seen.seat seen.log.items c.requires.stands
+    stands-on c.args.image.now old.number (whole old.processor) (whole old.processor) old.place.seat old.place.log.items seen.seat seen.log.items c.requires.plays.stands
     c.look_scheduler-word.ensures.unnoted.keeps
     (returns-clause-goes c)
 
@@ -73,7 +73,7 @@ returns-then-says-eq0-2-clause-told c =
     let looked = c.look_scheduler-word in
     let value = c.read-says.ensures.value in
     let ready = subst (λ (w : CellWord). w.ready ≤ 0) value c.if-says-gt0.false in
-    let rests = rested image c.requires.described c.requires.can (λ run fine. c.longest_fine_run.ensures image 8 run c.requires.described fine) c.args.self.now c.requires.place c.requires.stands
+    let rests = rested image c.requires.plays.described c.requires.plays.can (λ run fine. c.longest_fine_run.ensures image 8 run c.requires.plays.described fine) c.args.self.now c.requires.plays.place c.requires.plays.stands
     looked.new.self looked.result (c.is_idle.ensures.idle c.if-not-is_idle.false) looked.ensures.unnoted looked.ensures.got looked.ensures.newest looked.ensures.saw (omega (arith, ready)) in
     (rests, (subst (λ (w : CellWord). w.running ≡ 0) value c.if-says-eq0.true, subst (λ (w : CellWord). w.owed ≡ 0) value c.if-says-eq0-2.true))
 
@@ -83,7 +83,7 @@ returns-clause-told c =
     let looked = c.look_scheduler-word in
     let value = c.read-says.ensures.value in
     let ready = subst (λ (w : CellWord). w.ready ≤ 0) value c.if-says-gt0.false in
-    let rests = rested image c.requires.described c.requires.can (λ run fine. c.longest_fine_run.ensures image 8 run c.requires.described fine) c.args.self.now c.requires.place c.requires.stands
+    let rests = rested image c.requires.plays.described c.requires.plays.can (λ run fine. c.longest_fine_run.ensures image 8 run c.requires.plays.described fine) c.args.self.now c.requires.plays.place c.requires.plays.stands
     looked.new.self looked.result (c.is_idle.ensures.idle c.if-not-is_idle.false) looked.ensures.unnoted looked.ensures.got looked.ensures.newest looked.ensures.saw (omega (arith, ready)) in (
       rests,
       λ none. ⊎_elim
