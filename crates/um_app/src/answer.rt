@@ -125,7 +125,8 @@ fn line_of_fault(alloc: Global, fault: &ImageFault) -> Result<String, Memory>
 
 /// Whether a reading failed for want of memory.
 fn is_memory(fault: &ImageFault) -> bool
-    ensures { result ≡ false → ¬ (fault.now ≡ ImageFault.Memory) }
+    ensures yes { result ≡ true → fault.now ≡ ImageFault.Memory }
+    ensures no { result ≡ false → ¬ (fault.now ≡ ImageFault.Memory) }
 {
     match fault {
         ImageFault::Memory => true,
