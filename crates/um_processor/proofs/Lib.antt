@@ -11,6 +11,7 @@ pub mod Lifted
 pub mod Phased
 pub mod Places
 pub mod Released
+pub mod Requests
 pub mod Readable
 pub mod Runs
 pub mod Scheduled

@@ -1,5 +1,5 @@
 -- What comes of a step of a processor's thread, for the whole processor.
-use Rattle.std.proofs.Common.{◌≡◌, ◌≤◌, ℕ, Bool, true, false, List, [], ◌∷◌, ◌++◌, arith, length, refl, sym, subst, ap, ◌∙◌}
+use Rattle.std.proofs.Common.{◌≡◌, ◌≤◌, ℕ, Bool, true, false, List, [], ◌∷◌, ◌++◌, arith, drop, length, refl, sym, subst, ap, ◌∙◌}
 use Rattle.std.proofs.lemmas.Bool.{false≢true}
 use Rattle.std.proofs.lemmas.List.{append-nil}
 use Rattle.um_base.specs.declared.ask.Told.{Told}
@@ -7,19 +7,22 @@ use Rattle.um_base.specs.declared.image.Image.{Image}
 use Rattle.um_base.specs.declared.names.ThreadIx.{ThreadIx}
 use Rattle.um_machine.specs.declared.pending.Pending.{Pending}
 use Rattle.um_machine.specs.Order.{Steps}
-use Rattle.um_fine.specs.Asks.{next_site}
 use Rattle.um_fine.specs.Follows.{end_calls, wakes}
 use Rattle.um_fine.specs.Places.{Todos}
 use Rattle.um_fine.specs.Processor.{Processor}
 use Rattle.um_fine.specs.Steps.{FineStep, Site}
+use Rattle.um_processor.specs.declared.here.Here.{Here}
 use Rattle.um_processor.specs.declared.phase.Phase.{Phase}
 use Rattle.um_processor.specs.declared.phase.Turn.{Turn}
+use Rattle.um_processor.specs.declared.processor.Processor.{Processor as Kept}
 use Rattle.um_processor.specs.declared.running.Running.{Running}
+use Rattle.um_processor.specs.declared.sites.Sites.{Ghosts as SitesOf}
 use Rattle.um_processor.specs.Cleanings.{block_if}
-use Rattle.um_processor.specs.Events.{about_to, about_to_park, at_event, rest_of, todo_after, with_ends, with_woken}
+use Rattle.um_processor.specs.Events.{about_to, about_to_park, at_event, rest_of, shows, todo_after, with_ends, with_woken}
 use Rattle.um_processor.specs.Phases.{born, is_idle, showing, steps_behind}
-use Rattle.um_processor.specs.Processors.{AsksFor, Goes, IsStuck, MayNext, OnMade, Turned, UnlessMade, cleaned, in_phase, processor_of, with_todo}
-use Rattle.um_processor.specs.Standing.{before, standing}
+use Rattle.um_processor.specs.Processors.{Goes, MayNext, OnMade, Turned, UnlessMade, cleaned, in_phase, processor_of, with_todo}
+use Rattle.um_processor.specs.Standing.{IsClear, before, standing, whole}
+use Rattle.um_processor.specs.Turns.{HasCleaned, HasEnded, HasRun, HasTurned}
 use Rattle.um_processor.proofs.Standings.{cleaned-behind, front-of, stands}
 
 bare-todo : (todo : Todos) → before [] [] [] todo ≡ todo
@@ -71,21 +74,9 @@ module _ (t : Turn) (cpu : ℕ) (image : Image) (took shut : FineStep → Type 0
 pub goes-as : (cpu : ℕ) (image : Image) (p z y : Processor) (e : FineStep) → y ≡ z → Goes cpu image p e z → Goes cpu image p e y
 goes-as cpu image p z y e h goes = subst (λ (x : Processor). Goes cpu image p e x) (sym h) goes
 
-pub goes-from : (cpu : ℕ) (image : Image) (p q z : Processor) (e : FineStep) → p ≡ q → Goes cpu image q e z → Goes cpu image p e z
-goes-from cpu image p q z e h goes = subst (λ (x : Processor). Goes cpu image x e z) (sym h) goes
-
-pub asks-from : (cpu : ℕ) (image : Image) (p q : Processor) (e : FineStep) → p ≡ q → AsksFor cpu image q e → AsksFor cpu image p e
-asks-from cpu image p q e h asks = subst (λ (x : Processor). AsksFor cpu image x e) (sym h) asks
-
 -- what an equal processor may make
 pub may-from : (cpu : ℕ) (image : Image) (p q : Processor) (may : FineStep → Type 0) → p ≡ q → MayNext cpu image p may → MayNext cpu image q may
 may-from cpu image p q may h goes = subst (λ (x : Processor). MayNext cpu image x may) h goes
-
-pub late-from : (image : Image) (p q : Processor) (late : Site → Type 0) → p ≡ q → late (next_site image q) → late (next_site image p)
-late-from image p q late h said = subst (λ (x : Processor). late (next_site image x)) (sym h) said
-
-pub stuck-from : (image : Image) (p q : Processor) → p ≡ q → IsStuck image q → IsStuck image p
-stuck-from image p q h stuck = subst (IsStuck image) (sym h) stuck
 
 pub on-made : {A B : Type 0} (t : Turn) → (A → B) → OnMade t A → OnMade t B
 on-made Turn.Made f h = f h
@@ -129,10 +120,6 @@ pub stood-in : (r : Running) (phase : Phase) (cleans : Todos) (ends : List ℕ) 
     → standing cleans ends woken (processor_of r) ≡ in_phase phase r
 stood-in r phase cleans ends woken e ec ee ew = bare cleans ends woken (processor_of r) ec ee ew ∙ ap (λ (k : Phase). in_phase k r) e
 
--- at the event of this step
-pub at-this : (phase : Phase) (r : Running) (s q : Pending) → s ≡ q → about_to phase s r ≡ about_to phase q r
-at-this phase r s q e = ap (λ (step : Pending). about_to phase step r) e
-
 -- at the event of its thread's next step, or without one
 pub at-none : (phase : Phase) (r : Running) → steps_behind r.visited r.context.value.pending ≡ [] → at_event phase r ≡ about_to_park phase r
 at-none phase r e = ap (λ (steps : Steps). with_todo r (showing steps (todo_after phase (born r.newborn)))) e
@@ -144,32 +131,61 @@ pub none_left : {A : Type 0} (xs : List A) → length xs ≤ 0 → xs ≡ []
 none_left [] h = refl
 none_left (x ∷ xs) h = absurd (omega arith)
 
--- a turn of a processor's thread that leaves claims to end, for the whole processor
-pub ends-kept : (cleans : Todos) (woken : List (ThreadIx × Told)) (p q : Processor) (ends old : List ℕ) (t : Turn)
-    → UnlessMade t (p ≡ q) → UnlessMade t (ends ≡ old) → UnlessMade t (standing cleans ends woken p ≡ standing cleans old woken q)
-ends-kept cleans woken p q ends old t = kept-both t (λ (z : Processor) (xs : List ℕ). standing cleans xs woken z) p q ends old
+-- What comes of a turn of a processor's thread, for the whole processor.
+module _ {S : Type 0} (sites : SitesOf S) (turn : Turn) (here : Here) (s t : S) (p : Processor) where
+  -- that of an equal processor
+  pub stepped-from : (q y z : Processor) → p ≡ q → HasTurned sites turn here s t q y z → HasTurned sites turn here s t p y z
+  stepped-from q y z e h = (h.0, h.1, turned-from turn here.cpu here.image.now _ _ _ _ p q z e h.2)
 
-pub ends-turned : (cpu : ℕ) (image : Image) (took shut : FineStep → Type 0) (late : Site → Type 0) (none : Type 0) (p q : Processor) (cleans : Todos) (ends : List ℕ)
-    (woken : List (ThreadIx × Told)) (t : Turn) (r : Running) → p ≡ q → cleans ≡ [] → woken ≡ []
-    → OnMade t (is_idle r.phase ≡ false) → Turned t cpu image q (with_ends ends (processor_of r)) took shut late none
-    → Turned t cpu image p (standing cleans ends woken (processor_of r)) took shut late none
-ends-turned cpu image took shut late none p q cleans ends woken t r at ec ew runs h =
-    turned-from t cpu image took shut late none p q _ at
-    (turned-as t cpu image took shut late none q _ _ (on-made t (λ k. ends-stand r k cleans ends woken ec ew) runs) h)
+  module _ (k : Kept) (q : Running) where
+    abbrev pub woken : List (ThreadIx × Told)
+    woken = drop k.told k.outcome.woken
 
--- the same of one that may leave an object to clean
-pub cleans-kept : (image : Image) (x : ℕ) (b : Bool) (cleans new : Todos) (ends : List ℕ) (woken : List (ThreadIx × Told)) (p q : Processor) (t : Turn)
-    → new ≡ cleans ++ block_if image x b → UnlessMade t (b ≡ false) → UnlessMade t (p ≡ q)
-    → UnlessMade t (standing new ends woken p ≡ standing cleans ends woken q)
-cleans-kept image x b cleans new ends woken p q t leaves none same =
-    kept-both t (λ (z : Processor) (cs : Todos). standing cs ends woken z) p q new cleans same
-    (unless-made t (λ h. leaves ∙ (ap (λ (c : Bool). cleans ++ block_if image x c) h ∙ append-nil cleans)) none)
+    -- where nothing stands before its thread's next step
+    pub stepped-bare : IsClear k → HasRun sites turn here s t p k.running q
+        → HasTurned sites turn here s t p (whole k) (standing k.cleans k.ends.items woken (processor_of q))
+    stepped-bare clear h =
+        (h.0, kept turn (standing k.cleans k.ends.items woken) _ _ h.1, turned-as turn here.cpu here.image.now _ _ _ _ p _ _ (always turn (bare _ _ _ _ clear.cleans clear.ends clear.woken)) h.2)
 
-pub cleans-turned : (cpu : ℕ) (image : Image) (took shut : FineStep → Type 0) (late : Site → Type 0) (none : Type 0) (p : Processor) (x y : ℕ) (b : Bool)
-    (cleans new : Todos) (ends : List ℕ) (woken : List (ThreadIx × Told)) (t : Turn) (r : Running)
-    → cleans ≡ [] → ends ≡ [] → woken ≡ [] → x ≡ y → new ≡ cleans ++ block_if image x b
-    → OnMade t (is_idle r.phase ≡ false) → Turned t cpu image p (cleaned image y b (processor_of r)) took shut late none
-    → Turned t cpu image p (standing new ends woken (processor_of r)) took shut late none
-cleans-turned cpu image took shut late none p x y b cleans new ends woken t r ec ee ew at leaves runs =
-    let block : new ≡ block_if image y b = leaves ∙ (λ i. ec i ++ block_if image (at i) b) in
-    turned-as t cpu image took shut late none p _ _ (on-made t (λ h. cleans-stand r h image y b new ends woken block ee ew) runs)
+    -- where it leaves claims to end
+    pub stepped-ends : (ends : List ℕ) → IsClear k → HasEnded sites turn here s t p k.running q k.ends.items ends
+        → HasTurned sites turn here s t p (whole k) (standing k.cleans ends woken (processor_of q))
+    stepped-ends ends clear h = (
+      h.image,
+      kept-both turn (λ (z : Processor) (xs : List ℕ). standing k.cleans xs woken z) _ _ _ _ h.same h.ends,
+      turned-as turn here.cpu here.image.now _ _ _ _ p _ _ (on-made turn (λ r. ends-stand q r k.cleans ends woken clear.cleans clear.woken) h.runs) h.turn,
+    )
+
+    -- where it may leave an object to clean
+    pub stepped-cleans : (x y : ℕ) (b : Bool) (new : Todos) → IsClear k → x ≡ y → new ≡ k.cleans ++ block_if here.image.now x b
+        → HasCleaned sites turn here s t p k.running q y false b
+        → HasTurned sites turn here s t p (whole k) (standing new k.ends.items woken (processor_of q))
+    stepped-cleans x y b new clear at leaves h =
+        let none : UnlessMade turn (new ≡ k.cleans) =
+        unless-made turn (λ e. leaves ∙ (ap (λ (c : Bool). k.cleans ++ block_if here.image.now x c) e ∙ append-nil k.cleans)) h.cleans in
+        let block : new ≡ block_if here.image.now y b = leaves ∙ (λ i. clear.cleans i ++ block_if here.image.now (at i) b) in (
+          h.image,
+          kept-both turn (λ (z : Processor) (cs : Todos). standing cs k.ends.items woken z) _ _ _ _ h.same none,
+          turned-as turn here.cpu here.image.now _ _ _ _ p _ _ (on-made turn (λ r. cleans-stand q r here.image.now y b new k.ends.items woken block clear.ends clear.woken) h.runs) h.turn,
+        )
+
+-- at the event of a step that leaves claims to end
+pub at-step-with : {S : Type 0} (sites : SitesOf S) (turn : Turn) (here : Here) (s t : S) (step q : Pending) (k : Kept) (r : Running) (ends : List ℕ)
+    → step ≡ q → IsClear k → HasEnded sites turn here s t (shows q k.running) k.running r k.ends.items ends
+    → HasTurned sites turn here s t (shows step k.running) (whole k) (standing k.cleans ends (drop k.told k.outcome.woken) (processor_of r))
+at-step-with sites turn here s t step q k r ends at clear h =
+    stepped-from sites turn here s t _ _ _ _ (ap (λ (x : Pending). shows x k.running) at) (stepped-ends sites turn here s t _ k r ends clear h)
+
+-- of one without a thread
+pub stepped-idle : {S : Type 0} (sites : SitesOf S) (turn : Turn) (here : Here) (s t : S) (k : Kept) (q : Running) (z : Processor) → is_idle k.running.phase ≡ true
+    → HasRun sites turn here s t (in_phase Phase.Idle k.running) k.running q
+    → UnlessMade turn (z ≡ whole k) → OnMade turn (z ≡ processor_of q)
+    → HasTurned sites turn here s t (whole k) (whole k) z
+stepped-idle sites turn here s t k q z idle h same new =
+    stepped-from sites turn here s t _ _ _ _ (idle-whole k.running _ _ _ idle) (h.0, same, turned-as turn here.cpu here.image.now _ _ _ _ _ (processor_of q) z new h.2)
+
+-- where nothing stands before, in a phase in which the event of its thread's next step is next
+pub event-in : (k : Kept) (phase : Phase) → IsClear k → in_phase phase k.running ≡ at_event phase k.running → k.running.phase ≡ phase
+    → whole k ≡ at_event k.running.phase k.running
+event-in k phase clear shown at =
+    stood-in k.running phase _ _ _ at clear.cleans clear.ends clear.woken ∙ (shown ∙ ap (λ (x : Phase). at_event x k.running) (sym at))

@@ -5,9 +5,9 @@ use Rattle.um_base.specs.declared.ask.Told.{Told}
 use Rattle.um_base.specs.declared.image.Image.{Image}
 use Rattle.um_base.specs.declared.names.ThreadIx.{ThreadIx}
 use Rattle.um_machine.specs.declared.object.Cost.{Cost}
-use Rattle.um_machine.specs.Order.{to_addr, to_thread}
+use Rattle.um_machine.specs.Order.{to_addr, to_row, to_thread}
 use Rattle.um_words.specs.declared.row_word.RowWord.{RowWord}
-use Rattle.um_fine.specs.Asks.{begins_cleaning}
+use Rattle.um_fine.specs.Asks.{begins_cleaning, next_site}
 use Rattle.um_fine.specs.Follows.{end_calls, wakes}
 use Rattle.um_fine.specs.Heap.{Heap}
 use Rattle.um_fine.specs.Objects.{ObjectCell}
@@ -19,6 +19,8 @@ use Rattle.um_fine.specs.Context.{Context}
 use Rattle.um_processor.specs.declared.phase.Phase.{Phase}
 use Rattle.um_base.specs.Places.{addr_of}
 use Rattle.um_processor.specs.declared.heap_act.HeapAct.{HeapAct}
+use Rattle.um_processor.specs.declared.processor.Processor.{Processor as Kept}
+use Rattle.um_processor.specs.declared.request.Request.{Request}
 use Rattle.um_processor.specs.declared.row_act.RowAct.{RowAct}
 use Rattle.um_processor.specs.declared.running.Running.{Running}
 use Rattle.um_processor.specs.Cleanings.{all_clean, block_if}
@@ -26,9 +28,10 @@ use Rattle.um_processor.specs.HeapActs.{heap_made}
 use Rattle.um_processor.specs.ObjectCells.{cleared_made}
 use Rattle.um_processor.specs.Phases.{is_idle}
 use Rattle.um_processor.specs.Processors.{AsksFor, Goes, context_in, in_phase, processor_of, todo_of}
+use Rattle.um_processor.specs.Requests.{Leads}
 use Rattle.um_processor.specs.RowActs.{row_made}
 use Rattle.um_processor.specs.SchedulerActs.{woken_made}
-use Rattle.um_processor.specs.Standing.{standing}
+use Rattle.um_processor.specs.Standing.{CleansNext, standing, whole}
 use Rattle.um_processor.proofs.Cleaned.{cleanings-append}
 use Rattle.um_processor.proofs.Counted.{none-before, none-of}
 use Rattle.um_processor.proofs.Standings.{Front, ended, front-before, front-of, pair_cleaned, recycled, stands, sweep-asks, vacated, waked, wiped}
@@ -158,3 +161,15 @@ module _ (image : Image) (cpu : ℕ) (r : Running) (runs : is_idle r.phase ≡ f
       subst (λ (q : Processor × FineStep × Processor). Goes cpu image q.0 q.1 q.2)
       (λ i. (sym (stood cleans (Todo.recycle x ∷ cs) ends woken ec) i, heap_made image cpu n h (HeapAct.Recycle (to_thread (thread i)) (to_addr (sym ea i))) (sym eh i), sym (stood new cs ends woken en) i))
       (recycled image cpu (processor_of r) (behind ends woken) (front-before ends woken (todo_of r.phase r) front) cs x n h)
+
+-- the object that leaves its row next
+pub vacate-leads : (image : Image) (cpu : ℕ) (k : Kept) (x : ℕ) (new : Todos) → CleansNext k (Todo.vacate x) → new ≡ drop 1 k.cleans
+    → Leads cpu image (whole k) (Request.Row (to_row x) RowAct.Vacate) (standing new k.ends.items (drop k.told k.outcome.woken) (processor_of k.running))
+vacate-leads image cpu k x new next en =
+    let rest = drop 1 k.cleans in
+    let woken = drop k.told k.outcome.woken in
+    record {
+      few = refl;
+      site = ap (next_site image) (stood image cpu k.running next.runs k.cleans (Todo.vacate x ∷ rest) k.ends.items woken next.first);
+      goes = λ w. vacate-goes image cpu k.running next.runs k.cleans new rest k.ends.items woken x w next.first en;
+    }

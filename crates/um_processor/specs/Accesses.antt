@@ -7,10 +7,6 @@ use Rattle.um_fine.specs.Continues.{goes_on}
 use Rattle.um_processor.specs.declared.running.Running.{Running}
 use Rattle.um_processor.specs.Events.{rest_of}
 
--- behind a store or a fetch
-abbrev pub behind_access : Image → Running → Bool → Context
-behind_access image r allowed = if allowed then goes_on image r.context.value (rest_of r) else goes_on image r.context.value fault
-
 -- behind a load of this number into a register
 abbrev pub behind_load : Image → Running → Bool → ℕ → ℕ → Context
 behind_load image r allowed to value =

@@ -11,6 +11,7 @@ use Rattle.um_fine.specs.Places.{Todo, Todos}
 use Rattle.um_fine.specs.Processor.{Processor}
 use Rattle.um_processor.specs.declared.phase.Phase.{Phase}
 use Rattle.um_processor.specs.declared.running.Running.{Running}
+use Rattle.um_processor.specs.declared.running.calls.Wanted.{Wanted}
 use Rattle.um_processor.specs.Phases.{born, released, showing, steps_behind}
 use Rattle.um_processor.specs.Processors.{with_todo}
 
@@ -57,3 +58,7 @@ with_ends ends p = record p { todo = end_calls ends p.todo }
 -- the same, with threads to wake before
 abbrev pub with_woken : List (ThreadIx × Told) → Processor → Processor
 with_woken woken p = record p { todo = wakes woken p.todo }
+
+-- the step that looks for an object
+abbrev pub check_for : Wanted → Pending
+check_for w = Pending.Check w.addr w.kind w.want w.refusal

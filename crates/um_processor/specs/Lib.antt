@@ -3,6 +3,7 @@ pub mod Asked
 pub mod RowActs
 pub mod ThreadActs
 pub mod DomainActs
+pub mod Requests
 pub mod Sited
 pub mod Contexts
 pub mod Parked

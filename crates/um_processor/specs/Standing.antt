@@ -1,11 +1,12 @@
 -- What stands before a thread's next step: objects to clean, claims to end, and threads to wake.
-use Rattle.std.specs.Prelude.{ℕ, List, [], ◌∷◌, ◌++◌, drop}
+use Rattle.std.specs.Prelude.{◌≡◌, ℕ, false, List, [], ◌∷◌, ◌++◌, drop}
 use Rattle.um_base.specs.declared.ask.Told.{Told}
 use Rattle.um_base.specs.declared.names.ThreadIx.{ThreadIx}
 use Rattle.um_fine.specs.Follows.{end_calls, wakes}
-use Rattle.um_fine.specs.Places.{Todos}
+use Rattle.um_fine.specs.Places.{Todo, Todos}
 use Rattle.um_fine.specs.Processor.{Processor}
 use Rattle.um_processor.specs.declared.processor.Processor.{Processor as Kept}
+use Rattle.um_processor.specs.Phases.{is_idle}
 use Rattle.um_processor.specs.Processors.{processor_of}
 
 -- before the steps of a processor that has any: one without a thread has none
@@ -18,3 +19,14 @@ standing cleans ends woken p = record p { todo = before cleans ends woken p.todo
 
 abbrev pub whole : Kept → Processor
 whole p = standing p.cleans p.ends.items (drop p.told p.outcome.woken) (processor_of p.running)
+
+-- with a thread, this step of cleaning is the first
+pub record CleansNext (p : Kept) (q : Todo) : Type 0 where
+  pub runs : is_idle p.running.phase ≡ false
+  pub first : p.cleans ≡ q ∷ drop 1 p.cleans
+
+-- nothing stands before
+pub record IsClear (p : Kept) : Type 0 where
+  pub cleans : p.cleans ≡ []
+  pub ends : p.ends.items ≡ []
+  pub woken : drop p.told p.outcome.woken ≡ []

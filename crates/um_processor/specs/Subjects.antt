@@ -1,36 +1,48 @@
 -- What comes behind the event of a step.
-use Rattle.std.specs.Prelude.{Bool, true, false}
+use Rattle.std.specs.Prelude.{Bool, true, false, ◌||◌}
 use Rattle.um_machine.specs.declared.pending.Pending.{Pending}
+
+-- the thread needs nothing of what the site says: of an access to memory that reads nothing ..
+abbrev pub is_access : Pending → Bool
+is_access (Pending.Store addr size value) = true
+is_access (Pending.Fetch addr) = true
+is_access (Pending.Probe addr amount) = true
+is_access _ = false
+
+-- .. of a call on a domain, whose claim ends ..
+abbrev pub is_edit : Pending → Bool
+is_edit (Pending.DomInit domain parts) = true
+is_edit (Pending.DomAdd domain range attr) = true
+is_edit (Pending.DomRemove domain range attr) = true
+is_edit (Pending.DomMove domain who) = true
+is_edit _ = false
+
+-- .. and of others
+abbrev pub is_quiet : Pending → Bool
+is_quiet (Pending.Grant who addr) = true
+is_quiet (Pending.Own who) = true
+is_quiet (Pending.Publish addr) = true
+is_quiet (Pending.Born addr) = true
+is_quiet (Pending.Erase stack) = true
+is_quiet (Pending.Unbuffer size) = true
+is_quiet (Pending.Start who script stack priority mode) = true
+is_quiet (Pending.EnterUser script) = true
+is_quiet (Pending.Dooms from) = true
+is_quiet step = is_access step || is_edit step
 
 -- the thread goes on, and no more is to be done before: of an access to memory, a change of who may use an object or of its mark, a call on a domain,
 -- bytes that a pool gives or gets, and of a thread that starts, has a name, is doomed, or drops into user mode
 abbrev pub is_plain : Pending → Bool
 is_plain (Pending.Load to addr size) = true
-is_plain (Pending.Store addr size value) = true
-is_plain (Pending.Fetch addr) = true
-is_plain (Pending.Probe addr amount) = true
 is_plain (Pending.CopyIn addr amount) = true
 is_plain (Pending.CopyOut addr) = true
 is_plain (Pending.CopyStr addr) = true
-is_plain (Pending.Erase stack) = true
 is_plain (Pending.Check addr kind want refusal) = true
-is_plain (Pending.Grant who addr) = true
-is_plain (Pending.Own who) = true
-is_plain (Pending.Publish addr) = true
 is_plain (Pending.SetInit addr strict undo) = true
-is_plain (Pending.Born addr) = true
-is_plain (Pending.DomInit domain parts) = true
-is_plain (Pending.DomAdd domain range attr) = true
-is_plain (Pending.DomRemove domain range attr) = true
-is_plain (Pending.DomMove domain who) = true
 is_plain (Pending.Reserve kind) = true
 is_plain (Pending.Buffer size) = true
-is_plain (Pending.Unbuffer size) = true
 is_plain (Pending.Named who) = true
-is_plain (Pending.Start who script stack priority mode) = true
-is_plain (Pending.EnterUser script) = true
-is_plain (Pending.Dooms from) = true
-is_plain _ = false
+is_plain step = is_quiet step
 
 -- claims end
 abbrev pub ends_claims : Pending → Bool

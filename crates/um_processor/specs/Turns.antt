@@ -1,12 +1,16 @@
 -- What a turn needs of the sites, and what comes of it there.
-use Rattle.std.specs.Prelude.{◌≡◌, ℕ}
+use Rattle.std.specs.Prelude.{◌≡◌, ℕ, Bool, false, List}
 use Rattle.um_base.specs.declared.image.Image.{Image}
 use Rattle.um_fine.specs.Processor.{Processor}
 use Rattle.um_processor.specs.declared.here.Here.{Here}
 use Rattle.um_processor.specs.declared.phase.Turn.{Turn}
+use Rattle.um_processor.specs.declared.processor.Processor.{Processor as Kept}
 use Rattle.um_processor.specs.declared.running.Running.{Running}
 use Rattle.um_processor.specs.declared.sites.Sites.{Ghosts as SitesOf}
-use Rattle.um_processor.specs.Processors.{MayNext, Turned, UnlessMade, processor_of}
+use Rattle.um_processor.specs.Events.{with_ends}
+use Rattle.um_processor.specs.Phases.{is_idle}
+use Rattle.um_processor.specs.Processors.{MayNext, OnMade, Turned, UnlessMade, cleaned, processor_of}
+use Rattle.um_processor.specs.Standing.{whole}
 
 -- whatever step the processor of this number asks for next, the sites let it make
 abbrev pub MayTurn : {S : Type 0} → SitesOf S → ℕ → Image → S → Processor → Type 0
@@ -34,3 +38,23 @@ HasTurned sites turn here s t p y z =
 -- the same of a processor that its thread's steps keep busy
 abbrev pub HasRun : {S : Type 0} → SitesOf S → Turn → Here → S → S → Processor → Running → Running → Type 0
 HasRun sites turn here s t p r q = HasTurned sites turn here s t p (processor_of r) (processor_of q)
+
+-- the same, with claims that it leaves to be ended, where there were some before
+pub record HasEnded {S : Type 0} (sites : SitesOf S) (made : Turn) (here : Here) (s t : S) (p : Processor) (r q : Running) (before left : List ℕ) : Type 0 where
+  pub image : sites.IsOf here.image.now t
+  pub ends : UnlessMade made (left ≡ before)
+  pub same : UnlessMade made (processor_of q ≡ processor_of r)
+  pub runs : OnMade made (is_idle q.phase ≡ false)
+  pub turn : TurnsAt sites made here.cpu here.image.now s t p (with_ends left (processor_of q))
+
+-- and with the object of a row to clean, where the row came to that
+pub record HasCleaned {S : Type 0} (sites : SitesOf S) (made : Turn) (here : Here) (s t : S) (p : Processor) (r q : Running) (x : ℕ) (before left : Bool) : Type 0 where
+  pub image : sites.IsOf here.image.now t
+  pub cleans : UnlessMade made (left ≡ before)
+  pub same : UnlessMade made (processor_of q ≡ processor_of r)
+  pub runs : OnMade made (is_idle q.phase ≡ false)
+  pub turn : TurnsAt sites made here.cpu here.image.now s t p (cleaned here.image.now x left (processor_of q))
+
+-- and of one with all that stands before its thread's next step
+abbrev pub HasStepped : {S : Type 0} → SitesOf S → Turn → Here → S → S → Processor → Kept → Kept → Type 0
+HasStepped sites turn here s t p k l = HasTurned sites turn here s t p (whole k) (whole l)

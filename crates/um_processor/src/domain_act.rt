@@ -7,6 +7,7 @@ ghost use Rattle.um_fine.specs.Sites.{SiteState};
 ghost use Rattle.um_processor.specs.{Asked.{Refuses, Takes, event_of}, DomainActs.{domain_act, domain_made}};
 
 use crate::log::shown;
+use crate::said::next_word;
 use um_base::{Act, Attr, Event, Range, Reply, ThreadIx};
 use um_words::DomWord;
 
@@ -119,13 +120,7 @@ impl DomainAct {
             ((image : Image) (cpu d : ℕ) → Refuses (SiteState.domain word.now) (domain_made image cpu d word.now self.now))
             (λ next. (image : Image) (cpu d : ℕ) → Takes image (SiteState.domain word.now) (domain_made image cpu d word.now self.now) (SiteState.domain next)) }
     {
-        if word.number >= LAST || !self.is_taken(word) {
-            return None;
-        }
-        let mut next = *word;
-        self.take(&mut next);
-        next.number += 1;
-        Some(next)
+        Some(next_word!(self, word))
     }
 
     /// The event of the step, if a trace shows it.

@@ -9,7 +9,7 @@ ghost use Rattle.um_processor.specs.{
   RowActs.{left_by, row_act, row_event, row_made, row_said},
 };
 
-use crate::log::shown;
+use crate::log::{checked, shown};
 use um_base::{Act, Addr, Errno, Event, Given, Kind, Leftover, Mode, SetSaid, ThreadIx, Want};
 use um_words::RowWord;
 
@@ -241,15 +241,7 @@ impl RowAct {
                 ..
             } => {
                 let verdict = said.verdict;
-                shown(
-                    thread,
-                    Act::Check {
-                        addr,
-                        kind,
-                        want,
-                        verdict,
-                    },
-                )
+                checked(thread, addr, kind, want, verdict)
             }
             RowAct::Grant { thread, who, addr } => {
                 let given = said.given;

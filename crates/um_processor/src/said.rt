@@ -22,4 +22,31 @@ macro_rules! made {
     };
 }
 
+/// The word that a step leaves. Where the word takes no such step, the function around it has nothing to answer.
+macro_rules! next_word {
+    ($act:expr, $word:expr) => {{
+        if $word.number >= LAST || !$act.is_taken($word) {
+            return None;
+        }
+        let mut next = *$word;
+        $act.take(&mut next);
+        next.number += 1;
+        next
+    }};
+}
+
+/// Goes on where a step was made. Where none was, the turn of the function around it ends.
+macro_rules! took {
+    ($turn:expr) => {
+        match $turn {
+            $crate::Turn::Made => {}
+            $crate::Turn::Busy => return $crate::Turn::Busy,
+            $crate::Turn::Changed => return $crate::Turn::Changed,
+            $crate::Turn::Stuck => return $crate::Turn::Stuck,
+        }
+    };
+}
+
 pub(crate) use made;
+pub(crate) use next_word;
+pub(crate) use took;

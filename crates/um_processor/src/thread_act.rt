@@ -9,7 +9,8 @@ ghost use Rattle.um_processor.specs.{
   ThreadActs.{thread_act, thread_event, thread_made},
 };
 
-use crate::log::shown;
+use crate::log::{checked, shown};
+use crate::said::next_word;
 use um_base::{Act, Addr, Cause, DOMAINS, Errno, Event, Kind, Mode, Reply, ThreadIx, Want};
 use um_machine::Life;
 use um_words::ThreadWord;
@@ -127,13 +128,7 @@ impl ThreadAct {
             ((image : Image) (cpu t : ℕ) → Refuses (SiteState.thread word.now) (thread_made image cpu t word.now self.now))
             (λ next. (image : Image) (cpu t : ℕ) → Takes image (SiteState.thread word.now) (thread_made image cpu t word.now self.now) (SiteState.thread next)) }
     {
-        if word.number >= LAST || !self.is_taken(word) {
-            return None;
-        }
-        let mut next = *word;
-        self.take(&mut next);
-        next.number += 1;
-        Some(next)
+        Some(next_word!(self, word))
     }
 
     /// The event of the step, by the word that it leaves, if a trace shows it.
@@ -163,18 +158,7 @@ impl ThreadAct {
                 kind,
                 want,
                 ..
-            } => {
-                let verdict = Some(Errno::EBADF);
-                shown(
-                    thread,
-                    Act::Check {
-                        addr,
-                        kind,
-                        want,
-                        verdict,
-                    },
-                )
-            }
+            } => checked(thread, addr, kind, want, Some(Errno::EBADF)),
             ThreadAct::Answered { thread, reply } => shown(thread, Act::Answered { reply }),
             ThreadAct::Fatal {
                 thread,

@@ -33,7 +33,7 @@ impl Context {
     }
 
     /// Goes on after a copy or a probe that isn't allowed.
-    fn fails_to_copy(&mut self, image: &Image)
+    pub fn fails_to_copy(&mut self, image: &Image)
         ensures { self.new ≡ goes_on image.now self.old (copy_fails self.old.mode) }
     {
         let mode = self.own.mode;

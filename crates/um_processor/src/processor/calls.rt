@@ -3,9 +3,8 @@
 ghost use Rattle.std.specs.Prelude.{◌≡◌, ◌<◌, [], false, length};
 ghost use Rattle.um_processor.specs.{
   Phases.{is_idle},
-  Processors.{UnlessMade},
   Standing.{whole},
-  Turns.{TurnsAt, MayTurn},
+  Turns.{CanTurn, HasStepped},
 };
 
 use crate::here::Here;
@@ -19,15 +18,12 @@ use um_base::{ROWS, Row, THREADS};
 impl Processor {
     /// The first claim ends. Where its row comes to cleaning by that, the object is to be cleaned.
     pub fn end_call<S: Sites>(&mut self, here: &Here, sites: &mut S) -> Turn
-        requires sites { S.IsOf here.now.image.now sites.old }
         requires runs { is_idle self.old.running.phase ≡ false }
         requires cleans { self.old.cleans ≡ [] }
         requires ends { 0 < length self.old.ends.items }
-        requires goes { MayTurn S.Sites here.now.cpu here.now.image.now sites.old (whole self.old) }
-        ensures image { S.IsOf here.now.image.now sites.new }
-        ensures same { UnlessMade result (whole self.new ≡ whole self.old) }
-        ensures turn { TurnsAt S.Sites result here.now.cpu here.now.image.now sites.old sites.new
-            (whole self.old) (whole self.new) }
+        requires goes { CanTurn S.Sites here.now sites.old (whole self.old) }
+        ensures turn { HasStepped S.Sites result here.now sites.old sites.new
+            (whole self.old) self.old self.new }
     {
         let row = self.ends.as_slice()[0];
         if row as usize >= ROWS {
@@ -41,16 +37,13 @@ impl Processor {
 
     /// The first woken thread that wasn't told is told what it waited for.
     pub fn wake<S: Sites>(&mut self, here: &Here, sites: &mut S) -> Turn
-        requires sites { S.IsOf here.now.image.now sites.old }
         requires runs { is_idle self.old.running.phase ≡ false }
         requires cleans { self.old.cleans ≡ [] }
         requires ends { self.old.ends.items ≡ [] }
         requires woken { self.old.told < length self.old.outcome.woken }
-        requires goes { MayTurn S.Sites here.now.cpu here.now.image.now sites.old (whole self.old) }
-        ensures image { S.IsOf here.now.image.now sites.new }
-        ensures same { UnlessMade result (whole self.new ≡ whole self.old) }
-        ensures turn { TurnsAt S.Sites result here.now.cpu here.now.image.now sites.old sites.new
-            (whole self.old) (whole self.new) }
+        requires goes { CanTurn S.Sites here.now sites.old (whole self.old) }
+        ensures turn { HasStepped S.Sites result here.now sites.old sites.new
+            (whole self.old) self.old self.new }
     {
         let (who, told) = &self.outcome.woken.as_slice()[self.told];
         if who.0 as usize >= THREADS {

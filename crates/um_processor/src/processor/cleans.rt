@@ -1,12 +1,9 @@
 //! The cleaning of objects, before all else.
 
-ghost use Rattle.std.specs.Prelude.{◌≡◌, ◌<◌, ◌∷◌, drop, false};
 ghost use Rattle.um_fine.specs.Places.{Todo};
 ghost use Rattle.um_processor.specs.{
-  Phases.{is_idle},
-  Processors.{UnlessMade},
-  Standing.{whole},
-  Turns.{TurnsAt, MayTurn},
+  Standing.{CleansNext, whole},
+  Turns.{CanTurn, HasStepped},
 };
 
 use crate::cleaning::MOST;
@@ -14,8 +11,9 @@ use crate::heap_act::HeapAct;
 use crate::here::Here;
 use crate::phase::Turn;
 use crate::processor::Processor;
+use crate::request::Request;
 use crate::row_act::RowAct;
-use crate::said::made;
+use crate::said::{made, took};
 use crate::sites::Sites;
 use um_base::{Addr, ROWS, Row, ThreadIx};
 use um_steps::rows::addr_of;
@@ -23,14 +21,10 @@ use um_steps::rows::addr_of;
 impl Processor {
     /// The permission of a thread that is gone is dropped at a row, where there is one. Where that row comes to cleaning, its object is to be cleaned too.
     pub fn clean_pair<S: Sites>(&mut self, here: &Here, who: u8, row: u8, sites: &mut S) -> Turn
-        requires sites { S.IsOf here.now.image.now sites.old }
-        requires runs { is_idle self.old.running.phase ≡ false }
-        requires first { self.old.cleans ≡ Todo.clean_pair who row ∷ drop 1 self.old.cleans }
-        requires goes { MayTurn S.Sites here.now.cpu here.now.image.now sites.old (whole self.old) }
-        ensures image { S.IsOf here.now.image.now sites.new }
-        ensures same { UnlessMade result (whole self.new ≡ whole self.old) }
-        ensures turn { TurnsAt S.Sites result here.now.cpu here.now.image.now sites.old sites.new
-            (whole self.old) (whole self.new) }
+        requires next { CleansNext self.old (Todo.clean_pair who row) }
+        requires goes { CanTurn S.Sites here.now sites.old (whole self.old) }
+        ensures turn { HasStepped S.Sites result here.now sites.old sites.new
+            (whole self.old) self.old self.new }
     {
         let x = row as usize;
         if x >= ROWS {
@@ -52,14 +46,10 @@ impl Processor {
 
     /// What the object of a row keeps is cleared.
     pub fn wipe<S: Sites>(&mut self, here: &Here, row: u8, sites: &mut S) -> Turn
-        requires sites { S.IsOf here.now.image.now sites.old }
-        requires runs { is_idle self.old.running.phase ≡ false }
-        requires first { self.old.cleans ≡ Todo.wipe row ∷ drop 1 self.old.cleans }
-        requires goes { MayTurn S.Sites here.now.cpu here.now.image.now sites.old (whole self.old) }
-        ensures image { S.IsOf here.now.image.now sites.new }
-        ensures same { UnlessMade result (whole self.new ≡ whole self.old) }
-        ensures turn { TurnsAt S.Sites result here.now.cpu here.now.image.now sites.old sites.new
-            (whole self.old) (whole self.new) }
+        requires next { CleansNext self.old (Todo.wipe row) }
+        requires goes { CanTurn S.Sites here.now sites.old (whole self.old) }
+        ensures turn { HasStepped S.Sites result here.now sites.old sites.new
+            (whole self.old) self.old self.new }
     {
         if row as usize >= ROWS {
             return Turn::Stuck;
@@ -72,33 +62,23 @@ impl Processor {
 
     /// The object leaves its row.
     pub fn vacate<S: Sites>(&mut self, here: &Here, row: u8, sites: &mut S) -> Turn
-        requires sites { S.IsOf here.now.image.now sites.old }
-        requires runs { is_idle self.old.running.phase ≡ false }
-        requires first { self.old.cleans ≡ Todo.vacate row ∷ drop 1 self.old.cleans }
-        requires goes { MayTurn S.Sites here.now.cpu here.now.image.now sites.old (whole self.old) }
-        ensures image { S.IsOf here.now.image.now sites.new }
-        ensures same { UnlessMade result (whole self.new ≡ whole self.old) }
-        ensures turn { TurnsAt S.Sites result here.now.cpu here.now.image.now sites.old sites.new
-            (whole self.old) (whole self.new) }
+        requires next { CleansNext self.old (Todo.vacate row) }
+        requires goes { CanTurn S.Sites here.now sites.old (whole self.old) }
+        ensures turn { HasStepped S.Sites result here.now sites.old sites.new
+            (whole self.old) self.old self.new }
     {
-        if row as usize >= ROWS {
-            return Turn::Stuck;
-        }
-        made!(sites.row(here, Row(row), &RowAct::Vacate));
+        let request = Request::Row(Row(row), RowAct::Vacate);
+        took!(request.make(here, sites));
         self.cleans.advance();
         Turn::Made
     }
 
     /// The object is recycled, and its pool gets back what it and its buffer cost.
     pub fn recycle<S: Sites>(&mut self, here: &Here, row: u8, sites: &mut S) -> Turn
-        requires sites { S.IsOf here.now.image.now sites.old }
-        requires runs { is_idle self.old.running.phase ≡ false }
-        requires first { self.old.cleans ≡ Todo.recycle row ∷ drop 1 self.old.cleans }
-        requires goes { MayTurn S.Sites here.now.cpu here.now.image.now sites.old (whole self.old) }
-        ensures image { S.IsOf here.now.image.now sites.new }
-        ensures same { UnlessMade result (whole self.new ≡ whole self.old) }
-        ensures turn { TurnsAt S.Sites result here.now.cpu here.now.image.now sites.old sites.new
-            (whole self.old) (whole self.new) }
+        requires next { CleansNext self.old (Todo.recycle row) }
+        requires goes { CanTurn S.Sites here.now sites.old (whole self.old) }
+        ensures turn { HasStepped S.Sites result here.now sites.old sites.new
+            (whole self.old) self.old self.new }
     {
         let act = HeapAct::Recycle {
             thread: self.running.thread(),

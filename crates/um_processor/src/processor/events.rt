@@ -1,20 +1,20 @@
 //! The event of a thread's next step, and what it leaves to be done before the next one.
 
-ghost use Rattle.std.specs.Prelude.{◌≡◌, [], drop, IsTrue};
+ghost use Rattle.std.specs.Prelude.{IsTrue};
 ghost use Rattle.um_machine.specs.Limits.{IsSound, is_sound_ask};
 ghost use Rattle.um_machine.specs.declared.pending.Pending.TheVariants as Pending;
 ghost use Rattle.um_processor.specs.{
   Events.{shows, parks, shows_next},
-  Processors.{UnlessMade},
-  Standing.{whole},
+  Standing.{IsClear},
   Subjects.{ends_claims, is_plain},
-  Turns.{TurnsAt, MayTurn},
+  Turns.{CanTurn, HasStepped},
 };
 
 use crate::here::Here;
 use crate::phase::Turn;
 use crate::processor::Processor;
 use crate::running::row_named;
+use crate::said::took;
 use crate::sites::Sites;
 use um_base::{Addr, Ask, ThreadIx};
 use um_machine::Pending;
@@ -22,32 +22,22 @@ use um_machine::Pending;
 impl Processor {
     /// The event of a step behind which the thread goes on, and no more is to be done before.
     fn show_plain<S: Sites>(&mut self, here: &Here, step: &Pending, sites: &mut S) -> Turn
-        requires sites { S.IsOf here.now.image.now sites.old }
         requires plain { IsTrue (is_plain step.now) }
-        requires cleans { self.old.cleans ≡ [] }
-        requires ends { self.old.ends.items ≡ [] }
-        requires woken { drop self.old.told self.old.outcome.woken ≡ [] }
-        requires goes { MayTurn S.Sites here.now.cpu here.now.image.now sites.old (shows step.now self.old.running) }
-        ensures image { S.IsOf here.now.image.now sites.new }
-        ensures same { UnlessMade result (whole self.new ≡ whole self.old) }
-        ensures turn { TurnsAt S.Sites result here.now.cpu here.now.image.now sites.old sites.new
-            (shows step.now self.old.running) (whole self.new) }
+        requires clear { IsClear self.old }
+        requires goes { CanTurn S.Sites here.now sites.old (shows step.now self.old.running) }
+        ensures turn { HasStepped S.Sites result here.now sites.old sites.new
+            (shows step.now self.old.running) self.old self.new }
     {
         self.running.show(here, step, sites)
     }
 
     /// The event of a step behind which claims end.
     fn show_with_ends<S: Sites>(&mut self, here: &Here, step: &Pending, sites: &mut S) -> Turn
-        requires sites { S.IsOf here.now.image.now sites.old }
         requires subject { IsTrue (ends_claims step.now) }
-        requires cleans { self.old.cleans ≡ [] }
-        requires ends { self.old.ends.items ≡ [] }
-        requires woken { drop self.old.told self.old.outcome.woken ≡ [] }
-        requires goes { MayTurn S.Sites here.now.cpu here.now.image.now sites.old (shows step.now self.old.running) }
-        ensures image { S.IsOf here.now.image.now sites.new }
-        ensures same { UnlessMade result (whole self.new ≡ whole self.old) }
-        ensures turn { TurnsAt S.Sites result here.now.cpu here.now.image.now sites.old sites.new
-            (shows step.now self.old.running) (whole self.new) }
+        requires clear { IsClear self.old }
+        requires goes { CanTurn S.Sites here.now sites.old (shows step.now self.old.running) }
+        ensures turn { HasStepped S.Sites result here.now sites.old sites.new
+            (shows step.now self.old.running) self.old self.new }
     {
         match step {
             Pending::Answer { reply, to } => self
@@ -65,39 +55,23 @@ impl Processor {
 
     /// The work of a call on the object at an address. The threads that it wakes are to be told.
     fn work<S: Sites>(&mut self, here: &Here, addr: Addr, ask: &Ask, sites: &mut S) -> Turn
-        requires sites { S.IsOf here.now.image.now sites.old }
         requires sound { IsTrue (is_sound_ask ask.now) }
-        requires cleans { self.old.cleans ≡ [] }
-        requires ends { self.old.ends.items ≡ [] }
-        requires woken { drop self.old.told self.old.outcome.woken ≡ [] }
-        requires goes { MayTurn S.Sites here.now.cpu here.now.image.now sites.old (shows (Pending.Work addr ask.now) self.old.running) }
-        ensures image { S.IsOf here.now.image.now sites.new }
-        ensures same { UnlessMade result (whole self.new ≡ whole self.old) }
-        ensures turn { TurnsAt S.Sites result here.now.cpu here.now.image.now sites.old sites.new
-            (shows (Pending.Work addr ask.now) self.old.running) (whole self.new) }
+        requires clear { IsClear self.old }
+        requires goes { CanTurn S.Sites here.now sites.old (shows (Pending.Work addr ask.now) self.old.running) }
+        ensures turn { HasStepped S.Sites result here.now sites.old sites.new
+            (shows (Pending.Work addr ask.now) self.old.running) self.old self.new }
     {
-        match self.running.work(here, addr, ask, &mut self.outcome, sites) {
-            Turn::Made => {
-                self.told = 0;
-                Turn::Made
-            }
-            Turn::Busy => Turn::Busy,
-            Turn::Changed => Turn::Changed,
-            Turn::Stuck => Turn::Stuck,
-        }
+        took!(self.running.work(here, addr, ask, &mut self.outcome, sites));
+        self.told = 0;
+        Turn::Made
     }
 
     /// The permission of a thread for the object at an address is taken away. Where its row comes to cleaning by that, the object is to be cleaned.
     fn take_away<S: Sites>(&mut self, here: &Here, who: ThreadIx, addr: Addr, sites: &mut S) -> Turn
-        requires sites { S.IsOf here.now.image.now sites.old }
-        requires cleans { self.old.cleans ≡ [] }
-        requires ends { self.old.ends.items ≡ [] }
-        requires woken { drop self.old.told self.old.outcome.woken ≡ [] }
-        requires goes { MayTurn S.Sites here.now.cpu here.now.image.now sites.old (shows (Pending.DropPair who addr) self.old.running) }
-        ensures image { S.IsOf here.now.image.now sites.new }
-        ensures same { UnlessMade result (whole self.new ≡ whole self.old) }
-        ensures turn { TurnsAt S.Sites result here.now.cpu here.now.image.now sites.old sites.new
-            (shows (Pending.DropPair who addr) self.old.running) (whole self.new) }
+        requires clear { IsClear self.old }
+        requires goes { CanTurn S.Sites here.now sites.old (shows (Pending.DropPair who addr) self.old.running) }
+        ensures turn { HasStepped S.Sites result here.now sites.old sites.new
+            (shows (Pending.DropPair who addr) self.old.running) self.old self.new }
     {
         let mut cleans = false;
         let turn = self.running.take_away(here, who, addr, &mut cleans, sites);
@@ -108,16 +82,11 @@ impl Processor {
 
     /// The event of a step, if it has one.
     fn show_step<S: Sites>(&mut self, here: &Here, step: &Pending, sites: &mut S) -> Turn
-        requires sites { S.IsOf here.now.image.now sites.old }
         requires sound { IsSound step.now }
-        requires cleans { self.old.cleans ≡ [] }
-        requires ends { self.old.ends.items ≡ [] }
-        requires woken { drop self.old.told self.old.outcome.woken ≡ [] }
-        requires goes { MayTurn S.Sites here.now.cpu here.now.image.now sites.old (shows step.now self.old.running) }
-        ensures image { S.IsOf here.now.image.now sites.new }
-        ensures same { UnlessMade result (whole self.new ≡ whole self.old) }
-        ensures turn { TurnsAt S.Sites result here.now.cpu here.now.image.now sites.old sites.new
-            (shows step.now self.old.running) (whole self.new) }
+        requires clear { IsClear self.old }
+        requires goes { CanTurn S.Sites here.now sites.old (shows step.now self.old.running) }
+        ensures turn { HasStepped S.Sites result here.now sites.old sites.new
+            (shows step.now self.old.running) self.old self.new }
     {
         match step {
             Pending::Begin | Pending::Exit => unreachable!(),
@@ -133,30 +102,20 @@ impl Processor {
 
     /// The thread is put back.
     fn park<S: Sites>(&mut self, here: &Here, sites: &mut S) -> Turn
-        requires sites { S.IsOf here.now.image.now sites.old }
-        requires cleans { self.old.cleans ≡ [] }
-        requires ends { self.old.ends.items ≡ [] }
-        requires woken { drop self.old.told self.old.outcome.woken ≡ [] }
-        requires goes { MayTurn S.Sites here.now.cpu here.now.image.now sites.old (parks self.old.running) }
-        ensures image { S.IsOf here.now.image.now sites.new }
-        ensures same { UnlessMade result (whole self.new ≡ whole self.old) }
-        ensures turn { TurnsAt S.Sites result here.now.cpu here.now.image.now sites.old sites.new
-            (parks self.old.running) (whole self.new) }
+        requires clear { IsClear self.old }
+        requires goes { CanTurn S.Sites here.now sites.old (parks self.old.running) }
+        ensures turn { HasStepped S.Sites result here.now sites.old sites.new
+            (parks self.old.running) self.old self.new }
     {
         self.running.park(here, sites)
     }
 
     /// The event of the thread's next step. Where it has none, it is put back.
     pub fn show<S: Sites>(&mut self, here: &Here, sites: &mut S) -> Turn
-        requires sites { S.IsOf here.now.image.now sites.old }
-        requires cleans { self.old.cleans ≡ [] }
-        requires ends { self.old.ends.items ≡ [] }
-        requires woken { drop self.old.told self.old.outcome.woken ≡ [] }
-        requires goes { MayTurn S.Sites here.now.cpu here.now.image.now sites.old (shows_next self.old.running) }
-        ensures image { S.IsOf here.now.image.now sites.new }
-        ensures same { UnlessMade result (whole self.new ≡ whole self.old) }
-        ensures turn { TurnsAt S.Sites result here.now.cpu here.now.image.now sites.old sites.new
-            (shows_next self.old.running) (whole self.new) }
+        requires clear { IsClear self.old }
+        requires goes { CanTurn S.Sites here.now sites.old (shows_next self.old.running) }
+        ensures turn { HasStepped S.Sites result here.now sites.old sites.new
+            (shows_next self.old.running) self.old self.new }
     {
         match self.running.next_step() {
             None => self.park(here, sites),

@@ -1,13 +1,13 @@
 //! A step of a processor, whatever it is.
 
-ghost use Rattle.std.specs.Prelude.{◌≡◌, ◌∷◌, [], drop, false, true, IsTrue};
+ghost use Rattle.std.specs.Prelude.{◌≡◌, [], false, true, IsTrue};
 ghost use Rattle.um_steps.specs.Given.{IsGiven};
 ghost use Rattle.um_processor.specs.{
   Cleanings.{clean_todo},
   Phases.{is_idle, is_plain_phase},
   Processors.{UnlessMade, in_phase},
-  Standing.{whole},
-  Turns.{TurnsAt, MayTurn},
+  Standing.{CleansNext, IsClear, whole},
+  Turns.{CanTurn, HasStepped, MayTurn, TurnsAt},
 };
 ghost use Rattle.um_processor.specs.declared.phase.Phase.TheVariants as Phase;
 
@@ -15,6 +15,7 @@ use crate::cleaning::CleanStep;
 use crate::here::Here;
 use crate::phase::{Phase, Turn};
 use crate::processor::Processor;
+use crate::said::took;
 use crate::sites::Sites;
 use um_base::Image;
 
@@ -22,9 +23,7 @@ impl Processor {
     /// Nothing stands before its thread's next step any longer.
     #[tactic(auto, using(std::proofs::lemmas::List::drop_all))]
     fn clears(&mut self)
-        ensures cleans { self.new.cleans ≡ [] }
-        ensures ends { self.new.ends.items ≡ [] }
-        ensures woken { drop self.new.told self.new.outcome.woken ≡ [] }
+        ensures clear { IsClear self.new }
         ensures running { self.new.running ≡ self.old.running }
     {
         self.cleans.clear();
@@ -34,35 +33,22 @@ impl Processor {
 
     /// The first ready thread is taken.
     fn take<S: Sites>(&mut self, here: &Here, sites: &mut S) -> Turn
-        requires sites { S.IsOf here.now.image.now sites.old }
         requires idle { is_idle self.old.running.phase ≡ true }
-        requires goes { MayTurn S.Sites here.now.cpu here.now.image.now sites.old (whole self.old) }
-        ensures image { S.IsOf here.now.image.now sites.new }
-        ensures same { UnlessMade result (whole self.new ≡ whole self.old) }
-        ensures turn { TurnsAt S.Sites result here.now.cpu here.now.image.now sites.old sites.new
-            (whole self.old) (whole self.new) }
+        requires goes { CanTurn S.Sites here.now sites.old (whole self.old) }
+        ensures turn { HasStepped S.Sites result here.now sites.old sites.new
+            (whole self.old) self.old self.new }
     {
-        match self.running.take(here, sites) {
-            Turn::Made => {
-                self.clears();
-                Turn::Made
-            }
-            Turn::Busy => Turn::Busy,
-            Turn::Changed => Turn::Changed,
-            Turn::Stuck => Turn::Stuck,
-        }
+        took!(self.running.take(here, sites));
+        self.clears();
+        Turn::Made
     }
 
     /// A step of cleaning.
     fn clean<S: Sites>(&mut self, here: &Here, step: CleanStep, sites: &mut S) -> Turn
-        requires sites { S.IsOf here.now.image.now sites.old }
-        requires runs { is_idle self.old.running.phase ≡ false }
-        requires first { self.old.cleans ≡ clean_todo step ∷ drop 1 self.old.cleans }
-        requires goes { MayTurn S.Sites here.now.cpu here.now.image.now sites.old (whole self.old) }
-        ensures image { S.IsOf here.now.image.now sites.new }
-        ensures same { UnlessMade result (whole self.new ≡ whole self.old) }
-        ensures turn { TurnsAt S.Sites result here.now.cpu here.now.image.now sites.old sites.new
-            (whole self.old) (whole self.new) }
+        requires next { CleansNext self.old (clean_todo step) }
+        requires goes { CanTurn S.Sites here.now sites.old (whole self.old) }
+        ensures turn { HasStepped S.Sites result here.now sites.old sites.new
+            (whole self.old) self.old self.new }
     {
         match step {
             CleanStep::Pair { who, row } => self.clean_pair(here, who, row, sites),
@@ -74,30 +60,20 @@ impl Processor {
 
     /// The thread exits after its last line.
     fn exit<S: Sites>(&mut self, here: &Here, sites: &mut S) -> Turn
-        requires sites { S.IsOf here.now.image.now sites.old }
-        requires cleans { self.old.cleans ≡ [] }
-        requires ends { self.old.ends.items ≡ [] }
-        requires woken { drop self.old.told self.old.outcome.woken ≡ [] }
-        requires goes { MayTurn S.Sites here.now.cpu here.now.image.now sites.old (in_phase Phase.Exit self.old.running) }
-        ensures image { S.IsOf here.now.image.now sites.new }
-        ensures same { UnlessMade result (whole self.new ≡ whole self.old) }
-        ensures turn { TurnsAt S.Sites result here.now.cpu here.now.image.now sites.old sites.new
-            (in_phase Phase.Exit self.old.running) (whole self.new) }
+        requires clear { IsClear self.old }
+        requires goes { CanTurn S.Sites here.now sites.old (in_phase Phase.Exit self.old.running) }
+        ensures turn { HasStepped S.Sites result here.now sites.old sites.new
+            (in_phase Phase.Exit self.old.running) self.old self.new }
     {
         self.running.exit(here, &mut self.ends, sites)
     }
 
     /// A row is visited to drop its permission. Where it comes to cleaning by that, its object is to be cleaned.
     fn drop_permission<S: Sites>(&mut self, here: &Here, sites: &mut S) -> Turn
-        requires sites { S.IsOf here.now.image.now sites.old }
-        requires cleans { self.old.cleans ≡ [] }
-        requires ends { self.old.ends.items ≡ [] }
-        requires woken { drop self.old.told self.old.outcome.woken ≡ [] }
-        requires goes { MayTurn S.Sites here.now.cpu here.now.image.now sites.old (in_phase Phase.Drop self.old.running) }
-        ensures image { S.IsOf here.now.image.now sites.new }
-        ensures same { UnlessMade result (whole self.new ≡ whole self.old) }
-        ensures turn { TurnsAt S.Sites result here.now.cpu here.now.image.now sites.old sites.new
-            (in_phase Phase.Drop self.old.running) (whole self.new) }
+        requires clear { IsClear self.old }
+        requires goes { CanTurn S.Sites here.now sites.old (in_phase Phase.Drop self.old.running) }
+        ensures turn { HasStepped S.Sites result here.now sites.old sites.new
+            (in_phase Phase.Drop self.old.running) self.old self.new }
     {
         let row = self.running.row();
         let mut cleans = false;
@@ -108,34 +84,24 @@ impl Processor {
 
     /// A step behind which no more is to be done before the next one.
     fn go_plain<S: Sites>(&mut self, here: &Here, sites: &mut S) -> Turn
-        requires sites { S.IsOf here.now.image.now sites.old }
         requires given { IsGiven here.now.image.now }
         requires plain { IsTrue (is_plain_phase self.old.running.phase) }
-        requires cleans { self.old.cleans ≡ [] }
-        requires ends { self.old.ends.items ≡ [] }
-        requires woken { drop self.old.told self.old.outcome.woken ≡ [] }
-        requires goes { MayTurn S.Sites here.now.cpu here.now.image.now sites.old (whole self.old) }
-        ensures image { S.IsOf here.now.image.now sites.new }
-        ensures same { UnlessMade result (whole self.new ≡ whole self.old) }
-        ensures turn { TurnsAt S.Sites result here.now.cpu here.now.image.now sites.old sites.new
-            (whole self.old) (whole self.new) }
+        requires clear { IsClear self.old }
+        requires goes { CanTurn S.Sites here.now sites.old (whole self.old) }
+        ensures turn { HasStepped S.Sites result here.now sites.old sites.new
+            (whole self.old) self.old self.new }
     {
         self.running.go(here, sites)
     }
 
     /// The thread's next step, in whatever phase it is.
     fn go<S: Sites>(&mut self, here: &Here, sites: &mut S) -> Turn
-        requires sites { S.IsOf here.now.image.now sites.old }
         requires given { IsGiven here.now.image.now }
         requires runs { is_idle self.old.running.phase ≡ false }
-        requires cleans { self.old.cleans ≡ [] }
-        requires ends { self.old.ends.items ≡ [] }
-        requires woken { drop self.old.told self.old.outcome.woken ≡ [] }
-        requires goes { MayTurn S.Sites here.now.cpu here.now.image.now sites.old (whole self.old) }
-        ensures image { S.IsOf here.now.image.now sites.new }
-        ensures same { UnlessMade result (whole self.new ≡ whole self.old) }
-        ensures turn { TurnsAt S.Sites result here.now.cpu here.now.image.now sites.old sites.new
-            (whole self.old) (whole self.new) }
+        requires clear { IsClear self.old }
+        requires goes { CanTurn S.Sites here.now sites.old (whole self.old) }
+        ensures turn { HasStepped S.Sites result here.now sites.old sites.new
+            (whole self.old) self.old self.new }
     {
         match self.running.phase() {
             Phase::Access => self.show(here, sites),
@@ -150,15 +116,12 @@ impl Processor {
     /// The next step where no object is to be cleaned.
     #[tactic(auto, using(crate::proofs::Lifted::none_left, std::proofs::lemmas::List::drop_all))]
     fn step_behind<S: Sites>(&mut self, here: &Here, sites: &mut S) -> Turn
-        requires sites { S.IsOf here.now.image.now sites.old }
         requires given { IsGiven here.now.image.now }
         requires runs { is_idle self.old.running.phase ≡ false }
         requires cleans { self.old.cleans ≡ [] }
-        requires goes { MayTurn S.Sites here.now.cpu here.now.image.now sites.old (whole self.old) }
-        ensures image { S.IsOf here.now.image.now sites.new }
-        ensures same { UnlessMade result (whole self.new ≡ whole self.old) }
-        ensures turn { TurnsAt S.Sites result here.now.cpu here.now.image.now sites.old sites.new
-            (whole self.old) (whole self.new) }
+        requires goes { CanTurn S.Sites here.now sites.old (whole self.old) }
+        ensures turn { HasStepped S.Sites result here.now sites.old sites.new
+            (whole self.old) self.old self.new }
     {
         if self.ends.len() > 0 {
             return self.end_call(here, sites);

@@ -5,7 +5,8 @@ ghost use Rattle.um_fine.specs.Processor.{is_of, key_of, same_key};
 ghost use Rattle.um_machine.specs.State.{is_user};
 ghost use Rattle.um_processor.specs.{
   Parked.{some_if},
-  Processors.{in_phase},
+  Processors.{in_phase, processor_of},
+  Requests.{Holds},
   Turns.{CanTurn, HasRun},
 };
 
@@ -75,15 +76,16 @@ impl Running {
     }
 
     /// The thread is held, and its domain known.
-    pub fn hold<S: Sites>(&mut self, here: &Here, sites: &mut S) -> Turn
-        requires goes { CanTurn S.Sites here.now sites.old (in_phase Phase.Hold self.old) }
+    pub fn hold<S: Sites>(&mut self, here: &Here, next: Phase, sites: &mut S) -> Turn
+        requires holds { Holds here.now.cpu here.now.image.now self.old next }
+        requires goes { CanTurn S.Sites here.now sites.old (processor_of self.old) }
         ensures turn { HasRun S.Sites result here.now sites.old sites.new
-            (in_phase Phase.Hold self.old) self.old self.new }
+            (processor_of self.old) self.old self.new }
     {
         let thread = self.thread();
         let word = made!(sites.thread(here, thread, &ThreadAct::Hold));
         self.domain = word.domain;
-        self.phase = Phase::ReadClaim;
+        self.phase = next;
         Turn::Made
     }
 
@@ -120,32 +122,6 @@ impl Running {
         self.table.key = self.key();
         self.loaded = true;
         self.phase = Phase::Access;
-        Turn::Made
-    }
-
-    /// The claim of the domain ends.
-    pub fn end_read<S: Sites>(&mut self, here: &Here, sites: &mut S) -> Turn
-        requires goes { CanTurn S.Sites here.now sites.old (in_phase Phase.ReadDone self.old) }
-        ensures turn { HasRun S.Sites result here.now sites.old sites.new
-            (in_phase Phase.ReadDone self.old) self.old self.new }
-    {
-        if self.domain as usize >= DOMAINS {
-            return Turn::Stuck;
-        }
-        made!(sites.domain(here, self.domain, &DomainAct::ReadDone));
-        self.phase = Phase::LetGo;
-        Turn::Made
-    }
-
-    /// The thread is let go.
-    pub fn let_go<S: Sites>(&mut self, here: &Here, sites: &mut S) -> Turn
-        requires goes { CanTurn S.Sites here.now sites.old (in_phase Phase.LetGo self.old) }
-        ensures turn { HasRun S.Sites result here.now sites.old sites.new
-            (in_phase Phase.LetGo self.old) self.old self.new }
-    {
-        let thread = self.thread();
-        made!(sites.thread(here, thread, &ThreadAct::LetGo));
-        self.expands(here.image);
         Turn::Made
     }
 }

@@ -1,13 +1,11 @@
 //! A call's checks and its answer.
 
-ghost use Rattle.std.specs.Prelude.{◌≡◌, ◌<◌, [], false, length, Some, None};
+ghost use Rattle.std.specs.Prelude.{◌≡◌, ◌<◌, [], length, Some, None};
 ghost use Rattle.um_base.specs.{declared.limits.TheConstants.{ROWS}, Places.{row_at}};
 ghost use Rattle.um_machine.specs.declared.pending.Pending.TheVariants as Pending;
 ghost use Rattle.um_processor.specs.{
-  Events.{shows, with_ends},
-  Phases.{is_idle},
-  Processors.{OnMade, UnlessMade, processor_of},
-  Turns.{CanTurn, HasRun, TurnsAt},
+  Events.{check_for, shows},
+  Turns.{CanTurn, HasEnded, HasRun},
 };
 
 use crate::here::Here;
@@ -24,6 +22,15 @@ use um_machine::Refusal;
 use um_steps::kinds::has_kind;
 use um_steps::rows::row_at;
 
+/// The object that a call looks for, and what comes where it isn't there.
+#[derive(Clone, Copy)]
+pub struct Wanted {
+    pub addr: Addr,
+    pub kind: Option<Kind>,
+    pub want: Want,
+    pub refusal: Refusal,
+}
+
 impl Running {
     /// The call answers. Its claims are to end.
     pub fn answer<S: Sites>(
@@ -36,13 +43,8 @@ impl Running {
     ) -> Turn
         requires none { ends.old.items ≡ [] }
         requires goes { CanTurn S.Sites here.now sites.old (shows (Pending.Answer reply to) self.old) }
-        ensures image { S.IsOf here.now.image.now sites.new }
-        ensures ends { UnlessMade result (ends.new.items ≡ ends.old.items) }
-        ensures same { UnlessMade result (processor_of self.new ≡ processor_of self.old) }
-        ensures runs { OnMade result (is_idle self.new.phase ≡ false) }
-        ensures turn { TurnsAt S.Sites result here.now.cpu here.now.image.now sites.old sites.new
-            (shows (Pending.Answer reply to) self.old)
-            (with_ends ends.new.items (processor_of self.new)) }
+        ensures ends { HasEnded S.Sites result here.now sites.old sites.new
+            (shows (Pending.Answer reply to) self.old) self.old self.new ends.old.items ends.new.items }
     {
         let thread = self.thread();
         let said = self.context.reply_of(here.image, reply);
@@ -59,91 +61,70 @@ impl Running {
     }
 
     /// An address is checked where an object may stand.
-    fn check_row<S: Sites>(
-        &mut self,
-        here: &Here,
-        row: Row,
-        addr: Addr,
-        kind: Option<Kind>,
-        want: Want,
-        refusal: Refusal,
-        sites: &mut S,
-    ) -> Turn
-        requires row { row_at here.now.image.now addr.0 ≡ Some row.0 }
+    fn check_row<S: Sites>(&mut self, here: &Here, row: Row, wanted: &Wanted, sites: &mut S) -> Turn
+        requires row { row_at here.now.image.now wanted.now.addr.0 ≡ Some row.0 }
         requires small { row.0 < ROWS }
         requires room { length self.old.context.value.claims < 2 }
-        requires goes { CanTurn S.Sites here.now sites.old (shows (Pending.Check addr kind want refusal) self.old) }
+        requires goes { CanTurn S.Sites here.now sites.old (shows (check_for wanted.now) self.old) }
         ensures turn { HasRun S.Sites result here.now sites.old sites.new
-            (shows (Pending.Check addr kind want refusal) self.old) self.old self.new }
+            (shows (check_for wanted.now) self.old) self.old self.new }
     {
         let act = RowAct::Check {
             thread: ThreadIx(self.context.thread()),
-            addr,
-            kind,
-            want,
+            addr: wanted.addr,
+            kind: wanted.kind,
+            want: wanted.want,
             mode: self.context.mode(),
-            fits: has_kind(kind, kind_of(here.image, row.0 as usize)),
+            fits: has_kind(wanted.kind, kind_of(here.image, row.0 as usize)),
         };
         let said = made!(sites.row(here, row, &act));
         let taken = self.taken();
-        self.context
-            .checks(here.image, addr, refusal, said.verdict, taken);
+        self.context.checks(here.image, wanted.addr, wanted.refusal, said.verdict, taken);
         self.leaves(here.image);
         Turn::Made
     }
 
     /// An address is checked where no object can stand.
-    fn check_nothing<S: Sites>(
-        &mut self,
-        here: &Here,
-        addr: Addr,
-        kind: Option<Kind>,
-        want: Want,
-        refusal: Refusal,
-        sites: &mut S,
-    ) -> Turn
-        requires row { row_at here.now.image.now addr.0 ≡ None }
+    fn check_nothing<S: Sites>(&mut self, here: &Here, wanted: &Wanted, sites: &mut S) -> Turn
+        requires row { row_at here.now.image.now wanted.now.addr.0 ≡ None }
         requires room { length self.old.context.value.claims < 2 }
-        requires goes { CanTurn S.Sites here.now sites.old (shows (Pending.Check addr kind want refusal) self.old) }
+        requires goes { CanTurn S.Sites here.now sites.old (shows (check_for wanted.now) self.old) }
         ensures turn { HasRun S.Sites result here.now sites.old sites.new
-            (shows (Pending.Check addr kind want refusal) self.old) self.old self.new }
+            (shows (check_for wanted.now) self.old) self.old self.new }
     {
         let thread = self.thread();
         let act = ThreadAct::Miss {
             thread,
-            addr,
-            kind,
-            want,
+            addr: wanted.addr,
+            kind: wanted.kind,
+            want: wanted.want,
             mode: self.context.mode(),
         };
         made!(sites.thread(here, thread, &act));
         let taken = self.taken();
-        self.context
-            .checks(here.image, addr, refusal, Some(Errno::EBADF), taken);
+        self.context.checks(
+            here.image,
+            wanted.addr,
+            wanted.refusal,
+            Some(Errno::EBADF),
+            taken,
+        );
         self.leaves(here.image);
         Turn::Made
     }
 
     /// An object is looked for, which the call holds where it passes the check.
-    pub fn check<S: Sites>(
-        &mut self,
-        here: &Here,
-        addr: Addr,
-        kind: Option<Kind>,
-        want: Want,
-        refusal: Refusal,
-        sites: &mut S,
-    ) -> Turn
-        requires goes { CanTurn S.Sites here.now sites.old (shows (Pending.Check addr kind want refusal) self.old) }
+    pub fn check<S: Sites>(&mut self, here: &Here, wanted: &Wanted, sites: &mut S) -> Turn
+        requires goes { CanTurn S.Sites here.now sites.old (shows (check_for wanted.now) self.old) }
         ensures turn { HasRun S.Sites result here.now sites.old sites.new
-            (shows (Pending.Check addr kind want refusal) self.old) self.old self.new }
+            (shows (check_for wanted.now) self.old) self.old self.new }
     {
         if !self.context.has_room() {
             return Turn::Stuck;
         }
-        match row_at(here.image, addr.0) {
-            None => self.check_nothing(here, addr, kind, want, refusal, sites),
-            Some(x) => self.check_row(here, Row(x as u8), addr, kind, want, refusal, sites),
+        match row_at(here.image, wanted.addr.0) {
+            None => self.check_nothing(here, wanted, sites),
+            Some(x) => self.check_row(here, Row(x as u8), wanted, sites),
         }
     }
 }

@@ -21,42 +21,13 @@ use um_machine::Amount;
 
 impl Running {
     /// The number of bytes of a copy.
-    fn amount(&self, image: &Image, of: &Amount) -> u32
+    pub fn amount(&self, image: &Image, of: &Amount) -> u32
         ensures { result ≡ amount image.now (in_phase Phase.Park self.now) of.now }
     {
         match of {
             Amount::Bytes(n) => *n,
             Amount::MessageOf(_) => self.size,
         }
-    }
-
-    /// Whether so many bytes may be written is looked at.
-    pub fn probe<S: Sites>(
-        &mut self,
-        here: &Here,
-        addr: Addr,
-        amount: &Amount,
-        sites: &mut S,
-    ) -> Turn
-        requires goes { CanTurn S.Sites here.now sites.old (shows (Pending.Probe addr amount.now) self.old) }
-        ensures turn { HasRun S.Sites result here.now sites.old sites.new
-            (shows (Pending.Probe addr amount.now) self.old) self.old self.new }
-    {
-        let thread = self.thread();
-        let size = self.amount(here.image, amount);
-        let fits = self.allows(here.image, Access::Write, addr.0, size);
-        let act = MemoryAct::Probe {
-            thread,
-            addr,
-            size,
-            fits,
-        };
-        let mut none = Piece::new();
-        made!(sites.memory(here, &act, &mut none));
-        let taken = self.taken();
-        self.context.copies_out(here.image, fits, taken);
-        self.leaves(here.image);
-        Turn::Made
     }
 
     /// Bytes are copied from memory, where that is allowed.

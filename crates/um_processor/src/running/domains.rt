@@ -16,21 +16,6 @@ use crate::sites::Sites;
 use um_base::{DOMAINS, Errno, Reply};
 
 impl Running {
-    /// The domain of a call is claimed to be edited.
-    pub fn claim_to_write<S: Sites>(&mut self, here: &Here, sites: &mut S) -> Turn
-        requires goes { CanTurn S.Sites here.now sites.old (in_phase Phase.WriteClaim self.old) }
-        ensures turn { HasRun S.Sites result here.now sites.old sites.new
-            (in_phase Phase.WriteClaim self.old) self.old self.new }
-    {
-        let domain = domain_named(&self.step());
-        if domain as usize >= DOMAINS {
-            return Turn::Stuck;
-        }
-        made!(sites.domain(here, domain, &DomainAct::WriteClaim));
-        self.phase = Phase::Edit;
-        Turn::Made
-    }
-
     /// Its partitions become what the call makes of them.
     pub fn edit<S: Sites>(&mut self, here: &Here, sites: &mut S) -> Turn
         requires goes { CanTurn S.Sites here.now sites.old (in_phase Phase.Edit self.old) }
@@ -66,21 +51,6 @@ impl Running {
             self.reply = Reply::Fail(Errno::EINVAL);
             self.phase = Phase::Show;
         }
-        Turn::Made
-    }
-
-    /// The claim of the domain to which a thread moves ends.
-    pub fn end_move<S: Sites>(&mut self, here: &Here, sites: &mut S) -> Turn
-        requires goes { CanTurn S.Sites here.now sites.old (in_phase Phase.MoveDone self.old) }
-        ensures turn { HasRun S.Sites result here.now sites.old sites.new
-            (in_phase Phase.MoveDone self.old) self.old self.new }
-    {
-        let domain = domain_named(&self.step());
-        if domain as usize >= DOMAINS {
-            return Turn::Stuck;
-        }
-        made!(sites.domain(here, domain, &DomainAct::ReadDone));
-        self.phase = Phase::Show;
         Turn::Made
     }
 }

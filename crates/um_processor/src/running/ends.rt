@@ -5,8 +5,8 @@ ghost use Rattle.um_machine.specs.declared.pending.Pending.TheVariants as Pendin
 ghost use Rattle.um_processor.specs.{
   Events.{shows, with_ends},
   Phases.{is_idle},
-  Processors.{OnMade, UnlessMade, cleaned, in_phase, processor_of},
-  Turns.{CanTurn, HasRun, TurnsAt},
+  Processors.{OnMade, UnlessMade, in_phase, processor_of},
+  Turns.{CanTurn, HasCleaned, HasEnded, TurnsAt},
 };
 ghost use Rattle.um_fine.specs.Addresses.{row_named};
 
@@ -19,7 +19,7 @@ use crate::said::made;
 use crate::sites::Sites;
 use crate::thread_act::ThreadAct;
 use arrayvec::ArrayVec;
-use um_base::{Addr, Cause, Row, THREADS, ThreadIx};
+use um_base::{Addr, Cause, Row, ThreadIx};
 
 impl Running {
     /// The thread exits after its last line, unless it is doomed. The claims of its call are to end.
@@ -56,13 +56,8 @@ impl Running {
     ) -> Turn
         requires none { ends.old.items ≡ [] }
         requires goes { CanTurn S.Sites here.now sites.old (shows (Pending.Fatal reason cause) self.old) }
-        ensures image { S.IsOf here.now.image.now sites.new }
-        ensures ends { UnlessMade result (ends.new.items ≡ ends.old.items) }
-        ensures same { UnlessMade result (processor_of self.new ≡ processor_of self.old) }
-        ensures runs { OnMade result (is_idle self.new.phase ≡ false) }
-        ensures turn { TurnsAt S.Sites result here.now.cpu here.now.image.now sites.old sites.new
-            (shows (Pending.Fatal reason cause) self.old)
-            (with_ends ends.new.items (processor_of self.new)) }
+        ensures ends { HasEnded S.Sites result here.now sites.old sites.new
+            (shows (Pending.Fatal reason cause) self.old) self.old self.new ends.old.items ends.new.items }
     {
         let thread = self.thread();
         let act = ThreadAct::Fatal {
@@ -77,23 +72,6 @@ impl Running {
         Turn::Made
     }
 
-    /// A thread index is doomed.
-    pub fn doom<S: Sites>(&mut self, here: &Here, from: u8, sites: &mut S) -> Turn
-        requires goes { CanTurn S.Sites here.now sites.old (shows (Pending.Dooms from) self.old) }
-        ensures turn { HasRun S.Sites result here.now sites.old sites.new
-            (shows (Pending.Dooms from) self.old) self.old self.new }
-    {
-        if from as usize >= THREADS {
-            return Turn::Stuck;
-        }
-        let who = ThreadIx(from);
-        let thread = self.thread();
-        made!(sites.thread(here, who, &ThreadAct::Doom { thread, who }));
-        self.context.dooms(from);
-        self.leaves(here.image);
-        Turn::Made
-    }
-
     /// The permission of a thread for the object at an address is taken away. Answers in `cleans` whether the row came to cleaning.
     pub fn take_away<S: Sites>(
         &mut self,
@@ -104,13 +82,8 @@ impl Running {
         sites: &mut S,
     ) -> Turn
         requires goes { CanTurn S.Sites here.now sites.old (shows (Pending.DropPair who addr) self.old) }
-        ensures image { S.IsOf here.now.image.now sites.new }
-        ensures cleans { UnlessMade result (cleans.new ≡ cleans.old) }
-        ensures same { UnlessMade result (processor_of self.new ≡ processor_of self.old) }
-        ensures runs { OnMade result (is_idle self.new.phase ≡ false) }
-        ensures turn { TurnsAt S.Sites result here.now.cpu here.now.image.now sites.old sites.new
-            (shows (Pending.DropPair who addr) self.old)
-            (cleaned here.now.image.now (row_named here.now.image.now addr) cleans.new (processor_of self.new)) }
+        ensures cleans { HasCleaned S.Sites result here.now sites.old sites.new
+            (shows (Pending.DropPair who addr) self.old) self.old self.new (row_named here.now.image.now addr) cleans.old cleans.new }
     {
         let row = Row(row_named(here.image, addr));
         let thread = self.thread();

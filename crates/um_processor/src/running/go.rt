@@ -3,17 +3,28 @@
 ghost use Rattle.std.specs.Prelude.{◌≡◌, IsTrue};
 ghost use Rattle.um_steps.specs.Given.{IsGiven};
 ghost use Rattle.um_processor.specs.{
-  Phases.{is_plain_phase},
+  Phases.{domain_named, first_of, is_plain_phase, steps_behind},
   Processors.{processor_of},
   Turns.{CanTurn, HasRun},
 };
 
+use crate::domain_act::DomainAct;
 use crate::here::Here;
 use crate::phase::{Phase, Turn};
+use crate::request::{Onward, Request};
 use crate::running::Running;
+use crate::running::next::domain_named;
 use crate::sites::Sites;
+use crate::thread_act::ThreadAct;
 
 impl Running {
+    /// The domain that its call names.
+    fn named(&self) -> u8
+        ensures { result ≡ domain_named (first_of (steps_behind self.now.visited self.now.context.value.pending)) }
+    {
+        domain_named(&self.step())
+    }
+
     /// A step behind which no more is to be done before the next one.
     pub fn go<S: Sites>(&mut self, here: &Here, sites: &mut S) -> Turn
         requires given { IsGiven here.now.image.now }
@@ -26,20 +37,35 @@ impl Running {
             Phase::Begin => self.begin(here, sites),
             Phase::Pass => self.pass(here, sites),
             Phase::SizeLook => self.look_at_size(here, sites),
-            Phase::Hold => self.hold(here, sites),
+            Phase::Hold => self.hold(here, Phase::ReadClaim, sites),
             Phase::ReadClaim => self.claim_to_read(here, sites),
             Phase::RegionLoad => self.load_regions(here, sites),
-            Phase::ReadDone => self.end_read(here, sites),
-            Phase::LetGo => self.let_go(here, sites),
-            Phase::WriteClaim => self.claim_to_write(here, sites),
             Phase::Edit => self.edit(here, sites),
             Phase::MoveClaim => self.claim_to_move(here, sites),
-            Phase::MoveDone => self.end_move(here, sites),
-            Phase::StartHold => self.hold_creator(here, sites),
-            Phase::StartLetGo => self.let_creator_go(here, sites),
+            Phase::StartHold => self.hold(here, Phase::Start, sites),
             Phase::Add => self.add(here, sites),
             Phase::Park => self.park(here, sites),
             Phase::Done => self.finish(here, sites),
+            Phase::ReadDone => {
+                let request = Request::Domain(self.domain, DomainAct::ReadDone);
+                self.ask(here, &request, Onward::To(Phase::LetGo), sites)
+            }
+            Phase::LetGo => {
+                let request = Request::Thread(self.thread(), ThreadAct::LetGo);
+                self.ask(here, &request, Onward::Expands, sites)
+            }
+            Phase::WriteClaim => {
+                let request = Request::Domain(self.named(), DomainAct::WriteClaim);
+                self.ask(here, &request, Onward::To(Phase::Edit), sites)
+            }
+            Phase::MoveDone => {
+                let request = Request::Domain(self.named(), DomainAct::ReadDone);
+                self.ask(here, &request, Onward::To(Phase::Show), sites)
+            }
+            Phase::StartLetGo => {
+                let request = Request::Thread(self.thread(), ThreadAct::LetGo);
+                self.ask(here, &request, Onward::To(Phase::Add), sites)
+            }
             _ => unreachable!(),
         }
     }

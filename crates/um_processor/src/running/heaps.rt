@@ -1,4 +1,4 @@
-//! The events at the heap, and the way to user mode.
+//! The events at the heap.
 
 ghost use Rattle.std.specs.Prelude.{◌≡◌};
 ghost use Rattle.um_base.specs.declared.names.Errno.TheVariants as Errno;
@@ -17,7 +17,6 @@ use crate::phase::Turn;
 use crate::running::Running;
 use crate::said::made;
 use crate::sites::Sites;
-use crate::thread_act::ThreadAct;
 use um_base::{Addr, Image, Kind};
 use um_steps::costs::cost_of;
 
@@ -38,20 +37,6 @@ impl Running {
         let taken = self.taken();
         self.context.buffers(image, fits, taken);
         self.leaves(image);
-    }
-
-    /// The thread goes to user mode for good.
-    pub fn enter_user<S: Sites>(&mut self, here: &Here, script: u8, sites: &mut S) -> Turn
-        requires goes { CanTurn S.Sites here.now sites.old (shows (Pending.EnterUser script) self.old) }
-        ensures turn { HasRun S.Sites result here.now sites.old sites.new
-            (shows (Pending.EnterUser script) self.old) self.old self.new }
-    {
-        let thread = self.thread();
-        let act = ThreadAct::EnterUser { thread };
-        made!(sites.thread(here, thread, &act));
-        self.context.enters_user(here.image, script);
-        self.leaves(here.image);
-        Turn::Made
     }
 
     /// An address for a new object of this kind is asked for.

@@ -1,13 +1,12 @@
 //! The events by which objects are marked as initialised or not.
 
-ghost use Rattle.std.specs.Prelude.{◌≡◌, [], false};
+ghost use Rattle.std.specs.Prelude.{◌≡◌, []};
 ghost use Rattle.um_fine.specs.Continues.{after_set};
 ghost use Rattle.um_machine.specs.declared.pending.Pending.TheVariants as Pending;
 ghost use Rattle.um_processor.specs.{
-  Events.{shows, behind_event, rest_of, with_ends},
-  Phases.{is_idle},
-  Processors.{OnMade, UnlessMade, processor_of},
-  Turns.{CanTurn, HasRun, TurnsAt},
+  Events.{shows, behind_event, rest_of},
+  Processors.{processor_of},
+  Turns.{CanTurn, HasEnded, HasRun},
 };
 
 use crate::here::Here;
@@ -66,13 +65,8 @@ impl Running {
     ) -> Turn
         requires none { ends.old.items ≡ [] }
         requires goes { CanTurn S.Sites here.now sites.old (shows (Pending.ClearInit addr) self.old) }
-        ensures image { S.IsOf here.now.image.now sites.new }
-        ensures ends { UnlessMade result (ends.new.items ≡ ends.old.items) }
-        ensures same { UnlessMade result (processor_of self.new ≡ processor_of self.old) }
-        ensures runs { OnMade result (is_idle self.new.phase ≡ false) }
-        ensures turn { TurnsAt S.Sites result here.now.cpu here.now.image.now sites.old sites.new
-            (shows (Pending.ClearInit addr) self.old)
-            (with_ends ends.new.items (processor_of self.new)) }
+        ensures ends { HasEnded S.Sites result here.now sites.old sites.new
+            (shows (Pending.ClearInit addr) self.old) self.old self.new ends.old.items ends.new.items }
     {
         let row = row_named(here.image, addr);
         let t = self.context.thread();

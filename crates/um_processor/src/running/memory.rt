@@ -4,7 +4,7 @@ ghost use Rattle.std.specs.Prelude.{◌≡◌, if◌then◌else◌};
 ghost use Rattle.um_machine.specs.declared.pending.Pending.TheVariants as Pending;
 ghost use Rattle.um_processor.specs.declared.memory_act.MemoryAct.TheVariants as MemoryAct;
 ghost use Rattle.um_processor.specs.{
-  Accesses.{behind_access, behind_load},
+  Accesses.{behind_load},
   Events.{shows, behind_event},
   Processors.{processor_of},
   Turns.{CanTurn, HasRun},
@@ -16,7 +16,7 @@ use crate::phase::Turn;
 use crate::running::Running;
 use crate::said::made;
 use crate::sites::Sites;
-use um_base::{Access, Addr, Image, Piece, Row, ThreadIx};
+use um_base::{Access, Addr, Image, Piece, ThreadIx};
 
 /// An act where it is allowed, or else the fault of its access.
 fn or_fault(
@@ -55,18 +55,6 @@ impl Running {
         self.leaves(image);
     }
 
-    /// Goes on behind another access, or after its fault.
-    fn goes_on_or_faults(&mut self, image: &Image, allowed: bool)
-        ensures { processor_of self.new ≡ behind_event image.now self.old.phase (behind_access image.now self.old allowed) self.old }
-    {
-        if allowed {
-            self.goes_on(image);
-            return;
-        }
-        self.context.faults(image);
-        self.leaves(image);
-    }
-
     /// A number is loaded into a register, or a fault comes in its place.
     pub fn load<S: Sites>(
         &mut self,
@@ -90,64 +78,6 @@ impl Running {
         let mut none = Piece::new();
         let said = made!(sites.memory(here, &act, &mut none));
         self.loads_or_faults(here.image, allowed, to, said.value);
-        Turn::Made
-    }
-
-    /// A number is stored, or a fault comes in its place.
-    pub fn store<S: Sites>(
-        &mut self,
-        here: &Here,
-        addr: Addr,
-        size: u32,
-        value: u32,
-        sites: &mut S,
-    ) -> Turn
-        requires goes { CanTurn S.Sites here.now sites.old (shows (Pending.Store addr size value) self.old) }
-        ensures turn { HasRun S.Sites result here.now sites.old sites.new
-            (shows (Pending.Store addr size value) self.old) self.old self.new }
-    {
-        let thread = self.thread();
-        let allowed = self.allows(here.image, Access::Write, addr.0, size);
-        let store = MemoryAct::Store {
-            thread,
-            addr,
-            size,
-            value,
-        };
-        let act = or_fault(allowed, store, thread, Access::Write, addr, size);
-        let mut none = Piece::new();
-        made!(sites.memory(here, &act, &mut none));
-        self.goes_on_or_faults(here.image, allowed);
-        Turn::Made
-    }
-
-    /// An instruction is fetched, or a fault comes in its place.
-    pub fn fetch<S: Sites>(&mut self, here: &Here, addr: Addr, sites: &mut S) -> Turn
-        requires goes { CanTurn S.Sites here.now sites.old (shows (Pending.Fetch addr) self.old) }
-        ensures turn { HasRun S.Sites result here.now sites.old sites.new
-            (shows (Pending.Fetch addr) self.old) self.old self.new }
-    {
-        let thread = self.thread();
-        let allowed = self.allows(here.image, Access::Exec, addr.0, 4);
-        let fetch = MemoryAct::Fetch { thread, addr };
-        let act = or_fault(allowed, fetch, thread, Access::Exec, addr, 4);
-        let mut none = Piece::new();
-        made!(sites.memory(here, &act, &mut none));
-        self.goes_on_or_faults(here.image, allowed);
-        Turn::Made
-    }
-
-    /// The bytes of a thread stack become zero.
-    pub fn erase<S: Sites>(&mut self, here: &Here, stack: Row, sites: &mut S) -> Turn
-        requires goes { CanTurn S.Sites here.now sites.old (shows (Pending.Erase stack) self.old) }
-        ensures turn { HasRun S.Sites result here.now sites.old sites.new
-            (shows (Pending.Erase stack) self.old) self.old self.new }
-    {
-        let thread = self.thread();
-        let act = MemoryAct::Erase { thread, stack };
-        let mut none = Piece::new();
-        made!(sites.memory(here, &act, &mut none));
-        self.goes_on(here.image);
         Turn::Made
     }
 }

@@ -1,4 +1,4 @@
-//! The begin and the end of a turn.
+//! The begin and the end of a turn, and how a new thread gets ready.
 
 ghost use Rattle.std.specs.Prelude.{◌≡◌};
 ghost use Rattle.um_processor.specs.{
@@ -12,7 +12,7 @@ use crate::phase::{Phase, Turn};
 use crate::running::Running;
 use crate::said::made;
 use crate::sites::Sites;
-use um_base::Image;
+use um_base::{Image, THREADS};
 use um_machine::places::instruction_at;
 
 impl Running {
@@ -61,6 +61,21 @@ impl Running {
     {
         made!(sites.done(here));
         self.phase = Phase::Idle;
+        Turn::Made
+    }
+
+    /// The new thread gets ready.
+    pub fn add<S: Sites>(&mut self, here: &Here, sites: &mut S) -> Turn
+        requires goes { CanTurn S.Sites here.now sites.old (in_phase Phase.Add self.old) }
+        ensures turn { HasRun S.Sites result here.now sites.old sites.new
+            (in_phase Phase.Add self.old) self.old self.new }
+    {
+        if self.newborn.thread.0 as usize >= THREADS {
+            return Turn::Stuck;
+        }
+        self.room.becomes(&self.newborn);
+        made!(sites.add(here, &mut self.room));
+        self.expands(here.image);
         Turn::Made
     }
 }

@@ -1,11 +1,11 @@
 //! The visits of rows before a thread's next step.
 
-ghost use Rattle.std.specs.Prelude.{◌≡◌, ◌∷◌, drop, false};
+ghost use Rattle.std.specs.Prelude.{◌≡◌, ◌∷◌, drop};
 ghost use Rattle.um_machine.specs.declared.pending.Pending.TheVariants as Pending;
 ghost use Rattle.um_processor.specs.{
-  Phases.{is_idle, passed_to},
-  Processors.{OnMade, UnlessMade, cleaned, in_phase, processor_of, visiting},
-  Turns.{CanTurn, HasRun, TurnsAt},
+  Phases.{passed_to},
+  Processors.{in_phase, visiting},
+  Turns.{CanTurn, HasCleaned, HasRun},
 };
 
 use crate::here::Here;
@@ -81,13 +81,8 @@ impl Running {
         sites: &mut S,
     ) -> Turn
         requires goes { CanTurn S.Sites here.now sites.old (in_phase Phase.Drop self.old) }
-        ensures image { S.IsOf here.now.image.now sites.new }
-        ensures cleans { UnlessMade result (cleans.new ≡ cleans.old) }
-        ensures same { UnlessMade result (processor_of self.new ≡ processor_of self.old) }
-        ensures runs { OnMade result (is_idle self.new.phase ≡ false) }
-        ensures turn { TurnsAt S.Sites result here.now.cpu here.now.image.now sites.old sites.new
-            (in_phase Phase.Drop self.old)
-            (cleaned here.now.image.now self.old.row cleans.new (processor_of self.new)) }
+        ensures cleans { HasCleaned S.Sites result here.now sites.old sites.new
+            (in_phase Phase.Drop self.old) self.old self.new self.old.row cleans.old cleans.new }
     {
         let x = self.row as usize;
         if x >= ROWS {

@@ -1,11 +1,8 @@
-use Rattle.std.proofs.Common.{drop}
-use Rattle.um_processor.specs.Standing.{standing}
-use Rattle.um_processor.proofs.Lifted.{always, bare, kept, turned-as, turned-from}
+use Rattle.um_processor.proofs.Lifted.{bare, stepped-bare, stepped-from}
 use Rattle.um_processor.proofs.processor.Processor.go_plain.Goals as goal
 
-pub returns-clause-same : goal.returns-clause-same
-returns-clause-same g c = let k = c.args.self.now in kept c.go.result (standing k.cleans k.ends.items (drop k.told k.outcome.woken)) _ _ c.go.ensures.turn.1
-
-pub returns-clause-turn : goal.returns-clause-turn
-returns-clause-turn g c =
-    turned-from c.go.result c.args.here.now.cpu c.args.here.now.image.now _ _ _ _ _ _ _ (bare _ _ _ _ c.requires.cleans c.requires.ends c.requires.woken) (turned-as c.go.result c.args.here.now.cpu c.args.here.now.image.now _ _ _ _ _ _ _ (always c.go.result (bare _ _ _ _ c.requires.cleans c.requires.ends c.requires.woken)) c.go.ensures.turn.2)
+pub returns : goal.returns
+returns g c =
+    let clear = c.requires.clear in
+    let bared = stepped-bare g.S.Sites c.go.result c.args.here.now c.args.sites.now c.go.new.sites _ c.args.self.now c.go.new.self clear c.go.ensures.turn in
+    record { turn = stepped-from g.S.Sites c.go.result c.args.here.now c.args.sites.now c.go.new.sites _ _ _ _ (bare _ _ _ _ clear.cleans clear.ends clear.woken) bared }

@@ -1,10 +1,5 @@
-use Rattle.std.proofs.Common.{drop}
-use Rattle.um_processor.specs.Standing.{standing}
-use Rattle.um_processor.proofs.Lifted.{always, bare, kept, turned-as}
+use Rattle.um_processor.proofs.Lifted.{stepped-bare}
 use Rattle.um_processor.proofs.processor.Processor.park.Goals as goal
 
-pub returns-clause-same : goal.returns-clause-same
-returns-clause-same g c = let k = c.args.self.now in kept c.park.result (standing k.cleans k.ends.items (drop k.told k.outcome.woken)) _ _ c.park.ensures.turn.1
-
-pub returns-clause-turn : goal.returns-clause-turn
-returns-clause-turn g c = turned-as c.park.result c.args.here.now.cpu c.args.here.now.image.now _ _ _ _ _ _ _ (always c.park.result (bare _ _ _ _ c.requires.cleans c.requires.ends c.requires.woken)) c.park.ensures.turn.2
+pub returns : goal.returns
+returns g c = record { turn = stepped-bare g.S.Sites c.park.result c.args.here.now c.args.sites.now c.park.new.sites _ c.args.self.now c.park.new.self c.requires.clear c.park.ensures.turn }

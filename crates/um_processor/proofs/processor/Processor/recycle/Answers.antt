@@ -3,13 +3,12 @@ use Rattle.um_processor.specs.Cleanings.{behind_first}
 use Rattle.um_processor.proofs.Wholes.{recycle-goes}
 use Rattle.um_processor.proofs.processor.Processor.recycle.Goals as goal
 
-pub returns-clause-turn : goal.returns-clause-turn
-returns-clause-turn g c =
+pub returns : goal.returns
+returns g c =
     let h = c.in-Made.ensures.said in
     let k = c.args.self.now in
     let rest = drop 1 k.cleans in
-    let after : c.advance.new.self ≡ rest = c.advance.ensures.rest ∙ ap behind_first c.requires.first in (
-      _,
-      h.2,
-      recycle-goes c.args.here.now.image.now c.args.here.now.cpu k.running c.requires.runs k.cleans c.advance.new.self rest k.ends.items (drop k.told k.outcome.woken) c.args.row h.0 c.thread.result.0 c.addr_of.result h.1 _ c.requires.first after c.thread.ensures.value c.addr_of.ensures c.charge.ensures,
-    )
+    let after : c.advance.new.self ≡ rest = c.advance.ensures.rest ∙ ap behind_first c.requires.next.first in
+    let goes =
+    recycle-goes c.args.here.now.image.now c.args.here.now.cpu k.running c.requires.next.runs k.cleans c.advance.new.self rest k.ends.items (drop k.told k.outcome.woken) c.args.row h.0 c.thread.result.0 c.addr_of.result h.1 _ c.requires.next.first after c.thread.ensures.value c.addr_of.ensures c.charge.ensures in
+    record { turn = (c.in-Made.ensures.image, tt, (_, h.2, goes)) }

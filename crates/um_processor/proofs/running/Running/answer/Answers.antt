@@ -9,8 +9,8 @@ use Rattle.um_processor.proofs.Runs.{runs-behind}
 use Rattle.um_processor.proofs.Released.{answered-goes}
 use Rattle.um_processor.proofs.running.Running.answer.Goals as goal
 
-pub returns-clause-turn : goal.returns-clause-turn
-returns-clause-turn g c =
+pub returns : goal.returns
+returns g c =
     let h = c.in-Made.ensures.said in
     let image = c.args.here.now.image.now in
     let r = c.args.self.now in
@@ -20,14 +20,11 @@ returns-clause-turn g c =
     goes_on image (record own { claims = []; registers = with_answer own.registers c.args.to (reply_of image own c.args.reply) }) rest in
     let after =
     c.answers.ensures
-    ∙ (ap (λ (own : Context). left own (drop c.taken-taken.result own.pending)) free ∙ ap (left r.context.value) c.taken-taken.ensures.rest) in (
-      _,
-      h.1,
-      answered-goes image c.args.here.now.cpu r c.args.self.now.phase h.0 c.args.reply c.args.to _ c.reply_of-said.result c.gives_claims.new.claims.items (processor_of c.leaves.new.self) thread
-          (search rules)
-          (search rules)
-          (c.leaves.ensures ∙ ap (λ (own : Context). behind_event image c.args.self.now.phase own r) after),
-    )
-
-pub returns-clause-runs : goal.returns-clause-runs
-returns-clause-runs g c = runs-behind c.args.here.now.image.now c.args.self.now.phase _ c.args.self.now _ c.leaves.ensures
+    ∙ (ap (λ (own : Context). left own (drop c.taken-taken.result own.pending)) free ∙ ap (left r.context.value) c.taken-taken.ensures.rest) in
+    let goes =
+    answered-goes image c.args.here.now.cpu r c.args.self.now.phase h.0 c.args.reply c.args.to _ c.reply_of-said.result c.gives_claims.new.claims.items (processor_of c.leaves.new.self) thread
+    (search rules)
+    (search rules)
+    (c.leaves.ensures ∙ ap (λ (own : Context). behind_event image c.args.self.now.phase own r) after) in
+    let runs = runs-behind image c.args.self.now.phase _ r _ c.leaves.ensures in
+    record { ends = record { image = c.in-Made.ensures.image; ends = tt; same = tt; runs = runs; turn = (_, h.1, goes) } }

@@ -1,0 +1,92 @@
+//! What a processor asks a site for where it needs to know no more than that the step was made.
+
+ghost use Rattle.std.specs.Prelude.{IsTrue};
+ghost use Rattle.um_processor.specs.Requests.{Each, RequestedAt, is_short};
+
+use crate::domain_act::DomainAct;
+use crate::heap_act::HeapAct;
+use crate::here::Here;
+use crate::memory_act::MemoryAct;
+use crate::phase::{Phase, Turn};
+use crate::row_act::RowAct;
+use crate::said::made;
+use crate::sites::Sites;
+use crate::thread_act::ThreadAct;
+use um_base::{DOMAINS, Piece, ROWS, Row, THREADS, ThreadIx};
+use um_machine::Cost;
+
+/// A step at one of the sites. Of the word that it finds there, its processor needs nothing.
+#[derive(Clone, Copy)]
+pub enum Request {
+    Row(Row, RowAct),
+    Thread(ThreadIx, ThreadAct),
+    Domain(u8, DomainAct),
+    /// With what a pool pays or gets back.
+    Heap(HeapAct, Option<Cost>),
+    /// Without a copy's bytes.
+    Memory(MemoryAct),
+}
+
+/// How a processor goes on behind such a step.
+#[derive(Clone, Copy, PartialEq, Eq)]
+pub enum Onward {
+    /// Behind the event of a step the thread goes on as it is ..
+    GoesOn,
+    /// .. or behind an access that isn't allowed, which is a fault or fails the call ..
+    Faults,
+    CopyFails,
+    /// .. or with the reply of a domain's call ..
+    Replies,
+    /// .. or in user mode, at this script ..
+    EntersUser(u8),
+    /// .. or with the doom of the thread behind this one.
+    Dooms(u8),
+    /// The thread's next step is over.
+    Expands,
+    /// Its next fine step is that of a phase.
+    To(Phase),
+}
+
+impl Request {
+    /// Asks the site.
+    pub fn make<S: Sites>(&self, here: &Here, sites: &mut S) -> Turn
+        requires image { S.IsOf here.now.image.now sites.old }
+        requires few { IsTrue (is_short self.now) }
+        requires goes { Each here.now.cpu here.now.image.now self.now (S.May here.now.image.now sites.old) }
+        ensures image { S.IsOf here.now.image.now sites.new }
+        ensures said { RequestedAt S.Sites result here.now self.now sites.old sites.new }
+    {
+        match self {
+            Request::Row(row, act) => {
+                if row.0 as usize >= ROWS {
+                    return Turn::Stuck;
+                }
+                made!(sites.row(here, *row, act));
+                Turn::Made
+            }
+            Request::Thread(thread, act) => {
+                if thread.0 as usize >= THREADS {
+                    return Turn::Stuck;
+                }
+                made!(sites.thread(here, *thread, act));
+                Turn::Made
+            }
+            Request::Domain(domain, act) => {
+                if *domain as usize >= DOMAINS {
+                    return Turn::Stuck;
+                }
+                made!(sites.domain(here, *domain, act));
+                Turn::Made
+            }
+            Request::Heap(act, charge) => {
+                made!(sites.heap(here, act, *charge));
+                Turn::Made
+            }
+            Request::Memory(act) => {
+                let mut none = Piece::new();
+                made!(sites.memory(here, act, &mut none));
+                Turn::Made
+            }
+        }
+    }
+}
