@@ -217,39 +217,36 @@ const TOP: &[Field] = &[
     (Key::Script, Form::Tables, Need::Optional),
 ];
 
-const POOL: &[Field] = &[
-    (Key::Name, Form::Name, Need::Required),
-    (Key::Size, Form::Number, Need::Required),
-];
+/// The name that an entry has.
+const NAME: Field = (Key::Name, Form::Name, Need::Required);
 
-const PARTITION: &[Field] = &[
-    (Key::Name, Form::Name, Need::Required),
-    (Key::Size, Form::Number, Need::Required),
-    (Key::Attr, Form::Word(Choice::Attr), Need::Required),
-    (Key::Data, Form::Digits, Need::Optional),
-];
+/// How many bytes an entry takes.
+const SIZE: Field = (Key::Size, Form::Number, Need::Required);
 
-const PACKED_PARTITION: &[Field] = &[
-    (Key::Name, Form::Name, Need::Required),
-    (Key::Attr, Form::Word(Choice::Attr), Need::Required),
-    (Key::Vars, Form::Variables, Need::Required),
-];
+/// The attribute of a partition.
+const ATTR: Field = (Key::Attr, Form::Word(Choice::Attr), Need::Required);
+
+/// The first bytes of what an entry takes.
+const DATA: Field = (Key::Data, Form::Digits, Need::Optional);
+
+const POOL: &[Field] = &[NAME, SIZE];
+
+const PARTITION: &[Field] = &[NAME, SIZE, ATTR, DATA];
+
+const PACKED_PARTITION: &[Field] = &[NAME, ATTR, (Key::Vars, Form::Variables, Need::Required)];
 
 const VARIABLE: &[Field] = &[
-    (Key::Name, Form::Name, Need::Required),
-    (Key::Size, Form::Number, Need::Required),
+    NAME,
+    SIZE,
     (Key::Align, Form::Alignment, Need::Optional),
-    (Key::Data, Form::Digits, Need::Optional),
+    DATA,
 ];
 
-const DOMAIN: &[Field] = &[
-    (Key::Name, Form::Name, Need::Required),
-    (Key::Partitions, Form::Texts, Need::Optional),
-];
+const DOMAIN: &[Field] = &[NAME, (Key::Partitions, Form::Texts, Need::Optional)];
 
 /// The keys of an object of any kind.
 const OBJECT: &[Field] = &[
-    (Key::Name, Form::Name, Need::Required),
+    NAME,
     (Key::Kind, Form::Word(Choice::Kind), Need::Required),
     (Key::Public, Form::Truth, Need::Optional),
 ];
@@ -265,12 +262,9 @@ const BOOT: &[Field] = &[
     (Key::Grants, Form::Texts, Need::Optional),
 ];
 
-const SCRIPT: &[Field] = &[
-    (Key::Name, Form::Name, Need::Required),
-    (Key::Lines, Form::Texts, Need::Required),
-];
+const SCRIPT: &[Field] = &[NAME, (Key::Lines, Form::Texts, Need::Required)];
 
-const THREAD_STACK: &[Field] = &[(Key::Size, Form::Number, Need::Required)];
+const THREAD_STACK: &[Field] = &[SIZE];
 
 const SEM: &[Field] = &[
     (Key::Count, Form::Number, Need::With(Key::Limit)),
@@ -350,7 +344,7 @@ pub fn kind_fields(kind: Kind) -> &'static [Field]
 
 /// The further keys of objects of all kinds.
 const ANY_KIND: &[Field] = &[
-    (Key::Size, Form::Number, Need::Required),
+    SIZE,
     (Key::Count, Form::Number, Need::With(Key::Limit)),
     (Key::Limit, Form::Number, Need::With(Key::Count)),
     (Key::Init, Form::Truth, Need::Optional),

@@ -16,6 +16,9 @@ use toml::value::Array;
 use toml::{Table, Value};
 use um_base::Memory;
 
+/// A spot, where one is found.
+type FoundSpot = Result<Option<Spot>, Memory>;
+
 /// Whether one of the keys is written so.
 fn is_key(fields: &[Field], text: &str) -> bool
     ensures { result ≡ unknown.is_key fields.now text.now }
@@ -37,10 +40,7 @@ fn stray<'a>(table: &'a Table, fields: &[Field], further: &[Field]) -> Option<&'
 }
 
 /// The first of such keys below some items, each with its number counted from 0.
-fn stray_at_items<F: Fn(usize, &Value) -> Result<Option<Spot>, Memory>>(
-    items: &[Value],
-    find: F,
-) -> Result<Option<Spot>, Memory>
+fn stray_at_items<F: Fn(usize, &Value) -> FoundSpot>(items: &[Value], find: F) -> FoundSpot
     requires { F.IsAlwaysCallable find }
     ensures { (f : ℕ → Data → List (List ℕ)) → ((i : ℕ) (item : _) (found : _) → F.post find i item found → IfOk found (λ found. found ≡ first_of (f i (view item.now)))) → IfOk result (λ found. found ≡ first_of (each_item f 0 (items_view items.now))) }
 {
@@ -64,12 +64,7 @@ fn known_further(section: Section, table: &Table) -> &'static [Field]
 }
 
 /// The first key of a variable that means nothing there.
-fn stray_of_variable(
-    alloc: Global,
-    partition: usize,
-    index: usize,
-    value: &Value,
-) -> Result<Option<Spot>, Memory>
+fn stray_of_variable(alloc: Global, partition: usize, index: usize, value: &Value) -> FoundSpot
     ensures { IfOk result (λ found. found ≡ first_of (unknown.strays_of_variable partition index (view value.now))) }
 {
     match value.as_table() {
@@ -82,11 +77,7 @@ fn stray_of_variable(
 }
 
 /// The first such key of a partition's variables.
-fn stray_of_variables(
-    alloc: Global,
-    partition: usize,
-    items: &Array,
-) -> Result<Option<Spot>, Memory>
+fn stray_of_variables(alloc: Global, partition: usize, items: &Array) -> FoundSpot
     ensures { IfOk result (λ found. found ≡ first_of (each_item (unknown.strays_of_variable partition) 0 (array_view items.now))) }
 {
     stray_at_items(
@@ -97,12 +88,7 @@ fn stray_of_variables(
 
 /// The first such key below an entry, in its variables.
 #[tactic(auto, unfolding(crate::specs::Unknown::strays_below))]
-fn stray_below(
-    alloc: Global,
-    section: Section,
-    entry: usize,
-    table: &Table,
-) -> Result<Option<Spot>, Memory>
+fn stray_below(alloc: Global, section: Section, entry: usize, table: &Table) -> FoundSpot
     ensures { IfOk result (λ found. found ≡ first_of (unknown.strays_below section entry (table_view table.now))) }
 {
     if section != Section::PackedPartition {
@@ -116,12 +102,7 @@ fn stray_below(
 
 /// The first such key of an entry's own.
 #[tactic(auto, unfolding(crate::specs::Unknown::own_strays))]
-fn own_stray(
-    alloc: Global,
-    section: Section,
-    entry: usize,
-    table: &Table,
-) -> Result<Option<Spot>, Memory>
+fn own_stray(alloc: Global, section: Section, entry: usize, table: &Table) -> FoundSpot
     ensures { IfOk result (λ found. found ≡ first_of (unknown.own_strays section entry (table_view table.now))) }
 {
     match stray(table, section.fields(), known_further(section, table)) {
@@ -131,12 +112,7 @@ fn own_stray(
 }
 
 /// The first key of an entry, or of its variables, that means nothing there.
-fn stray_of_table(
-    alloc: Global,
-    section: Section,
-    entry: usize,
-    table: &Table,
-) -> Result<Option<Spot>, Memory>
+fn stray_of_table(alloc: Global, section: Section, entry: usize, table: &Table) -> FoundSpot
     ensures { IfOk result (λ found. found ≡ first_of (unknown.strays_of_entry section entry (table_view table.now))) }
 {
     let found = own_stray(alloc, section, entry, table)?;
@@ -147,12 +123,7 @@ fn stray_of_table(
 }
 
 /// The first such key of an entry.
-fn stray_of_entry(
-    alloc: Global,
-    section: Section,
-    entry: usize,
-    value: &Value,
-) -> Result<Option<Spot>, Memory>
+fn stray_of_entry(alloc: Global, section: Section, entry: usize, value: &Value) -> FoundSpot
     ensures { IfOk result (λ found. found ≡ first_of (unknown.strays_of_table section entry (as_table (view value.now)))) }
 {
     match value.as_table() {
@@ -162,7 +133,7 @@ fn stray_of_entry(
 }
 
 /// The first such key of some entries.
-fn stray_of_entries(alloc: Global, section: Section, items: &Array) -> Result<Option<Spot>, Memory>
+fn stray_of_entries(alloc: Global, section: Section, items: &Array) -> FoundSpot
     ensures { IfOk result (λ found. found ≡ first_of (unknown.strays_of_entries section 0 (array_view items.now))) }
 {
     stray_at_items(
@@ -172,7 +143,7 @@ fn stray_of_entries(alloc: Global, section: Section, items: &Array) -> Result<Op
 }
 
 /// The first such key of a section.
-fn stray_of_section(alloc: Global, table: &Table, section: Section) -> Result<Option<Spot>, Memory>
+fn stray_of_section(alloc: Global, table: &Table, section: Section) -> FoundSpot
     ensures { IfOk result (λ found. found ≡ first_of (unknown.strays_of_section (table_view table.now) section)) }
 {
     match items_at(table, section.key()) {
@@ -182,11 +153,7 @@ fn stray_of_section(alloc: Global, table: &Table, section: Section) -> Result<Op
 }
 
 /// The first such key of some sections.
-fn stray_of_sections(
-    alloc: Global,
-    table: &Table,
-    sections: &[Section],
-) -> Result<Option<Spot>, Memory>
+fn stray_of_sections(alloc: Global, table: &Table, sections: &[Section]) -> FoundSpot
     ensures { IfOk result (λ found. found ≡ first_of (flat_map (unknown.strays_of_section (table_view table.now)) sections.now)) }
 {
     for section in sections {
@@ -200,7 +167,7 @@ fn stray_of_sections(
 
 /// The first such key at the top.
 #[tactic(auto, unfolding(crate::specs::Unknown::strays_at_top))]
-fn stray_at_top(alloc: Global, table: &Table) -> Result<Option<Spot>, Memory>
+fn stray_at_top(alloc: Global, table: &Table) -> FoundSpot
     ensures { IfOk result (λ found. found ≡ first_of (unknown.strays_at_top (table_view table.now))) }
 {
     match stray(table, top_fields(), &[]) {
@@ -211,7 +178,7 @@ fn stray_at_top(alloc: Global, table: &Table) -> Result<Option<Spot>, Memory>
 
 /// The place of the first key of a document that means nothing there.
 #[tactic(auto, unfolding(crate::specs::Unknown::strays_of_sections))]
-pub fn first_unknown(alloc: Global, table: &Table) -> Result<Option<Spot>, Memory>
+pub fn first_unknown(alloc: Global, table: &Table) -> FoundSpot
     ensures { IfOk result (λ found. found ≡ first_of (unknown.unknown_keys (table_view table.now))) }
 {
     let found = stray_at_top(alloc, table)?;
