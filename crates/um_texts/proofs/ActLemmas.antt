@@ -25,34 +25,30 @@ use Rattle.um_trace.specs.Acts.{range_text, found_text, answer_text, wake_text, 
 use Rattle.um_texts.proofs.PlainLemmas.{solid, plain, plain_append, plain_solid, plain_flat, decimal_solid, address_solid, value_solid}
 use Rattle.um_texts.proofs.NameLemmas.{AreNamed, row_solid, thread_solid, object_solid, domain_solid, script_solid, errno_solid, part_solid, reply_solid}
 
-verdict_solid : (v : Option Errno) → solid (verdict_word v) ≡ true
-unfolding verdict_word
-verdict_solid None = refl
-verdict_solid (Some e) = errno_solid e
-
 kind_solid : (kind : Kind) → solid (kind_word kind) ≡ true
 kind_solid Kind.Thread = refl
-kind_solid Kind.ThreadStack = refl
-kind_solid Kind.Sem = refl
-kind_solid Kind.Mutex = refl
-kind_solid Kind.Msgq = refl
-kind_solid Kind.Stack = refl
-kind_solid Kind.Pipe = refl
+kind_solid kind = refl
+
+-- a word of what may be there
+option_solid : {A : Type 0} (word : Option A → List ℕ) → solid (word None) ≡ true → ((x : A) → solid (word (Some x)) ≡ true) → (o : Option A) → solid (word o) ≡ true
+option_solid word none some None = none
+option_solid word none some (Some x) = some x
+
+verdict_solid : (verdict : Option Errno) → solid (verdict_word verdict) ≡ true
+unfolding verdict_word
+verdict_solid = option_solid verdict_word refl errno_solid
 
 any_kind_solid : (kind : Option Kind) → solid (any_kind_word kind) ≡ true
 unfolding any_kind_word
-any_kind_solid None = refl
-any_kind_solid (Some kind) = kind_solid kind
+any_kind_solid = option_solid any_kind_word refl kind_solid
 
 want_solid : (want : Want) → solid (want_word want) ≡ true
 want_solid Want.Init = refl
-want_solid Want.Uninit = refl
-want_solid Want.Any = refl
+want_solid want = refl
 
 access_solid : (access : Access) → solid (access_word access) ≡ true
 access_solid Access.Read = refl
-access_solid Access.Write = refl
-access_solid Access.Exec = refl
+access_solid access = refl
 
 reach_solid : (fits : Bool) → solid (reach_word fits) ≡ true
 unfolding reach_word
@@ -84,15 +80,7 @@ set_solid (SetSaid.Fail e) = errno_solid e
 cause_solid : (cause : Cause) → solid (cause_word cause) ≡ true
 unfolding cause_word
 cause_solid (Cause.Refused e) = errno_solid e
-cause_solid Cause.Size = refl
-cause_solid Cause.NoUser = refl
-cause_solid Cause.Essential = refl
-cause_solid Cause.Priority = refl
-cause_solid Cause.PriorityHigher = refl
-cause_solid Cause.Access = refl
-cause_solid Cause.Privileged = refl
-cause_solid Cause.KOops = refl
-cause_solid Cause.KPanic = refl
+cause_solid cause = refl
 
 found_solid : (found : Found) → solid (found_text found) ≡ true
 unfolding found_text

@@ -152,12 +152,7 @@ stack_some mpu Kind.ThreadStack range declared h =
     let high : declared ≤ 65536 = grind (arith, nat_tests) in
     let some = rounded_some mpu declared low high in
     let same : rounded mpu declared ≡ range.size = grind (arith, nat_tests) in omega (arith, some, same)
-stack_some mpu Kind.Thread range declared h = cc
-stack_some mpu Kind.Sem range declared h = cc
-stack_some mpu Kind.Mutex range declared h = cc
-stack_some mpu Kind.Msgq range declared h = cc
-stack_some mpu Kind.Stack range declared h = cc
-stack_some mpu Kind.Pipe range declared h = cc
+stack_some mpu kind range declared h = cc
 
 more_some : (range : Range) (ranges : List Range) → 1 ≤ range.size → AreSome ranges → AreSome (range ∷ ranges)
 more_some range ranges h all zero inside = h

@@ -37,84 +37,17 @@ mark_step p = others
 marked : (image : Image) (act : Act) → mark_in (act_text image act) ≡ mark_of act
 unfolding act_text object_act_text heap_act_text pair_act_text domain_act_text thread_act_text
 marked image (Act.Begin script line) = refl
-marked image (Act.Check addr kind want verdict) = refl
-marked image (Act.Load addr size number) = refl
-marked image (Act.Store addr size number) = refl
-marked image (Act.Fetch addr) = refl
-marked image (Act.Fault access addr size) = refl
-marked image (Act.Probe addr size fits) = refl
-marked image (Act.CopyIn addr size fits) = refl
-marked image (Act.CopyOut addr size fits) = refl
-marked image (Act.CopyStr addr found) = refl
-marked image (Act.Erase stack) = refl
-marked image (Act.Work addr answer woken) = refl
-marked image Act.Resume = refl
-marked image (Act.Answered reply) = refl
-marked image (Act.Grant who addr given) = refl
-marked image (Act.Own who given) = refl
-marked image (Act.Inherit who addr) = refl
-marked image (Act.DropPair who addr left) = refl
-marked image (Act.Publish addr given) = refl
-marked image (Act.SetInit addr said) = refl
-marked image (Act.ClearInit addr) = refl
-marked image (Act.Named who) = refl
-marked image (Act.Reserve kind addr) = refl
-marked image (Act.Born addr) = refl
-marked image (Act.Buffer size fits) = refl
-marked image (Act.Unbuffer size) = refl
-marked image (Act.Recycle addr) = refl
-marked image (Act.DomInit domain reply) = refl
-marked image (Act.DomAdd domain range attr reply) = refl
-marked image (Act.DomRemove domain range attr reply) = refl
-marked image (Act.DomMove domain who reply) = refl
-marked image (Act.Start who) = refl
-marked image Act.EnterUser = refl
-marked image (Act.Fatal reason cause) = refl
-marked image (Act.Doom who) = refl
-marked image Act.Exit = refl
+marked image act = refl
 
 mark_if : (b : Bool) (x y : Act) → mark_of x ≡ others → mark_of y ≡ others → mark_of (if b then x else y) ≡ others
 mark_if true x y h k = h
 mark_if false x y h k = k
 
 pub mark_made : (s : State) (t x : ℕ) (p : Pending) → mark_of (act_of s t x p) ≡ mark_step p
-mark_made s t x Pending.Begin = refl
-mark_made s t x Pending.Exit = refl
-mark_made s t x (Pending.Check a kind want refusal) = refl
 mark_made s t x (Pending.Load to a n) = mark_if (allowed s t Accesses.Read a.0 n) (Act.Load a n (le_value (bytes_at s a.0 n))) (Act.Fault Accesses.Read a n) refl refl
 mark_made s t x (Pending.Store a n value) = mark_if (allowed s t Accesses.Write a.0 n) (Act.Store a n value) (Act.Fault Accesses.Write a n) refl refl
 mark_made s t x (Pending.Fetch a) = mark_if (allowed s t Accesses.Exec a.0 4) (Act.Fetch a) (Act.Fault Accesses.Exec a 4) refl refl
-mark_made s t x (Pending.Probe a amount) = refl
-mark_made s t x (Pending.CopyIn a amount) = refl
-mark_made s t x (Pending.CopyOut a) = refl
-mark_made s t x (Pending.CopyStr a) = refl
-mark_made s t x (Pending.Erase stack) = refl
-mark_made s t x (Pending.Work a ask) = refl
-mark_made s t x Pending.Resume = refl
-mark_made s t x (Pending.Answer reply to) = refl
-mark_made s t x (Pending.Grant who a) = refl
-mark_made s t x (Pending.Own who) = refl
-mark_made s t x (Pending.Inherit who) = refl
-mark_made s t x (Pending.DropPair who a) = refl
-mark_made s t x (Pending.Publish a) = refl
-mark_made s t x (Pending.SetInit a strict undo) = refl
-mark_made s t x (Pending.ClearInit a) = refl
-mark_made s t x (Pending.Named who) = refl
-mark_made s t x (Pending.Reserve kind) = refl
-mark_made s t x (Pending.Born a) = refl
-mark_made s t x (Pending.Buffer size) = refl
-mark_made s t x (Pending.Unbuffer size) = refl
-mark_made s t x (Pending.DomInit d parts) = refl
-mark_made s t x (Pending.DomAdd d range attr) = refl
-mark_made s t x (Pending.DomRemove d range attr) = refl
-mark_made s t x (Pending.DomMove d who) = refl
-mark_made s t x (Pending.Start who script stack priority mode) = refl
-mark_made s t x (Pending.EnterUser script) = refl
-mark_made s t x (Pending.Fatal reason cause) = refl
-mark_made s t x (Pending.Drops from) = refl
-mark_made s t x (Pending.Dooms from) = refl
-mark_made s t x (Pending.CleanPair who) = refl
-mark_made s t x Pending.Recycle = refl
+mark_made s t x p = refl
 
 -- acts with one text have one mark
 pub same_mark : (image : Image) (a b : Act) → act_text image a ≡ act_text image b → mark_of a ≡ mark_of b

@@ -1,5 +1,5 @@
 -- The names of a lawful image have no spaces, and what is shown by them.
-use Rattle.std.proofs.Common.{◌≡◌, ℕ, ◌-◌, Bool, true, false, if◌then◌else◌, List, ◌++◌, refl, sym, ◌∙◌, Option, Some, None, slice_get}
+use Rattle.std.proofs.Common.{◌≡◌, ℕ, ◌-◌, Bool, true, false, if◌then◌else◌, List, [], ◌++◌, refl, sym, ◌∙◌, Option, Some, None, slice_get}
 use Rattle.std.specs.Prelude.{IfSome, ◌==◌, codes, decimal, map}
 use Rattle.std.proofs.lemmas.Bool.{and_parts}
 use Rattle.std.specs.List.{list_all}
@@ -69,36 +69,23 @@ pub object_solid : (image : Image) → AreNamed image → (a : ℕ) → solid (o
 unfolding object_text
 object_solid image named a = object_in_solid image named a (row_at image a)
 
-domain_in_solid : (o : Option DomainDef) → IfSome o (λ (d : DomainDef). is_name d.name ≡ true) → solid (domain_in o) ≡ true
-domain_in_solid (Some d) h = name_solid d.name h
-domain_in_solid None h = refl
+-- what is named, where it is there
+in_solid : {A : Type 0} (name : A → List ℕ) (text : Option A → List ℕ) → text None ≡ [] → ((x : A) → text (Some x) ≡ name x)
+    → (o : Option A) → IfSome o (λ x. is_name (name x) ≡ true) → solid (text o) ≡ true
+in_solid name text none some (Some x) h = rw (some x) (name_solid (name x) h)
+in_solid name text none some None h = rw none refl
 
 pub domain_solid : (image : Image) → AreNamed image → (d : ℕ) → solid (domain_text image d) ≡ true
 unfolding domain_text
-domain_solid image named d = domain_in_solid (slice_get image.domains d) (all_get (λ (x : DomainDef). is_name x.name) image.domains d named.domains)
-
-script_in_solid : (o : Option Script) → IfSome o (λ (s : Script). is_name s.name ≡ true) → solid (script_in o) ≡ true
-script_in_solid (Some s) h = name_solid s.name h
-script_in_solid None h = refl
+domain_solid image named d = in_solid (λ (x : DomainDef). x.name) domain_in refl (λ x. refl) (slice_get image.domains d) (all_get (λ (x : DomainDef). is_name x.name) image.domains d named.domains)
 
 pub script_solid : (image : Image) → AreNamed image → (i : ℕ) → solid (script_text image i) ≡ true
 unfolding script_text
-script_solid image named i = script_in_solid (slice_get image.scripts i) (all_get (λ (x : Script). is_name x.name) image.scripts i named.scripts)
+script_solid image named i = in_solid (λ (x : Script). x.name) script_in refl (λ x. refl) (slice_get image.scripts i) (all_get (λ (x : Script). is_name x.name) image.scripts i named.scripts)
 
 pub errno_solid : (e : Errno) → solid (errno_word e) ≡ true
 errno_solid Errno.EPERM = refl
-errno_solid Errno.EBADF = refl
-errno_solid Errno.EINVAL = refl
-errno_solid Errno.EADDRINUSE = refl
-errno_solid Errno.EFAULT = refl
-errno_solid Errno.EBUSY = refl
-errno_solid Errno.EAGAIN = refl
-errno_solid Errno.ENOMEM = refl
-errno_solid Errno.ENOMSG = refl
-errno_solid Errno.ENOSPC = refl
-errno_solid Errno.ENOENT = refl
-errno_solid Errno.EPIPE = refl
-errno_solid Errno.ECANCELED = refl
+errno_solid e = refl
 
 if_solid : (b : Bool) (xs ys : List ℕ) → solid xs ≡ true → solid ys ≡ true → solid (if b then xs else ys) ≡ true
 if_solid true xs ys h k = h

@@ -183,19 +183,7 @@ first_index (p ∷ os) t j i o h at e = by (λ k g a. first_index os t k i o g a
 
 thread_setup : (mpu : Mpu) (kind : Kind) (setup : Setup) → is_thread kind ≡ true → is_setup_of mpu kind setup ≡ true → (i : ℕ) × (setup_thread setup ≡ Some i)
 thread_setup mpu Kind.Thread (Setup.Thread index) h k = (index.0, refl)
-thread_setup mpu Kind.Thread Setup.Bare h k = cc
-thread_setup mpu Kind.Thread (Setup.ThreadStack range declared) h k = cc
-thread_setup mpu Kind.Thread (Setup.Sem count limit) h k = cc
-thread_setup mpu Kind.Thread Setup.Mutex h k = cc
-thread_setup mpu Kind.Thread (Setup.Msgq size most) h k = cc
-thread_setup mpu Kind.Thread (Setup.Stack entries) h k = cc
-thread_setup mpu Kind.Thread (Setup.Pipe size) h k = cc
-thread_setup mpu Kind.ThreadStack setup h k = cc
-thread_setup mpu Kind.Sem setup h k = cc
-thread_setup mpu Kind.Mutex setup h k = cc
-thread_setup mpu Kind.Msgq setup h k = cc
-thread_setup mpu Kind.Stack setup h k = cc
-thread_setup mpu Kind.Pipe setup h k = cc
+thread_setup mpu kind setup h k = cc
 
 passing : (p : ObjectDef → Bool) (o : Option ObjectDef) → object_passes p o ≡ true → (d : ObjectDef) × (o ≡ Some d) × (p d ≡ true)
 passing p None h = cc

@@ -81,7 +81,6 @@ probed s t a amount access g =
 
 pub core_act : (s : State) (t x : ℕ) (p : Pending) → act_of (core s) t x p ≡ act_of s t x p
 core_act s t x Pending.Begin = ap (λ (m : Thread). Act.Begin m.place.script (m.place.line + 1)) (core_thread_at s t)
-core_act s t x Pending.Exit = refl
 core_act s t x (Pending.Check a kind want refusal) = ap (λ (v : Option Errno). Act.Check a kind want v) (core_verdict s t a.0 kind want)
 core_act s t x (Pending.Load to a n) =
     ap (λ (b : Bool). if b then Act.Load a n (le_value (bytes_at s a.0 n)) else Act.Fault Accesses.Read a n) (core_allowed s t Accesses.Read a.0 n)
@@ -93,34 +92,15 @@ core_act s t x (Pending.CopyOut a) =
     ap (λ (m : Thread). Act.CopyOut a (length m.buffer) (allowed (core s) t Accesses.Write a.0 (length m.buffer))) (core_thread_at s t)
     ∙ ap (λ (b : Bool). Act.CopyOut a (length (thread_at s t).buffer) b) (core_allowed s t Accesses.Write a.0 (length (thread_at s t).buffer))
 core_act s t x (Pending.CopyStr a) = ap (λ (found : Found). Act.CopyStr a found) (core_string s t a.0 32)
-core_act s t x (Pending.Erase stack) = refl
 core_act s t x (Pending.Work a ask) = ap (λ (w : Acted). Act.Work a w.answer (replies_of w.woken)) (core_work s t a ask)
-core_act s t x Pending.Resume = refl
 core_act s t x (Pending.Answer reply to) =
     ap (λ (m : Thread). Act.Answered (reply_of m reply)) (core_thread_at s t) ∙ ap (λ (r : Reply). Act.Answered r) (core_reply (thread_at s t) reply)
 core_act s t x (Pending.Grant who a) = ap (λ (g : Given). Act.Grant who a g) (core_given s (row_of s a))
 core_act s t x (Pending.Own who) = ap (λ (g : Given). Act.Own who g) (core_given s (own_row s.image who.0))
-core_act s t x (Pending.Inherit who) = refl
-core_act s t x (Pending.DropPair who a) = refl
 core_act s t x (Pending.Publish a) = ap (λ (g : Given). Act.Publish a g) (core_given s (row_of s a))
 core_act s t x (Pending.SetInit a strict undo) = ap (λ (o : Object). Act.SetInit a (set_said o strict)) (core_object_at s (row_of s a))
-core_act s t x (Pending.ClearInit a) = refl
-core_act s t x (Pending.Named who) = refl
-core_act s t x (Pending.Reserve kind) = refl
-core_act s t x (Pending.Born a) = refl
 core_act s t x (Pending.Buffer size) = ap (λ (m : Thread). Act.Buffer size (pays s m.pool size)) (core_thread_at s t)
-core_act s t x (Pending.Unbuffer size) = refl
-core_act s t x (Pending.DomInit d parts) = refl
-core_act s t x (Pending.DomAdd d range attr) = refl
-core_act s t x (Pending.DomRemove d range attr) = refl
-core_act s t x (Pending.DomMove d who) = refl
-core_act s t x (Pending.Start who script stack priority mode) = refl
-core_act s t x (Pending.EnterUser script) = refl
-core_act s t x (Pending.Fatal reason cause) = refl
-core_act s t x (Pending.Drops from) = refl
-core_act s t x (Pending.Dooms from) = refl
-core_act s t x (Pending.CleanPair who) = refl
-core_act s t x Pending.Recycle = refl
+core_act s t x p = refl
 
 pub same_act : (s2 s : State) → core s2 ≡ core s → (t x : ℕ) (p : Pending) → act_of s2 t x p ≡ act_of s t x p
 same_act s2 s e t x p = both (λ (k : State). act_of k t x p) (λ k. core_act k t x p) s2 s e

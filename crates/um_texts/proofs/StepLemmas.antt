@@ -98,6 +98,10 @@ pub record AreBoth (image : Image) (s s2 : State) : Type 0 where
 left_same : (image : Image) (s s2 : State) → AreBoth image s s2 → (t : ℕ) → IsLeft s s2 t
 left_same image s s2 both t = ap (λ (m : Thread). m.pending) (same_thread s s2 both.same t)
 
+-- what has nothing left isn't what has a step
+not_idle : (image : Image) (s s2 : State) → AreBoth image s s2 → (t : ℕ) → (thread_at s t).pending ≡ [] → (p : Pending) (rest : Steps) → settled (thread_at s2 t).pending ≡ p ∷ rest → ⊥
+not_idle image s s2 both t none p rest some = cons_none p rest (sym some ∙ sym (left_same image s s2 both t) ∙ settled_none s t none)
+
 pub same_step : (image : Image) (s s2 : State) → AreBoth image s s2 → (t : ℕ) (p q : Pending) (rest more : Steps) → Offers s t p rest → Offers s2 t q more → mark_step p ≡ mark_step q
     → (mark_step p ≡ drops → ⊥) → (mark_step q ≡ drops → ⊥) → (mark_step p ≡ frees → ⊥) → (mark_step q ≡ frees → ⊥) → AreSame p q rest more
 same_step image s s2 both t p q rest more (goes e) (goes f) marks np nq fp fq =
@@ -132,20 +136,14 @@ same_step image s s2 both t p q rest more (skips_drops {from = from} e g) (begin
     absurd (cons_none (Pending.Drops 0) (p ∷ rest) (sym (settled_drops s t from (p ∷ rest) e) ∙ left_same image s s2 both t ∙ settled_none s2 t f))
 same_step image s s2 both t p q rest more (skips_drops {from = from} e g) (exits f h i j) marks np nq fp fq =
     absurd (cons_none (Pending.Drops 0) (p ∷ rest) (sym (settled_drops s t from (p ∷ rest) e) ∙ left_same image s s2 both t ∙ settled_none s2 t f))
-same_step image s s2 both t p q rest more (begins e g h i) (goes f) marks np nq fp fq =
-    absurd (cons_none q more (sym (settled_goes s2 t q more nq f) ∙ sym (left_same image s s2 both t) ∙ settled_none s t e))
-same_step image s s2 both t p q rest more (begins e g h i) (skips_inherit {who = who} f j) marks np nq fp fq =
-    absurd (cons_none (Pending.Inherit who) (q ∷ more) (sym (settled_inherit s2 t who (q ∷ more) f) ∙ sym (left_same image s s2 both t) ∙ settled_none s t e))
-same_step image s s2 both t p q rest more (begins e g h i) (skips_drops {from = from} f j) marks np nq fp fq =
-    absurd (cons_none (Pending.Drops 0) (q ∷ more) (sym (settled_drops s2 t from (q ∷ more) f) ∙ sym (left_same image s s2 both t) ∙ settled_none s t e))
+same_step image s s2 both t p q rest more (begins e g h i) (goes f) marks np nq fp fq = absurd (not_idle image s s2 both t e q more (settled_goes s2 t q more nq f))
+same_step image s s2 both t p q rest more (begins e g h i) (skips_inherit {who = who} f j) marks np nq fp fq = absurd (not_idle image s s2 both t e (Pending.Inherit who) (q ∷ more) (settled_inherit s2 t who (q ∷ more) f))
+same_step image s s2 both t p q rest more (begins e g h i) (skips_drops {from = from} f j) marks np nq fp fq = absurd (not_idle image s s2 both t e (Pending.Drops 0) (q ∷ more) (settled_drops s2 t from (q ∷ more) f))
 same_step image s s2 both t p q rest more (begins e g h i) (begins f j k l) marks np nq fp fq = record { step = refl; left = refl }
 same_step image s s2 both t p q rest more (begins e g h i) (exits f j k l) marks np nq fp fq = absurd (no_end (instruction_at s.image (thread_at s t).place) i (next_same s s2 both.same t ∙ l))
-same_step image s s2 both t p q rest more (exits e g h i) (goes f) marks np nq fp fq =
-    absurd (cons_none q more (sym (settled_goes s2 t q more nq f) ∙ sym (left_same image s s2 both t) ∙ settled_none s t e))
-same_step image s s2 both t p q rest more (exits e g h i) (skips_inherit {who = who} f j) marks np nq fp fq =
-    absurd (cons_none (Pending.Inherit who) (q ∷ more) (sym (settled_inherit s2 t who (q ∷ more) f) ∙ sym (left_same image s s2 both t) ∙ settled_none s t e))
-same_step image s s2 both t p q rest more (exits e g h i) (skips_drops {from = from} f j) marks np nq fp fq =
-    absurd (cons_none (Pending.Drops 0) (q ∷ more) (sym (settled_drops s2 t from (q ∷ more) f) ∙ sym (left_same image s s2 both t) ∙ settled_none s t e))
+same_step image s s2 both t p q rest more (exits e g h i) (goes f) marks np nq fp fq = absurd (not_idle image s s2 both t e q more (settled_goes s2 t q more nq f))
+same_step image s s2 both t p q rest more (exits e g h i) (skips_inherit {who = who} f j) marks np nq fp fq = absurd (not_idle image s s2 both t e (Pending.Inherit who) (q ∷ more) (settled_inherit s2 t who (q ∷ more) f))
+same_step image s s2 both t p q rest more (exits e g h i) (skips_drops {from = from} f j) marks np nq fp fq = absurd (not_idle image s s2 both t e (Pending.Drops 0) (q ∷ more) (settled_drops s2 t from (q ∷ more) f))
 same_step image s s2 both t p q rest more (exits e g h i) (begins f j k l) marks np nq fp fq =
     absurd (no_end (instruction_at s2.image (thread_at s2 t).place) l (sym (next_same s s2 both.same t) ∙ i))
 same_step image s s2 both t p q rest more (exits e g h i) (exits f j k l) marks np nq fp fq = record { step = refl; left = refl }
@@ -284,23 +282,14 @@ one_made image s s2 both t a b m m2 one two h =
     one_as (act_of s t one.row p) (act_of s2 t two.row q) a b (after s t one.row p one.rest) (after s2 t two.row q two.rest) m m2 one.says two.says one.leaves two.leaves
     (by (mark_step p) refl marks texts)
   where
-    others_not : (p : Pending) → mark_step p ≡ others → (mark_step p ≡ drops → ⊥) × (mark_step p ≡ frees → ⊥)
-    others_not p k = (λ l. other_drop (sym k ∙ l), λ l. other_free (sym k ∙ l))
-      where
-        other_drop : others ≡ drops → ⊥
-        other_drop e = cc
+    marked_not : (m : Mark) → (m ≡ drops → ⊥) → (m ≡ frees → ⊥) → (p : Pending) → mark_step p ≡ m → (mark_step p ≡ drops → ⊥) × (mark_step p ≡ frees → ⊥)
+    marked_not m no_drop no_free p k = (λ l. no_drop (sym k ∙ l), λ l. no_free (sym k ∙ l))
 
-        other_free : others ≡ frees → ⊥
-        other_free e = cc
+    others_not : (p : Pending) → mark_step p ≡ others → (mark_step p ≡ drops → ⊥) × (mark_step p ≡ frees → ⊥)
+    others_not = marked_not others (λ e. cc) (λ e. cc)
 
     inherits_not : (p : Pending) → mark_step p ≡ inherits → (mark_step p ≡ drops → ⊥) × (mark_step p ≡ frees → ⊥)
-    inherits_not p k = (λ l. other_drop (sym k ∙ l), λ l. other_free (sym k ∙ l))
-      where
-        other_drop : inherits ≡ drops → ⊥
-        other_drop e = cc
-
-        other_free : inherits ≡ frees → ⊥
-        other_free e = cc
+    inherits_not = marked_not inherits (λ e. cc) (λ e. cc)
 
     chosen : (mark_step one.step ≡ drops → ⊥) × (mark_step one.step ≡ frees → ⊥) → (mark_step two.step ≡ drops → ⊥) × (mark_step two.step ≡ frees → ⊥) → mark_step one.step ≡ mark_step two.step
         → act_text image (act_of s t one.row one.step) ≡ act_text image (act_of s2 t two.row two.step)
