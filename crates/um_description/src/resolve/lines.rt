@@ -1,9 +1,9 @@
 //! Script lines, with the addresses and numbers of what they name.
 
-ghost use Rattle.std.specs.Prelude.{◌≡◌, ◌≤◌, length, map};
+ghost use Rattle.std.specs.Prelude.{◌≡◌, ◌≤◌, List, ℕ, length, map};
 ghost use Rattle.um_base.specs.declared.limits.TheConstants.{DOMAINS, PARTITIONS, SCRIPTS};
 ghost use Rattle.um_description.specs.{
-  Names.{domain_names, partition_names, script_names},
+  Names.{partition_names},
   Resolve.{start_named, object_addr, addr_named, term_of, ref_of, part_of, resolved},
 };
 
@@ -57,29 +57,15 @@ fn term_of(image: &Image, d: &Indexed<'_>, term: &Term) -> Term
     }
 }
 
-fn domain_ref(d: &Indexed<'_>, domain: &Ref) -> Ref
-    requires { length d.now.domains ≤ DOMAINS }
-    ensures { result ≡ ref_of (domain_names d.now) domain.now }
+/// The number of the entry that is named, where it isn't a number already.
+fn ref_in<T, F: Fn(&T) -> Name>(entries: &[T], name_of: F, named: &Ref) -> Ref
+    requires few { length entries.now ≤ SCRIPTS }
+    requires callable { F.IsAlwaysCallable name_of }
+    ensures { (f : T → List ℕ) → ((entry : _) (name : _) → F.post name_of entry name → name ≡ f entry.now) → result ≡ ref_of (map f entries.now) named.now }
 {
-    match domain {
+    match named {
         Ref::At(i) => Ref::At(*i),
-        Ref::Named(name) => {
-            let entries = d.description().domains.as_slice();
-            Ref::At(number(number_of(entries, |domain| domain.name, name.as_slice())))
-        }
-    }
-}
-
-fn script_ref(d: &Indexed<'_>, script: &Ref) -> Ref
-    requires { length d.now.scripts ≤ SCRIPTS }
-    ensures { result ≡ ref_of (script_names d.now) script.now }
-{
-    match script {
-        Ref::At(i) => Ref::At(*i),
-        Ref::Named(name) => {
-            let entries = d.description().scripts.as_slice();
-            Ref::At(number(number_of(entries, |script| script.name, name.as_slice())))
-        }
+        Ref::Named(name) => Ref::At(number(number_of(entries, name_of, name.as_slice()))),
     }
 }
 
@@ -111,6 +97,29 @@ fn part_refs(d: &Indexed<'_>, parts: &PartRefs) -> PartRefs
     all
 }
 
+/// An operand as it is in the image: a term by its number, a name by the number of what it names, and all others as they are.
+macro_rules! operand {
+    ($image:ident $d:ident same $operand:ident) => { *$operand };
+    ($image:ident $d:ident term $operand:ident) => { term_of($image, $d, $operand) };
+    ($image:ident $d:ident domain $operand:ident) => {
+        ref_in($d.description().domains.as_slice(), |domain| domain.name, $operand)
+    };
+    ($image:ident $d:ident script $operand:ident) => {
+        ref_in($d.description().scripts.as_slice(), |script| script.name, $operand)
+    };
+    ($image:ident $d:ident part $operand:ident) => { part_ref($d, $operand) };
+    ($image:ident $d:ident parts $operand:ident) => { part_refs($d, $operand) };
+}
+
+/// An instruction of one of these names, with its operands resolved as they say.
+macro_rules! resolve {
+    ($image:ident $d:ident $instr:ident { $($name:ident $({ $($operand:ident: $form:ident),* })?),* $(,)? }) => {
+        match $instr {
+            $(Instr::$name $({ $($operand),* })? => Instr::$name $({ $($operand: operand!($image $d $form $operand)),* })?),*
+        }
+    };
+}
+
 /// An instruction whose names are resolved: places by an image, and numbers by the description.
 pub fn resolved(image: &Image, d: &Indexed<'_>, instr: &Instr) -> Instr
     requires domains { length d.now.domains ≤ DOMAINS }
@@ -118,207 +127,49 @@ pub fn resolved(image: &Image, d: &Indexed<'_>, instr: &Instr) -> Instr
     requires scripts { length d.now.scripts ≤ SCRIPTS }
     ensures { result ≡ resolved image.now d.now instr.now }
 {
-    match instr {
-        Instr::End => Instr::End,
-        Instr::Oops => Instr::Oops,
-        Instr::Panic => Instr::Panic,
-        Instr::Repeat { times } => Instr::Repeat { times: *times },
-        Instr::ObjectAlloc { kind, to } => Instr::ObjectAlloc {
-            kind: *kind,
-            to: *to,
-        },
-        Instr::Set { to, value } => Instr::Set {
-            to: *to,
-            value: term_of(image, d, value),
-        },
-        Instr::Add { to, value } => Instr::Add {
-            to: *to,
-            value: term_of(image, d, value),
-        },
-        Instr::Load { to, addr, size } => Instr::Load {
-            to: *to,
-            addr: term_of(image, d, addr),
-            size: *size,
-        },
-        Instr::Store { addr, size, value } => Instr::Store {
-            addr: term_of(image, d, addr),
-            size: *size,
-            value: term_of(image, d, value),
-        },
-        Instr::Exec { addr } => Instr::Exec {
-            addr: term_of(image, d, addr),
-        },
-        Instr::DomainInit { domain, parts } => Instr::DomainInit {
-            domain: domain_ref(d, domain),
-            parts: part_refs(d, parts),
-        },
-        Instr::DomainAdd { domain, part } => Instr::DomainAdd {
-            domain: domain_ref(d, domain),
-            part: part_ref(d, part),
-        },
-        Instr::DomainRemove { domain, part } => Instr::DomainRemove {
-            domain: domain_ref(d, domain),
-            part: part_ref(d, part),
-        },
-        Instr::DomainMove { domain, thread } => Instr::DomainMove {
-            domain: domain_ref(d, domain),
-            thread: term_of(image, d, thread),
-        },
-        Instr::Grant { object, thread } => Instr::Grant {
-            object: term_of(image, d, object),
-            thread: term_of(image, d, thread),
-        },
-        Instr::Revoke { object, thread } => Instr::Revoke {
-            object: term_of(image, d, object),
-            thread: term_of(image, d, thread),
-        },
-        Instr::Release { object } => Instr::Release {
-            object: term_of(image, d, object),
-        },
-        Instr::AllGrant { object } => Instr::AllGrant {
-            object: term_of(image, d, object),
-        },
-        Instr::SemGive { object } => Instr::SemGive {
-            object: term_of(image, d, object),
-        },
-        Instr::SemReset { object } => Instr::SemReset {
-            object: term_of(image, d, object),
-        },
-        Instr::MutexInit { object } => Instr::MutexInit {
-            object: term_of(image, d, object),
-        },
-        Instr::MutexUnlock { object } => Instr::MutexUnlock {
-            object: term_of(image, d, object),
-        },
-        Instr::MsgqPurge { object } => Instr::MsgqPurge {
-            object: term_of(image, d, object),
-        },
-        Instr::PipeReset { object } => Instr::PipeReset {
-            object: term_of(image, d, object),
-        },
-        Instr::PipeClose { object } => Instr::PipeClose {
-            object: term_of(image, d, object),
-        },
-        Instr::Create {
-            thread,
-            stack,
-            size,
-            script,
-            priority,
-            options,
-        } => Instr::Create {
-            thread: term_of(image, d, thread),
-            stack: term_of(image, d, stack),
-            size: term_of(image, d, size),
-            script: script_ref(d, script),
-            priority: *priority,
-            options: *options,
-        },
-        Instr::UserMode { script } => Instr::UserMode {
-            script: script_ref(d, script),
-        },
-        Instr::NameSet { thread, addr } => Instr::NameSet {
-            thread: term_of(image, d, thread),
-            addr: term_of(image, d, addr),
-        },
-        Instr::SemInit {
-            object,
-            count,
-            limit,
-        } => Instr::SemInit {
-            object: term_of(image, d, object),
-            count: term_of(image, d, count),
-            limit: term_of(image, d, limit),
-        },
-        Instr::SemTake { object, timeout } => Instr::SemTake {
-            object: term_of(image, d, object),
-            timeout: *timeout,
-        },
-        Instr::MutexLock { object, timeout } => Instr::MutexLock {
-            object: term_of(image, d, object),
-            timeout: *timeout,
-        },
-        Instr::SemCount { object, to } => Instr::SemCount {
-            object: term_of(image, d, object),
-            to: *to,
-        },
-        Instr::MsgqUsed { object, to } => Instr::MsgqUsed {
-            object: term_of(image, d, object),
-            to: *to,
-        },
-        Instr::MsgqInit {
-            object,
-            msg_size,
-            max_msgs,
-        } => Instr::MsgqInit {
-            object: term_of(image, d, object),
-            msg_size: term_of(image, d, msg_size),
-            max_msgs: term_of(image, d, max_msgs),
-        },
-        Instr::MsgqPut {
-            object,
-            addr,
-            timeout,
-        } => Instr::MsgqPut {
-            object: term_of(image, d, object),
-            addr: term_of(image, d, addr),
-            timeout: *timeout,
-        },
-        Instr::MsgqGet {
-            object,
-            addr,
-            timeout,
-        } => Instr::MsgqGet {
-            object: term_of(image, d, object),
-            addr: term_of(image, d, addr),
-            timeout: *timeout,
-        },
-        Instr::StackPop {
-            object,
-            addr,
-            timeout,
-        } => Instr::StackPop {
-            object: term_of(image, d, object),
-            addr: term_of(image, d, addr),
-            timeout: *timeout,
-        },
-        Instr::MsgqPeek { object, addr } => Instr::MsgqPeek {
-            object: term_of(image, d, object),
-            addr: term_of(image, d, addr),
-        },
-        Instr::StackInit { object, entries } => Instr::StackInit {
-            object: term_of(image, d, object),
-            entries: term_of(image, d, entries),
-        },
-        Instr::StackPush { object, value } => Instr::StackPush {
-            object: term_of(image, d, object),
-            value: term_of(image, d, value),
-        },
-        Instr::PipeInit { object, size } => Instr::PipeInit {
-            object: term_of(image, d, object),
-            size: term_of(image, d, size),
-        },
-        Instr::PipeWrite {
-            object,
-            addr,
-            length,
-            timeout,
-        } => Instr::PipeWrite {
-            object: term_of(image, d, object),
-            addr: term_of(image, d, addr),
-            length: term_of(image, d, length),
-            timeout: *timeout,
-        },
-        Instr::PipeRead {
-            object,
-            addr,
-            length,
-            timeout,
-        } => Instr::PipeRead {
-            object: term_of(image, d, object),
-            addr: term_of(image, d, addr),
-            length: term_of(image, d, length),
-            timeout: *timeout,
-        },
-    }
+    resolve!(image d instr {
+        End,
+        Oops,
+        Panic,
+        Repeat { times: same },
+        ObjectAlloc { kind: same, to: same },
+        Set { to: same, value: term },
+        Add { to: same, value: term },
+        Load { to: same, addr: term, size: same },
+        Store { addr: term, size: same, value: term },
+        Exec { addr: term },
+        DomainInit { domain: domain, parts: parts },
+        DomainAdd { domain: domain, part: part },
+        DomainRemove { domain: domain, part: part },
+        DomainMove { domain: domain, thread: term },
+        Grant { object: term, thread: term },
+        Revoke { object: term, thread: term },
+        Release { object: term },
+        AllGrant { object: term },
+        SemGive { object: term },
+        SemReset { object: term },
+        MutexInit { object: term },
+        MutexUnlock { object: term },
+        MsgqPurge { object: term },
+        PipeReset { object: term },
+        PipeClose { object: term },
+        Create { thread: term, stack: term, size: term, script: script, priority: same, options: same },
+        UserMode { script: script },
+        NameSet { thread: term, addr: term },
+        SemInit { object: term, count: term, limit: term },
+        SemTake { object: term, timeout: same },
+        MutexLock { object: term, timeout: same },
+        SemCount { object: term, to: same },
+        MsgqUsed { object: term, to: same },
+        MsgqInit { object: term, msg_size: term, max_msgs: term },
+        MsgqPut { object: term, addr: term, timeout: same },
+        MsgqGet { object: term, addr: term, timeout: same },
+        StackPop { object: term, addr: term, timeout: same },
+        MsgqPeek { object: term, addr: term },
+        StackInit { object: term, entries: term },
+        StackPush { object: term, value: term },
+        PipeInit { object: term, size: term },
+        PipeWrite { object: term, addr: term, length: term, timeout: same },
+        PipeRead { object: term, addr: term, length: term, timeout: same },
+    })
 }
