@@ -26,6 +26,7 @@ module _ (cpu : ℕ) (image : Image) where
   one-of (Request.Domain d act) holds said each one = (_, one.1, each one.0)
   one-of (Request.Heap act charge) holds said each one = (_, one.2, each one.0 one.1)
   one-of (Request.Memory act) holds said each one = (_, one.2, each one.0 one.1)
+  one-of Request.Done holds said each one = (_, one.2, each one.0 one.1)
 
   module _ (p z : Processor) where
     -- it may be made where each step that the processor asks for may
@@ -35,6 +36,7 @@ module _ (cpu : ℕ) (image : Image) where
     may-each (Request.Domain d act) may l goes = λ w. goes _ (l.goes w).asks
     may-each (Request.Heap act charge) may l goes = λ n h. goes _ (l.goes n h).asks
     may-each (Request.Memory act) may l goes = λ n m. goes _ (l.goes n m).asks
+    may-each Request.Done may l goes = λ n s. goes _ (l.goes n s).asks
 
     requested : (turn : Turn) (request : Request) (took shut : FineStep → Type 0) (late : Site → Type 0) (none : Type 0) → Leads cpu image p request z
         → Requested cpu image turn request took shut late none → Turned turn cpu image p z took shut late none

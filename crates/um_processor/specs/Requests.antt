@@ -10,6 +10,7 @@ use Rattle.um_fine.specs.Continues.{goes_on}
 use Rattle.um_fine.specs.Heap.{Heap}
 use Rattle.um_fine.specs.Memory.{Bytes}
 use Rattle.um_fine.specs.Processor.{Processor}
+use Rattle.um_fine.specs.Scheduler.{Scheduler}
 use Rattle.um_fine.specs.Sites.{is_site}
 use Rattle.um_fine.specs.Steps.{FineStep, Site}
 use Rattle.um_machine.specs.State.{first_place}
@@ -30,6 +31,7 @@ use Rattle.um_processor.specs.HeapActs.{heap_made}
 use Rattle.um_processor.specs.MemoryActs.{has_room, memory_made}
 use Rattle.um_processor.specs.Processors.{Goes, in_phase, processor_of, refilled}
 use Rattle.um_processor.specs.RowActs.{row_made}
+use Rattle.um_processor.specs.SchedulerActs.{done_made}
 use Rattle.um_processor.specs.ThreadActs.{thread_made}
 
 abbrev pub site_of : Request → Site
@@ -38,6 +40,7 @@ site_of (Request.Thread t act) = Site.thread t.0
 site_of (Request.Domain d act) = Site.domain d
 site_of (Request.Heap act charge) = Site.heap
 site_of (Request.Memory act) = Site.memory
+site_of Request.Done = Site.scheduler
 
 -- an access has no more bytes than a step may have
 abbrev pub is_short : Request → Bool
@@ -52,6 +55,7 @@ module _ (cpu : ℕ) (image : Image) where
   Each (Request.Domain d act) holds = (w : DomWord) → holds (domain_made image cpu d w act)
   Each (Request.Heap act charge) holds = (n : ℕ) (h : Heap) → holds (heap_made image cpu n h act charge)
   Each (Request.Memory act) holds = (n : ℕ) (m : Bytes) → holds (memory_made image cpu n m act [])
+  Each Request.Done holds = (n : ℕ) (s : Scheduler) → holds (done_made image cpu n s)
 
   -- and this of one of them
   abbrev pub One : Request → (FineStep → Type 0) → Type 0
@@ -60,6 +64,7 @@ module _ (cpu : ℕ) (image : Image) where
   One (Request.Domain d act) holds = (w : DomWord) × holds (domain_made image cpu d w act)
   One (Request.Heap act charge) holds = (n : ℕ) × (h : Heap) × holds (heap_made image cpu n h act charge)
   One (Request.Memory act) holds = (n : ℕ) × (m : Bytes) × holds (memory_made image cpu n m act [])
+  One Request.Done holds = (n : ℕ) × (s : Scheduler) × holds (done_made image cpu n s)
 
   -- it is what this processor asks for next, and leaves it so
   pub record Leads (p : Processor) (request : Request) (z : Processor) : Type 0 where

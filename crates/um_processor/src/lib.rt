@@ -42,7 +42,6 @@ pub use object_cell::ObjectCell;
 pub use parked::Parked;
 pub use phase::{Phase, Turn};
 pub use processor::Processor;
-pub use request::{Onward, Request};
 pub use row_act::{RowAct, RowSaid};
 pub use running::Running;
 pub use said::Said;

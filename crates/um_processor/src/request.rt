@@ -25,6 +25,8 @@ pub enum Request {
     Heap(HeapAct, Option<Cost>),
     /// Without a copy's bytes.
     Memory(MemoryAct),
+    /// A thread doesn't run any longer.
+    Done,
 }
 
 /// How a processor goes on behind such a step.
@@ -85,6 +87,10 @@ impl Request {
             Request::Memory(act) => {
                 let mut none = Piece::new();
                 made!(sites.memory(here, act, &mut none));
+                Turn::Made
+            }
+            Request::Done => {
+                made!(sites.done(here));
                 Turn::Made
             }
         }

@@ -45,7 +45,7 @@ impl Running {
             Phase::StartHold => self.hold(here, Phase::Start, sites),
             Phase::Add => self.add(here, sites),
             Phase::Park => self.park(here, sites),
-            Phase::Done => self.finish(here, sites),
+            Phase::Done => self.ask(here, &Request::Done, Onward::To(Phase::Idle), sites),
             Phase::ReadDone => {
                 let request = Request::Domain(self.domain, DomainAct::ReadDone);
                 self.ask(here, &request, Onward::To(Phase::LetGo), sites)

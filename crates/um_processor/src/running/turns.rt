@@ -53,17 +53,6 @@ impl Running {
         Turn::Made
     }
 
-    /// The thread isn't put back.
-    pub fn finish<S: Sites>(&mut self, here: &Here, sites: &mut S) -> Turn
-        requires goes { CanTurn S.Sites here.now sites.old (in_phase Phase.Done self.old) }
-        ensures turn { HasRun S.Sites result here.now sites.old sites.new
-            (in_phase Phase.Done self.old) self.old self.new }
-    {
-        made!(sites.done(here));
-        self.phase = Phase::Idle;
-        Turn::Made
-    }
-
     /// The new thread gets ready.
     pub fn add<S: Sites>(&mut self, here: &Here, sites: &mut S) -> Turn
         requires goes { CanTurn S.Sites here.now sites.old (in_phase Phase.Add self.old) }
