@@ -6,26 +6,25 @@ use std::test::Fail;
 use um_document::fault_text;
 use um_samples::{LAST_BYTE, LAST_BYTE_CANONICAL};
 
-/// A partition of two variables, in version 2.
-const PACKED: &str = "version = 2
-mpu = \"pmsav7\"
-regions = 4
-oops = \"abort\"
-[[partition]]
-name = \"p\"
-attr = \"P_RW_U_RW\"
-vars = [{name = \"x\", size = 1}, {name = \"y\", size = 4, align = 4, data = \"2a000000\"}]
-";
+/// A description of one partition with these variables, in version 2.
+macro_rules! with_variables {
+    ($variables:literal) => {
+        concat!(
+            "version = 2\nmpu = \"pmsav7\"\nregions = 4\noops = \"abort\"\n",
+            "[[partition]]\nname = \"p\"\nattr = \"P_RW_U_RW\"\nvars = [",
+            $variables,
+            "]\n"
+        )
+    };
+}
 
-const PACKED_PRINTED: &str = "version = 2
-mpu = \"pmsav7\"
-regions = 4
-oops = \"abort\"
-[[partition]]
-name = \"p\"
-attr = \"P_RW_U_RW\"
-vars = [{name = \"v0\", size = 32, align = 32, data = \"000000002a000000\"}]
-";
+const PACKED: &str = with_variables!(
+    "{name = \"x\", size = 1}, {name = \"y\", size = 4, align = 4, data = \"2a000000\"}"
+);
+
+const PACKED_PRINTED: &str = with_variables!(
+    "{name = \"v0\", size = 32, align = 32, data = \"000000002a000000\"}"
+);
 
 /// Each key of each section, and each kind of object with and without its numbers. Names of variables are taken.
 const EVERY_KEY: &str = "version = 1

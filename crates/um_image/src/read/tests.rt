@@ -6,7 +6,7 @@ use std::test::Fail;
 use um_base::{Addr, Attr, Instr, Mode, Mpu, Name, Range, Row, Setup, Term, ThreadIx};
 use um_description::weight;
 use um_document::fault_text;
-use um_samples::LAST_BYTE;
+use um_samples::{LAST_BYTE, described};
 
 /// The lines of the script of `LAST_BYTE`.
 const LINES: &str = "\"store @p+31 1 0xab\", \"load r0 @p+32 1\"";
@@ -105,11 +105,8 @@ const PACKED_ANSWERS: [(&str, &str, &str); 11] = [
 ];
 
 /// A supervisor that makes a domain and two threads, of which one sends the other a message.
-const TWO_THREADS: &str = "version = 1
-mpu = \"pmsav7\"
-regions = 8
-oops = \"abort\"
-rodata = \"73656e736f7200\"
+const TWO_THREADS: &str = described!(
+    "rodata = \"73656e736f7200\"
 partition = [{name = \"p_app\", size = 256, attr = \"P_RW_U_RW\"}]
 domain = [{name = \"boot_d\", partitions = []}, {name = \"app\"}]
 object = [
@@ -133,7 +130,8 @@ lines = [\"k_thread_name_set @sensor @rodata\", \"store @p_app+16 4 0x2a\", \"k_
 [[script]]
 name = \"idle\"
 lines = [\"set r0 1\"]
-";
+"
+);
 
 /// The fault of a text as it is told, or `image`.
 fn answer(alloc: Global, text: &str) -> Result<String, Fail> {

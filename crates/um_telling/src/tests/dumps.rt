@@ -4,15 +4,13 @@ use super::image_of;
 use std::test::Fail;
 use um_base::{Act, ThreadIx};
 use um_matrix::Matrix;
+use um_samples::described;
 use um_trace::{DUMP_ROOM, dump_text};
 
 /// The thread `a` names itself, writes to its partition and to its stack, and creates a thread on an allocated object,
 /// which names itself, locks the mutex `m` twice and ends. The thread `b` waits at an empty queue.
-const DESCRIPTION: &str = "version = 1
-mpu = \"pmsav7\"
-regions = 8
-oops = \"abort\"
-rodata = \"7a6100\"
+const DESCRIPTION: &str = described!(
+    "rodata = \"7a6100\"
 pool = [{name = \"h\", size = 128}]
 partition = [{name = \"p\", size = 256, attr = \"P_RW_U_RW\"}, {name = \"r\", size = 32, attr = \"P_RO_U_RO\"}]
 domain = [{name = \"d\", partitions = [\"p\", \"r\"]}, {name = \"e\", partitions = []}, {name = \"f\"}]
@@ -29,7 +27,8 @@ script = [{name = \"main\", lines = [\"k_thread_name_set @a @rodata\", \"store @
   \"k_object_release r0\"]},
  {name = \"waits\", lines = [\"k_msgq_get @q @p K_FOREVER\"]},
  {name = \"locks\", lines = [\"k_thread_name_set 0x48000000 @rodata\", \"k_mutex_lock @m K_NO_WAIT\", \"k_mutex_lock @m K_NO_WAIT\"]}]
-";
+"
+);
 
 /// Its dump once no thread has a step left, before anything is cleaned.
 const DUMP: &str = "dump

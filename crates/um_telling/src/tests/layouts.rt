@@ -2,19 +2,18 @@
 
 use super::image_of;
 use std::test::Fail;
+use um_samples::described;
 use um_trace::{layout_room, layout_text};
 
 /// Read-only data, a partition, two threads with their stacks, and a semaphore.
-const PLACES: &str = "version = 1
-mpu = \"pmsav7\"
-regions = 8
-oops = \"abort\"
-rodata = \"00\"
+const PLACES: &str = described!(
+    "rodata = \"00\"
 partition = [{name = \"p\", size = 32, attr = \"P_RW_U_RW\"}]
 object = [{name = \"a\", kind = \"thread\"}, {name = \"sa\", kind = \"thread_stack\", size = 60},
  {name = \"b\", kind = \"thread\"}, {name = \"sb\", kind = \"thread_stack\", size = 60},
  {name = \"s\", kind = \"sem\"}]
-";
+"
+);
 
 #[test]
 fn addresses(rt: HostRuntime) -> Result<(), Fail> {
