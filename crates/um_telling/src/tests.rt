@@ -10,22 +10,22 @@ ghost use Rattle.std.specs.Prelude.{IfOk};
 ghost use Rattle.um_base.specs.Lawful.{IsLawful};
 
 use std::alloc::Global;
+use std::process::Abort;
 use std::test::Fail;
 use um_base::{Act, Event, Image, ThreadIx};
 use um_image::read_image;
+use um_samples::described;
 use um_trace::{LINE_ROOM, line_text};
 
 /// Threads `a` and `b` with their stacks of 60 bytes, a semaphore `s`, a domain `d` and a script `m`.
-const SMALL: &str = "version = 1
-mpu = \"pmsav7\"
-regions = 8
-oops = \"abort\"
-domain = [{name = \"d\"}]
+const SMALL: &str = described!(
+    "domain = [{name = \"d\"}]
 object = [{name = \"a\", kind = \"thread\"}, {name = \"sa\", kind = \"thread_stack\", size = 60},
  {name = \"b\", kind = \"thread\"}, {name = \"sb\", kind = \"thread_stack\", size = 60},
  {name = \"s\", kind = \"sem\"}]
 script = [{name = \"m\", lines = [\"k_oops\"]}]
-";
+"
+);
 
 /// The image of a description.
 fn image_of(alloc: Global, description: &str) -> Result<Image, Fail>
@@ -57,4 +57,11 @@ fn lines_of(alloc: Global, acts: &[Act]) -> Result<Vec<u8>, Fail> {
         lines.extend_from_slice(&line)?;
     }
     Ok(lines)
+}
+
+/// The lines of these acts of thread `a`.
+fn are_told<R: Abort + AllocGlobal>(rt: &R, acts: &[Act], want: &str) -> Result<(), Fail> {
+    let lines = lines_of(rt.alloc(), acts)?;
+    assert_eq!(rt; lines.as_slice(), want.as_bytes());
+    Ok(())
 }

@@ -1,6 +1,6 @@
 //! Lines of events over a small image, as worked examples show them.
 
-use super::lines_of;
+use super::are_told;
 use std::test::Fail;
 use um_base::{
     Access, Act, Addr, Answer, Attr, Cause, Errno, Event, Found, Given, Kind, Leftover, Range,
@@ -28,11 +28,11 @@ fn acts_of_threads(rt: HostRuntime) -> Result<(), Fail> {
         Act::Doom { who: ThreadIx(31) },
         Act::Exit,
     ];
-    assert_eq!(rt;
-        lines_of(rt.alloc(), &acts)?.as_slice(),
-        "a begin m 1\na resume\na reply NULL\na name b\na start #0\na user\na fatal 3 EPERM\na fatal 0 access\na doom 31\na exit\n".as_bytes()
-    );
-    Ok(())
+    are_told(
+        &rt,
+        &acts,
+        "a begin m 1\na resume\na reply NULL\na name b\na start #0\na user\na fatal 3 EPERM\na fatal 0 access\na doom 31\na exit\n",
+    )
 }
 
 #[test]
@@ -88,11 +88,11 @@ fn acts_on_domains_and_pairs(rt: HostRuntime) -> Result<(), Fail> {
             left: Leftover::Gone,
         },
     ];
-    assert_eq!(rt;
-        lines_of(rt.alloc(), &acts)?.as_slice(),
-        "a domain init d 0\na domain add d 0x20000000/32/P_RW_U_RW ENOSPC\na domain remove d 0x20000000/32/P_RW_U_RW 0\na domain move d b 0\na grant b #16 ok\na own b gone\na inherit b sb\na drop a a kept\na drop b #16 gone\n".as_bytes()
-    );
-    Ok(())
+    are_told(
+        &rt,
+        &acts,
+        "a domain init d 0\na domain add d 0x20000000/32/P_RW_U_RW ENOSPC\na domain remove d 0x20000000/32/P_RW_U_RW 0\na domain move d b 0\na grant b #16 ok\na own b gone\na inherit b sb\na drop a a kept\na drop b #16 gone\n",
+    )
 }
 
 #[test]
@@ -156,11 +156,11 @@ fn acts_on_objects(rt: HostRuntime) -> Result<(), Fail> {
         Act::Unbuffer { size: 8 },
         Act::Recycle { addr: dynamic },
     ];
-    assert_eq!(rt;
-        lines_of(rt.alloc(), &acts)?.as_slice(),
-        "a check s sem init EPERM\na check 0x00000000 any any ok\na act s wait\na act s void wake b 0\na public s ok\na setinit #4 ok\na setinit s EADDRINUSE\na uninit sa\na reserve sem #4\na reserve msgq NULL\na born #4\na buffer 8 ENOMEM\na unbuffer 8\na recycle #4\n".as_bytes()
-    );
-    Ok(())
+    are_told(
+        &rt,
+        &acts,
+        "a check s sem init EPERM\na check 0x00000000 any any ok\na act s wait\na act s void wake b 0\na public s ok\na setinit #4 ok\na setinit s EADDRINUSE\na uninit sa\na reserve sem #4\na reserve msgq NULL\na born #4\na buffer 8 ENOMEM\na unbuffer 8\na recycle #4\n",
+    )
 }
 
 #[test]
@@ -209,11 +209,11 @@ fn acts_on_memory(rt: HostRuntime) -> Result<(), Fail> {
         },
         Act::Erase { stack: Row(1) },
     ];
-    assert_eq!(rt;
-        lines_of(rt.alloc(), &acts)?.as_slice(),
-        "a load 0x20000000 4 0x0\na store 0x2000001f 1 0xab\na exec 0x08000000\na fault read 0x20000020 1\na probe 0x20000000 4 ok\na copyin 0xdead0000 0 ok\na copyout 0x20000000 4 EFAULT\na copystr 0x08000000 6\na copystr 0x08000000 toolong\na erase sa\n".as_bytes()
-    );
-    Ok(())
+    are_told(
+        &rt,
+        &acts,
+        "a load 0x20000000 4 0x0\na store 0x2000001f 1 0xab\na exec 0x08000000\na fault read 0x20000020 1\na probe 0x20000000 4 ok\na copyin 0xdead0000 0 ok\na copyout 0x20000000 4 EFAULT\na copystr 0x08000000 6\na copystr 0x08000000 toolong\na erase sa\n",
+    )
 }
 
 #[test]

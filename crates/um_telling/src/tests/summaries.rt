@@ -1,8 +1,9 @@
 //! The summary of acts, and of a run to its end.
 
 use super::image_of;
+use std::alloc::Global;
 use std::test::Fail;
-use um_base::{Act, Addr, Answer, Cause, Errno, Event, Replies, Reply, ThreadIx, Want};
+use um_base::{Act, Addr, Answer, Cause, Errno, Event, Image, Replies, Reply, ThreadIx, Want};
 use um_matrix::Matrix;
 use um_samples::LAST_BYTE;
 use um_trace::{SUMMARY_ROOM, summary_text};
@@ -24,6 +25,18 @@ fn work(answer: Answer) -> Act {
         answer,
         woken: Replies::new(),
     }
+}
+
+/// The summary of a run.
+fn summary_of(
+    alloc: Global,
+    image: &Image,
+    events: &[Event],
+    last: &Matrix<'_>,
+) -> Result<Vec<u8>, Fail> {
+    let mut room = Vec::with_capacity(alloc, SUMMARY_ROOM)?;
+    summary_text(image, events, last, &mut room);
+    Ok(room)
 }
 
 #[test]
@@ -54,10 +67,9 @@ fn acts_are_counted(rt: HostRuntime) -> Result<(), Fail> {
             act,
         })?;
     }
-    let mut room = Vec::with_capacity(rt.alloc(), SUMMARY_ROOM)?;
-    summary_text(&image, &events, &last, &mut room);
+    let summary = summary_of(rt.alloc(), &image, &events, &last)?;
     assert_eq!(rt;
-        room.as_slice(),
+        summary.as_slice(),
         "events 13\nbegins 3\nchecks 3\nrefused 1\nfatals 1\nwaits 1\nrecycles 2\nended 0\nwaiting 0\n".as_bytes()
     );
     Ok(())
@@ -74,10 +86,9 @@ fn a_run_to_its_end(rt: HostRuntime) -> Result<(), Fail> {
             events.push(event)?;
         }
     }
-    let mut room = Vec::with_capacity(rt.alloc(), SUMMARY_ROOM)?;
-    summary_text(&image, &events, &matrix, &mut room);
+    let summary = summary_of(rt.alloc(), &image, &events, &matrix)?;
     assert_eq!(rt;
-        room.as_slice(),
+        summary.as_slice(),
         "events 8\nbegins 2\nchecks 0\nrefused 0\nfatals 1\nwaits 0\nrecycles 0\nended 1\nwaiting 0\n".as_bytes()
     );
     Ok(())

@@ -1,22 +1,18 @@
 //! Numbers and words, as lines show them.
 
-use super::lines_of;
-use std::alloc::Global;
+use super::are_told;
 use std::process::Abort;
 use std::test::Fail;
 use um_base::{Act, Addr, Attr, Cause, Errno, Kind, Leftover, Range, Reply, ThreadIx, Want};
 
 /// The line of an act, behind its thread and a space.
-fn is_told(rt: &impl Abort, alloc: Global, act: Act, want: &str) -> Result<(), Fail> {
-    let wanted = format!(in alloc; "a {want}\n")?;
-    let lines = lines_of(alloc, &[act])?;
-    assert_eq!(rt; lines.as_slice(), wanted.as_bytes());
-    Ok(())
+fn is_told<R: Abort + AllocGlobal>(rt: &R, act: Act, want: &str) -> Result<(), Fail> {
+    let wanted = format!(in rt.alloc(); "a {want}\n")?;
+    are_told(rt, &[act], &wanted)
 }
 
 #[test]
 fn numbers(rt: HostRuntime) -> Result<(), Fail> {
-    let alloc = rt.alloc();
     for (n, address, value, decimal) in [
         (0, "0x00000000", "0x0", "0"),
         (9, "0x00000009", "0x9", "9"),
@@ -31,31 +27,36 @@ fn numbers(rt: HostRuntime) -> Result<(), Fail> {
             size: 4,
             value: n,
         };
-        let loaded = format!(in alloc; "load {address} 4 {value}")?;
-        is_told(&rt, alloc, load, &loaded)?;
+        let loaded = format!(in rt.alloc(); "load {address} 4 {value}")?;
+        is_told(&rt, load, &loaded)?;
         let answer = Act::Answered {
             reply: Reply::Num(n),
         };
-        let answered = format!(in alloc; "reply {decimal}")?;
-        is_told(&rt, alloc, answer, &answered)?;
+        let answered = format!(in rt.alloc(); "reply {decimal}")?;
+        is_told(&rt, answer, &answered)?;
     }
     Ok(())
 }
 
-/// A check of the address 0.
-fn check(kind: Option<Kind>, verdict: Option<Errno>) -> Act {
-    Act::Check {
+/// The line of a check of the address 0, for this kind and with this verdict, each with its word.
+fn is_checked<R: Abort + AllocGlobal>(
+    rt: &R,
+    kind: (Option<Kind>, &str),
+    verdict: (Option<Errno>, &str),
+) -> Result<(), Fail> {
+    let check = Act::Check {
         addr: Addr(0),
-        kind,
+        kind: kind.0,
         want: Want::Any,
-        verdict,
-    }
+        verdict: verdict.0,
+    };
+    let told = format!(in rt.alloc(); "check 0x00000000 {} any {}", kind.1, verdict.1)?;
+    is_told(rt, check, &told)
 }
 
 #[test]
 fn errors_and_kinds(rt: HostRuntime) -> Result<(), Fail> {
-    let alloc = rt.alloc();
-    for (error, want) in [
+    for error in [
         (None, "ok"),
         (Some(Errno::EPERM), "EPERM"),
         (Some(Errno::EBADF), "EBADF"),
@@ -71,11 +72,9 @@ fn errors_and_kinds(rt: HostRuntime) -> Result<(), Fail> {
         (Some(Errno::EPIPE), "EPIPE"),
         (Some(Errno::ECANCELED), "ECANCELED"),
     ] {
-        let told = format!(in alloc; "check 0x00000000 any any {want}")?;
-        is_told(&rt, alloc, check(None, error), &told)?;
+        is_checked(&rt, (None, "any"), error)?;
     }
-    for (kind, want) in [
-        (None, "any"),
+    for kind in [
         (Some(Kind::Thread), "thread"),
         (Some(Kind::ThreadStack), "thread_stack"),
         (Some(Kind::Sem), "sem"),
@@ -84,15 +83,13 @@ fn errors_and_kinds(rt: HostRuntime) -> Result<(), Fail> {
         (Some(Kind::Stack), "stack"),
         (Some(Kind::Pipe), "pipe"),
     ] {
-        let told = format!(in alloc; "check 0x00000000 {want} any ok")?;
-        is_told(&rt, alloc, check(kind, None), &told)?;
+        is_checked(&rt, kind, (None, "ok"))?;
     }
     Ok(())
 }
 
 #[test]
 fn attributes_leftovers_and_causes(rt: HostRuntime) -> Result<(), Fail> {
-    let alloc = rt.alloc();
     for (attr, want) in [
         (Attr::P_RW_U_RW, "P_RW_U_RW"),
         (Attr::P_RW_U_RO, "P_RW_U_RO"),
@@ -111,18 +108,18 @@ fn attributes_leftovers_and_causes(rt: HostRuntime) -> Result<(), Fail> {
             attr,
             reply: Reply::Num(0),
         };
-        let told = format!(in alloc; "domain add d 0x20000000/32/{want} 0")?;
-        is_told(&rt, alloc, add, &told)?;
+        let told = format!(in rt.alloc(); "domain add d 0x20000000/32/{want} 0")?;
+        is_told(&rt, add, &told)?;
     }
     let drop = Act::DropPair {
         who: ThreadIx(0),
         addr: Addr(0x4000_0000),
         left: Leftover::NoPair,
     };
-    is_told(&rt, alloc, drop, "drop a a none")?;
+    is_told(&rt, drop, "drop a a none")?;
     let fatal = Act::Fatal {
         reason: 0,
         cause: Cause::PriorityHigher,
     };
-    is_told(&rt, alloc, fatal, "fatal 0 priority_higher")
+    is_told(&rt, fatal, "fatal 0 priority_higher")
 }
