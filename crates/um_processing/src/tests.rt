@@ -1,5 +1,25 @@
 //! Steps over tables: a row, a thread, a domain, and turns of a thread.
 
+/// A processor at an image.
+macro_rules! here {
+    ($image:ident, $cpu:expr) => {
+        Here {
+            image: &$image,
+            cpu: $cpu,
+        }
+    };
+}
+
+/// A step is made, and what it says is so.
+macro_rules! is_made {
+    ($rt:ident, $said:expr, $made:pat => $holds:expr) => {
+        match $said {
+            Said::Made($made) => assert!($rt; $holds),
+            _ => assert!($rt; false),
+        }
+    };
+}
+
 mod contexts;
 mod events;
 mod memory;
@@ -242,14 +262,8 @@ fn tables(alloc: Global) -> Result<Tables, Memory>
 #[test]
 fn over_tables(rt: HostRuntime) -> Result<(), Fail> {
     let image = image(rt.alloc());
-    let here = &Here {
-        image: &image,
-        cpu: 0,
-    };
-    let there = &Here {
-        image: &image,
-        cpu: 1,
-    };
+    let here = &here!(image, 0);
+    let there = &here!(image, 1);
     let mut sites = tables(rt.alloc())?;
     let pass = RowAct::Pass {
         thread: ThreadIx(3),
@@ -257,15 +271,9 @@ fn over_tables(rt: HostRuntime) -> Result<(), Fail> {
         addr: Addr(0x4000_0000),
     };
     for (row, visits) in [(9, false), (9, true), (10, false)] {
-        match sites.row(here, Row(row), &pass) {
-            Said::Made(said) => assert!(rt; said.visits == visits),
-            _ => assert!(rt; false),
-        }
+        is_made!(rt, sites.row(here, Row(row), &pass), said => said.visits == visits);
     }
-    match sites.thread(there, ThreadIx(3), &ThreadAct::Hold) {
-        Said::Made(word) => assert!(rt; word.held && word.number == 1),
-        _ => assert!(rt; false),
-    }
+    is_made!(rt, sites.thread(there, ThreadIx(3), &ThreadAct::Hold), word => word.held && word.number == 1);
     assert!(rt;
         matches!(
             sites.thread(here, ThreadIx(3), &ThreadAct::Hold),
@@ -280,10 +288,7 @@ fn over_tables(rt: HostRuntime) -> Result<(), Fail> {
 #[test]
 fn a_domain_cell(rt: HostRuntime) -> Result<(), Fail> {
     let image = image(rt.alloc());
-    let here = &Here {
-        image: &image,
-        cpu: 0,
-    };
+    let here = &here!(image, 0);
     let mut sites = tables(rt.alloc())?;
     let init = Pending::DomInit {
         domain: 1,
@@ -303,17 +308,11 @@ fn a_domain_cell(rt: HostRuntime) -> Result<(), Fail> {
         (&init, Reply::Fail(Errno::EINVAL)),
         (&add, Reply::Num(0)),
     ] {
-        match sites.edit(here, 1, call) {
-            Said::Made(said) => assert!(rt; said == reply),
-            _ => assert!(rt; false),
-        }
+        is_made!(rt, sites.edit(here, 1, call), said => said == reply);
     }
     let mut parts = Parts::new();
     for (domain, few) in [(1, 1), (2, 0)] {
-        match sites.load_parts(here, domain, &mut parts) {
-            Said::Made(()) => assert!(rt; parts.len() == few),
-            _ => assert!(rt; false),
-        }
+        is_made!(rt, sites.load_parts(here, domain, &mut parts), () => parts.len() == few);
     }
     Ok(())
 }
@@ -322,10 +321,7 @@ fn a_domain_cell(rt: HostRuntime) -> Result<(), Fail> {
 #[test]
 fn a_heap(rt: HostRuntime) -> Result<(), Fail> {
     let image = image(rt.alloc());
-    let here = &Here {
-        image: &image,
-        cpu: 0,
-    };
+    let here = &here!(image, 0);
     let mut sites = tables(rt.alloc())?;
     let thread = ThreadIx(0);
     let reserve = HeapAct::Reserve {
@@ -348,10 +344,7 @@ fn a_heap(rt: HostRuntime) -> Result<(), Fail> {
         ),
         (&reserve, cost, Some(first)),
     ] {
-        match sites.heap(here, act, charge) {
-            Said::Made(said) => assert!(rt; said.addr == addr && !said.fits),
-            _ => assert!(rt; false),
-        }
+        is_made!(rt, sites.heap(here, act, charge), said => said.addr == addr && !said.fits);
     }
     Ok(())
 }
@@ -372,10 +365,7 @@ fn waiter(ask: &Ask) -> Waiter
 #[test]
 fn an_object(rt: HostRuntime) -> Result<(), Fail> {
     let image = image(rt.alloc());
-    let here = &Here {
-        image: &image,
-        cpu: 0,
-    };
+    let here = &here!(image, 0);
     let mut sites = tables(rt.alloc())?;
     let mut outcome = Outcome::new();
     let init = waiter(&Ask::MsgqInit {
@@ -384,19 +374,10 @@ fn an_object(rt: HostRuntime) -> Result<(), Fail> {
         pool: 1,
     });
     let addr = Addr(0x4000_0000);
-    match sites.work(here, Row(3), addr, &init, &mut outcome) {
-        Said::Made(()) => assert!(rt; outcome.answer == Answer::Now(Reply::Num(0))),
-        _ => assert!(rt; false),
-    }
-    match sites.message_size(here, Row(3)) {
-        Said::Made(size) => assert!(rt; size == 3),
-        _ => assert!(rt; false),
-    }
+    is_made!(rt, sites.work(here, Row(3), addr, &init, &mut outcome), () => outcome.answer == Answer::Now(Reply::Num(0)));
+    is_made!(rt, sites.message_size(here, Row(3)), size => size == 3);
     for cost in [Some(Cost { pool: 1, bytes: 8 }), None] {
-        match sites.clear(here, Row(3)) {
-            Said::Made(said) => assert!(rt; said == cost),
-            _ => assert!(rt; false),
-        }
+        is_made!(rt, sites.clear(here, Row(3)), said => said == cost);
     }
     Ok(())
 }

@@ -9,14 +9,8 @@ use um_processor::{HeapAct, Here, RowAct, Said, Sites};
 #[test]
 fn a_log(rt: HostRuntime) -> Result<(), Fail> {
     let image = image(rt.alloc());
-    let here = &Here {
-        image: &image,
-        cpu: 1,
-    };
-    let there = &Here {
-        image: &image,
-        cpu: 0,
-    };
+    let here = &here!(image, 1);
+    let there = &here!(image, 0);
     let mut sites = super::tables(rt.alloc())?;
     let thread = ThreadIx(3);
     let who = ThreadIx(4);

@@ -9,10 +9,7 @@ use um_processor::{Here, MemoryAct, Said, Sites};
 #[test]
 fn a_memory(rt: HostRuntime) -> Result<(), Fail> {
     let image = image(rt.alloc());
-    let here = &Here {
-        image: &image,
-        cpu: 0,
-    };
+    let here = &here!(image, 0);
     let mut sites = super::tables(rt.alloc())?;
     let mut buffer = Piece::new();
     let thread = ThreadIx(0);
@@ -29,29 +26,18 @@ fn a_memory(rt: HostRuntime) -> Result<(), Fail> {
         addr,
         size: 2,
     };
-    match sites.memory(here, &load, &mut buffer) {
-        Said::Made(said) => assert!(rt; said.value == 0x4243),
-        _ => assert!(rt; false),
-    }
+    is_made!(rt, sites.memory(here, &load, &mut buffer), said => said.value == 0x4243);
     let short = MemoryAct::CopyStr {
         thread,
         addr,
         readable: 3,
     };
-    match sites.memory(here, &short, &mut buffer) {
-        Said::Made(said) => assert!(rt; said.found == Found::Unreadable && buffer.len() == 0),
-        _ => assert!(rt; false),
-    }
+    is_made!(rt, sites.memory(here, &short, &mut buffer), said => said.found == Found::Unreadable && buffer.len() == 0);
     let whole = MemoryAct::CopyStr {
         thread,
         addr,
         readable: 32,
     };
-    match sites.memory(here, &whole, &mut buffer) {
-        Said::Made(said) => assert!(rt;
-            said.found == Found::Length(3) && buffer.as_slice() == b"CBA".as_slice()
-        ),
-        _ => assert!(rt; false),
-    }
+    is_made!(rt, sites.memory(here, &whole, &mut buffer), said => said.found == Found::Length(3) && buffer.as_slice() == b"CBA".as_slice());
     Ok(())
 }
