@@ -243,6 +243,29 @@ fn by(thread: u8, act: &Act) -> Event {
     }
 }
 
+/// A check for permission that finds nothing wrong.
+macro_rules! check {
+    ($addr:expr, $kind:expr) => {
+        Act::Check {
+            addr: $addr,
+            kind: $kind,
+            want: Want::Any,
+            verdict: None,
+        }
+    };
+}
+
+/// A thread's permission on an object goes.
+macro_rules! drop {
+    ($who:expr, $addr:expr, $left:expr) => {
+        Act::DropPair {
+            who: ThreadIx($who),
+            addr: $addr,
+            left: $left,
+        }
+    };
+}
+
 /// a allocates a semaphore and checks that it may grant it. c revokes a's pair with it, which is the last one.
 /// Then a's grant says that it is gone, and the semaphore is recycled once c's call, which holds it, has answered.
 const STORY: [(u8, Act); 24] = [
@@ -262,51 +285,12 @@ const STORY: [(u8, Act); 24] = [
         },
     ),
     (0, Act::Begin { script: 0, line: 2 }),
-    (
-        0,
-        Act::Check {
-            addr: B,
-            kind: Some(Kind::Thread),
-            want: Want::Any,
-            verdict: None,
-        },
-    ),
-    (
-        0,
-        Act::Check {
-            addr: SEM,
-            kind: None,
-            want: Want::Any,
-            verdict: None,
-        },
-    ),
+    (0, check!(B, Some(Kind::Thread))),
+    (0, check!(SEM, None)),
     (2, Act::Begin { script: 1, line: 1 }),
-    (
-        2,
-        Act::Check {
-            addr: A,
-            kind: Some(Kind::Thread),
-            want: Want::Any,
-            verdict: None,
-        },
-    ),
-    (
-        2,
-        Act::Check {
-            addr: SEM,
-            kind: None,
-            want: Want::Any,
-            verdict: None,
-        },
-    ),
-    (
-        2,
-        Act::DropPair {
-            who: ThreadIx(0),
-            addr: SEM,
-            left: Leftover::Gone,
-        },
-    ),
+    (2, check!(A, Some(Kind::Thread))),
+    (2, check!(SEM, None)),
+    (2, drop!(0, SEM, Leftover::Gone)),
     (
         0,
         Act::Grant {
@@ -320,32 +304,11 @@ const STORY: [(u8, Act); 24] = [
     (0, Act::Recycle { addr: SEM }),
     (0, Act::Exit),
     (2, Act::Exit),
-    (
-        2,
-        Act::DropPair {
-            who: ThreadIx(2),
-            addr: C,
-            left: Leftover::Kept,
-        },
-    ),
+    (2, drop!(2, C, Leftover::Kept)),
     (2, Act::ClearInit { addr: STACK_OF_C }),
     (2, Act::ClearInit { addr: C }),
-    (
-        0,
-        Act::DropPair {
-            who: ThreadIx(0),
-            addr: A,
-            left: Leftover::Kept,
-        },
-    ),
-    (
-        0,
-        Act::DropPair {
-            who: ThreadIx(0),
-            addr: B,
-            left: Leftover::Kept,
-        },
-    ),
+    (0, drop!(0, A, Leftover::Kept)),
+    (0, drop!(0, B, Leftover::Kept)),
     (0, Act::ClearInit { addr: STACK_OF_A }),
     (0, Act::ClearInit { addr: A }),
 ];
