@@ -11,6 +11,7 @@ mod texts;
 ghost use Rattle.std.specs.Prelude.{◌≤◌};
 
 use std::alloc::Global;
+use std::process::Abort;
 use std::sync::Wait;
 use std::test::Fail;
 use std::thread::Threads;
@@ -113,4 +114,11 @@ pub fn answered<R: AllocGlobal + Threads + Wait + Sync, G: Gate + Sync>(
     let source = source_of(alloc, description, 4096, Vec::new(alloc))?;
     let out = MemSink::new(alloc, 4096, Vec::new(alloc))?;
     call(rt, line, source, out, gate)
+}
+
+/// A command ended with this status, wrote these bytes, and told this.
+pub fn is_ended(rt: &impl Abort, ended: &Ended, status: Status, out: &[u8], err: &[u8]) {
+    assert_eq!(rt; ended.status, status);
+    assert_eq!(rt; ended.out.bytes(), out);
+    assert_eq!(rt; ended.err.bytes(), err);
 }

@@ -1,6 +1,6 @@
 //! Audits of the run of a store to the last byte of a partition, and a load past it.
 
-use super::{Ended, in_pieces};
+use super::{Ended, in_pieces, is_ended};
 use std::alloc::Global;
 use std::sync::Wait;
 use std::test::Fail;
@@ -65,9 +65,7 @@ fn verdicts(rt: HostRuntime) -> Result<(), Fail> {
     ];
     for (trace, verdict) in cases {
         let ended = audited(&rt, trace)?;
-        assert_eq!(rt; ended.status, Status::Done);
-        assert_eq!(rt; ended.out.bytes(), verdict.as_bytes());
-        assert_eq!(rt; ended.err.bytes().len(), 0);
+        is_ended(&rt, &ended, Status::Done, verdict.as_bytes(), b"");
     }
     Ok(())
 }
@@ -97,9 +95,7 @@ fn inputs_without_a_verdict(rt: HostRuntime) -> Result<(), Fail> {
     ];
     for (input, status, line) in cases {
         let ended = in_pieces(&rt, "audit", input.to_vec(alloc)?, 4096)?;
-        assert_eq!(rt; ended.status, status);
-        assert_eq!(rt; ended.out.bytes().len(), 0);
-        assert_eq!(rt; ended.err.bytes(), line.as_bytes());
+        is_ended(&rt, &ended, status, b"", line.as_bytes());
     }
     Ok(())
 }

@@ -1,7 +1,10 @@
 //! Sources and sinks that fail at one of their calls.
 
-use super::{answered, call, source_of};
+use super::{Ended, answered, call, source_of};
+use std::process::Abort;
+use std::sync::Wait;
 use std::test::Fail;
+use std::thread::Threads;
 use um_app::Status;
 use um_io::{MemSink, NoGate};
 use um_samples::REALISTIC;
@@ -23,40 +26,45 @@ fn a_read_fails(rt: HostRuntime) -> Result<(), Fail> {
     Ok(())
 }
 
+/// A command whose write of this number fails tells so, and wrote what the whole begins with.
+fn fails_at<R: Abort + AllocGlobal + Threads + Wait + Sync>(
+    rt: &R,
+    line: &str,
+    whole: &Ended,
+    write: u32,
+) -> Result<Ended, Fail> {
+    let alloc = rt.alloc();
+    let source = source_of(alloc, REALISTIC, 7, Vec::new(alloc))?;
+    let out = MemSink::new(alloc, 100, vec![in alloc; write]?)?;
+    let ended = call(rt, line, source, out, &NoGate)?;
+    assert_eq!(rt; ended.status, Status::WriteFault, "write {write}");
+    assert!(rt; whole.out.bytes().starts_with(ended.out.bytes()));
+    assert_eq!(rt; ended.err.bytes(), b"zumode: write fault\n".as_slice());
+    Ok(ended)
+}
+
 #[test]
 fn a_write_fails(rt: HostRuntime) -> Result<(), Fail> {
-    let alloc = rt.alloc();
     let whole = answered(&rt, "sim", REALISTIC, &NoGate)?;
     assert_eq!(rt; whole.status, Status::Done);
     for k in 0..21 {
-        let source = source_of(alloc, REALISTIC, 7, Vec::new(alloc))?;
-        let out = MemSink::new(alloc, 100, vec![in alloc; k]?)?;
-        let ended = call(&rt, "sim", source, out, &NoGate)?;
-        assert_eq!(rt; ended.status, Status::WriteFault, "write {k}");
-        assert!(rt; whole.out.bytes().starts_with(ended.out.bytes()));
+        let ended = fails_at(&rt, "sim", &whole, k)?;
         assert_eq!(rt; ended.out.bytes().len(), 100 * (k as usize));
-        assert_eq!(rt; ended.err.bytes(), b"zumode: write fault\n".as_slice());
     }
     Ok(())
 }
 
 #[test]
 fn a_write_of_a_run_fails(rt: HostRuntime) -> Result<(), Fail> {
-    let alloc = rt.alloc();
     let whole = answered(&rt, "run --cpus 1", REALISTIC, &NoGate)?;
     assert_eq!(rt; whole.status, Status::Done);
     assert!(rt; whole.board);
     for k in 0..21 {
-        let source = source_of(alloc, REALISTIC, 7, Vec::new(alloc))?;
-        let out = MemSink::new(alloc, 100, vec![in alloc; k]?)?;
-        let ended = call(&rt, "run --cpus 1", source, out, &NoGate)?;
-        assert_eq!(rt; ended.status, Status::WriteFault, "write {k}");
-        assert!(rt; whole.out.bytes().starts_with(ended.out.bytes()));
+        let ended = fails_at(&rt, "run --cpus 1", &whole, k)?;
         assert!(rt;
             !ended.board,
             "the board is left, although write {k} failed"
         );
-        assert_eq!(rt; ended.err.bytes(), b"zumode: write fault\n".as_slice());
     }
     Ok(())
 }

@@ -1,6 +1,6 @@
 //! Runs on several processors of one thread, by what holds of every order.
 
-use super::lines::{count_of, place_of};
+use super::lines::{drops_once, place_of};
 use super::{Ended, answered};
 use std::sync::Wait;
 use std::test::Fail;
@@ -47,12 +47,7 @@ fn one_drop_is_the_last_one(rt: HostRuntime) -> Result<(), Fail> {
     for pick in 0..32 {
         let ended = run_of(&rt, LAST_RELEASE, pick)?;
         assert_eq!(rt; ended.status, Status::Done);
-        let text = ended.out.bytes();
-        let both = count_of(text, "check #16 any any ok\n") == 3;
-        if both {
-            assert_eq!(rt; count_of(text, " #16 gone\n"), 1);
-            assert_eq!(rt; count_of(text, " recycle #16\n"), 1);
-        }
+        drops_once(&rt, ended.out.bytes());
     }
     Ok(())
 }

@@ -4,7 +4,7 @@ ghost use Rattle.um_base.specs.Lawful.{IsLawful};
 
 use super::answered;
 use super::gates::Meeting;
-use super::lines::count_of;
+use super::lines::drops_once;
 use std::alloc::Global;
 use std::sync::Wait;
 use std::test::Fail;
@@ -41,12 +41,7 @@ fn one_of_two_releases_is_the_last_one(rt: HostRuntime) -> Result<(), Fail> {
         let ended = answered(&rt, "run --cpus 2", LAST_RELEASE, &gate)?;
         assert_eq!(rt; ended.status, Status::Done);
         assert!(rt; gate.has_met());
-        let text = ended.out.bytes();
-        let both = count_of(text, "check #16 any any ok\n") == 3;
-        if both {
-            assert_eq!(rt; count_of(text, " #16 gone\n"), 1);
-            assert_eq!(rt; count_of(text, " recycle #16\n"), 1);
-        }
+        drops_once(&rt, ended.out.bytes());
     }
     Ok(())
 }

@@ -1,19 +1,16 @@
 //! What the commands write.
 
-use super::{Ended, in_pieces};
+use super::{Ended, in_pieces, is_ended};
 use std::alloc::Global;
+use std::process::Abort;
 use std::sync::Wait;
 use std::test::Fail;
 use std::thread::Threads;
 use um_app::Status;
-use um_samples::{LAST_BYTE, LAST_BYTE_CANONICAL, LAST_BYTE_RUN};
+use um_samples::{LAST_BYTE, LAST_BYTE_CANONICAL, LAST_BYTE_RUN, described};
 
 /// The top of a description.
-const TOP: &str = "version = 1
-mpu = \"pmsav7\"
-regions = 8
-oops = \"abort\"
-";
+const TOP: &str = described!("");
 
 const USAGE: &str =
     "zumode: usage: sim [--cpus N] [--pick N] | run [--cpus N] | layout | gen N | summary [--cpus N] [--pick N] | upgrade | audit\n";
@@ -41,16 +38,27 @@ fn a_run_in_pieces(rt: HostRuntime) -> Result<(), Fail> {
     let alloc = rt.alloc();
     for piece in [1, 7, 4096] {
         let ended = in_pieces(&rt, "sim", LAST_BYTE.as_bytes().to_vec(alloc)?, piece)?;
-        assert_eq!(rt; ended.status, Status::Done);
-        assert_eq!(rt; ended.out.bytes(), LAST_BYTE_RUN.as_bytes());
-        assert_eq!(rt; ended.err.bytes().len(), 0);
+        is_ended(&rt, &ended, Status::Done, LAST_BYTE_RUN.as_bytes(), b"");
     }
+    Ok(())
+}
+
+/// A command over memory ends with this status, writes this, and tells this.
+fn ends<R: Abort + AllocGlobal + Threads + Wait + Sync>(
+    rt: &R,
+    line: &str,
+    input: &str,
+    status: Status,
+    out: &str,
+    err: &str,
+) -> Result<(), Fail> {
+    let ended = in_pieces(rt, line, input.as_bytes().to_vec(rt.alloc())?, 64)?;
+    is_ended(rt, &ended, status, out.as_bytes(), err.as_bytes());
     Ok(())
 }
 
 #[test]
 fn what_each_command_writes(rt: HostRuntime) -> Result<(), Fail> {
-    let alloc = rt.alloc();
     let cases = [
         ("sim --pick 7 --cpus 08", LAST_BYTE_RUN),
         ("layout", ADDRESSES),
@@ -59,17 +67,13 @@ fn what_each_command_writes(rt: HostRuntime) -> Result<(), Fail> {
         ("summary --cpus 3", COUNTS),
     ];
     for (words, text) in cases {
-        let ended = in_pieces(&rt, words, LAST_BYTE.as_bytes().to_vec(alloc)?, 64)?;
-        assert_eq!(rt; ended.status, Status::Done);
-        assert_eq!(rt; ended.out.bytes(), text.as_bytes());
-        assert_eq!(rt; ended.err.bytes().len(), 0);
+        ends(&rt, words, LAST_BYTE, Status::Done, text, "")?;
     }
     Ok(())
 }
 
 #[test]
 fn words_that_are_no_command(rt: HostRuntime) -> Result<(), Fail> {
-    let alloc = rt.alloc();
     for words in [
         "Sim",
         "sim --cpus 9",
@@ -78,10 +82,7 @@ fn words_that_are_no_command(rt: HostRuntime) -> Result<(), Fail> {
         "layout layout",
         "run --pick 1",
     ] {
-        let ended = in_pieces(&rt, words, LAST_BYTE.as_bytes().to_vec(alloc)?, 64)?;
-        assert_eq!(rt; ended.status, Status::Usage);
-        assert_eq!(rt; ended.out.bytes().len(), 0);
-        assert_eq!(rt; ended.err.bytes(), USAGE.as_bytes());
+        ends(&rt, words, LAST_BYTE, Status::Usage, "", USAGE)?;
     }
     Ok(())
 }
@@ -118,7 +119,6 @@ fn a_generated_description_runs_the_same_again(rt: HostRuntime) -> Result<(), Fa
 
 #[test]
 fn what_is_refused(rt: HostRuntime) -> Result<(), Fail> {
-    let alloc = rt.alloc();
     let cases = [
         ("", "zumode: refused: Version\n"),
         ("version = \"1", "zumode: refused: NotToml\n"),
@@ -133,10 +133,7 @@ fn what_is_refused(rt: HostRuntime) -> Result<(), Fail> {
     ];
     for (input, line) in cases {
         for words in ["sim", "layout", "summary --pick 1"] {
-            let ended = in_pieces(&rt, words, input.as_bytes().to_vec(alloc)?, 64)?;
-            assert_eq!(rt; ended.status, Status::Refused);
-            assert_eq!(rt; ended.out.bytes().len(), 0);
-            assert_eq!(rt; ended.err.bytes(), line.as_bytes());
+            ends(&rt, words, input, Status::Refused, "", line)?;
         }
     }
     Ok(())
@@ -149,8 +146,12 @@ fn an_input_of_the_greatest_length_and_one_byte_more(rt: HostRuntime) -> Result<
     assert_eq!(rt; ended.status, Status::Refused);
     assert_eq!(rt; ended.err.bytes(), b"zumode: refused: Version\n".as_slice());
     let ended = in_pieces(&rt, "sim", vec![in alloc; b'#'; 1_048_577]?, 4096)?;
-    assert_eq!(rt; ended.status, Status::TooLong);
-    assert_eq!(rt; ended.out.bytes().len(), 0);
-    assert_eq!(rt; ended.err.bytes(), b"zumode: input too long\n".as_slice());
+    is_ended(
+        &rt,
+        &ended,
+        Status::TooLong,
+        b"",
+        b"zumode: input too long\n",
+    );
     Ok(())
 }
