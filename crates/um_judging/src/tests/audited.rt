@@ -87,22 +87,24 @@ fn expected(alloc: Global, image: &Image, events: &[Event], dump: &[u8]) -> Resu
     })
 }
 
+/// The events of a run, and the dump behind them.
+#[derive(Clone, Copy)]
+struct Run<'a> {
+    image: &'a Image,
+    events: &'a [Event],
+    dump: &'a [u8],
+}
+
 /// The audit of some events and a dump agrees with the judge.
-fn agrees(
-    rt: &impl Abort,
-    alloc: Global,
-    image: &Image,
-    events: &[Event],
-    dump: &[u8],
-) -> Result<(), Fail>
-    requires { IsLawful image.now }
+fn agrees(rt: &impl Abort, alloc: Global, run: &Run<'_>) -> Result<(), Fail>
+    requires { IsLawful run.now.image.now }
 {
-    let text = text_of(alloc, image, events, dump)?;
+    let text = text_of(alloc, run.image, run.events, run.dump)?;
     if text.len() >= 4_294_967_295 {
         return Err(Fail::new("too long"));
     }
-    let verdict = audit(alloc, image, text.as_slice())?;
-    let wanted = expected(alloc, image, events, dump)?;
+    let verdict = audit(alloc, run.image, text.as_slice())?;
+    let wanted = expected(alloc, run.image, run.events, run.dump)?;
     assert_eq!(rt; verdict, wanted);
     Ok(())
 }
@@ -131,31 +133,32 @@ fn replaced(
 fn agrees_with(
     rt: &impl Abort,
     alloc: Global,
-    image: &Image,
-    events: &[Event],
-    dump: &[u8],
+    run: &Run<'_>,
     at: usize,
     out: usize,
     others: &[Event],
 ) -> Result<(), Fail>
-    requires { IsLawful image.now }
+    requires { IsLawful run.now.image.now }
 {
-    let list = replaced(alloc, events, at, out, others)?;
-    agrees(rt, alloc, image, list.as_slice(), dump)
+    let list = replaced(alloc, run.events, at, out, others)?;
+    let other = Run {
+        image: run.image,
+        events: list.as_slice(),
+        dump: run.dump,
+    };
+    agrees(rt, alloc, &other)
 }
 
 /// The audit agrees with the judge where an event has its field of this number wrong, or has no such field, or the same line.
 fn change_agrees(
     rt: &impl Abort,
     alloc: Global,
-    image: &Image,
-    events: &[Event],
-    dump: &[u8],
+    run: &Run<'_>,
     at: usize,
     event: &Event,
     field: usize,
 ) -> Result<(), Fail>
-    requires { IsLawful image.now }
+    requires { IsLawful run.now.image.now }
 {
     let act = match changed(&event.act, field) {
         Some(act) => act,
@@ -165,69 +168,46 @@ fn change_agrees(
         thread: event.thread,
         act,
     };
-    let line = line_of(alloc, image, event)?;
-    let other = line_of(alloc, image, &wrong)?;
+    let line = line_of(alloc, run.image, event)?;
+    let other = line_of(alloc, run.image, &wrong)?;
     if line.as_slice() == other.as_slice() {
         return Ok(());
     }
-    agrees_with(rt, alloc, image, events, dump, at, 1, &[wrong])
+    agrees_with(rt, alloc, run, at, 1, &[wrong])
 }
 
-/// The audit agrees with the judge where an event is left out, stands twice, or is another thread's.
+/// The audit agrees with the judge where an event is left out, stands twice, is another thread's, or is exchanged with the next.
 fn moves_agree(
     rt: &impl Abort,
     alloc: Global,
-    image: &Image,
-    events: &[Event],
-    dump: &[u8],
+    run: &Run<'_>,
     at: usize,
     event: &Event,
 ) -> Result<(), Fail>
-    requires { IsLawful image.now }
+    requires { IsLawful run.now.image.now }
 {
-    agrees_with(rt, alloc, image, events, dump, at, 1, &[])?;
-    agrees_with(rt, alloc, image, events, dump, at, 0, &[*event])?;
+    agrees_with(rt, alloc, run, at, 1, &[])?;
+    agrees_with(rt, alloc, run, at, 0, &[*event])?;
     let stranger = Event {
         thread: ThreadIx(event.thread.0 ^ 1),
         act: event.act,
     };
-    agrees_with(rt, alloc, image, events, dump, at, 1, &[stranger])
-}
-
-/// The audit agrees with the judge where two neighbours are exchanged.
-fn exchange_agrees(
-    rt: &impl Abort,
-    alloc: Global,
-    image: &Image,
-    events: &[Event],
-    dump: &[u8],
-    at: usize,
-    event: &Event,
-) -> Result<(), Fail>
-    requires { IsLawful image.now }
-{
-    match events.get(at.saturating_add(1)) {
-        Some(other) => agrees_with(rt, alloc, image, events, dump, at, 2, &[*other, *event]),
+    agrees_with(rt, alloc, run, at, 1, &[stranger])?;
+    match run.events.get(at.saturating_add(1)) {
+        Some(other) => agrees_with(rt, alloc, run, at, 2, &[*other, *event]),
         None => Ok(()),
     }
 }
 
 /// The audit agrees with the judge wherever one line of a run is changed.
-fn table_agrees(
-    rt: &impl Abort,
-    alloc: Global,
-    image: &Image,
-    events: &[Event],
-    dump: &[u8],
-) -> Result<(), Fail>
-    requires { IsLawful image.now }
+fn table_agrees(rt: &impl Abort, alloc: Global, run: &Run<'_>) -> Result<(), Fail>
+    requires { IsLawful run.now.image.now }
 {
-    agrees(rt, alloc, image, events, dump)?;
-    for (at, event) in events.iter().enumerate() {
-        moves_agree(rt, alloc, image, events, dump, at, event)?;
-        exchange_agrees(rt, alloc, image, events, dump, at, event)?;
+    agrees(rt, alloc, run)?;
+    for (at, event) in run.events.iter().enumerate() {
+        moves_agree(rt, alloc, run, at, event)?;
         for field in 0..FIELDS {
-            change_agrees(rt, alloc, image, events, dump, at, event, field)?;
+            change_agrees(rt, alloc, run, at, event, field)?;
         }
     }
     Ok(())
@@ -255,7 +235,12 @@ fn run_agrees(rt: &impl Abort, alloc: Global, text: &str) -> Result<(), Fail> {
     let dump = dump_of(alloc, &image, &ahead)?;
     let whole = expected(alloc, &image, events.as_slice(), dump.as_slice())?;
     assert_eq!(rt; whole, Verdict::Yes);
-    table_agrees(rt, alloc, &image, events.as_slice(), dump.as_slice())
+    let run = Run {
+        image: &image,
+        events: events.as_slice(),
+        dump: dump.as_slice(),
+    };
+    table_agrees(rt, alloc, &run)
 }
 
 #[test]

@@ -4,203 +4,95 @@ use super::values::{
     access_of, answer_of, attr_of, cause_of, found_of, given_of, kind_of, kind_or_any, left_of,
     place_of, reply_of, set_of, verdict_of, want_of, woken_of,
 };
-use um_base::Act;
+use um_base::{Act, Attr, Range, Reply};
+
+/// Makes the change of this number, where there are so many.
+macro_rules! change_nth {
+    ($number:expr;) => { return false };
+    ($number:expr; $first:expr $(; $rest:expr)*) => {
+        if $number == 0 { $first } else { change_nth!($number - 1; $($rest);*) }
+    };
+}
+
+/// Changes the field of this number of a call with a partition.
+fn change_part(
+    domain: &mut u8,
+    range: &mut Range,
+    attr: &mut Attr,
+    reply: &mut Reply,
+    field: usize,
+) -> bool {
+    change_nth!(field; *domain ^= 1; range.start.0 ^= 1; range.size ^= 1; *attr = attr_of(*attr); *reply = reply_of(*reply));
+    true
+}
 
 /// Changes the field of this number, where the event has so many: an address is then no object's any more.
 fn change(act: &mut Act, field: usize) -> bool {
     match act {
-        Act::Begin { script, line } => match field {
-            0 => *script ^= 1,
-            1 => *line ^= 1,
-            _ => return false,
-        },
+        Act::Begin { script, line } => change_nth!(field; *script ^= 1; *line ^= 1),
         Act::Check {
             addr,
             kind,
             want,
             verdict,
-        } => match field {
-            0 => addr.0 ^= 1,
-            1 => *kind = kind_or_any(*kind),
-            2 => *want = want_of(*want),
-            3 => *verdict = verdict_of(*verdict),
-            _ => return false,
-        },
-        Act::Load { addr, size, value } => match field {
-            0 => addr.0 ^= 1,
-            1 => *size ^= 1,
-            2 => *value ^= 1,
-            _ => return false,
-        },
-        Act::Store { addr, size, value } => match field {
-            0 => addr.0 ^= 1,
-            1 => *size ^= 1,
-            2 => *value ^= 1,
-            _ => return false,
-        },
-        Act::Fetch { addr } => match field {
-            0 => addr.0 ^= 1,
-            _ => return false,
-        },
-        Act::Fault { access, addr, size } => match field {
-            0 => *access = access_of(*access),
-            1 => addr.0 ^= 1,
-            2 => *size ^= 1,
-            _ => return false,
-        },
-        Act::Probe { addr, size, fits } => match field {
-            0 => addr.0 ^= 1,
-            1 => *size ^= 1,
-            2 => *fits = !*fits,
-            _ => return false,
-        },
-        Act::CopyIn { addr, size, fits } => match field {
-            0 => addr.0 ^= 1,
-            1 => *size ^= 1,
-            2 => *fits = !*fits,
-            _ => return false,
-        },
-        Act::CopyOut { addr, size, fits } => match field {
-            0 => addr.0 ^= 1,
-            1 => *size ^= 1,
-            2 => *fits = !*fits,
-            _ => return false,
-        },
-        Act::CopyStr { addr, found } => match field {
-            0 => addr.0 ^= 1,
-            1 => *found = found_of(*found),
-            _ => return false,
-        },
-        Act::Erase { stack } => match field {
-            0 => stack.0 ^= 1,
-            _ => return false,
-        },
+        } =>
+            change_nth!(field; addr.0 ^= 1; *kind = kind_or_any(*kind); *want = want_of(*want); *verdict = verdict_of(*verdict)),
+        Act::Load { addr, size, value } => change_nth!(field; addr.0 ^= 1; *size ^= 1; *value ^= 1),
+        Act::Store { addr, size, value } =>
+            change_nth!(field; addr.0 ^= 1; *size ^= 1; *value ^= 1),
+        Act::Fetch { addr } => change_nth!(field; addr.0 ^= 1),
+        Act::Fault { access, addr, size } =>
+            change_nth!(field; *access = access_of(*access); addr.0 ^= 1; *size ^= 1),
+        Act::Probe { addr, size, fits } =>
+            change_nth!(field; addr.0 ^= 1; *size ^= 1; *fits = !*fits),
+        Act::CopyIn { addr, size, fits } =>
+            change_nth!(field; addr.0 ^= 1; *size ^= 1; *fits = !*fits),
+        Act::CopyOut { addr, size, fits } =>
+            change_nth!(field; addr.0 ^= 1; *size ^= 1; *fits = !*fits),
+        Act::CopyStr { addr, found } => change_nth!(field; addr.0 ^= 1; *found = found_of(*found)),
+        Act::Erase { stack } => change_nth!(field; stack.0 ^= 1),
         Act::Work {
             addr,
             answer,
             woken,
-        } => match field {
-            0 => addr.0 ^= 1,
-            1 => *answer = answer_of(*answer),
-            2 => *woken = woken_of(woken),
-            _ => return false,
-        },
-        Act::Answered { reply } => match field {
-            0 => *reply = reply_of(*reply),
-            _ => return false,
-        },
-        Act::Grant { who, addr, given } => match field {
-            0 => who.0 ^= 1,
-            1 => addr.0 ^= 1,
-            2 => *given = given_of(*given),
-            _ => return false,
-        },
-        Act::Own { who, given } => match field {
-            0 => who.0 ^= 1,
-            1 => *given = given_of(*given),
-            _ => return false,
-        },
-        Act::Inherit { who, addr } => match field {
-            0 => who.0 ^= 1,
-            1 => addr.0 ^= 1,
-            _ => return false,
-        },
-        Act::DropPair { who, addr, left } => match field {
-            0 => who.0 ^= 1,
-            1 => addr.0 ^= 1,
-            2 => *left = left_of(*left),
-            _ => return false,
-        },
-        Act::Publish { addr, given } => match field {
-            0 => addr.0 ^= 1,
-            1 => *given = given_of(*given),
-            _ => return false,
-        },
-        Act::SetInit { addr, set } => match field {
-            0 => addr.0 ^= 1,
-            1 => *set = set_of(*set),
-            _ => return false,
-        },
-        Act::ClearInit { addr } => match field {
-            0 => addr.0 ^= 1,
-            _ => return false,
-        },
-        Act::Named { who } => match field {
-            0 => who.0 ^= 1,
-            _ => return false,
-        },
-        Act::Reserve { kind, addr } => match field {
-            0 => *kind = kind_of(*kind),
-            1 => *addr = place_of(*addr),
-            _ => return false,
-        },
-        Act::Born { addr } => match field {
-            0 => addr.0 ^= 1,
-            _ => return false,
-        },
-        Act::Buffer { size, fits } => match field {
-            0 => *size ^= 1,
-            1 => *fits = !*fits,
-            _ => return false,
-        },
-        Act::Unbuffer { size } => match field {
-            0 => *size ^= 1,
-            _ => return false,
-        },
-        Act::Recycle { addr } => match field {
-            0 => addr.0 ^= 1,
-            _ => return false,
-        },
-        Act::DomInit { domain, reply } => match field {
-            0 => *domain ^= 1,
-            1 => *reply = reply_of(*reply),
-            _ => return false,
-        },
+        } =>
+            change_nth!(field; addr.0 ^= 1; *answer = answer_of(*answer); *woken = woken_of(woken)),
+        Act::Answered { reply } => change_nth!(field; *reply = reply_of(*reply)),
+        Act::Grant { who, addr, given } =>
+            change_nth!(field; who.0 ^= 1; addr.0 ^= 1; *given = given_of(*given)),
+        Act::Own { who, given } => change_nth!(field; who.0 ^= 1; *given = given_of(*given)),
+        Act::Inherit { who, addr } => change_nth!(field; who.0 ^= 1; addr.0 ^= 1),
+        Act::DropPair { who, addr, left } =>
+            change_nth!(field; who.0 ^= 1; addr.0 ^= 1; *left = left_of(*left)),
+        Act::Publish { addr, given } => change_nth!(field; addr.0 ^= 1; *given = given_of(*given)),
+        Act::SetInit { addr, set } => change_nth!(field; addr.0 ^= 1; *set = set_of(*set)),
+        Act::ClearInit { addr } => change_nth!(field; addr.0 ^= 1),
+        Act::Named { who } => change_nth!(field; who.0 ^= 1),
+        Act::Reserve { kind, addr } =>
+            change_nth!(field; *kind = kind_of(*kind); *addr = place_of(*addr)),
+        Act::Born { addr } => change_nth!(field; addr.0 ^= 1),
+        Act::Buffer { size, fits } => change_nth!(field; *size ^= 1; *fits = !*fits),
+        Act::Unbuffer { size } => change_nth!(field; *size ^= 1),
+        Act::Recycle { addr } => change_nth!(field; addr.0 ^= 1),
+        Act::DomInit { domain, reply } =>
+            change_nth!(field; *domain ^= 1; *reply = reply_of(*reply)),
         Act::DomAdd {
             domain,
             range,
             attr,
             reply,
-        } => match field {
-            0 => *domain ^= 1,
-            1 => range.start.0 ^= 1,
-            2 => range.size ^= 1,
-            3 => *attr = attr_of(*attr),
-            4 => *reply = reply_of(*reply),
-            _ => return false,
-        },
+        } => return change_part(domain, range, attr, reply, field),
         Act::DomRemove {
             domain,
             range,
             attr,
             reply,
-        } => match field {
-            0 => *domain ^= 1,
-            1 => range.start.0 ^= 1,
-            2 => range.size ^= 1,
-            3 => *attr = attr_of(*attr),
-            4 => *reply = reply_of(*reply),
-            _ => return false,
-        },
-        Act::DomMove { domain, who, reply } => match field {
-            0 => *domain ^= 1,
-            1 => who.0 ^= 1,
-            2 => *reply = reply_of(*reply),
-            _ => return false,
-        },
-        Act::Start { who } => match field {
-            0 => who.0 ^= 1,
-            _ => return false,
-        },
-        Act::Fatal { reason, cause } => match field {
-            0 => *reason ^= 1,
-            1 => *cause = cause_of(*cause),
-            _ => return false,
-        },
-        Act::Doom { who } => match field {
-            0 => who.0 ^= 1,
-            _ => return false,
-        },
+        } => return change_part(domain, range, attr, reply, field),
+        Act::DomMove { domain, who, reply } =>
+            change_nth!(field; *domain ^= 1; who.0 ^= 1; *reply = reply_of(*reply)),
+        Act::Start { who } => change_nth!(field; who.0 ^= 1),
+        Act::Fatal { reason, cause } => change_nth!(field; *reason ^= 1; *cause = cause_of(*cause)),
+        Act::Doom { who } => change_nth!(field; who.0 ^= 1),
         Act::Resume | Act::EnterUser | Act::Exit => return false,
     }
     true
