@@ -57,10 +57,7 @@ fn has_closing(behind: &[Bracket]) -> bool
 fn begins_closing(behind: &[Bracket]) -> bool
     ensures { result ≡ spec.begins_closing behind.now }
 {
-    match behind {
-        [first, ..] => is_closing(*first),
-        [] => false,
-    }
+    matches!(behind, [first, ..] if is_closing(*first))
 }
 
 /// Whether an `end` stands right behind a `repeat`, or none behind it at all.

@@ -19,7 +19,7 @@ use um_base::{
 };
 use um_document::{
     BootEntry, Description, Details, DomainEntry, Key, ObjectEntry, PartitionContents,
-    PartitionEntry, Place, PoolEntry, ScriptEntry, Section, Text, VariableEntry,
+    PartitionEntry, Place, PoolEntry, ScriptEntry, Section, Sequence, Text, VariableEntry,
 };
 
 /// How many variables a partition may have.
@@ -89,21 +89,17 @@ fn one_too_many(section: Section, most: usize, i: usize) -> Option<Flaw>
 fn pool_limit(i: usize, pool: &PoolEntry) -> Option<Flaw>
     ensures { result ≡ first_of (limits.pool_limits i pool.now) }
 {
-    one_too_many(Section::Pool, POOLS, i).or(outside(
-        Key::Size,
-        0,
-        AREA_ENTRY as i64,
-        Place::Field(Section::Pool, i, Key::Size),
-        pool.size,
-    ))
+    let place = Place::Field(Section::Pool, i, Key::Size);
+    let size = outside(Key::Size, 0, AREA_ENTRY as i64, place, pool.size);
+    one_too_many(Section::Pool, POOLS, i).or(size)
 }
 
-/// How many bytes are given for a variable.
-fn data_len(variable: &VariableEntry) -> usize
-    ensures { result ≡ length (names.items variable.now.data) }
+/// How many items are given in a list that may be left out.
+fn given_len<T: Drop>(given: &Option<Sequence<T>>) -> usize
+    ensures { result ≡ length (names.items given.now) }
 {
-    match &variable.data {
-        Some(data) => data.len(),
+    match given {
+        Some(items) => items.len(),
         None => 0,
     }
 }
@@ -123,7 +119,7 @@ fn variable_limit(partition: usize, i: usize, variable: &VariableEntry) -> Optio
         Key::Data,
         variable.size,
         Place::Variable(partition, i, Key::Data),
-        data_len(variable),
+        given_len(&variable.data),
     ))
 }
 
@@ -200,27 +196,19 @@ fn most_parts(d: &Description) -> usize
     }
 }
 
-/// How many partitions a domain lists.
-fn part_count(domain: &DomainEntry) -> usize
-    ensures { result ≡ length (names.items domain.now.partitions) }
-{
-    match &domain.partitions {
-        Some(parts) => parts.len(),
-        None => 0,
-    }
-}
-
 #[tactic(auto, using(crate::proofs::Firsts::first_or), unfolding(crate::specs::Limits::domain_limits))]
 fn domain_limit(most: usize, i: usize, domain: &DomainEntry) -> Option<Flaw>
     requires { most ≤ 16 }
     ensures { result ≡ first_of (limits.domain_limits most i domain.now) }
 {
-    one_too_many(Section::Domain, DOMAINS, i).or(longer(
+    let place = Place::Item(Section::Domain, i, Key::Partitions, most);
+    let parts = longer(
         Key::Partitions,
         most as i64,
-        Place::Item(Section::Domain, i, Key::Partitions, most),
-        part_count(domain),
-    ))
+        place,
+        given_len(&domain.partitions),
+    );
+    one_too_many(Section::Domain, DOMAINS, i).or(parts)
 }
 
 /// A number of the i-th object.
@@ -298,25 +286,18 @@ fn object_limit(threads: usize, i: usize, object: &ObjectEntry) -> Option<Flaw>
 fn boot_limit(i: usize, boot: &BootEntry) -> Option<Flaw>
     ensures { result ≡ first_of (limits.boot_limits i boot.now) }
 {
-    one_too_many(Section::Boot, BOOTS, i).or(outside(
-        Key::Priority,
-        -16,
-        14,
-        Place::Field(Section::Boot, i, Key::Priority),
-        boot.priority,
-    ))
+    let place = Place::Field(Section::Boot, i, Key::Priority);
+    let priority = outside(Key::Priority, -16, 14, place, boot.priority);
+    one_too_many(Section::Boot, BOOTS, i).or(priority)
 }
 
 #[tactic(auto, using(crate::proofs::Firsts::first_or), unfolding(crate::specs::Limits::script_limits))]
 fn script_limit(i: usize, script: &ScriptEntry) -> Option<Flaw>
     ensures { result ≡ first_of (limits.script_limits i script.now) }
 {
-    one_too_many(Section::Script, SCRIPTS, i).or(some_items(
-        Key::Lines,
-        LINES as i64,
-        Place::Field(Section::Script, i, Key::Lines),
-        script.lines.len(),
-    ))
+    let place = Place::Field(Section::Script, i, Key::Lines);
+    let lines = some_items(Key::Lines, LINES as i64, place, script.lines.len());
+    one_too_many(Section::Script, SCRIPTS, i).or(lines)
 }
 
 fn object_limits(objects: &[ObjectEntry]) -> Option<Flaw>

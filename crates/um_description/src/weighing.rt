@@ -26,13 +26,9 @@ fn line_cost(weights: &[u64; SCRIPTS], i: usize, line: &Instr) -> u64
     ensures { (later : List ℕ) → AreCounted weights.now (i + 1) later → result ≡ counted (line_cost later i line.now) }
 {
     match line {
-        Instr::Repeat { .. } => 0,
-        Instr::End => 0,
-        Instr::Set { .. } => 4,
-        Instr::Add { .. } => 4,
-        Instr::Load { .. } => 12,
-        Instr::Store { .. } => 12,
-        Instr::Exec { .. } => 12,
+        Instr::Repeat { .. } | Instr::End => 0,
+        Instr::Set { .. } | Instr::Add { .. } => 4,
+        Instr::Load { .. } | Instr::Store { .. } | Instr::Exec { .. } => 12,
         Instr::ObjectAlloc { .. } => 240,
         Instr::Create { script, .. } => weight_named(weights, i, script).saturating_add(240),
         Instr::UserMode { script } => weight_named(weights, i, script).saturating_add(40),
