@@ -6,7 +6,7 @@ ghost use Rattle.um_machine.specs.declared.pending.Pending.TheVariants as Pendin
 ghost use Rattle.um_processor.specs.{
   Events.{shows, parks, shows_next},
   Standing.{IsClear},
-  Subjects.{ends_claims, is_plain},
+  Subjects.{ends_claims},
   Turns.{CanTurn, HasStepped},
 };
 
@@ -20,17 +20,6 @@ use um_base::{Addr, Ask, ThreadIx};
 use um_machine::Pending;
 
 impl Processor {
-    /// The event of a step behind which the thread goes on, and no more is to be done before.
-    fn show_plain<S: Sites>(&mut self, here: &Here, step: &Pending, sites: &mut S) -> Turn
-        requires plain { IsTrue (is_plain step.now) }
-        requires clear { IsClear self.old }
-        requires goes { CanTurn S.Sites here.now sites.old (shows step.now self.old.running) }
-        ensures turn { HasStepped S.Sites result here.now sites.old sites.new
-            (shows step.now self.old.running) self.old self.new }
-    {
-        self.running.show(here, step, sites)
-    }
-
     /// The event of a step behind which claims end.
     fn show_with_ends<S: Sites>(&mut self, here: &Here, step: &Pending, sites: &mut S) -> Turn
         requires subject { IsTrue (ends_claims step.now) }
@@ -96,7 +85,7 @@ impl Processor {
             Pending::DropPair { who, addr } => self.take_away(here, *who, *addr, sites),
             Pending::Answer { .. } | Pending::Fatal { .. } | Pending::ClearInit { .. } =>
                 self.show_with_ends(here, step, sites),
-            _ => self.show_plain(here, step, sites),
+            _ => self.running.show(here, step, sites),
         }
     }
 
