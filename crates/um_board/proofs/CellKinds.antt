@@ -19,6 +19,7 @@ use Rattle.um_site.specs.declared.seat.Seat.{Seat}
 use Rattle.um_site.specs.declared.view.View.{View}
 use Rattle.um_cell.specs.declared.cells.Cells.{Cells}
 use Rattle.um_board.specs.Contents.{Follows, Known, Opens}
+use Rattle.um_board.specs.Seated.{KeptPlace}
 use Rattle.um_board.specs.Turned.{InTurn, IsPlaced, kind_of}
 use Rattle.um_board.proofs.Keeping.{taken-turn}
 use Rattle.um_board.proofs.OpeningKinds.{kind-opens}
@@ -78,12 +79,12 @@ in-turn image board cells rodata s t most site word number ready running c cell 
     let b = p.seated in
     let taken = taken-known image s t site word c past b.image_is low high turn now in
     record {
-      here = k.board ∙ b.here;
+      here = ap (λ (q : KeptPlace). q.board) k ∙ b.here;
       words = b.words;
       first = b.first;
       count = b.count;
-      filled = λ i h. subst (λ f. AmongCells f i) (sym k.filled) (b.filled i h);
-      image_is = k.image ∙ b.image_is;
+      filled = λ i h. subst (λ (q : KeptPlace). AmongCells q.filled i) (sym k) (b.filled i h);
+      image_is = ap (λ (q : KeptPlace). q.image) k ∙ b.image_is;
       rodata_is = p.rodata_is;
       enough = p.enough;
       low = low;

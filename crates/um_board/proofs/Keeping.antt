@@ -15,79 +15,74 @@ use Rattle.um_board.specs.Noted.{logged_of, made_of, number_of}
 use Rattle.um_board.specs.ReadBack.{IsReadBack}
 use Rattle.um_board.specs.Seated.{KeepsPlace, Noted, Unnoted}
 
--- the seat has this view now, which has what the one before had
-pub keeps-by : (s t : Seat Known) (v : View) → SameSeat s t → t.token.me.0 ≡ v → v.image ≡ s.token.me.0.image → v.opening ≡ s.token.me.0.opening → v.name ≡ s.token.me.0.name → v.splits ≡ s.token.me.0.splits
-    → v.children ≡ s.token.me.0.children → v.joined ≡ s.token.me.0.joined → v.filled ≡ s.token.me.0.filled → KeepsPlace s t
-keeps-by s t v same is image opening name splits children lists filled =
+-- a view that has what the other has, but for its steps, the words that it got, and its turn
+abbrev KeepsView : View → View → Type 0
+KeepsView v w =
+    (v.image ≡ w.image) × (v.opening ≡ w.opening) × (v.name ≡ w.name) × (v.splits ≡ w.splits) × (v.children ≡ w.children) × (v.joined ≡ w.joined) × (v.filled ≡ w.filled)
+
+-- the seat has such a view now
+keeps-by : (s t : Seat Known) (v : View) → SameSeat s t → t.token.me.0 ≡ v → KeepsView v s.token.me.0 → KeepsPlace s t
+keeps-by s t v same is kept =
     λ i. record {
       board = same.0 i;
       place = same.1 i;
       split = same.2 i;
       joined = same.3 i;
       first = same.4 i;
-      image = (ap (λ (w : View). w.image) is ∙ image) i;
-      opening = (ap (λ (w : View). w.opening) is ∙ opening) i;
-      name = (ap (λ (w : View). w.name) is ∙ name) i;
-      splits = (ap (λ (w : View). w.splits) is ∙ splits) i;
-      children = (ap (λ (w : View). w.children) is ∙ children) i;
-      lists = (ap (λ (w : View). w.joined) is ∙ lists) i;
-      filled = (ap (λ (w : View). w.filled) is ∙ filled) i;
+      image = (ap (λ (w : View). w.image) is ∙ kept.0) i;
+      opening = (ap (λ (w : View). w.opening) is ∙ kept.1) i;
+      name = (ap (λ (w : View). w.name) is ∙ kept.2) i;
+      splits = (ap (λ (w : View). w.splits) is ∙ kept.3) i;
+      children = (ap (λ (w : View). w.children) is ∙ kept.4) i;
+      lists = (ap (λ (w : View). w.joined) is ∙ kept.5) i;
+      filled = (ap (λ (w : View). w.filled) is ∙ kept.6) i;
     }
 
 pub unnoted-same : (s : Seat Known) (log : List Logged) → Unnoted s log s log
 unnoted-same s log = record { keeps = refl; made = refl; log = refl; got = ([], refl) }
 
+-- it got a word
+unnoted-by : (s t : Seat Known) (v : View) (i w : ℕ) (log : List Logged) → SameSeat s t → t.token.me.0 ≡ v → KeepsView v s.token.me.0 → v.made ≡ s.token.me.0.made → v.got ≡ (i, w) ∷ s.token.me.0.got
+    → Unnoted s log t log
+unnoted-by s t v i w log same is kept made got =
+    record {
+      keeps = keeps-by s t v same is kept;
+      made = ap (λ (u : View). u.made) is ∙ made;
+      log = refl;
+      got = ((i, w) ∷ [], ap (λ (u : View). u.got) is ∙ got);
+    }
+
 -- a look
 pub looked-at : (s t : Seat Known) (i w : ℕ) (log : List Logged) → SameSeat s t → t.token.me.0 ≡ with_got s.token.me.0 i w → Unnoted s log t log
-looked-at s t i w log same is =
-    record {
-      keeps = keeps-by s t (with_got s.token.me.0 i w) same is refl refl refl refl refl refl refl;
-      made = ap (λ (v : View). v.made) is;
-      log = refl;
-      got = ((i, w) ∷ [], ap (λ (v : View). v.got) is);
-    }
+looked-at s t i w log same is = unnoted-by s t (with_got s.token.me.0 i w) i w log same is (refl, refl, refl, refl, refl, refl, refl) refl refl
 
 -- a turn was taken
 pub taken-turn : (s t : Seat Known) (i w : ℕ) (past : List Made) (log : List Logged) → SameSeat s t → t.token.me.0 ≡ taking s.token.me.0 i w past → Unnoted s log t log
-taken-turn s t i w past log same is =
-    record {
-      keeps = keeps-by s t (taking s.token.me.0 i w past) same is refl refl refl refl refl refl refl;
-      made = ap (λ (v : View). v.made) is;
-      log = refl;
-      got = ((i, w) ∷ [], ap (λ (v : View). v.got) is);
-    }
+taken-turn s t i w past log same is = unnoted-by s t (taking s.token.me.0 i w past) i w log same is (refl, refl, refl, refl, refl, refl, refl) refl refl
 
 -- a turn was given back
 pub gave-turn : (s t : Seat Known) (i w : ℕ) (log : List Logged) → SameSeat s t → t.token.me.0 ≡ returning s.token.me.0 i w s.token.me.0.filled → Unnoted s log t log
-gave-turn s t i w log same is =
+gave-turn s t i w log same is = unnoted-by s t (returning s.token.me.0 i w s.token.me.0.filled) i w log same is (refl, refl, refl, refl, refl, refl, refl) refl refl
+
+-- it made a step
+noted-by : (s t : Seat Known) (v : View) (e : FineStep) (log new : List Logged) → SameSeat s t → t.token.me.0 ≡ v → KeepsView v s.token.me.0 → v.made ≡ s.token.me.0.made ++ made_of e ∷ []
+    → v.got ≡ ((made_of e).site, (made_of e).word) ∷ s.token.me.0.got → new ≡ log ++ logged_of e ∷ [] → IsReadBack e → Noted s log e t new
+noted-by s t v e log new same is kept made got l back =
     record {
-      keeps = keeps-by s t (returning s.token.me.0 i w s.token.me.0.filled) same is refl refl refl refl refl refl refl;
-      made = ap (λ (v : View). v.made) is;
-      log = refl;
-      got = ((i, w) ∷ [], ap (λ (v : View). v.got) is);
+      keeps = keeps-by s t v same is kept;
+      made = ap (λ (u : View). u.made) is ∙ made;
+      log = l;
+      back = back;
+      got = ([], ap (λ (u : View). u.got) is ∙ got);
     }
 
 -- a step was recorded
 pub stepped : (s t : Seat Known) (e : FineStep) (log new : List Logged) → SameSeat s t → t.token.me.0 ≡ with_made s.token.me.0 (made_of e) → new ≡ log ++ logged_of e ∷ [] → IsReadBack e → Noted s log e t new
-stepped s t e log new same is l back =
-    record {
-      keeps = keeps-by s t (with_made s.token.me.0 (made_of e)) same is refl refl refl refl refl refl refl;
-      made = ap (λ (v : View). v.made) is;
-      log = l;
-      back = back;
-      got = ([], ap (λ (v : View). v.got) is);
-    }
+stepped s t e log new same is l back = noted-by s t (with_made s.token.me.0 (made_of e)) e log new same is (refl, refl, refl, refl, refl, refl, refl) refl refl l back
 
 -- a step of a cell was recorded, and the turn given back
 pub put-turn : (s t : Seat Known) (e : FineStep) (log new : List Logged) → SameSeat s t → t.token.me.0 ≡ recording s.token.me.0 (made_of e) → new ≡ log ++ logged_of e ∷ [] → IsReadBack e → Noted s log e t new
-put-turn s t e log new same is l back =
-    record {
-      keeps = keeps-by s t (recording s.token.me.0 (made_of e)) same is refl refl refl refl refl refl refl;
-      made = ap (λ (v : View). v.made) is;
-      log = l;
-      back = back;
-      got = ([], ap (λ (v : View). v.got) is);
-    }
+put-turn s t e log new same is l back = noted-by s t (recording s.token.me.0 (made_of e)) e log new same is (refl, refl, refl, refl, refl, refl, refl) refl refl l back
 
 -- the step as its processor notes it
 pub logged-is : (e : FineStep) (cpu site number : ℕ) (event : Option Event) → e.cpu ≡ cpu → site_number e.site ≡ site → number ≡ number_of e.word → event ≡ event_of e.act

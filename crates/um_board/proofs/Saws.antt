@@ -19,7 +19,7 @@ use Rattle.um_site.specs.declared.seat.Seat.{Seat}
 use Rattle.um_board.specs.Contents.{Known, known}
 use Rattle.um_board.specs.Placed.{AsksTurn, HasMadeNone}
 use Rattle.um_board.specs.Saw.{Got, GotSince, Hinders, OthersAt, SawAt, SawCell, SawShut, WasGot}
-use Rattle.um_board.specs.Seated.{Unnoted}
+use Rattle.um_board.specs.Seated.{KeptPlace, Unnoted}
 use Rattle.um_board.specs.declared.seated.Seated.{Seated}
 use Rattle.um_board.specs.declared.seated.Turn.{Turn}
 use Rattle.um_board.proofs.Keeping.{unnoted-then}
@@ -54,7 +54,13 @@ saw-first s mid a b i w u saw =
     let of = saw.of in
     record {
       view = saw.view;
-      of = record { image = of.image ∙ k.image; opening = of.opening ∙ k.opening; name = of.name ∙ k.name; made = of.made ∙ u.made; filled = of.filled ∙ k.filled };
+      of = record {
+        image = of.image ∙ ap (λ (q : KeptPlace). q.image) k;
+        opening = of.opening ∙ ap (λ (q : KeptPlace). q.opening) k;
+        name = of.name ∙ ap (λ (q : KeptPlace). q.name) k;
+        made = of.made ∙ u.made;
+        filled = of.filled ∙ ap (λ (q : KeptPlace). q.filled) k;
+      };
       moment = saw.moment;
     }
 
