@@ -200,28 +200,17 @@ domain_apart name (Some ts) = refl
 object_apart : (name : List ℕ) (public : Bool) (details : Details) → are_apart (keys (pairs_by name public details)) ≡ true
 object_apart name true Details.Thread = refl
 object_apart name false Details.Thread = refl
-object_apart name true (Details.ThreadStack size) = refl
-object_apart name false (Details.ThreadStack size) = refl
 object_apart name true (Details.Sem None) = refl
 object_apart name false (Details.Sem None) = refl
-object_apart name true (Details.Sem (Some n)) = refl
-object_apart name false (Details.Sem (Some n)) = refl
 object_apart name true (Details.Mutex true) = refl
 object_apart name false (Details.Mutex true) = refl
-object_apart name true (Details.Mutex false) = refl
-object_apart name false (Details.Mutex false) = refl
 object_apart name true (Details.Msgq None) = refl
 object_apart name false (Details.Msgq None) = refl
-object_apart name true (Details.Msgq (Some n)) = refl
-object_apart name false (Details.Msgq (Some n)) = refl
 object_apart name true (Details.Stack None) = refl
 object_apart name false (Details.Stack None) = refl
-object_apart name true (Details.Stack (Some n)) = refl
-object_apart name false (Details.Stack (Some n)) = refl
 object_apart name true (Details.Pipe None) = refl
 object_apart name false (Details.Pipe None) = refl
-object_apart name true (Details.Pipe (Some n)) = refl
-object_apart name false (Details.Pipe (Some n)) = refl
+object_apart name _ _ = refl
 
 boot_apart : (thread stack script : List ℕ) (priority : ℤ) (domain : List ℕ) (mode : Mode) (pool : Option (List ℕ)) (grants : List (List ℕ)) → are_apart (keys (boot_by thread stack script priority domain mode pool grants)) ≡ true
 boot_apart thread stack script priority domain mode None [] = refl

@@ -111,12 +111,7 @@ parts_plain text (p ∷ ps) ok h =
 
 kind_plain : (k : Kind) → is_plain (kind_word k) ≡ true
 kind_plain Kind.Thread = refl
-kind_plain Kind.ThreadStack = refl
-kind_plain Kind.Sem = refl
-kind_plain Kind.Mutex = refl
-kind_plain Kind.Msgq = refl
-kind_plain Kind.Stack = refl
-kind_plain Kind.Pipe = refl
+kind_plain _ = refl
 
 timeout_plain : (t : Timeout) → is_plain (timeout_word t) ≡ true
 timeout_plain Timeout.NoWait = refl

@@ -1,5 +1,5 @@
 -- What is printed for the parts of an image that a description gives are the description's own entries again: its pools, objects and domains, and the same grants.
-use Rattle.std.proofs.Common.{◌≡◌, ℕ, ◌+◌, ◌-◌, ◌^◌, ◌≤◌, Bool, true, false, ◌||◌, List, [], ◌∷◌, ◌++◌, map, length, drop, filter, Option, Some, None, bytes_eq, IsTrue, ℤ, pos, negsuc, int_lt, refl, sym, ap, ◌∙◌, arith, append_assoc, inl, inr}
+use Rattle.std.proofs.Common.{◌≡◌, ℕ, ◌+◌, ◌-◌, ◌^◌, ◌≤◌, Bool, true, false, ◌||◌, List, [], ◌∷◌, ◌++◌, map, length, drop, filter, Option, Some, None, bytes_eq, IsTrue, ℤ, pos, negsuc, int_lt, refl, sym, ap, subst, ◌∙◌, arith, append_assoc, inl, inr}
 use Rattle.std.proofs.lemmas.Bool.{false≢true, true≢false, cases_Bool, or_parts}
 use Rattle.std.proofs.lemmas.Bool.Decides.{nat_tests}
 use Rattle.std.specs.List.{list_all}
@@ -32,13 +32,21 @@ kept low high (negsuc n) small h k = absurd (true≢false h)
 pub number_kept : (key : Key) (low high : ℕ) (place : Place) (z : ℤ) → high ≤ 2 ^ 32 - 1 → outside key (pos low) (pos high) place z ≡ [] → pos (clamped z) ≡ z
 number_kept key low high place z small h = let both = inside key (pos low) (pos high) place z h in kept low high z small both.0 both.1
 
-count_by_limit : (count limit : ℤ) → int_lt count (pos 0) ≡ false → int_lt limit count ≡ false → int_lt (pos 4294967295) limit ≡ false → pos (clamped count) ≡ count
-count_by_limit (pos c) (pos l) h k m =
+-- a count that isn't below 0, nor above a limit that fits, is a small number
+pub natural_count : (count limit : ℤ) → int_lt count (pos 0) ≡ false → int_lt limit count ≡ false → int_lt (pos 4294967295) limit ≡ false
+    → (n : ℕ) × (count ≡ pos n) × (n ≤ 4294967295)
+natural_count (pos c) (pos l) h k m =
     let few : c ≤ l = grind (arith, nat_tests) in
     let most : l ≤ 4294967295 = grind (arith, nat_tests) in
-    ap pos (omega (arith, few, most))
-count_by_limit (pos c) (negsuc l) h k m = absurd (true≢false k)
-count_by_limit (negsuc c) limit h k m = absurd (true≢false h)
+    (c, refl, omega (arith, few, most))
+natural_count (pos c) (negsuc l) h k m = absurd (true≢false k)
+natural_count (negsuc c) limit h k m = absurd (true≢false h)
+
+count_by_limit : (count limit : ℤ) → int_lt count (pos 0) ≡ false → int_lt limit count ≡ false → int_lt (pos 4294967295) limit ≡ false → pos (clamped count) ≡ count
+count_by_limit count limit h k m =
+    let n = natural_count count limit h k m in
+    let same : pos (clamped (pos n.0)) ≡ pos n.0 = ap pos (omega (arith, n.2)) in
+    subst (λ (z : ℤ). pos (clamped z) ≡ z) (sym n.1) same
 
 -- ---- objects
 

@@ -141,29 +141,18 @@ sound d ps h = record {
 values : (d : Description) (ps : List Packed) → AreValues (table_for d ps) d.mpu d.regions d.policy d.rodata (map of_pool d.pools) (map of_partition ps) (map of_domain d.domains) (map of_object d.objects) (map of_boot d.boots) (map of_script d.scripts)
 values d ps = values_by d.mpu d.regions d.policy d.rodata (map of_pool d.pools) (map of_partition ps) (map of_domain d.domains) (map of_object d.objects) (map of_boot d.boots) (map of_script d.scripts)
 
-pass_missing : (d : Description) (ps : List Packed) → IsFormed d ps → passes Check.Missing (parts (table_for d ps)) ≡ true
-pass_missing d ps h =
-    let t = table_for d ps in
-    let v = values d ps in
-    let s = sound d ps h in
-    joined_pass Check.Missing (top_parts t) (entry_sections t) (top_pass Check.Missing t d.mpu d.regions d.policy d.rodata (map of_pool d.pools) (map of_partition ps) (map of_domain d.domains) (map of_object d.objects) (map of_boot d.boots) (map of_script d.scripts) v h.rodata)
-    (entries_pass Check.Missing t d.mpu d.regions d.policy d.rodata (map of_pool d.pools) (map of_partition ps) (map of_domain d.domains) (map of_object d.objects) (map of_boot d.boots) (map of_script d.scripts) v s.pools.missing s.partitions.missing s.domains.missing s.objects.missing s.boots.missing s.scripts.missing)
+at_check : {s : Section} {i : ℕ} {ps : List Part} (check : Check) → AreSound s i ps → passes check ps ≡ true
+at_check Check.Missing h = h.missing
+at_check Check.WrongType h = h.wrong
+at_check Check.BadName h = h.bad
 
-pass_wrong : (d : Description) (ps : List Packed) → IsFormed d ps → passes Check.WrongType (parts (table_for d ps)) ≡ true
-pass_wrong d ps h =
+pass_all : (check : Check) (d : Description) (ps : List Packed) → IsFormed d ps → passes check (parts (table_for d ps)) ≡ true
+pass_all check d ps h =
     let t = table_for d ps in
     let v = values d ps in
     let s = sound d ps h in
-    joined_pass Check.WrongType (top_parts t) (entry_sections t) (top_pass Check.WrongType t d.mpu d.regions d.policy d.rodata (map of_pool d.pools) (map of_partition ps) (map of_domain d.domains) (map of_object d.objects) (map of_boot d.boots) (map of_script d.scripts) v h.rodata)
-    (entries_pass Check.WrongType t d.mpu d.regions d.policy d.rodata (map of_pool d.pools) (map of_partition ps) (map of_domain d.domains) (map of_object d.objects) (map of_boot d.boots) (map of_script d.scripts) v s.pools.wrong s.partitions.wrong s.domains.wrong s.objects.wrong s.boots.wrong s.scripts.wrong)
-
-pass_bad : (d : Description) (ps : List Packed) → IsFormed d ps → passes Check.BadName (parts (table_for d ps)) ≡ true
-pass_bad d ps h =
-    let t = table_for d ps in
-    let v = values d ps in
-    let s = sound d ps h in
-    joined_pass Check.BadName (top_parts t) (entry_sections t) (top_pass Check.BadName t d.mpu d.regions d.policy d.rodata (map of_pool d.pools) (map of_partition ps) (map of_domain d.domains) (map of_object d.objects) (map of_boot d.boots) (map of_script d.scripts) v h.rodata)
-    (entries_pass Check.BadName t d.mpu d.regions d.policy d.rodata (map of_pool d.pools) (map of_partition ps) (map of_domain d.domains) (map of_object d.objects) (map of_boot d.boots) (map of_script d.scripts) v s.pools.bad s.partitions.bad s.domains.bad s.objects.bad s.boots.bad s.scripts.bad)
+    joined_pass check (top_parts t) (entry_sections t) (top_pass check t d.mpu d.regions d.policy d.rodata (map of_pool d.pools) (map of_partition ps) (map of_domain d.domains) (map of_object d.objects) (map of_boot d.boots) (map of_script d.scripts) v h.rodata)
+    (entries_pass check t d.mpu d.regions d.policy d.rodata (map of_pool d.pools) (map of_partition ps) (map of_domain d.domains) (map of_object d.objects) (map of_boot d.boots) (map of_script d.scripts) v (at_check check s.pools) (at_check check s.partitions) (at_check check s.domains) (at_check check s.objects) (at_check check s.boots) (at_check check s.scripts))
 
 section_strays : (s : Section) (t : Members) (es : List Pairs) → value_at (section_key s) t ≡ given_value es → strays_of_entries s 0 (tables_of es) ≡ [] → strays_of_section t s ≡ []
 section_strays s t es is h = ap (λ (o : Option Data). strays_of_entries s 0 (items_in o)) is ∙ ap (strays_of_entries s 0) (items_given es) ∙ h
@@ -195,10 +184,10 @@ pub no_form_faults : (d : Description) (ps : List Packed) → IsFormed d ps → 
 no_form_faults d ps h =
     let t = table_for d ps in
     let a = known_version d ps in
-    let b = no_broken Check.Missing t (pass_missing d ps h) in
-    let c = no_broken Check.WrongType t (pass_wrong d ps h) in
+    let b = no_broken Check.Missing t (pass_all Check.Missing d ps h) in
+    let c = no_broken Check.WrongType t (pass_all Check.WrongType d ps h) in
     let e = no_unknown d ps in
-    let f = no_broken Check.BadName t (pass_bad d ps h) in
+    let f = no_broken Check.BadName t (pass_all Check.BadName d ps h) in
     rw (a, b, c, e, f) refl
 
 -- ---- the description

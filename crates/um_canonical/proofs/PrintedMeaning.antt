@@ -21,9 +21,9 @@ use Rattle.um_description.specs.Duplicates.{boots_again, added, duplicates}
 use Rattle.um_description.specs.Flaws.{too_large, image_flaws, flaws, meaning}
 use Rattle.um_description.specs.Limits.{outside, one_too_many, top_limits, partition_limits, boot_limits, script_limits, limits}
 use Rattle.um_description.specs.Lines.{unread_in, unread_lines, broken_blocks, blocks_in, blocks_of, unknown_in, unknown_in_script, script_named, scripts_up_to, is_misordered, misordered_at, misordered_in, misordered_script, if_bad, line_place}
-use Rattle.um_description.specs.Names.{Text, each, is_among, named, passes, is_thread, is_thread_stack, is_initialised, items, names_within, pool_names, partition_names, domain_names, object_names, script_names}
+use Rattle.um_description.specs.Names.{Text, each, is_among, named, items, names_within, pool_names, partition_names, domain_names, object_names, script_names}
 use Rattle.um_description.specs.Resolve.{partition_sizes, stack_sizes, placed, rows_among, boot_of, without_scripts, script_of, image_of}
-use Rattle.um_description.specs.Unknown.{unless, unknown_in_domain, unknown_in_boot, unknown_names}
+use Rattle.um_description.specs.Unknown.{unless, unknown_in_domain, unknown_besides_grants, unknown_in_boot, unknown_names}
 use Rattle.um_description.proofs.LawfulDistinct.{is_known, are_new}
 use Rattle.um_description.proofs.LawfulImage.{no_flaws, all_within}
 use Rattle.um_description.proofs.LawfulLines.{known_among}
@@ -179,20 +179,11 @@ granted_known i j before (name ∷ names) texts =
     granted_step i j all name texts names (is_among name texts) refl (known_among all name (among_middle before name names))
     (λ k. subst (λ (ns : List Text). domain_unknown Section.Boot i Key.Grants k ns (granted texts names) ≡ []) joined (granted_known i k (before ++ name ∷ []) names texts))
 
--- what a boot entry names besides its grants
-abbrev boot_unknown : Description → ℕ → BootEntry → List Place
-boot_unknown d i b =
-    unless (passes is_thread d.objects (named (object_names d) b.thread)) (Place.Field Section.Boot i Key.Thread)
-    ++ unless (passes is_thread_stack d.objects (named (object_names d) b.stack)) (Place.Field Section.Boot i Key.Stack)
-    ++ unless (is_some (named (script_names d) b.script)) (Place.Field Section.Boot i Key.Script)
-    ++ unless (passes is_initialised d.domains (named (domain_names d) b.domain)) (Place.Field Section.Boot i Key.Domain)
-    ++ elim b.pool as (λ _. List Place) [ None ↦ [] | Some text ↦ unless (is_some (named (pool_names d) text)) (Place.Field Section.Boot i Key.Pool) ]
-
 boot_known : (d : Description) (i : ℕ) (b : BootEntry) → unknown_in_boot d i b ≡ [] → unknown_in_boot (reprinted d) i (regranted (object_names d) b) ≡ []
 boot_known d i b h =
-    let own : boot_unknown d i b ≡ [] = no_front (boot_unknown d i b) (domain_unknown Section.Boot i Key.Grants 0 (object_names d) b.grants) h in
+    let own : unknown_besides_grants d i b ≡ [] = no_front (unknown_besides_grants d i b) (domain_unknown Section.Boot i Key.Grants 0 (object_names d) b.grants) h in
     let scripts = (named_alike d).scripts in
-    let first : boot_unknown (reprinted d) i (regranted (object_names d) b) ≡ [] = rw scripts own in
+    let first : unknown_besides_grants (reprinted d) i (regranted (object_names d) b) ≡ [] = rw scripts own in
     let grants : domain_unknown Section.Boot i Key.Grants 0 (object_names d) (row_names (object_names d) (rows_among b.grants 0 (object_names d))) ≡ [] =
     rw (rows_named [] (object_names d) b.grants) (granted_known i 0 [] (object_names d) b.grants) in
     rw (first, grants) refl

@@ -36,82 +36,49 @@ pub again_by : (name : List ℕ) (public : Bool) (details : Details) → is_name
     → object_of (table_of (pairs_by name public details)) ≡ record { name = name; public = public; details = details }
 again_by name true Details.Thread h = rw (short_name name h) refl
 again_by name false Details.Thread h = rw (short_name name h) refl
-again_by name true (Details.ThreadStack size) h = rw (short_name name h) refl
-again_by name false (Details.ThreadStack size) h = rw (short_name name h) refl
 again_by name true (Details.Sem None) h = rw (short_name name h) refl
 again_by name false (Details.Sem None) h = rw (short_name name h) refl
-again_by name true (Details.Sem (Some n)) h = rw (short_name name h) refl
-again_by name false (Details.Sem (Some n)) h = rw (short_name name h) refl
 again_by name true (Details.Mutex true) h = rw (short_name name h) refl
 again_by name false (Details.Mutex true) h = rw (short_name name h) refl
-again_by name true (Details.Mutex false) h = rw (short_name name h) refl
-again_by name false (Details.Mutex false) h = rw (short_name name h) refl
 again_by name true (Details.Msgq None) h = rw (short_name name h) refl
 again_by name false (Details.Msgq None) h = rw (short_name name h) refl
-again_by name true (Details.Msgq (Some n)) h = rw (short_name name h) refl
-again_by name false (Details.Msgq (Some n)) h = rw (short_name name h) refl
 again_by name true (Details.Stack None) h = rw (short_name name h) refl
 again_by name false (Details.Stack None) h = rw (short_name name h) refl
-again_by name true (Details.Stack (Some n)) h = rw (short_name name h) refl
-again_by name false (Details.Stack (Some n)) h = rw (short_name name h) refl
 again_by name true (Details.Pipe None) h = rw (short_name name h) refl
 again_by name false (Details.Pipe None) h = rw (short_name name h) refl
-again_by name true (Details.Pipe (Some n)) h = rw (short_name name h) refl
-again_by name false (Details.Pipe (Some n)) h = rw (short_name name h) refl
+again_by name _ _ h = rw (short_name name h) refl
 
 pub sound_by : (i : ℕ) (name : List ℕ) (public : Bool) (details : Details) → is_name name ≡ true → AreSound Section.Object i (key_parts Section.Object i (table_of (pairs_by name public details)))
 unfolding key_parts
 sound_by i name true Details.Thread h = record { missing = refl; wrong = refl; bad = rw h refl }
 sound_by i name false Details.Thread h = record { missing = refl; wrong = refl; bad = rw h refl }
-sound_by i name true (Details.ThreadStack size) h = record { missing = refl; wrong = refl; bad = rw h refl }
-sound_by i name false (Details.ThreadStack size) h = record { missing = refl; wrong = refl; bad = rw h refl }
 sound_by i name true (Details.Sem None) h = record { missing = refl; wrong = refl; bad = rw h refl }
 sound_by i name false (Details.Sem None) h = record { missing = refl; wrong = refl; bad = rw h refl }
-sound_by i name true (Details.Sem (Some n)) h = record { missing = refl; wrong = refl; bad = rw h refl }
-sound_by i name false (Details.Sem (Some n)) h = record { missing = refl; wrong = refl; bad = rw h refl }
 sound_by i name true (Details.Mutex true) h = record { missing = refl; wrong = refl; bad = rw h refl }
 sound_by i name false (Details.Mutex true) h = record { missing = refl; wrong = refl; bad = rw h refl }
-sound_by i name true (Details.Mutex false) h = record { missing = refl; wrong = refl; bad = rw h refl }
-sound_by i name false (Details.Mutex false) h = record { missing = refl; wrong = refl; bad = rw h refl }
 sound_by i name true (Details.Msgq None) h = record { missing = refl; wrong = refl; bad = rw h refl }
 sound_by i name false (Details.Msgq None) h = record { missing = refl; wrong = refl; bad = rw h refl }
-sound_by i name true (Details.Msgq (Some n)) h = record { missing = refl; wrong = refl; bad = rw h refl }
-sound_by i name false (Details.Msgq (Some n)) h = record { missing = refl; wrong = refl; bad = rw h refl }
 sound_by i name true (Details.Stack None) h = record { missing = refl; wrong = refl; bad = rw h refl }
 sound_by i name false (Details.Stack None) h = record { missing = refl; wrong = refl; bad = rw h refl }
-sound_by i name true (Details.Stack (Some n)) h = record { missing = refl; wrong = refl; bad = rw h refl }
-sound_by i name false (Details.Stack (Some n)) h = record { missing = refl; wrong = refl; bad = rw h refl }
 sound_by i name true (Details.Pipe None) h = record { missing = refl; wrong = refl; bad = rw h refl }
 sound_by i name false (Details.Pipe None) h = record { missing = refl; wrong = refl; bad = rw h refl }
-sound_by i name true (Details.Pipe (Some n)) h = record { missing = refl; wrong = refl; bad = rw h refl }
-sound_by i name false (Details.Pipe (Some n)) h = record { missing = refl; wrong = refl; bad = rw h refl }
+sound_by i name _ _ h = record { missing = refl; wrong = refl; bad = rw h refl }
 
 pub known_by : (i : ℕ) (name : List ℕ) (public : Bool) (details : Details) → strays_of_entry Section.Object i (table_of (pairs_by name public details)) ≡ []
 unfolding own_strays strays_below
 known_by i name true Details.Thread = refl
 known_by i name false Details.Thread = refl
-known_by i name true (Details.ThreadStack size) = refl
-known_by i name false (Details.ThreadStack size) = refl
 known_by i name true (Details.Sem None) = refl
 known_by i name false (Details.Sem None) = refl
-known_by i name true (Details.Sem (Some n)) = refl
-known_by i name false (Details.Sem (Some n)) = refl
 known_by i name true (Details.Mutex true) = refl
 known_by i name false (Details.Mutex true) = refl
-known_by i name true (Details.Mutex false) = refl
-known_by i name false (Details.Mutex false) = refl
 known_by i name true (Details.Msgq None) = refl
 known_by i name false (Details.Msgq None) = refl
-known_by i name true (Details.Msgq (Some n)) = refl
-known_by i name false (Details.Msgq (Some n)) = refl
 known_by i name true (Details.Stack None) = refl
 known_by i name false (Details.Stack None) = refl
-known_by i name true (Details.Stack (Some n)) = refl
-known_by i name false (Details.Stack (Some n)) = refl
 known_by i name true (Details.Pipe None) = refl
 known_by i name false (Details.Pipe None) = refl
-known_by i name true (Details.Pipe (Some n)) = refl
-known_by i name false (Details.Pipe (Some n)) = refl
+known_by i name _ _ = refl
 
 -- ---- all objects
 

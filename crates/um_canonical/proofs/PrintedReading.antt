@@ -49,7 +49,7 @@ use Rattle.um_canonical.specs.Entries.{Packed, partition_entry, row_names}
 use Rattle.um_canonical.specs.Text.{top_of, sections_of, text_for, described, printed_text}
 use Rattle.um_description.proofs.LawfulBoots.{known_boot}
 use Rattle.um_canonical.proofs.PrintedDescription.{packed_again, described_again}
-use Rattle.um_canonical.proofs.PrintedEntries.{granted, rows_named}
+use Rattle.um_canonical.proofs.PrintedEntries.{granted, rows_named, natural_count}
 use Rattle.um_canonical.proofs.PrintedForm.{table_for, partition_is, boot_is, script_is, IsFormed, no_form_faults, description_again}
 use Rattle.um_canonical.proofs.PrintedMeaning.{variables_for, repacked, reprinted, named_alike, few_names, base_of, scripts_again}
 use Rattle.um_canonical.proofs.DistinctNames.{as_many, fresh_lawful}
@@ -184,12 +184,9 @@ fits_in : (key : Key) (low high : ℕ) (place : Place) (z : ℤ) → high < 2 ^ 
 fits_in key low high place z small h = let both = inside key (pos low) (pos high) place z h in fits_between low high z small both.0 both.1
 
 count_fits : (count limit : ℤ) → int_lt count (pos 0) ≡ false → int_lt limit count ≡ false → int_lt (pos 4294967295) limit ≡ false → Fits count
-count_fits (pos c) (pos l) h k m =
-    let few : c ≤ l = grind (arith, nat_tests) in
-    let most : l ≤ 4294967295 = grind (arith, nat_tests) in
-    pos_fits c (omega (arith, few, most))
-count_fits (pos c) (negsuc l) h k m = absurd (true≢false k)
-count_fits (negsuc c) limit h k m = absurd (true≢false h)
+count_fits count limit h k m =
+    let n = natural_count count limit h k m in
+    subst Fits (sym n.1) (pos_fits n.0 (omega (arith, n.2)))
 
 priority_fits : (z : ℤ) → int_lt z (negsuc 15) ≡ false → int_lt (pos 14) z ≡ false → Fits z
 priority_fits (pos n) h k = let most : n ≤ 14 = grind (arith, nat_tests) in pos_fits n (omega (arith, most))

@@ -27,24 +27,30 @@ hex_one n lt = (grind (arith, nat_tests), grind (arith, nat_tests))
 abbrev pub is_byte : ℕ → Bool
 is_byte b = nat_lt b 256
 
+-- a byte is two digits, which read as it
+record IsTwoDigits (b : ℕ) : Type 0 where
+  high : (digit_value (hex_digit (b / 16)) ≡ b / 16) × (is_hex_digit (hex_digit (b / 16)) ≡ true)
+  low : (digit_value (hex_digit (b % 16)) ≡ b % 16) × (is_hex_digit (hex_digit (b % 16)) ≡ true)
+
+two_digits : (b : ℕ) → is_byte b ≡ true → IsTwoDigits b
+two_digits b h =
+    let lt : b < 256 = grind (arith, nat_tests, h) in
+    record { high = hex_one (b / 16) (omega (arith, lt)); low = hex_one (b % 16) (omega arith) }
+
 pub decoded_again : (bs : List ℕ) → list_all is_byte bs ≡ true → decoded (encoded bs) ≡ bs
 decoded_again [] h = refl
 decoded_again (b ∷ bs) h =
     let both = and_parts (is_byte b) (list_all is_byte bs) h in
-    let lt : b < 256 = grind (arith, nat_tests, both.0) in
-    let high = hex_one (b / 16) (omega (arith, lt)) in
-    let low = hex_one (b % 16) (omega arith) in
+    let digits = two_digits b both.0 in
     let whole : 16 * (b / 16) + b % 16 ≡ b = omega arith in
-    rw (high.0, low.0, whole, decoded_again bs both.1) refl
+    rw (digits.high.0, digits.low.0, whole, decoded_again bs both.1) refl
 
-digits_again : (bs : List ℕ) → list_all is_byte bs ≡ true → list_all is_hex_digit (encoded bs) ≡ true
+pub digits_again : (bs : List ℕ) → list_all is_byte bs ≡ true → list_all is_hex_digit (encoded bs) ≡ true
 digits_again [] h = refl
 digits_again (b ∷ bs) h =
     let both = and_parts (is_byte b) (list_all is_byte bs) h in
-    let lt : b < 256 = grind (arith, nat_tests, both.0) in
-    let high = hex_one (b / 16) (omega (arith, lt)) in
-    let low = hex_one (b % 16) (omega arith) in
-    rw (high.1, low.1, digits_again bs both.1) refl
+    let digits = two_digits b both.0 in
+    rw (digits.high.1, digits.low.1, digits_again bs both.1) refl
 
 even : (bs : List ℕ) → length (encoded bs) % 2 ≡ 0
 even [] = refl
@@ -156,37 +162,20 @@ boot_again thread stack script priority domain Mode.Supervisor (Some p) [] = ref
 boot_again thread stack script priority domain Mode.Supervisor None (t ∷ ts) = rw (texts_again ts) refl
 boot_again thread stack script priority domain Mode.Supervisor (Some p) (t ∷ ts) = rw (texts_again ts) refl
 
+grants_pass : (check : Check) (i : ℕ) (ts : List (List ℕ)) → passes check ((item_parts Section.Boot i Key.Grants 0 (texts_items ts) ++ []) ++ []) ≡ true
+grants_pass check i ts = tail_pass check Section.Boot i Key.Grants ts
+
 pub boot_sound : (i : ℕ) (thread stack script : List ℕ) (priority : ℤ) (domain : List ℕ) (mode : Mode) (pool : Option (List ℕ)) (grants : List (List ℕ))
     → AreSound Section.Boot i (key_parts Section.Boot i (table_of (boot_by thread stack script priority domain mode pool grants)))
 unfolding key_parts
 boot_sound i thread stack script priority domain Mode.User None [] = record { missing = refl; wrong = refl; bad = refl }
-boot_sound i thread stack script priority domain Mode.User None (t ∷ ts) =
-    record {
-      missing = tail_pass Check.Missing Section.Boot i Key.Grants (t ∷ ts);
-      wrong = tail_pass Check.WrongType Section.Boot i Key.Grants (t ∷ ts);
-      bad = tail_pass Check.BadName Section.Boot i Key.Grants (t ∷ ts);
-    }
 boot_sound i thread stack script priority domain Mode.User (Some p) [] = record { missing = refl; wrong = refl; bad = refl }
-boot_sound i thread stack script priority domain Mode.User (Some p) (t ∷ ts) =
-    record {
-      missing = tail_pass Check.Missing Section.Boot i Key.Grants (t ∷ ts);
-      wrong = tail_pass Check.WrongType Section.Boot i Key.Grants (t ∷ ts);
-      bad = tail_pass Check.BadName Section.Boot i Key.Grants (t ∷ ts);
-    }
 boot_sound i thread stack script priority domain Mode.Supervisor None [] = record { missing = refl; wrong = refl; bad = refl }
-boot_sound i thread stack script priority domain Mode.Supervisor None (t ∷ ts) =
-    record {
-      missing = tail_pass Check.Missing Section.Boot i Key.Grants (t ∷ ts);
-      wrong = tail_pass Check.WrongType Section.Boot i Key.Grants (t ∷ ts);
-      bad = tail_pass Check.BadName Section.Boot i Key.Grants (t ∷ ts);
-    }
 boot_sound i thread stack script priority domain Mode.Supervisor (Some p) [] = record { missing = refl; wrong = refl; bad = refl }
-boot_sound i thread stack script priority domain Mode.Supervisor (Some p) (t ∷ ts) =
-    record {
-      missing = tail_pass Check.Missing Section.Boot i Key.Grants (t ∷ ts);
-      wrong = tail_pass Check.WrongType Section.Boot i Key.Grants (t ∷ ts);
-      bad = tail_pass Check.BadName Section.Boot i Key.Grants (t ∷ ts);
-    }
+boot_sound i thread stack script priority domain Mode.User None (t ∷ ts) = record { missing = grants_pass Check.Missing i (t ∷ ts); wrong = grants_pass Check.WrongType i (t ∷ ts); bad = grants_pass Check.BadName i (t ∷ ts) }
+boot_sound i thread stack script priority domain Mode.User (Some p) (t ∷ ts) = record { missing = grants_pass Check.Missing i (t ∷ ts); wrong = grants_pass Check.WrongType i (t ∷ ts); bad = grants_pass Check.BadName i (t ∷ ts) }
+boot_sound i thread stack script priority domain Mode.Supervisor None (t ∷ ts) = record { missing = grants_pass Check.Missing i (t ∷ ts); wrong = grants_pass Check.WrongType i (t ∷ ts); bad = grants_pass Check.BadName i (t ∷ ts) }
+boot_sound i thread stack script priority domain Mode.Supervisor (Some p) (t ∷ ts) = record { missing = grants_pass Check.Missing i (t ∷ ts); wrong = grants_pass Check.WrongType i (t ∷ ts); bad = grants_pass Check.BadName i (t ∷ ts) }
 
 pub boot_known : (i : ℕ) (thread stack script : List ℕ) (priority : ℤ) (domain : List ℕ) (mode : Mode) (pool : Option (List ℕ)) (grants : List (List ℕ))
     → strays_of_entry Section.Boot i (table_of (boot_by thread stack script priority domain mode pool grants)) ≡ []

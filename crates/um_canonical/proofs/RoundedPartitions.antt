@@ -142,17 +142,7 @@ sizes_alike mpu variables i (p ∷ ps) h =
 -- ---- boot entries
 
 abbrev pub regranted : List Text → BootEntry → BootEntry
-regranted objects b =
-    record {
-      thread = b.thread;
-      stack = b.stack;
-      script = b.script;
-      priority = b.priority;
-      domain = b.domain;
-      mode = b.mode;
-      pool = b.pool;
-      grants = row_names objects (rows_among b.grants 0 objects);
-    }
+regranted objects b = record b { grants = row_names objects (rows_among b.grants 0 objects) }
 
 priority_kept : (z : ℤ) → int_lt z (negsuc 15) ≡ false → int_lt (pos 14) z ≡ false → lowered z ≡ z
 priority_kept (pos n) h k = let small : nat_lt 127 n ≡ false = grind (arith, nat_tests) in rw small refl

@@ -44,43 +44,26 @@ fn named_parts(names: &[Name], parts: &PartRefs) -> PartRefs
 fn shown(names: &NameTable, line: &Instr) -> Instr
     ensures { result ≡ named.shown names.now.partitions.items names.now.domains.items names.now.scripts.items line.now }
 {
-    match line {
-        Instr::DomainInit { domain, parts } => Instr::DomainInit {
-            domain: named_ref(&names.domains, domain),
-            parts: named_parts(&names.partitions, parts),
-        },
-        Instr::DomainAdd { domain, part } => Instr::DomainAdd {
-            domain: named_ref(&names.domains, domain),
-            part: named_part(&names.partitions, part),
-        },
-        Instr::DomainRemove { domain, part } => Instr::DomainRemove {
-            domain: named_ref(&names.domains, domain),
-            part: named_part(&names.partitions, part),
-        },
-        Instr::DomainMove { domain, thread } => Instr::DomainMove {
-            domain: named_ref(&names.domains, domain),
-            thread: *thread,
-        },
-        Instr::Create {
-            thread,
-            stack,
-            size,
-            script,
-            priority,
-            options,
-        } => Instr::Create {
-            thread: *thread,
-            stack: *stack,
-            size: *size,
-            script: named_ref(&names.scripts, script),
-            priority: *priority,
-            options: *options,
-        },
-        Instr::UserMode { script } => Instr::UserMode {
-            script: named_ref(&names.scripts, script),
-        },
-        _ => *line,
+    let mut shown = *line;
+    match &mut shown {
+        Instr::DomainInit { domain, parts } => {
+            *domain = named_ref(&names.domains, domain);
+            *parts = named_parts(&names.partitions, parts);
+        }
+        Instr::DomainAdd { domain, part } => {
+            *domain = named_ref(&names.domains, domain);
+            *part = named_part(&names.partitions, part);
+        }
+        Instr::DomainRemove { domain, part } => {
+            *domain = named_ref(&names.domains, domain);
+            *part = named_part(&names.partitions, part);
+        }
+        Instr::DomainMove { domain, .. } => *domain = named_ref(&names.domains, domain),
+        Instr::Create { script, .. } => *script = named_ref(&names.scripts, script),
+        Instr::UserMode { script } => *script = named_ref(&names.scripts, script),
+        _ => {}
     }
+    shown
 }
 
 /// The canonical line of an instruction of the image.

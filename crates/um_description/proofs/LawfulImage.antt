@@ -38,6 +38,24 @@ use Rattle.um_description.proofs.LawfulObjects.{objects_lawful, indices_lawful, 
 use Rattle.um_description.proofs.LawfulRanges.{IsIn, regions_lawful, regions_in, pools_lawful, rodata_lawful}
 use Rattle.um_description.proofs.LawfulScripts.{scripts_lawful}
 
+-- seven lists that are empty one behind the other
+seven_empty : {A : Type 0} (a b c e f g k : List A) → a ++ b ++ c ++ e ++ f ++ g ++ k ≡ []
+    → (a ≡ []) × (b ≡ []) × (c ≡ []) × (e ≡ []) × (f ≡ []) × (g ≡ []) × (k ≡ [])
+seven_empty a b c e f g k h =
+    let f5 = no_front (a ++ b ++ c ++ e ++ f ++ g) k h in
+    let f4 = no_front (a ++ b ++ c ++ e ++ f) g f5 in
+    let f3 = no_front (a ++ b ++ c ++ e) f f4 in
+    let f2 = no_front (a ++ b ++ c) e f3 in
+    let f1 = no_front (a ++ b) c f2 in (
+      no_front a b f1,
+      no_back a b f1,
+      no_back (a ++ b) c f2,
+      no_back (a ++ b ++ c) e f3,
+      no_back (a ++ b ++ c ++ e) f f4,
+      no_back (a ++ b ++ c ++ e ++ f) g f5,
+      no_back (a ++ b ++ c ++ e ++ f ++ g) k h,
+    )
+
 -- ---- each kind of flaw is absent
 
 pub record HasNoFlaws (d : Description) : Type 0 where
@@ -59,20 +77,15 @@ no_flaws d h =
     let f = map Flaw.Block (each blocks_of 0 d.scripts) in
     let g = each (unknown_in_script d) 0 d.scripts in
     let k = map Flaw.ScriptOrder (each (misordered_script d) 0 d.scripts) in
-    let f6 = no_front (a ++ b ++ c ++ e ++ f ++ g ++ k) (image_flaws d) h in
-    let f5 = no_front (a ++ b ++ c ++ e ++ f ++ g) k f6 in
-    let f4 = no_front (a ++ b ++ c ++ e ++ f) g f5 in
-    let f3 = no_front (a ++ b ++ c ++ e) f f4 in
-    let f2 = no_front (a ++ b ++ c) e f3 in
-    let f1 = no_front (a ++ b) c f2 in
+    let none = seven_empty a b c e f g k (no_front (a ++ b ++ c ++ e ++ f ++ g ++ k) (image_flaws d) h) in
     record {
-      names_new = none_mapped Flaw.Duplicate (duplicates d) (no_front a b f1);
-      names_known = none_mapped Flaw.UnknownName (unknown_names d) (no_back a b f1);
-      within = no_back (a ++ b) c f2;
-      read = no_back (a ++ b ++ c) e f3;
-      blocks = none_mapped Flaw.Block (each blocks_of 0 d.scripts) (no_back (a ++ b ++ c ++ e) f f4);
-      known = no_back (a ++ b ++ c ++ e ++ f) g f5;
-      order = none_mapped Flaw.ScriptOrder (each (misordered_script d) 0 d.scripts) (no_back (a ++ b ++ c ++ e ++ f ++ g) k f6);
+      names_new = none_mapped Flaw.Duplicate (duplicates d) none.0;
+      names_known = none_mapped Flaw.UnknownName (unknown_names d) none.1;
+      within = none.2;
+      read = none.3;
+      blocks = none_mapped Flaw.Block (each blocks_of 0 d.scripts) none.4;
+      known = none.5;
+      order = none_mapped Flaw.ScriptOrder (each (misordered_script d) 0 d.scripts) none.6;
       image = no_back (a ++ b ++ c ++ e ++ f ++ g ++ k) (image_flaws d) h;
     }
 
@@ -94,20 +107,8 @@ all_within d h =
     let f = objects_limits 0 0 d.objects in
     let g = each boot_limits 0 d.boots in
     let k = each script_limits 0 d.scripts in
-    let f5 = no_front (a ++ b ++ c ++ e ++ f ++ g) k h in
-    let f4 = no_front (a ++ b ++ c ++ e ++ f) g f5 in
-    let f3 = no_front (a ++ b ++ c ++ e) f f4 in
-    let f2 = no_front (a ++ b ++ c) e f3 in
-    let f1 = no_front (a ++ b) c f2 in
-    record {
-      top = no_front a b f1;
-      pools = no_back a b f1;
-      partitions = no_back (a ++ b) c f2;
-      domains = no_back (a ++ b ++ c) e f3;
-      objects = no_back (a ++ b ++ c ++ e) f f4;
-      boots = no_back (a ++ b ++ c ++ e ++ f) g f5;
-      scripts = no_back (a ++ b ++ c ++ e ++ f ++ g) k h;
-    }
+    let none = seven_empty a b c e f g k h in
+    record { top = none.0; pools = none.1; partitions = none.2; domains = none.3; objects = none.4; boots = none.5; scripts = none.6 }
 
 -- ---- the image
 

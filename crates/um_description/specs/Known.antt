@@ -5,8 +5,8 @@ use Rattle.um_document.specs.declared.description.Description.{Description}
 use Rattle.um_document.specs.declared.place.Place.{Place}
 use Rattle.um_document.specs.declared.shape.Key.{Key}
 use Rattle.um_document.specs.declared.shape.Section.{Section}
-use Rattle.um_description.specs.Names.{Text, is_among, named, passes, is_thread, is_thread_stack, is_initialised, pool_names, domain_names, object_names, script_names}
-use Rattle.um_description.specs.Unknown.{unless}
+use Rattle.um_description.specs.Names.{Text, is_among, named, pool_names}
+use Rattle.um_description.specs.Unknown.{unless, unknown_required}
 
 -- the j-th text of the list at a key of the i-th entry
 unfoldable pub unknown_item : List Text → Section → ℕ → Key → ℕ → Text → List Place
@@ -18,9 +18,4 @@ unknown_pool d i b = elim b.pool as (λ _. List Place) [ None ↦ [] | Some text
 
 -- the keys of the i-th boot entry
 unfoldable pub unknown_keys : Description → ℕ → BootEntry → List Place
-unknown_keys d i b =
-    unless (passes is_thread d.objects (named (object_names d) b.thread)) (Place.Field Section.Boot i Key.Thread)
-    ++ unless (passes is_thread_stack d.objects (named (object_names d) b.stack)) (Place.Field Section.Boot i Key.Stack)
-    ++ unless (is_some (named (script_names d) b.script)) (Place.Field Section.Boot i Key.Script)
-    ++ unless (passes is_initialised d.domains (named (domain_names d) b.domain)) (Place.Field Section.Boot i Key.Domain)
-    ++ unknown_pool d i b
+unknown_keys d i b = unknown_required d i b ++ unknown_pool d i b

@@ -123,29 +123,15 @@ name_first s i t rest h = sound_name (Place.Field s i Key.Name) (value_at Key.Na
 abbrev behind_name : Section → ℕ → Members → List Part
 behind_name s i t = flat_map (field_parts s i t) (drop 1 (section_fields s)) ++ flat_map (field_parts s i t) (further_fields s t)
 
-pools_begin : BeginsWithName Section.Pool
-unfolding key_parts
-pools_begin i t h = name_first Section.Pool i t (behind_name Section.Pool i t) h
+-- all sections but that of the threads that are ready from the beginning
+abbrev HasNames : Section → Type 0
+HasNames Section.Boot = ⊥
+HasNames _ = Unit {0}
 
-partitions_begin : BeginsWithName Section.Partition
+begins_with_name : (s : Section) → HasNames s → BeginsWithName s
 unfolding key_parts
-partitions_begin i t h = name_first Section.Partition i t (behind_name Section.Partition i t) h
-
-packed_begin : BeginsWithName Section.PackedPartition
-unfolding key_parts
-packed_begin i t h = name_first Section.PackedPartition i t (behind_name Section.PackedPartition i t) h
-
-domains_begin : BeginsWithName Section.Domain
-unfolding key_parts
-domains_begin i t h = name_first Section.Domain i t (behind_name Section.Domain i t) h
-
-objects_begin : BeginsWithName Section.Object
-unfolding key_parts
-objects_begin i t h = name_first Section.Object i t (behind_name Section.Object i t) h
-
-scripts_begin : BeginsWithName Section.Script
-unfolding key_parts
-scripts_begin i t h = name_first Section.Script i t (behind_name Section.Script i t) h
+begins_with_name Section.Boot none i t h = absurd none
+begins_with_name s named i t h = name_first s i t (behind_name s i t) h
 
 by_table : {A : Type 0} (s : Section) (f : Members → A) (name : A → Text) → ((t : Members) → name (f t) ≡ name_at t) → BeginsWithName s → (i : ℕ) (o : Option Members) (rest : List A)
     → IsTrue (list_all is_sound (table_parts s i o)) → IsTrue (list_all is_name (map name rest)) → IsTrue (list_all is_name (map name (with_table f o rest)))
@@ -192,8 +178,8 @@ listed s t = items_in (value_at (section_key s) t)
 -- the names of partitions of either form
 partition_names : (packed : Bool) (t : Members) → IsTrue (list_all is_sound (section_parts t (partitions_by packed)))
     → IsTrue (list_all is_name (map (λ (p : PartitionEntry). p.name) (entries_of partition_of (listed Section.Partition t))))
-partition_names true t h = names_in Section.PackedPartition partition_of (λ (p : PartitionEntry). p.name) (λ u. refl) packed_begin 0 (listed Section.PackedPartition t) h
-partition_names false t h = names_in Section.Partition partition_of (λ (p : PartitionEntry). p.name) (λ u. refl) partitions_begin 0 (listed Section.Partition t) h
+partition_names true t h = names_in Section.PackedPartition partition_of (λ (p : PartitionEntry). p.name) (λ u. refl) (begins_with_name Section.PackedPartition tt) 0 (listed Section.PackedPartition t) h
+partition_names false t h = names_in Section.Partition partition_of (λ (p : PartitionEntry). p.name) (λ u. refl) (begins_with_name Section.Partition tt) 0 (listed Section.Partition t) h
 
 pub lawful_names : (t : Members) → form_faults t ≡ [] → AreLawfulNames (description_of t)
 unfolding entry_sections
@@ -212,11 +198,11 @@ lawful_names t h =
     let r4 = back_all e (f ++ (g ++ [])) r3 in
     let r5 = back_all f (g ++ []) r4 in
     record {
-      pools = names_in Section.Pool pool_of (λ (p : PoolEntry). p.name) (λ u. refl) pools_begin 0 (listed Section.Pool t) (front_all a (b ++ (c ++ (e ++ (f ++ (g ++ []))))) r0);
+      pools = names_in Section.Pool pool_of (λ (p : PoolEntry). p.name) (λ u. refl) (begins_with_name Section.Pool tt) 0 (listed Section.Pool t) (front_all a (b ++ (c ++ (e ++ (f ++ (g ++ []))))) r0);
       partitions = partition_names packed t (front_all b (c ++ (e ++ (f ++ (g ++ [])))) r1);
-      domains = names_in Section.Domain domain_of (λ (m : DomainEntry). m.name) (λ u. refl) domains_begin 0 (listed Section.Domain t) (front_all c (e ++ (f ++ (g ++ []))) r2);
-      objects = names_in Section.Object object_of (λ (o : ObjectEntry). o.name) (λ u. refl) objects_begin 0 (listed Section.Object t) (front_all e (f ++ (g ++ [])) r3);
-      scripts = names_in Section.Script script_of (λ (s : ScriptEntry). s.name) (λ u. refl) scripts_begin 0 (listed Section.Script t) (front_all g [] r5);
+      domains = names_in Section.Domain domain_of (λ (m : DomainEntry). m.name) (λ u. refl) (begins_with_name Section.Domain tt) 0 (listed Section.Domain t) (front_all c (e ++ (f ++ (g ++ []))) r2);
+      objects = names_in Section.Object object_of (λ (o : ObjectEntry). o.name) (λ u. refl) (begins_with_name Section.Object tt) 0 (listed Section.Object t) (front_all e (f ++ (g ++ [])) r3);
+      scripts = names_in Section.Script script_of (λ (s : ScriptEntry). s.name) (λ u. refl) (begins_with_name Section.Script tt) 0 (listed Section.Script t) (front_all g [] r5);
       attributes = attrs_in (listed Section.Partition t);
     }
 
