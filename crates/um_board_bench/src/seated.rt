@@ -7,7 +7,7 @@ ghost use Rattle.um_board_bench.specs.Seats.{OnRow, OnThread, Remains};
 
 use um_base::{Addr, Kind, Mode, Row, ThreadIx, Want};
 use um_perm::{Answer, Dropped, RowCall, call_row};
-use um_site::{Board, Changed, Seat, thread_site};
+use um_site::{Asked, Board, Changed, Seat, thread_site};
 use um_thread::{Outcome, ThreadCall, call_thread};
 use um_verify::{Checked, check, end_call};
 use um_words::{AnyStep, RowWord, ThreadWord};
@@ -114,7 +114,8 @@ impl<'a> Seated<'a> {
         if !call.fits(&word) {
             return None;
         }
-        Some(call_row(self.board, &mut self.seat, row, by, call, seen))
+        let asked = Asked { by, call, seen };
+        Some(call_row(self.board, &mut self.seat, row, asked))
     }
 
     /// A call on a thread.
@@ -132,6 +133,7 @@ impl<'a> Seated<'a> {
         if word.number >= LAST || !call.fits(&word) {
             return None;
         }
-        Some(call_thread(self.board, &mut self.seat, who, by, call, seen))
+        let asked = Asked { by, call, seen };
+        Some(call_thread(self.board, &mut self.seat, who, asked))
     }
 }

@@ -10,7 +10,7 @@ use um_base::{
     Act, Addr, Attr, Cause, Errno, Given, Kind, Mode, Range, Reply, Row, ThreadIx, Want,
 };
 use um_perm::{Answer, Dropped, Passed, RowCall, Set};
-use um_site::{Board, Changed, Seat, StillOut, domain_site};
+use um_site::{Asked, Board, Changed, Seat, StillOut, domain_site};
 use um_thread::{DomainCall, Outcome, ThreadCall, call_domain};
 use um_verify::Checked;
 use um_words::{AnyStep, DomWord, RowWord, Stage, ThreadWord};
@@ -279,7 +279,12 @@ fn domain_now(at: &mut Seated<'_>, call: DomainCall) -> Option<Result<Outcome<Do
     if word.number >= LAST || !call.fits(0, &word) {
         return None;
     }
-    Some(call_domain(at.board, &mut at.seat, 0, FIRST, call, seen))
+    let asked = Asked {
+        by: FIRST,
+        call,
+        seen,
+    };
+    Some(call_domain(at.board, &mut at.seat, 0, asked))
 }
 
 /// Whether a call on the first domain is recorded, where the domain is initialised and in its first version.

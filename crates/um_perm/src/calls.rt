@@ -7,7 +7,7 @@ ghost use Rattle.um_perm.specs.Pairs.{row_act, answer_of, passes, fits_row, IfDr
 
 use crate::answer::{Answer, Dropped, Passed, Set};
 use um_base::{Act, Addr, Event, Row, ThreadIx};
-use um_site::{Board, Changed, Place, Seat, shown};
+use um_site::{Asked, Board, Changed, Place, Seat, shown};
 use um_words::{Content, FineAct, Local, More, RowWord, Unseen};
 
 /// What a call does with the object of a row.
@@ -144,22 +144,20 @@ pub fn call_row<T: Content, L: Local>(
     board: &Board<T, L>,
     seat: &mut Seat<T>,
     row: Row,
-    by: ThreadIx,
-    call: RowCall,
-    seen: u64,
+    asked: Asked<RowCall>,
 ) -> Result<Answer, Changed>
-    requires at { AtRow board.now.table.shared.table_id seat.old row.0 seen }
-    requires fits { IsTrue (fits_row call (row_of seen)) }
-    requires cleans { call ≡ RowCall.Vacate → Cleans row.0 seat.old.token.me.0 }
-    requires goes { MayNext L.goes seat.old row.0 seen (row_act by call (row_of seen)) }
+    requires at { AtRow board.now.table.shared.table_id seat.old row.0 asked.seen }
+    requires fits { IsTrue (fits_row asked.call (row_of asked.seen)) }
+    requires cleans { asked.call ≡ RowCall.Vacate → Cleans row.0 seat.old.token.me.0 }
+    requires goes { MayNext L.goes seat.old row.0 asked.seen (row_act asked.by asked.call (row_of asked.seen)) }
     ensures stays { Stays seat.old seat.new }
-    ensures told { Records L.goes seat.old row.0 seen (row_act by call (row_of seen)) result seat.new }
-    ensures answer { IfOk result (λ answer. answer ≡ answer_of by call (row_of seen)) }
-    ensures cleaner { IfOk result (λ answer. IfDropped answer (λ dropped. TellsCleaning row.0 seen (row_act by call (row_of seen)) seat.old.token.me.0 dropped seat.new.token.me.0 × (is_to_clean dropped ≡ true → Cleans row.0 seat.new.token.me.0))) }
+    ensures told { Records L.goes seat.old row.0 asked.seen (row_act asked.by asked.call (row_of asked.seen)) result seat.new }
+    ensures answer { IfOk result (λ answer. answer ≡ answer_of asked.by asked.call (row_of asked.seen)) }
+    ensures cleaner { IfOk result (λ answer. IfDropped answer (λ dropped. TellsCleaning row.0 asked.seen (row_act asked.by asked.call (row_of asked.seen)) seat.old.token.me.0 dropped seat.new.token.me.0 × (is_to_clean dropped ≡ true → Cleans row.0 seat.new.token.me.0))) }
     ensures once { CleansOnce L.goes seat.old.token.me.0 row.0 }
 {
-    let word = RowWord::read(seen);
-    let act = call.act(by, &word);
-    board.step_at(seat, Place::Row(row), seen, &act)?;
-    Ok(call.answer(by, &word))
+    let word = RowWord::read(asked.seen);
+    let act = asked.call.act(asked.by, &word);
+    board.step_at(seat, Place::Row(row), asked.seen, &act)?;
+    Ok(asked.call.answer(asked.by, &word))
 }

@@ -2,6 +2,7 @@
 #![tactic(auto)]
 
 mod acts;
+mod asked;
 mod board;
 mod closed;
 mod opening;
@@ -15,6 +16,7 @@ mod turns;
 mod view;
 
 pub use acts::shown;
+pub use asked::Asked;
 pub use board::{Board, Changed, StillOut};
 pub use closed::Closed;
 pub use opening::{are_unstepped, have_no_turn};

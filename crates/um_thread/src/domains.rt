@@ -7,7 +7,7 @@ ghost use Rattle.um_thread.specs.{Acts.{domain_act, forbids_domain, fits_domain,
 
 use crate::outcome::{Outcome, tried};
 use um_base::{Act, Errno, Reply, ThreadIx};
-use um_site::{Board, Changed, Place, Seat, shown};
+use um_site::{Asked, Board, Changed, Place, Seat, shown};
 use um_words::{Content, DomWord, FineAct, Local, Unseen};
 
 /// What a call does with a domain's partitions.
@@ -88,21 +88,19 @@ pub fn call_domain<T: Content, L: Local>(
     board: &Board<T, L>,
     seat: &mut Seat<T>,
     domain: u8,
-    by: ThreadIx,
-    call: DomainCall,
-    seen: u64,
+    asked: Asked<DomainCall>,
 ) -> Result<Outcome<DomWord>, Changed>
-    requires at { AtDomain board.now.table.shared.table_id seat.old domain seen }
-    requires fits { IsTrue (fits_domain domain call (domain_in seen)) }
-    requires goes { MayNext L.goes seat.old (domain_site domain) seen (domain_act by domain call) }
+    requires at { AtDomain board.now.table.shared.table_id seat.old domain asked.seen }
+    requires fits { IsTrue (fits_domain domain asked.call (domain_in asked.seen)) }
+    requires goes { MayNext L.goes seat.old (domain_site domain) asked.seen (domain_act asked.by domain asked.call) }
     ensures stays { Stays seat.old seat.new }
-    ensures told { Tells L.goes seat.old (domain_site domain) seen (forbids_domain call (domain_in seen)) (domain_act by domain call) (domain_in seen) result seat.new }
+    ensures told { Tells L.goes seat.old (domain_site domain) asked.seen (forbids_domain asked.call (domain_in asked.seen)) (domain_act asked.by domain asked.call) (domain_in asked.seen) result seat.new }
 {
-    let Some(word) = DomWord::unpack(seen) else {
+    let Some(word) = DomWord::unpack(asked.seen) else {
         unreachable!();
     };
-    let act = call.act(by, domain);
-    let is_forbidden = call.is_forbidden(&word);
+    let act = asked.call.act(asked.by, domain);
+    let is_forbidden = asked.call.is_forbidden(&word);
     let place = Place::Domain(domain);
-    tried(board, seat, place, act, word, is_forbidden, seen)
+    tried(board, seat, place, act, word, is_forbidden, asked.seen)
 }

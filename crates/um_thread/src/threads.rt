@@ -8,7 +8,7 @@ ghost use Rattle.um_thread.specs.{Acts.{thread_act, forbids_thread, fits_thread}
 use crate::outcome::{Outcome, tried};
 use um_base::{Act, Addr, Cause, DOMAINS, Errno, Event, Kind, Mode, Reply, ThreadIx, Want};
 use um_machine::Life;
-use um_site::{Board, Changed, Place, Seat, shown};
+use um_site::{Asked, Board, Changed, Place, Seat, shown};
 use um_words::{Content, FineAct, Local, More, ThreadWord, Unseen};
 
 /// What a call does with a thread.
@@ -128,21 +128,19 @@ pub fn call_thread<T: Content, L: Local>(
     board: &Board<T, L>,
     seat: &mut Seat<T>,
     who: ThreadIx,
-    by: ThreadIx,
-    call: ThreadCall,
-    seen: u64,
+    asked: Asked<ThreadCall>,
 ) -> Result<Outcome<ThreadWord>, Changed>
-    requires at { AtThread board.now.table.shared.table_id seat.old who.0 seen }
-    requires fits { IsTrue (fits_thread call (thread_in seen)) }
-    requires goes { MayNext L.goes seat.old (thread_site who.0) seen (thread_act by who call) }
+    requires at { AtThread board.now.table.shared.table_id seat.old who.0 asked.seen }
+    requires fits { IsTrue (fits_thread asked.call (thread_in asked.seen)) }
+    requires goes { MayNext L.goes seat.old (thread_site who.0) asked.seen (thread_act asked.by who asked.call) }
     ensures stays { Stays seat.old seat.new }
-    ensures told { Tells L.goes seat.old (thread_site who.0) seen (forbids_thread call (thread_in seen)) (thread_act by who call) (thread_in seen) result seat.new }
+    ensures told { Tells L.goes seat.old (thread_site who.0) asked.seen (forbids_thread asked.call (thread_in asked.seen)) (thread_act asked.by who asked.call) (thread_in asked.seen) result seat.new }
 {
-    let Some(thread) = ThreadWord::unpack(seen) else {
+    let Some(thread) = ThreadWord::unpack(asked.seen) else {
         unreachable!();
     };
-    let act = call.act(by, who);
-    let is_forbidden = call.is_forbidden(&thread);
+    let act = asked.call.act(asked.by, who);
+    let is_forbidden = asked.call.is_forbidden(&thread);
     let place = Place::Thread(who);
-    tried(board, seat, place, act, thread, is_forbidden, seen)
+    tried(board, seat, place, act, thread, is_forbidden, asked.seen)
 }
