@@ -185,21 +185,24 @@ module _ (image : Image) (described : IsDescribed image) (can : CanRun image 8) 
       let few = st.few in
       absurd (omega (arith, own, long, short, few, same, most, full))
 
+  -- what stood at a site when the seat got its word: a state of that site, with the word but for a turn
+  stood-there : (i w : ℕ) (saw : SawAt s i w) (site : Site) → IsTrue (is_site site) → site_number site ≡ i
+      → (z : SiteState) × ((last : Known) × SiteKnown image last site z []) × (packed (word_of z) ≡ bare (site_number site) w)
+  stood-there i w saw site there here = (
+    left_at image (g image described can longest k s seat i w saw) site,
+    left-stood image described can longest k s seat i w saw site there here,
+    word-stood image described can longest k s seat i w saw site there here,
+  )
+
   pub hindered : (room : ℕ) (log : List Logged) (t : Seat Known) (i : ℕ) → length log ≡ length s.token.me.0.made → weight image < room → Hinders room log s t i → OthersAt s t i
   hindered room log t i same most (Hinders.others others) = others
   hindered room log t i same most (Hinders.full w saw full) = absurd (log-short i w saw room log same most full)
   hindered room log t i same most (Hinders.no_thread n w less is saw none) =
-      let site = Site.thread n in
-      let there = lt-ltb n 32 less in
-      let left = left-stood image described can longest k s seat i w saw site there (sym is) in
-      let word = word-stood image described can longest k s seat i w saw site there (sym is) in
-      absurd (thread-read _ w left.1 (word ∙ bare-low (128 + n) w (omega (arith, less))) none)
+      let stood = stood-there i w saw (Site.thread n) (lt-ltb n 32 less) (sym is) in
+      absurd (thread-read stood.0 w stood.1.1 (stood.2 ∙ bare-low (128 + n) w (omega (arith, less))) none)
   hindered room log t i same most (Hinders.no_domain n w less is saw none) =
-      let site = Site.domain n in
-      let there = lt-ltb n 8 less in
-      let left = left-stood image described can longest k s seat i w saw site there (sym is) in
-      let word = word-stood image described can longest k s seat i w saw site there (sym is) in
-      absurd (domain-read _ w left.1 (word ∙ bare-low (160 + n) w (omega (arith, less))) none)
+      let stood = stood-there i w saw (Site.domain n) (lt-ltb n 8 less) (sym is) in
+      absurd (domain-read stood.0 w stood.1.1 (stood.2 ∙ bare-low (160 + n) w (omega (arith, less))) none)
   hindered room log t i same most (Hinders.worn w c far saw counts) =
       let near : i < 307 = inside i w saw.saw in
       let site = site_numbered i in

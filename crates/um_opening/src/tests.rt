@@ -133,6 +133,16 @@ fn image(alloc: Global) -> Result<Image, Memory>
     })
 }
 
+/// Where the first processor asks.
+macro_rules! here {
+    ($image:expr) => {
+        Here {
+            image: $image,
+            cpu: 0,
+        }
+    };
+}
+
 /// Whether this is what a user's check of the semaphore says.
 fn is_verdict(sites: &mut Tables, image: &Image, thread: u8, verdict: Option<Errno>) -> bool
     requires { sites.old.rodata ≡ rodata_of image.now }
@@ -146,7 +156,7 @@ fn is_verdict(sites: &mut Tables, image: &Image, thread: u8, verdict: Option<Err
         mode: Mode::User,
         fits: true,
     };
-    match sites.row(&Here { image, cpu: 0 }, Row(2), &check) {
+    match sites.row(&here!(image), Row(2), &check) {
         Said::Made(said) => said.verdict == verdict,
         _ => false,
     }
@@ -157,10 +167,7 @@ fn is_verdict(sites: &mut Tables, image: &Image, thread: u8, verdict: Option<Err
 fn some_words(rt: HostRuntime) -> Result<(), Fail> {
     let image = image(rt.alloc())?;
     let mut sites = opening(rt.alloc(), &image, 8)?;
-    let here = &Here {
-        image: &image,
-        cpu: 0,
-    };
+    let here = &here!(&image);
     assert!(rt; is_verdict(&mut sites, &image, 0, None));
     assert!(rt; is_verdict(&mut sites, &image, 1, Some(Errno::EPERM)));
     assert!(rt; matches!(sites.row(here, Row(0), &RowAct::EndCall), Said::Made(_)));
@@ -183,10 +190,7 @@ fn some_words(rt: HostRuntime) -> Result<(), Fail> {
 fn some_cells(rt: HostRuntime) -> Result<(), Fail> {
     let image = image(rt.alloc())?;
     let mut sites = opening(rt.alloc(), &image, 8)?;
-    let here = &Here {
-        image: &image,
-        cpu: 0,
-    };
+    let here = &here!(&image);
     let mut context = Box::new(rt.alloc(), Context::idle())?;
     let mut told = Told {
         reply: Reply::Void,
