@@ -5,7 +5,7 @@ use Rattle.um_document.specs.declared.description.Description.{Description}
 use Rattle.um_document.specs.declared.place.Place.{Place}
 use Rattle.um_document.specs.declared.shape.Section.{Section}
 use Rattle.um_document.specs.First.{first_of}
-use Rattle.um_description.specs.Duplicates.{SameTexts, names_again, partitions_again, domains_again, boots_again, added, duplicates}
+use Rattle.um_description.specs.Duplicates.{SameTexts, names_again, partitions_again, domains_again, boots_again, added, duplicates, pool_places, partition_places, domain_places, object_places, boot_places, script_places, before_partitions, before_domains, before_objects, before_scripts}
 use Rattle.um_description.specs.Names.{Text, is_among, names_within, pool_names, domain_names, object_names, script_names}
 use Rattle.um_description.proofs.AgainLemmas.{same_names, same_partitions, same_domains, same_added}
 
@@ -34,16 +34,10 @@ pub duplicates_found : (d : Description) (s0 s1 s2 s3 s4 : List Text) (a b c e f
     → g ≡ first_of (names_again s4 Section.Script 0 (script_names d))
     → option_or (option_or (option_or (option_or (option_or a b) c) e) f) g ≡ first_of (duplicates d)
 duplicates_found d s0 s1 s2 s3 s4 a b c e f g none a_is ka b_is kb c_is kc e_is ke f_is g_is =
-    let p = added [] (pool_names d) in
-    let q = added p (names_within d.partitions) in
-    let r = added q (domain_names d) in
-    let t = added r (object_names d) in
-    let xs0 = names_again [] Section.Pool 0 (pool_names d) in
-    let xs1 = partitions_again p 0 d.partitions in
-    let xs2 = domains_again q 0 d.domains in
-    let xs3 = names_again r Section.Object 0 (object_names d) in
-    let xs4 = boots_again [] [] 0 d.boots in
-    let xs5 = names_again t Section.Script 0 (script_names d) in
+    let p = before_partitions d in
+    let q = before_domains d in
+    let r = before_objects d in
+    let t = before_scripts d in
     let ab = option_or a b in
     let abc = option_or ab c in
     let abce = option_or abc e in
@@ -52,11 +46,11 @@ duplicates_found d s0 s1 s2 s3 s4 a b c e f g none a_is ka b_is kb c_is kc e_is 
     let k2 : ab ≡ None → SameTexts s2 q = λ n. after s1 p (names_within d.partitions) b s2 (k1 (none_left a b n)) (kb (none_right a b n)) in
     let k3 : abc ≡ None → SameTexts s3 r = λ n. after s2 q (domain_names d) c s3 (k2 (none_left ab c n)) (kc (none_right ab c n)) in
     let k4 : abce ≡ None → SameTexts s4 t = λ n. after s3 r (object_names d) e s4 (k3 (none_left abc e n)) (ke (none_right abc e n)) in
-    let h0 : a ≡ first_of xs0 = a_is ∙ ap (λ s. first_of (names_again s Section.Pool 0 (pool_names d))) none in
-    let h1 : ab ≡ first_of (xs0 ++ xs1) = or_then xs0 xs1 a b h0 (λ n. b_is ∙ ap first_of (same_partitions s1 p (k1 n) 0 d.partitions)) in
-    let h2 : abc ≡ first_of (xs0 ++ xs1 ++ xs2) = or_then (xs0 ++ xs1) xs2 ab c h1 (λ n. c_is ∙ ap first_of (same_domains s2 q (k2 n) 0 d.domains)) in
-    let h3 : abce ≡ first_of (xs0 ++ xs1 ++ xs2 ++ xs3) =
-    or_then (xs0 ++ xs1 ++ xs2) xs3 abc e h2 (λ n. e_is ∙ ap first_of (same_names s3 r (k3 n) Section.Object 0 (object_names d))) in
-    let h4 : abcef ≡ first_of (xs0 ++ xs1 ++ xs2 ++ xs3 ++ xs4) = or_then (xs0 ++ xs1 ++ xs2 ++ xs3) xs4 abce f h3 (λ n. f_is) in
-    or_then (xs0 ++ xs1 ++ xs2 ++ xs3 ++ xs4) xs5 abcef g h4
+    let h0 : a ≡ first_of (pool_places d) = a_is ∙ ap (λ s. first_of (names_again s Section.Pool 0 (pool_names d))) none in
+    let h1 : ab ≡ first_of (pool_places d ++ partition_places d) = or_then (pool_places d) (partition_places d) a b h0 (λ n. b_is ∙ ap first_of (same_partitions s1 p (k1 n) 0 d.partitions)) in
+    let h2 : abc ≡ first_of (pool_places d ++ partition_places d ++ domain_places d) = or_then (pool_places d ++ partition_places d) (domain_places d) ab c h1 (λ n. c_is ∙ ap first_of (same_domains s2 q (k2 n) 0 d.domains)) in
+    let h3 : abce ≡ first_of (pool_places d ++ partition_places d ++ domain_places d ++ object_places d) =
+    or_then (pool_places d ++ partition_places d ++ domain_places d) (object_places d) abc e h2 (λ n. e_is ∙ ap first_of (same_names s3 r (k3 n) Section.Object 0 (object_names d))) in
+    let h4 : abcef ≡ first_of (pool_places d ++ partition_places d ++ domain_places d ++ object_places d ++ boot_places d) = or_then (pool_places d ++ partition_places d ++ domain_places d ++ object_places d) (boot_places d) abce f h3 (λ n. f_is) in
+    or_then (pool_places d ++ partition_places d ++ domain_places d ++ object_places d ++ boot_places d) (script_places d) abcef g h4
     (λ n. g_is ∙ ap first_of (same_names s4 t (k4 (none_left abce f n)) Section.Script 0 (script_names d)))

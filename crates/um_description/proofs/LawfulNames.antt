@@ -13,7 +13,7 @@ use Rattle.um_document.specs.declared.description.Description.{Description}
 use Rattle.um_document.specs.declared.description.ObjectEntry.{ObjectEntry}
 use Rattle.um_document.specs.declared.description.PartitionEntry.{PartitionEntry}
 use Rattle.um_document.specs.declared.shape.Section.{Section}
-use Rattle.um_description.specs.Duplicates.{names_again, partitions_again, domains_again, boots_again, added, duplicates}
+use Rattle.um_description.specs.Duplicates.{added, duplicates, pool_places, partition_places, domain_places, object_places, boot_places, script_places, before_partitions, before_domains, before_objects, before_scripts}
 use Rattle.um_document.specs.LawfulNames.{AreLawfulNames}
 use Rattle.um_description.specs.Limits.{threads_after}
 use Rattle.um_description.specs.Names.{Text, names_within, pool_names, partition_names, domain_names, object_names, script_names}
@@ -67,50 +67,44 @@ names_lawful d h =
 -- what the texts that stood before leave to each section
 pub record HasNoDuplicates (d : Description) : Type 0 where
   pub names : IsTrue (are_new [] (all_names d))
-  pub domains : domains_again (added (added [] (pool_names d)) (names_within d.partitions)) 0 d.domains ≡ []
-  pub boots : boots_again [] [] 0 d.boots ≡ []
+  pub domains : domain_places d ≡ []
+  pub boots : boot_places d ≡ []
 
 pub no_duplicates : (d : Description) → duplicates d ≡ [] → HasNoDuplicates d
 no_duplicates d h =
-    let p = added [] (pool_names d) in
-    let q = added p (names_within d.partitions) in
-    let r = added q (domain_names d) in
-    let t = added r (object_names d) in
+    let p = before_partitions d in
+    let q = before_domains d in
+    let r = before_objects d in
+    let t = before_scripts d in
     let q0 = added p (partition_names d) in
     let r0 = added q0 (domain_names d) in
     let t0 = added r0 (object_names d) in
     let q_in : IsIncluded q0 q = included_within p p d.partitions (λ w k. k) in
     let r_in : IsIncluded r0 r = added_included q0 q (domain_names d) q_in in
     let t_in : IsIncluded t0 t = added_included r0 r (object_names d) r_in in
-    let xs0 = names_again [] Section.Pool 0 (pool_names d) in
-    let xs1 = partitions_again p 0 d.partitions in
-    let xs2 = domains_again q 0 d.domains in
-    let xs3 = names_again r Section.Object 0 (object_names d) in
-    let xs4 = boots_again [] [] 0 d.boots in
-    let xs5 = names_again t Section.Script 0 (script_names d) in
-    let f4 = no_front (xs0 ++ xs1 ++ xs2 ++ xs3 ++ xs4) xs5 h in
-    let f3 = no_front (xs0 ++ xs1 ++ xs2 ++ xs3) xs4 f4 in
-    let f2 = no_front (xs0 ++ xs1 ++ xs2) xs3 f3 in
-    let f1 = no_front (xs0 ++ xs1) xs2 f2 in
-    let n1 : IsTrue (are_new [] (pool_names d)) = new_names [] Section.Pool 0 (pool_names d) (no_front xs0 xs1 f1) in
+    let f4 = no_front (pool_places d ++ partition_places d ++ domain_places d ++ object_places d ++ boot_places d) (script_places d) h in
+    let f3 = no_front (pool_places d ++ partition_places d ++ domain_places d ++ object_places d) (boot_places d) f4 in
+    let f2 = no_front (pool_places d ++ partition_places d ++ domain_places d) (object_places d) f3 in
+    let f1 = no_front (pool_places d ++ partition_places d) (domain_places d) f2 in
+    let n1 : IsTrue (are_new [] (pool_names d)) = new_names [] Section.Pool 0 (pool_names d) (no_front (pool_places d) (partition_places d) f1) in
     let n2 : IsTrue (are_new [] (pool_names d ++ partition_names d)) =
-    new_append [] (pool_names d) (partition_names d) n1 (new_without_variables p d.partitions (new_partitions p 0 d.partitions (no_back xs0 xs1 f1))) in
+    new_append [] (pool_names d) (partition_names d) n1 (new_without_variables p d.partitions (new_partitions p 0 d.partitions (no_back (pool_places d) (partition_places d) f1))) in
     let e2 : added [] (pool_names d ++ partition_names d) ≡ q0 = added_append [] (pool_names d) (partition_names d) in
     let n3 : IsTrue (are_new [] (pool_names d ++ partition_names d ++ domain_names d)) =
     new_append [] (pool_names d ++ partition_names d) (domain_names d) n2
-    (subst (λ (b : List Text). IsTrue (are_new b (domain_names d))) (sym e2) (new_beside_fewer q0 q (domain_names d) q_in (new_domains q 0 d.domains (no_back (xs0 ++ xs1) xs2 f2)))) in
+    (subst (λ (b : List Text). IsTrue (are_new b (domain_names d))) (sym e2) (new_beside_fewer q0 q (domain_names d) q_in (new_domains q 0 d.domains (no_back (pool_places d ++ partition_places d) (domain_places d) f2)))) in
     let e3 : added [] (pool_names d ++ partition_names d ++ domain_names d) ≡ r0 =
     added_append [] (pool_names d ++ partition_names d) (domain_names d) ∙ ap (λ (b : List Text). added b (domain_names d)) e2 in
     let n4 : IsTrue (are_new [] (pool_names d ++ partition_names d ++ domain_names d ++ object_names d)) =
     new_append [] (pool_names d ++ partition_names d ++ domain_names d) (object_names d) n3
-    (subst (λ (b : List Text). IsTrue (are_new b (object_names d))) (sym e3) (new_beside_fewer r0 r (object_names d) r_in (new_names r Section.Object 0 (object_names d) (no_back (xs0 ++ xs1 ++ xs2) xs3 f3)))) in
+    (subst (λ (b : List Text). IsTrue (are_new b (object_names d))) (sym e3) (new_beside_fewer r0 r (object_names d) r_in (new_names r Section.Object 0 (object_names d) (no_back (pool_places d ++ partition_places d ++ domain_places d) (object_places d) f3)))) in
     let e4 : added [] (pool_names d ++ partition_names d ++ domain_names d ++ object_names d) ≡ t0 =
     added_append [] (pool_names d ++ partition_names d ++ domain_names d) (object_names d) ∙ ap (λ (b : List Text). added b (object_names d)) e3 in
     record {
       names = new_append [] (pool_names d ++ partition_names d ++ domain_names d ++ object_names d) (script_names d) n4
-          (subst (λ (b : List Text). IsTrue (are_new b (script_names d))) (sym e4) (new_beside_fewer t0 t (script_names d) t_in (new_names t Section.Script 0 (script_names d) (no_back (xs0 ++ xs1 ++ xs2 ++ xs3 ++ xs4) xs5 h))));
-      domains = no_back (xs0 ++ xs1) xs2 f2;
-      boots = no_back (xs0 ++ xs1 ++ xs2 ++ xs3) xs4 f4;
+          (subst (λ (b : List Text). IsTrue (are_new b (script_names d))) (sym e4) (new_beside_fewer t0 t (script_names d) t_in (new_names t Section.Script 0 (script_names d) (no_back (pool_places d ++ partition_places d ++ domain_places d ++ object_places d ++ boot_places d) (script_places d) h))));
+      domains = no_back (pool_places d ++ partition_places d) (domain_places d) f2;
+      boots = no_back (pool_places d ++ partition_places d ++ domain_places d ++ object_places d) (boot_places d) f4;
     }
 
 pub names_distinct : (d : Description) → HasNoDuplicates d → IsTrue (are_distinct_names (all_names d))

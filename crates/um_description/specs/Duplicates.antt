@@ -62,19 +62,41 @@ abbrev pub boots_again : List Text → List Text → ℕ → List BootEntry → 
 boots_again threads stacks i [] = []
 boots_again threads stacks i (b ∷ bs) = boot_again threads stacks i b ++ boots_again (b.thread ∷ threads) (b.stack ∷ stacks) (i + 1) bs
 
--- all places of a description whose text stood before: as a name, in the same domain, or as another boot entry's thread or stack
+-- the texts that stood before a description's partitions, domains, objects and scripts
+abbrev pub before_partitions : Description → List Text
+before_partitions d = added [] (pool_names d)
+
+abbrev pub before_domains : Description → List Text
+before_domains d = added (before_partitions d) (names_within d.partitions)
+
+abbrev pub before_objects : Description → List Text
+before_objects d = added (before_domains d) (domain_names d)
+
+abbrev pub before_scripts : Description → List Text
+before_scripts d = added (before_objects d) (object_names d)
+
+-- the places of each section whose text stood before: as a name, in the same domain, or as another boot entry's thread or stack
+abbrev pub pool_places : Description → List Place
+pool_places d = names_again [] Section.Pool 0 (pool_names d)
+
+abbrev pub partition_places : Description → List Place
+partition_places d = partitions_again (before_partitions d) 0 d.partitions
+
+abbrev pub domain_places : Description → List Place
+domain_places d = domains_again (before_domains d) 0 d.domains
+
+abbrev pub object_places : Description → List Place
+object_places d = names_again (before_objects d) Section.Object 0 (object_names d)
+
+abbrev pub boot_places : Description → List Place
+boot_places d = boots_again [] [] 0 d.boots
+
+abbrev pub script_places : Description → List Place
+script_places d = names_again (before_scripts d) Section.Script 0 (script_names d)
+
+-- and all of them
 abbrev pub duplicates : Description → List Place
-duplicates d =
-    let pools = added [] (pool_names d) in
-    let partitions = added pools (names_within d.partitions) in
-    let domains = added partitions (domain_names d) in
-    let objects = added domains (object_names d) in
-    names_again [] Section.Pool 0 (pool_names d)
-    ++ partitions_again pools 0 d.partitions
-    ++ domains_again partitions 0 d.domains
-    ++ names_again domains Section.Object 0 (object_names d)
-    ++ boots_again [] [] 0 d.boots
-    ++ names_again objects Section.Script 0 (script_names d)
+duplicates d = pool_places d ++ partition_places d ++ domain_places d ++ object_places d ++ boot_places d ++ script_places d
 
 -- the same texts stand in both lists
 abbrev pub SameTexts : List Text → List Text → Type 0
