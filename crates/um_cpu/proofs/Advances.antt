@@ -6,6 +6,7 @@ use Rattle.um_words.specs.declared.made.Made.{Made}
 use Rattle.um_fine.specs.Follows.{p_next}
 use Rattle.um_fine.specs.Processor.{Processor, idle}
 use Rattle.um_fine.specs.Runs.{ends}
+use Rattle.um_fine.specs.Sites.{site_number}
 use Rattle.um_fine.specs.Steps.{FineStep, Site}
 use Rattle.um_merge.specs.declared.logged.Logged.{Logged}
 use Rattle.um_processor.specs.Processors.{AsksFor, Goes, MayNext, Turned, UnlessMade}
@@ -16,10 +17,11 @@ use Rattle.um_board.specs.NextSteps.{IsNext, stands_at}
 use Rattle.um_board.specs.Noted.{logged_of, made_of}
 use Rattle.um_board.specs.Opening.{AreOpening}
 use Rattle.um_board.specs.ReadBack.{IsReadBack, fine_at}
+use Rattle.um_board.specs.Saw.{Hinders, SawShut}
 use Rattle.um_board.specs.Seated.{KeepsPlace, KeptPlace, Noted, Unnoted}
 use Rattle.um_board.specs.declared.seated.Seated.{Seated}
 use Rattle.um_board.proofs.Keeping.{unnoted-same}
-use Rattle.um_history.specs.Played.{Each, SCHEDULER, SawNone}
+use Rattle.um_history.specs.Played.{SCHEDULER, SawNone}
 use Rattle.um_history.proofs.Entries.{listed}
 use Rattle.um_history.proofs.Granted.{own-steps-of}
 use Rattle.um_history.proofs.Lists.{each-both}
@@ -120,6 +122,13 @@ module _ (image : Image) (k : ℕ) where
   plays-out p q x s old t between u new word reaches rests steps made =
       let was = reaches steps made in
       (was.0, rests-on q x t between u new word was.0 was.1 rests, rests-saw q x t between u new word was.0 was.1 rests)
+
+-- what told that a step is refused, and what hindered a step at a site, of a processor at its place that asked once
+abbrev pub ShutAt : Image → Seated → Seated → FineStep → Type 0
+ShutAt image s t e = SawShut image s.seat t.seat e
+
+abbrev pub LateAt : Seated → Seated → Site → Type 0
+LateAt s t site = Hinders s.log.room s.log.items s.seat t.seat (site_number site)
 
 pub unnoted-there : (s t : Seated) → t ≡ s → Unnoted s.seat s.log.items t.seat t.log.items
 unnoted-there s t same = subst (λ (x : Seated). Unnoted s.seat s.log.items x.seat x.log.items) (sym same) (unnoted-same s.seat s.log.items)

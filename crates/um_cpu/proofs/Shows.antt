@@ -1,9 +1,8 @@
 -- What the logs of processors that have played say of a list of their steps: each step is at a site, its events are those of a fine run, and that run is
 -- what the closed board has.
 use Rattle.std.proofs.Common.{◌≡◌, ℕ, zero, suc, ◌<◌, ◌≤◌, Bool, true, false, List, [], ◌∷◌, length, map, sym, ap, ◌∙◌, subst, arith, cond}
-use Rattle.std.specs.Prelude.{IsTrue, Option, Some, None}
+use Rattle.std.specs.Prelude.{IsTrue}
 use Rattle.std.specs.Mem.Slots.{slots_items}
-use Rattle.um_base.specs.declared.act.Event.{Event}
 use Rattle.um_base.specs.declared.image.Image.{Image}
 use Rattle.um_base.specs.declared.limits.TheConstants.{DOMAINS, STATIC_ROWS}
 use Rattle.um_base.specs.Lawful.{IsLawful}
@@ -14,9 +13,8 @@ use Rattle.um_fine.specs.Sites.{is_site}
 use Rattle.um_fine.specs.Steps.{FineStep}
 use Rattle.um_erasure.specs.Room.{CanRun}
 use Rattle.um_fine.proofs.Keys.{number-bound}
-use Rattle.um_merge.specs.Logs.{Log, event_on, events_of}
+use Rattle.um_merge.specs.Logs.{Log}
 use Rattle.um_merge.specs.Merged.{AreAtSites, ArePlaced, log_at}
-use Rattle.um_merge.specs.declared.logged.Logged.{Logged}
 use Rattle.um_words.specs.declared.made.Made.{Made}
 use Rattle.um_site.specs.History.{Among, Distinct, shadow_of}
 use Rattle.um_site.specs.declared.closed.Closed.{Closed}
@@ -55,15 +53,6 @@ at-sites image cpus v words logs steps played g fine k there =
     let less : k < cpus = (let same = played.logs_are in omega (arith, same, there)) in
     let log : map logged_of (sublist same_cpu cpu_of k g) ≡ log_at logs k = ap (map logged_of) (fine.own k less) ∙ sym (played.lists k less).2.log_is in
     subst ArePlaced log (noted-placed (sublist same_cpu cpu_of k g) (sited-sub (λ (e : FineStep). same_cpu e.cpu k) g fine.sited))
-
--- no list shows more events than it has steps
-pub shows-few : (steps : List Logged) → length (events_of steps) ≤ length steps
-shows-few [] = omega arith
-shows-few (step ∷ steps) = by step.event (shows-few steps)
-  where
-    by : (event : Option Event) → length (events_of steps) ≤ length steps → length (event_on event (events_of steps)) ≤ suc (length steps)
-    by None few = omega (arith, few)
-    by (Some event) few = omega (arith, few)
 
 -- the closed board has the fine run that has the steps of each processor
 pub left-on : (image : Image) (cpus : ℕ) (closed : Closed Known) (v : View) (logs : List Log) (steps : ℕ → List FineStep) → closed.token.me.0 ≡ shadow_of v

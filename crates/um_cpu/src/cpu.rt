@@ -24,7 +24,7 @@ impl<'a> Cpu<'a> {
     /// It asks once for its next step, and makes it where it can. It always has one that it could ask for: where it had none, a look would tell of a fine
     /// run that leaves it so, and no fine run does.
     fn ask(&mut self, image: &Image)
-        requires plays { CanPlay image.now self.old }
+        requires { CanPlay image.now self.old }
         ensures number { self.new.number ≡ self.old.number }
         ensures place { IsAt image.now self.new.place }
         ensures keeps { KeepsPlace self.old.place.seat self.new.place.seat }
@@ -47,7 +47,7 @@ impl<'a> Cpu<'a> {
     /// stand there, or the site refused it as it stood, and it waits; the seat has got the word that tells so. Where it has no thread it looks first whether one is ready,
     /// and asks for nothing where none is.
     pub fn step(&mut self, image: &Image) -> Turn
-        requires plays { CanPlay image.now self.old }
+        requires { CanPlay image.now self.old }
         ensures number { self.new.number ≡ self.old.number }
         ensures place { IsAt image.now self.new.place }
         ensures keeps { KeepsPlace self.old.place.seat self.new.place.seat }

@@ -34,7 +34,7 @@ fn wait() {
 /// A processor takes its turns until it has no thread and none is ready, none runs, and nothing is owed. Before each turn it can be held, by
 /// its number and by how many turns it has taken. Behind one that made no step it waits for a moment.
 pub(crate) fn turns<R: Wait, G: Gate>(rt: &R, image: &Image, cpu: &mut Cpu<'_>, gate: &G)
-    requires plays { CanPlay image.now cpu.old }
+    requires { CanPlay image.now cpu.old }
     ensures number { cpu.new.number ≡ cpu.old.number }
     ensures place { IsAt image.now cpu.new.place }
     ensures keeps { KeepsPlace cpu.old.place.seat cpu.new.place.seat }

@@ -4,8 +4,9 @@ use Rattle.um_machine.specs.Run.{IsComplete, IsRun}
 use Rattle.um_machine.specs.State.{State}
 use Rattle.um_merge.specs.Logs.{Log, events_of}
 use Rattle.um_merge.specs.Merged.{AreAtSites, HaveOrder, IsOrder}
-use Rattle.um_history.proofs.Ordered.{noted-long, shown-noted}
-use Rattle.um_cpu.proofs.Shows.{at-sites, left-on, runs-on, shows-few}
+use Rattle.um_core.proofs.LogRoom.{shown-few}
+use Rattle.um_history.proofs.Ordered.{shown-noted}
+use Rattle.um_cpu.proofs.Shows.{at-sites, left-on, runs-on}
 use Rattle.um_cpu.proofs.events.run_events.Goals as goal
 
 pub merge-requires-clause-sites : goal.merge-requires-clause-sites
@@ -49,12 +50,8 @@ pub returns-clause-few : goal.returns-clause-few
 returns-clause-few g c =
     let image = c.args.image.now in
     let is = runs-on image c.args.cpus c.requires.lawful c.len-objects.ensures.value c.len-objects.ensures.few c.len-domains.ensures.value c.len-domains.ensures.few c.requires.some c.requires.few in
-    let ended = c.in_ok-logs.ensures in
-    let run = c.every_played_board.ensures.run image c.args.cpus ended.view _ _ ended.steps is.0 is.1 ended.played c.merge.new.room.items
-    (λ order is. c.merge.ensures order (subst (λ (l : List Log). IsOrder l order) (sym c.as_slice.ensures.value) is)) in
-    let shown = ap length c.into_events.ensures in
-    let few = shows-few c.merge.new.room.items in
-    let noted = ap length run.1 in
-    let long = noted-long run.0 in
-    let most = c.longest_fine_run.ensures image c.args.cpus run.0 is.0 run.2.run in
-    omega (arith, shown, few, noted, long, most)
+    let board = returns-clause-board g c in
+    let few = shown-few board.0 in
+    let most = c.longest_fine_run.ensures image c.args.cpus board.0 is.0 board.1.run in
+    let same = ap length board.2 in
+    omega (arith, few, most, same)

@@ -5,15 +5,18 @@ use Rattle.um_cpu.proofs.Advances.{stands-first}
 use Rattle.um_cpu.proofs.SplitOff.{ends-there}
 use Rattle.um_cpu.proofs.run.play.Goals as goal
 
-pub turns-requires-clause-place : goal.turns-requires-clause-place
-turns-requires-clause-place g c = c.requires.begins.sits.place
-
-pub turns-requires-clause-stands : goal.turns-requires-clause-stands
-turns-requires-clause-stands g c =
+pub turns-requires : goal.turns-requires
+turns-requires g c =
     let it = c.requires.begins in
     let cpu = c.args.cpu.now in
-    subst (λ (k : ℕ). Stands c.args.image.now k (whole cpu.processor) cpu.place.seat cpu.place.log.items) (sym it.sits.number)
-    (stands-first c.args.image.now c.args.number (whole cpu.processor) cpu.place.seat cpu.place.log.items it.few it.sits.name it.opening it.idle_is it.made it.log)
+    record {
+      given = c.requires.given;
+      described = c.requires.described;
+      can = c.requires.can;
+      place = it.sits.place;
+      stands = subst (λ (k : ℕ). Stands c.args.image.now k (whole cpu.processor) cpu.place.seat cpu.place.log.items) (sym it.sits.number)
+          (stands-first c.args.image.now c.args.number (whole cpu.processor) cpu.place.seat cpu.place.log.items it.few it.sits.name it.opening it.idle_is it.made it.log);
+    }
 
 pub returns : goal.returns
 returns g c = let e = c.turns.ensures in ends-there c.args.image.now c.args.board.now.table.shared.table_id c.args.number c.args.cpu.now c.turns.new.cpu c.requires.begins e.number e.place e.keeps e.out

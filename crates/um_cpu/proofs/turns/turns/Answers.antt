@@ -4,6 +4,16 @@ use Rattle.um_processor.specs.Standing.{whole}
 use Rattle.um_cpu.proofs.Advances.{plays-out}
 use Rattle.um_cpu.proofs.turns.turns.Goals as goal
 
+pub step-requires : goal.step-requires
+step-requires g c =
+    record {
+      given = c.requires.given;
+      described = c.requires.described;
+      can = c.requires.can;
+      place = c.loop.invariant.place;
+      stands = c.loop.invariant.stands;
+    }
+
 pub returns-in-Quiet-clause-out : goal.returns-in-Quiet-clause-out
 returns-in-Quiet-clause-out g c =
     let first = c.args.cpu.now in

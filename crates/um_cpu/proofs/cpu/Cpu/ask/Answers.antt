@@ -1,44 +1,37 @@
 use Rattle.std.proofs.Common.{◌≡◌, subst}
-use Rattle.um_fine.specs.Sites.{site_number}
 use Rattle.um_fine.specs.Steps.{FineStep, Site}
 use Rattle.um_processor.specs.Standing.{whole}
 use Rattle.um_processor.specs.Processors.{Turned}
 use Rattle.um_processor.specs.declared.phase.Turn.{Turn}
-use Rattle.um_board.specs.Saw.{Hinders, SawAt, SawShut}
+use Rattle.um_board.specs.Saw.{SawAt}
 use Rattle.um_board.specs.Seated.{Noted, Unnoted}
 use Rattle.um_board.specs.declared.seated.Seated.{Seated}
-use Rattle.um_cpu.proofs.Advances.{noted-all, stands-next, stands-on, stands-there, turned-keeps, turned-on, unnoted-there}
+use Rattle.um_cpu.proofs.Advances.{LateAt, ShutAt, noted-all, stands-next, stands-on, stands-there, turned-keeps, turned-on, unnoted-there}
 use Rattle.um_cpu.proofs.Asks.{asked-of, has-next, not-stuck, seat-of}
 use Rattle.um_cpu.proofs.cpu.Cpu.ask.Goals as goal
 
 pub step-requires-clause-goes : goal.step-requires-clause-goes
 step-requires-clause-goes c =
     let s = c.args.self.now.place in
-    stands-next c.args.image.now c.args.self.now.number (whole c.args.self.now.processor) s.seat s.log.items c.requires.plays.stands
+    stands-next c.args.image.now c.args.self.now.number (whole c.args.self.now.processor) s.seat s.log.items c.requires.stands
 
 pub returns-clause-keeps : goal.returns-clause-keeps
 returns-clause-keeps c =
     let s = c.args.self.now.place in
     let t = c.step.new.sites in
-    turned-keeps c.args.image.now c.args.self.now.number c.step.result (whole c.args.self.now.processor) (whole c.step.new.self) s.seat s.log.items t.seat t.log.items
-    (λ (e : FineStep). SawShut c.args.image.now s.seat t.seat e)
-    (λ (site : Site). Hinders s.log.room s.log.items s.seat t.seat (site_number site))
-    (t ≡ s) (unnoted-there s t) c.step.ensures.turn
+    turned-keeps c.args.image.now c.args.self.now.number c.step.result (whole c.args.self.now.processor) (whole c.step.new.self) s.seat s.log.items t.seat t.log.items (ShutAt c.args.image.now s t) (LateAt s t) (t ≡ s) (unnoted-there s t) c.step.ensures.turn
 
 pub returns-clause-goes : goal.returns-clause-goes
 returns-clause-goes c =
     let s = c.args.self.now.place in
     let t = c.step.new.sites in
-    turned-on c.args.image.now c.args.self.now.number c.step.result (whole c.args.self.now.processor) (whole c.step.new.self) s.seat s.log.items t.seat t.log.items
-    (λ (e : FineStep). SawShut c.args.image.now s.seat t.seat e)
-    (λ (site : Site). Hinders s.log.room s.log.items s.seat t.seat (site_number site))
-    (t ≡ s) c.step.ensures.same (unnoted-there s t) c.step.ensures.turn
+    turned-on c.args.image.now c.args.self.now.number c.step.result (whole c.args.self.now.processor) (whole c.step.new.self) s.seat s.log.items t.seat t.log.items (ShutAt c.args.image.now s t) (LateAt s t) (t ≡ s) c.step.ensures.same (unnoted-there s t) c.step.ensures.turn
 
 pub returns-clause-stands : goal.returns-clause-stands
 returns-clause-stands c =
     let s = c.args.self.now.place in
     let t = c.step.new.sites in
-    stands-on c.args.image.now c.args.self.now.number (whole c.args.self.now.processor) (whole c.step.new.self) s.seat s.log.items t.seat t.log.items c.requires.plays.stands (returns-clause-keeps c) (returns-clause-goes c)
+    stands-on c.args.image.now c.args.self.now.number (whole c.args.self.now.processor) (whole c.step.new.self) s.seat s.log.items t.seat t.log.items c.requires.stands (returns-clause-keeps c) (returns-clause-goes c)
 
 pub returns-clause-asked : goal.returns-clause-asked
 returns-clause-asked c =
@@ -46,13 +39,13 @@ returns-clause-asked c =
     let self = c.args.self.now in
     let s = self.place in
     let t = c.step.new.sites in
-    let stands = c.requires.plays.stands in
-    asked-of image c.requires.plays.described c.requires.plays.can (λ run fine. c.longest_fine_run.ensures image 8 run c.requires.plays.described fine)
-    self.number s.seat (seat-of image _ _ self.number (whole self.processor) s.seat s.log.items c.requires.plays.place.seated stands) (whole self.processor)
+    let stands = c.requires.stands in
+    asked-of image c.requires.described c.requires.can (λ run fine. c.longest_fine_run.ensures image 8 run c.requires.described fine)
+    self.number s.seat (seat-of image _ _ self.number (whole self.processor) s.seat s.log.items c.requires.place.seated stands) (whole self.processor)
     (stands-there image self.number (whole self.processor) s.seat s.log.items stands)
-    (λ run fine counts k halted. c.every_fine_run.ensures.waits image 8 run c.requires.plays.described c.requires.plays.can fine counts k halted)
+    (λ run fine counts k halted. c.every_fine_run.ensures.waits image 8 run c.requires.described c.requires.can fine counts k halted)
     c.step.result (whole c.step.new.self) s.log.items t.seat t.log.items s.log.room (t ≡ s)
-    (noted-all image self.number (whole self.processor) s.seat s.log.items stands) c.requires.plays.place.enough c.step.ensures.same c.step.ensures.turn (not-stuck c.step.result c.in-Made.is)
+    (noted-all image self.number (whole self.processor) s.seat s.log.items stands) c.requires.place.enough c.step.ensures.same c.step.ensures.turn (not-stuck c.step.result c.in-Made.is)
 
 pub unreachable-requires : goal.unreachable-requires
 unreachable-requires c =
@@ -60,13 +53,13 @@ unreachable-requires c =
     let self = c.args.self.now in
     let s = self.place in
     let t = c.step.new.sites in
-    let stands = c.requires.plays.stands in
+    let stands = c.requires.stands in
     let turned = subst (λ (turn : Turn). Turned turn self.number image (whole self.processor) (whole c.step.new.self)
     (λ (e : FineStep). Noted s.seat s.log.items e t.seat t.log.items)
-    (λ (e : FineStep). Unnoted s.seat s.log.items t.seat t.log.items × SawShut image s.seat t.seat e)
-    (λ (site : Site). Unnoted s.seat s.log.items t.seat t.log.items × Hinders s.log.room s.log.items s.seat t.seat (site_number site))
+    (λ (e : FineStep). Unnoted s.seat s.log.items t.seat t.log.items × ShutAt image s t e)
+    (λ (site : Site). Unnoted s.seat s.log.items t.seat t.log.items × LateAt s t site)
     (t ≡ s)) c.in-Stuck.is c.step.ensures.turn in
-    has-next image c.requires.plays.described c.requires.plays.can (λ run fine. c.longest_fine_run.ensures image 8 run c.requires.plays.described fine)
-    self.number s.seat (seat-of image _ _ self.number (whole self.processor) s.seat s.log.items c.requires.plays.place.seated stands) (whole self.processor)
+    has-next image c.requires.described c.requires.can (λ run fine. c.longest_fine_run.ensures image 8 run c.requires.described fine)
+    self.number s.seat (seat-of image _ _ self.number (whole self.processor) s.seat s.log.items c.requires.place.seated stands) (whole self.processor)
     (stands-there image self.number (whole self.processor) s.seat s.log.items stands)
     306 c.look_scheduler.result (subst (λ (x : Seated). SawAt x.seat 306 c.look_scheduler.result) turned.0 c.look_scheduler.ensures.saw) turned.1

@@ -1,4 +1,4 @@
-use Rattle.std.proofs.Common.{◌≡◌, ◌<◌, ◌≤◌, ⊎_elim, ℕ, List, inl, inr, refl, sym, subst, arith}
+use Rattle.std.proofs.Common.{◌≡◌, ◌<◌, ◌≤◌, ⊎_elim, List, inl, inr, refl, sym, subst, arith}
 use Rattle.um_words.specs.declared.cell_word.CellWord.{CellWord}
 use Rattle.um_processor.specs.Standing.{whole}
 use Rattle.um_merge.specs.declared.logged.Logged.{Logged}
@@ -8,13 +8,20 @@ use Rattle.um_cpu.proofs.Advances.{looked-first, looks-on, stands-on}
 use Rattle.um_cpu.proofs.Asks.{rested}
 use Rattle.um_cpu.proofs.cpu.Cpu.step.Goals as goal
 
-pub ask-requires-then-says-gt0-clause-stands : goal.ask-requires-then-says-gt0-clause-stands
-ask-requires-then-says-gt0-clause-stands c =
+pub ask-requires-then-says-gt0 : goal.ask-requires-then-says-gt0
+ask-requires-then-says-gt0 c =
     let old = c.args.self.now in
-    let seen = c.look_scheduler-word.new.self in
-    let unnoted = c.look_scheduler-word.ensures.unnoted in
-    stands-on c.args.image.now old.number (whole old.processor) (whole old.processor) old.place.seat old.place.log.items seen.seat seen.log.items c.requires.plays.stands unnoted.keeps
-    (looks-on c.args.image.now old.number (whole old.processor) (whole old.processor) old.place.seat old.place.log.items seen.seat seen.log.items unnoted refl)
+    let looked = c.look_scheduler-word in
+    let seen = looked.new.self in
+    let unnoted = looked.ensures.unnoted in
+    record {
+      given = c.requires.given;
+      described = c.requires.described;
+      can = c.requires.can;
+      place = looked.ensures.image;
+      stands = stands-on c.args.image.now old.number (whole old.processor) (whole old.processor) old.place.seat old.place.log.items seen.seat seen.log.items c.requires.stands unnoted.keeps
+          (looks-on c.args.image.now old.number (whole old.processor) (whole old.processor) old.place.seat old.place.log.items seen.seat seen.log.items unnoted refl);
+    }
 
 pub returns-then-not-is_idle-clause-told : goal.returns-then-not-is_idle-clause-told
 returns-then-not-is_idle-clause-told c = inl (c.is_idle.ensures.busy c.if-not-is_idle.true, c.ask.ensures.asked)
@@ -43,7 +50,7 @@ pub returns-then-says-eq0-2-clause-stands : goal.returns-then-says-eq0-2-clause-
 returns-then-says-eq0-2-clause-stands c =
     let old = c.args.self.now in
     let seen = c.look_scheduler-word.new.self in
-    stands-on c.args.image.now old.number (whole old.processor) (whole old.processor) old.place.seat old.place.log.items seen.seat seen.log.items c.requires.plays.stands
+    stands-on c.args.image.now old.number (whole old.processor) (whole old.processor) old.place.seat old.place.log.items seen.seat seen.log.items c.requires.stands
     c.look_scheduler-word.ensures.unnoted.keeps
     (returns-then-says-eq0-2-clause-goes c)
 
@@ -51,7 +58,7 @@ pub returns-clause-stands : goal.returns-clause-stands
 returns-clause-stands c =
     let old = c.args.self.now in
     let seen = c.look_scheduler-word.new.self in
-    stands-on c.args.image.now old.number (whole old.processor) (whole old.processor) old.place.seat old.place.log.items seen.seat seen.log.items c.requires.plays.stands
+    stands-on c.args.image.now old.number (whole old.processor) (whole old.processor) old.place.seat old.place.log.items seen.seat seen.log.items c.requires.stands
     c.look_scheduler-word.ensures.unnoted.keeps
     (returns-clause-goes c)
 
@@ -73,7 +80,7 @@ returns-then-says-eq0-2-clause-told c =
     let looked = c.look_scheduler-word in
     let value = c.read-says.ensures.value in
     let ready = subst (λ (w : CellWord). w.ready ≤ 0) value c.if-says-gt0.false in
-    let rests = rested image c.requires.plays.described c.requires.plays.can (λ run fine. c.longest_fine_run.ensures image 8 run c.requires.plays.described fine) c.args.self.now c.requires.plays.place c.requires.plays.stands
+    let rests = rested image c.requires.described c.requires.can (λ run fine. c.longest_fine_run.ensures image 8 run c.requires.described fine) c.args.self.now c.requires.place c.requires.stands
     looked.new.self looked.result (c.is_idle.ensures.idle c.if-not-is_idle.false) looked.ensures.unnoted looked.ensures.got looked.ensures.newest looked.ensures.saw (omega (arith, ready)) in
     (rests, (subst (λ (w : CellWord). w.running ≡ 0) value c.if-says-eq0.true, subst (λ (w : CellWord). w.owed ≡ 0) value c.if-says-eq0-2.true))
 
@@ -83,7 +90,7 @@ returns-clause-told c =
     let looked = c.look_scheduler-word in
     let value = c.read-says.ensures.value in
     let ready = subst (λ (w : CellWord). w.ready ≤ 0) value c.if-says-gt0.false in
-    let rests = rested image c.requires.plays.described c.requires.plays.can (λ run fine. c.longest_fine_run.ensures image 8 run c.requires.plays.described fine) c.args.self.now c.requires.plays.place c.requires.plays.stands
+    let rests = rested image c.requires.described c.requires.can (λ run fine. c.longest_fine_run.ensures image 8 run c.requires.described fine) c.args.self.now c.requires.place c.requires.stands
     looked.new.self looked.result (c.is_idle.ensures.idle c.if-not-is_idle.false) looked.ensures.unnoted looked.ensures.got looked.ensures.newest looked.ensures.saw (omega (arith, ready)) in (
       rests,
       λ none. ⊎_elim
