@@ -2,6 +2,7 @@
 use Rattle.std.specs.Prelude.{◌≡◌, ℕ, ◌≤◌, List, length}
 use Rattle.um_base.specs.declared.act.Event.{Event}
 use Rattle.um_base.specs.declared.image.Image.{Image}
+use Rattle.um_base.specs.Lawful.{IsLawful}
 use Rattle.um_base.specs.Weight.{weight}
 use Rattle.um_board.specs.Contents.{Known}
 use Rattle.um_cpu.specs.OnBoard.{HasRun}
@@ -12,6 +13,12 @@ use Rattle.um_machine.specs.Run.{IsComplete, IsRun}
 use Rattle.um_machine.specs.State.{State}
 use Rattle.um_invariants.specs.Described.{IsDescribed}
 use Rattle.um_site.specs.declared.closed.Closed.{Closed}
+
+-- so many processors, each a thread, may run the image
+pub record MayRun (image : Image) (cpus : ℕ) : Type 0 where
+  pub lawful : IsLawful image
+  pub some : 1 ≤ cpus
+  pub few : cpus ≤ 8
 
 -- One complete run of the access-matrix machine from an image: what the steps show that so many processors have made on a board, at seats of their
 -- own, and which stand there now that it is closed. It has at most as many events as the image's weight, and obeys all laws of runs.

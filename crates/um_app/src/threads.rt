@@ -4,7 +4,7 @@ ghost use Rattle.std.specs.Prelude.{◌≡◌, ◌≤◌, IfOk, length};
 ghost use Rattle.um_base.specs.{Lawful.{IsLawful}, Weight.{weight}};
 ghost use Rattle.um_machine.specs.Run.{IsComplete, IsRun};
 ghost use Rattle.um_trace.specs.Text.{text};
-ghost use Rattle.um_app.specs.{Threaded.{IsThreadRun}, Top.{IsThreadRunText, NamesRun}};
+ghost use Rattle.um_app.specs.{Threaded.{IsThreadRun, MayRun}, Top.{IsThreadRunText, NamesRun}};
 
 use crate::sim::replayed;
 use std::alloc::Global;
@@ -39,9 +39,7 @@ fn thread_run<'a, R: Threads + Wait + Sync, G: Gate + Sync>(
     cpus: u8,
     gate: &G,
 ) -> Result<ThreadRun<'a>, Memory>
-    requires lawful { IsLawful image.now }
-    requires some { 1 ≤ cpus }
-    requires few { cpus ≤ 8 }
+    requires may { MayRun image.now cpus }
     ensures run { IfOk result (λ made. IsThreadRun image.now cpus made.closed made.events.items made.last) }
     ensures names { IfOk result (λ made. NamesRun image.now (text image.now made.events.items made.last) made.events.items) }
 {
@@ -87,9 +85,7 @@ pub fn thread_text<R: Threads + Wait + Sync, G: Gate + Sync>(
     cpus: u8,
     gate: &G,
 ) -> Result<ThreadText, Memory>
-    requires lawful { IsLawful image.now }
-    requires some { 1 ≤ cpus }
-    requires few { cpus ≤ 8 }
+    requires may { MayRun image.now cpus }
     ensures { IfOk result (λ made. IsThreadRunText image.now cpus made.closed made.text.items) }
 {
     let ThreadRun {

@@ -3,6 +3,9 @@ use Rattle.um_command.specs.declared.command.Command.{Command}
 use Rattle.um_app.specs.Inputs.{IsOf}
 use Rattle.um_app.proofs.answer.thread_answer_to.Goals as goal
 
+pub thread_text-requires-clause-may : goal.thread_text-requires-clause-may
+thread_text-requires-clause-may g c κs within = record { lawful = c.in-Ok.ensures.lawful; some = c.requires.some; few = c.requires.few }
+
 pub returns-in-Ok-thread_text-clause-output : goal.returns-in-Ok-thread_text-clause-output
 returns-in-Ok-thread_text-clause-output g c =
     let is_of : IsOf (Command.Run c.args.cpus) c.args.input.now c.in-Ok.image [] = record { short = c.requires.short; described = c.in-Ok.ensures.ok; traced = refl } in

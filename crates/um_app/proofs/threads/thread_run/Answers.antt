@@ -9,7 +9,7 @@ use Rattle.um_app.proofs.RunsOf.{names_run}
 use Rattle.um_app.proofs.threads.thread_run.Goals as goal
 
 pub replayed-requires-clause-described : goal.replayed-requires-clause-described
-replayed-requires-clause-described g c = record { lawful = c.requires.lawful; few = subst (λ (n : ℕ). n ≤ STATIC_ROWS) c.len-objects.ensures.value c.len-objects.ensures.few }
+replayed-requires-clause-described g c = record { lawful = c.requires.may.lawful; few = subst (λ (n : ℕ). n ≤ STATIC_ROWS) c.len-objects.ensures.value c.len-objects.ensures.few }
 
 pub replayed-requires-clause-run : goal.replayed-requires-clause-run
 replayed-requires-clause-run g c =
@@ -18,12 +18,12 @@ replayed-requires-clause-run g c =
 pub returns-in-Ok-clause-run : goal.returns-in-Ok-clause-run
 returns-in-Ok-clause-run g c =
     let image = c.args.image.now in
-    let given : IsDescribed image = record { lawful = c.requires.lawful; few = subst (λ (n : ℕ). n ≤ STATIC_ROWS) c.len-objects.ensures.value c.len-objects.ensures.few } in
+    let given : IsDescribed image = record { lawful = c.requires.may.lawful; few = subst (λ (n : ℕ). n ≤ STATIC_ROWS) c.len-objects.ensures.value c.len-objects.ensures.few } in
     let is_run = subst (λ (events : List Event). IsRun image events c.in-Ok.last) c.as_slice.ensures.value c.in-Ok.ensures.run in
     record { described = given; is_run = is_run; complete = c.in-Ok.ensures.complete; board = c.in_ok-ran.ensures.board; few = c.in_ok-ran.ensures.few; laws = obeys image _ c.in-Ok.last given is_run }
 
 pub returns-in-Ok-clause-names : goal.returns-in-Ok-clause-names
 returns-in-Ok-clause-names g c =
     let image = c.args.image.now in
-    let given : IsDescribed image = record { lawful = c.requires.lawful; few = subst (λ (n : ℕ). n ≤ STATIC_ROWS) c.len-objects.ensures.value c.len-objects.ensures.few } in
+    let given : IsDescribed image = record { lawful = c.requires.may.lawful; few = subst (λ (n : ℕ). n ≤ STATIC_ROWS) c.len-objects.ensures.value c.len-objects.ensures.few } in
     names_run image given _ c.in-Ok.last (subst (λ (events : List Event). IsRun image events c.in-Ok.last) c.as_slice.ensures.value c.in-Ok.ensures.run)
