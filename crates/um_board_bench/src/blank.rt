@@ -3,25 +3,14 @@
 ghost use Rattle.std.specs.Prelude.{◌≡◌, ◌<◌, [], true, IfOk, IfSome, length};
 
 use std::alloc::Global;
-use um_base::{BoundedVec, Image, Memory, Mpu, Policy};
+use um_base::{Image, Memory};
+use um_samples::empty_image;
 use um_site::{Board, Seat, are_unstepped, have_no_turn};
 use um_words::AnyStep;
 
 /// An image with nothing in it.
 pub fn empty_image(alloc: Global) -> Image {
-    Image {
-        mpu: Mpu::V7,
-        regions: 8,
-        policy: Policy::Abort,
-        rodata: None,
-        rodata_bytes: BoundedVec::new(alloc),
-        pools: BoundedVec::new(alloc),
-        partitions: BoundedVec::new(alloc),
-        domains: BoundedVec::new(alloc),
-        objects: BoundedVec::new(alloc),
-        boots: BoundedVec::new(alloc),
-        scripts: BoundedVec::new(alloc),
-    }
+    empty_image!(alloc)
 }
 
 /// A board of these words, where it may open with them.

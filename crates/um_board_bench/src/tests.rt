@@ -56,6 +56,14 @@ fn board_with(
     }
 }
 
+/// A seat at a board of so many words, one of which is this one at its site.
+macro_rules! seated {
+    ($rt:ident, $at:ident, $count:expr, $site:expr, $word:expr) => {
+        let (board, seat) = board_with($rt.alloc(), $count, $site, $word)?;
+        let mut $at = Seated::new(&board, seat);
+    };
+}
+
 /// Whether this word stands at the site.
 fn stands(at: &mut Seated<'_>, site: u16, word: u64) -> bool
     requires here { at.old.seat.token.table_id ≡ at.old.board.now.table.shared.table_id }
@@ -100,13 +108,24 @@ fn drop_of(who: ThreadIx) -> RowCall {
     }
 }
 
+/// Whether the last permission goes, and whether the object is to be cleaned then.
+fn is_gone(at: &mut Seated<'_>, clean: bool) -> bool
+    requires on { OnRow at.old 0 }
+    ensures stays { Remains at.old at.new }
+{
+    answers(
+        at,
+        FIRST,
+        drop_of(FIRST),
+        Answer::Dropped(Dropped::Gone { clean }),
+    )
+}
+
 /// The last permission goes while nobody holds the object.
 #[test]
 fn cleaned_at_once(rt: HostRuntime) -> Result<(), NoBoard> {
-    let (board, seat) = board_with(rt.alloc(), 1, 0, 0x0000_000c_0000_0001)?;
-    let mut at = Seated::new(&board, seat);
-    let gone = Answer::Dropped(Dropped::Gone { clean: true });
-    assert!(rt; answers(&mut at, FIRST, drop_of(FIRST), gone));
+    seated!(rt, at, 1, 0, 0x0000_000c_0000_0001);
+    assert!(rt; is_gone(&mut at, true));
     assert!(rt; stands(&mut at, 0, 0x0000_101c_0000_0000));
     Ok(())
 }
@@ -114,11 +133,9 @@ fn cleaned_at_once(rt: HostRuntime) -> Result<(), NoBoard> {
 /// From a last drop under a hold to the next birth.
 #[test]
 fn a_life(rt: HostRuntime) -> Result<(), NoBoard> {
-    let (board, seat) = board_with(rt.alloc(), 1, 0, 0x0000_002c_0000_0001)?;
-    let mut at = Seated::new(&board, seat);
+    seated!(rt, at, 1, 0, 0x0000_002c_0000_0001);
     let addr = OBJECT;
-    let gone = Answer::Dropped(Dropped::Gone { clean: false });
-    assert!(rt; answers(&mut at, FIRST, drop_of(FIRST), gone));
+    assert!(rt; is_gone(&mut at, false));
     assert!(rt; stands(&mut at, 0, 0x0000_1034_0000_0000));
     let late = RowCall::Grant { who: SECOND, addr };
     assert!(rt; answers(&mut at, FIRST, late, Answer::Given(Given::Gone)));
@@ -138,30 +155,17 @@ fn a_life(rt: HostRuntime) -> Result<(), NoBoard> {
 /// Permissions that are given, passed on and dropped, and an object that is opened and marked.
 #[test]
 fn pairs(rt: HostRuntime) -> Result<(), NoBoard> {
-    let (board, seat) = board_with(rt.alloc(), 1, 0, 0x0000_0008_0000_0001)?;
-    let mut at = Seated::new(&board, seat);
+    seated!(rt, at, 1, 0, 0x0000_0008_0000_0001);
     let at = &mut at;
     let addr = OBJECT;
     let given = Answer::Given(Given::Done);
     assert!(rt; answers(at, FIRST, RowCall::Grant { who: SECOND, addr }, given));
     let child = ThreadIx(2);
-    assert!(rt;
-        answers(
-            at,
-            FIRST,
-            RowCall::Inherit { child, addr },
-            Answer::Passed(Passed::Pair)
-        )
-    );
+    let passes = RowCall::Inherit { child, addr };
+    assert!(rt; answers(at, FIRST, passes, Answer::Passed(Passed::Pair)));
     let child = SECOND;
-    assert!(rt;
-        answers(
-            at,
-            FIRST,
-            RowCall::Inherit { child, addr },
-            Answer::Passed(Passed::Nothing)
-        )
-    );
+    let passes = RowCall::Inherit { child, addr };
+    assert!(rt; answers(at, FIRST, passes, Answer::Passed(Passed::Nothing)));
     assert!(rt; answers(at, FIRST, RowCall::Own { who: ThreadIx(31) }, given));
     assert!(rt; stands(at, 0, 0x0000_4028_8000_0007));
     assert!(rt; answers(at, SECOND, drop_of(SECOND), Answer::Dropped(Dropped::Kept)));
@@ -217,8 +221,7 @@ const MOVE: ThreadCall = ThreadCall::Move { domain: 0 };
 /// A hold keeps a thread's domain, and a doomed thread begins no line.
 #[test]
 fn threads(rt: HostRuntime) -> Result<(), NoBoard> {
-    let (board, seat) = board_with(rt.alloc(), WORDS, 128, 0x41)?;
-    let mut at = Seated::new(&board, seat);
+    seated!(rt, at, WORDS, 128, 0x41);
     let at = &mut at;
     let Some(before) = recorded(at, FIRST, FIRST, ThreadCall::Hold) else {
         assert!(rt; false, "a hold");
@@ -249,8 +252,7 @@ fn threads(rt: HostRuntime) -> Result<(), NoBoard> {
 /// A thread from its start to its end.
 #[test]
 fn a_thread(rt: HostRuntime) -> Result<(), NoBoard> {
-    let (board, seat) = board_with(rt.alloc(), WORDS, 129, 0)?;
-    let mut at = Seated::new(&board, seat);
+    seated!(rt, at, WORDS, 129, 0);
     let start = ThreadCall::Start {
         mode: Mode::Supervisor,
         domain: 1,
@@ -312,8 +314,7 @@ fn keeps_out(at: &mut Seated<'_>, call: DomainCall, word: u64) -> bool
 /// Nobody writes while somebody reads, and nobody reads while somebody writes.
 #[test]
 fn claims(rt: HostRuntime) -> Result<(), NoBoard> {
-    let (board, seat) = board_with(rt.alloc(), WORDS, 160, 1)?;
-    let mut at = Seated::new(&board, seat);
+    seated!(rt, at, WORDS, 160, 1);
     let at = &mut at;
     assert!(rt; records(at, DomainCall::ReadClaim));
     let read = 0x0000_0010_0000_0005;

@@ -31,15 +31,15 @@ ghost use Rattle.um_machine.specs.Memory.{rodata_of};
 use std::alloc::Global;
 use std::test::Fail;
 use um_base::{
-    Addr, Answer, Ask, Attr, BoundedVec, DOMAINS, Errno, Image, Kind, Leftover, Memory, Mode, Mpu,
-    POOLS, PartRefs, Parts, Piece, Policy, ROWS, Range, Reply, Row, THREADS, ThreadIx, Told,
-    Waiter,
+    Addr, Answer, Ask, Attr, DOMAINS, Errno, Image, Kind, Leftover, Memory, Mode, POOLS, PartRefs,
+    Parts, Piece, ROWS, Range, Reply, Row, THREADS, ThreadIx, Told, Waiter,
 };
 use um_machine::{Cost, Life, Pending};
 use um_processor::{
     Bytes, Context, DomainAct, DomainCell, Heap, HeapAct, Here, ObjectCell, RowAct, Said,
     Scheduler, Sites, Tables, ThreadAct,
 };
+use um_samples::empty_image;
 use um_service::Outcome;
 use um_words::{DomWord, Permissions, RowWord, Stage, ThreadWord};
 
@@ -184,19 +184,7 @@ fn turns(rt: HostRuntime) -> Result<(), Fail> {
 fn image(alloc: Global) -> Image
     ensures { rodata_of result ≡ [] }
 {
-    Image {
-        mpu: Mpu::V8,
-        regions: 8,
-        policy: Policy::Abort,
-        rodata: None,
-        rodata_bytes: BoundedVec::new(alloc),
-        pools: BoundedVec::new(alloc),
-        partitions: BoundedVec::new(alloc),
-        domains: BoundedVec::new(alloc),
-        objects: BoundedVec::new(alloc),
-        boots: BoundedVec::new(alloc),
-        scripts: BoundedVec::new(alloc),
-    }
+    empty_image!(alloc)
 }
 
 /// The cells of all rows, without an object.

@@ -1,4 +1,4 @@
-//! Descriptions that tests of several crates read, and texts of their runs.
+//! Descriptions that tests of several crates read, texts of their runs, and an image without anything.
 #![tactic(auto)]
 
 /// A description of version 1 for a unit of eight regions of the seventh version, with this behind its head.
@@ -9,6 +9,26 @@ macro_rules! described {
             "version = 1\nmpu = \"pmsav7\"\nregions = 8\noops = \"abort\"\n",
             $sections
         )
+    };
+}
+
+/// An image without anything.
+#[macro_export]
+macro_rules! empty_image {
+    ($alloc:expr) => {
+        um_base::Image {
+            mpu: um_base::Mpu::V8,
+            regions: 8,
+            policy: um_base::Policy::Abort,
+            rodata: None,
+            rodata_bytes: um_base::BoundedVec::new($alloc),
+            pools: um_base::BoundedVec::new($alloc),
+            partitions: um_base::BoundedVec::new($alloc),
+            domains: um_base::BoundedVec::new($alloc),
+            objects: um_base::BoundedVec::new($alloc),
+            boots: um_base::BoundedVec::new($alloc),
+            scripts: um_base::BoundedVec::new($alloc),
+        }
     };
 }
 
