@@ -73,7 +73,7 @@ impl<'a> Matrix<'a> {
         }
     }
 
-    /// A thread that may not copy what its call asks for fails the call, or ends where it isn't a user.
+    /// What follows a copy that isn't allowed: a fatal error, by `EFAULT` of a user and by its access of a supervisor.
     fn copy_fails(&mut self, t: usize)
         requires { t < THREADS }
         ensures { self.new ≡ goes_on self.old t (thread_at self.old t) (copy_fails (thread_at self.old t).mode) }
