@@ -1,14 +1,11 @@
 -- Reading partitions one after the other, as a loop does.
-use Rattle.std.proofs.Common.{◌≡◌, ℕ, suc, ◌+◌, ◌-◌, ◌<◌, ◌≤◌, List, [], ◌∷◌, ◌++◌, Result, Ok, Err, MatchResult, refl, sym, ap, ◌∙◌, append_assoc, arith, IsTrue}
-use Rattle.std.specs.List.{list_all}
-use Rattle.std.proofs.lemmas.List.Folds.{list_all-append}
+use Rattle.std.proofs.Common.{◌≡◌, ℕ, suc, ◌+◌, ◌-◌, ◌<◌, ◌≤◌, List, [], ◌∷◌, ◌++◌, Result, Ok, Err, MatchResult, refl, sym, ap, ◌∙◌, append_assoc, arith}
 use Rattle.std.proofs.lemmas.List.{append-nil}
 use Rattle.um_base.specs.declared.names.PartRef.{PartRef}
 use Rattle.um_script.specs.declared.fault.LineFault.{LineFault}
 use Rattle.um_script.specs.declared.fault.LineKind.{LineKind}
 use Rattle.um_script.specs.Faults.{◌>>=◌}
 use Rattle.um_script.specs.Operands.{part, parts}
-use Rattle.um_script.specs.Writable.{is_part}
 use Rattle.um_script.specs.Words.{Words, ends, word}
 
 -- those that were read before, and those that are still read
@@ -62,6 +59,3 @@ all_parts front k words total le so_far =
     let e : 4 - k ≡ 0 = omega arith in
     let one : with_front front (parts (4 - k) words) ≡ Ok (front, words) = rw e (ap (λ (ps : List PartRef). Ok (ps, words)) (append-nil front)) in
     sym so_far ∙ one
-
-pub one_more_fits : (front : List PartRef) (p : PartRef) → IsTrue (list_all is_part front) → IsTrue (is_part p) → IsTrue (list_all is_part (front ++ p ∷ []))
-one_more_fits front p all one = list_all-append is_part front (p ∷ []) ∙ rw (all, one) refl

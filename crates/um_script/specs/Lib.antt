@@ -3,6 +3,7 @@ pub mod Words
 pub mod Numbers
 pub mod Operands
 pub mod Instructions
+pub mod Subjects
 pub mod Lines
 pub mod Cursor
 pub mod Canonical

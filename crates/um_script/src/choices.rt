@@ -1,7 +1,6 @@
 //! Operands that are one of a few words.
 
-ghost use Rattle.std.specs.Prelude.{◌≡◌, IfOk, IsTrue};
-ghost use Rattle.um_base.specs.Lawful.{is_size, is_dynamic_kind};
+ghost use Rattle.std.specs.Prelude.{◌≡◌};
 ghost use Rattle.um_script.specs.Operands as operands;
 
 use crate::cut::cut;
@@ -9,23 +8,9 @@ use crate::fault::LineKind;
 use um_base::{Kind, Options, Timeout};
 use um_vocabulary::{dynamic_kind_named, timeout_named};
 
-/// How many bytes are loaded or stored.
-pub fn size(word: &[u8]) -> Result<u8, LineKind>
-    ensures value { result ≡ operands.size word.now }
-    ensures fits { IfOk result (λ n. IsTrue (is_size n)) }
-{
-    match word {
-        b"1" => Ok(1),
-        b"2" => Ok(2),
-        b"4" => Ok(4),
-        _ => Err(LineKind::Operand),
-    }
-}
-
 /// A kind of object that can be allocated.
 pub fn kind(word: &[u8]) -> Result<Kind, LineKind>
-    ensures value { result ≡ operands.kind word.now }
-    ensures fits { IfOk result (λ k. IsTrue (is_dynamic_kind k)) }
+    ensures { result ≡ operands.kind word.now }
 {
     dynamic_kind_named(word).ok_or(LineKind::Operand)
 }
@@ -35,6 +20,18 @@ pub fn timeout(word: &[u8]) -> Result<Timeout, LineKind>
     ensures { result ≡ operands.timeout word.now }
 {
     timeout_named(word).ok_or(LineKind::Operand)
+}
+
+/// How many bytes are loaded or stored.
+pub fn size(word: &[u8]) -> Result<u8, LineKind>
+    ensures { result ≡ operands.size word.now }
+{
+    match word {
+        b"1" => Ok(1),
+        b"2" => Ok(2),
+        b"4" => Ok(4),
+        _ => Err(LineKind::Operand),
+    }
 }
 
 const USER: &[u8] = b"K_USER";

@@ -1,9 +1,7 @@
 //! Numbers as words spell them.
 
-ghost use Rattle.std.specs.{Prelude.{◌≡◌, ◌≤◌, IfOk, IsTrue}, List.{list_all}};
-ghost use Rattle.um_base.specs.Lawful.{is_within};
+ghost use Rattle.std.specs.{Prelude.{◌≡◌, ◌≤◌, IfOk}, List.{list_all}};
 ghost use Rattle.um_script.specs.Numbers as numbers;
-ghost use Rattle.um_script.specs.Writable.{is_word32, is_priority};
 
 use crate::fault::LineKind;
 
@@ -83,8 +81,7 @@ pub fn is_number(word: &[u8]) -> bool
 
 /// A number of 32 bits, in decimal or hexadecimal digits.
 pub fn number(word: &[u8]) -> Result<u32, LineKind>
-    ensures value { result ≡ numbers.number word.now }
-    ensures fits { IfOk result (λ n. IsTrue (is_word32 n)) }
+    ensures { result ≡ numbers.number word.now }
 {
     match word {
         [b'0', b'x', rest @ ..] => digits(true, 8, u32::MAX, rest),
@@ -94,8 +91,7 @@ pub fn number(word: &[u8]) -> Result<u32, LineKind>
 
 /// How often lines are repeated: 1 to 1,000.
 pub fn times(word: &[u8]) -> Result<u16, LineKind>
-    ensures value { result ≡ numbers.times word.now }
-    ensures fits { IfOk result (λ n. IsTrue (is_within 1 1000 n)) }
+    ensures { result ≡ numbers.times word.now }
 {
     let times = number(word)?;
     if times >= 1 && times <= 1000 {
@@ -107,8 +103,7 @@ pub fn times(word: &[u8]) -> Result<u16, LineKind>
 
 /// A priority: -128 to 127.
 pub fn priority(word: &[u8]) -> Result<i8, LineKind>
-    ensures value { result ≡ numbers.priority word.now }
-    ensures fits { IfOk result (λ n. IsTrue (is_priority n)) }
+    ensures { result ≡ numbers.priority word.now }
 {
     match word {
         [b'-', rest @ ..] => {

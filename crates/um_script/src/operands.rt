@@ -1,7 +1,7 @@
 //! Operands, one method for each form.
 
-ghost use Rattle.std.specs.Prelude.{◌≡◌, Ok, Err, MatchResult, IfOk, IsTrue};
-ghost use Rattle.um_script.specs.{Cursor.{words_left}, Faults.{Gives}, Writable.{fits}};
+ghost use Rattle.std.specs.Prelude.{◌≡◌, Ok, Err, MatchResult};
+ghost use Rattle.um_script.specs.{Cursor.{words_left}, Faults.{Gives}};
 ghost use Rattle.um_script.specs.Numbers as numbers;
 ghost use Rattle.um_script.specs.Operands as operands;
 
@@ -29,8 +29,7 @@ impl Words<'_> {
     /// How often lines are repeated.
     #[tactic(auto, unfolding(crate::specs::Operands::one))]
     pub fn times(&mut self) -> Result<u16, LineFault>
-        ensures value { Gives result (operands.one numbers.times (words_left self.old)) (words_left self.new) }
-        ensures fits { IfOk result (λ v. IsTrue (fits operands.Times v)) }
+        ensures { Gives result (operands.one numbers.times (words_left self.old)) (words_left self.new) }
     {
         let word = self.word()?;
         word.placed(numbers::times(word.bytes))
@@ -39,8 +38,7 @@ impl Words<'_> {
     /// A register.
     #[tactic(auto, unfolding(crate::specs::Operands::one))]
     pub fn register(&mut self) -> Result<u8, LineFault>
-        ensures value { Gives result (operands.one operands.register (words_left self.old)) (words_left self.new) }
-        ensures fits { IfOk result (λ v. IsTrue (fits operands.Register v)) }
+        ensures { Gives result (operands.one operands.register (words_left self.old)) (words_left self.new) }
     {
         let word = self.word()?;
         word.placed(terms::register(word.bytes))
@@ -49,8 +47,7 @@ impl Words<'_> {
     /// How many bytes are loaded or stored.
     #[tactic(auto, unfolding(crate::specs::Operands::one))]
     pub fn size(&mut self) -> Result<u8, LineFault>
-        ensures value { Gives result (operands.one operands.size (words_left self.old)) (words_left self.new) }
-        ensures fits { IfOk result (λ v. IsTrue (fits operands.Size v)) }
+        ensures { Gives result (operands.one operands.size (words_left self.old)) (words_left self.new) }
     {
         let word = self.word()?;
         word.placed(choices::size(word.bytes))
@@ -59,8 +56,7 @@ impl Words<'_> {
     /// A place, a register or a number.
     #[tactic(auto, unfolding(crate::specs::Operands::one))]
     pub fn term(&mut self) -> Result<Term, LineFault>
-        ensures value { Gives result (operands.one operands.term (words_left self.old)) (words_left self.new) }
-        ensures fits { IfOk result (λ v. IsTrue (fits operands.AnyTerm v)) }
+        ensures { Gives result (operands.one operands.term (words_left self.old)) (words_left self.new) }
     {
         let word = self.word()?;
         word.placed(terms::term(word.bytes))
@@ -69,8 +65,7 @@ impl Words<'_> {
     /// The name of a domain or of a script.
     #[tactic(auto, unfolding(crate::specs::Operands::one))]
     pub fn named(&mut self) -> Result<Ref, LineFault>
-        ensures value { Gives result (operands.one operands.named (words_left self.old)) (words_left self.new) }
-        ensures fits { IfOk result (λ v. IsTrue (fits operands.Named v)) }
+        ensures { Gives result (operands.one operands.named (words_left self.old)) (words_left self.new) }
     {
         let word = self.word()?;
         word.placed(terms::named(word.bytes))
@@ -79,8 +74,7 @@ impl Words<'_> {
     /// A partition.
     #[tactic(auto, unfolding(crate::specs::Operands::one))]
     pub fn part(&mut self) -> Result<PartRef, LineFault>
-        ensures value { Gives result (operands.one operands.part (words_left self.old)) (words_left self.new) }
-        ensures fits { IfOk result (λ v. IsTrue (fits operands.Part v)) }
+        ensures { Gives result (operands.one operands.part (words_left self.old)) (words_left self.new) }
     {
         let word = self.word()?;
         word.placed(partitions::part(word.bytes))
@@ -88,8 +82,7 @@ impl Words<'_> {
 
     /// As many partitions as there are, up to four.
     pub fn parts(&mut self) -> Result<PartRefs, LineFault>
-        ensures value { Gives result (operands.parts NAMED_PARTITIONS (words_left self.old)) (words_left self.new) }
-        ensures fits { IfOk result (λ v. IsTrue (fits operands.Parts v)) }
+        ensures { Gives result (operands.parts NAMED_PARTITIONS (words_left self.old)) (words_left self.new) }
     {
         let mut parts = PartRefs::new();
         for _ in 0..NAMED_PARTITIONS {
@@ -104,8 +97,7 @@ impl Words<'_> {
     /// A kind of object that can be allocated.
     #[tactic(auto, unfolding(crate::specs::Operands::one))]
     pub fn kind(&mut self) -> Result<Kind, LineFault>
-        ensures value { Gives result (operands.one operands.kind (words_left self.old)) (words_left self.new) }
-        ensures fits { IfOk result (λ v. IsTrue (fits operands.ObjectKind v)) }
+        ensures { Gives result (operands.one operands.kind (words_left self.old)) (words_left self.new) }
     {
         let word = self.word()?;
         word.placed(choices::kind(word.bytes))
@@ -114,8 +106,7 @@ impl Words<'_> {
     /// How long a call waits.
     #[tactic(auto, unfolding(crate::specs::Operands::one))]
     pub fn timeout(&mut self) -> Result<Timeout, LineFault>
-        ensures value { Gives result (operands.one operands.timeout (words_left self.old)) (words_left self.new) }
-        ensures fits { IfOk result (λ v. IsTrue (fits operands.Wait v)) }
+        ensures { Gives result (operands.one operands.timeout (words_left self.old)) (words_left self.new) }
     {
         let word = self.word()?;
         word.placed(choices::timeout(word.bytes))
@@ -124,8 +115,7 @@ impl Words<'_> {
     /// A priority.
     #[tactic(auto, unfolding(crate::specs::Operands::one))]
     pub fn priority(&mut self) -> Result<i8, LineFault>
-        ensures value { Gives result (operands.one numbers.priority (words_left self.old)) (words_left self.new) }
-        ensures fits { IfOk result (λ v. IsTrue (fits operands.Priority v)) }
+        ensures { Gives result (operands.one numbers.priority (words_left self.old)) (words_left self.new) }
     {
         let word = self.word()?;
         word.placed(numbers::priority(word.bytes))
@@ -134,8 +124,7 @@ impl Words<'_> {
     /// The options of a new thread.
     #[tactic(auto, unfolding(crate::specs::Operands::one))]
     pub fn options(&mut self) -> Result<Options, LineFault>
-        ensures value { Gives result (operands.one operands.options (words_left self.old)) (words_left self.new) }
-        ensures fits { IfOk result (λ v. IsTrue (fits operands.OptionSet v)) }
+        ensures { Gives result (operands.one operands.options (words_left self.old)) (words_left self.new) }
     {
         let word = self.word()?;
         word.placed(choices::options(word.bytes))

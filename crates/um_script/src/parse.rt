@@ -5,6 +5,7 @@ ghost use Rattle.um_script.specs.{
   Cursor.{words_left},
   Faults.{Gives},
   Lines.{instruction, alone, whole, line_of},
+  Subjects.{is_call, is_service, is_data_passing},
   Writable.{is_line},
 };
 
@@ -23,19 +24,28 @@ macro_rules! read {
 impl Words<'_> {
     /// The operands of an instruction.
     fn instruction(&mut self, mnemonic: Mnemonic) -> Result<Instr, LineFault>
-        ensures value { Gives result (instruction mnemonic (words_left self.old)) (words_left self.new) }
-        ensures writable { IfOk result (λ i. IsTrue (is_line i)) }
+        ensures { Gives result (instruction mnemonic (words_left self.old)) (words_left self.new) }
     {
         match mnemonic {
             Mnemonic::End => Ok(Instr::End),
-            Mnemonic::Oops => Ok(Instr::Oops),
-            Mnemonic::Panic => Ok(Instr::Panic),
             Mnemonic::Repeat => read!(self => Repeat { times: times }),
             Mnemonic::Set => read!(self => Set { to: register, value: term }),
             Mnemonic::Add => read!(self => Add { to: register, value: term }),
             Mnemonic::Load => read!(self => Load { to: register, addr: term, size: size }),
             Mnemonic::Store => read!(self => Store { addr: term, size: size, value: term }),
             Mnemonic::Exec => read!(self => Exec { addr: term }),
+            call => self.call(call),
+        }
+    }
+
+    /// The operands of a call.
+    fn call(&mut self, mnemonic: Mnemonic) -> Result<Instr, LineFault>
+        requires { IsTrue (is_call mnemonic) }
+        ensures { Gives result (instruction mnemonic (words_left self.old)) (words_left self.new) }
+    {
+        match mnemonic {
+            Mnemonic::Oops => Ok(Instr::Oops),
+            Mnemonic::Panic => Ok(Instr::Panic),
             Mnemonic::DomainInit => read!(self => DomainInit { domain: named, parts: parts }),
             Mnemonic::DomainAdd => read!(self => DomainAdd { domain: named, part: part }),
             Mnemonic::DomainRemove => read!(self => DomainRemove { domain: named, part: part }),
@@ -51,6 +61,16 @@ impl Words<'_> {
             }),
             Mnemonic::UserMode => read!(self => UserMode { script: named }),
             Mnemonic::NameSet => read!(self => NameSet { thread: term, addr: term }),
+            call => self.service_call(call),
+        }
+    }
+
+    /// The operands of a call of a service.
+    fn service_call(&mut self, mnemonic: Mnemonic) -> Result<Instr, LineFault>
+        requires { IsTrue (is_service mnemonic) }
+        ensures { Gives result (instruction mnemonic (words_left self.old)) (words_left self.new) }
+    {
+        match mnemonic {
             Mnemonic::SemInit => read!(self => SemInit { object: term, count: term, limit: term }),
             Mnemonic::SemTake => read!(self => SemTake { object: term, timeout: timeout }),
             Mnemonic::SemGive => read!(self => SemGive { object: term }),
@@ -59,6 +79,16 @@ impl Words<'_> {
             Mnemonic::MutexInit => read!(self => MutexInit { object: term }),
             Mnemonic::MutexLock => read!(self => MutexLock { object: term, timeout: timeout }),
             Mnemonic::MutexUnlock => read!(self => MutexUnlock { object: term }),
+            call => self.data_passing_call(call),
+        }
+    }
+
+    /// The operands of a call of a service by which threads pass data.
+    fn data_passing_call(&mut self, mnemonic: Mnemonic) -> Result<Instr, LineFault>
+        requires { IsTrue (is_data_passing mnemonic) }
+        ensures { Gives result (instruction mnemonic (words_left self.old)) (words_left self.new) }
+    {
+        match mnemonic {
             Mnemonic::MsgqInit =>
                 read!(self => MsgqInit { object: term, msg_size: term, max_msgs: term }),
             Mnemonic::MsgqPut =>
@@ -79,13 +109,13 @@ impl Words<'_> {
                 read!(self => PipeRead { object: term, addr: term, length: term, timeout: timeout }),
             Mnemonic::PipeReset => read!(self => PipeReset { object: term }),
             Mnemonic::PipeClose => read!(self => PipeClose { object: term }),
+            _ => unreachable!(),
         }
     }
 
     /// The instruction, where no word is left.
     fn alone(&mut self, instr: Instr) -> Result<Instr, LineFault>
-        ensures value { result ≡ alone instr (words_left self.old) }
-        ensures same { IfOk result (λ i. i ≡ instr) }
+        ensures { result ≡ alone instr (words_left self.old) }
     {
         match self.next() {
             None => Ok(instr),
@@ -98,8 +128,7 @@ impl Words<'_> {
 
     /// What was read, where no word is left.
     fn ended(&mut self, read: Result<Instr, LineFault>) -> Result<Instr, LineFault>
-        ensures value { MatchResult read (λ i. result ≡ alone i (words_left self.old)) (λ e. result ≡ Err e) }
-        ensures same { IfOk result (λ i. read ≡ Ok i) }
+        ensures { MatchResult read (λ i. result ≡ alone i (words_left self.old)) (λ e. result ≡ Err e) }
     {
         match read {
             Ok(instr) => self.alone(instr),
@@ -109,8 +138,7 @@ impl Words<'_> {
 
     /// The operands of an instruction, and no more words.
     fn whole(&mut self, mnemonic: Mnemonic) -> Result<Instr, LineFault>
-        ensures value { result ≡ whole mnemonic (words_left self.old) }
-        ensures writable { IfOk result (λ i. IsTrue (is_line i)) }
+        ensures { result ≡ whole mnemonic (words_left self.old) }
     {
         let read = self.instruction(mnemonic);
         self.ended(read)
@@ -118,6 +146,7 @@ impl Words<'_> {
 }
 
 /// The instruction of a line, or its first fault from the left.
+#[tactic(auto, using(crate::proofs::ReadWritable::read_writable))]
 pub fn parse_line(line: &[u8]) -> Result<Instr, LineFault>
     requires { length line.now < 2 ^ 32 - 1 }
     ensures value { result ≡ line_of line.now }

@@ -1,9 +1,7 @@
 //! Partitions, by name or by what they are.
 
-ghost use Rattle.std.specs.Prelude.{◌≡◌, IfOk, IsTrue};
-ghost use Rattle.um_base.specs.Lawful.{is_named_attr};
+ghost use Rattle.std.specs.Prelude.{◌≡◌};
 ghost use Rattle.um_script.specs.Operands as operands;
-ghost use Rattle.um_script.specs.Writable.{is_part};
 
 use crate::cut::cut;
 use crate::fault::LineKind;
@@ -13,16 +11,14 @@ use um_base::{Addr, Attr, PartRef, Range};
 use um_vocabulary::attr_named;
 
 fn rights(word: &[u8]) -> Result<Attr, LineKind>
-    ensures value { result ≡ operands.rights word.now }
-    ensures fits { IfOk result (λ a. IsTrue (is_named_attr a)) }
+    ensures { result ≡ operands.rights word.now }
 {
     attr_named(word).ok_or(LineKind::Operand)
 }
 
 /// An address, a size and rights: the form of all three comes before the range of any.
 fn given_part(start: &[u8], size: &[u8], attr: &[u8]) -> Result<PartRef, LineKind>
-    ensures value { result ≡ operands.given_part start.now size.now attr.now }
-    ensures fits { IfOk result (λ p. IsTrue (is_part p)) }
+    ensures { result ≡ operands.given_part start.now size.now attr.now }
 {
     if !is_number(start) || !is_number(size) {
         return Err(LineKind::Operand);
@@ -37,8 +33,7 @@ fn given_part(start: &[u8], size: &[u8], attr: &[u8]) -> Result<PartRef, LineKin
 }
 
 fn part_from(start: &[u8], rest: &[u8]) -> Result<PartRef, LineKind>
-    ensures value { result ≡ operands.part_from start.now rest.now }
-    ensures fits { IfOk result (λ p. IsTrue (is_part p)) }
+    ensures { result ≡ operands.part_from start.now rest.now }
 {
     match cut(b'/', rest) {
         None => Err(LineKind::Operand),
@@ -48,8 +43,7 @@ fn part_from(start: &[u8], rest: &[u8]) -> Result<PartRef, LineKind>
 
 /// A partition's name, or its address, size and rights with `/` between them.
 pub fn part(word: &[u8]) -> Result<PartRef, LineKind>
-    ensures value { result ≡ operands.part word.now }
-    ensures fits { IfOk result (λ p. IsTrue (is_part p)) }
+    ensures { result ≡ operands.part word.now }
 {
     match cut(b'/', word) {
         None => named_part(word),
@@ -58,8 +52,7 @@ pub fn part(word: &[u8]) -> Result<PartRef, LineKind>
 }
 
 fn named_part(word: &[u8]) -> Result<PartRef, LineKind>
-    ensures value { result ≡ operands.named_part word.now }
-    ensures fits { IfOk result (λ p. IsTrue (is_part p)) }
+    ensures { result ≡ operands.named_part word.now }
 {
     Ok(PartRef::Named(name(word)?))
 }

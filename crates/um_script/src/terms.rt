@@ -1,9 +1,7 @@
 //! Registers, places and numbers.
 
-ghost use Rattle.std.specs.Prelude.{◌≡◌, ◌≤◌, IfOk, IsTrue};
-ghost use Rattle.um_base.specs.Lawful.{is_name, is_register};
+ghost use Rattle.std.specs.Prelude.{◌≡◌};
 ghost use Rattle.um_script.specs.Operands as operands;
-ghost use Rattle.um_script.specs.Writable.{is_term, is_named};
 
 use crate::cut::cut;
 use crate::fault::LineKind;
@@ -13,8 +11,7 @@ use um_vocabulary::{is_name, is_place_name};
 
 /// A register, `r0` to `r7`.
 pub fn register(word: &[u8]) -> Result<u8, LineKind>
-    ensures value { result ≡ operands.register word.now }
-    ensures fits { IfOk result (λ r. IsTrue (is_register r)) }
+    ensures { result ≡ operands.register word.now }
 {
     match word {
         b"r0" => Ok(0),
@@ -30,9 +27,7 @@ pub fn register(word: &[u8]) -> Result<u8, LineKind>
 }
 
 fn at_offset(bytes: &[u8], offset: Result<u32, LineKind>) -> Result<Term, LineKind>
-    requires { IfOk offset (λ n. n ≤ 65536) }
-    ensures value { result ≡ operands.at_offset bytes.now offset }
-    ensures fits { IfOk result (λ t. IsTrue (is_term t)) }
+    ensures { result ≡ operands.at_offset bytes.now offset }
 {
     if is_place_name(bytes) {
         Ok(Term::Place {
@@ -46,8 +41,7 @@ fn at_offset(bytes: &[u8], offset: Result<u32, LineKind>) -> Result<Term, LineKi
 
 /// A place, behind its `@`.
 fn place(bytes: &[u8]) -> Result<Term, LineKind>
-    ensures value { result ≡ operands.place bytes.now }
-    ensures fits { IfOk result (λ t. IsTrue (is_term t)) }
+    ensures { result ≡ operands.place bytes.now }
 {
     match cut(b'+', bytes) {
         None => at_offset(bytes, Ok(0)),
@@ -57,8 +51,7 @@ fn place(bytes: &[u8]) -> Result<Term, LineKind>
 
 /// A place, a register or a number.
 pub fn term(word: &[u8]) -> Result<Term, LineKind>
-    ensures value { result ≡ operands.term word.now }
-    ensures fits { IfOk result (λ t. IsTrue (is_term t)) }
+    ensures { result ≡ operands.term word.now }
 {
     match word {
         [b'@', rest @ ..] => place(rest),
@@ -69,8 +62,7 @@ pub fn term(word: &[u8]) -> Result<Term, LineKind>
 
 /// A lawful name.
 pub fn name(word: &[u8]) -> Result<Name, LineKind>
-    ensures value { result ≡ operands.name word.now }
-    ensures fits { IfOk result (λ name. IsTrue (is_name name)) }
+    ensures { result ≡ operands.name word.now }
 {
     if is_name(word) {
         Ok(Name::from_bytes(word))
@@ -81,8 +73,7 @@ pub fn name(word: &[u8]) -> Result<Name, LineKind>
 
 /// The name of a domain or of a script.
 pub fn named(word: &[u8]) -> Result<Ref, LineKind>
-    ensures value { result ≡ operands.named word.now }
-    ensures fits { IfOk result (λ r. IsTrue (is_named r)) }
+    ensures { result ≡ operands.named word.now }
 {
     Ok(Ref::Named(name(word)?))
 }
