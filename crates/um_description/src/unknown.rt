@@ -2,11 +2,11 @@
 
 ghost use Rattle.std.specs.Prelude.{◌≡◌, IfOk, map, is_some};
 ghost use Rattle.um_document.specs.{
-  declared.description.DomainEntry.{DomainEntry},
-  declared.description.ObjectEntry.{ObjectEntry},
-  declared.place.Place.{Place},
-  declared.shape.Key.{Key},
-  declared.shape.Section.{Section},
+  declared.{
+    description.{DomainEntry.{DomainEntry}, ObjectEntry.{ObjectEntry}},
+    place.Place.{Place},
+    shape.{Key.{Key}, Section.{Section}},
+  },
   First.{first_of},
 };
 ghost use Rattle.um_description.specs.Duplicates.{SameTexts};
