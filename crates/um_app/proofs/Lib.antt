@@ -1,6 +1,6 @@
--- What the top call's contracts stand on. First CommandLemmas and InputLemmas: what a command answers, and which inputs aren't refused; Ends has how a
--- source was read to its end. Then Replays and RunsOf: a run's events lead to one state, and are the run of the image with its options. OneAnswer is
--- the law that a command writes one text of an input.
+-- What the top call's contracts need. CommandLemmas and InputLemmas: what a command answers, and which inputs aren't refused. Ends: a source
+-- that was read to its end. Replays and RunsOf: a run's events lead to one state, and are the run of the image with its options. OneAnswer:
+-- the law that a command writes one text for an input.
 mod CommandLemmas
 mod Ends
 mod InputLemmas

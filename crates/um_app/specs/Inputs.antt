@@ -10,7 +10,7 @@ use Rattle.um_image.specs.Meaning.{Describes}
 abbrev pub most_described : ℕ
 most_described = 0x100000
 
--- how many bytes a command reads at most: a description, and for `audit` a trace behind it
+-- how many bytes a command reads at most: a description, and for `audit` a trace after it
 abbrev pub most_read : Command → ℕ
 most_read Command.Audit = 0x4000000
 most_read command = most_described
@@ -20,7 +20,7 @@ abbrev pub is_reading : Command → Bool
 is_reading (Command.Gen number) = false
 is_reading _ = true
 
--- whether a command answers on one thread, and so has just one answer to an input
+-- whether a command runs on one thread, and so has just one answer to an input
 abbrev pub is_serial : Command → Bool
 is_serial (Command.Run cpus) = false
 is_serial _ = true
@@ -30,7 +30,7 @@ abbrev pub description_in : Command → List ℕ → List ℕ
 description_in Command.Audit input = description_part input
 description_in command input = input
 
--- the trace in an input: nothing, and for `audit` what stands behind that line, where there is one
+-- the trace in an input: nothing, and for `audit` what stands after that line, where there is one
 abbrev pub trace_in : Command → List ℕ → Option (List ℕ)
 trace_in Command.Audit input = trace_part input
 trace_in command input = Some []
@@ -58,7 +58,7 @@ ReadsPast command before now = (taken : List ℕ) × (length taken ≡ most_read
 abbrev pub IsTooLong : Command → List ℕ → Type 0
 IsTooLong command input = (most_read command < length input) ⊎ (most_described < length (description_in command input))
 
--- that was read: of an input that is too long one byte too many
+-- an input that is too long was read, up to one byte too many
 abbrev pub ReadsTooLong : Command → Option (List ℕ) → Option (List ℕ) → Type 0
 ReadsTooLong command before now =
     ReadsPast command before now ⊎ ((input : List ℕ) × ReadsAll command before now input × (most_described < length (description_in command input)))

@@ -23,7 +23,7 @@ line_of Status.WriteFault = codes "zumode: write fault\n"
 line_of Status.NoMemory = codes "zumode: no memory\n"
 line_of Status.TooLong = codes "zumode: input too long\n"
 
--- the line of an input that has no trace behind its description
+-- the line of an input that has no trace after its description
 unfoldable pub no_trace_line : List ℕ
 no_trace_line = codes "zumode: refused: NoTrace\n"
 

@@ -10,13 +10,13 @@ use Rattle.um_machine.specs.State.{State}
 use Rattle.um_scheduler.specs.InOrder.{IsInOrder}
 use Rattle.um_scheduler.specs.Scheduled.{IsScheduled}
 
--- the events that the steps of several processors show: at each turn the first processor that can make a step makes it, from the one
--- that is preferred then on, until none can make another
+-- the events that the steps of several processors show. At each turn the first processor that can make a step makes it, beginning with the
+-- preferred one, until none can make another
 abbrev pub IsShown : Image → Options → List Event → Type 0
 IsShown image options run = (steps : List FineStep) × IsPickedRun image options.cpus options.pick steps × (run ≡ shown steps)
 
--- On one processor each event is by the thread whose turn it is: cleaning comes first, an instruction isn't broken off but by that, and threads
--- that are ready take turns. So it makes the one run in the order of its turns. On several, processors make steps that no event shows between.
+-- On one processor each event is by the thread whose turn it is: cleaning comes first, nothing else interrupts an instruction, and ready
+-- threads take turns. So it makes the one run in the order of its turns. Several processors also make steps that no event shows.
 pub record IsOrdered (image : Image) (options : Options) (run : List Event) (last : State) : Type 0 where
   pub in_order : options.cpus ≤ 1 → IsInOrder image run
   pub alone : options.cpus ≤ 1 → IsScheduled image options.cpus options.pick run last

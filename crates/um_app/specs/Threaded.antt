@@ -14,14 +14,15 @@ use Rattle.um_machine.specs.State.{State}
 use Rattle.um_invariants.specs.Described.{IsDescribed}
 use Rattle.um_site.specs.declared.closed.Closed.{Closed}
 
--- so many processors, each a thread, may run the image
+-- this many processors, each a thread, may run the image
 pub record MayRun (image : Image) (cpus : ℕ) : Type 0 where
   pub lawful : IsLawful image
   pub some : 1 ≤ cpus
   pub few : cpus ≤ 8
 
--- One complete run of the access-matrix machine from an image: what the steps show that so many processors have made on a board, at seats of their
--- own, and which stand there now that it is closed. It has at most as many events as the image's weight, and obeys all laws of runs.
+-- One complete run of the access-matrix machine from an image: the events of the steps that this many processors made on a board, each at a
+-- seat of its own. These steps stand on the closed board. The run has at most as many events as the image's weight, and obeys all laws of
+-- runs.
 pub record IsThreadRun (image : Image) (cpus : ℕ) (closed : Closed Known) (run : List Event) (last : State) : Type 0 where
   pub described : IsDescribed image
   pub is_run : IsRun image run last

@@ -53,7 +53,7 @@ abbrev pub IsThreadRunText : Image → ℕ → Closed Known → List ℕ → Typ
 IsThreadRunText image cpus closed written =
     (run : List Event) × (last : State) × IsThreadRun image cpus closed run last × (written ≡ text image run last) × NamesRun image written run
 
--- what a command writes of the image that it reads, and of the trace behind it
+-- what a command writes of the image that it reads, and of the trace after it
 abbrev pub Writes : Command → Image → List ℕ → List ℕ → Type 0
 Writes (Command.Sim options) image trace written = IsRunText image options written
 Writes (Command.Run cpus) image trace written = (closed : Closed Known) × IsThreadRunText image cpus closed written
@@ -63,26 +63,26 @@ Writes (Command.Gen number) image trace written = written ≡ description number
 Writes Command.Upgrade image trace written = IsUpgrade image written
 Writes Command.Audit image trace written = IsAudit image trace written
 
--- The input describes an image, of which a command writes these bytes.
+-- The input describes an image, for which the command writes these bytes.
 pub record IsOutput (command : Command) (input written : List ℕ) : Type 0 where
   pub image : Image
   pub trace : List ℕ
   pub is_of : IsOf command input image trace
   pub writes : Writes command image trace written
 
--- Of a source that was read to its end, a command writes these bytes.
+-- The source was read to its end, and for what it gave the command writes these bytes.
 pub record IsRead (command : Command) (before now : Option (List ℕ)) (written : List ℕ) : Type 0 where
   pub input : List ℕ
   pub read : ReadsAll command before now input
   pub output : IsOutput command input written
 
--- The input describes an image, of which `run` writes these bytes: the text of a run that threads made on this board.
+-- The input describes an image, for which `run` writes these bytes: the text of a run that threads made on this board.
 pub record IsThreadOutput (cpus : ℕ) (input : List ℕ) (closed : Closed Known) (written : List ℕ) : Type 0 where
   pub image : Image
   pub is_of : IsOf (Command.Run cpus) input image []
   pub text : IsThreadRunText image cpus closed written
 
--- Of a source that was read to its end, `run` writes these bytes, and leaves the board on which its processors made the run.
+-- The source was read to its end; for what it gave `run` writes these bytes, and leaves the board on which its processors made the run.
 pub record HasRan (cpus : ℕ) (before now : Option (List ℕ)) (ran : Option (Closed Known)) (written : List ℕ) : Type 0 where
   pub input : List ℕ
   pub read : ReadsAll (Command.Run cpus) before now input
@@ -90,11 +90,11 @@ pub record HasRan (cpus : ℕ) (before now : Option (List ℕ)) (ran : Option (C
   pub left : ran ≡ Some closed
   pub output : IsThreadOutput cpus input closed written
 
--- what a command writes: of a source that was read to its end, or the generated description, for which nothing is read
+-- what a command writes: for a source that was read to its end, or, for `gen`, the generated description
 abbrev pub Answers : Command → Option (List ℕ) → Option (List ℕ) → List ℕ → Type 0
 Answers (Command.Gen number) before now written = written ≡ description number
 Answers command before now written = IsRead command before now written
 
--- A line went out whole, or a front of it where the sink failed.
+-- A line was written whole, or a prefix of it if the sink failed.
 abbrev pub Tells : Option (List ℕ) → Option (List ℕ) → ℕ → ℕ → List ℕ → Type 0
 Tells before now faults_before faults_now line = Appends before now line ⊎ (Rose faults_before faults_now × AppendsFront before now line)

@@ -94,7 +94,7 @@ fn verdict(alloc: Global, image: &Image, trace: &[u8]) -> Result<Vec<u8>, Memory
     um_audit::verdict_text(alloc, verdict)
 }
 
-/// What a command writes of an image, and of the trace behind it.
+/// What a command writes of an image, and of the trace after it.
 fn written(alloc: Global, command: Command, image: &Image, trace: &[u8]) -> Result<Vec<u8>, Memory>
     requires serial { is_serial command ≡ true }
     requires described { (source : List ℕ) × Describes source image.now }
@@ -165,7 +165,7 @@ fn without_trace(alloc: Global) -> Answer
     }
 }
 
-/// The answer to a description that is refused with this fault, or for whose reading there was no memory.
+/// The answer to a description that is refused with this fault, or that there was no memory to read.
 fn not_read(alloc: Global, fault: &ImageFault) -> Answer
     ensures answered { (command : Command) (input trace : List ℕ) → length (description_in command input) ≤ most_described
         → trace_in command input ≡ Some trace → (¬ (fault.now ≡ ImageFault.Memory) → Refuses (description_in command input) fault.now) → Answered command result input }
@@ -178,7 +178,7 @@ fn not_read(alloc: Global, fault: &ImageFault) -> Answer
     }
 }
 
-/// The answer to a description and the trace behind it, of a command that makes it on one thread.
+/// The answer to a description and the trace after it, for a command that needs only one thread.
 fn answer_of(alloc: Global, command: Command, description: &[u8], trace: &[u8]) -> Answer
     requires serial { is_serial command ≡ true }
     requires few { HasFew command }
@@ -211,7 +211,7 @@ fn parts(command: Command, input: &[u8]) -> Parts<'_>
     }
 }
 
-/// The answer to an input, of a command that makes it on one thread. All memory of a command is taken here.
+/// The answer to an input, for a command that needs only one thread. All memory of a command is taken here.
 pub fn answer_to(alloc: Global, command: Command, input: &[u8]) -> Answer
     requires serial { is_serial command ≡ true }
     requires few { HasFew command }
@@ -228,7 +228,7 @@ pub fn answer_to(alloc: Global, command: Command, input: &[u8]) -> Answer
     }
 }
 
-/// What `run` writes of an input, with the board that its processors leave, or its answer where it writes nothing. All memory is taken here.
+/// What `run` writes of an input, with the board that its processors leave, or the answer if it writes nothing. All memory is taken here.
 pub fn thread_answer_to<R: Threads + Wait + Sync, G: Gate + Sync>(
     rt: &R,
     alloc: Global,

@@ -42,7 +42,7 @@ fn played<'a>(alloc: Global, image: &'a Image, options: Options) -> Result<Ran<'
     Ok(Ran { events, last })
 }
 
-/// The run on several processors, whose steps are not all shown by an event.
+/// The run on several processors. Some of their steps show no event.
 fn several<'a>(alloc: Global, image: &'a Image, options: Options) -> Result<Ran<'a>, Memory>
     requires lawful { IsLawful image.now }
     requires cpus { IsFew options }
@@ -54,7 +54,7 @@ fn several<'a>(alloc: Global, image: &'a Image, options: Options) -> Result<Ran<
     played(alloc, image, options)
 }
 
-/// The run on one processor, whose turns are those of its threads.
+/// The run on one processor, by the turns of its threads.
 fn alone<'a>(alloc: Global, image: &'a Image, options: Options) -> Result<Ran<'a>, Memory>
     requires lawful { IsLawful image.now }
     requires one { options.cpus ≡ 1 }
@@ -71,7 +71,7 @@ fn alone<'a>(alloc: Global, image: &'a Image, options: Options) -> Result<Ran<'a
     )
 }
 
-/// A complete run of an image, which obeys the laws, and the state that it leads to. Its weight is the room for its events.
+/// A complete run of an image, which obeys the laws, and the state that it leads to. The room for events is the image's weight.
 pub fn ran<'a>(alloc: Global, image: &'a Image, options: Options) -> Result<Ran<'a>, Memory>
     requires lawful { IsLawful image.now }
     requires cpus { IsFew options }

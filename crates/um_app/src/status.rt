@@ -10,7 +10,7 @@ pub enum Status {
     Done,
     /// The words are no command.
     Usage,
-    /// The input is no description, or for `audit` none with a trace behind it.
+    /// The input is no description, or for `audit` none with a trace after it.
     Refused,
     /// The input couldn't be read.
     ReadFault,

@@ -42,7 +42,7 @@ fn limit(command: Command) -> u32
     }
 }
 
-/// Writes a text whose memory is taken.
+/// Writes a text that stands in memory.
 fn write_text<O: Sink>(out: &mut O, text: &[u8]) -> Status
     ensures either { (result ≡ Status.Done) ⊎ (result ≡ Status.WriteFault) }
     ensures done { result ≡ Status.Done → Appends (O.taken out.old) (O.taken out.new) text.now }
@@ -55,14 +55,14 @@ fn write_text<O: Sink>(out: &mut O, text: &[u8]) -> Status
     }
 }
 
-/// A line on standard error.
+/// Writes a line to the error sink.
 fn tell<E: Sink>(err: &mut E, line: &str)
     ensures { Tells (E.taken err.old) (E.taken err.new) (E.faults err.old) (E.faults err.new) line.now }
 {
     let _ = write_all(err, line.as_bytes());
 }
 
-/// The line of a status on standard error: none where all was done.
+/// Writes the line of a status to the error sink. `Done` has none.
 fn tell_status<E: Sink>(err: &mut E, status: Status)
     ensures quiet { status ≡ Status.Done → err.new ≡ err.old }
     ensures told { status ≢ Status.Done
@@ -73,7 +73,7 @@ fn tell_status<E: Sink>(err: &mut E, status: Status)
     }
 }
 
-/// A status that is told on standard error.
+/// Writes the line of a status to the error sink, and returns the status.
 fn told<E: Sink>(err: &mut E, status: Status) -> Status
     ensures status { result ≡ status }
     ensures quiet { result ≡ Status.Done → err.new ≡ err.old }
@@ -84,7 +84,7 @@ fn told<E: Sink>(err: &mut E, status: Status) -> Status
     status
 }
 
-/// A command that reads its input.
+/// Runs a command that reads its input, on one thread.
 fn described<S: Source, O: Sink, E: Sink>(
     alloc: Global,
     command: Command,
@@ -143,7 +143,7 @@ fn described<S: Source, O: Sink, E: Sink>(
     }
 }
 
-/// The board of a run is kept where the run's text was written whole.
+/// Hands on the board of a run whose text was written whole.
 fn leave(ran: &mut Option<Closed<Contents>>, closed: Closed<Contents>, status: Status)
     requires none { ran.old ≡ None }
     ensures done { status ≡ Status.Done → ran.new ≡ Some closed }
@@ -159,7 +159,7 @@ fn leave(ran: &mut Option<Closed<Contents>>, closed: Closed<Contents>, status: S
     }
 }
 
-/// The same of `run`, whose processors are threads.
+/// The command `run`, whose processors are threads.
 fn threaded<R: AllocGlobal + Threads + Wait + Sync, S: Source, O: Sink, E: Sink, G: Gate + Sync>(
     rt: &R,
     cpus: u8,
@@ -227,7 +227,7 @@ fn threaded<R: AllocGlobal + Threads + Wait + Sync, S: Source, O: Sink, E: Sink,
     }
 }
 
-/// The generated description of a number: nothing is read.
+/// Writes the generated description of a number. Nothing is read.
 fn generated<O: Sink>(alloc: Global, number: u64, out: &mut O) -> Status
     ensures some { (result ≡ Status.Done) ⊎ ((result ≡ Status.WriteFault) ⊎ (result ≡ Status.NoMemory)) }
     ensures done { result ≡ Status.Done → Appends (O.taken out.old) (O.taken out.new) (description number) }
@@ -241,10 +241,10 @@ fn generated<O: Sink>(alloc: Global, number: u64, out: &mut O) -> Status
     }
 }
 
-/// Runs a command but `run`: `sim`, `summary`, `layout` and `upgrade` read a description from `source`, and write of it to `out` the text of
-/// a run, its counts, the addresses, or its canonical form; `audit` reads a description, a line `=====` and a trace, and writes its
-/// verdict on the trace; `gen` writes a generated description. A status other than `Done` has its line on `err`. All memory is taken
-/// before the first byte is written. It waits for nobody.
+/// Runs any command but `run`. `sim`, `summary`, `layout` and `upgrade` read a description from `source`, and write to `out` the text of a
+/// run, its counts, the addresses, or the canonical description. `audit` reads a description, a line `=====` and a trace, and writes its
+/// verdict on the trace. `gen` writes a generated description. A status other than `Done` has its line on `err`. All memory is taken before
+/// the first byte is written. It waits for nobody.
 pub fn serial<R: AllocGlobal, S: Source, O: Sink, E: Sink>(
     rt: &R,
     words: &[String],
@@ -260,7 +260,7 @@ pub fn serial<R: AllocGlobal, S: Source, O: Sink, E: Sink>(
         × Appends (O.taken out.old) (O.taken out.new) written }
     ensures done_quiet { result ≡ Status.Done → err.new ≡ err.old }
 
-    // A described image is answered, and a number, or memory ran out, unless the source or the sink failed.
+    // A described image and a number are answered, unless memory ran out or the source or the sink failed.
     ensures complete { (command : Command) → command_of (map string_bytes words.now) ≡ Some command → IsTrue (is_reading command)
         → (input : List ℕ) → S.left source.old ≡ Some input → length input ≤ most_read command
         → (image : Image) (trace : List ℕ) → IsOf command input image trace
@@ -309,9 +309,9 @@ pub fn serial<R: AllocGlobal, S: Source, O: Sink, E: Sink>(
     }
 }
 
-/// Runs a command: `run` reads a description from `source`, has so many threads as its processors make a run of it on a board of
-/// words that they share, writes the text of that run to `out`, and then leaves the closed board in `ran`; what the other commands do,
-/// [`serial`] says. The gate is asked before each turn of a processor.
+/// Runs a command. `run` reads a description from `source`, makes a run of it with a thread for each processor, on a board of words that
+/// they share, writes the text of that run to `out`, and then leaves the closed board in `ran`. What the other commands do, [`serial`]
+/// says. The gate is asked before each turn of a processor.
 pub fn zumode<R: AllocGlobal + Threads + Wait + Sync, S: Source, O: Sink, E: Sink, G: Gate + Sync>(
     rt: &R,
     words: &[String],
@@ -329,14 +329,14 @@ pub fn zumode<R: AllocGlobal + Threads + Wait + Sync, S: Source, O: Sink, E: Sin
         × Appends (O.taken out.old) (O.taken out.new) written }
     ensures done_quiet { result ≡ Status.Done → err.new ≡ err.old }
 
-    // Behind a whole text of `run`, the board is left on which threads made the run that the text tells; and else no board is.
+    // After a whole text of `run` the board is left on which threads made the run that the text tells. Otherwise no board is left.
     ensures ran { (cpus : ℕ) → command_of (map string_bytes words.now) ≡ Some (Command.Run cpus) → result ≡ Status.Done → (written : List ℕ)
         × HasRan cpus (S.left source.old) (S.left source.new) ran.new written
         × Appends (O.taken out.old) (O.taken out.new) written }
     ensures unplayed { result ≢ Status.Done → ran.new ≡ None }
     ensures alone { ((cpus : ℕ) → command_of (map string_bytes words.now) ≡ Some (Command.Run cpus) → ⊥) → ran.new ≡ None }
 
-    // A described image is answered, and a number, or memory ran out, unless the source or the sink failed.
+    // A described image and a number are answered, unless memory ran out or the source or the sink failed.
     ensures complete { (command : Command) → command_of (map string_bytes words.now) ≡ Some command → IsTrue (is_reading command)
         → (input : List ℕ) → S.left source.old ≡ Some input → length input ≤ most_read command
         → (image : Image) (trace : List ℕ) → IsOf command input image trace
