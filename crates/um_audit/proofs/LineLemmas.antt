@@ -35,7 +35,7 @@ pieces-ended (b ∷ line) rest h =
     byte_first b (line ++ 10 ∷ rest) (not-true (b == 10) (and_parts (no_newline b) (list_all no_newline line) h).0)
     ∙ ap (led b) (pieces-ended line rest (and_parts (no_newline b) (list_all no_newline line) h).1)
 
--- what stands behind the last newline
+-- what stands after the last newline
 pub pieces-last : (b : ℕ) (line : List ℕ) → list_all no_newline (b ∷ line) ≡ true → pieces (b ∷ line) ≡ (b ∷ line) ∷ []
 unfolding pieces
 pieces-last b [] h = byte_first b [] (not-true (b == 10) (and_parts (no_newline b) true h).0)

@@ -87,7 +87,7 @@ held_call : (image : Image) (s : State) → IsGood image s → (t : ℕ) (who : 
 held_call image s good t who a rest e may =
     let shaped = shaped_now s t (Pending.DropPair who a ∷ rest) good.known e in held_by image s good t who.0 (Pending.DropPair who a) rest e shaped.0 may
 
--- The step behind an act, and the state after it.
+-- The step after an act, and the state after it.
 
 pub record IsChosen (s : State) (t : ℕ) (p : Pending) (rest : Steps) (x : ℕ) : Type 0 where
   pub offered : Offers s t p rest

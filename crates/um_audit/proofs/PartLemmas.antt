@@ -25,7 +25,7 @@ from_on : (p : List ℕ) (ps : List (List ℕ)) → is_dump p ≡ false → from
 unfolding from_dump
 from_on p ps h = rw h refl
 
--- behind lines that aren't `dump`
+-- after lines that aren't `dump`
 pub before-behind : (done more : List (List ℕ)) → list_all is_events done ≡ true → before_dump (done ++ more) ≡ done ++ before_dump more
 before-behind [] more h = refl
 before-behind (p ∷ done) more h =

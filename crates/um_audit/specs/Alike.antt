@@ -2,7 +2,7 @@
 use Rattle.std.specs.Prelude.{◌≡◌, ℕ, ◌+◌, ◌≤◌, List, ◌++◌, length}
 use Rattle.um_audit.specs.Lines.{pieces}
 
--- So many pieces of two texts are the same, and these rests follow.
+-- The first pieces of two texts, this many, are the same, and these rests follow.
 pub record AreAlike (text other rest others : List ℕ) (lines : ℕ) : Type 0 where
   pub done : List (List ℕ)
   pub first : pieces text ≡ done ++ pieces rest

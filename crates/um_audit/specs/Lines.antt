@@ -1,12 +1,13 @@
 -- The lines of a text that is to be audited.
 use Rattle.std.specs.Prelude.{ℕ, Bool, ◌==◌, if◌then◌else◌, List, [], ◌∷◌, bytes_eq, codes}
 
--- a byte stands before the first of some pieces
+-- a byte put in front of the first of some pieces
 abbrev pub led : ℕ → List (List ℕ) → List (List ℕ)
 led b [] = (b ∷ []) ∷ []
 led b (piece ∷ more) = (b ∷ piece) ∷ more
 
--- The pieces of a text: each up to a newline, with that, and at the end what stands behind the last newline, unless that is nothing.
+-- The pieces of a text: each goes up to a newline and has that newline; the last one is what stands after the last newline, if anything
+-- does.
 unfoldable pub pieces : List ℕ → List (List ℕ)
 pieces [] = []
 pieces (b ∷ bytes) = if b == 10 then (b ∷ []) ∷ pieces bytes else led b (pieces bytes)

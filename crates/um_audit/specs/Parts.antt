@@ -11,7 +11,7 @@ unfoldable pub before_line : List (List ℕ) → List ℕ
 before_line [] = []
 before_line (piece ∷ more) = if is_between piece then [] else piece ++ before_line more
 
--- what stands behind it, where there is one
+-- what stands after it, where there is one
 unfoldable pub behind_line : List (List ℕ) → Option (List ℕ)
 behind_line [] = None
 behind_line (piece ∷ more) = if is_between piece then Some (flat_map (λ p. p) more) else behind_line more
@@ -22,7 +22,7 @@ description_part input = before_line (pieces input)
 abbrev pub trace_part : List ℕ → Option (List ℕ)
 trace_part input = behind_line (pieces input)
 
--- Some front of an input has no such line, and this rest follows it.
+-- Some prefix of an input has no such line, and this rest follows it.
 pub record IsBehind (input rest : List ℕ) : Type 0 where
   pub front : List ℕ
   pub whole : input ≡ front ++ rest

@@ -11,7 +11,7 @@ use Rattle.um_audit.specs.Steps.{IsNoStepLine, AreStepLines}
 abbrev pub is_events : List ℕ → Bool
 is_events piece = not (is_dump piece)
 
--- So many lines of a text, none of them `dump`, are those of steps that lead to s, and the rest of the text follows.
+-- The first lines of a text, this many and none of them `dump`, are those of steps that lead to s, and the rest of the text follows.
 pub record IsAt (image : Image) (text rest : List ℕ) (lines : ℕ) (s : State) : Type 0 where
   pub done : List (List ℕ)
   pub whole : pieces text ≡ done ++ pieces rest

@@ -42,6 +42,6 @@ SaysLine image line s t step x = MayChoose s t x step × IsLine image line (even
 abbrev pub SaysNotLine : Image → List ℕ → State → ℕ → Pending → Type 0
 SaysNotLine image line s t step = (x : ℕ) → MayChoose s t x step → IsLine image line (event_of t (act_of s t x step)) → ⊥
 
--- a step says the line, and leads to s2, with so many of the thread's steps behind it
+-- a step says the line and leads to s2, and `taken` of the thread's pending steps are over then
 abbrev pub MakesLine : Image → List ℕ → State → ℕ → Pending → ℕ → State → Type 0
 MakesLine image line s t step taken s2 = (x : ℕ) × SaysLine image line s t step x × (s2 ≡ after s t x step (drop taken (thread_at s t).pending))

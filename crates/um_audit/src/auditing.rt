@@ -21,9 +21,9 @@ use um_trace::{DUMP_ROOM, LINE_ROOM, dump_text};
 
 /// Where the lines of steps end.
 enum Stop<'t> {
-    /// Behind so many lines at one that is no step, or is missing.
+    /// After this many lines, at a line that is no step or is missing.
     NoStep { lines: usize },
-    /// Behind so many lines at a line `dump`, with which the rest of the text begins.
+    /// After this many lines, at a line `dump`, with which the rest of the text begins.
     Dump { lines: usize, rest: &'t [u8] },
 }
 

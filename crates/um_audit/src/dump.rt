@@ -5,7 +5,7 @@ ghost use Rattle.um_audit.specs.{Lines.{pieces}, Verdict.{DiffersAt}};
 
 use crate::pieces::first_piece;
 
-/// How many lines two texts have in common before they differ: none where they don't.
+/// How many lines two texts have in common before they differ, or `None` if they don't differ.
 pub fn first_difference(text: &[u8], other: &[u8]) -> Option<usize>
     ensures same { IfNone result (pieces text.now ≡ pieces other.now) }
     ensures differs { IfSome result (λ j. DiffersAt (pieces text.now) (pieces other.now) j) }

@@ -8,9 +8,9 @@ use crate::pieces::{first_piece, line_of};
 /// The parts of an input, which its first line `=====` divides.
 #[derive(Clone, Copy)]
 pub struct Parts<'t> {
-    /// What stands before that line: all where there is none.
+    /// What stands before that line, or all of the input if there is none.
     pub description: &'t [u8],
-    /// What stands behind it.
+    /// What stands after it.
     pub trace: Option<&'t [u8]>,
 }
 

@@ -1,5 +1,5 @@
-//! Which line is that of a step: the line is compared with those of the steps that a thread may make, and the one that is like it is
-//! made.
+//! Which line is that of a step. A line is compared with the lines of the steps that its thread may make, and the step whose line is the
+//! same is made.
 
 ghost use Rattle.std.specs.Prelude.{◌≡◌, ◌<◌, ◌≤◌, ◌∷◌, ◌++◌, ◌↔◌, [], IfSome, IfNone, IsTrue, Some, None, false, true, if◌then◌else◌, length, slice_get, slice_index_or, vec_capacity, codes};
 ghost use Rattle.um_trace.specs.Names.{thread_text};
@@ -94,7 +94,7 @@ fn is_exit(act: &Act) -> bool
     }
 }
 
-/// Makes what a thread at rest does next, where the line is that.
+/// Makes what a thread at rest does next, if the line says that.
 fn at_rest(matrix: &mut Matrix, image: &Image, t: usize, line: &[u8], room: &mut Vec<u8>) -> bool
     requires thread { t < THREADS }
     requires rest { slice_get (thread_at matrix.old t).pending 0 ≡ None }
@@ -123,7 +123,7 @@ fn at_rest(matrix: &mut Matrix, image: &Image, t: usize, line: &[u8], room: &mut
     true
 }
 
-/// Makes a step of a thread behind which so many of its steps are left out, where the line is what it says.
+/// Makes a pending step of a thread, if the line is what it says. `taken` steps are over then, which counts one that is left out before it.
 fn by_step(
     matrix: &mut Matrix,
     image: &Image,
@@ -151,7 +151,7 @@ fn by_step(
     }
 }
 
-/// Makes a thread's next step, where the line is that.
+/// Makes a thread's next step, if the line says that.
 fn by_first(matrix: &mut Matrix, image: &Image, t: usize, line: &[u8], room: &mut Vec<u8>) -> bool
     requires thread { t < THREADS }
     requires room { LINE_ROOM ≤ vec_capacity room.old }
@@ -166,7 +166,7 @@ fn by_first(matrix: &mut Matrix, image: &Image, t: usize, line: &[u8], room: &mu
     }
 }
 
-/// Makes the step behind one that may be left out, where the line is that.
+/// Makes the step after one that may be left out, if the line says that.
 fn by_second(matrix: &mut Matrix, image: &Image, t: usize, line: &[u8], room: &mut Vec<u8>) -> bool
     requires thread { t < THREADS }
     requires room { LINE_ROOM ≤ vec_capacity room.old }
@@ -181,7 +181,7 @@ fn by_second(matrix: &mut Matrix, image: &Image, t: usize, line: &[u8], room: &m
     }
 }
 
-/// Recycles an object, where the line says that.
+/// Recycles an object, if the line says that.
 fn by_object(matrix: &mut Matrix, image: &Image, t: usize, line: &[u8], room: &mut Vec<u8>) -> bool
     requires thread { t < THREADS }
     requires started { IsTrue (is_started (thread_at matrix.old t).life) }
@@ -211,7 +211,7 @@ fn holders_of(pairs: &[[bool; THREADS]], x: usize) -> &[bool]
     }
 }
 
-/// Drops the pair of a thread whose object is gone with the object of one row, where the line says that.
+/// Drops a permission on the object of one row, of a thread whose own object is gone, if the line says that.
 fn by_pair_at(
     matrix: &mut Matrix,
     image: &Image,
@@ -239,7 +239,7 @@ fn by_pair_at(
     false
 }
 
-/// Drops a pair of a thread whose object is gone, where the line says that.
+/// Drops a permission of a thread whose own object is gone, if the line says that.
 fn by_pair(matrix: &mut Matrix, image: &Image, t: usize, line: &[u8], room: &mut Vec<u8>) -> bool
     requires thread { t < THREADS }
     requires started { IsTrue (is_started (thread_at matrix.old t).life) }
@@ -257,7 +257,7 @@ fn by_pair(matrix: &mut Matrix, image: &Image, t: usize, line: &[u8], room: &mut
     false
 }
 
-/// Makes a step that cleans, where the line is that of one.
+/// Makes a step that cleans, if the line is that of one.
 fn by_cleaning(
     matrix: &mut Matrix,
     image: &Image,
@@ -279,7 +279,7 @@ fn by_cleaning(
     by_object(matrix, image, t, line, room) || by_pair(matrix, image, t, line, room)
 }
 
-/// Makes a step of a thread, where the line is that of one.
+/// Makes a step of a thread, if the line is that of one.
 fn by_thread(matrix: &mut Matrix, image: &Image, t: usize, line: &[u8], room: &mut Vec<u8>) -> bool
     requires thread { t < THREADS }
     requires room { LINE_ROOM ≤ vec_capacity room.old }
@@ -297,7 +297,7 @@ fn by_thread(matrix: &mut Matrix, image: &Image, t: usize, line: &[u8], room: &m
     by_cleaning(matrix, image, t, line, room)
 }
 
-/// Makes a step of a thread, where the line begins as the lines of that thread do and is that of one.
+/// The same, with a first look at how the line begins: a thread's lines begin with its name.
 fn by_named(
     matrix: &mut Matrix,
     image: &Image,
@@ -320,7 +320,7 @@ fn by_named(
     by_thread(matrix, image, t, line, room)
 }
 
-/// Makes a step, where the line is that of one: by a thread with whose object the line begins. Another line changes nothing.
+/// Makes a step, if the line is that of one. The line begins with the thread's object. Any other line changes nothing.
 pub fn takes_line(
     matrix: &mut Matrix,
     image: &Image,
