@@ -1,4 +1,4 @@
--- The contents of a cell are of the kind that its site has, and of the board's image, since its steps keep both.
+-- The contents of a cell are of its site's kind and of the board's image, since its steps keep both.
 use Rattle.std.proofs.Common.{◌≡◌, ℕ, ◌+◌, ◌==◌, ◌<◌, ◌≤◌, Bool, true, false, List, [], ◌∷◌, Option, Some, None, nat_lt, if◌then◌else◌, refl, sym, ap, ◌∙◌, subst, arith}
 use Rattle.std.proofs.lemmas.Bool.{lt-ltb}
 use Rattle.std.proofs.lemmas.Bool.Decides.{nat_tests}

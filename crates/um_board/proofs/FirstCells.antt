@@ -31,7 +31,7 @@ cell_in other state = other
 pub opened : (s : SiteState) (n : ℕ) (c d : Cell) → s ≡ new_cell d → SiteState.cell n c ≡ s → s ≡ SiteState.cell 0 c
 opened s n c d new is = new ∙ ap (SiteState.cell 0) (sym (ap (cell_in c) (is ∙ new)))
 
--- one more behind those that open so
+-- one more after those that open so
 pub one-more : (image : Image) (cs ds : List Known) (c : Known) → ds ≡ cs ++ c ∷ [] → AreFirst image cs → Opens image (168 + length cs) c → AreFirst image ds
 one-more image cs ds c is first here k x at = ⊎_elim
     (λ old. first k x old)

@@ -1,4 +1,5 @@
--- What the proofs of several functions cite: of cells and their kinds, of steps, of what a seat keeps, sees and may do next; of the opening words and cells, as tables have them.
+-- What the proofs of several functions cite: about cells and their kinds, about steps, about what a seat keeps, sees and may do next, and about
+-- the opening words and cells, as tables have them.
 pub mod CellKinds
 pub mod CellSteps
 pub mod Keeping

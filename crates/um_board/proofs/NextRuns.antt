@@ -1,4 +1,4 @@
--- Where each seat makes the steps alone that its processor asks for, its list is a local run of that processor.
+-- If each seat makes only the steps that its processor asks for, its list is a local run of that processor.
 use Rattle.std.proofs.Common.{◌≡◌, ℕ, ◌<◌, List, [], ◌∷◌, ◌++◌, map, refl, sym, ap, ◌∙◌, subst}
 use Rattle.um_base.specs.declared.image.Image.{Image}
 use Rattle.um_words.specs.History.{Entry, IsHistory, by_seat}

@@ -38,7 +38,7 @@ got-before (e ∷ got) more i w (inr behind) = inr (got-before got more i w behi
 pub got-one : (old new : List (ℕ × ℕ)) (i w : ℕ) → new ≡ (i, w) ∷ old → GotSince old new i w
 got-one old new i w now = ((i, w) ∷ [], now, inl (refl, refl))
 
--- more words behind that one, or before it
+-- more words after that one, or before it
 pub got-more : (old mid new more : List (ℕ × ℕ)) (i w : ℕ) → new ≡ more ++ mid → GotSince old mid i w → GotSince old new i w
 got-more old mid new more i w now (own, is, was) =
     (more ++ own, now ∙ (ap (λ g. more ++ g) is ∙ sym (append_assoc more own old)), got-behind more own i w was)
@@ -84,7 +84,7 @@ pub hindered-first : (s mid t : Seated) (i : ℕ) → HasMadeNone s mid → mid.
 hindered-first s mid t i looked same why =
     hinders-first _ _ _ _ _ _ _ i looked (subst (λ (l : Log). Hinders l.room l.items mid.seat t.seat i) same why)
 
--- the turn that was asked for behind a look
+-- the turn that was asked for after a look
 pub asked-first : {K : Type 0} (cell_of : K → Cell) (image : Image) (s mid t : Seated) (i : ℕ) (r : Option (Turn K × K)) → HasMadeNone s mid → mid.log ≡ s.log
     → AsksTurn cell_of image mid i r t → AsksTurn cell_of image s i r t
 asked-first cell_of image s mid t i None looked same asked = (asked.0, hindered-first s mid t i looked same asked.1)
@@ -105,7 +105,7 @@ pub and-no : (b : Bool) → (b && false) ≡ false
 and-no true = refl
 and-no false = refl
 
--- a step that the scheduler refuses, behind which the turn is given back
+-- a step that the scheduler refuses, after which the turn is given back
 pub refused : (image : Image) (cpu n w : ℕ) (z : Scheduler) (u : Unseen) (moved : Exchange) (s mid t : Seat Known) (a b d : List Logged) → Unnoted s a mid b → Unnoted mid b t d
     → cell_of w ≡ cell_word (Cell.scheduler z) n → Got s mid 306 w → SawCell s 306 w (known image (Cell.scheduler z))
     → cell_takes (Cell.scheduler z) (cell_says image (Cell.scheduler z) moved (FineAct.Unseen u)) ≡ false → Unnoted s a t d × SawShut image s t (scheduler_made image cpu n z u moved)

@@ -1,4 +1,4 @@
--- What the cells of a board have in them, with which contents they open, and which contents a step leaves.
+-- The contents of a board's cells: those with which they open, and those that a step leaves.
 use Rattle.std.specs.Prelude.{◌≡◌, ℕ, IsTrue}
 use Rattle.um_base.specs.declared.image.Image.{Image}
 use Rattle.um_words.specs.declared.fine.FineAct.{FineAct}
@@ -20,7 +20,7 @@ pub record Opens (image : Image) (i : ℕ) (c : Known) : Type 0 where
   pub of : c.image ≡ image
   pub first : s_start image (site_numbered i) ≡ SiteState.cell 0 c.cell
 
--- A step by this act, with what goes between, makes the second contents of the first: the cell takes it and has nothing to fill in.
+-- A step with this act and this exchange turns the first contents into the second: the cell takes it and has nothing to fill in.
 pub record Follows (c : Known) (act : FineAct) (moved : Exchange) (d : Known) : Type 0 where
   pub of : d.image ≡ c.image
   pub takes : IsTrue (cell_takes c.cell act)

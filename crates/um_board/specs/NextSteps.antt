@@ -1,4 +1,4 @@
--- Which step may come next at a seat of a board: the one that its processor asks for, behind those that stand in its list.
+-- Which step may come next at a seat of a board: the one that its processor asks for after the steps of its list.
 use Rattle.std.specs.Prelude.{◌≡◌, ℕ, ◌<◌, List, [], ◌∷◌, map}
 use Rattle.um_base.specs.declared.image.Image.{Image}
 use Rattle.um_words.specs.History.{Entry, by_seat}
@@ -10,11 +10,11 @@ use Rattle.um_fine.specs.Steps.{FineStep}
 use Rattle.um_processor.specs.Processors.{AsksFor}
 use Rattle.um_board.specs.ReadBack.{fine_at}
 
--- where the processor k stands behind the steps of its list
+-- the processor k after the steps of its list
 abbrev pub stands_at : Image → ℕ → List Made → Processor
 stands_at image k made = ends (p_next image) idle (map (fine_at k) made)
 
--- The seat of this name is that of one of the first eight processors, which asks for this step behind those of the list.
+-- The seat of this name is that of one of the first eight processors, and after the steps of the list that processor asks for this step.
 pub record IsNext (image : Image) (name : List ℕ) (made : List Made) (e : FineStep) : Type 0 where
   pub k : ℕ
   pub few : k < 8

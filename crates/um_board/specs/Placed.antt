@@ -1,4 +1,4 @@
--- A processor at its place at a board, by all that its place is made of.
+-- A processor's place at a board, and what its calls tell, as one value.
 use Rattle.std.specs.Prelude.{◌≡◌, ℕ, ◌<◌, length, Option, Some, MatchOption, ◌∷◌}
 use Rattle.um_base.specs.declared.image.Image.{Image}
 use Rattle.um_fine.specs.Cells.{Cell}
@@ -15,7 +15,7 @@ use Rattle.um_board.specs.declared.seated.Turn.{Turn}
 abbrev pub IsAt : Image → Seated → Type 0
 IsAt image s = IsPlaced image s.board.now.table.shared.table_id s.cells.now s.rodata.now s.seat s.log.room
 
--- there it has the turn of the cell at this site, with this word, this count of steps, and what the cell keeps
+-- it has the turn of the cell at this site, with this word, this count of steps, and these contents
 abbrev pub HasTurnAt : Image → Seated → ℕ → ℕ → ℕ → Cell → Type 0
 HasTurnAt image s site word number cell =
     InTurn image s.board.now.table.shared.table_id s.cells.now s.rodata.now s.seat s.log.room site word number cell
@@ -27,7 +27,7 @@ HasMadeThere s e t = Noted s.seat s.log.items e t.seat t.log.items
 abbrev pub HasMadeNone : Seated → Seated → Type 0
 HasMadeNone s t = Unnoted s.seat s.log.items t.seat t.log.items
 
--- it has no turn, and something has hindered it from a step at this site
+-- it has no turn, and saw why it made no step at this site
 abbrev pub WasHindered : Image → Seated → ℕ → Seated → Type 0
 WasHindered image s site t = IsAt image t × Hinders s.log.room s.log.items s.seat t.seat site
 

@@ -23,11 +23,11 @@ abbrev pub WasGot : List (ℕ × ℕ) → ℕ → ℕ → Type 0
 WasGot [] i w = ⊥
 WasGot (e ∷ es) i w = ((e.0 ≡ i) × (e.1 ≡ w)) ⊎ WasGot es i w
 
--- the same, behind the words that were got before
+-- the same, among the words that were read since
 abbrev pub GotSince : List (ℕ × ℕ) → List (ℕ × ℕ) → ℕ → ℕ → Type 0
 GotSince old new i w = (more : List (ℕ × ℕ)) × (new ≡ more ++ old) × WasGot more i w
 
--- the word was got at the site between the one seat and the other
+-- the word was read at the site between the two states of the seat
 abbrev pub Got : Seat Known → Seat Known → ℕ → ℕ → Type 0
 Got s t i w = GotSince s.token.me.0.got t.token.me.0.got i w
 
@@ -51,21 +51,23 @@ pub record SawCell (s : Seat Known) (i w : ℕ) (c : Known) : Type 0 where
   pub free : w % 2 ≡ 0
   pub contents : ContentsAre Opens Follows saw.view.image i (by_site i saw.moment.history) (Some c)
 
--- Why the site refuses the step: a word was got there that is that of a state which refuses it, as it would be made there, a cell's with its contents; or a word of
--- the scheduler that counts no ready thread, without which a processor that has none takes none.
+-- Why the site refuses the step. The seat read a word there, and the state with that word, or the cell with that word and its contents,
+-- refuses the step as it would be made there. Or it read a word of the scheduler that counts no ready thread, so that a processor without a
+-- thread can't take one.
 pub data SawShut (image : Image) (s t : Seat Known) (e : FineStep) : Type 0 where
   word_refused : (z : SiteState) (w : ℕ) → site_number e.site < 168 → Got s t (site_number e.site) w → SawAt s (site_number e.site) w → unpacked e.site w ≡ word_of z → IsShut image z e → SawShut image s t e
   cell_refused : (n w : ℕ) (c : Known) → 168 ≤ site_number e.site → Got s t (site_number e.site) w → SawCell s (site_number e.site) w c → cell_of w ≡ cell_word c.cell n → IsShut image (SiteState.cell n c.cell) e → SawShut image s t e
   none_ready : (w : ℕ) → e.site ≡ Site.scheduler → Got s t (site_number e.site) w → SawAt s (site_number e.site) w → (cell_of w).ready ≡ 0
       → e.act ≡ FineAct.Unseen (Unseen.Next (to_thread 0)) → SawShut image s t e
 
--- Others were at the site i: another seat had the turn of the cell, or another word stood there than the one by which the step was to be made.
+-- Others were at the site i: another seat had the turn of the cell, or the word had changed since the seat looked.
 pub data OthersAt (s t : Seat Known) (i : ℕ) : Type 0 where
   out : (w : ℕ) → 168 ≤ i → Got s t i w → w % 2 ≡ 1 → OthersAt s t i
   moved : (w z : ℕ) → Got s t i w → Got s t i z → z ≢ w → OthersAt s t i
 
--- Why no step was made at the site i: others were there; the log has as many as there is room for; the word that stood there can't be read; or it doesn't count
--- what the cell's contents count, or has counted as many steps as it can. All but the first never come to a processor of a described image.
+-- Why no step was made at the site i: others were there; the log is full; the word that stood there can't be read; or the word doesn't
+-- count what the cell's contents count, or has counted as many steps as it can. All but the first never happen to a processor of a
+-- described image.
 pub data Hinders (room : ℕ) (log : List Logged) (s t : Seat Known) (i : ℕ) : Type 0 where
   others : OthersAt s t i → Hinders room log s t i
   full : (w : ℕ) → SawAt s i w → room ≤ length log → Hinders room log s t i

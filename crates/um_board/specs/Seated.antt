@@ -1,4 +1,4 @@
--- A processor's seat at a board: that it knows all that its steps need, and what becomes of its list and its processor's log.
+-- A processor's seat at a board: what it has to know for a step, and what a step leaves of its list and of the processor's log.
 use Rattle.std.specs.Prelude.{◌≡◌, ℕ, Bool, List, [], ◌∷◌, ◌++◌, None}
 use Rattle.atomic_table.specs.Seated.{TableId}
 use Rattle.um_base.specs.declared.image.Image.{Image}
@@ -33,7 +33,8 @@ pub record IsSeated (image : Image) (board : TableId) (cells : Cells Known) (sea
   pub idle : seat.token.me.0.turn ≡ None
   pub empty : seat.token.me.1 ≡ []
 
--- What a seat keeps: its place at a board, its counts, what the board is of, its name, the seats that it has split off and taken in, and the cells that it knows as filled.
+-- What stays of a seat: its place at a board, its counts, the board's image, its name, the seats that it has split off and joined, and the
+-- cells that it knows as filled.
 pub record KeptPlace : Type 0 where
   pub board : TableId
   pub place : ℕ
@@ -67,7 +68,7 @@ place_of s = record {
 abbrev pub KeepsPlace : Seat Known → Seat Known → Type 0
 KeepsPlace s t = place_of t ≡ place_of s
 
--- The step was made: it stands behind the others in the seat's list and in the log, its word was left last at its site, and it can be read back from there.
+-- The step was made: it stands after the others in the seat's list and in the log, its word was left last at its site, and it can be read back from there.
 pub record Noted (s : Seat Known) (old : List Logged) (e : FineStep) (t : Seat Known) (new : List Logged) : Type 0 where
   pub keeps : KeepsPlace s t
   pub made : t.token.me.0.made ≡ s.token.me.0.made ++ made_of e ∷ []

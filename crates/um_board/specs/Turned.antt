@@ -39,8 +39,8 @@ cell_kind Site.heap = CellKind.Heap
 cell_kind Site.scheduler = CellKind.Scheduler
 cell_kind _ = CellKind.Unused
 
--- The same, but the seat has the turn of the cell at this site: what the cell keeps is of the site's kind, its word says how many steps the
--- cell has taken and what its contents count, and it can take one more.
+-- The same, but the seat has the turn of the cell at this site. The contents are of the site's kind, the word says how many steps the cell
+-- has taken and counts what the contents count, and the cell can take one more step.
 pub record InTurn (image : Image) (board : TableId) (cells : Cells Known) (rodata : List ℕ) (seat : Seat Known) (most site word number : ℕ) (cell : Cell) : Type 0 where
   pub here : seat.token.table_id ≡ board
   pub words : board.words ≡ WORDS

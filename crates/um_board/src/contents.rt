@@ -10,8 +10,8 @@ use um_base::Image;
 use um_processor::{Bytes, DomainCell, Heap, ObjectCell, Scheduler};
 use um_words::Content;
 
-/// What is kept in a cell: of an object, of a domain, of the memory, of the heap or of the scheduler. The word of the cell counts its steps, so
-/// the count of an object's and of a domain's own says nothing.
+/// What a cell keeps: an object's, a domain's, the memory's, the heap's or the scheduler's contents. The cell's word counts its steps; the
+/// counts inside an object's and a domain's contents aren't used.
 #[derive(Drop)]
 pub enum Kept {
     Object(Box<ObjectCell>),
@@ -21,7 +21,7 @@ pub enum Kept {
     Scheduler(Box<Scheduler>),
 }
 
-/// What is kept in a cell of the board of an image, which stands in clauses alone.
+/// What a cell of an image's board keeps. The image is ghost data.
 #[derive(Drop)]
 pub struct Contents {
     image: Snapshot<Image>,
@@ -45,7 +45,7 @@ impl Content for Contents {
 }
 
 impl Contents {
-    /// What is kept in a cell of the board of this image.
+    /// Makes what a cell of this image's board keeps.
     pub fn new(image: &Image, kept: Kept) -> Contents
         ensures { result ≡ record { image = image.now; cell = cell_of kept } }
     {
@@ -55,7 +55,7 @@ impl Contents {
         }
     }
 
-    /// How many threads of it are ready, and how many run: a word counts those of the scheduler alone.
+    /// The numbers of ready and of running threads that the cell's word counts: 0 for all cells but the scheduler's.
     pub fn counts(&self) -> (u8, u8)
         ensures { (number : ℕ) → cell_word self.now.cell number ≡ quiet_word result.0 result.1 number }
     {

@@ -1,9 +1,9 @@
-//! Fine steps that stand in clauses alone.
+//! Fine steps as ghost data.
 
 use std::marker::{Brand, PhantomData};
 use um_site::Step;
 
-/// A fine step, for the proof alone. A call at `Brand` picks it.
+/// A fine step, as ghost data. The proof picks it at the call whose type argument is `Brand`.
 pub trait Fine {
     ghost use Rattle.um_fine.specs.Steps.{FineStep};
 

@@ -13,7 +13,7 @@ use um_processor::{Bytes, DomainCell, Heap, ObjectCell, Scheduler};
 /// How many cells a board has.
 const CELLS: usize = 139;
 
-/// One cell more.
+/// Adds one cell.
 fn add(image: &Image, all: &mut Vec<Contents>, kept: Kept) -> Result<(), Memory>
     requires first { AreFirst image.now all.old.items }
     requires opens { OpensWith image.now (site_numbered (168 + length all.old.items)) (cell_of kept) }
@@ -44,7 +44,7 @@ fn add_objects(
     Ok(())
 }
 
-/// The cells of the domains, behind those of the objects.
+/// The cells of the domains, after those of the objects.
 fn add_parts(
     alloc: Global,
     image: &Image,

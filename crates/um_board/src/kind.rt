@@ -14,15 +14,15 @@ pub trait Kind {
     /// The kind of those cells.
     ghost kind: { CellKind };
 
-    /// The cell of the fine machine that keeps it.
+    /// The cell of the fine machine with these contents.
     ghost cell: { Self → Cell };
 
-    /// It is what is kept in a cell of that kind.
+    /// Takes the contents out of a cell of that kind.
     fn out_of(kept: Kept) -> Self
         requires { kind_of (cell_of kept) ≡ kind }
         ensures { cell_of kept ≡ cell result };
 
-    /// It is kept.
+    /// Puts the contents into the form that cells keep.
     fn into_kept(self) -> Kept
         ensures { cell_of result ≡ cell self };
 }

@@ -1,8 +1,8 @@
-//! The local machines of a board whose seats are those of processors.
+//! Which step may come next on a board whose seats are those of processors.
 
 use um_words::{FineAct, Local, word_step};
 
-/// The local machines of which each processor makes the steps alone that it asks for, one after another.
+/// The rule by which each processor makes only the steps that it asks for, one after another.
 pub struct NextStep;
 
 impl Local for NextStep {

@@ -37,7 +37,7 @@ const LAST: u32 = 0xfff_ffff;
 /// The site of the scheduler.
 const SCHEDULER: u16 = 306;
 
-/// A processor's place at a board: its seat, and the log of the steps that it has made, in room that is reserved.
+/// A processor's place at a board: its seat, and the log of the steps that it made, in reserved room.
 #[derive(Drop)]
 pub struct Seated<'a> {
     pub board: &'a Board<Contents, NextStep>,
@@ -55,11 +55,11 @@ pub struct Turn<K> {
     pub word: u64,
     /// How many steps the cell has taken.
     pub number: u32,
-    /// What the cell kept when it was taken, which stands in clauses alone.
+    /// What the cell kept when it was taken, as ghost data.
     pub before: Snapshot<K>,
 }
 
-/// How many steps a cell has taken by its word, where this word counts these threads and the cell can take one more.
+/// How many steps a cell has taken, if its word counts this many threads and the cell can take one more step.
 fn steps_of(word: u64, ready: u8, running: u8) -> Option<u32>
     ensures { MatchOption result ((n : ℕ) → n < 268435455 → cell_of word ≢ quiet_word ready running n) (λ n. (cell_of word ≡ quiet_word ready running n) × (n < 268435455)) }
 {
@@ -76,7 +76,7 @@ fn steps_of(word: u64, ready: u8, running: u8) -> Option<u32>
 }
 
 impl<'a> Seated<'a> {
-    /// A place at this board, with a log that has nothing in it.
+    /// Makes a place at this board.
     pub fn new(
         board: &'a Board<Contents, NextStep>,
         cells: &'a Cells<Contents>,
@@ -105,7 +105,7 @@ impl<'a> Seated<'a> {
         self.log.capacity() <= self.log.len()
     }
 
-    /// The word of a site, as it stands.
+    /// Reads the word of a site.
     pub(crate) fn look(&mut self, image: &Image, site: u16) -> u64
         requires image { IsAt image.now self.old }
         requires site { site < 307 }
@@ -120,7 +120,7 @@ impl<'a> Seated<'a> {
         self.board.look(&mut self.seat, site)
     }
 
-    /// The word of the scheduler's cell, as it stands: no older than any that the seat has got or left there.
+    /// Reads the word of the scheduler's cell. It is no older than any that the seat read or wrote there.
     pub fn look_scheduler(&mut self, image: &Image) -> u64
         requires image { IsAt image.now self.old }
         ensures image { IsAt image.now self.new }
@@ -133,7 +133,7 @@ impl<'a> Seated<'a> {
         self.look(image, SCHEDULER)
     }
 
-    /// The word of a site, as it stands, where the log has room for a step there.
+    /// Reads the word of a site, and returns it if the log has room for one more step.
     pub(crate) fn look_to_step(&mut self, image: &Image, site: u16) -> Option<u64>
         requires image { IsAt image.now self.old }
         requires site { site < 307 }
@@ -150,8 +150,8 @@ impl<'a> Seated<'a> {
         Some(word)
     }
 
-    /// A step of a row, of a thread or of a domain, which is such a one of its sort, by which the next word takes the place of the one that was
-    /// seen, and its note. Answers whether it was made: else another word stands there. What it is about, the step is picked by.
+    /// Makes a step of a row, a thread or a domain: writes `next` if `seen` still stands at the site, and then notes the step. Returns
+    /// whether it was made; if not, another word stands there. Only the proof uses `which` and `about`, to pick the step that is made.
     #[inline(always)]
     pub(crate) fn step<D: Fine, A>(
         &mut self,
@@ -193,8 +193,8 @@ impl<'a> Seated<'a> {
         }
     }
 
-    /// The turn of a cell with what it keeps, where no other seat has it, and the cell can take a step that the log has room for. It looks first: those
-    /// that wait for a turn only read the word, and don't take it from the seat that writes there.
+    /// Takes the turn of a cell with its contents, if no other seat has it, the cell can take one more step, and the log has room for it.
+    /// It looks first, so that seats that wait for a turn only read the word and don't disturb the seat that is to write it.
     pub(crate) fn turn<K: Kind>(&mut self, image: &Image, site: u16) -> Option<(Turn<K>, K)>
         requires image { IsAt image.now self.old }
         requires site { (168 ≤ site) × (site < 307) × (cell_kind_at site ≡ K.kind) }
@@ -207,7 +207,7 @@ impl<'a> Seated<'a> {
         self.turn_at_once(image, site)
     }
 
-    /// The same without a look.
+    /// The same, without looking first.
     pub(crate) fn turn_at_once<K: Kind>(&mut self, image: &Image, site: u16) -> Option<(Turn<K>, K)>
         requires image { IsAt image.now self.old }
         requires site { (168 ≤ site) × (site < 307) × (cell_kind_at site ≡ K.kind) }
@@ -244,7 +244,7 @@ impl<'a> Seated<'a> {
         }
     }
 
-    /// The turn is given back with the cell as it was.
+    /// Gives the turn back with the cell as it was.
     pub(crate) fn put_back<K: Kind>(&mut self, image: &Image, site: u16, turn: Turn<K>, cell: K)
         requires turn { HasTurnAt image.now self.old site turn.word turn.number (K.cell turn.before.value) }
         requires same { K.cell cell ≡ K.cell turn.before.value }
@@ -260,8 +260,8 @@ impl<'a> Seated<'a> {
         self.cells.put_quiet(self.board, &mut self.seat, held);
     }
 
-    /// A step of a cell, which is such a one of its sort, by which it keeps this, and its note; the turn is given back. What it is about, the
-    /// step is picked by.
+    /// Makes a step of a cell whose turn it has: leaves these contents, gives the turn back, and notes the step. Only the proof uses
+    /// `which` and `about`, to pick the step that is made.
     #[inline(always)]
     pub(crate) fn leave<D: Fine, K: Kind, A>(
         &mut self,

@@ -13,14 +13,14 @@ use um_processor::{
 use um_service::Outcome;
 use um_words::{CellWord, DomWord, RowWord, ThreadWord};
 
-/// The sites of the cells that there is one of.
+/// The sites of the cells of memory, of the heap and of the scheduler.
 const MEMORY: u16 = 304;
 
 const HEAP: u16 = 305;
 
 const SCHEDULER: u16 = 306;
 
-/// The first site of each other sort: rows come first.
+/// The first sites of the other sorts. Rows begin at site 0.
 const THREADS_FROM: u16 = 128;
 
 const DOMAINS_FROM: u16 = 160;
