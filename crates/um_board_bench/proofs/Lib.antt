@@ -1,2 +1,2 @@
--- A seat that splits another off and takes it in again has the seats out that it had before.
+-- A seat that splits another off and joins it again has as many seats out as before.
 pub mod Again

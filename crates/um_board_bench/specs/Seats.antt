@@ -4,7 +4,7 @@ use Rattle.um_site.specs.Calls.{thread_site, domain_site, Stays}
 use Rattle.um_site.specs.declared.seat.Seat.{Seat}
 use Rattle.um_board_bench.specs.declared.seated.Seated.{Seated}
 
--- the seat comes back with so many seats split off and taken in again, and with its turn
+-- the seat comes back with this many seats split off and taken in again, and with its turn
 abbrev pub ComesBack : {S : Type 0} → ℕ → Seat S → Seat S → Type 0
 ComesBack count s t =
     (t.token.table_id ≡ s.token.table_id) × (t.split ≡ s.split + count) × (t.joined ≡ s.joined + count) × (t.first ≡ s.first) × (t.token.me.1 ≡ s.token.me.1) × (t.token.me.0.turn ≡ s.token.me.0.turn)

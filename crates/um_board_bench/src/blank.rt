@@ -31,7 +31,7 @@ pub fn board_of(
     Ok(Some((board, seat)))
 }
 
-/// So many words that say nothing but this one, at its site.
+/// This many words, all empty but this one, at its site.
 pub fn words_with(alloc: Global, count: u16, site: u16, word: u64) -> Result<Vec<u64>, Memory> {
     let mut words = Vec::new(alloc);
     for at in 0..count {

@@ -83,7 +83,7 @@ fn one_cell(rt: HostRuntime) -> Result<(), Memory> {
     Ok(())
 }
 
-/// Seats, boards, cells and what is taken of one are small, whatever stands in clauses.
+/// Seats, boards, cells and what is taken of a cell are small: ghost data takes no memory.
 #[test]
 fn sizes(rt: HostRuntime) {
     assert!(rt; size_of::<Seat<Mark>>() == 12);

@@ -69,7 +69,7 @@ fn read_asked<R: Env + AllocGlobal>(rt: &R) -> Option<Asked> {
     })
 }
 
-/// What so many threads made on a board of these words, and the word of a site at its end.
+/// What this many threads made on a board of these words, and the word of a site at its end.
 fn worked<R: Threads + Sync>(
     rt: &R,
     alloc: Global,

@@ -30,7 +30,7 @@ pub fn locks(alloc: Global) -> Result<Vec<Mutex<u64>>, Memory> {
     Ok(words)
 }
 
-/// So many exchanges of the word, each after a look.
+/// This many exchanges of the word, each after a look.
 pub fn exchanges(words: &[AtomicU64], at: usize, times: u32) -> u32 {
     let Some(word) = words.get(at) else {
         return 0;
@@ -49,7 +49,7 @@ pub fn exchanges(words: &[AtomicU64], at: usize, times: u32) -> u32 {
     made
 }
 
-/// So many changes of the word under its lock.
+/// This many changes of the word under its lock.
 pub fn changes<R: Wait>(rt: &R, words: &[Mutex<u64>], at: usize, times: u32) -> u32 {
     let Some(word) = words.get(at) else {
         return 0;
@@ -94,7 +94,7 @@ pub fn two_change<R: Threads + Wait + Sync>(
     a.saturating_add(b)
 }
 
-/// Exchanges in so many threads: 1, 2 or 4.
+/// Exchanges in this many threads: 1, 2 or 4.
 pub fn exchanges_by<R: Threads + Sync>(
     rt: &R,
     words: &[AtomicU64],
@@ -116,7 +116,7 @@ pub fn exchanges_by<R: Threads + Sync>(
     }
 }
 
-/// Changes in so many threads: 1, 2 or 4.
+/// Changes in this many threads: 1, 2 or 4.
 pub fn changes_by<R: Threads + Wait + Sync>(
     rt: &R,
     words: &[Mutex<u64>],

@@ -14,7 +14,7 @@ use um_words::{RowWord, Stage};
 /// How often a step is tried at most.
 const MOST_TRIES: u32 = 100_000_000;
 
-/// Vacates the row that is this seat's to clean.
+/// Vacates the row that this seat has to clean.
 fn clean(at: &mut Seated<'_>, row: Row, who: ThreadIx, tally: &mut Tally)
     requires on { OnRow at.old row.0 }
     requires cleans { Cleans row.0 at.old.seat.token.me.0 }
@@ -34,7 +34,7 @@ fn clean(at: &mut Seated<'_>, row: Row, who: ThreadIx, tally: &mut Tally)
     }
 }
 
-/// A call on the row. True: the object is now this seat's to clean.
+/// Makes a call on the row. Returns whether this seat now has to clean the object.
 fn call_turn(at: &mut Seated<'_>, row: Row, by: ThreadIx, call: RowCall, tally: &mut Tally) -> bool
     requires on { OnRow at.old row.0 }
     requires cleans { call ≡ RowCall.Vacate → Cleans row.0 at.old.seat.token.me.0 }
@@ -58,7 +58,7 @@ fn call_turn(at: &mut Seated<'_>, row: Row, by: ThreadIx, call: RowCall, tally: 
     }
 }
 
-/// The end of a hold of its own. True: the object is now this seat's to clean.
+/// Ends a hold of its own. Returns whether this seat now has to clean the object.
 fn end_turn(at: &mut Seated<'_>, row: Row, tally: &mut Tally) -> bool
     requires on { OnRow at.old row.0 }
     ensures stays { Remains at.old at.new }
@@ -90,7 +90,7 @@ fn check_turn(at: &mut Seated<'_>, row: Row, who: ThreadIx, tally: &mut Tally) -
     false
 }
 
-/// One try at a step, by what stands in the row. True: the object is now this seat's to clean.
+/// Tries a step, by what stands in the row. Returns whether this seat now has to clean the object.
 ///
 /// The thread plays with one other, and grants late where the object is gone.
 fn turn(at: &mut Seated<'_>, row: Row, who: ThreadIx, number: u32, tally: &mut Tally) -> bool
@@ -129,7 +129,7 @@ fn turn(at: &mut Seated<'_>, row: Row, who: ThreadIx, number: u32, tally: &mut T
     }
 }
 
-/// So many steps on the row.
+/// This many steps on the row.
 pub fn play(at: &mut Seated<'_>, row: Row, who: ThreadIx, steps: u32) -> Tally
     requires on { OnRow at.old row.0 }
     ensures stays { Remains at.old at.new }

@@ -1,4 +1,4 @@
-//! A seat at its board: calls on the word that stands, where that allows them, and nothing where it doesn't.
+//! A seat at its board. It makes calls on the word that stands, and nothing if that word doesn't allow them.
 
 ghost use Rattle.std.specs.Prelude.{◌≡◌, ◌<◌, true, Some, IfSome};
 ghost use Rattle.um_words.specs.Packed.{row_of};
@@ -35,7 +35,7 @@ impl<'a> Seated<'a> {
         Seated { board, seat }
     }
 
-    /// The word of a row, and what it says, where it has room for a step.
+    /// The word of a row and what it says, if it has room for a step.
     pub fn row_seen(&mut self, row: Row) -> Option<(u64, RowWord)>
         requires on { OnRow self.old row.0 }
         ensures stays { Remains self.old self.new }

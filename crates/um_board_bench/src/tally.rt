@@ -10,13 +10,13 @@ pub struct Tally {
     pub born: u32,
     /// Drops after which the object was gone.
     pub gone: u32,
-    /// Times that the object was this seat's to clean, and that it was cleaned.
+    /// How often this seat had to clean the object, and how often it did.
     pub told: u32,
     pub cleaned: u32,
 }
 
 impl Tally {
-    /// Of no steps.
+    /// No steps.
     pub fn none() -> Tally {
         Tally {
             steps: 0,
@@ -29,7 +29,7 @@ impl Tally {
         }
     }
 
-    /// Of both.
+    /// The sum of both.
     pub fn and(self, other: Tally) -> Tally {
         Tally {
             steps: self.steps.saturating_add(other.steps),

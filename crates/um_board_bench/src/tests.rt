@@ -35,7 +35,7 @@ impl From<Memory> for NoBoard {
     }
 }
 
-/// The board of so many words, one of which is this one at its site, with its first seat.
+/// The board of this many words, one of which is this one at its site, with its first seat.
 fn board_with(
     alloc: Global,
     count: u16,
@@ -56,7 +56,7 @@ fn board_with(
     }
 }
 
-/// A seat at a board of so many words, one of which is this one at its site.
+/// A seat at a board of this many words, one of which is this one at its site.
 macro_rules! seated {
     ($rt:ident, $at:ident, $count:expr, $site:expr, $word:expr) => {
         let (board, seat) = board_with($rt.alloc(), $count, $site, $word)?;
@@ -73,7 +73,7 @@ fn stands(at: &mut Seated<'_>, site: u16, word: u64) -> bool
     at.board.look(&mut at.seat, site) == word
 }
 
-/// Whether a call on the row, but for the end of a cleaning, has this answer.
+/// Whether a call on the row, other than the end of a cleaning, has this answer.
 fn answers(at: &mut Seated<'_>, by: ThreadIx, call: RowCall, answer: Answer) -> bool
     requires on { OnRow at.old 0 }
     ensures stays { Remains at.old at.new }
@@ -408,7 +408,7 @@ fn many_threads(rt: HostRuntime) -> Result<(), Memory> {
     Ok(())
 }
 
-/// What a seat and a board take in memory: what stands in clauses alone takes nothing.
+/// What a seat and a board take in memory: ghost data takes nothing.
 #[test]
 fn sizes(rt: HostRuntime) {
     assert!(rt; size_of::<Seat<()>>() == 12);

@@ -25,7 +25,7 @@ pub enum Job {
     Read { own: bool, times: u32 },
 }
 
-/// So many recorded reads of a thread's word.
+/// This many recorded reads of a thread's word.
 fn reads(at: &mut Seated<'_>, who: ThreadIx, times: u32) -> Tally
     requires here { at.old.seat.token.table_id ≡ at.old.board.now.table.shared.table_id }
     requires who { who.0 < 32 }
@@ -188,7 +188,7 @@ fn eight<R: Threads + Sync>(
     (seat, tally.and(more))
 }
 
-/// Does the job in so many threads: 1, 2, 4 or 8.
+/// Does the job in this many threads: 1, 2, 4 or 8.
 pub fn work_by<R: Threads + Sync>(
     rt: &R,
     board: &Board<(), AnyStep>,
