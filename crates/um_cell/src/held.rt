@@ -1,4 +1,4 @@
-//! A cell whose turn a seat has, or another one.
+//! What comes of asking for a cell's turn.
 
 /// The contents of a cell whose turn a seat has.
 #[derive(Drop)]

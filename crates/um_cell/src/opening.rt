@@ -1,4 +1,4 @@
-//! Cells that get the contents with which they open.
+//! Cells that are filled with the contents with which they open.
 
 ghost use Rattle.std.specs.Prelude.{◌≡◌, ℕ, ◌+◌, ◌<◌, ◌≤◌, ◌∷◌, true, length, None};
 ghost use Rattle.um_site.specs.{Calls.{SameSeat}, Cells.{AmongCells, NoSteps, NoneOfThem}};
@@ -38,7 +38,8 @@ fn fill<T: Content + Drop, L: Local>(
 }
 
 impl<T: Content + Drop> Cells<T> {
-    /// The cells from this site on, with the contents with which they open, one for each. It takes no memory: the slots are the board's.
+    /// Fills the cells from this site on with the contents with which they open, one each. It takes no memory, since the slots are the
+    /// board's.
     pub fn make<L: Local>(
         board: &Board<T, L>,
         seat: &mut Seat<T>,

@@ -30,8 +30,8 @@ fn fill_slot<T: Content, L: Local>(board: &Board<T, L>, seat: &mut Seat<T>, cell
 }
 
 impl<T: Content> Cells<T> {
-    /// Records a step of a cell by which this word comes to stand, leaves what was made of the contents, and gives the turn back. The step
-    /// itself, with what it moves, stands in clauses alone, as `D::made`. It gives the number of the step.
+    /// Records a step of a cell that leaves this word and these contents, and gives the turn back. The step itself, `D::made`, is ghost
+    /// data. Returns the step's number.
     pub fn put<L: Local, D: Step>(
         &self,
         board: &Board<T, L>,

@@ -11,7 +11,7 @@ use um_site::{Board, Seat};
 use um_words::{Content, Local};
 
 impl<T: Content> Cells<T> {
-    /// Takes the turn of a cell with its contents, in one step, where no other seat has it.
+    /// Takes the turn of a cell with its contents, if no other seat has it.
     pub fn take<L: Local>(
         &self,
         board: &Board<T, L>,
