@@ -1,4 +1,4 @@
--- Where a core stands behind a fine run, a step of one of its processors is one by which the run goes on, and a processor that halts has none.
+-- If a core is as a fine run has left it, each step of its processors continues the run, and a processor that halts has no step.
 use Rattle.std.proofs.Common.{◌≡◌, ℕ, ◌<◌, ◌≤◌, List, [], ◌∷◌, ◌++◌, length, sym, subst, arith}
 use Rattle.um_base.specs.declared.image.Image.{Image}
 use Rattle.um_base.specs.Weight.{weight}

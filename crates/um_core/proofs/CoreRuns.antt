@@ -1,4 +1,4 @@
--- A core goes on, one step after another, as an order of processors picks them; and its steps are over where all processors halt.
+-- A core goes on, one step after another, as an order of processors picks them. Its run is over when all processors halt.
 use Rattle.std.proofs.Common.{◌≡◌, ℕ, suc, ◌+◌, ◌<◌, ◌≤◌, List, [], ◌∷◌, ◌++◌, length, Option, length-append, refl, sym, ap, ◌∙◌, subst, arith, mod-lt}
 use Rattle.std.specs.Prelude.{IsTrue, replicate}
 use Rattle.um_base.specs.declared.image.Image.{Image}
@@ -23,7 +23,7 @@ use Rattle.um_core.proofs.Picked.{picked-push, reached}
 use Rattle.um_core.proofs.Refusals.{nobody-steps}
 use Rattle.um_core.proofs.StepsOn.{stands-first}
 
--- the steps of a core so far, which are so many, and what its order still prefers
+-- the steps of a core so far, which are this many, and what its order still prefers
 pub record SoFar (image : Image) (cpus : ℕ) (pick : Option ℕ) (count : ℕ) (core : Core) (order : Order) : Type 0 where
   pub done : List FineStep
   pub counted : length done ≡ count

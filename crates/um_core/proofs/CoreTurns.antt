@@ -1,4 +1,4 @@
--- What comes of the turn of a processor that a core lends: a step, or a core that is as before and a processor that halts.
+-- What comes of the turn of a processor that a core lends out: a step; or the processor halts and the core is as before.
 use Rattle.std.proofs.Common.{◌≡◌, ℕ, ◌<◌, Bool, true, false, List, length, map, sym, ap, ◌∙◌, subst, slice_index_or, slice_set}
 use Rattle.std.proofs.lemmas.Bool.{false≢true}
 use Rattle.std.proofs.lemmas.List.{get_or-map, map-set, set-get_or}

@@ -1,5 +1,5 @@
--- A fine run of a described image leaves of each processor: its next step is at a site that there is and names threads that there are, and what it asks
--- for is lawful where its site takes it, since its list has room for each object whose cleaning it begins.
+-- What a fine run of a described image leaves of each processor: the site of its next step and the threads that the step names exist; and
+-- the step that it asks for is lawful if its site takes it, since its list has room for each object whose cleaning it begins.
 use Rattle.std.proofs.Common.{◌≡◌, ◌⊎◌, ⊎_elim, ℕ, ◌-◌, ◌<◌, ◌≤◌, Bool, true, false, List, [], ◌∷◌, refl, sym, ap, subst, arith}
 use Rattle.std.specs.Prelude.{◌&&◌, ◌||◌, not, nat_lt, IsTrue}
 use Rattle.std.proofs.lemmas.Bool.{false≢true, lt-ltb}

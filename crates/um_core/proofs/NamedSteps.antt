@@ -1,4 +1,4 @@
--- A step that names a thread by its index names one that there is: the threads that calls name are those of objects, and the doomed are counted.
+-- A step that names a thread index names one that exists: calls name the threads of objects, and dooms count up to the last index.
 use Rattle.std.proofs.Common.{◌≡◌, ℕ, ◌+◌, Bool, true, false, [], ◌∷◌, ◌++◌, Option, Some, None, refl}
 use Rattle.std.specs.Prelude.{◌&&◌, ◌==◌, ℤ, if◌then◌else◌, nat_lt}
 use Rattle.std.specs.List.{list_all}

@@ -1,4 +1,4 @@
--- In every state that a run of a described image reaches the steps that are left of each call name threads that there are.
+-- In every state that a run of a described image reaches, the pending steps of each call name thread indices that exist.
 use Rattle.std.proofs.Common.{◌≡◌, ℕ, zero, suc, Bool, true, false, List, [], ◌∷◌, length, map, Option, Some, None, refl, sym, ap, subst}
 use Rattle.std.specs.Prelude.{◌==◌, ◌&&◌, not, if◌then◌else◌, slice_set, take}
 use Rattle.std.specs.List.{list_all}
@@ -127,7 +127,7 @@ module _ (m : State) (t x : ℕ) (all : AllNamed m) where
   begun lawful None = all
   begun lawful (Some instr) = on m refl (record me { registers = T.with_begin me.registers instr }) _ (named-steps m.image lawful t me instr)
 
-  -- the steps behind one that the thread is offered
+  -- the steps after one that the thread is offered
   at : (steps : Steps) → me.pending ≡ steps → AreNamed steps
   at steps e = subst AreNamed e (all t)
 

@@ -143,7 +143,7 @@ module _ (image : Image) (p : Processor) where
   abbrev pub visiting : FineAct → Act → FineAct
   visiting e act = if is_visit e then FineAct.Unseen Unseen.Visit else by_me image p act
 
-  -- Whether there is such a permission, as both words show that are left.
+  -- Whether the permission is there, as both words that are left show.
   visit-same : (todo : Todos) (w : RowWord) (again : Act → Act) (there : Bool) (e g : FineStep) → Filled todo (SiteState.row w) e → Filled todo (SiteState.row w) g
       → visiting e.act (again (act_in e.act)) ≡ e.act → visiting g.act (again (act_in g.act)) ≡ g.act
       → (moves image p todo e.moved ≡ moves image p todo g.moved)

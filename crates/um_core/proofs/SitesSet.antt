@@ -1,4 +1,4 @@
--- A site of the tables is given a state of its sort: that stands there then, and at each other site what stood there before.
+-- Setting a site of the tables to a state of its sort: that state stands there then, and every other site is as before.
 use Rattle.std.proofs.Common.{◌≡◌, ℕ, ◌<◌, true, false, List, [], ◌++◌, length, refl, sym, ap, ◌∙◌, append-nil, arith}
 use Rattle.std.specs.Prelude.{◌==◌, IsTrue, nat_lt}
 use Rattle.std.proofs.lemmas.Bool.{eqb-false, false≢true, ltb-true, true≢false}

@@ -1,4 +1,4 @@
--- The next step of a processor is made at a site that there is, and a thread that it wakes or adds is one that there is.
+-- The site of a processor's next step exists, and so do the threads that it wakes or adds.
 use Rattle.std.proofs.Common.{◌≡◌, inl, ℕ, ◌+◌, ◌-◌, ◌<◌, ◌≤◌, Bool, true, false, List, [], ◌∷◌, length, Option, Some, None, refl, sym, ap, ◌∙◌, subst, arith}
 use Rattle.std.specs.Prelude.{◌&&◌, not, IsTrue, if◌then◌else◌, is_some, nat_lt, position, unwrap_or}
 use Rattle.std.specs.List.{list_all, list_any}
@@ -181,7 +181,7 @@ module _ (f : Fine) (m : State) (is : IsLeft f m) (k : ℕ) (l : k < f.cpus) whe
       let behind = (frames-at (Todo.region_load ∷ todo) at).0 in
       own-domain (ap has_steps at) (holds _ (at ∙ ap (λ (z : Todos). Todo.region_load ∷ z) behind.2) refl)
 
-  -- a domain that is claimed for an event behind
+  -- a domain that is claimed for a later event
   behind-there : (q : Pending) (rest : Steps) → runs p ≡ true → IsOffered f.image c q rest → (d : ℕ) → (InImage (length f.image.domains) q → d < length f.image.domains) → nat_lt d DOMAINS ≡ true
   behind-there q rest run offered d inside = domain-there d (inside (names-domain run q rest offered))
 

@@ -1,4 +1,5 @@
--- A core goes on: a step that one of its processors asks for and that its tables make may follow, and the core stands behind it then.
+-- A core goes on: a step that one of its processors asks for and that its tables make may follow, and leaves the core as the longer run
+-- does.
 use Rattle.std.proofs.Common.{◌≡◌, ℕ, zero, suc, ◌<◌, Bool, true, false, cond, List, [], ◌∷◌, ◌++◌, length, refl, sym, ap, ◌∙◌, subst, arith, append_assoc, eq-eqb}
 use Rattle.std.specs.Prelude.{◌==◌, IsTrue, replicate, slice_index_or, slice_set}
 use Rattle.std.proofs.lemmas.Bool.{eqb-false, eqb-true}
@@ -91,7 +92,7 @@ module _ (image : Image) (cpus : ℕ) (described : IsDescribed image) (can : Can
         takes = taken;
       }
 
-  -- the core behind the step
+  -- the core after the step
   abbrev pub moved : Core
   moved = record { sites = sites; processors = slice_set core.processors k (p_next image p e) }
 

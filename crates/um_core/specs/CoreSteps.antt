@@ -46,14 +46,14 @@ pub record FirstSteps (image : Image) (first : ℕ) (old new : Core) : Type 0 wh
 abbrev pub AllHalt : Image → ℕ → Core → Type 0
 AllHalt image first core = (n : ℕ) → n < length core.processors → Halts image core (behind (length core.processors) first n)
 
--- A core of a described image stands where a fine run of so many processors has led, with room in its log for the longest one.
+-- A core of a described image is as a fine run of this many processors has left it, with room in its log for the longest run.
 pub record IsCoreOf (image : Image) (cpus : ℕ) (done : List FineStep) (core : Core) : Type 0 where
   pub described : IsDescribed image
   pub can : CanRun image cpus
   pub stands : Stands image cpus done core
   pub room : weight image ≤ core.sites.most
 
--- The run goes on by a step of this processor, behind which the core stands.
+-- The run goes on by a step of this processor, and the core is as that step leaves it.
 pub record GoesOn (image : Image) (cpus : ℕ) (done : List FineStep) (k : ℕ) (new : Core) : Type 0 where
   pub made : FineStep
   pub maker : made.cpu ≡ k

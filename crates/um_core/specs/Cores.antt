@@ -1,4 +1,4 @@
--- A core: what stands at all sites and the processors, and that both stand where a fine run has led, with the events that it has shown in the log.
+-- A core: all sites and the processors. Both are as a fine run has left them, and the log has the events that this run has shown.
 use Rattle.std.specs.Prelude.{◌≡◌, ℕ, ◌<◌, ◌≤◌, List, [], length, replicate, slice_index_or, IsTrue}
 use Rattle.um_base.specs.declared.image.Image.{Image}
 use Rattle.um_machine.specs.Memory.{rodata_of}
@@ -15,7 +15,7 @@ pub record Core : Type 0 where
   pub sites : Sited
   pub processors : List Processor
 
--- A core at the opening of an image, with so many processors that have no thread, an empty log, and room in it for so many events.
+-- A core at the opening of an image, with this many processors that have no thread, an empty log, and room in it for this many events.
 pub record IsOpened (image : Image) (cpus most : ℕ) (core : Core) : Type 0 where
   pub sites : (i : Site) → IsTrue (is_site i) → state_at core.sites i ≡ s_start image i
   pub sized : IsSized core.sites

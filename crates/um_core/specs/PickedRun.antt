@@ -17,7 +17,7 @@ processor_after image done k = state_at same_cpu cpu_of (p_next image) p_start d
 abbrev pub site_after : Image → List FineStep → Site → SiteState
 site_after image done i = state_at same_site site_of (s_next image) (s_start image) done i
 
--- Its processor, which is one of so many, makes this step after those, and its site takes it.
+-- This step may follow those: its processor, one of this many, makes it, and its site takes it.
 pub record MayFollow (image : Image) (cpus : ℕ) (done : List FineStep) (e : FineStep) : Type 0 where
   pub makes : ByOneOf image cpus (processor_after image done e.cpu) e
   pub takes : SiteMay image (site_after image done e.site) e
@@ -26,7 +26,7 @@ pub record MayFollow (image : Image) (cpus : ℕ) (done : List FineStep) (e : Fi
 abbrev pub NoneFollows : Image → ℕ → List FineStep → ℕ → Type 0
 NoneFollows image cpus done k = (e : FineStep) → e.cpu ≡ k → MayFollow image cpus done e → ⊥
 
--- the processor that comes so many behind one, round-robin
+-- the processor that comes this many places after one, going round
 abbrev pub behind : ℕ → ℕ → ℕ → ℕ
 behind cpus first n = (first + n) % cpus
 
@@ -45,7 +45,7 @@ ArePicked image cpus done [] (e ∷ steps) = ⊥
 ArePicked image cpus done (first ∷ firsts) [] = ⊥
 ArePicked image cpus done (first ∷ firsts) (e ∷ steps) = IsPicked image cpus first done e × ArePicked image cpus (done ++ e ∷ []) firsts steps
 
--- The steps of so many processors, which are preferred round-robin or as a pick draws them, until none can make another.
+-- The steps of this many processors, which are preferred round-robin or as a pick draws them, until none can make another.
 pub record IsPickedRun (image : Image) (cpus : ℕ) (pick : Option ℕ) (steps : List FineStep) : Type 0 where
   pub picked : ArePicked image cpus [] (preferred cpus pick (length steps)) steps
   pub over : (e : FineStep) → MayFollow image cpus steps e → ⊥

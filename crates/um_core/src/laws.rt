@@ -16,16 +16,16 @@ ghost use Rattle.um_core.specs.{Moments.{AreSorted, MayStep}, PickedRun.{IsPicke
 use um_erasure::every_fine_run;
 use um_fine_measure::longest_fine_run;
 
-/// A processor has at most one next step: where each site keeps its sort, two steps of one processor, each as the processor makes it
-/// and as its site takes it, are the same.
+/// A processor has at most one next step: if each site keeps its sort, two steps that the same processor may make and that their sites take
+/// are equal.
 pub fn every_moment()
     ensures { (image : Image) (p : Processor) (sites : Site → SiteState) → AreSorted sites → (e e2 : FineStep) → e.cpu ≡ e2.cpu
         → MayStep image p sites e → MayStep image p sites e2 → e ≡ e2 }
 {}
 
-/// Of an image, so many processors and a pick there is one run in their order. It is a fine run; and so, where a description gives the
-/// image, what it shows is a run of the access-matrix machine. On one to eight processors that is a complete one, where the image has no
-/// more domains than there are words for.
+/// An image, a number of processors and a pick have one run in their order. It is a fine run; so, if a description gives the image, its
+/// events are a run of the access-matrix machine. With one to eight processors, and no more domains in the image than there are words for,
+/// that run is complete.
 pub fn every_order()
     ensures one { (image : Image) (cpus : ℕ) (pick : Option ℕ) (steps steps2 : List FineStep)
         → IsPickedRun image cpus pick steps → IsPickedRun image cpus pick steps2 → steps ≡ steps2 }

@@ -36,7 +36,7 @@ impl Model for Core {
     ghost view = { λ c. record { sites = c.sites; processors = map whole c.processors.items } };
 }
 
-/// So many processors without a thread.
+/// Makes this many processors, none with a thread.
 fn idle_processors(alloc: Global, cpus: u8) -> Result<Vec<Processor>, Memory>
     ensures { IfOk result (λ all. map whole all.items ≡ replicate cpus idle) }
 {
@@ -58,7 +58,7 @@ fn is_made(turn: Turn) -> bool
 }
 
 impl Core {
-    /// So many processors at the opening of an image, with room for so many events at least. All memory is taken here.
+    /// Makes this many processors at the opening of an image, with room for at least `most` events. All memory is taken here.
     pub fn boot(alloc: Global, image: &Image, cpus: u8, most: usize) -> Result<Core, Memory>
         requires lawful { IsLawful image.now }
         ensures { IfOk result (λ core. IsOpened image.now cpus most core) }
@@ -69,8 +69,8 @@ impl Core {
         })
     }
 
-    /// A processor makes its next step, where it can make one now. Answers whether it did: the fine run so far goes on by that step, or no
-    /// step of that processor may follow it. It takes no memory.
+    /// Has a processor make its next step, if it can make one now. Returns whether it did. If so, that step continues the fine run so far;
+    /// if not, no step of that processor may follow. It takes no memory.
     pub fn step(&mut self, image: &Image, cpu: u8) -> bool
         requires given { IsGiven image.now }
         requires rodata { self.old.sites.rodata ≡ rodata_of image.now }
@@ -88,7 +88,7 @@ impl Core {
         is_made(turn)
     }
 
-    /// The first processor that can make a step now makes it, from this one on, going round. Answers whether one did.
+    /// Has the first processor that can make a step now make it, from this one on, going round. Returns whether one did.
     pub fn next(&mut self, image: &Image, first: u8) -> bool
         requires given { IsGiven image.now }
         requires rodata { self.old.sites.rodata ≡ rodata_of image.now }

@@ -14,7 +14,7 @@ use um_base::{Event, Image, Memory};
 use um_fine_measure::longest_fine_run;
 use um_scheduler::Order;
 
-/// The events that so many processors show, in the order of a choice.
+/// Runs this many processors in the order of a pick, and returns the events that they show.
 fn picked(
     alloc: Global,
     image: &Image,
@@ -37,8 +37,9 @@ fn picked(
     Ok(core.into_events())
 }
 
-/// The events of a complete run of an image by so many processors of the fine machine, which are preferred one after another, or as
-/// numbers are drawn by a seed. All memory is taken before its first step: room for `most` events, which is no less than the image's weight.
+/// Makes a complete run of an image on this many processors of the fine machine, and returns its events. Processors are preferred one after
+/// another, or in an order drawn from a seed. All memory is taken before the first step: room for `most` events, which is at least the
+/// image's weight.
 pub fn run(
     alloc: Global,
     image: &Image,
