@@ -1,4 +1,4 @@
--- A processor at its place may go to another thread, and threads may share the board with the cells and their contents.
+-- A processor with its place may be moved to another thread, and threads may share the board with its cells and their contents.
 use denote.Ref.{NamedLft}
 use denote.Param.Send.{IsSend, IsSync, sendable, shr_send}
 use denote.Param.SendFields.{declared_send, declared_sync, as_row_send}

@@ -166,7 +166,7 @@ module _ (image : Image) (v : View) (cpus : ℕ) (board : Closed Known) (logs : 
         saw = λ k less. (pick.1 k less).1;
       }
 
--- the same, where so many are all
+-- the same, where this many are all
 pub all-ended : (image : Image) (v : View) (n cpus : ℕ) (board : Closed Known) (logs : List Log) → n ≡ cpus → board.token.me.0 ≡ shadow_of v → HasGathered image v 0 n logs
     → IsClosedWithCells Opens Follows NextGoes v (slots_items board.table.words) → HasEnded image cpus board logs
 all-ended image v n cpus board logs same seen gathered closed = subst (λ (m : ℕ). HasEnded image m board logs) same (has-ended image v n board logs seen gathered closed)

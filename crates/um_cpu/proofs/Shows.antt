@@ -25,7 +25,7 @@ use Rattle.um_history.specs.Fine.{IsFineOf}
 use Rattle.um_history.specs.Played.{Each, IsPlayed, StandsUnder}
 use Rattle.um_cpu.specs.OnBoard.{HasRun}
 
--- a lawful image with as many objects and domains as its lists allow is described, and so many processors can run it
+-- a lawful image with as many objects and domains as its lists allow is described, and this many processors can run it
 pub runs-on : (image : Image) (cpus : ℕ) {objects domains : ℕ} → IsLawful image → objects ≡ length image.objects → objects ≤ STATIC_ROWS → domains ≡ length image.domains → domains ≤ DOMAINS
     → 1 ≤ cpus → cpus ≤ 8 → IsDescribed image × CanRun image cpus
 runs-on image cpus lawful objects most domains all some few = (

@@ -1,4 +1,4 @@
--- A processor's seat when it is split off, and behind its last turn.
+-- A processor's seat when it is split off, and after its last turn.
 use Rattle.std.proofs.Common.{◌≡◌, ℕ, ◌+◌, ◌<◌, List, [], ◌∷◌, ◌++◌, None, length, length-append, inl, inr, refl, sym, ap, ◌∙◌, subst, arith}
 use Rattle.std.specs.Prelude.{reverse}
 use Rattle.std.proofs.lemmas.Bool.Decides.{leb_tells}
@@ -46,7 +46,7 @@ seated-as image board cells s t here same of idle none seated =
       empty = none;
     }
 
--- the first seat behind a split
+-- the first seat after a split
 pub split-seated : (image : Image) (board : TableId) (cells : Cells Known) (s t : Seat Known) → t.token.table_id ≡ s.token.table_id → t.token.me.0 ≡ splitter s.token.me.0 → t.token.me.1 ≡ s.token.me.1
     → IsSeated image board cells s → IsSeated image board cells t
 split-seated image board cells s t here now none seated =
@@ -80,7 +80,7 @@ module _ (image : Image) (board : TableId) (cells : Cells Known) (s own : Seat K
         log = log;
       }
 
--- a processor behind its last turn
+-- a processor after its last turn
 pub ends-there : (image : Image) (board : TableId) (k : ℕ) (c d : Cpu) → Begins image board k c → d.number ≡ c.number
     → IsPlaced image d.place.board.now.table.shared.table_id d.place.cells.now d.place.rodata.now d.place.seat d.place.log.room → KeepsPlace c.place.seat d.place.seat
     → Plays image c.number (whole c.processor) c.place.seat c.place.log.items (whole d.processor) d.place.seat d.place.log.items → Ends image board k d

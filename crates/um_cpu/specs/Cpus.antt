@@ -55,7 +55,7 @@ Advances image k p s old q t new = (steps : List FineStep) → HasMade image k p
 abbrev pub Reaches : Image → ℕ → Processor → Seat Known → List Logged → Processor → Seat Known → List Logged → Type 0
 Reaches image k p s old q t new = (steps : List FineStep) → HasMade image k p s old steps → (all : List FineStep) × HasMade image k q t new all
 
--- the same, and behind the last one it saw that no thread is ready
+-- the same, and after the last one it saw that no thread is ready
 abbrev pub Plays : Image → ℕ → Processor → Seat Known → List Logged → Processor → Seat Known → List Logged → Type 0
 Plays image k p s old q t new = (steps : List FineStep) → HasMade image k p s old steps → (all : List FineStep) × HasMade image k q t new all × SawNone image t.token.me.0.got all
 
@@ -63,8 +63,8 @@ Plays image k p s old q t new = (steps : List FineStep) → HasMade image k p s 
 abbrev pub NoneLeft : ℕ → Type 0
 NoneLeft word = ((cell_of word).running ≡ 0) × ((cell_of word).owed ≡ 0)
 
--- The processor has no thread, and its seat has looked at the scheduler's word, by which none is ready. It has made no step. One fine run stood when it looked, in which
--- it had made its steps, and which had left that word.
+-- The processor has no thread, and its seat read a word of the scheduler by which none is ready. It made no step. When it looked there was
+-- one fine run with the steps that it had made, and that run had left the word.
 pub record Rests (image : Image) (k : ℕ) (p q : Processor) (s : Seat Known) (old : List Logged) (t : Seat Known) (new : List Logged) (word : ℕ) : Type 0 where
   pub idle : p.todo ≡ []
   pub same : q ≡ p
@@ -77,8 +77,8 @@ pub record Rests (image : Image) (k : ℕ) (p q : Processor) (s : Seat Known) (o
   pub stood : Stood image k (map (fine_at k) s.token.me.0.made) run
   pub left : packed (word_of (left_at image run Site.scheduler)) ≡ bare SCHEDULER word
 
--- What came of asking once for the next step. It was made; or its site refused it, as one fine run had left that site which stood at some moment of the call; or others
--- were at that site: another seat had its turn, or another word came to stand there.
+-- What came of asking once for the next step. The step was made; or its site refused it, in the state in which the fine run of some moment
+-- of the call had left it; or others were at the site: another seat had its turn, or its word changed.
 pub data HasAsked (image : Image) (k : ℕ) (p q : Processor) (s : Seat Known) (old : List Logged) (t : Seat Known) (new : List Logged) : Type 0 where
   made : (e : FineStep) → Noted s old e t new → Goes k image p e q → HasAsked image k p q s old t new
   refused : (e : FineStep) → Unnoted s old t new → q ≡ p → AsksFor k image p e → WasRefused image k s t e → HasAsked image k p q s old t new

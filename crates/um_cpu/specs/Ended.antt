@@ -1,4 +1,4 @@
--- Processors at seats that one seat of a board has split off, and what there is of them when they have ended.
+-- Processors at seats that one seat of a board has split off, and what is left of them when they have ended.
 use Rattle.std.specs.Prelude.{◌≡◌, ℕ, ◌+◌, ◌<◌, ◌≤◌, List, [], ◌∷◌, length, slice_index_or, None, true}
 use Rattle.std.specs.Mem.Slots.{slots_items}
 use Rattle.atomic_table.specs.Seated.{TableId}
@@ -42,7 +42,7 @@ pub record Begins (image : Image) (board : TableId) (k : ℕ) (c : Cpu) : Type 0
   pub made : c.place.seat.token.me.0.made ≡ []
   pub log : c.place.log.items ≡ []
 
--- behind its last turn: it has made some steps, and saw then that no thread is ready
+-- after its last turn: it has made some steps, and saw then that no thread is ready
 pub record Ends (image : Image) (board : TableId) (k : ℕ) (c : Cpu) : Type 0 where
   pub sits : Sits image board k c
   pub steps : List FineStep
@@ -53,11 +53,11 @@ pub record Ends (image : Image) (board : TableId) (k : ℕ) (c : Cpu) : Type 0 w
 abbrev pub EachAt : (ℕ → Cpu → Type 0) → List Cpu → Type 0
 EachAt P cpus = (k : ℕ) (d : Cpu) → k < length cpus → P k (slice_index_or cpus k d)
 
--- the seat's children have the names of so many processors
+-- the seat's children have the names of this many processors
 abbrev pub AreChildren : View → ℕ → Type 0
 AreChildren v cpus = (k : ℕ) → k < cpus → AmongNames v.children (k ∷ [])
 
--- the processor k has made steps whose list stands under its name, and which are in this log; and it saw then that no thread is ready
+-- the steps of the processor k stand in the list under its name and in this log; and after the last one it saw that no thread is ready
 pub record HasLeft (image : Image) (v : View) (log : List Logged) (k : ℕ) : Type 0 where
   pub steps : List FineStep
   pub made : List Made
@@ -65,8 +65,8 @@ pub record HasLeft (image : Image) (v : View) (log : List Logged) (k : ℕ) : Ty
   pub played : Played image k made log steps
   pub saw : SawNone image v.got steps
 
--- What the first seat of a board knows, which has split off so many seats of processors, when those from this one on are joined in, and these are
--- their logs.
+-- What the first seat of a board knows that has split off a seat for each processor, when the seats from number `from` on are joined and
+-- these are their logs.
 pub record HasGathered (image : Image) (v : View) (from cpus : ℕ) (logs : List Log) : Type 0 where
   pub image_is : v.image ≡ image
   pub opening : AreOpening image v.opening
@@ -87,7 +87,7 @@ pub record Gathered (image : Image) (board : TableId) (seat : Seat Known) (from 
   pub joined : seat.joined ≡ length logs
   pub knows : HasGathered image seat.token.me.0 from cpus logs
 
--- The board of an image is closed, on which so many processors have played to the end: what its first seat knew is what it still has.
+-- The board of an image is closed, on which this many processors have played to the end. It still has what its first seat knew.
 pub record HasEnded (image : Image) (cpus : ℕ) (closed : Closed Known) (logs : List Log) : Type 0 where
   pub view : View
   pub seen : closed.token.me.0 ≡ shadow_of view

@@ -16,9 +16,9 @@ use Rattle.um_board.specs.Contents.{Known}
 use Rattle.um_board.specs.Noted.{logged_of, made_of, packed}
 use Rattle.um_history.specs.Played.{StandsUnder}
 
--- The board is that of an image, and was closed behind these steps, which are a fine run of so many processors. The steps of each of them stand in
--- the list of a seat of its own, in their order; no other seat has made any, and no name stands for two lists. Those of each site are numbered from 1
--- without a gap, and have left the board's words, a cell's turn aside.
+-- The board is that of an image, and was closed after these steps, which are a fine run of this many processors. The steps of each
+-- processor stand in the list of a seat of its own, in their order; no other seat has made any, and no name stands for two lists. The steps
+-- of each site are numbered from 1 without a gap, and have left the board's words, a cell's turn aside.
 pub record HasRun (image : Image) (cpus : ℕ) (closed : Closed Known) (steps : List FineStep) : Type 0 where
   pub image_is : closed.token.me.0.image ≡ image
   pub run : IsFineRun image cpus steps

@@ -1,4 +1,4 @@
--- A processor that plays at a board, by all that it is made of, and what its turns make of it.
+-- A processor at a board, as one value, and what its turns make of it.
 use Rattle.std.specs.Prelude.{ℕ}
 use Rattle.um_base.specs.declared.image.Image.{Image}
 use Rattle.um_invariants.specs.Described.{IsDescribed}
@@ -9,7 +9,7 @@ use Rattle.um_board.specs.Placed.{IsAt}
 use Rattle.um_cpu.specs.Cpus.{Advances, HadWork, HasAsked, Plays, Rests, Stands}
 use Rattle.um_cpu.specs.declared.cpu.Cpu.{Cpu}
 
--- it stands where the steps lead that it has made
+-- it is as its steps so far have left it
 abbrev pub IsPlaying : Image → Cpu → Type 0
 IsPlaying image c = Stands image c.number (whole c.processor) c.place.seat c.place.log.items
 

@@ -21,8 +21,8 @@ pub struct Cpu<'a> {
 }
 
 impl<'a> Cpu<'a> {
-    /// It asks once for its next step, and makes it where it can. It always has one that it could ask for: where it had none, a look would tell of a fine
-    /// run that leaves it so, and no fine run does.
+    /// Asks once for its next step, and makes it if it can. There is always a step to ask for: if there were none, a look at the board
+    /// would give a fine run that leaves the processor stuck, and there is no such run.
     fn ask(&mut self, image: &Image)
         requires { CanPlay image.now self.old }
         ensures number { self.new.number ≡ self.old.number }
@@ -43,9 +43,9 @@ impl<'a> Cpu<'a> {
         }
     }
 
-    /// It makes its next step at most, for which it asks once. Where that wasn't made, another seat had the turn of its site, or another word came to
-    /// stand there, or the site refused it as it stood, and it waits; the seat has got the word that tells so. Where it has no thread it looks first whether one is ready,
-    /// and asks for nothing where none is.
+    /// Makes at most one step, the next one, for which it asks once. If the step wasn't made, another seat had the turn of its site, or
+    /// another word had come to stand there, or the site refused the step and the processor waits; the seat has read the word that shows
+    /// this. A processor without a thread looks first whether one is ready, and asks for nothing if none is.
     pub fn step(&mut self, image: &Image) -> Turn
         requires { CanPlay image.now self.old }
         ensures number { self.new.number ≡ self.old.number }

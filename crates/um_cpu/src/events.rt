@@ -25,9 +25,9 @@ pub struct Ran {
     pub closed: Closed<Contents>,
 }
 
-/// Runs so many processors on a board of the image, each in a thread of its own where one can be made, and puts the steps that they have made there
-/// into one list. Its events are a complete run. There is room for `most` steps in the log of each and in the list, which is no less than the image's weight. A
-/// gate can hold each processor before its turns.
+/// Runs this many processors on a board of the image, each in a thread of its own if one can be made, and merges the steps that they made
+/// there into one list. Its events are a complete run. Each log and the list have room for `most` steps, which is at least the image's
+/// weight. A gate can hold each processor before its turns.
 pub fn run_events<R: Threads + Wait + Sync, G: Gate + Sync>(
     rt: &R,
     alloc: Global,

@@ -74,7 +74,7 @@ fn run_all<R: Threads + Wait + Sync, G: Gate + Sync>(
     );
 }
 
-/// The seats of the processors are taken in, with their logs, for which there is room.
+/// Joins the processors' seats, and collects their logs, for which there is room.
 fn gather(
     image: &Image,
     board: &Board<Contents, NextStep>,
@@ -103,9 +103,9 @@ fn gather(
     logs.reverse();
 }
 
-/// Runs so many processors on a board of the image to their end, each in a thread of its own where one can be made, with room for more than so
-/// many steps in the log of each, which is no less than the image's weight. All memory is taken before the first step, but what the board takes where it is closed. A gate can hold each
-/// processor before its turns.
+/// Runs this many processors on a board of the image to their end, each in a thread of its own if one can be made. Each log has room for
+/// more than `most` steps, and `most` is at least the image's weight. All memory is taken before the first step, except what closing the
+/// board takes. A gate can hold each processor before its turns.
 pub fn run_cpus<R: Threads + Wait + Sync, G: Gate + Sync>(
     rt: &R,
     alloc: Global,

@@ -15,7 +15,7 @@ use um_merge::Log;
 use um_processor::Processor;
 use um_site::{Board, Seat};
 
-/// A processor without a thread, at a seat that is split off, with room for more than so many steps in its log.
+/// Makes a processor without a thread, at a new seat, with room for more than `most` steps in its log.
 fn seat_of<'a>(
     alloc: Global,
     image: &Image,
@@ -48,7 +48,8 @@ fn seat_of<'a>(
     })
 }
 
-/// So many processors without a thread, at seats of their own, each with room for more than so many steps in its log. All memory is taken here.
+/// Makes this many processors without threads, each at a seat of its own and with room for more than `most` steps in its log. All memory is
+/// taken here.
 pub(crate) fn seats<'a>(
     alloc: Global,
     image: &Image,

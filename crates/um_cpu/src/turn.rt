@@ -3,9 +3,9 @@
 /// What comes of a processor's turn at a board.
 #[derive(Clone, Copy, PartialEq, Eq)]
 pub enum Turn {
-    /// It asked for its next step, which was made, or wasn't.
+    /// It asked for its next step. Whether the step was made, the log shows.
     Did,
-    /// It has no thread, and no thread is ready by this word of the scheduler. Some thread is running yet, or something is owed.
+    /// It has no thread, and by this word of the scheduler none is ready, but some thread runs or something is owed.
     Idle { word: u64 },
     /// It has no thread, and by this word of the scheduler none is ready, none runs, and nothing is owed.
     Quiet { word: u64 },

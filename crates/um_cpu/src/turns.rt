@@ -12,27 +12,27 @@ use std::thread::yield_now;
 use um_base::Image;
 use um_io::Gate;
 
-/// How long a moment is, in turns of an empty loop.
+/// How long a pause is, in rounds of an empty loop.
 const SPINS: u32 = 16;
 
-/// So many turns of a processor that make no step behind one another, then it leaves its own core to another thread.
+/// After this many turns in a row without a step, a processor yields its core to another thread.
 const MISSES: u32 = 64;
 
-/// A moment passes.
+/// Pauses for a moment.
 fn spin() {
     for _ in 0..SPINS {
         spin_loop();
     }
 }
 
-/// A moment passes, in which another thread can have the core.
+/// Pauses for a moment, and lets another thread have the core.
 fn wait() {
     spin();
     yield_now();
 }
 
-/// A processor takes its turns until it has no thread and none is ready, none runs, and nothing is owed. Before each turn it can be held, by
-/// its number and by how many turns it has taken. Behind one that made no step it waits for a moment.
+/// Takes the turns of a processor, until it has no thread, none is ready, none runs, and nothing is owed. The gate can hold it before each
+/// turn, by its number and the number of turns that it has taken. After a turn without a step it pauses.
 pub(crate) fn turns<R: Wait, G: Gate>(rt: &R, image: &Image, cpu: &mut Cpu<'_>, gate: &G)
     requires { CanPlay image.now cpu.old }
     ensures number { cpu.new.number ≡ cpu.old.number }

@@ -3,7 +3,7 @@ use Rattle.std.specs.Prelude.{reverse}
 use Rattle.um_cpu.specs.Ended.{EachAt, Ends, Gathered}
 use Rattle.um_cpu.proofs.run.gather.Given as goal
 
--- so many processors are left, and the others are joined in
+-- this many processors are left, and the others are joined in
 abbrev pub invariant-cpus : goal.invariant-cpus
 invariant-cpus l =
     record {

@@ -3,7 +3,7 @@ use Rattle.um_board.specs.Seated.{IsSeated}
 use Rattle.um_cpu.specs.Ended.{Begins, EachAt, Gathered}
 use Rattle.um_cpu.proofs.seats.seats.Given as goal
 
--- so many processors have their seats
+-- this many processors have their seats
 abbrev pub invariant-loop-number : goal.invariant-loop-number
 invariant-loop-number l =
     record {
