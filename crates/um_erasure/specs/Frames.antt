@@ -1,4 +1,4 @@
--- What stands on a processor's list behind each step that no trace shows and that belongs to an event.
+-- What follows, on a processor's list, each unseen step that belongs to an event.
 use Rattle.std.specs.Prelude.{◌≡◌, ◌⊎◌, ℕ, true, [], ◌∷◌, Some, None}
 use Rattle.um_base.specs.declared.image.Image.{Image}
 use Rattle.um_base.specs.declared.names.Addr.{Addr}
@@ -10,7 +10,7 @@ use Rattle.um_fine.specs.Context.{Context}
 use Rattle.um_fine.specs.Places.{Todo, Todos, on_memory}
 use Rattle.um_erasure.specs.Lists.{edits_step, queue_in}
 
--- the events of which the thread is held and its domain claimed
+-- the events for which the thread is held and its domain claimed
 abbrev pub OnMemory : Pending → Type 0
 OnMemory (Pending.Load to a n) = Unit {0}
 OnMemory (Pending.Store a n value) = Unit {0}
@@ -37,7 +37,7 @@ IsStart todo = (q : Pending) × (rest : Steps) × (c : Context) × (todo ≡ Tod
 abbrev pub IsMove : ℕ → Todos → Type 0
 IsMove d todo = (who : ThreadIx) × (rest : Steps) × (todo ≡ Todo.show (Pending.DomMove d who) rest ∷ [])
 
--- what stands behind a step
+-- what follows a step
 abbrev pub Behind : Image → Todo → Todos → Type 0
 Behind image Todo.hold todo =
     ((q : Pending) × (rest : Steps) × (todo ≡ Todo.read_claim None ∷ Todo.region_load ∷ Todo.show q rest ∷ access_over) × OnMemory q) ⊎ IsStart todo

@@ -138,7 +138,7 @@ edits d (Todo.edit e q ∷ todo) = d == e
 edits d (Todo.show q rest ∷ todo) = edits_step d q
 edits d (q ∷ todo) = edits d todo
 
--- it has edited the domain's cell: the edit whose event is next
+-- it has edited the domain's cell, and the event of that edit comes next
 abbrev pub edited : ℕ → Todos → Option Pending
 edited d [] = None
 edited d (Todo.write_claim e ∷ todo) = None
@@ -146,13 +146,13 @@ edited d (Todo.edit e q ∷ todo) = None
 edited d (Todo.show q rest ∷ todo) = if edits_step d q then Some q else None
 edited d (q ∷ todo) = edited d todo
 
--- what a thread is told by a wake that is still to make
+-- what a thread is told by a wake that is still to come
 abbrev pub wake_of : ℕ → Todos → Option Told
 wake_of t [] = None
 wake_of t (Todo.wake who told ∷ todo) = if who == t then Some told else wake_of t todo
 wake_of t (q ∷ todo) = wake_of t todo
 
--- the row that it visits next for its thread: all are behind it where none is left
+-- the row that it visits next for its thread, or the number of rows if all are visited
 abbrev pub visited : Todos → ℕ
 visited [] = ROWS
 visited (Todo.pass who x ∷ todo) = x
@@ -165,7 +165,7 @@ cleaned_pairs who [] = ROWS
 cleaned_pairs who (Todo.clean_pair u x ∷ todo) = if u == who then x else cleaned_pairs who todo
 cleaned_pairs who (q ∷ todo) = cleaned_pairs who todo
 
--- the queue of whose messages the event that comes next copies or probes one, once their size was looked at
+-- the queue one of whose messages the next event copies or probes, once its message size was looked at
 abbrev pub queue_of : Amount → Option Addr
 queue_of (Amount.Bytes n) = None
 queue_of (Amount.MessageOf a) = Some a

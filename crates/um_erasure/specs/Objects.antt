@@ -39,8 +39,8 @@ status_of Stage.Dying reserved = Status.Gone
 status_of Stage.Cleaning reserved = Status.Gone
 status_of Stage.Free reserved = if reserved then Status.Reserved else Status.Free
 
--- The word says what the object is; whether a free row has one that is reserved, the heap says. Between its `vacate` and its `recycle` the row
--- is free, and the object still gone. A free row has no marks.
+-- The word says what the object is. Whether a free row has a reserved object, the heap says. Between its `vacate` and its `recycle` the row
+-- is already free, while the machine's object is still gone. A free row has no marks.
 pub record StatusIs (f : Fine) (m : State) (x : ℕ) : Type 0 where
   pub status : vacaters f x ≡ recyclers f x → (object_at m x).status ≡ status_of (row f x).stage (is_reserved (object_at m x).status)
   pub vacated : vacaters f x < recyclers f x → ((row f x).stage ≡ Stage.Free) × ((object_at m x).status ≡ Status.Gone)
@@ -56,7 +56,7 @@ cell_of o = record { contents = o.contents; waiters = o.waiters; buffer = o.buff
 abbrev pub empty_cell : ObjectCell
 empty_cell = record { contents = Contents.Nothing; waiters = []; buffer = None }
 
--- The cell has the object's contents. Between its clearing and its `recycle` it is empty, and so it is where no object stands.
+-- The cell has the object's contents. It is empty between its clearing and the `recycle`, and where no object stands.
 pub record ContentsAre (f : Fine) (m : State) (x : ℕ) : Type 0 where
   pub whole : wipers f x ≡ recyclers f x → object f x ≡ cell_of (object_at m x)
   pub cleared : wipers f x < recyclers f x → object f x ≡ empty_cell

@@ -1,4 +1,4 @@
--- Where no processor can step, on what images and processors that ends a run, and what words can count.
+-- When no processor can step, for which images and processors that ends a run, and what words can count.
 use Rattle.std.specs.Prelude.{◌≡◌, ℕ, ◌<◌, ◌≤◌, Bool, true, nat_lt, length}
 use Rattle.um_base.specs.declared.image.Image.{Image}
 use Rattle.um_base.specs.declared.limits.TheConstants.{DOMAINS}
@@ -11,7 +11,7 @@ use Rattle.um_erasure.specs.Fine.{Fine, domain}
 abbrev pub IsStuck : Fine → Type 0
 IsStuck f = (e : FineStep) → ByOneOf f.image f.cpus (f.processors e.cpu) e → SiteMay f.image (f.sites e.site) e → ⊥
 
--- The processor k is one of so many, and none of its steps is lawful.
+-- The processor k is one of this many, and none of its steps is lawful.
 pub record IsHalted (f : Fine) (k : ℕ) : Type 0 where
   pub inside : k < f.cpus
   pub stuck : (e : FineStep) → e.cpu ≡ k → ByOneOf f.image f.cpus (f.processors k) e → SiteMay f.image (f.sites e.site) e → ⊥

@@ -9,6 +9,6 @@ use Rattle.um_machine.specs.State.{State}
 abbrev pub AreRun : Image → List Event → Type 0
 AreRun image events = (last : State) × Runs (opening image) events last
 
--- and no event is a step behind it
+-- and no event is a step after it
 abbrev pub AreCompleteRun : Image → List Event → Type 0
 AreCompleteRun image events = (last : State) × Runs (opening image) events last × IsComplete last

@@ -34,7 +34,7 @@ abbrev pub is_ended : Life → Bool
 is_ended Life.Ended = true
 is_ended _ = false
 
--- An own part is that of the machine's thread, which was started, and holds what that thread's call holds: rows that there are.
+-- An own part is that of the machine's thread, which was started. It holds the rows that the thread's call holds, and these rows exist.
 pub record IsOf (m : State) (c : Context) : Type 0 where
   pub index : c.thread < THREADS
   pub own : as_thread c ≡ own_part (thread_at m c.thread)
@@ -58,7 +58,8 @@ runs_on t p = runs_thread t p && not (is_over p.context)
 abbrev pub places : Fine → ℕ → ℕ
 places f t = over_processors f (λ p. one_if (runs_on t p) + of_thread t (adders p.todo)) + one_if (is_some (parked_at (scheduler f) t))
 
--- Own parts lie with processors, parked, or, of a new thread that was started and isn't added yet, on the list of a processor.
+-- An own part lies with the processor that runs the thread, or is parked; that of a thread that was started and isn't added yet is on a
+-- processor's list.
 pub record ContextsAre (f : Fine) (m : State) : Type 0 where
   pub running : (k : ℕ) → k < f.cpus → runs (f.processors k) ≡ true → IsRun m (f.processors k).context
   pub parked : (t : ℕ) (c : Context) → parked_at (scheduler f) t ≡ Some c → IsOf m c × (c.thread ≡ t) × (c.ended ≡ false) × IsPutBack c
@@ -76,12 +77,12 @@ abbrev pub first_told : Option Told → Option Told → Option Told
 first_told None told = told
 first_told (Some w) told = Some w
 
--- what it is told by the wakes that processors have still to make, and else by the scheduler
+-- what it is told: by a wake that a processor still has to make, or by the scheduler
 abbrev pub told_by : Fine → ℕ → ℕ → Option Told
 told_by f t zero = told_at (scheduler f) t
 told_by f t (suc k) = first_told (wake_of t (f.processors k).todo) (told_by f t k)
 
--- in how many places it stands what a thread is told: on lists of processors, and with the scheduler
+-- in how many places what a thread is told stands: on lists of processors, and with the scheduler
 abbrev pub tellers : Fine → ℕ → ℕ
 tellers f t = over_processors f (λ p. counted (is_wake t) p.todo) + one_if (is_some (told_at (scheduler f) t))
 

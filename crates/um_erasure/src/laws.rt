@@ -17,10 +17,9 @@ ghost use Rattle.um_erasure.specs.{
 /// that it shows are a run of the access-matrix machine from the image's opening, and the state that this run leads to is related to what
 /// the fine run leaves of processors and sites: memory, permissions, threads, domains, contents and pools are the same, but for what
 /// processors have still to do.
-///
-/// Where then no processor can make another step, the machine has none either: the run is a complete one. Asked for is that the image has no
-/// more domains than there are words for, that there are one to eight processors, and that each site can count one step more, and each domain
-/// one version more. A processor that can't make another step waits: for a thread that is ready, where it has none, for one that is held, or for a domain that is claimed.
+/// If then no processor can make another step, the machine has none either, and the run is complete. This holds for one to eight processors
+/// and for an image with no more domains than there are words for, if each site can count one more step and each domain one more version.
+/// There each processor waits: for a ready thread, if it has none; for a thread that another one holds; or for a domain that is claimed.
 pub fn every_fine_run()
     ensures run { (image : Image) (cpus : ℕ) (steps : List FineStep) → IsDescribed image → IsFineRun image cpus steps
         → (last : State) × Runs (opening image) (shown steps) last × Rel (left_by image cpus steps) last }
