@@ -48,7 +48,7 @@ module _ {E C I P S : Type 0}
     (p_may : P → E → Type 0) (p_next : P → E → P) (p_start : C → P)
     (s_may : S → E → Type 0) (s_next : S → E → S) (s_start : I → S)
     (all : List C) (different : AllDifferent all) (known : (p : P) (e : E) → p_may p e → In (cpu e) all) where
-  -- What processors hold of a site adds up to what the site counts: it is enough that each step keeps the balance.
+  -- What processors hold of a site adds up to what the site counts, if each step keeps the balance.
   module _
       (holds : I → P → ℕ) (counts : S → ℕ) (i : I)
       (opening : total (holds i) p_start all ≡ counts (s_start i))

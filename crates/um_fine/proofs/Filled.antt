@@ -1,4 +1,4 @@
--- A step that its site has filled in is as its site has it: what a site fills in doesn't depend on what was filled in before.
+-- Filling a step in twice is the same as once: what a site fills in doesn't depend on what was filled in before.
 use Rattle.std.proofs.Common.{◌≡◌, ℕ, Bool, true, false, Option, Some, None, refl, sym, ap, ◌∙◌}
 use Rattle.um_base.specs.declared.names.ThreadIx.{ThreadIx}
 use Rattle.um_base.specs.declared.act.Act.{Act}

@@ -1,4 +1,4 @@
--- A fine run is a fact of its sublists, so each list in the same order is one too; and it is taken apart from its end.
+-- A fine run is a fact about its sublists, so each list in the same order is one too; and a fine run can be taken apart from its end.
 use Rattle.std.proofs.Common.{◌≡◌, Bool, true, false, cond, List, [], ◌∷◌, ◌++◌, ◌⊎◌, inl, inr, ⊎_elim, sym, refl, ap, ◌∙◌, subst, append_assoc, append-nil, map}
 use Rattle.um_fine.specs.Runs.{Run, ends, RunsBy, sub}
 use Rattle.um_fine.specs.Runs.{has_key, sublist, state_at, RunsAt, SameAt, changed}

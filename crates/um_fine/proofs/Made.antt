@@ -1,4 +1,4 @@
--- A step that its processor has made and its site has filled in is as its processor makes it.
+-- After its site has filled it in, a step that its processor made is still as the processor makes it.
 use Rattle.std.proofs.Common.{◌≡◌, ℕ, Bool, true, false, List, [], ◌∷◌, Option, Some, None, refl, sym, ap, ◌∙◌}
 use Rattle.std.specs.Prelude.{if◌then◌else◌, IsTrue}
 use Rattle.std.proofs.lemmas.Bool.{and_parts, false≢true}
@@ -250,8 +250,8 @@ module _ (image : Image) (p : Processor) where
   as-made todo s act moved h e takes = absurd (false≢true h)
 
 module _ (image : Image) where
-  -- The step that a processor asks for twice, so that an edit has the partitions that stand, is lawful for it where its site takes it
-  -- and its word fits; and it is lawful for the site.
+  -- The step that results from filling in twice, so that an edit has the domain's partitions, is lawful for its processor if its site takes
+  -- it and its word fits; and it is lawful for the site.
   pub asks-lawfully : (p : Processor) (s : SiteState) (e : FineStep) → IsTrue (is_sort (next_site image p) s) → IsSettled image p p.todo s e.moved → (let made = filled image s (made_by image p e) in IsTrue (site_takes s made.act) → IsTrue (fits image p p.todo made) → CpuMay image p made × SiteMay image s made)
   asks-lawfully p s e sort settled takes fit =
       let both = as-made image p p.todo s e.act e.moved sort settled takes in

@@ -1,4 +1,4 @@
--- A step on a word is lawful at its site just where it is so on a board of words.
+-- A step on a word is lawful at its site exactly where it is lawful on a board of words.
 use Rattle.std.specs.Prelude.{◌≡◌, refl}
 use Rattle.std.proofs.Common.{ap, sym, ◌∙◌}
 use Rattle.std.proofs.lemmas.Bool.{and_parts, ltb-true}

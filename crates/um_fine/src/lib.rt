@@ -1,5 +1,5 @@
-//! The fine machine: processors whose every step depends on one place that they share, and changes it alone.
-//! Definitions only: sites and cells, scheduler, processors, the places of their steps, fine runs, and what they show.
+//! The fine machine: processors each of whose steps reads and changes one place that they share. Definitions only: sites and cells, the
+//! scheduler, processors, where their steps stand, fine runs, and the events that they show.
 #![tactic(auto)]
 
 mod table;

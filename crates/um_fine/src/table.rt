@@ -2,7 +2,7 @@
 
 use um_base::Parts;
 
-/// Of which thread a table is, with which stack and in which mode, and of which version of which domain.
+/// What a table was loaded for: a thread with its stack and mode, and a version of a domain.
 #[derive(Clone, Copy, PartialEq, Eq)]
 pub struct TableKey {
     pub thread: u8,
