@@ -1,4 +1,4 @@
--- What an event leaves of its thread, with what stands on the list because of it, is less than what it cost before.
+-- After an event its thread, with what the event put on the list, costs less than before.
 use Rattle.std.proofs.Common.{◌≡◌, ◌≤◌, ℕ, ◌+◌, ◌*◌, Bool, true, false, List, [], ◌∷◌, length, length-append, refl, arith, if◌then◌else◌, Option, Some, None}
 use Rattle.std.specs.Prelude.{slice_set}
 use Rattle.um_base.specs.declared.act.Act.{Act}
@@ -44,7 +44,7 @@ module _ (image : Image) where
   given-if false x y moved hx hy = hy
 
   module _ (c : Context) (begun : ahead_cost image c ≡ behind_line image c) where
-    -- what a thread may have left that had so much, with these steps behind an event
+    -- what a thread may have left that had so much, with these steps after an event
     abbrev most : Steps → ℕ
     most rest = length c.claims + ahead_cost image c + steps_cost image rest + put_back_cost
 

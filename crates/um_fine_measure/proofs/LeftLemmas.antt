@@ -73,7 +73,7 @@ module _ (image : Image) where
   abbrev pub left_cost : Context → ℕ
   left_cost c = length c.claims + rest_cost image c
 
-  -- its end, and the lines behind the one that it has begun
+  -- its end, and the lines after the one that it has begun
   abbrev pub behind_line : Context → ℕ
   behind_line c = if c.ended then 0 else end_cost + lines_left image (next_place image c.place)
 

@@ -1,8 +1,8 @@
--- What fine steps make of what processors and sites have left. Between is what goes from one to the other. Of sites: WaiterLemmas (whom an
--- act wakes), RowLemmas, SiteLemmas. Of processors: ListLemmas, LeftLemmas (the steps behind an event), EventLemmas, ProcessorLemmas. Of
--- lines: LineLemmas and BeginLemmas have what a line's steps cost. Of runs: StepLemmas, OpeningLemmas, RunLemmas, OfferLemmas (what the
--- relation with the access-matrix machine says of a processor), BoundLemmas. Sums over lists, the next place of a script and what is left
--- from there are those of um_measure.
+-- What fine steps do to the measure of processors and sites. Between is what goes from one to the other. Sites: WaiterLemmas (whom an act
+-- wakes), RowLemmas, SiteLemmas. Processors: ListLemmas, LeftLemmas (the steps after an event), EventLemmas, ProcessorLemmas. Lines:
+-- LineLemmas and BeginLemmas, for what a line's steps cost. Runs: StepLemmas, OpeningLemmas, RunLemmas, OfferLemmas (what the relation with
+-- the access-matrix machine says of a processor), BoundLemmas. um_measure has sums over lists, the next place of a script, and what is left
+-- from there.
 mod Between
 mod WaiterLemmas
 mod RowLemmas

@@ -1,4 +1,4 @@
--- What a processor's list costs: the fine steps of a pending step, the claims and wakes behind an event, and the cleaning of an object.
+-- What a processor's list costs: the fine steps of a pending step, the claims and wakes after an event, and the cleaning of an object.
 use Rattle.std.proofs.Common.{◌≡◌, ◌<◌, ◌≤◌, ℕ, ◌+◌, ◌-◌, ◌*◌, Bool, true, false, List, [], ◌∷◌, ◌++◌, length, refl, arith, if◌then◌else◌, Option, Some, None}
 use Rattle.std.specs.Prelude.{◌==◌, nat_lt}
 use Rattle.std.specs.List.{list_all}
@@ -20,7 +20,7 @@ use Rattle.um_fine.specs.Steps.{Exchange}
 use Rattle.um_fine_measure.specs.Measure.{ahead_cost, cleaning_cost, cost_if_running, list_cost, rest_cost, running_cost, fine_cost, steps_cost, todos_cost, put_back_cost, waiting_cost}
 use Rattle.um_fine_measure.specs.Ready.{is_round}
 
--- what stands behind an event because of it
+-- what stands after an event because of it
 abbrev pub behind_cost : Context → Pending → Exchange → ℕ
 behind_cost c (Pending.Work a ask) moved = waiting_cost * length (outcome_in moved).woken
 behind_cost c Pending.Exit moved = length c.claims
@@ -80,7 +80,7 @@ module _ (image : Image) where
         let fine = fine-cost c q steps in omega (arith, visits, fine, h)
     next-cost c (q ∷ steps) h = let fine = fine-cost c q steps in omega (arith, fine, h)
 
-    -- What stands behind an event.
+    -- What stands after an event.
 
     wakes-cost : (ws : List (ThreadIx × Told)) (todo : Todos) → cost (wakes ws todo) ≡ waiting_cost * length ws + cost todo
     wakes-cost [] todo = omega arith

@@ -1,4 +1,4 @@
--- What the relation with the access-matrix machine says of a processor that makes a step: its thread is one whose event that may be.
+-- What the relation with the access-matrix machine says of a processor that makes a step: the machine may offer that event to its thread.
 use Rattle.std.proofs.Common.{◌≡◌, ℕ, Bool, true, false, List, [], ◌∷◌, refl, sym, ap, ◌∙◌, subst}
 use Rattle.std.specs.Prelude.{◌&&◌, IsTrue, nat_lt}
 use Rattle.std.specs.List.{list_all}
@@ -39,7 +39,7 @@ has_place (Pending.CleanPair who) = true
 has_place Pending.Recycle = true
 has_place q = false
 
--- what stands behind an event is no event
+-- what stands after an event is no event
 round-behind : (image : Image) (c : Context) (q : Pending) → list_all is_round (behind_shown image c q) ≡ true
 round-behind image c (Pending.Start who script stack priority mode) = refl
 round-behind image c (Pending.Load to a n) = refl

@@ -1,4 +1,4 @@
--- What a lawful step makes of what its processor has left: it falls by the step, but for what goes between processor and site.
+-- What a lawful step does to its processor's measure: it falls by the cost of the step, but for what goes between processor and site.
 use Rattle.std.proofs.Common.{◌≡◌, ◌≤◌, ℕ, ◌+◌, Bool, true, false, [], ◌∷◌, length, refl, sym, ap, subst, arith, if◌then◌else◌, Option, Some, None}
 use Rattle.std.specs.Prelude.{◌==◌}
 use Rattle.std.specs.List.{list_all}

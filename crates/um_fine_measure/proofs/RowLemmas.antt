@@ -1,4 +1,4 @@
--- What a step at a row makes of what that row has left: the cleaning that it begins is paid, and a new object has its own to come.
+-- What a step at a row does to the row's measure: it pays for the cleaning that it begins, and a new object's cleaning is still to come.
 use Rattle.std.proofs.Common.{◌≡◌, ◌<◌, ◌≤◌, ℕ, ◌+◌, ◌-◌, Bool, true, false, refl, subst, arith, if◌then◌else◌, Option, Some, None}
 use Rattle.std.specs.Prelude.{◌==◌, ◌&&◌, not, nat_lt}
 use Rattle.std.proofs.lemmas.Bool.{and_parts, eqb-true, false≢true, ltb-true}

@@ -1,4 +1,4 @@
--- Those who wait on an object and those whom an act wakes are no more than those who waited before, and the caller where it waits.
+-- The waiters on an object together with those whom an act wakes are no more than the waiters before, and the caller if it waits.
 use Rattle.std.proofs.Common.{◌≡◌, ◌≤◌, ℕ, ◌+◌, Bool, true, false, refl, subst, arith, if◌then◌else◌, List, [], ◌∷◌, filter, length, length-append, int_lt}
 use Rattle.std.specs.Prelude.{◌==◌, ◌||◌, not}
 use Rattle.std.specs.List.{list_any}

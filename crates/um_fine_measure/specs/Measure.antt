@@ -65,7 +65,7 @@ event_cost image q = 1
 abbrev pub start_cost : Image → ℕ → ℕ
 start_cost image script = 2 + end_cost + lines_left image (first_place image script)
 
--- the fine steps before and behind an event: a hold, claims, the load of regions, looks, an edit, visits
+-- the fine steps before and after an event: a hold, claims, the load of regions, looks, an edit, visits
 abbrev pub round_cost : Image → Pending → ℕ
 round_cost image (Pending.Load to a n) = 5
 round_cost image (Pending.Store a n value) = 5
@@ -96,7 +96,7 @@ steps_cost image steps = total (fine_cost image) steps
 abbrev pub ahead_cost : Image → Context → ℕ
 ahead_cost image c = if c.ended then 0 else end_cost + lines_ahead image c.place c.pending
 
--- a thread behind the fine steps that are on its processor's list
+-- a thread after the fine steps that are on its processor's list
 abbrev pub rest_cost : Image → Context → ℕ
 rest_cost image c = ahead_cost image c + steps_cost image c.pending + put_back_cost
 
@@ -125,7 +125,8 @@ shown_cost image Pending.Begin rest = 0
 shown_cost image Pending.Exit rest = 0
 shown_cost image q rest = event_cost image q + steps_cost image rest + put_back_cost
 
--- a list, by what its thread's lines and end cost, and by what the thread costs behind the list. Of a thread that is done no more comes
+-- a list: what its steps cost, what its thread's lines and end cost, and what the thread costs after the list. A thread that is done costs
+-- nothing more
 abbrev pub list_cost : Image → ℕ → ℕ → Todos → ℕ
 list_cost image ahead rest [] = rest
 list_cost image ahead rest (Todo.show q steps ∷ todo) = ahead + shown_cost image q steps + todos_cost image todo

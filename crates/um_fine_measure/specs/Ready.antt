@@ -1,4 +1,4 @@
--- Processors that may make the step that comes next, but for what their sites take. Each one in a fine run is so.
+-- Processors that may make the step that comes next, whatever their sites take. Each processor in a fine run is one.
 use Rattle.std.specs.Prelude.{◌≡◌, Bool, true, false, IsTrue, [], ◌∷◌, is_some}
 use Rattle.std.specs.List.{list_all}
 use Rattle.um_base.specs.declared.image.Image.{Image}
