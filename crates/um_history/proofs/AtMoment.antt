@@ -1,4 +1,4 @@
--- The history of a board at any moment: also a cell whose turn is out has the contents that its steps leave.
+-- The history of a board at any moment: the contents of a cell follow from its steps even while its turn is out.
 use Rattle.std.proofs.Common.{◌≡◌, ℕ, ◌+◌, ◌-◌, ◌%◌, ◌<◌, ◌≤◌, List, [], ◌∷◌, ◌⊎◌, inl, inr, Option, refl, sym, ap, subst, arith, get_or}
 use mathlib.Core.Logic.{dite}
 use native.Mathlib.Decide.{dec_lt, ℕ_discrete}

@@ -1,4 +1,4 @@
--- Where each processor saw behind its last step that no thread is ready, none can make another step: what any list in the order of the logs shows
+-- Where each processor saw after its last step that no thread is ready, none can make another step: what any list in the order of the logs shows
 -- is a complete run.
 use Rattle.std.proofs.Common.{◌≡◌, ℕ, ◌<◌, ◌≤◌, false, eqb, List, [], length, map, Some, None, sym, ap, ◌∙◌, subst, arith}
 use Rattle.std.specs.Prelude.{IsTrue}

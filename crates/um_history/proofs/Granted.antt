@@ -19,7 +19,7 @@ use Rattle.um_core.proofs.MomentsKnown.{asked-may}
 use Rattle.um_core.proofs.OneRun.{fine-more}
 use Rattle.um_history.specs.Played.{Each}
 
--- the processor of this step asks for it, and is one of so many
+-- the processor of this step asks for it, and is one of this many
 pub record IsAsked (image : Image) (cpus : ℕ) (p : Processor) (e : FineStep) : Type 0 where
   pub asks : AsksFor e.cpu image p e
   pub named : e.cpu < cpus

@@ -1,4 +1,4 @@
--- Which causes a seat never meets for which no step is made at a site, and what stood there where it refused the step.
+-- Which causes for making no step a seat never meets, and what stood at the site that refused a step.
 use Rattle.std.proofs.Common.{◌≡◌, ℕ, ◌+◌, ◌<◌, ◌≤◌, Bool, true, false, List, [], length, map, Some, None, refl, sym, ap, ◌∙◌, subst, arith}
 use Rattle.std.specs.Prelude.{IsTrue, nat_lt, ◌&&◌}
 use Rattle.std.proofs.lemmas.Bool.{false≢true, lt-ltb, ltb-true}

@@ -1,4 +1,4 @@
--- Lists under names, when those of another seat are put behind them.
+-- Lists under names, when those of another seat are put after them.
 use Rattle.std.proofs.Common.{ℕ, List, [], ◌∷◌, ◌++◌, ◌⊎◌, inl, inr, ⊎_elim}
 use Rattle.um_words.specs.declared.made.Made.{Made}
 use Rattle.um_site.specs.History.{Among}

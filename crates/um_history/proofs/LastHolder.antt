@@ -1,4 +1,4 @@
--- A row that stands in cleaning behind a fine run does so since a step of it, whose processor alone has still to vacate it.
+-- A row that is in cleaning after a fine run was moved there by a step of that run, and only that step's processor still has to vacate it.
 use Rattle.std.proofs.Common.{◌≡◌, ◌≢◌, ℕ, ◌<◌, Bool, true, false, cond, List, [], ◌∷◌, ◌++◌, append_assoc, append-nil, refl, sym, ap, ◌∙◌, subst, arith, eq-eqb, ne_eqb}
 use Rattle.std.specs.Prelude.{◌&&◌, not}
 use Rattle.std.proofs.lemmas.Bool.{eqb-true, false≢true}
@@ -108,7 +108,7 @@ module _ (image : Image) (cpus : ℕ) (related : (h : List FineStep) → IsFineR
       let both = two-parts (vacates h) cpus j k below less other in
       omega (arith, one, own, both)
 
-  -- the processor that has it to do is the one that has done it, where it isn't to do any more
+  -- the processor that had to vacate the row is the one that has done it, if it no longer has to
   is-his : (h : List FineStep) (k : ℕ) → k < cpus → vacates h k ≡ 1 → (v : FineStep) → IsFineRun image cpus (h ++ v ∷ []) → is_cleaning (row (f (h ++ v ∷ [])) x).stage ≡ false → v.cpu ≡ k
   is-his h k less own v run not-so = dite (ℕ_discrete v.cpu k)
       (λ same. same)
@@ -136,7 +136,7 @@ module _ (image : Image) (cpus : ℕ) (related : (h : List FineStep) → IsFineR
         vacates = λ v after gone. is-his g e.cpu less own v after gone;
       }
 
-  -- Behind the last step.
+  -- After the last step.
 
   begins : (h : List FineStep) (v : FineStep) → IsFineRun image cpus (h ++ v ∷ []) → is_cleaning (row (f h) x).stage ≡ false → InCleaning image cpus x (h ++ v ∷ [])
       → IsCleanedSince image cpus x h v []
@@ -176,7 +176,7 @@ module _ (image : Image) (cpus : ℕ) (related : (h : List FineStep) → IsFineR
       (since-more (InCleaning image cpus x) (before ++ e ∷ []) behind v c.since (subst (λ (l : List FineStep). InCleaning image cpus x (l ++ v ∷ [])) (sym (append_assoc before (e ∷ []) behind)) now))
       c.one (subst (λ (l : List FineStep). vacates l e.cpu ≡ 1) same own)
 
-  -- behind every fine run
+  -- after every fine run
   pub has-last-holder : (g : List FineStep) → IsFineRun image cpus g → HasLastHolder image cpus g x
   has-last-holder = by_last (λ g. IsFineRun image cpus g → HasLastHolder image cpus g x)
       (λ run is. let one = cleaned [] run is in let none = total-zero (vacates []) cpus (λ k less. refl) in absurd (omega (arith, one, none)))

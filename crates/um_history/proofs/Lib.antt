@@ -1,12 +1,12 @@
--- Each site's steps in the history of a closed board are a run of the site: Entries has them as fine steps, SiteRuns the induction, WordRuns a step
--- of a row, of a thread and of a domain, CellRuns one of a cell, OpeningRuns where they begin, and Openings that a described image begins so.
--- Moments has the sublists of the history by processor and by site, Granted that they are a fine run, Fine that list with its step numbers, Played
--- that history of a closed board, and AtMoment that of any. Stood has the fine run that stood when a seat looked, and what is known of it by the word that the seat got;
--- NeverStuck, that a processor has a step to ask for; Hindered, which causes a seat never meets for which no step is made, and Waiting, what its processor waits for whose site refuses it. LastHolder has who
--- cleans a row. Lifts
--- and Ordered are of the logs' order, NoneReady and Completed of the end. Of a caller's use: Playing, what a processor's seat has while it plays,
--- Joins, lists under names when seats are joined, and Chosen, one list of steps for each processor. Lists and Numbers are facts of lists and of the
--- sites' numbers.
+-- How the history of a board becomes a fine run. One site at a time: Entries has its steps as fine steps, SiteRuns the induction, WordRuns
+-- a step of a row, a thread or a domain, CellRuns a step of a cell, OpeningRuns where these begin, Openings that a described image begins so.
+-- All together: Moments has the sublists of the history by processor and by site, Granted that they are a fine run, Fine that list with its
+-- step numbers, Played that history of a closed board, AtMoment that of any moment. Stood has the fine run of the moment of a look, and what
+-- the word that the seat read tells of it. NeverStuck: a processor has a step to ask for. Hindered: which causes for making no step never
+-- come up. Waiting: what a processor waits for whose site refuses. LastHolder: who cleans a row. The end: Lifts and Ordered are about the
+-- order of the logs, NoneReady and Completed about the last state. For callers: Playing has what a processor's seat has while it plays,
+-- Joins the lists under names when seats are joined, Chosen one list of steps for each processor. Lists and Numbers have facts of lists and
+-- of sites' numbers.
 pub mod Lists
 pub mod Numbers
 pub mod Entries

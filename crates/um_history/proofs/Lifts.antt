@@ -1,4 +1,4 @@
--- A list of records in the same order as those of richer steps is the records of those steps in that order.
+-- A list of records in the same order as the records of some steps is the records of those steps, taken in that order.
 use Rattle.std.proofs.Common.{◌≡◌, ℕ, true, false, cond, eqb, List, [], ◌∷◌, ◌++◌, sym, refl, ap, ◌∙◌, subst, map}
 use Rattle.um_fine.specs.Runs.{has_key, sublist, SameAt}
 use Rattle.um_fine.proofs.Subs.{sub-append}
@@ -17,7 +17,7 @@ no_end [] ys a e = cc
 no_end (x ∷ xs) ys a e = cc
 
 module _ {F : Type 0} (key : F → ℕ) where
-  -- what stands behind the same first step
+  -- what stands after the same first step
   pub same_behind_head : (x : F) (a b : List F) → SameAt eqb key (x ∷ a) (x ∷ b) → SameAt eqb key a b
   same_behind_head x a b s k = (elim (eqb (key x) k) as (λ v. cond v (x ∷ sublist eqb key k a) (sublist eqb key k a) ≡ cond v (x ∷ sublist eqb key k b) (sublist eqb key k b) → sublist eqb key k a ≡ sublist eqb key k b) [
     | true ↦ λ e. cc
@@ -49,14 +49,14 @@ module _ {E F : Type 0} (f : E → F) (cpu site : F → ℕ) where
         let same : b ≡ a = cc in absurd (other_key pre bs (site x) b (cpu x) q (ap (λ z. cpu (f z)) same ∙ ap cpu is) none)
   ] refl
 
-  -- the places of a first step and of those behind it
+  -- the places of a first step and of those after it
   joined : (key : E → ℕ) (h mid end : List E) (e : E) → SameAt eqb key h (e ∷ mid) → SameAt eqb key mid end → SameAt eqb key h (e ∷ end)
   joined key h mid end e s t k = s k ∙ same_with_head key e mid end t k
 
   moved-out : (key : E → ℕ) (h pre post : List E) (e : E) → h ≡ pre ++ e ∷ post → sublist eqb key (key e) pre ≡ [] → SameAt eqb key h (e ∷ (pre ++ post))
   moved-out key h pre post e split none k = ap (sublist eqb key k) split ∙ sublist_moves key pre post e none k
 
-  -- what stands behind the first step in the images
+  -- what stands after the first step in the images
   behind : (key : F → ℕ) (h mid : List E) (e : E) (x : F) (xs : List F) → f e ≡ x → SameAt eqb (λ z. key (f z)) h (e ∷ mid) → SameAt eqb key (map f h) (x ∷ xs) → SameAt eqb key (map f mid) xs
   behind key h mid e x xs is moved same = same_behind_head key x (map f mid) xs front
     where

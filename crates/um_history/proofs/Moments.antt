@@ -54,7 +54,7 @@ module _ (image : Image) (cpus : ℕ) (words : List ℕ) (history : List Entry) 
   long : length words ≡ 307
   long = of.stands.wide ∙ of.opens.count
 
-  -- Every step is of a processor, and at a site that there is.
+  -- Every step is a processor's, and its site exists.
 
   abbrev OfOne : Entry → Type 0
   OfOne e = (k : ℕ) × (k < cpus) × (e.0 ≡ k ∷ [])

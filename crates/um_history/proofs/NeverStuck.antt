@@ -1,4 +1,5 @@
--- A processor of a fine run always has a step that it could ask for: it is at a site that there is, names threads that there are, and is an event with room.
+-- A processor of a fine run always has a step that it could ask for: its site and the threads that it names exist, and there is room for
+-- its event.
 use Rattle.std.proofs.Common.{◌≡◌, ℕ, ◌<◌, ◌≤◌, true, List, [], ◌∷◌, ⊎_elim, length, refl, sym, ap, ◌∙◌, subst, arith}
 use Rattle.std.specs.Prelude.{is_some}
 use Rattle.std.specs.List.{list_all}

@@ -1,4 +1,4 @@
--- Where each processor saw behind its last step that no thread is ready, the scheduler's cell has none.
+-- Where each processor saw after its last step that no thread is ready, the scheduler's cell has none.
 use Rattle.std.proofs.Common.{◌≡◌, ℕ, ◌-◌, ◌<◌, ◌≤◌, ◌/◌, ◌%◌, List, [], ◌∷◌, ◌⊎◌, inl, inr, ⊎_elim, length, map, refl, sym, ap, ◌∙◌, subst, arith}
 use Rattle.std.specs.Prelude.{slice_index}
 use Rattle.std.proofs.lemmas.Bool.{false≢true}

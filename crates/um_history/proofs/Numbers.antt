@@ -29,7 +29,7 @@ numbered-is n h = grind (arith, nat_tests)
 pub number-of-numbered : (n : ℕ) → n < 307 → site_number (site_numbered n) ≡ n
 number-of-numbered n h = grind (arith, nat_tests)
 
--- sites that there are compare as their numbers do
+-- sites that exist compare as their numbers do
 pub sites-compare : (i : Site) (n : ℕ) → IsTrue (is_site i) → n < 307 → same_site (site_numbered n) i ≡ eqb n (site_number i)
 sites-compare i n there h =
     tests-same (same_site (site_numbered n) i) (eqb n (site_number i))

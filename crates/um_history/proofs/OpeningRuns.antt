@@ -32,14 +32,14 @@ pub record OpensWell (image : Image) : Type 0 where
   pub domains : (t : ℕ) → (thread_at (opening image) t).domain < 8
   pub ready : length (map (boot_index (opening image)) (opening image).image.boots) < 256
 
--- what is known of a site's state before these steps, behind which a cell has the last contents
+-- what is known of a site's state before these steps, after which a cell has the last contents
 abbrev pub SiteKnown : Image → Known → Site → SiteState → List Made → Type 0
 SiteKnown image last (Site.row x) s ms = RowKnown s ms
 SiteKnown image last (Site.thread t) s ms = ThreadKnown s ms
 SiteKnown image last (Site.domain d) s ms = DomainKnown s ms
 SiteKnown image last i s ms = CellKnown image last i s ms
 
--- behind these steps a cell has the last contents
+-- after these steps a cell has the last contents
 abbrev pub Lasts : Image → Known → Site → List Made → Type 0
 Lasts image last i ms = IsTrue (is_cell i) → ContentsAre Opens Follows image (site_number i) ms (Some last)
 

@@ -1,4 +1,4 @@
--- The logs of processors that have played have an order, and each list in that order is noted of a fine run of the same steps.
+-- The logs of processors that have played have an order, and each list in that order is what the logs note of a fine run of the same steps.
 use Rattle.std.proofs.Common.{◌≡◌, ℕ, zero, suc, ◌<◌, ◌≤◌, Bool, true, false, eqb, List, [], ◌∷◌, length, map, refl, sym, ap, ◌∙◌, subst, arith, eq-eqb}
 use Rattle.std.specs.Prelude.{IsTrue}
 use mathlib.Core.Logic.{dite}
@@ -46,7 +46,7 @@ noted-long (e ∷ g) = ap suc (noted-long g)
 abbrev Sited : FineStep → Type 0
 Sited e = IsTrue (is_site e.site)
 
--- Lists with the same steps at each number of a site have them at each site, where these are sites that there are.
+-- Lists with the same steps at each site number have the same steps at each site, if their sites exist.
 module _ (g h : List FineStep) (same : SameAt eqb (λ (e : FineStep). site_number e.site) g h) (sited : Each Sited g) where
   abbrev at : ℕ → FineStep → Bool
   at n e = eqb (site_number e.site) n
@@ -81,7 +81,8 @@ fine-same image cpus g h same run =
       sites = λ i. subst (Run (SiteMay image) (s_next image) (s_start image i)) (same.sites i) (run.sites i);
     }
 
--- A list in the same order as what was noted of these steps is noted of steps in the same order as they, at sites that there are.
+-- A list in the same order as the notes of these steps is the notes of the same steps in some order that keeps each processor's and each
+-- site's, if their sites exist.
 pub lifted : (g : List FineStep) → Each Sited g → (list : List Logged) → Merged.SameOrder list (map logged_of g) → (h : List FineStep) × (map logged_of h ≡ list) × SameOrder g h × Each Sited h
 lifted g sited list (cpus, sites) =
     let l = lift logged_of Merged.cpu_of Merged.site_of list g (λ k. sym (cpus k)) (λ k. sym (sites k)) in

@@ -72,7 +72,7 @@ module _ (image : Image) (k : ℕ) (made : List Made) (got : List (ℕ × ℕ)) 
             (λ s was. got-behind looked got (site_number s.site) (packed s.word) was) steps playing.left;
       }
 
-  -- a look at the scheduler's word behind the last step that saw no ready thread
+  -- a look at the scheduler's word after the last step that saw no ready thread
   pub saw-none : (w : ℕ) → (ends (p_next image) idle steps).todo ≡ [] → NoOlder got SCHEDULER w → (cell_of w).ready ≡ 0 → SawNone image ((SCHEDULER, w) ∷ got) steps
   saw-none w done none ready =
       record {

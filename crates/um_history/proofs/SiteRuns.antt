@@ -1,4 +1,4 @@
--- The steps of one site as its word goes on by them: each is lawful at the state that those before it leave.
+-- The steps of one site, as they lead its word on: each is lawful in the state that those before it leave.
 use Rattle.std.proofs.Common.{◌≡◌, ℕ, List, [], ◌∷◌, subst, map}
 use Rattle.um_base.specs.declared.image.Image.{Image}
 use Rattle.um_words.specs.History.{Entry, Words}

@@ -1,4 +1,4 @@
--- The fine run that stood when a seat of a board looked at a site, and what stood at that site by the word that it got there.
+-- The fine run at the moment of a look, and the state of the site as the word that was read tells it.
 use Rattle.std.proofs.Common.{◌≡◌, ℕ, ◌<◌, ◌≤◌, List, [], ◌∷◌, length, map, Some, sym, ap, ◌∙◌, subst}
 use Rattle.std.specs.Prelude.{IsTrue, slice_index}
 use Rattle.um_base.specs.Weight.{weight}

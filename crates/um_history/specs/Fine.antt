@@ -30,7 +30,8 @@ pub record IsFineOf (image : Image) (cpus : ℕ) (words : List ℕ) (steps : ℕ
   pub numbered : (site : ℕ) → AreNumbered 0 (sublist eqb Merged.site_of site (map logged_of g))
   pub words_are : (i : ℕ) → i < 307 → packed (word_of (state_at same_site site_of (s_next image) (s_start image) g (site_numbered i))) ≡ bare i (slice_index words i)
 
--- At some moment this fine run of at most eight processors stood, of no more steps than the image's weight, in which the processor k had made these.
+-- At some moment the board's history was this fine run of at most eight processors, with no more steps than the image's weight, and the
+-- processor k had made these steps in it.
 pub record Stood (image : Image) (k : ℕ) (own : List FineStep) (g : List FineStep) : Type 0 where
   pub run : IsFineRun image 8 g
   pub few : length g ≤ weight image
@@ -40,8 +41,9 @@ pub record Stood (image : Image) (k : ℕ) (own : List FineStep) (g : List FineS
 abbrev pub left_at : Image → List FineStep → Site → SiteState
 left_at image g i = state_at same_site site_of (s_next image) (s_start image) g i
 
--- At some moment of a call the site of the step refused it, as the fine run had left it that stood then: the seat got the word there that the run had left. Behind
--- that run the processor waits: for a thread that is ready, for one that is held, or for a domain that is claimed.
+-- At some moment of a call the site of the step refused it, in the state in which the fine run of that moment had left it; the seat read
+-- the word that the run had left there. After that run the processor waits: for a thread that is ready, for one that is held, or for a
+-- domain that is claimed.
 pub record WasRefused (image : Image) (k : ℕ) (s t : Seat Known) (e : FineStep) : Type 0 where
   pub word : ℕ
   pub got : Got s t (site_number e.site) word

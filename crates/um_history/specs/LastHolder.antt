@@ -11,20 +11,20 @@ use Rattle.um_erasure.specs.Claims.{claims}
 use Rattle.um_erasure.specs.Fine.{row}
 use Rattle.um_erasure.specs.Lists.{counted, is_vacate}
 
--- behind a fine run: whether the row x stands in cleaning, and how often the processor k has still to vacate it
+-- after a fine run: whether the row x stands in cleaning, and how often the processor k has still to vacate it
 abbrev pub InCleaning : Image → ℕ → ℕ → List FineStep → Type 0
 InCleaning image cpus x g = is_cleaning (row (left_by image cpus g) x).stage ≡ true
 
 abbrev pub still_vacates : Image → ℕ → ℕ → List FineStep → ℕ → ℕ
 still_vacates image cpus x g k = counted (is_vacate x) ((left_by image cpus g).processors k).todo
 
--- it holds behind these steps, and behind each one more
+-- it holds after these steps, and after each one more
 abbrev pub Since : (List FineStep → Type 0) → List FineStep → List FineStep → Type 0
 Since P done [] = P done
 Since P done (e ∷ more) = P done × Since P (done ++ e ∷ []) more
 
--- The row came into cleaning by this step of the run, and stands in it since then. Nobody has a claim on it. The processor of that step has still to vacate it,
--- once, and no other one has; whoever makes the step by which it isn't in cleaning any more is that processor.
+-- This step of the run moved the row to cleaning, where it has been since. Nobody has a claim on it. The processor of that step still has
+-- to vacate it, once, and no other processor has to; any step that takes the row out of cleaning is that processor's.
 pub record IsCleanedSince (image : Image) (cpus x : ℕ) (before : List FineStep) (e : FineStep) (behind : List FineStep) : Type 0 where
   pub here : e.site ≡ Site.row x
   pub first : is_cleaning (row (left_by image cpus before) x).stage ≡ false
@@ -36,13 +36,13 @@ pub record IsCleanedSince (image : Image) (cpus x : ℕ) (before : List FineStep
   pub vacates : (v : FineStep) → IsFineRun image cpus ((before ++ e ∷ behind) ++ v ∷ [])
       → is_cleaning (row (left_by image cpus ((before ++ e ∷ behind) ++ v ∷ [])) x).stage ≡ false → v.cpu ≡ e.cpu
 
--- A row that stands in cleaning behind a fine run does so since a step of it.
+-- A row that is in cleaning after a fine run was moved there by a step of that run.
 abbrev pub HasLastHolder : Image → ℕ → List FineStep → ℕ → Type 0
 HasLastHolder image cpus g x =
     InCleaning image cpus x g
     → (before : List FineStep) × (e : FineStep) × (behind : List FineStep) × (g ≡ before ++ e ∷ behind) × IsCleanedSince image cpus x before e behind
 
--- The word of each row counts as many claims as have still to be ended: by the calls of threads that run or are parked, by the lives of threads, and by creators that
--- are about to begin one, by the machine's state behind the events that the run has shown.
+-- The word of each row counts exactly the claims that have still to be ended, given the machine's state after the events that the run has
+-- shown: those of the calls of running and of parked threads, of the lives of threads, and of lives that creators are about to begin.
 abbrev pub AreHeld : Image → ℕ → List FineStep → State → Type 0
 AreHeld image cpus g last = (x : ℕ) → x < ROWS → (row (left_by image cpus g) x).claims ≡ claims (left_by image cpus g) last x

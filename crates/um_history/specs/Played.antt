@@ -1,4 +1,4 @@
--- What processors that step on a board have at their end, each at a seat of its own, and what the closed board says of them together.
+-- What processors have at their end that made steps on a board, each at a seat of its own, and what the closed board says of them together.
 use Rattle.std.specs.Prelude.{◌≡◌, ℕ, ◌<◌, ◌≤◌, ◌⊎◌, List, [], ◌∷◌, length, map, Option}
 use Rattle.um_base.specs.declared.image.Image.{Image}
 use Rattle.um_words.specs.Packed.{cell_of}
@@ -29,7 +29,7 @@ abbrev pub Each : {X : Type 0} → (X → Type 0) → List X → Type 0
 Each P [] = Unit {0}
 Each P (x ∷ xs) = P x × Each P xs
 
--- The processor k has made these steps, each as it asks for it behind those before: they stand in the list of its seat, and in its log.
+-- The processor k has made these steps, each of which it asked for after those before. They stand in the list of its seat, and in its log.
 pub record Played (image : Image) (k : ℕ) (made : List Made) (log : List Logged) (steps : List FineStep) : Type 0 where
   pub made_is : made ≡ map made_of steps
   pub log_is : log ≡ map logged_of steps
@@ -40,7 +40,8 @@ pub record Played (image : Image) (k : ℕ) (made : List Made) (log : List Logge
 abbrev pub SCHEDULER : ℕ
 SCHEDULER = 306
 
--- The processor that has made these steps has no other one to make than to take a thread, and behind its last step it saw that no thread is ready.
+-- The processor that has made these steps has no thread and nothing to do but to take one, and after its last step it saw that no thread is
+-- ready.
 pub record SawNone (image : Image) (got : List (ℕ × ℕ)) (steps : List FineStep) : Type 0 where
   pub done : (ends (p_next image) idle steps).todo ≡ []
   pub word : ℕ
@@ -53,8 +54,8 @@ abbrev pub StandsUnder : List (List ℕ × List Made) → List ℕ → List Made
 StandsUnder [] n made = ⊥
 StandsUnder (e ∷ es) n made = ((e.0 ≡ n) × (e.1 ≡ made)) ⊎ StandsUnder es n made
 
--- What a board of an image has at some moment, on which so many processors play: a history in which each seat makes its processor's next steps alone,
--- and after which the words stand and the cells have their contents.
+-- What a board of an image has at some moment, with this many processors: a history in which each seat makes only its processor's next
+-- steps, and which has left the words and the contents of the cells.
 pub record IsHistoryOf (image : Image) (cpus : ℕ) (words : List ℕ) (h : List Entry) : Type 0 where
   pub opening : List ℕ
   pub opens : AreOpening image opening
@@ -62,16 +63,16 @@ pub record IsHistoryOf (image : Image) (cpus : ℕ) (words : List ℕ) (h : List
   pub owned : (n : List ℕ) → (by_seat n h ≡ []) ⊎ ((k : ℕ) × (k < cpus) × (n ≡ k ∷ []))
   pub contents : (i : ℕ) → 168 ≤ i → i < 307 → (y : Option Known) × ContentsAre Opens Follows image i (by_site i h) y
 
--- The board of an image at some moment, with the word w at the site i: its rule held, by which each seat makes its processor's next steps alone, and a seat
--- with this view knew that all cells have their contents.
+-- The board of an image at some moment, with the word w at the site i. Its rule held, by which each seat makes only its processor's next
+-- steps, and a seat with this view knew that all cells were filled.
 pub record IsMoment (image : Image) (v : View) (i w : ℕ) : Type 0 where
   pub moment : Moment Opens Follows NextGoes v i w
   pub of : v.image ≡ image
   pub opens : AreOpening image v.opening
   pub filled : (j : ℕ) → 168 ≤ j → j < 307 → AmongCells v.filled j
 
--- The board of an image is closed with these words, as its first seat knows, which made no step itself: its rule let each processor make the steps
--- alone that it asked for. So many processors have made these steps, and have these logs.
+-- The board of an image is closed with these words. Its first seat, which made no step itself, knows what was made: this many processors
+-- have made these steps, only such as each asked for, and have these logs.
 pub record IsPlayed (image : Image) (cpus : ℕ) (v : View) (words : List ℕ) (logs : List Log) (steps : ℕ → List FineStep) : Type 0 where
   pub image_is : v.image ≡ image
   pub opening : AreOpening image v.opening

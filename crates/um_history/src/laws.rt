@@ -32,8 +32,9 @@ ghost use Rattle.um_history.specs.{
 use um_erasure::every_fine_run;
 use um_fine_measure::longest_fine_run;
 
-/// The law over the rows of every fine run of an image that a description gives, whatever the order of its processors: the word of a row counts as many claims as
-/// calls, lives and creators have still to end; and a row in cleaning stands with one processor, which made the step that moved it there, and alone may vacate it.
+/// The law over the rows of every fine run of an image that a description gives, in whatever order of processors. The word of a row counts
+/// exactly the claims that calls, lives and creators have still to end. A row in cleaning belongs to one processor: the one that made the
+/// step which moved it there. Only that one may vacate it.
 pub fn last_holder()
     ensures claims { (image : Image) (cpus : ℕ) (g : List FineStep) → IsDescribed image → IsFineRun image cpus g
         → (last : State) × Runs (opening image) (shown g) last × AreHeld image cpus g last }
@@ -43,10 +44,11 @@ pub fn last_holder()
     every_fine_run();
 }
 
-/// The law over every board of an image that a description gives, at every moment, where its rule lets each seat make its processor's next steps alone: its
-/// history is one fine run of at most eight processors, whose steps are those in the lists of the first eight seats, and which has left the words. It
-/// has no more steps than the image's weight; what it shows is a run of the access-matrix machine, to whose last state it is related. Each claim that
-/// the word of a row counts stands with one holder; a row in cleaning stands with one seat, whose list has the step that moved it there, and which alone may vacate it.
+/// The law over every board of an image that a description gives, at every moment, if the board's rule lets each seat make only its
+/// processor's next steps. Its history is one fine run of at most eight processors: its steps are those in the lists of the first eight
+/// seats, and it has left the words. It has no more steps than the image's weight. Its events are a run of the access-matrix machine, to
+/// whose last state it is related. Each claim that the word of a row counts has one holder. A row in cleaning belongs to one seat, whose
+/// list has the step that moved it there, and only that seat may vacate it.
 pub fn every_board()
     ensures { (image : Image) (v : View) (i w : ℕ) → IsDescribed image → CanRun image 8
         → (m : IsMoment image v i w) → (g : List FineStep) × IsFineOf image 8 m.moment.words (λ k. map (fine_at k) (by_seat (k ∷ []) m.moment.history)) g
@@ -63,9 +65,9 @@ pub fn every_board()
 ///
 /// - The board's history is one fine run that has the steps of each processor in their order, and no others.
 /// - The logs have an order, of no more steps than the image's weight.
-/// - A list of steps that is in the same order as each order of the logs is noted of a fine run of the same processors' steps, which leaves the
-///   same words. What it shows is a run of the access-matrix machine.
-/// - Where each processor saw behind its last step that no thread is ready, and has no step to go on with, that is a complete run.
+/// - Take a list of steps that orders each processor's and each site's steps as every order of the logs does. It is what the logs note of a
+///   fine run of these processors' steps, which leaves the same words, and its events are a run of the access-matrix machine.
+/// - If each processor saw after its last step that no thread is ready, and has no step to go on with, that run is complete.
 pub fn every_played_board()
     ensures fine { (image : Image) (cpus : ℕ) (v : View) (words : List ℕ) (logs : List Log) (steps : ℕ → List FineStep) → IsDescribed image → CanRun image cpus
         → IsPlayed image cpus v words logs steps → (g : List FineStep) × IsFineOf image cpus words steps g }
