@@ -1,5 +1,5 @@
-//! Verdicts on the text of a run of which a line was left out, doubled, exchanged with the next one or changed, beside what the
-//! judge says of the events.
+//! Verdicts on texts of a run in which a line was left out, doubled, exchanged with the next or changed, compared with what the judge says
+//! of the events.
 
 ghost use Rattle.um_base.specs.Lawful.{IsLawful};
 
@@ -41,7 +41,7 @@ fn text_of(alloc: Global, image: &Image, events: &[Event], dump: &[u8]) -> Resul
     Ok(text)
 }
 
-/// The number of the line that follows so many lines, which stands still at the greatest.
+/// The number of the line that follows this many lines. It stops at the greatest number.
 fn line_behind(lines: usize) -> u32 {
     if lines < 4_294_967_295 {
         (lines + 1) as u32
@@ -87,7 +87,7 @@ fn expected(alloc: Global, image: &Image, events: &[Event], dump: &[u8]) -> Resu
     })
 }
 
-/// The events of a run, and the dump behind them.
+/// The events of a run, and the dump after them.
 #[derive(Clone, Copy)]
 struct Run<'a> {
     image: &'a Image,
@@ -109,7 +109,7 @@ fn agrees(rt: &impl Abort, alloc: Global, run: &Run<'_>) -> Result<(), Fail>
     Ok(())
 }
 
-/// A list of events with another in the place of so many from this place on, or with none.
+/// A list of events in which this many, from this place on, are replaced by another one or by none.
 fn replaced(
     alloc: Global,
     events: &[Event],
@@ -129,7 +129,7 @@ fn replaced(
     Ok(list)
 }
 
-/// The audit agrees with the judge where others stand in the place of so many events from this place on.
+/// The audit agrees with the judge if this many events, from this place on, are replaced by others.
 fn agrees_with(
     rt: &impl Abort,
     alloc: Global,
@@ -149,7 +149,8 @@ fn agrees_with(
     agrees(rt, alloc, &other)
 }
 
-/// The audit agrees with the judge where an event has its field of this number wrong, or has no such field, or the same line.
+/// The audit agrees with the judge on a run with the field of this number wrong in one event, unless the event has no such field or still
+/// has the same line.
 fn change_agrees(
     rt: &impl Abort,
     alloc: Global,
@@ -176,7 +177,8 @@ fn change_agrees(
     agrees_with(rt, alloc, run, at, 1, &[wrong])
 }
 
-/// The audit agrees with the judge where an event is left out, stands twice, is another thread's, or is exchanged with the next.
+/// The audit agrees with the judge on a run in which one event is left out, stands twice, is another thread's, or is exchanged with the
+/// next.
 fn moves_agree(
     rt: &impl Abort,
     alloc: Global,

@@ -6,7 +6,7 @@ use super::values::{
 };
 use um_base::{Act, Attr, Range, Reply};
 
-/// Makes the change of this number, where there are so many.
+/// Makes the change with this number, if there is one.
 macro_rules! change_nth {
     ($number:expr;) => { return false };
     ($number:expr; $first:expr $(; $rest:expr)*) => {
@@ -26,7 +26,7 @@ fn change_part(
     true
 }
 
-/// Changes the field of this number, where the event has so many: an address is then no object's any more.
+/// Changes the field with this number, if the event has one. A changed address is no object's.
 fn change(act: &mut Act, field: usize) -> bool {
     match act {
         Act::Begin { script, line } => change_nth!(field; *script ^= 1; *line ^= 1),
@@ -98,7 +98,7 @@ fn change(act: &mut Act, field: usize) -> bool {
     true
 }
 
-/// The event with the field of this number wrong, where it has so many.
+/// The event with the field of this number wrong, if it has such a field.
 pub fn changed(act: &Act, field: usize) -> Option<Act> {
     let mut other = *act;
     if change(&mut other, field) {

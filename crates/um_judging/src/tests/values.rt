@@ -63,7 +63,7 @@ pub fn answer_of(other: Answer) -> Answer {
     }
 }
 
-/// Nobody where somebody is woken, else somebody.
+/// Nobody, if somebody is woken, and otherwise somebody.
 pub fn woken_of(woken: &Replies) -> Replies {
     let mut other = Replies::new();
     if woken.len() == 0 {
