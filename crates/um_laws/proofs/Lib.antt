@@ -1,5 +1,6 @@
--- The laws over every run, one file for each: AccessLemmas, RecycleLemmas (with inheritances), ServiceLemmas, and of whole lists of events OriginLemmas, LifeLemmas and
--- HoldLemmas. ActLemmas is before them. Theorems has them as the contract states them, and ObeyLemmas, last, that each run obeys them all.
+-- The laws over every run, a file for each: AccessLemmas, RecycleLemmas (with inheritances), ServiceLemmas, and over whole lists of events
+-- OriginLemmas, LifeLemmas and HoldLemmas. ActLemmas comes before them. Theorems has the laws as the contract states them, and ObeyLemmas, last,
+-- that each run obeys all of them.
 mod ActLemmas
 mod AccessLemmas
 mod RecycleLemmas

@@ -1,4 +1,4 @@
--- Recycling and inheriting: what is recycled is gone, and nobody holds it; what is inherited the creator has.
+-- Recycling and inheriting: an object that is recycled is gone and unheld; a permission that is inherited is one that the creator has.
 use Rattle.std.proofs.Common.{ℕ, refl, sym, subst}
 use Rattle.um_base.specs.declared.act.Act.{Act}
 use Rattle.um_base.specs.declared.act.Event.{Event}

@@ -10,7 +10,7 @@ use Rattle.um_machine.specs.Memory.{allowed}
 use Rattle.um_machine.specs.Objects.{verdict, is_gone, is_held}
 use Rattle.um_machine.specs.Order.{to_addr}
 
--- each byte of a string was readable by itself, up to the zero behind it
+-- each byte of a string was readable by itself, up to the zero after it
 abbrev pub WasReadable : State → ℕ → ℕ → Found → Type 0
 WasReadable s t a (Found.Length n) = (i : ℕ) → i ≤ n → IsTrue (allowed s t Access.Read (a + i) 1)
 WasReadable s t a found = Unit {0}

@@ -14,7 +14,7 @@ use Rattle.um_laws.specs.Lives.{born, gone, recycled, marks, InTurns, IsWithoutB
 use Rattle.um_laws.specs.Origins.{IsOwned}
 use Rattle.um_laws.specs.Service.{IsInOrderOfService}
 
--- In a run an event stands behind these events, in this state, and leads to that one.
+-- In a run an event comes after these events, in this state, and leads to that one.
 pub record Stands (image : Image) (events before : List Event) (s : State) (event : Event) (s2 : State) : Type 0 where
   pub after : List Event
   pub parts : events ≡ before ++ event ∷ after

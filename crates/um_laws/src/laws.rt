@@ -20,8 +20,8 @@ ghost use Rattle.um_laws.specs.{
 };
 ghost use Rattle.um_invariants.specs.Described.{IsDescribed};
 
-/// The laws over every run of an image, from its opening on: each event that a run goes on with keeps them. Those of
-/// origins, lives and holds are of images that a description gives, and the others of any.
+/// The laws that each event of every run of an image obeys, from its opening on. The laws of origins, lives and holds are about images that
+/// a description gives, the others about any image.
 ///
 /// - A load, a store, a fetch, and a copy that succeeds was allowed in the state in which it stands, and each byte of
 ///   a string that was read, its zero too, was readable there by itself.
@@ -29,9 +29,8 @@ ghost use Rattle.um_invariants.specs.Described.{IsDescribed};
 /// - Where a user's check of an object that isn't public is passed, its pair with the object came from a boot entry, or
 ///   from a grant, an inheritance, its creation (for its own object), or a birth before it, and no drop of that pair
 ///   came since.
-/// - Of the object at an address births, losses of the last pair and recyclings come in turns, in this order. So between
-///   two successive births it loses its last pair once, and is then recycled once; and where it is recycled, it was
-///   born and lost its last pair before.
+/// - The object at an address is born, loses its last pair and is recycled, again and again in this order. So between two successive births
+///   it loses its last pair once and is then recycled once, and before it is recycled it was born and lost its last pair.
 /// - Between a check that is passed and the thread's reply, fatal error or end the object isn't recycled.
 /// - An object that is recycled is gone there, and no thread holds it.
 /// - What a new thread inherits is a permission that its creator has there, and not the one on the creator's own object.
