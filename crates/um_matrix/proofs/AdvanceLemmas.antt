@@ -1,4 +1,4 @@
--- What a thread does next is a step, with a row that is due where it is an inheritance.
+-- What a thread does next is a step; if it is an inheritance, its row is due.
 use Rattle.std.proofs.Common.{◌≡◌, ℕ, ◌+◌, ◌-◌, ◌<◌, ◌≤◌, arith, refl, sym, ap, subst, ◌∙◌, [], drop, Option, Some, None, slice_get, length, true, false, inl, inr, Bool, if◌then◌else◌}
 use Rattle.std.specs.Prelude.{IsTrue, is_some, nat_lt}
 use Rattle.std.proofs.lemmas.Bool.{le-ltb}

@@ -1,5 +1,6 @@
--- That a matrix makes the machine's steps. BootLemmas and PaddedLemmas are of its tables; PairLemmas, StringLemmas, WorkLemmas and StartLemmas of what steps change.
--- OfferLemmas has which steps a thread is offered, and AdvanceLemmas, behind it, what it does next; RunLemmas is of runs.
+-- A matrix makes the machine's steps. BootLemmas and PaddedLemmas are about its tables; PairLemmas, StringLemmas, WorkLemmas and StartLemmas
+-- about what steps change. OfferLemmas has which steps a thread is offered, AdvanceLemmas, after it, what the thread does next; RunLemmas is
+-- about runs.
 mod AdvanceLemmas
 pub mod BootLemmas
 pub mod OfferLemmas

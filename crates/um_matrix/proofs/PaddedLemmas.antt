@@ -9,7 +9,7 @@ use Rattle.um_machine.specs.Objects.{is_gone}
 use Rattle.um_machine.specs.State.{vacant}
 use Rattle.um_matrix.specs.Padded.{padded}
 
--- the rows up to so many
+-- the rows up to this many
 abbrev pub filled : List Object → ℕ → List Object
 filled xs m = xs ++ replicate (m - length xs) vacant
 

@@ -51,6 +51,6 @@ string_bytes_more s a before n h =
 pub string_bytes_end : (s : State) (a before n : ℕ) → n ≤ before → string_bytes s (a + before) (n - before) ≡ []
 string_bytes_end s a before n h = let e : n - before ≡ 0 = omega arith in rw e refl
 
--- a string read ends after so many
+-- a string read ends after this many
 pub string_end : (s : State) (t a before : ℕ) → 32 ≤ before → string_from s t (a + before) (32 - before) before ≡ Found.TooLong
 string_end s t a before h = let e : 32 - before ≡ 0 = omega arith in ap (λ (n : ℕ). string_from s t (a + before) n before) e

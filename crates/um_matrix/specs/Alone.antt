@@ -1,4 +1,4 @@
--- What a thread does where nobody says it: the step that it makes next, and the row that it takes.
+-- What a thread does when the caller doesn't say it: the step that it makes next, and the row that this takes.
 use Rattle.std.specs.Prelude.{IsTrue, ◌≡◌, ◌⊎◌, ℕ, ◌<◌, [], drop, Some}
 use Rattle.um_base.specs.declared.names.ThreadIx.{ThreadIx}
 use Rattle.um_base.specs.declared.act.Act.{Act}
@@ -10,7 +10,7 @@ use Rattle.um_machine.specs.Table.{act_of, after}
 use Rattle.um_machine.specs.Run.{MayChoose, ChoosesDue}
 use Rattle.um_matrix.specs.Offered.{ChoosesNone, first_step, second_step}
 
--- a row that a step may take: one that it may choose, and that is due where it is an inheritance
+-- a row that a step may take: one that it may choose, and for an inheritance one that is due
 abbrev pub MayTake : State → ℕ → Pending → ℕ → Type 0
 MayTake s t step x = MayChoose s t x step × ChoosesDue s t step x
 
@@ -21,14 +21,14 @@ TakesNone s t step = (x : ℕ) → MayTake s t step x → ⊥
 abbrev pub IsLeast : State → ℕ → Pending → ℕ → Type 0
 IsLeast s t step x = MayTake s t step x × ((y : ℕ) → y < x → MayTake s t step y → ⊥)
 
--- a thread's next step can take no row, and the one behind it can take none
+-- a thread's next step can take no row, nor can the one after it
 abbrev pub NoFirst : State → ℕ → Type 0
 NoFirst s t = (step : Pending) → first_step s t ≡ Some step → TakesNone s t step
 
 abbrev pub NoSecond : State → ℕ → Type 0
 NoSecond s t = (step : Pending) → second_step s t ≡ Some step → TakesNone s t step
 
--- a thread makes its next step, or, where that can take no row, the one behind it. `taken` says how many of its steps it leaves behind
+-- a thread makes its next step, or, if that can take no row, the one after it. `taken` of its pending steps are over then
 abbrev pub IsNextStep : State → ℕ → Pending → ℕ → Type 0
 IsNextStep s t step taken =
     ((taken ≡ 1) × (first_step s t ≡ Some step)) ⊎ ((taken ≡ 2) × (second_step s t ≡ Some step) × NoFirst s t)

@@ -3,6 +3,6 @@ use Rattle.std.specs.Prelude.{ℕ, ◌-◌, List, ◌++◌, length, replicate}
 use Rattle.um_machine.specs.declared.object.Object.{Object}
 use Rattle.um_machine.specs.State.{vacant}
 
--- objects, and vacant rows behind them up to so many
+-- objects, and vacant rows after them up to this many
 abbrev pub padded : ℕ → List Object → List Object
 padded n objects = objects ++ replicate (n - length objects) vacant

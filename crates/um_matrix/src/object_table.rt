@@ -59,7 +59,7 @@ fn statics(alloc: Global, image: &Image) -> Result<Vec<Object>, Memory>
     Ok(all)
 }
 
-/// Vacant rows up to so many, where there are fewer. The room is reserved.
+/// Adds vacant rows until there are this many. The room is reserved.
 fn fill(rows: &mut Vec<Object>, n: usize)
     requires { n ≤ vec_capacity rows.old }
     ensures items { rows.new.items ≡ rows.old.items ++ replicate (n - length rows.old.items) vacant }
@@ -86,7 +86,7 @@ fn some_gone(objects: &[Object]) -> bool
 impl ObjectTable {
     ghost use Rattle.um_matrix.specs.Lending.{LendsRow};
 
-    /// The objects of a description, and after them none.
+    /// Makes the table of a description's objects, with no others.
     pub fn boot(alloc: Global, image: &Image) -> Result<ObjectTable, Memory>
         requires { IsLawful image.now }
         ensures items { IfOk result (λ table. table ≡ objects_from image.now.boots 0 image.now.objects) }

@@ -7,8 +7,8 @@ ghost use Rattle.um_steps.specs.Given.{IsGiven};
 use um_base::{Image, OBJECT_STEP, OBJECTS, ROWS};
 use um_steps::rows;
 
-/// The row whose address is exactly this. That of an object which is no thread stack is known by its address alone, so that
-/// the others aren't looked at.
+/// The row whose address is exactly this. For any object but a thread stack the address gives the row by itself, so no other row is looked
+/// at.
 pub(crate) fn row_at(image: &Image, a: u32) -> Option<usize>
     requires { IsGiven image.now }
     ensures value { result ≡ row_at image.now a }

@@ -1,4 +1,5 @@
-//! What a thread does next where nobody says it: its next step with the first row that it may choose, and what cleans.
+//! What a thread does next when the caller doesn't say it: its next step, with the first row that it may choose, or the next step that
+//! cleans.
 
 ghost use Rattle.std.specs.Prelude.{◌≡◌, ◌<◌, ◌↔◌, ℕ, [], Some, ◌&&◌, not, true, false, drop, IfSome, IfNone, IsTrue, None, slice_get, is_some};
 ghost use Rattle.um_machine.specs.{
@@ -38,7 +39,7 @@ impl<'a> Matrix<'a> {
     };
     ghost use Rattle.um_base.specs.Places.{thread_of_row};
 
-    /// Whether a row is due where a step is an inheritance.
+    /// Whether the row is due, if the step is an inheritance.
     fn chooses_due(&self, t: usize, x: usize, step: &Pending) -> bool
         requires thread { t < THREADS }
         ensures { IsTrue result ↔ ChoosesDue self.now t step.now x }

@@ -18,13 +18,13 @@ pub enum Choice {
     Begins,
     /// The thread exits after its last line.
     Exits,
-    /// The thread makes this step with this row, and goes on behind so many of its steps.
+    /// The thread makes this step with this row. `taken` of its pending steps are over then.
     Makes {
         step: Pending,
         row: usize,
         taken: usize,
     },
-    /// The thread drops a pair of this one, whose object is gone.
+    /// The thread drops a permission of this other thread, whose own object is gone.
     CleansPair {
         who: ThreadIx,
         row: usize,
@@ -96,7 +96,7 @@ impl<'a> Matrix<'a> {
         }
     }
 
-    /// How many rows are tried for a step: all that there are, where it chooses one.
+    /// How many rows are tried for a step: all rows, if the step chooses one.
     pub fn row_count(&self, step: &Pending) -> usize
         ensures value { result ≡ row_count step.now }
         ensures few { result ≤ ROWS }

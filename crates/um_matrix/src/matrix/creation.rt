@@ -23,7 +23,7 @@ pub struct Beginning {
     pub mode: Mode,
 }
 
-/// A thread becomes another one, but for the steps that are left.
+/// Replaces a thread by another one, but keeps its pending steps.
 fn replace_but_steps(me: &mut Thread, born: Thread)
     ensures { me.new ≡ record born { pending = me.old.pending } }
 {
@@ -38,7 +38,7 @@ impl<'a> Matrix<'a> {
       Table.{after, goes_on, newborn},
     };
 
-    /// The instruction at a thread's place. It loads or stores a word at most.
+    /// The instruction at a thread's place. A load or store in it has at most four bytes.
     #[tactic(auto, using(um_steps::proofs::SizeLemmas::sized_instruction))]
     fn instruction(&self, t: usize) -> Option<&'a Instr>
         requires { t < THREADS }
@@ -100,7 +100,7 @@ impl<'a> Matrix<'a> {
         self.creator_goes_on(t, taken);
     }
 
-    /// A thread goes on that has started the one that it created.
+    /// Has a thread go on after it started the one that it created.
     fn creator_goes_on(&mut self, t: usize, taken: usize)
         requires { t < THREADS }
         ensures { self.new ≡ goes_on self.old t (record (thread_at self.old t) { child = None }) (drop taken (thread_at self.old t).pending) }

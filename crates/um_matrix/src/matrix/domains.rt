@@ -38,7 +38,7 @@ impl<'a> Matrix<'a> {
         thread.goes_on(self.image, taken);
     }
 
-    /// What an edit makes of a domain, and its thread is told.
+    /// Changes a domain as an edit asks, and has its thread told.
     fn edit_domain(
         &mut self,
         t: usize,

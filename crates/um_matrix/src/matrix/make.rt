@@ -11,7 +11,7 @@ use um_machine::Pending;
 impl<'a> Matrix<'a> {
     ghost use Rattle.um_machine.specs.{State.{thread_at}, Table.{after}};
 
-    /// Makes a step with the row that it chooses, where it does. The thread goes on behind so many of its steps.
+    /// Makes a step, with the row that it chooses if it chooses one. `taken` of the thread's pending steps are over then.
     pub fn make(&mut self, t: usize, x: usize, step: &Pending, taken: usize)
         requires thread { t < THREADS }
         requires row { x < ROWS }

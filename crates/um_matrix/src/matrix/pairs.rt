@@ -22,7 +22,7 @@ impl<'a> Matrix<'a> {
         self.threads[t].goes_on(self.image, taken);
     }
 
-    /// A new thread gets its own object, and what its creator has to pass on is due.
+    /// Gives a new thread the permission on its own object. What its creator has to pass on is due from now on.
     #[tactic(auto, using(crate::proofs::PairLemmas::pendings_kept))]
     pub(crate) fn own(&mut self, t: usize, who: ThreadIx, taken: usize)
         requires { t < THREADS }
@@ -34,7 +34,7 @@ impl<'a> Matrix<'a> {
         self.passes_on(t, who, own, taken);
     }
 
-    /// A thread goes on, and what it has to pass on to a new thread is due: all that it has but its own object.
+    /// A thread goes on, and what it has to pass on to a new thread is due: all its permissions but the one on its own object.
     fn passes_on(&mut self, t: usize, who: ThreadIx, own: usize, taken: usize)
         requires { t < THREADS }
         ensures { self.new ≡ goes_on self.old t (record (thread_at self.old t) { child = Some who; due = slice_set (rows_to_pass self.old t who.0) own false }) (drop taken (thread_at self.old t).pending) }

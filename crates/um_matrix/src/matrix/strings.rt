@@ -12,7 +12,7 @@ const MOST_STRING: u32 = 32;
 impl<'a> Matrix<'a> {
     ghost use Rattle.um_machine.specs.Memory.{allowed, bytes_at, string_read, string_bytes};
 
-    /// The byte so many behind an address: zero where there is no memory.
+    /// The byte that stands this many bytes after an address: zero where there is no memory.
     #[tactic(auto, using(crate::proofs::StringLemmas::no_byte))]
     fn byte_behind(&self, a: u32, before: u32) -> u8
         ensures { result ≡ slice_index (bytes_at self.now (a + before) 1) 0 }
@@ -24,7 +24,7 @@ impl<'a> Matrix<'a> {
         }
     }
 
-    /// Whether a thread may read the byte so many behind an address.
+    /// Whether a thread may read the byte that stands this many bytes after an address.
     #[tactic(auto, using(crate::proofs::StringLemmas::not_allowed))]
     fn may_read(&self, t: usize, a: u32, before: u32) -> bool
         requires { t < THREADS }
