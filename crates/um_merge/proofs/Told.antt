@@ -1,4 +1,4 @@
--- Steps whose events stand in a list of their own: what is read of them, and what comes behind them.
+-- Steps whose events stand in a list of their own: what is read of them, and what comes after them.
 use Rattle.std.proofs.Common.{◌≡◌, ℕ, zero, suc, ◌+◌, ◌<◌, ◌≤◌, Bool, true, false, List, [], ◌∷◌, ◌++◌, length, take, Option, Some, None, refl, sym, ap, ◌∙◌, subst, get_or, add-one, arith}
 use Rattle.um_base.specs.declared.act.Event.{Event}
 use Rattle.um_merge.specs.declared.logged.Logged.{Logged}
@@ -43,7 +43,7 @@ told-events [] [] all = refl
 told-events [] (event ∷ events) all = absurd (omega (arith, all))
 told-events (step ∷ steps) events all = events-by step.shows events (count steps) (λ left. events_of (told steps left)) all (told-events steps)
 
--- one more step behind the others that shows nothing, and one that shows an event
+-- one more step after the others that shows nothing, and one that shows an event
 pub told-quiet : (steps : List Short) (events : List Event) (last : Short) → last.shows ≡ false → told (steps ++ last ∷ []) events ≡ told steps events ++ whole last None ∷ []
 told-quiet [] events last quiet = ap (λ b. whole last (first_on b events) ∷ []) quiet
 told-quiet (step ∷ steps) events last quiet = ap (λ l. whole step (first_on step.shows events) ∷ l) (told-quiet steps (left_on step.shows events) last quiet)
@@ -75,7 +75,7 @@ told-place steps events items told-is k d there =
     let same = ap length told-is in let long = told-length steps events in
     subst (λ (l : List Logged). whole (get_or steps k d) (get_or l k blank).event ≡ get_or l k blank) told-is (place-at steps events k d (omega (arith, there, same, long)))
 
--- what is read of a step before which so many events are shown, and how many are shown with it
+-- what is read of a step before which this many events are shown, and how many are shown with it
 abbrev pub IsReadAs : Bool → Short → List Event → ℕ → ℕ → Logged → Type 0
 IsReadAs false step events shown more x = (x ≡ whole step None) × (more ≡ shown)
 IsReadAs true step events shown more x = (shown < length events) × ((d : Event) → x ≡ whole step (Some (get_or events shown d))) × (more ≡ suc shown)

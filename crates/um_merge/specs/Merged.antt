@@ -19,7 +19,7 @@ abbrev pub AreNumbered : ℕ → List Logged → Type 0
 AreNumbered n [] = Unit {0}
 AreNumbered n (step ∷ steps) = (step.number ≡ n + 1) × AreNumbered (n + 1) steps
 
--- the log of a processor: nothing where there is none
+-- the log of a processor, or nothing if there is no such processor
 abbrev pub log_at : List Log → ℕ → List Logged
 log_at [] cpu = []
 log_at (log ∷ logs) zero = log.items
@@ -37,7 +37,7 @@ pub record IsOrder (logs : List Log) (order : List Logged) : Type 0 where
   pub logged : (cpu : ℕ) → sublist eqb cpu_of cpu order ≡ log_at logs cpu
   pub numbered : (site : ℕ) → AreNumbered 0 (sublist eqb site_of site order)
 
--- there is one, of at most so many steps
+-- there is such a list, of at most this many steps
 abbrev pub HaveOrder : List Log → ℕ → Type 0
 HaveOrder logs most = (order : List Logged) × IsOrder logs order × (length order ≤ most)
 
@@ -58,6 +58,6 @@ pub record IsMerging (logs : List Log) (written : List Logged) (places done : Li
   pub eight : length places ≡ 8
   pub all_sites : length done ≡ 309
 
--- so many events are shown in each log before the place in it
+-- how many events each log shows before the place in it
 abbrev pub AreShown : List Log → List ℕ → List ℕ → Type 0
 AreShown logs places shown = (cpu : ℕ) → cpu < length logs → slice_index shown cpu ≡ length (events_of (take (slice_index places cpu) (log_at logs cpu)))

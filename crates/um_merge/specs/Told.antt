@@ -1,4 +1,4 @@
--- Steps whose events stand in a list of its own.
+-- Steps whose events stand in a second list.
 use Rattle.std.specs.Prelude.{ℕ, suc, Bool, true, false, List, [], ◌∷◌, Option, Some, None}
 use Rattle.um_base.specs.declared.act.Event.{Event}
 use Rattle.um_merge.specs.declared.logged.Logged.{Logged}
@@ -19,7 +19,7 @@ first_on false events = None
 first_on true [] = None
 first_on true (event ∷ events) = Some event
 
--- those that are left behind it
+-- the events that are left after it
 abbrev pub left_on : Bool → List Event → List Event
 left_on false events = events
 left_on true [] = []

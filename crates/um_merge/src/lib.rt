@@ -1,4 +1,4 @@
-//! One list for the logs of several processors.
+//! Logs of steps, and the merge of several processors' logs into one list.
 #![tactic(auto)]
 
 mod log;

@@ -8,7 +8,8 @@ use std::alloc::{AllocError, Global};
 use std::marker::Model;
 use um_base::{Act, Event};
 
-/// Steps in the order in which they were noted, in room that is reserved: each in eight bytes, and the events that they show in a list of its own.
+/// Steps in the order in which they were noted, in reserved room. A step takes eight bytes; the events that steps show stand in a second
+/// list.
 #[derive(Drop)]
 pub struct Log {
     steps: Vec<Short>,
@@ -29,7 +30,7 @@ impl Model for Log {
 }
 
 impl Log {
-    /// An empty log with room for so many steps.
+    /// An empty log with room for at least `most` steps.
     pub fn with_room(alloc: Global, most: usize) -> Result<Log, AllocError>
         ensures empty { IfOk result (λ log. log.items ≡ []) }
         ensures room { IfOk result (λ log. most ≤ log.room) }
@@ -46,7 +47,7 @@ impl Log {
         self.steps.len()
     }
 
-    /// For how many steps there is room.
+    /// How many steps there is room for.
     pub fn capacity(&self) -> usize
         ensures { result ≡ self.now.room }
     {
@@ -64,7 +65,7 @@ impl Log {
         (step.site, step.number)
     }
 
-    /// One more step behind the others. It takes no memory.
+    /// Notes one more step. It takes no memory.
     pub fn note(&mut self, cpu: u8, site: u16, number: u32, event: &Option<Event>)
         requires { length self.old.items < self.old.room }
         ensures room { self.new.room ≡ self.old.room }
@@ -91,8 +92,8 @@ impl Log {
         }
     }
 
-    /// One more step behind the others, which is that at a place of another log, where so many events are shown before it. Answers how many are shown
-    /// there with it. It takes no memory.
+    /// Notes one more step: the one at a place of another log, before which that log shows `shown` events. Returns how many it shows up to
+    /// that step. It takes no memory.
     pub(crate) fn copy(&mut self, from: &Log, at: usize, shown: usize) -> usize
         requires room { length self.old.items < self.old.room }
         requires at { at < length from.now.items }

@@ -1,4 +1,4 @@
-//! Steps as the processors that made them note them.
+//! Steps as processors note them.
 
 use um_base::Event;
 
@@ -21,7 +21,7 @@ pub struct Logged {
     pub event: Option<Event>,
 }
 
-/// The same without its event, in eight bytes.
+/// The same without the event, in eight bytes.
 #[derive(Clone, Copy)]
 pub(crate) struct Short {
     pub cpu: u8,

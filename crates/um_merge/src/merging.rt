@@ -22,7 +22,7 @@ fn is_next(log: &Log, place: usize, done: &[u32; SITES]) -> bool
     seen < number && number - seen == 1
 }
 
-/// A processor whose next step has the next number of its site.
+/// Finds a processor whose next step has the next number of its site.
 fn next_of(logs: &[Log], places: &[usize; PROCESSORS], done: &[u32; SITES]) -> Option<usize>
     requires few { length logs.now ≤ 8 }
     requires sites { AreAtSites logs.now }
@@ -37,11 +37,9 @@ fn next_of(logs: &[Log], places: &[usize; PROCESSORS], done: &[u32; SITES]) -> O
     None
 }
 
-/// Writes into `room` one list that has the same steps, in the same order, for each processor and for each site.
-///
-/// `logs` are those of the processors 0, 1, .., at most 8. Such a list has to be there, in which each site's steps are numbered from 1
-/// without a gap, and `room` is empty and has room for it. The time is that of so many steps: for each of them the processors are
-/// tried in turn. No memory is taken.
+/// Writes into `room` one list of all the steps, in which each processor's and each site's steps keep their order.
+/// `logs` are those of the processors 0, 1, .., at most 8. The caller shows that there is such a list, in which each site's steps are
+/// numbered from 1 without a gap; `room` is empty and has room for it. For each step the processors are tried in turn. No memory is taken.
 pub fn merge(logs: &[Log], room: &mut Log)
     requires few { length logs.now ≤ 8 }
     requires sites { AreAtSites logs.now }
