@@ -21,7 +21,7 @@ use Rattle.um_processor.specs.ObjectCells.{cleared}
 use Rattle.um_processor.specs.declared.object_cell.ObjectCell.{ObjectCell}
 use Rattle.um_opening.specs.Opened.{kept_by}
 
--- one more at the end of a list of which each is as it has to be
+-- one more item at the end of a list of items that are as they have to be
 pub each-more : {A : Type 0} (P : ℕ → A → Type 0) (d x : A) (xs ys : List A) (n : ℕ) → ys ≡ xs ++ x ∷ [] → length xs ≡ n → P n x
     → ((k : ℕ) → k < n → P k (slice_index_or xs k d)) → (k : ℕ) → k < n + 1 → P k (slice_index_or ys k d)
 each-more {A} P d x xs ys n push long here before =
@@ -115,7 +115,7 @@ pub none-kept : (n : ℕ) → map kept_by (replicate n vacant) ≡ replicate n (
 none-kept zero = refl
 none-kept (suc n) = ap (λ (cs : List ObjectCell). cleared 0 ∷ cs) (none-kept n)
 
--- the cells of described objects, and those of the rows behind them
+-- the cells of described objects, and those of the rows after them
 pub kept-all : (boots : List Boot) (objects : List ObjectDef) (cells whole : List ObjectCell) (n : ℕ) → length cells ≡ n → length objects ≤ n
     → cells ++ map kept_by (objects_from boots n (drop n objects)) ≡ whole → cells ++ replicate (ROWS - length cells) (cleared 0) ≡ whole
 kept-all boots objects cells whole n long few is =

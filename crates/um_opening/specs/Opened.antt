@@ -1,4 +1,4 @@
--- What is so of the state at an image's opening, and the words and cells that stand for it.
+-- What holds of the state at an image's opening, and the words and cells that stand for it.
 use Rattle.std.specs.Prelude.{◌≡◌, ◌<◌, ◌≤◌, ℕ, List, length, slice_index_or}
 use Rattle.std.specs.List.{All}
 use Rattle.um_base.specs.declared.image.Boot.{Boot}

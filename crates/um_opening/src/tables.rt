@@ -50,7 +50,7 @@ fn tables_of(alloc: Global, matrix: &Matrix, most: usize) -> Result<Tables, Memo
     ))
 }
 
-/// The words and cells of all sites at an image's opening, its read-only data, and room for so many events at least.
+/// Makes the tables of an image at its opening: the words and cells of all sites, the read-only data, and room for at least `most` events.
 pub fn opening(alloc: Global, image: &Image, most: usize) -> Result<Tables, Memory>
     requires lawful { IsLawful image.now }
     ensures sites { IfOk result (λ t. (i : Site) → IsTrue (is_site i) → state_at t i ≡ s_start image.now i) }

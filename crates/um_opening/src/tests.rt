@@ -1,4 +1,4 @@
-//! The tables of a small image, of which some sites are asked for steps.
+//! The tables of a small image: some of its sites are asked for steps.
 
 ghost use Rattle.std.specs.Prelude.{◌≡◌, ◌<◌, ◌≤◌, IfOk, [], ◌∷◌, length, false, Some, None, pos, codes};
 ghost use Rattle.um_base.specs.{declared.instr.Instr.{Instr}, Lawful.{IsLawful}};

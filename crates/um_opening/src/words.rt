@@ -40,7 +40,7 @@ fn permissions(flags: &[bool; THREADS]) -> Permissions
     all
 }
 
-/// Whether an object stands on a row.
+/// Whether an object stands at a row.
 fn stage_of(object: &Object) -> Stage
     ensures { result ≡ stage_of object.now }
 {
@@ -50,7 +50,7 @@ fn stage_of(object: &Object) -> Stage
     }
 }
 
-/// One more, if it is so.
+/// One more, if the flag is set.
 fn counted(claims: u8, more: bool) -> u8
     requires { claims < 255 }
     ensures value { result ≡ claims + count (more ∷ []) }
