@@ -85,7 +85,7 @@ abbrev pub IfDropped : Answer → (Dropped → Type 0) → Type 0
 IfDropped (Answer.Dropped dropped) says = says dropped
 IfDropped answer says = Unit {0}
 
--- the object is this seat's to clean
+-- this seat has to clean the object
 abbrev pub is_to_clean : Dropped → Bool
 is_to_clean (Dropped.Gone clean) = clean
 is_to_clean dropped = false

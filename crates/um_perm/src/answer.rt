@@ -26,7 +26,7 @@ pub enum Passed {
 #[derive(Clone, Copy, PartialEq, Eq)]
 pub enum Set {
     Done,
-    /// It was so before, and must not be.
+    /// It was initialised before, and must not be.
     Already,
     Gone,
 }
@@ -36,7 +36,7 @@ pub enum Set {
 pub enum Dropped {
     NoPair,
     Kept,
-    /// The object lost its last permission, and is gone. Clean: no claim is out, and it is now this seat's to clean.
+    /// The object lost its last permission, and is gone. `clean` says that no claim is out, and that this seat has to clean the object.
     Gone { clean: bool },
 }
 

@@ -18,28 +18,27 @@ pub enum RowCall {
         who: ThreadIx,
         addr: Addr,
     },
-    /// Gives a new thread the permission on its own object, where that stands, and holds the object for its life, whatever the answer is.
+    /// Gives a new thread the permission on its own object, if that still stands. In each case it holds the object for the thread's life.
     Own {
         who: ThreadIx,
     },
-    /// Passes the caller's permission on to a new thread, where the caller has it and the child hasn't.
+    /// Passes the caller's permission on to a new thread, if the caller has it and the child hasn't.
     Inherit {
         child: ThreadIx,
         addr: Addr,
     },
-    /// Opens the object to all threads, where it stands.
+    /// Opens the object to all threads, if it still stands.
     Publish {
         addr: Addr,
     },
-    /// Takes a thread's permission away. A dynamic object is gone with its last one, in this very step.
-    ///
-    /// Shown: a drop that finds no permission is an event too, and else a visit that no trace shows.
+    /// Takes a thread's permission away. A dynamic object that loses its last permission is gone in the same step.
+    /// `shown` says that a drop which finds no permission is an event too. Otherwise it is a visit that no trace shows.
     Drop {
         who: ThreadIx,
         is_shown: bool,
         addr: Addr,
     },
-    /// Marks the object as initialised, where it stands. Strict: it must not be so before.
+    /// Marks the object as initialised, if it still stands. `strict` says that it must not be initialised before.
     SetInit {
         strict: bool,
         addr: Addr,
@@ -48,11 +47,11 @@ pub enum RowCall {
     ClearInit {
         addr: Addr,
     },
-    /// A dynamic object comes to stand in a free row, with the permission of the thread that made it.
+    /// Puts a dynamic object into a free row, with the permission of the thread that made it.
     Born {
         addr: Addr,
     },
-    /// The object that this seat cleaned leaves its row.
+    /// Frees the row of an object that this seat has cleaned.
     Vacate,
 }
 
