@@ -10,7 +10,7 @@ macro_rules! here {
     };
 }
 
-/// A step is made, and what it says is so.
+/// A step is made, and says this.
 macro_rules! is_made {
     ($rt:ident, $said:expr, $made:pat => $holds:expr) => {
         match $said {
@@ -208,7 +208,7 @@ fn bytes(alloc: Global) -> Result<Bytes, Memory> {
 /// How many events the log of the tables has room for.
 const EVENTS: usize = 8;
 
-/// Tables in which all rows are alike, and all threads, and all domains, without read-only data.
+/// Tables with equal rows, equal threads and equal domains, without read-only data.
 fn tables(alloc: Global) -> Result<Tables, Memory>
     ensures { IfOk result (λ t. t.rodata ≡ []) }
 {

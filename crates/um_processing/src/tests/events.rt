@@ -5,7 +5,8 @@ use std::test::Fail;
 use um_base::{Act, Addr, Errno, Event, Kind, Mode, Row, ThreadIx, Want};
 use um_processor::{HeapAct, Here, RowAct, Said, Sites};
 
-/// A permission is passed on, which a second look finds, and another thread's check is refused. An address isn't paid for, until the log is full.
+/// A permission is passed on, and a second look finds it; another thread's check is refused. Reservations that nobody pays for fill the
+/// log.
 #[test]
 fn a_log(rt: HostRuntime) -> Result<(), Fail> {
     let image = image(rt.alloc());

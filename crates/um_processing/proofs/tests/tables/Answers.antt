@@ -5,7 +5,7 @@ use Rattle.um_words.specs.declared.thread_word.ThreadWord.{ThreadWord}
 use Rattle.um_processor.specs.Sited.{in_domains}
 use Rattle.um_processing.proofs.tests.tables.Goals as goal
 
--- words of one domain, put behind none
+-- words of one domain, put after none
 all-alike : (ws before : List ThreadWord) (n : ℕ) (w : ThreadWord) → ws ≡ take 32 before ++ replicate n w → before ≡ [] → w.domain ≡ 0 → All in_domains ws
 all-alike ws before n w items none first =
     subst (λ (all : List ThreadWord). All in_domains all) (sym (items ∙ ap (λ (b : List ThreadWord). take 32 b ++ replicate n w) none))
