@@ -31,7 +31,7 @@ module _ (image : Image) (cpu k : ℕ) (m : Bytes) (r : Running) (phase : Phase)
   abbrev made : Bool → FineStep
   made b = memory_made image cpu k m (load_or_fault b) buffer
 
-  -- the processor behind it, with the number that was loaded
+  -- the processor after it, with the number that was loaded
   abbrev pub behind : Bool → ℕ → Processor
   behind b value = behind_event image phase (behind_load image r b to value) r
 

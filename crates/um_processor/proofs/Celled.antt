@@ -1,4 +1,5 @@
--- A step that a cell of tables takes is made there, leaves its contents after it, and has its event in the log; after the last step number none is made.
+-- A step that a cell of tables takes is made there, leaves its contents, and appends its event to the log. After the last step number no
+-- step is made.
 use Rattle.std.proofs.Common.{◌≡◌, ◌<◌, ℕ, ◌+◌, Bool, false, IsTrue, List, ap, ◌∙◌, nat_lt, ◌&&◌, slice_index_or, slice_set, length}
 use Rattle.std.proofs.lemmas.Bool.{lt-ltb}
 use Rattle.std.proofs.lemmas.List.{get_or_read, set-get_or}

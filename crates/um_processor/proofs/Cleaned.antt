@@ -50,7 +50,7 @@ whole-append : (os : List Gone) (o : Gone) → whole (os ++ o ∷ []) ≡ whole 
 whole-append [] o = append-nil (cleaning_of o.row o.who)
 whole-append (p ∷ os) o = ap (λ (z : Todos). cleaning_of p.row p.who ++ z) (whole-append os o) ∙ sym (append_assoc (cleaning_of p.row p.who) (whole os) (cleaning_of o.row o.who))
 
--- one more behind others
+-- one more after others
 pub one_more : (stage : CleanStage) (os : List Gone) (o : Gone) → 0 < length os → queued stage (os ++ o ∷ []) ≡ queued stage os ++ cleaning_of o.row o.who
 one_more stage [] o h = absurd (omega arith)
 one_more stage (p ∷ os) o h =
@@ -64,7 +64,7 @@ first_one o = append-nil (pairs_of o.who 0 (emptying o.row)) ∙ same o.row o.wh
     same x None = refl
     same x (Some who) = refl
 
--- behind steps of cleaning alone
+-- after steps of cleaning alone
 pub behind-clean : (block a rest : Todos) → all_clean a ≡ true → with_cleaning block rest ≡ block ++ rest → with_cleaning block (a ++ rest) ≡ a ++ (block ++ rest)
 behind-clean block [] rest h e = e
 behind-clean block (Todo.clean_pair who x ∷ a) rest h e = ap (λ (z : Todos). Todo.clean_pair who x ∷ z) (behind-clean block a rest h e)
@@ -110,7 +110,7 @@ pub queued_clean : (stage : CleanStage) (os : List Gone) → all_clean (queued s
 queued_clean stage [] = refl
 queued_clean stage (o ∷ os) = all-append (left_of stage o) (whole os) (left-clean stage o) (whole-clean os)
 
--- one more is cleaned behind those whose cleaning has begun
+-- one more is cleaned after those whose cleaning has begun
 pub joins : (stage : CleanStage) (os : List Gone) (block rest : Todos) → with_cleaning block rest ≡ block ++ rest
     → with_cleaning block (queued stage os ++ rest) ≡ queued stage os ++ (block ++ rest)
 joins stage os block rest e = behind-clean block (queued stage os) rest (queued_clean stage os) e

@@ -1,4 +1,4 @@
--- How many objects are to be cleaned: none behind the cleaning.
+-- How many objects are to be cleaned: none after the cleaning.
 use Rattle.std.proofs.Common.{◌≡◌, ℕ, List, [], ◌∷◌, drop, refl}
 use Rattle.um_base.specs.declared.ask.Told.{Told}
 use Rattle.um_base.specs.declared.names.ThreadIx.{ThreadIx}

@@ -52,7 +52,7 @@ pub readied : (image : Image) (r : Running) (p : Pending) (rest : Steps) → r.p
 readied image r p rest phase queue new steps =
     (λ i. in_phase (phase i) r) ∙ (first-is p r ∙ ap (with_todo r) ((λ i. todo_in (first_phase p) (steps i) (queue i) (new i)) ∙ places image r.context.value p rest))
 
--- behind a visit the next one comes, or the step
+-- after a visit the next one comes, or the step
 step-behind : (image : Image) (r : Running) (row : ℕ) → let steps = drop 1 r.context.value.pending in
     let z = record r { row = row; visited = true; phase = phase_of steps } in
     processor_of z ≡ with_todo r (filled_up image r.context.value (todo_behind r))

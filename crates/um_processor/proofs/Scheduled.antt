@@ -1,4 +1,4 @@
--- What the scheduler's cell takes is made there, and leaves its contents after it; what it doesn't take isn't made.
+-- A step that the scheduler's cell takes is made there and leaves its contents. One that it doesn't take isn't made.
 use Rattle.std.proofs.Common.{◌≡◌, ◌<◌, ℕ, ◌+◌, Bool, true, false, List, [], ◌∷◌, Option, Some, None, IsTrue, ap, refl, ◌∙◌, nat_lt, unwrap_or, ◌&&◌}
 use Rattle.std.proofs.lemmas.Bool.{lt-ltb}
 use Rattle.um_base.specs.declared.act.Event.{Event}

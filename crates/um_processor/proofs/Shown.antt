@@ -19,7 +19,7 @@ use Rattle.um_processor.specs.RowActs.{row_made}
 use Rattle.um_processor.proofs.Visited.{cleaned-is}
 
 module _ (image : Image) (cpu : ℕ) (r : Running) (phase : Phase) (who : ThreadIx) (a : Addr) (w : RowWord) where
-  -- the processor behind the event, but for a row that came to cleaning
+  -- the processor after the event, but for a row that came to cleaning
   abbrev pub behind_drop : Processor
   behind_drop = behind_event image phase (goes_on image r.context.value (rest_of r)) r
 

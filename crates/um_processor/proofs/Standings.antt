@@ -82,7 +82,7 @@ stands cleans ends woken p f =
     ap (λ (t : Todos). record p { todo = before cleans ends woken t }) f.is
     ∙ sym (ap (λ (t : Todos). record p { todo = cleans ++ end_calls ends (wakes woken t) }) f.is)
 
--- A processor without a thread has nothing to do, whatever stood before its last step; and one with a thread has something to do.
+-- A processor without a thread has nothing to do, whatever it had to do before its last step. One with a thread has something to do.
 pub none_idle : (cleans : Todos) (ends : List ℕ) (woken : List (ThreadIx × Told)) (r : Running) → is_idle r.phase ≡ true
     → before cleans ends woken (todo_of r.phase r) ≡ []
 none_idle cleans ends woken r h = none r.phase h
@@ -105,7 +105,7 @@ some_busy cleans ends woken r h e =
 fills : (image : Image) (c : Context) (todo : Todos) → Front todo → filled_up image c todo ≡ todo
 fills image c todo f = ap (filled_up image c) f.is ∙ sym f.is
 
--- what is filled up behind steps of cleaning
+-- what is filled up after steps of cleaning
 fills-behind : (image : Image) (c : Context) (cs todo : Todos) → Front todo → filled_up image c (cs ++ todo) ≡ cs ++ todo
 fills-behind image c [] todo f = fills image c todo f
 fills-behind image c (q ∷ cs) todo f = refl

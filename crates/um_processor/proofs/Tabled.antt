@@ -1,4 +1,5 @@
--- A step that is lawful at what tables have at its site is made there, with its event in the log; one that is refused there isn't.
+-- A step that is lawful at the state that tables have at its site is made there, with its event in the log. A step that is refused there
+-- isn't made.
 use Rattle.std.proofs.Common.{◌≡◌, ℕ, List, subst}
 use Rattle.um_base.specs.declared.act.Event.{Event}
 use Rattle.um_base.specs.declared.image.Image.{Image}

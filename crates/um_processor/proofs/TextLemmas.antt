@@ -54,6 +54,6 @@ module _ (image : Image) (m : Bytes) (a before n : ℕ) where
   bytes-zero h zero-is =
       bytes-more h ∙ ap (λ (b : Bool). if b then [] else byte_at image m (a + before) ∷ text_bytes image m (a + (before + 1)) (n - (before + 1))) zero-is
 
-  -- or after so many bytes
+  -- or after this many bytes
   pub found-end : n ≤ before → text_found image m (a + before) (n - before) before ≡ (if before == 32 then Found.TooLong else Found.Unreadable)
   found-end h = let e : n - before ≡ 0 = omega arith in rw e refl

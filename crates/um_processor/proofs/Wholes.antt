@@ -36,7 +36,7 @@ use Rattle.um_processor.proofs.Cleaned.{cleanings-append}
 use Rattle.um_processor.proofs.Counted.{none-before, none-of}
 use Rattle.um_processor.proofs.Standings.{Front, ended, front-before, front-of, pair_cleaned, recycled, stands, sweep-asks, vacated, waked, wiped}
 
--- the first of a list, and those behind it
+-- the first of a list, and those after it
 pub first-removed : (xs : List ℕ) (d : ℕ) → 0 < length xs → xs ≡ get_or xs 0 d ∷ remove xs 0
 first-removed [] d h = absurd (omega arith)
 first-removed (x ∷ xs) d h = refl

@@ -1,4 +1,4 @@
--- Steps as a processor asks for them, before their site has filled them in, and what comes of them there.
+-- Steps as a processor asks for them, before the site has filled them in, and what comes of them at the site.
 use Rattle.std.specs.Prelude.{◌≡◌, ℕ, false, Option, Some, None}
 use Rattle.um_base.specs.declared.act.Act.{Act}
 use Rattle.um_base.specs.declared.act.Event.{Event}
@@ -28,7 +28,7 @@ shown t act more = FineAct.Shown (by_thread t act) more
 abbrev pub asked : ℕ → Site → FineAct → Exchange → FineStep
 asked cpu site act moved = record { cpu = cpu; site = site; act = act; word = Word.row no_row; moved = moved }
 
--- the step as it is made at a cell with these contents, after so many steps
+-- the step as it is made at a cell with these contents, after this many steps
 abbrev pub cell_made : Image → ℕ → Site → ℕ → Cell → FineAct → Exchange → FineStep
 cell_made image cpu site n c act moved = filled image (SiteState.cell n c) (asked cpu site act moved)
 

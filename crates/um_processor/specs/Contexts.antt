@@ -1,4 +1,4 @@
--- The own part of a thread, kept as a thread of the access-matrix machine of which nothing else is in use.
+-- The own part of a thread, kept in the fields of a thread of the access-matrix machine. The machine's other fields aren't used.
 use Rattle.std.specs.Prelude.{◌≡◌, ℕ, Bool, false, List, []}
 use Rattle.um_machine.specs.declared.thread.Thread.{Thread}
 use Rattle.um_fine.specs.Context.{Context, as_thread, context_of}

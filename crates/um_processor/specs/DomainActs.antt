@@ -1,4 +1,4 @@
--- What is asked of the word of a domain: the step that it stands for.
+-- What a processor asks of a domain's word: the step that each act stands for.
 use Rattle.std.specs.Prelude.{ℕ}
 use Rattle.um_base.specs.declared.act.Act.{Act}
 use Rattle.um_base.specs.declared.image.Image.{Image}

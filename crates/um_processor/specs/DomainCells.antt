@@ -1,4 +1,4 @@
--- What is asked of a domain's cell: the steps as they are made at these partitions after so many steps.
+-- What a processor asks of a domain's cell: the steps as they are made at a cell with these partitions and this step number.
 use Rattle.std.specs.Prelude.{ℕ, Option, None}
 use Rattle.um_base.specs.declared.image.Image.{Image}
 use Rattle.um_base.specs.Regions.{Partitions}

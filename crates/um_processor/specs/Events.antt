@@ -1,4 +1,4 @@
--- The event of a thread's next step, and what is left behind it.
+-- The event of a thread's next step, and what has to be done after it.
 use Rattle.std.specs.Prelude.{ℕ, List, [], ◌∷◌, drop}
 use Rattle.um_base.specs.declared.ask.Told.{Told}
 use Rattle.um_base.specs.declared.image.Image.{Image}
@@ -15,13 +15,13 @@ use Rattle.um_processor.specs.declared.running.calls.Wanted.{Wanted}
 use Rattle.um_processor.specs.Phases.{born, released, showing, steps_behind}
 use Rattle.um_processor.specs.Processors.{with_todo}
 
--- what stands behind the event in a phase, with the new thread of a start
+-- what stands after the event in a phase, with the new thread of a start
 abbrev pub todo_after : Phase → Context → Todos
 todo_after Phase.Access c = released
 todo_after Phase.Start c = Todo.let_go ∷ Todo.add c ∷ []
 todo_after phase c = []
 
--- the steps behind the next one
+-- the steps after the next one
 abbrev pub rest_of : Running → Steps
 rest_of r = drop 1 (steps_behind r.visited r.context.value.pending)
 
@@ -40,14 +40,14 @@ about_to_park phase r = with_todo r (Todo.park ∷ todo_after phase (born r.newb
 abbrev pub parks : Running → Processor
 parks r = about_to_park r.phase r
 
--- a processor that makes the event of its thread's next step next, or puts its thread back where there is no step
+-- a processor that makes the event of its thread's next step, or puts its thread back if there is no step
 abbrev pub at_event : Phase → Running → Processor
 at_event phase r = with_todo r (showing (steps_behind r.visited r.context.value.pending) (todo_after phase (born r.newborn)))
 
 abbrev pub shows_next : Running → Processor
 shows_next r = at_event r.phase r
 
--- the processor behind the event, by which the thread's own part became this
+-- the processor after the event, which left this own part of the thread
 abbrev pub behind_event : Image → Phase → Context → Running → Processor
 behind_event image phase c r = record (with_todo r []) { context = c; todo = filled_up image c (todo_after phase (born r.newborn)) }
 

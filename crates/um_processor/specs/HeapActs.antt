@@ -1,4 +1,5 @@
--- What is asked of the heap's cell: the steps as they are made at these contents after so many steps, and what the cell says.
+-- What a processor asks of the heap's cell: the steps as they are made at a cell with these contents and this step number, and what the
+-- cell says.
 use Rattle.std.specs.Prelude.{ℕ, false, Option, None}
 use Rattle.um_base.specs.declared.act.Act.{Act}
 use Rattle.um_base.specs.declared.act.Event.{Event}

@@ -1,4 +1,5 @@
--- What is asked of the memory's cell: the steps as they are made at these bytes after so many steps, what the cell says, and what a copy takes.
+-- What a processor asks of the memory's cell: the steps as they are made at a cell with these bytes and this step number, what the cell
+-- says, and what a copy takes.
 use Rattle.std.specs.Prelude.{◌≡◌, ℕ, Bool, true, nat_le, List, []}
 use Rattle.um_base.specs.declared.act.Act.{Act}
 use Rattle.um_base.specs.declared.act.Event.{Event}
@@ -32,7 +33,7 @@ has_room (MemoryAct.Load t a n) = nat_le n 4
 has_room (MemoryAct.CopyStr t a n) = nat_le n 32
 has_room act = true
 
--- what goes with it, of the thread's buffer
+-- what goes with it: bytes of the thread's buffer
 abbrev pub memory_sent : MemoryAct → List ℕ → Exchange
 memory_sent (MemoryAct.CopyOut t a n fits) buffer = Exchange.bytes buffer
 memory_sent (MemoryAct.CopyStr t a n) buffer = Exchange.text n []

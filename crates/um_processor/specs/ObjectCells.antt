@@ -1,4 +1,5 @@
--- What is asked of an object's cell: the steps as they are made at these contents after so many steps, and what comes of a call's work.
+-- What a processor asks of an object's cell: the steps as they are made at a cell with these contents and this step number, and what comes
+-- of a call's work.
 use Rattle.std.specs.Prelude.{ℕ, List, [], None}
 use Rattle.um_base.specs.declared.act.Act.{Act}
 use Rattle.um_base.specs.declared.act.Answer.{Answer}
@@ -22,7 +23,7 @@ use Rattle.um_processor.specs.declared.object_cell.ObjectCell.{ObjectCell}
 abbrev pub kept_in : ObjectCell → Kept
 kept_in c = record { contents = c.contents; waiters = c.waiters; buffer = c.buffer }
 
--- a cell in which nothing is kept, after so many steps
+-- a cell that keeps nothing, with this step number
 abbrev pub cleared : ℕ → ObjectCell
 cleared n = record { contents = Contents.Nothing; waiters = []; buffer = None; steps = n }
 

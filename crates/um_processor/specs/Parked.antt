@@ -7,12 +7,12 @@ use Rattle.um_fine.specs.Context.{Context, context_of}
 use Rattle.um_fine.specs.Opening.{parked_if}
 use Rattle.um_fine.specs.Scheduler.{Scheduler, behind}
 
--- the thread, where no processor runs it, and what it is told, where it was woken
+-- the thread, if no processor runs it, and what it is told, if it was woken
 pub record Parked : Type 0 where
   pub context : Option Context
   pub told : Option Told
 
--- at the place of a thread index on which none was put
+-- an empty place
 abbrev pub nobody : Parked
 nobody = record { context = None; told = None }
 
@@ -26,7 +26,7 @@ context_at p = p.context
 abbrev pub told_at : Parked → Option Told
 told_at p = p.told
 
--- at that of a thread of the access-matrix machine that is at rest, where it lives
+-- the place of a thread of the access-matrix machine that is at rest, if it lives
 abbrev pub resting : ℕ → Thread → Parked
 resting t me = record { context = parked_if (is_living me.life) (context_of t me); told = None }
 

@@ -24,7 +24,7 @@ is_plain_phase Phase.Start = false
 is_plain_phase Phase.Show = false
 is_plain_phase phase = true
 
--- the steps behind a visit
+-- the steps after a visit
 abbrev pub steps_behind : Bool → Steps → Steps
 steps_behind true steps = drop 1 steps
 steps_behind false steps = steps
@@ -46,7 +46,7 @@ domain_named (Pending.DomRemove d range attr) = d
 domain_named (Pending.DomMove d who) = d
 domain_named p = 0
 
--- the row of the queue at whose messages a copy looks
+-- the row of the queue whose message size a copy looks at
 abbrev pub row_of_amount : Image → Amount → ℕ
 row_of_amount image (Amount.Bytes n) = 0
 row_of_amount image (Amount.MessageOf a) = row_named image a
@@ -99,8 +99,8 @@ first_phase p = Phase.Show
 abbrev pub phase_of : Steps → Phase
 phase_of steps = first_phase (first_of steps)
 
--- What is left in a phase behind the visits, of these steps, with the row of the queue at which it looks, and with the new thread of a start.
--- One without a thread, and one that visits, are never asked for here.
+-- The fine steps that are left in a phase after the visits, given the thread's pending steps, the row of the queue whose message size it
+-- looks at, and the new thread of a start. The phases of a processor without a thread, or at its visits, don't come here.
 abbrev pub todo_in : Phase → Steps → ℕ → Context → Todos
 todo_in Phase.Idle steps x c = Todo.park ∷ []
 todo_in Phase.Begin steps x c = Todo.show Pending.Begin [] ∷ []

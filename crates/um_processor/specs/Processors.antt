@@ -22,19 +22,19 @@ use Rattle.um_processor.specs.declared.running.Running.{Running}
 abbrev pub todo_at : Phase → Steps → Running → Todos
 todo_at phase steps r = todo_in phase steps r.queue (born r.newborn)
 
--- the same from its first phase on, behind visits
+-- the same from its first phase on, after visits
 abbrev pub todo_behind : Running → Todos
 todo_behind r = let steps = drop 1 r.context.value.pending in todo_at (phase_of steps) steps r
 
--- The list of a processor in a phase, where nothing stands before its thread's next step. The steps of a running thread leave no other lists:
--- each function of `Running` shows that of its own step.
+-- The list of a processor in a phase, with nothing to do before its thread's next step. The steps of a running thread leave no other lists,
+-- as the contract of each function of `Running` says of its step.
 abbrev pub todo_of : Phase → Running → Todos
 todo_of Phase.Idle r = []
 todo_of Phase.Pass r = Todo.pass (passed_to r.context.value.pending) r.row ∷ todo_behind r
 todo_of Phase.Drop r = Todo.drop r.row ∷ todo_behind r
 todo_of phase r = todo_at phase (steps_behind r.visited r.context.value.pending) r
 
--- the thread of a processor that has none is nobody
+-- the own part of a processor that has no thread
 abbrev pub context_in : Phase → Context → Context
 context_in Phase.Idle c = no_context
 context_in phase c = c
@@ -56,7 +56,7 @@ in_phase phase r =
 abbrev pub processor_of : Running → Processor
 processor_of r = in_phase r.phase r
 
--- at the visit of this row, or at the step behind the visits where there is no such row
+-- at the visit of this row, or at the step after the visits if there is no such row
 abbrev pub visiting : ℕ → Phase → Running → Running
 visiting row phase r = record r { row = row; visited = true; phase = if nat_lt row ROWS then phase else phase_of (drop 1 r.context.value.pending) }
 
@@ -71,7 +71,7 @@ refilled image r = with_todo r (next_steps image r.context.value r.context.value
 abbrev pub turning : Image → Running → Processor
 turning image r = with_todo r (turn image r.context.value)
 
--- the same, with an object to clean where its row came to that
+-- the same, with an object to clean if its row came to cleaning
 abbrev pub cleaned : Image → ℕ → Bool → Processor → Processor
 cleaned image x false p = p
 cleaned image x true p = record p { todo = with_cleaning (cleaning image x) p.todo }
@@ -87,8 +87,8 @@ pub record Goes (cpu : ℕ) (image : Image) (p : Processor) (e : FineStep) (z : 
   pub asks : AsksFor cpu image p e
   pub next : z ≡ p_next image p e
 
--- It has no step that it could ask for: its next one has no room, or has no event, or is at a site that isn't there, or names a thread index that isn't there;
--- or more objects are to be cleaned than there are dynamic rows.
+-- It has no step that it could ask for: there is no room for its next step, or that step has no event, or it is at a site or names a thread
+-- index that doesn't exist, or more objects are to be cleaned than there are dynamic rows.
 abbrev pub has_thread : Todos → Bool
 has_thread (Todo.wake who told ∷ todo) = nat_lt who THREADS
 has_thread (Todo.add c ∷ todo) = nat_lt c.thread THREADS
@@ -98,7 +98,7 @@ abbrev pub fits_next : Image → Processor → Todos → Bool
 fits_next image p (Todo.show q rest ∷ todo) = has_room image p q
 fits_next image p todo = true
 
--- whether a step has an event: none has one that waits, that stands for visits of rows, or that is a cleaner's
+-- whether a step has an event of its own: a wait, visits of rows and a cleaner's steps have none
 abbrev pub is_event : Pending → Bool
 is_event Pending.Resume = false
 is_event (Pending.Inherit who) = false
@@ -118,12 +118,12 @@ pub data IsStuck (image : Image) (p : Processor) : Type 0 where
   no_thread : has_thread p.todo ≡ false → IsStuck image p
   full : nat_le MOST (cleanings p.todo) ≡ true → IsStuck image p
 
--- each step that the processor of this number may ask for is one that it may make
+-- every step that the processor of this number asks for, it may make
 abbrev pub MayNext : ℕ → Image → Processor → (FineStep → Type 0) → Type 0
 MayNext cpu image p may = (e : FineStep) → AsksFor cpu image p e → may e
 
--- What comes of a turn of the processor of this number, by what the sites say of a step that was made, of one that is refused, of none at the site of
--- its next one since others are there, and of none since it has none.
+-- What comes of a turn of the processor of this number, given what the sites say in each case: a step was made; it was refused; none was
+-- made since others are at its site; there was none to ask for.
 abbrev pub Turned : Turn → ℕ → Image → Processor → Processor → (FineStep → Type 0) → (FineStep → Type 0) → (Site → Type 0) → Type 0 → Type 0
 Turned Turn.Made cpu image p z took shut late none = (e : FineStep) × took e × Goes cpu image p e z
 Turned Turn.Busy cpu image p z took shut late none = (e : FineStep) × shut e × AsksFor cpu image p e

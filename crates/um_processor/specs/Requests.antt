@@ -1,4 +1,4 @@
--- What a processor asks a site for where it needs to know no more than that the step was made.
+-- Requests: the steps of whose result a processor needs to know only that they were made.
 use Rattle.std.specs.Prelude.{◌≡◌, ℕ, Bool, true, false, IsTrue, []}
 use Rattle.um_base.specs.declared.image.Image.{Image}
 use Rattle.um_words.specs.declared.row_word.RowWord.{RowWord}
@@ -48,7 +48,7 @@ is_short (Request.Memory act) = has_room act
 is_short request = true
 
 module _ (cpu : ℕ) (image : Image) where
-  -- this holds of each step that may be made so, whatever its site has in it
+  -- this holds of each step that the request may become, whatever the site's state is
   abbrev pub Each : Request → (FineStep → Type 0) → Type 0
   Each (Request.Row x act) holds = (w : RowWord) → holds (row_made image cpu x.0 w act)
   Each (Request.Thread t act) holds = (w : ThreadWord) → holds (thread_made image cpu t.0 w act)
@@ -57,7 +57,7 @@ module _ (cpu : ℕ) (image : Image) where
   Each (Request.Memory act) holds = (n : ℕ) (m : Bytes) → holds (memory_made image cpu n m act [])
   Each Request.Done holds = (n : ℕ) (s : Scheduler) → holds (done_made image cpu n s)
 
-  -- and this of one of them
+  -- and this holds of one of them
   abbrev pub One : Request → (FineStep → Type 0) → Type 0
   One (Request.Row x act) holds = (w : RowWord) × holds (row_made image cpu x.0 w act)
   One (Request.Thread t act) holds = (w : ThreadWord) × holds (thread_made image cpu t.0 w act)
@@ -66,18 +66,19 @@ module _ (cpu : ℕ) (image : Image) where
   One (Request.Memory act) holds = (n : ℕ) × (m : Bytes) × holds (memory_made image cpu n m act [])
   One Request.Done holds = (n : ℕ) × (s : Scheduler) × holds (done_made image cpu n s)
 
-  -- it is what this processor asks for next, and leaves it so
+  -- the request is what this processor asks for next, and leaves the processor so
   pub record Leads (p : Processor) (request : Request) (z : Processor) : Type 0 where
     pub few : IsTrue (is_short request)
     pub site : next_site image p ≡ site_of request
     pub goes : Each request (λ e. Goes cpu image p e z)
 
-  -- its thread is held next, and then the domain is known that the thread is in
+  -- its next step holds its thread, and so tells the thread's domain
   pub record Holds (r : Running) (next : Phase) : Type 0 where
     pub site : next_site image (processor_of r) ≡ Site.thread r.context.value.thread
     pub goes : (w : ThreadWord) → let e = thread_made image cpu r.context.value.thread w ThreadAct.Hold in Goes cpu image (processor_of r) e (processor_of (record r { domain = (thread_in e.word).domain; phase = next }))
 
-  -- what comes of it, by what the sites say of a step that was made, of one that is refused, of none since others are at the site, and of none at all
+  -- what comes of it, given what the sites say in each case: the step was made; it was refused; none was made since others are at the site;
+  -- none was asked for
   abbrev pub Requested : Turn → Request → (FineStep → Type 0) → (FineStep → Type 0) → (Site → Type 0) → Type 0 → Type 0
   Requested Turn.Made request took shut late none = One request took
   Requested Turn.Busy request took shut late none = One request shut
@@ -93,7 +94,7 @@ RequestedAt sites turn here request s t =
     (λ site. sites.Kept s t × sites.Contended here.image.now s site t)
     (t ≡ s)
 
--- the processor behind it
+-- the processor after it
 abbrev pub gone_on : Image → Onward → Running → Processor
 gone_on image Onward.GoesOn r = behind_event image r.phase (goes_on image r.context.value (rest_of r)) r
 gone_on image Onward.Faults r = behind_event image r.phase (goes_on image r.context.value fault) r

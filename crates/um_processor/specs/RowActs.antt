@@ -1,4 +1,4 @@
--- What is asked of the word of a row: the step that it stands for, and what the word says.
+-- What a processor asks of a row's word: the step that each act stands for, and what the word says.
 use Rattle.std.specs.Prelude.{ℕ, Bool, false, ◌&&◌, not, if◌then◌else◌, Option, Some, None}
 use Rattle.um_base.specs.declared.act.Act.{Act}
 use Rattle.um_base.specs.declared.act.Event.{Event}

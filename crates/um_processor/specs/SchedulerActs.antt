@@ -1,4 +1,4 @@
--- What is asked of the scheduler's cell: the steps as they are made at these contents after so many steps.
+-- What a processor asks of the scheduler's cell: the steps as they are made at a cell with these contents and this step number.
 use Rattle.std.specs.Prelude.{ℕ, false, None}
 use Rattle.um_base.specs.declared.ask.Told.{Told}
 use Rattle.um_base.specs.declared.image.Image.{Image}

@@ -1,4 +1,4 @@
--- The states of the sites that tables keep, with a log of events; what comes of a step there, and what a site says to the one that asks for it.
+-- The sites as tables keep them, with a log of events; what comes of a step there, and what a site says of it.
 use Rattle.std.specs.Prelude.{◌≡◌, ◌<◌, ◌≤◌, ◌&&◌, ℕ, List, [], ◌∷◌, ◌++◌, None, Option, Some, true, not, length, slice_index_or, slice_set}
 use Rattle.um_base.specs.declared.act.Act.{Act}
 use Rattle.um_base.specs.declared.act.Event.{Event}
@@ -63,7 +63,7 @@ domain_cell_state c = SiteState.cell c.steps (Cell.parts c.parts)
 abbrev pub object_state : ObjectCell → SiteState
 object_state c = SiteState.cell c.steps (Cell.object (kept_in c))
 
--- what stands at a site: past the last of a sort, what is nobody's
+-- what stands at a site; past the last site of a sort, an empty state
 abbrev pub state_at : Sited → Site → SiteState
 state_at s (Site.row x) = SiteState.row (slice_index_or s.rows x no_row)
 state_at s (Site.thread t) = SiteState.thread (slice_index_or s.threads t no_thread)
@@ -87,7 +87,7 @@ with_state s Site.heap (SiteState.cell n (Cell.heap h)) = record s { heap = h; h
 with_state s Site.scheduler (SiteState.cell n (Cell.scheduler t)) = record s { scheduler = t; scheduler_steps = n }
 with_state s site state = s
 
--- a log with this event behind the others
+-- the log with this event appended
 abbrev pub logged : List Event → Option Event → List Event
 logged log None = log
 logged log (Some event) = log ++ event ∷ []
@@ -96,7 +96,7 @@ logged log (Some event) = log ++ event ∷ []
 abbrev pub noted : Sited → FineStep → Sited
 noted s e = record s { log = logged s.log (event_of e.act) }
 
--- the step was made: its site took it, the log has its event behind the others, and all else is as before
+-- the step was made: its site took it, its event was appended to the log, and all else is as before
 pub record WasMade (image : Image) (old : Sited) (e : FineStep) (new : Sited) : Type 0 where
   pub may : SiteMay image (state_at old e.site) e
   pub leaves : new ≡ with_state (noted old e) e.site (s_next image (state_at old e.site) e)
@@ -114,7 +114,7 @@ abbrev pub IsDue : RowWord → FineAct → Type 0
 IsDue w (FineAct.Shown event more) = IsDueTo w event.thread event.act
 IsDue w (FineAct.Unseen unseen) = Unit {0}
 
--- one who looks at the site asks for the step: at a row, for an inheritance only where it is due
+-- whoever looks at the site may ask for the step. At a row, an inheritance is asked for only if it is due
 abbrev pub IsSeen : SiteState → FineAct → Type 0
 IsSeen (SiteState.row w) act = IsDue w act
 IsSeen state act = Unit {0}

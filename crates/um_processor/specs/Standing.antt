@@ -1,4 +1,4 @@
--- What stands before a thread's next step: objects to clean, claims to end, and threads to wake.
+-- What a processor has to do before its thread's next step: clean objects, end claims, wake threads.
 use Rattle.std.specs.Prelude.{◌≡◌, ℕ, false, List, [], ◌∷◌, ◌++◌, drop}
 use Rattle.um_base.specs.declared.ask.Told.{Told}
 use Rattle.um_base.specs.declared.names.ThreadIx.{ThreadIx}
@@ -9,7 +9,7 @@ use Rattle.um_processor.specs.declared.processor.Processor.{Processor as Kept}
 use Rattle.um_processor.specs.Phases.{is_idle}
 use Rattle.um_processor.specs.Processors.{processor_of}
 
--- before the steps of a processor that has any: one without a thread has none
+-- put before the steps of a processor with a thread; one without a thread has no steps
 abbrev pub before : Todos → List ℕ → List (ThreadIx × Told) → Todos → Todos
 before cleans ends woken [] = []
 before cleans ends woken (q ∷ todo) = cleans ++ end_calls ends (wakes woken (q ∷ todo))

@@ -1,4 +1,4 @@
--- What comes behind the event of a step.
+-- Which events leave nothing more to do, and which do.
 use Rattle.std.specs.Prelude.{Bool, true, false, ◌||◌}
 use Rattle.um_machine.specs.declared.pending.Pending.{Pending}
 
@@ -30,8 +30,8 @@ is_quiet (Pending.EnterUser script) = true
 is_quiet (Pending.Dooms from) = true
 is_quiet step = is_access step || is_edit step
 
--- the thread goes on, and no more is to be done before: of an access to memory, a change of who may use an object or of its mark, a call on a domain,
--- bytes that a pool gives or gets, and of a thread that starts, has a name, is doomed, or drops into user mode
+-- the thread goes on at once: after an access to memory, a change of who may use an object or of its mark, a call on a domain, bytes that a
+-- pool gives or gets, and after a thread is started, named or doomed, or drops into user mode
 abbrev pub is_plain : Pending → Bool
 is_plain (Pending.Load to addr size) = true
 is_plain (Pending.CopyIn addr amount) = true

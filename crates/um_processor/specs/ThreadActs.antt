@@ -1,4 +1,4 @@
--- What is asked of the word of a thread index: the step that it stands for.
+-- What a processor asks of a thread index's word: the step that each act stands for.
 use Rattle.std.specs.Prelude.{ℕ, false, Option, Some, None, if◌then◌else◌}
 use Rattle.um_base.specs.declared.act.Act.{Act}
 use Rattle.um_base.specs.declared.act.Event.{Event}

@@ -12,12 +12,12 @@ use Rattle.um_processor.specs.Phases.{is_idle}
 use Rattle.um_processor.specs.Processors.{MayNext, OnMade, Turned, UnlessMade, cleaned, processor_of}
 use Rattle.um_processor.specs.Standing.{whole}
 
--- whatever step the processor of this number asks for next, the sites let it make
+-- the sites let the processor of this number make whatever step it asks for next
 abbrev pub MayTurn : {S : Type 0} → SitesOf S → ℕ → Image → S → Processor → Type 0
 MayTurn sites cpu image s p = MayNext cpu image p (sites.May image s)
 
--- The turn of a processor takes the sites from s to t, and leaves the processor z: they took the step that was made; none was made where one is refused,
--- or where others are at its site; and they are as before where there is no step.
+-- The turn of a processor takes the sites from s to t, and leaves the processor z. A step that was made, the sites took. If it was refused,
+-- or others were at its site, none was made. If there was no step to ask for, the sites are as before.
 abbrev pub TurnsAt : {S : Type 0} → SitesOf S → Turn → ℕ → Image → S → S → Processor → Processor → Type 0
 TurnsAt sites turn cpu image s t p z =
     Turned turn cpu image p z
@@ -39,7 +39,7 @@ HasTurned sites turn here s t p y z =
 abbrev pub HasRun : {S : Type 0} → SitesOf S → Turn → Here → S → S → Processor → Running → Running → Type 0
 HasRun sites turn here s t p r q = HasTurned sites turn here s t p (processor_of r) (processor_of q)
 
--- the same, with claims that it leaves to be ended, where there were some before
+-- the same, with the claims that it still has to end, given those before
 pub record HasEnded {S : Type 0} (sites : SitesOf S) (made : Turn) (here : Here) (s t : S) (p : Processor) (r q : Running) (before left : List ℕ) : Type 0 where
   pub image : sites.IsOf here.image.now t
   pub ends : UnlessMade made (left ≡ before)
@@ -47,7 +47,7 @@ pub record HasEnded {S : Type 0} (sites : SitesOf S) (made : Turn) (here : Here)
   pub runs : OnMade made (is_idle q.phase ≡ false)
   pub turn : TurnsAt sites made here.cpu here.image.now s t p (with_ends left (processor_of q))
 
--- and with the object of a row to clean, where the row came to that
+-- and with the object of a row to clean, if the row came to cleaning
 pub record HasCleaned {S : Type 0} (sites : SitesOf S) (made : Turn) (here : Here) (s t : S) (p : Processor) (r q : Running) (x : ℕ) (before left : Bool) : Type 0 where
   pub image : sites.IsOf here.image.now t
   pub cleans : UnlessMade made (left ≡ before)
@@ -55,6 +55,6 @@ pub record HasCleaned {S : Type 0} (sites : SitesOf S) (made : Turn) (here : Her
   pub runs : OnMade made (is_idle q.phase ≡ false)
   pub turn : TurnsAt sites made here.cpu here.image.now s t p (cleaned here.image.now x left (processor_of q))
 
--- and of one with all that stands before its thread's next step
+-- and of one with all that it has to do before its thread's next step
 abbrev pub HasStepped : {S : Type 0} → SitesOf S → Turn → Here → S → S → Processor → Kept → Kept → Type 0
 HasStepped sites turn here s t p k l = HasTurned sites turn here s t p (whole k) (whole l)

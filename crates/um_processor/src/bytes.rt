@@ -27,13 +27,13 @@ use um_steps::rows::setup_at;
 /// How many bytes of a text are read at most.
 const MOST_TEXT: u32 = 32;
 
-/// What the cell says where it is asked for nothing.
+/// What the cell says of a step that has no answer.
 const NOTHING: MemorySaid = MemorySaid {
     value: 0,
     found: Found::Unreadable,
 };
 
-/// The bytes of the area of the partitions, and of that of the stacks.
+/// The bytes of the partitions' area and of the stacks' area.
 #[derive(Drop)]
 pub struct Bytes {
     memory: Vec<u8>,
@@ -62,7 +62,7 @@ fn first(bytes: &[u8]) -> u8
     }
 }
 
-/// The range of the stack of a row, if it is one.
+/// The range of a row's stack, if the row has one.
 fn stack_of(image: &Image, stack: Row) -> Option<Range>
     ensures { result ≡ stack_range (setup_at image.now stack.0) }
 {
@@ -73,7 +73,7 @@ fn stack_of(image: &Image, stack: Row) -> Option<Range>
 }
 
 impl Bytes {
-    /// Those of these areas.
+    /// Makes the contents from these two areas.
     pub fn new(memory: Vec<u8>, stacks: Vec<u8>) -> Bytes
         requires { length stacks.items ≤ AREA_SIZE }
         ensures { result ≡ record { memory = memory.items; stacks = stacks.items } }
@@ -81,7 +81,7 @@ impl Bytes {
         Bytes { memory, stacks }
     }
 
-    /// n bytes from an address on, which lie in one area.
+    /// The n bytes from an address on, if they lie in one area.
     fn read<'a>(&'a self, image: &Image, rodata: &'a [u8], a: u32, n: u32) -> &'a [u8]
         requires { rodata.now ≡ rodata_of image.now }
         ensures value { result.now ≡ read image.now self.now a n }
@@ -145,7 +145,7 @@ impl Bytes {
         }
     }
 
-    /// Zero bytes over a thread stack.
+    /// Writes zero bytes over a thread stack.
     fn erase(&mut self, image: &Image, stack: Row)
         ensures { self.new ≡ memory_after image.now self.old (Act.Erase stack) Exchange.nothing }
     {
@@ -154,7 +154,7 @@ impl Bytes {
         }
     }
 
-    /// The byte so many behind an address: zero where there is no memory.
+    /// The byte that stands `before` bytes after an address: zero where there is no memory.
     #[tactic(auto, using(crate::proofs::TextLemmas::no_byte))]
     fn byte_behind(&self, image: &Image, rodata: &[u8], a: u32, before: u32) -> u8
         requires { rodata.now ≡ rodata_of image.now }
@@ -167,7 +167,7 @@ impl Bytes {
         }
     }
 
-    /// Reads a text up to its zero, of which so many bytes may be read. Where there is its end the buffer takes the bytes.
+    /// Reads a text up to its zero, of which `readable` bytes may be read. If the zero is found, the buffer gets the bytes before it.
     fn copy_text(
         &self,
         image: &Image,
@@ -197,7 +197,7 @@ impl Bytes {
         }
     }
 
-    /// Makes a step, which the cell always takes, and answers what it says. A copy reads or writes the buffer.
+    /// Makes a step, which the cell always takes, and returns what the cell says. A copy reads or writes the buffer.
     pub fn make(
         &mut self,
         image: &Image,

@@ -10,7 +10,7 @@ use std::marker::Model;
 use um_base::{Image, ROWS};
 use um_steps::rows::thread_of_row;
 
-/// How many objects at most: one more than the dynamic rows, so that there is room where each of them is queued.
+/// How many objects there are at most: one more than there are dynamic rows, so that there is room even if each of them is queued.
 pub const MOST: usize = 33;
 
 /// An object that is gone, with its thread index where it is a thread object.
@@ -26,10 +26,10 @@ impl Default for Gone {
     }
 }
 
-/// How far the first object is.
+/// How far the cleaning of the first object is.
 #[derive(Clone, Copy)]
 pub enum CleanStage {
-    /// The pairs of its thread from this row on, and all that is behind them.
+    /// The permissions of its thread from this row on, and all that comes after them.
     Empty(u8),
     Vacate,
     Recycle,
@@ -45,7 +45,7 @@ pub enum CleanStep {
     Recycle(u8),
 }
 
-/// Objects that are gone, each of which is wholly cleaned before the next.
+/// Objects to clean, in their order. Each is wholly cleaned before the next.
 #[derive(Drop)]
 pub struct Cleaning {
     gone: ArrayVec<Gone, MOST>,
@@ -62,7 +62,7 @@ impl Model for Cleaning {
 }
 
 impl Cleaning {
-    /// None.
+    /// No object.
     pub fn new() -> Cleaning
         ensures { result ≡ [] }
     {
@@ -72,7 +72,7 @@ impl Cleaning {
         }
     }
 
-    /// None any longer.
+    /// Forgets all objects.
     pub fn clear(&mut self)
         ensures { self.new ≡ [] }
     {
@@ -112,7 +112,7 @@ impl Cleaning {
         Some(step)
     }
 
-    /// Leaves the next step out.
+    /// Goes on after the next step.
     #[tactic(auto, using(crate::proofs::Cleaned::queued_clean))]
     pub fn advance(&mut self)
         ensures rest { self.new ≡ behind_first self.old }
@@ -130,7 +130,7 @@ impl Cleaning {
         }
     }
 
-    /// One object more is gone.
+    /// Adds an object, with its thread index if it is a thread object.
     #[tactic(auto, using(crate::proofs::Cleaned::counted, crate::proofs::Cleaned::one_more, crate::proofs::Cleaned::first_one))]
     pub fn push(&mut self, row: u8, who: Option<u8>)
         requires { cleanings self.old < MOST }
@@ -144,7 +144,7 @@ impl Cleaning {
         self.gone.push(Gone { row, who });
     }
 
-    /// The object of a row is gone.
+    /// Adds the object of a row.
     pub fn take_in(&mut self, image: &Image, row: u8)
         requires { cleanings self.old < MOST }
         ensures { self.new ≡ self.old ++ cleaning image.now row }
@@ -156,7 +156,7 @@ impl Cleaning {
         self.push(row, who);
     }
 
-    /// The same where the row came to cleaning.
+    /// The same, if the row came to cleaning.
     pub fn take_in_if(&mut self, image: &Image, row: u8, cleans: bool)
         requires { cleanings self.old < MOST }
         ensures { self.new ≡ self.old ++ block_if image.now row cleans }

@@ -1,4 +1,4 @@
-//! A thread as the processor has it that runs it.
+//! A thread, as the processor that runs it keeps it.
 
 mod accesses;
 mod births;
@@ -20,15 +20,15 @@ use um_base::Image;
 use um_machine::{Pending, Thread};
 use um_steps::blank::nobody;
 
-/// A thread's own part: what no site keeps of a thread while a processor runs it.
-/// Where a method is told how many steps are taken, it leaves so many of the next ones behind, the last of which is the one that was made:
-/// one, or two behind an inheritance or the drops of an end.
+/// A thread's own part: what no site keeps of a thread while a processor runs it. Several methods get the number of pending steps to take
+/// off, `taken`. It is 1 for the step that was made, and 2 if an inheritance or an end's drops stood before that step, since these are over
+/// then too.
 #[derive(Drop)]
 pub struct Context {
     thread: u8,
     /// Whether it has ended, or has doomed all.
     ended: bool,
-    /// The machine's thread, of which no more is in use than the own part.
+    /// The machine's thread. Only the fields of the own part are used.
     own: Thread,
     /// The rows that its call holds, in the order of the checks.
     claims: ArrayVec<u8, 2>,
@@ -48,7 +48,7 @@ impl Model for Context {
 }
 
 impl Context {
-    /// That of a processor without a thread.
+    /// The own part of no thread, for a processor that has none.
     pub fn idle() -> Context
         ensures { result ≡ no_context }
     {
@@ -60,7 +60,7 @@ impl Context {
         }
     }
 
-    /// That of a thread of the machine which is at rest.
+    /// The own part of a thread of the machine that is at rest.
     pub fn at_rest(thread: u8, me: &Thread) -> Context
         requires index { thread < THREADS }
         requires rests { rests me.now }
@@ -98,7 +98,7 @@ impl Context {
         self.ended
     }
 
-    /// Whether it waits until it is woken.
+    /// Whether the thread waits until it is woken.
     pub fn waits(&self) -> bool
         ensures { result ≡ waits self.now.pending }
     {
@@ -108,7 +108,7 @@ impl Context {
         }
     }
 
-    /// Goes on behind the steps that are taken, and is at rest at its next place where none is left.
+    /// Takes this many pending steps off. If none is left, the thread is at rest at its next place.
     pub fn goes_on(&mut self, image: &Image, taken: usize)
         ensures { self.new ≡ goes_on image.now self.old (drop taken self.old.pending) }
     {

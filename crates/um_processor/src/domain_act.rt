@@ -11,10 +11,10 @@ use crate::said::next_word;
 use um_base::{Act, Attr, Event, Range, Reply, ThreadIx};
 use um_words::DomWord;
 
-/// The greatest step number: there the word takes no step.
+/// The greatest step number. A word that has reached it takes no step.
 const LAST: u32 = 0xfff_ffff;
 
-/// What is asked of the word of a domain, and by which thread.
+/// A step that a processor asks of a domain's word, with the thread that makes it.
 #[derive(Clone, Copy)]
 pub enum DomainAct {
     ReadClaim,
@@ -64,7 +64,7 @@ fn writes(word: &DomWord) -> bool
     word.writer && word.version < 0xf_ffff
 }
 
-/// The claim to write ends. Init: the domain is initialised by it.
+/// Ends the claim to write. `init` says that this initialises the domain.
 fn end_write(word: &mut DomWord, init: bool)
     requires { IsTrue (writes word.old) }
     ensures { word.new ≡ written word.old init }
@@ -74,7 +74,7 @@ fn end_write(word: &mut DomWord, init: bool)
     word.version += 1;
 }
 
-/// A claim to read ends.
+/// Ends a claim to read.
 fn end_read(word: &mut DomWord)
     requires { 0 < word.old.readers }
     ensures { word.new ≡ left_by_reader word.old }
@@ -83,7 +83,7 @@ fn end_read(word: &mut DomWord)
 }
 
 impl DomainAct {
-    /// Whether the word takes it.
+    /// Whether the word takes the step.
     fn is_taken(&self, word: &DomWord) -> bool
         ensures { result ≡ domain_takes word.now (domain_act self.now) }
     {
@@ -98,7 +98,7 @@ impl DomainAct {
         }
     }
 
-    /// What is left but for the step number.
+    /// Changes all of the word but its step number.
     fn take(&self, word: &mut DomWord)
         requires { IsTrue (domain_takes word.old (domain_act self.now)) }
         ensures { word.new ≡ domain_after word.old (domain_act self.now) }
@@ -114,7 +114,7 @@ impl DomainAct {
         }
     }
 
-    /// The word that the step leaves; nothing where the word takes no such step.
+    /// The word that the step leaves, or `None` if the word takes no such step.
     pub fn make(&self, word: &DomWord) -> Option<DomWord>
         ensures { MatchOption result
             ((image : Image) (cpu d : ℕ) → Refuses (SiteState.domain word.now) (domain_made image cpu d word.now self.now))

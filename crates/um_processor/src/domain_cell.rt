@@ -25,7 +25,7 @@ pub fn parts_or_none(parts: &Option<Parts>) -> Parts
     }
 }
 
-/// What a call makes of the partitions.
+/// What a call makes of a domain's partitions.
 fn edit_of(image: &Image, call: &Pending, before: &Option<Parts>) -> Result<Parts, Errno>
     ensures { result ≡ edit_of image.now call.now before.now }
 {

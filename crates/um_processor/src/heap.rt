@@ -47,7 +47,7 @@ fn can_pay(pools: &[u32], charge: Option<Cost>) -> bool
     }
 }
 
-/// The pool pays.
+/// Takes from the pool what it pays.
 fn pay(pools: &mut [u32], charge: Option<Cost>)
     ensures { pools.new ≡ paid pools.old charge }
 {
@@ -69,7 +69,7 @@ fn row_named(image: &Image, addr: Addr) -> usize
 }
 
 impl Heap {
-    /// One with these pools, free addresses and costs.
+    /// Makes the contents from these pools, free addresses and costs.
     pub fn new(pools: Vec<u32>, free: Vec<bool>, costs: Vec<Option<Cost>>) -> Heap
         ensures { result ≡ record { pools = pools.items; free = free.items; costs = costs.items } }
     {
@@ -85,7 +85,7 @@ impl Heap {
             && get_or(self.free.as_slice(), x, false)
     }
 
-    /// The least of them.
+    /// The least address that is free for an object of this kind.
     #[tactic(auto, using(crate::proofs::HeapLemmas::open_more))]
     fn least_open(&self, kind: Kind) -> Option<usize>
         ensures value { result ≡ least_open self.now kind 0 ROWS }
@@ -99,7 +99,7 @@ impl Heap {
         None
     }
 
-    /// An address for an object of this kind, for what its pool pays.
+    /// Reserves an address for an object of this kind, if the pool pays.
     fn reserve(&mut self, image: &Image, kind: Kind, charge: Option<Cost>) -> Option<Addr>
         ensures said { result ≡ (if can_pay self.old.pools charge then address_or image.now (least_open self.old kind 0 ROWS) else None) }
         ensures leaves { self.new ≡ heap_after image.now self.old (Act.Reserve kind result) (Exchange.charge charge) }
@@ -119,7 +119,7 @@ impl Heap {
         Some(addr)
     }
 
-    /// A buffer, for what the pool pays.
+    /// Takes a buffer, if the pool pays.
     fn buffer(&mut self, size: u32, charge: Option<Cost>) -> bool
         ensures said { result ≡ can_pay self.old.pools charge }
         ensures leaves { (image : Image) → self.new ≡ heap_after image self.old (Act.Buffer size result) (Exchange.charge charge) }
@@ -131,7 +131,7 @@ impl Heap {
         fits
     }
 
-    /// An object is recycled, whose buffer cost this.
+    /// Recycles an object whose buffer cost this.
     fn recycle(&mut self, image: &Image, addr: Addr, charge: Option<Cost>)
         ensures { self.new ≡ heap_after image.now self.old (Act.Recycle addr) (Exchange.charge charge) }
     {
@@ -143,7 +143,7 @@ impl Heap {
         put(&mut self.costs, row, None);
     }
 
-    /// Makes a step, which the cell always takes, and answers what it says.
+    /// Makes a step, which the cell always takes, and returns what the cell says.
     pub fn make(&mut self, image: &Image, act: &HeapAct, charge: Option<Cost>) -> HeapSaid
         ensures said { result ≡ heap_said (heap_says image.now self.old (Exchange.charge charge) (heap_act act.now)) }
         ensures leaves { self.new ≡ heap_after image.now self.old (act_in (heap_says image.now self.old (Exchange.charge charge) (heap_act act.now))) (Exchange.charge charge) }

@@ -6,16 +6,16 @@ ghost use Rattle.um_processor.specs.HeapActs.{heap_event};
 use crate::log::shown;
 use um_base::{Act, Addr, Event, Kind, ThreadIx};
 
-/// What is asked of the heap's cell, and by which thread.
+/// A step that a processor asks of the heap's cell, with the thread that makes it.
 #[derive(Clone, Copy)]
 pub enum HeapAct {
-    /// An address for an object of this kind, for what its pool pays.
+    /// Reserves an address for an object of this kind, if its pool pays.
     Reserve { thread: ThreadIx, kind: Kind },
-    /// A buffer, for what the pool pays.
+    /// Takes a buffer, if the pool pays.
     Buffer { thread: ThreadIx, size: u32 },
-    /// A buffer isn't in use after all.
+    /// Gives a buffer back that isn't needed after all.
     Unbuffer { thread: ThreadIx, size: u32 },
-    /// An object that was cleaned is recycled. Its pool gets back what it and its buffer cost.
+    /// Recycles an object that was cleaned. Its pool gets back what it and its buffer cost.
     Recycle { thread: ThreadIx, addr: Addr },
 }
 

@@ -1,4 +1,5 @@
-//! One processor of the fine machine as code, over any way of keeping the sites: what it asks of each site, in short.
+//! One processor of the fine machine, over any implementation of `Sites`: the short acts by which it asks each site for a step, and the
+//! steps that it makes.
 #![tactic(auto)]
 
 mod bytes;

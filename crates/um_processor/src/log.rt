@@ -8,14 +8,14 @@ ghost use Rattle.um_processor.specs.{Asked.{by_thread}, Sited.{logged}};
 use um_base::{Act, Addr, Errno, Event, Kind, ThreadIx, Waiter, Want};
 use um_service::Outcome;
 
-/// Whether there is no room for one more event.
+/// Whether the log has no room for one more event.
 pub fn is_full(log: &Vec<Event>) -> bool
     ensures { result ≡ nat_le (vec_capacity log.now) (length log.now.items) }
 {
     log.capacity() <= log.len()
 }
 
-/// One more event behind the others. It takes no memory.
+/// Appends an event. It takes no memory.
 fn put(log: &mut Vec<Event>, event: &Event)
     requires { length log.old.items < vec_capacity log.old }
     ensures events { log.new.items ≡ log.old.items ++ event.now ∷ [] }
@@ -26,7 +26,7 @@ fn put(log: &mut Vec<Event>, event: &Event)
     log.push_reserved(Event { thread, act });
 }
 
-/// The same, where there is one.
+/// The same, if there is an event.
 pub fn note(log: &mut Vec<Event>, event: &Option<Event>)
     requires { length log.old.items < vec_capacity log.old }
     ensures events { log.new.items ≡ logged log.old.items event.now }
@@ -65,7 +65,7 @@ pub fn checked(
     )
 }
 
-/// A call's work, of which this came.
+/// The event of a call's work with this outcome.
 pub fn worked(addr: Addr, who: &Waiter, outcome: &Outcome) -> Event
     ensures { result ≡ by_thread who.now.thread (Act.Work addr outcome.now.answer (replies_of outcome.now.woken)) }
 {
@@ -79,7 +79,7 @@ pub fn worked(addr: Addr, who: &Waiter, outcome: &Outcome) -> Event
     }
 }
 
-/// A thread gives a thread object its name.
+/// The event of a thread that gives a thread object a name.
 pub fn named(thread: ThreadIx, who: ThreadIx) -> Event
     ensures { result ≡ by_thread thread (Act.Named who) }
 {
@@ -89,7 +89,7 @@ pub fn named(thread: ThreadIx, who: ThreadIx) -> Event
     }
 }
 
-/// A thread that was woken goes on.
+/// The event of a thread that was woken and goes on.
 pub fn resumed(thread: u8, woken: bool) -> Option<Event>
     ensures { result ≡ (if woken then Some (by_thread (to_thread thread) Act.Resume) else None) }
 {

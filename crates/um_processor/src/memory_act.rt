@@ -6,7 +6,7 @@ ghost use Rattle.um_processor.specs.MemoryActs.{memory_event};
 use crate::log::shown;
 use um_base::{Access, Act, Addr, Event, Found, Row, ThreadIx};
 
-/// What is asked of the memory's cell, and by which thread, whose region table has told whether it may.
+/// A step that a processor asks of the memory's cell, with the thread that makes it. Its region table has already said whether it may.
 #[derive(Clone, Copy)]
 pub enum MemoryAct {
     /// At most four bytes.
@@ -38,21 +38,21 @@ pub enum MemoryAct {
         size: u32,
         fits: bool,
     },
-    /// A copy from memory, where that is allowed.
+    /// A copy from memory, if that is allowed.
     CopyIn {
         thread: ThreadIx,
         addr: Addr,
         size: u32,
         fits: bool,
     },
-    /// A copy to memory, where that is allowed.
+    /// A copy to memory, if that is allowed.
     CopyOut {
         thread: ThreadIx,
         addr: Addr,
         size: u32,
         fits: bool,
     },
-    /// A copy of a text of at most 32 bytes, of which the thread may read so many one by one.
+    /// A copy of a text of at most 32 bytes, of which the thread may read `readable` one by one.
     CopyStr {
         thread: ThreadIx,
         addr: Addr,

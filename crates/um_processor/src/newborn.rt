@@ -18,7 +18,7 @@ pub struct Newborn {
     pub place: Place,
 }
 
-/// Nobody's.
+/// A placeholder where no thread is started.
 pub const NOBODY: Newborn = Newborn {
     thread: ThreadIx(0),
     mode: Mode::User,

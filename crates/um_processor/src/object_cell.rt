@@ -26,7 +26,7 @@ pub struct ObjectCell {
 }
 
 impl ObjectCell {
-    /// That of a row without an object, which has taken no step.
+    /// The contents of a row without an object, whose cell has taken no step.
     pub fn empty() -> ObjectCell
         ensures { result ≡ cleared 0 }
     {
@@ -38,7 +38,7 @@ impl ObjectCell {
         }
     }
 
-    /// A call's work. Writes what comes of it.
+    /// Does a call's work, and writes its outcome.
     pub fn work(&mut self, who: &Waiter, outcome: &mut Outcome)
         requires thread { who.now.thread.0 < THREADS }
         requires sound { IsTrue (is_sound_ask who.now.ask) }
@@ -50,21 +50,21 @@ impl ObjectCell {
         self.buffer = buffer_cost(&who.ask, outcome.answer, self.buffer);
     }
 
-    /// A thread object gets this name.
+    /// Gives a thread object this name.
     pub fn name(&mut self, bytes: &Piece)
         ensures { self.new ≡ named_as self.old bytes.now }
     {
         self.contents = Contents::Named(*bytes);
     }
 
-    /// The size of the messages: 0 where it is no queue.
+    /// The size of the messages, or 0 if this is no queue.
     pub fn message_size(&self) -> u32
         ensures { result ≡ message_size self.now.contents }
     {
         message_size(&self.contents)
     }
 
-    /// The contents are cleared. Answers what the buffer cost.
+    /// Clears the contents, and returns what the buffer cost.
     pub fn clear(&mut self) -> Option<Cost>
         ensures cost { result ≡ self.old.buffer }
         ensures left { self.new ≡ cleared self.old.steps }

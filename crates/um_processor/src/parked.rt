@@ -8,7 +8,8 @@ use crate::context::Context;
 use std::marker::Model;
 use um_base::{Piece, Reply, Told};
 
-/// A thread that no processor runs, and what it is told where it was woken. The room for both is always there.
+/// The place of a thread index: the thread, if no processor runs it, and what it was told when it was woken. The room for both is always
+/// there.
 #[derive(Drop)]
 pub struct Parked {
     context: Box<Context>,
@@ -26,14 +27,14 @@ impl Model for Parked {
 }
 
 impl Parked {
-    /// Nobody's, with room for a thread.
+    /// An empty place, with room for a thread.
     pub fn empty(room: Box<Context>) -> Parked
         ensures { result ≡ record { context = None; told = None } }
     {
         Parked::of(room, false)
     }
 
-    /// That of a thread, if it is there, which is told nothing.
+    /// The place of a thread that is told nothing. `is_there` says whether the thread is there, or only the room for it.
     pub fn of(context: Box<Context>, is_there: bool) -> Parked
         ensures { result ≡ record { context = some_if is_there context.value; told = None } }
     {
@@ -62,7 +63,8 @@ impl Parked {
         self.is_told
     }
 
-    /// The thread goes on, for the room that it is given, and is told what stands there. Answers whether something did.
+    /// Takes the thread out, leaves the given room in its stead, and writes what the thread was told. Returns whether it was told
+    /// something.
     pub fn take(&mut self, context: &mut Box<Context>, told: &mut Told) -> bool
         requires { IsTrue (is_some self.old.context) }
         ensures left { self.new ≡ record { context = None; told = None } }
@@ -79,7 +81,7 @@ impl Parked {
         woken
     }
 
-    /// A thread is put there, for the room that is there.
+    /// Puts a thread here, and gives the room for it back.
     pub fn put(&mut self, context: &mut Box<Context>)
         ensures { self.new ≡ record self.old { context = Some (context.old.value) } }
     {
@@ -87,7 +89,7 @@ impl Parked {
         self.is_there = true;
     }
 
-    /// It is told this.
+    /// Leaves this for the thread to be told.
     pub fn tell(&mut self, told: &Told)
         ensures { self.new ≡ record self.old { told = Some told.now } }
     {

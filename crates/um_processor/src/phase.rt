@@ -1,6 +1,6 @@
 //! How far a processor is with the fine steps of its thread's next step, and what comes of a turn.
 
-/// The fine step that a processor makes next, where it has no object to clean, no claim to end and nobody to wake.
+/// The fine step that a processor makes next, if it has no object to clean, no claim to end and no thread to wake.
 #[derive(Clone, Copy, PartialEq, Eq)]
 pub enum Phase {
     /// It has no thread, and takes one.
@@ -23,7 +23,7 @@ pub enum Phase {
     RegionLoad,
     /// The event of an access to memory.
     Access,
-    /// Behind an access to memory the claim of the domain ends ..
+    /// After an access to memory the claim on the domain ends ..
     ReadDone,
     /// .. and the thread is let go.
     LetGo,
@@ -33,13 +33,13 @@ pub enum Phase {
     Edit,
     /// Before the event of a move the domain is claimed ..
     MoveClaim,
-    /// .. and the claim ends where the domain is initialised.
+    /// .. and the claim ends, if the domain is initialised.
     MoveDone,
     /// Before the event of a start the creator is held.
     StartHold,
     /// The event of a start.
     Start,
-    /// Behind a start the creator is let go ..
+    /// After a start the creator is let go ..
     StartLetGo,
     /// .. and the new thread gets ready.
     Add,
@@ -47,7 +47,7 @@ pub enum Phase {
     Show,
     /// The thread is put back.
     Park,
-    /// The thread isn't put back.
+    /// The thread stops running and isn't put back.
     Done,
 }
 
@@ -56,9 +56,9 @@ pub enum Phase {
 pub enum Turn {
     /// It made its next step.
     Made,
-    /// The site takes no such step now.
+    /// The site refuses such a step now.
     Busy,
-    /// Another step came before it at the site.
+    /// Others are at the site, or nothing more can be noted.
     Changed,
     /// It has no step that it could ask for.
     Stuck,

@@ -16,7 +16,7 @@ use std::alloc::Global;
 use um_base::Memory;
 use um_service::Outcome;
 
-/// The next step of a processor's thread, and what stands before it.
+/// A processor: its thread, and what it has to do before the thread's next step.
 #[derive(Drop)]
 pub struct Processor {
     running: Running,
@@ -26,12 +26,12 @@ pub struct Processor {
     ends: ArrayVec<u8, 2>,
     /// What came of a call's work, with the threads that are to be woken.
     outcome: Outcome,
-    /// How many of them were told.
+    /// How many of the woken threads were told.
     told: usize,
 }
 
 impl Processor {
-    /// One without a thread, with all the room that it is ever to need.
+    /// Makes a processor without a thread, with all the room that it will ever need.
     pub fn new(alloc: Global) -> Result<Processor, Memory>
         ensures { IfOk result (λ p. whole p ≡ idle) }
     {
@@ -44,7 +44,7 @@ impl Processor {
         })
     }
 
-    /// Whether it has no thread: then it has nothing to clean, no claim to end and nobody to wake.
+    /// Whether it has no thread. Then it also has nothing to clean, no claim to end and nobody to wake.
     #[tactic(auto, using(crate::proofs::Standings::none_idle, crate::proofs::Standings::some_busy))]
     pub fn is_idle(&self) -> bool
         ensures idle { result ≡ true → (whole self.now).todo ≡ [] }

@@ -1,4 +1,4 @@
-//! What a processor asks a site for where it needs to know no more than that the step was made.
+//! Steps of whose result a processor needs to know only that they were made, as data.
 
 ghost use Rattle.std.specs.Prelude.{IsTrue};
 ghost use Rattle.um_processor.specs.Requests.{Each, RequestedAt, is_short};
@@ -15,33 +15,33 @@ use crate::thread_act::ThreadAct;
 use um_base::{DOMAINS, Piece, ROWS, Row, THREADS, ThreadIx};
 use um_machine::Cost;
 
-/// A step at one of the sites. Of the word that it finds there, its processor needs nothing.
+/// A step at a site, of which the processor needs no answer.
 #[derive(Clone, Copy)]
 pub enum Request {
     Row(Row, RowAct),
     Thread(ThreadIx, ThreadAct),
     Domain(u8, DomainAct),
-    /// With what a pool pays or gets back.
+    /// A step at the heap, with what a pool pays or gets back.
     Heap(HeapAct, Option<Cost>),
-    /// Without a copy's bytes.
+    /// A step at the memory that copies no bytes to or from the buffer.
     Memory(MemoryAct),
-    /// A thread doesn't run any longer.
+    /// A thread stops running for good.
     Done,
 }
 
-/// How a processor goes on behind such a step.
+/// How a processor goes on after such a step.
 #[derive(Clone, Copy, PartialEq, Eq)]
 pub enum Onward {
-    /// Behind the event of a step the thread goes on as it is ..
+    /// After the event of a step the thread goes on as it is ..
     GoesOn,
-    /// .. or behind an access that isn't allowed, which is a fault or fails the call ..
+    /// .. or after an access that isn't allowed, with a fault or a failed call ..
     Faults,
     CopyFails,
     /// .. or with the reply of a domain's call ..
     Replies,
     /// .. or in user mode, at this script ..
     EntersUser(u8),
-    /// .. or with the doom of the thread behind this one.
+    /// .. or with the doom of the thread with the next index.
     Dooms(u8),
     /// The thread's next step is over.
     Expands,
@@ -50,7 +50,7 @@ pub enum Onward {
 }
 
 impl Request {
-    /// Asks the site.
+    /// Asks the site for the step.
     pub fn make<S: Sites>(&self, here: &Here, sites: &mut S) -> Turn
         requires image { S.IsOf here.now.image.now sites.old }
         requires few { IsTrue (is_short self.now) }

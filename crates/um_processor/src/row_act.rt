@@ -13,13 +13,13 @@ use crate::log::{checked, shown};
 use um_base::{Act, Addr, Errno, Event, Given, Kind, Leftover, Mode, SetSaid, ThreadIx, Want};
 use um_words::RowWord;
 
-/// The greatest step number: there the word takes no step.
+/// The greatest step number. A word that has reached it takes no step.
 const LAST: u32 = 0xf_ffff;
 
-/// What is asked of the word of a row, and by which thread.
+/// A step that a processor asks of a row's word, with the thread that makes it.
 #[derive(Clone, Copy)]
 pub enum RowAct {
-    /// To hold the object for a call, where it passes the check. Fits: the row has the wanted kind.
+    /// A check, which holds the object for a call if it passes. `fits` says whether the row has the wanted kind.
     Check {
         thread: ThreadIx,
         addr: Addr,
@@ -37,7 +37,7 @@ pub enum RowAct {
         thread: ThreadIx,
         who: ThreadIx,
     },
-    /// To pass the thread's permission on, where it has one and the other hasn't.
+    /// Passes the thread's permission on, if the thread has one and the other hasn't.
     Pass {
         thread: ThreadIx,
         who: ThreadIx,
@@ -48,7 +48,7 @@ pub enum RowAct {
         who: ThreadIx,
         addr: Addr,
     },
-    /// To drop a permission, where there is one.
+    /// Drops a permission, if there is one.
     Sweep {
         thread: ThreadIx,
         who: ThreadIx,
@@ -88,7 +88,7 @@ pub struct RowSaid {
     pub cleans: bool,
 }
 
-/// A row that says nothing.
+/// What a row says of a step that has no answer.
 const QUIET: RowSaid = RowSaid {
     verdict: None,
     given: Given::Done,
@@ -98,7 +98,7 @@ const QUIET: RowSaid = RowSaid {
     cleans: false,
 };
 
-/// A permission is taken away.
+/// Takes a permission away.
 fn drops(word: &mut RowWord, who: ThreadIx) -> RowSaid
     ensures word { word.new ≡ Rattle.um_words.specs.Rows.dropped word.old who.0 }
     ensures said { result ≡ Rattle.um_processor.specs.RowActs.drop_said (Rattle.um_words.specs.Rows.left_of word.old who.0) word.new }
@@ -118,7 +118,7 @@ fn drops(word: &mut RowWord, who: ThreadIx) -> RowSaid
 }
 
 impl RowAct {
-    /// Whether the word takes it.
+    /// Whether the word takes the step.
     fn is_taken(&self, word: &RowWord) -> bool
         ensures { result ≡ row_takes word.now (row_says word.now (row_act word.now self.now)) }
     {
@@ -138,7 +138,7 @@ impl RowAct {
         }
     }
 
-    /// What the word says, and the word that is left but for its step number.
+    /// Changes all of the word but its step number, and returns what the word says.
     fn take(&self, word: &mut RowWord) -> RowSaid
         requires { IsTrue (row_takes word.old (row_says word.old (row_act word.old self.now))) }
         ensures word { word.new ≡ row_after word.old (row_says word.old (row_act word.old self.now)) }
@@ -213,7 +213,7 @@ impl RowAct {
         }
     }
 
-    /// The word that the step leaves, with what it says; nothing where the word takes no such step.
+    /// The word that the step leaves, and what the word says, or `None` if the word takes no such step.
     pub fn make(&self, word: &RowWord) -> Option<(RowWord, RowSaid)>
         ensures { MatchOption result
             ((image : Image) (cpu x : ℕ) → Refuses (SiteState.row word.now) (row_made image cpu x word.now self.now))

@@ -1,4 +1,4 @@
-//! What a processor runs.
+//! The thread that a processor runs.
 
 mod accesses;
 mod calls;
@@ -39,11 +39,11 @@ use um_machine::Cost;
 pub struct Running {
     phase: Phase,
     context: Box<Context>,
-    /// Whether visits stood before its next step.
+    /// Whether visits of rows came before its next step.
     visited: bool,
-    /// The row that is visited next.
+    /// The row to visit next.
     row: u8,
-    /// The row of the queue at whose messages it looks.
+    /// The row of the queue whose message size it looks at.
     queue: u8,
     /// The thread that it starts.
     newborn: Newborn,
@@ -61,11 +61,11 @@ pub struct Running {
     reply: Reply,
     /// The size of a queue's messages.
     size: u32,
-    /// What the buffer of the object cost that it cleans.
+    /// What the buffer cost of the object that it cleans.
     charge: Option<Cost>,
 }
 
-/// One that nothing was loaded into.
+/// A region table into which nothing was loaded.
 fn no_table() -> Table {
     Table {
         key: TableKey {
@@ -80,7 +80,7 @@ fn no_table() -> Table {
 }
 
 impl Running {
-    /// That of a processor without a thread, with room for one and for a new one.
+    /// Makes the state of a processor without a thread, with room for one and for a thread that it starts.
     pub fn new(alloc: Global) -> Result<Running, Memory>
         ensures { IfOk result (λ r. processor_of r ≡ idle) }
     {
@@ -123,7 +123,7 @@ impl Running {
         self.phase
     }
 
-    /// The row that is visited next.
+    /// The row to visit next.
     pub fn row(&self) -> u8
         ensures { result ≡ self.now.row }
     {
@@ -138,7 +138,7 @@ impl Running {
         ThreadIx(self.context.thread())
     }
 
-    /// What the buffer of the object cost that it cleans.
+    /// What the buffer cost of the object that it cleans.
     pub fn charge(&self) -> Option<Cost>
         ensures { result ≡ self.now.charge }
     {

@@ -1,17 +1,17 @@
-//! What comes of a step that a site is asked for.
+//! What a site answers when it is asked for a step.
 
-/// What comes of a step that a site is asked for.
+/// What a site answers when it is asked for a step.
 #[derive(Clone, Copy, PartialEq, Eq)]
 pub enum Said<T> {
-    /// It was made, and the site says this.
+    /// The step was made, and the site says this.
     Made(T),
-    /// The site takes no such step now: nothing was made.
+    /// The site refuses such a step now. No step was made.
     Busy,
-    /// Another step came before it: nothing was made.
+    /// Others are at the site, or nothing more can be noted. No step was made.
     Changed,
 }
 
-/// What the site says of a step that was made. Where none was, the turn of the function around it ends.
+/// What the site says of the step, if it was made. If not, the calling function returns that turn.
 macro_rules! made {
     ($said:expr) => {
         match $said {
@@ -22,7 +22,7 @@ macro_rules! made {
     };
 }
 
-/// The word that a step leaves. Where the word takes no such step, the function around it has nothing to answer.
+/// The word that a step leaves. If the word takes no such step, the calling function returns `None`.
 macro_rules! next_word {
     ($act:expr, $word:expr) => {{
         if $word.number >= LAST || !$act.is_taken($word) {
@@ -35,7 +35,7 @@ macro_rules! next_word {
     }};
 }
 
-/// Goes on where a step was made. Where none was, the turn of the function around it ends.
+/// Goes on if a step was made. If not, the calling function returns that turn.
 macro_rules! took {
     ($turn:expr) => {
         match $turn {

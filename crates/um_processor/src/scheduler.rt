@@ -53,7 +53,7 @@ fn is_ready(waits: bool, is_told: bool) -> bool
     !waits || is_told
 }
 
-/// A thread joins the ready list, where it is ready.
+/// Adds a thread to the ready list, if it is ready.
 fn join(ready: &mut ArrayVec<u8, THREADS>, thread: u8, is_ready: bool)
     requires { length ready.old.items < THREADS }
     ensures items { ready.new.items ≡ behind is_ready thread ready.old.items }
@@ -64,7 +64,7 @@ fn join(ready: &mut ArrayVec<u8, THREADS>, thread: u8, is_ready: bool)
     }
 }
 
-/// The place of each thread index, nobody's.
+/// An empty place for each thread index.
 fn places(alloc: Global) -> Result<Vec<Parked>, Memory>
     ensures items { IfOk result (λ all. all.items ≡ replicate THREADS nobody) }
     ensures all { IfOk result (λ all. length all.items ≡ THREADS) }
@@ -111,7 +111,7 @@ fn all_resting(alloc: Global, threads: &[Thread]) -> Result<Vec<Parked>, Memory>
 }
 
 impl Scheduler {
-    /// No thread, and room for each.
+    /// Makes the contents without threads, with room for each.
     pub fn new(alloc: Global) -> Result<Scheduler, Memory>
         ensures { IfOk result (λ s. s ≡ scheduler_of [] (replicate THREADS nobody) 0) }
     {
@@ -122,7 +122,7 @@ impl Scheduler {
         })
     }
 
-    /// These threads, at rest, of which those are ready that are listed.
+    /// Makes the contents with these threads at rest. Those in the list are ready.
     pub fn at_rest(
         alloc: Global,
         ready: ArrayVec<u8, THREADS>,
@@ -140,7 +140,8 @@ impl Scheduler {
         })
     }
 
-    /// The first ready thread goes on, for the room that it is given, and is told what it was woken by. Answers whether something did.
+    /// Takes the first ready thread out, leaves the given room in its stead, and writes what the thread was told. Returns whether it was
+    /// told something, or `None` if no thread can be taken.
     pub fn take(&mut self, context: &mut Box<Context>, told: &mut Told) -> Option<bool>
         ensures { MatchOption result
             ((self.new ≡ self.old) × (context.new ≡ context.old) × (told.new ≡ told.old) × (has_ready self.old self.old.ready ≡ false))
@@ -164,7 +165,7 @@ impl Scheduler {
         Some(woken)
     }
 
-    /// A thread that isn't put back doesn't run any longer.
+    /// Counts one running thread less, for a thread that isn't put back. Returns whether one ran.
     pub fn done(&mut self) -> bool
         ensures made { IsTrue result → (0 < self.old.running) × (self.new ≡ one_less self.old) }
         ensures refused { result ≡ false → (self.new ≡ self.old) × (self.old.running ≡ 0) }
@@ -176,7 +177,7 @@ impl Scheduler {
         true
     }
 
-    /// A thread is put back, for the room that is there. Answers whether it is ready.
+    /// Puts a thread back, and gives the room for it back. Returns whether the thread is ready.
     pub fn park(&mut self, context: &mut Box<Context>) -> Option<bool>
         ensures { MatchOption result
             ((self.new ≡ self.old) × (context.new ≡ context.old) × ((nat_lt 0 self.old.running && has_place self.old) ≡ false))
@@ -196,7 +197,7 @@ impl Scheduler {
         Some(ready)
     }
 
-    /// A thread is told what woke it, and gets ready where it has been put back. Answers whether it does.
+    /// Tells a thread what woke it, and makes it ready if it has been put back. Returns whether it has.
     pub fn wake(&mut self, who: ThreadIx, told: &Told) -> Option<bool>
         requires { who.0 < THREADS }
         ensures { MatchOption result
@@ -213,7 +214,7 @@ impl Scheduler {
         Some(ready)
     }
 
-    /// A new thread gets ready, for the room that is there.
+    /// Makes a new thread ready, and gives the room for it back. Returns whether the ready list had a place.
     pub fn add(&mut self, context: &mut Box<Context>) -> bool
         ensures made { IsTrue result → IsTrue (has_place self.old) × (self.new ≡ put_back self.old true context.old.value) }
         ensures refused { result ≡ false → (self.new ≡ self.old) × (context.new ≡ context.old) × (has_place self.old ≡ false) }

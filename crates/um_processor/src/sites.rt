@@ -1,4 +1,4 @@
-//! How a processor reaches the sites.
+//! How a processor reaches the sites that it shares.
 
 ghost use Rattle.std.specs.Prelude.{◌≡◌, ◌<◌, ℕ, IsTrue, Option};
 ghost use Rattle.um_base.specs.{declared.limits.TheConstants.{DOMAINS, ROWS, THREADS}, Regions.{Partitions}};
@@ -43,31 +43,31 @@ use um_machine::{Cost, Pending};
 use um_service::Outcome;
 use um_words::{DomWord, ThreadWord};
 
-/// The sites that a processor shares with others, wherever they live. Each call asks for one step of a processor by its number.
-/// What the site has in it then, nobody else need know: some state of its sort, at which the step was made or is refused.
+/// The sites that a processor shares with others, wherever they are kept. Each call asks for one step by the processor with this number.
+/// The caller doesn't learn the site's state; its contract says that in some state of the site's sort the step was made or is refused.
 pub trait Sites {
     ghost use Rattle.um_base.specs.declared.image.Image.{Image};
     ghost use Rattle.um_fine.specs.Steps.{FineStep, Site};
 
-    /// They are those of this image.
+    /// The sites are those of this image.
     ghost IsOf: { Image → Self → Type 0 };
 
-    /// This step was made, and no other one.
+    /// This step was made, and no other.
     ghost Took: { Image → Self → FineStep → Self → Type 0 };
 
     /// No step was made.
     ghost Kept: { Self → Self → Type 0 };
 
-    /// Its processor may make this step next, as far as the sites keep that.
+    /// The processor may make this step next, as far as the sites keep track of that.
     ghost May: { Image → Self → FineStep → Type 0 };
 
-    /// This step can't be made now, by what its site was found to have in it.
+    /// This step can't be made now: its site was seen in a state that refuses it.
     ghost Shut: { Image → Self → FineStep → Self → Type 0 };
 
-    /// No step was made at this site, since others are at it, or since nothing more can be noted.
+    /// No step was made at this site, since others are at it or nothing more can be noted.
     ghost Contended: { Image → Self → Site → Self → Type 0 };
 
-    /// A step at the word of a row, and what the word says.
+    /// Makes a step at the word of a row. Returns what the word says.
     fn row(&mut self, here: &Here, row: Row, act: &RowAct) -> Said<RowSaid>
         requires image { IsOf here.now.image.now self.old }
         requires row { row.0 < ROWS }
@@ -78,7 +78,7 @@ pub trait Sites {
             ((w : RowWord) × Kept self.old self.new × Shut here.now.image.now self.old (row_made here.now.image.now here.now.cpu row.0 w act.now) self.new)
             (Kept self.old self.new × Contended here.now.image.now self.old (Site.row row.0) self.new) };
 
-    /// A step at the word of a thread index, and the word that it leaves.
+    /// Makes a step at the word of a thread index. Returns the word that it leaves.
     fn thread(&mut self, here: &Here, thread: ThreadIx, act: &ThreadAct) -> Said<ThreadWord>
         requires image { IsOf here.now.image.now self.old }
         requires thread { thread.0 < THREADS }
@@ -90,7 +90,7 @@ pub trait Sites {
             ((w : ThreadWord) × Kept self.old self.new × Shut here.now.image.now self.old (thread_made here.now.image.now here.now.cpu thread.0 w act.now) self.new)
             (Kept self.old self.new × Contended here.now.image.now self.old (Site.thread thread.0) self.new) };
 
-    /// A step at the word of a domain, and the word that it leaves.
+    /// Makes a step at the word of a domain. Returns the word that it leaves.
     fn domain(&mut self, here: &Here, domain: u8, act: &DomainAct) -> Said<DomWord>
         requires image { IsOf here.now.image.now self.old }
         requires domain { domain < DOMAINS }
@@ -101,7 +101,7 @@ pub trait Sites {
             ((w : DomWord) × Kept self.old self.new × Shut here.now.image.now self.old (domain_made here.now.image.now here.now.cpu domain w act.now) self.new)
             (Kept self.old self.new × Contended here.now.image.now self.old (Site.domain domain) self.new) };
 
-    /// The partitions of a domain are read for a region table: none where it isn't initialised.
+    /// Reads the partitions of a domain for a region table: none if the domain isn't initialised.
     fn load_parts(&mut self, here: &Here, domain: u8, parts: &mut Parts) -> Said<()>
         requires image { IsOf here.now.image.now self.old }
         requires domain { domain < DOMAINS }
@@ -112,7 +112,7 @@ pub trait Sites {
             ((n : ℕ) × (before : Option Partitions) × Kept self.old self.new × Shut here.now.image.now self.old (loaded_made here.now.image.now here.now.cpu domain n before) self.new × (parts.new ≡ parts.old))
             (Kept self.old self.new × Contended here.now.image.now self.old (Site.parts domain) self.new × (parts.new ≡ parts.old)) };
 
-    /// The partitions of a domain become what a call makes of them, which is a step of its thread. Answers its reply.
+    /// Changes the partitions of a domain as a call of this thread asks. Returns the call's reply.
     fn edit(&mut self, here: &Here, domain: u8, call: &Pending) -> Said<Reply>
         requires image { IsOf here.now.image.now self.old }
         requires domain { domain < DOMAINS }
@@ -123,7 +123,7 @@ pub trait Sites {
             ((n : ℕ) × (before : Option Partitions) × Kept self.old self.new × Shut here.now.image.now self.old (edited_made here.now.image.now here.now.cpu domain n before call.now) self.new)
             (Kept self.old self.new × Contended here.now.image.now self.old (Site.parts domain) self.new) };
 
-    /// A call's work on the object of a row, at this address. Writes what comes of it.
+    /// Does a call's work on the object of a row, at this address, and writes the outcome.
     fn work(
         &mut self,
         here: &Here,
@@ -143,7 +143,7 @@ pub trait Sites {
             ((n : ℕ) × (o : ObjectCell) × Kept self.old self.new × Shut here.now.image.now self.old (worked_made here.now.image.now here.now.cpu row.0 n o addr who.now) self.new × (outcome.new ≡ outcome.old))
             (Kept self.old self.new × Contended here.now.image.now self.old (Site.object row.0) self.new × (outcome.new ≡ outcome.old)) };
 
-    /// A thread gives a thread object, which is that of a row, this name.
+    /// Gives the thread object of a row this name, on behalf of a thread.
     fn name(
         &mut self,
         here: &Here,
@@ -161,7 +161,7 @@ pub trait Sites {
             ((n : ℕ) × (o : ObjectCell) × Kept self.old self.new × Shut here.now.image.now self.old (named_made here.now.image.now here.now.cpu row.0 n o thread who bytes.now) self.new)
             (Kept self.old self.new × Contended here.now.image.now self.old (Site.object row.0) self.new) };
 
-    /// A look at the size of the messages of the object of a row: 0 where it is no queue.
+    /// Looks at the message size of the object of a row: 0 if it is no queue.
     fn message_size(&mut self, here: &Here, row: Row) -> Said<u32>
         requires image { IsOf here.now.image.now self.old }
         requires row { row.0 < ROWS }
@@ -172,7 +172,7 @@ pub trait Sites {
             ((n : ℕ) × (o : ObjectCell) × Kept self.old self.new × Shut here.now.image.now self.old (looked_made here.now.image.now here.now.cpu row.0 n o) self.new)
             (Kept self.old self.new × Contended here.now.image.now self.old (Site.object row.0) self.new) };
 
-    /// What the object of a row keeps is cleared. Answers what its buffer cost.
+    /// Clears what the object of a row keeps. Returns what its buffer cost.
     fn clear(&mut self, here: &Here, row: Row) -> Said<Option<Cost>>
         requires image { IsOf here.now.image.now self.old }
         requires row { row.0 < ROWS }
@@ -183,7 +183,7 @@ pub trait Sites {
             ((n : ℕ) × (o : ObjectCell) × Kept self.old self.new × Shut here.now.image.now self.old (cleared_made here.now.image.now here.now.cpu row.0 n o) self.new)
             (Kept self.old self.new × Contended here.now.image.now self.old (Site.object row.0) self.new) };
 
-    /// A step at the memory's cell, and what the cell says. A copy reads or writes the buffer.
+    /// Makes a step at the memory's cell. Returns what the cell says. A copy reads or writes the buffer.
     fn memory(&mut self, here: &Here, act: &MemoryAct, buffer: &mut Piece) -> Said<MemorySaid>
         requires image { IsOf here.now.image.now self.old }
         requires few { IsTrue (has_room act.now) }
@@ -194,7 +194,7 @@ pub trait Sites {
             ((n : ℕ) × (m : Bytes) × Kept self.old self.new × Shut here.now.image.now self.old (memory_made here.now.image.now here.now.cpu n m act.now buffer.old) self.new × (buffer.new ≡ buffer.old))
             (Kept self.old self.new × Contended here.now.image.now self.old Site.memory self.new × (buffer.new ≡ buffer.old)) };
 
-    /// A step at the heap's cell, where a pool pays this or gets it back, and what the cell says.
+    /// Makes a step at the heap's cell, in which a pool pays this or gets it back. Returns what the cell says.
     fn heap(&mut self, here: &Here, act: &HeapAct, charge: Option<Cost>) -> Said<HeapSaid>
         requires image { IsOf here.now.image.now self.old }
         requires goes { (n : ℕ) (h : Heap) → May here.now.image.now self.old (heap_made here.now.image.now here.now.cpu n h act.now charge) }
@@ -204,7 +204,7 @@ pub trait Sites {
             ((n : ℕ) × (h : Heap) × Kept self.old self.new × Shut here.now.image.now self.old (heap_made here.now.image.now here.now.cpu n h act.now charge) self.new)
             (Kept self.old self.new × Contended here.now.image.now self.old Site.heap self.new) };
 
-    /// The first ready thread is taken, for the room that is given for it. Answers whether it was woken, and by what.
+    /// Takes the first ready thread, and leaves the given room in its stead. Returns whether it was woken, and writes what it was told.
     fn take(&mut self, here: &Here, context: &mut Box<Context>, told: &mut Told) -> Said<bool>
         requires image { IsOf here.now.image.now self.old }
         requires goes { (n : ℕ) (s : Scheduler) → May here.now.image.now self.old (taken_made here.now.image.now here.now.cpu n s) }
@@ -214,7 +214,7 @@ pub trait Sites {
             ((n : ℕ) × (s : Scheduler) × Kept self.old self.new × Shut here.now.image.now self.old (taken_made here.now.image.now here.now.cpu n s) self.new × (context.new ≡ context.old) × (told.new ≡ told.old))
             (Kept self.old self.new × Contended here.now.image.now self.old Site.scheduler self.new × (context.new ≡ context.old) × (told.new ≡ told.old)) };
 
-    /// A thread is told what woke it.
+    /// Tells a thread what woke it.
     fn wake(&mut self, here: &Here, who: ThreadIx, told: &Told) -> Said<()>
         requires image { IsOf here.now.image.now self.old }
         requires thread { who.0 < THREADS }
@@ -225,7 +225,7 @@ pub trait Sites {
             ((n : ℕ) × (s : Scheduler) × Kept self.old self.new × Shut here.now.image.now self.old (woken_made here.now.image.now here.now.cpu n s who told.now) self.new)
             (Kept self.old self.new × Contended here.now.image.now self.old Site.scheduler self.new) };
 
-    /// A new thread gets ready, for the room that was there. What is in that room, nothing says.
+    /// Makes a new thread ready, and gives back the room that was there. No contract says what is in that room.
     fn add(&mut self, here: &Here, context: &mut Box<Context>) -> Said<()>
         requires image { IsOf here.now.image.now self.old }
         requires goes { (n : ℕ) (s : Scheduler) → May here.now.image.now self.old (added_made here.now.image.now here.now.cpu n s context.old.value) }
@@ -235,7 +235,7 @@ pub trait Sites {
             ((n : ℕ) × (s : Scheduler) × Kept self.old self.new × Shut here.now.image.now self.old (added_made here.now.image.now here.now.cpu n s context.old.value) self.new × (context.new ≡ context.old))
             (Kept self.old self.new × Contended here.now.image.now self.old Site.scheduler self.new × (context.new ≡ context.old)) };
 
-    /// A thread is put back, for the room that was there. What is in that room, nothing says.
+    /// Puts a thread back, and gives back the room that was there. No contract says what is in that room.
     fn park(&mut self, here: &Here, context: &mut Box<Context>) -> Said<()>
         requires image { IsOf here.now.image.now self.old }
         requires goes { (n : ℕ) (s : Scheduler) → May here.now.image.now self.old (parked_made here.now.image.now here.now.cpu n s context.old.value) }
@@ -245,7 +245,7 @@ pub trait Sites {
             ((n : ℕ) × (s : Scheduler) × Kept self.old self.new × Shut here.now.image.now self.old (parked_made here.now.image.now here.now.cpu n s context.old.value) self.new × (context.new ≡ context.old))
             (Kept self.old self.new × Contended here.now.image.now self.old Site.scheduler self.new × (context.new ≡ context.old)) };
 
-    /// A thread that isn't put back doesn't run any longer.
+    /// Has a thread stop running that isn't put back.
     fn done(&mut self, here: &Here) -> Said<()>
         requires image { IsOf here.now.image.now self.old }
         requires goes { (n : ℕ) (s : Scheduler) → May here.now.image.now self.old (done_made here.now.image.now here.now.cpu n s) }

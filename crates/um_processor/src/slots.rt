@@ -2,7 +2,7 @@
 
 ghost use Rattle.std.specs.Prelude.{◌≡◌, slice_index_or, slice_set};
 
-/// What stands in a slot, or another value past the last one.
+/// What stands in a slot, or the given value past the last slot.
 pub fn get_or<T: Copy>(slots: &[T], i: usize, other: T) -> T
     ensures { result ≡ slice_index_or slots.now i other }
 {

@@ -8,7 +8,7 @@ use crate::scheduler::Scheduler;
 use um_words::{DomWord, RowWord, ThreadWord};
 
 /// The words of all rows, thread indices and domains, the cells of domains and of objects, each by its number, and the contents of the
-/// memory, the heap and the scheduler, without the steps that these three have taken.
+/// memory, the heap and the scheduler. The step counts of these three aren't in it.
 #[derive(Drop)]
 pub struct TableParts {
     pub rows: Vec<RowWord>,

@@ -1,4 +1,4 @@
-//! The sites in tables, of which only one call at a time makes a step.
+//! Sites as tables, at which one call at a time makes a step.
 
 ghost use Rattle.std.specs.{Prelude.{◌≡◌, length, vec_capacity}, List.{All}};
 ghost use Rattle.um_base.specs.declared.limits.TheConstants.{DOMAINS, ROWS, THREADS};
@@ -26,11 +26,11 @@ use um_machine::{Cost, Pending};
 use um_service::Outcome;
 use um_words::{DomWord, RowWord, ThreadWord};
 
-/// The greatest step number: there a cell takes no step.
+/// The greatest step number. A cell that has reached it takes no step.
 const LAST: u32 = 0xfff_ffff;
 
-/// The words of all rows, thread indices and domains, the cells of domains and of objects, and those of memory, the heap and the scheduler;
-/// and the events of all steps in their order. Where these leave no room for one more, no step is made that may show one.
+/// The words of all rows, thread indices and domains; the cells of domains and of objects, and those of memory, the heap and the scheduler;
+/// and the events of all steps in their order. If there is no room for one more event, no step is made that may show one.
 #[derive(Drop)]
 pub struct Tables {
     rows: Vec<RowWord>,
@@ -65,7 +65,7 @@ impl Model for Tables {
 }
 
 impl Tables {
-    /// Those with these words and cells, of which those of memory, the heap and the scheduler have taken no step, and with this log.
+    /// Makes tables from these words and cells, with this log. The cells of memory, the heap and the scheduler have taken no step.
     pub fn new(
         rows: Vec<RowWord>,
         threads: Vec<ThreadWord>,
@@ -110,14 +110,14 @@ impl Tables {
         self.log.as_slice()
     }
 
-    /// The same, and no tables any longer.
+    /// The same, and drops the tables.
     pub fn into_events(self) -> Vec<Event>
         ensures { result.items ≡ self.log }
     {
         self.log
     }
 
-    /// What the sites keep, and no tables any longer.
+    /// What the sites keep. Drops the tables.
     pub fn into_parts(self) -> TableParts
         ensures rows { result.rows.items ≡ self.rows }
         ensures threads { result.threads.items ≡ self.threads }

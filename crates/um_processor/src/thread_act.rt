@@ -15,19 +15,19 @@ use um_base::{Act, Addr, Cause, DOMAINS, Errno, Event, Kind, Mode, Reply, Thread
 use um_machine::Life;
 use um_words::ThreadWord;
 
-/// The greatest step number: there the word takes no step.
+/// The greatest step number. A word that has reached it takes no step.
 const LAST: u32 = 0xfff_ffff;
 
-/// What is asked of the word of a thread index, and by which thread.
+/// A step that a processor asks of a thread index's word, with the thread that makes it.
 #[derive(Clone, Copy)]
 pub enum ThreadAct {
-    /// To begin a line, unless the thread is doomed: then its word is read instead.
+    /// Begins a line, unless the thread is doomed; then its word is only read.
     Begin {
         thread: ThreadIx,
         script: u8,
         line: u16,
     },
-    /// To end after the last line, unless the thread is doomed: then its word is read instead.
+    /// Ends after the last line, unless the thread is doomed; then its word is only read.
     Exit {
         thread: ThreadIx,
     },
@@ -73,7 +73,7 @@ pub enum ThreadAct {
 }
 
 impl ThreadAct {
-    /// Whether the word takes it.
+    /// Whether the word takes the step.
     fn is_taken(&self, word: &ThreadWord) -> bool
         ensures { result ≡ thread_takes word.now (thread_answers word.now (thread_act self.now)) }
     {
@@ -92,7 +92,7 @@ impl ThreadAct {
         }
     }
 
-    /// What is left but for the step number.
+    /// Changes all of the word but its step number.
     fn take(&self, word: &mut ThreadWord)
         requires { IsTrue (thread_takes word.old (thread_answers word.old (thread_act self.now))) }
         ensures domain { word.old.domain < DOMAINS → word.new.domain < DOMAINS }
@@ -121,7 +121,7 @@ impl ThreadAct {
         }
     }
 
-    /// The word that the step leaves; nothing where the word takes no such step.
+    /// The word that the step leaves, or `None` if the word takes no such step.
     pub fn make(&self, word: &ThreadWord) -> Option<ThreadWord>
         ensures domain { word.now.domain < DOMAINS → IfSome result (λ next. next.domain < DOMAINS) }
         ensures made { MatchOption result

@@ -1,4 +1,4 @@
-//! How the own part of a new thread comes to be.
+//! The own part of a new thread.
 
 ghost use Rattle.std.specs.Prelude.{◌≡◌, ◌<◌};
 ghost use Rattle.um_base.specs.declared.limits.TheConstants.{THREADS};
@@ -8,7 +8,7 @@ use crate::context::Context;
 use crate::newborn::Newborn;
 
 impl Context {
-    /// Becomes that of a new thread.
+    /// Becomes the own part of a new thread.
     pub fn becomes(&mut self, newborn: &Newborn)
         requires { newborn.now.thread.0 < THREADS }
         ensures { self.new ≡ born newborn.now }

@@ -1,4 +1,4 @@
-//! How a thread's own part goes on behind its next step, and what it gives to its processor.
+//! How a thread's own part goes on after its next step, and what it gives to its processor.
 
 ghost use Rattle.std.specs.Prelude.{◌≡◌, [], drop};
 ghost use Rattle.um_fine.specs.Continues.{goes_on};
@@ -9,7 +9,7 @@ use arrayvec::ArrayVec;
 use um_base::Image;
 
 impl Context {
-    /// Goes on behind the next step, which stands behind visits or not.
+    /// Goes on after the next step. `visited` says whether visits stood before it.
     #[tactic(auto, using(crate::proofs::Fronts::dropped_twice))]
     pub fn leaves_step(&mut self, image: &Image, visited: bool)
         ensures { self.new ≡ goes_on image.now self.old (drop 1 (steps_behind visited self.old.pending)) }
@@ -21,7 +21,7 @@ impl Context {
         self.own.goes_on(image, 1);
     }
 
-    /// Gives the rows that its call holds, of which none is left.
+    /// Gives away the rows that its call holds, and keeps none.
     pub fn gives_claims(&mut self, claims: &mut ArrayVec<u8, 2>)
         requires { claims.old.items ≡ [] }
         ensures claims { claims.new.items ≡ self.old.claims }

@@ -19,7 +19,7 @@ use um_machine::places::{first_place, instruction_at};
 use um_steps::order;
 use um_steps::registers::put_begin;
 
-/// A thread of this index begins an instruction.
+/// Has the thread of this index begin an instruction.
 fn begin(image: &Image, t: usize, me: &mut Thread, instr: &Instr)
     requires thread { t < THREADS }
     requires sized { IsTrue (is_sized instr.now) }
@@ -31,7 +31,7 @@ fn begin(image: &Image, t: usize, me: &mut Thread, instr: &Instr)
 }
 
 impl Context {
-    /// The instruction at its place. It loads or stores a word at most.
+    /// The instruction at its place. A load or store in it has at most four bytes.
     #[tactic(auto, using(um_steps::proofs::SizeLemmas::sized_instruction))]
     fn instruction<'a>(&self, image: &'a Image) -> Option<&'a Instr>
         requires { IsGiven image.now }

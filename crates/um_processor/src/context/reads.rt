@@ -23,7 +23,7 @@ impl Context {
         self.own.pending.first()
     }
 
-    /// The step behind the next one.
+    /// The step after the next one.
     #[tactic(auto, using(crate::proofs::Fronts::second_is))]
     pub fn second(&self) -> Option<Pending>
         ensures step { MatchOption result (drop 1 self.now.pending ≡ []) (λ step. drop 1 self.now.pending ≡ step ∷ drop 2 self.now.pending) }
@@ -45,7 +45,7 @@ impl Context {
         self.own.stack
     }
 
-    /// -16 to 14; a lower number is a higher priority.
+    /// Its priority, -16 to 14. A lower number is a higher priority.
     pub fn priority(&self) -> i8
         ensures { result ≡ self.now.priority }
     {

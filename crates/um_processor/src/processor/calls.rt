@@ -1,4 +1,4 @@
-//! The steps behind a call: its claims end, and the woken are told.
+//! The steps after a call: its claims end, and the woken threads are told.
 
 ghost use Rattle.std.specs.Prelude.{◌≡◌, ◌<◌, [], false, length};
 ghost use Rattle.um_processor.specs.{
@@ -16,7 +16,7 @@ use crate::sites::Sites;
 use um_base::{ROWS, Row, THREADS};
 
 impl Processor {
-    /// The first claim ends. Where its row comes to cleaning by that, the object is to be cleaned.
+    /// Ends the first claim. If that brings the row to cleaning, the object joins those to clean.
     pub fn end_call<S: Sites>(&mut self, here: &Here, sites: &mut S) -> Turn
         requires runs { is_idle self.old.running.phase ≡ false }
         requires cleans { self.old.cleans ≡ [] }
@@ -35,7 +35,7 @@ impl Processor {
         Turn::Made
     }
 
-    /// The first woken thread that wasn't told is told what it waited for.
+    /// Tells the first woken thread that wasn't told yet what woke it.
     pub fn wake<S: Sites>(&mut self, here: &Here, sites: &mut S) -> Turn
         requires runs { is_idle self.old.running.phase ≡ false }
         requires cleans { self.old.cleans ≡ [] }

@@ -19,7 +19,8 @@ use um_base::{Addr, ROWS, Row, ThreadIx};
 use um_steps::rows::addr_of;
 
 impl Processor {
-    /// The permission of a thread that is gone is dropped at a row, where there is one. Where that row comes to cleaning, its object is to be cleaned too.
+    /// Drops the permission at a row of a thread whose object is gone, if there is one. If that brings the row to cleaning, its object
+    /// joins those to clean.
     pub fn clean_pair<S: Sites>(&mut self, here: &Here, who: u8, row: u8, sites: &mut S) -> Turn
         requires next { CleansNext self.old (Todo.clean_pair who row) }
         requires goes { CanTurn S.Sites here.now sites.old (whole self.old) }
@@ -44,7 +45,7 @@ impl Processor {
         Turn::Made
     }
 
-    /// What the object of a row keeps is cleared.
+    /// Clears what the object of a row keeps.
     pub fn wipe<S: Sites>(&mut self, here: &Here, row: u8, sites: &mut S) -> Turn
         requires next { CleansNext self.old (Todo.wipe row) }
         requires goes { CanTurn S.Sites here.now sites.old (whole self.old) }
@@ -60,7 +61,7 @@ impl Processor {
         Turn::Made
     }
 
-    /// The object leaves its row.
+    /// Vacates the object's row.
     pub fn vacate<S: Sites>(&mut self, here: &Here, row: u8, sites: &mut S) -> Turn
         requires next { CleansNext self.old (Todo.vacate row) }
         requires goes { CanTurn S.Sites here.now sites.old (whole self.old) }
@@ -73,7 +74,7 @@ impl Processor {
         Turn::Made
     }
 
-    /// The object is recycled, and its pool gets back what it and its buffer cost.
+    /// Recycles the object. Its pool gets back what it and its buffer cost.
     pub fn recycle<S: Sites>(&mut self, here: &Here, row: u8, sites: &mut S) -> Turn
         requires next { CleansNext self.old (Todo.recycle row) }
         requires goes { CanTurn S.Sites here.now sites.old (whole self.old) }

@@ -1,4 +1,4 @@
-//! The event of a thread's next step, and what it leaves to be done before the next one.
+//! The event of a thread's next step, and what has to be done after it, before the next step.
 
 ghost use Rattle.std.specs.Prelude.{IsTrue};
 ghost use Rattle.um_machine.specs.Limits.{IsSound, is_sound_ask};
@@ -20,7 +20,7 @@ use um_base::{Addr, Ask, ThreadIx};
 use um_machine::Pending;
 
 impl Processor {
-    /// The event of a step behind which claims end.
+    /// Makes the event of a step after which claims end.
     fn show_with_ends<S: Sites>(&mut self, here: &Here, step: &Pending, sites: &mut S) -> Turn
         requires subject { IsTrue (ends_claims step.now) }
         requires clear { IsClear self.old }
@@ -42,7 +42,7 @@ impl Processor {
         }
     }
 
-    /// The work of a call on the object at an address. The threads that it wakes are to be told.
+    /// Does a call's work on the object at an address. The threads that it wakes will be told.
     fn work<S: Sites>(&mut self, here: &Here, addr: Addr, ask: &Ask, sites: &mut S) -> Turn
         requires sound { IsTrue (is_sound_ask ask.now) }
         requires clear { IsClear self.old }
@@ -55,7 +55,7 @@ impl Processor {
         Turn::Made
     }
 
-    /// The permission of a thread for the object at an address is taken away. Where its row comes to cleaning by that, the object is to be cleaned.
+    /// Takes a thread's permission for the object at an address away. If that brings the row to cleaning, the object joins those to clean.
     fn take_away<S: Sites>(&mut self, here: &Here, who: ThreadIx, addr: Addr, sites: &mut S) -> Turn
         requires clear { IsClear self.old }
         requires goes { CanTurn S.Sites here.now sites.old (shows (Pending.DropPair who addr) self.old.running) }
@@ -69,7 +69,7 @@ impl Processor {
         turn
     }
 
-    /// The event of a step, if it has one.
+    /// Makes the event of a step, if it has one.
     fn show_step<S: Sites>(&mut self, here: &Here, step: &Pending, sites: &mut S) -> Turn
         requires sound { IsSound step.now }
         requires clear { IsClear self.old }
@@ -89,7 +89,7 @@ impl Processor {
         }
     }
 
-    /// The thread is put back.
+    /// Puts the thread back.
     fn park<S: Sites>(&mut self, here: &Here, sites: &mut S) -> Turn
         requires clear { IsClear self.old }
         requires goes { CanTurn S.Sites here.now sites.old (parks self.old.running) }
@@ -99,7 +99,7 @@ impl Processor {
         self.running.park(here, sites)
     }
 
-    /// The event of the thread's next step. Where it has none, it is put back.
+    /// Makes the event of the thread's next step. A thread without one is put back.
     pub fn show<S: Sites>(&mut self, here: &Here, sites: &mut S) -> Turn
         requires clear { IsClear self.old }
         requires goes { CanTurn S.Sites here.now sites.old (shows_next self.old.running) }

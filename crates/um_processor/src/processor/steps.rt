@@ -20,7 +20,7 @@ use crate::sites::Sites;
 use um_base::Image;
 
 impl Processor {
-    /// Nothing stands before its thread's next step any longer.
+    /// Forgets what had to be done before the thread's next step.
     #[tactic(auto, using(std::proofs::lemmas::List::drop_all))]
     fn clears(&mut self)
         ensures clear { IsClear self.new }
@@ -31,7 +31,7 @@ impl Processor {
         self.told = self.outcome.woken.len();
     }
 
-    /// The first ready thread is taken.
+    /// Takes the first ready thread.
     fn take<S: Sites>(&mut self, here: &Here, sites: &mut S) -> Turn
         requires idle { is_idle self.old.running.phase ≡ true }
         requires goes { CanTurn S.Sites here.now sites.old (whole self.old) }
@@ -43,7 +43,7 @@ impl Processor {
         Turn::Made
     }
 
-    /// A step of cleaning.
+    /// Makes a step of cleaning.
     fn clean<S: Sites>(&mut self, here: &Here, step: CleanStep, sites: &mut S) -> Turn
         requires next { CleansNext self.old (clean_todo step) }
         requires goes { CanTurn S.Sites here.now sites.old (whole self.old) }
@@ -58,7 +58,7 @@ impl Processor {
         }
     }
 
-    /// The thread exits after its last line.
+    /// Has the thread exit after its last line.
     fn exit<S: Sites>(&mut self, here: &Here, sites: &mut S) -> Turn
         requires clear { IsClear self.old }
         requires goes { CanTurn S.Sites here.now sites.old (in_phase Phase.Exit self.old.running) }
@@ -68,7 +68,7 @@ impl Processor {
         self.running.exit(here, &mut self.ends, sites)
     }
 
-    /// A row is visited to drop its permission. Where it comes to cleaning by that, its object is to be cleaned.
+    /// Visits a row to drop the thread's permission there. If that brings the row to cleaning, its object joins those to clean.
     fn drop_permission<S: Sites>(&mut self, here: &Here, sites: &mut S) -> Turn
         requires clear { IsClear self.old }
         requires goes { CanTurn S.Sites here.now sites.old (in_phase Phase.Drop self.old.running) }
@@ -82,7 +82,7 @@ impl Processor {
         turn
     }
 
-    /// A step behind which no more is to be done before the next one.
+    /// Makes a step after which nothing has to be done before the next one.
     fn go_plain<S: Sites>(&mut self, here: &Here, sites: &mut S) -> Turn
         requires given { IsGiven here.now.image.now }
         requires plain { IsTrue (is_plain_phase self.old.running.phase) }
@@ -94,7 +94,7 @@ impl Processor {
         self.running.go(here, sites)
     }
 
-    /// The thread's next step, in whatever phase it is.
+    /// Makes the thread's next fine step, in whatever phase it is.
     fn go<S: Sites>(&mut self, here: &Here, sites: &mut S) -> Turn
         requires given { IsGiven here.now.image.now }
         requires runs { is_idle self.old.running.phase ≡ false }
@@ -113,7 +113,7 @@ impl Processor {
         }
     }
 
-    /// The next step where no object is to be cleaned.
+    /// Makes the next step, given that no object has to be cleaned.
     #[tactic(auto, using(crate::proofs::Lifted::none_left, std::proofs::lemmas::List::drop_all))]
     fn step_behind<S: Sites>(&mut self, here: &Here, sites: &mut S) -> Turn
         requires given { IsGiven here.now.image.now }
@@ -132,7 +132,8 @@ impl Processor {
         self.go(here, sites)
     }
 
-    /// Makes its next step: it takes a thread where it has none; else it cleans, then ends claims, then wakes, and then its thread goes on.
+    /// Makes its next step. A processor without a thread takes one. Otherwise objects to clean come first, then claims to end, then threads
+    /// to wake, and then the thread's own step.
     pub fn step<S: Sites>(&mut self, image: &Image, cpu: u8, sites: &mut S) -> Turn
         requires sites { S.IsOf image.now sites.old }
         requires given { IsGiven image.now }

@@ -1,4 +1,4 @@
-//! The steps round an access to memory.
+//! The steps before and after an access to memory.
 
 ghost use Rattle.std.specs.Prelude.{◌≡◌};
 ghost use Rattle.um_fine.specs.Processor.{is_of, key_of, same_key};
@@ -40,7 +40,7 @@ fn is_user(mode: Mode) -> bool
 }
 
 impl Running {
-    /// Of which thread, stack, mode, domain and version a table has to be.
+    /// The thread, stack, mode, domain and version for which a table has to be loaded.
     fn key(&self) -> TableKey
         ensures { result ≡ key_of (in_phase Phase.ReadClaim self.now) }
     {
@@ -53,14 +53,14 @@ impl Running {
         }
     }
 
-    /// Whether the table is of this key.
+    /// Whether the table was loaded for this key.
     fn is_of(&self, key: &TableKey) -> bool
         ensures { result ≡ is_of key.now (some_if self.now.loaded self.now.table) }
     {
         self.loaded && same_key(&self.table.key, key)
     }
 
-    /// The size of a queue's messages is looked at.
+    /// Looks at the size of a queue's messages.
     pub fn look_at_size<S: Sites>(&mut self, here: &Here, sites: &mut S) -> Turn
         requires goes { CanTurn S.Sites here.now sites.old (in_phase Phase.SizeLook self.old) }
         ensures turn { HasRun S.Sites result here.now sites.old sites.new
@@ -75,7 +75,7 @@ impl Running {
         Turn::Made
     }
 
-    /// The thread is held, and its domain known.
+    /// Holds the thread, and learns its domain.
     pub fn hold<S: Sites>(&mut self, here: &Here, next: Phase, sites: &mut S) -> Turn
         requires holds { Holds here.now.cpu here.now.image.now self.old next }
         requires goes { CanTurn S.Sites here.now sites.old (processor_of self.old) }
@@ -89,7 +89,7 @@ impl Running {
         Turn::Made
     }
 
-    /// The domain is claimed. A table that is of its version isn't loaded again.
+    /// Claims the domain. A table of the domain's version isn't loaded again.
     pub fn claim_to_read<S: Sites>(&mut self, here: &Here, sites: &mut S) -> Turn
         requires goes { CanTurn S.Sites here.now sites.old (in_phase Phase.ReadClaim self.old) }
         ensures turn { HasRun S.Sites result here.now sites.old sites.new
@@ -109,7 +109,7 @@ impl Running {
         Turn::Made
     }
 
-    /// The region table is loaded.
+    /// Loads the region table.
     pub fn load_regions<S: Sites>(&mut self, here: &Here, sites: &mut S) -> Turn
         requires goes { CanTurn S.Sites here.now sites.old (in_phase Phase.RegionLoad self.old) }
         ensures turn { HasRun S.Sites result here.now sites.old sites.new

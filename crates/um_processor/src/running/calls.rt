@@ -32,7 +32,7 @@ pub struct Wanted {
 }
 
 impl Running {
-    /// The call answers. Its claims are to end.
+    /// Answers the call, whose claims are to end then.
     pub fn answer<S: Sites>(
         &mut self,
         here: &Here,
@@ -60,7 +60,7 @@ impl Running {
         Turn::Made
     }
 
-    /// An address is checked where an object may stand.
+    /// Checks an address at which an object may stand.
     fn check_row<S: Sites>(&mut self, here: &Here, row: Row, wanted: &Wanted, sites: &mut S) -> Turn
         requires row { row_at here.now.image.now wanted.now.addr.0 ≡ Some row.0 }
         requires small { row.0 < ROWS }
@@ -84,7 +84,7 @@ impl Running {
         Turn::Made
     }
 
-    /// An address is checked where no object can stand.
+    /// Checks an address at which no object can stand.
     fn check_nothing<S: Sites>(&mut self, here: &Here, wanted: &Wanted, sites: &mut S) -> Turn
         requires row { row_at here.now.image.now wanted.now.addr.0 ≡ None }
         requires room { length self.old.context.value.claims < 2 }
@@ -113,7 +113,7 @@ impl Running {
         Turn::Made
     }
 
-    /// An object is looked for, which the call holds where it passes the check.
+    /// Checks an object, which the call holds if the check passes.
     pub fn check<S: Sites>(&mut self, here: &Here, wanted: &Wanted, sites: &mut S) -> Turn
         requires goes { CanTurn S.Sites here.now sites.old (shows (check_for wanted.now) self.old) }
         ensures turn { HasRun S.Sites result here.now sites.old sites.new

@@ -30,7 +30,7 @@ impl Running {
         }
     }
 
-    /// Bytes are copied from memory, where that is allowed.
+    /// Copies bytes from memory, if that is allowed.
     pub fn copy_in<S: Sites>(
         &mut self,
         here: &Here,
@@ -59,7 +59,7 @@ impl Running {
         Turn::Made
     }
 
-    /// The bytes of the buffer are copied to memory, where that is allowed.
+    /// Copies the bytes of the buffer to memory, if that is allowed.
     pub fn copy_out<S: Sites>(&mut self, here: &Here, addr: Addr, sites: &mut S) -> Turn
         requires goes { CanTurn S.Sites here.now sites.old (shows (Pending.CopyOut addr) self.old) }
         ensures turn { HasRun S.Sites result here.now sites.old sites.new
@@ -82,7 +82,7 @@ impl Running {
         Turn::Made
     }
 
-    /// A text is copied from memory, as far as it may be read.
+    /// Copies a text from memory, as far as it may be read.
     pub fn copy_text<S: Sites>(&mut self, here: &Here, addr: Addr, sites: &mut S) -> Turn
         requires goes { CanTurn S.Sites here.now sites.old (shows (Pending.CopyStr addr) self.old) }
         ensures turn { HasRun S.Sites result here.now sites.old sites.new

@@ -16,7 +16,7 @@ use crate::sites::Sites;
 use um_base::{DOMAINS, Errno, Reply};
 
 impl Running {
-    /// Its partitions become what the call makes of them.
+    /// Changes the domain's partitions as the call asks.
     pub fn edit<S: Sites>(&mut self, here: &Here, sites: &mut S) -> Turn
         requires goes { CanTurn S.Sites here.now sites.old (in_phase Phase.Edit self.old) }
         ensures turn { HasRun S.Sites result here.now sites.old sites.new
@@ -33,7 +33,7 @@ impl Running {
         Turn::Made
     }
 
-    /// The domain to which a thread moves is claimed. It takes none where it isn't initialised.
+    /// Claims the domain to which a thread moves. A domain that isn't initialised takes no thread.
     pub fn claim_to_move<S: Sites>(&mut self, here: &Here, sites: &mut S) -> Turn
         requires goes { CanTurn S.Sites here.now sites.old (in_phase Phase.MoveClaim self.old) }
         ensures turn { HasRun S.Sites result here.now sites.old sites.new

@@ -22,7 +22,7 @@ use arrayvec::ArrayVec;
 use um_base::{Addr, Cause, Row, ThreadIx};
 
 impl Running {
-    /// The thread exits after its last line, unless it is doomed. The claims of its call are to end.
+    /// Has the thread exit after its last line, unless it is doomed. The claims of its call are to end then.
     pub fn exit<S: Sites>(&mut self, here: &Here, ends: &mut ArrayVec<u8, 2>, sites: &mut S) -> Turn
         requires none { ends.old.items ≡ [] }
         requires goes { CanTurn S.Sites here.now sites.old (in_phase Phase.Exit self.old) }
@@ -45,7 +45,7 @@ impl Running {
         Turn::Made
     }
 
-    /// The thread fails. The claims of its call are to end.
+    /// Has the thread fail. The claims of its call are to end then.
     pub fn fail<S: Sites>(
         &mut self,
         here: &Here,
@@ -72,7 +72,7 @@ impl Running {
         Turn::Made
     }
 
-    /// The permission of a thread for the object at an address is taken away. Answers in `cleans` whether the row came to cleaning.
+    /// Takes a thread's permission for the object at an address away, and writes to `cleans` whether the row came to cleaning.
     pub fn take_away<S: Sites>(
         &mut self,
         here: &Here,

@@ -1,4 +1,4 @@
-//! How a thread goes on behind an event as it is.
+//! How a thread goes on after an event that changes nothing of it.
 
 ghost use Rattle.std.specs.Prelude.{◌≡◌, ◌<◌, drop};
 ghost use Rattle.um_base.specs.Places.{own_row};
@@ -18,7 +18,7 @@ use crate::sites::Sites;
 use um_base::{Image, ROWS, Row, STATIC_ROWS, STATIC_THREADS, THREADS, ThreadIx};
 use um_steps::rows;
 
-/// The row of a thread's own object, which may be past the last row where there is no such thread.
+/// The row of a thread's own object. If there is no such thread, it may be past the last row.
 pub fn own_row(image: &Image, who: ThreadIx) -> usize
     ensures { result ≡ own_row image.now who.0 }
 {
@@ -31,7 +31,7 @@ pub fn own_row(image: &Image, who: ThreadIx) -> usize
 }
 
 impl Running {
-    /// How many of the thread's steps are over behind its next one, which stands behind visits or not.
+    /// How many pending steps are over after the next one: 2 if visits stood before it, else 1.
     #[tactic(auto, using(crate::proofs::Fronts::dropped_twice))]
     pub fn taken(&self) -> usize
         ensures some { 0 < result }
@@ -40,7 +40,7 @@ impl Running {
         if self.visited { 2 } else { 1 }
     }
 
-    /// Goes on behind the event of a step that stood in this phase.
+    /// Goes on after the event of a step, by the phase in which it stood.
     pub fn leaves(&mut self, image: &Image)
         ensures { processor_of self.new ≡ behind_event image.now self.old.phase self.old.context.value self.old }
     {
@@ -51,7 +51,7 @@ impl Running {
         }
     }
 
-    /// The thread goes on behind its next step, and so does the processor.
+    /// Has the thread go on after its next step, and the processor too.
     pub fn goes_on(&mut self, image: &Image)
         ensures { processor_of self.new ≡ behind_event image.now self.old.phase (goes_on image.now self.old.context.value (rest_of self.old)) self.old }
     {
@@ -59,7 +59,7 @@ impl Running {
         self.leaves(image);
     }
 
-    /// A thread is given the name in the buffer.
+    /// Gives a thread the name in the buffer.
     pub fn name<S: Sites>(&mut self, here: &Here, who: ThreadIx, sites: &mut S) -> Turn
         requires goes { CanTurn S.Sites here.now sites.old (shows (Pending.Named who) self.old) }
         ensures turn { HasRun S.Sites result here.now sites.old sites.new

@@ -25,7 +25,7 @@ impl Running {
         domain_named(&self.step())
     }
 
-    /// A step behind which no more is to be done before the next one.
+    /// Makes a step after which nothing has to be done before the next one.
     pub fn go<S: Sites>(&mut self, here: &Here, sites: &mut S) -> Turn
         requires given { IsGiven here.now.image.now }
         requires plain { IsTrue (is_plain_phase self.old.phase) }

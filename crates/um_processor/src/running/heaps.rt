@@ -21,7 +21,7 @@ use um_base::{Addr, Image, Kind};
 use um_steps::costs::cost_of;
 
 impl Running {
-    /// Goes on with the new object at this address, where there is one.
+    /// Goes on with the new object at this address, if there is one.
     fn reserves(&mut self, image: &Image, addr: Option<Addr>)
         ensures { processor_of self.new ≡ behind_event image.now self.old.phase (after_reserve image.now self.old.context.value (rest_of self.old) addr) self.old }
     {
@@ -39,7 +39,7 @@ impl Running {
         self.leaves(image);
     }
 
-    /// An address for a new object of this kind is asked for.
+    /// Asks for an address for a new object of this kind.
     pub fn reserve<S: Sites>(&mut self, here: &Here, kind: Kind, sites: &mut S) -> Turn
         requires goes { CanTurn S.Sites here.now sites.old (shows (Pending.Reserve kind) self.old) }
         ensures turn { HasRun S.Sites result here.now sites.old sites.new
@@ -53,7 +53,7 @@ impl Running {
         Turn::Made
     }
 
-    /// A buffer is asked for.
+    /// Asks for a buffer.
     pub fn buffer<S: Sites>(&mut self, here: &Here, size: u32, sites: &mut S) -> Turn
         requires goes { CanTurn S.Sites here.now sites.old (shows (Pending.Buffer size) self.old) }
         ensures turn { HasRun S.Sites result here.now sites.old sites.new

@@ -31,7 +31,7 @@ fn line_number(image: &Image, place: Place) -> Option<u16>
 }
 
 impl Running {
-    /// The thread begins its line, unless it is doomed: then it doesn't run any longer.
+    /// Has the thread begin its line, unless it is doomed; a doomed thread stops running.
     pub fn begin<S: Sites>(&mut self, here: &Here, sites: &mut S) -> Turn
         requires given { IsGiven here.now.image.now }
         requires goes { CanTurn S.Sites here.now sites.old (in_phase Phase.Begin self.old) }

@@ -21,7 +21,7 @@ use um_base::{Addr, Image, Row, SetSaid, ThreadIx};
 use um_steps::rows::own_row;
 
 impl Running {
-    /// Goes on after an object was to be marked as initialised.
+    /// Goes on after an attempt to mark an object as initialised.
     fn marks(&mut self, image: &Image, undo: Option<Addr>, said: SetSaid)
         ensures { processor_of self.new ≡ behind_event image.now self.old.phase (after_set image.now self.old.context.value undo (rest_of self.old) said) self.old }
     {
@@ -30,7 +30,7 @@ impl Running {
         self.leaves(image);
     }
 
-    /// The object at an address is marked as initialised. Undo: what is cleared first where that is refused.
+    /// Marks the object at an address as initialised. `undo` is what is cleared first if that is refused.
     pub fn set_init<S: Sites>(
         &mut self,
         here: &Here,
@@ -55,7 +55,7 @@ impl Running {
         Turn::Made
     }
 
-    /// The object at an address is marked as uninitialised. Where it is the thread's own, the claim of its life is to end.
+    /// Marks the object at an address as uninitialised. If it is the thread's own object, the claim of the thread's life is to end then.
     pub fn clear_init<S: Sites>(
         &mut self,
         here: &Here,

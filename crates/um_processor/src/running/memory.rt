@@ -42,7 +42,7 @@ fn or_fault(
 }
 
 impl Running {
-    /// Goes on behind a load of this number, or after its fault.
+    /// Goes on after a load of this number, or after its fault.
     fn loads_or_faults(&mut self, image: &Image, allowed: bool, to: u8, value: u32)
         ensures { processor_of self.new ≡ behind_event image.now self.old.phase (behind_load image.now self.old allowed to value) self.old }
     {
@@ -55,7 +55,7 @@ impl Running {
         self.leaves(image);
     }
 
-    /// A number is loaded into a register, or a fault comes in its place.
+    /// Loads a number into a register, or makes the fault in its place.
     pub fn load<S: Sites>(
         &mut self,
         here: &Here,

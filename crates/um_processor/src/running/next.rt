@@ -19,7 +19,7 @@ use um_machine::places::first_place;
 use um_machine::{Amount, Pending};
 use um_steps::rows::{own_row, row_at};
 
-/// The first phase of a copy: that of a message looks at its size.
+/// The first phase of a copy. A copy of a message begins with a look at the message's size.
 fn phase_of_amount(amount: &Amount) -> Phase
     ensures { result ≡ phase_of_amount amount.now }
 {
@@ -75,7 +75,7 @@ fn row_of_amount(image: &Image, amount: &Amount) -> u8
     }
 }
 
-/// The row of the queue at whose messages a copy looks.
+/// The row of the queue whose message size a copy looks at.
 fn queue_of(image: &Image, step: &Pending) -> u8
     ensures { result ≡ queue_of image.now step.now }
 {
@@ -122,7 +122,7 @@ fn newborn(image: &Image, context: &Context, step: &Pending) -> Newborn
     }
 }
 
-/// A row, unless it is the own one, and then the next.
+/// This row, or the next one if this is the thread's own.
 pub fn but(own: usize, row: u8) -> u8
     requires { row < 255 }
     ensures { result ≡ but own row }
@@ -131,7 +131,7 @@ pub fn but(own: usize, row: u8) -> u8
 }
 
 impl Running {
-    /// The next step, behind the visits, if there is one.
+    /// The next step after the visits, if there is one.
     #[tactic(auto, using(crate::proofs::Fronts::dropped_twice))]
     pub fn next_step(&self) -> Option<Pending>
         ensures step { let steps = steps_behind self.now.visited self.now.context.value.pending in MatchOption result (steps ≡ []) (λ step. steps ≡ step ∷ rest_of self.now) }
@@ -143,7 +143,7 @@ impl Running {
         self.context.first()
     }
 
-    /// The next step, behind the visits.
+    /// The next step after the visits.
     pub fn step(&self) -> Pending
         ensures { result ≡ first_of (steps_behind self.now.visited self.now.context.value.pending) }
     {
@@ -153,7 +153,7 @@ impl Running {
         }
     }
 
-    /// Readies this step, behind visits or not.
+    /// Readies this step. `visited` says whether visits come before it.
     fn readies(&mut self, image: &Image, step: &Pending, visited: bool)
         ensures queue { self.new.queue ≡ queue_of image.now step.now }
         ensures newborn { born self.new.newborn ≡ newborn image.now self.old.context.value step.now }

@@ -1,4 +1,5 @@
-//! The steps of which a processor needs to know no more than that they were made: what each asks for, and how the processor goes on.
+//! The steps that a processor makes as requests, since it needs to know only that they were made: what each asks for, and how the processor
+//! goes on.
 
 ghost use Rattle.std.specs.Prelude.{◌≡◌, IsTrue, MatchOption, Some};
 ghost use Rattle.um_base.specs.Places.{own_row};
@@ -40,7 +41,7 @@ fn fails(reply: Reply) -> bool
     }
 }
 
-/// A request behind which the thread goes on as it is.
+/// A request after which the thread goes on as it is.
 fn plainly(request: Request) -> Option<(Request, Onward)>
     ensures { result ≡ Some (request, Onward.GoesOn) }
 {
@@ -48,7 +49,8 @@ fn plainly(request: Request) -> Option<(Request, Onward)>
 }
 
 impl Running {
-    /// What the event of a move to a domain asks for: the thread has the domain in its word, unless that isn't initialised, whose claim ends then.
+    /// What the event of a move to a domain asks for. If the domain is initialised, the thread's word gets it. If not, the move fails, and
+    /// its event ends the claim on the domain.
     fn move_request(&self, here: &Here, domain: u8, who: ThreadIx) -> Request
         ensures { Leads here.now.cpu here.now.image.now (shows (Pending.DomMove domain who) self.now) result (gone_on here.now.image.now Onward.Replies self.now) }
     {
@@ -72,7 +74,7 @@ impl Running {
         Request::Thread(who, act)
     }
 
-    /// What the event of a call on a domain asks for, with the reply that was worked out before: the claim ends.
+    /// What the event of a call on a domain asks for, with the reply that was worked out before. The event ends the claim.
     fn edit_request(&self, here: &Here, step: &Pending) -> Request
         requires { IsTrue (is_edit step.now) }
         ensures { Leads here.now.cpu here.now.image.now (shows step.now self.now) result (gone_on here.now.image.now Onward.Replies self.now) }
@@ -121,7 +123,8 @@ impl Running {
         }
     }
 
-    /// What the event of an access to memory asks for. Where the region table doesn't allow the access, a fault comes in its place, or the copy fails.
+    /// What the event of an access to memory asks for. If the region table doesn't allow the access, a fault comes in its place, or the
+    /// copy fails.
     fn access_request(&self, here: &Here, step: &Pending) -> (Request, Onward)
         requires { IsTrue (is_access step.now) }
         ensures { Leads here.now.cpu here.now.image.now (shows step.now self.now) result.0 (gone_on here.now.image.now result.1 self.now) }
@@ -181,7 +184,7 @@ impl Running {
         }
     }
 
-    /// What the event of a step asks for, of which the site says nothing that the thread needs. Nothing where it names no row.
+    /// What the event of such a step asks for, or `None` if the step names no row.
     fn event_request(&self, here: &Here, step: &Pending) -> Option<(Request, Onward)>
         requires { IsTrue (is_quiet step.now) }
         ensures { MatchOption result
@@ -243,7 +246,7 @@ impl Running {
         }
     }
 
-    /// Goes on behind such a step.
+    /// Goes on after such a step.
     fn goes(&mut self, image: &Image, onward: Onward)
         ensures { processor_of self.new ≡ gone_on image.now onward self.old }
     {
@@ -275,7 +278,7 @@ impl Running {
         }
     }
 
-    /// The event of a step of which the site says nothing that the thread needs.
+    /// Makes the event of such a step.
     pub fn show_quiet<S: Sites>(&mut self, here: &Here, step: &Pending, sites: &mut S) -> Turn
         requires quiet { IsTrue (is_quiet step.now) }
         requires goes { CanTurn S.Sites here.now sites.old (shows step.now self.old) }
@@ -291,7 +294,7 @@ impl Running {
         Turn::Made
     }
 
-    /// A fine step before or behind an event, of which the site says nothing that the processor needs.
+    /// Makes a fine step before or after an event, as a request.
     pub fn ask<S: Sites>(
         &mut self,
         here: &Here,

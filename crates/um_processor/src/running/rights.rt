@@ -28,7 +28,7 @@ fn covers(range: Range, a: u32, n: u32) -> bool
     range.start.0 <= a && a as u64 + n as u64 <= range.start.0 as u64 + range.size as u64
 }
 
-/// Whether one of these partitions allows it.
+/// Whether one of these partitions allows the access.
 fn parts_allow(parts: &[(Range, Attr)], mode: Mode, access: Access, a: u32, n: u32) -> bool
     ensures { result ≡ list_any (λ (part : Range × Attr). region_allows access a n (partition_region mode part)) parts.now }
 {
@@ -36,7 +36,7 @@ fn parts_allow(parts: &[(Range, Attr)], mode: Mode, access: Access, a: u32, n: u
 }
 
 impl Running {
-    /// Whether the table allows this with n bytes from an address on.
+    /// Whether the table allows this access to n bytes from an address on.
     #[tactic(auto, using(um_steps::proofs::RegionLemmas::regions_allow))]
     pub fn allows(&self, image: &Image, access: Access, a: u32, n: u32) -> bool
         ensures { result ≡ allows image.now (in_phase Phase.Park self.now) access a n }

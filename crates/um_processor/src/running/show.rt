@@ -15,7 +15,7 @@ use crate::sites::Sites;
 use um_machine::Pending;
 
 impl Running {
-    /// The event of a step behind which the thread goes on, and no more is to be done before.
+    /// Makes the event of a step after which the thread goes on at once.
     pub fn show<S: Sites>(&mut self, here: &Here, step: &Pending, sites: &mut S) -> Turn
         requires plain { IsTrue (is_plain step.now) }
         requires goes { CanTurn S.Sites here.now sites.old (shows step.now self.old) }

@@ -26,7 +26,7 @@ impl Running {
         };
     }
 
-    /// The first ready thread is taken, and goes on where it was woken.
+    /// Takes the first ready thread. A thread that was woken goes on in the same step.
     pub fn take<S: Sites>(&mut self, here: &Here, sites: &mut S) -> Turn
         requires goes { CanTurn S.Sites here.now sites.old (in_phase Phase.Idle self.old) }
         ensures turn { HasRun S.Sites result here.now sites.old sites.new
@@ -42,7 +42,7 @@ impl Running {
         Turn::Made
     }
 
-    /// The thread is put back.
+    /// Puts the thread back.
     pub fn park<S: Sites>(&mut self, here: &Here, sites: &mut S) -> Turn
         requires goes { CanTurn S.Sites here.now sites.old (parks self.old) }
         ensures turn { HasRun S.Sites result here.now sites.old sites.new
@@ -53,7 +53,7 @@ impl Running {
         Turn::Made
     }
 
-    /// The new thread gets ready.
+    /// Makes the new thread ready.
     pub fn add<S: Sites>(&mut self, here: &Here, sites: &mut S) -> Turn
         requires goes { CanTurn S.Sites here.now sites.old (in_phase Phase.Add self.old) }
         ensures turn { HasRun S.Sites result here.now sites.old sites.new

@@ -30,7 +30,7 @@ impl Running {
         }
     }
 
-    /// Goes to the visit of this row, or to the thread's next step where there is no such row.
+    /// Goes to the visit of this row, or to the thread's next step if there is no such row.
     pub fn visits(&mut self, row: u8, phase: Phase)
         ensures { self.new ≡ visiting row phase self.old }
     {
@@ -51,7 +51,7 @@ impl Running {
         self.context.drops_from(row);
     }
 
-    /// The permission on the object of a row is passed on, where the other thread hasn't it.
+    /// Passes the permission on the object of a row on, if the other thread hasn't it.
     pub fn pass<S: Sites>(&mut self, here: &Here, sites: &mut S) -> Turn
         requires goes { CanTurn S.Sites here.now sites.old (in_phase Phase.Pass self.old) }
         ensures turn { HasRun S.Sites result here.now sites.old sites.new
@@ -73,7 +73,7 @@ impl Running {
         Turn::Made
     }
 
-    /// The permission on the object of a row is dropped, where there is one. Answers in `cleans` whether the row came to cleaning.
+    /// Drops the permission on the object of a row, if there is one, and writes to `cleans` whether the row came to cleaning.
     pub fn drop_permission<S: Sites>(
         &mut self,
         here: &Here,

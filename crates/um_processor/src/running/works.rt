@@ -46,7 +46,7 @@ impl Running {
         self.leaves(image);
     }
 
-    /// The work of a call on the object at an address. Writes what comes of it: the threads that it wakes are to be told.
+    /// Does a call's work on the object at an address, and writes the outcome, whose woken threads are to be told.
     pub fn work<S: Sites>(
         &mut self,
         here: &Here,
