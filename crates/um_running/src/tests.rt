@@ -37,7 +37,7 @@ fn words_of(alloc: Global, line: &str) -> Result<Vec<String>, Fail> {
     Ok(words)
 }
 
-/// A source of a description, which gives so many bytes a call. The calls of these numbers fail.
+/// A source of a description, which gives this many bytes a call. The calls of these numbers fail.
 pub fn source_of(
     alloc: Global,
     description: &str,
@@ -87,7 +87,7 @@ pub fn call<R: AllocGlobal + Threads + Wait + Sync, G: Gate + Sync>(
     call_between(rt, line, source, out, err, gate)
 }
 
-/// A command over memory, with so many bytes a call, where nothing fails.
+/// A command over memory, with this many bytes a call, where nothing fails.
 pub fn in_pieces<R: AllocGlobal + Threads + Wait + Sync>(
     rt: &R,
     line: &str,

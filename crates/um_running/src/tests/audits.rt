@@ -36,7 +36,7 @@ fn without(alloc: Global, number: usize) -> Result<Vec<u8>, Fail> {
 /// The bytes of the partition before its last one.
 const ZEROS: &str = "00000000000000000000000000000000000000000000000000000000000000";
 
-/// The text of the run with another end behind the zeros of its last line.
+/// The text of the run, with another end of its last line after the zeros.
 fn ended_by(alloc: Global, end: &str) -> Result<Vec<u8>, Fail> {
     let mut text = without(alloc, 14)?;
     let line = format!(in alloc; "memory 0x20000000 {ZEROS}{end}")?;

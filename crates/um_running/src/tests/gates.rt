@@ -17,7 +17,7 @@ const MOST_TURNS: u64 = 100_000_000;
 /// The step of a processor that is never held.
 const NEVER: u64 = u64::MAX;
 
-/// A processor that is held once, at its call with this step, until the gate was called for the other one with that one's step.
+/// A processor that is held once: at its call with this step, until the gate was called for the other processor with that one's step.
 #[derive(Drop)]
 struct Side {
     step: u64,
@@ -64,7 +64,7 @@ impl Meeting {
         Meeting::new(Side::new(NEVER, 0), Side::new(0, step))
     }
 
-    /// Holds the caller until the gate was called for a processor with this step, or no turn is left.
+    /// Holds the caller until the gate was called for a processor with this step, or all turns are used up.
     fn hold(&self, other: &Side, step: u64) {
         for _ in 0..MOST_TURNS {
             if other.has_come(step) || self.turns.fetch_add(1, Ordering::SeqCst) >= MOST_TURNS {
@@ -74,7 +74,7 @@ impl Meeting {
         }
     }
 
-    /// Whether the gate was called for both, and nobody was let go for want of a turn.
+    /// Whether the gate was called for both, and no hold ended because its turns were used up.
     pub fn has_met(&self) -> bool {
         self.zero.has_come(0)
             && self.one.has_come(0)
@@ -110,9 +110,9 @@ fn each_processor_waits_for_the_other(rt: HostRuntime) -> Result<(), Fail> {
     Ok(())
 }
 
-/// Where the check of the thread on processor 1 stands, when it is made while processor 0 is held before its step of this number.
-/// Processor 0 takes a thread, begins a line, checks the target of the grant, checks the object, and grants, a step each, and then
-/// runs its thread: so the other processor, which has nothing left to run, asks again and again.
+/// The place of the check by the thread on processor 1, if it is made while processor 0 is held before its step with this number. Processor
+/// 0 takes a thread, begins a line, checks the target of the grant, checks the object, and grants, each in one step. Then it runs its
+/// thread on, while the other processor has nothing left to run and asks again and again.
 #[test]
 fn a_check_stands_where_it_was_made(rt: HostRuntime) -> Result<(), Fail> {
     let refused = "t1 check s0 sem init EPERM\n";

@@ -23,7 +23,7 @@ fn count_of(text: &[u8], words: &str) -> usize {
     count
 }
 
-/// Where both threads of the last release found the object, one drop was the last one.
+/// If both threads of the last release found the object, one drop was the last one.
 pub fn drops_once(rt: &impl Abort, text: &[u8]) {
     if count_of(text, "check #16 any any ok\n") == 3 {
         assert_eq!(rt; count_of(text, " #16 gone\n"), 1);

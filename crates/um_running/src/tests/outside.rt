@@ -26,7 +26,7 @@ fn a_read_fails(rt: HostRuntime) -> Result<(), Fail> {
     Ok(())
 }
 
-/// A command whose write of this number fails tells so, and wrote what the whole begins with.
+/// A command whose write with this number fails says so, and wrote a prefix of its text.
 fn fails_at<R: Abort + AllocGlobal + Threads + Wait + Sync>(
     rt: &R,
     line: &str,

@@ -1,4 +1,4 @@
-//! Runs on several processors of one thread, by what holds of every order.
+//! Runs on several processors in one thread: what holds of every order.
 
 use super::lines::{drops_once, place_of};
 use super::{Ended, answered};

@@ -1,4 +1,4 @@
-//! Runs by what holds of every order.
+//! Runs: what holds of every order.
 
 ghost use Rattle.um_base.specs.Lawful.{IsLawful};
 
