@@ -11,7 +11,7 @@ use Rattle.um_matrix.specs.Alone.{IsNext}
 use Rattle.um_matrix.specs.Offered.{is_cleaning}
 use Rattle.um_scheduler.specs.Schedule.{behind_next, boots_ready, goes_on, next_ready, ready_after, running_or}
 
--- Where a run stands: the threads that are ready, the one that waits longest at the front; the thread whose instruction isn't over; and the
+-- The order so far: the ready threads, with the one that has waited longest at the front; the thread whose instruction isn't over; and the
 -- thread of the last event.
 pub record Point : Type 0 where
   pub state : State
@@ -35,19 +35,19 @@ abbrev pub CleansNone : State → Option ThreadIx → Type 0
 CleansNone s None = Unit {0}
 CleansNone s (Some t) = (act : Act) (s2 : State) → IsCleaning s (record { thread = t; act = act }) s2 → ⊥
 
--- A cleaning step is by the thread of the last event, and goes between its events and those of others.
+-- A cleaning step is made by the thread of the last event. It may stand between the events of an instruction.
 pub record CleansUp (p : Point) (event : Event) (p2 : Point) : Type 0 where
   pub by : p.last ≡ Some event.thread
   pub made : IsCleaning p.state event p2.state
   pub leaves : p2 ≡ record p { state = p2.state }
 
--- the threads that are ready behind the one that goes on
+-- the threads that are ready after the one that goes on
 abbrev pub waiting : Point → List ℕ
 waiting p = if is_some p.inside then p.ready else behind_next p.state p.ready
 
--- Where no cleaning step is lawful, the thread goes on whose instruction isn't over, or the first goes on that is ready and doesn't stand still. It
--- makes its next step, with the least row that this may take. Those whom it starts or wakes are ready behind the others, and it behind them
--- where it is at rest.
+-- If no cleaning step is lawful, the thread whose instruction isn't over goes on; if there is none, the first ready thread that doesn't
+-- stand still. It makes its next step, with the least row that this may take. The threads that it starts or wakes join the ready list at
+-- the back, and so does it, after them, if it is at rest.
 pub record GoesOn (p : Point) (event : Event) (p2 : Point) : Type 0 where
   pub clean : CleansNone p.state p.last
   pub thread : running_or p.inside (next_ready p.state p.ready) ≡ Some event.thread

@@ -5,7 +5,7 @@ use Rattle.rand_pcg.specs.Lcg.{Lcg}
 use Rattle.rand_pcg.specs.Pcg.{pcg32, pcg32_of_seed}
 use Rattle.um_scheduler.specs.declared.order.Order.{Order}
 
--- Of so many processors one after another, going round, at n turns from turn i on.
+-- The processors at n turns from turn i on, one after another, going round.
 abbrev pub round_from : ℕ → ℕ → ℕ → List ℕ
 round_from cpus i zero = []
 round_from cpus i (suc n) = i % cpus ∷ round_from cpus (i + 1) n

@@ -44,7 +44,7 @@ is_still s t = let me = thread_at s t in me.doomed && length me.pending == 0
 abbrev pub is_at_rest : State → ℕ → Bool
 is_at_rest s t = let me = thread_at s t in is_living me.life && length me.pending == 0
 
--- a thread goes on with its instruction: it has a step left, and isn't one that waits
+-- a thread goes on with its instruction: it has a step left, and doesn't wait
 abbrev pub is_ready_step : Bool → Option Pending → Bool
 is_ready_step told None = false
 is_ready_step told (Some Pending.Resume) = told
@@ -61,7 +61,7 @@ readied act = []
 
 -- The ready list.
 
--- the first of these threads that doesn't stand still, and those behind it: the others leave the list
+-- the first of these threads that doesn't stand still, and those after it. Those before it leave the list
 abbrev pub next_ready : State → List ℕ → Option ThreadIx
 next_ready s [] = None
 next_ready s (t ∷ ts) = if is_still s t then next_ready s ts else Some (to_thread t)
@@ -82,7 +82,7 @@ abbrev pub left_ready : Turn → ℕ → List ℕ
 left_ready turn cpu =
     if is_some (processor_at turn cpu).running then turn.ready else behind_next turn.state turn.ready
 
--- those that are ready after an event of a thread: those whom it starts or wakes go to the back, and the thread where it is at rest
+-- the ready threads after an event of a thread: those that it starts or wakes go to the back, and then the thread itself if it is at rest
 abbrev pub ready_after : List ℕ → ℕ → Act → State → List ℕ
 ready_after ready t act s2 = let others = all_join ready (readied act) in if is_at_rest s2 t then joins others t else others
 
@@ -96,7 +96,7 @@ is_listed processors x = list_any (λ (p : Processor). stands p.to_clean x) proc
 abbrev pub comes_up : State → List Processor → ℕ → Bool
 comes_up s processors x = is_forsaken s x && not (is_listed processors x)
 
--- so many rows from one on
+-- this many rows from one on
 abbrev pub rows_from : ℕ → ℕ → List ℕ
 rows_from x zero = []
 rows_from x (suc n) = x ∷ rows_from (x + 1) n
@@ -111,7 +111,7 @@ settled turn cpu =
     let p = processor_at turn cpu in
     with_processor turn cpu (record p { to_clean = all_join p.to_clean (came_up turn.state turn.processors) })
 
--- an object that was recycled is done with
+-- an object that was recycled leaves the list of its processor
 abbrev pub left_to_clean : Act → List ℕ → List ℕ
 left_to_clean (Act.Recycle a) rows = drop 1 rows
 left_to_clean act rows = rows
@@ -202,7 +202,7 @@ abbrev pub boots_ready : Image → List ℕ → List Boot → List ℕ
 boots_ready image line [] = line
 boots_ready image line (boot ∷ boots) = boots_ready image (joins_some line (thread_of_row image boot.thread.0)) boots
 
--- so many processors that run no thread, and the boot threads ready in their order
+-- this many processors that run no thread, and the boot threads ready in their order
 abbrev pub opening_turn : Image → ℕ → Turn
 opening_turn image cpus =
     record { state = opening image; ready = boots_ready image [] image.boots; processors = replicate cpus idle }

@@ -13,7 +13,7 @@ Leads turn [] (event ∷ events) turn2 = ⊥
 Leads turn (first ∷ firsts) [] turn2 = ⊥
 Leads turn (first ∷ firsts) (event ∷ events) turn2 = (mid : Turn) × NextGoes turn first event mid × Leads mid firsts events turn2
 
--- The events of a run, from the opening of an image to a state, are those of so many processors, which are preferred round and round
+-- The events of a run, from the opening of an image to a state, are those of this many processors, which are preferred round and round
 -- or as a pick draws them.
 abbrev pub IsScheduled : Image → ℕ → Option ℕ → List Event → State → Type 0
 IsScheduled image cpus pick events last =

@@ -24,7 +24,7 @@ impl Model for Line {
 }
 
 impl Line {
-    /// None.
+    /// An empty line.
     pub fn new() -> Line
         ensures { result ≡ [] }
     {
@@ -52,7 +52,7 @@ impl Line {
         false
     }
 
-    /// A number goes to the back, unless it stands in the line.
+    /// Puts a number at the back, unless it stands in the line.
     pub fn add(&mut self, number: u8)
         ensures { self.new ≡ joins self.old number }
     {
@@ -71,7 +71,7 @@ impl Line {
         }
     }
 
-    /// Takes the number at the front.
+    /// Takes the number at the front out.
     pub fn take(&mut self) -> Option<u8>
         ensures first { result ≡ slice_get self.old 0 }
         ensures rest { self.new ≡ drop 1 self.old }

@@ -10,14 +10,14 @@ use rand_pcg::Lcg64Xsh32;
 /// The order in which processors are preferred: one after another, or as numbers are drawn.
 #[derive(Drop)]
 pub enum Order {
-    /// The next one.
+    /// One after another: the number of the next one.
     Round(u8),
-    /// The words of a generator.
+    /// As the words of a generator fall.
     Drawn(Lcg64Xsh32),
 }
 
 impl Order {
-    /// Round and round from the first on, or drawn by a seed.
+    /// Makes the order: one after another from the first on, or drawn from a seed.
     #[tactic(auto, unfolding(crate::specs::Order::seeded))]
     pub fn new(pick: Option<u64>) -> Order
         ensures { (cpus n : ℕ) → coming cpus result n ≡ preferred cpus pick n }
@@ -28,7 +28,7 @@ impl Order {
         }
     }
 
-    /// The processor that is preferred next, of so many.
+    /// The processor that is preferred next, of this many.
     pub fn next(&mut self, cpus: u8) -> u8
         requires some { 1 ≤ cpus }
         ensures within { result < cpus }

@@ -16,7 +16,7 @@ pub struct Processor {
 }
 
 impl Processor {
-    /// One that runs no thread.
+    /// A processor that runs no thread.
     pub fn new() -> Processor
         ensures { result ≡ idle }
     {

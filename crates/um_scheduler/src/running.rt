@@ -19,7 +19,7 @@ pub struct Ran<'a> {
     pub last: Matrix<'a>,
 }
 
-/// One more event, into reserved room.
+/// Appends an event, in reserved room.
 fn note(events: &mut Vec<Event>, event: &Event)
     requires { vec_len events.old + 1 ≤ vec_capacity events.old }
     ensures items { events.new.items ≡ events.old.items ++ event.now ∷ [] }
@@ -29,8 +29,8 @@ fn note(events: &mut Vec<Event>, event: &Event)
     events.extend_from_slice(from_ref(event)).unwrap()
 }
 
-/// A complete run of an image by so many processors, which are preferred one after another, or as numbers are drawn by a
-/// seed. All memory is taken before its first event: room for `most` of them, which is no less than the image's weight.
+/// Makes a complete run of an image on this many processors, which are preferred one after another or in an order drawn from a seed. All
+/// memory is taken before the first event: room for `most` events, which is at least the image's weight.
 pub fn run<'a>(
     alloc: Global,
     image: &'a Image,

@@ -47,7 +47,7 @@ fn boot_ready(image: &Image) -> Line
     ready
 }
 
-/// So many processors that run no thread.
+/// Makes this many processors that run no thread.
 fn idle_processors(alloc: Global, cpus: u8) -> Result<Vec<Processor>, Memory>
     ensures { IfOk result (λ processors. processors.items ≡ replicate cpus idle) }
 {
@@ -110,7 +110,7 @@ fn take(matrix: &Matrix, ready: &mut Line) -> Option<ThreadIx>
     None
 }
 
-/// The woken threads are ready.
+/// Adds the woken threads to those that are ready.
 fn add_woken(ready: &mut Line, woken: &Replies)
     ensures { ready.new ≡ all_join ready.old (map (λ (w : ThreadIx × Reply). w.0.0) woken.now) }
 {
@@ -120,7 +120,7 @@ fn add_woken(ready: &mut Line, woken: &Replies)
     }
 }
 
-/// The threads that an act starts or wakes are ready.
+/// Adds the threads that an act starts or wakes to those that are ready.
 fn add_ready(ready: &mut Line, act: &Act)
     ensures { ready.new ≡ all_join ready.old (readied act.now) }
 {
@@ -196,7 +196,7 @@ impl<'a> Processors<'a> {
         self.matrix
     }
 
-    /// The thread that a processor runs: the first of those that are ready, where it runs none.
+    /// The thread that a processor runs. If it runs none, it takes the first that is ready.
     fn running(&mut self, cpu: usize) -> Option<ThreadIx>
         ensures thread { result ≡ runs self.old cpu }
         ensures left { self.new ≡ passed self.old cpu }
@@ -223,7 +223,7 @@ impl<'a> Processors<'a> {
         }
     }
 
-    /// A processor gets the object of a row to clean, if it came up.
+    /// Gives a processor the object of a row to clean, if it came up.
     fn note_row(&mut self, cpu: usize, row: u8)
         ensures { self.new ≡ let p = processor_at self.old cpu in if comes_up self.old.state self.old.processors row then with_processor self.old cpu (record p { to_clean = joins p.to_clean row }) else self.old }
     {
@@ -234,7 +234,7 @@ impl<'a> Processors<'a> {
         }
     }
 
-    /// A processor gets the objects to clean that came up, row by row.
+    /// Gives a processor the objects to clean that came up, row by row.
     fn note_rows(&mut self, cpu: usize)
         ensures { self.new ≡ settled self.old cpu }
     {
@@ -243,7 +243,7 @@ impl<'a> Processors<'a> {
         }
     }
 
-    /// A processor gets the objects to clean that came up: none did where none is gone.
+    /// The same, without a look at the rows if no object is gone.
     fn settle(&mut self, cpu: usize)
         ensures { self.new ≡ settled self.old cpu }
     {
@@ -252,7 +252,7 @@ impl<'a> Processors<'a> {
         }
     }
 
-    /// A processor is done with the object that it cleans first, where that was recycled.
+    /// Takes the object that a processor cleans first off its list, if it was recycled.
     fn put_off(&mut self, cpu: usize, act: &Act)
         ensures { self.new ≡ let p = processor_at self.old cpu in with_processor self.old cpu (record p { to_clean = left_to_clean act.now p.to_clean }) }
     {
@@ -293,7 +293,7 @@ impl<'a> Processors<'a> {
         false
     }
 
-    /// Writes the next event of the thread that a processor runs, which has nothing to clean, if it can make one now.
+    /// Writes the next event of the thread that a processor runs, if it can make one now. The processor has nothing to clean.
     fn runs(&mut self, cpu: usize, event: &mut Event) -> bool
         requires { CleansNothing self.old cpu }
         ensures rule { result ≡ true → RunsOn self.old cpu event.new self.new }
