@@ -1,5 +1,5 @@
--- The services of objects. OrderLemmas has waiters in the order of service, and WakingLemmas and ToldLemmas those who are woken; PipeLemmas and StackLemmas are of
--- two kinds of objects, PreviewLemmas of what an act would answer.
+-- The services of objects. OrderLemmas is about waiters in the order of service, WakingLemmas and ToldLemmas about those who are woken,
+-- PipeLemmas and StackLemmas about two kinds of objects, PreviewLemmas about what an act would answer.
 mod OrderLemmas
 pub mod PipeLemmas
 mod PreviewLemmas

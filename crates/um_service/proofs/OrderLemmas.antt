@@ -18,7 +18,7 @@ map-with_waiter which w (v ∷ vs) =
       | false ↦ refl
     ]
 
--- the waiter at a place joins those behind it
+-- the waiter at a place joins those after it
 pub joined : (which : Served) (all : List Waiter) (i : ℕ) (w : Waiter) (queue : List Queued) → i < length all → w ≡ get_or all i w
     → queue ≡ map (queued which) (in_order (filter (serves which) (drop (i + 1) all)))
     → cond (serves which w) (with_queued (queued which w) queue) queue ≡ map (queued which) (in_order (filter (serves which) (drop i all)))

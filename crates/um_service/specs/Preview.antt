@@ -1,4 +1,5 @@
--- What an act says, seen from who waits: each waiter as far as that depends on it, in the order of service.
+-- What an act answers, worked out from the waiters in the order of service. Of each waiter only its thread, its priority and a number of
+-- bytes matter.
 use Rattle.std.specs.Prelude.{ℕ, ◌-◌, ◌==◌, min, if◌then◌else◌, List, [], ◌∷◌, length, map, int_lt}
 use Rattle.um_base.specs.declared.ask.Waiter.{Waiter}
 use Rattle.um_base.specs.declared.names.Reply.{Reply}

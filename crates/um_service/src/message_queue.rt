@@ -16,7 +16,7 @@ use crate::waking::{answers, blocks, gives, wake_all, wakes};
 use um_base::{Answer, Ask, Errno, Piece, Reply, THREADS, Timeout, Waiter};
 use um_machine::{MessageQueue, Served, Waiters};
 
-/// Hands the caller's message to the getter that is served first, or puts it behind the others, or waits for room.
+/// Hands the caller's message to the getter that is served first, or puts it after the others, or waits for room.
 fn put(
     queue: &mut MessageQueue,
     waiters: &mut Waiters,

@@ -55,14 +55,14 @@ fn to_queued(which: Served, waiter: &Waiter) -> Queued
     }
 }
 
-/// Whether one has the lesser priority number.
+/// Whether the first of two has the lesser priority number.
 fn is_before(v: &Queued, w: &Queued) -> bool
     ensures { result ≡ int_lt v.now.priority w.now.priority }
 {
     v.priority < w.priority
 }
 
-/// The place of one that waits longer than the others: before the first whose priority number isn't lesser.
+/// The place of a waiter that has waited longer than the others: before the first whose priority number isn't lesser.
 fn place_of(queue: &[Queued], one: &Queued) -> usize
     ensures within { result ≤ length queue.now }
     ensures place { with_queued one.now queue.now ≡ insert queue.now result one.now }
@@ -75,7 +75,7 @@ fn place_of(queue: &[Queued], one: &Queued) -> usize
     queue.len()
 }
 
-/// One that waits longer than the others goes to its place.
+/// Puts a waiter that has waited longer than the others at its place.
 fn join(queue: &mut ArrayVec<Queued, THREADS>, which: Served, waiter: &Waiter)
     requires { array_vec_len queue.old < THREADS }
     ensures { queue.new.items ≡ cond (serves which waiter.now) (with_queued (queued which waiter.now) queue.old.items) queue.old.items }

@@ -35,7 +35,7 @@ impl Model for Woken {
 impl Woken {
     ghost use Rattle.um_service.specs.Told.{AreShort};
 
-    /// Nobody.
+    /// An empty list.
     pub fn new() -> Woken
         ensures { result ≡ [] }
     {
@@ -69,14 +69,14 @@ impl Woken {
         self.len
     }
 
-    /// Nobody, once more.
+    /// Empties the list.
     pub fn clear(&mut self)
         ensures { self.new ≡ [] }
     {
         self.len = 0;
     }
 
-    /// One more is woken, and told this.
+    /// Adds a woken thread with what it is told.
     pub fn push(&mut self, thread: ThreadIx, told: &Told)
         requires room { length self.old < THREADS }
         requires short { IsShort told.now.reply }
@@ -110,7 +110,7 @@ pub struct Outcome {
 }
 
 impl Outcome {
-    /// One that has nothing to say, for an act to write over.
+    /// An empty outcome, for an act to write over.
     pub fn new() -> Outcome
         ensures { result ≡ record { answer = Answer.Now Reply.Void; taken = []; woken = [] } }
     {
@@ -121,7 +121,7 @@ impl Outcome {
         }
     }
 
-    /// This answer, these bytes, and nobody woken, in place of what was there.
+    /// Writes this answer and these bytes, with nobody woken, over what was there.
     pub fn becomes(&mut self, answer: Answer, taken: &Piece)
         ensures { self.new ≡ record { answer = answer; taken = taken.now; woken = [] } }
     {

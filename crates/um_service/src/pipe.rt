@@ -38,7 +38,7 @@ impl Side {
     }
 }
 
-/// At most so many of the first bytes.
+/// At most this many of the first bytes.
 fn first_bytes(bytes: &[u8], n: usize) -> &[u8]
     ensures value { result.now ≡ take n bytes.now }
     ensures few { length result.now ≤ n }

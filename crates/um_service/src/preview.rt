@@ -32,7 +32,7 @@ pub fn at_once(reply: Reply) -> Said
     }
 }
 
-/// The caller waits, or has an error where it doesn't wait.
+/// The caller waits, or gets an error if it doesn't wait.
 pub fn blocked(timeout: Timeout, error: Errno) -> Said
     ensures { (contents : Contents) (waiters : List Waiter) (who : Waiter) → said (blocks contents waiters who timeout error) ≡ result }
 {
@@ -70,7 +70,7 @@ pub fn all_told(waiters: &Waiters, which: Served, error: Errno) -> Replies
     woken
 }
 
-/// An answer at once that lets all go who wait.
+/// An answer at once, by which all waiters go on.
 pub fn all_go(waiters: &Waiters, reply: Reply, error: Errno) -> Said
     ensures { result ≡ record { answer = Answer.Now reply; woken = replies_of (all_told error waiters.now) } }
 {
@@ -80,7 +80,7 @@ pub fn all_go(waiters: &Waiters, reply: Reply, error: Errno) -> Said
     }
 }
 
-/// At most 256 bytes, or room for so many, are shared among those that an act serves while some are left.
+/// Shares at most 256 bytes, or that much room, among the waiters that an act serves, while something is left.
 pub fn shares(waiters: &Waiters, which: Served, n: u32) -> Replies
     requires { n ≤ 256 }
     ensures { result ≡ shares (queue_of which waiters.now) n }

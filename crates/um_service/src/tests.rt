@@ -23,14 +23,14 @@ fn fails(error: Errno) -> Answer {
     Answer::Now(Reply::Fail(error))
 }
 
-/// A read of so many bytes.
+/// A read of this many bytes.
 fn read_of(length: u32, timeout: Timeout) -> Ask
     ensures { result ≡ AskOf.PipeRead length timeout }
 {
     Ask::PipeRead { length, timeout }
 }
 
-/// A write of so many bytes.
+/// A write of this many bytes.
 fn write_of(length: u32, timeout: Timeout) -> Ask
     ensures { result ≡ AskOf.PipeWrite length timeout }
 {

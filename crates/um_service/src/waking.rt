@@ -21,14 +21,14 @@ pub fn answers(reply: Reply, outcome: &mut Outcome)
     gives(reply, &Piece::new(), outcome);
 }
 
-/// The same, where the caller takes bytes.
+/// The same, with bytes that the caller takes.
 pub fn gives(reply: Reply, taken: &Piece, outcome: &mut Outcome)
     ensures { outcome.new ≡ record { answer = Answer.Now reply; taken = taken.now; woken = [] } }
 {
     outcome.becomes(Answer::Now(reply), taken);
 }
 
-/// The caller waits behind all others, or has an error where it doesn't wait.
+/// The caller waits after all others, or gets an error if it doesn't wait.
 pub fn blocks(
     waiters: &mut Waiters,
     who: &Waiter,
@@ -62,7 +62,7 @@ pub fn wakes(reply: Reply, first: &Waiter, taken: &Piece, outcome: &mut Outcome)
     );
 }
 
-/// Those whom an act serves are told an error, in the order of service.
+/// Tells an error to those whom an act serves, in the order of service.
 pub fn wake_all(waiters: &mut Waiters, which: Served, error: Errno, woken: &mut Woken)
     ensures woken { woken.new ≡ all_told error (served which waiters.old) }
     ensures others { waiters.new ≡ unserved which waiters.old }
