@@ -91,7 +91,7 @@ in_range (x ∷ xs) (suc i) a e = let r = in_range xs i a e in omega arith
 
 -- what the views have to do with it
 
--- the word w of the site i gives way to the word z: its number rises, or it's the same word, a cell's turn aside
+-- the word w of the site i is replaced by the word z: its number is higher, or it is the same word, a cell's turn aside
 pub record Rises (i w z : ℕ) : Type 0 where
   pub up : number i w ≤ number i z
   pub same : number i w ≡ number i z → bare i w ≡ bare i z

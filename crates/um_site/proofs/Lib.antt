@@ -1,5 +1,5 @@
--- The rule of a board of words, and that each call keeps it. Sublists and Bare come first; then Lawful, Keeps and Moves: a step; TurnCells and Transfers: the cells; Joining: seats.
--- Lives, last, is the law that an object is cleaned once in each life.
+-- Each call keeps the rule of a board. Sublists and Bare come first; then Lawful, Keeps and Moves, about a step; TurnCells and Transfers, about
+-- cells; Joining, about seats. Lives, last, is the law that an object is cleaned once in each life.
 pub mod Sublists
 pub mod Bare
 pub mod Keeps

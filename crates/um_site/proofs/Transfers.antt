@@ -1,4 +1,4 @@
--- The cells of a board stay as they are where views change, but for turns and cells that are filled, and where another site's word changes.
+-- The cells of a board stay as they are when views change, except for turns and filled cells, and when another site's word changes.
 use Rattle.std.proofs.Common.{◌≡◌, ℕ, ◌+◌, ◌%◌, ◌<◌, ◌≤◌, true, List, [], ◌∷◌, ◌++◌, ◌⊎◌, inl, inr, ⊎_elim, Option, Some, None, get_or, set, sym, refl, ap, ◌∙◌, subst, arith, length-set, get_or-set_other}
 use mathlib.Core.Logic.{dite}
 use mathlib.Core.Option.{some, some-injective}

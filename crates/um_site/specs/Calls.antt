@@ -34,7 +34,7 @@ site_of (Place.Row row) = row.0
 site_of (Place.Thread who) = thread_site who.0
 site_of (Place.Domain domain) = domain_site domain
 
--- there is such a row, thread or domain
+-- the row, thread or domain exists
 abbrev pub IsPlace : Place → Type 0
 IsPlace (Place.Row row) = row.0 < 128
 IsPlace (Place.Thread who) = who.0 < 32
@@ -44,7 +44,8 @@ IsPlace (Place.Domain domain) = domain < 8
 abbrev pub SameSeat : {T : Type 0} → Seat T → Seat T → Type 0
 SameSeat s t = (t.token.table_id ≡ s.token.table_id) × (t.token.id ≡ s.token.id) × (t.split ≡ s.split) × (t.joined ≡ s.joined) × (t.first ≡ s.first)
 
--- what a seat keeps when it looks and steps: its board and its place there, its counts, its slots, its name, the seats that it has split off, its turn and the cells that it knows as filled
+-- what stays of a seat when it looks and steps: its board and its place there, its counts, slots and name, the seats that it has split off,
+-- its turn, and the cells that it knows as filled
 abbrev pub Stays : {T : Type 0} → Seat T → Seat T → Type 0
 Stays s t =
     (t.token.table_id ≡ s.token.table_id) × (t.token.id ≡ s.token.id) × (t.split ≡ s.split) × (t.joined ≡ s.joined) × (t.first ≡ s.first)
@@ -55,7 +56,8 @@ Stays s t =
 abbrev pub HasSeen : {T : Type 0} → TableId → Seat T → ℕ → ℕ → Type 0
 HasSeen board s site seen = (s.token.table_id ≡ board) × (site < board.words) × (last_got s.token.me.0.got site ≡ Some seen)
 
--- What a call on a row, on a thread or on a domain asks of its seat and of the word that it is handed: the seat has seen that word, which says something and has room for a step.
+-- What a call on a row, a thread or a domain asks of its seat and of the word that it is handed: the seat has seen that word last, the word
+-- can be read, and it has room for a step.
 
 abbrev pub AtRow : {T : Type 0} → TableId → Seat T → ℕ → ℕ → Type 0
 AtRow board s row seen = HasSeen board s row seen × (row < 128) × ((row_of seen).number < 1048575)

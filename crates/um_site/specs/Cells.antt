@@ -21,12 +21,12 @@ abbrev pub NoSteps : ℕ → List Made → Type 0
 NoSteps i [] = Unit {0}
 NoSteps i (m ∷ ms) = (m.site ≢ i) × NoSteps i ms
 
--- none of it in lists under names
+-- no step of it in lists under names
 abbrev pub NoneOfThem : ℕ → List (List ℕ × List Made) → Type 0
 NoneOfThem i [] = Unit {0}
 NoneOfThem i (e ∷ es) = NoSteps i e.1 × NoneOfThem i es
 
--- a turn that is out: the cell's word has its bit, and is else as it was, and so are the cell's steps
+-- a turn that is out: the cell's word has its bit set and is as it was otherwise, and no step was made at the cell since
 pub record IsTurn (words : List ℕ) (slots : ℕ) (h : List Entry) (t : Turn) : Type 0 where
   pub cell : 168 ≤ t.site
   pub inside : t.site < length words
@@ -45,8 +45,9 @@ module _ {T : Type 0} (opens : Image → ℕ → T → Type 0) (follows : T → 
   abbrev pub ContentsAre : Image → ℕ → List Made → Option T → Type 0
   ContentsAre image i ms y = (x : T) × (first : T) × (y ≡ Some x) × opens image i first × Follow first ms x
 
-  -- Where nobody has a cell's turn its slot is at home, and has its contents where a seat knows the cell as filled. Else exactly one seat has the turn;
-  -- and where a seat knows the cell as filled, it has the contents that its steps so far leave.
+  -- If nobody has a cell's turn, its contents are in its slot; if a seat knows the cell as filled, they follow from the cell's steps.
+  -- Otherwise exactly one seat has the turn; and if a seat knows the cell as filled, the contents that go with the turn follow from the
+  -- steps before it.
   pub record CellsAre (image : Image) (words : List ℕ) (homes : List (found.Option (Option T))) (h : List Entry) (views : List View) : Type 0 where
     pub home : (k : ℕ) → k < length homes → 168 + k < length words → slice_index words (168 + k) % 2 ≡ 0
         → (y : Option T) × (get_elem? homes k ≡ some (some y)) × ((id : ℕ) (v : View) → get_elem? views id ≡ some v → v.live ≡ true → AmongCells v.filled (168 + k) → ContentsAre image (168 + k) (by_site (168 + k) h) y)
@@ -63,7 +64,7 @@ module _ {T : Type 0} (opens : Image → ℕ → T → Type 0) (follows : T → 
   abbrev pub Rule : (List ℕ → List Made → Made → Type 0) → Image → List ℕ → List ℕ → List (found.Option (Option T)) → List View → Type 0
   Rule goes image opening words homes views = (h : List Entry) × Kept goes image opening words h views × CellsAre image words homes h views
 
-  -- At some moment the board's rule held, with the word w at the site i; the seat that knew v then was not joined into another.
+  -- A moment: the board's rule held, with the word w at the site i, and a seat in use had the view v.
   pub record Moment (goes : Image → List ℕ → List Made → Made → Type 0) (v : View) (i w : ℕ) : Type 0 where
     pub words : List ℕ
     pub homes : List (found.Option (Option T))
@@ -77,7 +78,8 @@ module _ {T : Type 0} (opens : Image → ℕ → T → Type 0) (follows : T → 
     pub inside : i < length words
     pub word : slice_index words i ≡ w
 
-  -- the words of a board that was closed, and what the first seat has: one history, whose steps stand in the seat's lists and nowhere else, and whose cells' contents follow from their steps where the seat knows them as filled
+  -- the words of a closed board, and what its first seat has: there is one history, whose steps stand in that seat's lists and nowhere
+  -- else, and the contents of each cell that the seat knows as filled follow from the cell's steps
   pub record IsClosedWithCells (goes : Image → List ℕ → List Made → Made → Type 0) (v : View) (words : List ℕ) : Type 0 where
     pub history : List Entry
     pub stands : IsHistory (goes v.image) v.opening words history

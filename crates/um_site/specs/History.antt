@@ -24,7 +24,7 @@ Distinct (e ∷ es) = (Among es e.0 → ⊥) × Distinct es
 abbrev pub Has : View → List ℕ → Type 0
 Has v n = (v.name ≡ n) ⊎ Among v.joined n
 
--- a name that the seat of this name gives from its k-th split on, or one below such a name
+-- the name of a seat that the seat p splits off, at its k-th split or later, or of one split off from such a seat
 abbrev pub Later : List ℕ → ℕ → List ℕ → Type 0
 Later p k n = (j : ℕ) × (r : List ℕ) × (k ≤ j) × (n ≡ p ++ j ∷ r)
 
@@ -38,22 +38,22 @@ Owns v n = Has v n ⊎ Later v.name v.splits n
 abbrev pub Apart : View → View → Type 0
 Apart v w = (n : List ℕ) → Owns v n → Owns w n → ⊥
 
--- a list of the view is what the history has under that name
+-- each list of the view has the steps that the history has under its name
 abbrev pub Told : List Entry → List (List ℕ × List Made) → Type 0
 Told h [] = Unit {0}
 Told h (e ∷ es) = (by_seat e.0 h ≡ e.1) × Told h es
 
--- a word that was got is no newer than the word that stands, and that word, a cell's turn aside, where it is as new
+-- a word that was read is no newer than the word that stands; if it is as new, it is that word, a cell's turn aside
 pub record IsNoNewer (words : List ℕ) (i w : ℕ) : Type 0 where
   pub older : number i w ≤ number i (slice_index words i)
   pub same : number i w ≡ number i (slice_index words i) → bare i w ≡ bare i (slice_index words i)
 
--- each word that was got is so
+-- so is each word that was read
 abbrev pub Fresh : List ℕ → List (ℕ × ℕ) → Type 0
 Fresh words [] = Unit {0}
 Fresh words (e ∷ es) = IsNoNewer words e.0 e.1 × Fresh words es
 
--- what a view that isn't spent has to do with the history
+-- what a view of a seat in use says of the history
 pub record Knows (image : Image) (opening words : List ℕ) (h : List Entry) (v : View) : Type 0 where
   pub image_is : v.image ≡ image
   pub opening_is : v.opening ≡ opening
@@ -61,7 +61,7 @@ pub record Knows (image : Image) (opening words : List ℕ) (h : List Entry) (v 
   pub theirs : Told h v.joined
   pub fresh : Fresh words v.got
 
--- no name stands twice in a view, and none that its seat may still give
+-- no name stands twice in a view, and none is a name that its seat may still give
 pub record Tidy (v : View) : Type 0 where
   pub own : Among v.joined v.name → ⊥
   pub distinct : Distinct v.joined
@@ -147,7 +147,7 @@ spent = record { live = false; image = no_image; opening = []; name = []; splits
 abbrev pub shadow_of : View → View
 shadow_of v = record v { live = false }
 
--- the words of a board that was closed, and what the first seat has: one history, whose steps stand in the seat's lists and nowhere else
+-- the words of a closed board, and what its first seat has: there is one history, whose steps stand in that seat's lists and nowhere else
 abbrev pub IsClosed : (Image → List ℕ → List Made → Made → Type 0) → View → List ℕ → Type 0
 IsClosed goes v words = (h : List Entry) × IsHistory (goes v.image) v.opening words h × Knows v.image v.opening words h v × Tidy v × ((n : List ℕ) → (by_seat n h ≡ []) ⊎ Has v n)
 

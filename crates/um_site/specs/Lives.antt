@@ -49,7 +49,7 @@ abbrev pub is_birth : FineAct → Bool
 is_birth (FineAct.Shown event more) = is_birth_act event.act
 is_birth (FineAct.Unseen unseen) = false
 
--- how many of a row's steps do so, the first one from the word w
+-- how many of a row's steps do that, where the first one starts from the word w
 abbrev pub cleanings : ℕ → List Made → ℕ
 cleanings w [] = 0
 cleanings w (m ∷ ms) = bit (begins_cleaning (stage w) (stage m.word)) + cleanings m.word ms
@@ -70,7 +70,8 @@ abbrev pub AreSound : List Made → Type 0
 AreSound [] = Unit {0}
 AreSound (m ∷ ms) = IsSound (row_of m.word) × AreSound ms
 
--- In each life at most one step begins the cleaning, and in a life that was vacated exactly one. Parts of a row's steps in which nothing is born are parts of a life.
+-- In each life at most one step begins the cleaning; in a life that ended with a vacated row exactly one does. A life is a stretch of the
+-- row's steps in which nothing is born.
 pub record IsCleanedOnce (w : ℕ) (ms : List Made) : Type 0 where
   pub sound : AreSound ms
   pub once : (xs ys zs : List Made) → ms ≡ xs ++ (ys ++ zs) → births ys ≡ 0 → cleanings (word_after w xs) ys ≤ 1
@@ -99,7 +100,7 @@ begins_at row m = (m.site == row) && takes_last m.act && is_cleaning (stage m.wo
 abbrev pub ends_at : ℕ → Made → Bool
 ends_at row m = (m.site == row) && is_vacate m.act
 
--- whether the row is the seat's to clean after these steps, where it was or wasn't so before them
+-- whether the seat has to clean the row after these steps, given whether it had to before them
 abbrev pub cleans_after : ℕ → Bool → List Made → Bool
 cleans_after row before [] = before
 cleans_after row before (m ∷ ms) = cleans_after row (if begins_at row m then true else before && not (ends_at row m)) ms

@@ -69,7 +69,8 @@ module _ {T : Type 0} (opens : Image → ℕ → T → Type 0) (follows : T → 
   abbrev pub looked : {S : Type 0} → Step S → Me S View → ℕ → Me S View → Type 0
   looked st me r me' = (me'.1 ≡ me.1) × Looked goes me.0 st.word r me'.0 × Moment opens follows goes me.0 st.word r
 
-  -- the turn was free at the word r at some moment, and the slot had the contents that the cell's steps leave, which are as many as the word says
+  -- at some moment the turn was free, with the word r; the slot had the contents that the cell's steps leave; and the word counts these
+  -- steps
   pub record Took (v : View) (i r : ℕ) (y : Option T) (w : View) : Type 0 where
     pub newer : NoOlder v.got i r
     pub moment : Moment opens follows goes v i r
@@ -82,7 +83,7 @@ module _ {T : Type 0} (opens : Image → ℕ → T → Type 0) (follows : T → 
       (r % 2 ≡ 0 → (y : Option T) × (me'.1 ≡ (st.word - 168, y) ∷ me.1) × Took me.0 st.word r y me'.0)
       × (r % 2 ≢ 0 → (me'.1 ≡ me.1) × Looked goes me.0 st.word r me'.0)
 
-  -- the step went on from the word of the take, which had the turn's bit
+  -- the step was made on the word of the take, which had the turn's bit
   abbrev pub recorded_by : Made → Step (Option T) → Me (Option T) View → ℕ → Me (Option T) View → Type 0
   recorded_by m st me r me' = (me'.1 ≡ rest me.1) × (me'.0 ≡ recording me.0 m) × ((t : Turn) → me.0.turn ≡ Some t → GoesOn goes me.0 m (t.word + 1))
 

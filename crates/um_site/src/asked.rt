@@ -2,7 +2,7 @@
 
 use um_base::ThreadIx;
 
-/// A call that a thread makes on a word, as its seat saw that last.
+/// A thread's call on a word, with the word as its seat saw it last.
 #[derive(Clone, Copy)]
 pub struct Asked<C> {
     pub by: ThreadIx,

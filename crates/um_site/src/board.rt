@@ -40,17 +40,18 @@ pub struct Changed {
     pub seen: u64,
 }
 
-/// A board that can't be closed: a seat isn't joined in.
+/// A board that can't be closed, since a seat isn't joined.
 #[derive(Drop)]
 pub struct StillOut<T: Content, L: Local> {
     pub board: Board<T, L>,
     pub seat: Seat<T>,
-    /// How many seats aren't joined in, or 1 where the seat isn't the first.
+    /// The number of seats that aren't joined, or 1 if the seat isn't the first.
     pub seats: u32,
 }
 
 impl<T: Content, L: Local> Board<T, L> {
-    /// A board of these words, with so many slots for contents of cells, and its first seat. The words and the image stay in the clauses.
+    /// Makes a board with these words and this many slots for the contents of cells, and its first seat. Contracts remember the words and
+    /// the image.
     pub fn make(
         alloc: Global,
         words: Vec<u64>,
@@ -97,7 +98,7 @@ impl<T: Content, L: Local> Board<T, L> {
             .load::<Look<L>>(&mut seat.token, site as usize)
     }
 
-    /// Where `seen` still stands at the site, `word` takes its place. The word that stood there is given.
+    /// Writes `word` to the site if `seen` still stands there. Returns the word that stood there.
     #[inline(always)]
     fn exchange<D: Step>(&self, seat: &mut Seat<T>, site: u16, seen: u64, word: u64) -> u64
         requires here { seat.old.token.table_id ≡ self.now.table.shared.table_id }
@@ -115,8 +116,8 @@ impl<T: Content, L: Local> Board<T, L> {
             .compare_exchange::<Exchange<L, D>>(&mut seat.token, site as usize, seen, word)
     }
 
-    /// One recorded step of a row, of a thread or of a domain, which leaves this word: the step itself stands in clauses alone, as `D::made`.
-    /// It gives its number, or the word that stands where that isn't `seen`.
+    /// Records a step of a row, a thread or a domain that leaves this word. The step itself, `D::made`, is ghost data. Returns the step's
+    /// number, or the word that stands there if it isn't `seen`.
     #[inline(always)]
     pub fn step_to<D: Step>(
         &self,
@@ -149,7 +150,7 @@ impl<T: Content, L: Local> Board<T, L> {
         }
     }
 
-    /// The same, where the step's act is at hand.
+    /// The same, for a step whose act is given as a value.
     #[inline(always)]
     fn step_by<D: Step>(
         &self,
@@ -170,7 +171,7 @@ impl<T: Content, L: Local> Board<T, L> {
         self.step_to::<D>(seat, site, seen, word)
     }
 
-    /// One recorded step of a row, of a thread or of a domain. It gives its number, or the word that stands where that isn't `seen`.
+    /// Records a step of a row, a thread or a domain. Returns its number, or the word that stands there if it isn't `seen`.
     #[inline(always)]
     pub fn step(
         &self,
@@ -220,7 +221,7 @@ impl<T: Content, L: Local> Board<T, L> {
         }
     }
 
-    /// Takes in a seat that this one, or one joined into it, split off.
+    /// Joins a seat that this one, or one that it joined, split off.
     pub fn join(&self, seat: &mut Seat<T>, other: Seat<T>)
         requires here { (seat.old.token.table_id ≡ self.now.table.shared.table_id) × (other.token.table_id ≡ self.now.table.shared.table_id) }
         requires words { 0 < self.now.table.shared.table_id.words }
@@ -243,7 +244,7 @@ impl<T: Content, L: Local> Board<T, L> {
         seat.joined += joined + 1;
     }
 
-    /// Ends the board, where each seat is joined in.
+    /// Closes the board, if all other seats are joined.
     pub fn close(self, seat: Seat<T>) -> Result<Closed<T>, StillOut<T, L>>
         requires here { seat.token.table_id ≡ self.table.shared.table_id }
         requires words { 0 < self.table.shared.table_id.words }

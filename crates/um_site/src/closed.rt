@@ -8,7 +8,7 @@ use crate::view::View;
 use atomic_table::{Closed as Ended, Seat as Token};
 use std::alloc::Global;
 
-/// A board that nobody uses any more: its words, and in clauses what its first seat had.
+/// A board that nobody uses any more: its words, and as ghost data what its first seat knew.
 pub struct Closed<T> {
     pub table: Ended<Option<T>, Global>,
     pub token: Token<Option<T>, View>,

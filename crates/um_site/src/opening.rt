@@ -8,7 +8,7 @@ use um_words::step_number;
 /// The site of the first cell.
 const CELLS: usize = 168;
 
-/// Whether nobody has the turn of a cell in these words.
+/// Whether no cell's turn is taken in these words.
 pub fn have_no_turn(words: &[u64]) -> bool
     requires { length words.now ≤ 65536 }
     ensures yes { result ≡ true → (i : ℕ) → 168 ≤ i → i < length words.now → slice_index words.now i % 2 ≡ 0 }
@@ -24,7 +24,7 @@ pub fn have_no_turn(words: &[u64]) -> bool
     true
 }
 
-/// Whether none of these words has taken a step.
+/// Whether each of these words has step number 0.
 pub fn are_unstepped(words: &[u64]) -> bool
     requires { length words.now ≤ 65536 }
     ensures yes { result ≡ true → (i : ℕ) → i < length words.now → number i (slice_index words.now i) ≡ 0 }

@@ -1,4 +1,4 @@
-//! What has a word that a call steps.
+//! What a call steps: something that has a word.
 
 use um_base::{Row, ThreadIx};
 

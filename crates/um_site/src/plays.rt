@@ -1,11 +1,11 @@
-//! What each move tells its seat.
+//! What a seat knows after each kind of move.
 
 use crate::view::View;
 use atomic_table::{Join, Play, Split};
 use std::marker::{Brand, PhantomData};
 use um_words::{Content, Local};
 
-/// The step that an exchange records, for the proof alone. A call at `Brand` picks it.
+/// The step that an exchange records, as ghost data. The proof picks it at the call whose type argument is `Brand`.
 pub trait Step {
     ghost use Rattle.um_words.specs.declared.made.Made.{Made};
 
@@ -33,7 +33,7 @@ impl<T: Content, L: Local> Play<Option<T>, View> for Look<L> {
     ghost then = { looked T.opens T.follows L.goes };
 }
 
-/// An exchange of a word, by which the step is made or the word that stands is seen.
+/// An exchange of a word: it makes the step, or sees the word that stands there.
 pub struct Exchange<L, D> {
     local: PhantomData<L>,
     step: PhantomData<D>,
@@ -45,7 +45,7 @@ impl<T, L: Local, D: Step> Play<Option<T>, View> for Exchange<L, D> {
     ghost then = { stepped_by L.goes D.made };
 }
 
-/// The turn of a cell is taken, or is seen to be with another.
+/// Takes the turn of a cell, or sees that another seat has it.
 pub struct Take<L> {
     local: PhantomData<L>,
 }
@@ -56,7 +56,7 @@ impl<T: Content, L: Local> Play<Option<T>, View> for Take<L> {
     ghost then = { took T.opens T.follows L.goes };
 }
 
-/// The turn of a cell without steps is taken by the only seat.
+/// Takes the turn of a cell that has no step yet, by the only seat.
 pub struct Reach;
 
 impl<T> Play<Option<T>, View> for Reach {
@@ -65,7 +65,7 @@ impl<T> Play<Option<T>, View> for Reach {
     ghost then = { reached };
 }
 
-/// A step of a cell is recorded, and the turn given back.
+/// Records a step of a cell and gives the turn back.
 pub struct Record<L, D> {
     local: PhantomData<L>,
     step: PhantomData<D>,
@@ -77,7 +77,7 @@ impl<T: Content, L: Local, D: Step> Play<Option<T>, View> for Record<L, D> {
     ghost then = { recorded_by T.opens T.follows L.goes D.made };
 }
 
-/// A turn is given back.
+/// Gives a turn back.
 pub struct Return;
 
 impl<T> Play<Option<T>, View> for Return {
@@ -86,7 +86,7 @@ impl<T> Play<Option<T>, View> for Return {
     ghost then = { λ st me. returned me.0.filled st me };
 }
 
-/// The turn of a cell that has its contents now is given back.
+/// Gives back the turn of a cell that was filled in it.
 pub struct Fill;
 
 impl<T> Play<Option<T>, View> for Fill {
@@ -96,7 +96,7 @@ impl<T> Play<Option<T>, View> for Fill {
     ghost then = { λ st me. returned (st.word ∷ me.0.filled) st me };
 }
 
-/// A seat splits another off, or takes it in.
+/// Splits a seat off, or joins it.
 pub struct Fork;
 
 impl Split<View> for Fork {
@@ -115,7 +115,7 @@ impl Join<View> for Fork {
     ghost spent = { spent };
 }
 
-/// A seat leaves what it knows to a seat that doesn't count, which is kept when the board is closed.
+/// Copies what a seat knows to one that isn't in use, which a closed board keeps.
 pub struct Shadow;
 
 impl Split<View> for Shadow {

@@ -7,7 +7,7 @@ use std::snapshot::Snapshot;
 use um_base::Image;
 use um_words::{Content, Local};
 
-/// What a board is of: an image, and the words with which it opens.
+/// What a board is made for: an image, and the words with which it opens.
 pub type Opening = (Snapshot<Image>, Snapshot<Vec<u64>>);
 
 /// One history for the words, for all seats and for the contents of the cells.

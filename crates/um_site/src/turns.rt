@@ -16,7 +16,7 @@ use crate::seat::Seat;
 use um_words::{Content, Local};
 
 impl<T: Content, L: Local> Board<T, L> {
-    /// Takes the turn of a cell that has its contents, in one step. It gives the word that stood there: where that is odd, another seat has the turn.
+    /// Takes the turn of a cell that was filled. Returns the word that stood there; if it is odd, another seat has the turn.
     pub fn take_turn(&self, seat: &mut Seat<T>, cell: u16) -> u64
         requires here { seat.old.token.table_id ≡ self.now.table.shared.table_id }
         requires site { cell < self.now.table.shared.table_id.words }
@@ -30,7 +30,8 @@ impl<T: Content, L: Local> Board<T, L> {
             .fetch_or::<Take<L>>(&mut seat.token, cell as usize, 1)
     }
 
-    /// Takes the turn of a cell that has taken no step, by the first seat while no other is out. It gives the word that stood there, which is even.
+    /// Takes the turn of a cell that has no step yet, for the first seat while no other one is out. Returns the word that stood there,
+    /// which is even.
     pub fn reach_turn(&self, seat: &mut Seat<T>, cell: u16) -> u64
         requires here { seat.old.token.table_id ≡ self.now.table.shared.table_id }
         requires cell { (168 ≤ cell) × (cell < self.now.table.shared.table_id.words) × (cell < 168 + self.now.table.shared.table_id.slots) }
@@ -45,8 +46,8 @@ impl<T: Content, L: Local> Board<T, L> {
             .fetch_or::<Reach>(&mut seat.token, cell as usize, 1)
     }
 
-    /// Records a step of the cell whose turn the seat has, by which this word comes to stand, and gives the turn back with what stands in its
-    /// slot. The step itself stands in clauses alone, as `D::made`.
+    /// Records a step of the cell whose turn the seat has: writes this word, and gives the turn back with what the slot has. The step
+    /// itself, `D::made`, is ghost data.
     #[inline(always)]
     pub fn record<D: Step>(&self, seat: &mut Seat<T>, cell: u16, word: u64)
         requires here { seat.old.token.table_id ≡ self.now.table.shared.table_id }
@@ -75,7 +76,7 @@ impl<T: Content, L: Local> Board<T, L> {
             .store::<Return>(&mut seat.token, cell as usize, word);
     }
 
-    /// The same of a cell that has its contents from now on.
+    /// The same for a cell that is filled from now on.
     pub fn give_filled(&self, seat: &mut Seat<T>, cell: u16, word: u64)
         requires here { seat.old.token.table_id ≡ self.now.table.shared.table_id }
         requires site { cell < self.now.table.shared.table_id.words }

@@ -5,30 +5,31 @@ use std::collections::LinkedList;
 use um_base::Image;
 use um_words::Made;
 
-/// The name of a seat: the way to it from the first seat, whose name is empty. The seat that a seat splits off as its k-th, counted from 0, has k behind that seat's name.
+/// The name of a seat. The first seat's name is empty. The k-th seat that a seat splits off, counted from 0, has that seat's name with k
+/// appended.
 pub type Name = LinkedList<u64>;
 
-/// What a seat knows. No value of it is made: it stands in clauses alone.
+/// What contracts know of a seat. It is ghost data: no value of it exists at run time.
 pub struct View {
-    /// Whether the seat wasn't joined into another.
+    /// Whether the seat is still in use. False once another one has joined it.
     pub live: bool,
-    /// The image that the board is of.
+    /// The image that the board was made for.
     pub image: Image,
     /// The words with which the board opened.
     pub opening: LinkedList<u64>,
     pub name: Name,
     /// How many seats it has split off itself.
     pub splits: u64,
-    /// Its steps, in their order.
+    /// The steps that it made, in order.
     pub made: LinkedList<Made>,
-    /// The lists of the seats that were joined in, each under its name.
+    /// The steps of the seats that it joined, each list under its seat's name.
     pub joined: LinkedList<(Name, LinkedList<Made>)>,
-    /// The sites with the words that it got or left there, the last one first.
+    /// The words that it read or wrote, with their sites, the newest first.
     pub got: LinkedList<(u16, u64)>,
-    /// The seats that it and those joined in have split off, and that aren't joined in.
+    /// The seats that it, or a seat that it joined, split off and that aren't joined yet.
     pub children: LinkedList<Name>,
-    /// The turn that it has, of one cell at most.
+    /// The cell's turn that it has, if any.
     pub turn: Option<Turn>,
-    /// The cells that it knows to have their contents.
+    /// The cells of which it knows that they were filled.
     pub filled: LinkedList<u16>,
 }
