@@ -255,7 +255,7 @@ macro_rules! check {
     };
 }
 
-/// A thread's permission on an object goes.
+/// Takes a thread's permission on an object away.
 macro_rules! drop {
     ($who:expr, $addr:expr, $left:expr) => {
         Act::DropPair {
