@@ -1,4 +1,4 @@
--- Facts of the steps' parts, each by itself: ActLemmas, ByteLemmas, RegionLemmas, SizeLemmas; OrderLemmas is of the steps of an instruction.
+-- Facts of the parts of steps: ActLemmas, ByteLemmas, RegionLemmas, SizeLemmas. OrderLemmas is about the steps of an instruction.
 mod ActLemmas
 mod ByteLemmas
 pub mod OrderLemmas

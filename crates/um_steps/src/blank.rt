@@ -1,4 +1,4 @@
-//! Thread indices and rows that nothing stands on, and what stands there from the beginning.
+//! Thread indices without a thread, rows without an object, and what stands there from the beginning.
 
 ghost use Rattle.std.specs.{Prelude.{◌≡◌, ◌||◌, ◌==◌, IsTrue}, List.{list_any}};
 ghost use Rattle.um_machine.specs.{
@@ -76,7 +76,7 @@ pub fn vacant() -> Object
     }
 }
 
-/// No object stands on a row any longer.
+/// Empties a row.
 pub fn vacate(object: &mut Object)
     ensures { object.new ≡ vacant }
 {

@@ -35,7 +35,7 @@ pub fn write(memory: &mut [u8], i: usize, bytes: &[u8])
     }
 }
 
-/// Writes so many zero bytes one after another, as far as there is memory.
+/// Writes this many zero bytes one after another, as far as there is memory.
 #[tactic(auto, using(crate::proofs::ByteLemmas::zeros_more))]
 pub fn clear(memory: &mut [u8], i: usize, n: usize)
     requires { i + n < 2 ^ 64 }

@@ -18,7 +18,7 @@ use crate::order::steps::{ANSWER_INVALID, ANSWER_ZERO, mark, needs, rounded, tur
 use um_base::{Ask, Kind, Term, Want};
 use um_machine::{Pending, Pendings, Thread};
 
-/// An initialisation with a buffer of so many bytes.
+/// An initialisation with a buffer of this many bytes.
 fn buffered(pending: &mut Pendings, a: u32, kind: Kind, size: u32, ask: &Ask)
     requires few { size < 2 ^ 31 }
     requires sound { IsTrue (is_sound_ask ask.now) }
