@@ -5,7 +5,7 @@ use std::process::Abort;
 use std::test::Fail;
 use um_base::{Act, Addr, Attr, Cause, Errno, Kind, Leftover, Range, Reply, ThreadIx, Want};
 
-/// The line of an act, behind its thread and a space.
+/// The line of an act, after its thread and a space.
 fn is_told<R: Abort + AllocGlobal>(rt: &R, act: Act, want: &str) -> Result<(), Fail> {
     let wanted = format!(in rt.alloc(); "a {want}\n")?;
     are_told(rt, &[act], &wanted)
