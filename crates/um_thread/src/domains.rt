@@ -13,13 +13,13 @@ use um_words::{Content, DomWord, FineAct, Local, Unseen};
 /// What a call does with a domain's partitions.
 #[derive(Clone, Copy)]
 pub enum DomainCall {
-    /// A claim to read them, where nobody changes them.
+    /// Claims them for reading, if nobody changes them.
     ReadClaim,
-    /// A claim to read ends: with the failed move of this thread, since the domain isn't initialised, or with a step that no trace shows.
+    /// Ends a claim to read: with this thread's move, which fails since the domain isn't initialised, or with a step that no trace shows.
     ReadDone { failed: Option<ThreadIx> },
-    /// A claim to change them, where nobody reads or changes them.
+    /// Claims them for a change, if nobody reads or changes them.
     WriteClaim,
-    /// A claim to change them ends, with the edit.
+    /// Ends a claim to change them, with the edit.
     WriteDone { edit: Act },
 }
 
@@ -36,7 +36,7 @@ fn is_edit_of(domain: u8, act: &Act) -> bool
 }
 
 impl DomainCall {
-    /// Whether a domain with this word takes the call, where the word doesn't forbid it.
+    /// Whether a domain with this word takes the call, given that the word doesn't forbid it.
     pub fn fits(&self, domain: u8, word: &DomWord) -> bool
         ensures { result ≡ fits_domain domain self.now word.now }
     {

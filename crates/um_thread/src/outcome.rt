@@ -1,4 +1,4 @@
-//! What became of a call, and the try that says so.
+//! What became of a call, and the function that tries it.
 
 ghost use Rattle.std.specs.Prelude.{◌≡◌, false};
 ghost use Rattle.um_site.specs.Calls.{site_of, Stays, AtPlace, Takes, MayNext};
@@ -10,7 +10,7 @@ use um_words::{Content, FineAct, Local};
 /// What became of a call on a word.
 #[derive(Clone, Copy)]
 pub enum Outcome<W> {
-    /// It was recorded, where the word said this before.
+    /// It was recorded. This is what the word said before.
     Recorded { before: W },
     /// The word forbids it, and still stood there. Nothing was recorded.
     Forbidden { word: u64 },

@@ -39,13 +39,13 @@ pub enum ThreadCall {
     },
     /// It ends after its last line, where it isn't doomed.
     Exit,
-    /// It is to begin no other line.
+    /// It is doomed: it begins no other line.
     Doom,
-    /// It keeps its domain.
+    /// It is held: its domain stays as it is.
     Hold,
-    /// Its domain may change again.
+    /// It is let go: its domain may change again.
     LetGo,
-    /// It moves to an initialised domain, where its own isn't kept.
+    /// It moves to an initialised domain. It must not be held.
     Move {
         domain: u8,
     },
@@ -94,7 +94,7 @@ impl ThreadCall {
         shown(by, act)
     }
 
-    /// Whether a thread with this word takes the call, where the word doesn't forbid it.
+    /// Whether a thread with this word takes the call, given that the word doesn't forbid it.
     pub fn fits(self, thread: &ThreadWord) -> bool
         ensures { result ≡ fits_thread self thread.now }
     {
