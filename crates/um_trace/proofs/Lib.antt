@@ -1,5 +1,5 @@
--- Texts that are put into room piece by piece, one file for each form of them: DigitLemmas, ListLemmas, LineLemmas, PageLemmas with ZeroLemmas; OwnRowLemmas and
--- WaitingLemmas are of tables that are looked up.
+-- Texts that are appended piece by piece, a file for each form: DigitLemmas, ListLemmas, LineLemmas, PageLemmas with ZeroLemmas. OwnRowLemmas
+-- and WaitingLemmas are about tables that are looked up.
 pub mod DigitLemmas
 pub mod LineLemmas
 pub mod ListLemmas

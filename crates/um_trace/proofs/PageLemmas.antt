@@ -12,7 +12,7 @@ use Rattle.um_trace.specs.Dump.{numbers, block, block_line}
 use Rattle.um_trace.specs.Room.{Puts}
 use Rattle.um_trace.proofs.LineLemmas.{range_more, numbers_more}
 
--- the numbers below a bound, and a range behind them
+-- the numbers below a bound, and a range after them
 numbers_range : (a n : ℕ) → numbers (a + n) ≡ numbers a ++ range_with_len a n
 numbers_range a zero = let e : a + 0 ≡ a = omega arith in rw e (sym (append-nil (numbers a)))
 numbers_range a (suc n) =

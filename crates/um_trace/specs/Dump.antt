@@ -34,7 +34,7 @@ numbers n = range_with_len 0 n
 unfoldable pub is_shown : Image → State → ℕ → Bool
 is_shown image s x = nat_lt x (length image.objects) || not (is_free (object_at s x).status)
 
--- these, each behind the first with a comma before it
+-- these, with a comma before each but the first
 abbrev pub joined : {A : Type 0} → (A → List ℕ) → List A → List ℕ
 joined f xs = join_by f (codes ",") xs
 
@@ -48,7 +48,7 @@ abbrev pub lead : Bool → List ℕ
 lead true = []
 lead false = codes ","
 
--- so many of so many
+-- a share: a count, and the number that it is out of
 unfoldable pub share_text : ℕ → ℕ → List ℕ
 share_text part whole = decimal part ++ codes "/" ++ decimal whole
 

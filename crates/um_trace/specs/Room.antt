@@ -2,7 +2,7 @@
 use Rattle.std.specs.Prelude.{◌≡◌, ℕ, ◌+◌, ◌≤◌, List, ◌++◌, vec_len, vec_capacity}
 use Rattle.std.specs.Global.{Vec}
 
--- A piece of at most so many bytes comes behind what stands there, and the room stays reserved.
+-- A piece of at most this many bytes is appended, and the room stays reserved.
 pub record Puts (old new : Vec ℕ) (piece : List ℕ) (most : ℕ) : Type 0 where
   pub items : new.items ≡ old.items ++ piece
   pub len : vec_len new ≤ vec_len old + most

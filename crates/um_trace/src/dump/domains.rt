@@ -15,7 +15,7 @@ use crate::room::{put, put_newline, put_space, put_text};
 use um_base::{Attr, DOMAIN_PARTITIONS, DOMAINS, Image, POOLS, Pool, Range};
 use um_matrix::Matrix;
 
-/// A partition, behind the first with a comma before it.
+/// A partition, with a comma before it if it isn't the first.
 fn put_next(room: &mut Vec<u8>, part: (Range, Attr), first: bool)
     requires { vec_len room.old + 34 ≤ vec_capacity room.old }
     ensures { Puts room.old room.new (lead first ++ part_of part) 34 }

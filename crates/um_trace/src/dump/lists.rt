@@ -15,7 +15,7 @@ pub fn put_lead(room: &mut Vec<u8>, first: bool)
     }
 }
 
-/// So many of so many.
+/// A share: a count, and the number that it is out of.
 #[tactic(auto, unfolding(crate::specs::Dump::share_text))]
 pub fn put_share(room: &mut Vec<u8>, part: u32, whole: u32)
     requires { vec_len room.old + 21 ≤ vec_capacity room.old }

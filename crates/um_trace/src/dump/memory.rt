@@ -18,7 +18,7 @@ const BLOCKS: usize = 0x4000;
 /// The blocks of a page.
 const PAGE: usize = 32;
 
-/// The bytes behind the first eight, where there are so many and those are zero.
+/// The bytes after the first eight, if there are eight and they are all zero.
 fn behind_zeros(bytes: &[u8]) -> Option<&[u8]>
     ensures same { IfSome result (λ rest. list_all (λ b. b == 0) bytes.now ≡ list_all (λ b. b == 0) rest.now) }
     ensures fewer { IfSome result (λ rest. length rest.now < length bytes.now) }

@@ -63,7 +63,7 @@ fn put_marks(room: &mut Vec<u8>, object: &Object)
     put_text(room, flag_word(object.public));
 }
 
-/// A thread where it holds an object, behind the first with a comma before it. The answer is whether the first is still to come.
+/// A thread, if it has a permission on an object, with a comma before it if it isn't the first. Returns whether the first is still to come.
 fn put_holder(room: &mut Vec<u8>, image: &Image, holds: bool, thread: u8, first: bool) -> bool
     requires { vec_len room.old + 25 ≤ vec_capacity room.old }
     ensures text { Puts room.old room.new (if holds then lead first ++ thread_text image.now thread else []) 25 }

@@ -15,7 +15,7 @@ pub enum Shown {
     Waiting,
 }
 
-/// Whether a thread is so.
+/// Whether a thread is counted so.
 fn is_so(shown: Shown, standing: Standing) -> bool
     ensures { result ≡ is_so shown standing }
 {
@@ -37,7 +37,7 @@ fn standing_at(last: &Matrix, thread: u8) -> Standing
     }
 }
 
-/// Whether a thread is shown for a row, and is so.
+/// Whether a thread is shown for a row and counted so.
 fn stands_so(shown: Shown, image: &Image, last: &Matrix, row: usize) -> bool
     requires { row < ROWS }
     ensures { result ≡ stands_so shown last.now (shown_thread image.now last.now row) }
