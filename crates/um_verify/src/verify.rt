@@ -12,7 +12,7 @@ use um_words::{Content, FineAct, Local, More, RowWord, Unseen};
 /// What a check found.
 #[derive(Clone, Copy, PartialEq, Eq)]
 pub enum Checked {
-    /// It is passed, and the object is held until the call ends.
+    /// It passed, and the object is held until the call ends.
     Held,
     Refused(Errno),
 }
@@ -26,7 +26,8 @@ fn to_checked(verdict: Option<Errno>) -> Checked
     }
 }
 
-/// Checks an object for a thread: it stands and is of the kind, then the thread's permission, then whether it is initialised as wanted. Fits: the row has the wanted kind.
+/// Checks an object for a thread: first whether it stands and has the wanted kind, then the thread's permission, then whether it is
+/// initialised as wanted. `fits` says whether the row has the wanted kind.
 pub fn check<T: Content, L: Local>(
     board: &Board<T, L>,
     seat: &mut Seat<T>,
@@ -64,7 +65,7 @@ pub fn check<T: Content, L: Local>(
     Ok(to_checked(verdict))
 }
 
-/// Whether the end of a claim leaves the object to be cleaned.
+/// Whether the object has to be cleaned after the end of a claim.
 fn cleans(seen: u64) -> bool
     ensures { result ≡ cleans seen }
 {
@@ -72,7 +73,7 @@ fn cleans(seen: u64) -> bool
     word.is_dying() && word.claims == 1
 }
 
-/// Ends a claim of an object. True: it was the last one of an object that is gone, which is now this seat's to clean.
+/// Ends a claim on an object. Returns whether it was the last claim on an object that is gone; then this seat has to clean the object.
 pub fn end_call<T: Content, L: Local>(
     board: &Board<T, L>,
     seat: &mut Seat<T>,
