@@ -1,4 +1,4 @@
--- Which steps the cells take whose words count no threads.
+-- Which steps the cells of objects, of domains, of memory and of the heap take.
 use Rattle.std.specs.Prelude.{Bool, true, false}
 use Rattle.um_base.specs.declared.act.Act.{Act}
 use Rattle.um_words.specs.declared.fine.FineAct.{FineAct}
@@ -20,7 +20,7 @@ parts_takes (FineAct.Unseen Unseen.RegionLoad) = true
 parts_takes (FineAct.Unseen Unseen.Edit) = true
 parts_takes act = false
 
--- where the cell takes no step but shown ones
+-- of a cell that takes only steps that are shown
 abbrev pub takes_shown : (Act → Bool) → FineAct → Bool
 takes_shown takes (FineAct.Shown event more) = takes event.act
 takes_shown takes (FineAct.Unseen unseen) = false

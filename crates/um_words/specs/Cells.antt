@@ -70,7 +70,7 @@ word_after kind w act = w
 abbrev pub counted_cell : CellWord → CellWord
 counted_cell w = record w { number = w.number + 1 }
 
--- the step is lawful at a cell with this word, whose turn its maker has, and leaves that one
+-- the step is lawful at a cell with this word, made by the seat with the turn, and leaves that word
 pub record CellMay (kind : CellKind) (w : CellWord) (act : FineAct) (z : CellWord) : Type 0 where
   pub free : w.turn ≡ false
   pub room : w.number < 268435455

@@ -37,7 +37,8 @@ abbrev pub Numbers : ℕ → ℕ → List Made → Type 0
 Numbers i n [] = Unit {0}
 Numbers i n (m ∷ ms) = (number i m.word ≡ n + 1) × Numbers i (n + 1) ms
 
--- The history of a board from these opening words, as a fact of its sublists alone: each site's words go by lawful steps to the word that stands, a cell's turn aside, its steps are numbered from 1 without a gap, and each seat's steps go
+-- The history of a board from these opening words, said of its sublists alone. Each site's steps are lawful, lead from its opening word to
+-- the word that stands, a cell's turn aside, and are numbered from 1 without a gap. Each seat's steps may follow one another.
 pub record IsHistory (goes : List ℕ → List Made → Made → Type 0) (opening words : List ℕ) (h : List Entry) : Type 0 where
   pub wide : length words ≡ length opening
   pub opened : (i : ℕ) → i < length opening → number i (slice_index opening i) ≡ 0

@@ -106,7 +106,7 @@ pub record FitsDomain (d : DomWord) : Type 0 where
   pub version : d.version < 1048576
   pub number : d.number < 268435456
 
--- A cell: 0 the turn, 1 to 8 ready threads, 9 to 16 running ones, 17 to 35 what is owed, 36 to 63 the step number.
+-- A cell: 0 the turn, 1 to 8 ready threads, 9 to 16 running ones, 17 to 35 what is owed (always 0), 36 to 63 the step number.
 
 abbrev pub packed_cell : CellWord → ℕ
 packed_cell c = bit c.turn + 2 * c.ready + 512 * c.running + 131072 * c.owed + 68719476736 * c.number

@@ -42,7 +42,7 @@ pub record RowStep (w : ℕ) (act : FineAct) (next : ℕ) : Type 0 where
   pub may : RowMay (row_of w) act left
   pub is : next ≡ packed_row left
 
--- a step at a word that says something, as not every one does
+-- a step at a word that can be read, as not every one can
 pub record ReadStep {W : Type 0} (said : Option W) (May : W → W → Type 0) (packed : W → ℕ) (next : ℕ) : Type 0 where
   pub found : W
   pub reads : said ≡ Some found

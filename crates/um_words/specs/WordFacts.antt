@@ -29,7 +29,7 @@ last-of : (a b : Bool) → IsTrue (a && b) → IsTrue b
 last-of true b h = h
 last-of false b h = absurd (cc)
 
--- what a word says, where it says something
+-- what a word says, if it can be read
 said-is : {W : Type 0} (b : Bool) (all said : W) → (if b then Some all else None) ≡ Some said → all ≡ said
 said-is true all said e = cc
 said-is false all said e = absurd (cc)

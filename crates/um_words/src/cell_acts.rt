@@ -130,7 +130,7 @@ impl CellWord {
     }
 }
 
-/// The word that a lawful step leaves, and nothing where the step isn't lawful.
+/// The word that the step leaves, or `None` if the step isn't lawful.
 #[inline(always)]
 pub fn cell_step(kind: CellKind, word: u64, act: &FineAct) -> Option<u64>
     ensures { MatchOption result ((next : ℕ) → CellStep kind word act.now next → ⊥) (λ next. CellStep kind word act.now next) }

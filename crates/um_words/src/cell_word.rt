@@ -6,13 +6,13 @@ ghost use Rattle.um_words.specs.Packed.{FitsCell, packed_cell, cell_of};
 /// What stands in the word of a cell. Only the scheduler's cell counts threads.
 #[derive(Clone, Copy)]
 pub struct CellWord {
-    /// Whether somebody has the cell's contents.
+    /// Whether a seat has the cell's turn.
     pub turn: bool,
-    /// Threads of the ready list.
+    /// How many threads stand in the ready list.
     pub ready: u8,
-    /// Threads that processors run.
+    /// How many threads processors run.
     pub running: u8,
-    /// What is owed, below 2^19.
+    /// A count that no step changes: it is 0 on the board of an image. Below 2^19.
     pub owed: u32,
     /// How many steps the word has taken, below 2^28.
     pub number: u32,
@@ -31,7 +31,7 @@ impl CellWord {
         threads + 0x2_0000 * u64::from(self.owed) + 0x10_0000_0000 * u64::from(self.number)
     }
 
-    /// What a word says: each bit has a meaning.
+    /// Reads a word. Each bit has a meaning, so every word can be read.
     pub fn read(word: u64) -> CellWord
         ensures value { result ≡ cell_of word }
         ensures back { packed_cell result ≡ word }
@@ -46,7 +46,7 @@ impl CellWord {
         }
     }
 
-    /// The same, in the form that all words have.
+    /// The same, with the signature that all words have.
     pub fn unpack(word: u64) -> Option<CellWord>
         ensures { result ≡ Some (cell_of word) }
     {

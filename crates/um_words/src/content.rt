@@ -9,11 +9,11 @@ pub trait Content {
     /// These are the contents with which the cell at this site opens.
     ghost opens: { Image → ℕ → Self → Type 0 };
 
-    /// A step by this act, with what it moves, makes the second contents of the first.
+    /// A step with this act and this exchange turns the first contents into the second.
     ghost follows: { Self → FineAct → Exchange → Self → Type 0 };
 }
 
-/// Contents that say nothing, of a board without cells.
+/// Empty contents, for a board without cells.
 impl Content for () {
     ghost opens = { λ image site contents. Unit {0} };
 

@@ -7,9 +7,9 @@ ghost use Rattle.um_words.specs.Packed.{FitsDomain, packed_domain, domain_of};
 #[derive(Clone, Copy)]
 pub struct DomWord {
     pub init: bool,
-    /// Whether its partitions are about to change.
+    /// Whether a thread has claimed it to change its partitions.
     pub writer: bool,
-    /// How many keep its partitions as they are, below 128.
+    /// How many claims to read keep its partitions as they are, below 128.
     pub readers: u8,
     /// How often its partitions were written, below 2^20.
     pub version: u32,
@@ -30,7 +30,7 @@ impl DomWord {
         claims + 0x200 * u64::from(self.version) + 0x10_0000_0000 * u64::from(self.number)
     }
 
-    /// What a word says: nothing where a bit is set that is always zero.
+    /// Reads a word: `None` if a bit is set that has to be zero.
     pub fn unpack(word: u64) -> Option<DomWord>
         ensures value { result ≡ domain_of word }
         ensures back { IfSome result (λ d. packed_domain d ≡ word) }

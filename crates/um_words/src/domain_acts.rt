@@ -28,7 +28,7 @@ impl DomWord {
         self.writer && self.version < 0xf_ffff
     }
 
-    /// The claim to write ends. Init: the domain is initialised by it.
+    /// Ends the claim to write. `init` says that this initialises the domain.
     fn write_done(&mut self, init: bool)
         requires { IsTrue (writes self.old) }
         ensures { self.new ≡ written self.old init }
@@ -38,7 +38,7 @@ impl DomWord {
         self.version += 1;
     }
 
-    /// A claim to read ends.
+    /// Ends a claim to read.
     fn read_done(&mut self)
         requires { 0 < self.old.readers }
         ensures { self.new ≡ left_by_reader self.old }
@@ -84,7 +84,7 @@ impl DomWord {
     }
 }
 
-/// The word that a lawful step leaves, and nothing where the step isn't lawful.
+/// The word that the step leaves, or `None` if the step isn't lawful.
 #[inline(always)]
 pub fn domain_step(word: u64, act: &FineAct) -> Option<u64>
     ensures { MatchOption result ((next : ℕ) → DomainStep word act.now next → ⊥) (λ next. DomainStep word act.now next) }

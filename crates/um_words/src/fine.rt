@@ -8,7 +8,7 @@ pub enum More {
     Nothing,
     /// The mode of the thread that checks, and whether the row has the wanted kind.
     By { mode: Mode, fits: bool },
-    /// Whether what is marked as initialised must not be so before.
+    /// Whether the object to mark must not be initialised before.
     Strict(bool),
     /// The mode of a new thread, and its domain.
     Starts { mode: Mode, domain: u8 },
@@ -19,19 +19,19 @@ pub enum More {
 pub enum Unseen {
     /// A claim of a row ends.
     EndCall,
-    /// A look at a row with which there is no permission to pass on or to drop.
+    /// A look at a row where there is no permission to pass on or to drop.
     Visit,
     /// An object that was cleaned leaves its row.
     Vacate,
-    /// A thread keeps its domain.
+    /// A thread is held: its domain stays as it is.
     Hold,
-    /// A thread's domain may change again.
+    /// A thread is let go: its domain may change again.
     LetGo,
-    /// A domain keeps its partitions, for one reader more.
+    /// A domain is claimed for reading: its partitions stay as they are.
     ReadClaim,
-    /// A reader of a domain is done.
+    /// A claim to read a domain ends.
     ReadDone,
-    /// A domain's partitions are about to change.
+    /// A domain is claimed for a change of its partitions.
     WriteClaim,
     /// A domain's partitions are read into a region table.
     RegionLoad,
@@ -43,13 +43,13 @@ pub enum Unseen {
     Wipe,
     /// A new thread gets ready.
     Add(ThreadIx),
-    /// A thread is told what woke it. Ready: it stands in the ready list then.
+    /// A thread is told what woke it. `ready` says whether it then joins the ready list.
     Wake { who: ThreadIx, ready: bool },
     /// The first thread of the ready list is taken.
     Next(ThreadIx),
-    /// A thread is put back. Ready: it stands in the ready list then.
+    /// A thread is put back. `ready` says whether it then joins the ready list.
     Park { who: ThreadIx, ready: bool },
-    /// A thread isn't put back.
+    /// A thread stops running for good, and isn't put back.
     Done,
     /// A thread's word is read.
     WordRead,

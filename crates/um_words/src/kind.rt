@@ -3,10 +3,10 @@
 ghost use Rattle.std.specs.Prelude.{◌≡◌};
 ghost use Rattle.um_words.specs.Steps.{cell_kind_at, kind_at, number, number_in};
 
-/// The greatest step number of all words but a row's: there the word takes no step.
+/// The greatest step number of every word but a row's. A word that has reached it takes no step.
 pub(crate) const LAST: u32 = 0xfff_ffff;
 
-/// What a cell is of.
+/// What a cell keeps.
 #[derive(Clone, Copy, PartialEq, Eq)]
 pub enum CellKind {
     Object,
@@ -14,12 +14,12 @@ pub enum CellKind {
     Memory,
     Heap,
     Scheduler,
-    /// Of nothing: it takes no step.
+    /// Nothing: it takes no step.
     Unused,
 }
 
 impl CellKind {
-    /// That of a cell by its site.
+    /// The kind of the cell at a site.
     fn at(site: u16) -> CellKind
         ensures { result ≡ cell_kind_at site }
     {
@@ -34,7 +34,7 @@ impl CellKind {
     }
 }
 
-/// What a site's word is of.
+/// What a site's word stands for.
 #[derive(Clone, Copy, PartialEq, Eq)]
 pub enum WordKind {
     Row,
@@ -44,7 +44,7 @@ pub enum WordKind {
 }
 
 impl WordKind {
-    /// That of a site by its number.
+    /// The kind of the word at a site.
     pub fn at(site: u16) -> WordKind
         ensures { result ≡ kind_at site }
     {

@@ -3,7 +3,8 @@
 use crate::fine::FineAct;
 use std::marker::Model;
 
-/// What goes between a processor and a site in a step, and isn't in the act: in clauses an `Exchange`. No value of it is made but in clauses.
+/// What goes between a processor and a site in a step and isn't in the act. Contracts see it as an `Exchange`; no value of it exists at run
+/// time.
 pub struct Moved {
     nothing: (),
 }
@@ -16,7 +17,8 @@ impl Model for Moved {
     ghost view = { λ moved. Exchange.nothing };
 }
 
-/// A step: at which site, what it does, the word that it leaves there, and what goes between. No value of it is made but in clauses.
+/// A step: its site, its act, the word that it leaves there, and what goes between processor and site. It is ghost data: no value of it
+/// exists at run time.
 pub struct Made {
     pub site: u16,
     pub act: FineAct,

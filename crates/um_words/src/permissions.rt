@@ -32,14 +32,14 @@ impl Model for Permissions {
 }
 
 impl Permissions {
-    /// Of nobody.
+    /// No thread has a permission.
     pub fn none() -> Permissions
         ensures { result ≡ replicate THREADS false }
     {
         Permissions { bits: 0 }
     }
 
-    /// Those of the indices whose bit is set, index 0's being the lowest.
+    /// The threads whose bit is set have a permission. The lowest bit is that of index 0.
     pub fn from_bits(bits: u32) -> Permissions
         ensures { result ≡ bits_of 32 bits }
     {
@@ -53,35 +53,35 @@ impl Permissions {
         self.bits
     }
 
-    /// Whether nobody has one.
+    /// Whether no thread has a permission.
     pub fn is_empty(&self) -> bool
         ensures { result ≡ list_all not self.now }
     {
         self.bits == 0
     }
 
-    /// Whether the thread has one.
+    /// Whether the thread has a permission.
     pub fn has(&self, thread: u8) -> bool
         ensures { result ≡ slice_index_or self.now thread false }
     {
         (thread as usize) < THREADS && self.bits >> thread & 1 == 1
     }
 
-    /// Gives the thread one, where there is such an index.
+    /// Gives the thread a permission, if there is such an index.
     pub fn add(&mut self, thread: u8)
         ensures { self.new ≡ slice_set self.old thread true }
     {
         self.set(thread, true);
     }
 
-    /// Takes the thread's away.
+    /// Takes the thread's permission away.
     pub fn remove(&mut self, thread: u8)
         ensures { self.new ≡ slice_set self.old thread false }
     {
         self.set(thread, false);
     }
 
-    /// There: whether the thread has one from now on, where there is such an index.
+    /// Sets whether the thread has a permission, if there is such an index.
     #[inline(always)]
     fn set(&mut self, thread: u8, there: bool)
         ensures { self.new ≡ slice_set self.old thread there }

@@ -1,4 +1,4 @@
-//! A step of a row's word by what it does.
+//! The step of a row's word with a given act.
 
 ghost use Rattle.std.specs.Prelude.{◌≡◌, ◌↔◌, ◌<◌, ℕ, IsTrue, MatchOption};
 ghost use Rattle.um_words.specs.{
@@ -12,11 +12,11 @@ use crate::fine::{FineAct, More, Unseen};
 use crate::row_word::RowWord;
 use um_base::{Act, SetSaid};
 
-/// The greatest step number: there the word takes no step.
+/// The greatest step number. A word that has reached it takes no step.
 const LAST: u32 = 0xf_ffff;
 
 impl RowWord {
-    /// Whether it takes the step.
+    /// Whether a row with this word takes the step.
     #[inline(always)]
     fn takes(&self, act: &FineAct) -> bool
         ensures { result ≡ row_takes self.now act.now }
@@ -110,7 +110,7 @@ impl RowWord {
     }
 }
 
-/// The word that a lawful step leaves, and nothing where the step isn't lawful.
+/// The word that the step leaves, or `None` if the step isn't lawful.
 #[inline(always)]
 pub fn row_step(word: u64, act: &FineAct) -> Option<u64>
     ensures { MatchOption result ((next : ℕ) → RowStep word act.now next → ⊥) (λ next. RowStep word act.now next) }

@@ -52,7 +52,8 @@ impl RowWord {
         self.permissions.has(thread)
     }
 
-    /// What a check answers: the object stands and is of the wanted kind, then the permission, then whether it is initialised (Zephyr: User Mode, System Calls).
+    /// What a check answers. It asks first whether the object stands and has the wanted kind, then for the permission, then whether the
+    /// object is initialised (Zephyr: User Mode, System Calls).
     pub fn verdict(&self, thread: u8, mode: Mode, fits: bool, want: Want) -> Option<Errno>
         ensures { result ≡ verdict_of self.now thread mode fits want }
     {
@@ -67,7 +68,7 @@ impl RowWord {
         init_verdict(want, self.init)
     }
 
-    /// Whether what is given reaches an object that stands.
+    /// Whether a permission can still be given: the object must stand.
     pub fn given(&self) -> Given
         ensures { result ≡ given_of self.now }
     {
@@ -94,7 +95,7 @@ impl RowWord {
         }
     }
 
-    /// What marking the object as initialised says. Strict: it must not be so before.
+    /// What marking the object as initialised answers. `strict` says that it must not be initialised before.
     pub fn set(&self, strict: bool) -> SetSaid
         ensures { result ≡ set_of self.now strict }
     {
@@ -126,7 +127,7 @@ impl RowWord {
         }
     }
 
-    /// Gives a permission, where the object stands.
+    /// Gives a permission, if the object stands.
     pub fn grant(&mut self, who: u8) -> Given
         ensures given { result ≡ given_of self.old }
         ensures leaves { self.new ≡ given_to self.old who }
@@ -157,7 +158,7 @@ impl RowWord {
         self.permissions.add(child);
     }
 
-    /// Opens the object to all threads, where it stands.
+    /// Opens the object to all threads, if it stands.
     pub fn publish(&mut self) -> Given
         ensures given { result ≡ given_of self.old }
         ensures leaves { self.new ≡ published self.old }
@@ -170,7 +171,7 @@ impl RowWord {
         }
     }
 
-    /// Takes a permission away. A dynamic object goes with its last one.
+    /// Takes a permission away. A dynamic object that loses its last permission is gone.
     pub fn drop_one(&mut self, who: u8) -> Leftover
         ensures left { result ≡ left_of self.old who }
         ensures leaves { self.new ≡ dropped self.old who }
@@ -193,7 +194,7 @@ impl RowWord {
         }
     }
 
-    /// Marks the object as initialised, where it stands. Strict: it must not be so before.
+    /// Marks the object as initialised, if it stands. `strict` says that it must not be initialised before.
     pub fn set_init(&mut self, strict: bool) -> SetSaid
         ensures set { result ≡ set_of self.old strict }
         ensures leaves { self.new ≡ after_set self.old (set_of self.old strict) }
@@ -205,7 +206,7 @@ impl RowWord {
         set
     }
 
-    /// Ends a claim. With the last one of a dying row its object is to be cleaned.
+    /// Ends a claim. If it was the last claim on a dying row, the object has to be cleaned.
     pub fn end_call(&mut self)
         requires { 0 < self.old.claims }
         ensures { self.new ≡ call_ended self.old }
@@ -216,7 +217,7 @@ impl RowWord {
         self.claims -= 1;
     }
 
-    /// A dynamic object comes to stand, with one permission.
+    /// Puts a dynamic object into a free row, with one permission.
     pub fn born(&mut self, who: u8)
         ensures { self.new ≡ born self.old who }
     {
@@ -226,7 +227,7 @@ impl RowWord {
         self.stage = Stage::Live;
     }
 
-    /// An object that was cleaned leaves its row.
+    /// Frees the row of an object that was cleaned.
     pub fn vacate(&mut self)
         ensures { self.new ≡ vacated self.old }
     {

@@ -5,7 +5,7 @@ ghost use Rattle.um_words.specs.Packed.{FitsRow, packed_row, row_of};
 
 use crate::permissions::Permissions;
 
-/// How far the object of a row has come: there is none, it stands, it is gone while calls hold it, or it is being cleaned.
+/// The stage of a row's object: there is none, it stands, it is gone while claims are left, or it is being cleaned.
 #[derive(Clone, Copy, PartialEq, Eq)]
 pub enum Stage {
     Free,
@@ -22,7 +22,7 @@ pub struct RowWord {
     pub public: bool,
     pub dynamic: bool,
     pub stage: Stage,
-    /// The holds of the object that aren't ended, below 128.
+    /// How many claims on the object haven't ended, below 128.
     pub claims: u8,
     /// How many steps the word has taken, below 2^20.
     pub number: u32,
@@ -69,7 +69,7 @@ impl RowWord {
         counts + 0x1000_0000_0000 * u64::from(self.number)
     }
 
-    /// What a word says: each bit has a meaning.
+    /// Reads a word. Each bit has a meaning, so every word can be read.
     pub fn read(word: u64) -> RowWord
         ensures value { result ≡ row_of word }
         ensures back { packed_row result ≡ word }
@@ -86,7 +86,7 @@ impl RowWord {
         }
     }
 
-    /// The same, in the form that all words have.
+    /// The same, with the signature that all words have.
     pub fn unpack(word: u64) -> Option<RowWord>
         ensures { result ≡ Some (row_of word) }
     {

@@ -96,7 +96,7 @@ fn agrees(act: &FineAct) -> bool
     }
 }
 
-/// Whether a step with this act leaves all that a word says.
+/// Whether a step with this act changes nothing but the step number.
 #[inline(always)]
 fn leaves_all(act: &FineAct) -> bool
     ensures { IsTrue result → (w : ThreadWord) → thread_after w act.now ≡ w }
@@ -111,7 +111,7 @@ fn leaves_all(act: &FineAct) -> bool
     }
 }
 
-/// The word with one step more, which says the same.
+/// The same word with its step number raised by one.
 #[inline(always)]
 fn one_more(word: u64) -> u64
     requires { word / 68719476736 < 268435455 }
@@ -120,7 +120,7 @@ fn one_more(word: u64) -> u64
     word + 0x10_0000_0000
 }
 
-/// The word that a lawful step leaves, and nothing where the step isn't lawful.
+/// The word that the step leaves, or `None` if the step isn't lawful.
 #[inline(always)]
 pub fn thread_step(word: u64, act: &FineAct) -> Option<u64>
     ensures { MatchOption result ((next : ℕ) → ThreadStep word act.now next → ⊥) (λ next. ThreadStep word act.now next) }

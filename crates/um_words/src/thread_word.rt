@@ -12,7 +12,7 @@ use um_machine::Life;
 pub struct ThreadWord {
     pub life: Life,
     pub doomed: bool,
-    /// Whether its domain is kept.
+    /// Whether the thread is held, so that its domain stays as it is.
     pub held: bool,
     pub mode: Mode,
     /// Below 8.
@@ -31,7 +31,7 @@ fn life_code(life: Life) -> u64
     }
 }
 
-/// The life of a code. Of three codes alone it is the code itself, which takes no instruction.
+/// The life with this code. There are three codes, and each is the value's own number, so this compiles to nothing.
 fn life_of(code: u64) -> Life
     requires { code < 3 }
     ensures { result ≡ Rattle.um_words.specs.Packed.life_of code }
@@ -67,7 +67,7 @@ impl ThreadWord {
         flags + 32 * u64::from(self.domain) + 0x10_0000_0000 * u64::from(self.number)
     }
 
-    /// What a word says: nothing where a bit is set that is always zero, or the life is none.
+    /// Reads a word: `None` if a bit is set that has to be zero, or if the life's code is none of the three.
     pub fn unpack(word: u64) -> Option<ThreadWord>
         ensures value { result ≡ thread_of word }
         ensures back { IfSome result (λ t. packed_thread t ≡ word) }
