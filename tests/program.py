@@ -1,14 +1,25 @@
-"""The program that tests run, and its building."""
+"""The program that tests run."""
+import functools
+import os
 import subprocess
 from pathlib import Path
 
 TOP = Path(__file__).resolve().parent.parent
-PROGRAM = TOP / "build" / "zumode"
 
 
-def is_built(program: Path = TOP / "zumode") -> bool:
-    """Builds the program, by a call without words: the program then says how it is used, and a failed build has status 1."""
-    built = subprocess.run([program], stdin=subprocess.DEVNULL, capture_output=True, text=True)
-    if built.returncode == 1:
-        print(built.stderr, end="")
-    return built.returncode != 1
+@functools.cache
+def program() -> Path:
+    """The program, by ./zumode: the proved one where it is built of these sources, or else the one without proof, which is made where it
+    isn't there. ZUMODE in the environment names another one."""
+    asked = subprocess.run([TOP / "zumode", "--program"], stdin=subprocess.DEVNULL, stdout=subprocess.PIPE, text=True)
+    found = Path(asked.stdout.strip() or "no program").resolve()
+    os.environ["ZUMODE"] = str(found)
+    return found
+
+
+def is_built() -> bool:
+    """Whether there is a program. Where it isn't the proved one, this says so."""
+    found = program().is_file()
+    if program() == TOP / "build" / "unproved":
+        print("run with a program that isn't proved, which ./prove builds", flush=True)
+    return found

@@ -1,7 +1,11 @@
 """Tests of the schema, the manual page and the completions."""
 import json
+import os
+import pty
 import re
+import select
 import subprocess
+import time
 import tomllib
 
 from judging import EXAMPLES, TOP, NotRun, fault_of, holds, needs, same
@@ -10,6 +14,8 @@ SCHEMA = TOP / "schema" / "zumode.schema.json"
 POINTER = "#:schema ../schema/zumode.schema.json"
 FORM_FAULTS = {"MissingKey", "WrongType", "UnknownKey", "BadName"}
 MOST_PICTURE_BYTES = 200_000
+SECONDS = 20
+SHOW_LINE = b"""bind -x '"\\C-t": printf "[%s%s]" "[$READLINE_LINE" "]"'"""
 COMMANDS = ["audit", "gen", "layout", "run", "sim", "summary", "upgrade"]
 
 
@@ -84,6 +90,36 @@ def manual_page_names_commands_and_statuses() -> None:
     same("statuses", re.findall(r"^ {5}(\d) ", statuses, re.M), list("01234567"))
 
 
+def typed_in_bash(line: str) -> str:
+    """What an interactive bash has in its line, once a line and a tab are typed. The line isn't run: a key shows it."""
+    terminal, end = pty.openpty()
+    shell = ["bash", "--norc", "--noprofile", "-i"]
+    environment = {**os.environ, "PS1": "", "TERM": "dumb", "HISTFILE": ""}
+    with subprocess.Popen(shell, cwd=TOP, stdin=end, stdout=end, stderr=end, start_new_session=True, env=environment) as bash:
+        os.close(end)
+        os.write(terminal, b"source completions/zumode.bash; " + SHOW_LINE + b"; echo rea''dy\n")
+        read_until(terminal, "ready\r\n")
+        os.write(terminal, f"{line}\t\x14".encode())
+        seen = read_until(terminal, "]]")
+        bash.kill()
+    os.close(terminal)
+    return seen[seen.rindex("[[") + 2 : seen.rindex("]]")]
+
+
+def read_until(terminal: int, end: str) -> str:
+    seen, until = "", time.monotonic() + SECONDS
+    while end not in seen and select.select([terminal], [], [], max(0, until - time.monotonic()))[0]:
+        seen += os.read(terminal, 4096).decode()
+    holds(f"bash says {seen!r}", end in seen)
+    return seen
+
+
+def bash_completes_files() -> None:
+    for front in ("./zumode sim ", "./zumode sim < ", "./zumode audit --cpus 2 > "):
+        same(f"{front}examples/last-b", typed_in_bash(f"{front}examples/last-byte.t"), f"{front}examples/last-byte.toml ")
+    same("./zumode sim --c", typed_in_bash("./zumode sim --c"), "./zumode sim --cpus ")
+
+
 def completed_by_bash(*words: str) -> list:
     """What bash completes the last of some words to."""
     script = 'source completions/zumode.bash; COMP_WORDS=("$@"); COMP_CWORD=$(($# - 1)); _zumode; printf "%s\\n" "${COMPREPLY[@]}"'
@@ -101,6 +137,8 @@ def bash_completes() -> None:
     same("zumode summary --cpus 4 --", completed_by_bash("summary", "--cpus", "4", "--"), ["--pick"])
     same("zumode run --", completed_by_bash("run", "--"), ["--cpus"])
     same("zumode layout --", completed_by_bash("layout", "--"), [])
+    same("zumode --", completed_by_bash("--"), ["--help", "--version"])
+    same("zumode sim", completed_by_bash("sim", ""), [])
 
 
 def completed_by_fish(line: str) -> list:
@@ -116,13 +154,16 @@ def fish_completes() -> None:
     same("zumode sim --", completed_by_fish("zumode sim --"), ["--cpus", "--pick"])
     same("zumode sim --cpus", completed_by_fish("zumode sim --cpus "), list("12345678"))
     same("zumode run --", completed_by_fish("zumode run --"), ["--cpus"])
-    same("zumode layout", completed_by_fish("zumode layout "), [])
+    same("zumode layout exa", completed_by_fish("zumode layout exa"), ["examples/"])
+    same("zumode gen", completed_by_fish("zumode gen "), [])
+    first = completed_by_fish("zumode sim examples/last-byte")
+    same("zumode sim examples/last-byte", first, ["examples/last-byte.toml", "examples/last-byte.out"])
 
 
 ZSH_CALLS = """
 fpath=($PWD/completions $fpath); autoload -Uz _zumode
 _describe() { print -l ${(P)4%%:*}; }
-_arguments() { print -l -- ${@%%\\[*}; }
+_arguments() { print -l -- ${${@%%\\[*}%%:*}; }
 words=(zumode "$@"); CURRENT=$#words; _zumode
 """
 
@@ -135,9 +176,9 @@ def zsh_completes() -> None:
         return sorted(ran.stdout.split())
 
     same("zumode", offered(""), COMMANDS)
-    same("zumode sim", offered("sim", ""), ["--cpus", "--pick"])
-    same("zumode run", offered("run", ""), ["--cpus"])
-    same("zumode layout", offered("layout", ""), [])
+    same("zumode sim", offered("sim", ""), ["--cpus", "--pick", "1"])
+    same("zumode run", offered("run", ""), ["--cpus", "1"])
+    same("zumode layout", offered("layout", ""), ["1"])
 
 
 def picture_is_small() -> None:
@@ -156,6 +197,7 @@ TESTS = [
     manual_page_is_clean,
     manual_page_names_commands_and_statuses,
     bash_completes,
+    bash_completes_files,
     fish_completes,
     zsh_completes,
 ]
