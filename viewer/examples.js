@@ -152,9 +152,18 @@ const EXAMPLES = {
     "oops = \"abort\"\n" +
     "partition = [{name = \"p\", size = 32, attr = \"P_RW_U_RW\"}]\n" +
     "domain = [{name = \"d\", partitions = [\"p\"]}]\n" +
-    "object = [{name = \"a\", kind = \"thread\"}, {name = \"sa\", kind = \"thread_stack\", size = 64}, {name = \"b\", kind = \"thread\"}, {name = \"sb\", kind = \"thread_stack\", size = 64}, {name = \"q\", kind = \"msgq\", msg_size = 4, max_msgs = 2}]\n" +
-    "boot = [{thread = \"b\", stack = \"sb\", script = \"c\", priority = 0, domain = \"d\", grants = [\"q\"]}, {thread = \"a\", stack = \"sa\", script = \"m\", priority = 0, domain = \"d\", mode = \"supervisor\"}]\n" +
-    "script = [{name = \"m\", lines = [\"k_mem_domain_remove_partition d p\", \"k_msgq_put @q @sa K_NO_WAIT\"]}, {name = \"c\", lines = [\"k_msgq_get @q @p K_FOREVER\"]}]\n" +
+    "object = [\n" +
+    "  {name = \"a\", kind = \"thread\"},\n" +
+    "  {name = \"sa\", kind = \"thread_stack\", size = 64},\n" +
+    "  {name = \"b\", kind = \"thread\"},\n" +
+    "  {name = \"sb\", kind = \"thread_stack\", size = 64},\n" +
+    "  {name = \"q\", kind = \"msgq\", msg_size = 4, max_msgs = 2}]\n" +
+    "boot = [\n" +
+    "  {thread = \"b\", stack = \"sb\", script = \"c\", priority = 0, domain = \"d\", grants = [\"q\"]},\n" +
+    "  {thread = \"a\", stack = \"sa\", script = \"m\", priority = 0, domain = \"d\", mode = \"supervisor\"}]\n" +
+    "script = [\n" +
+    "  {name = \"m\", lines = [\"k_mem_domain_remove_partition d p\", \"k_msgq_put @q @sa K_NO_WAIT\"]},\n" +
+    "  {name = \"c\", lines = [\"k_msgq_get @q @p K_FOREVER\"]}]\n" +
     "=====\n" +
     "b begin c 1\n" +
     "b check q msgq init ok\n" +
@@ -198,9 +207,17 @@ const EXAMPLES = {
     "oops = \"abort\"\n" +
     "pool = [{name = \"h\", size = 64}]\n" +
     "domain = [{name = \"d\", partitions = []}]\n" +
-    "object = [{name = \"a\", kind = \"thread\"}, {name = \"sa\", kind = \"thread_stack\", size = 64}, {name = \"b\", kind = \"thread\"}, {name = \"sb\", kind = \"thread_stack\", size = 64}]\n" +
-    "boot = [{thread = \"a\", stack = \"sa\", script = \"m\", priority = 0, domain = \"d\", pool = \"h\", grants = [\"b\"]}, {thread = \"b\", stack = \"sb\", script = \"c\", priority = 0, domain = \"d\"}]\n" +
-    "script = [{name = \"m\", lines = [\"k_object_alloc msgq r0\", \"k_object_access_grant r0 @b\", \"k_object_release r0\"]}, {name = \"c\", lines = [\"set r0 0\", \"set r0 0\", \"k_object_release 0x48000400\"]}]\n" +
+    "object = [\n" +
+    "  {name = \"a\", kind = \"thread\"},\n" +
+    "  {name = \"sa\", kind = \"thread_stack\", size = 64},\n" +
+    "  {name = \"b\", kind = \"thread\"},\n" +
+    "  {name = \"sb\", kind = \"thread_stack\", size = 64}]\n" +
+    "boot = [\n" +
+    "  {thread = \"a\", stack = \"sa\", script = \"m\", priority = 0, domain = \"d\", pool = \"h\", grants = [\"b\"]},\n" +
+    "  {thread = \"b\", stack = \"sb\", script = \"c\", priority = 0, domain = \"d\"}]\n" +
+    "script = [\n" +
+    "  {name = \"m\", lines = [\"k_object_alloc msgq r0\", \"k_object_access_grant r0 @b\", \"k_object_release r0\"]},\n" +
+    "  {name = \"c\", lines = [\"set r0 0\", \"set r0 0\", \"k_object_release 0x48000400\"]}]\n" +
     "=====\n" +
     "a begin m 1\n" +
     "a reserve msgq #16\n" +
@@ -242,8 +259,8 @@ const EXAMPLES = {
     "pool h 64/64\n",
   "parser-on-four-processors":
     "#:schema ../schema/zumode.schema.json\n" +
-    "# Four threads on four processors, whose steps come between those of the others. A supervisor takes the permission on a queue from\n" +
-    "# a parser, which looks into the queue, and whose second look is refused; a sender and a receiver go on.\n" +
+    "# Four threads on four processors, whose steps come between those of the others. A supervisor takes the permission\n" +
+    "# on a queue from a parser, whose second look into the queue is refused then; a sender and a receiver go on.\n" +
     "version = 1\n" +
     "mpu = \"pmsav7\"\n" +
     "regions = 8\n" +

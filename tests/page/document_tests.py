@@ -5,6 +5,7 @@ import pty
 import re
 import select
 import subprocess
+import sys
 import time
 import tomllib
 
@@ -49,6 +50,46 @@ def refused_examples_are_not() -> None:
             seen.add(fault_of(source))
             holds(f"{source.name} is valid by the schema", not schema.is_valid(tomllib.loads(source.read_text())))
     same("kinds of faults among the examples", seen, FORM_FAULTS)
+
+
+def faults_by_schema(**changed) -> list:
+    """What the schema says of a small description with these keys in the place of its own."""
+    plain = {"version": 1, "mpu": "pmsav7", "regions": 8, "oops": "abort"}
+    return [fault.message for fault in validator().iter_errors({**plain, **changed})]
+
+
+def schema_marks_lines() -> None:
+    def marked(line: str) -> bool:
+        return faults_by_schema(script=[{"name": "m", "lines": [line]}]) != []
+
+    right = ["repeat 5", " end ", "load r0 @p+4 1", "k_mem_domain_init d", "k_mem_domain_init d p 0x20000000/64/P_RX_U_RX",
+             "k_thread_create @t @s 64 c -1 K_USER+K_INHERIT_PERMS", "k_sem_take r7  K_FOREVER"]  # fmt: skip
+    wrong = ["", "repat 5", "repeat", "repeat r0", "load @p r0 4", "load r0 @p 3", "store @p 4 0xAB", "k_sem_take s K_FOREVER", "k_sem_give @s @t",
+             "k_mem_domain_init d p p p p p", "set\tr0 1", "k_object_alloc queue r0", "k_msgq_get @q @p K_MSEC(1)"]  # fmt: skip
+    same("lines that are marked without a fault", [line for line in right if marked(line)], [])
+    same("lines with a fault that aren't marked", [line for line in wrong if not marked(line)], [])
+
+
+def schema_says_what_is_wrong_of_an_object() -> None:
+    cases = [
+        ({"name": "x", "kind": "queue"}, "'queue' is not one of ['thread', 'thread_stack', 'sem', 'mutex', 'msgq', 'stack', 'pipe']"),
+        ({"name": "x", "kind": "sem", "count": 1}, "'limit' is a dependency of 'count'"),
+        ({"name": "x", "kind": "thread_stack"}, "'size' is a required property"),
+        ({"name": "x", "kind": "mutex", "limit": 1}, "Additional properties are not allowed ('limit' was unexpected)"),
+    ]
+    for wrong, wanted in cases:
+        same(f"what is said of {wrong}", faults_by_schema(object=[wrong]), [wanted])
+
+
+def line_forms_are_those_of_the_formats() -> None:
+    """The table of tools/script_lines.py and that of docs/FORMATS.md have the same lines."""
+    page = (TOP / "docs" / "FORMATS.md").read_text()
+    table = page[page.index("| line | in short |") : page.index("| operand | form |")]
+    shown = {found for row in table.splitlines() for found in re.findall(r"`([^`]+)`", row.split(" | ")[0])}
+    sys.path.insert(0, str(TOP / "tools"))
+    from script_lines import FORMS, form_of
+
+    same("forms of lines", sorted(form_of(word) for word in FORMS), sorted(shown))
 
 
 def each_key_is_described() -> None:
@@ -191,6 +232,9 @@ def picture_is_small() -> None:
 TESTS = [
     accepted_examples_are_valid,
     refused_examples_are_not,
+    schema_marks_lines,
+    schema_says_what_is_wrong_of_an_object,
+    line_forms_are_those_of_the_formats,
     each_key_is_described,
     examples_point_to_the_schema,
     picture_is_small,
