@@ -1,7 +1,8 @@
-"""The program that tests run."""
+"""The program that tests run, and which of them are wanted."""
 import functools
 import os
 import subprocess
+import sys
 from pathlib import Path
 
 TOP = Path(__file__).resolve().parent.parent
@@ -17,9 +18,19 @@ def program() -> Path:
     return found
 
 
+def is_wanted(name: str) -> bool:
+    """Whether a test is to be made: where the command has no words, or one of them is a part of the test's name."""
+    return not sys.argv[1:] or any(word in name for word in sys.argv[1:])
+
+
+def is_proved() -> bool:
+    """Whether the program isn't the one without proof."""
+    return program() != TOP / "build" / "unproved"
+
+
 def is_built() -> bool:
     """Whether there is a program. Where it isn't the proved one, this says so."""
     found = program().is_file()
-    if program() == TOP / "build" / "unproved":
+    if not is_proved():
         print("run with a program that isn't proved, which ./prove builds", flush=True)
     return found
