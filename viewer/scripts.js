@@ -63,7 +63,10 @@ class ScriptPane {
       const part = this.holder.children[script];
       const place = line === 0 ? part.querySelector("summary") : part.querySelectorAll("button")[line - 1];
       if (!place) return [];
-      if (isActing) place.ariaCurrent = "true";
+      if (isActing) {
+        place.ariaCurrent = "true";
+        scrollInside(this.holder, place);
+      }
       const sign = textElement("span", this.run.description.nameOfThread(thread), "at-line");
       place.append(sign);
       return [sign];

@@ -1,9 +1,10 @@
 """Tests of what the page claims: who may touch what, in both modes, and why something failed."""
+import re
 import tempfile
 from pathlib import Path
 
-from judging import EXAMPLES, holds, same
-from page_tests import cell, choose, chosen, note, show, show_example, text_of
+from judging import EXAMPLES, holds, runs, same
+from page_tests import PAGE, cell, choose, chosen, note, show, show_example, text_of
 
 # A supervisor a, a user b who reads a constant and is woken, and a user e, on one domain.
 SYSTEM = """\
@@ -153,7 +154,27 @@ def whole_run_in_the_matrix(browser) -> None:
     same("back after the event", (cell(browser, "b", "calib"), note(browser, "s")), ("r--", "sem · initialised, 0/1"))
 
 
+def every_event_is_told(browser) -> None:
+    """Each event of each example has its sentences, without a hole."""
+    browser.open(PAGE)
+    for source in runs():
+        browser.run(
+            """window.seen = null;
+            Run.load(arguments[0], arguments[1], () => {}).then((run) => {
+              seen = [];
+              for (let k = 0; k <= run.count; k += 1) seen.push(explain(run, k).join(" "));
+            }, (fault) => { seen = [fault.message]; })""",
+            source.read_text(),
+            source.with_suffix(".out").read_text(),
+        )
+        browser.wait_for("seen", source.name)
+        told = browser.run("return seen")
+        holes = [text for text in told if re.search(r"undefined|null|NaN|\[object| \.|  ", text)]
+        same(f"sentences of {source.name} with a hole", holes, [])
+
+
 TESTS = [
+    every_event_is_told,
     supervisor_needs_no_permission,
     part_of_a_region,
     fault_in_plain_words,
