@@ -126,7 +126,8 @@ function wholeModel(run) {
 }
 
 function wholeRow(row, threads, cellOf) {
-  return { ...row, changed: false, isAbsent: false, cells: threads.map((thread) => ({ thread, changed: false, ...cellOf(thread) })) };
+  const cells = threads.map((thread) => ({ thread, changed: false, ...cellOf(thread) }));
+  return { ...row, changed: false, isAbsent: false, cells };
 }
 
 // How a cell over the whole run shows and says what could be done and what was done.
@@ -136,12 +137,14 @@ const REACH_WORDS = {
   didSaid: ({ what }) => rightsText([..."rwx"].filter((right) => what.has(right)).join("")), never: "could reach nothing",
 };
 const NAME_WORDS = {
-  could: (what) => Object.keys(NAMING_SIGNS).filter((naming) => what.has(naming)).map((naming) => NAMING_SIGNS[naming]).join(""),
+  could: (what) => Object.entries(NAMING_SIGNS).map(([naming, sign]) => (what.has(naming) ? sign : "")).join(""),
   couldSaid: (what) => [...what].map((naming) => NAMING_WORDS[naming]).join(", "),
   did: ({ count }) => String(count), didSaid: ({ count }) => `passed ${count} ${count === 1 ? "check" : "checks"}`,
   never: "might never name it",
 };
-const NAMING_WORDS = { permission: "name it by a permission", public: "name it as a public one", supervisor: "name it as a supervisor" };
+const NAMING_WORDS = {
+  permission: "name it by a permission", public: "name it as a public one", supervisor: "name it as a supervisor",
+};
 
 // The rights that a thread had in all of a region or in parts of it.
 function unionOfRights(what) {
@@ -153,7 +156,8 @@ function wholeCell(run, could, did, words) {
   if (!could && !did) return { text: "", label: words.never };
   const last = could && Math.min(could.last, run.count);
   const canText = could ? words.could(could.what) : "";
-  const canSaid = could ? `could ${words.couldSaid(could.what)}, first after event ${could.first}, last after event ${last}` : words.never;
+  const canSaid = could
+    ? `could ${words.couldSaid(could.what)}, first after event ${could.first}, last after event ${last}` : words.never;
   if (!did) return { text: canText, label: `${canSaid}; never did` };
   const said = `did: ${words.didSaid(did)}, first by event ${did.first}, last by event ${did.last}`;
   return { text: `${canText} ${DONE_SIGN}${words.did(did)}`, label: `${canSaid}; ${said}`, did };

@@ -1,6 +1,6 @@
 "use strict";
-// Which events gave or took a right: the right to name an object, and what threads may do in regions of memory; and what threads
-// could do and did over the whole run. All of it is noted once, while a run is replayed.
+// Which events gave or took a right: the right to name an object, and what threads may do in regions of memory; and what
+// threads could do and did over the whole run. All of it is noted once, while a run is replayed.
 
 class Rights {
   constructor(description) {
@@ -117,8 +117,8 @@ class Rights {
 // The right that an event uses where it isn't refused.
 const RIGHT_OF_KIND = { load: "r", store: "w", exec: "x", copyin: "r", copystr: "r", copyout: "w" };
 
-// Notes what holds from event k on, and, where it is another than before, event k as one that changed it. `could` gets what held at some
-// time, from the first event behind which it did to the last one.
+// Notes what holds from event k on, and, where it is another than before, event k as one that changed it. `could` gets what
+// held at some time, from the first event behind which it did to the last one.
 function noteChange(held, changes, could, key, now, k) {
   const before = held.get(key) ?? "";
   if (k > 0 && now !== before) addTo(changes, key, k);

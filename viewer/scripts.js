@@ -45,7 +45,8 @@ class ScriptPane {
   show(k) {
     this.k = k;
     const state = this.run.stateAfter(k);
-    const threads = sorted(this.run.used.threads).filter((thread) => state.life[thread] === LIFE.started && state.script[thread] >= 0);
+    const isAtLine = (thread) => state.life[thread] === LIFE.started && state.script[thread] >= 0;
+    const threads = sorted(this.run.used.threads).filter(isAtLine);
     this.present = threads.map((thread) => ({
       thread, script: state.script[thread], line: state.line[thread], isActing: k > 0 && this.run.trace.who[k] === thread,
     }));

@@ -464,13 +464,15 @@ class Timeline {
       if (isClick) this.choose(this.eventAtPoint(event.offsetX, event.offsetY));
     });
     canvas.addEventListener("pointercancel", () => { drag = null; });
-    canvas.addEventListener("wheel", (event) => {
-      if (!this.run) return;
-      event.preventDefault();
-      const isPan = event.shiftKey || Math.abs(event.deltaX) > Math.abs(event.deltaY);
-      if (isPan) this.pan(event.deltaX || event.deltaY);
-      else this.zoom(Math.exp(-event.deltaY / 400), event.offsetX);
-    }, { passive: false });
+    canvas.addEventListener("wheel", (event) => this.onWheel(event), { passive: false });
+  }
+
+  onWheel(event) {
+    if (!this.run) return;
+    event.preventDefault();
+    const isPan = event.shiftKey || Math.abs(event.deltaX) > Math.abs(event.deltaY);
+    if (isPan) this.pan(event.deltaX || event.deltaY);
+    else this.zoom(Math.exp(-event.deltaY / 400), event.offsetX);
   }
 }
 

@@ -39,10 +39,11 @@ class Telling {
     return `${this.size} ${this.size === 1 ? "byte" : "bytes"}`;
   }
 
-  // Whether the event belongs to the script line that its thread makes: not to its end, to a doom or to the cleaning of an object.
+  // Whether the event belongs to the script line that its thread makes: not to its end, to a doom or to an object's cleaning.
   isOfLine() {
     const { before, run, k } = this;
-    const isCleaning = this.kind === "drop" && before.stage[run.description.rowOfThread(run.trace.peer[k])] === STAGE.gone;
+    const ofThread = this.kind === "drop" ? run.description.rowOfThread(run.trace.peer[k]) : -1;
+    const isCleaning = ofThread >= 0 && before.stage[ofThread] === STAGE.gone;
     return before.life[this.thread] === LIFE.started && !isCleaning && !["exit", "recycle", "doom"].includes(this.kind);
   }
 
@@ -60,13 +61,14 @@ class Telling {
   lack(right, did) {
     const { before, thread, run, who, start, size } = this;
     const place = run.description.placeName(start) || addressText(start);
-    const end = addressText(start + size - 1);
-    const bytes = `${did} ${place}${size > 1 ? `, ${size} bytes, to ${run.description.placeName(start + size - 1) || end}` : ""}`;
+    const lastByte = run.description.placeName(start + size - 1) || addressText(start + size - 1);
+    const bytes = `${did} ${place}${size > 1 ? `, ${size} bytes, to ${lastByte}` : ""}`;
     const region = this.regionWith(right);
     if (!region) return [`No region of memory is at ${addressText(start)}; ${bytes}.`];
     const rights = before.access(thread, region);
     if (rights.includes(right)) {
-      return [`${region.name} ends at ${addressText(region.start + region.size - 1)}; ${bytes}: no single region has all of them.`];
+      const end = addressText(region.start + region.size - 1);
+      return [`${region.name} ends at ${end}; ${bytes}: no single region has all of them.`];
     }
     const { last } = run.rights.regionEvents(thread, region, this.k);
     const since = last ? [`What it may do in ${region.name} was last changed by event ${last}: ${run.trace.line(last)}`] : [];
@@ -147,7 +149,7 @@ function served(told) {
   return sentences;
 }
 
-// The event that a fatal error comes from: the last one of its own thread's line that was refused with its cause; 0 where none was.
+// The event that a fatal error comes from: the last one of its own thread's line that was refused with its cause, or 0.
 function causeOf(run, k) {
   const { trace } = run;
   const [who, cause] = [trace.who[k], trace.verdictWord(k)];
