@@ -1,6 +1,6 @@
 # Completion of zumode for fish. Load it by: source completions/zumode.fish
 #
-# A command is one line below, and its word in the conditions of the options that follow it.
+# A command is one line below, and its word in the conditions of the options and files that follow it.
 
 complete -c zumode -f
 complete -c zumode -n __fish_use_subcommand -a sim -d 'Run the description, and print its events and the dump'
@@ -20,3 +20,14 @@ end
 complete -c zumode -n '__zumode_may_have --cpus sim run summary' -a --cpus -d 'Logical processors'
 complete -c zumode -n '__zumode_may_have --pick sim summary' -a --pick -d 'Number by which the order is drawn'
 complete -c zumode -n 'test (commandline -opc)[-1] = --cpus' -a '1 2 3 4 5 6 7 8'
+complete -c zumode -n __fish_use_subcommand -l help -d 'Say how it is used'
+complete -c zumode -n __fish_use_subcommand -l version -d 'Say which sources and which program it has'
+
+# Whether a file may stand here: behind a command that reads, and not as an option's value.
+function __zumode_may_have_file
+    set -l words (commandline -opc)
+    contains -- $words[2] sim run summary layout upgrade audit; and not contains -- $words[-1] --cpus --pick
+end
+
+# Descriptions stand before other files.
+complete -c zumode -k -n __zumode_may_have_file -a '(__fish_complete_suffix .toml)'

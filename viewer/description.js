@@ -144,6 +144,19 @@ class Description {
     return null;
   }
 
+  // How a place in memory is named: by the variable or the region that has it, and how many bytes behind its start; else "".
+  placeName(address) {
+    const region = this.regions.find(({ start, size }) => address >= start && address < start + size);
+    if (!region) return "";
+    const { start, offsets, vars } = this.partitions.find((entry) => entry.start === region.start) ?? region;
+    const variable = vars?.find(({ name, size }) => {
+      const from = start + offsets.get(name);
+      return address >= from && address < from + size;
+    });
+    const [name, from] = variable ? [variable.name, start + offsets.get(variable.name)] : [region.name, region.start];
+    return `${name}+${address - from}`;
+  }
+
   // The words of a script line, whose number counts from 1.
   lineWords(script, line) {
     return (this.scripts[script]?.lines?.[line - 1] ?? "").split(" ").filter((word) => word !== "");

@@ -152,9 +152,18 @@ const EXAMPLES = {
     "oops = \"abort\"\n" +
     "partition = [{name = \"p\", size = 32, attr = \"P_RW_U_RW\"}]\n" +
     "domain = [{name = \"d\", partitions = [\"p\"]}]\n" +
-    "object = [{name = \"a\", kind = \"thread\"}, {name = \"sa\", kind = \"thread_stack\", size = 64}, {name = \"b\", kind = \"thread\"}, {name = \"sb\", kind = \"thread_stack\", size = 64}, {name = \"q\", kind = \"msgq\", msg_size = 4, max_msgs = 2}]\n" +
-    "boot = [{thread = \"b\", stack = \"sb\", script = \"c\", priority = 0, domain = \"d\", grants = [\"q\"]}, {thread = \"a\", stack = \"sa\", script = \"m\", priority = 0, domain = \"d\", mode = \"supervisor\"}]\n" +
-    "script = [{name = \"m\", lines = [\"k_mem_domain_remove_partition d p\", \"k_msgq_put @q @sa K_NO_WAIT\"]}, {name = \"c\", lines = [\"k_msgq_get @q @p K_FOREVER\"]}]\n" +
+    "object = [\n" +
+    "  {name = \"a\", kind = \"thread\"},\n" +
+    "  {name = \"sa\", kind = \"thread_stack\", size = 64},\n" +
+    "  {name = \"b\", kind = \"thread\"},\n" +
+    "  {name = \"sb\", kind = \"thread_stack\", size = 64},\n" +
+    "  {name = \"q\", kind = \"msgq\", msg_size = 4, max_msgs = 2}]\n" +
+    "boot = [\n" +
+    "  {thread = \"b\", stack = \"sb\", script = \"c\", priority = 0, domain = \"d\", grants = [\"q\"]},\n" +
+    "  {thread = \"a\", stack = \"sa\", script = \"m\", priority = 0, domain = \"d\", mode = \"supervisor\"}]\n" +
+    "script = [\n" +
+    "  {name = \"m\", lines = [\"k_mem_domain_remove_partition d p\", \"k_msgq_put @q @sa K_NO_WAIT\"]},\n" +
+    "  {name = \"c\", lines = [\"k_msgq_get @q @p K_FOREVER\"]}]\n" +
     "=====\n" +
     "b begin c 1\n" +
     "b check q msgq init ok\n" +
@@ -198,9 +207,17 @@ const EXAMPLES = {
     "oops = \"abort\"\n" +
     "pool = [{name = \"h\", size = 64}]\n" +
     "domain = [{name = \"d\", partitions = []}]\n" +
-    "object = [{name = \"a\", kind = \"thread\"}, {name = \"sa\", kind = \"thread_stack\", size = 64}, {name = \"b\", kind = \"thread\"}, {name = \"sb\", kind = \"thread_stack\", size = 64}]\n" +
-    "boot = [{thread = \"a\", stack = \"sa\", script = \"m\", priority = 0, domain = \"d\", pool = \"h\", grants = [\"b\"]}, {thread = \"b\", stack = \"sb\", script = \"c\", priority = 0, domain = \"d\"}]\n" +
-    "script = [{name = \"m\", lines = [\"k_object_alloc msgq r0\", \"k_object_access_grant r0 @b\", \"k_object_release r0\"]}, {name = \"c\", lines = [\"set r0 0\", \"set r0 0\", \"k_object_release 0x48000400\"]}]\n" +
+    "object = [\n" +
+    "  {name = \"a\", kind = \"thread\"},\n" +
+    "  {name = \"sa\", kind = \"thread_stack\", size = 64},\n" +
+    "  {name = \"b\", kind = \"thread\"},\n" +
+    "  {name = \"sb\", kind = \"thread_stack\", size = 64}]\n" +
+    "boot = [\n" +
+    "  {thread = \"a\", stack = \"sa\", script = \"m\", priority = 0, domain = \"d\", pool = \"h\", grants = [\"b\"]},\n" +
+    "  {thread = \"b\", stack = \"sb\", script = \"c\", priority = 0, domain = \"d\"}]\n" +
+    "script = [\n" +
+    "  {name = \"m\", lines = [\"k_object_alloc msgq r0\", \"k_object_access_grant r0 @b\", \"k_object_release r0\"]},\n" +
+    "  {name = \"c\", lines = [\"set r0 0\", \"set r0 0\", \"k_object_release 0x48000400\"]}]\n" +
     "=====\n" +
     "a begin m 1\n" +
     "a reserve msgq #16\n" +
@@ -240,4 +257,148 @@ const EXAMPLES = {
     "object sb thread_stack uninit private - -\n" +
     "domain d -\n" +
     "pool h 64/64\n",
+  "parser-on-four-processors":
+    "#:schema ../schema/zumode.schema.json\n" +
+    "# Four threads on four processors, whose steps come between those of the others. A supervisor takes the permission\n" +
+    "# on a queue from a parser, whose second look into the queue is refused then; a sender and a receiver go on.\n" +
+    "version = 1\n" +
+    "mpu = \"pmsav7\"\n" +
+    "regions = 8\n" +
+    "oops = \"abort\"\n" +
+    "partition = [\n" +
+    "  {name = \"mail\", size = 64, attr = \"P_RW_U_RW\"},\n" +
+    "  {name = \"key\", size = 32, attr = \"P_RW_U_NA\", data = \"5e\"}]\n" +
+    "domain = [\n" +
+    "  {name = \"app\", partitions = [\"mail\"]},\n" +
+    "  {name = \"safe\", partitions = [\"mail\", \"key\"]}]\n" +
+    "object = [\n" +
+    "  {name = \"keeper\", kind = \"thread\"}, {name = \"keeper_s\", kind = \"thread_stack\", size = 64},\n" +
+    "  {name = \"sender\", kind = \"thread\"}, {name = \"sender_s\", kind = \"thread_stack\", size = 64},\n" +
+    "  {name = \"receiver\", kind = \"thread\"}, {name = \"receiver_s\", kind = \"thread_stack\", size = 64},\n" +
+    "  {name = \"parser\", kind = \"thread\"}, {name = \"parser_s\", kind = \"thread_stack\", size = 64},\n" +
+    "  {name = \"q\", kind = \"msgq\", msg_size = 4, max_msgs = 2},\n" +
+    "  {name = \"done\", kind = \"sem\", count = 0, limit = 4}]\n" +
+    "boot = [\n" +
+    "  {thread = \"keeper\", stack = \"keeper_s\", script = \"keep\", mode = \"supervisor\", priority = 0, domain = \"safe\"},\n" +
+    "  {thread = \"sender\", stack = \"sender_s\", script = \"send\", priority = 1, domain = \"app\", grants = [\"q\", \"done\"]},\n" +
+    "  {thread = \"receiver\", stack = \"receiver_s\", script = \"receive\", priority = 2, domain = \"app\", grants = [\"q\", \"done\"]},\n" +
+    "  {thread = \"parser\", stack = \"parser_s\", script = \"parse\", priority = 3, domain = \"app\", grants = [\"q\"]}]\n" +
+    "\n" +
+    "[[script]]\n" +
+    "name = \"keep\"\n" +
+    "lines = [\n" +
+    "  \"load r0 @key 1\",\n" +
+    "  \"k_object_access_revoke @q @parser\",\n" +
+    "  \"k_sem_take @done K_FOREVER\"]\n" +
+    "\n" +
+    "[[script]]\n" +
+    "name = \"send\"\n" +
+    "lines = [\n" +
+    "  \"store @mail+32 4 0x2a\",\n" +
+    "  \"k_msgq_put @q @mail+32 K_FOREVER\",\n" +
+    "  \"k_msgq_put @q @mail+32 K_FOREVER\",\n" +
+    "  \"k_sem_give @done\"]\n" +
+    "\n" +
+    "[[script]]\n" +
+    "name = \"receive\"\n" +
+    "lines = [\n" +
+    "  \"k_msgq_get @q @mail K_FOREVER\",\n" +
+    "  \"load r1 @mail 4\",\n" +
+    "  \"k_sem_give @done\"]\n" +
+    "\n" +
+    "[[script]]\n" +
+    "name = \"parse\"\n" +
+    "lines = [\n" +
+    "  \"k_msgq_peek @q @mail+16\",\n" +
+    "  \"k_msgq_peek @q @mail+16\",\n" +
+    "  \"load r2 @key 1\"]\n" +
+    "=====\n" +
+    "receiver begin receive 1\n" +
+    "parser begin parse 1\n" +
+    "parser check q msgq init ok\n" +
+    "keeper begin keep 1\n" +
+    "sender begin send 1\n" +
+    "receiver check q msgq init ok\n" +
+    "keeper load 0x20000040 1 0x5e\n" +
+    "sender store 0x20000020 4 0x2a\n" +
+    "parser probe 0x20000010 4 ok\n" +
+    "sender begin send 2\n" +
+    "sender check q msgq init ok\n" +
+    "receiver probe 0x20000000 4 ok\n" +
+    "parser act q ENOMSG\n" +
+    "parser reply ENOMSG\n" +
+    "keeper begin keep 2\n" +
+    "keeper check parser thread any ok\n" +
+    "keeper check q any any ok\n" +
+    "receiver act q wait\n" +
+    "parser begin parse 2\n" +
+    "keeper drop parser q kept\n" +
+    "parser check q msgq init EPERM\n" +
+    "sender copyin 0x20000020 4 ok\n" +
+    "keeper reply void\n" +
+    "sender act q 0 wake receiver 0\n" +
+    "parser fatal 3 EPERM\n" +
+    "keeper begin keep 3\n" +
+    "sender reply 0\n" +
+    "receiver resume\n" +
+    "keeper check done sem init ok\n" +
+    "keeper act done wait\n" +
+    "parser drop parser parser kept\n" +
+    "receiver copyout 0x20000000 4 ok\n" +
+    "sender begin send 3\n" +
+    "sender check q msgq init ok\n" +
+    "sender copyin 0x20000020 4 ok\n" +
+    "receiver reply 0\n" +
+    "sender act q 0\n" +
+    "sender reply 0\n" +
+    "receiver begin receive 2\n" +
+    "sender begin send 4\n" +
+    "sender check done sem init ok\n" +
+    "sender act done void wake keeper 0\n" +
+    "sender reply void\n" +
+    "keeper resume\n" +
+    "keeper reply 0\n" +
+    "sender exit\n" +
+    "keeper exit\n" +
+    "receiver load 0x20000000 4 0x2a\n" +
+    "keeper drop keeper keeper kept\n" +
+    "sender drop sender sender kept\n" +
+    "receiver begin receive 3\n" +
+    "receiver check done sem init ok\n" +
+    "receiver act done void\n" +
+    "receiver reply void\n" +
+    "sender drop sender q kept\n" +
+    "sender drop sender done kept\n" +
+    "receiver exit\n" +
+    "receiver drop receiver receiver kept\n" +
+    "receiver drop receiver q kept\n" +
+    "receiver drop receiver done kept\n" +
+    "parser uninit parser_s\n" +
+    "parser uninit parser\n" +
+    "receiver uninit receiver_s\n" +
+    "receiver uninit receiver\n" +
+    "sender uninit sender_s\n" +
+    "sender uninit sender\n" +
+    "keeper uninit keeper_s\n" +
+    "keeper uninit keeper\n" +
+    "dump\n" +
+    "thread keeper ended supervisor 0 safe\n" +
+    "thread sender ended user 1 app\n" +
+    "thread receiver ended user 2 app\n" +
+    "thread parser ended user 3 app\n" +
+    "object keeper thread uninit private - -\n" +
+    "object keeper_s thread_stack uninit private - -\n" +
+    "object sender thread uninit private - -\n" +
+    "object sender_s thread_stack uninit private - -\n" +
+    "object receiver thread uninit private - -\n" +
+    "object receiver_s thread_stack uninit private - -\n" +
+    "object parser thread uninit private - -\n" +
+    "object parser_s thread_stack uninit private - -\n" +
+    "object q msgq init private - 1/2\n" +
+    "object done sem init private - 1/4\n" +
+    "domain app 0x20000000/64/P_RW_U_RW\n" +
+    "domain safe 0x20000000/64/P_RW_U_RW,0x20000040/32/P_RW_U_NA\n" +
+    "memory 0x20000000 2a00000000000000000000000000000000000000000000000000000000000000\n" +
+    "memory 0x20000020 2a00000000000000000000000000000000000000000000000000000000000000\n" +
+    "memory 0x20000040 5e00000000000000000000000000000000000000000000000000000000000000\n",
 };

@@ -16,6 +16,10 @@ class Sources {
     if (this.isWhole) this.output = null;
   }
 
+  copy() {
+    return Object.assign(new Sources(), this);
+  }
+
   // Takes a text in.
   take(name, text) {
     const at = `\n${text}`.indexOf(`\n${BETWEEN}\n`);

@@ -102,7 +102,7 @@ function groupIcon(group, colours) {
   return icon;
 }
 
-// The story of one object or thread.
+// The story of one object, thread or region of memory.
 class Story {
   constructor({ subject, list, summary }, choose) {
     this.subject = subject;
@@ -117,11 +117,12 @@ class Story {
     const threads = sorted(run.used.threads).map((thread) => [`thread ${thread}`, description.nameOfThread(thread)]);
     const rows = sorted(run.used.rows)
       .map((row) => [`object ${row}`, `${description.nameOfRow(row)} (${description.kindOfRow(row)})`]);
-    this.subject.replaceChildren(optionGroup("Threads", threads), optionGroup("Objects", rows));
+    const regions = run.rights.regions.map(({ name }, number) => [`memory ${number}`, name]);
+    this.subject.replaceChildren(optionGroup("Threads", threads), optionGroup("Objects", rows), optionGroup("Memory", regions));
     this.tell();
   }
 
-  // Tells of a thread or of an object, by its index or its row.
+  // Tells of a thread, an object or a region of memory, by its index, its row or its number.
   about(what, number) {
     this.subject.value = `${what} ${number}`;
     this.tell();
@@ -130,11 +131,12 @@ class Story {
   tell() {
     const [what, number] = this.subject.value.split(" ");
     const { run } = this;
+    const isTold = {
+      thread: (k) => isOfThread(run, k, Number(number)), object: (k) => run.trace.objectRow(k) === Number(number),
+      memory: isOfMemory(run, run.rights.regions[number]),
+    }[what];
     const events = [];
-    for (let k = 1; k <= run.count; k += 1) {
-      const isTold = what === "thread" ? isOfThread(run, k, Number(number)) : run.trace.objectRow(k) === Number(number);
-      if (isTold) events.push(k);
-    }
+    for (let k = 1; k <= run.count; k += 1) if (isTold(k)) events.push(k);
     this.summary.textContent = `${events.length} ${events.length === 1 ? "event" : "events"}`;
     this.list.setEvents(run, events);
   }
@@ -148,6 +150,30 @@ class Story {
 function isOfThread({ trace, description }, k, thread) {
   return trace.who[k] === thread || trace.peer[k] === thread || trace.objectRow(k) === description.rowOfThread(thread)
     || (trace.woken.get(k)?.some((woken) => woken.thread === thread) ?? false);
+}
+
+// Which events touch a region of memory, or change what a thread may do there.
+function isOfMemory(run, region) {
+  const changes = new Set(region ? run.rights.changesOf(region) : []);
+  return (k) => changes.has(k) || touches(run.trace, k, region);
+}
+
+const MEMORY_KINDS = new Set(["load", "store", "exec", "fault", "probe", "copyin", "copyout", "copystr"]);
+
+// Whether event k reads, writes or fetches in a range of memory, or is refused to.
+function touches(trace, k, { start, size, row }) {
+  const kind = trace.kindWord(k);
+  if (kind === "erase") return row !== undefined && trace.row[k] === row;
+  const bytes = Math.max(1, kind === "exec" ? 4 : trace.size[k]);
+  return MEMORY_KINDS.has(kind) && trace.addr[k] < start + size && start < trace.addr[k] + bytes;
+}
+
+// The regions and the variables of a run, each with its name and its range.
+function namedRanges({ rights, description }) {
+  const variables = description.partitions.flatMap(({ start, offsets, vars }) => (offsets ? vars : []).map(({ name, size }) => ({
+    name, start: start + offsets.get(name), size,
+  })));
+  return [...rights.regions, ...variables];
 }
 
 function sorted(numbers) {
@@ -166,7 +192,7 @@ function optionGroup(label, options) {
   return group;
 }
 
-// The search: by thread, object, kind of event, verdict, and a part of the line.
+// The search: by thread, object, memory, kind of event, verdict, and a part of the line.
 class Search {
   constructor(parts, choose, onFound) {
     Object.assign(this, parts);
@@ -174,7 +200,7 @@ class Search {
     this.onFound = onFound;
     this.list = new EventList(parts.list, choose);
     this.found = [];
-    this.choices = [parts.thread, parts.object, parts.kind, parts.verdict];
+    this.choices = [parts.thread, parts.object, parts.kind, parts.verdict, parts.memory];
     for (const choice of this.choices) choice.addEventListener("change", () => this.search());
     this.words.addEventListener("input", () => this.search());
   }
@@ -184,6 +210,8 @@ class Search {
     const { description, trace } = run;
     offer(this.thread, sorted(run.used.threads), (thread) => description.nameOfThread(thread));
     offer(this.object, sorted(run.used.rows), (row) => description.nameOfRow(row));
+    this.ranges = namedRanges(run);
+    offer(this.memory, [...this.ranges.keys()], (range) => this.ranges[range].name);
     const kinds = [...EVENT_KINDS.keys()].filter((kind) => run.kindCounts[kind] > 0);
     offer(this.kind, kinds, (kind) => `${EVENT_KINDS[kind]} (${run.kindCounts[kind]})`);
     const verdicts = sorted(new Set(trace.verdict.subarray(1, run.count + 1))).filter((verdict) => verdict > 0);
@@ -194,14 +222,15 @@ class Search {
 
   search() {
     const { run } = this;
-    const [thread, object, kind, verdict] = this.choices.map(({ value }) => (value === "" ? -1 : Number(value)));
+    const asked = this.choices.map(({ value }) => (value === "" ? -1 : Number(value)));
+    const [thread, object, kind, verdict, memory] = asked;
     const words = this.words.value.trim();
-    const isAsked = words !== "" || Math.max(thread, object, kind, verdict) >= 0;
+    const isAsked = words !== "" || Math.max(...asked) >= 0;
     this.found = [];
     for (let k = 1; isAsked && k <= run.count; k += 1) {
       const fits = (kind < 0 || run.trace.kind[k] === kind) && (verdict < 0 || run.trace.verdict[k] === verdict)
         && (thread < 0 || run.trace.who[k] === thread) && (object < 0 || run.trace.objectRow(k) === object)
-        && (words === "" || run.trace.line(k).includes(words));
+        && (memory < 0 || touches(run.trace, k, this.ranges[memory])) && (words === "" || run.trace.line(k).includes(words));
       if (fits) this.found.push(k);
     }
     const told = `${this.found.length} found; n and Shift+n go through them`;

@@ -8,18 +8,40 @@ class Page {
     this.run = null;
     this.k = 0;
     this.sources = new Sources();
+    // What is on the screen: its sources, and the name of the built-in example, if it is one.
+    this.shown = null;
+    this.example = "";
     this.loading = 0;
+    this.wanted = addressWords();
     const choose = (k) => this.choose(k);
     this.timeline = new Timeline(byId("timeline"), choose);
     this.matrix = new MatrixTable(byId("matrix"), (cell) => this.showCell(cell));
     this.story = new Story({ subject: byId("subject"), list: byId("story"), summary: byId("story-summary") }, choose);
     this.search = new Search({
       thread: byId("find-thread"), object: byId("find-object"), kind: byId("find-kind"), verdict: byId("find-verdict"),
-      words: byId("find-words"), summary: byId("found"), list: byId("matches"),
+      memory: byId("find-memory"), words: byId("find-words"), summary: byId("found"), list: byId("matches"),
     }, choose, (found) => this.markMatches(found));
+    this.scripts = new ScriptPane(byId("scripts"), choose);
     this.listenToFiles();
     this.listenToButtons();
     document.addEventListener("keydown", (event) => this.onKey(event));
+    window.addEventListener("hashchange", () => this.followAddress());
+    if (Object.hasOwn(EXAMPLES, this.wanted.example ?? "")) this.openExample(this.wanted.example);
+  }
+
+  // ---- The address: #event=K, behind #example=NAME& where a built-in example is shown ----
+
+  followAddress() {
+    const { example, event } = addressWords();
+    if (event !== undefined && (example ?? "") === this.example) this.choose(Number(event));
+  }
+
+  noteAddress() {
+    clearTimeout(this.addressTimer);
+    this.addressTimer = setTimeout(() => {
+      const words = [this.example && `example=${this.example}`, `event=${this.k}`].filter((word) => word);
+      history.replaceState(null, "", `#${words.join("&")}`);
+    }, 150);
   }
 
   // ---- Files ----
@@ -63,12 +85,14 @@ class Page {
 
   openExample(name) {
     this.sources = new Sources();
+    this.opening = name;
     this.sources.take(name, EXAMPLES[name]);
     this.load();
   }
 
   async openFiles(files) {
     if (files.length === 0) return;
+    this.opening = "";
     this.sources.renew();
     for (const file of files) {
       try {
@@ -90,25 +114,27 @@ class Page {
       byId("source").textContent = `Reading ${sources.output.name}: ${Math.round(share * 100)} %`;
     };
     try {
-      this.setRun(await Run.load(sources.description.text, sources.output.text, progress));
-      this.tell("");
+      const run = await Run.load(sources.description.text, sources.output.text, progress);
+      const { broken } = run.trace;
+      this.tell(broken ? `${sources.told(atFile("output", broken))}. What stands before that line is shown.` : "");
+      this.setRun(run);
     } catch (fault) {
       if (fault instanceof Superseded) return;
       const isUnreadable = fault instanceof Unreadable;
       this.tell(isUnreadable ? sources.told(fault) : `The page failed over ${sources.output.name}: ${fault.message}`);
-      this.clear();
-      if (fault.file === "output") sources.renew();
-      else this.sources = new Sources();
+      this.fallBack(fault);
     }
   }
 
-  clear() {
-    this.run = null;
-    this.timeline.run = null;
-    byId("picture").hidden = true;
-    byId("empty").hidden = false;
-    byId("warning").hidden = true;
+  // Behind files that can't be read: what was on the screen stays there, and further files are taken as if these hadn't come.
+  fallBack(fault) {
+    if (this.run) {
+      this.sources = this.shown.copy();
+      return this.nameSources();
+    }
     byId("source").textContent = "";
+    if (fault.file === "output") this.sources.renew();
+    else this.sources = new Sources();
   }
 
   tell(text, className = "") {
@@ -120,15 +146,22 @@ class Page {
 
   // ---- One run ----
 
-  setRun(run) {
-    this.run = run;
-    this.k = 0;
-    byId("empty").hidden = true;
-    byId("picture").hidden = false;
-    const { description, output } = this.sources;
+  nameSources() {
+    const { run } = this;
+    const { description, output } = this.shown;
     const names = description.name === output.name ? description.name : `${description.name} and ${output.name}`;
     byId("source").textContent = `${names}: ${run.count} ${run.count === 1 ? "event" : "events"}`;
     document.title = `${names} - a run of zumode`;
+  }
+
+  setRun(run) {
+    this.run = run;
+    this.k = 0;
+    this.shown = this.sources.copy();
+    this.example = this.opening;
+    byId("empty").hidden = true;
+    byId("picture").hidden = false;
+    this.nameSources();
     byId("of").textContent = `of ${run.count}`;
     byId("event").max = run.count;
     byId("cell").hidden = true;
@@ -137,15 +170,18 @@ class Page {
     this.matrix.setRun(run);
     this.story.setRun(run);
     this.search.setRun(run);
+    this.scripts.setRun(run);
     this.showLegend();
     this.showCounts();
-    this.choose(0);
+    const { event } = this.wanted;
+    this.wanted = {};
+    this.choose(Number(event ?? 0));
   }
 
   showDifferences() {
     const { differences } = this.run;
     const warning = byId("warning");
-    warning.hidden = differences !== null && differences.length === 0;
+    warning.hidden = this.run.trace.broken !== null || (differences !== null && differences.length === 0);
     if (differences === null) {
       const why = "The output has no dump: the end of the replay is compared with nothing.";
       warning.replaceChildren(textElement("p", why));
@@ -169,10 +205,26 @@ class Page {
     this.matrix.show(this.k);
     this.story.show(this.k);
     this.search.show(this.k);
+    this.scripts.show(this.k);
     this.showEvent();
     if (!byId("cell").hidden && this.cell) this.showCell(this.cell);
+    this.showMatrixTitle();
+    this.noteAddress();
+  }
+
+  showMatrixTitle() {
     const moment = this.k === 0 ? "at the opening" : `after event ${this.k}`;
-    byId("matrix-title").textContent = `Who may touch what, ${moment}`;
+    const title = this.matrix.isWhole ? "Who could touch what, and did, over the whole run" : `Who may touch what, ${moment}`;
+    byId("matrix-title").textContent = title;
+  }
+
+  // The matrix over the whole run, or again after the chosen event.
+  toggleWhole() {
+    const isWhole = !this.matrix.isWhole;
+    this.matrix.showWhole(isWhole, this.k);
+    byId("whole-matrix").setAttribute("aria-pressed", String(isWhole));
+    byId("cell").hidden = true;
+    this.showMatrixTitle();
   }
 
   showEvent() {
@@ -184,7 +236,7 @@ class Page {
       paragraphs.unshift(wrapped("p", groupIcon(run.groups[k], pageColours()), textElement("code", run.trace.line(k))));
     }
     byId("event-text").replaceChildren(...paragraphs);
-    byId("event-panel").classList.toggle("failing", k > 0 && ["fault", "fatal"].includes(run.trace.kindWord(k)));
+    byId("event-panel").classList.toggle("failing", k > 0 && isFailure(run.groups[k]));
   }
 
   // Tells of a cell of the matrix which events gave and took the right; of a heading the story.
@@ -193,6 +245,7 @@ class Page {
     if (thread === undefined || (row === undefined && !region)) {
       if (thread !== undefined) this.tellStory("thread", thread);
       else if (row !== undefined) this.tellStory("object", row);
+      else if (region) this.tellStory("memory", this.run.rights.regions.indexOf(region));
       return;
     }
     this.cell = cell;
@@ -202,9 +255,17 @@ class Page {
     const label = region ? accessLabel(state, thread, region) : pairLabel(state, thread, row);
     const events = region ? rights.regionEvents(thread, region, this.k) : rights.pairEvents(thread, row, this.k);
     const heading = textElement("strong", `${description.nameOfThread(thread)} on ${name}: `);
+    if (this.matrix.isWhole) return this.showWholeCell(cell, heading);
     const last = this.eventLink("Last changed by", events.last, "It has been so from the opening. ");
-    const next = this.eventLink("Next changed by", events.next, "It stays so.");
+    const next = this.eventLink("Next changed by", events.next, "It stays so to the end. ");
     byId("cell").replaceChildren(wrapped("p", heading, `${label}. `, ...last, ...next));
+    byId("cell").hidden = false;
+  }
+
+  // The same over the whole run, with what the thread did there first and last.
+  showWholeCell({ label, did }, heading) {
+    const links = did ? [this.eventLink("First by", did.first, ""), this.eventLink("Last by", did.last, "")].flat() : [];
+    byId("cell").replaceChildren(wrapped("p", heading, `${label}. `, ...links));
     byId("cell").hidden = false;
   }
 
@@ -259,8 +320,8 @@ class Page {
 
   saveMatrix() {
     const link = document.createElement("a");
-    link.href = URL.createObjectURL(new Blob([matrixSvg(this.run, this.k)], { type: "image/svg+xml" }));
-    link.download = `matrix-${this.k}.svg`;
+    link.href = URL.createObjectURL(new Blob([matrixSvg(this.run, this.k, this.matrix.isWhole)], { type: "image/svg+xml" }));
+    link.download = this.matrix.isWhole ? "matrix-whole.svg" : `matrix-${this.k}.svg`;
     link.click();
     setTimeout(() => URL.revokeObjectURL(link.href), 1000);
   }
@@ -272,7 +333,7 @@ class Page {
       first: () => this.choose(0), back: () => this.choose(this.k - 1), forward: () => this.choose(this.k + 1),
       last: () => this.choose(this.run.count), failure: () => this.stepFailure(1),
       out: () => this.timeline.zoom(1 / 1.6), in: () => this.timeline.zoom(1.6), whole: () => this.timeline.showWhole(),
-      save: () => this.saveMatrix(), "help-button": () => byId("help").showModal(),
+      save: () => this.saveMatrix(), "whole-matrix": () => this.toggleWhole(), "help-button": () => byId("help").showModal(),
     };
     for (const [id, act] of Object.entries(actions)) byId(id).addEventListener("click", act);
     byId("event").addEventListener("change", () => this.choose(Number(byId("event").value)));
@@ -320,7 +381,7 @@ class Page {
   }
 
   stepFailure(way) {
-    this.stepWhere((k) => ["fault", "fatal"].includes(this.run.trace.kindWord(k)), way);
+    this.stepWhere((k) => isFailure(this.run.groups[k]), way);
   }
 
   stepThread(way) {
@@ -355,10 +416,15 @@ class Page {
       f: () => this.stepFailure(way), n: () => this.search.step(this.k, way),
       "/": () => { this.openTab("search"); byId("find-words").focus(); },
       s: () => { this.openTab("story"); byId("subject").focus(); },
-      m: () => this.matrix.focusPlace?.focus(), t: () => byId("timeline").focus(),
+      w: () => this.toggleWhole(), m: () => this.matrix.focusPlace?.focus(), t: () => byId("timeline").focus(),
     };
     return keys[event.key] ?? keys[event.key.toLowerCase()];
   }
+}
+
+// The words behind the # of the address, as event=14.
+function addressWords() {
+  return Object.fromEntries(new URLSearchParams(location.hash.slice(1)));
 }
 
 // A load that was overtaken by a later one.

@@ -2,8 +2,9 @@
 // The access matrix after an event: what each thread may do in each region of memory, and which permission it has on
 // each object. One model of it is shown as a table and saved as a picture.
 
-const PAIR_SIGNS = { none: "", pair: "●", public: "○" };
+const NAMING_SIGNS = { "": "", permission: "●", public: "○", supervisor: "□" };
 const HELD_SIGN = "◆";
+const DONE_SIGN = "✓";
 
 // What stands in the matrix after event k: a column for each thread, and sections of rows with a cell for each thread.
 function matrixModel(run, k) {
@@ -41,14 +42,27 @@ function regionRow(k, threads, region, before, state) {
   return {
     name: region.name, region, kind: region.what, text: note, changed: false, isAbsent: false,
     cells: threads.map((thread) => {
-      const cell = changedWhere(k, (of) => of.access(thread, region), before, state, { thread });
+      const cell = changedWhere(k, (of) => accessText(of, thread, region), before, state, { thread });
       return { ...cell, label: accessLabel(state, thread, region) };
     }),
   };
 }
 
+// What stands in a cell of memory. Rights in a part of the region alone stand in brackets.
+function accessText(state, thread, region) {
+  const rights = state.access(thread, region);
+  return rights || state.pieces(thread, region).map((piece) => `(${piece.rights})`).join("");
+}
+
 function accessLabel(state, thread, region) {
-  return rightsText(state.access(thread, region)) || "nothing";
+  const rights = state.access(thread, region);
+  if (rights) return rightsText(rights);
+  const pieces = state.pieces(thread, region).map((piece) => {
+    const end = addressText(piece.start + piece.size - 1);
+    return `${rightsText(piece.rights)} from ${addressText(piece.start)} to ${end}`;
+  });
+  if (pieces.length) return `in part: ${pieces.join(", ")}`;
+  return { [LIFE.unborn]: "nothing, it isn't started", [LIFE.ended]: "nothing, it has ended" }[state.life[thread]] ?? "nothing";
 }
 
 function rightsText(rights) {
@@ -78,17 +92,75 @@ function objectNote(state, row) {
 }
 
 function pairSigns(state, thread, row) {
-  const isPublic = state.isPublic[row] && state.isThere(row);
-  const pair = state.hasPair(thread, row) ? "pair" : isPublic ? "public" : "none";
-  return PAIR_SIGNS[pair] + (state.holds(thread, row) ? HELD_SIGN : "");
+  return NAMING_SIGNS[state.naming(thread, row)] + (state.holds(thread, row) ? HELD_SIGN : "");
 }
 
 function pairLabel(state, thread, row) {
   const words = [];
+  const isLive = state.stage[row] === STAGE.live;
   if (state.hasPair(thread, row)) words.push("permission");
-  if (state.isPublic[row] && state.isThere(row)) words.push("public");
+  if (state.isPublic[row] && isLive) words.push("public");
+  if (isLive && state.life[thread] === LIFE.started && state.supervisor[thread]) words.push("a supervisor needs no permission");
   if (state.holds(thread, row)) words.push("held");
-  return words.join(", ") || "nothing";
+  if (words.length) return words.join(", ");
+  return isLive ? "no permission" : "no live object is there";
+}
+
+// What stands in the matrix over the whole run: what each thread could do at some time, and what it did.
+function wholeModel(run) {
+  const { rights, description } = run;
+  const state = run.stateAfter(run.count);
+  const threads = sorted(run.used.threads);
+  const columns = threads.map((thread) => ({
+    thread, name: description.nameOfThread(thread), text: threadNote(state, thread), changed: false,
+  }));
+  const regions = rights.regions.map((region, number) => wholeRow(regionRow(0, [], region, state, state), threads, (thread) => {
+    const key = number * THREADS + thread;
+    return wholeCell(run, rights.couldReach.get(key), rights.didReach.get(key), REACH_WORDS);
+  }));
+  const objects = sorted(run.used.rows).map((row) => wholeRow(objectRow(0, [], row, state, state), threads, (thread) => {
+    const key = row * THREADS + thread;
+    return wholeCell(run, rights.couldName.get(key), rights.didName.get(key), NAME_WORDS);
+  }));
+  return { k: run.count, columns, sections: [{ title: "Memory", rows: regions }, { title: "Objects", rows: objects }] };
+}
+
+function wholeRow(row, threads, cellOf) {
+  const cells = threads.map((thread) => ({ thread, changed: false, ...cellOf(thread) }));
+  return { ...row, changed: false, isAbsent: false, cells };
+}
+
+// How a cell over the whole run shows and says what could be done and what was done.
+const REACH_WORDS = {
+  could: (what) => unionOfRights(what), couldSaid: (what) => rightsText(unionOfRights(what)),
+  did: ({ what }) => [..."rwx"].filter((right) => what.has(right)).join(""),
+  didSaid: ({ what }) => rightsText([..."rwx"].filter((right) => what.has(right)).join("")), never: "could reach nothing",
+};
+const NAME_WORDS = {
+  could: (what) => Object.entries(NAMING_SIGNS).map(([naming, sign]) => (what.has(naming) ? sign : "")).join(""),
+  couldSaid: (what) => [...what].map((naming) => NAMING_WORDS[naming]).join(", "),
+  did: ({ count }) => String(count), didSaid: ({ count }) => `passed ${count} ${count === 1 ? "check" : "checks"}`,
+  never: "might never name it",
+};
+const NAMING_WORDS = {
+  permission: "name it by a permission", public: "name it as a public one", supervisor: "name it as a supervisor",
+};
+
+// The rights that a thread had in all of a region or in parts of it.
+function unionOfRights(what) {
+  const letters = [...what].join("");
+  return [..."rwx"].map((right) => (letters.includes(right) ? right : "-")).join("");
+}
+
+function wholeCell(run, could, did, words) {
+  if (!could && !did) return { text: "", label: words.never };
+  const last = could && Math.min(could.last, run.count);
+  const canText = could ? words.could(could.what) : "";
+  const canSaid = could
+    ? `could ${words.couldSaid(could.what)}, first after event ${could.first}, last after event ${last}` : words.never;
+  if (!did) return { text: canText, label: `${canSaid}; never did` };
+  const said = `did: ${words.didSaid(did)}, first by event ${did.first}, last by event ${did.last}`;
+  return { text: `${canText} ${DONE_SIGN}${words.did(did)}`, label: `${canSaid}; ${said}`, did };
 }
 
 // The matrix as a table. A cell, a thread's heading and a row's heading can be chosen by a click or by keys.
@@ -96,12 +168,14 @@ class MatrixTable {
   constructor(holder, choose) {
     this.holder = holder;
     this.choose = choose;
+    this.isWhole = false;
     holder.addEventListener("click", (event) => this.activate(event.target.closest("[data-place]")));
     holder.addEventListener("keydown", (event) => this.onKey(event));
   }
 
   setRun(run) {
     this.run = run;
+    this.whole = wholeModel(run);
     this.places = [];
     this.table = document.createElement("table");
     this.table.classList.toggle("narrow", run.used.threads.size > 6);
@@ -147,8 +221,14 @@ class MatrixTable {
     this.places.push(places);
   }
 
+  // Shows the whole run, or again what holds after an event.
+  showWhole(isWhole, k) {
+    this.isWhole = isWhole;
+    this.show(k);
+  }
+
   show(k) {
-    const model = matrixModel(this.run, k);
+    const model = this.isWhole ? this.whole : matrixModel(this.run, k);
     const lines = [
       { name: "", kind: "", text: "", cells: model.columns.map((column) => ({ ...column, label: column.text })) },
       ...model.sections.flatMap((section) => section.rows),
@@ -182,8 +262,8 @@ class MatrixTable {
     const [line, column] = cell.dataset.place.split(" ").map(Number);
     this.moveFocus(line, column);
     const { row, region } = this.lines[line];
-    const thread = column > 0 ? this.lines[line].cells[column - 1].thread : undefined;
-    this.choose({ thread, row, region });
+    const { thread, label, did } = column > 0 ? this.lines[line].cells[column - 1] : {};
+    this.choose({ thread, row, region, label, did });
   }
 
   moveFocus(line, column, focus = true) {
@@ -216,15 +296,18 @@ function fillCell(cell, text, label, changed) {
   cell.classList.toggle("changed", changed);
 }
 
-const SVG_SIGNS = "● permission · ○ public · ◆ held · r w x: read, write, execute · framed: changed by this event";
+const SVG_SIGNS = "● permission · ○ public · □ a supervisor needs none · ◆ held · r w x: read, write, execute · "
+  + "framed: changed by this event";
+const WHOLE_SVG_SIGNS = "● permission · ○ public · □ a supervisor needs none · r w x: read, write, execute · "
+  + "✓ what it did: the rights that it used, how many checks it passed";
 
 // The matrix as the text of an SVG file, in colours for light paper.
-function matrixSvg(run, k) {
-  const model = matrixModel(run, k);
+function matrixSvg(run, k, isWhole = false) {
+  const model = isWhole ? wholeModel(run) : matrixModel(run, k);
   const lines = model.sections.flatMap(({ rows }) => rows);
   const longest = Math.max(0, ...lines.map(({ name, text }) => name.length * 8.4 + text.length * 6.2));
   const [left, top, width, height] = [longest + 50, 76, Math.max(110, 700 / model.columns.length), 24];
-  const moment = k === 0 ? "Before the first event" : `After event ${k}: ${run.trace.line(k)}`;
+  const moment = isWhole ? "Over the whole run" : k === 0 ? "Before the first event" : `After event ${k}: ${run.trace.line(k)}`;
   const parts = [svgText(12, 22, moment, "16", "600")];
   model.columns.forEach(({ name, text, changed }, column) => {
     const x = left + (column + 0.5) * width;
@@ -240,7 +323,7 @@ function matrixSvg(run, k) {
       y += height;
     }
   }
-  parts.push(svgText(12, y + 22, SVG_SIGNS, "11"));
+  parts.push(svgText(12, y + 22, isWhole ? WHOLE_SVG_SIGNS : SVG_SIGNS, "11"));
   const [right, bottom] = [left + width * model.columns.length + 12, y + 36].map(Math.ceil);
   return `<svg xmlns="http://www.w3.org/2000/svg" width="${right}" height="${bottom}" viewBox="0 0 ${right} ${bottom}" `
     + 'font-family="system-ui, sans-serif"><rect width="100%" height="100%" fill="#ffffff"/>\n'

@@ -14,6 +14,8 @@ class Run {
     this.rights = new Rights(description);
     this.waits = Array.from({ length: THREADS }, () => []);
     this.wakes = [];
+    this.goneEvents = [];
+    this.failures = [];
     this.lives = Array.from({ length: THREADS }, () => []);
     this.kindCounts = new Array(EVENT_KINDS.length).fill(0);
     this.used = { rows: new Set(description.objects.map((object) => object.row)), threads: new Set() };
@@ -55,7 +57,7 @@ class Run {
       if (k % CHECKPOINT_EVERY === 0) this.checkpoints.push(state.clone());
       if (k % 8192 === 0) await pause(k / this.count);
     }
-    if (this.trace.dumpAt >= 0) this.compare(dumpText(state, memory));
+    if (this.trace.dumpAt >= 0 && !this.trace.broken) this.compare(dumpText(state, memory));
   }
 
   // Keeps what the picture looks up later: waits, wakes, changes of rights, and who and what takes part.
@@ -65,6 +67,7 @@ class Run {
     const kind = trace.kindWord(k);
     this.kindCounts[trace.kind[k]] += 1;
     this.groups[k] = groupOf(trace, k);
+    if (isFailure(this.groups[k])) this.failures.push(k);
     this.used.threads.add(who);
     this.noteLife(kind, k);
     const row = trace.objectRow(k);
@@ -75,7 +78,13 @@ class Run {
       this.wakes.push({ event: k, from: who, to: thread });
       if (this.waits[thread].length) this.waits[thread].at(-1).woken = k;
     }
+    if (kind === "drop" && trace.verdictWord(k) === "gone") this.goneEvents.push({ event: k, row });
     this.rights.note(state, trace, k);
+  }
+
+  // The words of event k.
+  words(k) {
+    return this.trace.line(k).split(" ");
   }
 
   noteLife(kind, k) {

@@ -45,6 +45,11 @@ function groupOf(trace, k) {
   return GROUP_NUMBER.get(group);
 }
 
+// Whether events of a group say that something isn't allowed.
+function isFailure(group) {
+  return ["refused", "fault", "fatal"].includes(GROUPS[group].name);
+}
+
 // Each shape is drawn round (x, y) within a radius r, in the context's own colour.
 function path(context, points) {
   context.beginPath();

@@ -163,21 +163,48 @@ class State {
     }
   }
 
-  // What a thread may do in a region of its description, such as "rw-", or "" for nothing.
+  // What a thread may do in each byte of a region, such as "rw-", or "" where it isn't so of all of them. A partition of its
+  // domain may be wider than the region.
   access(thread, region) {
     if (this.life[thread] !== LIFE.started) return "";
     const supervisor = this.supervisor[thread] === 1;
     if (region.what === "rodata") return "r--";
     if (region.what === "stack") return supervisor || this.stackRow[thread] === region.row ? "rw-" : "";
-    const parts = this.parts[this.domain[thread]] ?? [];
-    const part = parts.find(({ start, size }) => start === region.start && size === region.size);
+    const part = this.partsAt(thread, region).find((one) => contains(one, region));
     return part ? attributeRights(part.attr, supervisor) : "";
+  }
+
+  // The partitions of a thread's domain that share bytes with a region.
+  partsAt(thread, region) {
+    if (this.life[thread] !== LIFE.started || region.what !== "partition") return [];
+    const parts = this.parts[this.domain[thread]] ?? [];
+    return parts.filter(({ start, size }) => start < region.start + region.size && region.start < start + size);
+  }
+
+  // The parts of a region that a thread reaches, where it doesn't reach all of it in one.
+  pieces(thread, region) {
+    return this.partsAt(thread, region)
+      .map((part) => ({ ...part, rights: attributeRights(part.attr, this.supervisor[thread] === 1) }))
+      .filter((part) => part.rights !== "" && !contains(part, region));
+  }
+
+  // Why a thread may name an object: by a permission, since it is public, or since a supervisor needs no permission; else "".
+  naming(thread, row) {
+    if (this.stage[row] !== STAGE.live) return "";
+    if (this.hasPair(thread, row)) return "permission";
+    if (this.isPublic[row]) return "public";
+    return this.life[thread] === LIFE.started && this.supervisor[thread] ? "supervisor" : "";
   }
 
   apply(trace, k) {
     const change = CHANGES[trace.kindWord(k)];
     if (change) change(this, trace, k, trace.who[k]);
   }
+}
+
+// Whether a range has each byte of another one.
+function contains(outer, inner) {
+  return outer.start <= inner.start && inner.start + inner.size <= outer.start + outer.size;
 }
 
 // The supervisor's or the user's part of an attribute such as P_RW_U_RO.

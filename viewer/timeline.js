@@ -7,6 +7,10 @@ const AXIS_HEIGHT = 26;
 const MOST_SCALE = 48;
 const SEPARATE_MARKS = 7;
 const CELL = 4;
+const LANES_HEIGHT = 336;
+const OVERVIEW_HEIGHT = 14;
+const FADED_ABOVE = 3000;
+const FADED = 0.35;
 const MOST_ARROWS = 600;
 const FEW_ARROWS = 60;
 
@@ -20,7 +24,7 @@ class Timeline {
     this.chosen = 0;
     this.matches = [];
     this.hidden = new Set();
-    this.drawn = { marks: 0, arrows: [], waits: [], fatals: [] };
+    this.drawn = { marks: 0, arrows: [], waits: [], fatals: [], labels: [] };
     new ResizeObserver(() => this.resize()).observe(canvas.parentElement);
     matchMedia("(prefers-color-scheme: dark)").addEventListener("change", () => this.draw());
     this.listen();
@@ -34,15 +38,18 @@ class Timeline {
     this.threads.forEach((thread, lane) => { this.laneOf[thread] = lane; });
     this.chosen = 0;
     this.matches = [];
+    this.isWhole = true;
     this.resize();
-    this.showWhole();
   }
 
+  // Fits the picture into the window. Where the whole run is seen, it stays so.
   resize() {
     if (!this.run) return;
-    this.laneHeight = Math.max(20, Math.min(34, Math.floor(420 / this.threads.length)));
+    this.laneHeight = Math.max(12, Math.min(34, Math.floor(LANES_HEIGHT / this.threads.length)));
     this.width = this.canvas.parentElement.clientWidth;
-    this.height = AXIS_HEIGHT + this.laneHeight * this.threads.length + 6;
+    this.overviewTop = AXIS_HEIGHT + this.laneHeight * this.threads.length + 6;
+    this.height = this.overviewTop + OVERVIEW_HEIGHT + 4;
+    if (this.isWhole) [this.start, this.scale] = [0, 0];
     const ratio = devicePixelRatio || 1;
     this.canvas.width = Math.round(this.width * ratio);
     this.canvas.height = Math.round(this.height * ratio);
@@ -54,8 +61,8 @@ class Timeline {
 
   // The view: the place in the run at the left edge, and how many pixels an event takes.
   showWhole() {
-    this.start = 0;
-    this.scale = Math.min(MOST_SCALE, this.span() / (this.run.count + 1));
+    [this.start, this.scale] = [0, 0];
+    this.clampView();
     this.draw();
   }
 
@@ -68,6 +75,7 @@ class Timeline {
     this.scale = Math.max(Math.min(least, MOST_SCALE), Math.min(MOST_SCALE, this.scale || least));
     const most = Math.max(0, this.run.count + 1 - this.span() / this.scale);
     this.start = Math.max(0, Math.min(most, this.start || 0));
+    this.isWhole = most < 1e-6;
   }
 
   zoom(factor, x = this.x(this.chosen)) {
@@ -127,6 +135,7 @@ class Timeline {
     this.clipped(context, () => {
       this.drawMatches();
       this.drawChosen();
+      this.drawOverview();
     });
   }
 
@@ -137,10 +146,10 @@ class Timeline {
     this.layer.height = this.canvas.height;
     const context = this.layer.getContext("2d");
     context.setTransform(front.getTransform());
-    context.font = "13px system-ui, sans-serif";
+    context.font = `${this.laneHeight < 16 ? 11 : 13}px system-ui, sans-serif`;
     context.textBaseline = "middle";
     this.context = context;
-    this.drawn = { marks: 0, arrows: [], waits: [], fatals: [] };
+    this.drawn = { marks: 0, arrows: [], waits: [], fatals: [], labels: [] };
     this.first = Math.max(1, Math.floor(this.eventAt(LABEL_WIDTH)));
     this.last = Math.min(this.run.count, Math.ceil(this.eventAt(this.width)));
     this.drawLanes();
@@ -194,7 +203,10 @@ class Timeline {
       context.fillStyle = colours.colour("line");
       context.fillRect(this.x(k), AXIS_HEIGHT - 5, 1, this.height);
       context.fillStyle = colours.colour("faint");
-      context.fillText(String(k), this.x(k), AXIS_HEIGHT / 2);
+      const half = context.measureText(String(k)).width / 2 + 2;
+      const middle = Math.max(LABEL_WIDTH + half, Math.min(this.width - half, this.x(k)));
+      context.fillText(String(k), middle, AXIS_HEIGHT / 2);
+      this.drawn.labels.push({ k, from: middle - half, to: middle + half });
     }
     context.textAlign = "left";
   }
@@ -278,8 +290,16 @@ class Timeline {
     }
   }
 
+  // In a long run lines and answers, which are most of it, are faint.
+  strength(group) {
+    const isFaded = this.run.count > FADED_ABOVE && ["line", "reply"].includes(GROUPS[group].name);
+    return isFaded ? FADED : 1;
+  }
+
   mark(group, k, x, y, r) {
+    this.context.globalAlpha = this.strength(group);
     drawGroup(this.context, this.colours, group, x, y, r);
+    this.context.globalAlpha = 1;
     this.drawn.marks += 1;
     const isFatal = GROUPS[group].name === "fatal";
     if (isFatal && this.drawn.fatals.length < MOST_ARROWS) this.drawn.fatals.push({ event: k, x, y });
@@ -293,7 +313,7 @@ class Timeline {
     heaviest.forEach((k, place) => {
       if (k === 0) return;
       const x = LABEL_WIDTH + (place % cells) * CELL + CELL / 2;
-      this.mark(this.run.groups[k], k, x, this.laneY(this.run.trace.who[k]), 5);
+      this.mark(this.run.groups[k], k, x, this.laneY(this.run.trace.who[k]), Math.min(5, this.laneHeight * 0.4));
     });
   }
 
@@ -326,6 +346,7 @@ class Timeline {
     const drawn = new Float32Array(places);
     for (let group = 0; group < FIRST_STANDING_OUT; group += 1) {
       this.context.fillStyle = this.colours.groups[group];
+      this.context.globalAlpha = this.strength(group);
       for (let place = 0; place < places; place += 1) {
         const count = counts[place * GROUPS.length + group];
         if (count === 0) continue;
@@ -336,6 +357,7 @@ class Timeline {
         this.drawn.marks += 1;
       }
     }
+    this.context.globalAlpha = 1;
   }
 
   drawMatches() {
@@ -363,6 +385,46 @@ class Timeline {
     context.stroke();
   }
 
+  // The whole run in one strip, with what failed and the part that is seen, where that isn't all.
+  drawOverview() {
+    if (this.isWhole) return;
+    const { context, colours, run, overviewTop: top } = this;
+    const xOf = (k) => LABEL_WIDTH + (k / (run.count + 1)) * this.span();
+    context.fillStyle = colours.colour("stripe");
+    context.fillRect(LABEL_WIDTH, top, this.span(), OVERVIEW_HEIGHT);
+    context.fillStyle = colours.colour("mark-fatal");
+    let lastX = -1;
+    for (const k of run.failures) {
+      const x = Math.floor(xOf(k));
+      if (x !== lastX) context.fillRect(x, top + 2, 1, OVERVIEW_HEIGHT - 4);
+      lastX = x;
+    }
+    context.strokeStyle = colours.colour("chosen");
+    context.lineWidth = 1.5;
+    const [from, to] = [xOf(this.start), xOf(this.start + this.span() / this.scale)];
+    context.strokeRect(from, top, Math.max(3, to - from), OVERVIEW_HEIGHT);
+    path(context, [[xOf(this.chosen), top], [xOf(this.chosen), top + OVERVIEW_HEIGHT]]);
+    context.stroke();
+  }
+
+  // Moves the view to a place of the overview.
+  lookAt(x) {
+    const event = ((x - LABEL_WIDTH) / this.span()) * (this.run.count + 1);
+    this.start = event - this.span() / this.scale / 2;
+    this.clampView();
+    this.draw();
+  }
+
+  // Says what a mark means, where the pointer is on one.
+  hover(x, y) {
+    const k = x > LABEL_WIDTH && y < this.overviewTop ? this.eventAtPoint(x, y) : 0;
+    const isOn = k > 0 && Math.abs(this.laneY(this.run.trace.who[k]) - y) <= this.laneHeight / 2;
+    const told = isOn ? k : 0;
+    if (told === this.hovered) return;
+    this.hovered = told;
+    this.canvas.title = told ? `${told}: ${this.run.trace.line(told)}\n${explain(this.run, told)[0]}` : "";
+  }
+
   // The event that a click at a point means: that of the place, or the one that weighs most where many share it.
   eventAtPoint(x, y) {
     const lane = Math.floor((y - AXIS_HEIGHT) / this.laneHeight);
@@ -383,28 +445,34 @@ class Timeline {
     const { canvas } = this;
     let drag = null;
     canvas.addEventListener("pointerdown", (event) => {
-      drag = { x: event.offsetX, moved: 0 };
+      const isOverview = this.run && !this.isWhole && event.offsetY >= this.overviewTop;
+      drag = { x: event.offsetX, moved: 0, isOverview };
+      if (isOverview) this.lookAt(event.offsetX);
       canvas.setPointerCapture(event.pointerId);
     });
     canvas.addEventListener("pointermove", (event) => {
-      if (!drag || !this.run) return;
+      if (!this.run) return;
+      if (!drag) return this.hover(event.offsetX, event.offsetY);
+      if (drag.isOverview) return this.lookAt(event.offsetX);
       drag.moved += Math.abs(event.offsetX - drag.x);
       if (drag.moved > 4) this.pan(drag.x - event.offsetX);
       drag.x = event.offsetX;
     });
     canvas.addEventListener("pointerup", (event) => {
-      const isClick = drag && drag.moved <= 4 && this.run && event.offsetX > LABEL_WIDTH;
+      const isClick = drag && !drag.isOverview && drag.moved <= 4 && this.run && event.offsetX > LABEL_WIDTH;
       drag = null;
       if (isClick) this.choose(this.eventAtPoint(event.offsetX, event.offsetY));
     });
     canvas.addEventListener("pointercancel", () => { drag = null; });
-    canvas.addEventListener("wheel", (event) => {
-      if (!this.run) return;
-      event.preventDefault();
-      const isPan = event.shiftKey || Math.abs(event.deltaX) > Math.abs(event.deltaY);
-      if (isPan) this.pan(event.deltaX || event.deltaY);
-      else this.zoom(Math.exp(-event.deltaY / 400), event.offsetX);
-    }, { passive: false });
+    canvas.addEventListener("wheel", (event) => this.onWheel(event), { passive: false });
+  }
+
+  onWheel(event) {
+    if (!this.run) return;
+    event.preventDefault();
+    const isPan = event.shiftKey || Math.abs(event.deltaX) > Math.abs(event.deltaY);
+    if (isPan) this.pan(event.deltaX || event.deltaY);
+    else this.zoom(Math.exp(-event.deltaY / 400), event.offsetX);
   }
 }
 

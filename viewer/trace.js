@@ -46,6 +46,8 @@ class Trace {
     this.count = 0;
     this.woken = new Map();
     this.dumpAt = -1;
+    // What is wrong in the first line that can't be read; what stands before it is shown.
+    this.broken = null;
     this.lineCount = 0;
     this.allot(Math.max(16, text.split("\n").length));
   }
@@ -63,24 +65,31 @@ class Trace {
     this.value = new Uint32Array(most + 2);
   }
 
-  // Reads all lines; now and then `pause` is awaited, with the part that is read. Throws `Unreadable`.
+  // Reads all lines up to the first one that can't be read; now and then `pause` is awaited, with the part that is read. Throws
+  // `Unreadable` where no event stands before that line.
   async read(pause) {
     let at = 0;
-    while (at < this.text.length) {
+    while (at < this.text.length && !this.broken) {
       const end = this.text.indexOf("\n", at);
-      const line = this.text.slice(at, end < 0 ? this.text.length : end);
-      this.lineCount += 1;
-      if (this.dumpAt < 0 && line !== "dump") {
-        this.readEvent(line, at);
-      } else {
-        if (this.dumpAt < 0) this.dumpAt = this.lineCount;
-        this.checkDumpLine(line);
-      }
-      at = end < 0 ? this.text.length : end + 1;
+      this.readLine(this.text.slice(at, end < 0 ? this.text.length : end), at);
+      if (!this.broken) at = end < 0 ? this.text.length : end + 1;
       if (this.lineCount % 8192 === 0) await pause(at / this.text.length);
     }
-    this.starts[this.count + 1] = this.text.length;
+    this.starts[this.count + 1] = at;
     if (this.lineCount === 0) throw new Unreadable(1, "the output is empty");
+    if (this.broken && this.count === 0) throw this.broken;
+  }
+
+  readLine(line, at) {
+    this.lineCount += 1;
+    try {
+      if (this.dumpAt < 0 && line !== "dump") return this.readEvent(line, at);
+      if (this.dumpAt < 0) this.dumpAt = this.lineCount;
+      return this.checkDumpLine(line);
+    } catch (fault) {
+      if (!(fault instanceof Unreadable)) throw fault;
+      this.broken = fault;
+    }
   }
 
   readEvent(line, at) {

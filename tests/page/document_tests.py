@@ -1,7 +1,12 @@
 """Tests of the schema, the manual page and the completions."""
 import json
+import os
+import pty
 import re
+import select
 import subprocess
+import sys
+import time
 import tomllib
 
 from judging import EXAMPLES, TOP, NotRun, fault_of, holds, needs, same
@@ -10,6 +15,8 @@ SCHEMA = TOP / "schema" / "zumode.schema.json"
 POINTER = "#:schema ../schema/zumode.schema.json"
 FORM_FAULTS = {"MissingKey", "WrongType", "UnknownKey", "BadName"}
 MOST_PICTURE_BYTES = 200_000
+SECONDS = 20
+SHOW_LINE = b"""bind -x '"\\C-t": printf "[%s%s]" "[$READLINE_LINE" "]"'"""
 COMMANDS = ["audit", "gen", "layout", "run", "sim", "summary", "upgrade"]
 
 
@@ -43,6 +50,46 @@ def refused_examples_are_not() -> None:
             seen.add(fault_of(source))
             holds(f"{source.name} is valid by the schema", not schema.is_valid(tomllib.loads(source.read_text())))
     same("kinds of faults among the examples", seen, FORM_FAULTS)
+
+
+def faults_by_schema(**changed) -> list:
+    """What the schema says of a small description with these keys in the place of its own."""
+    plain = {"version": 1, "mpu": "pmsav7", "regions": 8, "oops": "abort"}
+    return [fault.message for fault in validator().iter_errors({**plain, **changed})]
+
+
+def schema_marks_lines() -> None:
+    def marked(line: str) -> bool:
+        return faults_by_schema(script=[{"name": "m", "lines": [line]}]) != []
+
+    right = ["repeat 5", " end ", "load r0 @p+4 1", "k_mem_domain_init d", "k_mem_domain_init d p 0x20000000/64/P_RX_U_RX",
+             "k_thread_create @t @s 64 c -1 K_USER+K_INHERIT_PERMS", "k_sem_take r7  K_FOREVER"]  # fmt: skip
+    wrong = ["", "repat 5", "repeat", "repeat r0", "load @p r0 4", "load r0 @p 3", "store @p 4 0xAB", "k_sem_take s K_FOREVER", "k_sem_give @s @t",
+             "k_mem_domain_init d p p p p p", "set\tr0 1", "k_object_alloc queue r0", "k_msgq_get @q @p K_MSEC(1)"]  # fmt: skip
+    same("lines that are marked without a fault", [line for line in right if marked(line)], [])
+    same("lines with a fault that aren't marked", [line for line in wrong if not marked(line)], [])
+
+
+def schema_says_what_is_wrong_of_an_object() -> None:
+    cases = [
+        ({"name": "x", "kind": "queue"}, "'queue' is not one of ['thread', 'thread_stack', 'sem', 'mutex', 'msgq', 'stack', 'pipe']"),
+        ({"name": "x", "kind": "sem", "count": 1}, "'limit' is a dependency of 'count'"),
+        ({"name": "x", "kind": "thread_stack"}, "'size' is a required property"),
+        ({"name": "x", "kind": "mutex", "limit": 1}, "Additional properties are not allowed ('limit' was unexpected)"),
+    ]
+    for wrong, wanted in cases:
+        same(f"what is said of {wrong}", faults_by_schema(object=[wrong]), [wanted])
+
+
+def line_forms_are_those_of_the_formats() -> None:
+    """The table of tools/script_lines.py and that of docs/FORMATS.md have the same lines."""
+    page = (TOP / "docs" / "FORMATS.md").read_text()
+    table = page[page.index("| line | in short |") : page.index("| operand | form |")]
+    shown = {found for row in table.splitlines() for found in re.findall(r"`([^`]+)`", row.split(" | ")[0])}
+    sys.path.insert(0, str(TOP / "tools"))
+    from script_lines import FORMS, form_of
+
+    same("forms of lines", sorted(form_of(word) for word in FORMS), sorted(shown))
 
 
 def each_key_is_described() -> None:
@@ -84,6 +131,36 @@ def manual_page_names_commands_and_statuses() -> None:
     same("statuses", re.findall(r"^ {5}(\d) ", statuses, re.M), list("01234567"))
 
 
+def typed_in_bash(line: str) -> str:
+    """What an interactive bash has in its line, once a line and a tab are typed. The line isn't run: a key shows it."""
+    terminal, end = pty.openpty()
+    shell = ["bash", "--norc", "--noprofile", "-i"]
+    environment = {**os.environ, "PS1": "", "TERM": "dumb", "HISTFILE": ""}
+    with subprocess.Popen(shell, cwd=TOP, stdin=end, stdout=end, stderr=end, start_new_session=True, env=environment) as bash:
+        os.close(end)
+        os.write(terminal, b"source completions/zumode.bash; " + SHOW_LINE + b"; echo rea''dy\n")
+        read_until(terminal, "ready\r\n")
+        os.write(terminal, f"{line}\t\x14".encode())
+        seen = read_until(terminal, "]]")
+        bash.kill()
+    os.close(terminal)
+    return seen[seen.rindex("[[") + 2 : seen.rindex("]]")]
+
+
+def read_until(terminal: int, end: str) -> str:
+    seen, until = "", time.monotonic() + SECONDS
+    while end not in seen and select.select([terminal], [], [], max(0, until - time.monotonic()))[0]:
+        seen += os.read(terminal, 4096).decode()
+    holds(f"bash says {seen!r}", end in seen)
+    return seen
+
+
+def bash_completes_files() -> None:
+    for front in ("./zumode sim ", "./zumode sim < ", "./zumode audit --cpus 2 > "):
+        same(f"{front}examples/last-b", typed_in_bash(f"{front}examples/last-byte.t"), f"{front}examples/last-byte.toml ")
+    same("./zumode sim --c", typed_in_bash("./zumode sim --c"), "./zumode sim --cpus ")
+
+
 def completed_by_bash(*words: str) -> list:
     """What bash completes the last of some words to."""
     script = 'source completions/zumode.bash; COMP_WORDS=("$@"); COMP_CWORD=$(($# - 1)); _zumode; printf "%s\\n" "${COMPREPLY[@]}"'
@@ -101,6 +178,8 @@ def bash_completes() -> None:
     same("zumode summary --cpus 4 --", completed_by_bash("summary", "--cpus", "4", "--"), ["--pick"])
     same("zumode run --", completed_by_bash("run", "--"), ["--cpus"])
     same("zumode layout --", completed_by_bash("layout", "--"), [])
+    same("zumode --", completed_by_bash("--"), ["--help", "--version"])
+    same("zumode sim", completed_by_bash("sim", ""), [])
 
 
 def completed_by_fish(line: str) -> list:
@@ -116,13 +195,16 @@ def fish_completes() -> None:
     same("zumode sim --", completed_by_fish("zumode sim --"), ["--cpus", "--pick"])
     same("zumode sim --cpus", completed_by_fish("zumode sim --cpus "), list("12345678"))
     same("zumode run --", completed_by_fish("zumode run --"), ["--cpus"])
-    same("zumode layout", completed_by_fish("zumode layout "), [])
+    same("zumode layout exa", completed_by_fish("zumode layout exa"), ["examples/"])
+    same("zumode gen", completed_by_fish("zumode gen "), [])
+    first = completed_by_fish("zumode sim examples/last-byte")
+    same("zumode sim examples/last-byte", first, ["examples/last-byte.toml", "examples/last-byte.out"])
 
 
 ZSH_CALLS = """
 fpath=($PWD/completions $fpath); autoload -Uz _zumode
 _describe() { print -l ${(P)4%%:*}; }
-_arguments() { print -l -- ${@%%\\[*}; }
+_arguments() { print -l -- ${${@%%\\[*}%%:*}; }
 words=(zumode "$@"); CURRENT=$#words; _zumode
 """
 
@@ -135,9 +217,9 @@ def zsh_completes() -> None:
         return sorted(ran.stdout.split())
 
     same("zumode", offered(""), COMMANDS)
-    same("zumode sim", offered("sim", ""), ["--cpus", "--pick"])
-    same("zumode run", offered("run", ""), ["--cpus"])
-    same("zumode layout", offered("layout", ""), [])
+    same("zumode sim", offered("sim", ""), ["--cpus", "--pick", "1"])
+    same("zumode run", offered("run", ""), ["--cpus", "1"])
+    same("zumode layout", offered("layout", ""), ["1"])
 
 
 def picture_is_small() -> None:
@@ -150,12 +232,16 @@ def picture_is_small() -> None:
 TESTS = [
     accepted_examples_are_valid,
     refused_examples_are_not,
+    schema_marks_lines,
+    schema_says_what_is_wrong_of_an_object,
+    line_forms_are_those_of_the_formats,
     each_key_is_described,
     examples_point_to_the_schema,
     picture_is_small,
     manual_page_is_clean,
     manual_page_names_commands_and_statuses,
     bash_completes,
+    bash_completes_files,
     fish_completes,
     zsh_completes,
 ]
