@@ -17,11 +17,10 @@ use Rattle.um_base.specs.declared.names.ThreadIx.{ThreadIx}
 use Rattle.um_base.specs.Lawful.{IsLawful}
 use Rattle.um_machine.specs.declared.pending.Pending.{Pending}
 use Rattle.um_machine.specs.declared.thread.Thread.{Thread}
-use Rattle.um_machine.specs.Order.{Steps, answer_error, answer_zero, buffered, creates, end_steps, fatal_steps, new_mode, steps_of, to_addr, to_row, to_thread, work}
+use Rattle.um_machine.specs.Order.{Steps, answer_error, answer_zero, buffered, creates, end_steps, fatal_steps, new_mode, privileged, steps_of, to_addr, to_row, to_thread, work}
 use Rattle.um_machine.specs.State.{value_of}
 use Rattle.um_machine.specs.Table as T
 use Rattle.um_measure.proofs.IndexLemmas.{addr-below}
-use Rattle.um_erasure.proofs.Failures.{HoldsOfFailures, either-steps, privileged-left}
 
 abbrev pub names_thread : Pending → Bool
 names_thread (Pending.Own who) = nat_lt who.0 THREADS
@@ -34,17 +33,20 @@ names_thread q = true
 abbrev pub AreNamed : Steps → Type 0
 AreNamed steps = list_all names_thread steps ≡ true
 
-pub failures-named : HoldsOfFailures AreNamed
-failures-named = record { fatal = λ reason cause. refl; unbuffer = λ size reason cause. refl; answer = λ reply. refl }
+privileged-named : (mode : Mode) (steps : Steps) → AreNamed steps → AreNamed (privileged mode steps)
+privileged-named Mode.User steps h = refl
+privileged-named Mode.Supervisor steps h = h
 
 module _ (image : Image) (lawful : IsLawful image) where
   -- The steps of a line.
 
   init-named : (a : ℕ) (ask : Ask) (refused : Bool) → AreNamed (if refused then answer_error Errno.EINVAL else work a ask ∷ Pending.SetInit (to_addr a) false None ∷ answer_zero)
-  init-named a ask refused = either-steps AreNamed refused _ _ refl refl
+  init-named a ask true = refl
+  init-named a ask false = refl
 
   buffered-named : (a : ℕ) (kind : Kind) (within : Bool) (size : ℕ) (ask : Ask) → AreNamed (buffered a kind within size ask)
-  buffered-named a kind within size ask = either-steps AreNamed within _ _ refl refl
+  buffered-named a kind true size ask = refl
+  buffered-named a kind false size ask = refl
 
   inherits-named : (b : Bool) (who : ThreadIx) (rest : Steps) → AreNamed rest → AreNamed ((if b then Pending.Inherit who ∷ [] else []) ++ rest)
   inherits-named true who rest h = h
@@ -58,13 +60,13 @@ module _ (image : Image) (lawful : IsLawful image) where
 
   pub named-steps : (t : ℕ) (me : Thread) (instr : Instr) → AreNamed (steps_of image t me instr)
   named-steps t me Instr.Panic = refl
-  named-steps t me (Instr.DomainInit domain parts) = privileged-left AreNamed failures-named me.mode _ refl
-  named-steps t me (Instr.DomainAdd domain part) = privileged-left AreNamed failures-named me.mode _ refl
-  named-steps t me (Instr.DomainRemove domain part) = privileged-left AreNamed failures-named me.mode _ refl
-  named-steps t me (Instr.DomainMove domain thread) = privileged-left AreNamed failures-named me.mode _ (λ i. addr-below image lawful (value_of me.registers thread) i && true)
-  named-steps t me (Instr.UserMode script) = privileged-left AreNamed failures-named me.mode _ refl
-  named-steps t me (Instr.AllGrant object) = privileged-left AreNamed failures-named me.mode _ refl
-  named-steps t me (Instr.Revoke object thread) = privileged-left AreNamed failures-named me.mode _ refl
+  named-steps t me (Instr.DomainInit domain parts) = privileged-named me.mode _ refl
+  named-steps t me (Instr.DomainAdd domain part) = privileged-named me.mode _ refl
+  named-steps t me (Instr.DomainRemove domain part) = privileged-named me.mode _ refl
+  named-steps t me (Instr.DomainMove domain thread) = privileged-named me.mode _ (λ i. addr-below image lawful (value_of me.registers thread) i && true)
+  named-steps t me (Instr.UserMode script) = privileged-named me.mode _ refl
+  named-steps t me (Instr.AllGrant object) = privileged-named me.mode _ refl
+  named-steps t me (Instr.Revoke object thread) = privileged-named me.mode _ refl
   named-steps t me (Instr.NameSet thread addr) = λ i. addr-below image lawful (value_of me.registers thread) i && true
   named-steps t me (Instr.Create thread stack size script priority options) = creates-named me.mode _ _ _ _ _ _ options _ (addr-below image lawful (value_of me.registers thread))
   named-steps t me (Instr.SemInit object count limit) = init-named _ _ _

@@ -15,7 +15,7 @@ use Rattle.um_words.specs.declared.row_word.RowWord.{RowWord}
 use Rattle.um_words.specs.declared.thread_word.ThreadWord.{ThreadWord}
 use Rattle.um_words.specs.Rows.{has, is_last, left_of}
 use Rattle.um_fine.specs.Addresses.{address_of}
-use Rattle.um_fine.specs.Answers.{act_in, before_in, is_visit, is_word_read, left_in, row_in, thread_in}
+use Rattle.um_fine.specs.Answers.{act_in, before_in, is_visit, is_word_read, leftover_in, row_in, thread_in}
 use Rattle.um_fine.specs.Asks.{CpuMay, begins, by_me, fits_step, has_room, is_dropped, made_by, me, moves, next_site, says, says_idle, says_show, shows, site_at}
 use Rattle.um_fine.specs.Cells.{Cell}
 use Rattle.um_fine.specs.Places.{Todo, Todos}
@@ -202,18 +202,18 @@ module _ (image : Image) (p : Processor) where
 
   -- A permission that is dropped, by its own thread or in cleaning.
   drop-same : (q : Todo) (who : ℕ) (x : ℕ) (todo : Todos) (w : RowWord) (e g : FineStep) → Filled (q ∷ todo) (SiteState.row w) e → Filled (q ∷ todo) (SiteState.row w) g
-      → ((y : FineStep) → says image p (q ∷ todo) y.act y.moved ≡ visiting y.act (Act.DropPair (to_thread who) (address_of image x) (left_in (act_in y.act))))
+      → ((y : FineStep) → says image p (q ∷ todo) y.act y.moved ≡ visiting y.act (Act.DropPair (to_thread who) (address_of image x) (leftover_in (act_in y.act))))
       → ((y : FineStep) → moves image p (q ∷ todo) y.moved ≡ Exchange.nothing)
-      → ((y : FineStep) → fits_step image p (q ∷ todo) y ≡ (if is_visit y.act then not (has (row_in y.word) who) else is_dropped (left_in (act_in y.act))))
+      → ((y : FineStep) → fits_step image p (q ∷ todo) y ≡ (if is_visit y.act then not (has (row_in y.word) who) else is_dropped (leftover_in (act_in y.act))))
       → Same e g
   drop-same q who x todo w e g l r says' moves' fits' =
-      visit-same (q ∷ todo) w (λ z. Act.DropPair (to_thread who) (address_of image x) (left_in z)) (has w who) e g l r (sym (says' e) ∙ l.says) (sym (says' g) ∙ r.says) (moves' e ∙ sym (moves' g)) (λ y z m n. refl)
+      visit-same (q ∷ todo) w (λ z. Act.DropPair (to_thread who) (address_of image x) (leftover_in z)) (has w who) e g l r (sym (says' e) ∙ l.says) (sym (says' g) ∙ r.says) (moves' e ∙ sym (moves' g)) (λ y z m n. refl)
       (λ y o h k.
       sym (look-leaves w y.word y.moved who (ap (λ a. word_of (site_after image (SiteState.row w) a y.moved)) k ∙ o.leaves))
-      ∙ looked (is_visit y.act) (has (row_in y.word) who) (is_dropped (left_in (act_in y.act))) h (subst IsTrue (fits' y) o.fit))
+      ∙ looked (is_visit y.act) (has (row_in y.word) who) (is_dropped (leftover_in (act_in y.act))) h (subst IsTrue (fits' y) o.fit))
       (λ y o h k.
-      dropped-there w who (is_visit y.act) (has (row_in y.word) who) (left_in (act_in y.act)) h (subst IsTrue (fits' y) o.fit)
-      (ap (λ a. left_in (act_in a)) (answered-by (q ∷ todo) (SiteState.row w) y o (by_me image p (Act.DropPair (to_thread who) (address_of image x) (left_in (act_in y.act)))) k)))
+      dropped-there w who (is_visit y.act) (has (row_in y.word) who) (leftover_in (act_in y.act)) h (subst IsTrue (fits' y) o.fit)
+      (ap (λ a. leftover_in (act_in a)) (answered-by (q ∷ todo) (SiteState.row w) y o (by_me image p (Act.DropPair (to_thread who) (address_of image x) (leftover_in (act_in y.act)))) k)))
       (is_visit e.act) (is_visit g.act) refl refl
 
   -- Who takes a thread gets the first one that is ready.

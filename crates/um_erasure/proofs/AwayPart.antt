@@ -1,36 +1,6 @@
 -- A thread whose own part lies nowhere has no step left, and was never started, has ended, or is doomed, after every lawful step.
-use Rattle.std.proofs.Common.{◌≡◌, ◌≢◌, ◌⊎◌, inl, inr, ℕ, zero, suc, ◌+◌, ◌<◌, ◌≤◌, Bool, true, false, cond, [], ◌∷◌, Option, Some, None, refl, sym, ap, ◌∙◌, subst, arith, eq-eqb}
-use Rattle.std.specs.Prelude.{◌==◌, ◌&&◌, if◌then◌else◌, is_some, not}
-use Rattle.std.specs.List.{list_any}
-use Rattle.std.proofs.lemmas.Bool.{and_parts, eqb-false, eqb-true, false≢true, not-true, true≢false}
-use Rattle.std.proofs.lemmas.Grind.{get_or-set_at}
-use Rattle.std.proofs.lemmas.List.{get_or-set_other}
-use Rattle.um_base.specs.declared.ask.Told.{Told}
-use Rattle.um_base.specs.declared.image.Image.{Image}
-use Rattle.um_base.specs.declared.limits.TheConstants.{THREADS}
-use Rattle.um_machine.specs.declared.pending.Pending.{Pending}
-use Rattle.um_machine.specs.declared.thread.Life.{Life}
-use Rattle.um_machine.specs.declared.thread.Thread.{Thread}
-use Rattle.um_machine.specs.Order.{Steps, to_thread}
-use Rattle.um_machine.specs.Services.{is_empty}
-use Rattle.um_machine.specs.State.{State, thread_at}
-use Rattle.um_words.specs.declared.fine.FineAct.{FineAct}
-use Rattle.um_words.specs.declared.fine.Unseen.{Unseen}
-use Rattle.um_fine.specs.Answers.{act_in, context_in, ready_in}
-use Rattle.um_fine.specs.Context.{Context}
-use Rattle.um_fine.specs.Continues.{continues, resumed, resumed_at}
-use Rattle.um_fine.specs.Follows.{after_show, after_take, dropped_at, p_next}
-use Rattle.um_fine.specs.Places.{Todo, Todos}
-use Rattle.um_fine.specs.Processor.{Processor}
-use Rattle.um_fine.specs.Scheduler.{Scheduler, parked_at, put_back}
-use Rattle.um_fine.specs.Sites.{same_site}
-use Rattle.um_fine.specs.Steps.{Exchange, FineStep, Site}
-use Rattle.um_erasure.specs.Cleaning.{AreBlocks}
-use Rattle.um_erasure.specs.Fine.{Fine, one_if, over_processors, scheduler}
-use Rattle.um_erasure.specs.Frames.{AreFramed}
-use Rattle.um_erasure.specs.Lists.{adders, has_steps, is_done, of_thread, runs, runs_thread}
-use Rattle.um_erasure.specs.Offers.{Fits, is_over}
-use Rattle.um_erasure.specs.Threads.{AwayIs, IsOf, places, runs_on}
+use Rattle.um_erasure.proofs.Words.{◌≡◌, ◌≢◌, ◌⊎◌, inl, inr, ℕ, zero, suc, ◌+◌, ◌<◌, ◌≤◌, Bool, true, false, cond, [], ◌∷◌, Option, Some, None, refl, sym, ap, ◌∙◌, subst, arith, eq-eqb, ◌==◌, ◌&&◌, if◌then◌else◌, is_some, not, list_any, and_parts, eqb-false, eqb-true, false≢true, not-true, true≢false, get_or-set_at, get_or-set_other, Told, Image, THREADS, Pending, Life, Thread, Steps, to_thread, is_empty, State, thread_at, FineAct, Unseen, act_in, context_in, ready_in, Context, continues, resumed, resumed_at, after_show, after_take, dropped_at, p_next, Todo, Todos, Processor, Scheduler, parked_at, put_back, same_site, Exchange, FineStep, Site, AreBlocks, Fine, one_if, over_processors, scheduler, AreFramed, adders, has_steps, is_done, of_thread, runs, runs_thread, Fits, is_over, IsOf, places, runs_on}
+use Rattle.um_erasure.specs.Threads.{AwayIs}
 use Rattle.um_erasure.proofs.ContextsPart.{apart-scheduling, ended-not, is_shown, now-context, quiet-context}
 use Rattle.um_erasure.proofs.DonePart.{doomed-kept}
 use Rattle.um_erasure.proofs.Erased.{around, stepped}
@@ -65,14 +35,6 @@ resumed-ended image c told = by c.pending
 none-left : (steps : Steps) → is_empty steps ≡ true → steps ≡ []
 none-left [] h = refl
 none-left (q ∷ rest) h = absurd (false≢true h)
-
-some-true : (b : Bool) → 0 < one_if b → b ≡ true
-some-true true h = refl
-some-true false h = absurd (omega (arith, h))
-
-none-false : (b : Bool) → one_if b ≡ 0 → b ≡ false
-none-false true h = absurd (omega (arith, h))
-none-false false h = refl
 
 module _ (f : Fine) (m : State) (e : FineStep) (law : Lawful f m e) (suits : Suits f m) (all : InDomains f m) (s : State) (leaves : Leaves f m e s) (has : HasStep f m e s leaves)
     (t : ℕ) (few : t < THREADS) (gone : places (stepped f.image f.cpus f.processors f.sites e) t ≡ 0) where

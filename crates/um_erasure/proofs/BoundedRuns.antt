@@ -1,24 +1,6 @@
 -- What a fine run of a described image leaves is within the bounds.
-use Rattle.std.proofs.Common.{ℕ, List, [], refl, subst, eq-eqb}
-use Rattle.std.proofs.lemmas.Bool.{eqb-true}
-use Rattle.um_base.specs.declared.image.Image.{Image}
-use Rattle.um_machine.specs.Run.{Runs, opening}
-use Rattle.um_machine.specs.State.{State}
-use Rattle.um_invariants.proofs.Cores.{core_of}
-use Rattle.um_invariants.proofs.Guards.{IsSited}
-use Rattle.um_invariants.proofs.Turns.{IsKnown}
-use Rattle.um_invariants.specs.Described.{IsDescribed}
-use Rattle.um_fine.specs.Erasure.{shown}
-use Rattle.um_fine.specs.FineRun.{ByOneOf, IsFineRun, cpu_of, p_start, same_cpu, site_of}
-use Rattle.um_fine.specs.Follows.{p_next}
-use Rattle.um_fine.specs.Opening.{s_start}
-use Rattle.um_fine.specs.Processor.{Processor}
-use Rattle.um_fine.specs.Sites.{SiteMay, SiteState, s_next, same_site}
-use Rattle.um_fine.specs.Steps.{FineStep, Site}
+use Rattle.um_erasure.proofs.Words.{ℕ, List, [], refl, subst, eq-eqb, eqb-true, Image, Runs, opening, State, core_of, IsSited, IsKnown, IsDescribed, shown, ByOneOf, IsFineRun, cpu_of, p_start, same_cpu, site_of, p_next, s_start, Processor, SiteMay, SiteState, s_next, same_site, FineStep, Site, same-itself, same-sound, left_by, Rel}
 use Rattle.um_fine.proofs.FineRuns.{along}
-use Rattle.um_fine.proofs.Keys.{same-itself, same-sound}
-use Rattle.um_erasure.specs.After.{left_by}
-use Rattle.um_erasure.specs.Relation.{Rel}
 use Rattle.um_erasure.proofs.Bounds.{AreBounded}
 use Rattle.um_erasure.proofs.BoundsKept.{bounds-kept}
 use Rattle.um_erasure.proofs.DomainsKnown.{started-placed}

@@ -1,11 +1,6 @@
 -- What bounds processors and sites of a fine run beside the relation.
-use Rattle.std.specs.Prelude.{◌≡◌, ℕ, ◌<◌, ◌≤◌, true, false, nat_lt, Some}
-use Rattle.std.specs.List.{list_all}
-use Rattle.um_base.specs.declared.limits.TheConstants.{THREADS}
-use Rattle.um_fine.specs.Context.{Context}
-use Rattle.um_fine.specs.Scheduler.{parked_at}
-use Rattle.um_erasure.specs.Fine.{Fine, scheduler, word}
-use Rattle.um_erasure.specs.Lists.{Adds, counted, is_end_call, runs}
+use Rattle.um_erasure.proofs.Words.{nat_lt, list_all, THREADS, Context, parked_at, Fine, scheduler, word, Adds, counted, is_end_call, runs}
+use Rattle.std.specs.Prelude.{◌≡◌, ℕ, ◌<◌, ◌≤◌, true, false, Some}
 use Rattle.um_erasure.proofs.CallBoundsKept.{IsBounded}
 use Rattle.um_erasure.proofs.ListSingles.{AreSingle}
 use Rattle.um_erasure.proofs.ListWakes.{Wakes, wakers}

@@ -1,45 +1,11 @@
 -- The bounds are kept by every lawful step.
-use Rattle.std.proofs.Common.{◌≡◌, inl, inr, ℕ, zero, suc, ◌<◌, ◌≤◌, Bool, true, false, cond, List, [], ◌∷◌, ◌++◌, length, Option, Some, None, refl, sym, ap, ◌∙◌, subst, arith, eq-eqb}
-use Rattle.std.specs.Prelude.{◌==◌, ◌||◌, if◌then◌else◌, nat_lt, slice_index_or}
-use Rattle.std.specs.List.{list_all}
-use Rattle.std.proofs.lemmas.Bool.{and_from, and_parts, eqb-true, false≢true, lt-ltb, true≢false}
-use Rattle.std.proofs.Math.Bool.{or-true}
-use Rattle.um_base.specs.declared.ask.Ask.{Ask}
-use Rattle.um_base.specs.declared.ask.Told.{Told}
-use Rattle.um_base.specs.declared.image.Image.{Image}
-use Rattle.um_base.specs.declared.limits.TheConstants.{THREADS}
-use Rattle.um_base.specs.declared.names.Addr.{Addr}
-use Rattle.um_base.specs.declared.names.ThreadIx.{ThreadIx}
-use Rattle.um_base.specs.Lawful.{IsLawful}
-use Rattle.um_base.specs.Places.{row_at}
-use Rattle.um_machine.specs.declared.pending.Pending.{Pending}
-use Rattle.um_machine.specs.declared.thread.Thread.{Thread}
-use Rattle.um_machine.specs.Objects.{has_kind, verdict}
-use Rattle.um_machine.specs.Order.{Steps, to_thread}
-use Rattle.um_machine.specs.Services.{is_empty}
-use Rattle.um_machine.specs.State.{State, nobody, object_at, thread_at}
+use Rattle.um_erasure.proofs.Words.{◌≡◌, inl, inr, ℕ, zero, suc, ◌<◌, ◌≤◌, Bool, true, false, cond, List, [], ◌∷◌, ◌++◌, length, Option, Some, None, refl, sym, ap, ◌∙◌, subst, arith, eq-eqb, ◌==◌, ◌||◌, if◌then◌else◌, nat_lt, slice_index_or, list_all, and_from, and_parts, eqb-true, false≢true, lt-ltb, true≢false, or-true, Ask, Told, Image, THREADS, Addr, ThreadIx, IsLawful, row_at, Pending, Thread, has_kind, verdict, Steps, to_thread, is_empty, State, nobody, object_at, thread_at, IsSited, row_kind, passed, AreKept, are_orderly, is_resume, act_in, is_visit, outcome_in, verdict_in, begins_cleaning, says, says_idle, Context, after_show, after_take, p_next, outcome_of, Todo, Todos, Processor, Exchange, FineStep, Fine, AreFramed, Adds, counted, has_steps, is_end_call, runs, Fits, behind_shown, is_over, Rel, IsOf}
 use Rattle.um_machine.specs.Table as T
 use Rattle.um_invariants.proofs.Cores.{kind_is}
-use Rattle.um_invariants.proofs.Guards.{IsSited, row_kind}
-use Rattle.um_invariants.proofs.Turns.{passed, row_has}
-use Rattle.um_scheduler.proofs.ThreadServes.{served}
-use Rattle.um_scheduler.proofs.ThreadWaits.{IsServed, numbers}
-use Rattle.um_scheduler.proofs.ThreadWords.{AreKept, are_orderly, is_resume}
-use Rattle.um_scheduler.specs.Lines.{stands}
-use Rattle.um_fine.specs.Answers.{act_in, is_visit, outcome_in, verdict_in}
-use Rattle.um_fine.specs.Asks.{begins_cleaning, says, says_idle}
-use Rattle.um_fine.specs.Context.{Context}
-use Rattle.um_fine.specs.Follows.{after_show, after_take, p_next}
-use Rattle.um_fine.specs.Objects.{outcome_of}
-use Rattle.um_fine.specs.Places.{Todo, Todos}
-use Rattle.um_fine.specs.Processor.{Processor}
-use Rattle.um_fine.specs.Steps.{Exchange, FineStep}
-use Rattle.um_erasure.specs.Fine.{Fine}
-use Rattle.um_erasure.specs.Frames.{AreFramed}
-use Rattle.um_erasure.specs.Lists.{Adds, counted, has_steps, is_end_call, runs}
-use Rattle.um_erasure.specs.Offers.{Fits, behind_shown, is_over}
-use Rattle.um_erasure.specs.Relation.{Rel}
-use Rattle.um_erasure.specs.Threads.{IsOf}
+use Rattle.um_invariants.proofs.Turns.{row_has}
+use Rattle.um_invariants.proofs.ThreadServes.{served}
+use Rattle.um_invariants.proofs.ThreadWaits.{IsServed, numbers}
+use Rattle.um_invariants.specs.Lines.{stands}
 use Rattle.um_erasure.proofs.Bounds.{AreBounded, AreThreads}
 use Rattle.um_erasure.proofs.CallBounds.{bounded-few}
 use Rattle.um_erasure.proofs.CallBoundsKept.{IsBounded, Makes, Passes, continues-bounded, drops-bounded, newborn-bounded, offered-makes, resumes-bounded}

@@ -1,29 +1,8 @@
 -- What bounds a call: it holds two objects at most, a load is of four bytes at most, and the stack of a thread is one of the image's objects, so
 -- that its row is never free. The steps of each line of a lawful image keep within these bounds.
-use Rattle.std.proofs.Common.{◌≡◌, ℕ, zero, suc, ◌+◌, ◌*◌, ◌-◌, ◌<◌, ◌≤◌, Bool, true, false, List, [], ◌∷◌, ◌++◌, length, Option, Some, None, refl, sym, ap, ◌∙◌, subst, arith}
-use Rattle.std.specs.Prelude.{◌==◌, ◌&&◌, ◌||◌, ℤ, if◌then◌else◌, is_some, nat_lt, slice_get, unwrap_or}
-use Rattle.std.proofs.lemmas.Bool.{and_parts, eqb-true, false≢true}
-use Rattle.um_base.specs.declared.act.Cause.{Cause}
-use Rattle.um_base.specs.declared.ask.Ask.{Ask}
-use Rattle.um_base.specs.declared.image.Image.{Image}
-use Rattle.um_base.specs.declared.image.ObjectDef.{ObjectDef}
-use Rattle.um_base.specs.declared.instr.Instr.{Instr}
-use Rattle.um_base.specs.declared.instr.Options.{Options}
-use Rattle.um_base.specs.declared.limits.TheConstants.{STATIC_ROWS}
-use Rattle.um_base.specs.declared.names.Addr.{Addr}
-use Rattle.um_base.specs.declared.names.Errno.{Errno}
-use Rattle.um_base.specs.declared.names.Kind.{Kind}
-use Rattle.um_base.specs.declared.names.Mode.{Mode}
-use Rattle.um_base.specs.declared.names.ThreadIx.{ThreadIx}
-use Rattle.um_base.specs.Lawful.{is_lawful_line, is_size, is_within}
-use Rattle.um_base.specs.Places.{dynamic_kind_at, row_at}
-use Rattle.um_machine.specs.declared.pending.Pending.{Pending}
-use Rattle.um_machine.specs.declared.thread.Thread.{Thread}
-use Rattle.um_machine.specs.Objects.{has_kind}
-use Rattle.um_machine.specs.Order.{Steps, answer_error, answer_zero, buffered, creates, privileged, steps_of, to_addr, work}
-use Rattle.um_machine.specs.State.{value_of}
-use Rattle.um_invariants.proofs.Guards.{kind_in, row_kind}
-use Rattle.um_fine.specs.Addresses.{row_named}
+use Rattle.um_erasure.proofs.Words.{◌≡◌, ℕ, zero, suc, ◌+◌, ◌*◌, ◌-◌, ◌<◌, ◌≤◌, Bool, true, false, List, [], ◌∷◌, ◌++◌, length, Option, Some, None, refl, sym, ap, ◌∙◌, subst, arith, ◌==◌, ◌&&◌, ◌||◌, ℤ, if◌then◌else◌, is_some, nat_lt, slice_get, unwrap_or, and_parts, eqb-true, false≢true, Cause, Ask, Image, ObjectDef, Instr, Options, STATIC_ROWS, Addr, Errno, Kind, Mode, ThreadIx, is_lawful_line, is_within, row_at, Pending, Thread, has_kind, Steps, answer_error, answer_zero, buffered, creates, privileged, steps_of, to_addr, work, value_of, kind_in, row_kind, row_named}
+use Rattle.um_base.specs.Lawful.{is_size}
+use Rattle.um_base.specs.Places.{dynamic_kind_at}
 
 module _ (image : Image) where
   -- the mark that is cleared first at the end of a thread is that of one of the image's objects

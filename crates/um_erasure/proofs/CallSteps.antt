@@ -2,29 +2,14 @@
 -- mark as initialised, a thread that gets a permission or a name is one whose object it holds, or a static one, permissions are passed on to the
 -- thread that it starts next, each edit and each move is of one of the image's domains, and where the call is over it holds nothing. The steps
 -- of each line of a lawful image are.
-use Rattle.std.proofs.Common.{◌≡◌, ◌⊎◌, inl, inr, ℕ, zero, suc, ◌+◌, ◌*◌, ◌<◌, Bool, true, false, List, [], ◌∷◌, ◌++◌, length, Option, Some, None, refl, sym, ap, ◌∙◌, subst, arith}
-use Rattle.std.specs.Prelude.{◌==◌, ◌&&◌, ◌||◌, ℤ, if◌then◌else◌, is_some, nat_lt, slice_get, slice_index_or, slice_set, unwrap_or}
-use Rattle.std.specs.List.{list_all}
-use Rattle.std.proofs.lemmas.Bool.{and_parts, false≢true, ltb-true}
-use Rattle.um_base.specs.declared.act.Cause.{Cause}
-use Rattle.um_base.specs.declared.ask.Ask.{Ask}
-use Rattle.um_base.specs.declared.image.Image.{Image}
+use Rattle.um_erasure.proofs.Words.{◌≡◌, ◌⊎◌, inl, inr, ℕ, zero, suc, ◌+◌, ◌*◌, ◌<◌, Bool, true, false, List, [], ◌∷◌, ◌++◌, length, Option, Some, None, refl, sym, ap, ◌∙◌, subst, arith, ◌==◌, ◌&&◌, ◌||◌, ℤ, if◌then◌else◌, is_some, nat_lt, slice_get, slice_index_or, slice_set, unwrap_or, list_all, and_parts, false≢true, ltb-true, Cause, Ask, Image, Instr, Options, Errno, Kind, Mode, ThreadIx, IsLawful, is_lawful_line, is_within, own_row, row_at, thread_of_addr, Pending, Thread, Steps, answer_error, answer_zero, buffered, creates, privileged, steps_of, to_addr, work, instruction_at, value_of, IsRow, IsSited, IsStatic}
 use Rattle.um_base.specs.declared.image.Script.{Script}
-use Rattle.um_base.specs.declared.instr.Instr.{Instr}
-use Rattle.um_base.specs.declared.instr.Options.{Options}
-use Rattle.um_base.specs.declared.names.Errno.{Errno}
-use Rattle.um_base.specs.declared.names.Kind.{Kind}
-use Rattle.um_base.specs.declared.names.Mode.{Mode}
 use Rattle.um_base.specs.declared.names.Ref.{Ref}
-use Rattle.um_base.specs.declared.names.ThreadIx.{ThreadIx}
-use Rattle.um_base.specs.Lawful.{IsLawful, are_lawful_scripts, is_lawful_line, is_lawful_script, is_number_below, is_within}
-use Rattle.um_base.specs.Places.{own_row, row_at, thread_of_addr}
-use Rattle.um_machine.specs.declared.pending.Pending.{Pending}
+use Rattle.um_base.specs.Lawful.{are_lawful_scripts, is_lawful_script, is_number_below}
 use Rattle.um_machine.specs.declared.thread.Place.{Place}
-use Rattle.um_machine.specs.declared.thread.Thread.{Thread}
-use Rattle.um_machine.specs.Order.{Steps, answer_error, answer_zero, buffered, creates, number_of, privileged, steps_of, to_addr, work}
-use Rattle.um_machine.specs.State.{instruction_at, lines_of, script_lines, value_of}
-use Rattle.um_invariants.proofs.Guards.{IsRow, IsSited, IsStatic, Names, keeps}
+use Rattle.um_machine.specs.Order.{number_of}
+use Rattle.um_machine.specs.State.{lines_of, script_lines}
+use Rattle.um_invariants.proofs.Guards.{Names, keeps}
 
 -- nothing is held
 abbrev pub Bare : List Bool → Type 0

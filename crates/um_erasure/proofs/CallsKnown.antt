@@ -1,30 +1,12 @@
 -- What is known of a state bounds its threads and rows, and says that a thread which is started next doesn't live; and in a described image
 -- each thread object has a thread of its own. So of what the events ask, this needn't be asked.
-use Rattle.std.proofs.Common.{◌≡◌, ◌≢◌, ◌⊎◌, inl, ℕ, zero, suc, ◌+◌, ◌-◌, ◌<◌, ◌≤◌, Bool, true, false, List, [], ◌∷◌, length, Option, Some, None, refl, sym, ap, ◌∙◌, arith, eq-eqb}
-use Rattle.std.specs.Prelude.{ℤ, if◌then◌else◌, is_some, nat_lt, position, slice_get, slice_index_or, unwrap_or, map}
-use Rattle.std.specs.List.{list_all}
-use Rattle.std.proofs.lemmas.Bool.{and_parts, false≢true, lt-ltb, ltb-true, true≢false}
-use Rattle.std.proofs.lemmas.Bool.Decides.{nat_tests}
-use Rattle.um_base.specs.declared.image.Image.{Image}
-use Rattle.um_base.specs.declared.image.ObjectDef.{ObjectDef}
+use Rattle.um_erasure.proofs.Words.{◌≡◌, ◌≢◌, ◌⊎◌, inl, ℕ, zero, suc, ◌+◌, ◌-◌, ◌<◌, ◌≤◌, Bool, true, false, List, [], ◌∷◌, length, Option, Some, None, refl, sym, ap, ◌∙◌, arith, eq-eqb, ℤ, if◌then◌else◌, is_some, nat_lt, slice_get, slice_index_or, unwrap_or, list_all, and_parts, false≢true, lt-ltb, ltb-true, true≢false, nat_tests, Image, ObjectDef, ROWS, STATIC_ROWS, THREADS, Kind, Mode, Row, ThreadIx, IsLawful, own_row, Pending, Life, Steps, Offers, goes, skips_drops, skips_inherit, State, is_living, thread_at, claims, Call, call_at, call_is, core_of, IsSited, kind_in, real-below}
+use Rattle.std.specs.Prelude.{position, map}
 use Rattle.um_base.specs.declared.image.Setup.{Setup}
-use Rattle.um_base.specs.declared.limits.TheConstants.{ROWS, STATIC_ROWS, STATIC_THREADS, THREADS}
-use Rattle.um_base.specs.declared.names.Kind.{Kind}
-use Rattle.um_base.specs.declared.names.Mode.{Mode}
-use Rattle.um_base.specs.declared.names.Row.{Row}
-use Rattle.um_base.specs.declared.names.ThreadIx.{ThreadIx}
-use Rattle.um_base.specs.Lawful.{IsLawful, is_setup_of}
-use Rattle.um_base.specs.Places.{is_thread_index, own_row, setup_at, setup_thread}
-use Rattle.um_machine.specs.declared.pending.Pending.{Pending}
-use Rattle.um_machine.specs.declared.thread.Life.{Life}
-use Rattle.um_machine.specs.Order.{Steps}
-use Rattle.um_machine.specs.Run.{Offers, goes, skips_drops, skips_inherit}
-use Rattle.um_machine.specs.State.{State, is_living, thread_at}
-use Rattle.um_invariants.proofs.Claims.{claims}
-use Rattle.um_invariants.proofs.Cores.{Call, call_at, call_is, core_of}
+use Rattle.um_base.specs.declared.limits.TheConstants.{STATIC_THREADS}
+use Rattle.um_base.specs.Lawful.{is_setup_of}
+use Rattle.um_base.specs.Places.{is_thread_index, setup_at, setup_thread}
 use Rattle.um_invariants.proofs.Facts.{not_less}
-use Rattle.um_invariants.proofs.Guards.{IsSited, kind_in}
-use Rattle.um_scheduler.proofs.ThreadStarts.{real-below}
 use Rattle.um_erasure.proofs.CleanSteps.{Calls, OwnRows}
 use Rattle.um_erasure.proofs.Reachable.{IsSound}
 

@@ -1,50 +1,12 @@
 -- The steps that are left of each thread's call are proper in every state that a run of a described image reaches: each step of the
 -- access-matrix machine keeps that.
-use Rattle.std.proofs.Common.{◌≡◌, ℕ, zero, suc, ◌+◌, Bool, true, false, List, [], ◌∷◌, length, map, Option, Some, None, refl, sym, ap, ◌∙◌, subst, arith}
-use Rattle.std.specs.Prelude.{◌==◌, if◌then◌else◌, nat_lt, slice_index_or, slice_set, take}
-use Rattle.std.proofs.lemmas.Bool.{true≢false}
-use Rattle.std.proofs.lemmas.List.{get_or-set_same}
-use Rattle.um_base.specs.declared.act.Answer.{Answer}
-use Rattle.um_base.specs.declared.act.Cause.TheVariants as Cause
-use Rattle.um_base.specs.declared.act.Event.{Event}
-use Rattle.um_base.specs.declared.act.Found.{Found}
-use Rattle.um_base.specs.declared.act.Leftover.{Leftover}
-use Rattle.um_base.specs.declared.act.SetSaid.{SetSaid}
-use Rattle.um_base.specs.declared.ask.Ask.{Ask}
-use Rattle.um_base.specs.declared.ask.Told.{Told}
-use Rattle.um_base.specs.declared.image.Image.{Image}
-use Rattle.um_base.specs.declared.instr.Instr.{Instr}
-use Rattle.um_base.specs.declared.limits.TheConstants.{PIECE, ROWS, THREADS}
-use Rattle.um_base.specs.declared.names.Access.TheVariants as Access
-use Rattle.um_base.specs.declared.names.Addr.{Addr}
-use Rattle.um_base.specs.declared.names.Errno.{Errno}
-use Rattle.um_base.specs.declared.names.Kind.{Kind}
-use Rattle.um_base.specs.declared.names.Policy.{Policy}
-use Rattle.um_base.specs.declared.names.Reply.{Reply}
-use Rattle.um_base.specs.declared.names.Want.{Want}
-use Rattle.um_base.specs.Lawful.{IsLawful, most_parts}
-use Rattle.um_base.specs.Places.{addr_of, own_row, row_at, setup_at}
-use Rattle.um_base.specs.Regions.{Partitions, stack_range}
-use Rattle.um_machine.specs.declared.contents.Contents.TheVariants as Contents
-use Rattle.um_machine.specs.declared.object.Status.TheVariants as Status
-use Rattle.um_machine.specs.declared.pending.Pending.{Pending}
-use Rattle.um_machine.specs.declared.pending.Refusal.{Refusal}
-use Rattle.um_machine.specs.declared.thread.Thread.{Thread}
-use Rattle.um_machine.specs.Domains.{added, domain_after, initialised, part_named, removed, reply_to}
-use Rattle.um_machine.specs.Memory.{allowed, bytes_at, le_bytes, le_value, string_bytes, string_read, with_bytes}
-use Rattle.um_machine.specs.Objects.{is_gone, verdict}
-use Rattle.um_machine.specs.Order.{Steps, answer_error, copy_fails, end_steps, fatal_steps, refuses, to_addr}
-use Rattle.um_machine.specs.Run.{Offers, Runs, begins, cleans_pair, exits, goes, recycles, skips_drops, skips_inherit}
-use Rattle.um_machine.specs.State.{State, instruction_at, is_living, no_rows, nobody, object_at, thread_at, vacant, with_object, with_pair, with_thread}
+use Rattle.um_erasure.proofs.Words.{◌≡◌, ℕ, ◌+◌, Bool, true, false, List, [], ◌∷◌, length, Option, Some, None, refl, sym, ap, ◌∙◌, subst, arith, ◌==◌, if◌then◌else◌, nat_lt, slice_index_or, slice_set, true≢false, get_or-set_same, Event, Image, Instr, ROWS, THREADS, Addr, Errno, Kind, Mode, Policy, Want, IsLawful, is_lawful_line, row_at, Pending, Refusal, Thread, Change, Next, changed, checked_way, gone, steps_by, told_way, verdict, Steps, end_steps, fatal_steps, steps_of, Offers, Runs, begins, cleans_pair, exits, goes, recycles, skips_drops, skips_inherit, State, instruction_at, is_living, no_rows, nobody, thread_at, with_thread, Ignores, all_other, each-after, next_of, HoldsOfWays, way-left, Call, at_set, call_is, core_of, IsKnown, below_rows, passed, row_is, IsSited}
 use Rattle.um_machine.specs.Table as T
-use Rattle.um_invariants.proofs.Cores.{Call, Core, at_set, call_is, call_of, core-dues, core-same, core-woken, core_of, map_at}
+use Rattle.um_invariants.proofs.Cores.{call_of}
 use Rattle.um_invariants.proofs.Facts.{none_checked}
 use Rattle.um_invariants.proofs.Reached.{image_move}
 use Rattle.um_invariants.proofs.RunMoves.{known_step, step_move}
-use Rattle.um_invariants.proofs.Turns.{IsKnown, below_rows, core-bytes, core-erased, core-moved, core-published, passed, row_is}
-use Rattle.um_invariants.proofs.Guards.{IsSited}
 use Rattle.um_erasure.proofs.CallSteps.{Bare, Proper, line-lawful, proper-steps}
-use Rattle.um_erasure.proofs.Failures.{HoldsOfFailures, copy-left, either-state, error-left, fails-left, refused-left}
 
 -- the steps of a thread that has ended
 abbrev pub Closing : Steps → Type 0
@@ -74,6 +36,101 @@ passed-held m known t a y e =
     let few = below_rows m.image y known.reached.sited (known.reached.sited.found a y e).0 in
     let wide : length (thread_at m t).checked ≡ ROWS = ap (λ (c : Call). length c.checked) (sym (call_is m t)) ∙ known.reached.wide t in
     get_or-set_same (thread_at m t).checked y true false (omega (arith, few, wide))
+
+-- What has to be known of a call that goes on so.
+
+module _ (image : Image) where
+  abbrev Going : Call → List Bool → Steps → Type 0
+  Going c checked steps = (c.living ≡ true) × Proper image checked steps
+
+  abbrev with_held : ℕ → Option Errno → List Bool → List Bool
+  with_held x None checked = slice_set checked x true
+  with_held x (Some e) checked = checked
+
+  abbrev IsLine : Option Instr → Type 0
+  IsLine None = Unit {0}
+  IsLine (Some instr) = (script : ℕ) × (is_lawful_line image script instr ≡ true)
+
+  abbrev Fits : Call → Steps → Next → Type 0
+  Fits c left (Next.on change way) = Going c c.checked left
+  Fits c left (Next.checks x v way) = Going c (with_held x v c.checked) (steps_by left way)
+  Fits c left (Next.answers to reply) = (c.living ≡ true) × (left ≡ [])
+  Fits c left (Next.owns keeps) = IsProper image (record c { pending = left })
+  Fits c left (Next.begins instr) = (c.living ≡ true) × Bare c.checked × IsLine instr
+  Fits c left (Next.resumes told) = Going c c.checked left
+  Fits c left (Next.creates who) = Going c c.checked left
+  Fits c left Next.starts = (c.living ≡ true) × ((held : List Bool) → Proper image held left)
+  Fits c left (Next.inherits who) = Going c c.checked (Pending.Inherit who ∷ left)
+  Fits c left (Next.drops from) = IsProper image (record c { pending = Pending.Drops from ∷ left })
+  Fits c left (Next.dooms from) = Bare c.checked
+  Fits c left (Next.enters script) = (c.living ≡ true) × Bare c.checked
+  Fits c left next = Unit {0}
+
+  ways : (held : List Bool) → HoldsOfWays (Proper image held)
+  ways held =
+      record {
+        copies = λ a left h. h;
+        waits = λ left h. h;
+        bears = λ a left h. h;
+        replies = λ reply. refl;
+        fails = λ reason cause. tt;
+        gives_back = λ size reason cause. tt;
+        clears = λ a reason cause. tt;
+      }
+
+  going : (c : Call) (checked : List Bool) (steps : Steps) → Going c checked steps → IsProper image (record c { checked = checked; pending = steps })
+  going c checked steps h = (h.1, λ dead. absurd (true≢false (sym h.0 ∙ dead)))
+
+  call-changed : (i : Image) (change : Change) (me : Thread) (steps : Steps) → call_of (T.at_steps i (changed change me) steps) ≡ record (call_of me) { pending = steps }
+  call-changed i Change.nothing me steps = refl
+  call-changed i change me steps = refl
+
+  refused-proper : (held : List Bool) (mode : Mode) (refusal : Refusal) (e : Errno) (left : Steps) → Proper image held (steps_by left (checked_way mode refusal (Some e)))
+  refused-proper held mode Refusal.Fails e left = tt
+  refused-proper held Mode.User Refusal.FailsUser e left = tt
+  refused-proper held Mode.Supervisor Refusal.FailsUser e left = refl
+  refused-proper held mode (Refusal.Answers reply) e left = refl
+
+  fatal-closes : (i : Image) (t : ℕ) (me : Thread) (reason : ℕ) (policy : Policy) → Proper image no_rows (fatal_steps i t me reason policy) × (Bare no_rows × Closing (fatal_steps i t me reason policy))
+  fatal-closes i t me reason Policy.Halt = (none-held, (none-held, tt))
+  fatal-closes i t me reason Policy.Abort = by (reason == 4)
+    where
+      by : (b : Bool) → Proper image no_rows (if b then Pending.Dooms 0 ∷ [] else end_steps i t me)
+          × (Bare no_rows × Closing (if b then Pending.Dooms 0 ∷ [] else end_steps i t me))
+      by true = (none-held, (none-held, tt))
+      by false = (none-held, (none-held, tt))
+
+  dooms-next : (held : List Bool) (b : Bool) (from : ℕ) → Bare held → Proper image held (if b then Pending.Dooms (from + 1) ∷ [] else []) × Closing (if b then Pending.Dooms (from + 1) ∷ [] else [])
+  dooms-next held true from none = (none, tt)
+  dooms-next held false from none = (none, tt)
+
+  gone-proper : IsSited image → (left : Steps) (u : State) (t : ℕ) (next : Next) (me : Thread) → u.image ≡ image → Fits (call_of me) left next → IsProper image (call_of me)
+      → IsProper image (call_of (gone left u t next me))
+  gone-proper sited left u t (Next.on change way) me same h was =
+      subst (IsProper image) (sym (call-changed u.image change me (steps_by left way))) (going (call_of me) me.checked (steps_by left way) (h.0, way-left (Proper image me.checked) (ways me.checked) left way h.1))
+  gone-proper sited left u t (Next.checks x None way) me same h was = going (call_of me) (slice_set me.checked x true) (steps_by left way) h
+  gone-proper sited left u t (Next.checks x (Some e) way) me same h was = going (call_of me) me.checked (steps_by left way) h
+  gone-proper sited left u t (Next.answers to reply) me same h was = going (call_of me) no_rows left (h.0, subst (Proper image no_rows) (sym h.1) none-held)
+  gone-proper sited left u t (Next.owns keeps) me same h was = (h.0, h.1)
+  gone-proper sited left u t (Next.begins None) me same h was = was
+  gone-proper sited left u t (Next.begins (Some instr)) me same h was =
+      going (call_of me) me.checked (steps_of u.image t me instr)
+      (h.0, subst (λ (i : Image). Proper image me.checked (steps_of i t me instr)) (sym same) (proper-steps image sited t me h.1 h.2.0 instr h.2.1))
+  gone-proper sited left u t (Next.resumes None) me same h was = was
+  gone-proper sited left u t (Next.resumes (Some told)) me same h was =
+      going (call_of me) me.checked (steps_by left (told_way told.reply)) (h.0, way-left (Proper image me.checked) (ways me.checked) left (told_way told.reply) h.1)
+  gone-proper sited left u t (Next.creates who) me same h was = going (call_of me) me.checked left h
+  gone-proper sited left u t Next.starts me same h was = going (call_of me) me.checked left (h.0, h.1 me.checked)
+  gone-proper sited left u t (Next.inherits who) me same h was = going (call_of me) me.checked (Pending.Inherit who ∷ left) h
+  gone-proper sited left u t (Next.drops from) me same h was = h
+  gone-proper sited left u t (Next.dooms from) me same h was = let next = dooms-next me.checked (nat_lt (from + 1) THREADS) from h in (next.0, λ dead. (h, next.1))
+  gone-proper sited left u t (Next.enters script) me same h was = going (call_of me) me.checked [] (h.0, h.1)
+  gone-proper sited left u t Next.exits me same h was = (none-held, λ dead. (none-held, tt))
+  gone-proper sited left u t (Next.fatal reason) me same h was = let closes = fatal-closes u.image t me reason u.image.policy in (closes.0, λ dead. closes.1)
+  gone-proper sited left u t Next.stays me same h was = was
+
+ignores : Ignores call_of all_other
+ignores = record { due = λ h me due. refl; told = λ h me told. refl; domain = λ h me domain. refl; doomed = λ h me. refl }
 
 module _ (m : State) (t x : ℕ) where
   abbrev me : Thread
@@ -110,282 +167,57 @@ module _ (m : State) (t x : ℕ) where
       by (cleans_pair started) = tt
       by (recycles started) = tt
 
-  module _ (all : AreProper m.image m) where
-    -- a state with the same calls
-    abbrev Alike : State → Type 0
-    Alike s = map call_of s.threads ≡ map call_of m.threads
+  module _ (all : AreProper m.image m) (known : IsKnown (core_of m)) (lawful : IsLawful m.image) where
+    -- a check
+    checks : (a : Addr) (kind : Option Kind) (want : Want) (refusal : Refusal) (rest : Steps) → is_living me.life ≡ true
+        → Proper m.image me.checked (Pending.Check a kind want refusal ∷ rest) → (v : Option Errno) → verdict m t a.0 kind want ≡ v
+        → Fits m.image (call_of me) rest (Next.checks (T.row_of m a) v (checked_way me.mode refusal v))
+    checks a kind want refusal rest lives h (Some e) said = (lives, refused-proper m.image me.checked me.mode refusal e rest)
+    checks a kind want refusal rest lives h None said =
+        let p = passed m t kind want (row_at m.image a.0) said in
+        let y = p.0 in (lives, subst (λ n. Proper m.image (slice_set me.checked n true) rest) (sym (row_is m a y p.1)) (h y p.1 (passed-held m known t a.0 y p.1)))
 
-    call-same : (s : State) → Alike s → (u : ℕ) → call_of (thread_at s u) ≡ call_of (thread_at m u)
-    call-same s e u = sym (map_at call_of s.threads u nobody) ∙ (ap (λ (calls : List Call). slice_index_or calls u (call_of nobody)) e ∙ map_at call_of m.threads u nobody)
+    line : (instr : Option Instr) → instruction_at m.image me.place ≡ instr → IsLine m.image instr
+    line None e = tt
+    line (Some instr) e = (me.place.script, line-lawful m.image lawful me.place instr e)
 
-    keeps : (s : State) → Alike s → AreProper m.image s
-    keeps s e u = subst (IsProper m.image) (sym (call-same s e u)) (all u)
+    abbrev alive : {A : Type 0} → (is_living me.life ≡ false → A × ⊥) → is_living me.life ≡ true
+    alive h = lives-on (is_living me.life) h
 
-    -- the thread is written
+    fits : (q : Pending) (rest : Steps) → Stands q rest → Fits m.image (call_of me) rest (next_of m t x q)
+    fits Pending.Begin rest h = (h.1, h.0, line (instruction_at m.image me.place) refl)
+    fits Pending.Exit rest h = tt
+    fits (Pending.Fatal reason cause) rest h = tt
+    fits (Pending.CleanPair who) rest h = tt
+    fits Pending.Recycle rest h = tt
+    fits (Pending.Check a kind want refusal) rest h = checks a kind want refusal rest (alive h.1) h.0 (verdict m t a.0 kind want) refl
+    fits (Pending.ClearInit a) rest h = h
+    fits (Pending.Drops from) rest h = h
+    fits (Pending.Dooms from) rest h = h.0
+    fits (Pending.Work a ask) rest h = (alive h.1, h.0.1)
+    fits (Pending.Grant who a) rest h = (alive h.1, h.0.1)
+    fits (Pending.Publish a) rest h = (alive h.1, h.0.1)
+    fits (Pending.SetInit a strict undo) rest h = (alive h.1, h.0.1)
+    fits (Pending.Named who) rest h = (alive h.1, h.0.1)
+    fits (Pending.DomInit d parts) rest h = (alive h.1, h.0.1)
+    fits (Pending.DomAdd d range attr) rest h = (alive h.1, h.0.1)
+    fits (Pending.DomRemove d range attr) rest h = (alive h.1, h.0.1)
+    fits (Pending.DomMove d who) rest h = (alive h.1, h.0.1)
+    fits q rest h = (alive h.1, h.0)
+
     set : (s : State) → AreProper m.image s → (v : ℕ) (th : Thread) → IsProper m.image (call_of th) → AreProper m.image (with_thread s v th)
     set s was v th new u = at_set (λ n (z : Thread). IsProper m.image (call_of z)) s.threads v u th nobody new (was u)
 
-    -- it goes on with steps that are proper, and lives
-    on : (s : State) → Alike s → (th : Thread) (rest : Steps) → th.checked ≡ me.checked → is_living th.life ≡ true → Proper m.image me.checked rest
-        → AreProper m.image (T.goes_on s t th rest)
-    on s e th rest checked lives h =
-        set s (keeps s e) t (T.at_steps s.image th rest)
-        (subst (λ (held : List Bool). Proper m.image held rest) (sym checked) h, λ dead. absurd (true≢false (sym lives ∙ dead)))
-
-    module _ (lives : is_living me.life ≡ true) where
-      here : (th : Thread) (rest : Steps) → th.checked ≡ me.checked → is_living th.life ≡ is_living me.life → Proper m.image me.checked rest
-          → AreProper m.image (T.goes_on m t th rest)
-      here th rest checked life h = on m refl th rest checked (life ∙ lives) h
-
-      -- it is the thread of a state with the same calls
-      there : (s : State) → Alike s → (rest : Steps) → Proper m.image me.checked rest → AreProper m.image (T.goes_on s t (thread_at s t) rest)
-      there s e rest h =
-          let call = call-same s e t in on s e (thread_at s t) rest (ap (λ (c : Call). c.checked) call) (ap (λ (c : Call). c.living) call ∙ lives) h
-
-      either : (b : Bool) (s1 s2 : State) → AreProper m.image s1 → AreProper m.image s2 → AreProper m.image (if b then s1 else s2)
-      either = either-state (AreProper m.image)
-
-      failures : HoldsOfFailures (Proper m.image me.checked)
-      failures = record { fatal = λ reason cause. tt; unbuffer = λ size reason cause. tt; answer = λ reply. refl }
-
-      fails : AreProper m.image (T.goes_on m t me (copy_fails me.mode))
-      fails = here me (copy_fails me.mode) refl refl (fails-left (Proper m.image me.checked) failures me.mode)
-
-      faults : AreProper m.image (T.goes_on m t me T.fault)
-      faults = here me T.fault refl refl tt
-
-      -- A check.
-
-      checks : IsKnown (core_of m) → (a : Addr) (kind : Option Kind) (want : Want) (refusal : Refusal) (rest : Steps)
-          → Proper m.image me.checked (Pending.Check a kind want refusal ∷ rest) → (v : Option Errno) → verdict m t a.0 kind want ≡ v
-          → AreProper m.image (T.goes_on m t (T.with_checked m a v me) (T.after_check me.mode rest refusal v))
-      checks known a kind want refusal rest h (Some e) said = here me (T.after_check me.mode rest refusal (Some e)) refl refl (refused-left (Proper m.image me.checked) failures me.mode rest refusal e)
-      checks known a kind want refusal rest h None said =
-          let p = passed m t kind want (row_at m.image a.0) said in
-          let y = p.0 in
-          let held = passed-held m known t a.0 y p.1 in
-          let steps : Proper m.image (slice_set me.checked (T.row_of m a) true) rest =
-          subst (λ n. Proper m.image (slice_set me.checked n true) rest) (sym (row_is m a y p.1)) (h y p.1 held) in
-          set m all t (T.at_steps m.image (T.with_checked m a None me) rest) (steps, λ dead. absurd (true≢false (sym lives ∙ dead)))
-
-      -- A call that goes on, answers or fails.
-
-      without-copy : (rest : Steps) → Proper m.image me.checked rest → Proper m.image me.checked (T.without_copy rest)
-      without-copy = copy-left (Proper m.image me.checked) (λ a rest h. h)
-
-      answers : (s : State) → Alike s → (ask : Ask) (taken : List ℕ) (rest : Steps) (answer : Answer) → Proper m.image me.checked rest
-          → AreProper m.image (T.after_answer s t (thread_at s t) ask taken rest answer)
-      answers s e ask taken rest answer h = by answer
-        where
-          call : call_of (thread_at s t) ≡ call_of me
-          call = call-same s e t
-
-          held : (thread_at s t).checked ≡ me.checked
-          held = ap (λ (c : Call). c.checked) call
-
-          life : is_living (thread_at s t).life ≡ true
-          life = ap (λ (c : Call). c.living) call ∙ lives
-
-          by : (answer : Answer) → AreProper m.image (T.after_answer s t (thread_at s t) ask taken rest answer)
-          by Answer.Wait = on s e (thread_at s t) (Pending.Resume ∷ rest) held life h
-          by (Answer.Now (Reply.Fail error)) =
-              on s e (record (thread_at s t) { reply = Reply.Fail error; buffer = taken }) (T.after_error (thread_at s t).mode ask error rest) held life
-              (error-left (Proper m.image me.checked) failures (thread_at s t).mode ask error rest (without-copy rest h))
-          by (Answer.Now reply) = on s e (record (thread_at s t) { reply = reply; buffer = taken }) rest held life h
-
-      resumed : (rest : Steps) (told : Option Told) → Proper m.image me.checked rest → AreProper m.image (T.resumed m t me rest told)
-      resumed rest None h = all
-      resumed rest (Some told) h = here (record me { told = None; reply = told.reply; buffer = told.taken }) _ refl refl (left told.reply)
-        where
-          left : (reply : Reply) → Proper m.image me.checked (elim reply as (λ _. Steps) [ Reply.Fail e ↦ T.without_copy rest | _ ↦ rest ])
-          left (Reply.Fail e) = without-copy rest h
-          left reply = h
-
-      texts : (a : Addr) (rest : Steps) (found : Found) → Proper m.image me.checked rest → AreProper m.image (T.after_string m t me a rest found)
-      texts a rest (Found.Length n) h = here (record me { buffer = string_bytes m a.0 n }) rest refl refl h
-      texts a rest Found.Unreadable h = here me (answer_error Errno.EFAULT) refl refl refl
-      texts a rest Found.TooLong h = here me (answer_error Errno.EINVAL) refl refl refl
-
-      marks : (a : Addr) (undo : Option Addr) (rest : Steps) (said : SetSaid) → Proper m.image me.checked rest → AreProper m.image (T.after_set m t me a undo rest said)
-      marks a undo rest SetSaid.Done h =
-          on (with_object m (T.row_of m a) (record (object_at m (T.row_of m a)) { init = true })) refl me rest refl lives h
-      marks a undo rest SetSaid.Gone h = here me rest refl refl h
-      marks a None rest (SetSaid.Fail e) h = here me (refuses me.mode (Cause.Refused e)) refl refl tt
-      marks a (Some b) rest (SetSaid.Fail e) h = here me (Pending.ClearInit b ∷ refuses me.mode (Cause.Refused e)) refl refl tt
-
-      reserves : (row : ℕ) (kind : Kind) (rest : Steps) → Proper m.image me.checked rest → AreProper m.image (T.after_reserve m t me row kind rest)
-      reserves zero kind rest h = here (record me { reply = Reply.Null }) rest refl refl h
-      reserves (suc n) kind rest h =
-          let a = to_addr (addr_of m.image (suc n)) in
-          let o = record vacant { kind = Some kind; status = Status.Reserved; cost = T.cost_of me.pool 64 } in
-          on (with_object (record m { pools = T.paid_from me.pool 64 m.pools }) (suc n) o) refl (record me { reply = Reply.At a }) (Pending.Born a ∷ rest) refl lives h
-
-      edited : (d : ℕ) (parts : Option Partitions) (reply : Reply) (rest : Steps) → Proper m.image me.checked rest → AreProper m.image (T.after_domain m t me d parts reply rest)
-      edited d parts reply rest h = on (record m { domains = slice_set m.domains d parts }) refl (record me { reply = reply }) rest refl lives h
-
-    -- Pairs.
-
-    paired-alike : (s : State) (who row : ℕ) (b : Bool) → Alike s → Alike (T.paired s who row b)
-    paired-alike s who row b e =
-        ap (λ (c : Core). c.calls) (core-dues (with_pair s who row b) row (slice_index_or (with_pair s who row b).pairs row [])) ∙ e
-
-    given-alike : (who row : ℕ) → Alike (T.after_given m who row)
-    given-alike who row = by (is_gone (object_at m row).status)
-      where
-        by : (b : Bool) → Alike (if b then m else T.paired m who row true)
-        by true = refl
-        by false = paired-alike m who row true refl
-
-    dropped-alike : (s : State) (who row : ℕ) → Alike s → Alike (T.after_drop s who row)
-    dropped-alike s who row e =
-        elim (T.dropped s who row) as (λ l. Alike (elim l as (λ _. State) [ Leftover.NoPair ↦ s | Leftover.Kept ↦ T.paired s who row false | Leftover.Gone ↦ with_object (T.paired s who row false) row (record (object_at s row) { status = Status.Gone }) ])) [
-          | Leftover.NoPair ↦ e
-          | Leftover.Kept ↦ paired-alike s who row false e
-          | Leftover.Gone ↦ paired-alike s who row false e
-        ]
-
-    -- A thread that ends.
-
-    fatal-closes : (reason : ℕ) (policy : Policy) → Proper m.image no_rows (fatal_steps m.image t me reason policy) × (Bare no_rows × Closing (fatal_steps m.image t me reason policy))
-    fatal-closes reason Policy.Halt = (none-held, (none-held, tt))
-    fatal-closes reason Policy.Abort = by (reason == 4)
-      where
-        by : (b : Bool) → Proper m.image no_rows (if b then Pending.Dooms 0 ∷ [] else end_steps m.image t me)
-            × (Bare no_rows × Closing (if b then Pending.Dooms 0 ∷ [] else end_steps m.image t me))
-        by true = (none-held, (none-held, tt))
-        by false = (none-held, (none-held, tt))
-
-    dooms-next : (b : Bool) (from : ℕ) → Bare me.checked → Proper m.image me.checked (if b then Pending.Dooms (from + 1) ∷ [] else []) × Closing (if b then Pending.Dooms (from + 1) ∷ [] else [])
-    dooms-next true from none = (none, tt)
-    dooms-next false from none = (none, tt)
-
-    begun : IsSited m.image → IsLawful m.image → Bare me.checked → is_living me.life ≡ true → (instr : Option Instr) → instruction_at m.image me.place ≡ instr
-        → AreProper m.image (T.after_begin m t me instr)
-    begun sited lawful none lives None e = all
-    begun sited lawful none lives (Some instr) e =
-        here lives (record me { registers = T.with_begin me.registers instr }) _ refl refl
-        (proper-steps m.image sited t me none me.place.script instr (line-lawful m.image lawful me.place instr e))
-
-    module _ (known : IsKnown (core_of m)) (lawful : IsLawful m.image) where
-      pub proper-after : (q : Pending) (rest : Steps) → Stands q rest → AreProper m.image (T.after m t x q rest)
-      proper-after Pending.Begin rest h = begun known.reached.sited lawful h.0 h.1 (instruction_at m.image me.place) refl
-      proper-after Pending.Exit rest h = set m all t _ (none-held, λ dead. (none-held, tt))
-      proper-after (Pending.Check a kind want refusal) rest h =
-          checks (lives-on (is_living me.life) h.1) known a kind want refusal rest h.0 (verdict m t a.0 kind want) refl
-      proper-after (Pending.Load to a n) rest h =
-          let lives = lives-on (is_living me.life) h.1 in
-          either lives (allowed m t Access.Read a.0 n) _ _
-          (here lives (record me { registers = slice_set me.registers to (le_value (bytes_at m a.0 n)) }) rest refl refl h.0) (faults lives)
-      proper-after (Pending.Store a n value) rest h =
-          let lives = lives-on (is_living me.life) h.1 in
-          either lives (allowed m t Access.Write a.0 n) _ _
-          (on (with_bytes m a.0 (le_bytes n value)) (ap (λ (c : Core). c.calls) (core-bytes m a.0 (le_bytes n value))) me rest refl lives h.0) (faults lives)
-      proper-after (Pending.Fetch a) rest h =
-          let lives = lives-on (is_living me.life) h.1 in either lives (allowed m t Access.Exec a.0 4) _ _ (here lives me rest refl refl h.0) (faults lives)
-      proper-after (Pending.Probe a amount) rest h =
-          let lives = lives-on (is_living me.life) h.1 in
-          either lives (allowed m t Access.Write a.0 (T.amount_of m amount)) _ _ (here lives me rest refl refl h.0) (fails lives)
-      proper-after (Pending.CopyIn a amount) rest h =
-          let lives = lives-on (is_living me.life) h.1 in
-          either lives (allowed m t Access.Read a.0 (T.amount_of m amount)) _ _
-          (here lives (record me { buffer = take PIECE (bytes_at m a.0 (T.amount_of m amount)) }) rest refl refl h.0) (fails lives)
-      proper-after (Pending.CopyOut a) rest h =
-          let lives = lives-on (is_living me.life) h.1 in
-          either lives (allowed m t Access.Write a.0 (length me.buffer)) _ _
-          (on (with_bytes m a.0 me.buffer) (ap (λ (c : Core). c.calls) (core-bytes m a.0 me.buffer)) me rest refl lives h.0) (fails lives)
-      proper-after (Pending.CopyStr a) rest h = texts (lives-on (is_living me.life) h.1) a rest (string_read m t a.0 32) h.0
-      proper-after (Pending.Erase stack) rest h =
-          let range = stack_range (setup_at m.image stack.0) in
-          on (T.erased m range) (ap (λ (c : Core). c.calls) (core-erased m range)) me rest refl (lives-on (is_living me.life) h.1) h.0
-      proper-after (Pending.Work a ask) rest h =
-          let w = T.work_of m t a ask in
-          let o = record (object_at m (T.row_of m a)) { contents = w.contents; waiters = w.waiters; buffer = T.buffer_cost ask w.answer (object_at m (T.row_of m a)).buffer } in
-          answers (lives-on (is_living me.life) h.1) (T.all_woken w.woken (with_object m (T.row_of m a) o))
-          (ap (λ (c : Core). c.calls) (core-woken w.woken (with_object m (T.row_of m a) o))) ask w.taken rest w.answer h.0.1
-      proper-after Pending.Resume rest h = resumed (lives-on (is_living me.life) h.1) rest me.told h.0
-      proper-after (Pending.Answer reply to) rest h =
-          set m all t _
-          (subst (λ (left : Steps). Proper m.image no_rows left) (sym h.0) none-held, λ dead. absurd (true≢false (sym (lives-on (is_living me.life) h.1) ∙ dead)))
-      proper-after (Pending.Grant who a) rest h = there (lives-on (is_living me.life) h.1) (T.after_given m who.0 (T.row_of m a)) (given-alike who.0 (T.row_of m a)) rest h.0.1
-      proper-after (Pending.Own who) rest h =
-          let s = T.after_given m who.0 (own_row m.image who.0) in
-          let e = given-alike who.0 (own_row m.image who.0) in
-          let call = call-same s e t in
-          on s e (record (thread_at s t) { child = Some who; due = slice_set (T.rows_to_pass s t who.0) (own_row m.image t) false }) rest (ap (λ (c : Call). c.checked) call)
-          (ap (λ (c : Call). c.living) call ∙ lives-on (is_living me.life) h.1) h.0
-      proper-after (Pending.Inherit who) rest h =
-          let s = T.paired m who.0 x true in
-          let e = paired-alike m who.0 x true refl in
-          let call = call-same s e t in
-          set s (keeps s e) t _ (
-            subst (λ (held : List Bool). Proper m.image held (Pending.Inherit who ∷ rest)) (sym (ap (λ (c : Call). c.checked) call)) h.0,
-            λ dead. absurd (true≢false (sym (ap (λ (c : Call). c.living) call ∙ lives-on (is_living me.life) h.1) ∙ dead)),
-          )
-      proper-after (Pending.DropPair who a) rest h =
-          there (lives-on (is_living me.life) h.1) (T.after_drop m who.0 (T.row_of m a)) (dropped-alike m who.0 (T.row_of m a) refl) rest h.0
-      proper-after (Pending.Publish a) rest h =
-          let y = T.row_of m a in
-          let b = is_gone (object_at m y).status in
-          on (if b then m else with_object m y (record (object_at m y) { public = true })) (ap (λ (c : Core). c.calls) (core-published m y b)) me rest refl (lives-on (is_living me.life) h.1) h.0.1
-      proper-after (Pending.SetInit a strict undo) rest h =
-          marks (lives-on (is_living me.life) h.1) a undo rest (T.set_said (object_at m (T.row_of m a)) strict) h.0.1
-      proper-after (Pending.ClearInit a) rest h = set (with_object m (T.row_of m a) (record (object_at m (T.row_of m a)) { init = false })) all t _ (h.0, h.1)
-      proper-after (Pending.Named who) rest h =
-          let y = own_row m.image who.0 in
-          on (with_object m y (record (object_at m y) { contents = Contents.Named me.buffer })) refl me rest refl (lives-on (is_living me.life) h.1) h.0.1
-      proper-after (Pending.Reserve kind) rest h = reserves (lives-on (is_living me.life) h.1) x kind rest h.0
-      proper-after (Pending.Born a) rest h =
-          let y = T.row_of m a in
-          let s = with_object m y (record (object_at m y) { status = Status.Live }) in
-          there (lives-on (is_living me.life) h.1) (T.paired s t y true) (paired-alike s t y true refl) rest h.0
-      proper-after (Pending.Buffer size) rest h =
-          let lives = lives-on (is_living me.life) h.1 in
-          either lives (T.pays m me.pool size) _ _ (on (record m { pools = T.paid_from me.pool size m.pools }) refl me rest refl lives h.0)
-          (here lives me (answer_error Errno.ENOMEM) refl refl refl)
-      proper-after (Pending.Unbuffer size) rest h = on (record m { pools = T.paid_back (T.cost_of me.pool size) m.pools }) refl me rest refl (lives-on (is_living me.life) h.1) h.0
-      proper-after (Pending.DomInit d parts) rest h =
-          let made = initialised m.image.mpu (most_parts m.image) (T.domain_at m d) (map (part_named m.image) parts) in edited (lives-on (is_living me.life) h.1) d (domain_after (T.domain_at m d) made) (reply_to made) rest h.0.1
-      proper-after (Pending.DomAdd d range attr) rest h =
-          let made = added m.image.mpu (most_parts m.image) (T.domain_at m d) (range, attr) in edited (lives-on (is_living me.life) h.1) d (domain_after (T.domain_at m d) made) (reply_to made) rest h.0.1
-      proper-after (Pending.DomRemove d range attr) rest h =
-          let made = removed (T.domain_at m d) range in edited (lives-on (is_living me.life) h.1) d (domain_after (T.domain_at m d) made) (reply_to made) rest h.0.1
-      proper-after (Pending.DomMove d who) rest h =
-          let reply = T.move_reply (T.domain_at m d) in
-          let s = T.moved m who.0 d reply in
-          let e : Alike s = ap (λ (c : Core). c.calls) (core-moved m who.0 d reply) in
-          let call = call-same s e t in
-          on s e (record (thread_at s t) { reply = reply }) rest (ap (λ (c : Call). c.checked) call) (ap (λ (c : Call). c.living) call ∙ lives-on (is_living me.life) h.1) h.0.1
-      proper-after (Pending.Start who script stack priority mode) rest h =
-          let child = T.newborn m me who.0 script (Pending.Start who script stack priority mode) in
-          let s = with_thread m who.0 child in
-          let lives : is_living (thread_at s t).life ≡ true = at_set (λ n (z : Thread). is_living z.life ≡ true) m.threads who.0 t child nobody refl (lives-on (is_living me.life) h.1) in
-          set s (set m all who.0 child (none-held, λ dead. absurd (true≢false dead))) t (T.at_steps s.image (record (thread_at s t) { child = None }) rest)
-          (h.0 (thread_at s t).checked, λ dead. absurd (true≢false (sym lives ∙ dead)))
-      proper-after (Pending.EnterUser script) rest h = set m all t _ (h.0, λ dead. absurd (true≢false (sym (lives-on (is_living me.life) h.1) ∙ dead)))
-      proper-after (Pending.Fatal reason cause) rest h =
-          let closes = fatal-closes reason m.image.policy in set m all t _ (closes.0, λ dead. closes.1)
-      proper-after (Pending.Drops from) rest h =
-          let s = T.after_drop m t x in
-          let e = dropped-alike m t x refl in
-          let call = call-same s e t in
-          set s (keeps s e) t _ (
-            subst (λ (held : List Bool). Proper m.image held rest) (sym (ap (λ (c : Call). c.checked) call)) h.0,
-            λ dead. let was = h.1 (sym (ap (λ (c : Call). c.living) call) ∙ dead) in (subst Bare (sym (ap (λ (c : Call). c.checked) call)) was.0, was.1),
-          )
-      proper-after (Pending.Dooms from) rest h =
-          let th = record (thread_at m from) { doomed = true } in
-          let s = with_thread m from th in
-          let e : Alike s = ap (λ (c : Core). c.calls) (core-same m from th refl) in
-          let call = call-same s e t in
-          let held : (thread_at s t).checked ≡ me.checked = ap (λ (c : Call). c.checked) call in
-          let next = dooms-next (nat_lt (from + 1) THREADS) from h.0 in
-          set s (keeps s e) t _ (
-            subst (λ (checked : List Bool). Proper m.image checked (T.next_doom from)) (sym held) next.0,
-            λ dead. (subst Bare (sym held) h.0, next.1),
-          )
-      proper-after (Pending.CleanPair who) rest h =
-          keeps (T.after_drop (T.cleaned_by m t (own_row m.image who.0)) who.0 x) (dropped-alike (T.cleaned_by m t (own_row m.image who.0)) who.0 x refl)
-      proper-after Pending.Recycle rest h = all
+    pub proper-after : (q : Pending) (rest : Steps) → Stands q rest → AreProper m.image (T.after m t x q rest)
+    proper-after (Pending.Start who script stack priority mode) rest h =
+        let child = T.newborn m me who.0 script (Pending.Start who script stack priority mode) in
+        let s = with_thread m who.0 child in
+        let lives : is_living (thread_at s t).life ≡ true = at_set (λ n (z : Thread). is_living z.life ≡ true) m.threads who.0 t child nobody refl (alive h.1) in
+        set s (set m all who.0 child (none-held, λ dead. absurd (true≢false dead))) t (T.at_steps s.image (record (thread_at s t) { child = None }) rest)
+        (h.0 (thread_at s t).checked, λ dead. absurd (true≢false (sym lives ∙ dead)))
+    proper-after q rest h =
+        each-after call_of (IsProper m.image) ignores m t x q rest (λ who script stack priority mode. (none-held, λ dead. absurd (true≢false dead))) all
+        (λ u th image same was. gone-proper m.image known.reached.sited rest u t (next_of m t x q) th image (subst (λ (c : Call). Fits m.image c rest (next_of m t x q)) (sym same) (fits q rest h)) was)
 
 -- Along a run.
 

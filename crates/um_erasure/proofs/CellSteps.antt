@@ -1,26 +1,8 @@
 -- What a step makes of the cell of an object: only a step that is made there changes it; and how many processors have still to clear it.
-use Rattle.std.proofs.Common.{◌≡◌, ℕ, zero, suc, ◌+◌, ◌<◌, ◌≤◌, Bool, true, false, cond, [], ◌∷◌, length, Option, Some, None, refl, sym, ap, ◌∙◌, subst, arith, eq-eqb}
-use Rattle.std.specs.Prelude.{◌==◌, ◌&&◌, not, if◌then◌else◌}
-use Rattle.std.proofs.lemmas.Bool.{eqb-false, eqb-true}
-use Rattle.um_base.specs.declared.image.Image.{Image}
-use Rattle.um_base.specs.declared.limits.TheConstants.{ROWS}
-use Rattle.um_base.specs.Places.{row_at}
-use Rattle.um_machine.specs.declared.pending.Pending.{Pending}
+use Rattle.um_erasure.proofs.Words.{◌≡◌, ℕ, zero, suc, ◌+◌, ◌<◌, ◌≤◌, Bool, true, false, cond, [], ◌∷◌, length, Option, Some, None, refl, sym, ap, ◌∙◌, subst, arith, eq-eqb, ◌==◌, ◌&&◌, not, if◌then◌else◌, eqb-false, eqb-true, Image, ROWS, row_at, Pending, State, object_at, FineAct, is_dying, begins_cleaning, check_site, says_idle, site_of_step, p_next, row_number, Todo, Todos, Processor, fails, SiteState, s_next, same_site, site_after, Exchange, FineStep, Site, AreBlocks, Fine, object, one_if, over_processors, row, total, counted, is_recycle, is_wipe, recyclers, wipers}
 use Rattle.um_machine.specs.Objects as Plain
-use Rattle.um_machine.specs.State.{State, object_at}
-use Rattle.um_words.specs.declared.fine.FineAct.{FineAct}
-use Rattle.um_words.specs.Rows.{is_dying}
-use Rattle.um_fine.specs.Asks.{begins_cleaning, check_site, says_idle, site_of_step}
-use Rattle.um_fine.specs.Follows.{p_next, row_number}
 use Rattle.um_fine.specs.Objects.{object_after}
-use Rattle.um_fine.specs.Places.{Todo, Todos}
-use Rattle.um_fine.specs.Processor.{Processor, fails}
-use Rattle.um_fine.specs.Sites.{SiteState, s_next, same_site, site_after}
-use Rattle.um_fine.specs.Steps.{Exchange, FineStep, Site}
-use Rattle.um_erasure.specs.Cleaning.{AreBlocks}
-use Rattle.um_erasure.specs.Fine.{Fine, object, object_state, one_if, over_processors, row, total}
-use Rattle.um_erasure.specs.Lists.{counted, is_recycle, is_wipe}
-use Rattle.um_erasure.specs.Objects.{recyclers, wipers}
+use Rattle.um_erasure.specs.Fine.{object_state}
 use Rattle.um_erasure.proofs.CleanersSteps.{gain}
 use Rattle.um_erasure.proofs.DomainFacts.{two-parts}
 use Rattle.um_erasure.proofs.Erased.{around}

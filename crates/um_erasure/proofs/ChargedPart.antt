@@ -1,40 +1,14 @@
 -- Cleanings stand on a list in order: the cell of one object at most was cleared that is still to be recycled, and the processor has with it
 -- what the buffer of that one cost, after every lawful step.
-use Rattle.std.proofs.Common.{◌≡◌, inl, inr, ℕ, zero, suc, ◌+◌, ◌<◌, ◌≤◌, Bool, true, false, cond, List, [], ◌∷◌, length, Some, refl, sym, ap, ◌∙◌, subst, arith, eq-eqb}
-use Rattle.std.specs.Prelude.{◌==◌, ◌&&◌, not, slice_index_or, slice_set}
-use Rattle.std.proofs.lemmas.Bool.{and_parts, eqb-false, eqb-true, false≢true}
-use Rattle.std.proofs.lemmas.List.{get_or-set_other}
-use Rattle.um_base.specs.declared.image.Image.{Image}
-use Rattle.um_base.specs.declared.limits.TheConstants.{ROWS}
-use Rattle.um_base.specs.Places.{own_row}
+use Rattle.um_erasure.proofs.Words.{◌≡◌, inl, inr, ℕ, zero, suc, ◌+◌, ◌<◌, ◌≤◌, Bool, true, false, cond, List, [], ◌∷◌, length, refl, sym, ap, ◌∙◌, subst, arith, eq-eqb, ◌==◌, ◌&&◌, not, slice_index_or, slice_set, and_parts, eqb-false, eqb-true, false≢true, get_or-set_other, Image, ROWS, own_row, Object, Status, Pending, Steps, to_thread, MayChoose, State, object_at, thread_at, vacant, FineAct, Unseen, is_dying, charge_in, begins_cleaning, says, Cell, goes_on_by, p_next, row_number, ObjectCell, Todo, Todos, Processor, SiteState, site_moves, Exchange, FineStep, Site, AreBlocks, Cleans, Fine, object, one_if, row, counted, has_steps, is_recycle, is_wipe, cell_of, recyclers, wipers}
 use Rattle.um_machine.specs.declared.contents.Contents.TheVariants as Contents
-use Rattle.um_machine.specs.declared.object.Object.{Object}
-use Rattle.um_machine.specs.declared.object.Status.{Status}
-use Rattle.um_machine.specs.declared.pending.Pending.{Pending}
 use Rattle.um_machine.specs.Objects as Plain
-use Rattle.um_machine.specs.Order.{Steps, to_thread}
-use Rattle.um_machine.specs.Run.{MayChoose}
-use Rattle.um_machine.specs.State.{State, object_at, thread_at, vacant}
 use Rattle.um_machine.specs.Table as T
-use Rattle.um_words.specs.declared.fine.FineAct.{FineAct}
-use Rattle.um_words.specs.declared.fine.Unseen.{Unseen}
-use Rattle.um_words.specs.Rows.{is_dying}
-use Rattle.um_fine.specs.Answers.{charge_in}
-use Rattle.um_fine.specs.Asks.{begins_cleaning, says}
-use Rattle.um_fine.specs.Cells.{Cell}
-use Rattle.um_fine.specs.Follows.{goes_on_by, p_next, row_number}
-use Rattle.um_fine.specs.Objects.{ObjectCell}
-use Rattle.um_fine.specs.Places.{Todo, Todos}
-use Rattle.um_fine.specs.Processor.{Processor}
-use Rattle.um_fine.specs.Sites.{SiteState, site_moves}
-use Rattle.um_fine.specs.Steps.{Exchange, FineStep, Site}
-use Rattle.um_erasure.specs.Cleaning.{AreBlocks, CleaningIs, Cleans}
-use Rattle.um_erasure.specs.Fine.{Fine, object, one_if, row}
-use Rattle.um_erasure.specs.Lists.{counted, has_steps, is_cleared, is_recycle, is_wipe}
-use Rattle.um_erasure.specs.Objects.{cell_of, recyclers, wipers}
+use Rattle.um_erasure.specs.Cleaning.{CleaningIs}
+use Rattle.um_erasure.specs.Lists.{is_cleared}
 use Rattle.um_erasure.proofs.CellSteps.{clears-few, takes-quiet, wipers-few, wipes-gain}
 use Rattle.um_erasure.proofs.CleanersSteps.{gain, no-gain, recycles-gain}
-use Rattle.um_erasure.proofs.ContentsKept.{beside-kept, cell-beside, drop-kept, work-objects}
+use Rattle.um_erasure.proofs.ContentsKept.{beside-kept, cell-beside, clean-kept, work-objects}
 use Rattle.um_erasure.proofs.DomainFacts.{two-parts}
 use Rattle.um_erasure.proofs.Erased.{around, later}
 use Rattle.um_erasure.proofs.FirstThreads.{one-most}
@@ -52,6 +26,8 @@ use Rattle.um_erasure.proofs.SchedulerSteps.{made-at, made-says}
 use Rattle.um_erasure.proofs.StepReads.{is-behind}
 use Rattle.um_erasure.proofs.WordsKept.{IsShown}
 use Rattle.um_erasure.proofs.WorkSteps.{object-sort}
+use Rattle.um_erasure.proofs.Writes.{reserved-objects}
+use Rattle.um_erasure.proofs.Sums.{one-true}
 
 -- an object whose cell was cleared is recycled once more than cells of it are cleared
 cleared-more : (image : Image) (x : ℕ) (todo : Todos) → AreBlocks image todo → is_cleared x todo ≡ true → counted (is_wipe x) todo < counted (is_recycle x) todo
@@ -69,10 +45,6 @@ cleared-more image x (Todo.recycle z ∷ todo) h c =
     let one = ap one_if c in
     omega (arith, few, recs, one)
 cleared-more image x (q ∷ todo) h c = absurd (false≢true c)
-
-one-cleared : (b : Bool) → 0 < one_if b → b ≡ true
-one-cleared true h = refl
-one-cleared false h = absurd (omega (arith, h))
 
 module _ (f : Fine) (m : State) (e : FineStep) (law : Lawful f m e) (x : ℕ) (few : x < ROWS) where
   open around f e use {processor as p, now}
@@ -204,7 +176,7 @@ module _ (f : Fine) (m : State) (e : FineStep) (law : Lawful f m e) (x : ℕ) (f
   gone-now : 0 < recyclers f x → Plain.is_gone (object_at m x).status ≡ true
   gone-now some =
       let c = (law.rel.rows x few).cleaners.cleaner in
-      (and_parts (Plain.is_gone (object_at m x).status) _ (one-cleared (Plain.is_gone (object_at m x).status && not (is_dying (row f x).stage)) (omega (arith, some, c)))).0
+      (and_parts (Plain.is_gone (object_at m x).status) _ (one-true (Plain.is_gone (object_at m x).status && not (is_dying (row f x).stage)) (omega (arith, some, c)))).0
 
   -- the cell that is cleared has the object's buffer
   whole-at : (todo : Todos) → p.todo ≡ Todo.wipe x ∷ todo → object f x ≡ cell_of (object_at m x)
@@ -317,7 +289,8 @@ module _ (f : Fine) (m : State) (e : FineStep) (law : Lawful f m e) (x : ℕ) (f
         by-choice : MayChoose m p.context.thread (suc n) (Pending.Reserve kind) → (object_at (T.after m p.context.thread (suc n) (Pending.Reserve kind) rest) x).buffer ≡ (object_at m x).buffer
         by-choice (inr none) = absurd (no-zero none.0)
         by-choice (inl pays) =
-            other (suc n) _
+            ap (λ (os : List Object). (slice_index_or os x vacant).buffer) (reserved-objects m p.context.thread n kind rest)
+            ∙ other (suc n) _
             (λ at.
             free-gone (object_at m x).status (ap (λ r. Plain.is_free (object_at m r).status) at ∙ (and_parts _ (Plain.is_free (object_at m (suc n)).status) pays.1).1) (gone-now some-one))
     by-event (Pending.Inherit who) rest todo n h shown is = absurd shown
@@ -331,11 +304,9 @@ module _ (f : Fine) (m : State) (e : FineStep) (law : Lawful f m e) (x : ℕ) (f
     buffer-stays _ (event q rest todo n h shown is) = by-event q rest todo n h shown is
     buffer-stays _ (resumes c told rest at moved said) = ap (λ (o : ObjectCell). o.buffer) (beside-kept cell_of cell-beside m x c.thread 0 Pending.Resume rest refl)
     buffer-stays _ (passes who y rest todo h said) = refl
-    buffer-stays _ (drops from y rest todo h said) = ap (λ (o : ObjectCell). o.buffer) (drop-kept cell_of cell-beside m x p.context.thread y)
+    buffer-stays _ (drops from y rest todo h said) = ap (λ (o : ObjectCell). o.buffer) (beside-kept cell_of cell-beside m x p.context.thread y (Pending.Drops from) rest refl)
     buffer-stays _ (cleans who y rest todo h said) =
-        let z = own_row m.image who in
-        let o = record (object_at m z) { cleaner = Some (to_thread p.context.thread) } in
-        ap (λ (o : ObjectCell). o.buffer) (drop-kept cell_of cell-beside (T.cleaned_by m p.context.thread z) x who y ∙ set-kept cell_of m.objects z x o refl)
+        ap (λ (o : ObjectCell). o.buffer) (clean-kept cell_of cell-beside (λ o by. refl) m x p.context.thread y (to_thread who) rest)
     buffer-stays _ (recycles y rest todo at few-y said chosen) = other y vacant apart
       where
         apart : x ≡ y → ⊥

@@ -1,21 +1,6 @@
 -- The steps that are left of a call name a new thread in order: the permission on its own object, what it inherits, and its start; and between
 -- them that thread is the child of the one that makes it.
-use Rattle.std.proofs.Common.{◌≡◌, ℕ, Bool, true, false, [], ◌∷◌, ◌++◌, Option, Some, None, refl}
-use Rattle.std.specs.Prelude.{ℤ, if◌then◌else◌}
-use Rattle.um_base.specs.declared.act.Cause.{Cause}
-use Rattle.um_base.specs.declared.ask.Ask.{Ask}
-use Rattle.um_base.specs.declared.image.Image.{Image}
-use Rattle.um_base.specs.declared.instr.Instr.{Instr}
-use Rattle.um_base.specs.declared.instr.Options.{Options}
-use Rattle.um_base.specs.declared.names.Errno.{Errno}
-use Rattle.um_base.specs.declared.names.Kind.{Kind}
-use Rattle.um_base.specs.declared.names.Mode.{Mode}
-use Rattle.um_base.specs.declared.names.Row.{Row}
-use Rattle.um_base.specs.declared.names.ThreadIx.{ThreadIx}
-use Rattle.um_machine.specs.declared.pending.Pending.{Pending}
-use Rattle.um_machine.specs.declared.thread.Thread.{Thread}
-use Rattle.um_machine.specs.Order.{Steps, answer_error, answer_zero, buffered, creates, steps_of, to_addr, work}
-use Rattle.um_erasure.proofs.Failures.{HoldsOfFailures, either-steps, privileged-left}
+use Rattle.um_erasure.proofs.Words.{◌≡◌, ℕ, Bool, true, false, [], ◌∷◌, ◌++◌, Option, Some, None, refl, ℤ, if◌then◌else◌, Cause, Ask, Image, Instr, Options, Errno, Kind, Mode, Row, ThreadIx, Pending, Thread, Steps, answer_error, answer_zero, buffered, creates, privileged, steps_of, to_addr, work}
 
 -- behind the permission on its own object a new thread inherits, or is started; and nowhere else
 abbrev pub InOrder : Steps → Type 0
@@ -41,14 +26,17 @@ goes-in-order child (Pending.Inherit w ∷ rest) e h = absurd h
 goes-in-order child (Pending.Start u script stack priority mode ∷ rest) e h = absurd h
 goes-in-order child (q ∷ rest) e h = (e, h)
 
-pub failures : HoldsOfFailures InOrder
-failures = record { fatal = λ reason cause. tt; unbuffer = λ size reason cause. tt; answer = λ reply. tt }
+order-privileged : (mode : Mode) (steps : Steps) → InOrder steps → InOrder (privileged mode steps)
+order-privileged Mode.User steps h = tt
+order-privileged Mode.Supervisor steps h = h
 
 order-init : (a : ℕ) (ask : Ask) (refused : Bool) → InOrder (if refused then answer_error Errno.EINVAL else work a ask ∷ Pending.SetInit (to_addr a) false None ∷ answer_zero)
-order-init a ask refused = either-steps InOrder refused _ _ tt tt
+order-init a ask true = tt
+order-init a ask false = tt
 
 order-buffered : (a : ℕ) (kind : Kind) (lawful : Bool) (size : ℕ) (ask : Ask) → InOrder (buffered a kind lawful size ask)
-order-buffered a kind lawful size ask = either-steps InOrder lawful _ _ tt tt
+order-buffered a kind true size ask = tt
+order-buffered a kind false size ask = tt
 
 order-inherit : (inherits : Bool) (who : ThreadIx) (script : ℕ) (stack : Row) (priority : ℤ) (mode : Mode) (rest : Steps) → InOrder rest
     → InOrder (Pending.Own who ∷ ((if inherits then Pending.Inherit who ∷ [] else []) ++ Pending.Start who script stack priority mode ∷ rest))
@@ -61,13 +49,13 @@ order-creates mode who stack a b script priority options None = order-inherit op
 
 module _ (image : Image) (t : ℕ) (me : Thread) where
   pub order-steps : (instr : Instr) → InOrder (steps_of image t me instr)
-  order-steps (Instr.DomainInit domain parts) = privileged-left InOrder failures me.mode _ tt
-  order-steps (Instr.DomainAdd domain part) = privileged-left InOrder failures me.mode _ tt
-  order-steps (Instr.DomainRemove domain part) = privileged-left InOrder failures me.mode _ tt
-  order-steps (Instr.DomainMove domain thread) = privileged-left InOrder failures me.mode _ tt
-  order-steps (Instr.UserMode script) = privileged-left InOrder failures me.mode _ tt
-  order-steps (Instr.AllGrant object) = privileged-left InOrder failures me.mode _ tt
-  order-steps (Instr.Revoke object thread) = privileged-left InOrder failures me.mode _ tt
+  order-steps (Instr.DomainInit domain parts) = order-privileged me.mode _ tt
+  order-steps (Instr.DomainAdd domain part) = order-privileged me.mode _ tt
+  order-steps (Instr.DomainRemove domain part) = order-privileged me.mode _ tt
+  order-steps (Instr.DomainMove domain thread) = order-privileged me.mode _ tt
+  order-steps (Instr.UserMode script) = order-privileged me.mode _ tt
+  order-steps (Instr.AllGrant object) = order-privileged me.mode _ tt
+  order-steps (Instr.Revoke object thread) = order-privileged me.mode _ tt
   order-steps (Instr.Create thread stack size script priority options) = order-creates me.mode _ _ _ _ _ _ options _
   order-steps (Instr.SemInit object count limit) = order-init _ _ _
   order-steps (Instr.MsgqInit object msg_size max_msgs) = order-buffered _ Kind.Msgq _ _ _

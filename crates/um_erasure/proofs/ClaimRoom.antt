@@ -1,25 +1,7 @@
 -- The word of a row counts few claims: those of the calls of at most eight processors, of parked threads, of one life, and of one that is about to
 -- begin; and the word of a domain counts a reader a processor at most.
-use Rattle.std.proofs.Common.{◌≡◌, ℕ, ◌<◌, ◌≤◌, Bool, true, false, [], ◌∷◌, length, Option, Some, None, refl, sym, ap, ◌∙◌, subst, arith, eq-eqb}
-use Rattle.std.specs.Prelude.{◌==◌, ◌&&◌, unwrap_or}
-use Rattle.std.proofs.lemmas.Bool.{and_parts, eqb-true, false≢true}
-use Rattle.um_base.specs.declared.image.Image.{Image}
-use Rattle.um_base.specs.declared.limits.TheConstants.{ROWS, THREADS}
-use Rattle.um_base.specs.declared.names.ThreadIx.{ThreadIx}
-use Rattle.um_base.specs.Places.{own_row, thread_of_row}
-use Rattle.um_machine.specs.declared.pending.Pending.{Pending}
-use Rattle.um_machine.specs.Order.{Steps}
-use Rattle.um_machine.specs.State.{State, thread_at}
-use Rattle.um_invariants.proofs.Claims.{claims}
-use Rattle.um_invariants.proofs.Cores.{Call, call_at, call_is, core_of}
-use Rattle.um_fine.specs.Context.{Context}
-use Rattle.um_fine.specs.Scheduler.{parked_at}
-use Rattle.um_erasure.specs.Claims.{call_claims, context_claims, creates}
-use Rattle.um_erasure.specs.Domains.{reads}
-use Rattle.um_erasure.specs.Fine.{Fine, domain, one_if, row, scheduler, total}
-use Rattle.um_erasure.specs.Lists.{runs}
-use Rattle.um_erasure.specs.Relation.{Rel}
-use Rattle.um_erasure.specs.Threads.{occurs}
+use Rattle.um_erasure.proofs.Words.{◌≡◌, ℕ, ◌<◌, ◌≤◌, Bool, true, false, [], ◌∷◌, length, Option, Some, None, refl, sym, ap, ◌∙◌, subst, arith, eq-eqb, ◌==◌, ◌&&◌, unwrap_or, and_parts, eqb-true, false≢true, Image, ROWS, THREADS, ThreadIx, own_row, thread_of_row, Pending, Steps, State, thread_at, claims, Call, call_at, call_is, core_of, Context, parked_at, call_claims, context_claims, reads, Fine, domain, one_if, row, scheduler, total, runs, Rel, occurs}
+use Rattle.um_erasure.specs.Claims.{creates}
 use Rattle.um_erasure.proofs.Bounds.{AreBounded}
 use Rattle.um_erasure.proofs.CallBounds.{bounded-few}
 use Rattle.um_erasure.proofs.ChildSteps.{Creates}

@@ -1,48 +1,9 @@
 -- The word of each row counts all claims of it, after every lawful step.
-use Rattle.std.proofs.Common.{◌≡◌, inr, ℕ, ◌+◌, ◌<◌, Bool, true, false, List, [], ◌∷◌, Option, Some, None, refl, sym, ap, ◌∙◌, subst, arith}
-use Rattle.std.specs.Prelude.{ℤ, ◌==◌, ◌&&◌, if◌then◌else◌, is_some, slice_index_or, unwrap_or}
-use Rattle.std.specs.List.{list_any}
-use Rattle.std.proofs.lemmas.Bool.{and_parts, eqb-true, false≢true, ltb-true, true≢false}
-use Rattle.um_base.specs.declared.act.Act.{Act}
-use Rattle.um_base.specs.declared.image.Image.{Image}
-use Rattle.um_base.specs.declared.limits.TheConstants.{ROWS}
-use Rattle.um_base.specs.declared.names.Addr.{Addr}
-use Rattle.um_base.specs.declared.names.Errno.{Errno}
-use Rattle.um_base.specs.declared.names.Kind.{Kind}
-use Rattle.um_base.specs.declared.names.Mode.{Mode}
-use Rattle.um_base.specs.declared.names.Row.{Row}
-use Rattle.um_base.specs.declared.names.ThreadIx.{ThreadIx}
-use Rattle.um_base.specs.declared.names.Want.{Want}
-use Rattle.um_base.specs.Lawful.{IsLawful}
-use Rattle.um_base.specs.Places.{own_row, row_at}
-use Rattle.um_machine.specs.declared.pending.Pending.{Pending}
-use Rattle.um_machine.specs.declared.pending.Refusal.{Refusal}
-use Rattle.um_machine.specs.declared.thread.Thread.{Thread}
+use Rattle.um_erasure.proofs.Words.{◌≡◌, inr, ℕ, ◌+◌, ◌<◌, Bool, true, false, List, [], ◌∷◌, Option, Some, None, refl, sym, ap, ◌∙◌, subst, arith, ℤ, ◌==◌, ◌&&◌, if◌then◌else◌, is_some, slice_index_or, unwrap_or, list_any, and_parts, eqb-true, false≢true, ltb-true, true≢false, Act, Image, ROWS, Addr, Errno, Kind, Mode, Row, ThreadIx, Want, IsLawful, own_row, row_at, Pending, Refusal, Thread, Steps, to_thread, Offers, goes, skips_drops, skips_inherit, State, thread_at, claims, Call, call_is, FineAct, Unseen, RowWord, after_verdict, dropped, has, is_cleaning, is_last, row_after, row_says, row_named, act_in, context_in, given_in, is_word_read, verdict_in, check_site, says_show, site_at, Todo, Todos, SiteState, same_site, site_answers, FineStep, Site, same-sound, call_claims, Fine, one_if, over_processors, row, scheduler, AreFramed, counted, has_steps, is_done, is_end_call, Fits, is_over, occurs}
 use Rattle.um_machine.specs.Objects as Plain
-use Rattle.um_machine.specs.Order.{Steps, to_thread}
-use Rattle.um_machine.specs.Run.{Offers, goes, skips_drops, skips_inherit}
-use Rattle.um_machine.specs.State.{State, thread_at}
 use Rattle.um_machine.specs.Table as T
-use Rattle.um_invariants.proofs.Claims.{claims}
-use Rattle.um_invariants.proofs.Cores.{Call, call_is}
-use Rattle.um_words.specs.declared.fine.FineAct.{FineAct}
-use Rattle.um_words.specs.declared.fine.Unseen.{Unseen}
-use Rattle.um_words.specs.declared.row_word.RowWord.{RowWord}
-use Rattle.um_words.specs.Rows.{after_verdict, dropped, has, is_cleaning, is_last, row_after, row_says}
-use Rattle.um_fine.specs.Addresses.{row_named}
-use Rattle.um_fine.specs.Answers.{act_in, context_in, given_in, is_word_read, verdict_in}
-use Rattle.um_fine.specs.Asks.{check_site, says_show, site_at}
-use Rattle.um_fine.specs.Places.{Todo, Todos}
-use Rattle.um_fine.specs.Sites.{SiteState, same_site, site_answers}
-use Rattle.um_fine.specs.Steps.{FineStep, Site}
-use Rattle.um_fine.proofs.Keys.{same-sound}
 use Rattle.um_erasure.specs.Claims as C
-use Rattle.um_erasure.specs.Claims.{ClaimsAre, call_claims}
-use Rattle.um_erasure.specs.Fine.{Fine, one_if, over_processors, row, scheduler}
-use Rattle.um_erasure.specs.Frames.{AreFramed}
-use Rattle.um_erasure.specs.Lists.{counted, has_steps, is_done, is_end_call}
-use Rattle.um_erasure.specs.Offers.{Fits, is_over}
-use Rattle.um_erasure.specs.Threads.{occurs}
+use Rattle.um_erasure.specs.Claims.{ClaimsAre}
 use Rattle.um_erasure.proofs.CallsKnown.{starts-below, starts-claims, starts-known}
 use Rattle.um_erasure.proofs.ChildrenKnown.{AllCreate, offered-stands}
 use Rattle.um_erasure.proofs.ChildSteps.{Creates}

@@ -1,40 +1,11 @@
 -- A processor that begins to clean an object has fewer to clean than there are dynamic rows: those that it has are others, each once, and dynamic.
-use Rattle.std.proofs.Common.{◌≡◌, ℕ, ◌+◌, ◌-◌, ◌<◌, ◌≤◌, Bool, true, false, [], ◌∷◌, Option, Some, None, refl, sym, ap, ◌∙◌, subst, arith}
-use Rattle.std.specs.Prelude.{◌==◌, ◌&&◌, if◌then◌else◌, nat_le, nat_lt, not, unwrap_or}
-use Rattle.std.specs.List.{list_all}
-use Rattle.std.proofs.lemmas.Bool.{and_parts, false≢true, leb-true, ltb-true, true≢false}
-use Rattle.um_base.specs.declared.act.Act.{Act}
-use Rattle.um_base.specs.declared.act.Leftover.{Leftover}
-use Rattle.um_base.specs.declared.limits.TheConstants.{ROWS, STATIC_ROWS}
-use Rattle.um_base.specs.declared.names.Addr.{Addr}
-use Rattle.um_base.specs.Places.{row_at}
-use Rattle.um_base.specs.declared.image.Image.{Image}
-use Rattle.um_machine.specs.declared.pending.Pending.{Pending}
-use Rattle.um_base.specs.declared.names.ThreadIx.{ThreadIx}
+use Rattle.um_erasure.proofs.Words.{◌≡◌, ℕ, ◌+◌, ◌-◌, ◌<◌, ◌≤◌, Bool, true, false, [], ◌∷◌, Option, Some, None, refl, sym, ap, ◌∙◌, subst, arith, ◌==◌, ◌&&◌, if◌then◌else◌, nat_le, nat_lt, not, unwrap_or, list_all, and_parts, false≢true, leb-true, ltb-true, true≢false, Act, Leftover, ROWS, STATIC_ROWS, Addr, row_at, Image, Pending, ThreadIx, to_thread, State, object_at, FineAct, More, Unseen, RowWord, Stage, has, is_cleaning, is_dying, is_free, is_last, is_live, left_of, row_after, row_says, row_takes, address_of, row_named, act_in, is_visit, is_word_read, leftover_in, row_in, begins_cleaning, by_me, more_of, says, says_idle, says_show, says_step, shows, site_at, Todo, Todos, cleanings, Processor, SiteMay, SiteState, site_after, site_answers, site_takes, word_of, Exchange, FineStep, Site, Fine, one_if, row, counted, is_recycle, names_row, is_reserved, recyclers, status_of, Rel, and-false}
 use Rattle.um_machine.specs.Objects as Plain
-use Rattle.um_machine.specs.Order.{to_thread}
-use Rattle.um_machine.specs.State.{State, object_at}
-use Rattle.um_words.specs.declared.fine.FineAct.{FineAct}
-use Rattle.um_words.specs.declared.fine.More.{More}
-use Rattle.um_words.specs.declared.fine.Unseen.{Unseen}
-use Rattle.um_words.specs.declared.row_word.RowWord.{RowWord}
-use Rattle.um_words.specs.declared.row_word.Stage.{Stage}
-use Rattle.um_words.specs.Rows.{call_ended, has, is_cleaning, is_dying, is_free, is_last, is_live, left_of, row_after, row_says, row_takes}
-use Rattle.um_fine.specs.Addresses.{address_of, row_named}
-use Rattle.um_fine.specs.Answers.{act_in, is_visit, is_word_read, left_in, row_in}
-use Rattle.um_fine.specs.Asks.{begins_cleaning, by_me, made_by, more_of, says, says_idle, says_show, says_step, shows, site_at}
-use Rattle.um_fine.specs.Places.{Todo, Todos, cleanings}
-use Rattle.um_fine.specs.Processor.{Processor}
-use Rattle.um_fine.specs.Sites.{SiteMay, SiteState, site_after, site_answers, site_takes, word_of}
-use Rattle.um_fine.specs.Steps.{Exchange, FineStep, Site}
-use Rattle.um_erasure.specs.Fine.{Fine, one_if, row}
-use Rattle.um_erasure.specs.Lists.{counted, is_recycle, names_row}
-use Rattle.um_erasure.specs.Objects.{is_reserved, recyclers, status_of}
-use Rattle.um_erasure.specs.Relation.{Rel}
+use Rattle.um_words.specs.Rows.{call_ended}
+use Rattle.um_fine.specs.Asks.{made_by}
 use Rattle.um_erasure.proofs.CleanersPart.{is_drop, no-left}
 use Rattle.um_erasure.proofs.CleaningFacts.{begins-stage}
 use Rattle.um_erasure.proofs.FirstThreads.{one-most}
-use Rattle.um_erasure.proofs.HeldPart.{and-false}
 use Rattle.um_erasure.proofs.MemorySteps.{part-total}
 use Rattle.um_erasure.proofs.ObjectsKept.{found-below, gone-dynamic}
 use Rattle.um_erasure.proofs.Reachable.{IsSound}
@@ -42,7 +13,7 @@ use Rattle.um_erasure.proofs.RowSteps.{row-stands, settled}
 use Rattle.um_erasure.proofs.Totals.{recycles-total, total-gap}
 
 -- an act that isn't the last drop begins no cleaning
-quiet-act : (e : FineStep) (act : Act) (more : More) (thread : ThreadIx) → left_in act ≡ Leftover.NoPair → begins_cleaning (record e { act = FineAct.Shown (record { thread = thread; act = act }) more }) ≡ false
+quiet-act : (e : FineStep) (act : Act) (more : More) (thread : ThreadIx) → leftover_in act ≡ Leftover.NoPair → begins_cleaning (record e { act = FineAct.Shown (record { thread = thread; act = act }) more }) ≡ false
 quiet-act e act more thread h = ap (λ l. elim l as (λ _. Bool) [ Leftover.Gone ↦ is_cleaning (row_in e.word).stage | _ ↦ false ]) h
 
 -- the last drop is of a live object, at a dynamic row
@@ -198,7 +169,7 @@ module _ (f : Fine) (m : State) (rel : Rel f m) (sound : IsSound m) where
               whole = is ∙ (λ i. FineAct.Shown (record { thread = event.thread; act = q i }) more)
 
               answer : FineAct → Leftover
-              answer (FineAct.Shown s m2) = left_in s.act
+              answer (FineAct.Shown s m2) = leftover_in s.act
               answer (FineAct.Unseen u) = Leftover.NoPair
 
               left-is : left_of (row f x) who.0 ≡ left

@@ -1,46 +1,18 @@
 -- A processor's cleaning of an object is that of the machine, where the relation holds: nobody claims the object, so nobody holds it.
-use Rattle.std.proofs.Common.{◌≡◌, ◌≢◌, ◌⊎◌, inl, inr, ℕ, zero, suc, ◌+◌, ◌<◌, ◌≤◌, Bool, true, false, List, [], ◌∷◌, ◌++◌, length, Option, Some, None, refl, sym, ap, ◌∙◌, subst, arith, eq-eqb}
-use Rattle.std.specs.Prelude.{◌==◌, ◌&&◌, ◌||◌, not, if◌then◌else◌, is_some, slice_index_or}
-use Rattle.std.specs.List.{list_all}
-use Rattle.std.proofs.lemmas.Bool.{and_from, and_parts, eqb-true, false≢true, not-true, not_from_false, true≢false}
-use Rattle.um_base.specs.declared.act.Act.{Act}
-use Rattle.um_base.specs.declared.image.Image.{Image}
-use Rattle.um_base.specs.declared.limits.TheConstants.{ROWS, THREADS}
-use Rattle.um_base.specs.declared.names.ThreadIx.{ThreadIx}
-use Rattle.um_base.specs.Places.{own_row, thread_of_row}
-use Rattle.um_machine.specs.declared.pending.Pending.{Pending}
-use Rattle.um_machine.specs.declared.thread.Life.{Life}
-use Rattle.um_machine.specs.declared.thread.Thread.{Thread}
+use Rattle.um_erasure.proofs.Words.{◌≡◌, ◌≢◌, ◌⊎◌, inl, inr, ℕ, zero, suc, ◌+◌, ◌<◌, ◌≤◌, Bool, true, false, List, [], ◌∷◌, ◌++◌, length, Option, Some, None, refl, sym, ap, ◌∙◌, subst, arith, eq-eqb, ◌==◌, ◌&&◌, ◌||◌, not, if◌then◌else◌, is_some, slice_index_or, list_all, and_from, and_parts, eqb-true, false≢true, not-true, not_from_false, true≢false, Act, Image, ROWS, THREADS, ThreadIx, own_row, thread_of_row, Pending, Life, Thread, to_thread, MayChoose, cleans_pair, recycles, State, nobody, object_at, pair_at, thread_at, Stage, has, is_dying, is_free, is_last, address_of, act_in, leftover_in, row_in, Context, parked_at, FineStep, Todo, Todos, emptying, CpuMay, by_me, fits, is_dropped, says, Fine, one_if, row, scheduler, Adds, adders, cleaned_pairs, counted, has_steps, is_recycle, of_thread, runs, runs_thread, call_claims, context_claims, AreBlocks, Cleans, is_over, is_reserved, status_of, IsOf, flags_of, occurs, places, runs_on, Rel}
 use Rattle.um_machine.specs.Objects as Plain
-use Rattle.um_machine.specs.Order.{to_thread}
-use Rattle.um_machine.specs.Run.{MayChoose, MayClean, NoPairsOf, cleans_pair, recycles}
-use Rattle.um_machine.specs.State.{State, nobody, object_at, pair_at, thread_at}
+use Rattle.um_machine.specs.Run.{MayClean, NoPairsOf}
 use Rattle.um_machine.specs.Table as T
-use Rattle.um_words.specs.declared.row_word.Stage.{Stage}
-use Rattle.um_words.specs.Rows.{has, is_dying, is_free, is_last}
-use Rattle.um_fine.specs.Addresses.{address_of}
-use Rattle.um_fine.specs.Answers.{act_in, left_in, row_in}
-use Rattle.um_fine.specs.Context.{Context}
-use Rattle.um_fine.specs.Scheduler.{parked_at}
-use Rattle.um_fine.specs.Steps.{FineStep}
-use Rattle.um_fine.specs.Places.{Todo, Todos, emptying}
-use Rattle.um_fine.specs.Asks.{CpuMay, by_me, fits, is_dropped, says}
-use Rattle.um_erasure.specs.Fine.{Fine, one_if, row, scheduler}
-use Rattle.um_erasure.specs.Lists.{Adds, adders, cleaned_pairs, counted, has_steps, is_recycle, of_thread, runs, runs_thread}
-use Rattle.um_erasure.specs.Claims.{call_claims, claims, context_claims}
-use Rattle.um_erasure.specs.Cleaning.{AreBlocks, Cleans}
-use Rattle.um_erasure.specs.Offers.{is_over}
-use Rattle.um_erasure.specs.Objects.{is_reserved, status_of}
-use Rattle.um_erasure.specs.Threads.{IsOf, flags_of, occurs, places, runs_on}
-use Rattle.um_erasure.specs.Relation.{Rel}
+use Rattle.um_erasure.specs.Claims.{claims}
 use Rattle.um_erasure.proofs.Erased.{Goes, GoesBy}
 use Rattle.um_erasure.proofs.DropSteps.{Held, dropped-has, left-here, left-there}
 use Rattle.um_erasure.proofs.FirstThreads.{one-most}
-use Rattle.um_erasure.proofs.HeldRows.{flagged-occurs, one-some, some-part}
+use Rattle.um_erasure.proofs.HeldRows.{flagged-occurs, some-part}
 use Rattle.um_erasure.proofs.MemorySteps.{part-total}
 use Rattle.um_erasure.proofs.ResumeSteps.{some-is}
 use Rattle.um_erasure.proofs.RowSteps.{settled}
 use Rattle.um_erasure.proofs.VisitSteps.{Visits, pair-is, visit-act, visit-part, visit-shows, visit-site}
+use Rattle.um_erasure.proofs.Sums.{one-none, one-true}
 
 -- What is known of the machine: it has no more threads and rows than the bounds say, and a thread that is in no call holds nothing by one.
 pub record Calls (m : State) : Type 0 where
@@ -79,10 +51,6 @@ none-holds image x i (th ∷ threads) h =
 
 neither : (a b : Bool) → a ≡ false → b ≡ false → (a || b) ≡ false
 neither a b p q = ap (λ z. z || b) p ∙ q
-
-not-one : (b : Bool) → one_if b ≡ 0 → b ≡ false
-not-one true h = absurd (omega (arith, h))
-not-one false h = refl
 
 module _ (f : Fine) (m : State) (rel : Rel f m) (calls : Calls m) where
   module _ (x : ℕ) (few : x < ROWS) (none : (row f x).claims ≡ 0) where
@@ -152,7 +120,7 @@ module _ (f : Fine) (m : State) (rel : Rel f m) (calls : Calls m) where
         let part = part-total (λ t. one_if ((thread_at m t).keeps_own && (own_row f.image t == x))) THREADS u l in
         let sum = no-claims in
         ap (λ (i : Image). (thread_at m u).keeps_own && (own_row i u == x)) rel.image
-        ∙ not-one ((thread_at m u).keeps_own && (own_row f.image u == x)) (omega (arith, part, sum))
+        ∙ one-none ((thread_at m u).keeps_own && (own_row f.image u == x)) (omega (arith, part, sum))
 
     -- an object without a claim is held by nobody
     pub unheld : Plain.is_held m x ≡ false
@@ -173,7 +141,7 @@ module _ (f : Fine) (m : State) (rel : Rel f m) (calls : Calls m) where
       recycled =
           let part = part-total (λ j. counted (is_recycle x) (f.processors j).todo) f.cpus k there in
           let one = (rel.rows x few).cleaners.cleaner in
-          one-some (Plain.is_gone (object_at m x).status && not (is_dying (row f x).stage)) (omega (arith, cleans, part, one))
+          one-true (Plain.is_gone (object_at m x).status && not (is_dying (row f x).stage)) (omega (arith, cleans, part, one))
 
       gone : Plain.is_gone (object_at m x).status ≡ true
       gone = (and_parts _ _ recycled).0
@@ -246,7 +214,7 @@ module _ {f : Fine} {m : State} {k : ℕ} {e : FineStep} {y who : ℕ} {todo : T
   pub clean-pair-step : Goes m e (T.after m (f.processors k).context.thread y (Pending.CleanPair (to_thread who)) (thread_at m (f.processors k).context.thread).pending)
   clean-pair-step =
       let t = (f.processors k).context.thread in
-      let act = Act.DropPair (to_thread who) (address_of f.image y) (left_in (act_in e.act)) in
+      let act = Act.DropPair (to_thread who) (address_of f.image y) (leftover_in (act_in e.act)) in
       let said = visit-shows h act (visit-act h) in
       let left = left-there h who (visit-site h) said in
       let there : has (row f y) who ≡ true = dropped-has (has (row f y) who) (is_last (row f y) who) (ap is_dropped left ∙ drop-found) in
@@ -263,9 +231,9 @@ module _ {f : Fine} {m : State} {k : ℕ} {e : FineStep} {y who : ℕ} {todo : T
         leaves = refl;
       })
     where
-      drop-found : is_dropped (left_in (act_in e.act)) ≡ true
+      drop-found : is_dropped (leftover_in (act_in e.act)) ≡ true
       drop-found =
-          sym (ap (λ b. if b then not (has (row_in e.word) who) else is_dropped (left_in (act_in e.act))) h.shown)
+          sym (ap (λ b. if b then not (has (row_in e.word) who) else is_dropped (leftover_in (act_in e.act))) h.shown)
           ∙ (and_parts _ _ (subst (λ (l : Todos). fits f.image (f.processors k) l e ≡ true) h.at h.may.fit)).0
 
 module _ (f : Fine) (m : State) (rel : Rel f m) (calls : Calls m) (own : OwnRows f.image) where

@@ -1,37 +1,15 @@
 -- The thread by which the machine has begun to clean an object is run by the processor that cleans it, after every lawful step; and the
 -- machine has begun to clean none that no processor cleans.
-use Rattle.std.proofs.Common.{◌≡◌, ◌⊎◌, inl, inr, ℕ, zero, suc, ◌+◌, ◌<◌, ◌≤◌, Bool, true, false, cond, List, [], ◌∷◌, Option, Some, None, refl, sym, ap, ◌∙◌, subst, arith, eq-eqb}
-use Rattle.std.specs.Prelude.{◌==◌, ◌&&◌, not, is_some, slice_index_or, slice_set, unwrap_or}
-use Rattle.std.proofs.lemmas.Bool.{eqb-false, eqb-true, false≢true}
-use Rattle.std.proofs.lemmas.List.{get_or-set_other, get_or-set_same}
-use Rattle.um_base.specs.declared.limits.TheConstants.{ROWS}
-use Rattle.um_base.specs.declared.names.ThreadIx.{ThreadIx}
-use Rattle.um_base.specs.Places.{own_row}
+use Rattle.um_erasure.proofs.Words.{◌≡◌, ◌⊎◌, inl, inr, ℕ, zero, suc, ◌+◌, ◌<◌, ◌≤◌, Bool, true, false, cond, List, [], ◌∷◌, Option, Some, None, refl, sym, ap, ◌∙◌, subst, arith, eq-eqb, ◌==◌, ◌&&◌, not, is_some, slice_index_or, slice_set, unwrap_or, eqb-false, eqb-true, false≢true, get_or-set_other, get_or-set_same, ROWS, ThreadIx, own_row, Object, Status, Pending, Steps, to_thread, State, object_at, thread_at, vacant, FineAct, Unseen, is_dying, p_next, Todo, Todos, Processor, FineStep, AreBlocks, Cleans, Fine, one_if, row, Behind, counted, is_recycle, recyclers}
 use Rattle.um_machine.specs.declared.contents.Contents.TheVariants as Contents
-use Rattle.um_machine.specs.declared.object.Object.{Object}
-use Rattle.um_machine.specs.declared.object.Status.{Status}
-use Rattle.um_machine.specs.declared.pending.Pending.{Pending}
 use Rattle.um_machine.specs.Objects as Plain
-use Rattle.um_machine.specs.Order.{Steps, to_thread}
-use Rattle.um_machine.specs.State.{State, object_at, thread_at, vacant}
 use Rattle.um_machine.specs.Table as T
-use Rattle.um_words.specs.declared.fine.FineAct.{FineAct}
-use Rattle.um_words.specs.declared.fine.Unseen.{Unseen}
-use Rattle.um_words.specs.Rows.{is_dying}
-use Rattle.um_fine.specs.Follows.{p_next}
-use Rattle.um_fine.specs.Places.{Todo, Todos}
-use Rattle.um_fine.specs.Processor.{Processor}
-use Rattle.um_fine.specs.Steps.{FineStep}
-use Rattle.um_erasure.specs.Cleaning.{AreBlocks, CleanerIs, Cleans}
-use Rattle.um_erasure.specs.Fine.{Fine, one_if, row}
-use Rattle.um_erasure.specs.Frames.{Behind}
-use Rattle.um_erasure.specs.Lists.{counted, is_recycle}
-use Rattle.um_erasure.specs.Objects.{recyclers}
+use Rattle.um_erasure.specs.Cleaning.{CleanerIs}
 use Rattle.um_erasure.proofs.CellSteps.{idle-count, takes-quiet}
 use Rattle.um_erasure.proofs.CleanersPart.{cleaners-part}
 use Rattle.um_erasure.proofs.CleanersSteps.{rec-sum}
 use Rattle.um_erasure.proofs.CleanSteps.{OwnRows}
-use Rattle.um_erasure.proofs.ContentsKept.{IsBeside, beside-kept, drop-kept, work-objects}
+use Rattle.um_erasure.proofs.ContentsKept.{IsBeside, beside-kept, drops-kept, work-objects}
 use Rattle.um_erasure.proofs.DomainFacts.{two-parts}
 use Rattle.um_erasure.proofs.Erased.{around, later}
 use Rattle.um_erasure.proofs.FirstThreads.{one-most}
@@ -45,6 +23,7 @@ use Rattle.um_erasure.proofs.SchedulerSteps.{made-says}
 use Rattle.um_erasure.proofs.StepReads.{is-behind}
 use Rattle.um_erasure.proofs.Sums.{over-changed}
 use Rattle.um_erasure.proofs.WordsKept.{IsShown}
+use Rattle.um_erasure.proofs.Writes.{with_dropped, with_cleaner, reserved-objects}
 
 abbrev cleaner_of : Object → Option ThreadIx
 cleaner_of o = o.cleaner
@@ -87,7 +66,8 @@ module _ (f : Fine) (m : State) (e : FineStep) (law : Lawful f m e) (x : ℕ) (f
       let y = own_row m.image who.0 in stays (set-kept cleaner_of m.objects y x (record (object_at m y) { contents = Contents.Named (thread_at m t).buffer }) refl)
   by-event (Pending.Reserve kind) rest t zero shown = stays refl
   by-event (Pending.Reserve kind) rest t (suc n) shown =
-      written (T.after m t (suc n) (Pending.Reserve kind) rest) (suc n) (record vacant { kind = Some kind; status = Status.Reserved; cost = T.cost_of (thread_at m t).pool 64 }) refl refl
+      written (T.after m t (suc n) (Pending.Reserve kind) rest) (suc n) (record vacant { kind = Some kind; status = Status.Reserved; cost = T.cost_of (thread_at m t).pool 64 }) refl
+      (ap (λ (os : List Object). slice_index_or os x vacant) (reserved-objects m t n kind rest))
   by-event (Pending.CleanPair who) rest t n shown = absurd shown
   by-event Pending.Recycle rest t n shown = absurd shown
   by-event q rest t n shown = stays (beside-kept cleaner_of cleaner-beside m x t n q rest refl)
@@ -97,7 +77,7 @@ module _ (f : Fine) (m : State) (e : FineStep) (law : Lawful f m e) (x : ℕ) (f
   cleaner-then _ (event q rest todo n h shown is) = by-event q rest p.context.thread n shown
   cleaner-then _ (resumes c told rest at moved said) = stays (beside-kept cleaner_of cleaner-beside m x c.thread 0 Pending.Resume rest refl)
   cleaner-then _ (passes who y rest todo h said) = stays refl
-  cleaner-then _ (drops from y rest todo h said) = stays (drop-kept cleaner_of cleaner-beside m x p.context.thread y)
+  cleaner-then _ (drops from y rest todo h said) = stays (beside-kept cleaner_of cleaner-beside m x p.context.thread y (Pending.Drops from) rest refl)
   cleaner-then _ (recycles y rest todo at l said chosen) = written (T.after m p.context.thread y Pending.Recycle rest) y vacant refl refl
   cleaner-then _ (cleans who y rest todo h said) = by (own_row m.image who == x) refl
     where
@@ -108,10 +88,10 @@ module _ (f : Fine) (m : State) (e : FineStep) (law : Lawful f m e) (x : ℕ) (f
       o = record (object_at m z) { cleaner = Some (to_thread p.context.thread) }
 
       s : State
-      s = T.cleaned_by m p.context.thread z
+      s = with_cleaner m p.context.thread z
 
-      dropped : (object_at (T.after_drop s who y) x).cleaner ≡ (object_at s x).cleaner
-      dropped = drop-kept cleaner_of cleaner-beside s x who y
+      dropped : (object_at (with_dropped s who y) x).cleaner ≡ (object_at s x).cleaner
+      dropped = drops-kept cleaner_of cleaner-beside s x who y (T.dropped s who y)
 
       by : (b : Bool) → (own_row m.image who == x) ≡ b → Cleaner (T.after m p.context.thread y (Pending.CleanPair (to_thread who)) rest)
       by false k = stays (dropped ∙ ap cleaner_of (get_or-set_other m.objects z x o vacant (λ same. eqb-false z x k (sym same))))

@@ -1,52 +1,14 @@
 -- An object that is gone and that nobody holds has exactly one processor that cleans it, after every lawful step.
-use Rattle.std.proofs.Common.{◌≡◌, inl, inr, ℕ, zero, suc, ◌+◌, ◌<◌, ◌≤◌, Bool, true, false, [], ◌∷◌, Option, Some, None, refl, sym, ap, ◌∙◌, subst, arith, eq-eqb}
-use Rattle.std.specs.Prelude.{◌==◌, ◌&&◌, not, is_some, if◌then◌else◌, length, nat_lt, slice_index_or, slice_set, unwrap_or}
-use Rattle.std.proofs.lemmas.Bool.{and_parts, eqb-false, eqb-true, false≢true, true≢false}
-use Rattle.std.proofs.lemmas.List.{get_or-set_other, get_or-set_same, length-set}
-use Rattle.um_base.specs.declared.act.Act.{Act}
-use Rattle.um_base.specs.declared.act.Leftover.{Leftover}
-use Rattle.um_base.specs.declared.image.Image.{Image}
-use Rattle.um_base.specs.declared.limits.TheConstants.{ROWS}
-use Rattle.um_base.specs.declared.names.Errno.{Errno}
-use Rattle.um_base.specs.declared.names.Kind.{Kind}
-use Rattle.um_base.specs.declared.names.Mode.{Mode}
-use Rattle.um_base.specs.declared.names.Want.{Want}
-use Rattle.um_base.specs.declared.names.Addr.{Addr}
-use Rattle.um_base.specs.declared.names.ThreadIx.{ThreadIx}
-use Rattle.um_base.specs.Places.{own_row, row_at}
-use Rattle.um_machine.specs.declared.object.Object.{Object}
-use Rattle.um_machine.specs.declared.object.Status.{Status}
-use Rattle.um_machine.specs.declared.pending.Pending.{Pending}
-use Rattle.um_machine.specs.declared.pending.Refusal.{Refusal}
+use Rattle.um_erasure.proofs.Words.{◌≡◌, inl, inr, ℕ, zero, suc, ◌+◌, ◌<◌, ◌≤◌, Bool, true, false, [], ◌∷◌, Option, Some, None, refl, sym, ap, ◌∙◌, subst, arith, eq-eqb, List, ◌==◌, ◌&&◌, not, is_some, if◌then◌else◌, nat_lt, slice_index_or, slice_set, unwrap_or, and_parts, eqb-false, eqb-true, false≢true, true≢false, get_or-set_other, get_or-set_same, length-set, Act, Leftover, Image, ROWS, Errno, Kind, Mode, Want, Addr, ThreadIx, own_row, row_at, Object, Status, Pending, Refusal, Steps, to_thread, MayChoose, is_user, State, object_at, vacant, FineAct, More, Unseen, RowWord, Stage, after_verdict, verdict_of, has, is_cleaning, is_dying, is_free, is_live, permitted, row_after_act, address_of, row_named, verdict_in, act_in, is_visit, leftover_in, row_in, begins_cleaning, by_me, says_idle, says_show, shows, site_at, Todo, Todos, Processor, same_site, Exchange, FineStep, Site, same-sound, AreBlocks, CleanersAre, Fine, one_if, row, counted, is_recycle, is_vacate, recyclers, vacaters, allows, says_step}
+use Rattle.std.specs.Prelude.{length}
 use Rattle.um_machine.specs.Objects as Plain
-use Rattle.um_machine.specs.Order.{Steps, to_thread}
-use Rattle.um_machine.specs.Run.{MayChoose}
-use Rattle.um_machine.specs.State.{is_user, State, object_at, vacant}
 use Rattle.um_machine.specs.Table as T
-use Rattle.um_words.specs.declared.fine.FineAct.{FineAct}
-use Rattle.um_words.specs.declared.fine.More.{More}
-use Rattle.um_words.specs.declared.fine.Unseen.{Unseen}
-use Rattle.um_words.specs.declared.row_word.RowWord.{RowWord}
-use Rattle.um_words.specs.declared.row_word.Stage.{Stage}
-use Rattle.um_words.specs.Rows.{after_verdict, verdict_of, has, is_cleaning, is_dying, is_free, is_live, permitted, row_after_act}
-use Rattle.um_fine.specs.Addresses.{address_of, row_named}
-use Rattle.um_fine.specs.Answers.{verdict_in, act_in, is_visit, left_in, row_in}
-use Rattle.um_fine.specs.Asks.{begins_cleaning, by_me, says_idle, says_show, shows, site_at}
-use Rattle.um_fine.specs.Places.{Todo, Todos}
-use Rattle.um_fine.specs.Processor.{Processor}
-use Rattle.um_fine.specs.Sites.{same_site}
-use Rattle.um_fine.specs.Steps.{Exchange, FineStep, Site}
-use Rattle.um_fine.proofs.Keys.{same-sound}
-use Rattle.um_erasure.specs.Cleaning.{AreBlocks, CleanersAre}
-use Rattle.um_erasure.specs.Fine.{Fine, one_if, row}
-use Rattle.um_erasure.specs.Lists.{counted, is_recycle, is_vacate}
-use Rattle.um_erasure.specs.Objects.{recyclers, vacaters}
 use Rattle.um_erasure.proofs.ListGrowth.{ReadsLast}
 use Rattle.um_erasure.proofs.Erased.{around}
 use Rattle.um_erasure.proofs.Leaves.{Lawful, Leaves}
 use Rattle.um_erasure.proofs.ListCounts.{cleans-none}
 use Rattle.um_erasure.proofs.SchedulerSteps.{made-at, made-says}
-use Rattle.um_erasure.proofs.DomainFacts.{two-parts}
+use Rattle.um_erasure.proofs.DomainFacts.{two-parts, is_unseen}
 use Rattle.um_erasure.proofs.FirstThreads.{one-most}
 use Rattle.um_erasure.proofs.HeldRows.{total-zero}
 use Rattle.um_erasure.proofs.MemorySteps.{part-total}
@@ -54,35 +16,28 @@ use Rattle.um_erasure.proofs.CleaningFacts.{drop-status, is_birth, takes_last}
 use Rattle.um_erasure.proofs.CleanersSteps.{beside, drop-case, elsewhere, end-call, idle, leaves-word, no-gain, rec-same, rec-sum, recycled, row-else, row-here, row-takes-it, vac-same, vacate-row}
 use Rattle.um_erasure.proofs.Leaves.{cleans, drops, event, nothing, passes, recycles, resumes}
 use Rattle.um_erasure.proofs.ObjectsKept.{NoStatuses, born-reserved, set-kept, status-kept}
-use Rattle.um_erasure.proofs.Offered.{IsStep, Shows, shown-offers, site-is}
+use Rattle.um_erasure.proofs.Offered.{IsStep, Shows, shown-offers, site-is, either-act}
 use Rattle.um_erasure.proofs.PairsKept.{row-untouched}
 use Rattle.um_erasure.proofs.RowClaims.{row-claims, won}
 use Rattle.um_erasure.proofs.RowSteps.{named-row, row-says}
 use Rattle.um_erasure.proofs.StepReads.{is-behind}
 use Rattle.um_erasure.proofs.VisitSteps.{visit-site}
 use Rattle.um_erasure.proofs.WordsKept.{IsShown}
-use Rattle.um_erasure.proofs.Writes.{Makes}
+use Rattle.um_erasure.proofs.Writes.{Makes, with_dropped, with_cleaner, reserved-objects}
 use Rattle.um_base.specs.declared.names.Access.TheVariants as Access
-use Rattle.um_fine.specs.Asks.{allows, fits_kind, says_step}
+use Rattle.um_fine.specs.Asks.{fits_kind}
 
 -- what an act answers of a drop, of a check, and of a birth
-abbrev is_unseen : FineAct → Bool
-is_unseen (FineAct.Unseen u) = true
-is_unseen act = false
-
-either-act : {A : Type 0} (g : Act → A) (a : A) (b : Bool) (one two : Act) → g one ≡ a → g two ≡ a → g (if b then one else two) ≡ a
-either-act g a true one two h k = h
-either-act g a false one two h k = k
 
 abbrev pub is_drop : Pending → Bool
 is_drop (Pending.DropPair who a) = true
 is_drop q = false
 
-pub no-left : (image : Image) (p : Processor) (q : Pending) (act : Act) → is_drop q ≡ false → left_in (says_step image p q act) ≡ Leftover.NoPair
+pub no-left : (image : Image) (p : Processor) (q : Pending) (act : Act) → is_drop q ≡ false → leftover_in (says_step image p q act) ≡ Leftover.NoPair
 no-left image p (Pending.DropPair who a) act h = absurd (true≢false h)
-no-left image p (Pending.Load to a n) act h = either-act left_in Leftover.NoPair (allows image p Access.Read a.0 n) _ _ refl refl
-no-left image p (Pending.Store a n value) act h = either-act left_in Leftover.NoPair (allows image p Access.Write a.0 n) _ _ refl refl
-no-left image p (Pending.Fetch a) act h = either-act left_in Leftover.NoPair (allows image p Access.Exec a.0 4) _ _ refl refl
+no-left image p (Pending.Load to a n) act h = either-act leftover_in Leftover.NoPair (allows image p Access.Read a.0 n) _ _ refl refl
+no-left image p (Pending.Store a n value) act h = either-act leftover_in Leftover.NoPair (allows image p Access.Write a.0 n) _ _ refl refl
+no-left image p (Pending.Fetch a) act h = either-act leftover_in Leftover.NoPair (allows image p Access.Exec a.0 4) _ _ refl refl
 no-left image p q act h = refl
 
 abbrev pub is_born_act : Act → Bool
@@ -222,10 +177,6 @@ module _ (f : Fine) (m : State) (e : FineStep) (law : Lawful f m e) (x : ℕ) (f
   given-same w who true = refl
   given-same w who false = refl
 
-  given-claims : (w : RowWord) (who : ℕ) (b : Bool) → (if b then permitted w who true else w).claims ≡ w.claims
-  given-claims w who true = refl
-  given-claims w who false = refl
-
   -- a check that is passed is of a live object
   check-claims : (a : Addr) (kind : Option Kind) (want : Want) (refusal : Refusal) (rest : Steps) (todo : Todos) (n : ℕ) → Shows f m e.cpu e (Pending.Check a kind want refusal) rest todo
       → IsStep f m e.cpu e n (Pending.Check a kind want refusal) → (row f x).stage ≡ Stage.Cleaning → (row later x).claims ≡ (row f x).claims
@@ -315,13 +266,13 @@ module _ (f : Fine) (m : State) (e : FineStep) (law : Lawful f m e) (x : ℕ) (f
       let z = T.row_of m a in
       let same = named-row f m law.rel a in
       let d = drop-status m who.0 z x in
-      drop-case f m e law x few (T.after m p.context.thread n (Pending.DropPair who a) rest) who a (left_in (act_in e.act)) (row_named f.image a) p.context.thread More.Nothing
+      drop-case f m e law x few (T.after m p.context.thread n (Pending.DropPair who a) rest) who a (leftover_in (act_in e.act)) (row_named f.image a) p.context.thread More.Nothing
       (Todo.show (Pending.DropPair who a) rest) todo h.at (last-shown (Pending.DropPair who a) rest todo h.at) refl refl (site-is h) is.said
       (λ ne. ap Plain.is_gone (d.1 (λ k. ne (k ∙ same))))
       (λ k quiet. ap Plain.is_gone (d.0 (ap (λ y. takes_last (T.dropped m who.0 y)) (same ∙ k) ∙ quiet)))
       (λ k loud.
       let at = same ∙ k in
-      ap (λ y. Plain.is_gone (object_at (T.after_drop m who.0 z) y).status) (sym at)
+      ap (λ y. Plain.is_gone (object_at (with_dropped m who.0 z) y).status) (sym at)
       ∙ ap Plain.is_gone (d.2 (in-objects (subst (λ y. y < ROWS) (sym at) few)) (ap (λ y. takes_last (T.dropped m who.0 y)) at ∙ loud)))
   by-event (Pending.Born a) rest todo n h shown is = born-case a rest todo n h is
   by-event (Pending.Check a kind want refusal) rest todo n h shown is =
@@ -334,7 +285,7 @@ module _ (f : Fine) (m : State) (e : FineStep) (law : Lawful f m e) (x : ℕ) (f
       leaves-stage (Pending.Grant who a) rest todo n h is refl refl refl (given-same (row f x) who.0 (is_live (row f x).stage)) (gone-same p.context.thread n (Pending.Grant who a) rest tt)
   by-event (Pending.Reserve kind) rest todo n h shown is =
       let q = Pending.Reserve kind in
-      leaves-stage q rest todo n h is refl refl refl (row-untouched f.image p (row f x) p.context.thread q (act_in e.act) shown (tt, tt)).stage (reserved-gone n is.chosen)
+      leaves-stage q rest todo n h is refl refl refl (row-untouched f.image p (row f x) p.context.thread q (act_in e.act) shown tt).stage (reserved-gone n is.chosen)
     where
       free-gone : (st : Status) → Plain.is_free st ≡ true → Plain.is_gone st ≡ false
       free-gone Status.Free k = refl
@@ -349,7 +300,8 @@ module _ (f : Fine) (m : State) (e : FineStep) (law : Lawful f m e) (x : ℕ) (f
       reserved-gone zero chosen = refl
       reserved-gone (suc n) (inr none) = absurd (no-zero none.0)
       reserved-gone (suc n) (inl pays) =
-          set-kept (λ (z : Object). Plain.is_gone z.status) m.objects (suc n) x _ (sym (free-gone (object_at m (suc n)).status (and_parts _ (Plain.is_free (object_at m (suc n)).status) pays.1).1))
+          ap (λ (os : List Object). Plain.is_gone (slice_index_or os x vacant).status) (reserved-objects m p.context.thread n kind rest)
+          ∙ set-kept (λ (z : Object). Plain.is_gone z.status) m.objects (suc n) x _ (sym (free-gone (object_at m (suc n)).status (and_parts _ (Plain.is_free (object_at m (suc n)).status) pays.1).1))
   by-event (Pending.Inherit who) rest todo n h shown is = absurd shown
   by-event (Pending.Drops from) rest todo n h shown is = absurd shown
   by-event (Pending.CleanPair who) rest todo n h shown is = absurd shown
@@ -417,22 +369,22 @@ module _ (f : Fine) (m : State) (e : FineStep) (law : Lawful f m e) (x : ℕ) (f
       (no-gain f m e law x few (ap (λ a. begins_cleaning (record e { act = a })) said)) word.0 (λ k none. word.1 ∙ none) refl
   cleaners-part _ (drops from y rest todo h said) =
       let d = drop-status m p.context.thread y x in
-      drop-case f m e law x few (T.after m p.context.thread y (Pending.Drops from) rest) (to_thread p.context.thread) (address_of f.image y) (left_in (act_in e.act)) y p.context.thread More.Nothing
+      drop-case f m e law x few (T.after m p.context.thread y (Pending.Drops from) rest) (to_thread p.context.thread) (address_of f.image y) (leftover_in (act_in e.act)) y p.context.thread More.Nothing
       (Todo.drop y) todo h.at tt refl refl (visit-site h) said
       (λ ne. ap Plain.is_gone (d.1 ne)) (λ k quiet. ap Plain.is_gone (d.0 (ap (λ z. takes_last (T.dropped m p.context.thread z)) k ∙ quiet)))
       (λ k loud.
-      ap (λ z. Plain.is_gone (object_at (T.after_drop m p.context.thread y) z).status) (sym k)
+      ap (λ z. Plain.is_gone (object_at (with_dropped m p.context.thread y) z).status) (sym k)
       ∙ ap Plain.is_gone (d.2 (in-objects h.few) (ap (λ z. takes_last (T.dropped m p.context.thread z)) k ∙ loud)))
   cleaners-part _ (cleans who y rest todo h said) =
       let z = own_row m.image who in
       let o = record (object_at m z) { cleaner = Some (to_thread p.context.thread) } in
-      let s = T.cleaned_by m p.context.thread z in
+      let s = with_cleaner m p.context.thread z in
       let first = set-kept (λ (w : Object). Plain.is_gone w.status) m.objects z x o refl in
       let d = drop-status s who y x in
-      drop-case f m e law x few (T.after m p.context.thread y (Pending.CleanPair (to_thread who)) rest) (to_thread who) (address_of f.image y) (left_in (act_in e.act)) y p.context.thread More.Nothing
+      drop-case f m e law x few (T.after m p.context.thread y (Pending.CleanPair (to_thread who)) rest) (to_thread who) (address_of f.image y) (leftover_in (act_in e.act)) y p.context.thread More.Nothing
       (Todo.clean_pair who y) todo h.at tt refl refl (visit-site h) said
       (λ ne. ap Plain.is_gone (d.1 ne) ∙ first) (λ k quiet. ap Plain.is_gone (d.0 (ap (λ i. takes_last (T.dropped m who i)) k ∙ quiet)) ∙ first)
       (λ k loud.
-      ap (λ i. Plain.is_gone (object_at (T.after_drop s who y) i).status) (sym k)
+      ap (λ i. Plain.is_gone (object_at (with_dropped s who y) i).status) (sym k)
       ∙ ap Plain.is_gone (d.2 (subst (λ i. y < i) (sym (length-set m.objects z o)) (in-objects h.few)) (ap (λ i. takes_last (T.dropped m who i)) k ∙ loud)))
   cleaners-part _ (recycles y rest todo at l said chosen) = recycle-case y rest todo at said

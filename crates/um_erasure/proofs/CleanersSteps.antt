@@ -1,35 +1,9 @@
 -- What a step makes of the cleaning of an object: it stays as it is, begins, or comes to its end; where a claim ends, a row is vacated, or a
 -- permission is dropped.
-use Rattle.std.proofs.Common.{◌≡◌, ℕ, ◌+◌, ◌<◌, ◌≤◌, Bool, true, false, cond, [], ◌∷◌, refl, sym, ap, ◌∙◌, subst, arith}
-use Rattle.std.specs.Prelude.{◌==◌, ◌&&◌, not, if◌then◌else◌, nat_lt}
-use Rattle.std.proofs.lemmas.Bool.{and_parts, eqb-false, eqb-true, false≢true, ltb-true}
-use Rattle.um_base.specs.declared.act.Act.{Act}
-use Rattle.um_base.specs.declared.act.Leftover.{Leftover}
-use Rattle.um_base.specs.declared.limits.TheConstants.{ROWS}
-use Rattle.um_base.specs.declared.names.Addr.{Addr}
-use Rattle.um_base.specs.declared.names.ThreadIx.{ThreadIx}
-use Rattle.um_machine.specs.declared.object.Status.{Status}
+use Rattle.um_erasure.proofs.Words.{◌≡◌, ℕ, ◌+◌, ◌<◌, ◌≤◌, Bool, true, false, cond, [], ◌∷◌, refl, sym, ap, ◌∙◌, subst, arith, ◌==◌, ◌&&◌, not, if◌then◌else◌, nat_lt, and_parts, eqb-false, eqb-true, false≢true, ltb-true, Act, Leftover, ROWS, Addr, ThreadIx, Status, to_thread, State, object_at, FineAct, More, Unseen, RowWord, Stage, dropped, gone_stage, has, is_cleaning, is_dying, is_free, is_last, is_live, left_of, permitted, row_after, row_takes, act_in, leftover_in, row_in, begins_cleaning, row_number, Todo, Todos, SiteState, s_next, same_site, site_after, site_answers, site_takes, word_of, FineStep, Site, same-sound, CleanersAre, Fine, one_if, over_processors, row, row_state, counted, is_recycle, is_vacate, is_reserved, recyclers, status_of, vacaters}
 use Rattle.um_machine.specs.Objects as Plain
-use Rattle.um_machine.specs.Order.{to_thread}
-use Rattle.um_machine.specs.State.{State, object_at}
 use Rattle.um_machine.specs.Table as T
-use Rattle.um_words.specs.declared.fine.FineAct.{FineAct}
-use Rattle.um_words.specs.declared.fine.More.{More}
-use Rattle.um_words.specs.declared.fine.Unseen.{Unseen}
-use Rattle.um_words.specs.declared.row_word.RowWord.{RowWord}
-use Rattle.um_words.specs.declared.row_word.Stage.{Stage}
-use Rattle.um_words.specs.Rows.{counted_row, dropped, gone_stage, has, is_cleaning, is_dying, is_free, is_last, is_live, left_of, permitted, row_after, row_takes}
-use Rattle.um_fine.specs.Answers.{act_in, left_in, row_in}
-use Rattle.um_fine.specs.Asks.{begins_cleaning}
-use Rattle.um_fine.specs.Follows.{row_number}
-use Rattle.um_fine.specs.Places.{Todo, Todos}
-use Rattle.um_fine.specs.Sites.{SiteState, s_next, same_site, site_after, site_answers, site_takes, word_of}
-use Rattle.um_fine.specs.Steps.{FineStep, Site}
-use Rattle.um_fine.proofs.Keys.{same-sound}
-use Rattle.um_erasure.specs.Cleaning.{CleanersAre}
-use Rattle.um_erasure.specs.Fine.{Fine, one_if, over_processors, row, row_state}
-use Rattle.um_erasure.specs.Lists.{counted, is_recycle, is_vacate}
-use Rattle.um_erasure.specs.Objects.{is_reserved, recyclers, status_of, vacaters}
+use Rattle.um_words.specs.Rows.{counted_row}
 use Rattle.um_erasure.proofs.ListGrowth.{ReadsLast}
 use Rattle.um_erasure.proofs.DomainReads.{eqb-swap}
 use Rattle.um_erasure.proofs.DropSteps.{left-here}
@@ -348,7 +322,7 @@ module _ (f : Fine) (m : State) (e : FineStep) (law : Lawful f m e) (x : ℕ) (f
 
           left-is : left_of (row f x) who.0 ≡ left
           left-is =
-              ap (λ a. left_in (act_in a))
+              ap (λ a. leftover_in (act_in a))
               (subst (λ (z : SiteState). site_answers f.image z e.moved (FineAct.Shown (record { thread = to_thread t; act = Act.DropPair who addr left }) more) ≡ FineAct.Shown (record { thread = to_thread t; act = Act.DropPair who addr left }) more) (row-stands f m law.rel x)
               (subst (λ (z : Site × FineAct). site_answers f.image (f.sites z.0) e.moved z.1 ≡ z.1) (λ j. (same-sound e.site (Site.row x) on j, said j)) (ap (λ (z : FineStep). z.act) law.taken.filled_in)))
 

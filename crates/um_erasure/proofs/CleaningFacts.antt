@@ -1,31 +1,15 @@
 -- Facts of steps that begin a cleaning, and of drops that take the last permission.
-use Rattle.std.proofs.Common.{◌≡◌, ℕ, ◌<◌, Bool, true, false, refl, ap}
-use Rattle.std.specs.Prelude.{◌&&◌, not, IsTrue, if◌then◌else◌, length}
-use Rattle.std.proofs.lemmas.Bool.{false≢true, true≢false}
-use Rattle.std.proofs.lemmas.List.{get_or-set_other, get_or-set_same}
-use Rattle.um_base.specs.declared.act.Leftover.{Leftover}
-use Rattle.um_base.specs.declared.image.Image.{Image}
-use Rattle.um_machine.specs.declared.object.Object.{Object}
-use Rattle.um_machine.specs.declared.object.Status.{Status}
-use Rattle.um_machine.specs.declared.pending.Pending.{Pending}
-use Rattle.um_machine.specs.State.{State, object_at, vacant, with_object}
+use Rattle.um_erasure.proofs.Words.{◌≡◌, ℕ, ◌<◌, Bool, true, false, refl, ap, ◌&&◌, not, IsTrue, if◌then◌else◌, false≢true, true≢false, get_or-set_other, get_or-set_same, Leftover, Image, Object, Status, Pending, State, object_at, vacant, FineAct, Unseen, Stage, is_cleaning, is_dying, is_free, leftover_in, row_in, begins_cleaning, row_number, SiteState, is_sort, site_after, word_of, Exchange, FineStep, Site}
+use Rattle.std.specs.Prelude.{length}
 use Rattle.um_machine.specs.Table as T
-use Rattle.um_words.specs.declared.fine.FineAct.{FineAct}
-use Rattle.um_words.specs.declared.fine.Unseen.{Unseen}
-use Rattle.um_words.specs.declared.row_word.Stage.{Stage}
-use Rattle.um_words.specs.Rows.{is_cleaning, is_dying, is_free}
-use Rattle.um_fine.specs.Answers.{left_in, row_in}
-use Rattle.um_fine.specs.Asks.{begins_cleaning}
-use Rattle.um_fine.specs.Follows.{row_number}
-use Rattle.um_fine.specs.Sites.{SiteState, is_sort, site_after, word_of}
-use Rattle.um_fine.specs.Steps.{Exchange, FineStep, Site}
+use Rattle.um_erasure.proofs.Writes.{with_dropped, with_left}
 
 -- A step that begins a cleaning is made at a row, and leaves it in cleaning.
 
 pub begins-stage : (e : FineStep) (act : FineAct) → begins_cleaning (record e { act = act }) ≡ true → is_cleaning (row_in e.word).stage ≡ true
 begins-stage e (FineAct.Unseen Unseen.EndCall) h = h
 begins-stage e (FineAct.Unseen u) h = absurd (false≢true h)
-begins-stage e (FineAct.Shown said more) h = by (left_in said.act) h
+begins-stage e (FineAct.Shown said more) h = by (leftover_in said.act) h
   where
     by : (l : Leftover) → (elim l as (λ _. Bool) [ Leftover.Gone ↦ is_cleaning (row_in e.word).stage | _ ↦ false ]) ≡ true → is_cleaning (row_in e.word).stage ≡ true
     by Leftover.Gone h = h
@@ -64,22 +48,33 @@ loud-left Leftover.Gone b h = refl
 loud-left Leftover.Kept b h = absurd (false≢true h)
 loud-left Leftover.NoPair b h = absurd (false≢true h)
 
--- what a drop leaves of the status of a row
-pub drop-status : (s : State) (who y x : ℕ) → (takes_last (T.dropped s who y) ≡ false → (object_at (T.after_drop s who y) x).status ≡ (object_at s x).status)
-    × ((x ≡ y → ⊥) → (object_at (T.after_drop s who y) x).status ≡ (object_at s x).status)
-    × (y < length s.objects → takes_last (T.dropped s who y) ≡ true → (object_at (T.after_drop s who y) y).status ≡ Status.Gone)
-drop-status s who y x = by (T.dropped s who y)
+-- a drop leaves all objects but the one whose last permission it takes, which is gone then
+pub drop-object : (s : State) (who y x : ℕ) → (takes_last (T.dropped s who y) ≡ false → object_at (with_dropped s who y) x ≡ object_at s x)
+    × ((x ≡ y → ⊥) → object_at (with_dropped s who y) x ≡ object_at s x)
+    × (y < length s.objects → takes_last (T.dropped s who y) ≡ true → object_at (with_dropped s who y) y ≡ record (object_at s y) { status = Status.Gone })
+drop-object s who y x = by (T.dropped s who y)
   where
     by : (l : Leftover) →
-        (takes_last l ≡ false → (object_at (elim l as (λ _. State) [ Leftover.NoPair ↦ s | Leftover.Kept ↦ T.paired s who y false | Leftover.Gone ↦ with_object (T.paired s who y false) y (record (object_at s y) { status = Status.Gone }) ]) x).status ≡ (object_at s x).status)
-        × ((x ≡ y → ⊥) → (object_at (elim l as (λ _. State) [ Leftover.NoPair ↦ s | Leftover.Kept ↦ T.paired s who y false | Leftover.Gone ↦ with_object (T.paired s who y false) y (record (object_at s y) { status = Status.Gone }) ]) x).status ≡ (object_at s x).status)
-        × (y < length s.objects → takes_last l ≡ true → (object_at (elim l as (λ _. State) [ Leftover.NoPair ↦ s | Leftover.Kept ↦ T.paired s who y false | Leftover.Gone ↦ with_object (T.paired s who y false) y (record (object_at s y) { status = Status.Gone }) ]) y).status ≡ Status.Gone)
+        (takes_last l ≡ false → object_at (with_left l s who y) x ≡ object_at s x)
+        × ((x ≡ y → ⊥) → object_at (with_left l s who y) x ≡ object_at s x)
+        × (y < length s.objects → takes_last l ≡ true → object_at (with_left l s who y) y ≡ record (object_at s y) { status = Status.Gone })
     by Leftover.NoPair = (λ h. refl, λ ne. refl, λ l h. absurd (false≢true h))
     by Leftover.Kept = (λ h. refl, λ ne. refl, λ l h. absurd (false≢true h))
     by Leftover.Gone = (
       λ h. absurd (true≢false h),
-      λ ne. ap (λ (o : Object). o.status) (get_or-set_other s.objects y x (record (object_at s y) { status = Status.Gone }) vacant ne),
-      λ l h. ap (λ (o : Object). o.status) (get_or-set_same s.objects y (record (object_at s y) { status = Status.Gone }) vacant l),
+      λ ne. get_or-set_other s.objects y x (record (object_at s y) { status = Status.Gone }) vacant ne,
+      λ l h. get_or-set_same s.objects y (record (object_at s y) { status = Status.Gone }) vacant l,
+    )
+
+-- what a drop leaves of the status of a row
+pub drop-status : (s : State) (who y x : ℕ) → (takes_last (T.dropped s who y) ≡ false → (object_at (with_dropped s who y) x).status ≡ (object_at s x).status)
+    × ((x ≡ y → ⊥) → (object_at (with_dropped s who y) x).status ≡ (object_at s x).status)
+    × (y < length s.objects → takes_last (T.dropped s who y) ≡ true → (object_at (with_dropped s who y) y).status ≡ Status.Gone)
+drop-status s who y x =
+    let d = drop-object s who y x in (
+      λ h. ap (λ (o : Object). o.status) (d.0 h),
+      λ ne. ap (λ (o : Object). o.status) (d.1 ne),
+      λ l h. ap (λ (o : Object). o.status) (d.2 l h),
     )
 
 -- a row whose last claim ends is free as before

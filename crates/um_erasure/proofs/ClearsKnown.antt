@@ -1,31 +1,9 @@
 -- A mark that is cleared next is of a row that isn't free: the call holds the object, as when it takes a creation back; it is the thread's own,
 -- which that one claims until then; or it is the stack, which is one of the image's objects.
-use Rattle.std.proofs.Common.{◌≡◌, ℕ, ◌<◌, Bool, true, false, [], ◌∷◌, length, Some, refl, sym, ap, ◌∙◌, subst, arith, eq-eqb}
-use Rattle.std.specs.Prelude.{◌==◌, ◌&&◌, slice_index_or, unwrap_or}
-use Rattle.std.proofs.lemmas.Bool.{true≢false}
-use Rattle.um_base.specs.declared.image.Image.{Image}
-use Rattle.um_base.specs.declared.limits.TheConstants.{ROWS, THREADS}
-use Rattle.um_base.specs.declared.names.Addr.{Addr}
-use Rattle.um_base.specs.Places.{own_row, row_at, thread_of_addr}
-use Rattle.um_machine.specs.declared.pending.Pending.{Pending}
-use Rattle.um_machine.specs.declared.thread.Thread.{Thread}
+use Rattle.um_erasure.proofs.Words.{◌≡◌, ℕ, ◌<◌, Bool, true, false, [], ◌∷◌, length, Some, refl, sym, ap, ◌∙◌, subst, arith, eq-eqb, ◌==◌, ◌&&◌, slice_index_or, unwrap_or, true≢false, Image, ROWS, THREADS, Addr, own_row, row_at, thread_of_addr, Pending, Thread, Steps, is_empty, State, thread_at, claims, Call, call_at, call_is, core_of, status_is, below_rows, is_free, row_named, Context, Todo, Todos, Fine, one_if, row, has_steps, Fits, IsOffered, Rel, IsOf}
 use Rattle.um_machine.specs.Objects as Plain
-use Rattle.um_machine.specs.Order.{Steps}
-use Rattle.um_machine.specs.Services.{is_empty}
-use Rattle.um_machine.specs.State.{State, thread_at}
-use Rattle.um_invariants.proofs.Claims.{IsClearing, Shaped, claims}
-use Rattle.um_invariants.proofs.Cores.{Call, call_at, call_is, core_of, status_is}
-use Rattle.um_invariants.proofs.Turns.{below_rows}
-use Rattle.um_words.specs.Rows.{is_free}
-use Rattle.um_fine.specs.Addresses.{row_named}
-use Rattle.um_fine.specs.Context.{Context}
-use Rattle.um_fine.specs.Places.{Todo, Todos}
-use Rattle.um_erasure.specs.Fine.{Fine, one_if, row}
-use Rattle.um_erasure.specs.Lists.{has_steps}
+use Rattle.um_invariants.proofs.Claims.{IsClearing, Shaped}
 use Rattle.um_erasure.specs.Offers as O
-use Rattle.um_erasure.specs.Offers.{Fits, IsOffered}
-use Rattle.um_erasure.specs.Relation.{Rel}
-use Rattle.um_erasure.specs.Threads.{IsOf}
 use Rattle.um_erasure.proofs.Bounds.{AreBounded}
 use Rattle.um_erasure.proofs.CallBounds.{Bounded, Clears}
 use Rattle.um_erasure.proofs.CallSteps.{Proper}

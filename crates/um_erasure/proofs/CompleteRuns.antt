@@ -1,20 +1,6 @@
 -- The events of a fine run of a described image by at most eight processors are a complete run of the access-matrix machine where no processor can
 -- make another step, though each site can still count one.
-use Rattle.std.proofs.Common.{◌≡◌, ◌⊎◌, inl, inr, ℕ, ◌<◌, List, [], ◌∷◌, length, map, refl, ap, ◌∙◌}
-use Rattle.um_base.specs.declared.image.Boot.{Boot}
-use Rattle.um_base.specs.declared.image.Image.{Image}
-use Rattle.um_machine.specs.Run.{IsComplete, Runs, opening}
-use Rattle.um_machine.specs.State.{State}
-use Rattle.um_invariants.proofs.Opening.{is_opening}
-use Rattle.um_invariants.proofs.SitedImages.{is_sited}
-use Rattle.um_invariants.specs.Described.{IsDescribed}
-use Rattle.um_fine.specs.Erasure.{shown}
-use Rattle.um_fine.specs.FineRun.{IsFineRun}
-use Rattle.um_fine.specs.Opening.{boot_index}
-use Rattle.um_fine.specs.Steps.{FineStep}
-use Rattle.um_erasure.specs.After.{left_by}
-use Rattle.um_erasure.specs.Room.{CanCount, CanRun, IsStuck}
-use Rattle.um_erasure.specs.Threads.{occurs}
+use Rattle.um_erasure.proofs.Words.{◌≡◌, ◌⊎◌, inl, inr, ℕ, ◌<◌, List, [], ◌∷◌, length, map, refl, ap, ◌∙◌, Boot, Image, IsComplete, Runs, opening, State, is_opening, is_sited, IsDescribed, shown, IsFineRun, boot_index, FineStep, left_by, CanCount, CanRun, IsStuck, occurs}
 use Rattle.um_erasure.proofs.BoundedRuns.{bounded-runs}
 use Rattle.um_erasure.proofs.ChildrenKnown.{children-known}
 use Rattle.um_erasure.proofs.ErasedRuns.{no-boots, no-steps, none-or-some}

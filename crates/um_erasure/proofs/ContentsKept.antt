@@ -1,53 +1,23 @@
 -- What a step of the access-matrix machine leaves of the contents of objects: all of them, but of the object of a call's work, of a thread
 -- object that gets a name, and of a row where an object is reserved or recycled; and which rows are free.
-use Rattle.std.proofs.Common.{◌≡◌, ℕ, Bool, true, false, List, [], ◌∷◌, Option, Some, refl, ap, ◌∙◌}
-use Rattle.std.specs.Prelude.{if◌then◌else◌, slice_set}
-use Rattle.std.proofs.lemmas.Bool.{true≢false}
-use Rattle.um_base.specs.declared.act.Leftover.{Leftover}
-use Rattle.um_base.specs.declared.act.SetSaid.{SetSaid}
-use Rattle.um_base.specs.declared.act.Answer.{Answer}
-use Rattle.um_base.specs.declared.ask.Ask.{Ask}
-use Rattle.um_base.specs.declared.ask.Told.{Told}
-use Rattle.um_base.specs.declared.names.Addr.{Addr}
-use Rattle.um_base.specs.declared.names.Reply.{Reply}
-use Rattle.um_base.specs.declared.names.ThreadIx.{ThreadIx}
-use Rattle.um_machine.specs.declared.object.Object.{Object}
-use Rattle.um_machine.specs.declared.object.Status.{Status}
-use Rattle.um_machine.specs.declared.pending.Pending.{Pending}
-use Rattle.um_machine.specs.Objects as Plain
-use Rattle.um_machine.specs.Order.{Steps}
-use Rattle.um_machine.specs.Services.{Acted}
-use Rattle.um_machine.specs.State.{State, object_at, thread_at, with_object, with_thread}
+use Rattle.um_erasure.proofs.Words.{◌≡◌, ℕ, Bool, true, false, Some, refl, ◌∙◌, slice_set, true≢false, Leftover, Ask, Addr, ThreadIx, Object, Status, Pending, Steps, Acted, State, object_at, with_object, cell_of, own_row, to_thread, false≢true, Edit, Effect, effect, wrote, bytes-leave, effects_of, next_of, woken-by}
 use Rattle.um_machine.specs.Table as T
-use Rattle.um_erasure.specs.Objects.{cell_of}
-use Rattle.um_erasure.proofs.ObjectsKept.{set-kept}
-use Rattle.um_erasure.proofs.Writes.{Keeping, Makes, Part, after-kept, births, bytes-kept, objects, statuses}
+use Rattle.um_machine.proofs.EffectLemmas.{shared-went}
+use Rattle.um_erasure.proofs.ObjectsKept.{object-reads, set-kept}
+use Rattle.um_erasure.proofs.Writes.{Makes, Part, after-kept, births, objects, reads-after, statuses, with_cleaner, with_left}
 
 -- all that a step may write but objects
-abbrev pub NoObjects : Part → Type 0
-NoObjects objects = ⊥
-NoObjects statuses = ⊥
-NoObjects births = ⊥
-NoObjects part = Unit {0}
+abbrev pub NoObjects : Part → Bool
+NoObjects objects = false
+NoObjects statuses = false
+NoObjects births = false
+NoObjects part = true
 
 module _ (m : State) (y : ℕ) where
-  object-keeping : Keeping NoObjects (λ s. object_at s y ≡ object_at m y)
-  object-keeping =
-      record {
-        own = λ s v th e k. k;
-        word = λ may s v th k. k;
-        object = λ may s x o e q k. absurd may;
-        status = λ may s x o e k. absurd may;
-        birth = λ may s x o k. absurd may;
-        pair = λ may s v x there k. k;
-        bytes = λ may s a bs k. bytes-kept (λ (z : State). object_at z y) (λ z bytes. refl) (λ z bytes. refl) s a bs ∙ k;
-        pool = λ may s left k. k;
-        parts = λ may s d ps k. k;
-      }
-
   -- a step that writes none of them leaves each object
   pub object-kept : (t x : ℕ) (q : Pending) (rest : Steps) → Makes NoObjects q → object_at (T.after m t x q rest) y ≡ object_at m y
-  object-kept t x q rest h = after-kept NoObjects (λ s. object_at s y ≡ object_at m y) object-keeping m t refl x q rest h
+  object-kept t x q rest h =
+      after-kept NoObjects (λ s. object_at s y ≡ object_at m y) (object-reads NoObjects (λ o. o) y _ (λ may. absurd may) (λ may. absurd may) (λ may. may)) m t refl x q rest h
 
 -- what status and marks leave of an object
 pub record IsBeside {A : Type 0} (g : Object → A) : Type 0 where
@@ -67,76 +37,56 @@ is_filling (Pending.CleanPair who) = true
 is_filling Pending.Recycle = true
 is_filling q = false
 
-module _ {A : Type 0} (g : Object → A) (beside : IsBeside g) (m : State) (y : ℕ) where
-  abbrev Same : State → Type 0
-  Same s = g (object_at s y) ≡ g (object_at m y)
+module _ {A : Type 0} (g : Object → A) (beside : IsBeside g) where
+  abbrev leaves : Effect → Bool
+  leaves (Effect.object x (Edit.inits init)) = true
+  leaves (Effect.object x Edit.opens) = true
+  leaves (Effect.object x (Edit.becomes status)) = true
+  leaves (Effect.object x edit) = false
+  leaves e = true
+
+  left-so : (y : ℕ) (a : A) (e : Effect) (s : State) → leaves e ≡ true → g (object_at s y) ≡ a → g (object_at (effect e s) y) ≡ a
+  left-so y a (Effect.wakes woken) s h k = woken-by (λ (z : State). g (object_at z y) ≡ a) (λ z u told k. k) woken s k
+  left-so y a (Effect.object x (Edit.inits init)) s h k = set-kept g s.objects x y _ (beside.init (object_at s x) init) ∙ k
+  left-so y a (Effect.object x Edit.opens) s h k = set-kept g s.objects x y _ (beside.public (object_at s x)) ∙ k
+  left-so y a (Effect.object x (Edit.becomes status)) s h k = set-kept g s.objects x y _ (beside.status (object_at s x) status) ∙ k
+  left-so y a (Effect.object x edit) s h k = absurd (false≢true h)
+  left-so y a (Effect.bytes b bs) s h k = bytes-leave (λ (z : State). g (object_at z y)) (λ z bytes. refl) (λ z bytes. refl) s b bs ∙ k
+  left-so y a e s h k = k
 
   -- a permission is dropped
-  pub drop-kept : (who x : ℕ) → Same (T.after_drop m who x)
-  drop-kept who x = by (T.dropped m who x)
-    where
-      by : (l : Leftover)
-          → Same (elim l as (λ _. State) [ Leftover.NoPair ↦ m | Leftover.Kept ↦ T.paired m who x false | Leftover.Gone ↦ with_object (T.paired m who x false) x (record (object_at m x) { status = Status.Gone }) ])
-      by Leftover.NoPair = refl
-      by Leftover.Kept = refl
-      by Leftover.Gone = set-kept g m.objects x y (record (object_at m x) { status = Status.Gone }) (beside.status (object_at m x) Status.Gone)
-
-  publish-kept : (t x : ℕ) (a : Addr) (rest : Steps) → Same (T.after m t x (Pending.Publish a) rest)
-  publish-kept t x a rest = by (Plain.is_gone (object_at m (T.row_of m a)).status)
-    where
-      by : (b : Bool) → Same (T.goes_on (if b then m else with_object m (T.row_of m a) (record (object_at m (T.row_of m a)) { public = true })) t (thread_at m t) rest)
-      by true = refl
-      by false = set-kept g m.objects (T.row_of m a) y (record (object_at m (T.row_of m a)) { public = true }) (beside.public (object_at m (T.row_of m a)))
-
-  mark-kept : (t x : ℕ) (a : Addr) (strict : Bool) (undo : Option Addr) (rest : Steps) → Same (T.after m t x (Pending.SetInit a strict undo) rest)
-  mark-kept t x a strict undo rest = by (T.set_said (object_at m (T.row_of m a)) strict)
-    where
-      by : (said : SetSaid) → Same (T.after_set m t (thread_at m t) a undo rest said)
-      by SetSaid.Done = set-kept g m.objects (T.row_of m a) y (record (object_at m (T.row_of m a)) { init = true }) (beside.init (object_at m (T.row_of m a)) true)
-      by SetSaid.Gone = refl
-      by (SetSaid.Fail e) = refl
+  pub drops-kept : (s : State) (y who x : ℕ) (l : Leftover) → g (object_at (with_left l s who x) y) ≡ g (object_at s y)
+  drops-kept s y who x Leftover.NoPair = refl
+  drops-kept s y who x Leftover.Kept = refl
+  drops-kept s y who x Leftover.Gone = set-kept g s.objects x y _ (beside.status (object_at s x) Status.Gone)
 
   -- a step leaves what status and marks leave, but where it writes more
-  pub beside-kept : (t x : ℕ) (q : Pending) (rest : Steps) → is_filling q ≡ false → Same (T.after m t x q rest)
-  beside-kept t x (Pending.DropPair who a) rest h = drop-kept who.0 (T.row_of m a)
-  beside-kept t x (Pending.Drops from) rest h = drop-kept t x
-  beside-kept t x (Pending.Publish a) rest h = publish-kept t x a rest
-  beside-kept t x (Pending.SetInit a strict undo) rest h = mark-kept t x a strict undo rest
-  beside-kept t x (Pending.ClearInit a) rest h =
-      set-kept g m.objects (T.row_of m a) y (record (object_at m (T.row_of m a)) { init = false }) (beside.init (object_at m (T.row_of m a)) false)
-  beside-kept t x (Pending.Born a) rest h =
-      set-kept g m.objects (T.row_of m a) y (record (object_at m (T.row_of m a)) { status = Status.Live }) (beside.status (object_at m (T.row_of m a)) Status.Live)
-  beside-kept t x (Pending.Work a ask) rest h = absurd (true≢false h)
-  beside-kept t x (Pending.Named who) rest h = absurd (true≢false h)
-  beside-kept t x (Pending.Reserve kind) rest h = absurd (true≢false h)
-  beside-kept t x (Pending.CleanPair who) rest h = absurd (true≢false h)
-  beside-kept t x Pending.Recycle rest h = absurd (true≢false h)
-  beside-kept t x q rest h = ap g (object-kept m y t x q rest tt)
+  pub beside-kept : (m : State) (y t x : ℕ) (q : Pending) (rest : Steps) → is_filling q ≡ false → g (object_at (T.after m t x q rest) y) ≡ g (object_at m y)
+  beside-kept m y t x (Pending.Work a ask) rest h = absurd (true≢false h)
+  beside-kept m y t x (Pending.Named who) rest h = absurd (true≢false h)
+  beside-kept m y t x (Pending.Reserve kind) rest h = absurd (true≢false h)
+  beside-kept m y t x (Pending.CleanPair who) rest h = absurd (true≢false h)
+  beside-kept m y t x Pending.Recycle rest h = absurd (true≢false h)
+  beside-kept m y t x q rest h = reads-after (λ (s : State). g (object_at s y)) leaves (left-so y) (λ s threads. refl) m t x q rest refl
+
+  -- and so does the cleaning of an object, where it leaves who cleans
+  pub clean-kept : ((o : Object) (by : ThreadIx) → g (record o { cleaner = Some by }) ≡ g o) → (m : State) (y t x : ℕ) (who : ThreadIx) (rest : Steps)
+      → g (object_at (T.after m t x (Pending.CleanPair who) rest) y) ≡ g (object_at m y)
+  clean-kept cleaner m y t x who rest =
+      let z = own_row m.image who.0 in
+      drops-kept (with_cleaner m t z) y who.0 x (T.dropped m who.0 x) ∙ set-kept g m.objects z y _ (cleaner (object_at m z) (to_thread t))
 
 -- Work.
-
-woken-objects : (ws : List (ThreadIx × Told)) (s : State) → (T.all_woken ws s).objects ≡ s.objects
-woken-objects [] s = refl
-woken-objects (w ∷ ws) s = woken-objects ws (with_thread s w.0.0 (record (thread_at s w.0.0) { told = Some w.1 }))
 
 pub work-objects : (m : State) (t x : ℕ) (a : Addr) (ask : Ask) (rest : Steps) → let w = T.work_of m t a ask in let o = object_at m (T.row_of m a) in
     (T.after m t x (Pending.Work a ask) rest).objects
     ≡ slice_set m.objects (T.row_of m a) (record o { contents = w.contents; waiters = w.waiters; buffer = T.buffer_cost ask w.answer o.buffer })
-work-objects m t x a ask rest = by w.answer ∙ woken-objects w.woken s
+work-objects m t x a ask rest =
+    shared-went (λ (s : State). s.objects) (λ s threads. refl) rest (wrote (effects_of m t x (Pending.Work a ask)) m) t (next_of m t x (Pending.Work a ask))
+    ∙ woken-by (λ (s : State). s.objects ≡ slice_set m.objects (T.row_of m a) (written (object_at m (T.row_of m a)))) (λ s u told k. k) w.woken (with_object m (T.row_of m a) (written (object_at m (T.row_of m a)))) refl
   where
     w : Acted
     w = T.work_of m t a ask
 
-    s : State
-    s = with_object m (T.row_of m a) (record (object_at m (T.row_of m a)) { contents = w.contents; waiters = w.waiters; buffer = T.buffer_cost ask w.answer (object_at m (T.row_of m a)).buffer })
-
-    s3 : State
-    s3 = T.all_woken w.woken s
-
-    by : (answer : Answer) → (T.after_answer s3 t (thread_at s3 t) ask w.taken rest answer).objects ≡ s3.objects
-    by Answer.Wait = refl
-    by (Answer.Now Reply.Void) = refl
-    by (Answer.Now (Reply.Num n)) = refl
-    by (Answer.Now (Reply.At b)) = refl
-    by (Answer.Now Reply.Null) = refl
-    by (Answer.Now (Reply.Fail e)) = refl
+    written : Object → Object
+    written o = record o { contents = w.contents; waiters = w.waiters; buffer = T.buffer_cost ask w.answer o.buffer }

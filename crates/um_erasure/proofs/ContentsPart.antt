@@ -1,44 +1,14 @@
 -- The cell of each object keeps its contents, and is empty where it was cleared or no object stands, after every lawful step.
-use Rattle.std.proofs.Common.{◌≡◌, inl, inr, ℕ, zero, suc, ◌+◌, ◌<◌, Bool, true, false, List, [], ◌∷◌, length, Option, Some, refl, sym, ap, ◌∙◌, subst, arith}
-use Rattle.std.specs.Prelude.{◌==◌, ◌&&◌, not, slice_index_or, slice_set, unwrap_or}
-use Rattle.std.proofs.lemmas.Bool.{and_parts, eqb-false, eqb-true, false≢true, true≢false}
-use Rattle.std.proofs.lemmas.List.{get_or-set_other, get_or-set_same}
-use Rattle.um_base.specs.declared.ask.Ask.{Ask}
-use Rattle.um_base.specs.declared.limits.TheConstants.{ROWS}
-use Rattle.um_base.specs.declared.names.Addr.{Addr}
-use Rattle.um_base.specs.declared.names.Kind.{Kind}
-use Rattle.um_base.specs.declared.names.ThreadIx.{ThreadIx}
-use Rattle.um_base.specs.Places.{own_row}
+use Rattle.um_erasure.proofs.Words.{◌≡◌, inl, inr, ℕ, zero, suc, ◌+◌, ◌<◌, Bool, true, false, List, [], ◌∷◌, length, Option, Some, refl, sym, ap, ◌∙◌, subst, arith, ◌==◌, ◌&&◌, not, slice_index_or, slice_set, unwrap_or, and_parts, eqb-false, eqb-true, false≢true, true≢false, get_or-set_other, get_or-set_same, Ask, ROWS, Addr, Kind, ThreadIx, own_row, Object, Status, Pending, Thread, Steps, to_thread, MayChoose, Offers, State, object_at, thread_at, vacant, call_is, status_is, IsStatic, FineAct, Unseen, is_dying, row_named, bytes_in, begins_cleaning, moves, says_show, row_number, ObjectCell, work_on, Todo, Todos, same_site, FineStep, Site, Fine, object, one_if, row, has_steps, is_recycle, is_wipe, cell_of, recyclers, wipers}
 use Rattle.um_machine.specs.declared.contents.Contents.TheVariants as Contents
-use Rattle.um_machine.specs.declared.object.Object.{Object}
-use Rattle.um_machine.specs.declared.object.Status.{Status}
-use Rattle.um_machine.specs.declared.pending.Pending.{Pending}
-use Rattle.um_machine.specs.declared.thread.Thread.{Thread}
 use Rattle.um_machine.specs.Objects as Plain
-use Rattle.um_machine.specs.Order.{Steps, to_thread}
-use Rattle.um_machine.specs.Run.{MayChoose, Offers}
-use Rattle.um_machine.specs.State.{State, object_at, thread_at, vacant}
 use Rattle.um_machine.specs.Table as T
-use Rattle.um_invariants.proofs.Cores.{call_is, status_is}
 use Rattle.um_invariants.proofs.Facts.{is_standing}
-use Rattle.um_invariants.proofs.Guards.{IsStatic}
-use Rattle.um_words.specs.declared.fine.FineAct.{FineAct}
-use Rattle.um_words.specs.declared.fine.Unseen.{Unseen}
-use Rattle.um_words.specs.Rows.{is_dying}
-use Rattle.um_fine.specs.Addresses.{row_named}
-use Rattle.um_fine.specs.Answers.{bytes_in, caller_in}
-use Rattle.um_fine.specs.Asks.{begins_cleaning, moves, says_show}
-use Rattle.um_fine.specs.Follows.{row_number}
-use Rattle.um_fine.specs.Objects.{ObjectCell, work_on}
-use Rattle.um_fine.specs.Places.{Todo, Todos}
-use Rattle.um_fine.specs.Sites.{same_site}
-use Rattle.um_fine.specs.Steps.{FineStep, Site}
-use Rattle.um_erasure.specs.Fine.{Fine, object, one_if, row}
-use Rattle.um_erasure.specs.Lists.{has_steps, is_recycle, is_wipe}
-use Rattle.um_erasure.specs.Objects.{ContentsAre, cell_of, empty_cell, recyclers, wipers}
+use Rattle.um_fine.specs.Answers.{caller_in}
+use Rattle.um_erasure.specs.Objects.{ContentsAre, empty_cell}
 use Rattle.um_erasure.proofs.CellSteps.{cell-else, cell-here, idle-count, is_on_cell, none-wipes, off-cell, recycles-cleared, takes-quiet, wipe-sum, wipers-few}
 use Rattle.um_erasure.proofs.CleanersSteps.{gain, no-gain, rec-sum}
-use Rattle.um_erasure.proofs.ContentsKept.{beside-kept, cell-beside, drop-kept, work-objects}
+use Rattle.um_erasure.proofs.ContentsKept.{beside-kept, cell-beside, clean-kept, work-objects}
 use Rattle.um_erasure.proofs.DomainReads.{eqb-swap}
 use Rattle.um_erasure.proofs.Erased.{around}
 use Rattle.um_erasure.proofs.HeldRows.{checked-claimed, claimed-whole}
@@ -53,7 +23,7 @@ use Rattle.um_erasure.proofs.Says.{work-agrees}
 use Rattle.um_erasure.proofs.SchedulerSteps.{made-at, made-says}
 use Rattle.um_erasure.proofs.StepReads.{is-behind}
 use Rattle.um_erasure.proofs.WordsKept.{IsShown}
-use Rattle.um_erasure.proofs.Writes.{Makes}
+use Rattle.um_erasure.proofs.Writes.{Makes, with_cleaner, reserved-objects}
 
 -- A name is given to a thread object that stands at a static row, or that the call holds.
 abbrev pub NamesHeld : State → Type 0
@@ -331,9 +301,12 @@ module _ (f : Fine) (m : State) (e : FineStep) (law : Lawful f m e) (suits : Sui
       o : Object
       o = record vacant { kind = Some kind; status = Status.Reserved; cost = T.cost_of me.pool 64 }
 
+      at-row : object_at (T.after m p.context.thread (suc n) q rest) x ≡ slice_index_or (slice_set m.objects (suc n) o) x vacant
+      at-row = ap (λ (os : List Object). slice_index_or os x vacant) (reserved-objects m p.context.thread n kind rest)
+
       by : Plain.is_free (object_at m (suc n)).status ≡ true → (b : Bool) → (suc n == x) ≡ b → Result (T.after m p.context.thread (suc n) q rest)
       by free false k =
-          let other = get_or-set_other m.objects (suc n) x o vacant (λ same. eqb-false (suc n) x k (sym same)) in
+          let other = at-row ∙ get_or-set_other m.objects (suc n) x o vacant (λ same. eqb-false (suc n) x k (sym same)) in
           leaves q rest todo (suc n) h is refl (ap cell_of other) (λ z. sym (ap (λ (w : Object). Plain.is_free w.status) other) ∙ z)
       by free true k =
           let at : suc n ≡ x = eqb-true (suc n) x k in
@@ -341,7 +314,7 @@ module _ (f : Fine) (m : State) (e : FineStep) (law : Lawful f m e) (suits : Sui
           let now : cell_of (slice_index_or (slice_set m.objects (suc n) o) x vacant) ≡ empty_cell =
           ap (λ r. cell_of (slice_index_or (slice_set m.objects r o) x vacant)) at ∙ ap cell_of (get_or-set_same m.objects x o vacant (in-objects few)) in
           let cell = cell-else f m e law x few (off q rest todo (suc n) h is refl) in
-          record { whole = λ z. cell ∙ (empty ∙ sym now); cleared = λ z. cell ∙ empty; vacant = λ z. cell ∙ empty }
+          record { whole = λ z. cell ∙ (empty ∙ sym (ap cell_of at-row ∙ now)); cleared = λ z. cell ∙ empty; vacant = λ z. cell ∙ empty }
 
       by-choice : MayChoose m p.context.thread (suc n) (Pending.Reserve kind) → Result (T.after m p.context.thread (suc n) q rest)
       by-choice (inr none) = let no = none.0 in absurd (omega (arith, no))
@@ -400,15 +373,15 @@ module _ (f : Fine) (m : State) (e : FineStep) (law : Lawful f m e) (suits : Sui
       (cell-else f m e law x few (ap (λ i. same_site i (Site.object x)) (made-at f m e law (Todo.pass who y ∷ todo) h.at))) refl (λ z. z)
   contents-part _ (drops from y rest todo h said) =
       beside (T.after m p.context.thread y (Pending.Drops from) rest) (Todo.drop y) todo h.at tt refl refl
-      (cell-else f m e law x few (ap (λ i. same_site i (Site.object x)) (made-at f m e law (Todo.drop y ∷ todo) h.at))) (drop-kept cell_of cell-beside m x p.context.thread y)
+      (cell-else f m e law x few (ap (λ i. same_site i (Site.object x)) (made-at f m e law (Todo.drop y ∷ todo) h.at))) (beside-kept cell_of cell-beside m x p.context.thread y (Pending.Drops from) rest refl)
       (λ z. sym (drop-free m p.context.thread y x (paired-live m law.sound y p.context.thread)) ∙ z)
   contents-part _ (cleans who y rest todo h said) =
       let z = own_row m.image who in
       let o = record (object_at m z) { cleaner = Some (to_thread p.context.thread) } in
-      let s = T.cleaned_by m p.context.thread z in
+      let s = with_cleaner m p.context.thread z in
       beside (T.after m p.context.thread y (Pending.CleanPair (to_thread who)) rest) (Todo.clean_pair who y) todo h.at tt refl refl
       (cell-else f m e law x few (ap (λ i. same_site i (Site.object x)) (made-at f m e law (Todo.clean_pair who y ∷ todo) h.at)))
-      (drop-kept cell_of cell-beside s x who y ∙ set-kept cell_of m.objects z x o refl)
+      (clean-kept cell_of cell-beside (λ o by. refl) m x p.context.thread y (to_thread who) rest)
       (λ k.
       sym (drop-free s who y x (λ b. ap Plain.is_live (set-kept (λ (w : Object). w.status) m.objects z y o refl) ∙ paired-live m law.sound y who b)
       ∙ ap Plain.is_free (set-kept (λ (w : Object). w.status) m.objects z x o refl)) ∙ k)

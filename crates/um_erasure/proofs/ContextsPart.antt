@@ -1,40 +1,7 @@
 -- Own parts lie with processors, parked, or with a new thread on a list, and are those of the machine's threads, after every lawful step.
-use Rattle.std.proofs.Common.{◌≡◌, inl, inr, ℕ, ◌+◌, ◌<◌, Bool, true, false, cond, List, [], ◌∷◌, length, Option, Some, None, refl, sym, ap, ◌∙◌, subst, arith, eq-eqb}
-use Rattle.std.specs.Prelude.{ℤ, ◌==◌, ◌&&◌, IsTrue, if◌then◌else◌, is_some, nat_lt, not, slice_index_or, slice_set, unwrap_or}
-use Rattle.std.specs.List.{list_all}
-use Rattle.std.proofs.lemmas.Bool.{and_parts, eqb-false, eqb-true, false≢true, ltb-true, true≢false}
-use Rattle.std.proofs.lemmas.Grind.{get_or-set_at}
-use Rattle.std.proofs.lemmas.List.{get_or-set_other, get_or-set_same, length-set}
-use Rattle.um_base.specs.declared.act.Act.{Act}
-use Rattle.um_base.specs.declared.ask.Told.{Told}
-use Rattle.um_base.specs.declared.limits.TheConstants.{ROWS, THREADS}
-use Rattle.um_base.specs.declared.names.Mode.{Mode}
-use Rattle.um_base.specs.declared.names.Row.{Row}
-use Rattle.um_base.specs.declared.names.ThreadIx.{ThreadIx}
-use Rattle.um_base.specs.Lawful.{IsLawful}
-use Rattle.um_machine.specs.declared.pending.Pending.{Pending}
-use Rattle.um_machine.specs.declared.thread.Life.{Life}
-use Rattle.um_machine.specs.declared.thread.Thread.{Thread}
-use Rattle.um_machine.specs.Order.{Steps, to_thread}
-use Rattle.um_machine.specs.Services.{is_empty}
-use Rattle.um_machine.specs.State.{State, is_living, is_started, thread_at, with_thread}
+use Rattle.um_erasure.proofs.Words.{◌≡◌, inl, inr, ℕ, ◌+◌, ◌<◌, Bool, true, false, cond, List, [], ◌∷◌, length, Option, Some, None, refl, sym, ap, ◌∙◌, subst, arith, eq-eqb, ℤ, ◌==◌, ◌&&◌, IsTrue, if◌then◌else◌, is_some, nat_lt, not, slice_index_or, slice_set, unwrap_or, list_all, and_parts, eqb-false, eqb-true, false≢true, ltb-true, true≢false, get_or-set_at, get_or-set_other, get_or-set_same, length-set, Act, Told, ROWS, THREADS, Mode, Row, ThreadIx, IsLawful, Pending, Life, Thread, Steps, to_thread, is_empty, State, is_living, is_started, thread_at, with_thread, FineAct, Unseen, act_in, context_in, domain_in, is_visit, is_word_read, ready_in, begins_cleaning, by_me, says, says_idle, says_show, shows, Context, as_thread, continues, newborn, resumed, after_claim, after_show, after_take, dropped_at, goes_on_by, p_next, Todo, Todos, Scheduler, parked_at, put_back, waits, same_site, Exchange, FineStep, Site, Fine, one_if, scheduler, AreFramed, Adds, adders, has_steps, of_thread, runs, Fits, IsPutBack, behind_shown, is_over, IsOf, IsRun, flags_of, is_ended, own_part, runs_on}
 use Rattle.um_machine.specs.Table as T
-use Rattle.um_words.specs.declared.fine.FineAct.{FineAct}
-use Rattle.um_words.specs.declared.fine.Unseen.{Unseen}
-use Rattle.um_fine.specs.Answers.{act_in, context_in, domain_in, is_visit, is_word_read, ready_in}
-use Rattle.um_fine.specs.Asks.{begins_cleaning, by_me, says, says_idle, says_show, shows, visits}
-use Rattle.um_fine.specs.Context.{Context, as_thread}
-use Rattle.um_fine.specs.Continues.{continues, newborn, resumed}
-use Rattle.um_fine.specs.Follows.{after_claim, after_show, after_take, dropped_at, goes_on_by, p_next}
-use Rattle.um_fine.specs.Places.{Todo, Todos}
-use Rattle.um_fine.specs.Scheduler.{Scheduler, parked_at, put_back, waits}
-use Rattle.um_fine.specs.Sites.{same_site}
-use Rattle.um_fine.specs.Steps.{Exchange, FineStep, Site}
-use Rattle.um_erasure.specs.Fine.{Fine, one_if, scheduler}
-use Rattle.um_erasure.specs.Frames.{AreFramed}
-use Rattle.um_erasure.specs.Lists.{Adds, adders, has_steps, of_thread, runs}
-use Rattle.um_erasure.specs.Offers.{Fits, IsPutBack, behind_shown, is_over}
-use Rattle.um_erasure.specs.Threads.{IsOf, IsRun, flags_of, is_ended, own_part, runs_on}
+use Rattle.um_fine.specs.Asks.{visits}
 use Rattle.um_erasure.proofs.CallsKnown.{RestsHoldNothing, starts-below}
 use Rattle.um_erasure.proofs.CallsProper.{AreProper, Closing}
 use Rattle.um_erasure.proofs.Erased.{around}

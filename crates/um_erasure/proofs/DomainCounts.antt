@@ -1,30 +1,8 @@
 -- The word of a domain counts the claims of processors to read it, and who edits it, after every lawful step.
-use Rattle.std.proofs.Common.{◌≡◌, inl, inr, ℕ, ◌+◌, ◌-◌, ◌<◌, Bool, true, false, [], ◌∷◌, Option, Some, None, refl, sym, ap, ◌∙◌, subst, arith, eq-eqb}
-use Rattle.std.specs.Prelude.{◌==◌, ◌&&◌, ◌||◌, not, length, if◌then◌else◌, nat_lt}
-use Rattle.std.specs.List.{list_any}
-use Rattle.std.proofs.lemmas.Bool.{and_parts, eqb-true, false≢true, ltb-true, not-true, true≢false}
-use Rattle.um_base.specs.Places.{row_at}
-use Rattle.um_base.specs.declared.names.Errno.{Errno}
-use Rattle.um_base.specs.declared.names.Reply.{Reply}
-use Rattle.um_machine.specs.declared.pending.Pending.{Pending}
-use Rattle.um_machine.specs.Order.{Steps}
-use Rattle.um_machine.specs.State.{State}
-use Rattle.um_words.specs.declared.dom_word.DomWord.{DomWord}
-use Rattle.um_words.specs.declared.fine.FineAct.{FineAct}
-use Rattle.um_words.specs.declared.fine.Unseen.{Unseen}
+use Rattle.um_erasure.proofs.Words.{◌≡◌, inl, inr, ℕ, ◌+◌, ◌-◌, ◌<◌, Bool, true, false, [], ◌∷◌, Option, Some, None, refl, sym, ap, ◌∙◌, subst, arith, eq-eqb, ◌==◌, ◌&&◌, ◌||◌, not, if◌then◌else◌, nat_lt, list_any, and_parts, eqb-true, false≢true, ltb-true, not-true, true≢false, row_at, Errno, Reply, Pending, Steps, State, DomWord, FineAct, Unseen, domain_in, begins_cleaning, check_site, says, site_of_step, after_claim, goes_on_by, unless_loaded, Todo, Todos, Processor, fails, is_of, key_of, same_site, FineStep, Site, reads, Fine, domain, one_if, over_processors, Behind, access_over, edits, edits_step, is_hold, moves_step, moves_to, Fits, behind_shown, or-false}
+use Rattle.std.specs.Prelude.{length}
 use Rattle.um_words.specs.Domains.{counted_domain, domain_after, domain_takes}
-use Rattle.um_fine.specs.Answers.{domain_in}
-use Rattle.um_fine.specs.Asks.{begins_cleaning, check_site, says, site_of_step}
-use Rattle.um_fine.specs.Follows.{after_claim, goes_on_by, unless_loaded}
-use Rattle.um_fine.specs.Places.{Todo, Todos}
-use Rattle.um_fine.specs.Processor.{Processor, fails, is_of, key_of}
-use Rattle.um_fine.specs.Sites.{same_site}
-use Rattle.um_fine.specs.Steps.{FineStep, Site}
-use Rattle.um_erasure.specs.Domains.{reads}
-use Rattle.um_erasure.specs.Fine.{Fine, domain, one_if, over_processors}
-use Rattle.um_erasure.specs.Frames.{Behind, access_over}
-use Rattle.um_erasure.specs.Lists.{edits, edits_step, is_hold, is_move_done, moves_step, moves_to}
-use Rattle.um_erasure.specs.Offers.{Fits, behind_shown}
+use Rattle.um_erasure.specs.Lists.{is_move_done}
 use Rattle.um_erasure.proofs.Erased.{around, later}
 use Rattle.um_erasure.proofs.Leaves.{Lawful}
 use Rattle.um_erasure.proofs.ListGrips.{read-rests}
@@ -34,7 +12,7 @@ use Rattle.um_erasure.proofs.SchedulerSteps.{made-at, made-says}
 use Rattle.um_erasure.proofs.StepReads.{is-behind}
 use Rattle.um_erasure.proofs.Sums.{over-changed, over-same}
 use Rattle.um_erasure.proofs.DomainWords.{word-else, word-here, word-takes}
-use Rattle.um_erasure.proofs.DomainReads.{claimed, claimed-reads, edits-behind, edits-no-move, edits-one, edits-reads, either-claimed, either-edits, either-moves, eqb-swap, is_plain, is_told, memory-moves-none, moves-behind, moves-reads, next-domain, next-reply, or-false, plain-claim, plain-last, plain-list, plain-site}
+use Rattle.um_erasure.proofs.DomainReads.{claimed, claimed-reads, edits-behind, edits-no-move, edits-one, edits-reads, either-claimed, either-edits, either-moves, eqb-swap, is_plain, is_told, memory-moves-none, moves-behind, moves-reads, next-domain, next-reply, plain-claim, plain-last, plain-list, plain-site}
 
 abbrev is_end_call_act : Unseen → Bool
 is_end_call_act Unseen.EndCall = true

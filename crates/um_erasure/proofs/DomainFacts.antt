@@ -1,35 +1,19 @@
 -- What steps do to domains: those of the machine that leave them, what an edit makes of one, and what a processor has edited.
-use Rattle.std.proofs.Common.{true≢false, ◌≡◌, ℕ, zero, suc, ◌+◌, ◌<◌, ◌≤◌, Bool, true, false, [], ◌∷◌, Option, Some, None, refl, sym, ap, ◌∙◌, arith}
-use Rattle.std.specs.Prelude.{◌==◌, ◌||◌, Result, Ok, Err, if◌then◌else◌, is_some}
-use Rattle.std.proofs.lemmas.Bool.{eqb-false, eqb-true, false≢true}
-use Rattle.um_base.specs.declared.act.Act.{Act}
-use Rattle.um_base.specs.declared.image.Image.{Image}
+use Rattle.um_erasure.proofs.Words.{◌≡◌, ℕ, zero, suc, ◌+◌, ◌<◌, ◌≤◌, Bool, true, false, [], ◌∷◌, Option, Some, None, refl, sym, ap, ◌∙◌, arith, ◌==◌, ◌||◌, if◌then◌else◌, is_some, eqb-false, eqb-true, false≢true, Act, Image, Errno, Range, Partitions, Pending, reply_to, Steps, State, DomWord, FineAct, Unseen, Todo, Todos, edit_of, parts, total, edited, edits, edits_step, or-false}
+use Rattle.std.proofs.Common.{true≢false}
+use Rattle.std.specs.Prelude.{Result, Ok, Err}
 use Rattle.um_base.specs.declared.attr.Attr.{Attr}
-use Rattle.um_base.specs.declared.names.Errno.{Errno}
-use Rattle.um_base.specs.declared.names.Range.{Range}
-use Rattle.um_base.specs.Regions.{Partitions}
-use Rattle.um_machine.specs.declared.pending.Pending.{Pending}
-use Rattle.um_machine.specs.Domains.{domain_after, reply_to}
-use Rattle.um_machine.specs.Order.{Steps}
-use Rattle.um_machine.specs.State.{State}
+use Rattle.um_machine.specs.Domains.{domain_after}
 use Rattle.um_machine.specs.Table as T
-use Rattle.um_words.specs.declared.dom_word.DomWord.{DomWord}
-use Rattle.um_words.specs.declared.fine.FineAct.{FineAct}
-use Rattle.um_words.specs.declared.fine.Unseen.{Unseen}
 use Rattle.um_words.specs.Domains as Words
-use Rattle.um_fine.specs.Places.{Todo, Todos}
-use Rattle.um_fine.specs.Processor.{edit_of}
-use Rattle.um_erasure.specs.Fine.{one_if, parts, total}
-use Rattle.um_erasure.specs.Lists.{edited, edits, edits_step}
-use Rattle.um_erasure.proofs.DomainReads.{or-false}
 use Rattle.um_erasure.proofs.MemorySteps.{part-total}
 use Rattle.um_erasure.proofs.Writes.{Makes, Part, domains, read-same, reads-keeping}
 
 -- The machine: which steps leave its domains.
 
-abbrev pub NoDomains : Part → Type 0
-NoDomains domains = ⊥
-NoDomains part = Unit {0}
+abbrev pub NoDomains : Part → Bool
+NoDomains domains = false
+NoDomains part = true
 
 pub domains-same : (m : State) (t x : ℕ) (q : Pending) (rest : Steps) → Makes NoDomains q → (T.after m t x q rest).domains ≡ m.domains
 domains-same m = read-same NoDomains (λ s. s.domains) m (reads-keeping NoDomains (λ s. s.domains) m.domains (λ s threads. refl) (λ s objects. refl) (λ s bytes. (refl, refl)) (λ may s u x there. refl) (λ may s left. refl) (λ may s d ps. absurd may))
@@ -113,10 +97,6 @@ two-parts g (suc n) a b l k ne = by (a == n) refl (b == n) refl (λ less more. t
         omega (arith, part, same)
     by false q false r more =
         let both = more (below a l (eqb-false a n q)) (below b k (eqb-false b n r)) in omega (arith, both)
-
-pub one-at-most : (b : Bool) → one_if b ≤ 1
-one-at-most true = omega arith
-one-at-most false = omega arith
 
 -- whether a domain is initialised changes by an event of an initialisation alone
 pub init-else : (w : DomWord) (act : FineAct) → is_init act ≡ false → (Words.domain_after w act).init ≡ w.init

@@ -1,54 +1,29 @@
 -- The words and cells of domains are those of the machine after every lawful step, where an edit counts from its event.
-use Rattle.std.proofs.Common.{◌≡◌, ◌⊎◌, inl, inr, ℕ, ◌<◌, ◌≤◌, Bool, true, false, cond, List, [], ◌∷◌, length, Option, Some, None, refl, sym, ap, ◌∙◌, subst, arith, eq-eqb}
-use Rattle.std.specs.Prelude.{◌==◌, ◌||◌, IsTrue, if◌then◌else◌, is_some, slice_index_or, slice_set, unwrap_or}
-use Rattle.std.proofs.lemmas.Bool.{eqb-false, eqb-true, false≢true, true≢false}
-use Rattle.std.proofs.lemmas.List.{get_or-set_other, get_or-set_same}
-use Rattle.um_base.specs.declared.act.Act.{Act}
-use Rattle.um_base.specs.declared.act.Event.{Event}
+use Rattle.um_erasure.proofs.Words.{◌≡◌, ◌⊎◌, inl, inr, ℕ, ◌<◌, ◌≤◌, Bool, true, false, cond, List, [], ◌∷◌, length, Option, Some, None, refl, sym, ap, ◌∙◌, subst, arith, eq-eqb, ◌==◌, ◌||◌, IsTrue, if◌then◌else◌, is_some, slice_index_or, slice_set, unwrap_or, eqb-false, eqb-true, false≢true, true≢false, get_or-set_other, get_or-set_same, Event, Image, Partitions, Pending, reply_to, Steps, to_thread, State, DomWord, FineAct, More, Unseen, act_in, domain_in, is_visit, is_word_read, allows, begins_cleaning, moves, says_idle, says_show, says_step, shows, Cell, Context, after_claim, goes_on_by, p_next, unless_loaded, Todo, Todos, Processor, edit_of, is_of, key_of, SiteState, is_sort, s_next, same_site, site_after, site_moves, Exchange, FineStep, Site, same-itself, same-sound, Fine, domain, domain_state, one_if, parts, parts_state, total, Behind, OnMemory, access_over, edited, edits, edits_step, Fits, behind_shown, or-false}
 use Rattle.um_base.specs.declared.names.Access.TheVariants as Access
-use Rattle.um_base.specs.declared.image.Image.{Image}
-use Rattle.um_base.specs.Regions.{Partitions}
-use Rattle.um_machine.specs.declared.pending.Pending.{Pending}
-use Rattle.um_machine.specs.Domains.{domain_after, reply_to}
-use Rattle.um_machine.specs.Order.{Steps, to_thread}
-use Rattle.um_machine.specs.State.{State}
+use Rattle.um_machine.specs.Domains.{domain_after}
 use Rattle.um_machine.specs.Table as T
-use Rattle.um_words.specs.declared.dom_word.DomWord.{DomWord}
-use Rattle.um_words.specs.declared.fine.FineAct.{FineAct}
-use Rattle.um_words.specs.declared.fine.More.{More}
-use Rattle.um_words.specs.declared.fine.Unseen.{Unseen}
 use Rattle.um_words.specs.Domains as Words
-use Rattle.um_fine.specs.Answers.{act_in, before_in, domain_in, is_visit, is_word_read}
-use Rattle.um_fine.specs.Asks.{allows, begins, begins_cleaning, moves, says_idle, says_show, says_step, shows}
-use Rattle.um_fine.specs.Cells.{Cell}
-use Rattle.um_fine.specs.Context.{Context}
-use Rattle.um_fine.specs.Follows.{after_claim, goes_on_by, p_next, unless_loaded}
+use Rattle.um_fine.specs.Answers.{before_in}
+use Rattle.um_fine.specs.Asks.{begins}
 use Rattle.um_fine.specs.Objects.{parts_after, parts_moves}
-use Rattle.um_fine.specs.Places.{Todo, Todos}
-use Rattle.um_fine.specs.Processor.{Processor, edit_of, is_of, key_of}
-use Rattle.um_fine.specs.Sites.{SiteState, is_sort, s_next, same_site, site_after, site_moves}
-use Rattle.um_fine.specs.Steps.{Exchange, FineStep, Site}
-use Rattle.um_fine.proofs.Keys.{same-itself, same-sound}
 use Rattle.um_erasure.specs.Domains.{DomainIs}
-use Rattle.um_erasure.specs.Fine.{Fine, domain, domain_state, one_if, parts, parts_state, total}
-use Rattle.um_erasure.specs.Frames.{Behind, OnMemory, access_over}
-use Rattle.um_erasure.specs.Lists.{edited, edits, edits_step}
-use Rattle.um_erasure.specs.Offers.{Fits, behind_shown}
 use Rattle.um_erasure.proofs.DomainCounts.{domain-counts}
 use Rattle.um_erasure.proofs.DomainWords.{word-else, word-here}
-use Rattle.um_erasure.proofs.DomainReads.{edited-reads, edits-one, eqb-swap, is_told, memory-edits-none, next-reply, or-false}
+use Rattle.um_erasure.proofs.DomainReads.{edited-reads, edits-one, eqb-swap, is_told, memory-edits-none, next-reply}
 use Rattle.um_erasure.proofs.Erased.{around}
 use Rattle.um_erasure.proofs.Leaves.{Lawful, Leaves, cleans, drops, event, nothing, passes, recycles, resumes}
 use Rattle.um_erasure.proofs.ListGrips.{read-rests}
 use Rattle.um_erasure.proofs.ListGrowth.{ReadsLast, is_read_claim}
 use Rattle.um_erasure.proofs.ListTails.{exact-next, tail-read, takes-read}
 use Rattle.um_erasure.proofs.MemorySteps.{part-total}
-use Rattle.um_erasure.proofs.Offered.{IsStep, Shows, site-is}
+use Rattle.um_erasure.proofs.Offered.{IsStep, Shows, site-is, either-act}
 use Rattle.um_erasure.proofs.SchedulerSteps.{made-at, made-says}
 use Rattle.um_erasure.proofs.StepReads.{is-behind}
 use Rattle.um_erasure.proofs.WordsKept.{IsShown}
 use Rattle.um_erasure.proofs.Writes.{Makes}
-use Rattle.um_erasure.proofs.DomainFacts.{init-else, NoDomains, adds-some, domains-same, edited-edits, inits-some, is_edit, is_init, is_init_act, is_neither, is_unseen, one-at-most, removes-some, two-parts, visits-no-edit}
+use Rattle.um_erasure.proofs.DomainFacts.{init-else, NoDomains, adds-some, domains-same, edited-edits, inits-some, is_edit, is_init, is_init_act, is_neither, is_unseen, removes-some, two-parts, visits-no-edit}
+use Rattle.um_erasure.proofs.FirstThreads.{one-most}
 
 -- Cell and word of a domain stand for the machine's, where an edit counts from its event.
 record StandsFor (g : Fine) (s : State) (d : ℕ) : Type 0 where
@@ -176,7 +151,7 @@ module _ (f : Fine) (m : State) (e : FineStep) (law : Lawful f m e) (d : ℕ) (f
           let both = two-parts (λ j. one_if (edits d (f.processors j).todo)) f.cpus e.cpu k law.by.named l ne in
           let mine = ap one_if (ap (edits d) at ∙ eq-eqb d d refl) in
           let all = was.writers in
-          let most = one-at-most (domain f d).writer in
+          let most = one-most (domain f d).writer in
           no-one (edits d (f.processors k).todo) (omega (arith, both, mine, all, most))
         where
           no-one : (b : Bool) → one_if b ≡ 0 → b ≡ false
@@ -430,10 +405,6 @@ module _ (f : Fine) (m : State) (e : FineStep) (law : Lawful f m e) (d : ℕ) (f
       (ap (λ (all : List (Option Partitions)). slice_index_or all d None) (domains-same m p.context.thread x q rest makes))
       (init-same (ap is_init is.said ∙ no-init)) (ap is_edit is.said)
 
-  either-init : (b : Bool) (one two : Act) → is_init_act one ≡ false → is_init_act two ≡ false → is_init_act (if b then one else two) ≡ false
-  either-init true one two h k = h
-  either-init false one two h k = k
-
   by-event : (q : Pending) (rest : Steps) (todo : Todos) (x : ℕ) → Shows f m e.cpu e q rest todo → IsShown q → IsStep f m e.cpu e x q → StandsFor later (T.after m p.context.thread x q rest) d
   by-event (Pending.DomInit u parts) rest todo x h shown is =
       edits-event u (Pending.DomInit u parts) rest todo _ h.at (eq-eqb u u refl) (site-is h) refl (ap is_edit is.said) (λ w. ap (λ a. (Words.domain_after w a).writer) is.said)
@@ -450,16 +421,9 @@ module _ (f : Fine) (m : State) (e : FineStep) (law : Lawful f m e) (d : ℕ) (f
       (λ r.
       ap (λ a. (Words.domain_after (domain f d) a).init) is.said
       ∙ (or-false (domain f d).init ∙ (was.init ∙ sym (removes-some f.image u range attr (T.domain_at m d)))))
-  by-event (Pending.Load to a n) rest todo x h shown is = stands-beside (Pending.Load to a n) rest todo x h is refl tt (either-init (allows f.image p Access.Read a.0 n) _ _ refl refl)
-  by-event (Pending.Store a n value) rest todo x h shown is = stands-beside (Pending.Store a n value) rest todo x h is refl tt (either-init (allows f.image p Access.Write a.0 n) _ _ refl refl)
-  by-event (Pending.Fetch a) rest todo x h shown is = stands-beside (Pending.Fetch a) rest todo x h is refl tt (either-init (allows f.image p Access.Exec a.0 4) _ _ refl refl)
-  by-event (Pending.DropPair who a) rest todo x h shown is = stands-beside (Pending.DropPair who a) rest todo x h is refl (tt, tt) refl
-  by-event (Pending.Reserve kind) rest todo x h shown is = stands-beside (Pending.Reserve kind) rest todo x h is refl (tt, tt) refl
-  by-event (Pending.Born a) rest todo x h shown is = stands-beside (Pending.Born a) rest todo x h is refl (tt, tt) refl
-  by-event (Pending.Inherit who) rest todo x h shown is = absurd shown
-  by-event (Pending.Drops from) rest todo x h shown is = absurd shown
-  by-event (Pending.CleanPair who) rest todo x h shown is = absurd shown
-  by-event Pending.Recycle rest todo x h shown is = absurd shown
+  by-event (Pending.Load to a n) rest todo x h shown is = stands-beside (Pending.Load to a n) rest todo x h is refl tt (either-act is_init_act false (allows f.image p Access.Read a.0 n) _ _ refl refl)
+  by-event (Pending.Store a n value) rest todo x h shown is = stands-beside (Pending.Store a n value) rest todo x h is refl tt (either-act is_init_act false (allows f.image p Access.Write a.0 n) _ _ refl refl)
+  by-event (Pending.Fetch a) rest todo x h shown is = stands-beside (Pending.Fetch a) rest todo x h is refl tt (either-act is_init_act false (allows f.image p Access.Exec a.0 4) _ _ refl refl)
   by-event q rest todo x h shown is = stands-beside q rest todo x h is refl tt refl
 
   stands-part : (s : State) → Leaves f m e s → StandsFor later s d
@@ -471,13 +435,13 @@ module _ (f : Fine) (m : State) (e : FineStep) (law : Lawful f m e) (d : ℕ) (f
       neither (Todo.pass who x) todo (T.after m p.context.thread x (Pending.Inherit (to_thread who)) rest) h.at refl refl (ap is_init said) (ap is_edit said)
   stands-part _ (drops from x rest todo h said) =
       neither (Todo.drop x) todo (T.after m p.context.thread x (Pending.Drops from) rest) h.at refl
-      (domains-same m p.context.thread x (Pending.Drops from) rest (tt, tt)) (ap is_init said) (ap is_edit said)
+      (domains-same m p.context.thread x (Pending.Drops from) rest tt) (ap is_init said) (ap is_edit said)
   stands-part _ (cleans who x rest todo h said) =
       neither (Todo.clean_pair who x) todo (T.after m p.context.thread x (Pending.CleanPair (to_thread who)) rest) h.at refl
-      (domains-same m p.context.thread x (Pending.CleanPair (to_thread who)) rest (tt, tt, tt)) (ap is_init said) (ap is_edit said)
+      (domains-same m p.context.thread x (Pending.CleanPair (to_thread who)) rest tt) (ap is_init said) (ap is_edit said)
   stands-part _ (recycles x rest todo at l said chosen) =
       neither (Todo.recycle x) todo (T.after m p.context.thread x Pending.Recycle rest) at refl
-      (domains-same m p.context.thread x Pending.Recycle rest (tt, tt)) (ap is_init said) (ap is_edit said)
+      (domains-same m p.context.thread x Pending.Recycle rest tt) (ap is_init said) (ap is_edit said)
 
   pub domain-part : (s : State) → Leaves f m e s → DomainIs later s d
   domain-part s leaves =

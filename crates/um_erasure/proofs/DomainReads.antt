@@ -1,24 +1,6 @@
 -- What is read of a processor's list of domains: which one it edits, whether it has a claim to read its thread's, and to which one a thread
 -- moves; and which steps leave what a processor was told.
-use Rattle.std.proofs.Common.{◌≡◌, ℕ, Bool, true, false, [], ◌∷◌, Option, Some, None, refl, sym, ap, ◌∙◌, eq-eqb, ne_eqb}
-use Rattle.std.specs.Prelude.{◌==◌, ◌&&◌, ◌||◌, not, if◌then◌else◌}
-use Rattle.std.specs.List.{list_any}
-use Rattle.std.proofs.lemmas.Bool.{eqb-false, eqb-true, false≢true, true≢false}
-use Rattle.um_base.specs.declared.image.Image.{Image}
-use Rattle.um_base.specs.declared.names.Reply.{Reply}
-use Rattle.um_machine.specs.declared.pending.Pending.{Pending}
-use Rattle.um_machine.specs.Order.{Steps}
-use Rattle.um_fine.specs.Answers.{domain_in, is_word_read}
-use Rattle.um_fine.specs.Asks.{begins_cleaning, site_at}
-use Rattle.um_fine.specs.Context.{Context}
-use Rattle.um_fine.specs.Follows.{after_claim, after_show, goes_on_by, p_next, unless_loaded, with_cleaned}
-use Rattle.um_fine.specs.Places.{Todo, Todos, fine_steps}
-use Rattle.um_fine.specs.Processor.{Processor}
-use Rattle.um_fine.specs.Sites.{same_site}
-use Rattle.um_fine.specs.Steps.{FineStep, Site}
-use Rattle.um_erasure.specs.Frames.{OnMemory, access_over}
-use Rattle.um_erasure.specs.Lists.{edited, edits, edits_step, is_hold, is_own_claim, is_own_done, moves_step, moves_to}
-use Rattle.um_erasure.specs.Offers.{behind_shown}
+use Rattle.um_erasure.proofs.Words.{◌≡◌, ℕ, Bool, true, false, [], ◌∷◌, Option, Some, None, refl, sym, ap, ◌∙◌, eq-eqb, ne_eqb, ◌==◌, ◌&&◌, not, if◌then◌else◌, list_any, eqb-false, eqb-true, false≢true, true≢false, Image, Reply, Pending, Steps, domain_in, is_word_read, begins_cleaning, site_at, Context, after_claim, after_show, goes_on_by, p_next, unless_loaded, with_cleaned, Todo, Todos, fine_steps, Processor, same_site, FineStep, Site, OnMemory, access_over, edited, edits, edits_step, is_hold, is_own_claim, is_own_done, moves_step, moves_to, behind_shown}
 use Rattle.um_erasure.proofs.ListGrowth.{ReadsLast, either-look, is_read_claim}
 use Rattle.um_erasure.proofs.ListTails.{Reads, is_passed, reads-through}
 
@@ -210,7 +192,3 @@ pub next-reply : (image : Image) (p : Processor) (e : FineStep) (q : Todo) (todo
 next-reply image p e q todo at h =
     (cleaned-keeps image (goes_on_by image p e p.todo) e (begins_cleaning e)).1
     ∙ (ap (λ (z : Todos). (goes_on_by image p e z).reply) at ∙ goes-reply image p e q todo h)
-
-pub or-false : (b : Bool) → (b || false) ≡ b
-or-false true = refl
-or-false false = refl

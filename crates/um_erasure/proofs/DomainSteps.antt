@@ -1,22 +1,9 @@
 -- A processor's event of a domain's edit is that step of the machine, where the relation holds: what it replies was worked out by the
 -- edit of the domain's cell.
-use Rattle.std.proofs.Common.{◌≡◌, ℕ, ◌<◌, true, List, length, Some, None, refl, sym, ap, ◌∙◌, eq-eqb}
-use Rattle.std.specs.Prelude.{if◌then◌else◌}
-use Rattle.um_base.specs.declared.act.Act.{Act}
+use Rattle.um_erasure.proofs.Words.{◌≡◌, ℕ, ◌<◌, true, List, length, Some, None, refl, sym, ap, ◌∙◌, eq-eqb, if◌then◌else◌, Act, Image, Range, Pending, reply_to, Steps, State, FineStep, Todos, edit_of, Fine, edited, edits_step}
 use Rattle.um_base.specs.declared.attr.Attr.{Attr}
-use Rattle.um_base.specs.declared.image.Image.{Image}
 use Rattle.um_base.specs.declared.names.PartRef.{PartRef}
-use Rattle.um_base.specs.declared.names.Range.{Range}
-use Rattle.um_machine.specs.declared.pending.Pending.{Pending}
-use Rattle.um_machine.specs.Domains.{reply_to}
-use Rattle.um_machine.specs.Order.{Steps}
-use Rattle.um_machine.specs.State.{State}
 use Rattle.um_machine.specs.Table as T
-use Rattle.um_fine.specs.Steps.{FineStep}
-use Rattle.um_fine.specs.Places.{Todos}
-use Rattle.um_fine.specs.Processor.{edit_of}
-use Rattle.um_erasure.specs.Fine.{Fine}
-use Rattle.um_erasure.specs.Lists.{edited, edits_step}
 use Rattle.um_erasure.proofs.Offered.{IsStep, Shows, act-is, machine-step}
 
 module _ {f : Fine} {m : State} {k : ℕ} {e : FineStep} {rest : Steps} {todo : Todos} where

@@ -1,31 +1,13 @@
 -- The word of a domain after a lawful step: it stays, or is what the step leaves there; and a step leaves version, writer and the machine's
 -- domain, or is the event of an edit.
-use Rattle.std.proofs.Common.{◌≡◌, ◌⊎◌, inl, inr, ℕ, ◌+◌, Bool, true, false, cond, List, Option, None, refl, sym, ap, ◌∙◌, subst}
-use Rattle.std.specs.Prelude.{◌==◌, IsTrue, if◌then◌else◌, nat_lt, slice_index_or, slice_set}
-use Rattle.std.proofs.lemmas.Bool.{and_parts, eqb-false, eqb-true, false≢true, true≢false}
-use Rattle.std.proofs.lemmas.List.{get_or-set_other}
-use Rattle.um_base.specs.declared.act.Act.{Act}
+use Rattle.um_erasure.proofs.Words.{◌≡◌, ◌⊎◌, inl, inr, ℕ, ◌+◌, Bool, true, false, cond, List, Option, None, refl, sym, ap, ◌∙◌, subst, ◌==◌, IsTrue, nat_lt, slice_index_or, slice_set, and_parts, eqb-false, eqb-true, false≢true, true≢false, get_or-set_other, Act, Partitions, Pending, Steps, to_thread, State, DomWord, FineAct, Unseen, act_in, allows, says_step, Todos, SiteState, is_sort, s_next, same_site, site_after, site_takes, FineStep, Site, same-itself, Fine, domain, domain_state}
 use Rattle.um_base.specs.declared.names.Access.TheVariants as Access
-use Rattle.um_base.specs.Regions.{Partitions}
-use Rattle.um_machine.specs.declared.pending.Pending.{Pending}
-use Rattle.um_machine.specs.Order.{Steps, to_thread}
-use Rattle.um_machine.specs.State.{State}
 use Rattle.um_machine.specs.Table as T
-use Rattle.um_words.specs.declared.dom_word.DomWord.{DomWord}
-use Rattle.um_words.specs.declared.fine.FineAct.{FineAct}
-use Rattle.um_words.specs.declared.fine.Unseen.{Unseen}
 use Rattle.um_words.specs.Domains.{counted_domain, domain_after, domain_after_act, domain_takes}
-use Rattle.um_fine.specs.Answers.{act_in}
-use Rattle.um_fine.specs.Asks.{allows, says_step}
-use Rattle.um_fine.specs.Places.{Todos}
-use Rattle.um_fine.specs.Sites.{SiteState, is_sort, s_next, same_site, site_after, site_takes}
-use Rattle.um_fine.specs.Steps.{FineStep, Site}
-use Rattle.um_fine.proofs.Keys.{same-itself}
-use Rattle.um_erasure.specs.Fine.{Fine, domain, domain_state}
 use Rattle.um_erasure.proofs.DomainFacts.{NoDomains, domains-same}
 use Rattle.um_erasure.proofs.Erased.{around}
 use Rattle.um_erasure.proofs.Leaves.{Lawful, Leaves, cleans, drops, event, mine, nothing, passes, recycles, resumes}
-use Rattle.um_erasure.proofs.Offered.{IsStep, Shows, site-is}
+use Rattle.um_erasure.proofs.Offered.{IsStep, Shows, site-is, either-act}
 use Rattle.um_erasure.proofs.WordsKept.{IsShown}
 use Rattle.um_erasure.proofs.Writes.{Makes}
 
@@ -53,10 +35,6 @@ act-stays w (FineAct.Unseen Unseen.ReadClaim) h = (refl, λ k. k)
 act-stays w (FineAct.Unseen Unseen.ReadDone) h = (refl, λ k. k)
 act-stays w (FineAct.Unseen Unseen.WriteClaim) h = (refl, λ k. absurd (true≢false k))
 act-stays w (FineAct.Unseen u) h = (refl, λ k. k)
-
-either-dom : (b : Bool) (one two : Act) → is_dom_act one ≡ false → is_dom_act two ≡ false → is_dom_act (if b then one else two) ≡ false
-either-dom true one two h k = h
-either-dom false one two h k = k
 
 module _ (f : Fine) (m : State) (e : FineStep) (law : Lawful f m e) (d : ℕ) where
   open around f e use {later}
@@ -132,16 +110,9 @@ module _ (f : Fine) (m : State) (e : FineStep) (law : Lawful f m e) (d : ℕ) wh
   by-event (Pending.DomInit u parts) rest todo x h shown is = edits u _ (T.after m (mine f m e) x (Pending.DomInit u parts) rest) _ (site-is h) is.said refl (λ w. refl) (λ w k. (and_parts w.writer _ k).0)
   by-event (Pending.DomAdd u range attr) rest todo x h shown is = edits u _ (T.after m (mine f m e) x (Pending.DomAdd u range attr) rest) _ (site-is h) is.said refl (λ w. refl) (λ w k. (and_parts w.writer _ k).0)
   by-event (Pending.DomRemove u range attr) rest todo x h shown is = edits u _ (T.after m (mine f m e) x (Pending.DomRemove u range attr) rest) _ (site-is h) is.said refl (λ w. refl) (λ w k. (and_parts w.writer _ k).0)
-  by-event (Pending.Load to a n) rest todo x h shown is = beside (Pending.Load to a n) rest todo x is tt (either-dom (allows f.image (f.processors e.cpu) Access.Read a.0 n) _ _ refl refl)
-  by-event (Pending.Store a n value) rest todo x h shown is = beside (Pending.Store a n value) rest todo x is tt (either-dom (allows f.image (f.processors e.cpu) Access.Write a.0 n) _ _ refl refl)
-  by-event (Pending.Fetch a) rest todo x h shown is = beside (Pending.Fetch a) rest todo x is tt (either-dom (allows f.image (f.processors e.cpu) Access.Exec a.0 4) _ _ refl refl)
-  by-event (Pending.DropPair who a) rest todo x h shown is = beside (Pending.DropPair who a) rest todo x is (tt, tt) refl
-  by-event (Pending.Reserve kind) rest todo x h shown is = beside (Pending.Reserve kind) rest todo x is (tt, tt) refl
-  by-event (Pending.Born a) rest todo x h shown is = beside (Pending.Born a) rest todo x is (tt, tt) refl
-  by-event (Pending.Inherit who) rest todo x h shown is = absurd shown
-  by-event (Pending.Drops from) rest todo x h shown is = absurd shown
-  by-event (Pending.CleanPair who) rest todo x h shown is = absurd shown
-  by-event Pending.Recycle rest todo x h shown is = absurd shown
+  by-event (Pending.Load to a n) rest todo x h shown is = beside (Pending.Load to a n) rest todo x is tt (either-act is_dom_act false (allows f.image (f.processors e.cpu) Access.Read a.0 n) _ _ refl refl)
+  by-event (Pending.Store a n value) rest todo x h shown is = beside (Pending.Store a n value) rest todo x is tt (either-act is_dom_act false (allows f.image (f.processors e.cpu) Access.Write a.0 n) _ _ refl refl)
+  by-event (Pending.Fetch a) rest todo x h shown is = beside (Pending.Fetch a) rest todo x is tt (either-act is_dom_act false (allows f.image (f.processors e.cpu) Access.Exec a.0 4) _ _ refl refl)
   by-event q rest todo x h shown is = beside q rest todo x is tt refl
 
   pub stays-or-edited : (s : State) → Leaves f m e s → Stays s ⊎ IsEdited
@@ -150,7 +121,7 @@ module _ (f : Fine) (m : State) (e : FineStep) (law : Lawful f m e) (d : ℕ) wh
   stays-or-edited _ (resumes c told rest idle moved said) = inl (stays (T.after m c.thread 0 Pending.Resume rest) (ap is_dom said) (domains-same m c.thread 0 Pending.Resume rest tt))
   stays-or-edited _ (passes who x rest todo h said) = inl (stays (T.after m (mine f m e) x (Pending.Inherit (to_thread who)) rest) (ap is_dom said) refl)
   stays-or-edited _ (drops from x rest todo h said) =
-      inl (stays (T.after m (mine f m e) x (Pending.Drops from) rest) (ap is_dom said) (domains-same m (mine f m e) x (Pending.Drops from) rest (tt, tt)))
+      inl (stays (T.after m (mine f m e) x (Pending.Drops from) rest) (ap is_dom said) (domains-same m (mine f m e) x (Pending.Drops from) rest tt))
   stays-or-edited _ (cleans who x rest todo h said) =
-      inl (stays (T.after m (mine f m e) x (Pending.CleanPair (to_thread who)) rest) (ap is_dom said) (domains-same m (mine f m e) x (Pending.CleanPair (to_thread who)) rest (tt, tt, tt)))
-  stays-or-edited _ (recycles x rest todo at l said chosen) = inl (stays (T.after m (mine f m e) x Pending.Recycle rest) (ap is_dom said) (domains-same m (mine f m e) x Pending.Recycle rest (tt, tt)))
+      inl (stays (T.after m (mine f m e) x (Pending.CleanPair (to_thread who)) rest) (ap is_dom said) (domains-same m (mine f m e) x (Pending.CleanPair (to_thread who)) rest tt))
+  stays-or-edited _ (recycles x rest todo at l said chosen) = inl (stays (T.after m (mine f m e) x Pending.Recycle rest) (ap is_dom said) (domains-same m (mine f m e) x Pending.Recycle rest tt))

@@ -1,26 +1,8 @@
 -- Each thread that was started is in a domain of the image, in every state that a run of the access-matrix machine reaches.
-use Rattle.std.proofs.Common.{◌≡◌, ◌⊎◌, inl, inr, ℕ, zero, suc, ◌<◌, Bool, true, false, List, [], ◌∷◌, length, Option, Some, None, refl, sym, ap, ◌∙◌, subst, arith}
-use Rattle.std.specs.Prelude.{◌==◌, IsTrue, is_some, slice_get, slice_index_or}
-use Rattle.std.specs.List.{list_all}
-use Rattle.std.proofs.lemmas.Bool.{and_parts, eqb-false, eqb-true, false≢true, true≢false}
-use Rattle.std.proofs.lemmas.List.{length-set}
-use Rattle.um_base.specs.declared.act.Event.{Event}
-use Rattle.um_base.specs.declared.image.Boot.{Boot}
+use Rattle.um_erasure.proofs.Words.{◌≡◌, ◌⊎◌, inl, inr, ℕ, zero, suc, ◌<◌, Bool, true, false, List, [], ◌∷◌, length, Option, Some, None, refl, sym, ap, ◌∙◌, subst, arith, ◌==◌, IsTrue, is_some, slice_get, slice_index_or, list_all, and_parts, eqb-false, eqb-true, false≢true, true≢false, length-set, Event, Boot, Image, IsLawful, is_lawful_boot, Partitions, Pending, Life, Thread, Steps, Offers, Runs, begins, blank, boot_thread, booted, booted_one, cleans_pair, exits, goes, loaded, opening, recycles, skips_drops, skips_inherit, State, is_living, is_started, nobody, thread_at, with_thread, is_empty, at_set, THREADS, IsDescribed, Act}
 use Rattle.um_base.specs.declared.image.DomainDef.{DomainDef}
-use Rattle.um_base.specs.declared.image.Image.{Image}
-use Rattle.um_base.specs.Lawful.{IsLawful, is_initialised, is_lawful_boot}
-use Rattle.um_base.specs.Regions.{Partitions}
-use Rattle.um_machine.specs.declared.pending.Pending.{Pending}
-use Rattle.um_machine.specs.declared.thread.Life.{Life}
-use Rattle.um_machine.specs.declared.thread.Thread.{Thread}
-use Rattle.um_machine.specs.Order.{Steps}
-use Rattle.um_machine.specs.Run.{Offers, Runs, begins, blank, boot_thread, booted, booted_one, cleans_pair, exits, goes, loaded, opening, recycles, skips_drops, skips_inherit}
-use Rattle.um_machine.specs.State.{State, is_living, is_started, nobody, thread_at, with_thread}
-use Rattle.um_machine.specs.Services.{is_empty}
+use Rattle.um_base.specs.Lawful.{is_initialised}
 use Rattle.um_machine.specs.Table as T
-use Rattle.um_invariants.proofs.Cores.{at_set}
-use Rattle.um_base.specs.declared.limits.TheConstants.{THREADS}
-use Rattle.um_invariants.specs.Described.{IsDescribed}
 use Rattle.um_erasure.proofs.Erased.{IsReachable}
 use Rattle.um_erasure.proofs.FirstObjects.{opening-image}
 use Rattle.um_erasure.proofs.FirstReady.{entry, threads-are}
@@ -29,7 +11,7 @@ use Rattle.um_erasure.proofs.Reachable.{Any, makes-any, opening-wide}
 use Rattle.um_erasure.proofs.Others.{others, starts_other}
 use Rattle.um_erasure.proofs.ThreadLists.{set-else}
 use Rattle.um_erasure.proofs.WordsKept.{NoWords, says-kept}
-use Rattle.um_erasure.proofs.Writes.{Keeping, Makes, Said, after-kept, reads-keeping}
+use Rattle.um_erasure.proofs.Writes.{after_saying, Keeping, Makes, Said, after-kept, reads-keeping}
 
 -- in one of so many domains, or never started and at rest
 abbrev pub Placed : ℕ → Thread → Type 0
@@ -111,23 +93,16 @@ module _ (m : State) (n t x : ℕ) (all : (u : ℕ) → Placed n (thread_at m u)
       written (with_thread m who.0 th) t _ (inl (within m who.0 th here here)) (written m who.0 th (inl here) all)
   placed-after (Pending.DomMove d who) rest here = by (T.domain_at m d) refl
     where
-      by : (parts : Option Partitions) → T.domain_at m d ≡ parts
-          → All (T.goes_on (T.moved m who.0 d (T.move_reply (T.domain_at m d))) t (record (thread_at (T.moved m who.0 d (T.move_reply (T.domain_at m d))) t) { reply = T.move_reply (T.domain_at m d) }) rest)
-      by None e =
-          subst (λ (o : Option Partitions). All (T.goes_on (T.moved m who.0 d (T.move_reply o)) t (record (thread_at (T.moved m who.0 d (T.move_reply o)) t) { reply = T.move_reply o }) rest)) (sym e)
-          (written m t _ (inl here) all)
+      After : Option Partitions → State
+      After parts = after_saying m t x (Pending.DomMove d who) (Act.DomMove d who (T.move_reply parts)) rest
+
+      by : (parts : Option Partitions) → T.domain_at m d ≡ parts → All (After (T.domain_at m d))
+      by None e = subst (λ (o : Option Partitions). All (After o)) (sym e) (written m t _ (inl here) all)
       by (Some parts) e =
           let l = inside m.domains d (ap is_some e) in
           let th = record (thread_at m who.0) { domain = d } in
           let few : d < n = subst (λ k. d < k) many l in
-          subst (λ (o : Option Partitions). All (T.goes_on (T.moved m who.0 d (T.move_reply o)) t (record (thread_at (T.moved m who.0 d (T.move_reply o)) t) { reply = T.move_reply o }) rest)) (sym e)
-          (written (with_thread m who.0 th) t _ (inl (within m who.0 th few here)) (written m who.0 th (inl few) all))
-  placed-after (Pending.DropPair who a) rest here = beside (Pending.DropPair who a) rest here (tt, tt) (λ u. tt)
-  placed-after (Pending.Reserve kind) rest here = beside (Pending.Reserve kind) rest here (tt, tt) (λ u. tt)
-  placed-after (Pending.Born a) rest here = beside (Pending.Born a) rest here (tt, tt) (λ u. tt)
-  placed-after (Pending.Drops from) rest here = beside (Pending.Drops from) rest here (tt, tt) (λ u. tt)
-  placed-after (Pending.CleanPair who) rest here = beside (Pending.CleanPair who) rest here (tt, tt, tt) (λ u. tt)
-  placed-after Pending.Recycle rest here = beside Pending.Recycle rest here (tt, tt) (λ u. tt)
+          subst (λ (o : Option Partitions). All (After o)) (sym e) (written (with_thread m who.0 th) t _ (inl (within m who.0 th few here)) (written m who.0 th (inl few) all))
   placed-after q rest here = beside q rest here tt (λ u. tt)
 
 -- Along a run.

@@ -1,31 +1,7 @@
 -- A turn is done with a thread that is at rest, and has ended or is doomed, after every lawful step.
-use Rattle.std.proofs.Common.{◌≡◌, ◌⊎◌, inl, inr, ℕ, ◌<◌, Bool, true, false, cond, [], ◌∷◌, refl, sym, ap, ◌∙◌, subst}
-use Rattle.std.specs.Prelude.{◌==◌, ◌||◌, if◌then◌else◌, not}
-use Rattle.std.specs.List.{list_any}
-use Rattle.std.proofs.lemmas.Bool.{and_parts, eqb-true, false≢true, true≢false}
-use Rattle.um_base.specs.declared.act.Act.{Act}
-use Rattle.um_base.specs.declared.limits.TheConstants.{THREADS}
-use Rattle.um_machine.specs.declared.pending.Pending.{Pending}
-use Rattle.um_machine.specs.declared.thread.Thread.{Thread}
-use Rattle.um_machine.specs.Order.{Steps}
-use Rattle.um_machine.specs.State.{State, thread_at}
-use Rattle.um_words.specs.declared.fine.FineAct.{FineAct}
-use Rattle.um_words.specs.declared.fine.Unseen.{Unseen}
-use Rattle.um_words.specs.declared.thread_word.ThreadWord.{ThreadWord}
-use Rattle.um_words.specs.Threads.{thread_after, thread_after_act}
-use Rattle.um_fine.specs.Answers.{is_word_read, thread_in}
-use Rattle.um_fine.specs.Asks.{begins_cleaning, fits, says_show, shows, site_of_step}
-use Rattle.um_fine.specs.Context.{Context}
-use Rattle.um_fine.specs.Follows.{after_show, after_take, goes_on_by, p_next}
-use Rattle.um_fine.specs.Places.{Todo, Todos}
-use Rattle.um_fine.specs.Processor.{Processor}
-use Rattle.um_fine.specs.Sites.{SiteState, s_next, same_site, site_after, word_of}
-use Rattle.um_fine.specs.Steps.{Exchange, FineStep, Site}
-use Rattle.um_erasure.specs.Fine.{Fine, thread_state, word}
-use Rattle.um_erasure.specs.Lists.{has_steps, is_done}
+use Rattle.um_erasure.proofs.Words.{◌≡◌, ◌⊎◌, inl, inr, ℕ, ◌<◌, Bool, true, false, cond, [], ◌∷◌, refl, sym, ap, ◌∙◌, subst, ◌==◌, ◌||◌, if◌then◌else◌, not, list_any, and_parts, eqb-true, false≢true, true≢false, Act, THREADS, Pending, Thread, Steps, State, thread_at, FineAct, Unseen, ThreadWord, thread_after, thread_after_act, is_word_read, begins_cleaning, fits, says_show, shows, site_of_step, Context, after_show, after_take, goes_on_by, p_next, Todo, Todos, Processor, SiteState, s_next, same_site, site_after, word_of, Exchange, FineStep, Site, Fine, thread_state, word, has_steps, is_done, Fits, IsOffered, IsOf}
+use Rattle.um_fine.specs.Answers.{thread_in}
 use Rattle.um_erasure.specs.Offers as O
-use Rattle.um_erasure.specs.Offers.{Fits, IsOffered}
-use Rattle.um_erasure.specs.Threads.{IsOf}
 use Rattle.um_erasure.proofs.CallSteps.{Proper}
 use Rattle.um_erasure.proofs.CallsProper.{AreProper}
 use Rattle.um_erasure.proofs.ContextsPart.{now-context}

@@ -1,37 +1,8 @@
 -- A processor's drop of a permission is that step of the machine, where the relation holds and permissions are of live objects alone: a
 -- release or a revocation, and what a thread's end drops.
-use Rattle.std.proofs.Common.{◌≡◌, ◌⊎◌, inl, inr, ℕ, zero, suc, ◌<◌, ◌≤◌, Bool, true, false, List, [], ◌∷◌, length, refl, sym, ap, ◌∙◌, subst, arith, eq-or-lt_of_le}
-use Rattle.std.specs.Prelude.{◌&&◌, not, nat_le, if◌then◌else◌, slice_index_or, slice_set, take}
-use Rattle.std.specs.List.{list_all}
-use Rattle.std.proofs.lemmas.Bool.{and_from, and_parts, false≢true, not_from_false, true≢false}
-use Rattle.std.proofs.lemmas.List.{get_or-set_same}
-use Rattle.um_base.specs.declared.act.Act.{Act}
-use Rattle.um_base.specs.declared.act.Leftover.{Leftover}
-use Rattle.um_base.specs.declared.limits.TheConstants.{ROWS, STATIC_ROWS}
-use Rattle.um_base.specs.declared.names.Addr.{Addr}
-use Rattle.um_base.specs.declared.names.ThreadIx.{ThreadIx}
-use Rattle.um_machine.specs.declared.pending.Pending.{Pending}
-use Rattle.um_machine.specs.declared.thread.Thread.{Thread}
+use Rattle.um_erasure.proofs.Words.{◌≡◌, ◌⊎◌, inl, inr, ℕ, zero, suc, ◌<◌, ◌≤◌, Bool, true, false, List, [], ◌∷◌, length, refl, sym, ap, ◌∙◌, subst, arith, eq-or-lt_of_le, ◌&&◌, not, nat_le, if◌then◌else◌, slice_index_or, slice_set, take, list_all, and_from, and_parts, false≢true, not_from_false, true≢false, get_or-set_same, Act, Leftover, ROWS, STATIC_ROWS, Addr, ThreadIx, Pending, Thread, Steps, to_thread, goes, State, object_at, pair_at, thread_at, with_pair, FineAct, Stage, has, is_free, is_last, is_live, left_of, address_of, row_named, act_in, leftover_in, row_in, FineStep, Site, SiteState, site_answers, Todo, Todos, by_me, fits, is_dropped, shows, Fine, row, has_steps, visited, recyclers, vacaters, is_visiting, Drops, Fits, Rel}
 use Rattle.um_machine.specs.Objects as Plain
-use Rattle.um_machine.specs.Order.{Steps, to_thread}
-use Rattle.um_machine.specs.Run.{goes}
-use Rattle.um_machine.specs.State.{State, object_at, pair_at, thread_at, with_pair}
 use Rattle.um_machine.specs.Table as T
-use Rattle.um_words.specs.declared.fine.FineAct.{FineAct}
-use Rattle.um_words.specs.declared.row_word.Stage.{Stage}
-use Rattle.um_words.specs.Rows.{has, is_free, is_last, is_live, left_of}
-use Rattle.um_fine.specs.Addresses.{address_of, row_named}
-use Rattle.um_fine.specs.Answers.{act_in, left_in, row_in}
-use Rattle.um_fine.specs.Steps.{FineStep, Site}
-use Rattle.um_fine.specs.Sites.{SiteState, site_answers}
-use Rattle.um_fine.specs.Places.{Todo, Todos}
-use Rattle.um_fine.specs.Asks.{by_me, fits, is_dropped, shows}
-use Rattle.um_erasure.specs.Fine.{Fine, row}
-use Rattle.um_erasure.specs.Lists.{has_steps, visited}
-use Rattle.um_erasure.specs.Objects.{recyclers, vacaters}
-use Rattle.um_erasure.specs.Dues.{is_visiting}
-use Rattle.um_erasure.specs.Offers.{Drops, Fits}
-use Rattle.um_erasure.specs.Relation.{Rel}
 use Rattle.um_erasure.proofs.StepsLeft.{drops-on}
 use Rattle.um_erasure.proofs.Erased.{Goes, GoesBy}
 use Rattle.um_erasure.proofs.Offered.{IsStep, Shows, act-is, machine-step, site-is}
@@ -91,7 +62,7 @@ pub drop-pair-step : {f : Fine} {m : State} {k : ℕ} {e : FineStep} {rest : Ste
     → IsStep f m k e 0 (Pending.DropPair who a)
 drop-pair-step {f} {m} {k} {e} who a few held h =
     let x = row_named f.image a in
-    let says = ap (λ act. left_in (act_in act)) (row-says h x (shows f.image (f.processors k) (Pending.DropPair who a) e.act) (site-is h) (act-is h)) in
+    let says = ap (λ act. leftover_in (act_in act)) (row-says h x (shows f.image (f.processors k) (Pending.DropPair who a) e.act) (site-is h) (act-is h)) in
     machine-step h 0 (act-is h) tt
     (ap (Act.DropPair who a) (sym says ∙ (left-here f m h.rel x who.0 few held ∙ ap (T.dropped m who.0) (sym (named-row f m h.rel a)))))
 
@@ -104,11 +75,11 @@ clear-below (b ∷ bs) (suc n) h = and_from _ _ (not_from_false b (h 0 (omega ar
 
 module _ {f : Fine} {m : State} {k : ℕ} {e : FineStep} {x : ℕ} {step : Todo} {todo : Todos} (h : Visits f m k e x step todo) where
   -- what a dropped permission leaves is what the word of the row tells
-  pub left-there : (who : ℕ) → e.site ≡ Site.row x → e.act ≡ by_me f.image (f.processors k) (Act.DropPair (to_thread who) (address_of f.image x) (left_in (act_in e.act)))
-      → left_of (row f x) who ≡ left_in (act_in e.act)
+  pub left-there : (who : ℕ) → e.site ≡ Site.row x → e.act ≡ by_me f.image (f.processors k) (Act.DropPair (to_thread who) (address_of f.image x) (leftover_in (act_in e.act)))
+      → left_of (row f x) who ≡ leftover_in (act_in e.act)
   left-there who site said =
-      let act = Act.DropPair (to_thread who) (address_of f.image x) (left_in (act_in e.act)) in
-      ap (λ z. left_in (act_in z))
+      let act = Act.DropPair (to_thread who) (address_of f.image x) (leftover_in (act_in e.act)) in
+      ap (λ z. leftover_in (act_in z))
       (subst (λ (s : SiteState). site_answers f.image s e.moved (by_me f.image (f.processors k) act) ≡ by_me f.image (f.processors k) act) (row-stands f m h.rel x)
       (subst (λ (z : Site × FineAct). site_answers f.image (f.sites z.0) e.moved z.1 ≡ z.1) (λ j. (site j, said j)) (ap (λ (s : FineStep). s.act) h.taken.filled_in)))
 
@@ -129,10 +100,10 @@ module _ {f : Fine} {m : State} {k : ℕ} {e : FineStep} {x : ℕ} {todo : Todos
       → (from : ℕ) × (rest : Steps) × ((f.processors k).context.pending ≡ Pending.Drops from ∷ rest) × Goes m e (T.after m (f.processors k).context.thread x (Pending.Drops from) rest)
   drop-step held =
       let t = (f.processors k).context.thread in
-      let act = Act.DropPair (to_thread t) (address_of f.image x) (left_in (act_in e.act)) in
+      let act = Act.DropPair (to_thread t) (address_of f.image x) (leftover_in (act_in e.act)) in
       let said = visit-shows h act (visit-act h) in
       let left = left-there h t (visit-site h) said in
-      let fit : is_dropped (left_in (act_in e.act)) ≡ true = drop-found in
+      let fit : is_dropped (leftover_in (act_in e.act)) ≡ true = drop-found in
       let there : has (row f x) t ≡ true = dropped-has (has (row f x) t) (is_last (row f x) t) (ap is_dropped left ∙ fit) in
       let dues = (h.rel.processors k h.there).dues in
       let own = ((visit-part h).of (drops-on f.image (f.processors k).context todo drop-fits)).own in
@@ -154,7 +125,7 @@ module _ {f : Fine} {m : State} {k : ℕ} {e : FineStep} {x : ℕ} {todo : Todos
             }),
       )
     where
-      drop-found : is_dropped (left_in (act_in e.act)) ≡ true
+      drop-found : is_dropped (leftover_in (act_in e.act)) ≡ true
       drop-found =
-          sym (ap (λ b. if b then not (has (row_in e.word) (f.processors k).context.thread) else is_dropped (left_in (act_in e.act))) h.shown)
+          sym (ap (λ b. if b then not (has (row_in e.word) (f.processors k).context.thread) else is_dropped (leftover_in (act_in e.act))) h.shown)
           ∙ (and_parts _ _ (subst (λ (l : Todos). fits f.image (f.processors k) l e ≡ true) h.at h.may.fit)).0

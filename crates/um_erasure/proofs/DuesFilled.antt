@@ -1,45 +1,12 @@
 -- Where a thread's next step is expanded, what is due of it isn't visited yet; and what a thread goes on with after an event is no visit, or
 -- begins one at a row that there is.
-use Rattle.std.proofs.Common.{◌≡◌, ◌⊎◌, inl, inr, ℕ, ◌+◌, ◌<◌, ◌≤◌, Bool, true, false, List, [], ◌∷◌, Option, Some, None, refl, sym, ap, ◌∙◌, subst, arith, eq-eqb, eq-or-lt_of_le}
-use Rattle.std.specs.Prelude.{◌==◌, if◌then◌else◌, nat_lt}
-use Rattle.std.proofs.lemmas.Bool.{and_parts, eqb-true, false≢true, true≢false}
-use Rattle.um_base.specs.declared.act.Act.{Act}
-use Rattle.um_base.specs.declared.act.Answer.{Answer}
-use Rattle.um_base.specs.declared.act.Found.{Found}
-use Rattle.um_base.specs.declared.act.SetSaid.{SetSaid}
-use Rattle.um_base.specs.declared.ask.Ask.{Ask}
-use Rattle.um_base.specs.declared.image.Image.{Image}
-use Rattle.um_base.specs.declared.instr.Instr.{Instr}
-use Rattle.um_base.specs.declared.limits.TheConstants.{ROWS, THREADS}
-use Rattle.um_base.specs.declared.names.Addr.{Addr}
-use Rattle.um_base.specs.declared.names.Mode.{Mode}
-use Rattle.um_base.specs.declared.names.Policy.{Policy}
-use Rattle.um_base.specs.declared.names.Reply.{Reply}
-use Rattle.um_base.specs.declared.names.ThreadIx.{ThreadIx}
-use Rattle.um_base.specs.Lawful.{IsLawful}
-use Rattle.um_base.specs.Places.{own_row}
-use Rattle.um_machine.specs.declared.pending.Pending.{Pending}
-use Rattle.um_machine.specs.declared.thread.Thread.{Thread}
-use Rattle.um_machine.specs.Order.{Steps, copy_fails, end_steps, fatal_steps, privileged, steps_of}
-use Rattle.um_machine.specs.Run.{Offers, begins, cleans_pair, exits, goes, recycles, skips_drops, skips_inherit}
-use Rattle.um_machine.specs.State.{State, instruction_at, pair_at, thread_at}
+use Rattle.um_erasure.proofs.Words.{◌≡◌, ◌⊎◌, inl, inr, ℕ, ◌+◌, ◌<◌, ◌≤◌, Bool, true, false, List, [], ◌∷◌, Option, Some, None, refl, sym, ap, ◌∙◌, subst, arith, eq-eqb, eq-or-lt_of_le, ◌==◌, if◌then◌else◌, nat_lt, and_parts, eqb-true, false≢true, true≢false, Act, Image, Instr, ROWS, THREADS, Mode, Policy, Reply, ThreadIx, IsLawful, own_row, Pending, Thread, Next, Way, steps_by, told_way, Steps, end_steps, fatal_steps, privileged, steps_of, Offers, begins, cleans_pair, exits, goes, recycles, skips_drops, skips_inherit, State, pair_at, thread_at, HoldsOfWays, way-left, claims, Call, call_is, real-below, AreKept, are_orderly, Context, as_thread, came_in, continues, gone_part, but, fine_steps, next_steps, Exchange, heard, part-heard, is_visiting, has_steps, visited, behind_shown}
 use Rattle.um_machine.specs.Table as T
-use Rattle.um_invariants.proofs.Claims.{claims}
-use Rattle.um_invariants.proofs.Cores.{Call, call_is}
-use Rattle.um_scheduler.proofs.ThreadStarts.{real-below}
-use Rattle.um_scheduler.proofs.ThreadWords.{AreKept, DueFrom, MayPass, are_orderly, are_plain, clears_one, starts_one}
-use Rattle.um_fine.specs.Answers.{bytes_in, fits_in, found_in, is_fault, outcome_in, reserved_in, set_in, verdict_in}
-use Rattle.um_fine.specs.Context.{Context, as_thread}
-use Rattle.um_fine.specs.Continues.{after_access, after_reserve, after_set, after_text, after_work, begun, continues, told_steps}
-use Rattle.um_fine.specs.Places.{but, fine_steps, next_steps}
-use Rattle.um_fine.specs.Steps.{Exchange}
-use Rattle.um_erasure.specs.Dues.{is_visiting}
-use Rattle.um_erasure.specs.Lists.{has_steps, visited}
-use Rattle.um_erasure.specs.Offers.{behind_shown}
+use Rattle.um_invariants.proofs.ThreadWords.{DueFrom, MayPass, are_plain, clears_one, starts_one}
+use Rattle.um_fine.specs.Continues.{told_steps}
 use Rattle.um_erasure.proofs.ChildSteps.{Creates, InOrder}
 use Rattle.um_erasure.proofs.ChildrenKnown.{AllCreate, Stands}
 use Rattle.um_erasure.proofs.DuesKept.{is_due}
-use Rattle.um_erasure.proofs.Failures.{HoldsOfFailures, check-left, error-left, fails-left}
 use Rattle.um_erasure.proofs.ListDues.{drops-visited, fine-visited, passes-visited}
 use Rattle.um_erasure.proofs.Reachable.{IsSound}
 use Rattle.um_erasure.proofs.WordsKept.{IsShown}
@@ -181,11 +148,6 @@ plain-few [] h = tt
 plain-few (Pending.Drops from ∷ rest) h = absurd (false≢true h)
 plain-few (q ∷ rest) h = tt
 
-without-few : (rest : Steps) → are_plain rest ≡ true → IsFew (T.without_copy rest)
-without-few [] h = tt
-without-few (Pending.CopyOut a ∷ rest) h = plain-few rest h
-without-few (q ∷ rest) h = plain-few (q ∷ rest) h
-
 privileged-few : (mode : Mode) (steps : Steps) → IsFew steps → IsFew (privileged mode steps)
 privileged-few Mode.User steps h = tt
 privileged-few Mode.Supervisor steps h = h
@@ -200,57 +162,44 @@ steps-few image t me (Instr.AllGrant object) = privileged-few me.mode _ tt
 steps-few image t me (Instr.Revoke object thread) = privileged-few me.mode _ tt
 steps-few image t me instr = tt
 
-failures-few : HoldsOfFailures IsFew
-failures-few = record { fatal = λ reason cause. tt; unbuffer = λ size reason cause. tt; answer = λ reply. tt }
+-- the steps that are left stay plain and in order, whichever way it goes on
+plain-ways : HoldsOfWays (λ steps. are_plain steps ≡ true)
+plain-ways =
+    record {
+      copies = λ a left h. h;
+      waits = λ left h. h;
+      bears = λ a left h. h;
+      replies = λ reply. refl;
+      fails = λ reason cause. refl;
+      gives_back = λ size reason cause. refl;
+      clears = λ a reason cause. refl;
+    }
+
+order-ways : HoldsOfWays InOrder
+order-ways =
+    record {
+      copies = λ a left h. h;
+      waits = λ left h. h;
+      bears = λ a left h. h;
+      replies = λ reply. tt;
+      fails = λ reason cause. tt;
+      gives_back = λ size reason cause. tt;
+      clears = λ a reason cause. tt;
+    }
+
+way-few : (rest : Steps) (way : Way) → are_plain rest ≡ true → IsFew (steps_by rest way)
+way-few rest way h = plain-few (steps_by rest way) (way-left (λ steps. are_plain steps ≡ true) plain-ways rest way h)
 
 doom-few : (from : ℕ) → IsFew (T.next_doom from)
 doom-few from = elim (nat_lt (from + 1) THREADS) as (λ b. IsFew (if b then Pending.Dooms (from + 1) ∷ [] else [])) [ true ↦ tt | false ↦ tt ]
 
 pub told-few : (reply : Reply) (rest : Steps) → are_plain rest ≡ true → IsFew (told_steps reply rest)
-told-few (Reply.Fail e) rest h = without-few rest h
-told-few Reply.Void rest h = plain-few rest h
-told-few (Reply.Num n) rest h = plain-few rest h
-told-few (Reply.At a) rest h = plain-few rest h
-told-few Reply.Null rest h = plain-few rest h
+told-few (Reply.Fail e) rest h = way-few rest Way.skips_copy h
+told-few reply rest h = plain-few rest h
 
 module _ (image : Image) (c : Context) where
-  either : (P : Context → Type 0) (b : Bool) (one two : Context) → P one → P two → P (if b then one else two)
-  either P true one two h k = h
-  either P false one two h k = k
-
   abbrev Few : Context → Type 0
   Few d = IsFew d.pending
-
-  begun-few : (instr : Option Instr) → Few c → Few (begun image c instr)
-  begun-few None h = h
-  begun-few (Some instr) h = steps-few image c.thread (as_thread c) instr
-
-  access-few : (b : Bool) (rest other : Steps) → IsFew rest → IsFew other → Few (after_access image c b rest other)
-  access-few true rest other h k = h
-  access-few false rest other h k = k
-
-  text-few : (bs : List ℕ) (rest : Steps) (found : Found) → IsFew rest → Few (after_text image c bs rest found)
-  text-few bs rest (Found.Length n) h = h
-  text-few bs rest Found.Unreadable h = tt
-  text-few bs rest Found.TooLong h = tt
-
-  work-few : (ask : Ask) (taken : List ℕ) (rest : Steps) (answer : Answer) → are_plain rest ≡ true → Few (after_work image c ask taken rest answer)
-  work-few ask taken rest Answer.Wait h = tt
-  work-few ask taken rest (Answer.Now (Reply.Fail e)) h = error-left IsFew failures-few c.mode ask e rest (without-few rest h)
-  work-few ask taken rest (Answer.Now Reply.Void) h = plain-few rest h
-  work-few ask taken rest (Answer.Now (Reply.Num n)) h = plain-few rest h
-  work-few ask taken rest (Answer.Now (Reply.At a)) h = plain-few rest h
-  work-few ask taken rest (Answer.Now Reply.Null) h = plain-few rest h
-
-  set-few : (undo : Option Addr) (rest : Steps) (said : SetSaid) → IsFew rest → Few (after_set image c undo rest said)
-  set-few undo rest SetSaid.Done h = h
-  set-few undo rest SetSaid.Gone h = h
-  set-few None rest (SetSaid.Fail e) h = tt
-  set-few (Some a) rest (SetSaid.Fail e) h = tt
-
-  reserve-few : (rest : Steps) (a : Option Addr) → IsFew rest → Few (after_reserve image c rest a)
-  reserve-few rest None h = h
-  reserve-few rest (Some a) h = tt
 
   fatal-few : (reason : ℕ) (policy : Policy) → IsFew (fatal_steps image c.thread (as_thread c) reason policy)
   fatal-few reason Policy.Halt = tt
@@ -260,30 +209,36 @@ module _ (image : Image) (c : Context) where
       by true = tt
       by false = omega arith
 
+  -- it drops from one of the rows on, or behind the last
+  abbrev DropsFew : Next → Type 0
+  DropsFew (Next.drops from) = from ≤ ROWS
+  DropsFew next = Unit {0}
+
+  gone-few : (rest : Steps) (next : Next) → DropsFew next → Few c → are_plain rest ≡ true → Few (gone_part image rest next c)
+  gone-few rest (Next.on change way) fits was h = way-few rest way h
+  gone-few rest (Next.checks x v way) fits was h = way-few rest way h
+  gone-few rest (Next.begins None) fits was h = was
+  gone-few rest (Next.begins (Some instr)) fits was h = steps-few image c.thread (as_thread c) instr
+  gone-few rest (Next.resumes None) fits was h = was
+  gone-few rest (Next.resumes (Some told)) fits was h = way-few rest (told_way told.reply) h
+  gone-few rest (Next.inherits who) fits was h = tt
+  gone-few rest (Next.drops from) fits was h = fits
+  gone-few rest (Next.dooms from) fits was h = doom-few from
+  gone-few rest (Next.enters script) fits was h = tt
+  gone-few rest Next.exits fits was h = omega arith
+  gone-few rest (Next.fatal reason) fits was h = fatal-few reason image.policy
+  gone-few rest Next.stays fits was h = was
+  gone-few rest next fits was h = plain-few rest h
+
+  drops-few : (q : Pending) (act : Act) (came : List ℕ) → DropsFew (T.continues image c.thread (as_thread c) 0 q act came)
+  drops-few (Pending.Drops from) act came = omega arith
+  drops-few q act came = tt
+
   pub continued-few : (q : Pending) (rest : Steps) (act : Act) (moved : Exchange) → Few c → are_plain rest ≡ true → Few (continues image c 0 q rest act moved)
-  continued-few Pending.Begin rest act moved was h = begun-few (instruction_at image c.place) was
-  continued-few Pending.Exit rest act moved was h = omega arith
-  continued-few (Pending.Check a kind want refusal) rest act moved was h = check-left IsFew failures-few c.mode rest refusal (verdict_in act) (plain-few rest h)
-  continued-few (Pending.Load to a n) rest act moved was h = either Few (is_fault act) _ _ tt (plain-few rest h)
-  continued-few (Pending.Store a n value) rest act moved was h = either Few (is_fault act) _ _ tt (plain-few rest h)
-  continued-few (Pending.Fetch a) rest act moved was h = either Few (is_fault act) _ _ tt (plain-few rest h)
-  continued-few (Pending.Probe a amount) rest act moved was h = access-few (fits_in act) rest _ (plain-few rest h) (fails-left IsFew failures-few c.mode)
-  continued-few (Pending.CopyIn a amount) rest act moved was h = either Few (fits_in act) _ _ (plain-few rest h) (fails-left IsFew failures-few c.mode)
-  continued-few (Pending.CopyOut a) rest act moved was h = access-few (fits_in act) rest _ (plain-few rest h) (fails-left IsFew failures-few c.mode)
-  continued-few (Pending.CopyStr a) rest act moved was h = text-few (bytes_in moved) rest (found_in act) (plain-few rest h)
-  continued-few (Pending.Work a ask) rest act moved was h = let w = outcome_in moved in work-few ask w.taken rest w.answer h
-  continued-few Pending.Resume rest act moved was h = was
-  continued-few (Pending.Inherit who) rest act moved was h = tt
-  continued-few (Pending.SetInit a strict undo) rest act moved was h = set-few undo rest (set_in act) (plain-few rest h)
-  continued-few (Pending.Reserve kind) rest act moved was h = reserve-few rest (reserved_in act) (plain-few rest h)
-  continued-few (Pending.Buffer size) rest act moved was h = access-few (fits_in act) rest _ (plain-few rest h) tt
-  continued-few (Pending.EnterUser script) rest act moved was h = tt
-  continued-few (Pending.Fatal reason cause) rest act moved was h = fatal-few reason image.policy
-  continued-few (Pending.Drops from) rest act moved was h = omega arith
-  continued-few (Pending.Dooms from) rest act moved was h = doom-few from
-  continued-few (Pending.CleanPair who) rest act moved was h = was
-  continued-few Pending.Recycle rest act moved was h = was
-  continued-few q rest act moved was h = plain-few rest h
+  continued-few q rest act moved was h =
+      let said = heard image c rest q act moved in
+      let came = came_in q moved in
+      subst Few (sym (part-heard image c rest 0 q act moved)) (gone-few rest (T.continues image c.thread (as_thread c) 0 q said came) (drops-few q said came) was h)
 
   -- Behind an access to memory, or a start, comes no visit.
 
@@ -296,30 +251,37 @@ module _ (image : Image) (c : Context) where
   still-steps (Pending.Drops from ∷ rest) h o = absurd (false≢true h)
   still-steps (q ∷ rest) h o = refl
 
-  fails-still : (mode : Mode) → is_visiting (copy_fails mode) ≡ false
-  fails-still Mode.User = refl
-  fails-still Mode.Supervisor = refl
+  way-still : (rest : Steps) (way : Way) → are_plain rest ≡ true → InOrder rest → is_visiting (steps_by rest way) ≡ false
+  way-still rest way h o = still-steps (steps_by rest way) (way-left (λ steps. are_plain steps ≡ true) plain-ways rest way h) (way-left InOrder order-ways rest way o)
 
-  access-still : (b : Bool) (rest other : Steps) → is_visiting rest ≡ false → is_visiting other ≡ false → Still (after_access image c b rest other)
-  access-still true rest other h k = h
-  access-still false rest other h k = k
+  -- it goes on in its call, or has started its child
+  abbrev IsInCall : Next → Type 0
+  IsInCall (Next.on change way) = Unit {0}
+  IsInCall Next.starts = Unit {0}
+  IsInCall next = ⊥
 
-  text-still : (bs : List ℕ) (rest : Steps) (found : Found) → is_visiting rest ≡ false → Still (after_text image c bs rest found)
-  text-still bs rest (Found.Length n) h = h
-  text-still bs rest Found.Unreadable h = refl
-  text-still bs rest Found.TooLong h = refl
+  gone-still : (rest : Steps) (next : Next) → IsInCall next → are_plain rest ≡ true → InOrder rest → Still (gone_part image rest next c)
+  gone-still rest (Next.on change way) is h o = way-still rest way h o
+  gone-still rest Next.starts is h o = still-steps rest h o
+  gone-still rest next is h o = absurd is
+
+  behind-on : (q : Pending) (act : Act) (came : List ℕ) → has_steps (behind_shown image c q) ≡ true → IsInCall (T.continues image c.thread (as_thread c) 0 q act came)
+  behind-on (Pending.Load to a n) act came some = tt
+  behind-on (Pending.Store a n value) act came some = tt
+  behind-on (Pending.Fetch a) act came some = tt
+  behind-on (Pending.Probe a amount) act came some = tt
+  behind-on (Pending.CopyIn a amount) act came some = tt
+  behind-on (Pending.CopyOut a) act came some = tt
+  behind-on (Pending.CopyStr a) act came some = tt
+  behind-on (Pending.Start who script stack priority mode) act came some = tt
+  behind-on q act came some = absurd (false≢true some)
 
   pub behind-still : (q : Pending) (rest : Steps) (act : Act) (moved : Exchange) → has_steps (behind_shown image c q) ≡ true → are_plain rest ≡ true → InOrder rest
       → Still (continues image c 0 q rest act moved)
-  behind-still (Pending.Load to a n) rest act moved some h o = either Still (is_fault act) _ _ refl (still-steps rest h o)
-  behind-still (Pending.Store a n value) rest act moved some h o = either Still (is_fault act) _ _ refl (still-steps rest h o)
-  behind-still (Pending.Fetch a) rest act moved some h o = either Still (is_fault act) _ _ refl (still-steps rest h o)
-  behind-still (Pending.Probe a amount) rest act moved some h o = access-still (fits_in act) rest _ (still-steps rest h o) (fails-still c.mode)
-  behind-still (Pending.CopyIn a amount) rest act moved some h o = either Still (fits_in act) _ _ (still-steps rest h o) (fails-still c.mode)
-  behind-still (Pending.CopyOut a) rest act moved some h o = access-still (fits_in act) rest _ (still-steps rest h o) (fails-still c.mode)
-  behind-still (Pending.CopyStr a) rest act moved some h o = text-still (bytes_in moved) rest (found_in act) (still-steps rest h o)
-  behind-still (Pending.Start who script stack priority mode) rest act moved some h o = still-steps rest h o
-  behind-still q rest act moved some h o = absurd (false≢true some)
+  behind-still q rest act moved some h o =
+      let said = heard image c rest q act moved in
+      let came = came_in q moved in
+      subst Still (sym (part-heard image c rest 0 q act moved)) (gone-still rest (T.continues image c.thread (as_thread c) 0 q said came) (behind-on q said came some) h o)
 
 -- and the steps behind these are in order
 pub behind-order : (image : Image) (c : Context) (m : State) (t x : ℕ) (all : AllCreate m) (q : Pending) (rest : Steps) → has_steps (behind_shown image c q) ≡ true → Stands m t x all q rest → InOrder rest

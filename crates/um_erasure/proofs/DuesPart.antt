@@ -1,44 +1,9 @@
 -- What is due of a processor's thread isn't visited yet, after every lawful step.
-use Rattle.std.proofs.Common.{◌≡◌, ◌⊎◌, inl, inr, ℕ, ◌+◌, ◌<◌, ◌≤◌, Bool, true, false, cond, List, [], ◌∷◌, Option, Some, None, refl, sym, ap, ◌∙◌, subst, arith, eq-eqb, eq-or-lt_of_le}
-use Rattle.std.specs.Prelude.{◌==◌, ◌&&◌, ◌||◌, if◌then◌else◌, not, slice_index_or, slice_set}
-use Rattle.std.specs.List.{list_all}
-use Rattle.std.proofs.lemmas.Bool.{and_parts, eqb-true, false≢true, ltb-true, not-true, true≢false}
-use Rattle.std.proofs.lemmas.List.{get_or-set_same}
-use Rattle.um_base.specs.declared.ask.Told.{Told}
-use Rattle.um_base.specs.declared.image.Image.{Image}
-use Rattle.um_base.specs.declared.limits.TheConstants.{ROWS, THREADS}
-use Rattle.um_base.specs.declared.names.ThreadIx.{ThreadIx}
-use Rattle.um_base.specs.Lawful.{IsLawful}
-use Rattle.um_base.specs.Places.{own_row}
-use Rattle.um_machine.specs.declared.pending.Pending.{Pending}
-use Rattle.um_machine.specs.declared.thread.Thread.{Thread}
-use Rattle.um_machine.specs.Order.{Steps, to_thread}
-use Rattle.um_machine.specs.Run.{opening}
-use Rattle.um_machine.specs.State.{State, pair_at, thread_at}
+use Rattle.um_erasure.proofs.Words.{◌≡◌, ◌⊎◌, inl, inr, ℕ, ◌+◌, ◌<◌, ◌≤◌, Bool, true, false, cond, List, [], ◌∷◌, Option, Some, None, refl, sym, ap, ◌∙◌, subst, arith, eq-eqb, eq-or-lt_of_le, ◌==◌, ◌&&◌, ◌||◌, if◌then◌else◌, not, slice_index_or, slice_set, list_all, and_parts, eqb-true, false≢true, ltb-true, not-true, true≢false, get_or-set_same, Told, Image, ROWS, THREADS, ThreadIx, IsLawful, own_row, Pending, Thread, Steps, to_thread, opening, State, pair_at, thread_at, core_of, IsKnown, IsDescribed, AreKept, FineAct, Unseen, RowWord, has, act_in, is_visit, is_word_read, row_in, begins_cleaning, fits, says, says_idle, Context, continues, resumed, resumed_at, after_show, after_take, dropped_at, filled_up, goes_on_by, p_next, Todo, Todos, but, drops, next_steps, passes, Processor, waits, same_site, Exchange, FineStep, Site, is_visiting, Fine, one_if, has_steps, names_row, runs, visited, Drops, Fits, IsPutBack, Passes, behind_shown, is_over, IsOf, IsRun, runs_on}
 use Rattle.um_machine.specs.Table as T
-use Rattle.um_invariants.proofs.Cores.{core_of}
-use Rattle.um_invariants.proofs.Turns.{IsKnown}
-use Rattle.um_invariants.specs.Described.{IsDescribed}
-use Rattle.um_scheduler.proofs.ThreadWords.{AreKept, DueFrom, are_plain}
-use Rattle.um_words.specs.declared.fine.FineAct.{FineAct}
-use Rattle.um_words.specs.declared.fine.Unseen.{Unseen}
-use Rattle.um_words.specs.declared.row_word.RowWord.{RowWord}
-use Rattle.um_words.specs.Rows.{has}
-use Rattle.um_fine.specs.Answers.{act_in, is_visit, is_word_read, row_in}
-use Rattle.um_fine.specs.Asks.{begins_cleaning, fits, fits_visit, says, says_idle}
-use Rattle.um_fine.specs.Context.{Context}
-use Rattle.um_fine.specs.Continues.{continues, resumed, resumed_at}
-use Rattle.um_fine.specs.Follows.{after_show, after_take, dropped_at, filled_up, goes_on_by, p_next}
-use Rattle.um_fine.specs.Places.{Todo, Todos, but, drops, next_steps, passes}
-use Rattle.um_fine.specs.Processor.{Processor}
-use Rattle.um_fine.specs.Scheduler.{waits}
-use Rattle.um_fine.specs.Sites.{same_site}
-use Rattle.um_fine.specs.Steps.{Exchange, FineStep, Site}
-use Rattle.um_erasure.specs.Dues.{DuesAre, is_visiting}
-use Rattle.um_erasure.specs.Fine.{Fine, one_if}
-use Rattle.um_erasure.specs.Lists.{has_steps, names_row, runs, visited}
-use Rattle.um_erasure.specs.Offers.{Drops, Fits, IsPutBack, Passes, behind_shown, is_over}
-use Rattle.um_erasure.specs.Threads.{IsOf, IsRun, runs_on}
+use Rattle.um_invariants.proofs.ThreadWords.{DueFrom, are_plain}
+use Rattle.um_fine.specs.Asks.{fits_visit}
+use Rattle.um_erasure.specs.Dues.{DuesAre}
 use Rattle.um_erasure.proofs.ChildrenKnown.{AllCreate, children-known, offered-stands}
 use Rattle.um_erasure.proofs.CleanersPart.{visit-is}
 use Rattle.um_erasure.proofs.CleanersSteps.{row-here, word-here}

@@ -1,47 +1,12 @@
 -- The pairs that a processor has visited of a thread whose object it cleans stay gone, after every lawful step: nobody gives that thread a
 -- permission, since nobody holds its object.
-use Rattle.std.proofs.Common.{◌≡◌, ◌⊎◌, inl, inr, ℕ, zero, suc, ◌+◌, ◌<◌, ◌≤◌, Bool, true, false, cond, List, [], ◌∷◌, Some, refl, sym, ap, ◌∙◌, subst, arith, eq-eqb, eq-or-lt_of_le}
-use Rattle.std.specs.Prelude.{◌==◌, ◌&&◌, not, if◌then◌else◌, nat_lt, slice_index_or, slice_set}
-use Rattle.std.specs.List.{list_all}
-use Rattle.std.proofs.lemmas.Bool.{and_parts, eqb-false, eqb-true, false≢true, ltb-true, not-true, true≢false}
-use Rattle.std.proofs.lemmas.Bool.Decides.{nat_tests}
-use Rattle.um_base.specs.declared.act.Leftover.{Leftover}
-use Rattle.um_base.specs.declared.image.Image.{Image}
-use Rattle.um_base.specs.declared.limits.TheConstants.{ROWS, THREADS}
-use Rattle.um_base.specs.declared.names.Addr.{Addr}
-use Rattle.um_base.specs.declared.names.ThreadIx.{ThreadIx}
-use Rattle.um_base.specs.Places.{own_row, thread_of_row}
-use Rattle.um_machine.specs.declared.object.Status.{Status}
-use Rattle.um_machine.specs.declared.pending.Pending.{Pending}
-use Rattle.um_machine.specs.declared.thread.Thread.{Thread}
+use Rattle.um_erasure.proofs.Words.{◌≡◌, ◌⊎◌, inl, inr, ℕ, zero, suc, ◌+◌, ◌<◌, ◌≤◌, Bool, true, false, cond, List, [], ◌∷◌, Some, refl, sym, ap, ◌∙◌, subst, arith, eq-eqb, eq-or-lt_of_le, ◌==◌, ◌&&◌, not, if◌then◌else◌, nat_lt, slice_index_or, slice_set, list_all, and_parts, eqb-false, eqb-true, false≢true, ltb-true, not-true, true≢false, nat_tests, Leftover, Image, ROWS, THREADS, Addr, ThreadIx, own_row, thread_of_row, Status, Pending, Thread, Steps, to_thread, Offers, begins, cleans_pair, exits, goes, recycles, skips_drops, skips_inherit, is_empty, State, object_at, pair_at, thread_at, with_object, claims, Call, at_set, call_at, call_is, core_of, status_is, IsStatic, IsKnown, FineAct, Unseen, RowWord, has, is_dying, row_in, begins_cleaning, fits, Context, goes_on_by, p_next, row_number, with_cleaned, Todo, Todos, cleaning, with_cleaning, Processor, same_site, FineStep, Site, AreBlocks, Cleans, Fine, one_if, row, cleaned_pairs, counted, has_steps, is_recycle, names_row, recyclers, Fits, Passes, is_over}
 use Rattle.um_machine.specs.Objects as Plain
-use Rattle.um_machine.specs.Order.{Steps, to_thread}
-use Rattle.um_machine.specs.Run.{Offers, begins, cleans_pair, exits, goes, recycles, skips_drops, skips_inherit}
-use Rattle.um_machine.specs.Services.{is_empty}
-use Rattle.um_machine.specs.State.{State, object_at, pair_at, thread_at, with_object}
 use Rattle.um_machine.specs.Table as T
-use Rattle.um_invariants.proofs.Claims.{claims}
-use Rattle.um_invariants.proofs.Cores.{Call, at_set, call_at, call_is, core_of, status_is}
-use Rattle.um_invariants.proofs.Guards.{IsStatic}
 use Rattle.um_invariants.proofs.RunMoves.{keeps_now}
-use Rattle.um_invariants.proofs.Turns.{IsKnown}
-use Rattle.um_words.specs.declared.fine.FineAct.{FineAct}
-use Rattle.um_words.specs.declared.fine.Unseen.{Unseen}
-use Rattle.um_words.specs.declared.row_word.RowWord.{RowWord}
-use Rattle.um_words.specs.Rows.{has, is_dying}
-use Rattle.um_fine.specs.Answers.{row_in}
-use Rattle.um_fine.specs.Asks.{begins_cleaning, fits, fits_visit}
-use Rattle.um_fine.specs.Context.{Context}
-use Rattle.um_fine.specs.Follows.{goes_on_by, p_next, row_number, with_cleaned}
-use Rattle.um_fine.specs.Places.{Todo, Todos, clean_pairs, cleaning, with_cleaning}
-use Rattle.um_fine.specs.Processor.{Processor}
-use Rattle.um_fine.specs.Sites.{same_site}
-use Rattle.um_fine.specs.Steps.{FineStep, Site}
-use Rattle.um_erasure.specs.Cleaning.{AreBlocks, Cleans, IsEmptied}
-use Rattle.um_erasure.specs.Fine.{Fine, one_if, row}
-use Rattle.um_erasure.specs.Lists.{cleaned_pairs, counted, has_steps, is_recycle, names_row}
-use Rattle.um_erasure.specs.Objects.{recyclers}
-use Rattle.um_erasure.specs.Offers.{Fits, Passes, is_over}
+use Rattle.um_fine.specs.Asks.{fits_visit}
+use Rattle.um_fine.specs.Places.{clean_pairs}
+use Rattle.um_erasure.specs.Cleaning.{IsEmptied}
 use Rattle.um_erasure.proofs.CallSteps.{StartsOne}
 use Rattle.um_erasure.proofs.CellSteps.{takes-quiet}
 use Rattle.um_erasure.proofs.CleanersPart.{cleaners-part, visit-is}
@@ -64,9 +29,10 @@ use Rattle.um_erasure.proofs.PairsPart.{dropped-pairs}
 use Rattle.um_erasure.proofs.RowsPart.{rows-part}
 use Rattle.um_erasure.proofs.SchedulerSteps.{made-at, made-says}
 use Rattle.um_erasure.proofs.StepReads.{is-behind}
-use Rattle.um_erasure.proofs.Sums.{over-changed}
+use Rattle.um_erasure.proofs.Sums.{over-changed, one-true}
 use Rattle.um_erasure.proofs.VisitSteps.{pair-is}
 use Rattle.um_erasure.proofs.WordsKept.{IsShown}
+use Rattle.um_erasure.proofs.Writes.{with_dropped, with_given, with_given_if, with_cleaner, with_left}
 
 -- Who gets a permission: a thread whose object the call holds, or that is static, and a thread that is started next.
 pub record GivesHeld (m : State) : Type 0 where
@@ -89,17 +55,13 @@ pair-away s u r there v y ne h =
     at_set (λ n (flags : List Bool). n ≡ y → slice_index_or flags v false ≡ false) s.pairs r y (slice_set (slice_index_or s.pairs r []) u there) []
     (λ e. set-false (slice_index_or s.pairs r []) u v there ne (ap (λ n. slice_index_or (slice_index_or s.pairs n []) v false) e ∙ h)) (λ e. h) refl
 
-drop-away : (s : State) (u r v y : ℕ) → pair_at s v y ≡ false → pair_at (T.after_drop s u r) v y ≡ false
+drop-away : (s : State) (u r v y : ℕ) → pair_at s v y ≡ false → pair_at (with_dropped s u r) v y ≡ false
 drop-away s u r v y h = by (T.dropped s u r)
   where
-    by : (l : Leftover) → pair_at (elim l as (λ _. State) [ Leftover.NoPair ↦ s | Leftover.Kept ↦ T.paired s u r false | Leftover.Gone ↦ with_object (T.paired s u r false) r (record (object_at s r) { status = Status.Gone }) ]) v y ≡ false
+    by : (l : Leftover) → pair_at (with_left l s u r) v y ≡ false
     by Leftover.NoPair = h
     by Leftover.Kept = pair-away s u r false v y (λ k same. true≢false (sym k)) h
     by Leftover.Gone = pair-away s u r false v y (λ k same. true≢false (sym k)) h
-
-one-true : (b : Bool) → 0 < one_if b → b ≡ true
-one-true true h = refl
-one-true false h = absurd (omega (arith, h))
 
 live-gone : (s : Status) → Plain.is_live s ≡ true → Plain.is_gone s ≡ true → ⊥
 live-gone Status.Live l g = false≢true g
@@ -182,18 +144,18 @@ module _ (f : Fine) (m : State) (e : FineStep) (law : Lawful f m e) (gives : Giv
             unnamed (ap has_steps h.at) (shown-on h)
             (subst (IsStatic m.image (thread_at m p.context.thread).checked) (ap (own_row m.image) same ∙ same-row) (gives.grants p.context.thread w a rest (shown-offers h)))
 
-        by : (b : Bool) → pair_at (if b then m else T.paired m w.0 (T.row_of m a) true) who y ≡ false
+        by : (b : Bool) → pair_at (with_given_if b m w.0 (T.row_of m a)) who y ≡ false
         by true = away
         by false = pair-away m w.0 (T.row_of m a) true who y (λ k. other) away
     away-event (Pending.Own w) rest todo n h shown is y away = by (w.0 == who) refl
       where
-        by : (b : Bool) → (w.0 == who) ≡ b → pair_at (T.after_given m w.0 (own_row m.image w.0)) who y ≡ false
+        by : (b : Bool) → (w.0 == who) ≡ b → pair_at (with_given m w.0 (own_row m.image w.0)) who y ≡ false
         by true k =
             subst (λ (s : State). pair_at s who y ≡ false)
-            (sym (ap (λ b. if b then m else T.paired m w.0 (own_row m.image w.0) true) (ap (λ r. Plain.is_gone (object_at m r).status) (ap (own_row m.image) (eqb-true w.0 who k) ∙ same-row) ∙ gone))) away
+            (sym (ap (λ b. with_given_if b m w.0 (own_row m.image w.0)) (ap (λ r. Plain.is_gone (object_at m r).status) (ap (own_row m.image) (eqb-true w.0 who k) ∙ same-row) ∙ gone))) away
         by false k = either (Plain.is_gone (object_at m (own_row m.image w.0)).status)
           where
-            either : (b : Bool) → pair_at (if b then m else T.paired m w.0 (own_row m.image w.0) true) who y ≡ false
+            either : (b : Bool) → pair_at (with_given_if b m w.0 (own_row m.image w.0)) who y ≡ false
             either true = away
             either false = pair-away m w.0 (own_row m.image w.0) true who y (λ j. eqb-false w.0 who k) away
     away-event (Pending.Born a) rest todo n h shown is y away =
@@ -207,9 +169,6 @@ module _ (f : Fine) (m : State) (e : FineStep) (law : Lawful f m e) (gives : Giv
     away-event (Pending.Inherit w) rest todo n h shown is y away = absurd shown
     away-event (Pending.Drops from) rest todo n h shown is y away = absurd shown
     away-event (Pending.CleanPair w) rest todo n h shown is y away = absurd shown
-    away-event Pending.Recycle rest todo n h shown is y away = absurd shown
-    away-event (Pending.Reserve kind) rest todo n h shown is y away =
-        ap (λ (all : List (List Bool)). slice_index_or (slice_index_or all y []) who false) (pairs-same m p.context.thread n (Pending.Reserve kind) rest (tt, tt)) ∙ away
     away-event q rest todo n h shown is y away = ap (λ (all : List (List Bool)). slice_index_or (slice_index_or all y []) who false) (pairs-same m p.context.thread n q rest tt) ∙ away
 
     -- permissions are passed on to a thread whose object is held
@@ -241,7 +200,7 @@ module _ (f : Fine) (m : State) (e : FineStep) (law : Lawful f m e) (gives : Giv
         ap (λ (all : List (List Bool)). slice_index_or (slice_index_or all y []) who false) (pairs-same m c.thread 0 Pending.Resume rest tt) ∙ h
     away _ (L.passes w z rest todo v said) y h = pair-away m w z true who y (λ k. passes-on w z todo v.at) h
     away _ (L.drops from z rest todo v said) y h = drop-away m p.context.thread z who y h
-    away _ (L.cleans w z rest todo v said) y h = drop-away (T.cleaned_by m p.context.thread (own_row m.image w)) w z who y h
+    away _ (L.cleans w z rest todo v said) y h = drop-away (with_cleaner m p.context.thread (own_row m.image w)) w z who y h
     away _ (L.recycles z rest todo at l said chosen) y h = h
 
   -- How far the visits are.
@@ -408,7 +367,7 @@ module _ (f : Fine) (m : State) (e : FineStep) (law : Lawful f m e) (gives : Giv
       dropped same =
           let long = law.sound.wide.rows in
           let small = h.few in
-          ap (λ (flags : List Bool). slice_index_or flags who false) (dropped-pairs (T.cleaned_by m p.context.thread (own_row m.image w)) w z (omega (arith, long, small)))
+          ap (λ (flags : List Bool). slice_index_or flags who false) (dropped-pairs (with_cleaner m p.context.thread (own_row m.image w)) w z (omega (arith, long, small)))
           ∙ (ap (λ n. slice_index_or (slice_set (slice_index_or m.pairs z []) n false) who false) same ∙ set-here (slice_index_or m.pairs z []) who)
   emptied-mine s (L.recycles z rest todo at small said chosen) some y l = plain _ (L.recycles z rest todo at small said chosen) some (Todo.recycle z) todo at tt refl y l
 

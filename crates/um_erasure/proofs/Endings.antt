@@ -1,25 +1,6 @@
 -- What a thread does after its end: only the steps of that are left, none of which holds it.
-use Rattle.std.proofs.Common.{◌≡◌, ℕ, ◌+◌, Bool, true, false, [], ◌∷◌, Some, None, refl, sym, ap, ◌∙◌, subst}
-use Rattle.std.specs.Prelude.{◌==◌, if◌then◌else◌, nat_lt}
-use Rattle.std.specs.List.{list_all}
-use Rattle.std.proofs.lemmas.Bool.{and_parts, false≢true, true≢false}
-use Rattle.um_base.specs.declared.act.Act.{Act}
-use Rattle.um_base.specs.declared.ask.Told.{Told}
-use Rattle.um_base.specs.declared.image.Image.{Image}
-use Rattle.um_base.specs.declared.names.Policy.{Policy}
-use Rattle.um_base.specs.declared.limits.TheConstants.{THREADS}
-use Rattle.um_machine.specs.declared.pending.Pending.{Pending}
-use Rattle.um_machine.specs.Order.{Steps, fatal_steps}
+use Rattle.um_erasure.proofs.Words.{◌≡◌, ℕ, ◌+◌, Bool, true, false, [], ◌∷◌, Some, None, refl, sym, ap, ◌∙◌, subst, ◌==◌, if◌then◌else◌, nat_lt, list_all, and_parts, false≢true, true≢false, Act, Told, Image, Policy, THREADS, Pending, Steps, fatal_steps, act_in, is_visit, is_word_read, verdict_in, begins_cleaning, Context, as_thread, continues, resumed_at, after_show, dropped_at, goes_on_by, p_next, Todo, Todos, Processor, Exchange, FineStep, Fits, IsOffered, behind_shown}
 use Rattle.um_machine.specs.Table.{next_doom}
-use Rattle.um_fine.specs.Answers.{act_in, is_visit, is_word_read, verdict_in}
-use Rattle.um_fine.specs.Asks.{begins_cleaning}
-use Rattle.um_fine.specs.Context.{Context, as_thread}
-use Rattle.um_fine.specs.Continues.{continues, resumed_at}
-use Rattle.um_fine.specs.Follows.{after_show, dropped_at, goes_on_by, p_next}
-use Rattle.um_fine.specs.Places.{Todo, Todos}
-use Rattle.um_fine.specs.Processor.{Processor}
-use Rattle.um_fine.specs.Steps.{Exchange, FineStep}
-use Rattle.um_erasure.specs.Offers.{Fits, IsOffered, behind_shown}
 use Rattle.um_erasure.specs.Offers as O
 use Rattle.um_erasure.specs.Threads.{is_ending}
 use Rattle.um_erasure.proofs.Continued.{Held, continues-held, with_claim-held}

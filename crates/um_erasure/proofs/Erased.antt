@@ -1,24 +1,11 @@
 -- Where each fine step keeps the relation with a state that a run reaches, the events that a fine run shows are a run of the access-matrix
 -- machine, whose last state is related to what the fine run leaves.
-use Rattle.std.proofs.Common.{◌≡◌, ℕ, List, [], ◌∷◌, ◌++◌, refl, sym, ap, subst, eq-eqb, append-nil}
-use Rattle.std.proofs.lemmas.Bool.{eqb-true}
-use Rattle.um_base.specs.declared.act.Event.{Event}
-use Rattle.um_base.specs.declared.image.Image.{Image}
-use Rattle.um_machine.specs.Run.{Runs, Step, opening}
-use Rattle.um_machine.specs.State.{State}
-use Rattle.um_words.specs.declared.fine.FineAct.{FineAct}
-use Rattle.um_fine.specs.Steps.{Site, FineStep}
-use Rattle.um_fine.specs.Sites.{SiteMay, SiteState, s_next, same_site}
-use Rattle.um_fine.specs.Opening.{s_start}
-use Rattle.um_fine.specs.Processor.{Processor}
-use Rattle.um_fine.specs.Follows.{p_next}
-use Rattle.um_fine.specs.Runs.{changed, state_at}
-use Rattle.um_fine.specs.FineRun.{ByOneOf, IsFineRun, cpu_of, p_start, same_cpu, site_of}
-use Rattle.um_fine.specs.Erasure.{shown, shown_by}
+use Rattle.um_erasure.proofs.Words.{◌≡◌, ℕ, List, [], ◌∷◌, ◌++◌, refl, sym, ap, subst, eq-eqb, eqb-true, Event, Image, Runs, opening, State, FineAct, Site, FineStep, SiteMay, SiteState, s_next, same_site, s_start, Processor, p_next, state_at, ByOneOf, IsFineRun, cpu_of, p_start, same_cpu, site_of, shown, same-itself, same-sound, Fine, Rel}
+use Rattle.std.proofs.Common.{append-nil}
+use Rattle.um_machine.specs.Run.{Step}
+use Rattle.um_fine.specs.Runs.{changed}
+use Rattle.um_fine.specs.Erasure.{shown_by}
 use Rattle.um_fine.proofs.FineRuns.{Along, along, nothing, then}
-use Rattle.um_fine.proofs.Keys.{same-itself, same-sound}
-use Rattle.um_erasure.specs.Fine.{Fine}
-use Rattle.um_erasure.specs.Relation.{Rel}
 
 -- what an act is to the access-matrix machine: the step of its event, or nothing
 abbrev pub GoesBy : State → FineAct → State → Type 0

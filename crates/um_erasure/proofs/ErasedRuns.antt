@@ -1,31 +1,8 @@
 -- The events of every fine run of a described image are a run of the access-matrix machine.
-use Rattle.std.proofs.Common.{◌≡◌, ◌⊎◌, inl, inr, ℕ, zero, suc, ◌<◌, true, false, cond, List, [], ◌∷◌, length, refl, sym, ap, ◌∙◌, subst, arith, eq-eqb}
-use Rattle.std.specs.Prelude.{map, nat_lt}
-use Rattle.std.specs.List.{list_all}
-use Rattle.std.proofs.lemmas.Bool.{and_parts, false≢true}
-use Rattle.um_base.specs.declared.image.Boot.{Boot}
-use Rattle.um_base.specs.declared.image.Image.{Image}
-use Rattle.um_base.specs.Lawful.{is_lawful_boot}
-use Rattle.um_machine.specs.Run.{Runs, opening}
-use Rattle.um_machine.specs.State.{State}
-use Rattle.um_invariants.proofs.Opening.{is_opening}
-use Rattle.um_invariants.proofs.SitedImages.{is_sited}
-use Rattle.um_invariants.specs.Described.{IsDescribed}
-use Rattle.um_words.specs.declared.fine.FineAct.{FineAct}
-use Rattle.um_fine.specs.Asks.{says_idle}
-use Rattle.um_fine.specs.Erasure.{shown}
-use Rattle.um_fine.specs.FineRun.{ByOneOf, IsFineRun, cpu_of, same_cpu, site_of}
-use Rattle.um_fine.specs.Follows.{p_next}
-use Rattle.um_fine.specs.Opening.{boot_index, s_start}
+use Rattle.um_erasure.proofs.Words.{◌≡◌, ◌⊎◌, inl, inr, ℕ, zero, suc, ◌<◌, true, false, cond, List, [], ◌∷◌, length, refl, sym, ap, ◌∙◌, subst, arith, eq-eqb, nat_lt, list_all, and_parts, false≢true, Boot, Image, is_lawful_boot, Runs, opening, State, is_opening, is_sited, IsDescribed, FineAct, says_idle, shown, ByOneOf, IsFineRun, cpu_of, same_cpu, site_of, p_next, boot_index, s_start, has_ready, SiteMay, s_next, same_site, site_takes, FineStep, Site, same-itself, left_by, scheduler_state, Rel}
+use Rattle.std.specs.Prelude.{map}
 use Rattle.um_fine.specs.Processor.{idle}
 use Rattle.um_fine.specs.Runs.{Run, has_key, sub}
-use Rattle.um_fine.specs.Scheduler.{has_ready}
-use Rattle.um_fine.specs.Sites.{SiteMay, s_next, same_site, site_takes}
-use Rattle.um_fine.specs.Steps.{FineStep, Site}
-use Rattle.um_fine.proofs.Keys.{same-itself}
-use Rattle.um_erasure.specs.After.{left_by}
-use Rattle.um_erasure.specs.Fine.{scheduler_state}
-use Rattle.um_erasure.specs.Relation.{Rel}
 use Rattle.um_erasure.proofs.FirstLawful.{erased-described, opens-described, some-objects}
 use Rattle.um_erasure.proofs.FirstObjects.{opening-image}
 use Rattle.um_erasure.proofs.Kept.{idle-takes}

@@ -1,22 +1,11 @@
 -- Parts of the relation hold at the opening, where no processor runs a thread: what is of processors, words, domains and memory.
-use Rattle.std.proofs.Common.{◌≡◌, ℕ, zero, suc, List, [], ◌∷◌, Option, Some, None, refl, sym, subst, arith}
-use Rattle.std.specs.Prelude.{IsTrue, slice_index_or}
-use Rattle.std.proofs.lemmas.Bool.{false≢true}
-use Rattle.um_base.specs.declared.image.Image.{Image}
-use Rattle.um_machine.specs.Run.{opening}
-use Rattle.um_fine.specs.Steps.{FineStep, Site}
-use Rattle.um_fine.specs.Sites.{is_sort, s_next, same_site}
-use Rattle.um_fine.specs.Opening.{s_start}
-use Rattle.um_fine.specs.Runs.{ends, state_at, sublist}
-use Rattle.um_fine.specs.FineRun.{p_start, site_of}
-use Rattle.um_erasure.specs.Fine.{Fine, heap, row, total}
+use Rattle.um_erasure.proofs.Words.{◌≡◌, ℕ, zero, suc, List, [], ◌∷◌, Option, Some, None, refl, sym, subst, arith, IsTrue, slice_index_or, false≢true, Image, opening, FineStep, Site, is_sort, s_next, same_site, s_start, state_at, p_start, site_of, Fine, heap, row, total, ListIs, WordIs, AreBlocks, MemoryIs}
+use Rattle.um_fine.specs.Runs.{ends, sublist}
 use Rattle.um_erasure.specs.Looks.{LooksAre}
-use Rattle.um_erasure.specs.Offers.{ListIs}
 use Rattle.um_erasure.specs.Claims.{IdleIs}
-use Rattle.um_erasure.specs.Threads.{DomainKept, HeldIs, RunningIs, WordIs}
-use Rattle.um_erasure.specs.Cleaning.{AreBlocks, CleaningIs}
+use Rattle.um_erasure.specs.Threads.{DomainKept, HeldIs, RunningIs}
+use Rattle.um_erasure.specs.Cleaning.{CleaningIs}
 use Rattle.um_erasure.specs.Domains.{DomainIs, TableIs}
-use Rattle.um_erasure.specs.Resources.{MemoryIs}
 use Rattle.um_erasure.proofs.Erased.{fine}
 use Rattle.um_erasure.proofs.RowSteps.{sort-next}
 

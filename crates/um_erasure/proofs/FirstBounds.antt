@@ -1,22 +1,5 @@
 -- The bounds hold at the opening of a described image.
-use Rattle.std.proofs.Common.{◌≡◌, ℕ, zero, suc, ◌<◌, Bool, true, List, [], ◌∷◌, length, map, Some, refl, sym, ap, ◌∙◌, subst, arith}
-use Rattle.std.specs.Prelude.{nat_lt, slice_get, slice_index_or}
-use Rattle.std.specs.List.{list_all}
-use Rattle.std.proofs.lemmas.Bool.{and_from, and_parts, false≢true, lt-ltb}
-use Rattle.um_base.specs.declared.image.Boot.{Boot}
-use Rattle.um_base.specs.declared.image.Image.{Image}
-use Rattle.um_base.specs.declared.image.ObjectDef.{ObjectDef}
-use Rattle.um_base.specs.declared.limits.TheConstants.{THREADS}
-use Rattle.um_base.specs.Lawful.{is_lawful_boot, object_passes}
-use Rattle.um_machine.specs.declared.thread.Thread.{Thread}
-use Rattle.um_machine.specs.Run.{blank, boot_thread, booted, booted_one, loaded, opening}
-use Rattle.um_machine.specs.State.{State, is_living, nobody, thread_at}
-use Rattle.um_invariants.proofs.Cores.{at_set}
-use Rattle.um_invariants.specs.Described.{IsDescribed}
-use Rattle.um_scheduler.proofs.ThreadStarts.{real-below}
-use Rattle.um_fine.specs.Context.{Context}
-use Rattle.um_fine.specs.Scheduler.{parked_at}
-use Rattle.um_erasure.specs.Fine.{scheduler}
+use Rattle.um_erasure.proofs.Words.{◌≡◌, ℕ, zero, suc, ◌<◌, Bool, true, List, [], ◌∷◌, length, map, Some, refl, sym, ap, ◌∙◌, subst, arith, nat_lt, slice_get, slice_index_or, list_all, and_from, and_parts, false≢true, lt-ltb, Boot, Image, ObjectDef, THREADS, is_lawful_boot, object_passes, Thread, blank, boot_thread, booted, booted_one, loaded, opening, State, is_living, nobody, thread_at, at_set, IsDescribed, real-below, Context, parked_at, scheduler}
 use Rattle.um_erasure.proofs.Bounds.{AreBounded}
 use Rattle.um_erasure.proofs.CallBounds.{Bounded}
 use Rattle.um_erasure.proofs.CallBoundsKept.{IsBounded}

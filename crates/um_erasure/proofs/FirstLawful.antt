@@ -1,31 +1,9 @@
 -- The relation holds at the opening of every image that a description can give: its boot entries have a thread each, whose object stands.
-use Rattle.std.proofs.Common.{◌≡◌, ◌⊎◌, inl, inr, ℕ, ◌+◌, ◌<◌, ◌≤◌, Bool, true, false, List, [], ◌∷◌, length, refl, sym, ap, ◌∙◌, subst, arith}
-use Rattle.std.specs.Prelude.{◌==◌, ◌||◌, if◌then◌else◌, map, slice_get, slice_index_or}
-use Rattle.std.specs.List.{list_all, list_any}
-use Rattle.std.proofs.lemmas.Bool.{and_parts, eqb-false, eqb-true, false≢true, not-true, true≢false}
-use Rattle.um_base.specs.declared.image.Boot.{Boot}
-use Rattle.um_base.specs.declared.image.Image.{Image}
-use Rattle.um_base.specs.declared.image.ObjectDef.{ObjectDef}
-use Rattle.um_base.specs.declared.limits.TheConstants.{THREADS}
-use Rattle.um_base.specs.Lawful.{are_distinct, is_lawful_boot, object_passes}
-use Rattle.um_base.specs.Places.{own_row}
-use Rattle.um_machine.specs.declared.object.Object.{Object}
-use Rattle.um_machine.specs.declared.thread.Thread.{Thread}
+use Rattle.um_erasure.proofs.Words.{◌≡◌, ◌⊎◌, inl, inr, ℕ, ◌+◌, ◌<◌, ◌≤◌, Bool, true, false, List, [], ◌∷◌, length, refl, sym, ap, ◌∙◌, subst, arith, ◌==◌, ◌||◌, if◌then◌else◌, slice_get, slice_index_or, list_all, list_any, and_parts, eqb-false, eqb-true, false≢true, not-true, true≢false, Boot, Image, ObjectDef, THREADS, is_lawful_boot, object_passes, own_row, Object, Thread, blank, boot_thread, booted, booted_one, loaded, objects_from, opening, Runs, State, nobody, object_at, thread_at, vacant, with_thread, IsDescribed, is_sited, FineStep, s_next, same_site, s_start, p_next, state_at, IsFineRun, cpu_of, p_start, same_cpu, site_of, shown, Rel, occurs}
+use Rattle.std.specs.Prelude.{map}
+use Rattle.um_base.specs.Lawful.{are_distinct}
 use Rattle.um_machine.specs.Objects as Plain
-use Rattle.um_machine.specs.Run.{blank, boot_thread, booted, booted_one, loaded, objects_from, opening, Runs}
-use Rattle.um_machine.specs.State.{State, nobody, object_at, thread_at, vacant, with_thread}
-use Rattle.um_invariants.specs.Described.{IsDescribed}
 use Rattle.um_invariants.proofs.Opening.{IsBoot, is_boot}
-use Rattle.um_invariants.proofs.SitedImages.{is_sited}
-use Rattle.um_fine.specs.Steps.{FineStep}
-use Rattle.um_fine.specs.Sites.{s_next, same_site}
-use Rattle.um_fine.specs.Opening.{s_start}
-use Rattle.um_fine.specs.Follows.{p_next}
-use Rattle.um_fine.specs.Runs.{state_at}
-use Rattle.um_fine.specs.FineRun.{IsFineRun, cpu_of, p_start, same_cpu, site_of}
-use Rattle.um_fine.specs.Erasure.{shown}
-use Rattle.um_erasure.specs.Relation.{Rel}
-use Rattle.um_erasure.specs.Threads.{occurs}
 use Rattle.um_erasure.proofs.Erased.{Keeps, erased, fine}
 use Rattle.um_erasure.proofs.First.{first}
 use Rattle.um_erasure.proofs.FirstObjects.{OwnStands, Stood, opening-objects, stood-or-none}

@@ -1,36 +1,20 @@
 -- Objects and rows at the opening: each is that of the image, which stands, or none. So their status, contents, claims, costs and free
 -- addresses, and their cleaning, are as the relation says.
-use Rattle.std.proofs.Common.{◌≡◌, ◌≢◌, ◌⊎◌, inl, inr, ℕ, zero, suc, ◌+◌, ◌<◌, ◌≤◌, Bool, true, false, List, [], ◌∷◌, length, replicate, Option, Some, None, refl, sym, ap, ◌∙◌, subst, arith}
-use Rattle.std.proofs.lemmas.List.{length-map}
-use Rattle.std.specs.Prelude.{◌-◌, ◌==◌, ◌&&◌, ◌||◌, not, is_some, map, nat_le, slice_get, slice_index_or}
-use Rattle.std.proofs.lemmas.Bool.{and_parts, eqb-true, false≢true, leb-true}
-use Rattle.um_base.specs.declared.image.Boot.{Boot}
-use Rattle.um_base.specs.declared.image.Image.{Image}
-use Rattle.um_base.specs.declared.image.ObjectDef.{ObjectDef}
+use Rattle.um_erasure.proofs.Words.{◌≡◌, ◌≢◌, ◌⊎◌, inl, inr, ℕ, zero, suc, ◌+◌, ◌<◌, ◌≤◌, Bool, true, false, List, [], ◌∷◌, length, replicate, Option, Some, None, refl, sym, ap, ◌∙◌, subst, arith, length-map, ◌==◌, ◌&&◌, ◌||◌, not, is_some, nat_le, slice_get, slice_index_or, and_parts, eqb-true, false≢true, leb-true, Boot, Image, ObjectDef, ROWS, STATIC_ROWS, THREADS, own_row, Object, Thread, blank, loaded, objects_from, opening, State, nobody, object_at, thread_at, vacant, Stage, is_dying, is_free, Context, kind_of, parked_at, one_if, over_processors, row, scheduler, total, call_claims, context_claims, CleanersAre, PairsAre, cell_of, is_reserved, recyclers, status_of, vacaters, HeapIs, occurs}
+use Rattle.std.specs.Prelude.{◌-◌, map}
 use Rattle.um_base.specs.declared.image.Partition.{Partition}
-use Rattle.um_base.specs.declared.limits.TheConstants.{ROWS, STATIC_ROWS, THREADS}
-use Rattle.um_base.specs.Places.{own_row}
-use Rattle.um_machine.specs.declared.object.Object.{Object}
 use Rattle.um_machine.specs.declared.object.Status.TheVariants as Status
-use Rattle.um_machine.specs.declared.thread.Thread.{Thread}
 use Rattle.um_machine.specs.Objects as Plain
-use Rattle.um_machine.specs.Run.{blank, loaded, objects_from, opening, opening_object}
-use Rattle.um_machine.specs.State.{State, nobody, object_at, thread_at, vacant}
-use Rattle.um_words.specs.declared.row_word.Stage.{Stage}
-use Rattle.um_words.specs.Rows.{is_dying, is_free}
-use Rattle.um_fine.specs.Context.{Context}
+use Rattle.um_machine.specs.Run.{opening_object}
 use Rattle.um_fine.specs.Opening.{count, indexed, stage_of}
-use Rattle.um_fine.specs.Processor.{kind_in, kind_of}
-use Rattle.um_fine.specs.Scheduler.{parked_at}
-use Rattle.um_erasure.specs.Fine.{one_if, over_processors, row, scheduler, total}
-use Rattle.um_erasure.specs.Claims.{ClaimsAre, call_claims, claims, context_claims, creates}
-use Rattle.um_erasure.specs.Cleaning.{CleanerIs, CleanersAre}
-use Rattle.um_erasure.specs.Objects.{ContentsAre, PairsAre, StatusIs, cell_of, empty_cell, is_reserved, recyclers, status_of, vacaters}
-use Rattle.um_erasure.specs.Resources.{HeapIs}
-use Rattle.um_erasure.specs.Threads.{occurs}
+use Rattle.um_fine.specs.Processor.{kind_in}
+use Rattle.um_erasure.specs.Claims.{ClaimsAre, claims, creates}
+use Rattle.um_erasure.specs.Cleaning.{CleanerIs}
+use Rattle.um_erasure.specs.Objects.{ContentsAre, StatusIs, empty_cell}
 use Rattle.um_erasure.proofs.First.{first, total-none}
 use Rattle.um_erasure.proofs.FirstThreads.{booted-read, copies-long, loaded-read, new-thread, parked-first, threads-long}
-use Rattle.um_erasure.proofs.HeldRows.{none-flagged, one-some, some-part, total-zero}
+use Rattle.um_erasure.proofs.HeldRows.{none-flagged, some-part, total-zero}
+use Rattle.um_erasure.proofs.Sums.{one-true}
 
 -- Boot entries and partitions leave the objects, and the image.
 
@@ -296,7 +280,7 @@ module _ (image : Image) (cpus : ℕ) where
       none-held h (suc n) e =
           let own = row-lives x in
           let t = some-part (λ t. one_if ((thread_at (opening image) t).keeps_own && (own_row image t == x))) THREADS (omega (arith, own, e)) in
-          let holds = and_parts _ _ (one-some ((thread_at (opening image) t.0).keeps_own && (own_row image t.0 == x)) t.2) in
+          let holds = and_parts _ _ (one-true ((thread_at (opening image) t.0).keeps_own && (own_row image t.0 == x)) t.2) in
           let at = eqb-true (own_row image t.0) x holds.1 in
           let live : Plain.is_live (object_at (opening image) x).status ≡ true = ap (λ y. Plain.is_live (object_at (opening image) y).status) (sym at) ∙ stands t.0 holds.0 in
           let stage : stage_of (object_at (opening image) x) ≡ Stage.Live = ap (λ b. elim b as (λ _. Stage) [ true ↦ Stage.Live | false ↦ Stage.Free ]) live in

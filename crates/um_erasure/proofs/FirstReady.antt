@@ -1,18 +1,7 @@
 -- The ready list at the opening: each thread of a boot entry stands in it once, where no two entries have one thread.
-use Rattle.std.proofs.Common.{◌≡◌, ℕ, zero, suc, ◌+◌, ◌<◌, ◌≤◌, Bool, true, false, List, [], ◌∷◌, length, Option, Some, None, refl, sym, ap, ◌∙◌, subst, arith}
-use Rattle.std.specs.Prelude.{◌==◌, ◌||◌, not, if◌then◌else◌, is_some, map, slice_index_or, slice_set}
-use Rattle.std.proofs.lemmas.Bool.{eqb-false, eqb-true}
-use Rattle.um_base.specs.declared.image.Boot.{Boot}
-use Rattle.um_base.specs.declared.image.Image.{Image}
-use Rattle.um_base.specs.declared.limits.TheConstants.{THREADS}
-use Rattle.um_base.specs.Places.{thread_of_row}
-use Rattle.um_machine.specs.declared.thread.Thread.{Thread}
-use Rattle.um_machine.specs.Run.{blank, boot_thread, booted, booted_one, index_or, loaded, opening}
-use Rattle.um_machine.specs.State.{State, is_living, nobody, thread_at, with_thread}
-use Rattle.um_fine.specs.Context.{Context}
-use Rattle.um_fine.specs.Scheduler.{parked_at, told_at, waits}
-use Rattle.um_erasure.specs.Fine.{one_if, scheduler}
-use Rattle.um_erasure.specs.Threads.{ReadyIs, is_ready_there, occurs}
+use Rattle.um_erasure.proofs.Words.{◌≡◌, ℕ, zero, suc, ◌+◌, ◌<◌, ◌≤◌, Bool, true, false, List, [], ◌∷◌, length, Option, Some, None, refl, sym, ap, ◌∙◌, subst, arith, ◌==◌, ◌||◌, not, if◌then◌else◌, is_some, slice_index_or, slice_set, eqb-false, eqb-true, Boot, Image, THREADS, thread_of_row, Thread, blank, boot_thread, booted, booted_one, index_or, loaded, opening, State, is_living, nobody, thread_at, with_thread, Context, parked_at, told_at, waits, one_if, scheduler, is_ready_there, occurs, or-false}
+use Rattle.std.specs.Prelude.{map}
+use Rattle.um_erasure.specs.Threads.{ReadyIs}
 use Rattle.um_erasure.proofs.First.{first}
 use Rattle.um_erasure.proofs.FirstObjects.{loaded-image, opening-image}
 use Rattle.um_erasure.proofs.FirstThreads.{copies-long, granted-image, granted-threads, living-parked, loaded-threads, new-thread, nobodies, parked-first, set-long}
@@ -83,10 +72,6 @@ blank-long image = ap length (loaded-threads image.partitions (blank image)) ∙
 pub blank-image : (image : Image) → (loaded image.partitions (blank image)).image ≡ image
 unfolding blank
 blank-image image = loaded-image image.partitions (blank image)
-
-or-false : (b : Bool) → (b || false) ≡ b
-or-false true = refl
-or-false false = refl
 
 module _ (image : Image) (cpus : ℕ) where
   -- no two boot entries have one thread

@@ -1,29 +1,13 @@
 -- Threads at the opening: each is none or that of a boot entry. So what they are told, their own parts, those that lie nowhere and what
 -- is due are as the relation says.
-use Rattle.std.proofs.Common.{◌≡◌, ◌≢◌, inl, ℕ, zero, suc, ◌+◌, ◌<◌, ◌≤◌, Bool, true, false, List, [], ◌∷◌, length, replicate, Option, Some, None, refl, sym, ap, ◌∙◌, subst, arith}
-use Rattle.std.specs.Prelude.{is_some, slice_index_or, slice_set, unwrap_or}
-use Rattle.std.proofs.lemmas.Bool.{false≢true, true≢false}
-use Rattle.um_base.specs.declared.ask.Told.{Told}
-use Rattle.um_base.specs.declared.image.Boot.{Boot}
-use Rattle.um_base.specs.declared.image.Image.{Image}
+use Rattle.um_erasure.proofs.Words.{◌≡◌, ◌≢◌, inl, ℕ, zero, suc, ◌+◌, ◌<◌, ◌≤◌, Bool, true, false, List, [], ◌∷◌, length, replicate, Option, Some, None, refl, sym, ap, ◌∙◌, subst, arith, is_some, slice_index_or, slice_set, unwrap_or, false≢true, true≢false, Told, Boot, Image, ROWS, THREADS, Row, thread_of_row, Life, Thread, with_bytes, blank, boot_thread, booted, booted_one, index_or, loaded, opening, State, is_living, is_started, no_rows, nobody, thread_at, with_pair, with_thread, Context, parked_at, told_at, one_if, scheduler, total, adders, counted, is_wake, of_thread, IsOf, is_ended, runs_on, told_by, bytes-leave}
 use Rattle.um_base.specs.declared.image.Partition.{Partition}
-use Rattle.um_base.specs.declared.limits.TheConstants.{ROWS, THREADS}
-use Rattle.um_base.specs.declared.names.Row.{Row}
-use Rattle.um_base.specs.Places.{thread_of_row}
-use Rattle.um_machine.specs.declared.thread.Life.{Life}
-use Rattle.um_machine.specs.declared.thread.Thread.{Thread}
-use Rattle.um_machine.specs.Memory.{with_bytes}
-use Rattle.um_machine.specs.Run.{blank, boot_thread, booted, booted_one, granted, index_or, loaded, opening}
-use Rattle.um_machine.specs.State.{State, is_living, is_started, no_rows, nobody, thread_at, with_pair, with_thread}
-use Rattle.um_fine.specs.Context.{Context, context_of}
+use Rattle.um_machine.specs.Run.{granted}
+use Rattle.um_fine.specs.Context.{context_of}
 use Rattle.um_fine.specs.Opening.{indexed, parked_if}
-use Rattle.um_fine.specs.Scheduler.{parked_at, told_at}
-use Rattle.um_erasure.specs.Fine.{one_if, scheduler, total}
-use Rattle.um_erasure.specs.Lists.{adders, counted, is_wake, of_thread}
-use Rattle.um_erasure.specs.Threads.{AwayIs, ContextsAre, IsOf, SchedulerIs, ToldIs, is_ended, runs_on, told_by}
+use Rattle.um_erasure.specs.Threads.{AwayIs, ContextsAre, SchedulerIs, ToldIs}
 use Rattle.um_erasure.specs.Dues.{DuesAre}
 use Rattle.um_erasure.proofs.First.{first}
-use Rattle.um_erasure.proofs.Writes.{bytes-kept}
 
 -- What each thread of a list is.
 
@@ -59,7 +43,7 @@ pub loaded-read : {A : Type 0} (read : State → A) → ((s : State) (bytes : Li
 loaded-read read kept [] s = refl
 loaded-read read kept (p ∷ ps) s =
     loaded-read read kept ps (with_bytes s p.range.start.0 p.bytes)
-    ∙ bytes-kept read (λ z bytes. (kept z bytes).0) (λ z bytes. (kept z bytes).1) s p.range.start.0 p.bytes
+    ∙ bytes-leave read (λ z bytes. (kept z bytes).0) (λ z bytes. (kept z bytes).1) s p.range.start.0 p.bytes
 
 pub granted-threads : (t : ℕ) (rows : List Row) (s : State) → (granted t rows s).threads ≡ s.threads
 granted-threads t rows s = granted-read (λ z. z.threads) (λ z pairs. refl) t rows s

@@ -1,40 +1,13 @@
 -- The heap has the machine's pools, costs and free addresses after every lawful step.
-use Rattle.std.proofs.Common.{◌≡◌, inl, inr, ℕ, zero, suc, ◌+◌, ◌<◌, ◌≤◌, Bool, true, false, List, ◌∷◌, length, Option, Some, None, refl, sym, ap, ◌∙◌, subst, arith, eq-eqb}
-use Rattle.std.specs.Prelude.{◌==◌, ◌&&◌, not, if◌then◌else◌, nat_le, slice_index_or, slice_set, unwrap_or}
-use Rattle.std.proofs.lemmas.Bool.{and_parts, eqb-false, eqb-true, leb-true, ltb-true, ne_eqb}
-use Rattle.std.proofs.lemmas.List.{get_or-set_other, get_or-set_same, length-set}
-use Rattle.um_base.specs.declared.act.Act.{Act}
-use Rattle.um_base.specs.declared.act.Event.{Event}
-use Rattle.um_base.specs.declared.image.Image.{Image}
-use Rattle.um_base.specs.declared.limits.TheConstants.{ROWS, STATIC_ROWS}
-use Rattle.um_base.specs.declared.names.Errno.{Errno}
-use Rattle.um_base.specs.declared.names.Kind.{Kind}
-use Rattle.um_base.specs.Places.{addr_of, own_row}
+use Rattle.um_erasure.proofs.Words.{◌≡◌, inl, inr, ℕ, zero, suc, ◌+◌, ◌<◌, ◌≤◌, Bool, true, false, List, ◌∷◌, length, Option, Some, None, refl, sym, ap, ◌∙◌, subst, arith, eq-eqb, ◌==◌, ◌&&◌, not, if◌then◌else◌, nat_le, slice_index_or, slice_set, unwrap_or, and_parts, eqb-false, eqb-true, leb-true, ltb-true, get_or-set_other, get_or-set_same, length-set, Act, Event, Image, ROWS, STATIC_ROWS, Kind, addr_of, own_row, Object, Pending, Thread, Steps, to_addr, to_thread, MayChoose, State, object_at, thread_at, vacant, with_object, IsRow, is_dying, FineAct, More, address_of, row_named, act_in, charge_in, moves, site_at, Heap, Todo, Todos, FineStep, Site, Fine, heap, row, counted, is_recycle, is_wipe, AreBlocks, HeapIs, and-false}
+use Rattle.std.proofs.lemmas.Bool.{ne_eqb}
 use Rattle.um_machine.specs.declared.object.Cost.{Cost}
-use Rattle.um_machine.specs.declared.object.Object.{Object}
 use Rattle.um_machine.specs.declared.object.Status.TheVariants as Status
-use Rattle.um_machine.specs.declared.pending.Pending.{Pending}
-use Rattle.um_machine.specs.declared.thread.Thread.{Thread}
 use Rattle.um_machine.specs.Objects as Plain
-use Rattle.um_machine.specs.Order.{Steps, answer_error, to_addr, to_thread}
-use Rattle.um_machine.specs.Run.{MayChoose}
-use Rattle.um_machine.specs.State.{State, object_at, thread_at, vacant, with_object}
 use Rattle.um_machine.specs.Table as T
 use Rattle.um_invariants.proofs.Facts.{le_is}
-use Rattle.um_invariants.proofs.Guards.{IsRow}
-use Rattle.um_words.specs.Rows.{is_dying}
-use Rattle.um_words.specs.declared.fine.FineAct.{FineAct}
-use Rattle.um_words.specs.declared.fine.More.{More}
-use Rattle.um_fine.specs.Addresses.{address_of, row_named}
-use Rattle.um_fine.specs.Answers.{act_in, charge_in, fits_in, reserved_in}
-use Rattle.um_fine.specs.Asks.{moves, site_at}
-use Rattle.um_fine.specs.Heap.{Heap, cost_at, heap_after, paid}
-use Rattle.um_fine.specs.Places.{Todo, Todos}
-use Rattle.um_fine.specs.Steps.{FineStep, Site}
-use Rattle.um_erasure.specs.Fine.{Fine, heap, row}
-use Rattle.um_erasure.specs.Lists.{counted, is_recycle, is_wipe}
-use Rattle.um_erasure.specs.Cleaning.{AreBlocks}
-use Rattle.um_erasure.specs.Resources.{HeapIs}
+use Rattle.um_fine.specs.Answers.{fits_in, reserved_in}
+use Rattle.um_fine.specs.Heap.{cost_at, heap_after, paid}
 use Rattle.um_erasure.proofs.FirstThreads.{one-most}
 use Rattle.um_erasure.proofs.Erased.{around}
 use Rattle.um_erasure.proofs.Leaves.{Lawful, Leaves, cleans, drops, event, maker, mine, nothing, passes, recycles, resumes}
@@ -45,7 +18,7 @@ use Rattle.um_erasure.proofs.Offered.{IsStep, Shows, own-part, shown-offers, sit
 use Rattle.um_erasure.proofs.PoolsKept.{heap-put, heap-still, paid-same, pools-same, unbuffer-pools, heap-untouched}
 use Rattle.um_erasure.proofs.Quiet.{heap-quiet}
 use Rattle.um_erasure.proofs.WordsKept.{IsShown}
-use Rattle.um_erasure.proofs.Writes.{Lasting, Makes}
+use Rattle.um_erasure.proofs.Writes.{Lasting, Makes, with_cleaner, after_saying, reserved-is, reserved-objects}
 
 -- two lists are written alike in one place
 pub both-set : {A B : Type 0} (g : B → A) (xs : List A) (ys : List B) (x y : ℕ) (a c : A) (b d : B) → x < length xs → x < length ys → a ≡ g b
@@ -58,10 +31,6 @@ both-set g xs ys x y a c b d l k e was = by (y == x) refl
         ∙ (get_or-set_same xs x a c l ∙ (e ∙ (ap g (sym (get_or-set_same ys x b d k)) ∙ ap (λ n. g (slice_index_or (slice_set ys x b) n d)) (sym (eqb-true y x q)))))
     by false q =
         get_or-set_other xs x y a c (eqb-false y x q) ∙ (was ∙ ap g (sym (get_or-set_other ys x y b d (eqb-false y x q))))
-
-and-false : (b : Bool) → (b && false) ≡ false
-and-false true = refl
-and-false false = refl
 
 module _ (f : Fine) (m : State) (e : FineStep) (law : Lawful f m e) where
   open around f e use {later}
@@ -134,14 +103,14 @@ module _ (f : Fine) (m : State) (e : FineStep) (law : Lawful f m e) where
       me = thread_at m (mine f m e)
 
       by : (b : Bool) → heap later ≡ heap_after f.image (heap f) (Act.Buffer size b) e.moved
-          → HeapIs later (if b then T.goes_on (record m { pools = T.paid_from me.pool size m.pools }) (mine f m e) me rest else T.goes_on m (mine f m e) me (answer_error Errno.ENOMEM))
+          → HeapIs later (after_saying m (mine f m e) x (Pending.Buffer size) (Act.Buffer size b) rest)
       by true now =
-          left-alone (T.goes_on (record m { pools = T.paid_from me.pool size m.pools }) (mine f m e) me rest) (ap (λ (z : Heap). z.costs) now) (ap (λ (z : Heap). z.free) now)
+          left-alone (after_saying m (mine f m e) x (Pending.Buffer size) (Act.Buffer size true) rest) (ap (λ (z : Heap). z.costs) now) (ap (λ (z : Heap). z.free) now)
           (ap (λ (z : Heap). z.pools) now
           ∙ ((λ i. paid (law.rel.heap.pools i) (charge_in (moved-is h i)))
           ∙ (paid-same (maker f m e).context.pool size m.pools ∙ ap (λ o. T.paid_from o size m.pools) (pool-is h))))
           (λ y. refl) (λ y. refl)
-      by false now = untouched (T.goes_on m (mine f m e) me (answer_error Errno.ENOMEM)) now refl (λ y. refl) (λ y. refl)
+      by false now = untouched (after_saying m (mine f m e) x (Pending.Buffer size) (Act.Buffer size false) rest) now refl (λ y. refl) (λ y. refl)
 
   on-unbuffer : (size : ℕ) (rest : Steps) (todo : Todos) (x : ℕ) → Shows f m e.cpu e (Pending.Unbuffer size) rest todo → IsStep f m e.cpu e x (Pending.Unbuffer size)
       → HeapIs later (T.after m (mine f m e) x (Pending.Unbuffer size) rest)
@@ -201,7 +170,7 @@ module _ (f : Fine) (m : State) (e : FineStep) (law : Lawful f m e) where
       by (suc n) (inr none) now = absurd (some-not none.0)
       by (suc n) (inl pays) now =
           let place = and_parts _ _ (and_parts _ _ (and_parts _ _ pays.1).0).0 in
-          same-heap _ (T.after m (mine f m e) (suc n) (Pending.Reserve kind) rest) refl refl
+          same-heap _ (T.after m (mine f m e) (suc n) (Pending.Reserve kind) rest) (ap (λ (s : State). s.pools) (reserved-is m (mine f m e) n kind rest)) (reserved-objects m (mine f m e) n kind rest)
           (reserved-at kind rest todo (suc n) (leb-true STATIC_ROWS (suc n) place.0) (ltb-true (suc n) ROWS place.1) h
           (now ∙ ap (λ b. heap_after f.image (heap f) (Act.Reserve kind (if b then None else Some (to_addr (addr_of m.image (suc n))))) e.moved) (ne_eqb (suc n) 0 (λ q. some-not q))))
 
@@ -273,11 +242,11 @@ module _ (f : Fine) (m : State) (e : FineStep) (law : Lawful f m e) where
   by-event (Pending.Buffer size) rest todo x h shown is = on-buffer size rest todo x h is
   by-event (Pending.Unbuffer size) rest todo x h shown is = on-unbuffer size rest todo x h is
   by-event (Pending.DropPair who a) rest todo x h shown is =
-      untouched (T.after m (mine f m e) x (Pending.DropPair who a) rest) (still _ More.Nothing is.said refl) (pools-same m (mine f m e) x (Pending.DropPair who a) rest (tt, tt))
-      (cost-kept (mine f m e) x (Pending.DropPair who a) rest (tt, tt)) (λ y. drop-free m who.0 (T.row_of m a) y (paired-live m law.sound (T.row_of m a) who.0))
+      untouched (T.after m (mine f m e) x (Pending.DropPair who a) rest) (still _ More.Nothing is.said refl) (pools-same m (mine f m e) x (Pending.DropPair who a) rest tt)
+      (cost-kept (mine f m e) x (Pending.DropPair who a) rest tt) (λ y. drop-free m who.0 (T.row_of m a) y (paired-live m law.sound (T.row_of m a) who.0))
   by-event (Pending.Born a) rest todo x h shown is =
-      untouched (T.after m (mine f m e) x (Pending.Born a) rest) (still _ More.Nothing is.said refl) (pools-same m (mine f m e) x (Pending.Born a) rest (tt, tt))
-      (cost-kept (mine f m e) x (Pending.Born a) rest (tt, tt))
+      untouched (T.after m (mine f m e) x (Pending.Born a) rest) (still _ More.Nothing is.said refl) (pools-same m (mine f m e) x (Pending.Born a) rest tt)
+      (cost-kept (mine f m e) x (Pending.Born a) rest tt)
       (λ y. set-kept (λ (z : Object). Plain.is_free z.status) m.objects (T.row_of m a) y (record (object_at m (T.row_of m a)) { status = Status.Live }) (sym reserved))
     where
       reserved : Plain.is_free (object_at m (T.row_of m a)).status ≡ false
@@ -300,15 +269,15 @@ module _ (f : Fine) (m : State) (e : FineStep) (law : Lawful f m e) where
   heap-part _ (passes who x rest todo h said) =
       untouched (T.after m (mine f m e) x (Pending.Inherit (to_thread who)) rest) (still _ More.Nothing said refl) refl (λ y. refl) (λ y. refl)
   heap-part _ (drops from x rest todo h said) =
-      untouched (T.after m (mine f m e) x (Pending.Drops from) rest) (still _ More.Nothing said refl) (pools-same m (mine f m e) x (Pending.Drops from) rest (tt, tt))
-      (cost-kept (mine f m e) x (Pending.Drops from) rest (tt, tt)) (λ y. drop-free m (mine f m e) x y (paired-live m law.sound x (mine f m e)))
+      untouched (T.after m (mine f m e) x (Pending.Drops from) rest) (still _ More.Nothing said refl) (pools-same m (mine f m e) x (Pending.Drops from) rest tt)
+      (cost-kept (mine f m e) x (Pending.Drops from) rest tt) (λ y. drop-free m (mine f m e) x y (paired-live m law.sound x (mine f m e)))
   heap-part _ (cleans who x rest todo h said) =
       let q = Pending.CleanPair (to_thread who) in
       let z = own_row m.image who in
       let o = record (object_at m z) { cleaner = Some (to_thread (mine f m e)) } in
-      untouched (T.after m (mine f m e) x q rest) (still _ More.Nothing said refl) (pools-same m (mine f m e) x q rest (tt, tt, tt))
-      (cost-kept (mine f m e) x q rest (tt, tt, tt))
+      untouched (T.after m (mine f m e) x q rest) (still _ More.Nothing said refl) (pools-same m (mine f m e) x q rest tt)
+      (cost-kept (mine f m e) x q rest tt)
       (λ y.
-      drop-free (T.cleaned_by m (mine f m e) z) who x y (λ p. ap Plain.is_live (set-kept (λ (w : Object). w.status) m.objects z x o refl) ∙ paired-live m law.sound x who p)
+      drop-free (with_cleaner m (mine f m e) z) who x y (λ p. ap Plain.is_live (set-kept (λ (w : Object). w.status) m.objects z x o refl) ∙ paired-live m law.sound x who p)
       ∙ ap Plain.is_free (set-kept (λ (w : Object). w.status) m.objects z y o refl))
   heap-part _ (recycles x rest todo at few said chosen) = on-recycle x rest todo at few said chosen

@@ -1,30 +1,13 @@
 -- A processor's event on the heap is that step of the machine, where the relation holds: a buffer that is taken, and an address that is
 -- reserved, the least one that is free for the kind.
-use Rattle.std.proofs.Common.{◌≡◌, ◌⊎◌, inl, inr, ne_eqb, ℕ, zero, suc, ◌+◌, ◌<◌, ◌≤◌, Bool, true, false, Option, Some, None, refl, sym, ap, ◌∙◌, subst, arith, eq-or-lt_of_le}
-use Rattle.std.specs.Prelude.{◌==◌, ◌&&◌, nat_le, nat_lt, IsTrue, if◌then◌else◌, is_some, unwrap_or}
-use Rattle.std.proofs.lemmas.Bool.{and_parts, false≢true, leb-true, lt-ltb, ltb-true}
-use Rattle.um_base.specs.declared.act.Act.{Act}
-use Rattle.um_base.specs.declared.limits.TheConstants.{ROWS, STATIC_ROWS}
-use Rattle.um_base.specs.declared.names.Kind.{Kind}
+use Rattle.um_erasure.proofs.Words.{◌≡◌, ◌⊎◌, inl, inr, ne_eqb, ℕ, zero, suc, ◌+◌, ◌<◌, ◌≤◌, Bool, true, false, Option, Some, None, refl, sym, ap, ◌∙◌, subst, arith, eq-or-lt_of_le, ◌==◌, ◌&&◌, nat_le, nat_lt, IsTrue, if◌then◌else◌, is_some, unwrap_or, and_parts, false≢true, leb-true, lt-ltb, ltb-true, Act, ROWS, STATIC_ROWS, Kind, Pending, Thread, Steps, MayChoose, State, object_at, thread_at, Image, address_of, act_in, charge_in, Exchange, FineStep, Site, Heap, Cell, SiteState, is_sort, site_answers, Todos, moves, shows, Fine, heap, heap_state, Rel}
 use Rattle.um_base.specs.Places.{dynamic_kind}
-use Rattle.um_machine.specs.declared.pending.Pending.{Pending}
-use Rattle.um_machine.specs.declared.thread.Thread.{Thread}
 use Rattle.um_machine.specs.Objects.{is_free, kind_number}
-use Rattle.um_machine.specs.Order.{Steps}
-use Rattle.um_machine.specs.Run.{MayChoose, is_free_for}
-use Rattle.um_machine.specs.State.{State, object_at, thread_at}
+use Rattle.um_machine.specs.Run.{is_free_for}
 use Rattle.um_machine.specs.Table as T
-use Rattle.um_base.specs.declared.image.Image.{Image}
-use Rattle.um_fine.specs.Addresses.{address_of, address_or}
-use Rattle.um_fine.specs.Answers.{act_in, charge_in, fits_in, reserved_in}
-use Rattle.um_fine.specs.Steps.{Exchange, FineStep, Site}
-use Rattle.um_fine.specs.Heap.{Heap, can_pay, is_open, least_open}
-use Rattle.um_fine.specs.Cells.{Cell}
-use Rattle.um_fine.specs.Sites.{SiteState, is_sort, site_answers}
-use Rattle.um_fine.specs.Places.{Todos}
-use Rattle.um_fine.specs.Asks.{moves, shows}
-use Rattle.um_erasure.specs.Fine.{Fine, heap, heap_state}
-use Rattle.um_erasure.specs.Relation.{Rel}
+use Rattle.um_fine.specs.Addresses.{address_or}
+use Rattle.um_fine.specs.Answers.{fits_in, reserved_in}
+use Rattle.um_fine.specs.Heap.{can_pay, is_open, least_open}
 use Rattle.um_erasure.proofs.Offered.{IsStep, Shows, act-is, machine-step, own-part, says-at, site-is}
 
 pub heap-sort : (s : SiteState) → IsTrue (is_sort Site.heap s) → (n : ℕ) × (s ≡ SiteState.cell n (Cell.heap (heap_state s)))

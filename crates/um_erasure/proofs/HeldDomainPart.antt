@@ -1,39 +1,11 @@
 -- A processor that holds its thread has that one's domain, after every lawful step: no thread that is held moves to another domain, or is
 -- started; and the steps of an end don't hold it.
-use Rattle.std.proofs.Common.{◌≡◌, inl, inr, ℕ, ◌<◌, Bool, true, false, cond, List, [], ◌∷◌, Option, Some, None, refl, sym, ap, ◌∙◌, subst, arith, eq-eqb}
-use Rattle.std.specs.Prelude.{◌==◌, ◌&&◌, ◌||◌, not, if◌then◌else◌, nat_lt, unwrap_or}
-use Rattle.std.specs.List.{list_any}
-use Rattle.std.proofs.lemmas.Bool.{and_parts, eqb-true, false≢true, true≢false}
-use Rattle.um_base.specs.declared.act.Act.{Act}
-use Rattle.um_base.specs.declared.image.Image.{Image}
-use Rattle.um_base.specs.declared.limits.TheConstants.{THREADS}
+use Rattle.um_erasure.proofs.Words.{◌≡◌, inl, inr, ℕ, ◌<◌, Bool, true, false, cond, List, [], ◌∷◌, Option, Some, None, refl, sym, ap, ◌∙◌, subst, arith, eq-eqb, ◌==◌, ◌&&◌, ◌||◌, not, if◌then◌else◌, nat_lt, unwrap_or, list_any, and_parts, eqb-true, false≢true, true≢false, Act, Image, THREADS, ThreadIx, Pending, Life, Steps, is_empty, State, is_living, is_started, thread_at, FineAct, More, Unseen, ThreadWord, thread_after, thread_after_act, act_in, domain_in, is_visit, is_word_read, allows, begins_cleaning, more_of, says_idle, says_step, Context, no_context, after_claim, after_show, dropped_at, goes_on_by, p_next, unless_loaded, Todo, Todos, fine_steps, Processor, fails, is_of, key_of, first_ready, parked_at, SiteState, s_next, same_site, site_after, site_takes, word_of, FineStep, Site, same-sound, Fine, one_if, scheduler, thread_state, word, Behind, has_held, has_steps, is_hold, runs, runs_thread, Fits, is_ended}
 use Rattle.um_base.specs.declared.names.Access.TheVariants as Access
-use Rattle.um_base.specs.declared.names.ThreadIx.{ThreadIx}
-use Rattle.um_machine.specs.declared.pending.Pending.{Pending}
-use Rattle.um_machine.specs.declared.thread.Life.{Life}
-use Rattle.um_machine.specs.Order.{Steps}
-use Rattle.um_machine.specs.Services.{is_empty}
-use Rattle.um_machine.specs.State.{State, is_living, is_started, thread_at}
-use Rattle.um_words.specs.declared.fine.FineAct.{FineAct}
-use Rattle.um_words.specs.declared.fine.More.{More}
-use Rattle.um_words.specs.declared.fine.Unseen.{Unseen}
-use Rattle.um_words.specs.declared.thread_word.ThreadWord.{ThreadWord}
-use Rattle.um_words.specs.Threads.{thread_after, thread_after_act, thread_after_unseen, thread_takes}
-use Rattle.um_fine.specs.Answers.{act_in, domain_in, is_visit, is_word_read, thread_in}
-use Rattle.um_fine.specs.Asks.{allows, begins_cleaning, more_of, says_idle, says_step}
-use Rattle.um_fine.specs.Context.{Context, no_context}
-use Rattle.um_fine.specs.Follows.{after_claim, after_show, dropped_at, goes_on_by, p_next, unless_loaded}
-use Rattle.um_fine.specs.Places.{Todo, Todos, fine_steps}
-use Rattle.um_fine.specs.Processor.{Processor, fails, is_of, key_of}
-use Rattle.um_fine.specs.Scheduler.{first_ready, parked_at}
-use Rattle.um_fine.specs.Sites.{SiteState, s_next, same_site, site_after, site_takes, word_of}
-use Rattle.um_fine.specs.Steps.{FineStep, Site}
-use Rattle.um_fine.proofs.Keys.{same-sound}
-use Rattle.um_erasure.specs.Fine.{Fine, one_if, scheduler, thread_state, word}
-use Rattle.um_erasure.specs.Frames.{Behind}
-use Rattle.um_erasure.specs.Lists.{has_held, has_steps, is_hold, is_move_done, runs, runs_thread}
-use Rattle.um_erasure.specs.Offers.{Fits}
-use Rattle.um_erasure.specs.Threads.{DomainKept, is_ended}
+use Rattle.um_words.specs.Threads.{thread_after_unseen, thread_takes}
+use Rattle.um_fine.specs.Answers.{thread_in}
+use Rattle.um_erasure.specs.Lists.{is_move_done}
+use Rattle.um_erasure.specs.Threads.{DomainKept}
 use Rattle.um_erasure.proofs.CallsKnown.{starts-known}
 use Rattle.um_erasure.proofs.DomainReads.{is_told, next-domain, next-reply}
 use Rattle.um_erasure.proofs.Endings.{Ends, TakesLiving, continues-ended, ending-alone, is_last, last-alone, next-ends}
@@ -45,7 +17,7 @@ use Rattle.um_erasure.proofs.ListRuns.{ends-rests}
 use Rattle.um_erasure.proofs.ListGrowth.{ReadsLast, either-look, is_end, is_read_claim}
 use Rattle.um_erasure.proofs.ListTails.{Reads, exact-next, is_passed, tail-read, takes-read}
 use Rattle.um_erasure.proofs.MemorySteps.{part-total}
-use Rattle.um_erasure.proofs.Offered.{IsStep, Shows, shown-offers, site-is}
+use Rattle.um_erasure.proofs.Offered.{IsStep, Shows, shown-offers, site-is, either-act}
 use Rattle.um_erasure.proofs.RowSteps.{thread-sort}
 use Rattle.um_erasure.proofs.SchedulerSteps.{made-at, made-says, sched-moved, word-left}
 use Rattle.um_erasure.proofs.StepReads.{is-behind}
@@ -82,17 +54,12 @@ is_placing (Pending.DomMove d who) = true
 is_placing (Pending.Start who script stack priority mode) = true
 is_placing q = false
 
-either-domain : (w : ThreadWord) (more : More) (b : Bool) (good bad : Act) → (thread_after_act w more good).domain ≡ w.domain → (thread_after_act w more bad).domain ≡ w.domain
-    → (thread_after_act w more (if b then good else bad)).domain ≡ w.domain
-either-domain w more true good bad h k = h
-either-domain w more false good bad h k = k
-
 event-domain : (image : Image) (p : Processor) (w : ThreadWord) (more : More) (q : Pending) (act : Act) → is_placing q ≡ false → (thread_after_act w more (says_step image p q act)).domain ≡ w.domain
 event-domain image p w more (Pending.DomMove d who) act h = absurd (true≢false h)
 event-domain image p w more (Pending.Start who script stack priority mode) act h = absurd (true≢false h)
-event-domain image p w more (Pending.Load to a n) act h = either-domain w more (allows image p Access.Read a.0 n) _ _ refl refl
-event-domain image p w more (Pending.Store a n value) act h = either-domain w more (allows image p Access.Write a.0 n) _ _ refl refl
-event-domain image p w more (Pending.Fetch a) act h = either-domain w more (allows image p Access.Exec a.0 4) _ _ refl refl
+event-domain image p w more (Pending.Load to a n) act h = either-act (λ z. (thread_after_act w more z).domain) _ (allows image p Access.Read a.0 n) _ _ refl refl
+event-domain image p w more (Pending.Store a n value) act h = either-act (λ z. (thread_after_act w more z).domain) _ (allows image p Access.Write a.0 n) _ _ refl refl
+event-domain image p w more (Pending.Fetch a) act h = either-act (λ z. (thread_after_act w more z).domain) _ (allows image p Access.Exec a.0 4) _ _ refl refl
 event-domain image p w more q act h = refl
 
 -- a thread that was started and hasn't ended lives

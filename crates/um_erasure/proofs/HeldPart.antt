@@ -1,29 +1,7 @@
 -- A thread is held by the processor that runs it, after every lawful step.
-use Rattle.std.proofs.Common.{◌≡◌, inl, inr, ℕ, ◌+◌, ◌<◌, Bool, true, false, cond, [], ◌∷◌, Some, None, refl, sym, ap, ◌∙◌, subst, arith}
-use Rattle.std.specs.Prelude.{◌==◌, ◌&&◌, if◌then◌else◌, nat_lt}
-use Rattle.std.specs.List.{list_any}
-use Rattle.std.proofs.lemmas.Bool.{and_parts, eqb-true, not-true, true≢false}
-use Rattle.um_base.specs.declared.image.Image.{Image}
-use Rattle.um_base.specs.declared.limits.TheConstants.{THREADS}
-use Rattle.um_machine.specs.declared.pending.Pending.{Pending}
-use Rattle.um_machine.specs.State.{State}
-use Rattle.um_base.specs.declared.act.Act.{Act}
-use Rattle.um_words.specs.declared.fine.FineAct.{FineAct}
-use Rattle.um_words.specs.declared.fine.Unseen.{Unseen}
-use Rattle.um_words.specs.declared.thread_word.ThreadWord.{ThreadWord}
-use Rattle.um_words.specs.Threads.{thread_after, thread_after_act, thread_takes}
-use Rattle.um_fine.specs.Answers.{is_visit, is_word_read}
-use Rattle.um_fine.specs.Asks.{begins, begins_cleaning, says, says_idle, says_show, shows}
-use Rattle.um_fine.specs.Follows.{goes_on_by, p_next, with_cleaned}
-use Rattle.um_fine.specs.Places.{Todo, Todos}
-use Rattle.um_fine.specs.Processor.{Processor}
-use Rattle.um_fine.specs.Sites.{SiteState, s_next, same_site, site_after, site_takes}
-use Rattle.um_fine.specs.Steps.{Exchange, FineStep, Site}
-use Rattle.um_erasure.specs.Cleaning.{AreBlocks}
-use Rattle.um_erasure.specs.Fine.{Fine, one_if, over_processors, thread_state, word}
-use Rattle.um_erasure.specs.Frames.{Behind}
-use Rattle.um_erasure.specs.Lists.{has_held, has_steps, is_let_go, runs_thread}
-use Rattle.um_erasure.specs.Offers.{Fits}
+use Rattle.um_erasure.proofs.Words.{◌≡◌, inl, inr, ℕ, ◌+◌, ◌<◌, Bool, true, false, cond, [], ◌∷◌, Some, None, refl, sym, ap, ◌∙◌, subst, arith, ◌==◌, ◌&&◌, if◌then◌else◌, nat_lt, list_any, and_parts, eqb-true, not-true, true≢false, Image, THREADS, Pending, State, Act, FineAct, Unseen, ThreadWord, thread_after, thread_after_act, is_visit, is_word_read, begins_cleaning, says, says_idle, says_show, shows, goes_on_by, p_next, with_cleaned, Todo, Todos, Processor, SiteState, s_next, same_site, site_after, site_takes, Exchange, FineStep, Site, AreBlocks, Fine, one_if, over_processors, thread_state, word, Behind, has_held, has_steps, is_let_go, runs_thread, Fits, and-false}
+use Rattle.um_words.specs.Threads.{thread_takes}
+use Rattle.um_fine.specs.Asks.{begins}
 use Rattle.um_erasure.specs.Threads.{HeldIs}
 use Rattle.um_erasure.proofs.ListGrowth.{ReadsLast, is_end}
 use Rattle.um_erasure.proofs.Erased.{around}
@@ -81,10 +59,6 @@ held-same w (FineAct.Shown event more) free = by event.act
 held-same w (FineAct.Unseen Unseen.Hold) free = absurd (true≢false free)
 held-same w (FineAct.Unseen Unseen.LetGo) free = absurd (true≢false free)
 held-same w (FineAct.Unseen u) free = refl
-
-pub and-false : (b : Bool) → (b && false) ≡ false
-and-false true = refl
-and-false false = refl
 
 and-true : (b : Bool) → (b && true) ≡ b
 and-true true = refl

@@ -1,19 +1,6 @@
 -- What a call holds: its row is claimed, so it is neither free nor in cleaning, and its cell has the object's contents.
-use Rattle.std.proofs.Common.{◌≡◌, ℕ, zero, suc, ◌+◌, ◌<◌, Bool, true, false, List, [], ◌∷◌, replicate, refl, sym, ap, ◌∙◌, subst, arith}
-use Rattle.std.specs.Prelude.{◌==◌, ◌&&◌, not, if◌then◌else◌, slice_index_or, slice_set}
-use Rattle.std.proofs.lemmas.Bool.{eqb-false, false≢true}
-use Rattle.um_base.specs.declared.limits.TheConstants.{ROWS}
+use Rattle.um_erasure.proofs.Words.{◌≡◌, ℕ, zero, suc, ◌+◌, ◌<◌, Bool, true, false, List, [], ◌∷◌, replicate, refl, sym, ap, ◌∙◌, subst, arith, ◌==◌, ◌&&◌, not, if◌then◌else◌, slice_index_or, slice_set, eqb-false, false≢true, ROWS, State, object_at, thread_at, Stage, is_dying, is_free, Fine, one_if, row, total, counted, is_recycle, is_wipe, runs, call_claims, is_reserved, recyclers, status_of, vacaters, wipers, is_over, flags_of, occurs, Rel}
 use Rattle.um_machine.specs.Objects as Plain
-use Rattle.um_machine.specs.State.{State, object_at, thread_at}
-use Rattle.um_words.specs.declared.row_word.Stage.{Stage}
-use Rattle.um_words.specs.Rows.{is_dying, is_free}
-use Rattle.um_erasure.specs.Fine.{Fine, one_if, row, total}
-use Rattle.um_erasure.specs.Lists.{counted, is_recycle, is_wipe, runs}
-use Rattle.um_erasure.specs.Claims.{call_claims}
-use Rattle.um_erasure.specs.Objects.{is_reserved, recyclers, status_of, vacaters, wipers}
-use Rattle.um_erasure.specs.Offers.{is_over}
-use Rattle.um_erasure.specs.Threads.{flags_of, occurs}
-use Rattle.um_erasure.specs.Relation.{Rel}
 use Rattle.um_erasure.proofs.ListCounts.{cleans-none}
 use Rattle.um_erasure.proofs.MemorySteps.{part-total}
 use Rattle.um_erasure.proofs.RowSteps.{settled}
@@ -58,10 +45,6 @@ some-part g (suc n) h = by (g n) refl (some-part g n)
     by : (p : ℕ) → g n ≡ p → (0 < total g n → (k : ℕ) × (k < n) × (0 < g k)) → (k : ℕ) × (k < suc n) × (0 < g k)
     by zero e more = let r = more (omega (arith, h, e)) in let l = r.1 in (r.0, omega (arith, l), r.2)
     by (suc p) e more = (n, omega arith, omega (arith, e))
-
-pub one-some : (b : Bool) → 0 < one_if b → b ≡ true
-one-some true h = refl
-one-some false h = absurd (omega (arith, h))
 
 module _ (f : Fine) (m : State) (rel : Rel f m) where
   -- what a processor's call holds, and what it has still to end, is claimed in the word

@@ -1,40 +1,15 @@
 -- Where no processor runs a thread and none is ready, no event is a step of the access-matrix machine.
-use Rattle.std.proofs.Common.{◌≡◌, ◌≢◌, ◌⊎◌, inl, inr, ℕ, zero, suc, ◌+◌, ◌<◌, ◌≤◌, Bool, true, false, List, [], ◌∷◌, length, Option, Some, None, refl, sym, ap, ◌∙◌, subst, arith}
-use Rattle.std.specs.Prelude.{◌==◌, ◌&&◌, ◌||◌, not, IsTrue, if◌then◌else◌, is_some, nat_lt, slice_index_or, slice_set}
-use Rattle.std.proofs.lemmas.Bool.{eqb-false, eqb-true, false≢true, ltb-true, true≢false}
-use Rattle.std.proofs.lemmas.Bool.Decides.{nat_tests}
-use Rattle.std.proofs.lemmas.Grind.{get_or-set_at}
-use Rattle.std.proofs.lemmas.List.{get_or-set_other}
-use Rattle.std.proofs.Math.Bool.{or-true}
-use Rattle.um_base.specs.declared.image.Image.{Image}
-use Rattle.um_base.specs.declared.limits.TheConstants.{ROWS, THREADS}
-use Rattle.um_base.specs.Places.{own_row}
-use Rattle.um_machine.specs.declared.object.Object.{Object}
-use Rattle.um_machine.specs.declared.pending.Pending.{Pending}
-use Rattle.um_machine.specs.declared.thread.Life.{Life}
-use Rattle.um_machine.specs.declared.thread.Thread.{Thread}
+use Rattle.um_erasure.proofs.Words.{◌≡◌, ◌≢◌, ◌⊎◌, inl, inr, ℕ, zero, suc, ◌+◌, ◌<◌, ◌≤◌, Bool, true, false, List, [], ◌∷◌, length, Option, Some, None, refl, sym, ap, ◌∙◌, subst, arith, ◌==◌, ◌&&◌, ◌||◌, not, IsTrue, if◌then◌else◌, is_some, nat_lt, slice_index_or, slice_set, eqb-false, eqb-true, false≢true, ltb-true, true≢false, nat_tests, get_or-set_at, get_or-set_other, or-true, Image, ROWS, THREADS, own_row, Object, Pending, Life, Thread, Steps, is_empty, IsComplete, MayChoose, Offers, begins, cleans_pair, exits, goes, recycles, skips_drops, skips_inherit, State, is_living, nobody, object_at, thread_at, vacant, Stage, is_dying, Context, Todos, parked_at, told_at, waits, call_claims, context_claims, Fine, one_if, over_processors, row, scheduler, total, adders, counted, has_steps, is_end_call, is_recycle, of_thread, runs, wake_of, recyclers, is_over, Rel, first_told, flags_of, is_ready_there, occurs, places, runs_on, told_by}
 use Rattle.um_machine.specs.Objects as Plain
-use Rattle.um_machine.specs.Order.{Steps}
-use Rattle.um_machine.specs.Services.{is_empty}
-use Rattle.um_machine.specs.Run.{IsComplete, MayChoose, MayClean, Offers, begins, cleans_pair, exits, goes, recycles, skips_drops, skips_inherit}
-use Rattle.um_machine.specs.State.{State, is_living, nobody, object_at, thread_at, vacant}
-use Rattle.um_words.specs.declared.row_word.Stage.{Stage}
-use Rattle.um_words.specs.Rows.{is_dying}
-use Rattle.um_fine.specs.Context.{Context}
-use Rattle.um_fine.specs.Places.{Todos}
-use Rattle.um_fine.specs.Scheduler.{parked_at, told_at, waits}
-use Rattle.um_erasure.specs.Claims.{call_claims, claims, context_claims, creates}
-use Rattle.um_erasure.specs.Fine.{Fine, one_if, over_processors, row, scheduler, total}
-use Rattle.um_erasure.specs.Lists.{adders, counted, has_steps, is_end_call, is_recycle, of_thread, runs, wake_of}
-use Rattle.um_erasure.specs.Objects.{recyclers}
-use Rattle.um_erasure.specs.Offers.{is_over}
-use Rattle.um_erasure.specs.Relation.{Rel, ThreadIs}
-use Rattle.um_erasure.specs.Threads.{first_told, flags_of, is_ready_there, occurs, places, runs_on, told_by}
+use Rattle.um_machine.specs.Run.{MayClean}
+use Rattle.um_erasure.specs.Claims.{claims, creates}
+use Rattle.um_erasure.specs.Relation.{ThreadIs}
 use Rattle.um_erasure.proofs.ChildrenKnown.{AllCreate}
 use Rattle.um_erasure.proofs.ChildSteps.{Creates}
 use Rattle.um_erasure.proofs.ContextsPart.{flags-long}
-use Rattle.um_erasure.proofs.HeldRows.{one-some, some-part, total-zero}
+use Rattle.um_erasure.proofs.HeldRows.{some-part, total-zero}
 use Rattle.um_erasure.proofs.Reachable.{IsWide}
+use Rattle.um_erasure.proofs.Sums.{one-true}
 
 -- No processor runs a thread, and none is ready.
 pub record IsIdle (f : Fine) : Type 0 where
@@ -210,7 +185,7 @@ module _ (f : Fine) (m : State) (rel : Rel f m) (idle : IsIdle f) (wide : IsWide
             let calls = calls-none in
             let children = children-none in
             let one = some-part lives THREADS (omega (arith, some, e, calls, children)) in
-            lives-holds one.0 one.1 (one-some _ one.2)
+            lives-holds one.0 one.1 (one-true _ one.2)
         by (suc n) e = let one = some-part parked THREADS (omega (arith, e)) in parked-holds one.0 one.1 (parked_at (scheduler f) one.0) refl one.2
 
     dying-held : Plain.is_gone (object_at m x).status ≡ true → Plain.is_held m x ≡ true

@@ -1,20 +1,6 @@
 -- A processor without a thread holds nothing, after every lawful step.
-use Rattle.std.proofs.Common.{◌≡◌, ℕ, ◌<◌, Bool, true, false, cond, [], ◌∷◌, refl, sym, ap, ◌∙◌, subst}
-use Rattle.std.specs.Prelude.{◌==◌, IsTrue}
-use Rattle.std.proofs.lemmas.Bool.{eqb-true, false≢true, true≢false}
-use Rattle.um_machine.specs.State.{State}
-use Rattle.um_fine.specs.Asks.{begins_cleaning}
-use Rattle.um_fine.specs.Context.{Context}
-use Rattle.um_fine.specs.Follows.{goes_on_by, p_next}
-use Rattle.um_fine.specs.Places.{Todo, Todos}
-use Rattle.um_fine.specs.Processor.{Processor}
-use Rattle.um_fine.specs.Scheduler.{first_ready, has_ready}
-use Rattle.um_fine.specs.Steps.{FineStep}
+use Rattle.um_erasure.proofs.Words.{◌≡◌, ℕ, ◌<◌, Bool, true, false, cond, [], ◌∷◌, refl, sym, ap, ◌∙◌, subst, ◌==◌, IsTrue, eqb-true, false≢true, true≢false, State, begins_cleaning, Context, goes_on_by, p_next, Todo, Todos, Processor, first_ready, has_ready, FineStep, AreBlocks, Fine, scheduler, AreFramed, runs}
 use Rattle.um_erasure.specs.Claims.{IdleIs}
-use Rattle.um_erasure.specs.Cleaning.{AreBlocks}
-use Rattle.um_erasure.specs.Fine.{Fine, scheduler}
-use Rattle.um_erasure.specs.Frames.{AreFramed}
-use Rattle.um_erasure.specs.Lists.{runs}
 use Rattle.um_erasure.proofs.Erased.{around, later}
 use Rattle.um_erasure.proofs.Kept.{idle-moves, idle-takes}
 use Rattle.um_erasure.proofs.Leaves.{Lawful}

@@ -1,27 +1,7 @@
 -- Two parts of the relation, kept by every lawful step: each site keeps its sort, and each processor a list that fits.
-use Rattle.std.proofs.Common.{◌≡◌, inl, inr, ℕ, ◌+◌, ◌<◌, Bool, true, false, cond, List, [], ◌∷◌, Option, Some, None, refl, sym, ap, ◌∙◌, subst, arith, eq-eqb}
-use Rattle.std.specs.Prelude.{◌==◌, ◌||◌, not, IsTrue, if◌then◌else◌, is_some, unwrap_or}
-use Rattle.std.proofs.lemmas.Bool.{and_parts, eqb-true, false≢true}
-use Rattle.um_base.specs.declared.image.Image.{Image}
-use Rattle.um_base.specs.declared.ask.Told.{Told}
-use Rattle.um_base.specs.declared.limits.TheConstants.{THREADS}
-use Rattle.um_machine.specs.State.{State}
-use Rattle.um_words.specs.declared.fine.FineAct.{FineAct}
-use Rattle.um_fine.specs.Context.{Context, no_context}
-use Rattle.um_fine.specs.Steps.{Exchange, FineStep, Site}
-use Rattle.um_fine.specs.Scheduler.{Scheduler, first_ready, has_ready, parked_at, sched_moves, sched_takes, told_at, waits}
-use Rattle.um_fine.specs.Cells.{Cell}
-use Rattle.um_fine.specs.Sites.{SiteMay, SiteState, is_sort, s_next, same_site, site_moves, site_takes}
-use Rattle.um_fine.specs.Places.{Todos}
-use Rattle.um_fine.specs.Processor.{Processor}
-use Rattle.um_fine.specs.Asks.{CpuMay, says, says_idle, site_at}
-use Rattle.um_fine.specs.Follows.{p_next}
+use Rattle.um_erasure.proofs.Words.{◌≡◌, inl, inr, ℕ, ◌+◌, ◌<◌, Bool, true, false, cond, List, [], ◌∷◌, Option, Some, None, refl, sym, ap, ◌∙◌, subst, arith, eq-eqb, ◌==◌, ◌||◌, not, IsTrue, if◌then◌else◌, is_some, unwrap_or, and_parts, eqb-true, false≢true, Image, Told, THREADS, State, FineAct, Context, no_context, Exchange, FineStep, Site, Scheduler, first_ready, has_ready, parked_at, sched_takes, told_at, waits, Cell, SiteMay, SiteState, is_sort, s_next, same_site, site_moves, site_takes, Todos, Processor, CpuMay, says, says_idle, site_at, p_next, cpu_of, same_cpu, site_of, Fine, one_if, scheduler, scheduler_state, IsPutBack, ListIs, is_ready_there, occurs, Rel}
+use Rattle.um_fine.specs.Scheduler.{sched_moves}
 use Rattle.um_fine.specs.Runs.{changed}
-use Rattle.um_fine.specs.FineRun.{cpu_of, same_cpu, site_of}
-use Rattle.um_erasure.specs.Fine.{Fine, one_if, scheduler, scheduler_state}
-use Rattle.um_erasure.specs.Offers.{IsPutBack, ListIs}
-use Rattle.um_erasure.specs.Threads.{is_ready_there, occurs}
-use Rattle.um_erasure.specs.Relation.{Rel}
 use Rattle.um_erasure.proofs.ListFits.{IsAtRest, list-next}
 use Rattle.um_erasure.proofs.RowSteps.{sort-next}
 

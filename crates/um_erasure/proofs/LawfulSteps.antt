@@ -1,35 +1,7 @@
 -- Each lawful step is one of the machine, or leaves it: given a few facts of the machine's state, what it makes of that state
 -- is one of the kinds of `Leaves`.
-use Rattle.std.proofs.Common.{◌≡◌, inl, inr, ℕ, ◌<◌, Bool, true, false, [], ◌∷◌, length, Some, None, refl, sym, ap, ◌∙◌, subst}
-use Rattle.std.specs.Prelude.{◌&&◌, if◌then◌else◌, nat_lt, slice_index_or}
-use Rattle.std.specs.List.{list_all}
-use Rattle.std.proofs.lemmas.Bool.{and_parts, false≢true, ltb-true, true≢false}
-use Rattle.um_base.specs.declared.act.Act.{Act}
-use Rattle.um_base.specs.declared.ask.Ask.{Ask}
-use Rattle.um_base.specs.declared.image.Image.{Image}
-use Rattle.um_base.specs.declared.limits.TheConstants.{ROWS}
-use Rattle.um_base.specs.declared.names.Addr.{Addr}
-use Rattle.um_base.specs.declared.names.ThreadIx.{ThreadIx}
-use Rattle.um_base.specs.Places.{own_row}
-use Rattle.um_machine.specs.declared.pending.Amount.{Amount}
-use Rattle.um_machine.specs.declared.pending.Pending.{Pending}
-use Rattle.um_machine.specs.Order.{Steps, to_thread}
-use Rattle.um_machine.specs.Run.{Offers, goes, skips_drops, skips_inherit}
-use Rattle.um_machine.specs.State.{State, thread_at}
+use Rattle.um_erasure.proofs.Words.{◌≡◌, inl, inr, ℕ, ◌<◌, Bool, true, false, [], ◌∷◌, length, Some, None, refl, sym, ap, ◌∙◌, subst, ◌&&◌, if◌then◌else◌, nat_lt, slice_index_or, list_all, and_parts, false≢true, ltb-true, true≢false, Act, Ask, Image, ROWS, Addr, ThreadIx, own_row, Amount, Pending, Steps, to_thread, Offers, goes, skips_drops, skips_inherit, State, thread_at, call_is, Guarded, IsStatic, behind_birth, FineAct, Unseen, address_of, row_named, act_in, is_visit, is_word_read, leftover_in, by_me, says_idle, says_show, shows, Cell, Todo, Todos, SiteState, site_takes, Exchange, FineStep, Site, Fine, bytes, names_row}
 use Rattle.um_machine.specs.Table as T
-use Rattle.um_invariants.proofs.Cores.{call_is}
-use Rattle.um_invariants.proofs.Guards.{Guarded, IsStatic, behind_birth}
-use Rattle.um_words.specs.declared.fine.FineAct.{FineAct}
-use Rattle.um_words.specs.declared.fine.Unseen.{Unseen}
-use Rattle.um_fine.specs.Addresses.{address_of, row_named}
-use Rattle.um_fine.specs.Answers.{act_in, is_visit, is_word_read, left_in}
-use Rattle.um_fine.specs.Asks.{by_me, says_idle, says_show, shows}
-use Rattle.um_fine.specs.Cells.{Cell}
-use Rattle.um_fine.specs.Places.{Todo, Todos}
-use Rattle.um_fine.specs.Sites.{SiteState, site_takes}
-use Rattle.um_fine.specs.Steps.{Exchange, FineStep, Site}
-use Rattle.um_erasure.specs.Fine.{Fine, bytes}
-use Rattle.um_erasure.specs.Lists.{names_row}
 use Rattle.um_erasure.proofs.CallsKnown.{RestsHoldNothing, calls-known}
 use Rattle.um_erasure.proofs.CleanSteps.{Calls, OwnRows, clean-pair-step, recycle-chosen, recycle-step}
 use Rattle.um_erasure.proofs.DomainSteps.{add-step, init-step, remove-step}
@@ -40,13 +12,13 @@ use Rattle.um_erasure.proofs.Leaves.{HasStep, Lawful, Leaves, cleans, drops, eve
 use Rattle.um_erasure.proofs.MemoryPart.{InDomains, held-domain}
 use Rattle.um_erasure.proofs.MemorySteps.{copy-in-step, copy-out-step, fetch-step, load-step, memory-sort, probe-step, store-step}
 use Rattle.um_erasure.proofs.ObjectsKept.{row-below}
-use Rattle.um_erasure.proofs.Offered.{IsStep, Shows, act-is, shown-offers, site-is, step-goes}
+use Rattle.um_erasure.proofs.Offered.{IsStep, Shows, act-is, shown-offers, site-is, step-goes, machine-step}
 use Rattle.um_erasure.proofs.Reachable.{sound-held}
 use Rattle.um_erasure.proofs.ResumeSteps.{TellsWaiters, resume-step}
 use Rattle.um_erasure.proofs.RowSteps.{check-step, grant-step, named-row, own-step, publish-step, set-step}
 use Rattle.um_erasure.proofs.RowsPart.{found, named-below}
 use Rattle.um_erasure.proofs.SchedulerSteps.{made-says}
-use Rattle.um_erasure.proofs.Shown.{sure-step}
+use Rattle.um_erasure.proofs.Shown.{answer-step, begin-step, exit-step}
 use Rattle.um_erasure.proofs.TextSteps.{copy-str-step}
 use Rattle.um_erasure.proofs.VisitSteps.{Visits, pass-step}
 use Rattle.um_erasure.proofs.WordsKept.{IsShown}
@@ -156,7 +128,10 @@ module _ (f : Fine) (m : State) (e : FineStep) (law : Lawful f m e) (suits : Sui
     shown-step (Pending.Drops from) h = absurd (exits-nowhere _ (act-is h) (site-is h) refl)
     shown-step (Pending.CleanPair who) h = absurd (exits-nowhere _ (act-is h) (site-is h) refl)
     shown-step Pending.Recycle h = absurd (exits-nowhere _ (act-is h) (site-is h) refl)
-    shown-step q h = (tt, 0, sure-step q tt h)
+    shown-step Pending.Begin h = (tt, 0, begin-step h)
+    shown-step Pending.Exit h = (tt, 0, exit-step h)
+    shown-step (Pending.Answer reply to) h = (tt, 0, answer-step reply to h)
+    shown-step q h = (tt, 0, machine-step h 0 (act-is h) tt refl)
 
   show-next : (q : Pending) (rest : Steps) (todo : Todos) → p.todo ≡ Todo.show q rest ∷ todo → (b : Bool) → is_word_read e.act ≡ b → Next f m e
   show-next q rest todo at false shown =
@@ -202,7 +177,7 @@ module _ (f : Fine) (m : State) (e : FineStep) (law : Lawful f m e) (suits : Sui
 
   drop-next : (x : ℕ) (todo : Todos) → p.todo ≡ Todo.drop x ∷ todo → (b : Bool) → is_visit e.act ≡ b → Next f m e
   drop-next x todo at true look =
-      looks (Act.DropPair (to_thread p.context.thread) (address_of f.image x) (left_in (act_in e.act))) (made-says f m e law (Todo.drop x ∷ todo) at) look
+      looks (Act.DropPair (to_thread p.context.thread) (address_of f.image x) (leftover_in (act_in e.act))) (made-says f m e law (Todo.drop x ∷ todo) at) look
   drop-next x todo at false shown =
       let v = visited-at x (Todo.drop x) todo at (row-first (Todo.drop x) todo at) shown in
       let r = drop-step v (sound-held m law.sound x p.context.thread v.few) in
@@ -210,12 +185,12 @@ module _ (f : Fine) (m : State) (e : FineStep) (law : Lawful f m e) (suits : Sui
         state = T.after m p.context.thread x (Pending.Drops r.0) r.1;
         goes = r.3;
         has = r.2;
-        leaves = drops r.0 x r.1 todo v (does (Act.DropPair (to_thread p.context.thread) (address_of f.image x) (left_in (act_in e.act))) (made-says f m e law (Todo.drop x ∷ todo) at) shown);
+        leaves = drops r.0 x r.1 todo v (does (Act.DropPair (to_thread p.context.thread) (address_of f.image x) (leftover_in (act_in e.act))) (made-says f m e law (Todo.drop x ∷ todo) at) shown);
       }
 
   clean-next : (who x : ℕ) (todo : Todos) → p.todo ≡ Todo.clean_pair who x ∷ todo → (b : Bool) → is_visit e.act ≡ b → Next f m e
   clean-next who x todo at true look =
-      looks (Act.DropPair (to_thread who) (address_of f.image x) (left_in (act_in e.act))) (made-says f m e law (Todo.clean_pair who x ∷ todo) at) look
+      looks (Act.DropPair (to_thread who) (address_of f.image x) (leftover_in (act_in e.act))) (made-says f m e law (Todo.clean_pair who x ∷ todo) at) look
   clean-next who x todo at false shown =
       let v = visited-at x (Todo.clean_pair who x) todo at (row-first (Todo.clean_pair who x) todo at) shown in
       let pending = (thread_at m p.context.thread).pending in
@@ -223,7 +198,7 @@ module _ (f : Fine) (m : State) (e : FineStep) (law : Lawful f m e) (suits : Sui
         state = T.after m p.context.thread x (Pending.CleanPair (to_thread who)) pending;
         has = tt;
         goes = clean-pair-step v calls own (sound-held m law.sound x who v.few);
-        leaves = cleans who x pending todo v (does (Act.DropPair (to_thread who) (address_of f.image x) (left_in (act_in e.act))) (made-says f m e law (Todo.clean_pair who x ∷ todo) at) shown);
+        leaves = cleans who x pending todo v (does (Act.DropPair (to_thread who) (address_of f.image x) (leftover_in (act_in e.act))) (made-says f m e law (Todo.clean_pair who x ∷ todo) at) shown);
       }
 
   recycle-next : (x : ℕ) (todo : Todos) → p.todo ≡ Todo.recycle x ∷ todo → Next f m e

@@ -1,28 +1,7 @@
 -- What a lawful step leaves of the machine's state: all, where no trace shows it, or what the machine makes by the step of its event. That is
 -- one of a thread's instruction, a resumed call, a visit that finds a permission, or the end of a cleaning.
-use Rattle.std.proofs.Common.{◌≡◌, ℕ, ◌<◌, [], ◌∷◌, Some}
-use Rattle.um_base.specs.declared.act.Act.{Act}
-use Rattle.um_base.specs.declared.ask.Told.{Told}
-use Rattle.um_base.specs.declared.limits.TheConstants.{ROWS}
-use Rattle.um_machine.specs.declared.pending.Pending.{Pending}
-use Rattle.um_machine.specs.Order.{Steps, to_thread}
-use Rattle.um_machine.specs.Run.{MayChoose}
-use Rattle.um_machine.specs.State.{State}
+use Rattle.um_erasure.proofs.Words.{◌≡◌, ℕ, ◌<◌, [], ◌∷◌, Some, Act, Told, ROWS, Pending, Steps, to_thread, MayChoose, State, FineAct, More, Unseen, address_of, act_in, leftover_in, by_me, Context, ByOneOf, Todo, Todos, Processor, SiteMay, Exchange, FineStep, Fine, Rel}
 use Rattle.um_machine.specs.Table as T
-use Rattle.um_words.specs.declared.fine.FineAct.{FineAct}
-use Rattle.um_words.specs.declared.fine.More.{More}
-use Rattle.um_words.specs.declared.fine.Unseen.{Unseen}
-use Rattle.um_fine.specs.Addresses.{address_of}
-use Rattle.um_fine.specs.Answers.{act_in, left_in}
-use Rattle.um_fine.specs.Asks.{by_me}
-use Rattle.um_fine.specs.Context.{Context}
-use Rattle.um_fine.specs.FineRun.{ByOneOf}
-use Rattle.um_fine.specs.Places.{Todo, Todos}
-use Rattle.um_fine.specs.Processor.{Processor}
-use Rattle.um_fine.specs.Sites.{SiteMay}
-use Rattle.um_fine.specs.Steps.{Exchange, FineStep}
-use Rattle.um_erasure.specs.Fine.{Fine}
-use Rattle.um_erasure.specs.Relation.{Rel}
 use Rattle.um_erasure.proofs.Offered.{IsStep, Shows}
 use Rattle.um_erasure.proofs.Reachable.{IsSound}
 use Rattle.um_erasure.proofs.VisitSteps.{Visits}
@@ -51,9 +30,9 @@ module _ (f : Fine) (m : State) (e : FineStep) where
     passes : (who x : ℕ) (rest : Steps) (todo : Todos) → Visits f m e.cpu e x (Todo.pass who x) todo
         → e.act ≡ by_me f.image maker (Act.Inherit (to_thread who) (address_of f.image x)) → Leaves (T.after m mine x (Pending.Inherit (to_thread who)) rest)
     drops : (from x : ℕ) (rest : Steps) (todo : Todos) → Visits f m e.cpu e x (Todo.drop x) todo
-        → e.act ≡ by_me f.image maker (Act.DropPair (to_thread mine) (address_of f.image x) (left_in (act_in e.act))) → Leaves (T.after m mine x (Pending.Drops from) rest)
+        → e.act ≡ by_me f.image maker (Act.DropPair (to_thread mine) (address_of f.image x) (leftover_in (act_in e.act))) → Leaves (T.after m mine x (Pending.Drops from) rest)
     cleans : (who x : ℕ) (rest : Steps) (todo : Todos) → Visits f m e.cpu e x (Todo.clean_pair who x) todo
-        → e.act ≡ by_me f.image maker (Act.DropPair (to_thread who) (address_of f.image x) (left_in (act_in e.act))) → Leaves (T.after m mine x (Pending.CleanPair (to_thread who)) rest)
+        → e.act ≡ by_me f.image maker (Act.DropPair (to_thread who) (address_of f.image x) (leftover_in (act_in e.act))) → Leaves (T.after m mine x (Pending.CleanPair (to_thread who)) rest)
     recycles : (x : ℕ) (rest : Steps) (todo : Todos) → maker.todo ≡ Todo.recycle x ∷ todo → x < ROWS
         → e.act ≡ by_me f.image maker (Act.Recycle (address_of f.image x)) → MayChoose m mine x Pending.Recycle → Leaves (T.after m mine x Pending.Recycle rest)
 

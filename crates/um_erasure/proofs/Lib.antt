@@ -1,4 +1,4 @@
--- What fine steps do to both machines. Erased is the theorem, under the premise that each step keeps the relation, and FirstLawful that it
+-- What fine steps do to both machines. Words passes on the words that all files cite. Erased is the theorem, under the premise that each step keeps the relation, and FirstLawful that it
 -- holds at the opening (First and the files of that name, Opens). Of the premise: Leaves is what a lawful step makes of the machine's state,
 -- and the files named Part have the parts of the relation that are kept whole, with those named List for lists, which stand on ListGrowth; own
 -- parts (Continued, Own, Others, OwnKept, OfKept, OfVisits, PartsElsewhere, StepsLeft, RestKept),
@@ -9,6 +9,7 @@
 -- the files named Stuck show that where no processor can step the machine can't either, CompleteRuns what that says of fine runs, and Waiting what one waits for that can't. What they ask for
 -- is so along each fine run where words can count: CallBounds, Bounds and the files of those names have what bounds calls, lists and the scheduler, and
 -- ClearsKnown and the files named Room what follows from that.
+mod Words
 pub mod Erased
 pub mod ThreadLists
 pub mod DuesKept
@@ -85,7 +86,6 @@ pub mod CleanersPart
 pub mod Endings
 pub mod ContentsKept
 pub mod CellSteps
-pub mod Failures
 pub mod CallsKnown
 pub mod DomainsKnown
 pub mod CallSteps
@@ -107,7 +107,6 @@ pub mod DuesPart
 pub mod EmptiedPart
 pub mod ReplyPart
 pub mod IdlePart
-pub mod ThreadKeys
 pub mod LifeClaims
 pub mod RowStages
 pub mod ParkedClaims

@@ -1,41 +1,11 @@
 -- The claims that threads have by their lives, and those of lives that are about to begin: which steps of the machine change them. They are a
 -- permission on a new thread's own object, its start, and the clearing of its mark at its end.
-use Rattle.std.proofs.Common.{◌≡◌, ℕ, zero, suc, ◌+◌, ◌<◌, Bool, true, false, List, ◌∷◌, length, map, Option, Some, None, refl, sym, ap, ◌∙◌, arith}
-use Rattle.std.specs.Prelude.{ℤ, ◌==◌, ◌&&◌, not, if◌then◌else◌, slice_set, take}
-use Rattle.std.proofs.lemmas.Bool.{false≢true}
-use Rattle.um_base.specs.declared.act.Answer.{Answer}
-use Rattle.um_base.specs.declared.act.Found.{Found}
-use Rattle.um_base.specs.declared.act.SetSaid.{SetSaid}
-use Rattle.um_base.specs.declared.ask.Ask.{Ask}
-use Rattle.um_base.specs.declared.ask.Told.{Told}
-use Rattle.um_base.specs.declared.image.Image.{Image}
-use Rattle.um_base.specs.declared.instr.Instr.{Instr}
-use Rattle.um_base.specs.declared.limits.TheConstants.{PIECE, THREADS}
-use Rattle.um_base.specs.declared.names.Access.TheVariants as Access
-use Rattle.um_base.specs.declared.names.Addr.{Addr}
-use Rattle.um_base.specs.declared.names.Errno.{Errno}
-use Rattle.um_base.specs.declared.names.Kind.{Kind}
-use Rattle.um_base.specs.declared.names.Mode.{Mode}
-use Rattle.um_base.specs.declared.names.Reply.{Reply}
-use Rattle.um_base.specs.declared.names.Row.{Row}
-use Rattle.um_base.specs.declared.names.ThreadIx.{ThreadIx}
-use Rattle.um_base.specs.Lawful.{most_parts}
-use Rattle.um_base.specs.Places.{addr_of, own_row, setup_at}
-use Rattle.um_base.specs.Regions.{Partitions, stack_range}
-use Rattle.um_machine.specs.declared.contents.Contents.TheVariants as Contents
-use Rattle.um_machine.specs.declared.object.Status.TheVariants as Status
-use Rattle.um_machine.specs.declared.pending.Pending.{Pending}
-use Rattle.um_machine.specs.declared.thread.Thread.{Thread}
-use Rattle.um_machine.specs.Domains.{added, domain_after, initialised, part_named, removed, reply_to}
-use Rattle.um_machine.specs.Memory.{allowed, bytes_at, le_bytes, le_value, string_bytes, string_read, with_bytes}
-use Rattle.um_machine.specs.Objects.{is_gone, verdict}
-use Rattle.um_machine.specs.Order.{Steps, answer_error, copy_fails, to_addr}
-use Rattle.um_machine.specs.State.{State, instruction_at, no_rows, object_at, thread_at, vacant, with_object, with_thread}
+use Rattle.um_erasure.proofs.Words.{◌≡◌, ℕ, ◌+◌, ◌<◌, Bool, true, false, length, Option, Some, None, refl, sym, ap, ◌∙◌, arith, ℤ, ◌==◌, ◌&&◌, not, if◌then◌else◌, false≢true, Image, THREADS, Addr, Errno, Mode, Row, ThreadIx, own_row, Pending, Thread, Steps, State, object_at, thread_at, with_object, with_thread, Change, Next, changed, gone, held, one_if, total, Ignores, all_other, effects_of, key-same, keys-wrote, next_of, wrote, length-map}
 use Rattle.um_machine.specs.Table as T
+use Rattle.um_machine.proofs.EffectLemmas as E
 use Rattle.um_erasure.specs.Claims.{creates}
-use Rattle.um_erasure.specs.Fine.{one_if, total}
 use Rattle.um_erasure.proofs.Sums.{total-one, total-same}
-use Rattle.um_erasure.proofs.ThreadKeys.{Ignores, key-same, keys, keys-bytes, keys-dropped, keys-erased, keys-given, keys-long, keys-moved, keys-paired, keys-set, keys-woken}
+use Rattle.um_machine.proofs.EffectLemmas.{keys, set-keys}
 use Rattle.um_erasure.proofs.ThreadLists.{at-here, set-else, set-long}
 
 -- what is followed of a thread: whether it keeps its own object, and whom it creates
@@ -46,8 +16,8 @@ record Key : Type 0 where
 abbrev key_of : Thread → Key
 key_of me = record { keeps = me.keeps_own; child = me.child }
 
-ignores : Ignores key_of
-ignores = record { due = λ me due. refl; told = λ me told. refl; domain = λ me domain. refl }
+ignores : Ignores key_of all_other
+ignores = record { due = λ h me due. refl; told = λ h me told. refl; domain = λ h me domain. refl; doomed = λ h me. refl }
 
 -- the steps that leave that of all threads: a thread that ends has no child
 abbrev pub Stays : Option ThreadIx → Pending → Type 0
@@ -58,133 +28,53 @@ Stays child (Pending.Start who script stack priority mode) = ⊥
 Stays child (Pending.ClearInit a) = ⊥
 Stays child q = Unit {0}
 
+abbrev KeepsKey : Next → Type 0
+KeepsKey (Next.owns keeps) = ⊥
+KeepsKey (Next.creates who) = ⊥
+KeepsKey Next.starts = ⊥
+KeepsKey Next.exits = ⊥
+KeepsKey (Next.fatal reason) = ⊥
+KeepsKey next = Unit {0}
+
+key-changed : (change : Change) (me : Thread) → key_of (changed change me) ≡ key_of me
+key-changed Change.nothing me = refl
+key-changed change me = refl
+
+key-held : (x : ℕ) (v : Option Errno) (me : Thread) → key_of (held x v me) ≡ key_of me
+key-held x None me = refl
+key-held x (Some e) me = refl
+
+gone-key : (left : Steps) (u : State) (t : ℕ) (next : Next) (me : Thread) → KeepsKey next → key_of (gone left u t next me) ≡ key_of me
+gone-key left u t (Next.on change way) me h = key-changed change me
+gone-key left u t (Next.checks x v way) me h = key-held x v me
+gone-key left u t (Next.begins None) me h = refl
+gone-key left u t (Next.begins (Some instr)) me h = refl
+gone-key left u t (Next.resumes None) me h = refl
+gone-key left u t (Next.resumes (Some told)) me h = refl
+gone-key left u t (Next.owns keeps) me h = absurd h
+gone-key left u t (Next.creates who) me h = absurd h
+gone-key left u t Next.starts me h = absurd h
+gone-key left u t Next.exits me h = absurd h
+gone-key left u t (Next.fatal reason) me h = absurd h
+gone-key left u t next me h = refl
+
 module _ (m : State) (t x : ℕ) where
   abbrev me : Thread
   me = thread_at m t
 
-  abbrev Alike : State → Type 0
-  Alike s = keys key_of s ≡ keys key_of m
+  ends-alike : (th : Thread) → th.keeps_own ≡ me.keeps_own → th.child ≡ None → me.child ≡ None → keys key_of (with_thread m t th) ≡ keys key_of m
+  ends-alike th keeps none h = set-keys key_of m.threads t th (λ i. record { keeps = keeps i; child = (none ∙ sym h) i })
 
-  -- a thread is written that keeps and creates what it did
-  set : (s : State) → Alike s → (v : ℕ) (th : Thread) → key_of th ≡ key_of (thread_at s v) → Alike (with_thread s v th)
-  set s e v th k = keys-set key_of s.threads v th k ∙ e
-
-  on : (s : State) → Alike s → (th : Thread) (rest : Steps) → key_of th ≡ key_of (thread_at s t) → Alike (T.goes_on s t th rest)
-  on s e th rest k = set s e t (T.at_steps s.image th rest) k
-
-  either : (b : Bool) (s1 s2 : State) → Alike s1 → Alike s2 → Alike (if b then s1 else s2)
-  either true s1 s2 h k = h
-  either false s1 s2 h k = k
-
-  checks : (a : Addr) (v : Option Errno) (rest : Steps) → Alike (T.goes_on m t (T.with_checked m a v me) rest)
-  checks a None rest = on m refl (T.with_checked m a None me) rest refl
-  checks a (Some e) rest = on m refl me rest refl
-
-  begun : (instr : Option Instr) → Alike (T.after_begin m t me instr)
-  begun None = refl
-  begun (Some instr) = on m refl (record me { registers = T.with_begin me.registers instr }) _ refl
-
-  answers : (s : State) → Alike s → (ask : Ask) (taken : List ℕ) (rest : Steps) (answer : Answer) → Alike (T.after_answer s t (thread_at s t) ask taken rest answer)
-  answers s e ask taken rest Answer.Wait = on s e (thread_at s t) (Pending.Resume ∷ rest) refl
-  answers s e ask taken rest (Answer.Now (Reply.Fail error)) = on s e (record (thread_at s t) { reply = Reply.Fail error; buffer = taken }) _ refl
-  answers s e ask taken rest (Answer.Now Reply.Void) = on s e (record (thread_at s t) { reply = Reply.Void; buffer = taken }) rest refl
-  answers s e ask taken rest (Answer.Now (Reply.Num n)) = on s e (record (thread_at s t) { reply = Reply.Num n; buffer = taken }) rest refl
-  answers s e ask taken rest (Answer.Now (Reply.At a)) = on s e (record (thread_at s t) { reply = Reply.At a; buffer = taken }) rest refl
-  answers s e ask taken rest (Answer.Now Reply.Null) = on s e (record (thread_at s t) { reply = Reply.Null; buffer = taken }) rest refl
-
-  resumed : (rest : Steps) (told : Option Told) → Alike (T.resumed m t me rest told)
-  resumed rest None = refl
-  resumed rest (Some told) = on m refl (record me { told = None; reply = told.reply; buffer = told.taken }) _ refl
-
-  texts : (a : Addr) (rest : Steps) (found : Found) → Alike (T.after_string m t me a rest found)
-  texts a rest (Found.Length n) = on m refl (record me { buffer = string_bytes m a.0 n }) rest refl
-  texts a rest Found.Unreadable = on m refl me (answer_error Errno.EFAULT) refl
-  texts a rest Found.TooLong = on m refl me (answer_error Errno.EINVAL) refl
-
-  marks : (a : Addr) (undo : Option Addr) (rest : Steps) (said : SetSaid) → Alike (T.after_set m t me a undo rest said)
-  marks a undo rest SetSaid.Done = on (with_object m (T.row_of m a) (record (object_at m (T.row_of m a)) { init = true })) refl me rest refl
-  marks a undo rest SetSaid.Gone = on m refl me rest refl
-  marks a undo rest (SetSaid.Fail e) = on m refl me _ refl
-
-  reserves : (row : ℕ) (kind : Kind) (rest : Steps) → Alike (T.after_reserve m t me row kind rest)
-  reserves zero kind rest = on m refl (record me { reply = Reply.Null }) rest refl
-  reserves (suc n) kind rest =
-      let a = to_addr (addr_of m.image (suc n)) in
-      let o = record vacant { kind = Some kind; status = Status.Reserved; cost = T.cost_of me.pool 64 } in
-      on (with_object (record m { pools = T.paid_from me.pool 64 m.pools }) (suc n) o) refl (record me { reply = Reply.At a }) (Pending.Born a ∷ rest) refl
-
-  edited : (d : ℕ) (parts : Option Partitions) (reply : Reply) (rest : Steps) → Alike (T.after_domain m t me d parts reply rest)
-  edited d parts reply rest = on (record m { domains = slice_set m.domains d parts }) refl (record me { reply = reply }) rest refl
-
-  there : (s : State) → Alike s → (rest : Steps) → Alike (T.goes_on s t (thread_at s t) rest)
-  there s e rest = on s e (thread_at s t) rest refl
-
-  pub keys-after : (q : Pending) (rest : Steps) → Stays me.child q → Alike (T.after m t x q rest)
-  keys-after Pending.Begin rest h = begun (instruction_at m.image me.place)
-  keys-after Pending.Exit rest h = set m refl t _ (λ i. record { keeps = me.keeps_own; child = sym h i })
-  keys-after (Pending.Check a kind want refusal) rest h = checks a (verdict m t a.0 kind want) _
-  keys-after (Pending.Load to a n) rest h =
-      either (allowed m t Access.Read a.0 n) _ _ (on m refl (record me { registers = slice_set me.registers to (le_value (bytes_at m a.0 n)) }) rest refl) (on m refl me T.fault refl)
-  keys-after (Pending.Store a n value) rest h =
-      either (allowed m t Access.Write a.0 n) _ _
-      (let s = with_bytes m a.0 (le_bytes n value) in let e : Alike s = keys-bytes key_of m a.0 (le_bytes n value) in on s e me rest (sym (key-same key_of m s e t))) (on m refl me T.fault refl)
-  keys-after (Pending.Fetch a) rest h = either (allowed m t Access.Exec a.0 4) _ _ (on m refl me rest refl) (on m refl me T.fault refl)
-  keys-after (Pending.Probe a amount) rest h = either (allowed m t Access.Write a.0 (T.amount_of m amount)) _ _ (on m refl me rest refl) (on m refl me (copy_fails me.mode) refl)
-  keys-after (Pending.CopyIn a amount) rest h =
-      either (allowed m t Access.Read a.0 (T.amount_of m amount)) _ _ (on m refl (record me { buffer = take PIECE (bytes_at m a.0 (T.amount_of m amount)) }) rest refl)
-      (on m refl me (copy_fails me.mode) refl)
-  keys-after (Pending.CopyOut a) rest h =
-      either (allowed m t Access.Write a.0 (length me.buffer)) _ _
-      (let s = with_bytes m a.0 me.buffer in let e : Alike s = keys-bytes key_of m a.0 me.buffer in on s e me rest (sym (key-same key_of m s e t))) (on m refl me (copy_fails me.mode) refl)
-  keys-after (Pending.CopyStr a) rest h = texts a rest (string_read m t a.0 32)
-  keys-after (Pending.Erase stack) rest h =
-      let range = stack_range (setup_at m.image stack.0) in
-      let s = T.erased m range in
-      let e : Alike s = keys-erased key_of m range in on s e me rest (sym (key-same key_of m s e t))
-  keys-after (Pending.Work a ask) rest h =
-      let w = T.work_of m t a ask in
-      let o = record (object_at m (T.row_of m a)) { contents = w.contents; waiters = w.waiters; buffer = T.buffer_cost ask w.answer (object_at m (T.row_of m a)).buffer } in
-      answers (T.all_woken w.woken (with_object m (T.row_of m a) o)) (keys-woken key_of ignores w.woken (with_object m (T.row_of m a) o)) ask w.taken rest w.answer
-  keys-after Pending.Resume rest h = resumed rest me.told
-  keys-after (Pending.Answer reply to) rest h = on m refl (record me { checked = no_rows; registers = T.with_answer me.registers to (T.reply_of me reply) }) rest refl
-  keys-after (Pending.Grant who a) rest h = there (T.after_given m who.0 (T.row_of m a)) (keys-given key_of ignores m who.0 (T.row_of m a)) rest
+  pub keys-after : (q : Pending) (rest : Steps) → Stays me.child q → keys key_of (T.after m t x q rest) ≡ keys key_of m
+  keys-after Pending.Exit rest h = ends-alike _ refl refl h
+  keys-after (Pending.Fatal reason cause) rest h = ends-alike _ refl refl h
   keys-after (Pending.Own who) rest h = absurd h
-  keys-after (Pending.Inherit who) rest h = let s = T.paired m who.0 x true in set s (keys-paired key_of ignores m who.0 x true) t _ refl
-  keys-after (Pending.DropPair who a) rest h = there (T.after_drop m who.0 (T.row_of m a)) (keys-dropped key_of ignores m who.0 (T.row_of m a)) rest
-  keys-after (Pending.Publish a) rest h = by (is_gone (object_at m (T.row_of m a)).status)
-    where
-      by : (b : Bool) → Alike (T.goes_on (if b then m else with_object m (T.row_of m a) (record (object_at m (T.row_of m a)) { public = true })) t me rest)
-      by true = on m refl me rest refl
-      by false = on (with_object m (T.row_of m a) (record (object_at m (T.row_of m a)) { public = true })) refl me rest refl
-  keys-after (Pending.SetInit a strict undo) rest h = marks a undo rest (T.set_said (object_at m (T.row_of m a)) strict)
-  keys-after (Pending.ClearInit a) rest h = absurd h
-  keys-after (Pending.Named who) rest h =
-      let y = own_row m.image who.0 in on (with_object m y (record (object_at m y) { contents = Contents.Named me.buffer })) refl me rest refl
-  keys-after (Pending.Reserve kind) rest h = reserves x kind rest
-  keys-after (Pending.Born a) rest h =
-      let y = T.row_of m a in
-      let s = with_object m y (record (object_at m y) { status = Status.Live }) in there (T.paired s t y true) (keys-paired key_of ignores s t y true) rest
-  keys-after (Pending.Buffer size) rest h =
-      either (T.pays m me.pool size) _ _ (on (record m { pools = T.paid_from me.pool size m.pools }) refl me rest refl) (on m refl me (answer_error Errno.ENOMEM) refl)
-  keys-after (Pending.Unbuffer size) rest h = on (record m { pools = T.paid_back (T.cost_of me.pool size) m.pools }) refl me rest refl
-  keys-after (Pending.DomInit d parts) rest h =
-      let made = initialised m.image.mpu (most_parts m.image) (T.domain_at m d) (map (part_named m.image) parts) in edited d (domain_after (T.domain_at m d) made) (reply_to made) rest
-  keys-after (Pending.DomAdd d range attr) rest h =
-      let made = added m.image.mpu (most_parts m.image) (T.domain_at m d) (range, attr) in edited d (domain_after (T.domain_at m d) made) (reply_to made) rest
-  keys-after (Pending.DomRemove d range attr) rest h =
-      let made = removed (T.domain_at m d) range in edited d (domain_after (T.domain_at m d) made) (reply_to made) rest
-  keys-after (Pending.DomMove d who) rest h =
-      let reply = T.move_reply (T.domain_at m d) in
-      let s = T.moved m who.0 d reply in on s (keys-moved key_of ignores m who.0 d reply) (record (thread_at s t) { reply = reply }) rest refl
   keys-after (Pending.Start who script stack priority mode) rest h = absurd h
-  keys-after (Pending.EnterUser script) rest h = set m refl t _ refl
-  keys-after (Pending.Fatal reason cause) rest h = set m refl t _ (λ i. record { keeps = me.keeps_own; child = sym h i })
-  keys-after (Pending.Drops from) rest h = let s = T.after_drop m t x in set s (keys-dropped key_of ignores m t x) t _ refl
-  keys-after (Pending.Dooms from) rest h =
-      let th = record (thread_at m from) { doomed = true } in
-      let s = with_thread m from th in set s (keys-set key_of m.threads from th refl) t _ refl
-  keys-after (Pending.CleanPair who) rest h = keys-dropped key_of ignores (T.cleaned_by m t (own_row m.image who.0)) who.0 x
-  keys-after Pending.Recycle rest h = refl
+  keys-after (Pending.ClearInit a) rest h = absurd h
+  keys-after q rest h = E.keys-after key_of all_other ignores m t x q rest refl (λ u th. gone-key rest u t (next_of m t x q) th tt)
+
+keys-long : (m s : State) → keys key_of s ≡ keys key_of m → length s.threads ≡ length m.threads
+keys-long m s e = sym (length-map s.threads key_of) ∙ (ap length e ∙ length-map m.threads key_of)
 
 -- The sums.
 
@@ -228,13 +118,14 @@ module _ (image : Image) (x : ℕ) where
     pub sums-own : (n : ℕ) (who : ThreadIx) (rest : Steps) → (thread_at m t).child ≡ None
         → (lives (T.after m t n (Pending.Own who) rest) ≡ lives m) × (births (T.after m t n (Pending.Own who) rest) ≡ births m + one_if (own_row image who.0 == x))
     sums-own n who rest none =
-        let s = T.after_given m who.0 (own_row m.image who.0) in
-        let e = keys-given key_of ignores m who.0 (own_row m.image who.0) in
+        let ws = effects_of m t n (Pending.Own who) in
+        let s = wrote ws m in
+        let e = keys-wrote key_of all_other ignores ws m refl in
         let sums = alike-sums m s e in
         let lives-same = sums.0 in
         let births-same = sums.1 in
-        let th = T.at_steps s.image (record (thread_at s t) { child = Some who; due = slice_set (T.rows_to_pass s t who.0) (own_row m.image t) false }) rest in
-        let here = set-sums s t th few (keys-long key_of m s e ∙ long) in
+        let th = gone rest s t (Next.creates who) (thread_at s t) in
+        let here = set-sums s t th few (keys-long m s e ∙ long) in
         let lives-here = here.0 in
         let births-here = here.1 in
         let before : begins (thread_at s t) ≡ 0 = ap (λ (k : Key). one_if (creates image x k.child)) (key-same key_of m s e t) ∙ ap (λ (c : Option ThreadIx). one_if (creates image x c)) none in

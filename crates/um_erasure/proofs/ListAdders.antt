@@ -1,17 +1,6 @@
 -- The own parts of threads that steps on a processor's list add stay the same, but for the one that is added, and the one of a thread that is
 -- started.
-use Rattle.std.proofs.Common.{◌≡◌, ◌⊎◌, inl, inr, true, List, ◌∷◌, refl, sym, subst, []}
-use Rattle.std.proofs.lemmas.Bool.{true≢false}
-use Rattle.um_base.specs.declared.image.Image.{Image}
-use Rattle.um_machine.specs.declared.pending.Pending.{Pending}
-use Rattle.um_machine.specs.Order.{Steps}
-use Rattle.um_fine.specs.Context.{Context}
-use Rattle.um_fine.specs.Follows.{p_next}
-use Rattle.um_fine.specs.Places.{Todo, Todos, fine_steps}
-use Rattle.um_fine.specs.Processor.{Processor}
-use Rattle.um_fine.specs.Steps.{FineStep}
-use Rattle.um_erasure.specs.Frames.{Behind}
-use Rattle.um_erasure.specs.Lists.{Adds, adders}
+use Rattle.um_erasure.proofs.Words.{◌≡◌, ◌⊎◌, inl, inr, true, List, ◌∷◌, refl, sym, subst, [], true≢false, Image, Pending, Steps, Context, p_next, Todo, Todos, fine_steps, Processor, FineStep, Behind, Adds, adders}
 use Rattle.um_erasure.proofs.ListGrowth.{ReadsLast, either-look}
 use Rattle.um_erasure.proofs.ListTails.{Reads, is_passed, takes-read, whole-read}
 

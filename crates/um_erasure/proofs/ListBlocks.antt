@@ -1,26 +1,6 @@
 -- Each step leaves a list on which right behind each step of a cleaning stands what is left of it.
-use Rattle.std.proofs.Common.{◌≡◌, ℕ, ◌+◌, Bool, true, false, [], ◌∷◌, ◌++◌, Option, Some, None, refl, ap, ◌<◌}
-use Rattle.std.proofs.lemmas.Bool.{false≢true}
-use Rattle.std.specs.Prelude.{if◌then◌else◌, nat_lt}
-use Rattle.um_base.specs.declared.image.Image.{Image}
-use Rattle.um_base.specs.declared.limits.TheConstants.{ROWS}
-use Rattle.um_base.specs.Places.{thread_of_row}
-use Rattle.um_machine.specs.declared.pending.Pending.{Pending}
-use Rattle.um_machine.specs.Order.{Steps}
-use Rattle.um_machine.specs.State.{State}
-use Rattle.um_fine.specs.Answers.{is_visit}
-use Rattle.um_fine.specs.Context.{Context}
-use Rattle.um_fine.specs.Steps.{FineStep}
-use Rattle.um_fine.specs.Places.{Todo, Todos, cleaning, cleaning_of, end_of_turn, fine_steps, next_steps, with_cleaning}
-use Rattle.um_fine.specs.Processor.{Processor}
-use Rattle.um_fine.specs.Follows.{dropped_at, goes_on_by, p_next, row_number, with_cleaned}
-use Rattle.um_fine.specs.Asks.{begins_cleaning}
+use Rattle.um_erasure.proofs.Words.{◌≡◌, ℕ, ◌+◌, Bool, true, false, [], ◌∷◌, ◌++◌, Option, Some, None, refl, ap, ◌<◌, false≢true, if◌then◌else◌, nat_lt, Image, ROWS, thread_of_row, Pending, Steps, State, is_visit, Context, FineStep, Todo, Todos, cleaning, cleaning_of, end_of_turn, fine_steps, next_steps, with_cleaning, Processor, dropped_at, goes_on_by, p_next, row_number, with_cleaned, begins_cleaning, cpu_of, same_cpu, Fine, AreBlocks, names_row, Rel}
 use Rattle.um_fine.specs.Runs.{changed}
-use Rattle.um_fine.specs.FineRun.{cpu_of, same_cpu}
-use Rattle.um_erasure.specs.Fine.{Fine}
-use Rattle.um_erasure.specs.Cleaning.{AreBlocks}
-use Rattle.um_erasure.specs.Lists.{names_row}
-use Rattle.um_erasure.specs.Relation.{Rel}
 use Rattle.um_erasure.proofs.ListGrowth.{behind-kept, changed-kept, claim-kept, drop-kept, either-look, ends-always, goes-kept, next-kept, pass-kept, show-kept, take-kept, turn-kept, visits_row}
 
 module _ (image : Image) where

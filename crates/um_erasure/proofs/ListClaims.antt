@@ -1,32 +1,7 @@
 -- What each fine step changes of the claims that its processor has still to end.
-use Rattle.std.proofs.Common.{◌≡◌, ℕ, ◌+◌, Bool, true, false, List, [], ◌∷◌, ◌++◌, Option, Some, None, refl, ap, ◌∙◌, arith}
-use Rattle.std.specs.Prelude.{◌==◌, if◌then◌else◌}
-use Rattle.um_base.specs.declared.act.Act.{Act}
-use Rattle.um_base.specs.declared.ask.Told.{Told}
-use Rattle.um_base.specs.declared.image.Image.{Image}
-use Rattle.um_base.specs.declared.instr.Instr.{Instr}
-use Rattle.um_base.specs.declared.names.Addr.{Addr}
-use Rattle.um_base.specs.declared.names.Errno.{Errno}
-use Rattle.um_base.specs.declared.names.ThreadIx.{ThreadIx}
-use Rattle.um_base.specs.Places.{own_row, thread_of_row}
-use Rattle.um_machine.specs.declared.pending.Pending.{Pending}
-use Rattle.um_machine.specs.Order.{Steps}
-use Rattle.um_machine.specs.State.{instruction_at}
-use Rattle.um_fine.specs.Addresses.{row_named}
-use Rattle.um_fine.specs.Answers.{act_in, context_in, domain_in, is_visit, is_word_read, outcome_in, verdict_in}
-use Rattle.um_fine.specs.Context.{Context}
-use Rattle.um_fine.specs.Steps.{Exchange, FineStep}
-use Rattle.um_fine.specs.Continues.{continues, resumed, resumed_at, with_claim}
-use Rattle.um_fine.specs.Places.{Todo, Todos, cleaning, cleaning_of, end_of_turn, fine_steps, is_cleaning_todo, next_steps, turn_of, with_cleaning}
-use Rattle.um_fine.specs.Processor.{Processor}
-use Rattle.um_fine.specs.Follows.{after_claim, after_show, after_take, behind_step, dropped_at, end_calls, filled_up, goes_on_by, p_next, row_number, wakes, with_cleaned}
-use Rattle.um_fine.specs.Asks.{begins_cleaning}
-use Rattle.um_erasure.specs.Lists.{counted, is_end_call, names_row}
-use Rattle.um_erasure.specs.Threads.{occurs}
-use Rattle.um_erasure.specs.Claims.{call_claims}
+use Rattle.um_erasure.proofs.Words.{◌≡◌, ℕ, ◌+◌, Bool, true, false, List, [], ◌∷◌, ◌++◌, Option, Some, None, refl, ap, ◌∙◌, arith, ◌==◌, if◌then◌else◌, Act, Told, Image, Instr, Addr, Errno, ThreadIx, own_row, thread_of_row, Pending, Steps, instruction_at, row_named, act_in, context_in, domain_in, is_visit, is_word_read, outcome_in, verdict_in, Context, Exchange, FineStep, continues, resumed, resumed_at, with_claim, Todo, Todos, cleaning, cleaning_of, end_of_turn, fine_steps, is_cleaning_todo, next_steps, turn_of, with_cleaning, Processor, after_claim, after_show, after_take, behind_step, dropped_at, end_calls, filled_up, goes_on_by, p_next, row_number, wakes, with_cleaned, begins_cleaning, counted, is_end_call, names_row, occurs, call_claims, false≢true, true≢false}
 use Rattle.um_erasure.proofs.Continued.{Held, continues-held}
 use Rattle.um_erasure.proofs.ListGrowth.{cleaning-kept, either-look, is_shown, next-kept, visits_row, is_end, quiet-kept}
-use Rattle.std.proofs.lemmas.Bool.{false≢true, true≢false}
 
 -- an expansion ends no call
 module _ (image : Image) (x : ℕ) where

@@ -1,22 +1,5 @@
 -- How many steps of cleanings are on a processor's list after a step of it: those behind that step, and those of a cleaning that it begins.
-use Rattle.std.proofs.Common.{◌≡◌, ℕ, ◌+◌, Bool, true, false, ◌∷◌, ◌++◌, Option, Some, None, refl, sym, ap, ◌∙◌, arith, []}
-use Rattle.std.specs.Prelude.{◌||◌, if◌then◌else◌}
-use Rattle.std.specs.List.{list_any}
-use Rattle.std.proofs.lemmas.Bool.{false≢true, true≢false}
-use Rattle.um_base.specs.declared.image.Image.{Image}
-use Rattle.um_base.specs.Places.{thread_of_row}
-use Rattle.um_machine.specs.declared.pending.Pending.{Pending}
-use Rattle.um_machine.specs.Order.{Steps}
-use Rattle.um_fine.specs.Asks.{begins_cleaning}
-use Rattle.um_fine.specs.Context.{Context}
-use Rattle.um_fine.specs.Follows.{goes_on_by, p_next, row_number, with_cleaned}
-use Rattle.um_fine.specs.Places.{Todo, Todos, cleaning, cleaning_of, emptying, end_of_turn, fine_steps, next_steps, with_cleaning}
-use Rattle.um_fine.specs.Processor.{Processor}
-use Rattle.um_fine.specs.Steps.{FineStep}
-use Rattle.um_erasure.specs.Cleaning.{AreBlocks}
-use Rattle.um_erasure.specs.Fine.{one_if}
-use Rattle.um_erasure.specs.Frames.{Behind}
-use Rattle.um_erasure.specs.Lists.{counted, is_recycle, is_vacate, is_wipe, names_row}
+use Rattle.um_erasure.proofs.Words.{◌≡◌, ℕ, ◌+◌, Bool, true, false, ◌∷◌, ◌++◌, Option, Some, None, refl, sym, ap, ◌∙◌, arith, [], ◌||◌, if◌then◌else◌, list_any, false≢true, true≢false, Image, thread_of_row, Pending, Steps, begins_cleaning, Context, goes_on_by, p_next, row_number, with_cleaned, Todo, Todos, cleaning, cleaning_of, emptying, end_of_turn, fine_steps, next_steps, with_cleaning, Processor, FineStep, AreBlocks, one_if, Behind, counted, is_recycle, is_vacate, is_wipe, names_row}
 use Rattle.um_erasure.proofs.ListGrowth.{EndsWell, ReadsLast, behind-kept, cleaning-kept, either-look, ends-behind, next-kept, quiet-kept, show-kept, take-kept, turn-kept, visits_row}
 
 -- the steps that clear a cell, vacate a row, or recycle an object

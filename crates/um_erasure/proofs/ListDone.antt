@@ -1,25 +1,6 @@
 -- Where a processor's list says that a turn is done: the word of its thread was read, the list said so before, or the thread has ended and has no
 -- step left.
-use Rattle.std.proofs.Common.{◌≡◌, ◌⊎◌, inl, inr, ℕ, ◌+◌, Bool, true, false, [], ◌∷◌, ◌++◌, Option, Some, None, refl, sym, ap, ◌∙◌, subst}
-use Rattle.std.specs.Prelude.{◌||◌, if◌then◌else◌, nat_lt}
-use Rattle.std.specs.List.{list_any}
-use Rattle.std.proofs.lemmas.Bool.{false≢true}
-use Rattle.um_base.specs.declared.ask.Told.{Told}
-use Rattle.um_base.specs.declared.image.Image.{Image}
-use Rattle.um_base.specs.declared.limits.TheConstants.{ROWS}
-use Rattle.um_base.specs.Places.{own_row, thread_of_row}
-use Rattle.um_machine.specs.declared.pending.Pending.{Pending}
-use Rattle.um_machine.specs.Order.{Steps}
-use Rattle.um_machine.specs.State.{instruction_at}
-use Rattle.um_fine.specs.Answers.{act_in, is_visit, is_word_read}
-use Rattle.um_fine.specs.Context.{Context}
-use Rattle.um_fine.specs.Continues.{continues, resumed}
-use Rattle.um_fine.specs.Follows.{after_show, after_take, dropped_at, filled_up, goes_on_by, row_number, with_cleaned}
-use Rattle.um_fine.specs.Places.{Todo, Todos, but, cleaning_of, drops, end_of_turn, fine_steps, next_steps, passes, is_cleaning_todo}
-use Rattle.um_fine.specs.Processor.{Processor}
-use Rattle.um_fine.specs.Steps.{Exchange, FineStep}
-use Rattle.um_erasure.specs.Lists.{is_done}
-use Rattle.um_erasure.specs.Offers.{Fits, behind_shown}
+use Rattle.um_erasure.proofs.Words.{◌≡◌, ◌⊎◌, inl, inr, ℕ, ◌+◌, Bool, true, false, [], ◌∷◌, ◌++◌, Option, Some, None, refl, sym, ap, ◌∙◌, subst, ◌||◌, if◌then◌else◌, nat_lt, list_any, false≢true, Told, Image, ROWS, own_row, thread_of_row, Pending, Steps, instruction_at, act_in, is_visit, is_word_read, Context, continues, resumed, after_show, after_take, dropped_at, filled_up, goes_on_by, row_number, with_cleaned, Todo, Todos, but, cleaning_of, drops, end_of_turn, fine_steps, next_steps, passes, is_cleaning_todo, Processor, Exchange, FineStep, is_done, Fits, behind_shown}
 use Rattle.um_erasure.proofs.ListGrowth.{behind-kept, claim-context, cleaning-kept, either-look, turn-kept, claim-kept, either}
 
 abbrev pub says_done : Todos → Bool

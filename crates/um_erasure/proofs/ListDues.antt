@@ -1,22 +1,6 @@
 -- How far a processor has visited the rows for its thread, after a step: only its visits change that, and the expansion of the thread's next
 -- step where none was left.
-use Rattle.std.proofs.Common.{◌≡◌, ◌⊎◌, inl, inr, ℕ, ◌+◌, ◌≤◌, Bool, true, false, [], ◌∷◌, ◌++◌, Option, Some, None, refl, sym, ap, arith}
-use Rattle.std.specs.Prelude.{if◌then◌else◌, nat_lt}
-use Rattle.std.specs.List.{list_all}
-use Rattle.std.proofs.lemmas.Bool.{and_parts, ltb-true, true≢false}
-use Rattle.std.proofs.lemmas.Bool.Decides.{nat_tests}
-use Rattle.um_base.specs.declared.image.Image.{Image}
-use Rattle.um_base.specs.declared.limits.TheConstants.{ROWS}
-use Rattle.um_base.specs.Places.{thread_of_row}
-use Rattle.um_machine.specs.declared.pending.Pending.{Pending}
-use Rattle.um_machine.specs.Order.{Steps}
-use Rattle.um_fine.specs.Context.{Context}
-use Rattle.um_fine.specs.Follows.{behind_step, filled_up, goes_on_by, row_number, with_cleaned}
-use Rattle.um_fine.specs.Places.{Todo, Todos, cleaning_of, drops, fine_steps, next_steps, passes, is_cleaning_todo}
-use Rattle.um_fine.specs.Processor.{Processor}
-use Rattle.um_fine.specs.Steps.{Exchange, FineStep}
-use Rattle.um_erasure.specs.Frames.{Behind}
-use Rattle.um_erasure.specs.Lists.{names_row, visited}
+use Rattle.um_erasure.proofs.Words.{◌≡◌, ◌⊎◌, inl, inr, ℕ, ◌+◌, ◌≤◌, Bool, true, false, [], ◌∷◌, ◌++◌, Option, Some, None, refl, sym, ap, arith, if◌then◌else◌, nat_lt, list_all, and_parts, ltb-true, true≢false, nat_tests, Image, ROWS, thread_of_row, Pending, Steps, Context, behind_step, filled_up, goes_on_by, row_number, with_cleaned, Todo, Todos, cleaning_of, drops, fine_steps, next_steps, passes, is_cleaning_todo, Processor, Exchange, FineStep, Behind, names_row, visited}
 use Rattle.um_erasure.proofs.ListGrowth.{behind-kept, claim-kept, cleaning-kept, either-look, either}
 
 -- the steps of a list that say how far the visits are, or may be its thread's event

@@ -1,23 +1,5 @@
 -- On a processor's list stand the ends of two claims of a row at most, where its thread's call holds no more objects.
-use Rattle.std.proofs.Common.{◌≡◌, ℕ, suc, ◌+◌, ◌≤◌, Bool, true, false, List, [], ◌∷◌, length, Some, None, refl, ap, ◌∙◌, arith}
-use Rattle.std.specs.Prelude.{◌==◌, if◌then◌else◌}
-use Rattle.um_base.specs.declared.image.Image.{Image}
-use Rattle.um_base.specs.Places.{own_row}
-use Rattle.um_machine.specs.declared.pending.Pending.{Pending}
-use Rattle.um_machine.specs.Order.{Steps}
-use Rattle.um_machine.specs.State.{instruction_at}
-use Rattle.um_fine.specs.Addresses.{row_named}
-use Rattle.um_fine.specs.Answers.{act_in, is_word_read, outcome_in}
-use Rattle.um_fine.specs.Asks.{begins_cleaning}
-use Rattle.um_fine.specs.Context.{Context}
-use Rattle.um_fine.specs.Continues.{continues, resumed}
-use Rattle.um_fine.specs.Follows.{after_show, after_take, behind_step, filled_up, goes_on_by, p_next, row_number, with_cleaned}
-use Rattle.um_fine.specs.Places.{Todo, Todos}
-use Rattle.um_fine.specs.Processor.{Processor}
-use Rattle.um_fine.specs.Steps.{Exchange, FineStep}
-use Rattle.um_erasure.specs.Lists.{counted, is_end_call}
-use Rattle.um_erasure.specs.Offers.{behind_shown}
-use Rattle.um_erasure.specs.Threads.{occurs}
+use Rattle.um_erasure.proofs.Words.{◌≡◌, ℕ, suc, ◌+◌, ◌≤◌, Bool, true, false, List, [], ◌∷◌, length, Some, None, refl, ap, ◌∙◌, arith, ◌==◌, if◌then◌else◌, Image, own_row, Pending, Steps, instruction_at, row_named, act_in, is_word_read, outcome_in, begins_cleaning, Context, continues, resumed, after_show, after_take, behind_step, filled_up, goes_on_by, p_next, row_number, with_cleaned, Todo, Todos, Processor, Exchange, FineStep, counted, is_end_call, behind_shown, occurs}
 use Rattle.um_erasure.proofs.ListClaims.{cleaned-same, end_calls-count, filled-same, wakes-same, goes-same}
 use Rattle.um_erasure.proofs.ListGrowth.{turn-kept}
 

@@ -1,25 +1,9 @@
 -- Each step leaves a list that fits: what is on it of the thread's own steps is what the thread is offered.
-use Rattle.std.proofs.Common.{◌≢◌, arith, ◌≡◌, inl, inr, ℕ, ◌+◌, Bool, true, false, [], ◌∷◌, ◌++◌, Option, Some, None, refl, sym, ap, ◌∙◌, subst}
-use Rattle.std.specs.Prelude.{◌==◌, if◌then◌else◌, nat_lt, is_some}
-use Rattle.std.proofs.lemmas.Bool.{eqb-false, eqb-true, false≢true}
-use Rattle.um_base.specs.declared.image.Image.{Image}
-use Rattle.um_base.specs.declared.instr.Instr.{Instr}
-use Rattle.um_base.specs.declared.limits.TheConstants.{ROWS}
-use Rattle.um_base.specs.Places.{own_row, thread_of_row}
-use Rattle.um_machine.specs.declared.pending.Pending.{Pending}
-use Rattle.um_machine.specs.Order.{Steps}
-use Rattle.um_machine.specs.State.{instruction_at}
-use Rattle.um_fine.specs.Answers.{act_in, is_visit, is_word_read}
-use Rattle.um_fine.specs.Context.{Context}
-use Rattle.um_fine.specs.Steps.{Exchange, FineStep}
-use Rattle.um_fine.specs.Continues.{continues, resumed}
-use Rattle.um_fine.specs.Scheduler.{waits}
-use Rattle.um_fine.specs.Places.{Todo, Todos, but, cleaning_of, drops, end_of_turn, fine_steps, next_steps, passes, turn, turn_of, is_cleaning_todo}
-use Rattle.um_fine.specs.Processor.{Processor}
-use Rattle.um_fine.specs.Follows.{after_show, after_take, dropped_at, filled_up, goes_on_by, p_next, refilled_by, row_number, with_cleaned}
-use Rattle.um_fine.specs.Asks.{begins_cleaning}
+use Rattle.um_erasure.proofs.Words.{◌≢◌, arith, ◌≡◌, inl, inr, ℕ, ◌+◌, Bool, true, false, [], ◌∷◌, ◌++◌, Option, Some, None, refl, sym, ap, ◌∙◌, subst, ◌==◌, if◌then◌else◌, nat_lt, is_some, eqb-false, eqb-true, false≢true, Image, Instr, ROWS, own_row, thread_of_row, Pending, Steps, instruction_at, act_in, is_visit, is_word_read, Context, Exchange, FineStep, continues, resumed, waits, Todo, Todos, but, cleaning_of, drops, end_of_turn, fine_steps, next_steps, passes, turn_of, is_cleaning_todo, Processor, after_show, after_take, dropped_at, filled_up, goes_on_by, p_next, row_number, with_cleaned, begins_cleaning, Drops, behind_shown, Fits, IsOffered, ListIs, Passes}
+use Rattle.um_fine.specs.Places.{turn}
+use Rattle.um_fine.specs.Follows.{refilled_by}
 use Rattle.um_erasure.proofs.StepsLeft.{rests-on, steps-on}
-use Rattle.um_erasure.specs.Offers.{Bare, Drops, behind_shown, Fits, IsOffered, ListIs, Passes, begins, dropped, exits, goes, passed}
+use Rattle.um_erasure.specs.Offers.{Bare, begins, dropped, exits, goes, passed}
 use Rattle.um_erasure.proofs.ListGrowth.{behind-kept, claim-context, cleaning-kept, either-look, claim-kept, either}
 
 -- a thread that is taken without being told anything is at rest, and hasn't ended

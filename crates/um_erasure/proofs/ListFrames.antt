@@ -1,28 +1,8 @@
 -- Each step leaves a list on which behind each step that no trace shows stands what it is for.
-use Rattle.std.proofs.Common.{inl, inr, eq-eqb, ◌≡◌, ℕ, ◌+◌, Bool, true, false, [], ◌∷◌, ◌++◌, Option, Some, None, refl, subst, ◌<◌}
-use Rattle.std.proofs.lemmas.Bool.{false≢true}
-use Rattle.std.specs.Prelude.{nat_lt}
-use Rattle.um_base.specs.declared.image.Image.{Image}
-use Rattle.um_base.specs.declared.limits.TheConstants.{ROWS}
-use Rattle.um_base.specs.Places.{thread_of_row}
-use Rattle.um_machine.specs.declared.pending.Amount.{Amount}
-use Rattle.um_machine.specs.declared.pending.Pending.{Pending}
-use Rattle.um_machine.specs.Order.{Steps}
-use Rattle.um_machine.specs.State.{State}
-use Rattle.um_fine.specs.Answers.{is_visit}
-use Rattle.um_fine.specs.Context.{Context}
-use Rattle.um_fine.specs.Steps.{FineStep}
-use Rattle.um_fine.specs.Continues.{newborn}
-use Rattle.um_fine.specs.Places.{Todo, Todos, cleaning_of, end_of_turn, fine_steps, next_steps, is_cleaning_todo, on_memory, sized}
-use Rattle.um_fine.specs.Processor.{Processor}
-use Rattle.um_fine.specs.Follows.{dropped_at, goes_on_by, p_next, row_number, with_cleaned}
-use Rattle.um_fine.specs.Asks.{begins_cleaning}
+use Rattle.um_erasure.proofs.Words.{inl, inr, eq-eqb, ◌≡◌, ℕ, ◌+◌, Bool, true, false, [], ◌∷◌, ◌++◌, Option, Some, None, refl, subst, ◌<◌, false≢true, nat_lt, Image, ROWS, thread_of_row, Amount, Pending, Steps, State, is_visit, Context, FineStep, newborn, Todo, Todos, cleaning_of, end_of_turn, fine_steps, next_steps, is_cleaning_todo, Processor, dropped_at, goes_on_by, p_next, row_number, with_cleaned, begins_cleaning, cpu_of, same_cpu, Fine, AreFramed, Behind, OnMemory, names_row, Rel}
+use Rattle.um_fine.specs.Places.{on_memory, sized}
 use Rattle.um_fine.specs.Runs.{changed}
-use Rattle.um_fine.specs.FineRun.{cpu_of, same_cpu}
-use Rattle.um_erasure.specs.Fine.{Fine}
-use Rattle.um_erasure.specs.Frames.{AreFramed, Behind, OnMemory}
-use Rattle.um_erasure.specs.Lists.{names_row, queue_in, queue_of}
-use Rattle.um_erasure.specs.Relation.{Rel}
+use Rattle.um_erasure.specs.Lists.{queue_in, queue_of}
 use Rattle.um_erasure.proofs.ListGrowth.{behind-kept, changed-kept, claim-kept, cleaning-kept, drop-kept, either, ends-always, goes-kept, next-kept, pass-kept, show-kept, take-kept, turn-kept, visits_row}
 
 module _ (image : Image) where

@@ -1,22 +1,5 @@
 -- Whether a processor holds its thread changes at a hold and its end alone; and it goes on with the same thread until the end of a turn.
-use Rattle.std.proofs.Common.{◌≡◌, ℕ, Bool, true, false, [], ◌∷◌, refl, sym, ap, ◌∙◌}
-use Rattle.std.specs.Prelude.{◌&&◌, not, if◌then◌else◌}
-use Rattle.std.specs.List.{list_any}
-use Rattle.std.proofs.lemmas.Bool.{false≢true, true≢false}
-use Rattle.um_base.specs.declared.image.Image.{Image}
-use Rattle.um_machine.specs.declared.pending.Pending.{Pending}
-use Rattle.um_machine.specs.Order.{Steps}
-use Rattle.um_words.specs.declared.fine.FineAct.{FineAct}
-use Rattle.um_fine.specs.Answers.{act_in, is_visit, is_word_read}
-use Rattle.um_fine.specs.Context.{Context}
-use Rattle.um_fine.specs.Steps.{FineStep}
-use Rattle.um_fine.specs.Places.{Todo, Todos, fine_steps}
-use Rattle.um_fine.specs.Processor.{Processor}
-use Rattle.um_fine.specs.Follows.{after_show, dropped_at, filled_up, goes_on_by, p_next, with_cleaned}
-use Rattle.um_fine.specs.Asks.{begins_cleaning, says_show}
-use Rattle.um_erasure.specs.Frames.{Behind}
-use Rattle.um_erasure.specs.Lists.{is_hold, is_let_go}
-use Rattle.um_erasure.specs.Offers.{behind_shown}
+use Rattle.um_erasure.proofs.Words.{◌≡◌, ℕ, Bool, true, false, [], ◌∷◌, refl, sym, ap, ◌∙◌, ◌&&◌, not, if◌then◌else◌, list_any, false≢true, true≢false, Image, Pending, Steps, FineAct, act_in, is_visit, is_word_read, Context, FineStep, Todo, Todos, fine_steps, Processor, after_show, dropped_at, filled_up, goes_on_by, p_next, with_cleaned, begins_cleaning, says_show, Behind, is_hold, is_let_go, behind_shown}
 use Rattle.um_erasure.proofs.ListGrowth.{ReadsLast, is_end, either-look, claim-context}
 use Rattle.um_erasure.proofs.ListTails.{Reads, filled-read, is_passed, takes-read, whole-read}
 use Rattle.um_erasure.proofs.Continued.{continues-thread}

@@ -1,32 +1,9 @@
 -- How a processor's list changes with a step: it goes on with what stands behind that step, and where nothing does with the fine steps of its
 -- thread's next pending step; in front of that may come visits of rows, wakes and ends of claims, and a cleaning that begins.
-use Rattle.std.proofs.Common.{◌≡◌, ℕ, ◌+◌, Bool, true, false, cond, List, [], ◌∷◌, ◌++◌, Option, Some, None, refl, subst}
-use Rattle.std.specs.Prelude.{◌==◌, if◌then◌else◌, nat_lt}
-use Rattle.std.proofs.lemmas.Bool.{false≢true, true≢false}
+use Rattle.um_erasure.proofs.Words.{◌≡◌, ℕ, ◌+◌, Bool, true, false, cond, List, [], ◌∷◌, ◌++◌, Option, Some, None, refl, subst, ◌==◌, if◌then◌else◌, nat_lt, false≢true, true≢false, Told, Image, Instr, ROWS, ThreadIx, own_row, thread_of_row, Amount, Pending, Steps, instruction_at, row_named, act_in, domain_in, is_visit, is_word_read, outcome_in, Context, continues, resumed, after_claim, after_show, after_take, behind_step, dropped_at, end_calls, filled_up, goes_on_by, p_next, unless_loaded, wakes, Todo, Todos, but, cleaning, cleaning_of, drops, end_of_turn, fine_steps, is_cleaning_todo, next_steps, passes, turn_of, with_cleaning, Processor, is_of, key_of, Exchange, FineStep, cpu_of, same_cpu, Fine, Behind, names_row}
 use Rattle.std.proofs.lemmas.List.{append-nil}
-use Rattle.um_base.specs.declared.ask.Told.{Told}
-use Rattle.um_base.specs.declared.image.Image.{Image}
-use Rattle.um_base.specs.declared.instr.Instr.{Instr}
-use Rattle.um_base.specs.declared.limits.TheConstants.{ROWS}
-use Rattle.um_base.specs.declared.names.ThreadIx.{ThreadIx}
-use Rattle.um_base.specs.Places.{own_row, thread_of_row}
-use Rattle.um_machine.specs.declared.pending.Amount.{Amount}
-use Rattle.um_machine.specs.declared.pending.Pending.{Pending}
-use Rattle.um_machine.specs.Order.{Steps}
-use Rattle.um_machine.specs.State.{instruction_at}
-use Rattle.um_fine.specs.Addresses.{row_named}
-use Rattle.um_fine.specs.Answers.{act_in, domain_in, is_visit, is_word_read, outcome_in}
-use Rattle.um_fine.specs.Context.{Context}
-use Rattle.um_fine.specs.Continues.{continues, resumed}
-use Rattle.um_fine.specs.Follows.{after_claim, after_show, after_take, behind_step, dropped_at, end_calls, filled_up, goes_on_by, p_next, unless_loaded, wakes}
-use Rattle.um_fine.specs.Places.{Todo, Todos, but, cleaning, cleaning_of, drops, end_of_turn, fine_steps, is_cleaning_todo, next_steps, passes, sized, turn_of, with_cleaning}
-use Rattle.um_fine.specs.Processor.{Processor, is_of, key_of}
-use Rattle.um_fine.specs.Steps.{Exchange, FineStep}
-use Rattle.um_fine.specs.FineRun.{cpu_of, same_cpu}
+use Rattle.um_fine.specs.Places.{sized}
 use Rattle.um_fine.specs.Runs.{changed}
-use Rattle.um_erasure.specs.Fine.{Fine}
-use Rattle.um_erasure.specs.Frames.{Behind}
-use Rattle.um_erasure.specs.Lists.{names_row}
 
 -- nothing stands behind the read of a thread's word
 abbrev pub ReadsLast : FineStep → Todo → Todos → Type 0

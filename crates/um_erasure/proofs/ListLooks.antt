@@ -1,15 +1,5 @@
 -- What is read of a list of what its processor knows for the event on it: the domain to which a thread moves, and the queue that is looked at.
-use Rattle.std.proofs.Common.{◌≡◌, ℕ, true, ◌∷◌, Option, None, refl}
-use Rattle.std.proofs.lemmas.Bool.{false≢true}
-use Rattle.um_base.specs.declared.image.Image.{Image}
-use Rattle.um_base.specs.declared.names.Addr.{Addr}
-use Rattle.um_machine.specs.declared.pending.Amount.{Amount}
-use Rattle.um_machine.specs.declared.pending.Pending.{Pending}
-use Rattle.um_machine.specs.Order.{Steps}
-use Rattle.um_fine.specs.Context.{Context}
-use Rattle.um_fine.specs.Places.{Todo, Todos, fine_steps}
-use Rattle.um_erasure.specs.Lists.{looked, moving}
-use Rattle.um_erasure.specs.Offers.{behind_shown}
+use Rattle.um_erasure.proofs.Words.{◌≡◌, ℕ, true, ◌∷◌, Option, None, refl, false≢true, Image, Addr, Amount, Pending, Steps, Context, Todo, Todos, fine_steps, looked, moving, behind_shown}
 use Rattle.um_erasure.proofs.ListTails.{Reads, is_passed, reads-through}
 
 abbrev known : Todos → Option ℕ × Option Addr

@@ -1,23 +1,7 @@
 -- A processor that has taken a thread has steps to make until it puts that thread back, or is done with it.
-use Rattle.std.proofs.Common.{◌≡◌, inl, inr, ℕ, ◌+◌, Bool, true, false, [], ◌∷◌, ◌++◌, Some, None, refl, sym, ap, ◌∙◌, subst}
-use Rattle.std.specs.Prelude.{if◌then◌else◌, nat_lt}
-use Rattle.std.proofs.lemmas.Bool.{false≢true, true≢false}
-use Rattle.um_base.specs.declared.image.Image.{Image}
-use Rattle.um_base.specs.declared.limits.TheConstants.{ROWS}
-use Rattle.um_machine.specs.declared.pending.Pending.{Pending}
-use Rattle.um_machine.specs.Order.{Steps}
-use Rattle.um_machine.specs.State.{instruction_at}
-use Rattle.um_fine.specs.Answers.{act_in, domain_in, is_visit, is_word_read}
-use Rattle.um_fine.specs.Context.{Context}
-use Rattle.um_fine.specs.Steps.{Exchange, FineStep}
-use Rattle.um_fine.specs.Continues.{continues, resumed}
-use Rattle.um_fine.specs.Places.{Todo, Todos, clean_pairs, cleaning_of, drops, emptying, end_of_turn, fine_steps, next_steps}
-use Rattle.um_fine.specs.Processor.{Processor, is_of, key_of}
-use Rattle.um_fine.specs.Follows.{after_claim, after_show, after_take, dropped_at, filled_up, goes_on_by, p_next, row_number, unless_loaded, with_cleaned}
-use Rattle.um_fine.specs.Asks.{begins_cleaning}
-use Rattle.um_erasure.specs.Cleaning.{AreBlocks, BeginsWith}
-use Rattle.um_erasure.specs.Frames.{Behind, access_over}
-use Rattle.um_erasure.specs.Lists.{has_steps, runs}
+use Rattle.um_erasure.proofs.Words.{◌≡◌, inl, inr, ℕ, ◌+◌, Bool, true, false, [], ◌∷◌, ◌++◌, Some, None, refl, sym, ap, ◌∙◌, subst, if◌then◌else◌, nat_lt, false≢true, true≢false, Image, ROWS, Pending, Steps, instruction_at, act_in, domain_in, is_visit, is_word_read, Context, Exchange, FineStep, continues, resumed, Todo, Todos, cleaning_of, drops, emptying, end_of_turn, fine_steps, next_steps, Processor, is_of, key_of, after_claim, after_show, after_take, dropped_at, filled_up, goes_on_by, p_next, row_number, unless_loaded, with_cleaned, begins_cleaning, AreBlocks, Behind, access_over, has_steps, runs}
+use Rattle.um_fine.specs.Places.{clean_pairs}
+use Rattle.um_erasure.specs.Cleaning.{BeginsWith}
 use Rattle.um_erasure.proofs.ListClaims.{IsThread}
 use Rattle.um_erasure.proofs.ListGrowth.{behind-kept, cleaning-kept, either-look, is_end, next-kept, turn-kept}
 

@@ -1,21 +1,5 @@
 -- No list shows a resume, an inheritance or the drops of an end as one step: they are made as turns and visits.
-use Rattle.std.proofs.Common.{◌≡◌, ℕ, Bool, true, false, [], ◌∷◌, ◌++◌, Option, Some, None, refl, sym, ap, ◌∙◌}
-use Rattle.std.specs.Prelude.{nat_lt}
-use Rattle.std.specs.List.{list_all}
-use Rattle.std.proofs.lemmas.Bool.{and_parts, false≢true}
-use Rattle.um_base.specs.declared.image.Image.{Image}
-use Rattle.um_base.specs.declared.limits.TheConstants.{ROWS}
-use Rattle.um_base.specs.Places.{own_row, thread_of_row}
-use Rattle.um_machine.specs.declared.pending.Pending.{Pending}
-use Rattle.um_machine.specs.Order.{Steps}
-use Rattle.um_scheduler.proofs.ThreadWords.{are_orderly}
-use Rattle.um_fine.specs.Asks.{begins_cleaning}
-use Rattle.um_fine.specs.Context.{Context}
-use Rattle.um_fine.specs.Follows.{goes_on_by, p_next, row_number, with_cleaned}
-use Rattle.um_fine.specs.Places.{Todo, Todos, is_cleaning_todo, but, cleaning_of, end_of_turn, fine_steps, next_steps}
-use Rattle.um_fine.specs.Processor.{Processor}
-use Rattle.um_fine.specs.Steps.{FineStep}
-use Rattle.um_erasure.specs.Lists.{names_row}
+use Rattle.um_erasure.proofs.Words.{◌≡◌, ℕ, Bool, true, false, [], ◌∷◌, ◌++◌, Option, Some, None, refl, sym, ap, ◌∙◌, nat_lt, list_all, and_parts, false≢true, Image, ROWS, own_row, thread_of_row, Pending, Steps, are_orderly, begins_cleaning, Context, goes_on_by, p_next, row_number, with_cleaned, Todo, Todos, is_cleaning_todo, but, cleaning_of, end_of_turn, fine_steps, next_steps, Processor, FineStep, names_row}
 use Rattle.um_erasure.proofs.ListGrips.{cleaned-context}
 use Rattle.um_erasure.proofs.ListGrowth.{behind-kept, cleaning-kept, either, either-look, ends-always, quiet-kept, show-kept, take-kept, turn-kept, visits_row}
 

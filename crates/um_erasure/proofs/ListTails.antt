@@ -1,22 +1,6 @@
 -- What is read of a list that passes over the steps of turns, visits and cleaning, over wakes and the ends of calls, and finds nothing where
 -- the next pending step is expanded: after a step of the processor it is what is read of the list behind that step.
-use Rattle.std.proofs.Common.{◌≡◌, ℕ, ◌+◌, Bool, true, false, ◌∷◌, ◌++◌, Option, Some, None, refl, sym, ap, ◌∙◌, []}
-use Rattle.std.specs.Prelude.{nat_lt}
-use Rattle.std.proofs.lemmas.Bool.{false≢true, true≢false}
-use Rattle.um_base.specs.declared.image.Image.{Image}
-use Rattle.um_base.specs.declared.limits.TheConstants.{ROWS}
-use Rattle.um_base.specs.Places.{thread_of_row}
-use Rattle.um_machine.specs.declared.pending.Pending.{Pending}
-use Rattle.um_machine.specs.Order.{Steps}
-use Rattle.um_fine.specs.Answers.{is_visit}
-use Rattle.um_fine.specs.Asks.{begins_cleaning}
-use Rattle.um_fine.specs.Context.{Context}
-use Rattle.um_fine.specs.Follows.{dropped_at, filled_up, goes_on_by, p_next, row_number, with_cleaned}
-use Rattle.um_fine.specs.Places.{Todo, Todos, cleaning_of, emptying, end_of_turn, fine_steps, is_cleaning_todo, next_steps}
-use Rattle.um_fine.specs.Processor.{Processor}
-use Rattle.um_fine.specs.Steps.{FineStep}
-use Rattle.um_erasure.specs.Frames.{Behind}
-use Rattle.um_erasure.specs.Lists.{names_row}
+use Rattle.um_erasure.proofs.Words.{◌≡◌, ℕ, ◌+◌, Bool, true, false, ◌∷◌, ◌++◌, Option, Some, None, refl, sym, ap, ◌∙◌, [], nat_lt, false≢true, true≢false, Image, ROWS, thread_of_row, Pending, Steps, is_visit, begins_cleaning, Context, dropped_at, filled_up, goes_on_by, p_next, row_number, with_cleaned, Todo, Todos, cleaning_of, emptying, end_of_turn, fine_steps, is_cleaning_todo, next_steps, Processor, FineStep, Behind, names_row}
 use Rattle.um_erasure.proofs.ListGrowth.{EndsWell, ReadsLast, behind-kept, claim-kept, cleaning-kept, drop-kept, either, ends-behind, goes-kept, is_read_claim, next-kept, pass-kept, show-kept, take-kept, turn-kept, visits_row}
 
 -- the steps that are passed over

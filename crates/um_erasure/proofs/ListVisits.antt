@@ -1,23 +1,6 @@
 -- How far a processor has visited the permissions of a thread whose object it cleans, after a step: only its visits change that, and a
 -- cleaning of the object that begins.
-use Rattle.std.proofs.Common.{◌≡◌, ℕ, ◌+◌, ◌≤◌, Bool, true, false, [], ◌∷◌, ◌++◌, Option, Some, None, refl, sym, ap, ◌∙◌, arith, eq-eqb}
-use Rattle.std.specs.Prelude.{◌==◌, if◌then◌else◌, nat_lt}
-use Rattle.std.specs.List.{list_all}
-use Rattle.std.proofs.lemmas.Bool.{and_parts, eqb-true, ltb-true, true≢false, false≢true}
-use Rattle.um_base.specs.declared.image.Image.{Image}
-use Rattle.um_base.specs.declared.limits.TheConstants.{ROWS}
-use Rattle.um_base.specs.Places.{own_row, thread_of_row}
-use Rattle.um_machine.specs.declared.pending.Pending.{Pending}
-use Rattle.um_machine.specs.Order.{Steps}
-use Rattle.um_fine.specs.Answers.{is_visit}
-use Rattle.um_fine.specs.Context.{Context}
-use Rattle.um_fine.specs.Follows.{dropped_at, goes_on_by}
-use Rattle.um_fine.specs.Places.{Todo, Todos, cleaning, cleaning_of, end_of_turn, fine_steps, next_steps, with_cleaning, is_cleaning_todo}
-use Rattle.um_fine.specs.Processor.{Processor}
-use Rattle.um_fine.specs.Steps.{FineStep}
-use Rattle.um_erasure.specs.Cleaning.{AreBlocks}
-use Rattle.um_erasure.specs.Frames.{Behind}
-use Rattle.um_erasure.specs.Lists.{cleaned_pairs, counted, is_recycle, names_row}
+use Rattle.um_erasure.proofs.Words.{◌≡◌, ℕ, ◌+◌, ◌≤◌, Bool, true, false, [], ◌∷◌, ◌++◌, Option, Some, None, refl, sym, ap, ◌∙◌, arith, eq-eqb, ◌==◌, if◌then◌else◌, nat_lt, list_all, and_parts, eqb-true, ltb-true, true≢false, false≢true, Image, ROWS, own_row, thread_of_row, Pending, Steps, is_visit, Context, dropped_at, goes_on_by, Todo, Todos, cleaning, cleaning_of, end_of_turn, fine_steps, next_steps, with_cleaning, is_cleaning_todo, Processor, FineStep, AreBlocks, Behind, cleaned_pairs, counted, is_recycle, names_row}
 use Rattle.um_erasure.proofs.CleanSteps.{OwnRows}
 use Rattle.um_erasure.proofs.ListCounts.{count-cons}
 use Rattle.um_erasure.proofs.ListGrowth.{ends-behind, ReadsLast, either-look, is_clean_pair, next-kept, visits_row, EndsWell, cleaning-kept, show-kept, behind-kept, claim-kept, pass-kept, drop-kept, goes-kept}

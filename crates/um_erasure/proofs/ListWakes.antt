@@ -1,24 +1,6 @@
 -- The wakes on a processor's list: an act that wakes puts them there, and each goes by its step.
-use Rattle.std.proofs.Common.{◌≡◌, ℕ, ◌+◌, Bool, true, false, List, [], ◌∷◌, ◌++◌, map, Option, Some, None, refl, sym, ap, ◌∙◌}
-use Rattle.std.specs.Prelude.{◌==◌, if◌then◌else◌}
-use Rattle.um_base.specs.declared.ask.Told.{Told}
-use Rattle.um_base.specs.declared.image.Image.{Image}
-use Rattle.um_base.specs.declared.names.ThreadIx.{ThreadIx}
-use Rattle.um_base.specs.Places.{own_row, thread_of_row}
-use Rattle.um_machine.specs.declared.pending.Pending.{Pending}
-use Rattle.um_machine.specs.Order.{Steps}
-use Rattle.um_fine.specs.Addresses.{row_named}
-use Rattle.um_fine.specs.Answers.{is_word_read, outcome_in}
-use Rattle.um_fine.specs.Asks.{begins_cleaning}
-use Rattle.um_fine.specs.Context.{Context}
-use Rattle.um_fine.specs.Follows.{behind_step, end_calls, goes_on_by, p_next, row_number, wakes, with_cleaned}
-use Rattle.um_fine.specs.Places.{Todo, Todos, cleaning_of, end_of_turn, fine_steps, next_steps, is_cleaning_todo}
-use Rattle.um_fine.specs.Processor.{Processor}
-use Rattle.um_fine.specs.Steps.{FineStep}
-use Rattle.um_erasure.specs.Frames.{Behind}
-use Rattle.um_erasure.specs.Lists.{counted, is_wake, wake_of, names_row}
+use Rattle.um_erasure.proofs.Words.{◌≡◌, ℕ, ◌+◌, Bool, true, false, List, [], ◌∷◌, ◌++◌, map, Option, Some, None, refl, sym, ap, ◌∙◌, ◌==◌, if◌then◌else◌, Told, Image, ThreadIx, own_row, thread_of_row, Pending, Steps, row_named, is_word_read, outcome_in, begins_cleaning, Context, behind_step, end_calls, goes_on_by, p_next, row_number, wakes, with_cleaned, Todo, Todos, cleaning_of, end_of_turn, fine_steps, next_steps, is_cleaning_todo, Processor, FineStep, Behind, counted, is_wake, wake_of, names_row, false≢true}
 use Rattle.um_erasure.proofs.ListGrowth.{either-look, next-kept, show-kept, take-kept, visits_row, cleaning-kept, quiet-kept, turn-kept, ends-behind}
-use Rattle.std.proofs.lemmas.Bool.{false≢true}
 
 abbrev pub Wakes : Type 0
 Wakes = List (ℕ × Told)

@@ -1,19 +1,6 @@
 -- Memory is the same in both machines after every lawful step.
-use Rattle.std.proofs.Common.{◌≡◌, ℕ, ◌<◌, ◌∷◌, length, true, sym, ap, ◌∙◌, subst, refl}
-use Rattle.std.specs.Prelude.{IsTrue, ◌&&◌, not}
-use Rattle.std.specs.List.{list_any}
-use Rattle.um_base.specs.declared.limits.TheConstants.{THREADS}
-use Rattle.um_machine.specs.declared.pending.Pending.{Pending}
-use Rattle.um_machine.specs.Order.{Steps, to_thread}
-use Rattle.um_machine.specs.State.{State, is_started, thread_at}
+use Rattle.um_erasure.proofs.Words.{◌≡◌, ℕ, ◌<◌, ◌∷◌, length, true, sym, ap, ◌∙◌, subst, refl, IsTrue, ◌&&◌, not, list_any, THREADS, Pending, Steps, to_thread, State, is_started, thread_at, More, FineStep, Todo, Todos, Fine, has_held, is_hold, is_let_go, behind_shown, MemoryIs}
 use Rattle.um_machine.specs.Table as T
-use Rattle.um_words.specs.declared.fine.More.{More}
-use Rattle.um_fine.specs.Steps.{FineStep}
-use Rattle.um_fine.specs.Places.{Todo, Todos}
-use Rattle.um_erasure.specs.Fine.{Fine}
-use Rattle.um_erasure.specs.Lists.{has_held, is_hold, is_let_go}
-use Rattle.um_erasure.specs.Offers.{behind_shown}
-use Rattle.um_erasure.specs.Resources.{MemoryIs}
 use Rattle.um_erasure.proofs.Erased.{stepped}
 use Rattle.um_erasure.proofs.Leaves.{Lawful, Leaves, cleans, drops, event, mine, nothing, passes, recycles, resumes}
 use Rattle.um_erasure.proofs.MemoryKept.{memory-kept}

@@ -1,33 +1,11 @@
 -- A processor's access to memory is that step of the machine, where the relation holds: its region table has the regions of its thread.
-use Rattle.std.proofs.Common.{◌≡◌, ℕ, zero, suc, ◌+◌, ◌<◌, ◌≤◌, Bool, true, false, [], ◌∷◌, length, None, refl, sym, ap, ◌∙◌, subst, arith, ◌⊎◌, inl, inr, eq-eqb, eq-or-lt_of_le}
-use Rattle.std.specs.Prelude.{◌==◌, ◌&&◌, ◌||◌, not, IsTrue, if◌then◌else◌}
-use Rattle.std.specs.List.{list_any}
-use Rattle.std.proofs.lemmas.Bool.{eqb-false, eqb-true, false≢true}
-use Rattle.um_base.specs.declared.act.Act.{Act}
-use Rattle.um_base.specs.declared.image.Image.{Image}
-use Rattle.um_base.specs.declared.names.Access.{Access}
-use Rattle.um_base.specs.declared.names.Addr.{Addr}
-use Rattle.um_base.specs.declared.names.Mode.{Mode}
+use Rattle.um_erasure.proofs.Words.{◌≡◌, ℕ, zero, suc, ◌+◌, ◌<◌, ◌≤◌, Bool, true, false, [], ◌∷◌, length, None, refl, sym, ap, ◌∙◌, subst, arith, ◌⊎◌, inl, inr, eq-eqb, eq-or-lt_of_le, ◌==◌, ◌&&◌, ◌||◌, not, IsTrue, if◌then◌else◌, list_any, eqb-false, eqb-true, false≢true, Act, Image, Access, Addr, Mode, Pending, Thread, allowed, bytes_at, Steps, to_thread, State, is_user, thread_at, FineAct, More, act_in, FineStep, Site, read, Cell, SiteState, is_sort, site_answers, Todo, Todos, allows, Fine, bytes, bytes_state, domain, one_if, total, has_claimed, has_held, is_let_go, is_hold, is_own_claim, is_own_done, is_region_load, moves_to, reads}
 use Rattle.um_base.specs.Regions.{regions}
 use Rattle.um_machine.specs.declared.pending.Amount.TheVariants as Amount
-use Rattle.um_machine.specs.declared.pending.Pending.{Pending}
-use Rattle.um_machine.specs.declared.thread.Thread.{Thread}
-use Rattle.um_machine.specs.Memory.{allowed, bytes_at, le_value, partitions_of, regions_of}
-use Rattle.um_machine.specs.Order.{Steps, to_thread}
-use Rattle.um_machine.specs.State.{State, is_user, thread_at}
-use Rattle.um_words.specs.declared.fine.FineAct.{FineAct}
-use Rattle.um_words.specs.declared.fine.More.{More}
-use Rattle.um_fine.specs.Answers.{act_in, value_in}
-use Rattle.um_fine.specs.Steps.{FineStep, Site}
-use Rattle.um_fine.specs.Memory.{read}
-use Rattle.um_fine.specs.Cells.{Cell}
-use Rattle.um_fine.specs.Sites.{SiteState, is_sort, site_answers}
-use Rattle.um_fine.specs.Places.{Todo, Todos}
+use Rattle.um_machine.specs.Memory.{le_value, partitions_of, regions_of}
+use Rattle.um_fine.specs.Answers.{value_in}
 use Rattle.um_fine.specs.Processor.{loaded, mode_of}
-use Rattle.um_fine.specs.Asks.{allows}
-use Rattle.um_erasure.specs.Fine.{Fine, bytes, bytes_state, domain, one_if, total}
-use Rattle.um_erasure.specs.Lists.{has_claimed, has_held, has_loaded, is_let_go, is_hold, is_own_claim, is_own_done, is_region_load, moves_to}
-use Rattle.um_erasure.specs.Domains.{reads}
+use Rattle.um_erasure.specs.Lists.{has_loaded}
 use Rattle.um_erasure.proofs.Offered.{IsStep, Shows, act-is, behind-is, machine-step, own-part, says-at, site-is}
 use Rattle.um_erasure.proofs.Says.{allowed-agrees, read-agrees}
 

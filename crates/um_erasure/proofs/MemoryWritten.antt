@@ -1,33 +1,21 @@
 -- The memory of both machines is written alike, where the relation holds: by stores, by copies out, and by the erasure of a stack.
-use Rattle.std.proofs.Common.{◌≡◌, ℕ, ◌<◌, Bool, true, false, cond, List, length, Option, Some, None, sym, ap, ◌∙◌}
-use Rattle.std.specs.Prelude.{◌-◌, if◌then◌else◌, nat_lt, replicate}
-use Rattle.um_base.specs.declared.act.Act.{Act}
-use Rattle.um_base.specs.declared.image.Image.{Image}
+use Rattle.um_erasure.proofs.Words.{◌≡◌, ℕ, ◌<◌, Bool, true, false, cond, List, length, Option, Some, None, sym, ap, ◌∙◌, if◌then◌else◌, nat_lt, Act, Image, Addr, Range, Row, Pending, Thread, allowed, with_bytes, Steps, State, thread_at, act_in, bytes_in, FineStep, Site, Bytes, memory_after, SiteState, s_next, same_site, site_after, Todos, allows, moves, says_step, Fine, bytes, bytes_state, MemoryIs, same-itself, Effect, effect}
+use Rattle.std.specs.Prelude.{◌-◌, replicate}
 use Rattle.um_base.specs.declared.limits.TheConstants.{PARTITION_AREA, STACK_AREA}
 use Rattle.um_base.specs.declared.names.Access.TheVariants as Access
-use Rattle.um_base.specs.declared.names.Addr.{Addr}
-use Rattle.um_base.specs.declared.names.Range.{Range}
-use Rattle.um_base.specs.declared.names.Row.{Row}
 use Rattle.um_base.specs.Places.{setup_at}
 use Rattle.um_base.specs.Regions.{stack_range}
-use Rattle.um_machine.specs.declared.pending.Pending.{Pending}
-use Rattle.um_machine.specs.declared.thread.Thread.{Thread}
-use Rattle.um_machine.specs.Memory.{allowed, le_bytes, put_bytes, with_bytes}
-use Rattle.um_machine.specs.Order.{Steps, copy_fails}
-use Rattle.um_machine.specs.State.{State, thread_at}
+use Rattle.um_machine.specs.Memory.{le_bytes, put_bytes}
 use Rattle.um_machine.specs.Table as T
-use Rattle.um_fine.specs.Answers.{act_in, bytes_in}
-use Rattle.um_fine.specs.Steps.{FineStep, Site}
-use Rattle.um_fine.specs.Memory.{Bytes, bytes_of, memory_after, with_memory, write}
-use Rattle.um_fine.specs.Sites.{SiteState, s_next, same_site, site_after}
-use Rattle.um_fine.specs.Places.{Todos}
-use Rattle.um_fine.specs.Asks.{allows, moves, says_step}
-use Rattle.um_erasure.specs.Fine.{Fine, bytes, bytes_state}
-use Rattle.um_erasure.specs.Resources.{MemoryIs}
+use Rattle.um_fine.specs.Memory.{bytes_of, with_memory, write}
 use Rattle.um_erasure.proofs.Erased.{stepped}
-use Rattle.um_fine.proofs.Keys.{same-itself}
 use Rattle.um_erasure.proofs.MemorySteps.{allows-it, memory-sort}
 use Rattle.um_erasure.proofs.Offered.{Shows, act-is, behind-is, own-part, site-is}
+use Rattle.um_erasure.proofs.Writes.{after_saying}
+use Rattle.um_machine.specs.Writes.{start_of, zeros_of}
+
+abbrev erased : State → Option Range → State
+erased m range = effect (Effect.bytes (start_of range) (zeros_of range)) m
 
 -- bytes written into the cell, and into the machine's memory
 write-same : (image : Image) (m : State) (b : Bytes) (a : ℕ) (bs : List ℕ) → b ≡ bytes_of m → write image b a bs ≡ bytes_of (with_bytes m a bs)
@@ -62,11 +50,11 @@ module _ {f : Fine} {m : State} {k : ℕ} {e : FineStep} {rest : Steps} {todo : 
       is-kept h (T.after m t x (Pending.Store a n value) rest)
       (bytes-after h (says_step f.image (f.processors k) (Pending.Store a n value) (act_in e.act)) (site-is h) (ap act_in (act-is h))
       ∙ (both (allows f.image (f.processors k) Access.Write a.0 n)
-      ∙ ap (λ c. bytes_of (if c then T.goes_on (with_bytes m a.0 (le_bytes n value)) t (thread_at m t) rest else T.goes_on m t (thread_at m t) T.fault))
+      ∙ ap (λ c. bytes_of (after_saying m t x (Pending.Store a n value) (if c then Act.Store a n value else Act.Fault Access.Write a n) rest))
       (allows-it h (behind-is h) few Access.Write a.0 n)))
     where
       both : (c : Bool) → memory_after f.image (bytes f) (if c then Act.Store a n value else Act.Fault Access.Write a n) e.moved
-          ≡ bytes_of (if c then T.goes_on (with_bytes m a.0 (le_bytes n value)) (f.processors k).context.thread (thread_at m (f.processors k).context.thread) rest else T.goes_on m (f.processors k).context.thread (thread_at m (f.processors k).context.thread) T.fault)
+          ≡ bytes_of (after_saying m (f.processors k).context.thread x (Pending.Store a n value) (if c then Act.Store a n value else Act.Fault Access.Write a n) rest)
       both true = write-same f.image m (bytes f) a.0 (le_bytes n value) (bytes-are h)
       both false = bytes-are h
 
@@ -81,12 +69,12 @@ module _ {f : Fine} {m : State} {k : ℕ} {e : FineStep} {rest : Steps} {todo : 
       is-kept h (T.after m t x (Pending.CopyOut a) rest)
       (bytes-after h (says_step f.image (f.processors k) (Pending.CopyOut a) (act_in e.act)) (site-is h) (ap act_in (act-is h))
       ∙ (both (allows f.image (f.processors k) Access.Write a.0 (length c.buffer)) moved
-      ∙ ap (λ b. bytes_of (if b then T.goes_on (with_bytes m a.0 (thread_at m t).buffer) t (thread_at m t) rest else T.goes_on m t (thread_at m t) (copy_fails (thread_at m t).mode)))
+      ∙ ap (λ b. bytes_of (after_saying m t x (Pending.CopyOut a) (Act.CopyOut a (length (thread_at m t).buffer) b) rest))
       (allows-it h (behind-is h) few Access.Write a.0 (length c.buffer) ∙ ap (λ bs. allowed m t Access.Write a.0 (length bs)) buffer)))
     where
       both : (b : Bool) → bytes_in e.moved ≡ (thread_at m (f.processors k).context.thread).buffer
           → memory_after f.image (bytes f) (Act.CopyOut a (length (f.processors k).context.buffer) b) e.moved
-          ≡ bytes_of (if b then T.goes_on (with_bytes m a.0 (thread_at m (f.processors k).context.thread).buffer) (f.processors k).context.thread (thread_at m (f.processors k).context.thread) rest else T.goes_on m (f.processors k).context.thread (thread_at m (f.processors k).context.thread) (copy_fails (thread_at m (f.processors k).context.thread).mode))
+          ≡ bytes_of (after_saying m (f.processors k).context.thread x (Pending.CopyOut a) (Act.CopyOut a (length (thread_at m (f.processors k).context.thread).buffer) b) rest)
       both true moved =
           ap (write f.image (bytes f) a.0) moved ∙ write-same f.image m (bytes f) a.0 (thread_at m (f.processors k).context.thread).buffer (bytes-are h)
       both false moved = bytes-are h
@@ -97,8 +85,8 @@ module _ {f : Fine} {m : State} {k : ℕ} {e : FineStep} {rest : Steps} {todo : 
       let t = (f.processors k).context.thread in
       is-kept h (T.after m t x (Pending.Erase stack) rest)
       (bytes-after h (Act.Erase stack) (site-is h) (ap act_in (act-is h))
-      ∙ (both (stack_range (setup_at f.image stack.0)) ∙ ap (λ (i : Image). bytes_of (T.erased m (stack_range (setup_at i stack.0)))) (sym h.rel.image)))
+      ∙ (both (stack_range (setup_at f.image stack.0)) ∙ ap (λ (i : Image). bytes_of (erased m (stack_range (setup_at i stack.0)))) (sym h.rel.image)))
     where
-      both : (range : Option Range) → bytes_of (T.erased (with_memory f.image (bytes f)) range) ≡ bytes_of (T.erased m range)
+      both : (range : Option Range) → bytes_of (T.erased (with_memory f.image (bytes f)) range) ≡ bytes_of (erased m range)
       both None = bytes-are h
       both (Some range) = write-same f.image m (bytes f) range.start.0 (replicate range.size 0) (bytes-are h)

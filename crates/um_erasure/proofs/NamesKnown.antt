@@ -1,14 +1,6 @@
 -- In every state that a run of a described image reaches a thread that gets a permission or a name is one whose object stands at a static row,
 -- or is held by the call, permissions are passed on to the thread that is started next, and a thread moves to domains of the image.
-use Rattle.std.proofs.Common.{◌≡◌, ℕ, ◌∷◌, length, subst}
-use Rattle.um_base.specs.declared.image.Image.{Image}
-use Rattle.um_machine.specs.declared.pending.Pending.{Pending}
-use Rattle.um_machine.specs.Order.{Steps}
-use Rattle.um_machine.specs.Run.{opening}
-use Rattle.um_machine.specs.State.{State, thread_at}
-use Rattle.um_invariants.proofs.Cores.{core_of}
-use Rattle.um_invariants.proofs.Turns.{IsKnown}
-use Rattle.um_invariants.specs.Described.{IsDescribed}
+use Rattle.um_erasure.proofs.Words.{◌≡◌, ℕ, ◌∷◌, length, subst, Image, Pending, Steps, opening, State, thread_at, core_of, IsKnown, IsDescribed}
 use Rattle.um_erasure.proofs.CallSteps.{Proper}
 use Rattle.um_erasure.proofs.CallsProper.{offered-proper}
 use Rattle.um_erasure.proofs.ContentsPart.{NamesHeld}

@@ -1,26 +1,13 @@
 -- What a step of the access-matrix machine leaves of objects: kind and cost but at a reservation and a recycling, and the status but there,
 -- at births and where a drop takes the last permission.
-use Rattle.std.proofs.Common.{arith, length, replicate, ◌≡◌, inl, inr, ℕ, zero, suc, ◌<◌, ◌≤◌, Bool, true, false, not, List, [], ◌∷◌, Some, refl, sym, ap, ◌∙◌, subst}
-use Rattle.std.specs.Prelude.{if◌then◌else◌, slice_index_or, slice_set}
-use Rattle.std.proofs.lemmas.Bool.{false≢true}
-use Rattle.um_base.specs.declared.act.Leftover.{Leftover}
-use Rattle.um_base.specs.declared.limits.TheConstants.{ROWS, STATIC_ROWS, THREADS}
-use Rattle.um_base.specs.declared.names.Addr.{Addr}
-use Rattle.um_base.specs.Places.{addr_of, row_at}
-use Rattle.um_machine.specs.declared.object.Object.{Object}
-use Rattle.um_machine.specs.declared.object.Status.{Status}
-use Rattle.um_machine.specs.declared.pending.Pending.{Pending}
+use Rattle.um_erasure.proofs.Words.{arith, length, replicate, ◌≡◌, inl, inr, ℕ, zero, suc, ◌<◌, ◌≤◌, Bool, true, false, List, [], ◌∷◌, Some, refl, sym, ap, ◌∙◌, subst, if◌then◌else◌, slice_index_or, slice_set, false≢true, Leftover, ROWS, STATIC_ROWS, THREADS, Addr, addr_of, row_at, Object, Status, Pending, Steps, Offers, goes, skips_drops, skips_inherit, State, object_at, pair_at, thread_at, vacant, bytes-leave, call_is, status_is, IsRow, behind_birth, Guarded, below_rows}
+use Rattle.std.proofs.Common.{not}
 use Rattle.um_machine.specs.Objects as Plain
-use Rattle.um_machine.specs.Order.{Steps}
-use Rattle.um_machine.specs.Run.{Offers, goes, skips_drops, skips_inherit}
-use Rattle.um_machine.specs.State.{State, object_at, pair_at, thread_at, vacant, with_object}
 use Rattle.um_machine.specs.Table as T
-use Rattle.um_invariants.proofs.Cores.{call_is, status_is}
-use Rattle.um_invariants.proofs.Guards.{IsRow, bearing, behind_birth, Guarded}
-use Rattle.um_invariants.proofs.Turns.{below_rows}
+use Rattle.um_invariants.proofs.Guards.{bearing}
 use Rattle.um_erasure.proofs.Reachable.{IsSound}
 use Rattle.um_erasure.proofs.ThreadLists.{read-set}
-use Rattle.um_erasure.proofs.Writes.{Keeping, Makes, Part, after-kept, births, lasting_of, statuses, bytes-kept}
+use Rattle.um_erasure.proofs.Writes.{Keeping, Makes, Part, Yes, after-kept, births, lasting_of, objects, statuses, with_dropped, with_left}
 
 -- an object that is written with the same of something leaves that of all
 pub set-kept : {A : Type 0} (g : Object → A) (xs : List Object) (x y : ℕ) (o : Object) → g o ≡ g (slice_index_or xs x vacant)
@@ -28,14 +15,31 @@ pub set-kept : {A : Type 0} (g : Object → A) (xs : List Object) (x y : ℕ) (o
 set-kept g = read-set g vacant
 
 -- all that a step may write but whole objects, and but these and their status
-abbrev pub NoBirths : Part → Type 0
-NoBirths births = ⊥
-NoBirths part = Unit {0}
+abbrev pub NoBirths : Part → Bool
+NoBirths births = false
+NoBirths part = true
 
-abbrev pub NoStatuses : Part → Type 0
-NoStatuses births = ⊥
-NoStatuses statuses = ⊥
-NoStatuses part = Unit {0}
+abbrev pub NoStatuses : Part → Bool
+NoStatuses births = false
+NoStatuses statuses = false
+NoStatuses part = true
+
+-- what is read of an object stays where each write of it that may be made leaves that
+pub object-reads : {A : Type 0} (may : Part → Bool) (g : Object → A) (y : ℕ) (v : A)
+    → (Yes (may objects) → (o z : Object) → lasting_of o ≡ lasting_of z → o.status ≡ z.status → g o ≡ g z) → (Yes (may statuses) → (o z : Object) → lasting_of o ≡ lasting_of z → g o ≡ g z)
+    → (Yes (may births) → ⊥) → Keeping may (λ s. g (object_at s y) ≡ v)
+object-reads may g y v edits becomes none =
+    record {
+      own = λ s u th e k. k;
+      word = λ may s u th k. k;
+      object = λ yes s x o e q k. set-kept g s.objects x y o (edits yes o (object_at s x) e q) ∙ k;
+      status = λ yes s x o e k. set-kept g s.objects x y o (becomes yes o (object_at s x) e) ∙ k;
+      birth = λ yes s x o k. absurd (none yes);
+      pair = λ may s u x there k. k;
+      bytes = λ may s a bs k. bytes-leave (λ (z : State). g (object_at z y)) (λ z bytes. refl) (λ z bytes. refl) s a bs ∙ k;
+      pool = λ may s left k. k;
+      parts = λ may s d ps k. k;
+    }
 
 module _ (m : State) (y : ℕ) where
   abbrev SameLasting : State → Type 0
@@ -44,39 +48,11 @@ module _ (m : State) (y : ℕ) where
   abbrev SameStatus : State → Type 0
   SameStatus s = (object_at s y).status ≡ (object_at m y).status
 
-  lasting-keeping : Keeping NoBirths SameLasting
-  lasting-keeping =
-      record {
-        own = λ s v th e k. k;
-        word = λ may s v th k. k;
-        object = λ may s x o e q k. set-kept lasting_of s.objects x y o e ∙ k;
-        status = λ may s x o e k. set-kept lasting_of s.objects x y o e ∙ k;
-        birth = λ may s x o k. absurd may;
-        pair = λ may s v x there k. k;
-        bytes = λ may s a bs k. bytes-kept (λ (z : State). lasting_of (object_at z y)) (λ z bytes. refl) (λ z bytes. refl) s a bs ∙ k;
-        pool = λ may s left k. k;
-        parts = λ may s d ps k. k;
-      }
-
-  status-keeping : Keeping NoStatuses SameStatus
-  status-keeping =
-      record {
-        own = λ s v th e k. k;
-        word = λ may s v th k. k;
-        object = λ may s x o e q k. set-kept (λ (z : Object). z.status) s.objects x y o q ∙ k;
-        status = λ may s x o e k. absurd may;
-        birth = λ may s x o k. absurd may;
-        pair = λ may s v x there k. k;
-        bytes = λ may s a bs k. bytes-kept (λ (z : State). (object_at z y).status) (λ z bytes. refl) (λ z bytes. refl) s a bs ∙ k;
-        pool = λ may s left k. k;
-        parts = λ may s d ps k. k;
-      }
-
   pub lasting-kept : (t x : ℕ) (q : Pending) (rest : Steps) → Makes NoBirths q → SameLasting (T.after m t x q rest)
-  lasting-kept t x q rest h = after-kept NoBirths SameLasting lasting-keeping m t refl x q rest h
+  lasting-kept t x q rest h = after-kept NoBirths SameLasting (object-reads NoBirths lasting_of y _ (λ may o z e q. e) (λ may o z e. e) (λ may. may)) m t refl x q rest h
 
   pub status-kept : (t x : ℕ) (q : Pending) (rest : Steps) → Makes NoStatuses q → SameStatus (T.after m t x q rest)
-  status-kept t x q rest h = after-kept NoStatuses SameStatus status-keeping m t refl x q rest h
+  status-kept t x q rest h = after-kept NoStatuses SameStatus (object-reads NoStatuses (λ (o : Object). o.status) y _ (λ may o z e q. q) (λ may. absurd may) (λ may. may)) m t refl x q rest h
 
 -- Drops and births.
 
@@ -92,14 +68,14 @@ drop-found false last e = absurd (subst (λ l. elim l as (λ _. Type 0) [ Leftov
 
 -- a drop leaves which rows are free
 pub drop-free : (s : State) (who x y : ℕ) → (pair_at s who x ≡ true → Plain.is_live (object_at s x).status ≡ true)
-    → Plain.is_free (object_at (T.after_drop s who x) y).status ≡ Plain.is_free (object_at s y).status
+    → Plain.is_free (object_at (with_dropped s who x) y).status ≡ Plain.is_free (object_at s y).status
 drop-free s who x y lives = by (T.dropped s who x) refl
   where
     gone : T.dropped s who x ≡ Leftover.Gone → Plain.is_free Status.Gone ≡ Plain.is_free (object_at s x).status
     gone e = live-kept (object_at s x).status Status.Gone (lives (drop-found (pair_at s who x) _ e)) refl
 
     by : (l : Leftover) → T.dropped s who x ≡ l
-        → Plain.is_free (object_at (elim l as (λ _. State) [ Leftover.NoPair ↦ s | Leftover.Kept ↦ T.paired s who x false | Leftover.Gone ↦ with_object (T.paired s who x false) x (record (object_at s x) { status = Status.Gone }) ]) y).status
+        → Plain.is_free (object_at (with_left l s who x) y).status
         ≡ Plain.is_free (object_at s y).status
     by Leftover.NoPair e = refl
     by Leftover.Kept e = refl

@@ -1,33 +1,8 @@
 -- The own part of a thread that makes an event is that of the machine's thread then, with what its call holds and whether it has ended.
-use Rattle.std.proofs.Common.{◌≡◌, ℕ, zero, suc, ◌<◌, Bool, true, List, [], ◌∷◌, ◌++◌, length, map, Option, Some, None, refl, sym, ap, ◌∙◌, subst, arith}
-use Rattle.std.specs.Prelude.{IsTrue, nat_lt, slice_index_or, slice_set}
-use Rattle.std.specs.List.{list_all}
+use Rattle.um_erasure.proofs.Words.{◌≡◌, ℕ, zero, suc, ◌<◌, Bool, true, List, [], ◌∷◌, ◌++◌, length, map, Option, Some, None, refl, sym, ap, ◌∙◌, subst, arith, IsTrue, nat_lt, slice_index_or, slice_set, list_all, and_from, and_parts, Answer, Ask, Told, ROWS, THREADS, Addr, Errno, Reply, ThreadIx, Pending, Life, Thread, verdict, Steps, State, is_started, no_rows, nobody, object_at, thread_at, with_object, with_thread, rows-are, row_named, act_in, verdict_in, Context, continues, with_claim, Todos, FineStep, Fine, IsOf, flags_of, is_ended, own_part}
 use Rattle.std.proofs.Math.Seq.{map-set_same}
-use Rattle.std.proofs.lemmas.Bool.{and_from, and_parts}
-use Rattle.um_base.specs.declared.act.Answer.{Answer}
-use Rattle.um_base.specs.declared.ask.Ask.{Ask}
-use Rattle.um_base.specs.declared.ask.Told.{Told}
-use Rattle.um_base.specs.declared.limits.TheConstants.{ROWS, THREADS}
-use Rattle.um_base.specs.declared.names.Addr.{Addr}
-use Rattle.um_base.specs.declared.names.Errno.{Errno}
-use Rattle.um_base.specs.declared.names.Reply.{Reply}
-use Rattle.um_base.specs.declared.names.ThreadIx.{ThreadIx}
-use Rattle.um_machine.specs.declared.pending.Pending.{Pending}
-use Rattle.um_machine.specs.declared.thread.Life.{Life}
-use Rattle.um_machine.specs.declared.thread.Thread.{Thread}
-use Rattle.um_machine.specs.Objects.{verdict}
-use Rattle.um_machine.specs.Order.{Steps}
-use Rattle.um_machine.specs.State.{State, is_started, no_rows, nobody, object_at, thread_at, with_object, with_thread}
 use Rattle.um_machine.specs.Table as T
 use Rattle.um_invariants.proofs.Cores.{map_at}
-use Rattle.um_fine.specs.Addresses.{row_named}
-use Rattle.um_fine.specs.Answers.{act_in, verdict_in}
-use Rattle.um_fine.specs.Context.{Context}
-use Rattle.um_fine.specs.Continues.{continues, with_claim}
-use Rattle.um_fine.specs.Places.{Todos}
-use Rattle.um_fine.specs.Steps.{FineStep}
-use Rattle.um_erasure.specs.Fine.{Fine}
-use Rattle.um_erasure.specs.Threads.{IsOf, flags_of, is_ended, own_part}
 use Rattle.um_erasure.proofs.Erased.{around}
 use Rattle.um_erasure.proofs.LawfulSteps.{Suits}
 use Rattle.um_erasure.proofs.Leaves.{Lawful}
@@ -160,8 +135,8 @@ module _ (f : Fine) (m : State) (e : FineStep) (law : Lawful f m e) (suits : Sui
           let q = Pending.Check a kind want refusal in
           let me = thread_at m t in
           let was = own-part h in
-          let now = at-here m.threads t (T.at_steps m.image (T.with_checked m a (verdict m t a.0 kind want) me) (T.after_check me.mode rest refusal (verdict m t a.0 kind want))) (room q h shown is)
-          ∙ ap (λ w. T.at_steps m.image (T.with_checked m a w me) (T.after_check me.mode rest refusal w)) said in
+          let now = ap (λ (s : State). thread_at s t) (sym (rows-are m t x q rest)) ∙ (at-here m.threads t (T.at_steps m.image (T.with_checked m a (verdict m t a.0 kind want) me) (T.after_check me.mode rest refusal (verdict m t a.0 kind want))) (room q h shown is)
+          ∙ ap (λ w. T.at_steps m.image (T.with_checked m a w me) (T.after_check me.mode rest refusal w)) said) in
           let verdict-is : verdict_in (act_in e.act) ≡ v = ap verdict_in (acts is) ∙ said in
           let claims : (next q).claims ≡ (with_claim f.image p.context a v).claims = ap (λ w. (with_claim f.image p.context a w).claims) verdict-is in
           let ended : (next q).ended ≡ (with_claim f.image p.context a v).ended = ap (λ w. (with_claim f.image p.context a w).ended) verdict-is in
@@ -190,7 +165,7 @@ module _ (f : Fine) (m : State) (e : FineStep) (law : Lawful f m e) (suits : Sui
           rows None = below-more p.context.claims (row_named f.image a) (own-part h).below (named-below f m e law a)
           rows (Some e) = (own-part h).below
   of-kept (Pending.Work a ask) h shown is =
-      let q = Pending.Work a ask in kept q h shown is (work-calls m t a ask rest t) (continues-held f.image p.context 0 q rest (act_in e.act) e.moved tt)
+      let q = Pending.Work a ask in kept q h shown is (ap (λ (s : State). call_of (thread_at s t)) (sym (rows-are m t x q rest)) ∙ work-calls m t a ask rest t) (continues-held f.image p.context 0 q rest (act_in e.act) e.moved tt)
   of-kept (Pending.Start who script stack priority mode) h shown is =
       let q = Pending.Start who script stack priority mode in
       let child = T.newborn m (thread_at m t) who.0 script q in

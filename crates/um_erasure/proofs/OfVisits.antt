@@ -1,23 +1,6 @@
 -- The own part of a thread that visits a row, or goes on after it was woken, is that of the machine's thread then.
-use Rattle.std.proofs.Common.{◌≡◌, ℕ, ◌<◌, false, ◌∷◌, length, Some, None, refl, sym, ap, ◌∙◌, subst, arith}
-use Rattle.std.specs.Prelude.{IsTrue, nat_lt}
-use Rattle.std.specs.List.{list_all}
-use Rattle.um_base.specs.declared.ask.Told.{Told}
-use Rattle.um_base.specs.declared.limits.TheConstants.{ROWS, THREADS}
-use Rattle.um_base.specs.declared.names.Reply.{Reply}
-use Rattle.um_machine.specs.declared.pending.Pending.{Pending}
-use Rattle.um_machine.specs.declared.thread.Thread.{Thread}
-use Rattle.um_machine.specs.Order.{Steps, to_thread}
-use Rattle.um_machine.specs.State.{State, is_started, thread_at}
+use Rattle.um_erasure.proofs.Words.{◌≡◌, ℕ, ◌<◌, false, ◌∷◌, length, Some, None, refl, sym, ap, ◌∙◌, subst, arith, IsTrue, nat_lt, list_all, Told, ROWS, THREADS, Reply, Pending, Thread, Steps, to_thread, State, is_started, thread_at, Context, as_thread, resumed, resumed_at, dropped_at, told_at, FineStep, Fine, scheduler, Rel, IsOf, flags_of, is_ended, own_part, rows-are}
 use Rattle.um_machine.specs.Table as T
-use Rattle.um_fine.specs.Context.{Context, as_thread}
-use Rattle.um_fine.specs.Continues.{resumed, resumed_at}
-use Rattle.um_fine.specs.Follows.{dropped_at}
-use Rattle.um_fine.specs.Scheduler.{told_at}
-use Rattle.um_fine.specs.Steps.{FineStep}
-use Rattle.um_erasure.specs.Fine.{Fine, scheduler}
-use Rattle.um_erasure.specs.Relation.{Rel}
-use Rattle.um_erasure.specs.Threads.{IsOf, flags_of, is_ended, own_part}
 use Rattle.um_erasure.proofs.Leaves.{Lawful}
 use Rattle.um_erasure.proofs.Own.{own-after, own-resumed}
 use Rattle.um_erasure.proofs.RestKept.{Alike, beside-kept, beside-same}
@@ -68,7 +51,8 @@ module _ (f : Fine) (m : State) (e : FineStep) (law : Lawful f m e) where
       let tells = scheduler-tells f m law.rel t of.index told here in
       let steps = elim told.reply as (λ _. Steps) [ Reply.Fail e ↦ T.without_copy rest | _ ↦ rest ] in
       let th = T.at_steps m.image (record me { told = None; reply = told.reply; buffer = told.taken }) steps in
-      let now : thread_at (T.after m t 0 Pending.Resume rest) t ≡ th = (λ i. thread_at (T.resumed m t me rest (tells i)) t) ∙ at-here m.threads t th (room c of) in
+      let now : thread_at (T.after m t 0 Pending.Resume rest) t ≡ th =
+      ap (λ (s : State). thread_at s t) (sym (rows-are m t 0 Pending.Resume rest)) ∙ ((λ i. thread_at (T.resumed m t me rest (tells i)) t) ∙ at-here m.threads t th (room c of)) in
       let shape : (d : Context) × (resumed f.image c told ≡ d) × (d.thread ≡ c.thread) × (d.claims ≡ c.claims) × (d.ended ≡ c.ended) =
       (resumed_at f.image c told (Pending.Resume ∷ rest), ap (resumed_at f.image c told) has, refl, refl, refl) in
       let thread = ap (λ (z : Context). z.thread) shape.1 ∙ shape.2 in
@@ -78,7 +62,8 @@ module _ (f : Fine) (m : State) (e : FineStep) (law : Lawful f m e) where
         index = subst (λ n. n < THREADS) (sym thread) of.index;
         own = ap as_thread shape.1
             ∙ ((λ i. as_thread (resumed_at (sym law.rel.image i) c told (Pending.Resume ∷ rest)))
-            ∙ (own-resumed m t c of.own refl (room c of) told rest ∙ ((λ i. own_part (thread_at (T.resumed m t me rest (sym tells i)) t)) ∙ ap (λ n. own_part (thread_at (T.after m t 0 Pending.Resume rest) n)) (sym thread))));
+            ∙ (own-resumed m t c of.own refl (room c of) told rest ∙ ((λ i. own_part (thread_at (T.resumed m t me rest (sym tells i)) t)) ∙ (ap (λ (s : State). own_part (thread_at s t)) (rows-are m t 0 Pending.Resume rest)
+            ∙ ap (λ n. own_part (thread_at (T.after m t 0 Pending.Resume rest) n)) (sym thread)))));
         claims = ap (λ n. (thread_at (T.after m t 0 Pending.Resume rest) n).checked) thread ∙ (ap (λ (z : Thread). z.checked) now ∙ (of.claims ∙ ap flags_of (sym claims)));
         ended = ended ∙ (of.ended ∙ (ap (λ (z : Thread). is_ended z.life) (sym now) ∙ ap (λ n. is_ended (thread_at (T.after m t 0 Pending.Resume rest) n).life) (sym thread)));
         started = subst (λ n. IsTrue (is_started (thread_at (T.after m t 0 Pending.Resume rest) n).life)) (sym thread) (subst (λ (z : Thread). IsTrue (is_started z.life)) (sym now) of.started);

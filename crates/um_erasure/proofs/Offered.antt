@@ -1,38 +1,17 @@
 -- A step that a processor shows is one that the machine offers its thread, where the relation holds.
-use Rattle.std.proofs.Common.{◌≡◌, ℕ, suc, ◌<◌, Bool, true, false, List, [], ◌∷◌, length, Option, refl, sym, ap, ◌∙◌, subst, arith}
-use Rattle.std.specs.Prelude.{◌&&◌, not, if◌then◌else◌, IsTrue, is_some, slice_index_or}
-use Rattle.std.specs.List.{list_all}
-use Rattle.std.proofs.lemmas.Bool.{and_from, and_parts, false≢true, not-true, not_from_false}
-use Rattle.um_base.specs.declared.act.Act.{Act}
-use Rattle.um_base.specs.declared.image.Image.{Image}
-use Rattle.um_base.specs.declared.limits.TheConstants.{ROWS}
-use Rattle.um_base.specs.declared.names.ThreadIx.{ThreadIx}
-use Rattle.um_machine.specs.declared.pending.Pending.{Pending}
-use Rattle.um_machine.specs.declared.thread.Thread.{Thread}
-use Rattle.um_machine.specs.Order.{Steps}
+use Rattle.um_erasure.proofs.Words.{◌≡◌, ℕ, suc, ◌<◌, Bool, true, false, List, [], ◌∷◌, length, Option, refl, sym, ap, ◌∙◌, subst, arith, ◌&&◌, not, if◌then◌else◌, IsTrue, is_some, slice_index_or, list_all, and_from, and_parts, false≢true, not-true, not_from_false, Act, Image, ROWS, ThreadIx, Pending, Thread, Steps, MayChoose, Offers, begins, exits, goes, skips_drops, skips_inherit, State, instruction_at, is_living, thread_at, FineAct, More, Unseen, act_in, is_word_read, Context, FineStep, Site, Cell, SiteMay, SiteState, site_answers, site_takes, Todo, Todos, CpuMay, says, says_show, says_step, shows, site_at, Fine, thread_state, has_steps, visited, Fits, IsOffered, behind_shown, is_over, IsOf, is_visiting, Rel}
 use Rattle.um_machine.specs.Table as T
-use Rattle.um_machine.specs.Run.{MayChoose, Offers, begins, exits, goes, none_due, skips_drops, skips_inherit}
-use Rattle.um_machine.specs.State.{State, instruction_at, is_living, thread_at}
-use Rattle.um_words.specs.declared.fine.FineAct.{FineAct}
-use Rattle.um_words.specs.declared.fine.More.{More}
-use Rattle.um_words.specs.declared.fine.Unseen.{Unseen}
-use Rattle.um_fine.specs.Answers.{act_in, is_word_read}
-use Rattle.um_fine.specs.Context.{Context}
-use Rattle.um_fine.specs.Steps.{FineStep, Site}
-use Rattle.um_fine.specs.Cells.{Cell}
-use Rattle.um_fine.specs.Sites.{SiteMay, SiteState, site_answers, site_takes}
-use Rattle.um_fine.specs.Places.{Todo, Todos}
-use Rattle.um_fine.specs.Asks.{CpuMay, says, says_show, says_step, shows, site_at}
-use Rattle.um_erasure.specs.Fine.{Fine, thread_state}
-use Rattle.um_erasure.specs.Lists.{has_steps, visited}
+use Rattle.um_machine.specs.Run.{none_due}
 use Rattle.um_erasure.specs.Offers as O
-use Rattle.um_erasure.specs.Offers.{Bare, Fits, IsOffered, behind_shown, is_over}
-use Rattle.um_erasure.specs.Threads.{IsOf}
-use Rattle.um_erasure.specs.Dues.{is_visiting}
-use Rattle.um_erasure.specs.Relation.{Rel}
+use Rattle.um_erasure.specs.Offers.{Bare}
 use Rattle.um_erasure.proofs.Erased.{Goes, GoesBy}
 use Rattle.um_erasure.proofs.ListFits.{behind-bare}
 use Rattle.um_erasure.proofs.StepsLeft.{offered-on}
+
+-- one of two acts
+pub either-act : {A : Type 0} (g : Act → A) (a : A) (b : Bool) (one two : Act) → g one ≡ a → g two ≡ a → g (if b then one else two) ≡ a
+either-act g a true one two h k = h
+either-act g a false one two h k = k
 
 -- Where no visit is left, nothing is due.
 

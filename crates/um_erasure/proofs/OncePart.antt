@@ -1,34 +1,5 @@
 -- An own part lies in one place at most, after every lawful step.
-use Rattle.std.proofs.Common.{◌≡◌, ℕ, zero, suc, ◌+◌, ◌<◌, ◌≤◌, Bool, true, false, [], ◌∷◌, Option, Some, None, refl, sym, ap, ◌∙◌, subst, arith, eq-eqb}
-use Rattle.std.specs.Prelude.{ℤ, ◌==◌, ◌&&◌, if◌then◌else◌, is_some, not, slice_index_or, slice_set}
-use Rattle.std.proofs.lemmas.Bool.{and_parts, eqb-false, eqb-true, not-true, true≢false}
-use Rattle.std.proofs.lemmas.List.{get_or-set_other}
-use Rattle.um_base.specs.declared.ask.Told.{Told}
-use Rattle.um_base.specs.declared.image.Image.{Image}
-use Rattle.um_base.specs.declared.limits.TheConstants.{THREADS}
-use Rattle.um_base.specs.declared.names.Mode.{Mode}
-use Rattle.um_base.specs.declared.names.Row.{Row}
-use Rattle.um_base.specs.declared.names.ThreadIx.{ThreadIx}
-use Rattle.um_machine.specs.declared.pending.Pending.{Pending}
-use Rattle.um_machine.specs.Order.{Steps, to_thread}
-use Rattle.um_machine.specs.State.{State}
-use Rattle.um_words.specs.declared.fine.FineAct.{FineAct}
-use Rattle.um_words.specs.declared.fine.Unseen.{Unseen}
-use Rattle.um_fine.specs.Answers.{context_in, ready_in}
-use Rattle.um_fine.specs.Asks.{begins_cleaning}
-use Rattle.um_fine.specs.Context.{Context}
-use Rattle.um_fine.specs.Continues.{resumed, resumed_at}
-use Rattle.um_fine.specs.Follows.{after_take}
-use Rattle.um_fine.specs.Places.{Todo, Todos}
-use Rattle.um_fine.specs.Processor.{Processor}
-use Rattle.um_fine.specs.Scheduler.{Scheduler, parked_at, put_back}
-use Rattle.um_fine.specs.Sites.{same_site}
-use Rattle.um_fine.specs.Steps.{Exchange, FineStep, Site}
-use Rattle.um_erasure.specs.Fine.{Fine, one_if, over_processors, scheduler}
-use Rattle.um_erasure.specs.Frames.{AreFramed}
-use Rattle.um_erasure.specs.Lists.{adders, has_steps, of_thread, runs, runs_thread}
-use Rattle.um_erasure.specs.Offers.{Fits, is_over}
-use Rattle.um_erasure.specs.Threads.{IsOf, places, runs_on}
+use Rattle.um_erasure.proofs.Words.{◌≡◌, ℕ, zero, suc, ◌+◌, ◌<◌, ◌≤◌, Bool, true, false, [], ◌∷◌, Option, Some, None, refl, sym, ap, ◌∙◌, subst, arith, eq-eqb, ℤ, ◌==◌, ◌&&◌, if◌then◌else◌, is_some, not, slice_index_or, slice_set, and_parts, eqb-false, eqb-true, not-true, true≢false, get_or-set_other, Told, Image, THREADS, Mode, Row, ThreadIx, Pending, Steps, to_thread, State, FineAct, Unseen, context_in, ready_in, begins_cleaning, Context, resumed, resumed_at, after_take, Todo, Todos, Processor, Scheduler, parked_at, put_back, same_site, Exchange, FineStep, Site, Fine, one_if, over_processors, scheduler, AreFramed, adders, has_steps, of_thread, runs, runs_thread, Fits, is_over, IsOf, places, runs_on}
 use Rattle.um_erasure.proofs.CleanSteps.{adds-one}
 use Rattle.um_erasure.proofs.ContextsPart.{is_shown, now-context, quiet-context, read-only}
 use Rattle.um_erasure.proofs.Erased.{around}

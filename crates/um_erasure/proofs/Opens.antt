@@ -1,11 +1,6 @@
 -- The relation holds at the opening of an image whose objects fit the static rows, whose boot entries have a thread each, and in which
 -- the object of each boot thread stands.
-use Rattle.std.proofs.Common.{true}
-use Rattle.std.proofs.Common.{ℕ, ◌≤◌, [], length}
-use Rattle.um_base.specs.declared.image.Image.{Image}
-use Rattle.um_base.specs.declared.limits.TheConstants.{STATIC_ROWS}
-use Rattle.um_machine.specs.Run.{opening}
-use Rattle.um_erasure.specs.Relation.{Rel}
+use Rattle.um_erasure.proofs.Words.{true, ℕ, ◌≤◌, [], length, Image, STATIC_ROWS, opening, Rel}
 use Rattle.um_erasure.proofs.First.{blocks-first, cleaning-first, domains-first, first, held-first, idle-first, kept-first, lists-first, looks-first, memory-first, running-first, sorts-along, tables-first, words-first}
 use Rattle.um_erasure.proofs.FirstObjects.{OwnStands, claims-first, cleaner-first, cleaners-first, contents-first, heap-first, opening-image, pairs-all-first, status-first}
 use Rattle.um_erasure.proofs.FirstReady.{OneEach, ready-first}

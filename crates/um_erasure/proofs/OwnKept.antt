@@ -1,42 +1,13 @@
 -- A processor's event of a pending step leaves the own part of its thread as the machine leaves it, where the relation holds: what goes with
 -- the step is what the machine reads and works out.
-use Rattle.std.proofs.Common.{◌≡◌, ℕ, ◌-◌, ◌<◌, true, false, [], ◌∷◌, length, refl, sym, ap, ◌∙◌, subst, arith}
-use Rattle.std.specs.Prelude.{ℤ, slice_index_or, take}
-use Rattle.std.proofs.lemmas.Bool.{ltb-true, true≢false}
-use Rattle.um_base.specs.declared.act.Act.{Act}
-use Rattle.um_base.specs.declared.act.Found.{Found}
-use Rattle.um_base.specs.declared.ask.Ask.{Ask}
-use Rattle.um_base.specs.declared.image.Image.{Image}
-use Rattle.um_base.specs.declared.limits.TheConstants.{PIECE, ROWS}
+use Rattle.um_erasure.proofs.Words.{◌≡◌, ℕ, ◌-◌, ◌<◌, true, false, [], ◌∷◌, length, refl, sym, ap, ◌∙◌, subst, arith, ℤ, slice_index_or, take, ltb-true, true≢false, Act, Found, Ask, Image, ROWS, Addr, Mode, Row, ThreadIx, Amount, Pending, Thread, allowed, bytes_at, string_bytes, Steps, Offers, goes, skips_drops, skips_inherit, is_empty, State, thread_at, FineAct, More, row_named, act_in, bytes_in, outcome_in, moves, shows, Context, as_thread, continues, read, ObjectCell, outcome_of, work_on, Todo, Todos, SiteState, site_moves, Exchange, FineStep, Site, Fine, bytes, object, row, has_steps, own_part}
+use Rattle.um_base.specs.declared.limits.TheConstants.{PIECE}
 use Rattle.um_base.specs.declared.names.Access.TheVariants as Access
-use Rattle.um_base.specs.declared.names.Addr.{Addr}
-use Rattle.um_base.specs.declared.names.Mode.{Mode}
-use Rattle.um_base.specs.declared.names.Row.{Row}
-use Rattle.um_base.specs.declared.names.ThreadIx.{ThreadIx}
-use Rattle.um_machine.specs.declared.pending.Amount.{Amount}
-use Rattle.um_machine.specs.declared.pending.Pending.{Pending}
-use Rattle.um_machine.specs.declared.thread.Thread.{Thread}
-use Rattle.um_machine.specs.Memory.{allowed, bytes_at, string_bytes, string_read}
-use Rattle.um_machine.specs.Order.{Steps}
-use Rattle.um_machine.specs.Run.{Offers, goes, skips_drops, skips_inherit}
-use Rattle.um_machine.specs.Services.{is_empty}
-use Rattle.um_machine.specs.State.{State, thread_at}
+use Rattle.um_machine.specs.Memory.{string_read}
 use Rattle.um_machine.specs.Table as T
-use Rattle.um_words.specs.declared.fine.FineAct.{FineAct}
-use Rattle.um_words.specs.declared.fine.More.{More}
-use Rattle.um_fine.specs.Addresses.{row_named}
-use Rattle.um_fine.specs.Answers.{act_in, bytes_in, limit_in, outcome_in}
-use Rattle.um_fine.specs.Asks.{amount, caller, me, moves, readable, shows}
-use Rattle.um_fine.specs.Context.{Context, as_thread}
-use Rattle.um_fine.specs.Continues.{continues}
-use Rattle.um_fine.specs.Memory.{read, text_bytes}
-use Rattle.um_fine.specs.Objects.{ObjectCell, outcome_of, work_on}
-use Rattle.um_fine.specs.Places.{Todo, Todos}
-use Rattle.um_fine.specs.Sites.{SiteState, site_moves}
-use Rattle.um_fine.specs.Steps.{Exchange, FineStep, Site}
-use Rattle.um_erasure.specs.Fine.{Fine, bytes, object, row}
-use Rattle.um_erasure.specs.Lists.{has_steps}
-use Rattle.um_erasure.specs.Threads.{own_part}
+use Rattle.um_fine.specs.Answers.{limit_in}
+use Rattle.um_fine.specs.Asks.{amount, caller, me, readable}
+use Rattle.um_fine.specs.Memory.{text_bytes}
 use Rattle.um_erasure.proofs.CallsKnown.{starts-known}
 use Rattle.um_erasure.proofs.Erased.{around}
 use Rattle.um_erasure.proofs.HeldRows.{checked-claimed, claimed-whole}

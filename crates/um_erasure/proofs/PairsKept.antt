@@ -1,30 +1,8 @@
 -- The permissions in the words of rows are the machine's pairs after each event that writes none, where the relation holds before it.
-use Rattle.std.proofs.Common.{◌≡◌, ℕ, ◌<◌, Bool, true, false, cond, List, [], Option, Some, None, refl, sym, ap, ◌∙◌}
-use Rattle.std.specs.Prelude.{◌&&◌, not, if◌then◌else◌, nat_le, slice_index_or}
-use Rattle.um_base.specs.declared.act.Act.{Act}
-use Rattle.um_base.specs.declared.act.Event.{Event}
-use Rattle.um_base.specs.declared.act.SetSaid.{SetSaid}
-use Rattle.um_base.specs.declared.image.Image.{Image}
-use Rattle.um_base.specs.declared.limits.TheConstants.{ROWS, STATIC_ROWS}
+use Rattle.um_erasure.proofs.Words.{◌≡◌, ℕ, ◌<◌, Bool, true, false, cond, List, [], Option, Some, None, refl, sym, ap, ◌∙◌, ◌&&◌, not, if◌then◌else◌, nat_le, slice_index_or, Act, Event, SetSaid, Image, ROWS, STATIC_ROWS, Errno, Pending, Steps, State, FineAct, More, RowWord, after_verdict, is_free, is_live, row_after_act, act_in, set_in, verdict_in, FineStep, Site, SiteState, s_next, same_site, site_after, Todos, Processor, allows, more_of, says_step, shows, Fine, row, row_state, PairsAre, Rel}
 use Rattle.um_base.specs.declared.names.Access.TheVariants as Access
-use Rattle.um_base.specs.declared.names.Errno.{Errno}
-use Rattle.um_machine.specs.declared.pending.Pending.{Pending}
-use Rattle.um_machine.specs.Order.{Steps}
-use Rattle.um_machine.specs.State.{State}
 use Rattle.um_machine.specs.Table as T
-use Rattle.um_words.specs.declared.fine.FineAct.{FineAct}
-use Rattle.um_words.specs.declared.fine.More.{More}
-use Rattle.um_words.specs.declared.row_word.RowWord.{RowWord}
-use Rattle.um_words.specs.Rows.{after_set, after_verdict, is_free, is_live, row_after_act}
-use Rattle.um_fine.specs.Answers.{act_in, set_in, verdict_in}
-use Rattle.um_fine.specs.Steps.{FineStep, Site}
-use Rattle.um_fine.specs.Sites.{SiteState, s_next, same_site, site_after}
-use Rattle.um_fine.specs.Places.{Todos}
-use Rattle.um_fine.specs.Processor.{Processor}
-use Rattle.um_fine.specs.Asks.{allows, more_of, says_step, shows}
-use Rattle.um_erasure.specs.Fine.{Fine, row, row_state}
-use Rattle.um_erasure.specs.Objects.{PairsAre}
-use Rattle.um_erasure.specs.Relation.{Rel}
+use Rattle.um_words.specs.Rows.{after_set}
 use Rattle.um_erasure.proofs.Erased.{stepped}
 use Rattle.um_erasure.proofs.Offered.{Shows}
 use Rattle.um_erasure.proofs.RowSteps.{row-stands}
@@ -32,9 +10,9 @@ use Rattle.um_erasure.proofs.WordsKept.{IsShown}
 use Rattle.um_erasure.proofs.Writes.{Makes, Part, pairs, read-same, reads-keeping}
 
 -- all that a step may write but permissions
-abbrev pub NoPairs : Part → Type 0
-NoPairs pairs = ⊥
-NoPairs part = Unit {0}
+abbrev pub NoPairs : Part → Bool
+NoPairs pairs = false
+NoPairs part = true
 
 pub pairs-same : (m : State) (t x : ℕ) (q : Pending) (rest : Steps) → Makes NoPairs q → (T.after m t x q rest).pairs ≡ m.pairs
 pairs-same m = read-same NoPairs (λ s. s.pairs) m (reads-keeping NoPairs (λ s. s.pairs) m.pairs (λ s threads. refl) (λ s objects. refl) (λ s bytes. (refl, refl)) (λ may s u x there. absurd may) (λ may s left. refl) (λ may s d ps. refl))
@@ -75,8 +53,8 @@ row-untouched image p w t (Pending.Store a n value) act shown makes = either-row
 row-untouched image p w t (Pending.Fetch a) act shown makes = either-row w t (allows image p Access.Exec a.0 4) _ _ (same-row w) (same-row w)
 row-untouched image p w t (Pending.Grant who a) act shown makes = absurd makes
 row-untouched image p w t (Pending.Own who) act shown makes = absurd makes
-row-untouched image p w t (Pending.DropPair who a) act shown makes = absurd makes.0
-row-untouched image p w t (Pending.Born a) act shown makes = absurd makes.1
+row-untouched image p w t (Pending.DropPair who a) act shown makes = absurd makes
+row-untouched image p w t (Pending.Born a) act shown makes = absurd makes
 row-untouched image p w t (Pending.Publish a) act shown makes = row-published w (is_live w.stage)
 row-untouched image p w t (Pending.SetInit a strict undo) act shown makes = row-set w (set_in act)
 row-untouched image p w t (Pending.ClearInit a) act shown makes = record { permissions = refl; dynamic = refl; stage = refl }

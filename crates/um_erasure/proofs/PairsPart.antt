@@ -1,35 +1,11 @@
 -- The permissions in the words of rows are the machine's pairs after every lawful step.
-use Rattle.std.proofs.Common.{◌≡◌, ℕ, ◌<◌, Bool, true, false, cond, List, [], length, Option, refl, sym, ap, ◌∙◌, subst, arith}
-use Rattle.std.specs.Prelude.{◌==◌, ◌&&◌, not, if◌then◌else◌, nat_le, nat_lt, slice_index_or, slice_set, unwrap_or}
-use Rattle.std.proofs.lemmas.Bool.{and_parts, eqb-false, eqb-true, false≢true}
-use Rattle.std.proofs.lemmas.List.{get_or-set_other, get_or-set_same, set-get_or}
-use Rattle.um_base.specs.declared.act.Act.{Act}
+use Rattle.um_erasure.proofs.Words.{◌≡◌, ℕ, ◌<◌, Bool, true, false, cond, List, [], length, Option, refl, sym, ap, ◌∙◌, subst, arith, ◌==◌, ◌&&◌, not, if◌then◌else◌, nat_le, nat_lt, slice_index_or, slice_set, unwrap_or, and_parts, eqb-false, eqb-true, get_or-set_other, get_or-set_same, Act, Leftover, Image, ROWS, STATIC_ROWS, own_row, Status, Pending, Steps, State, object_at, pair_at, with_pair, FineAct, More, Unseen, RowWord, Stage, dropped, given_of, gone_stage, has, is_free, is_last, is_live, permitted, row_after, row_after_act, row_named, act_in, given_in, Todos, SiteState, s_next, same_site, site_after, site_takes, FineStep, Site, same-sound, Fine, row, row_state, PairsAre, is_reserved, status_of}
+use Rattle.std.proofs.lemmas.List.{set-get_or}
 use Rattle.um_base.specs.declared.act.Given.TheVariants as Given
-use Rattle.um_base.specs.declared.act.Leftover.{Leftover}
-use Rattle.um_base.specs.declared.image.Image.{Image}
-use Rattle.um_base.specs.declared.limits.TheConstants.{ROWS, STATIC_ROWS}
-use Rattle.um_base.specs.Places.{own_row}
-use Rattle.um_machine.specs.declared.object.Status.{Status}
-use Rattle.um_machine.specs.declared.pending.Pending.{Pending}
 use Rattle.um_machine.specs.Objects as Plain
-use Rattle.um_machine.specs.Order.{Steps}
-use Rattle.um_machine.specs.State.{State, object_at, pair_at, with_object, with_pair}
 use Rattle.um_machine.specs.Table as T
 use Rattle.um_invariants.proofs.Facts.{le_is}
-use Rattle.um_words.specs.declared.fine.FineAct.{FineAct}
-use Rattle.um_words.specs.declared.fine.More.{More}
-use Rattle.um_words.specs.declared.fine.Unseen.{Unseen}
-use Rattle.um_words.specs.declared.row_word.RowWord.{RowWord}
-use Rattle.um_words.specs.declared.row_word.Stage.{Stage}
-use Rattle.um_words.specs.Rows.{dropped, given_of, gone_stage, has, is_free, is_last, is_live, permitted, row_after, row_after_act, row_after_unseen, row_takes_unseen}
-use Rattle.um_fine.specs.Addresses.{row_named}
-use Rattle.um_fine.specs.Answers.{act_in, given_in}
-use Rattle.um_fine.specs.Places.{Todos}
-use Rattle.um_fine.specs.Sites.{SiteState, s_next, same_site, site_after, site_takes}
-use Rattle.um_fine.specs.Steps.{FineStep, Site}
-use Rattle.um_fine.proofs.Keys.{same-sound}
-use Rattle.um_erasure.specs.Fine.{Fine, row, row_state}
-use Rattle.um_erasure.specs.Objects.{PairsAre, is_reserved, status_of}
+use Rattle.um_words.specs.Rows.{row_after_unseen, row_takes_unseen}
 use Rattle.um_erasure.proofs.CleaningFacts.{cleaning-is, ends-free}
 use Rattle.um_erasure.proofs.Erased.{around}
 use Rattle.um_erasure.proofs.Leaves.{Lawful, Leaves, cleans, drops, event, mine, nothing, passes, recycles, resumes}
@@ -39,6 +15,8 @@ use Rattle.um_erasure.proofs.PairsKept.{HasSame, pairs-beside, pairs-kept}
 use Rattle.um_erasure.proofs.RowSteps.{named-row, row-says, row-stands, settled}
 use Rattle.um_erasure.proofs.VisitSteps.{visit-site}
 use Rattle.um_erasure.proofs.WordsKept.{IsShown}
+use Rattle.um_erasure.proofs.Writes.{with_cleaner, with_dropped, with_given, with_given_if, with_left}
+use Rattle.um_erasure.proofs.RowStages.{lively}
 
 -- a word has these permissions, and is marked as dynamic while an object stands at a dynamic row
 record Has (w : RowWord) (flags : List Bool) (x : ℕ) : Type 0 where
@@ -47,23 +25,23 @@ record Has (w : RowWord) (flags : List Bool) (x : ℕ) : Type 0 where
 
 -- The machine: a drop takes one permission of one row.
 
-pub dropped-pairs : (s : State) (who x : ℕ) → x < length s.pairs → slice_index_or (T.after_drop s who x).pairs x [] ≡ slice_set (slice_index_or s.pairs x []) who false
+pub dropped-pairs : (s : State) (who x : ℕ) → x < length s.pairs → slice_index_or (with_dropped s who x).pairs x [] ≡ slice_set (slice_index_or s.pairs x []) who false
 dropped-pairs s who x l = by (pair_at s who x) refl (nat_le STATIC_ROWS x && Plain.has_no_pair (with_pair s who x false) x)
   where
     taken : slice_index_or (with_pair s who x false).pairs x [] ≡ slice_set (slice_index_or s.pairs x []) who false
     taken = get_or-set_same s.pairs x (slice_set (slice_index_or s.pairs x []) who false) [] l
 
     by : (b : Bool) → pair_at s who x ≡ b → (last : Bool)
-        → slice_index_or (elim (if not b then Leftover.NoPair else if last then Leftover.Gone else Leftover.Kept) as (λ _. State) [ Leftover.NoPair ↦ s | Leftover.Kept ↦ T.paired s who x false | Leftover.Gone ↦ with_object (T.paired s who x false) x (record (object_at s x) { status = Status.Gone }) ]).pairs x []
+        → slice_index_or (with_left (if not b then Leftover.NoPair else if last then Leftover.Gone else Leftover.Kept) s who x).pairs x []
         ≡ slice_set (slice_index_or s.pairs x []) who false
     by true p true = taken
     by true p false = taken
     by false p last = sym (set-get_or (slice_index_or s.pairs x []) who false) ∙ ap (slice_set (slice_index_or s.pairs x []) who) p
 
-pub dropped-else : (s : State) (who y x : ℕ) → (x ≡ y → ⊥) → slice_index_or (T.after_drop s who y).pairs x [] ≡ slice_index_or s.pairs x []
+pub dropped-else : (s : State) (who y x : ℕ) → (x ≡ y → ⊥) → slice_index_or (with_dropped s who y).pairs x [] ≡ slice_index_or s.pairs x []
 dropped-else s who y x ne =
     elim (T.dropped s who y) as (λ l.
-    slice_index_or (elim l as (λ _. State) [ Leftover.NoPair ↦ s | Leftover.Kept ↦ T.paired s who y false | Leftover.Gone ↦ with_object (T.paired s who y false) y (record (object_at s y) { status = Status.Gone }) ]).pairs x []
+    slice_index_or (with_left l s who y).pairs x []
     ≡ slice_index_or s.pairs x []) [
       | Leftover.NoPair ↦ refl
       | Leftover.Kept ↦ get_or-set_other s.pairs y x _ [] ne
@@ -74,12 +52,6 @@ dropped-else s who y x ne =
 
 same-dynamic : (a b c : Bool) → b ≡ (a && not c) → c ≡ false → (d : Bool) → d ≡ false → b ≡ (a && not d)
 same-dynamic a b c h q d r = h ∙ (ap (λ z. a && not z) q ∙ ap (λ z. a && not z) (sym r))
-
-live-stands : (s : Stage) → is_live s ≡ true → is_free s ≡ false
-live-stands Stage.Live h = refl
-live-stands Stage.Free h = absurd (false≢true h)
-live-stands Stage.Dying h = absurd (false≢true h)
-live-stands Stage.Cleaning h = absurd (false≢true h)
 
 gone-stands : (w : RowWord) → is_free (gone_stage w) ≡ false
 gone-stands w = elim (w.claims == 0) as (λ b. is_free (if b then Stage.Cleaning else Stage.Dying) ≡ false) [ true ↦ refl | false ↦ refl ]
@@ -92,7 +64,7 @@ has-dropped w flags x who h = by (is_last w who && has w who) refl
     by true q =
         record {
           pairs = ap (λ fl. slice_set fl who false) h.pairs;
-          dynamic = same-dynamic (nat_le STATIC_ROWS x) w.dynamic (is_free w.stage) h.dynamic (live-stands w.stage (and_parts _ _ (and_parts _ _ (and_parts _ _ q).0).0).1)
+          dynamic = same-dynamic (nat_le STATIC_ROWS x) w.dynamic (is_free w.stage) h.dynamic (lively w.stage (and_parts _ _ (and_parts _ _ (and_parts _ _ q).0).0).1)
               (is_free (gone_stage w)) (gone-stands w);
         }
     by false q = record { pairs = ap (λ fl. slice_set fl who false) h.pairs; dynamic = h.dynamic }
@@ -142,14 +114,14 @@ module _ (f : Fine) (m : State) (e : FineStep) (law : Lawful f m e) (x : ℕ) (f
 
   -- a permission is given, unless the object is gone
   gives : (who y z : ℕ) → z ≡ y → given_of (row f y) ≡ T.given m z → y ≡ x
-      → Has (if is_live (row f x).stage then permitted (row f x) who true else row f x) (slice_index_or (T.after_given m who z).pairs x []) x
+      → Has (if is_live (row f x).stage then permitted (row f x) who true else row f x) (slice_index_or (with_given m who z).pairs x []) x
   gives who y z same given at = by (Plain.is_gone (object_at m z).status) refl
     where
       live : is_live (row f x).stage ≡ not (Plain.is_gone (object_at m z).status)
       live = given-live _ _ (ap (λ n. given_of (row f n)) (sym at) ∙ given)
 
       by : (b : Bool) → Plain.is_gone (object_at m z).status ≡ b
-          → Has (if is_live (row f x).stage then permitted (row f x) who true else row f x) (slice_index_or (if b then m else T.paired m who z true).pairs x []) x
+          → Has (if is_live (row f x).stage then permitted (row f x) who true else row f x) (slice_index_or (with_given_if b m who z).pairs x []) x
       by true q =
           subst (λ l. Has (if l then permitted (row f x) who true else row f x) (slice_index_or m.pairs x []) x) (sym (live ∙ ap not q)) was
       by false q =
@@ -161,23 +133,23 @@ module _ (f : Fine) (m : State) (e : FineStep) (law : Lawful f m e) (x : ℕ) (f
             dynamic = was.dynamic;
           })
 
-  given-else : (who y z : ℕ) → z ≡ y → (x ≡ y → ⊥) → slice_index_or (T.after_given m who z).pairs x [] ≡ slice_index_or m.pairs x []
+  given-else : (who y z : ℕ) → z ≡ y → (x ≡ y → ⊥) → slice_index_or (with_given m who z).pairs x [] ≡ slice_index_or m.pairs x []
   given-else who y z same ne =
-      elim (Plain.is_gone (object_at m z).status) as (λ b. slice_index_or (if b then m else T.paired m who z true).pairs x [] ≡ slice_index_or m.pairs x []) [
+      elim (Plain.is_gone (object_at m z).status) as (λ b. slice_index_or (with_given_if b m who z).pairs x [] ≡ slice_index_or m.pairs x []) [
         | true ↦ refl
         | false ↦ get_or-set_other m.pairs z x _ [] (λ k. ne (k ∙ same))
       ]
 
   -- a permission is dropped, in a state with the same permissions
-  drops-at : (s : State) (who y z : ℕ) → s.pairs ≡ m.pairs → z ≡ y → y ≡ x → Has (dropped (row f x) who) (slice_index_or (T.after_drop s who z).pairs x []) x
+  drops-at : (s : State) (who y z : ℕ) → s.pairs ≡ m.pairs → z ≡ y → y ≡ x → Has (dropped (row f x) who) (slice_index_or (with_dropped s who z).pairs x []) x
   drops-at s who y z pairs same at =
       subst (λ fl. Has (dropped (row f x) who) fl x)
-      (sym (ap (λ n. slice_index_or (T.after_drop s who n).pairs x []) (same ∙ at)
+      (sym (ap (λ n. slice_index_or (with_dropped s who n).pairs x []) (same ∙ at)
       ∙ (dropped-pairs s who x (subst (λ (ps : List (List Bool)). x < length ps) (sym pairs) in-pairs)
       ∙ ap (λ (ps : List (List Bool)). slice_set (slice_index_or ps x []) who false) pairs)))
       (has-dropped (row f x) (slice_index_or m.pairs x []) x who was)
 
-  drops-else : (s : State) (who y z : ℕ) → s.pairs ≡ m.pairs → z ≡ y → (x ≡ y → ⊥) → slice_index_or (T.after_drop s who z).pairs x [] ≡ slice_index_or m.pairs x []
+  drops-else : (s : State) (who y z : ℕ) → s.pairs ≡ m.pairs → z ≡ y → (x ≡ y → ⊥) → slice_index_or (with_dropped s who z).pairs x [] ≡ slice_index_or m.pairs x []
   drops-else s who y z pairs same ne = dropped-else s who z x (λ k. ne (k ∙ same)) ∙ ap (λ (ps : List (List Bool)). slice_index_or ps x []) pairs
 
   -- A step that no trace shows: a row is vacated only where nobody has a permission on it.
@@ -251,11 +223,9 @@ module _ (f : Fine) (m : State) (e : FineStep) (law : Lawful f m e) (x : ℕ) (f
                 ∙ get_or-set_same m.pairs x (slice_set (slice_index_or m.pairs x []) t true) [] in-pairs);
             dynamic = sym (ap (λ b. b && true) (le_is STATIC_ROWS x (unlived-dynamic m law.sound x (ap Plain.is_free status) (ap Plain.is_live status))));
           }
-  by-event (Pending.Reserve kind) rest todo n h shown is = pairs-kept h n x few is.said shown (tt, tt)
+  by-event (Pending.Inherit who) rest todo n h shown is = absurd shown
   by-event (Pending.Drops from) rest todo n h shown is = absurd shown
   by-event (Pending.CleanPair who) rest todo n h shown is = absurd shown
-  by-event (Pending.Inherit who) rest todo n h shown is = absurd shown
-  by-event Pending.Recycle rest todo n h shown is = absurd shown
   by-event q rest todo n h shown is = pairs-kept h n x few is.said shown tt
 
   same-row : (w : RowWord) → HasSame w w
@@ -276,6 +246,6 @@ module _ (f : Fine) (m : State) (e : FineStep) (law : Lawful f m e) (x : ℕ) (f
   pairs-part _ (drops from y rest todo h said) =
       so (on-row y (visit-site h) _ said _ (drops-at m (mine f m e) y y refl refl) (drops-else m (mine f m e) y y refl refl))
   pairs-part _ (cleans who y rest todo h said) =
-      let s = T.cleaned_by m (mine f m e) (own_row m.image who) in so (on-row y (visit-site h) _ said _ (drops-at s who y y refl refl) (drops-else s who y y refl refl))
+      let s = with_cleaner m (mine f m e) (own_row m.image who) in so (on-row y (visit-site h) _ said _ (drops-at s who y y refl refl) (drops-else s who y y refl refl))
   pairs-part _ (recycles y rest todo at l said chosen) =
-      pairs-beside f m law.rel e _ More.Nothing said Pending.Recycle rest (mine f m e) y x few (same-row (row f x)) (tt, tt)
+      pairs-beside f m law.rel e _ More.Nothing said Pending.Recycle rest (mine f m e) y x few (same-row (row f x)) tt

@@ -1,26 +1,5 @@
 -- The claims of parked threads: taking a thread moves its claims to the processor, and putting one back moves them to the scheduler.
-use Rattle.std.proofs.Common.{◌≡◌, inl, ℕ, ◌+◌, ◌<◌, true, false, [], ◌∷◌, Option, Some, None, refl, sym, ap, ◌∙◌, subst, arith, eq-eqb}
-use Rattle.std.specs.Prelude.{◌&&◌, is_some, not, slice_index_or, slice_set}
-use Rattle.std.proofs.lemmas.Bool.{false≢true}
-use Rattle.std.proofs.lemmas.List.{get_or-set_other, get_or-set_same}
-use Rattle.um_base.specs.declared.ask.Told.{Told}
-use Rattle.um_base.specs.declared.limits.TheConstants.{THREADS}
-use Rattle.um_machine.specs.Order.{to_thread}
-use Rattle.um_machine.specs.State.{State}
-use Rattle.um_words.specs.declared.fine.FineAct.{FineAct}
-use Rattle.um_words.specs.declared.fine.Unseen.{Unseen}
-use Rattle.um_fine.specs.Answers.{context_in, ready_in}
-use Rattle.um_fine.specs.Context.{Context}
-use Rattle.um_fine.specs.Places.{Todo, Todos}
-use Rattle.um_fine.specs.Scheduler.{Scheduler, one_less, parked_at, put_back}
-use Rattle.um_fine.specs.Sites.{same_site}
-use Rattle.um_fine.specs.Steps.{Exchange, FineStep, Site}
-use Rattle.um_erasure.specs.Claims.{context_claims}
-use Rattle.um_erasure.specs.Fine.{Fine, scheduler, total}
-use Rattle.um_erasure.specs.Frames.{AreFramed}
-use Rattle.um_erasure.specs.Lists.{Adds, has_steps}
-use Rattle.um_erasure.specs.Offers.{Fits}
-use Rattle.um_erasure.specs.Threads.{occurs}
+use Rattle.um_erasure.proofs.Words.{◌≡◌, inl, ℕ, ◌+◌, ◌<◌, true, false, [], ◌∷◌, Option, Some, None, refl, sym, ap, ◌∙◌, subst, arith, eq-eqb, ◌&&◌, is_some, not, slice_index_or, slice_set, false≢true, get_or-set_other, get_or-set_same, Told, THREADS, to_thread, State, FineAct, Unseen, context_in, ready_in, Context, Todo, Todos, Scheduler, one_less, parked_at, put_back, same_site, Exchange, FineStep, Site, context_claims, Fine, scheduler, total, AreFramed, Adds, has_steps, Fits, occurs}
 use Rattle.um_erasure.proofs.Erased.{around}
 use Rattle.um_erasure.proofs.Leaves.{Lawful}
 use Rattle.um_erasure.proofs.PartsElsewhere.{taken-parked, takes-first}

@@ -1,22 +1,6 @@
 -- Every lawful step keeps the relation: its parts together, and in the states that a run of a described image reaches all that they ask for.
-use Rattle.std.proofs.Common.{sym, subst, ◌≡◌, ℕ, length, refl, ◌∙◌}
-use Rattle.um_base.specs.declared.image.Image.{Image}
-use Rattle.um_base.specs.Lawful.{IsLawful}
-use Rattle.um_machine.specs.declared.pending.Pending.{Pending}
-use Rattle.um_machine.specs.Order.{Steps, to_thread}
-use Rattle.um_machine.specs.Run.{opening}
-use Rattle.um_machine.specs.State.{State}
+use Rattle.um_erasure.proofs.Words.{sym, subst, ◌≡◌, ℕ, length, refl, ◌∙◌, Image, IsLawful, Pending, Steps, to_thread, opening, State, core_of, IsSited, IsKnown, IsDescribed, ByOneOf, cpu_of, site_of, Processor, SiteMay, SiteState, FineStep, Site, Fine, Rel, wrote, effects_of, next_of}
 use Rattle.um_machine.specs.Table as T
-use Rattle.um_invariants.proofs.Cores.{core_of}
-use Rattle.um_invariants.proofs.Guards.{IsSited}
-use Rattle.um_invariants.proofs.Turns.{IsKnown}
-use Rattle.um_invariants.specs.Described.{IsDescribed}
-use Rattle.um_fine.specs.FineRun.{ByOneOf, cpu_of, site_of}
-use Rattle.um_fine.specs.Processor.{Processor}
-use Rattle.um_fine.specs.Sites.{SiteMay, SiteState}
-use Rattle.um_fine.specs.Steps.{FineStep, Site}
-use Rattle.um_erasure.specs.Fine.{Fine}
-use Rattle.um_erasure.specs.Relation.{Rel}
 use Rattle.um_erasure.specs.Threads.{ContextsAre}
 use Rattle.um_erasure.proofs.AwayPart.{away-part}
 use Rattle.um_erasure.proofs.CallsKnown.{RestsHoldNothing, own-known}
@@ -49,7 +33,7 @@ use Rattle.um_erasure.proofs.NamesKnown.{gives-known, moves-known, names-known}
 use Rattle.um_erasure.proofs.OncePart.{once-part}
 use Rattle.um_erasure.proofs.PairsPart.{pairs-part}
 use Rattle.um_erasure.proofs.QueuesKnown.{AreQueues, queues-known}
-use Rattle.um_erasure.proofs.Reachable.{Any, makes-any, reachable-sound}
+use Rattle.um_erasure.proofs.Reachable.{reachable-sound}
 use Rattle.um_erasure.proofs.ReadyPart.{ready-part}
 use Rattle.um_erasure.proofs.ReplyPart.{MovesIn, reply-part}
 use Rattle.um_erasure.proofs.RowsPart.{rows-part}
@@ -61,19 +45,14 @@ use Rattle.um_erasure.proofs.SuitsKnown.{proper-known, rests-known, suits-known}
 use Rattle.um_erasure.proofs.TablePart.{table-part}
 use Rattle.um_erasure.proofs.ToldPart.{told-part}
 use Rattle.um_erasure.proofs.WordsPart.{words-part}
-use Rattle.um_erasure.proofs.Writes.{Keeping, after-kept, reads-keeping}
+use Rattle.um_machine.proofs.EffectLemmas.{image-wrote, shared-went}
 
 -- No step changes the image.
 
-module _ (m : State) where
-  abbrev SameImage : State → Type 0
-  SameImage s = s.image ≡ m.image
-
-  image-keeping : Keeping Any SameImage
-  image-keeping = reads-keeping Any (λ s. s.image) m.image (λ s threads. refl) (λ s objects. refl) (λ s bytes. (refl, refl)) (λ may s u x there. refl) (λ may s left. refl) (λ may s d ps. refl)
-
-  image-same : (t x : ℕ) (q : Pending) (rest : Steps) → SameImage (T.after m t x q rest)
-  image-same t x q rest = after-kept Any SameImage image-keeping m t refl x q rest (makes-any q)
+image-same : (m : State) (t x : ℕ) (q : Pending) (rest : Steps) → (T.after m t x q rest).image ≡ m.image
+image-same m t x q rest =
+    let ws = effects_of m t x q in
+    shared-went (λ (s : State). s.image) (λ s threads. refl) rest (wrote ws m) t (next_of m t x q) ∙ image-wrote ws m
 
 module _ (f : Fine) (m : State) (e : FineStep) (law : Lawful f m e) where
   open around f e use {later}

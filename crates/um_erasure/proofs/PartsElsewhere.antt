@@ -1,48 +1,20 @@
 -- What a step leaves of the own parts of threads that it isn't of, wherever they lie.
-use Rattle.std.proofs.Common.{◌≡◌, ℕ, ◌<◌, Bool, true, false, cond, List, [], ◌∷◌, Option, Some, None, refl, sym, ap, ◌∙◌, subst, eq-eqb}
-use Rattle.std.specs.Prelude.{◌&&◌, IsTrue, not, slice_index_or, unwrap_or}
-use Rattle.std.proofs.lemmas.Bool.{and_parts, false≢true, true≢false}
-use Rattle.um_base.specs.declared.act.Act.{Act}
-use Rattle.um_base.specs.declared.act.Leftover.{Leftover}
-use Rattle.um_base.specs.declared.ask.Told.{Told}
-use Rattle.um_base.specs.declared.limits.TheConstants.{THREADS}
-use Rattle.um_base.specs.declared.names.ThreadIx.{ThreadIx}
-use Rattle.um_base.specs.Places.{own_row}
-use Rattle.um_machine.specs.declared.object.Status.TheVariants as Status
-use Rattle.um_machine.specs.declared.pending.Pending.{Pending}
-use Rattle.um_machine.specs.declared.thread.Life.{Life}
-use Rattle.um_machine.specs.declared.thread.Thread.{Thread}
-use Rattle.um_machine.specs.Order.{Steps, to_thread}
-use Rattle.um_machine.specs.Services.{is_empty}
-use Rattle.um_machine.specs.State.{State, is_living, is_started, object_at, thread_at, with_object, with_pair}
+use Rattle.um_erasure.proofs.Words.{◌≡◌, ℕ, ◌<◌, Bool, true, false, cond, List, [], ◌∷◌, Option, Some, None, refl, sym, ap, ◌∙◌, subst, eq-eqb, ◌&&◌, IsTrue, not, unwrap_or, and_parts, false≢true, true≢false, Act, Leftover, Told, THREADS, ThreadIx, own_row, Pending, Life, Thread, Steps, to_thread, is_empty, State, is_living, is_started, thread_at, FineAct, Unseen, ThreadWord, thread_after, thread_after_act, context_in, ready_in, says_idle, Context, no_context, Todo, Todos, first_ready, first_taken, has_ready, one_less, parked_at, put_back, told_at, SiteState, s_next, same_site, site_after, Exchange, FineStep, Site, Fine, scheduler, thread_state, word, has_steps, Fits, is_over, IsOf, is_ended, own_part, runs_on}
 use Rattle.um_machine.specs.Table as T
-use Rattle.um_words.specs.declared.fine.FineAct.{FineAct}
-use Rattle.um_words.specs.declared.fine.Unseen.{Unseen}
-use Rattle.um_words.specs.declared.thread_word.ThreadWord.{ThreadWord}
-use Rattle.um_words.specs.Threads.{thread_after, thread_after_act}
-use Rattle.um_fine.specs.Answers.{context_in, ready_in}
-use Rattle.um_fine.specs.Asks.{says_idle}
-use Rattle.um_fine.specs.Context.{Context, no_context}
-use Rattle.um_fine.specs.Places.{Todo, Todos}
-use Rattle.um_fine.specs.Scheduler.{first_ready, first_taken, has_ready, one_less, parked_at, put_back, told_at}
-use Rattle.um_fine.specs.Sites.{SiteState, s_next, same_site, site_after}
-use Rattle.um_fine.specs.Steps.{Exchange, FineStep, Site}
-use Rattle.um_erasure.specs.Fine.{Fine, scheduler, thread_state, word}
-use Rattle.um_erasure.specs.Lists.{has_steps}
-use Rattle.um_erasure.specs.Offers.{Fits, is_over}
-use Rattle.um_erasure.specs.Threads.{IsOf, is_ended, own_part, runs_on}
 use Rattle.um_erasure.proofs.CallsKnown.{starts-known}
 use Rattle.um_erasure.proofs.Erased.{around}
 use Rattle.um_erasure.proofs.Kept.{idle-moves, idle-takes}
 use Rattle.um_erasure.proofs.Leaves.{Lawful, Leaves, cleans, drops, event, mine, nothing, passes, recycles, resumes}
 use Rattle.um_erasure.proofs.Offered.{Shows, shown-offers, shown-on}
-use Rattle.um_erasure.proofs.Others.{doing, dues-same, others, starts_other}
+use Rattle.um_erasure.proofs.Others.{doing, others, starts_other}
 use Rattle.um_erasure.proofs.ResumeSteps.{some-is}
 use Rattle.um_erasure.proofs.RowSteps.{thread-sort}
 use Rattle.um_erasure.proofs.RunningPart.{idle-after}
 use Rattle.um_erasure.proofs.SchedulerSteps.{made-at, made-moves, made-says, sched-later, sched-moved, sched-took}
 use Rattle.um_erasure.proofs.StepsLeft.{drops-on, passes-on}
 use Rattle.um_erasure.proofs.WordsPart.{words-part}
+use Rattle.um_erasure.proofs.Writes.{with_dropped, with_cleaner, with_left}
+use Rattle.um_erasure.proofs.ThreadLists.{paired-same}
 
 -- a thread that was started stays so
 life-started : (w : ThreadWord) (act : FineAct) → is_started w.life ≡ true → is_started (thread_after w act).life ≡ true
@@ -58,12 +30,11 @@ life-started w (FineAct.Unseen Unseen.LetGo) h = h
 life-started w (FineAct.Unseen u) h = h
 
 -- the cleaning of an object changes nothing of what threads do
-clean-doing : (m : State) (t x : ℕ) (who : ThreadIx) (u : ℕ) → doing (thread_at (T.after_drop (T.cleaned_by m t (own_row m.image who.0)) who.0 x) u) ≡ doing (thread_at m u)
+clean-doing : (m : State) (t x : ℕ) (who : ThreadIx) (u : ℕ) → doing (thread_at (with_dropped (with_cleaner m t (own_row m.image who.0)) who.0 x) u) ≡ doing (thread_at m u)
 clean-doing m t x who u =
-    let s = T.cleaned_by m t (own_row m.image who.0) in
-    let Same = λ (z : State). doing (thread_at z u) ≡ doing (thread_at m u) in
-    let paired = dues-same x 0 (slice_index_or (with_pair s who.0 x false).pairs x []) s.threads u in
-    elim (T.dropped s who.0 x) as (λ l. Same (elim l as (λ _. State) [ Leftover.NoPair ↦ s | Leftover.Kept ↦ T.paired s who.0 x false | Leftover.Gone ↦ with_object (T.paired s who.0 x false) x (record (object_at s x) { status = Status.Gone }) ])) [
+    let s = with_cleaner m t (own_row m.image who.0) in
+    let paired = paired-same doing (λ me due. refl) s who.0 x false u in
+    elim (T.dropped s who.0 x) as (λ l. doing (thread_at (with_left l s who.0 x) u) ≡ doing (thread_at m u)) [
       | Leftover.NoPair ↦ refl
       | Leftover.Kept ↦ paired
       | Leftover.Gone ↦ paired

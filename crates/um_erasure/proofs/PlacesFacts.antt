@@ -1,30 +1,15 @@
 -- A thread's own part lies in one place at most, so one that a processor runs, or that is still to be added, isn't parked; and whom a wake
 -- on a list tells something, the machine has told something, and the scheduler hasn't yet.
-use Rattle.std.proofs.Common.{◌≡◌, inl, inr, ℕ, zero, suc, ◌+◌, ◌<◌, ◌≤◌, Bool, true, false, List, [], ◌∷◌, Option, Some, None, refl, sym, ap, ◌∙◌, subst, arith, eq-eqb}
-use Rattle.std.specs.Prelude.{◌==◌, is_some, slice_index_or, slice_set, if◌then◌else◌}
-use Rattle.std.proofs.lemmas.Bool.{eqb-false, eqb-true, false≢true}
-use Rattle.um_base.specs.declared.ask.Told.{Told}
-use Rattle.um_base.specs.declared.limits.TheConstants.{THREADS}
-use Rattle.um_machine.specs.State.{State, thread_at}
-use Rattle.um_fine.specs.Context.{Context}
-use Rattle.um_fine.specs.Places.{Todo, Todos}
-use Rattle.um_fine.specs.Scheduler.{parked_at, told_at}
-use Rattle.um_erasure.specs.Fine.{Fine, one_if, scheduler}
-use Rattle.um_erasure.specs.Lists.{Adds, adders, counted, is_wake, of_thread, wake_of}
-use Rattle.um_erasure.specs.Relation.{Rel}
-use Rattle.um_erasure.specs.Threads.{first_told, runs_on, told_by}
+use Rattle.um_erasure.proofs.Words.{◌≡◌, inl, inr, ℕ, zero, suc, ◌+◌, ◌<◌, ◌≤◌, Bool, true, false, List, [], ◌∷◌, Option, Some, None, refl, sym, ap, ◌∙◌, subst, arith, eq-eqb, ◌==◌, is_some, slice_index_or, slice_set, if◌then◌else◌, eqb-false, eqb-true, false≢true, Told, THREADS, State, thread_at, Context, Todo, Todos, parked_at, told_at, Fine, one_if, scheduler, Adds, adders, counted, is_wake, of_thread, wake_of, Rel, first_told, runs_on, told_by}
 use Rattle.um_erasure.proofs.DomainFacts.{two-parts}
 use Rattle.um_erasure.proofs.MemorySteps.{part-total}
+use Rattle.um_erasure.proofs.Sums.{one-none}
 
 -- nothing stands where nothing was written
 pub set-none : {A : Type 0} (xs : List (Option A)) (t : ℕ) → slice_index_or (slice_set xs t None) t None ≡ None
 set-none [] t = refl
 set-none (x ∷ xs) zero = refl
 set-none (x ∷ xs) (suc t) = set-none xs t
-
-not-some : (b : Bool) → one_if b ≡ 0 → b ≡ false
-not-some true h = absurd (omega (arith, h))
-not-some false h = refl
 
 first-some : (a b : Option Told) → is_some a ≡ true → is_some (first_told a b) ≡ true
 first-some None b h = absurd (false≢true h)
@@ -57,19 +42,19 @@ module _ (f : Fine) (m : State) (rel : Rel f m) (t : ℕ) (few : t < THREADS) wh
       let sum = part-total part f.cpus k l in
       let one : one_if (runs_on t (f.processors k)) ≡ 1 = ap one_if runs in
       let once = rel.contexts.once t few in
-      not-some (is_some (parked_at (scheduler f) t)) (omega (arith, sum, one, once))
+      one-none (is_some (parked_at (scheduler f) t)) (omega (arith, sum, one, once))
 
   pub added-unparked : (k : ℕ) → k < f.cpus → 0 < of_thread t (adders (f.processors k).todo) → is_some (parked_at (scheduler f) t) ≡ false
   added-unparked k l some =
       let sum = part-total part f.cpus k l in
       let once = rel.contexts.once t few in
-      not-some (is_some (parked_at (scheduler f) t)) (omega (arith, sum, some, once))
+      one-none (is_some (parked_at (scheduler f) t)) (omega (arith, sum, some, once))
 
   pub lies-unparked : (k : ℕ) → k < f.cpus → 0 < part k → is_some (parked_at (scheduler f) t) ≡ false
   lies-unparked k l some =
       let sum = part-total part f.cpus k l in
       let once = rel.contexts.once t few in
-      not-some (is_some (parked_at (scheduler f) t)) (omega (arith, sum, some, once))
+      one-none (is_some (parked_at (scheduler f) t)) (omega (arith, sum, some, once))
 
   -- not with two
   pub lies-once : (k j : ℕ) → k < f.cpus → j < f.cpus → (k ≡ j → ⊥) → 0 < part k → 0 < part j → ⊥
@@ -107,4 +92,4 @@ module _ (f : Fine) (m : State) (rel : Rel f m) (t : ℕ) (few : t < THREADS) wh
   wake-untold k l some =
       let sum = part-total (λ j. counted (is_wake t) (f.processors j).todo) f.cpus k l in
       let once = (rel.threads t few).told.once in
-      not-some (is_some (told_at (scheduler f) t)) (omega (arith, sum, some, once))
+      one-none (is_some (told_at (scheduler f) t)) (omega (arith, sum, some, once))

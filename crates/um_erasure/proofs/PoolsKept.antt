@@ -1,58 +1,32 @@
 -- The pools of both machines stay the same at every event that doesn't write them, and are written alike by buffers, where the relation
 -- holds; memory stays the same at the events that have places of their own.
-use Rattle.std.proofs.Common.{◌≡◌, ℕ, Bool, true, false, cond, List, Option, Some, None, refl, sym, ap, ◌∙◌}
-use Rattle.std.specs.Prelude.{if◌then◌else◌}
-use Rattle.um_base.specs.declared.act.Act.{Act}
-use Rattle.um_base.specs.declared.act.Event.{Event}
-use Rattle.um_base.specs.declared.image.Image.{Image}
+use Rattle.um_erasure.proofs.Words.{◌≡◌, ℕ, Bool, true, false, cond, List, Option, Some, None, refl, sym, ap, ◌∙◌, Act, Event, Image, Pending, Thread, Steps, State, thread_at, FineAct, More, act_in, charge_in, Heap, Bytes, memory_after, Exchange, FineStep, Site, SiteState, s_next, same_site, site_after, Todos, Processor, allows, more_of, moves, says_step, shows, same-itself, Fine, bytes, bytes_state, heap, heap_state, MemoryIs, Rel}
 use Rattle.um_base.specs.declared.names.Access.TheVariants as Access
-use Rattle.um_machine.specs.declared.pending.Pending.{Pending}
-use Rattle.um_machine.specs.declared.thread.Thread.{Thread}
-use Rattle.um_machine.specs.Order.{Steps}
-use Rattle.um_machine.specs.State.{State, thread_at}
 use Rattle.um_machine.specs.Table as T
-use Rattle.um_words.specs.declared.fine.FineAct.{FineAct}
-use Rattle.um_words.specs.declared.fine.More.{More}
-use Rattle.um_fine.specs.Answers.{act_in, charge_in}
-use Rattle.um_fine.specs.Heap.{Heap, heap_after, paid}
-use Rattle.um_fine.specs.Memory.{Bytes, memory_after}
-use Rattle.um_fine.specs.Steps.{Exchange, FineStep, Site}
-use Rattle.um_fine.specs.Sites.{SiteState, s_next, same_site, site_after}
-use Rattle.um_fine.specs.Places.{Todos}
-use Rattle.um_fine.specs.Processor.{Processor}
-use Rattle.um_fine.specs.Asks.{allows, more_of, moves, says_step, shows}
-use Rattle.um_fine.proofs.Keys.{same-itself}
-use Rattle.um_erasure.specs.Fine.{Fine, bytes, bytes_state, heap, heap_state}
-use Rattle.um_erasure.specs.Resources.{MemoryIs}
-use Rattle.um_erasure.specs.Relation.{Rel}
+use Rattle.um_fine.specs.Heap.{heap_after, paid}
 use Rattle.um_erasure.proofs.Erased.{stepped}
 use Rattle.um_erasure.proofs.HeapSteps.{heap-sort}
 use Rattle.um_erasure.proofs.MemoryKept.{Untouched, after-untouched}
 use Rattle.um_erasure.proofs.MemorySteps.{memory-sort}
-use Rattle.um_erasure.proofs.Offered.{Shows, act-is, own-part, site-is}
+use Rattle.um_erasure.proofs.Offered.{Shows, act-is, own-part, site-is, either-act}
 use Rattle.um_erasure.proofs.WordsKept.{IsShown}
 use Rattle.um_erasure.proofs.Writes.{Makes, Part, pools, read-same, reads-keeping}
 
 -- all that a step may write but the pools
-abbrev pub NoPools : Part → Type 0
-NoPools pools = ⊥
-NoPools part = Unit {0}
+abbrev pub NoPools : Part → Bool
+NoPools pools = false
+NoPools part = true
 
 pub pools-same : (m : State) (t x : ℕ) (q : Pending) (rest : Steps) → Makes NoPools q → (T.after m t x q rest).pools ≡ m.pools
 pools-same m = read-same NoPools (λ s. s.pools) m (reads-keeping NoPools (λ s. s.pools) m.pools (λ s threads. refl) (λ s objects. refl) (λ s bytes. (refl, refl)) (λ may s u x there. refl) (λ may s left. absurd may) (λ may s d ps. refl))
 
 -- The fine machine.
 
-either-heap : (image : Image) (h : Heap) (moved : Exchange) (b : Bool) (good bad : Act) → heap_after image h good moved ≡ h → heap_after image h bad moved ≡ h
-    → heap_after image h (if b then good else bad) moved ≡ h
-either-heap image h moved true good bad one two = one
-either-heap image h moved false good bad one two = two
-
 pub heap-untouched : (image : Image) (p : Processor) (h : Heap) (moved : Exchange) (q : Pending) (act : Act) → IsShown q → Makes NoPools q → heap_after image h (says_step image p q act) moved ≡ h
-heap-untouched image p h moved (Pending.Load to a n) act shown makes = either-heap image h moved (allows image p Access.Read a.0 n) _ _ refl refl
-heap-untouched image p h moved (Pending.Store a n value) act shown makes = either-heap image h moved (allows image p Access.Write a.0 n) _ _ refl refl
-heap-untouched image p h moved (Pending.Fetch a) act shown makes = either-heap image h moved (allows image p Access.Exec a.0 4) _ _ refl refl
-heap-untouched image p h moved (Pending.Reserve kind) act shown makes = absurd makes.1
+heap-untouched image p h moved (Pending.Load to a n) act shown makes = either-act (λ z. heap_after image h z moved) h (allows image p Access.Read a.0 n) _ _ refl refl
+heap-untouched image p h moved (Pending.Store a n value) act shown makes = either-act (λ z. heap_after image h z moved) h (allows image p Access.Write a.0 n) _ _ refl refl
+heap-untouched image p h moved (Pending.Fetch a) act shown makes = either-act (λ z. heap_after image h z moved) h (allows image p Access.Exec a.0 4) _ _ refl refl
+heap-untouched image p h moved (Pending.Reserve kind) act shown makes = absurd makes
 heap-untouched image p h moved (Pending.Buffer size) act shown makes = absurd makes
 heap-untouched image p h moved (Pending.Unbuffer size) act shown makes = absurd makes
 heap-untouched image p h moved q act shown makes = refl

@@ -1,30 +1,8 @@
 -- The steps that are left of a call use and mark as message queues only what they know to be one: the object of an initialised queue that was
 -- checked, or one that the call has just filled. Semaphores and mutexes are made of other objects, and so are names given. The steps of each
 -- line are so.
-use Rattle.std.proofs.Common.{◌≡◌, ◌≢◌, ℕ, ◌*◌, Bool, true, false, [], ◌∷◌, ◌++◌, Option, Some, None, refl, sym, ap, ◌∙◌}
-use Rattle.std.specs.Prelude.{◌==◌, ◌&&◌, ◌||◌, ℤ, if◌then◌else◌, nat_lt, unwrap_or}
+use Rattle.um_erasure.proofs.Words.{◌≡◌, ◌≢◌, ℕ, ◌*◌, Bool, true, false, [], ◌∷◌, ◌++◌, Option, Some, None, refl, sym, ap, ◌∙◌, ◌==◌, ◌&&◌, ◌||◌, ℤ, if◌then◌else◌, nat_lt, unwrap_or, false≢true, Cause, Ask, Image, Instr, Options, Addr, Errno, Kind, Mode, ThreadIx, Want, is_within, own_row, row_at, thread_of_addr, thread_of_row, Amount, Pending, Thread, has_kind, Steps, answer_error, answer_zero, buffered, creates, privileged, steps_of, to_addr, work, value_of, IsSited, row_kind}
 use Rattle.std.specs.Option.{option_and_then}
-use Rattle.std.proofs.lemmas.Bool.{false≢true}
-use Rattle.um_base.specs.declared.act.Cause.{Cause}
-use Rattle.um_base.specs.declared.ask.Ask.{Ask}
-use Rattle.um_base.specs.declared.image.Image.{Image}
-use Rattle.um_base.specs.declared.instr.Instr.{Instr}
-use Rattle.um_base.specs.declared.instr.Options.{Options}
-use Rattle.um_base.specs.declared.names.Addr.{Addr}
-use Rattle.um_base.specs.declared.names.Errno.{Errno}
-use Rattle.um_base.specs.declared.names.Kind.{Kind}
-use Rattle.um_base.specs.declared.names.Mode.{Mode}
-use Rattle.um_base.specs.declared.names.ThreadIx.{ThreadIx}
-use Rattle.um_base.specs.declared.names.Want.{Want}
-use Rattle.um_base.specs.Lawful.{is_within}
-use Rattle.um_base.specs.Places.{own_row, row_at, thread_of_addr, thread_of_row}
-use Rattle.um_machine.specs.declared.pending.Amount.{Amount}
-use Rattle.um_machine.specs.declared.pending.Pending.{Pending}
-use Rattle.um_machine.specs.declared.thread.Thread.{Thread}
-use Rattle.um_machine.specs.Objects.{has_kind}
-use Rattle.um_machine.specs.Order.{Steps, answer_error, answer_zero, buffered, creates, privileged, steps_of, to_addr, work}
-use Rattle.um_machine.specs.State.{value_of}
-use Rattle.um_invariants.proofs.Guards.{IsSited, row_kind}
 
 -- the row of a queue that a check has found to be initialised
 abbrev pub queue_checked : Option Kind → Want → ℕ → Option ℕ

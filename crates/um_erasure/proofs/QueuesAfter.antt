@@ -1,48 +1,15 @@
 -- What the calls of threads know to be message queues, they know after each step of the access-matrix machine, if what was one still is and
 -- what the step fills or finds initialised is one.
-use Rattle.std.proofs.Common.{◌≡◌, ◌⊎◌, inl, inr, ℕ, zero, suc, ◌+◌, Bool, true, false, List, [], ◌∷◌, length, map, Option, Some, None, refl, sym, ap, ◌∙◌, subst}
-use Rattle.std.specs.Prelude.{◌==◌, ◌&&◌, not, if◌then◌else◌, nat_lt, slice_index_or, slice_set, take}
-use Rattle.um_base.specs.declared.act.Answer.{Answer}
-use Rattle.um_base.specs.declared.act.Cause.TheVariants as Cause
-use Rattle.um_base.specs.declared.act.Found.{Found}
-use Rattle.um_base.specs.declared.act.SetSaid.{SetSaid}
-use Rattle.um_base.specs.declared.ask.Ask.{Ask}
-use Rattle.um_base.specs.declared.ask.Told.{Told}
-use Rattle.um_base.specs.declared.ask.Waiter.{Waiter}
-use Rattle.um_base.specs.declared.image.Image.{Image}
-use Rattle.um_base.specs.declared.instr.Instr.{Instr}
-use Rattle.um_base.specs.declared.limits.TheConstants.{PIECE, THREADS}
-use Rattle.um_base.specs.declared.names.Access.TheVariants as Access
-use Rattle.um_base.specs.declared.names.Addr.{Addr}
-use Rattle.um_base.specs.declared.names.Errno.{Errno}
-use Rattle.um_base.specs.declared.names.Kind.{Kind}
-use Rattle.um_base.specs.declared.names.Policy.{Policy}
-use Rattle.um_base.specs.declared.names.Reply.{Reply}
-use Rattle.um_base.specs.declared.names.Want.{Want}
-use Rattle.um_base.specs.Lawful.{most_parts}
-use Rattle.um_base.specs.Places.{addr_of, own_row, row_at, setup_at}
-use Rattle.um_base.specs.Regions.{Partitions, stack_range}
-use Rattle.um_machine.specs.declared.contents.Contents.{Contents}
-use Rattle.um_machine.specs.declared.object.Status.TheVariants as Status
-use Rattle.um_machine.specs.declared.pending.Amount.{Amount}
-use Rattle.um_machine.specs.declared.pending.Pending.{Pending}
-use Rattle.um_machine.specs.declared.pending.Refusal.{Refusal}
-use Rattle.um_machine.specs.declared.thread.Thread.{Thread}
-use Rattle.um_machine.specs.Domains.{added, domain_after, initialised, part_named, removed, reply_to}
-use Rattle.um_machine.specs.Memory.{allowed, bytes_at, le_bytes, le_value, string_bytes, string_read, with_bytes}
-use Rattle.um_machine.specs.Objects.{has_kind, is_gone, is_live, verdict, verdict_at}
-use Rattle.um_machine.specs.Order.{Steps, answer_error, copy_fails, end_steps, fatal_steps, refuses, to_addr}
-use Rattle.um_machine.specs.Run.{Offers, begins, cleans_pair, exits, goes, recycles, skips_drops, skips_inherit}
-use Rattle.um_machine.specs.Services.{Acted, fills, queue}
-use Rattle.um_machine.specs.State.{State, instruction_at, is_user, nobody, object_at, pair_at, thread_at, vacant, with_object, with_thread}
+use Rattle.um_erasure.proofs.Words.{◌≡◌, ◌⊎◌, inl, inr, ℕ, ◌+◌, Bool, true, false, List, [], ◌∷◌, Option, Some, None, refl, sym, ap, ◌∙◌, subst, ◌==◌, ◌&&◌, not, if◌then◌else◌, nat_lt, slice_index_or, slice_set, Answer, Ask, Waiter, Image, THREADS, Addr, Errno, Kind, Policy, Reply, Want, row_at, Contents, Amount, Pending, Refusal, Thread, has_kind, verdict, Steps, steps_of, end_steps, fatal_steps, Offers, begins, cleans_pair, exits, goes, recycles, skips_drops, skips_inherit, queue, State, is_user, object_at, pair_at, thread_at, Call, core_of, IsSited, row_kind, IsKnown, passed, row_is, Change, Next, Way, changed, gone, steps_by, checked_way, told_way, Ignores, all_other, each-after, next_of, HoldsOfWays, way-left, Mode}
+use Rattle.um_machine.specs.Objects.{is_live, verdict_at}
+use Rattle.um_machine.specs.Services.{fills}
 use Rattle.um_machine.specs.Table as T
-use Rattle.um_invariants.proofs.Cores.{Call, at_set, call_of, core_of, kind_is}
-use Rattle.um_invariants.proofs.Guards.{IsSited, row_kind}
-use Rattle.um_invariants.proofs.Turns.{IsKnown, passed, row_has, row_is}
+use Rattle.um_invariants.proofs.Cores.{call_of, kind_is}
+use Rattle.um_invariants.proofs.Turns.{row_has}
 use Rattle.um_erasure.proofs.CallsProper.{passed-held}
-use Rattle.um_erasure.proofs.Failures.{HoldsOfFailures, copy-left, either-state, error-left, fails-left, refused-left}
 use Rattle.um_erasure.proofs.QueueSteps.{Queued, queue-kind, queue_checked, queued-steps}
-use Rattle.um_erasure.proofs.ThreadKeys.{AreAlike, Ignores, key-same, keys-bytes, keys-dropped, keys-erased, keys-given, keys-moved, keys-paired, keys-set, keys-woken}
+use Rattle.um_machine.specs.Goes.{work_change, work_way}
+use Rattle.um_machine.proofs.EffectLemmas.{IsAsBefore}
 
 module _ (image : Image) (IsOne : ℕ → Type 0) where
   -- the row that a call knows to be a queue is one of queues, the call holds its object, and that is a queue
@@ -75,15 +42,93 @@ abbrev pub Fills : State → ℕ → ℕ → Pending → Type 0
 Fills m t y (Pending.Work a (Ask.MsgqInit size most pool)) = (T.row_of m a ≡ y) × ((T.work_of m t a (Ask.MsgqInit size most pool)).answer ≡ Answer.Now (Reply.Num 0))
 Fills m t y q = ⊥
 
-ignores : Ignores call_of
-ignores = record { due = λ me due. refl; told = λ me told. refl; domain = λ me domain. refl }
+ignores : Ignores call_of all_other
+ignores = record { due = λ h me due. refl; told = λ h me told. refl; domain = λ h me domain. refl; doomed = λ h me. refl }
+
+checked-changed : (change : Change) (me : Thread) → (changed change me).checked ≡ me.checked
+checked-changed Change.nothing me = refl
+checked-changed change me = refl
+
+-- What has to be known of a call that goes on so.
+
+module _ (image : Image) (IsOne : ℕ → Type 0) where
+  abbrev Behind : Call → Steps → Type 0
+  Behind c steps = IsQueued image IsOne (record c { pending = steps })
+
+  abbrev Fits : Call → Steps → Next → Type 0
+  Fits c left (Next.checks x None way) = IsQueued image IsOne (record c { checked = slice_set c.checked x true; pending = steps_by left way })
+  Fits c left (Next.checks x (Some e) way) = Behind c (steps_by left way)
+  Fits c left (Next.answers to reply) = Queued image None left
+  Fits c left Next.starts = Queued image None left
+  Fits c left (Next.begins instr) = Unit {0}
+  Fits c left (Next.dooms from) = Unit {0}
+  Fits c left (Next.enters script) = Unit {0}
+  Fits c left Next.exits = Unit {0}
+  Fits c left (Next.fatal reason) = Unit {0}
+  Fits c left Next.stays = Unit {0}
+  Fits c left next = Behind c left
+
+  ways : (known : Option ℕ) → HoldsOfWays (Queued image known)
+  ways known =
+      record {
+        copies = λ a left h. h;
+        waits = λ left h. h;
+        bears = λ a left h. h;
+        replies = λ reply. tt;
+        fails = λ reason cause. tt;
+        gives_back = λ size reason cause. tt;
+        clears = λ a reason cause. tt;
+      }
+
+  by-way : (c : Call) (left : Steps) (way : Way) → Behind c left → Behind c (steps_by left way)
+  by-way c left way h = record { known = h.known; holds = h.holds; steps = way-left (Queued image h.known) (ways h.known) left way h.steps }
+
+  refused-queued : (mode : Mode) (refusal : Refusal) (e : Errno) (left : Steps) → Queued image None (steps_by left (checked_way mode refusal (Some e)))
+  refused-queued mode Refusal.Fails e left = tt
+  refused-queued Mode.User Refusal.FailsUser e left = tt
+  refused-queued Mode.Supervisor Refusal.FailsUser e left = tt
+  refused-queued mode (Refusal.Answers reply) e left = tt
+
+  fatal-queued : (i : Image) (t : ℕ) (me : Thread) (reason : ℕ) (policy : Policy) → Queued image None (fatal_steps i t me reason policy)
+  fatal-queued i t me reason Policy.Halt = tt
+  fatal-queued i t me reason Policy.Abort = by (reason == 4)
+    where
+      by : (b : Bool) → Queued image None (if b then Pending.Dooms 0 ∷ [] else end_steps i t me)
+      by true = tt
+      by false = tt
+
+  doom-queued : (from : ℕ) → Queued image None (T.next_doom from)
+  doom-queued from = elim (nat_lt (from + 1) THREADS) as (λ b. Queued image None (if b then Pending.Dooms (from + 1) ∷ [] else [])) [ true ↦ tt | false ↦ tt ]
+
+  -- it goes on with these steps, and with what it held
+  goes-so : (left : Steps) (u : State) (t : ℕ) (change : Change) (way : Way) (me : Thread) → Behind (call_of me) (steps_by left way)
+      → IsQueued image IsOne (call_of (gone left u t (Next.on change way) me))
+  goes-so left u t change way me h =
+      record { known = h.known; holds = subst (λ (held : List Bool). Holds image IsOne held h.known) (sym (checked-changed change me)) h.holds; steps = h.steps }
+
+  gone-queued : IsSited image → (left : Steps) (u : State) (t : ℕ) (next : Next) (me : Thread) → u.image ≡ image → Fits (call_of me) left next → IsQueued image IsOne (call_of me)
+      → IsQueued image IsOne (call_of (gone left u t next me))
+  gone-queued sited left u t (Next.on change way) me same h was = goes-so left u t change way me (by-way (call_of me) left way h)
+  gone-queued sited left u t (Next.checks x None way) me same h was = record { known = h.known; holds = h.holds; steps = h.steps }
+  gone-queued sited left u t (Next.checks x (Some e) way) me same h was = record { known = h.known; holds = h.holds; steps = h.steps }
+  gone-queued sited left u t (Next.answers to reply) me same h was = record { known = None; holds = tt; steps = h }
+  gone-queued sited left u t Next.starts me same h was = record { known = None; holds = tt; steps = h }
+  gone-queued sited left u t (Next.begins None) me same h was = was
+  gone-queued sited left u t (Next.begins (Some instr)) me same h was =
+      record { known = None; holds = tt; steps = subst (λ (i : Image). Queued image None (steps_of i t me instr)) (sym same) (queued-steps image None sited t me instr) }
+  gone-queued sited left u t (Next.resumes None) me same h was = was
+  gone-queued sited left u t (Next.resumes (Some told)) me same h was =
+      let next = by-way (call_of me) left (told_way told.reply) h in record { known = next.known; holds = next.holds; steps = next.steps }
+  gone-queued sited left u t (Next.dooms from) me same h was = record { known = None; holds = tt; steps = doom-queued from }
+  gone-queued sited left u t (Next.enters script) me same h was = record { known = None; holds = tt; steps = tt }
+  gone-queued sited left u t Next.exits me same h was = record { known = None; holds = tt; steps = tt }
+  gone-queued sited left u t (Next.fatal reason) me same h was = record { known = None; holds = tt; steps = fatal-queued u.image t me reason u.image.policy }
+  gone-queued sited left u t Next.stays me same h was = was
+  gone-queued sited left u t next me same h was = record { known = h.known; holds = h.holds; steps = h.steps }
 
 module _ (m : State) (t x : ℕ) (IsOne : ℕ → Type 0) (all : AreQueued m.image IsOne m) where
   abbrev me : Thread
   me = thread_at m t
-
-  abbrev All : State → Type 0
-  All s = AreQueued m.image IsOne s
 
   -- what is known of a step that the thread is offered
   abbrev pub Stands : Pending → Steps → Type 0
@@ -114,140 +159,6 @@ module _ (m : State) (t x : ℕ) (IsOne : ℕ → Type 0) (all : AreQueued m.ima
   offered-queued _ _ (cleans_pair started) = tt
   offered-queued _ _ (recycles started) = tt
 
-  keeps : (s : State) → AreAlike call_of m s → All s
-  keeps s e u = subst (IsQueued m.image IsOne) (sym (key-same call_of m s e u)) (all u)
-
-  -- the thread is written
-  set : (s : State) → All s → (v : ℕ) (th : Thread) → IsQueued m.image IsOne (call_of th) → All (with_thread s v th)
-  set s was v th new u = at_set (λ n (z : Thread). IsQueued m.image IsOne (call_of z)) s.threads v u th nobody new (was u)
-
-  -- it goes on with steps that need no queue
-  bare : (s : State) → AreAlike call_of m s → (th : Thread) (rest : Steps) → Queued m.image None rest → All (T.goes_on s t th rest)
-  bare s e th rest h = set s (keeps s e) t (T.at_steps s.image th rest) (record { known = None; holds = tt; steps = h })
-
-  either : (b : Bool) (s1 s2 : State) → All s1 → All s2 → All (if b then s1 else s2)
-  either = either-state All
-
-  failures : (known : Option ℕ) → HoldsOfFailures (Queued m.image known)
-  failures known = record { fatal = λ reason cause. tt; unbuffer = λ size reason cause. tt; answer = λ reply. tt }
-
-  fails : All (T.goes_on m t me (copy_fails me.mode))
-  fails = bare m refl me (copy_fails me.mode) (fails-left (Queued m.image None) (failures None) me.mode)
-
-  faults : All (T.goes_on m t me T.fault)
-  faults = bare m refl me T.fault tt
-
-  begun : IsSited m.image → (instr : Option Instr) → All (T.after_begin m t me instr)
-  begun sited None = all
-  begun sited (Some instr) = bare m refl (record me { registers = T.with_begin me.registers instr }) _ (queued-steps m.image None sited t me instr)
-
-  fatal-queued : (reason : ℕ) (policy : Policy) → Queued m.image None (fatal_steps m.image t me reason policy)
-  fatal-queued reason Policy.Halt = tt
-  fatal-queued reason Policy.Abort = by (reason == 4)
-    where
-      by : (b : Bool) → Queued m.image None (if b then Pending.Dooms 0 ∷ [] else end_steps m.image t me)
-      by true = tt
-      by false = tt
-
-  doom-queued : (from : ℕ) → Queued m.image None (T.next_doom from)
-  doom-queued from = by (nat_lt (from + 1) THREADS)
-    where
-      by : (b : Bool) → Queued m.image None (if b then Pending.Dooms (from + 1) ∷ [] else [])
-      by true = tt
-      by false = tt
-
-  published : (y : ℕ) (b : Bool) → AreAlike call_of m (if b then m else with_object m y (record (object_at m y) { public = true }))
-  published y true = refl
-  published y false = refl
-
-  module _ (known : Option ℕ) (holds : Holds m.image IsOne me.checked known) where
-    -- it goes on with steps of a call that knows this row
-    on : (s : State) → AreAlike call_of m s → (th : Thread) (rest : Steps) → th.checked ≡ me.checked → Queued m.image known rest → All (T.goes_on s t th rest)
-    on s e th rest checked h =
-        set s (keeps s e) t (T.at_steps s.image th rest) (record { known = known; holds = subst (λ (held : List Bool). Holds m.image IsOne held known) (sym checked) holds; steps = h })
-
-    -- it is the thread of a state with the same calls
-    there : (s : State) → AreAlike call_of m s → (rest : Steps) → Queued m.image known rest → All (T.goes_on s t (thread_at s t) rest)
-    there s e rest h = on s e (thread_at s t) rest (ap (λ (c : Call). c.checked) (key-same call_of m s e t)) h
-
-    without-copy : (rest : Steps) → Queued m.image known rest → Queued m.image known (T.without_copy rest)
-    without-copy = copy-left (Queued m.image known) (λ a rest h. h)
-
-    answers : (s : State) → AreAlike call_of m s → (ask : Ask) (taken : List ℕ) (rest : Steps) (answer : Answer) → Queued m.image known rest
-        → All (T.after_answer s t (thread_at s t) ask taken rest answer)
-    answers s e ask taken rest answer h = by answer
-      where
-        held : (thread_at s t).checked ≡ me.checked
-        held = ap (λ (c : Call). c.checked) (key-same call_of m s e t)
-
-        by : (answer : Answer) → All (T.after_answer s t (thread_at s t) ask taken rest answer)
-        by Answer.Wait = on s e (thread_at s t) (Pending.Resume ∷ rest) held h
-        by (Answer.Now (Reply.Fail error)) =
-            on s e (record (thread_at s t) { reply = Reply.Fail error; buffer = taken }) (T.after_error (thread_at s t).mode ask error rest) held (error-left (Queued m.image known) (failures known) (thread_at s t).mode ask error rest (without-copy rest h))
-        by (Answer.Now reply) = on s e (record (thread_at s t) { reply = reply; buffer = taken }) rest held h
-
-    works : (a : Addr) (ask : Ask) (rest : Steps) → Queued m.image known rest → All (T.after m t x (Pending.Work a ask) rest)
-    works a ask rest h =
-        let w = T.work_of m t a ask in
-        let o = record (object_at m (T.row_of m a)) { contents = w.contents; waiters = w.waiters; buffer = T.buffer_cost ask w.answer (object_at m (T.row_of m a)).buffer } in
-        answers (T.all_woken w.woken (with_object m (T.row_of m a) o))
-        (keys-woken call_of ignores w.woken (with_object m (T.row_of m a) o)) ask w.taken rest w.answer h
-
-    resumed : (rest : Steps) (told : Option Told) → Queued m.image known rest → All (T.resumed m t me rest told)
-    resumed rest None h = all
-    resumed rest (Some told) h = on m refl (record me { told = None; reply = told.reply; buffer = told.taken }) _ refl (left told.reply)
-      where
-        left : (reply : Reply) → Queued m.image known (elim reply as (λ _. Steps) [ Reply.Fail e ↦ T.without_copy rest | _ ↦ rest ])
-        left (Reply.Fail e) = without-copy rest h
-        left reply = h
-
-    texts : (a : Addr) (rest : Steps) (found : Found) → Queued m.image known rest → All (T.after_string m t me a rest found)
-    texts a rest (Found.Length n) h = on m refl (record me { buffer = string_bytes m a.0 n }) rest refl h
-    texts a rest Found.Unreadable h = bare m refl me (answer_error Errno.EFAULT) tt
-    texts a rest Found.TooLong h = bare m refl me (answer_error Errno.EINVAL) tt
-
-    marks : (a : Addr) (undo : Option Addr) (rest : Steps) (said : SetSaid) → Queued m.image known rest → All (T.after_set m t me a undo rest said)
-    marks a undo rest SetSaid.Done h = on (with_object m (T.row_of m a) (record (object_at m (T.row_of m a)) { init = true })) refl me rest refl h
-    marks a undo rest SetSaid.Gone h = on m refl me rest refl h
-    marks a None rest (SetSaid.Fail e) h = bare m refl me (refuses me.mode (Cause.Refused e)) tt
-    marks a (Some b) rest (SetSaid.Fail e) h = bare m refl me (Pending.ClearInit b ∷ refuses me.mode (Cause.Refused e)) tt
-
-    reserves : (row : ℕ) (kind : Kind) (rest : Steps) → Queued m.image known rest → All (T.after_reserve m t me row kind rest)
-    reserves zero kind rest h = on m refl (record me { reply = Reply.Null }) rest refl h
-    reserves (suc n) kind rest h =
-        let a = to_addr (addr_of m.image (suc n)) in
-        let o = record vacant { kind = Some kind; status = Status.Reserved; cost = T.cost_of me.pool 64 } in
-        on (with_object (record m { pools = T.paid_from me.pool 64 m.pools }) (suc n) o) refl (record me { reply = Reply.At a }) (Pending.Born a ∷ rest) refl h
-
-    edited : (d : ℕ) (parts : Option Partitions) (reply : Reply) (rest : Steps) → Queued m.image known rest → All (T.after_domain m t me d parts reply rest)
-    edited d parts reply rest h = on (record m { domains = slice_set m.domains d parts }) refl (record me { reply = reply }) rest refl h
-
-  -- a queue is filled, or that fails
-  queue-works : (a : Addr) (size most pool row : ℕ) (rest : Steps) → ((T.work_of m t a (Ask.MsgqInit size most pool)).answer ≡ Answer.Now (Reply.Num 0) → Holds m.image IsOne me.checked (Some row))
-      → Queued m.image (Some row) rest → All (T.after m t x (Pending.Work a (Ask.MsgqInit size most pool)) rest)
-  queue-works a size most pool row rest filled h = by (filled-answer (queue size most []) (object_at m (T.row_of m a)).contents (object_at m (T.row_of m a)).waiters)
-    where
-      w : Acted
-      w = T.work_of m t a (Ask.MsgqInit size most pool)
-
-      s : State
-      s = with_object m (T.row_of m a) (record (object_at m (T.row_of m a)) { contents = w.contents; waiters = w.waiters; buffer = T.buffer_cost (Ask.MsgqInit size most pool) w.answer (object_at m (T.row_of m a)).buffer })
-
-      s3 : State
-      s3 = T.all_woken w.woken s
-
-      same : AreAlike call_of m s3
-      same = keys-woken call_of ignores w.woken s
-
-      Goal : Answer → Type 0
-      Goal answer = All (T.after_answer s3 t (thread_at s3 t) (Ask.MsgqInit size most pool) w.taken rest answer)
-
-      by : (w.answer ≡ Answer.Now (Reply.Num 0)) ⊎ (w.answer ≡ Answer.Now (Reply.Fail Errno.EADDRINUSE)) → Goal w.answer
-      by (inl e) = subst Goal (sym e) (answers (Some row) (filled e) s3 same (Ask.MsgqInit size most pool) w.taken rest (Answer.Now (Reply.Num 0)) h)
-      by (inr e) =
-          subst Goal (sym e)
-          (bare s3 same (record (thread_at s3 t) { reply = Reply.Fail Errno.EADDRINUSE; buffer = w.taken }) (T.after_error (thread_at s3 t).mode (Ask.MsgqInit size most pool) Errno.EADDRINUSE rest) tt)
-
   module _ (known : IsKnown (core_of m)) (opened : (y : ℕ) → row_kind m.image y ≡ Kind.Msgq → is_live (object_at m y).status ≡ true → (object_at m y).init ≡ true → IsOne y) where
     -- a check that is passed
     opens : (checked : List Bool) (kind : Option Kind) (want : Want) (y : ℕ) → has_kind kind (Some (row_kind m.image y)) ≡ true → is_live (object_at m y).status ≡ true
@@ -257,108 +168,73 @@ module _ (m : State) (t x : ℕ) (IsOne : ℕ → Type 0) (all : AreQueued m.ima
     opens checked kind want y k lives said held = tt
 
     checks : (a : Addr) (kind : Option Kind) (want : Want) (refusal : Refusal) (rest : Steps) → (before : Option ℕ) → Queued m.image before (Pending.Check a kind want refusal ∷ rest)
-        → (v : Option Errno) → verdict m t a.0 kind want ≡ v → All (T.goes_on m t (T.with_checked m a v me) (T.after_check me.mode rest refusal v))
-    checks a kind want refusal rest before h (Some e) said = bare m refl me (T.after_check me.mode rest refusal (Some e)) (refused-left (Queued m.image None) (failures None) me.mode rest refusal e)
+        → (v : Option Errno) → verdict m t a.0 kind want ≡ v → Fits m.image IsOne (call_of me) rest (Next.checks (T.row_of m a) v (checked_way me.mode refusal v))
+    checks a kind want refusal rest before h (Some e) said = record { known = None; holds = tt; steps = refused-queued m.image IsOne me.mode refusal e rest }
     checks a kind want refusal rest before h None said =
         let p = passed m t kind want (row_at m.image a.0) said in
         let y = p.0 in
         let held = passed-held m known t a.0 y p.1 in
         let kinds : has_kind kind (Some (row_kind m.image y)) ≡ true = row_has kind (object_at m y).kind (row_kind m.image y) p.3 (λ h f. known.claimed.kinds y h (kind_is m y ∙ f)) in
         let said-y : verdict_at m t kind want (Some y) ≡ None = ap (verdict_at m t kind want) (sym p.1) ∙ said in
-        set m all t (T.at_steps m.image (T.with_checked m a None me) rest)
-        (record {
+        record {
           known = queue_checked kind want y;
           holds = subst (λ n. Holds m.image IsOne (slice_set me.checked n true) (queue_checked kind want y)) (sym (row_is m a y p.1)) (opens (slice_set me.checked y true) kind want y kinds p.2 said-y held);
           steps = h y p.1 kinds;
-        })
+        }
 
-    pub queued-after : (q : Pending) (rest : Steps) → Stands q rest → ((y : ℕ) → row_kind m.image y ≡ Kind.Msgq → Fills m t y q → Holds m.image IsOne me.checked (Some y)) → All (T.after m t x q rest)
-    queued-after Pending.Begin rest h filled = begun known.reached.sited (instruction_at m.image me.place)
-    queued-after Pending.Exit rest h filled = set m all t _ (record { known = None; holds = tt; steps = tt })
-    queued-after (Pending.Check a kind want refusal) rest h filled = checks a kind want refusal rest h.known h.steps (verdict m t a.0 kind want) refl
-    queued-after (Pending.Load to a n) rest h filled =
-        either (allowed m t Access.Read a.0 n) _ _ (on h.known h.holds m refl (record me { registers = slice_set me.registers to (le_value (bytes_at m a.0 n)) }) rest refl h.steps) faults
-    queued-after (Pending.Store a n value) rest h filled =
-        either (allowed m t Access.Write a.0 n) _ _
-        (on h.known h.holds (with_bytes m a.0 (le_bytes n value)) (keys-bytes call_of m a.0 (le_bytes n value)) me rest refl h.steps) faults
-    queued-after (Pending.Fetch a) rest h filled = either (allowed m t Access.Exec a.0 4) _ _ (on h.known h.holds m refl me rest refl h.steps) faults
-    queued-after (Pending.Probe a (Amount.Bytes n)) rest h filled = either (allowed m t Access.Write a.0 n) _ _ (on h.known h.holds m refl me rest refl h.steps) fails
-    queued-after (Pending.Probe a (Amount.MessageOf b)) rest h filled =
-        either (allowed m t Access.Write a.0 (T.amount_of m (Amount.MessageOf b))) _ _ (on h.known h.holds m refl me rest refl h.steps.1) fails
-    queued-after (Pending.CopyIn a (Amount.Bytes n)) rest h filled =
-        either (allowed m t Access.Read a.0 n) _ _ (on h.known h.holds m refl (record me { buffer = take PIECE (bytes_at m a.0 n) }) rest refl h.steps) fails
-    queued-after (Pending.CopyIn a (Amount.MessageOf b)) rest h filled =
-        let n = T.amount_of m (Amount.MessageOf b) in
-        either (allowed m t Access.Read a.0 n) _ _ (on h.known h.holds m refl (record me { buffer = take PIECE (bytes_at m a.0 n) }) rest refl h.steps.1) fails
-    queued-after (Pending.CopyOut a) rest h filled =
-        either (allowed m t Access.Write a.0 (length me.buffer)) _ _
-        (on h.known h.holds (with_bytes m a.0 me.buffer) (keys-bytes call_of m a.0 me.buffer) me rest refl h.steps) fails
-    queued-after (Pending.CopyStr a) rest h filled = texts h.known h.holds a rest (string_read m t a.0 32) h.steps
-    queued-after (Pending.Erase stack) rest h filled =
-        let range = stack_range (setup_at m.image stack.0) in
-        on h.known h.holds (T.erased m range) (keys-erased call_of m range) me rest refl h.steps
-    queued-after (Pending.Work a (Ask.MsgqInit size most pool)) rest h filled =
-        queue-works a size most pool h.steps.0 rest (λ e. filled h.steps.0 h.steps.2 (row_is m a h.steps.0 h.steps.1, e)) h.steps.3
-    queued-after (Pending.Work a ask) rest h filled = works h.known h.holds a ask rest h.steps.3
-    queued-after Pending.Resume rest h filled = resumed h.known h.holds rest me.told h.steps
-    queued-after (Pending.Answer reply to) rest h filled = set m all t _ (record { known = None; holds = tt; steps = h.steps })
-    queued-after (Pending.Grant who a) rest h filled = there h.known h.holds (T.after_given m who.0 (T.row_of m a)) (keys-given call_of ignores m who.0 (T.row_of m a)) rest h.steps
-    queued-after (Pending.Own who) rest h filled =
-        let s = T.after_given m who.0 (own_row m.image who.0) in
-        let e = keys-given call_of ignores m who.0 (own_row m.image who.0) in
-        on h.known h.holds s e (record (thread_at s t) { child = Some who; due = slice_set (T.rows_to_pass s t who.0) (own_row m.image t) false }) rest
-        (ap (λ (c : Call). c.checked) (key-same call_of m s e t)) h.steps
-    queued-after (Pending.Inherit who) rest h filled =
-        let s = T.paired m who.0 x true in
-        let e = keys-paired call_of ignores m who.0 x true in
-        set s (keeps s e) t _
-        (record { known = h.known; holds = subst (λ (held : List Bool). Holds m.image IsOne held h.known) (sym (ap (λ (c : Call). c.checked) (key-same call_of m s e t))) h.holds; steps = h.steps })
-    queued-after (Pending.DropPair who a) rest h filled = there h.known h.holds (T.after_drop m who.0 (T.row_of m a)) (keys-dropped call_of ignores m who.0 (T.row_of m a)) rest h.steps
-    queued-after (Pending.Publish a) rest h filled =
-        let y = T.row_of m a in
-        let b = is_gone (object_at m y).status in
-        on h.known h.holds (if b then m else with_object m y (record (object_at m y) { public = true })) (published y b) me rest refl h.steps
-    queued-after (Pending.SetInit a strict undo) rest h filled = marks h.known h.holds a undo rest (T.set_said (object_at m (T.row_of m a)) strict) h.steps.3
-    queued-after (Pending.ClearInit a) rest h filled =
-        let y = T.row_of m a in
-        on h.known h.holds (with_object m y (record (object_at m y) { init = false })) refl (record me { keeps_own = me.keeps_own && not (y == own_row m.image t) }) rest refl h.steps
-    queued-after (Pending.Named who) rest h filled =
-        let y = own_row m.image who.0 in on h.known h.holds (with_object m y (record (object_at m y) { contents = Contents.Named me.buffer })) refl me rest refl h.steps.1
-    queued-after (Pending.Reserve kind) rest h filled = reserves h.known h.holds x kind rest h.steps
-    queued-after (Pending.Born a) rest h filled =
-        let y = T.row_of m a in
-        let s = with_object m y (record (object_at m y) { status = Status.Live }) in there h.known h.holds (T.paired s t y true) (keys-paired call_of ignores s t y true) rest h.steps
-    queued-after (Pending.Buffer size) rest h filled =
-        either (T.pays m me.pool size) _ _ (on h.known h.holds (record m { pools = T.paid_from me.pool size m.pools }) refl me rest refl h.steps) (bare m refl me (answer_error Errno.ENOMEM) tt)
-    queued-after (Pending.Unbuffer size) rest h filled = on h.known h.holds (record m { pools = T.paid_back (T.cost_of me.pool size) m.pools }) refl me rest refl h.steps
-    queued-after (Pending.DomInit d parts) rest h filled =
-        let made = initialised m.image.mpu (most_parts m.image) (T.domain_at m d) (map (part_named m.image) parts) in
-        edited h.known h.holds d (domain_after (T.domain_at m d) made) (reply_to made) rest h.steps
-    queued-after (Pending.DomAdd d range attr) rest h filled =
-        let made = added m.image.mpu (most_parts m.image) (T.domain_at m d) (range, attr) in edited h.known h.holds d (domain_after (T.domain_at m d) made) (reply_to made) rest h.steps
-    queued-after (Pending.DomRemove d range attr) rest h filled =
-        let made = removed (T.domain_at m d) range in edited h.known h.holds d (domain_after (T.domain_at m d) made) (reply_to made) rest h.steps
-    queued-after (Pending.DomMove d who) rest h filled =
-        let reply = T.move_reply (T.domain_at m d) in
-        let s = T.moved m who.0 d reply in
-        let e = keys-moved call_of ignores m who.0 d reply in
-        on h.known h.holds s e (record (thread_at s t) { reply = reply }) rest (ap (λ (c : Call). c.checked) (key-same call_of m s e t)) h.steps
-    queued-after (Pending.Start who script stack priority mode) rest h filled =
-        let child = T.newborn m me who.0 script (Pending.Start who script stack priority mode) in
-        let s = with_thread m who.0 child in
-        set s (set m all who.0 child (record { known = None; holds = tt; steps = tt })) t (T.at_steps s.image (record (thread_at s t) { child = None }) rest)
-        (record { known = None; holds = tt; steps = h.steps })
-    queued-after (Pending.EnterUser script) rest h filled = set m all t _ (record { known = None; holds = tt; steps = tt })
-    queued-after (Pending.Fatal reason cause) rest h filled = set m all t _ (record { known = None; holds = tt; steps = fatal-queued reason m.image.policy })
-    queued-after (Pending.Drops from) rest h filled =
-        let s = T.after_drop m t x in
-        let e = keys-dropped call_of ignores m t x in
-        set s (keeps s e) t _
-        (record { known = h.known; holds = subst (λ (held : List Bool). Holds m.image IsOne held h.known) (sym (ap (λ (c : Call). c.checked) (key-same call_of m s e t))) h.holds; steps = h.steps })
-    queued-after (Pending.Dooms from) rest h filled =
-        let th = record (thread_at m from) { doomed = true } in
-        let s = with_thread m from th in
-        set s (keeps s (keys-set call_of m.threads from th refl)) t _ (record { known = None; holds = tt; steps = doom-queued from })
-    queued-after (Pending.CleanPair who) rest h filled =
-        keeps (T.after_drop (T.cleaned_by m t (own_row m.image who.0)) who.0 x) (keys-dropped call_of ignores (T.cleaned_by m t (own_row m.image who.0)) who.0 x)
-    queued-after Pending.Recycle rest h filled = all
+    -- a queue is filled, or that fails
+    fills-left : (size most pool row : ℕ) (rest : Steps) (answer : Answer) → (answer ≡ Answer.Now (Reply.Num 0) → Holds m.image IsOne me.checked (Some row)) → Queued m.image (Some row) rest
+        → (answer ≡ Answer.Now (Reply.Num 0)) ⊎ (answer ≡ Answer.Now (Reply.Fail Errno.EADDRINUSE)) → Behind m.image IsOne (call_of me) (steps_by rest (work_way me.mode (Ask.MsgqInit size most pool) answer))
+    fills-left size most pool row rest answer filled h (inl e) =
+        subst (λ (z : Answer). Behind m.image IsOne (call_of me) (steps_by rest (work_way me.mode (Ask.MsgqInit size most pool) z))) (sym e) (record { known = Some row; holds = filled e; steps = h })
+    fills-left size most pool row rest answer filled h (inr e) =
+        subst (λ (z : Answer). Behind m.image IsOne (call_of me) (steps_by rest (work_way me.mode (Ask.MsgqInit size most pool) z))) (sym e) (record { known = None; holds = tt; steps = tt })
+
+    again : (n : Option ℕ) (steps : Steps) → Holds m.image IsOne me.checked n → Queued m.image n steps → Behind m.image IsOne (call_of me) steps
+    again n steps holds h = record { known = n; holds = holds; steps = h }
+
+    abbrev Made : Pending → Type 0
+    Made q = (y : ℕ) → row_kind m.image y ≡ Kind.Msgq → Fills m t y q → Holds m.image IsOne me.checked (Some y)
+
+    abbrev IsFit : Call → Steps → Pending → Type 0
+    IsFit c rest (Pending.Work a (Ask.MsgqInit size most pool)) = Behind m.image IsOne c (steps_by rest (work_way me.mode (Ask.MsgqInit size most pool) (T.work_of m t a (Ask.MsgqInit size most pool)).answer))
+    IsFit c rest q = Fits m.image IsOne c rest (next_of m t x q)
+
+    fits : (q : Pending) (rest : Steps) → Stands q rest → Made q → IsFit (call_of me) rest q
+    fits Pending.Begin rest h filled = tt
+    fits Pending.Exit rest h filled = tt
+    fits (Pending.EnterUser script) rest h filled = tt
+    fits (Pending.Fatal reason cause) rest h filled = tt
+    fits (Pending.Dooms from) rest h filled = tt
+    fits (Pending.CleanPair who) rest h filled = tt
+    fits Pending.Recycle rest h filled = tt
+    fits (Pending.Check a kind want refusal) rest h filled = checks a kind want refusal rest h.known h.steps (verdict m t a.0 kind want) refl
+    fits (Pending.Probe a (Amount.MessageOf b)) rest h filled = again h.known rest h.holds h.steps.1
+    fits (Pending.CopyIn a (Amount.MessageOf b)) rest h filled = again h.known rest h.holds h.steps.1
+    fits (Pending.Work a (Ask.MsgqInit size most pool)) rest h filled =
+        let w = T.work_of m t a (Ask.MsgqInit size most pool) in
+        fills-left size most pool h.steps.0 rest w.answer (λ e. filled h.steps.0 h.steps.2 (row_is m a h.steps.0 h.steps.1, e)) h.steps.3
+        (filled-answer (queue size most []) (object_at m (T.row_of m a)).contents (object_at m (T.row_of m a)).waiters)
+    fits (Pending.Work a ask) rest h filled = again h.known rest h.holds h.steps.3
+    fits (Pending.SetInit a strict undo) rest h filled = again h.known rest h.holds h.steps.3
+    fits (Pending.Named who) rest h filled = again h.known rest h.holds h.steps.1
+    fits (Pending.Answer reply to) rest h filled = h.steps
+    fits (Pending.Start who script stack priority mode) rest h filled = h.steps
+    fits q rest h filled = again h.known rest h.holds h.steps
+
+    on : (q : Pending) (rest : Steps) (u : State) (th : Thread) → u.image ≡ m.image → IsAsBefore call_of (IsQueued m.image IsOne) ignores m t q th → IsFit (call_of me) rest q
+        → IsQueued m.image IsOne (call_of th) → IsQueued m.image IsOne (call_of (gone rest u t (next_of m t x q) th))
+    on (Pending.Start who script stack priority mode) rest u th image same h was = gone-queued m.image IsOne known.reached.sited rest u t Next.starts th image h was
+    on (Pending.Work a (Ask.MsgqInit size most pool)) rest u th image same h was =
+        let answer = (T.work_of m t a (Ask.MsgqInit size most pool)).answer in
+        let way = work_way me.mode (Ask.MsgqInit size most pool) answer in
+        goes-so m.image IsOne rest u t (work_change answer (T.work_of m t a (Ask.MsgqInit size most pool)).taken) way th
+        (subst (λ (c : Call). Behind m.image IsOne c (steps_by rest way)) (sym same) h)
+    on q rest u th image same h was =
+        let next = next_of m t x q in
+        gone-queued m.image IsOne known.reached.sited rest u t next th image (subst (λ (c : Call). Fits m.image IsOne c rest next) (sym same) h) was
+
+    pub queued-after : (q : Pending) (rest : Steps) → Stands q rest → ((y : ℕ) → row_kind m.image y ≡ Kind.Msgq → Fills m t y q → Holds m.image IsOne me.checked (Some y)) → AreQueued m.image IsOne (T.after m t x q rest)
+    queued-after q rest h filled =
+        each-after call_of (IsQueued m.image IsOne) ignores m t x q rest (λ who script stack priority mode. record { known = None; holds = tt; steps = tt }) all
+        (λ u th image same was. on q rest u th image same (fits q rest h filled) was)

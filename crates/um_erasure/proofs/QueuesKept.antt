@@ -1,32 +1,17 @@
 -- What a step of the access-matrix machine leaves of message queues: each one that it doesn't free keeps the size of its messages; and which
 -- objects it marks as initialised.
-use Rattle.std.proofs.Common.{◌≡◌, ◌≢◌, ℕ, zero, suc, Bool, true, false, List, [], ◌∷◌, ◌++◌, length, Option, Some, None, refl, sym, ap, ◌∙◌}
-use Rattle.std.specs.Prelude.{◌==◌, if◌then◌else◌, filter, is_some, nat_lt, slice_index_or, slice_set}
-use Rattle.std.proofs.lemmas.Bool.{false≢true, true≢false, eqb-false, eqb-true}
-use Rattle.std.proofs.lemmas.List.{get_or-set_other}
-use Rattle.um_base.specs.declared.act.Leftover.{Leftover}
-use Rattle.um_base.specs.declared.act.SetSaid.{SetSaid}
-use Rattle.um_base.specs.declared.ask.Ask.{Ask}
-use Rattle.um_base.specs.declared.ask.Waiter.{Waiter}
-use Rattle.um_base.specs.declared.names.Errno.{Errno}
+use Rattle.um_erasure.proofs.Words.{◌≡◌, ◌≢◌, ℕ, zero, suc, Bool, true, false, List, [], ◌∷◌, ◌++◌, length, Option, Some, None, refl, sym, ap, ◌∙◌, ◌==◌, if◌then◌else◌, is_some, nat_lt, slice_index_or, slice_set, false≢true, true≢false, eqb-false, eqb-true, get_or-set_other, Ask, Waiter, Errno, own_row, Contents, Object, Pending, Steps, to_thread, Acted, acted, queue, State, object_at, thread_at, vacant, cell_of, ObjectCell, Edit, Effect, effect, bytes-leave, OfEach, effects_of, woken-by}
+use Rattle.std.specs.Prelude.{filter}
 use Rattle.um_base.specs.declared.names.Reply.TheVariants as Reply
 use Rattle.um_base.specs.declared.names.Timeout.{Timeout}
-use Rattle.um_base.specs.Places.{own_row}
-use Rattle.um_machine.specs.declared.contents.Contents.{Contents}
-use Rattle.um_machine.specs.declared.object.Object.{Object}
-use Rattle.um_machine.specs.declared.object.Status.TheVariants as Status
-use Rattle.um_machine.specs.declared.pending.Pending.{Pending}
 use Rattle.um_machine.specs.Contents.{Queue}
-use Rattle.um_machine.specs.Objects as Plain
-use Rattle.um_machine.specs.Order.{Steps, to_thread}
 use Rattle.um_machine.specs.Services as Services
-use Rattle.um_machine.specs.Services.{Acted, acted, answers, blocks, in_order, is_getter, is_putter, msgq_get, msgq_peek, msgq_put, msgq_take, queue}
-use Rattle.um_machine.specs.State.{State, object_at, thread_at, vacant, with_object}
+use Rattle.um_machine.specs.Services.{answers, blocks, in_order, is_getter, is_putter, msgq_get, msgq_peek, msgq_put, msgq_take}
 use Rattle.um_machine.specs.Table as T
-use Rattle.um_erasure.specs.Objects.{cell_of}
-use Rattle.um_fine.specs.Objects.{ObjectCell}
-use Rattle.um_erasure.proofs.ContentsKept.{beside-kept, cell-beside, drop-kept, object-kept, work-objects}
+use Rattle.um_erasure.proofs.ContentsKept.{beside-kept, cell-beside, clean-kept, work-objects}
 use Rattle.um_erasure.proofs.ObjectsKept.{set-kept}
+use Rattle.um_erasure.proofs.Writes.{each-of, shared-after, reserved-objects}
+use Rattle.um_machine.specs.Writes.{edited}
 
 -- the size of a queue's messages, of no other contents
 abbrev pub size_of : Contents → Option ℕ
@@ -127,11 +112,9 @@ module _ (m : State) (y t : ℕ) where
           (ap (λ r. is_some (Size (object_at m r))) at ∙ h))
   size-kept n (Pending.Named who) rest spares h = other (own_row m.image who.0) _ spares
   size-kept zero (Pending.Reserve kind) rest spares h = refl
-  size-kept (suc n) (Pending.Reserve kind) rest spares h = other (suc n) _ (spares n refl)
+  size-kept (suc n) (Pending.Reserve kind) rest spares h = ap (λ (os : List Object). Size (slice_index_or os y vacant)) (reserved-objects m t n kind rest) ∙ other (suc n) _ (spares n refl)
   size-kept n (Pending.CleanPair who) rest spares h =
-      let z = own_row m.image who.0 in
-      let o = record (object_at m z) { cleaner = Some (to_thread t) } in
-      ap (λ (c : ObjectCell). size_of c.contents) (drop-kept cell_of cell-beside (T.cleaned_by m t z) y who.0 n ∙ set-kept cell_of m.objects z y o refl)
+      ap (λ (c : ObjectCell). size_of c.contents) (clean-kept cell_of cell-beside (λ o by. refl) m y t n who rest)
   size-kept n Pending.Recycle rest spares h = other n vacant spares
   size-kept n q rest spares h = ap (λ (c : ObjectCell). size_of c.contents) (beside-kept cell_of cell-beside m y t n q rest refl)
 
@@ -151,45 +134,38 @@ module _ (m : State) (y t : ℕ) where
       by (v ∷ vs) (suc x) zero h k = k
       by (v ∷ vs) (suc x) (suc z) h k = by vs x z h k
 
-  drop-marked : (s : State) (who x : ℕ) → (object_at (T.after_drop s who x) y).init ≡ true → (object_at s y).init ≡ true
-  drop-marked s who x = by (T.dropped s who x)
-    where
-      by : (l : Leftover)
-          → (object_at (elim l as (λ _. State) [ Leftover.NoPair ↦ s | Leftover.Kept ↦ T.paired s who x false | Leftover.Gone ↦ with_object (T.paired s who x false) x (record (object_at s x) { status = Status.Gone }) ]) y).init ≡ true
-          → (object_at s y).init ≡ true
-      by Leftover.NoPair k = k
-      by Leftover.Kept k = k
-      by Leftover.Gone k = written s.objects x (record (object_at s x) { status = Status.Gone }) (λ h. h) k
-
   -- the step marks the object of a row
   abbrev pub Marks : Pending → Type 0
   Marks (Pending.SetInit a strict undo) = T.row_of m a ≡ y
   Marks q = ⊥
 
+  -- a write that doesn't mark it
+  abbrev MarksNone : Effect → Type 0
+  MarksNone (Effect.object x (Edit.inits true)) = x ≡ y → ⊥
+  MarksNone e = Unit {0}
+
+  abbrev no_mark : Effect → Bool
+  no_mark (Effect.object x (Edit.inits true)) = false
+  no_mark e = true
+
+  none-marks : (e : Effect) → no_mark e ≡ true → MarksNone e
+  none-marks (Effect.object x (Edit.inits true)) h = absurd (false≢true h)
+  none-marks e h = tt
+
+  mark-effect : (e : Effect) (s : State) → MarksNone e → Marked s → Marked (effect e s)
+  mark-effect (Effect.wakes woken) s h k = woken-by Marked (λ z u told k. k) woken s k
+  mark-effect (Effect.object x (Edit.inits true)) s h k =
+      λ i. k (sym (ap (λ (o : Object). o.init) (get_or-set_other s.objects x y (edited (Edit.inits true) (object_at s x)) vacant (λ e. h (sym e)))) ∙ i)
+  mark-effect (Effect.object x (Edit.inits false)) s h k = λ i. k (written s.objects x (edited (Edit.inits false) (object_at s x)) (λ h. absurd (false≢true h)) i)
+  mark-effect (Effect.object x (Edit.reserved kind cost)) s h k = λ i. k (written s.objects x (edited (Edit.reserved kind cost) (object_at s x)) (λ h. absurd (false≢true h)) i)
+  mark-effect (Effect.object x Edit.vacates) s h k = λ i. k (written s.objects x vacant (λ h. absurd (false≢true h)) i)
+  mark-effect (Effect.object x edit) s h k = λ i. k (written s.objects x (edited edit (object_at s x)) (λ h. h) i)
+  mark-effect (Effect.bytes a bs) s h k = λ i. k (sym (bytes-leave (λ (z : State). (object_at z y).init) (λ z bytes. refl) (λ z bytes. refl) s a bs) ∙ i)
+  mark-effect e s h k = k
+
+  marks-none : (n : ℕ) (q : Pending) → (Marks q → ⊥) → OfEach MarksNone (effects_of m t n q)
+  marks-none n (Pending.SetInit a strict undo) none = (none, tt)
+  marks-none n q none = each-of no_mark MarksNone none-marks (effects_of m t n q) refl
+
   pub mark-kept : (n : ℕ) (q : Pending) (rest : Steps) → (Marks q → ⊥) → Marked (T.after m t n q rest)
-  mark-kept n (Pending.Work a ask) rest none k =
-      written m.objects (T.row_of m a) _ (λ h. h) (sym (ap (λ (os : List Object). (slice_index_or os y vacant).init) (work-objects m t n a ask rest)) ∙ k)
-  mark-kept n (Pending.Named who) rest none k = written m.objects (own_row m.image who.0) _ (λ h. h) k
-  mark-kept zero (Pending.Reserve kind) rest none k = k
-  mark-kept (suc n) (Pending.Reserve kind) rest none k = written m.objects (suc n) _ (λ h. absurd (false≢true h)) k
-  mark-kept n (Pending.CleanPair who) rest none k =
-      let z = own_row m.image who.0 in
-      let o = record (object_at m z) { cleaner = Some (to_thread t) } in
-      written m.objects z o (λ h. h) (drop-marked (T.cleaned_by m t z) who.0 n k)
-  mark-kept n Pending.Recycle rest none k = written m.objects n vacant (λ h. absurd (false≢true h)) k
-  mark-kept n (Pending.DropPair who a) rest none k = drop-marked m who.0 (T.row_of m a) k
-  mark-kept n (Pending.Drops from) rest none k = drop-marked m t n k
-  mark-kept n (Pending.Born a) rest none k = written m.objects (T.row_of m a) _ (λ h. h) k
-  mark-kept n (Pending.ClearInit a) rest none k = written m.objects (T.row_of m a) _ (λ h. absurd (false≢true h)) k
-  mark-kept n (Pending.Publish a) rest none k = by (Plain.is_gone (object_at m (T.row_of m a)).status) k
-    where
-      by : (b : Bool) → Marked (T.goes_on (if b then m else with_object m (T.row_of m a) (record (object_at m (T.row_of m a)) { public = true })) t (thread_at m t) rest)
-      by true k = k
-      by false k = written m.objects (T.row_of m a) _ (λ h. h) k
-  mark-kept n (Pending.SetInit a strict undo) rest none k = by (T.set_said (object_at m (T.row_of m a)) strict) k
-    where
-      by : (said : SetSaid) → Marked (T.after_set m t (thread_at m t) a undo rest said)
-      by SetSaid.Done k = sym (ap (λ (o : Object). o.init) (get_or-set_other m.objects (T.row_of m a) y (record (object_at m (T.row_of m a)) { init = true }) vacant (λ e. none (sym e)))) ∙ k
-      by SetSaid.Gone k = k
-      by (SetSaid.Fail e) k = k
-  mark-kept n q rest none k = sym (ap (λ (o : Object). o.init) (object-kept m y t n q rest tt)) ∙ k
+  mark-kept n q rest none = shared-after Marked MarksNone mark-effect (λ s threads k. k) m t n q rest (marks-none n q none) (λ i. i)

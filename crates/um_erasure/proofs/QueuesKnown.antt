@@ -1,44 +1,18 @@
 -- In every state that a run of a described image reaches each initialised message queue has the contents of one, and so has each queue that a
 -- call has checked as initialised, or filled; and as long as a call holds it, the size of its messages stays.
-use Rattle.std.proofs.Common.{◌≡◌, ◌≢◌, ◌⊎◌, inl, inr, ℕ, zero, suc, ◌+◌, ◌<◌, ◌≤◌, Bool, true, false, List, [], ◌∷◌, length, Option, Some, None, refl, sym, ap, ◌∙◌, subst, arith}
-use Rattle.std.specs.Prelude.{◌==◌, ◌||◌, IsTrue, is_some, not, slice_get, slice_index_or, slice_set, unwrap_or}
-use Rattle.std.specs.List.{list_all, list_any}
-use Rattle.std.proofs.lemmas.Bool.{and_parts, eqb-false, eqb-true, false≢true, true≢false}
-use Rattle.std.proofs.lemmas.List.{get_or-set_same}
-use Rattle.um_base.specs.declared.act.Answer.{Answer}
-use Rattle.um_base.specs.declared.act.Event.{Event}
-use Rattle.um_base.specs.declared.ask.Ask.{Ask}
-use Rattle.um_base.specs.declared.ask.Waiter.{Waiter}
-use Rattle.um_base.specs.declared.image.Boot.{Boot}
-use Rattle.um_base.specs.declared.image.Image.{Image}
-use Rattle.um_base.specs.declared.image.ObjectDef.{ObjectDef}
+use Rattle.um_erasure.proofs.Words.{◌≡◌, ◌≢◌, ◌⊎◌, inl, inr, ℕ, zero, suc, ◌+◌, ◌<◌, ◌≤◌, Bool, true, false, List, [], ◌∷◌, length, Option, Some, None, refl, sym, ap, ◌∙◌, subst, arith, ◌==◌, ◌||◌, IsTrue, is_some, not, slice_get, slice_index_or, slice_set, unwrap_or, list_all, list_any, and_parts, eqb-false, eqb-true, false≢true, true≢false, get_or-set_same, Answer, Event, Ask, Waiter, Boot, Image, ObjectDef, Addr, Kind, Reply, IsLawful, is_lawful_boot, object_passes, Contents, Object, Status, Pending, Steps, MayChoose, Offers, Runs, objects_from, opening, queue, State, object_at, thread_at, vacant, Call, call_is, core_of, status_is, kind_in, row_kind, IsKnown, below_rows, row_is, IsDescribed, FineAct, More}
 use Rattle.um_base.specs.declared.image.Setup.{Setup}
-use Rattle.um_base.specs.declared.names.Addr.{Addr}
-use Rattle.um_base.specs.declared.names.Kind.{Kind}
 use Rattle.um_base.specs.declared.names.Mpu.{Mpu}
-use Rattle.um_base.specs.declared.names.Reply.{Reply}
-use Rattle.um_base.specs.Lawful.{IsLawful, is_lawful_boot, is_setup_of, is_stack, is_thread, object_passes}
-use Rattle.um_machine.specs.declared.contents.Contents.{Contents}
-use Rattle.um_machine.specs.declared.object.Object.{Object}
-use Rattle.um_machine.specs.declared.object.Status.{Status}
-use Rattle.um_machine.specs.declared.pending.Pending.{Pending}
+use Rattle.um_base.specs.Lawful.{is_setup_of, is_stack, is_thread}
 use Rattle.um_machine.specs.Objects as Plain
-use Rattle.um_machine.specs.Order.{Steps}
-use Rattle.um_machine.specs.Run.{MayChoose, Offers, Runs, boots_row, is_set_up, objects_from, opening, setup_contents}
-use Rattle.um_machine.specs.Services.{fills, queue}
-use Rattle.um_machine.specs.State.{State, object_at, thread_at, vacant}
+use Rattle.um_machine.specs.Run.{boots_row, is_set_up, setup_contents}
+use Rattle.um_machine.specs.Services.{fills}
 use Rattle.um_machine.specs.Table as T
-use Rattle.um_invariants.proofs.Cores.{Call, call_is, core_of, status_is}
 use Rattle.um_invariants.proofs.Facts.{is_standing}
-use Rattle.um_invariants.proofs.Guards.{kind_in, row_kind}
 use Rattle.um_invariants.proofs.Opening.{boot_parts}
 use Rattle.um_invariants.proofs.Reached.{image_move}
 use Rattle.um_invariants.proofs.RunMoves.{step_move}
 use Rattle.um_invariants.proofs.StepMoves.{unchecked}
-use Rattle.um_invariants.proofs.Turns.{IsKnown, below_rows, row_is}
-use Rattle.um_invariants.specs.Described.{IsDescribed}
-use Rattle.um_words.specs.declared.fine.FineAct.{FineAct}
-use Rattle.um_words.specs.declared.fine.More.{More}
 use Rattle.um_erasure.proofs.ContentsKept.{work-objects}
 use Rattle.um_erasure.proofs.Erased.{IsReachable, reach-on}
 use Rattle.um_erasure.proofs.FirstObjects.{Stood, opening-image, opening-objects, stood-or-none}
@@ -48,6 +22,7 @@ use Rattle.um_erasure.proofs.QueuesAfter.{AreQueued, Fills, Holds, offered-queue
 use Rattle.um_erasure.proofs.QueuesKept.{IsQueue, Spares, mark-kept, renews, size-kept, size_of}
 use Rattle.um_erasure.proofs.Reachable.{IsSound, reachable-sound}
 use Rattle.um_erasure.proofs.SuitsKnown.{works-known}
+use Rattle.um_erasure.proofs.Writes.{reserved-objects}
 
 -- What holds of queues: a call knows only queues to be some, and an initialised one is one.
 pub record AreQueues (m : State) : Type 0 where
@@ -106,7 +81,10 @@ Takes n q = ⊥
 marked-apart : (m : State) (t n : ℕ) (q : Pending) (rest : Steps) (y : ℕ) → (object_at (T.after m t n q rest) y).init ≡ true → Takes n q → n ≢ y
 marked-apart m t zero (Pending.Reserve kind) rest y k takes = absurd (let e = takes.1 in omega (arith, e))
 marked-apart m t (suc n) (Pending.Reserve kind) rest y k takes =
-    λ at. true≢false (sym (ap (λ r. (object_at (T.after m t (suc n) (Pending.Reserve kind) rest) r).init) at ∙ k) ∙ unmarked m.objects (suc n) _ refl)
+    λ at.
+    true≢false
+    (sym (ap (λ r. (object_at (T.after m t (suc n) (Pending.Reserve kind) rest) r).init) at ∙ k)
+    ∙ (ap (λ (os : List Object). (slice_index_or os (suc n) vacant).init) (reserved-objects m t n kind rest) ∙ unmarked m.objects (suc n) _ refl))
 marked-apart m t n Pending.Recycle rest y k takes =
     λ at. true≢false (sym (ap (λ r. (object_at (T.after m t n Pending.Recycle rest) r).init) at ∙ k) ∙ unmarked m.objects n vacant refl)
 marked-apart m t n q rest y k takes = absurd takes

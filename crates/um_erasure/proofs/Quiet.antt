@@ -1,24 +1,9 @@
 -- A step that no trace shows leaves the machine's state, and these parts of the relation: what the words of threads say, memory, heap.
-use Rattle.std.proofs.Common.{◌≡◌, ℕ, ◌<◌, true, false, cond, refl, sym, ap, ◌∙◌, subst}
-use Rattle.std.specs.Prelude.{◌+◌, length, slice_index_or}
-use Rattle.um_base.specs.declared.image.Image.{Image}
-use Rattle.um_base.specs.declared.limits.TheConstants.{THREADS}
-use Rattle.um_machine.specs.State.{State}
-use Rattle.um_words.specs.declared.fine.FineAct.{FineAct}
-use Rattle.um_words.specs.declared.fine.Unseen.{Unseen}
-use Rattle.um_words.specs.declared.thread_word.ThreadWord.{ThreadWord}
+use Rattle.um_erasure.proofs.Words.{◌≡◌, ℕ, ◌<◌, true, false, cond, refl, sym, ap, ◌∙◌, subst, slice_index_or, Image, THREADS, State, FineAct, Unseen, ThreadWord, Exchange, FineStep, Site, Heap, Bytes, Cell, SiteState, s_next, same_site, site_after, site_of, Fine, bytes, bytes_state, heap, heap_state, thread_state, WordIs, HeapIs, MemoryIs, Rel}
+use Rattle.std.specs.Prelude.{◌+◌, length}
 use Rattle.um_words.specs.Threads.{thread_after_unseen}
-use Rattle.um_fine.specs.Steps.{Exchange, FineStep, Site}
-use Rattle.um_fine.specs.Heap.{Heap, cost_at}
-use Rattle.um_fine.specs.Memory.{Bytes}
-use Rattle.um_fine.specs.Cells.{Cell}
-use Rattle.um_fine.specs.Sites.{SiteState, s_next, same_site, site_after}
+use Rattle.um_fine.specs.Heap.{cost_at}
 use Rattle.um_fine.specs.Runs.{changed}
-use Rattle.um_fine.specs.FineRun.{site_of}
-use Rattle.um_erasure.specs.Fine.{Fine, bytes, bytes_state, heap, heap_state, thread_state}
-use Rattle.um_erasure.specs.Threads.{WordIs}
-use Rattle.um_erasure.specs.Resources.{HeapIs, MemoryIs}
-use Rattle.um_erasure.specs.Relation.{Rel}
 use Rattle.um_erasure.proofs.Erased.{Goes, GoesBy, stepped}
 
 -- two words of threads say the same, but for whether the thread is held

@@ -1,24 +1,13 @@
 -- What holds of the states that a run of the access-matrix machine reaches: how many threads, rows and objects they have, what um_invariants knows
 -- of them, and that permissions are of live objects.
-use Rattle.std.proofs.Common.{◌≡◌, ℕ, zero, suc, ◌<◌, ◌≤◌, Bool, true, false, List, [], ◌∷◌, length, refl, sym, ap, ◌∙◌, subst, arith}
-use Rattle.std.specs.Prelude.{slice_set, ◌-◌, if◌then◌else◌, nat_lt, replicate, slice_index_or}
-use Rattle.std.proofs.lemmas.List.{length-map, length-set}
-use Rattle.um_base.specs.declared.act.Event.{Event}
-use Rattle.um_base.specs.declared.image.Boot.{Boot}
+use Rattle.um_erasure.proofs.Words.{◌≡◌, ℕ, zero, suc, ◌<◌, ◌≤◌, Bool, true, false, List, [], ◌∷◌, length, refl, sym, ap, ◌∙◌, subst, arith, slice_set, if◌then◌else◌, nat_lt, slice_index_or, length-map, length-set, Event, Boot, Image, ROWS, STATIC_ROWS, THREADS, Row, thread_of_row, Pending, Runs, blank, boot_thread, booted, booted_one, index_or, loaded, opening, State, with_pair, with_thread, at_set, core_of, status_is, IsKnown}
+use Rattle.std.specs.Prelude.{◌-◌, replicate}
 use Rattle.um_base.specs.declared.image.DomainDef.{DomainDef}
-use Rattle.um_base.specs.declared.image.Image.{Image}
-use Rattle.um_base.specs.declared.image.Partition.{Partition}
-use Rattle.um_base.specs.declared.limits.TheConstants.{PARTITION_AREA, ROWS, STACK_AREA, STATIC_ROWS, THREADS}
-use Rattle.um_base.specs.declared.names.Row.{Row}
-use Rattle.um_base.specs.Places.{thread_of_row}
-use Rattle.um_machine.specs.declared.pending.Pending.{Pending}
-use Rattle.um_machine.specs.Memory.{put_bytes, with_bytes}
+use Rattle.um_base.specs.declared.limits.TheConstants.{PARTITION_AREA, STACK_AREA}
+use Rattle.um_machine.specs.Memory.{put_bytes}
 use Rattle.um_machine.specs.Objects as Plain
-use Rattle.um_machine.specs.Run.{Runs, blank, boot_thread, booted, booted_one, granted, index_or, loaded, opening, parts_of}
-use Rattle.um_machine.specs.State.{State, with_pair, with_thread}
-use Rattle.um_invariants.proofs.Cores.{at_set, core_of, status_is}
+use Rattle.um_machine.specs.Run.{granted, parts_of}
 use Rattle.um_invariants.proofs.RunMoves.{known_run}
-use Rattle.um_invariants.proofs.Turns.{IsKnown}
 use Rattle.um_erasure.proofs.DropSteps.{Held}
 use Rattle.um_erasure.proofs.Erased.{IsReachable}
 use Rattle.um_erasure.proofs.FirstObjects.{all-objects, opening-image}
@@ -27,16 +16,11 @@ use Rattle.um_erasure.proofs.ThreadLists.{dues-long, set-long}
 use Rattle.um_erasure.proofs.Writes.{Keeping, Makes, Part, after-kept}
 
 -- any write may be made
-abbrev pub Any : Part → Type 0
-Any part = Unit {0}
+abbrev pub Any : Part → Bool
+Any part = true
 
 pub makes-any : (q : Pending) → Makes Any q
-makes-any (Pending.DropPair who a) = (tt, tt)
-makes-any (Pending.Reserve kind) = (tt, tt)
-makes-any (Pending.Born a) = (tt, tt)
-makes-any (Pending.Drops from) = (tt, tt)
-makes-any (Pending.CleanPair who) = (tt, tt, tt)
-makes-any Pending.Recycle = (tt, tt)
+makes-any Pending.Recycle = tt
 makes-any q = tt
 
 -- as many threads, rows of permissions and objects as there are indices, and in each row one permission a thread
@@ -98,17 +82,6 @@ booted-rows (boot ∷ boots) s =
     let t = index_or (thread_of_row s.image boot.thread.0) in
     booted-rows boots (booted_one boot s) ∙ granted-rows t (boot.thread ∷ boot.grants) (with_thread s t (boot_thread s.image boot))
 
-bytes-rows : (s : State) (a : ℕ) (bs : List ℕ) → length (with_bytes s a bs).pairs ≡ length s.pairs
-bytes-rows s a bs = by (nat_lt a STACK_AREA)
-  where
-    by : (c : Bool) → length (if c then record s { memory = put_bytes s.memory (a - PARTITION_AREA) bs } else record s { stacks = put_bytes s.stacks (a - STACK_AREA) bs }).pairs ≡ length s.pairs
-    by true = refl
-    by false = refl
-
-loaded-rows : (ps : List Partition) (s : State) → length (loaded ps s).pairs ≡ length s.pairs
-loaded-rows [] s = refl
-loaded-rows (p ∷ ps) s = loaded-rows ps (with_bytes s p.range.start.0 p.bytes) ∙ bytes-rows s p.range.start.0 p.bytes
-
 granted-flags : (t : ℕ) (rows : List Row) (s : State) → Flags s → Flags (granted t rows s)
 granted-flags t [] s h = h
 granted-flags t (x ∷ rows) s h = granted-flags t rows (with_pair s t x.0 true) (flags-pair s t x.0 true h)
@@ -119,16 +92,8 @@ booted-flags (boot ∷ boots) s h =
     let t = index_or (thread_of_row s.image boot.thread.0) in
     booted-flags boots (booted_one boot s) (granted-flags t (boot.thread ∷ boot.grants) (with_thread s t (boot_thread s.image boot)) h)
 
-bytes-flags : (s : State) (a : ℕ) (bs : List ℕ) → Flags s → Flags (with_bytes s a bs)
-bytes-flags s a bs h = by (nat_lt a STACK_AREA)
-  where
-    by : (c : Bool) → Flags (if c then record s { memory = put_bytes s.memory (a - PARTITION_AREA) bs } else record s { stacks = put_bytes s.stacks (a - STACK_AREA) bs })
-    by true = h
-    by false = h
-
-loaded-flags : (ps : List Partition) (s : State) → Flags s → Flags (loaded ps s)
-loaded-flags [] s h = h
-loaded-flags (p ∷ ps) s h = loaded-flags ps (with_bytes s p.range.start.0 p.bytes) (bytes-flags s p.range.start.0 p.bytes h)
+loaded-pairs : (image : Image) → (loaded image.partitions (blank image)).pairs ≡ (blank image).pairs
+loaded-pairs image = loaded-read (λ z. z.pairs) (λ z bytes. (refl, refl)) image.partitions (blank image)
 
 copies-at : (n x : ℕ) (flags : List Bool) → x < n → slice_index_or (replicate n flags) x [] ≡ flags
 copies-at zero x flags l = absurd (omega (arith, l))
@@ -150,11 +115,11 @@ opening-wide image few =
     record {
       threads = threads-long image;
       rows = booted-rows image.boots (loaded image.partitions (blank image))
-          ∙ (loaded-rows image.partitions (blank image) ∙ copies-long ROWS (replicate THREADS false));
+          ∙ (ap length (loaded-pairs image) ∙ copies-long ROWS (replicate THREADS false));
       objects = all-objects image 0 few;
       domains = opening-domains image;
       flags = booted-flags image.boots (loaded image.partitions (blank image))
-          (loaded-flags image.partitions (blank image) (λ x l. ap length (copies-at ROWS x (replicate THREADS false) l) ∙ copies-long THREADS false));
+          (λ x l. ap (λ (ps : List (List Bool)). length (slice_index_or ps x [])) (loaded-pairs image) ∙ (ap length (copies-at ROWS x (replicate THREADS false) l) ∙ copies-long THREADS false));
     }
 
 -- What is known of a state.

@@ -1,27 +1,8 @@
 -- Who is ready is parked, stands in the ready list once, and waits for nothing, after every lawful step.
-use Rattle.std.proofs.Common.{◌≡◌, inl, ℕ, ◌+◌, ◌<◌, Bool, true, false, List, [], ◌∷◌, ◌++◌, Option, Some, None, refl, sym, ap, ◌∙◌, subst, arith, eq-eqb}
-use Rattle.std.specs.Prelude.{◌==◌, ◌&&◌, ◌||◌, not, IsTrue, if◌then◌else◌, is_some, slice_index_or, slice_set}
-use Rattle.std.proofs.lemmas.Bool.{eqb-false, eqb-true, false≢true}
-use Rattle.std.proofs.lemmas.Grind.{get_or-set_at}
-use Rattle.std.proofs.lemmas.List.{get_or-set_other}
-use Rattle.um_base.specs.declared.ask.Told.{Told}
-use Rattle.um_base.specs.declared.limits.TheConstants.{THREADS}
-use Rattle.um_machine.specs.declared.thread.Thread.{Thread}
-use Rattle.um_machine.specs.Order.{to_thread}
-use Rattle.um_machine.specs.State.{State, thread_at}
-use Rattle.um_words.specs.declared.fine.FineAct.{FineAct}
-use Rattle.um_words.specs.declared.fine.Unseen.{Unseen}
-use Rattle.um_fine.specs.Answers.{context_in, ready_in, wake_in}
-use Rattle.um_fine.specs.Asks.{says_idle}
-use Rattle.um_fine.specs.Context.{Context}
-use Rattle.um_fine.specs.Places.{Todo, Todos}
-use Rattle.um_fine.specs.Scheduler.{Scheduler, behind, first_taken, has_ready, is_ready, one_less, parked_at, put_back, told_at, waits}
-use Rattle.um_fine.specs.Sites.{same_site}
-use Rattle.um_fine.specs.Steps.{Exchange, FineStep, Site}
-use Rattle.um_erasure.specs.Fine.{Fine, one_if, scheduler}
-use Rattle.um_erasure.specs.Lists.{Adds, adders, counted, has_steps, is_wake, of_thread, wake_of}
-use Rattle.um_erasure.specs.Offers.{Fits, is_over}
-use Rattle.um_erasure.specs.Threads.{ReadyIs, is_ready_there, occurs}
+use Rattle.um_erasure.proofs.Words.{◌≡◌, inl, ℕ, ◌+◌, ◌<◌, Bool, true, false, List, [], ◌∷◌, ◌++◌, Option, Some, None, refl, sym, ap, ◌∙◌, subst, arith, eq-eqb, ◌==◌, ◌&&◌, ◌||◌, not, IsTrue, if◌then◌else◌, is_some, slice_index_or, slice_set, eqb-false, eqb-true, false≢true, get_or-set_at, get_or-set_other, Told, THREADS, Thread, to_thread, State, thread_at, FineAct, Unseen, context_in, ready_in, says_idle, Context, Todo, Todos, Scheduler, first_taken, has_ready, one_less, parked_at, put_back, told_at, waits, same_site, Exchange, FineStep, Site, Fine, one_if, scheduler, Adds, adders, counted, has_steps, is_wake, of_thread, wake_of, Fits, is_over, is_ready_there, occurs}
+use Rattle.um_fine.specs.Answers.{wake_in}
+use Rattle.um_fine.specs.Scheduler.{behind, is_ready}
+use Rattle.um_erasure.specs.Threads.{ReadyIs}
 use Rattle.um_erasure.proofs.Erased.{around}
 use Rattle.um_erasure.proofs.FirstThreads.{one-most}
 use Rattle.um_erasure.proofs.Kept.{idle-takes}

@@ -1,20 +1,5 @@
 -- The ready list has a place for each thread that is put there next: that one isn't in it.
-use Rattle.std.proofs.Common.{◌≡◌, inl, ℕ, ◌+◌, ◌<◌, ◌≤◌, true, false, List, ◌∷◌, length, Option, Some, None, refl, sym, ap, ◌∙◌, subst, arith, eq-eqb}
-use Rattle.std.specs.Prelude.{◌&&◌, ◌||◌, IsTrue, if◌then◌else◌, is_some, nat_lt, not}
-use Rattle.std.specs.List.{list_all}
-use Rattle.std.proofs.lemmas.Bool.{and_parts, false≢true, ltb-true, true≢false}
-use Rattle.um_base.specs.declared.ask.Told.{Told}
-use Rattle.um_base.specs.declared.limits.TheConstants.{THREADS}
-use Rattle.um_machine.specs.declared.thread.Thread.{Thread}
-use Rattle.um_machine.specs.State.{State, thread_at}
-use Rattle.um_fine.specs.Context.{Context}
-use Rattle.um_fine.specs.Places.{Todo, Todos}
-use Rattle.um_fine.specs.Scheduler.{parked_at, told_at, waits}
-use Rattle.um_erasure.specs.Fine.{Fine, one_if, scheduler}
-use Rattle.um_erasure.specs.Lists.{Adds, counted, has_steps, is_wake, wake_of}
-use Rattle.um_erasure.specs.Offers.{Fits}
-use Rattle.um_erasure.specs.Relation.{Rel}
-use Rattle.um_erasure.specs.Threads.{is_ready_there, occurs}
+use Rattle.um_erasure.proofs.Words.{◌≡◌, inl, ℕ, ◌+◌, ◌<◌, ◌≤◌, true, false, List, ◌∷◌, length, Option, Some, None, refl, sym, ap, ◌∙◌, subst, arith, eq-eqb, ◌&&◌, ◌||◌, IsTrue, if◌then◌else◌, is_some, nat_lt, not, list_all, and_parts, false≢true, ltb-true, true≢false, Told, THREADS, Thread, State, thread_at, Context, Todo, Todos, parked_at, told_at, waits, Fine, one_if, scheduler, Adds, counted, has_steps, is_wake, wake_of, Fits, Rel, is_ready_there, occurs}
 use Rattle.um_erasure.proofs.Bounds.{AreBounded, AreThreads}
 use Rattle.um_erasure.proofs.FirstThreads.{one-most}
 use Rattle.um_erasure.proofs.ListWakes.{wakers}

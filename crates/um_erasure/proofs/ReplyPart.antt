@@ -1,35 +1,8 @@
 -- What a processor was told of a domain to which its thread moves is what the machine's move answers, after every lawful step.
-use Rattle.std.proofs.Common.{◌≡◌, ◌⊎◌, inl, inr, ℕ, ◌<◌, Bool, true, false, cond, [], ◌∷◌, length, Option, Some, None, refl, sym, ap, ◌∙◌, subst, arith, eq-eqb}
-use Rattle.std.specs.Prelude.{◌==◌, ◌&&◌, ◌||◌, is_some, unwrap_or}
-use Rattle.std.proofs.lemmas.Bool.{eqb-true, false≢true, true≢false}
-use Rattle.um_base.specs.declared.act.Act.{Act}
-use Rattle.um_base.specs.declared.image.Image.{Image}
-use Rattle.um_base.specs.declared.names.Reply.{Reply}
-use Rattle.um_base.specs.declared.names.ThreadIx.{ThreadIx}
-use Rattle.um_base.specs.Regions.{Partitions}
-use Rattle.um_machine.specs.declared.pending.Pending.{Pending}
-use Rattle.um_machine.specs.declared.thread.Thread.{Thread}
-use Rattle.um_machine.specs.Order.{Steps}
-use Rattle.um_machine.specs.State.{State, thread_at}
+use Rattle.um_erasure.proofs.Words.{◌≡◌, ◌⊎◌, inl, inr, ℕ, ◌<◌, Bool, true, false, cond, [], ◌∷◌, length, Option, Some, None, refl, sym, ap, ◌∙◌, subst, arith, eq-eqb, ◌==◌, ◌&&◌, ◌||◌, is_some, unwrap_or, eqb-true, false≢true, true≢false, Act, Image, Reply, ThreadIx, Partitions, Pending, Thread, Steps, State, thread_at, FineAct, Unseen, DomWord, domain_in, begins_cleaning, Context, after_claim, p_next, unless_loaded, Todo, Todos, Processor, fails, is_of, key_of, SiteState, s_next, same_site, site_after, word_of, FineStep, Site, same-sound, reads, Fine, domain, one_if, AreFramed, Behind, OnMemory, edits_step, has_claimed, has_steps, moves_to, moving, Fits, IsOffered}
 use Rattle.um_machine.specs.Table.{domain_at, move_reply}
-use Rattle.um_words.specs.declared.fine.FineAct.{FineAct}
-use Rattle.um_words.specs.declared.fine.Unseen.{Unseen}
-use Rattle.um_words.specs.declared.dom_word.DomWord.{DomWord}
 use Rattle.um_words.specs.Domains as Words
-use Rattle.um_fine.specs.Answers.{domain_in}
-use Rattle.um_fine.specs.Asks.{begins_cleaning}
-use Rattle.um_fine.specs.Context.{Context}
-use Rattle.um_fine.specs.Follows.{after_claim, p_next, unless_loaded}
-use Rattle.um_fine.specs.Places.{Todo, Todos}
-use Rattle.um_fine.specs.Processor.{Processor, fails, is_of, key_of}
-use Rattle.um_fine.specs.Sites.{SiteState, s_next, same_site, site_after, word_of}
-use Rattle.um_fine.specs.Steps.{FineStep, Site}
-use Rattle.um_fine.proofs.Keys.{same-sound}
-use Rattle.um_erasure.specs.Domains.{reads}
-use Rattle.um_erasure.specs.Fine.{Fine, domain, one_if}
-use Rattle.um_erasure.specs.Frames.{AreFramed, Behind, OnMemory}
-use Rattle.um_erasure.specs.Lists.{domain_moved, edits_step, has_claimed, has_steps, moves_to, moving}
-use Rattle.um_erasure.specs.Offers.{Fits, IsOffered, behind_shown}
+use Rattle.um_erasure.specs.Lists.{domain_moved}
 use Rattle.um_erasure.specs.Offers as O
 use Rattle.um_erasure.proofs.DomainPart.{domain-part}
 use Rattle.um_erasure.proofs.DomainReads.{is_told, next-reply}

@@ -1,25 +1,7 @@
 -- A processor that takes a thread which was told something makes that thread's resume, where the relation holds and the machine tells
 -- only threads that wait.
-use Rattle.std.proofs.Common.{◌≡◌, ℕ, zero, suc, ◌<◌, true, List, [], ◌∷◌, Option, Some, None, refl, sym, ap, ◌∙◌, subst}
-use Rattle.std.specs.Prelude.{IsTrue, is_some, unwrap_or}
-use Rattle.std.proofs.lemmas.Bool.{and_parts, false≢true}
-use Rattle.um_base.specs.declared.ask.Told.{Told}
-use Rattle.um_base.specs.declared.limits.TheConstants.{THREADS}
-use Rattle.um_machine.specs.declared.pending.Pending.{Pending}
-use Rattle.um_machine.specs.declared.thread.Thread.{Thread}
-use Rattle.um_machine.specs.Order.{Steps}
-use Rattle.um_machine.specs.Run.{goes}
-use Rattle.um_machine.specs.State.{State, thread_at}
+use Rattle.um_erasure.proofs.Words.{◌≡◌, ℕ, zero, suc, ◌<◌, true, List, [], ◌∷◌, Option, Some, None, refl, sym, ap, ◌∙◌, subst, IsTrue, is_some, unwrap_or, and_parts, false≢true, Told, THREADS, Pending, Thread, Steps, goes, State, thread_at, Context, no_context, Exchange, FineStep, first_ready, has_ready, parked_at, told_at, waits, SiteMay, CpuMay, says_idle, Fine, scheduler, wake_of, IsOf, first_told, told_by, Rel}
 use Rattle.um_machine.specs.Table as T
-use Rattle.um_fine.specs.Context.{Context, no_context}
-use Rattle.um_fine.specs.Steps.{Exchange, FineStep}
-use Rattle.um_fine.specs.Scheduler.{first_ready, has_ready, parked_at, told_at, waits}
-use Rattle.um_fine.specs.Sites.{SiteMay}
-use Rattle.um_fine.specs.Asks.{CpuMay, says_idle}
-use Rattle.um_erasure.specs.Fine.{Fine, scheduler}
-use Rattle.um_erasure.specs.Lists.{wake_of}
-use Rattle.um_erasure.specs.Threads.{IsOf, first_told, told_by}
-use Rattle.um_erasure.specs.Relation.{Rel}
 use Rattle.um_erasure.proofs.Erased.{Goes, GoesBy}
 use Rattle.um_erasure.proofs.Kept.{idle-step}
 

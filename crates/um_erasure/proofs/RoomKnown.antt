@@ -1,18 +1,7 @@
 -- Words and lists of what a fine run of a described image leaves have room for the next step, where words can count it; and each event that is next
 -- is one that its site takes, but for a move of a thread that is held.
-use Rattle.std.proofs.Common.{◌≡◌, ℕ, ◌<◌, Bool, true, false, ◌∷◌, length, refl, sym, ap, subst}
-use Rattle.std.proofs.lemmas.Bool.{false≢true}
-use Rattle.um_machine.specs.declared.pending.Pending.{Pending}
-use Rattle.um_machine.specs.Order.{Steps}
-use Rattle.um_machine.specs.State.{State}
-use Rattle.um_fine.specs.Context.{Context}
-use Rattle.um_fine.specs.Places.{Todo, Todos}
-use Rattle.um_erasure.specs.Fine.{Fine}
-use Rattle.um_erasure.specs.Lists.{has_steps}
+use Rattle.um_erasure.proofs.Words.{◌≡◌, ℕ, ◌<◌, Bool, true, false, ◌∷◌, length, refl, sym, ap, subst, false≢true, Pending, Steps, State, Context, Todo, Todos, Fine, has_steps, Fits, IsOffered, Rel, CanCount, CanRun}
 use Rattle.um_erasure.specs.Offers as O
-use Rattle.um_erasure.specs.Offers.{Fits, IsOffered}
-use Rattle.um_erasure.specs.Relation.{Rel}
-use Rattle.um_erasure.specs.Room.{CanCount, CanRun}
 use Rattle.um_erasure.proofs.Bounds.{AreBounded}
 use Rattle.um_erasure.proofs.CallBounds.{Bounded}
 use Rattle.um_erasure.proofs.CallsProper.{AreProper}

@@ -1,11 +1,5 @@
 -- The word of a row counts the claims that are taken of it, and those that end.
-use Rattle.std.proofs.Common.{◌≡◌, ℕ, ◌+◌, Bool, true, false, Some, None, refl, arith}
-use Rattle.std.specs.Prelude.{◌&&◌, if◌then◌else◌}
-use Rattle.um_base.specs.declared.act.Act.{Act}
-use Rattle.um_base.specs.declared.act.SetSaid.{SetSaid}
-use Rattle.um_base.specs.declared.names.Addr.{Addr}
-use Rattle.um_words.specs.declared.row_word.RowWord.{RowWord}
-use Rattle.um_words.specs.Rows.{gone_stage, has, is_last, is_live, permitted, row_after_act}
+use Rattle.um_erasure.proofs.Words.{◌≡◌, ℕ, ◌+◌, Bool, true, false, Some, None, refl, arith, ◌&&◌, if◌then◌else◌, Act, SetSaid, Addr, RowWord, gone_stage, has, is_last, is_live, permitted, row_after_act}
 
 -- the claims that an event takes of a row
 abbrev pub won : RowWord → Act → ℕ
@@ -13,7 +7,7 @@ won w (Act.Check a kind want verdict) = elim verdict as (λ _. ℕ) [ None ↦ 1
 won w (Act.Own who given) = 1
 won w act = 0
 
-given-claims : (w : RowWord) (who : ℕ) (b : Bool) → (if b then permitted w who true else w).claims ≡ w.claims
+pub given-claims : (w : RowWord) (who : ℕ) (b : Bool) → (if b then permitted w who true else w).claims ≡ w.claims
 given-claims w who true = refl
 given-claims w who false = refl
 

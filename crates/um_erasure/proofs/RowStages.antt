@@ -1,18 +1,7 @@
 -- A row without an object has no claim, and one whose object is dying has one, after every step that its word takes.
-use Rattle.std.proofs.Common.{◌≡◌, ℕ, ◌+◌, ◌<◌, Bool, true, false, Some, None, refl, sym, ap, ◌∙◌, arith}
-use Rattle.std.specs.Prelude.{◌==◌, ◌&&◌, not, if◌then◌else◌, nat_lt}
-use Rattle.std.proofs.lemmas.Bool.{and_parts, eqb-false, false≢true, ltb-true, not-true, true≢false}
-use Rattle.um_base.specs.declared.act.Act.{Act}
-use Rattle.um_base.specs.declared.act.SetSaid.{SetSaid}
-use Rattle.um_base.specs.declared.names.Errno.{Errno}
+use Rattle.um_erasure.proofs.Words.{◌≡◌, ℕ, ◌+◌, ◌<◌, Bool, true, false, Some, None, refl, sym, ap, ◌∙◌, arith, ◌==◌, ◌&&◌, not, if◌then◌else◌, nat_lt, and_parts, eqb-false, false≢true, ltb-true, not-true, true≢false, Act, SetSaid, Errno, FineAct, More, Unseen, RowWord, Stage, gone_stage, has, is_dying, is_free, is_last, is_live, permitted, row_after, row_after_act, row_says, row_takes, act_in, verdict_in}
 use Rattle.um_invariants.proofs.Turns.{is_lively}
-use Rattle.um_words.specs.declared.fine.FineAct.{FineAct}
-use Rattle.um_words.specs.declared.fine.More.{More}
-use Rattle.um_words.specs.declared.fine.Unseen.{Unseen}
-use Rattle.um_words.specs.declared.row_word.RowWord.{RowWord}
-use Rattle.um_words.specs.declared.row_word.Stage.{Stage}
-use Rattle.um_words.specs.Rows.{gone_stage, has, is_dying, is_free, is_last, is_live, permitted, row_after, row_after_act, row_says, row_says_act, row_takes, row_takes_act}
-use Rattle.um_fine.specs.Answers.{act_in, verdict_in}
+use Rattle.um_words.specs.Rows.{row_says_act, row_takes_act}
 
 -- what the stage of a word says of its claims
 pub record IsStaged (w : RowWord) : Type 0 where
@@ -70,7 +59,7 @@ ended-staged w v false q stage claims h =
       free = λ d. let none = h.free (sym stage ∙ d) in absurd (omega (arith, claims, none));
     }
 
-lively : (s : Stage) → is_live s ≡ true → is_free s ≡ false
+pub lively : (s : Stage) → is_live s ≡ true → is_free s ≡ false
 lively Stage.Live h = refl
 lively Stage.Free h = absurd (false≢true h)
 lively Stage.Dying h = absurd (false≢true h)

@@ -1,18 +1,7 @@
 -- Rows that are neither free nor in cleaning: those that a call holds, those that are claimed, and those of live objects.
-use Rattle.std.proofs.Common.{◌≡◌, ℕ, zero, suc, ◌<◌, Bool, true, false, List, [], ◌∷◌, length, refl, sym, ap, ◌∙◌, arith}
-use Rattle.std.specs.Prelude.{nat_lt, slice_index_or}
-use Rattle.std.proofs.lemmas.Bool.{false≢true, ltb-false, ltb-true}
-use Rattle.um_base.specs.declared.limits.TheConstants.{ROWS}
+use Rattle.um_erasure.proofs.Words.{◌≡◌, ℕ, zero, suc, ◌<◌, Bool, true, false, List, [], ◌∷◌, length, refl, sym, ap, ◌∙◌, arith, nat_lt, slice_index_or, false≢true, ltb-true, ROWS, State, object_at, thread_at, Call, call_is, Stage, is_cleaning, is_free, Fine, row, runs, is_reserved, recyclers, status_of, vacaters, is_over, Rel}
+use Rattle.std.proofs.lemmas.Bool.{ltb-false}
 use Rattle.um_machine.specs.Objects as Plain
-use Rattle.um_machine.specs.State.{State, object_at, thread_at}
-use Rattle.um_invariants.proofs.Cores.{Call, call_is}
-use Rattle.um_words.specs.declared.row_word.Stage.{Stage}
-use Rattle.um_words.specs.Rows.{is_cleaning, is_free}
-use Rattle.um_erasure.specs.Fine.{Fine, row}
-use Rattle.um_erasure.specs.Lists.{runs}
-use Rattle.um_erasure.specs.Objects.{is_reserved, recyclers, status_of, vacaters}
-use Rattle.um_erasure.specs.Offers.{is_over}
-use Rattle.um_erasure.specs.Relation.{Rel}
 use Rattle.um_erasure.proofs.HeldRows.{checked-claimed}
 use Rattle.um_erasure.proofs.Reachable.{IsSound}
 

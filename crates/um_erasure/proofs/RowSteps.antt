@@ -1,41 +1,10 @@
 -- A processor's event on the word of a row, whose answer says whether the object stands, is that step of the machine, where the
 -- relation holds: grants, the permission on a new thread's own object, publications, marks as initialised, and checks.
-use Rattle.std.proofs.Common.{◌≡◌, ◌≢◌, ◌⊎◌, inl, inr, ℕ, ◌<◌, Bool, false, Option, Some, None, refl, sym, ap, ◌∙◌, subst, eq-or-lt_of_le}
-use Rattle.std.specs.Prelude.{◌&&◌, not, IsTrue, if◌then◌else◌}
-use Rattle.std.proofs.lemmas.Bool.{and_parts, false≢true, not-true, true≢false}
-use Rattle.um_base.specs.declared.act.Act.{Act}
-use Rattle.um_base.specs.declared.image.Image.{Image}
-use Rattle.um_base.specs.declared.limits.TheConstants.{ROWS}
-use Rattle.um_base.specs.declared.names.Addr.{Addr}
-use Rattle.um_base.specs.declared.names.Errno.{Errno}
-use Rattle.um_base.specs.declared.names.Kind.{Kind}
-use Rattle.um_base.specs.declared.names.Mode.{Mode}
-use Rattle.um_base.specs.declared.names.Want.{Want}
-use Rattle.um_machine.specs.declared.pending.Refusal.{Refusal}
-use Rattle.um_machine.specs.declared.thread.Thread.{Thread}
+use Rattle.um_erasure.proofs.Words.{◌≡◌, ◌≢◌, ◌⊎◌, inl, inr, ℕ, ◌<◌, Bool, false, Option, Some, None, refl, sym, ap, ◌∙◌, subst, eq-or-lt_of_le, ◌&&◌, not, IsTrue, if◌then◌else◌, and_parts, false≢true, not-true, true≢false, Act, Image, ROWS, Addr, Errno, Kind, Mode, Want, Refusal, Thread, More, ThreadIx, own_row, row_at, Pending, Steps, to_thread, State, is_user, object_at, pair_at, thread_at, FineAct, RowWord, Stage, given_of, has, is_free, is_live, row_says, verdict_of, row_named, act_in, given_in, set_in, verdict_in, Exchange, FineStep, Site, SiteState, is_sort, site_after, site_answers, site_takes, Cell, Todos, kind_of, check_site, shows, Fine, row, row_state, thread_state, is_reserved, recyclers, vacaters, Rel}
 use Rattle.um_machine.specs.Objects as Plain
-use Rattle.um_words.specs.declared.fine.More.{More}
-use Rattle.um_base.specs.declared.names.ThreadIx.{ThreadIx}
-use Rattle.um_base.specs.Places.{own_row, row_at}
-use Rattle.um_machine.specs.declared.pending.Pending.{Pending}
-use Rattle.um_machine.specs.Order.{Steps, to_thread}
-use Rattle.um_machine.specs.State.{State, is_user, object_at, pair_at, thread_at}
 use Rattle.um_machine.specs.Table as T
-use Rattle.um_words.specs.declared.fine.FineAct.{FineAct}
-use Rattle.um_words.specs.declared.row_word.RowWord.{RowWord}
-use Rattle.um_words.specs.declared.row_word.Stage.{Stage}
-use Rattle.um_words.specs.Rows.{given_of, has, is_free, is_live, row_says, set_of, verdict_of}
-use Rattle.um_fine.specs.Addresses.{row_named}
-use Rattle.um_fine.specs.Answers.{act_in, given_in, set_in, verdict_in}
-use Rattle.um_fine.specs.Steps.{Exchange, FineStep, Site}
-use Rattle.um_fine.specs.Sites.{SiteState, is_sort, site_after, site_answers, site_takes}
-use Rattle.um_fine.specs.Cells.{Cell}
-use Rattle.um_fine.specs.Places.{Todos}
-use Rattle.um_fine.specs.Processor.{kind_of}
-use Rattle.um_fine.specs.Asks.{check_site, fits_kind, shows}
-use Rattle.um_erasure.specs.Fine.{Fine, row, row_state, thread_state}
-use Rattle.um_erasure.specs.Objects.{is_reserved, recyclers, vacaters}
-use Rattle.um_erasure.specs.Relation.{Rel}
+use Rattle.um_words.specs.Rows.{set_of}
+use Rattle.um_fine.specs.Asks.{fits_kind}
 use Rattle.um_erasure.proofs.Offered.{IsStep, Shows, act-is, machine-step, own-part, says-at, site-is, takes-at}
 use Rattle.um_erasure.proofs.Says.{Stands, given-agrees, set-agrees, verdict-agrees}
 
@@ -51,7 +20,7 @@ sort-next image Site.heap (SiteState.cell n (Cell.heap k)) act moved h = refl
 sort-next image Site.scheduler (SiteState.cell n (Cell.scheduler s)) act moved h = refl
 sort-next image i s act moved h = absurd (false≢true h)
 
-row-sort : (x : ℕ) (s : SiteState) → IsTrue (is_sort (Site.row x) s) → s ≡ SiteState.row (row_state s)
+pub row-sort : (x : ℕ) (s : SiteState) → IsTrue (is_sort (Site.row x) s) → s ≡ SiteState.row (row_state s)
 row-sort x (SiteState.row w) h = refl
 row-sort x s h = absurd (false≢true h)
 

@@ -1,29 +1,6 @@
 -- The rows that the steps on a processor's list name are rows, after every lawful step.
-use Rattle.std.proofs.Common.{◌≡◌, ℕ, ◌<◌, Bool, true, false, cond, List, [], ◌∷◌, ◌++◌, Option, Some, None, refl, sym, ap, ◌∙◌, subst}
-use Rattle.std.specs.Prelude.{◌==◌, if◌then◌else◌, nat_lt, unwrap_or}
-use Rattle.std.specs.List.{list_all}
-use Rattle.std.proofs.lemmas.Bool.{and_from, and_parts, eqb-true, false≢true, lt-ltb}
-use Rattle.um_base.specs.declared.ask.Told.{Told}
-use Rattle.um_base.specs.declared.image.Image.{Image}
-use Rattle.um_base.specs.declared.limits.TheConstants.{ROWS}
-use Rattle.um_base.specs.declared.names.Addr.{Addr}
-use Rattle.um_base.specs.declared.names.ThreadIx.{ThreadIx}
-use Rattle.um_base.specs.Places.{own_row, row_at, thread_of_row}
-use Rattle.um_machine.specs.declared.pending.Pending.{Pending}
-use Rattle.um_machine.specs.Order.{Steps}
-use Rattle.um_machine.specs.State.{State}
-use Rattle.um_fine.specs.Addresses.{row_named}
-use Rattle.um_fine.specs.Answers.{outcome_in}
-use Rattle.um_fine.specs.Asks.{begins_cleaning, check_site, site_at, site_of_step}
-use Rattle.um_fine.specs.Context.{Context}
-use Rattle.um_fine.specs.FineRun.{cpu_of, same_cpu}
-use Rattle.um_fine.specs.Follows.{behind_step, end_calls, goes_on_by, p_next, row_number, wakes, with_cleaned}
-use Rattle.um_fine.specs.Places.{Todo, Todos, is_cleaning_todo, cleaning_of, end_of_turn, fine_steps, next_steps}
-use Rattle.um_fine.specs.Processor.{Processor, fails}
+use Rattle.um_erasure.proofs.Words.{◌≡◌, ℕ, ◌<◌, Bool, true, false, cond, List, [], ◌∷◌, ◌++◌, Option, Some, None, refl, sym, ap, ◌∙◌, subst, ◌==◌, if◌then◌else◌, nat_lt, unwrap_or, list_all, and_from, and_parts, eqb-true, false≢true, lt-ltb, Told, Image, ROWS, Addr, ThreadIx, own_row, row_at, thread_of_row, Pending, Steps, State, row_named, outcome_in, begins_cleaning, check_site, site_at, site_of_step, Context, cpu_of, same_cpu, behind_step, end_calls, goes_on_by, p_next, row_number, wakes, with_cleaned, Todo, Todos, is_cleaning_todo, cleaning_of, end_of_turn, fine_steps, next_steps, Processor, fails, Exchange, FineStep, Site, Fine, has_steps, names_row}
 use Rattle.um_fine.specs.Runs.{changed}
-use Rattle.um_fine.specs.Steps.{Exchange, FineStep, Site}
-use Rattle.um_erasure.specs.Fine.{Fine}
-use Rattle.um_erasure.specs.Lists.{has_steps, names_row}
 use Rattle.um_erasure.proofs.Leaves.{Lawful}
 use Rattle.um_erasure.proofs.ListGrowth.{cleaning-kept, either-look, ends-always, next-kept, quiet-kept, show-kept, take-kept, turn-kept, visits_row}
 use Rattle.um_erasure.proofs.ObjectsKept.{found-below}

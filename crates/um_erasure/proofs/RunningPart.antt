@@ -1,24 +1,6 @@
 -- The scheduler counts the processors that run a thread, after every lawful step.
-use Rattle.std.proofs.Common.{◌≡◌, ℕ, ◌+◌, ◌-◌, ◌<◌, Bool, true, false, List, [], ◌∷◌, Some, None, refl, sym, ap, ◌∙◌, subst, arith}
-use Rattle.std.specs.Prelude.{IsTrue, nat_lt}
-use Rattle.std.proofs.lemmas.Bool.{and_parts, false≢true, ltb-true}
-use Rattle.um_base.specs.declared.image.Image.{Image}
-use Rattle.um_machine.specs.State.{State}
-use Rattle.um_machine.specs.Order.{to_thread}
-use Rattle.um_words.specs.declared.fine.FineAct.{FineAct}
-use Rattle.um_words.specs.declared.fine.Unseen.{Unseen}
-use Rattle.um_fine.specs.Answers.{ready_in}
-use Rattle.um_fine.specs.Asks.{begins_cleaning, says_idle, site_at}
-use Rattle.um_fine.specs.Follows.{p_next}
-use Rattle.um_fine.specs.Places.{Todo, Todos}
-use Rattle.um_fine.specs.Processor.{Processor}
-use Rattle.um_fine.specs.Scheduler.{Scheduler, first_ready, first_taken, has_place, has_ready, sched_after}
-use Rattle.um_fine.specs.Sites.{same_site}
-use Rattle.um_fine.specs.Steps.{Exchange, FineStep, Site}
-use Rattle.um_erasure.specs.Cleaning.{AreBlocks}
-use Rattle.um_erasure.specs.Fine.{Fine, one_if, over_processors, scheduler}
-use Rattle.um_erasure.specs.Frames.{AreFramed}
-use Rattle.um_erasure.specs.Lists.{has_steps, runs}
+use Rattle.um_erasure.proofs.Words.{◌≡◌, ℕ, ◌+◌, ◌-◌, ◌<◌, Bool, true, false, List, [], ◌∷◌, Some, None, refl, sym, ap, ◌∙◌, subst, arith, IsTrue, nat_lt, and_parts, false≢true, ltb-true, Image, State, to_thread, FineAct, Unseen, ready_in, begins_cleaning, says_idle, site_at, p_next, Todo, Todos, Processor, Scheduler, first_ready, first_taken, has_ready, sched_after, same_site, Exchange, FineStep, Site, AreBlocks, Fine, one_if, over_processors, scheduler, AreFramed, has_steps, runs}
+use Rattle.um_fine.specs.Scheduler.{has_place}
 use Rattle.um_erasure.specs.Threads.{RunningIs}
 use Rattle.um_erasure.proofs.Erased.{around}
 use Rattle.um_erasure.proofs.Kept.{idle-moves, idle-takes}

@@ -1,35 +1,11 @@
 -- What a fine step says is what the access-matrix machine's step says, where word, cell and table stand for its state.
-use Rattle.std.proofs.Common.{◌≡◌, ◌≢◌, ℕ, Bool, true, false, [], Option, Some, refl, sym, ap, ◌∙◌, subst}
-use Rattle.std.specs.Prelude.{◌&&◌, not, slice_index_or, slice_set, if◌then◌else◌, nat_le}
-use Rattle.std.specs.List.{list_all}
-use Rattle.um_base.specs.declared.act.Given.{Given}
-use Rattle.um_base.specs.declared.act.Leftover.{Leftover}
-use Rattle.um_base.specs.declared.act.SetSaid.{SetSaid}
-use Rattle.um_base.specs.declared.ask.Ask.{Ask}
-use Rattle.um_base.specs.declared.limits.TheConstants.{STATIC_ROWS}
-use Rattle.um_base.specs.declared.names.Access.{Access}
-use Rattle.um_base.specs.declared.names.Addr.{Addr}
-use Rattle.um_base.specs.declared.names.Errno.{Errno}
-use Rattle.um_base.specs.declared.names.Kind.{Kind}
-use Rattle.um_base.specs.declared.names.Mode.{Mode}
-use Rattle.um_base.specs.declared.names.Want.{Want}
+use Rattle.um_erasure.proofs.Words.{◌≡◌, ◌≢◌, ℕ, Bool, true, false, [], Option, Some, refl, sym, ap, ◌∙◌, subst, ◌&&◌, not, slice_index_or, slice_set, if◌then◌else◌, nat_le, list_all, Given, Leftover, SetSaid, Ask, STATIC_ROWS, Access, Addr, Errno, Kind, Mode, Want, Status, allowed, bytes_at, to_thread, acted, State, is_user, object_at, pair_at, thread_at, with_pair, RowWord, Stage, given_of, is_live, left_of, verdict_of, Context, ObjectCell, Bytes, read, Processor, kind_of, allows, status_of}
 use Rattle.um_base.specs.Regions.{regions_allow}
-use Rattle.um_machine.specs.declared.object.Status.{Status}
-use Rattle.um_machine.specs.Memory.{allowed, bytes_at, regions_of}
+use Rattle.um_machine.specs.Memory.{regions_of}
 use Rattle.um_machine.specs.Objects as Plain
-use Rattle.um_machine.specs.Order.{to_thread}
-use Rattle.um_machine.specs.Services.{acted}
-use Rattle.um_machine.specs.State.{State, is_user, object_at, pair_at, thread_at, with_pair}
 use Rattle.um_machine.specs.Table as T
-use Rattle.um_words.specs.declared.row_word.RowWord.{RowWord}
-use Rattle.um_words.specs.declared.row_word.Stage.{Stage}
-use Rattle.um_words.specs.Rows.{given_of, is_live, left_of, set_of, verdict_of}
-use Rattle.um_fine.specs.Context.{Context}
-use Rattle.um_fine.specs.Objects.{ObjectCell}
-use Rattle.um_fine.specs.Memory.{Bytes, read}
-use Rattle.um_fine.specs.Processor.{Processor, kind_of, loaded}
-use Rattle.um_fine.specs.Asks.{allows}
-use Rattle.um_erasure.specs.Objects.{status_of}
+use Rattle.um_words.specs.Rows.{set_of}
+use Rattle.um_fine.specs.Processor.{loaded}
 
 -- A row word that stands for the object of a row and its pairs, where the object isn't between its `vacate` and its `recycle`.
 pub record Stands (m : State) (x : ℕ) (birth : Bool) (w : RowWord) : Type 0 where

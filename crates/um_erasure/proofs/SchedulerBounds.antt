@@ -1,23 +1,6 @@
 -- What stands with the scheduler, and which threads are held, keeps within the bounds by every lawful step.
-use Rattle.std.proofs.Common.{◌≡◌, inl, ℕ, Bool, true, false, cond, List, [], ◌∷◌, ◌++◌, Option, Some, None, refl, sym, ap, ◌∙◌, subst}
-use Rattle.std.specs.Prelude.{nat_lt, slice_index_or, slice_set, unwrap_or}
-use Rattle.std.specs.List.{list_all}
-use Rattle.std.proofs.lemmas.Bool.{and_from, and_parts, eqb-true, lt-ltb, true≢false}
-use Rattle.um_base.specs.declared.limits.TheConstants.{THREADS}
-use Rattle.um_machine.specs.Order.{to_thread}
-use Rattle.um_machine.specs.State.{State}
-use Rattle.um_invariants.proofs.Cores.{at_set}
-use Rattle.um_words.specs.declared.fine.FineAct.{FineAct}
-use Rattle.um_words.specs.declared.fine.Unseen.{Unseen}
-use Rattle.um_words.specs.Threads.{thread_after}
-use Rattle.um_fine.specs.Answers.{context_in, ready_in}
-use Rattle.um_fine.specs.Context.{Context}
-use Rattle.um_fine.specs.Places.{Todo, Todos}
-use Rattle.um_fine.specs.Scheduler.{Scheduler, behind, first_taken, parked_at, put_back}
-use Rattle.um_fine.specs.Sites.{SiteState, s_next, same_site, site_after}
-use Rattle.um_fine.specs.Steps.{Exchange, FineStep, Site}
-use Rattle.um_erasure.specs.Fine.{Fine, scheduler, thread_state, word}
-use Rattle.um_erasure.specs.Lists.{Adds, has_steps}
+use Rattle.um_erasure.proofs.Words.{◌≡◌, inl, ℕ, Bool, true, false, cond, List, [], ◌∷◌, ◌++◌, Option, Some, None, refl, sym, ap, ◌∙◌, subst, nat_lt, slice_index_or, slice_set, unwrap_or, list_all, and_from, and_parts, eqb-true, lt-ltb, true≢false, THREADS, to_thread, State, at_set, FineAct, Unseen, thread_after, context_in, ready_in, Context, Todo, Todos, Scheduler, first_taken, parked_at, put_back, SiteState, s_next, same_site, site_after, Exchange, FineStep, Site, Fine, scheduler, thread_state, word, Adds, has_steps}
+use Rattle.um_fine.specs.Scheduler.{behind}
 use Rattle.um_erasure.proofs.Bounds.{AreBounded, AreThreads}
 use Rattle.um_erasure.proofs.CallBoundsKept.{IsBounded}
 use Rattle.um_erasure.proofs.Erased.{around}

@@ -1,14 +1,5 @@
 -- The scheduler has a place for each thread index, after every lawful step.
-use Rattle.std.proofs.Common.{◌≡◌, ℕ, Bool, true, false, List, [], ◌∷◌, length, refl, ap, ◌∙◌}
-use Rattle.std.proofs.lemmas.List.{length-set}
-use Rattle.um_machine.specs.State.{State}
-use Rattle.um_words.specs.declared.fine.FineAct.{FineAct}
-use Rattle.um_words.specs.declared.fine.Unseen.{Unseen}
-use Rattle.um_fine.specs.Scheduler.{Scheduler, first_taken, sched_after}
-use Rattle.um_fine.specs.Sites.{same_site}
-use Rattle.um_fine.specs.Steps.{Exchange, FineStep, Site}
-use Rattle.um_fine.proofs.Keys.{same-sound}
-use Rattle.um_erasure.specs.Fine.{Fine, scheduler}
+use Rattle.um_erasure.proofs.Words.{◌≡◌, ℕ, Bool, true, false, List, [], ◌∷◌, length, refl, ap, ◌∙◌, length-set, State, FineAct, Unseen, Scheduler, first_taken, sched_after, same_site, Exchange, FineStep, Site, same-sound, Fine, scheduler}
 use Rattle.um_erasure.specs.Threads.{SchedulerIs}
 use Rattle.um_erasure.proofs.Erased.{around}
 use Rattle.um_erasure.proofs.Leaves.{Lawful}

@@ -1,24 +1,9 @@
 -- The cell of the scheduler after a lawful step: what it takes, and what it keeps then.
-use Rattle.std.proofs.Common.{◌≡◌, ℕ, true, false, cond, Option, Some, None, refl, sym, ap, ◌∙◌, subst}
-use Rattle.std.specs.Prelude.{if◌then◌else◌, nat_lt}
-use Rattle.std.proofs.lemmas.Bool.{and_parts}
-use Rattle.um_base.specs.declared.image.Image.{Image}
-use Rattle.um_base.specs.Places.{row_at}
-use Rattle.um_machine.specs.declared.pending.Pending.{Pending}
-use Rattle.um_words.specs.declared.fine.FineAct.{FineAct}
-use Rattle.um_fine.specs.Asks.{check_site, moves, says, site_at, site_of_step}
-use Rattle.um_fine.specs.Cells.{Cell}
-use Rattle.um_fine.specs.Places.{Todos}
-use Rattle.um_fine.specs.Processor.{Processor, fails}
-use Rattle.um_fine.specs.Scheduler.{sched_after, sched_moves, sched_says, sched_takes}
-use Rattle.um_fine.specs.Sites.{SiteState, s_next, same_site, site_after, site_answers, site_moves, site_takes, word_of}
-use Rattle.um_fine.specs.Steps.{Exchange, FineStep, Site}
-use Rattle.um_fine.proofs.Keys.{same-itself}
-use Rattle.um_erasure.specs.Fine.{Fine, scheduler, scheduler_state}
+use Rattle.um_erasure.proofs.Words.{◌≡◌, ℕ, true, false, cond, Option, Some, None, refl, sym, ap, ◌∙◌, subst, if◌then◌else◌, nat_lt, and_parts, Image, row_at, Pending, FineAct, check_site, moves, says, site_at, site_of_step, Cell, Todos, Processor, fails, sched_after, sched_takes, SiteState, s_next, same_site, site_after, site_answers, site_moves, site_takes, word_of, Exchange, FineStep, Site, same-itself, Fine, scheduler, scheduler_state, State}
+use Rattle.um_fine.specs.Scheduler.{sched_moves, sched_says}
 use Rattle.um_erasure.proofs.Erased.{around}
 use Rattle.um_erasure.proofs.Kept.{scheduler-sort}
 use Rattle.um_erasure.proofs.Leaves.{Lawful, maker}
-use Rattle.um_machine.specs.State.{State}
 
 -- no event of a pending step is made there
 pub shown-elsewhere : (image : Image) (p : Processor) (q : Pending) → same_site (site_of_step image p q) Site.scheduler ≡ false

@@ -1,39 +1,10 @@
 -- The size of a queue's messages that a processor has looked at is that of the machine, after every lawful step: its thread's call holds the
 -- queue, so nobody frees it, and no act makes other contents of it.
-use Rattle.std.proofs.Common.{◌≡◌, inr, ℕ, ◌<◌, Bool, true, false, cond, [], ◌∷◌, Option, Some, None, refl, sym, ap, ◌∙◌, subst}
-use Rattle.std.specs.Prelude.{◌==◌, if◌then◌else◌, slice_index_or, unwrap_or}
-use Rattle.std.proofs.lemmas.Bool.{eqb-true, false≢true}
-use Rattle.um_base.specs.declared.image.Image.{Image}
-use Rattle.um_base.specs.declared.limits.TheConstants.{ROWS}
-use Rattle.um_base.specs.declared.names.Addr.{Addr}
-use Rattle.um_base.specs.declared.names.Kind.{Kind}
-use Rattle.um_machine.specs.declared.contents.Contents.{Contents}
-use Rattle.um_machine.specs.declared.pending.Amount.{Amount}
-use Rattle.um_machine.specs.declared.pending.Pending.{Pending}
-use Rattle.um_machine.specs.declared.thread.Thread.{Thread}
-use Rattle.um_machine.specs.Order.{Steps, to_thread}
-use Rattle.um_machine.specs.State.{State, object_at, thread_at}
+use Rattle.um_erasure.proofs.Words.{◌≡◌, inr, ℕ, ◌<◌, Bool, true, false, cond, [], ◌∷◌, Option, Some, None, refl, sym, ap, ◌∙◌, subst, ◌==◌, if◌then◌else◌, slice_index_or, unwrap_or, eqb-true, false≢true, Image, ROWS, Addr, Kind, Contents, Amount, Pending, Thread, Steps, to_thread, State, object_at, thread_at, FineAct, Unseen, row_kind, below_rows, row_named, domain_in, is_word_read, begins_cleaning, Cell, Context, after_claim, after_show, goes_on_by, p_next, unless_loaded, with_cleaned, ObjectCell, Todo, Todos, Processor, is_of, key_of, SiteState, site_moves, Exchange, FineStep, Site, Fine, object, AreFramed, has_steps, looked, Fits, IsOffered}
 use Rattle.um_machine.specs.Table.{message_size}
-use Rattle.um_words.specs.declared.fine.FineAct.{FineAct}
-use Rattle.um_words.specs.declared.fine.Unseen.{Unseen}
-use Rattle.um_invariants.proofs.Guards.{row_kind}
-use Rattle.um_invariants.proofs.Turns.{below_rows}
-use Rattle.um_fine.specs.Addresses.{row_named}
-use Rattle.um_fine.specs.Answers.{domain_in, is_word_read, size_in}
-use Rattle.um_fine.specs.Asks.{begins_cleaning}
-use Rattle.um_fine.specs.Cells.{Cell}
-use Rattle.um_fine.specs.Context.{Context}
-use Rattle.um_fine.specs.Follows.{after_claim, after_show, goes_on_by, p_next, unless_loaded, with_cleaned}
-use Rattle.um_fine.specs.Objects.{ObjectCell}
-use Rattle.um_fine.specs.Places.{Todo, Todos}
-use Rattle.um_fine.specs.Processor.{Processor, is_of, key_of}
-use Rattle.um_fine.specs.Sites.{SiteState, site_moves}
-use Rattle.um_fine.specs.Steps.{Exchange, FineStep, Site}
-use Rattle.um_erasure.specs.Fine.{Fine, object}
-use Rattle.um_erasure.specs.Frames.{AreFramed}
-use Rattle.um_erasure.specs.Lists.{has_steps, looked, queue_in}
+use Rattle.um_fine.specs.Answers.{size_in}
+use Rattle.um_erasure.specs.Lists.{queue_in}
 use Rattle.um_erasure.specs.Looks.{IsSized}
-use Rattle.um_erasure.specs.Offers.{Fits, IsOffered, behind_shown}
 use Rattle.um_erasure.specs.Offers as O
 use Rattle.um_erasure.proofs.Erased.{around}
 use Rattle.um_erasure.proofs.HeldRows.{checked-claimed, claimed-whole}

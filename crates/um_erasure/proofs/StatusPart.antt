@@ -1,49 +1,17 @@
 -- The word of each row says what its object is, after every lawful step.
-use Rattle.std.proofs.Common.{◌≡◌, ◌⊎◌, inl, inr, ℕ, zero, suc, ◌+◌, ◌<◌, ◌≤◌, Bool, true, false, List, [], ◌∷◌, length, Option, Some, None, refl, sym, ap, ◌∙◌, subst, arith, eq-or-lt_of_le}
-use Rattle.std.specs.Prelude.{◌==◌, ◌&&◌, not, if◌then◌else◌, nat_le, slice_index_or, slice_set, unwrap_or}
-use Rattle.std.proofs.lemmas.Bool.{and_parts, eqb-false, eqb-true, false≢true, leb-true, not-true, true≢false}
-use Rattle.std.proofs.lemmas.List.{get_or-set_other, get_or-set_same, length-set}
-use Rattle.um_base.specs.declared.act.Act.{Act}
-use Rattle.um_base.specs.declared.act.Leftover.{Leftover}
-use Rattle.um_base.specs.declared.act.SetSaid.{SetSaid}
-use Rattle.um_base.specs.declared.image.Image.{Image}
-use Rattle.um_base.specs.declared.image.ObjectDef.{ObjectDef}
-use Rattle.um_base.specs.declared.limits.TheConstants.{ROWS, STATIC_ROWS}
-use Rattle.um_base.specs.declared.names.Addr.{Addr}
-use Rattle.um_base.specs.declared.names.Kind.{Kind}
-use Rattle.um_base.specs.declared.names.ThreadIx.{ThreadIx}
-use Rattle.um_base.specs.Places.{dynamic_kind, own_row}
+use Rattle.um_erasure.proofs.Words.{◌≡◌, ◌⊎◌, inl, inr, ℕ, zero, suc, ◌+◌, ◌<◌, ◌≤◌, Bool, true, false, List, [], ◌∷◌, length, Option, Some, None, refl, sym, ap, ◌∙◌, subst, arith, eq-or-lt_of_le, ◌==◌, ◌&&◌, not, if◌then◌else◌, nat_le, slice_index_or, slice_set, unwrap_or, and_parts, eqb-false, eqb-true, false≢true, leb-true, not-true, true≢false, get_or-set_other, get_or-set_same, length-set, Act, Leftover, SetSaid, Image, ObjectDef, ROWS, STATIC_ROWS, Addr, Kind, ThreadIx, own_row, Object, Status, Pending, Steps, to_thread, MayChoose, State, object_at, thread_at, vacant, FineAct, More, Unseen, RowWord, Stage, gone_stage, has, is_cleaning, is_dying, is_free, is_last, is_live, permitted, row_after, row_takes, address_of, row_named, act_in, leftover_in, set_in, begins_cleaning, by_me, says_show, site_at, row_number, Todo, Todos, kind_of, same_site, FineStep, Site, Fine, one_if, row, is_recycle, is_vacate, is_reserved, recyclers, status_of, vacaters, Given}
+use Rattle.um_base.specs.Places.{dynamic_kind}
 use Rattle.um_machine.specs.declared.contents.Contents.TheVariants as Contents
-use Rattle.um_machine.specs.declared.object.Object.{Object}
-use Rattle.um_machine.specs.declared.object.Status.{Status}
-use Rattle.um_machine.specs.declared.pending.Pending.{Pending}
 use Rattle.um_machine.specs.Objects as Plain
-use Rattle.um_machine.specs.Order.{Steps, to_thread}
-use Rattle.um_machine.specs.Run.{MayChoose}
-use Rattle.um_machine.specs.State.{State, object_at, thread_at, vacant, with_object}
 use Rattle.um_machine.specs.Table as T
 use Rattle.um_invariants.proofs.Facts.{no_slice, not_less, same_kind}
-use Rattle.um_words.specs.declared.fine.FineAct.{FineAct}
-use Rattle.um_words.specs.declared.fine.More.{More}
-use Rattle.um_words.specs.declared.fine.Unseen.{Unseen}
-use Rattle.um_words.specs.declared.row_word.RowWord.{RowWord}
-use Rattle.um_words.specs.declared.row_word.Stage.{Stage}
-use Rattle.um_words.specs.Rows.{after_set, counted_row, gone_stage, has, is_cleaning, is_dying, is_free, is_last, is_live, permitted, row_after, row_takes}
-use Rattle.um_fine.specs.Addresses.{address_of, row_named}
-use Rattle.um_fine.specs.Answers.{act_in, left_in, set_in}
-use Rattle.um_fine.specs.Asks.{begins_cleaning, by_me, says_show, site_at}
-use Rattle.um_fine.specs.Follows.{row_number}
-use Rattle.um_fine.specs.Places.{Todo, Todos}
-use Rattle.um_fine.specs.Processor.{kind_in, kind_of}
-use Rattle.um_fine.specs.Sites.{same_site}
-use Rattle.um_fine.specs.Steps.{FineStep, Site}
-use Rattle.um_erasure.specs.Fine.{Fine, one_if, row}
-use Rattle.um_erasure.specs.Lists.{is_recycle, is_vacate}
-use Rattle.um_erasure.specs.Objects.{StatusIs, is_reserved, recyclers, status_of, vacaters}
+use Rattle.um_words.specs.Rows.{after_set, counted_row}
+use Rattle.um_fine.specs.Processor.{kind_in}
+use Rattle.um_erasure.specs.Objects.{StatusIs}
 use Rattle.um_erasure.proofs.CellSteps.{idle-count, recycles-cleared, takes-quiet}
 use Rattle.um_erasure.proofs.CleanersPart.{none-vacates, visit-is}
 use Rattle.um_erasure.proofs.CleanersSteps.{gain, no-gain, rec-sum, row-else, row-here, row-takes-it, vac-sum}
-use Rattle.um_erasure.proofs.CleaningFacts.{cleaning-is, ends-free, left-gone, takes_last}
+use Rattle.um_erasure.proofs.CleaningFacts.{cleaning-is, ends-free, left-gone, takes_last, drop-object}
 use Rattle.um_erasure.proofs.ContentsKept.{work-objects}
 use Rattle.um_erasure.proofs.DomainReads.{eqb-swap}
 use Rattle.um_erasure.proofs.DropSteps.{left-here}
@@ -57,10 +25,11 @@ use Rattle.um_erasure.proofs.Reachable.{sound-held}
 use Rattle.um_erasure.proofs.RowSteps.{named-row, settled, stands}
 use Rattle.um_erasure.proofs.Says as Says
 use Rattle.um_erasure.proofs.SchedulerSteps.{made-at, made-says}
-use Rattle.um_erasure.proofs.StatusKept.{Marks, Traits, drop-object, is_marking, marks-untouched, marks_of, traits-kept, traits_of}
+use Rattle.um_erasure.proofs.StatusKept.{Marks, Traits, is_marking, marks-untouched, marks_of, traits-kept, traits_of}
 use Rattle.um_erasure.proofs.StepReads.{is-behind}
 use Rattle.um_erasure.proofs.VisitSteps.{visit-site}
 use Rattle.um_erasure.proofs.WordsKept.{IsShown}
+use Rattle.um_erasure.proofs.Writes.{with_dropped, with_cleaner, after_saying, reserved-objects}
 
 -- Stages and statuses.
 
@@ -392,7 +361,7 @@ module _ (f : Fine) (m : State) (e : FineStep) (law : Lawful f m e) (x : ℕ) (f
       o = record (object_at m y) { public = true }
 
       After-by : Bool → State
-      After-by b = T.goes_on (if b then m else with_object m y o) p.context.thread (thread_at m p.context.thread) rest
+      After-by b = after_saying m p.context.thread n (Pending.Publish a) (Act.Publish a (if b then Given.Gone else Given.Done)) rest
 
       away : (y == x) ≡ false → (b : Bool) → traits_of (object_at (After-by b) x) ≡ traits_of (object_at m x)
       away other true = refl
@@ -430,7 +399,7 @@ module _ (f : Fine) (m : State) (e : FineStep) (law : Lawful f m e) (x : ℕ) (f
       q = Pending.SetInit a strict undo
 
       After-by : SetSaid → State
-      After-by said = T.after_set m p.context.thread (thread_at m p.context.thread) a undo rest said
+      After-by said = after_saying m p.context.thread n q (Act.SetInit a said) rest
 
       away : (y == x) ≡ false → (said : SetSaid) → traits_of (object_at (After-by said) x) ≡ traits_of (object_at m x)
       away other SetSaid.Done = other-row y (record (object_at m y) { init = true }) other
@@ -520,8 +489,11 @@ module _ (f : Fine) (m : State) (e : FineStep) (law : Lawful f m e) (x : ℕ) (f
       o : Object
       o = record vacant { kind = Some kind; status = Status.Reserved; cost = T.cost_of (thread_at m p.context.thread).pool 64 }
 
+      at-row : object_at (T.after m p.context.thread (suc n) q rest) x ≡ slice_index_or (slice_set m.objects (suc n) o) x vacant
+      at-row = ap (λ (os : List Object). slice_index_or os x vacant) (reserved-objects m p.context.thread n kind rest)
+
       by : (STATIC_ROWS ≤ suc n) → dynamic_kind (suc n) ≡ kind → (object_at m (suc n)).status ≡ Status.Free → (b : Bool) → (suc n == x) ≡ b → Result (T.after m p.context.thread (suc n) q rest)
-      by dynamic same free false k = leaves q rest todo (suc n) h is refl (other-row (suc n) o k)
+      by dynamic same free false k = leaves q rest todo (suc n) h is refl (ap traits_of at-row ∙ other-row (suc n) o k)
       by dynamic same free true k =
           let at : suc n ≡ x = eqb-true (suc n) x k in
           let status : (object_at m x).status ≡ Status.Free = ap (λ r. (object_at m r).status) (sym at) ∙ free in
@@ -532,7 +504,7 @@ module _ (f : Fine) (m : State) (e : FineStep) (law : Lawful f m e) (x : ℕ) (f
           let bare = was.bare stage in
           let init = ap (λ (k : Marks). k.init) marks ∙ bare.0 in
           let public = ap (λ (k : Marks). k.public) marks ∙ bare.1 in
-          let object : object_at (T.after m p.context.thread (suc n) q rest) x ≡ o = this-row (suc n) o at in
+          let object : object_at (T.after m p.context.thread (suc n) q rest) x ≡ o = at-row ∙ this-row (suc n) o at in
           let more = rises q rest todo (suc n) h is in
           record {
             status = λ z. ap (λ (w : Object). w.status) object ∙ sym (λ i. status_of (now i) (is_reserved (object i).status));
@@ -566,13 +538,13 @@ module _ (f : Fine) (m : State) (e : FineStep) (law : Lawful f m e) (x : ℕ) (f
       let z = T.row_of m a in
       let same = named-row f m law.rel a in
       let d = drop-object m who.0 z x in
-      drop-case (T.after m p.context.thread n (Pending.DropPair who a) rest) who a (left_in (act_in e.act)) (row_named f.image a) p.context.thread More.Nothing
+      drop-case (T.after m p.context.thread n (Pending.DropPair who a) rest) who a (leftover_in (act_in e.act)) (row_named f.image a) p.context.thread More.Nothing
       (Todo.show (Pending.DropPair who a) rest) todo h.at (last-shown (Pending.DropPair who a) rest todo h.at) refl refl (site-is h) is.said
       (λ ne. ap traits_of (d.1 (λ k. ne (k ∙ same))))
       (λ k quiet. ap traits_of (d.0 (ap (λ y. takes_last (T.dropped m who.0 y)) (same ∙ k) ∙ quiet)))
       (λ k loud.
       let at = same ∙ k in
-      ap (λ y. traits_of (object_at (T.after_drop m who.0 z) y)) (sym at)
+      ap (λ y. traits_of (object_at (with_dropped m who.0 z) y)) (sym at)
       ∙ (ap traits_of (d.2 (in-objects (subst (λ y. y < ROWS) (sym at) few)) (ap (λ y. takes_last (T.dropped m who.0 y)) at ∙ loud)) ∙ ap (λ y. record (traits_of (object_at m y)) { status = Status.Gone }) at))
   by-event (Pending.Publish a) rest todo n h shown is = on-publish a rest todo n h is
   by-event (Pending.SetInit a strict undo) rest todo n h shown is = on-set a strict undo rest todo n h is
@@ -636,22 +608,22 @@ module _ (f : Fine) (m : State) (e : FineStep) (law : Lawful f m e) (x : ℕ) (f
       beside (T.after m p.context.thread y (Pending.Inherit (to_thread who)) rest) (Todo.pass who y) todo h.at tt refl refl (same-marks _ said (λ w. refl)) refl
   status-part _ (drops from y rest todo h said) =
       let d = drop-object m p.context.thread y x in
-      drop-case (T.after m p.context.thread y (Pending.Drops from) rest) (to_thread p.context.thread) (address_of f.image y) (left_in (act_in e.act)) y p.context.thread More.Nothing
+      drop-case (T.after m p.context.thread y (Pending.Drops from) rest) (to_thread p.context.thread) (address_of f.image y) (leftover_in (act_in e.act)) y p.context.thread More.Nothing
       (Todo.drop y) todo h.at tt refl refl (visit-site h) said (λ ne. ap traits_of (d.1 ne)) (λ k quiet. ap traits_of (d.0 (ap (λ z. takes_last (T.dropped m p.context.thread z)) k ∙ quiet)))
       (λ k loud.
-      ap (λ z. traits_of (object_at (T.after_drop m p.context.thread y) z)) (sym k)
+      ap (λ z. traits_of (object_at (with_dropped m p.context.thread y) z)) (sym k)
       ∙ (ap traits_of (d.2 (in-objects h.few) (ap (λ z. takes_last (T.dropped m p.context.thread z)) k ∙ loud)) ∙ ap (λ z. record (traits_of (object_at m z)) { status = Status.Gone }) k))
   status-part _ (cleans who y rest todo h said) =
       let z = own_row m.image who in
       let o = record (object_at m z) { cleaner = Some (to_thread p.context.thread) } in
-      let s = T.cleaned_by m p.context.thread z in
+      let s = with_cleaner m p.context.thread z in
       let first : (r : ℕ) → traits_of (object_at s r) ≡ traits_of (object_at m r) = λ r. set-kept traits_of m.objects z r o refl in
       let d = drop-object s who y x in
-      drop-case (T.after m p.context.thread y (Pending.CleanPair (to_thread who)) rest) (to_thread who) (address_of f.image y) (left_in (act_in e.act)) y p.context.thread More.Nothing
+      drop-case (T.after m p.context.thread y (Pending.CleanPair (to_thread who)) rest) (to_thread who) (address_of f.image y) (leftover_in (act_in e.act)) y p.context.thread More.Nothing
       (Todo.clean_pair who y) todo h.at tt refl refl (visit-site h) said
       (λ ne. ap traits_of (d.1 ne) ∙ first x) (λ k quiet. ap traits_of (d.0 (ap (λ i. takes_last (T.dropped m who i)) k ∙ quiet)) ∙ first x)
       (λ k loud.
-      ap (λ i. traits_of (object_at (T.after_drop s who y) i)) (sym k)
+      ap (λ i. traits_of (object_at (with_dropped s who y) i)) (sym k)
       ∙ (ap traits_of (d.2 (subst (λ i. y < i) (sym (length-set m.objects z o)) (in-objects h.few)) (ap (λ i. takes_last (T.dropped m who i)) k ∙ loud))
       ∙ ((λ i. record (first y i) { status = Status.Gone }) ∙ ap (λ i. record (traits_of (object_at m i)) { status = Status.Gone }) k)))
   status-part _ (recycles y rest todo at l said chosen) = recycle-case y rest todo at said

@@ -1,16 +1,5 @@
 -- What stands behind the entry of a list whose step a processor makes.
-use Rattle.std.proofs.Common.{◌≡◌, Bool, false, [], ◌∷◌, ◌∙◌, ap, refl, subst, sym, true}
-use Rattle.std.proofs.lemmas.Bool.{true≢false}
-use Rattle.um_machine.specs.declared.pending.Pending.{Pending}
-use Rattle.um_machine.specs.Order.{Steps}
-use Rattle.um_machine.specs.State.{State}
-use Rattle.um_fine.specs.Answers.{is_word_read}
-use Rattle.um_fine.specs.Asks.{says_show}
-use Rattle.um_fine.specs.Places.{Todo, Todos}
-use Rattle.um_fine.specs.Steps.{FineStep}
-use Rattle.um_erasure.specs.Fine.{Fine}
-use Rattle.um_erasure.specs.Frames.{AreFramed, Behind}
-use Rattle.um_erasure.specs.Offers.{Fits}
+use Rattle.um_erasure.proofs.Words.{◌≡◌, Bool, false, [], ◌∷◌, ◌∙◌, ap, refl, subst, sym, true, true≢false, Pending, Steps, State, is_word_read, says_show, Todo, Todos, FineStep, Fine, AreFramed, Behind, Fits}
 use Rattle.um_erasure.proofs.Erased.{around}
 use Rattle.um_erasure.proofs.Leaves.{Lawful}
 use Rattle.um_erasure.proofs.ListGrips.{read-rests}

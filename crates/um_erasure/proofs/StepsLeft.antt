@@ -1,22 +1,6 @@
 -- A thread that has a step of its own left isn't over: one that is offered, that visits rows, or that starts another one next.
-use Rattle.std.proofs.Common.{◌≡◌, ℕ, Bool, true, false, ◌∷◌, refl, ap, ◌∙◌}
-use Rattle.std.specs.Prelude.{◌&&◌, nat_lt}
-use Rattle.std.specs.List.{list_all}
-use Rattle.um_base.specs.declared.image.Image.{Image}
-use Rattle.um_base.specs.declared.limits.TheConstants.{ROWS}
-use Rattle.um_machine.specs.declared.pending.Pending.{Pending}
-use Rattle.um_machine.specs.Order.{Steps}
-use Rattle.um_machine.specs.Services.{is_empty}
-use Rattle.um_machine.specs.State.{State}
-use Rattle.um_fine.specs.Context.{Context}
-use Rattle.um_fine.specs.Places.{Todos}
+use Rattle.um_erasure.proofs.Words.{◌≡◌, ℕ, Bool, true, false, ◌∷◌, refl, ap, ◌∙◌, ◌&&◌, nat_lt, list_all, Image, ROWS, Pending, Steps, is_empty, State, Context, Todos, Drops, IsOffered, Passes, is_over, IsRun, and-false}
 use Rattle.um_erasure.specs.Offers as O
-use Rattle.um_erasure.specs.Offers.{Drops, IsOffered, Passes, is_over}
-use Rattle.um_erasure.specs.Threads.{IsRun}
-
-and-false : (b : Bool) → (b && false) ≡ false
-and-false true = refl
-and-false false = refl
 
 -- it has a step
 pub steps-on : (c : Context) (q : Pending) (rest : Steps) → c.pending ≡ q ∷ rest → is_over c ≡ false

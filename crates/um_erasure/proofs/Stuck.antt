@@ -1,50 +1,23 @@
 -- Where a processor can't step, its list doesn't begin with a step that its site takes whatever stands there: each step that no trace shows, but
 -- claims of domains, is such a step. Bounds on words and lists are asked for by name, and known of fine runs (RoomKnown).
-use Rattle.std.proofs.Common.{◌≡◌, inl, inr, ℕ, ◌+◌, ◌-◌, ◌<◌, ◌≤◌, Bool, true, false, ◌∷◌, length, Option, refl, sym, ap, ◌∙◌, subst, arith, eq-eqb}
-use Rattle.std.specs.Prelude.{◌==◌, ◌&&◌, ◌||◌, not, IsTrue, if◌then◌else◌, nat_lt}
-use Rattle.std.specs.List.{list_all, list_any}
-use Rattle.std.proofs.lemmas.Bool.{and_parts, false≢true, lt-ltb, ltb-true}
-use Rattle.um_base.specs.declared.act.Leftover.{Leftover}
-use Rattle.um_base.specs.declared.limits.TheConstants.{DOMAINS, ROWS, STATIC_ROWS, THREADS}
-use Rattle.um_base.specs.declared.ask.Told.{Told}
-use Rattle.um_base.specs.declared.image.Image.{Image}
-use Rattle.um_base.specs.declared.names.Addr.{Addr}
-use Rattle.um_base.specs.declared.names.Kind.{Kind}
-use Rattle.um_base.specs.declared.names.Want.{Want}
-use Rattle.um_machine.specs.declared.pending.Pending.{Pending}
-use Rattle.um_machine.specs.declared.pending.Refusal.{Refusal}
+use Rattle.um_erasure.proofs.Words.{◌≡◌, inl, inr, ℕ, ◌+◌, ◌-◌, ◌<◌, ◌≤◌, Bool, true, false, ◌∷◌, length, Option, refl, sym, ap, ◌∙◌, subst, arith, eq-eqb, ◌==◌, ◌&&◌, ◌||◌, not, IsTrue, if◌then◌else◌, nat_lt, list_all, list_any, and_parts, false≢true, lt-ltb, ltb-true, Leftover, ROWS, STATIC_ROWS, THREADS, Told, Image, Addr, Kind, Want, Pending, Refusal, Steps, State, object_at, FineAct, More, Unseen, RowWord, Stage, has, is_cleaning, is_dying, is_last, left_of, begins_cleaning, is_dropped, moves, says, site_at, Cell, Context, Todo, Todos, cleanings, Processor, SiteMay, SiteState, is_sort, site_takes, Exchange, FineStep, Site, Fine, domain, domain_state, one_if, parts_state, row, row_state, scheduler, word, counted, has_held, has_steps, is_end_call, is_hold, is_let_go, is_vacate, names_row, runs, runs_thread, AreFramed, Behind, is_reserved, recyclers, status_of, vacaters, Rel, CanCount, IsHalted}
+use Rattle.um_base.specs.declared.limits.TheConstants.{DOMAINS}
 use Rattle.um_machine.specs.Objects as Plain
-use Rattle.um_machine.specs.Order.{Steps}
-use Rattle.um_machine.specs.State.{State, object_at}
-use Rattle.um_words.specs.declared.fine.FineAct.{FineAct}
-use Rattle.um_words.specs.declared.fine.More.{More}
-use Rattle.um_words.specs.declared.fine.Unseen.{Unseen}
-use Rattle.um_words.specs.declared.row_word.RowWord.{RowWord}
-use Rattle.um_words.specs.declared.row_word.Stage.{Stage}
-use Rattle.um_words.specs.Rows.{has, is_cleaning, is_dying, is_last, left_of}
 use Rattle.um_fine.specs.Answers.{no_event, no_row}
-use Rattle.um_fine.specs.Asks.{begins_cleaning, fits_step, is_dropped, made_by, moves, says, site_at}
-use Rattle.um_fine.specs.Cells.{Cell}
-use Rattle.um_fine.specs.Context.{Context}
-use Rattle.um_fine.specs.Places.{Todo, Todos, cleanings}
-use Rattle.um_fine.specs.Processor.{Processor}
-use Rattle.um_fine.specs.Sites.{SiteMay, SiteState, filled, is_sort, site_takes}
-use Rattle.um_fine.specs.Steps.{Exchange, FineStep, Site, Word}
+use Rattle.um_fine.specs.Asks.{fits_step, made_by}
+use Rattle.um_fine.specs.Sites.{filled}
+use Rattle.um_fine.specs.Steps.{Word}
 use Rattle.um_fine.proofs.Filled.{filled-twice}
 use Rattle.um_fine.proofs.Made.{IsSettled, as-made}
-use Rattle.um_erasure.specs.Fine.{Fine, domain, domain_state, one_if, parts_state, row, row_state, scheduler, word}
-use Rattle.um_erasure.specs.Lists.{counted, has_held, has_steps, is_end_call, is_hold, is_let_go, is_vacate, names_row, runs, runs_thread}
-use Rattle.um_erasure.specs.Frames.{AreFramed, Behind}
-use Rattle.um_erasure.specs.Objects.{is_reserved, recyclers, status_of, vacaters}
-use Rattle.um_erasure.specs.Relation.{Rel}
-use Rattle.um_erasure.specs.Room.{CanCount, IsHalted, has_number}
+use Rattle.um_erasure.specs.Room.{has_number}
 use Rattle.um_erasure.proofs.FirstThreads.{one-most}
 use Rattle.um_erasure.proofs.HeapSteps.{heap-sort}
-use Rattle.um_erasure.proofs.HeldRows.{call-claimed, one-some}
+use Rattle.um_erasure.proofs.HeldRows.{call-claimed}
 use Rattle.um_erasure.proofs.Kept.{scheduler-sort}
 use Rattle.um_erasure.proofs.MemorySteps.{part-total}
 use Rattle.um_erasure.proofs.RowSteps.{thread-sort}
 use Rattle.um_erasure.proofs.WorkSteps.{object-sort}
+use Rattle.um_erasure.proofs.Sums.{one-true}
 
 -- whether a step may put a thread into the ready list
 abbrev pub readies : Todo → Bool
@@ -297,7 +270,7 @@ module _ (f : Fine) (m : State) (rel : Rel f m) (room : HasRoom f) where
           let count-here = count in omega (arith, some-here, order, count-here, most)
 
       gone : (Plain.is_gone (object_at m x).status && not (is_dying (row f x).stage)) ≡ true
-      gone = let some-here = some in let count-here = count in let same-here = same in one-some _ (omega (arith, some-here, count-here, same-here))
+      gone = let some-here = some in let count-here = count in let same-here = same in one-true _ (omega (arith, some-here, count-here, same-here))
 
       in-cleaning : (s : Stage) (r : Bool) → (Plain.is_gone (status_of s r) && not (is_dying s)) ≡ true → s ≡ Stage.Cleaning
       in-cleaning Stage.Free true h = absurd (false≢true h)
@@ -327,7 +300,7 @@ module _ (f : Fine) (m : State) (rel : Rel f m) (room : HasRoom f) where
       let part = part-total (λ j. one_if (runs_thread t (f.processors j) && has_held (f.processors j))) f.cpus k l in
       let mine : one_if (runs_thread t (f.processors k) && has_held (f.processors k)) ≡ 1 = λ i. one_if ((run i && eq-eqb t t refl i) && held i) in
       let all = (rel.threads t few).held.held in
-      one-some _ (omega (arith, part, mine, all))
+      one-true _ (omega (arith, part, mine, all))
 
   pub let-go : (k : ℕ) (rest : Todos) → IsHalted f k → (f.processors k).todo ≡ Todo.let_go ∷ rest → ⊥
   let-go k rest l at =

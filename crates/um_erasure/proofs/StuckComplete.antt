@@ -1,36 +1,12 @@
 -- Where no processor can step, the access-matrix machine has no step: the events of the run are then a complete run. Asked for is that words can
 -- count one step more.
-use Rattle.std.proofs.Common.{◌≡◌, ℕ, ◌+◌, ◌<◌, true, List, [], ◌∷◌, Option, Some, None, refl, sym, ap, ◌∙◌, arith, eq-eqb}
-use Rattle.std.specs.Prelude.{◌&&◌, if◌then◌else◌, is_some, nat_lt, unwrap_or}
-use Rattle.std.specs.List.{list_all}
-use Rattle.std.proofs.lemmas.Bool.{and_parts, false≢true, lt-ltb, ltb-true}
-use Rattle.um_base.specs.declared.ask.Told.{Told}
-use Rattle.um_base.specs.declared.image.Image.{Image}
-use Rattle.um_base.specs.declared.limits.TheConstants.{THREADS}
-use Rattle.um_machine.specs.Order.{to_thread}
-use Rattle.um_machine.specs.Run.{IsComplete, opening}
-use Rattle.um_machine.specs.State.{State}
-use Rattle.um_invariants.proofs.Cores.{core_of}
-use Rattle.um_invariants.proofs.Turns.{IsKnown}
-use Rattle.um_invariants.specs.Described.{IsDescribed}
-use Rattle.um_words.specs.declared.fine.FineAct.{FineAct}
-use Rattle.um_words.specs.declared.fine.Unseen.{Unseen}
-use Rattle.um_fine.specs.Cells.{Cell}
-use Rattle.um_fine.specs.Context.{Context, no_context}
-use Rattle.um_fine.specs.Processor.{Processor}
-use Rattle.um_fine.specs.Scheduler.{Scheduler, first_ready, has_ready, parked_at, sched_takes, takes_turn, told_at, turn_in}
-use Rattle.um_fine.specs.Sites.{SiteState}
-use Rattle.um_fine.specs.Steps.{Exchange, Site}
-use Rattle.um_erasure.specs.Fine.{Fine, one_if, scheduler}
-use Rattle.um_erasure.specs.Lists.{has_steps, runs}
-use Rattle.um_erasure.specs.Relation.{Rel}
-use Rattle.um_erasure.specs.Room.{CanCount, CanRun, IsHalted, IsStuck}
-use Rattle.um_erasure.specs.Threads.{is_ready_there, occurs}
+use Rattle.um_erasure.proofs.Words.{◌≡◌, ℕ, ◌+◌, ◌<◌, true, List, [], ◌∷◌, Option, Some, None, refl, sym, ap, ◌∙◌, arith, eq-eqb, ◌&&◌, if◌then◌else◌, is_some, nat_lt, unwrap_or, list_all, and_parts, false≢true, lt-ltb, ltb-true, Told, Image, THREADS, to_thread, IsComplete, opening, State, core_of, IsKnown, IsDescribed, FineAct, Unseen, Cell, Context, no_context, Processor, Scheduler, first_ready, has_ready, parked_at, sched_takes, told_at, SiteState, Exchange, Site, Fine, one_if, scheduler, has_steps, runs, Rel, CanCount, CanRun, IsHalted, IsStuck, is_ready_there, occurs}
+use Rattle.um_fine.specs.Scheduler.{takes_turn, turn_in}
 use Rattle.um_erasure.proofs.Bounds.{AreBounded, ReadyThreads}
 use Rattle.um_erasure.proofs.ChildrenKnown.{children-known}
 use Rattle.um_erasure.proofs.DomainsKnown.{started-placed}
 use Rattle.um_erasure.proofs.Erased.{IsReachable, fine}
-use Rattle.um_erasure.proofs.HeldRows.{one-some, total-zero}
+use Rattle.um_erasure.proofs.HeldRows.{total-zero}
 use Rattle.um_erasure.proofs.IdleComplete.{IsIdle, idle-complete}
 use Rattle.um_erasure.proofs.Kept.{scheduler-sort}
 use Rattle.um_erasure.proofs.Reachable.{reachable-sound, reachable-wide}
@@ -39,6 +15,7 @@ use Rattle.um_erasure.proofs.Stuck as S
 use Rattle.um_erasure.proofs.Stuck.{HasRoom}
 use Rattle.um_erasure.proofs.StuckLists.{halts, stuck-empty}
 use Rattle.um_erasure.proofs.SuitsKnown.{proper-known, tells-known}
+use Rattle.um_erasure.proofs.Sums.{one-true}
 
 -- a first thread is taken where it is parked, and another one can be counted
 takes-first : (s : Scheduler) (c : Context) (told : Option Told) → sched_takes s (takes_turn c told) ≡ has_ready s s.ready
@@ -69,7 +46,7 @@ module _ (f : Fine) (m : State) (rel : Rel f m) (room : HasRoom f) (threads : Re
       parked =
           let once : occurs t (scheduler f).ready ≡ occurs t ready + 1 = ap (occurs t) e ∙ ap (λ b. if b then occurs t ready + 1 else occurs t ready) (eq-eqb t t refl) in
           let count = (rel.threads t few).ready.ready in
-          is-parked (parked_at (scheduler f) t) (told_at (scheduler f) t) (one-some _ (omega (arith, once, count)))
+          is-parked (parked_at (scheduler f) t) (told_at (scheduler f) t) (one-true _ (omega (arith, once, count)))
 
       counts : nat_lt (scheduler f).running 255 ≡ true
       counts = lt-ltb (scheduler f).running 255 running

@@ -1,59 +1,17 @@
 -- Where a processor can't step, an event that is next moves a thread that is held: its site takes any other one.
-use Rattle.std.proofs.Common.{◌≡◌, inl, inr, ℕ, zero, suc, ◌<◌, Bool, true, false, List, [], ◌∷◌, length, Option, Some, None, refl, sym, ap, ◌∙◌, subst, arith, eq-eqb}
-use Rattle.std.specs.Prelude.{◌==◌, ◌&&◌, ◌||◌, ℤ, not, if◌then◌else◌, is_some, nat_lt, slice_index_or, unwrap_or}
-use Rattle.std.specs.List.{list_all, list_any}
-use Rattle.std.proofs.lemmas.Bool.{and_parts, eqb-true, false≢true, le-leb, lt-ltb, ltb-true, true≢false}
-use Rattle.std.proofs.Math.Bool.{or-true}
-use Rattle.um_base.specs.declared.act.Act.{Act}
-use Rattle.um_base.specs.declared.image.Image.{Image}
+use Rattle.um_erasure.proofs.Words.{◌≡◌, inl, inr, ℕ, zero, suc, ◌<◌, Bool, true, false, List, [], ◌∷◌, length, Option, Some, None, refl, sym, ap, ◌∙◌, subst, arith, eq-eqb, ◌==◌, ◌&&◌, ◌||◌, ℤ, not, if◌then◌else◌, is_some, nat_lt, slice_index_or, unwrap_or, list_all, list_any, and_parts, eqb-true, false≢true, lt-ltb, ltb-true, true≢false, or-true, Act, Image, Addr, ROWS, Kind, Mode, Reply, Row, ThreadIx, Want, own_row, row_at, Partitions, Object, Status, Pending, Refusal, Life, Thread, Steps, State, instruction_at, is_living, is_started, object_at, thread_at, vacant, Call, call_is, status_is, Guarded, IsStatic, behind_birth, Stage, is_cleaning, is_free, row_named, allows, check_site, Cell, newborn, Bytes, Todo, Todos, fails, SiteState, Exchange, Site, reads, Fine, bytes, domain, one_if, row, word, edits, edits_step, has_claimed, has_held, has_steps, is_hold, is_let_go, moves_to, moving, runs, is_reserved, recyclers, status_of, vacaters, Fits, IsOffered, is_over, Rel, IsHalted, IsOf, is_ended}
+use Rattle.std.proofs.lemmas.Bool.{le-leb}
 use Rattle.um_base.specs.declared.names.Access.TheVariants as Access
-use Rattle.um_base.specs.declared.names.Addr.{Addr}
-use Rattle.um_base.specs.declared.limits.TheConstants.{DOMAINS, ROWS}
-use Rattle.um_base.specs.declared.names.Kind.{Kind}
-use Rattle.um_base.specs.declared.names.Mode.{Mode}
-use Rattle.um_base.specs.declared.names.Reply.{Reply}
-use Rattle.um_base.specs.declared.names.Row.{Row}
-use Rattle.um_base.specs.declared.names.ThreadIx.{ThreadIx}
-use Rattle.um_base.specs.declared.names.Want.{Want}
-use Rattle.um_base.specs.Places.{own_row, row_at}
-use Rattle.um_base.specs.Regions.{Partitions}
-use Rattle.um_machine.specs.declared.object.Object.{Object}
-use Rattle.um_machine.specs.declared.object.Status.{Status}
-use Rattle.um_machine.specs.declared.pending.Pending.{Pending}
-use Rattle.um_machine.specs.declared.pending.Refusal.{Refusal}
-use Rattle.um_machine.specs.declared.thread.Life.{Life}
-use Rattle.um_machine.specs.declared.thread.Thread.{Thread}
+use Rattle.um_base.specs.declared.limits.TheConstants.{DOMAINS}
 use Rattle.um_machine.specs.Objects as Plain
-use Rattle.um_machine.specs.Order.{Steps}
-use Rattle.um_machine.specs.State.{State, instruction_at, is_living, is_started, object_at, thread_at, vacant}
 use Rattle.um_machine.specs.Table.{domain_at, move_reply}
-use Rattle.um_invariants.proofs.Cores.{Call, call_is, status_is}
-use Rattle.um_invariants.proofs.Guards.{Guarded, IsStatic, Names, bearing, behind_birth}
-use Rattle.um_words.specs.declared.row_word.Stage.{Stage}
+use Rattle.um_invariants.proofs.Guards.{Names, bearing}
 use Rattle.um_words.specs.CellActs.{memory_takes_act}
-use Rattle.um_words.specs.Rows.{is_cleaning, is_free}
-use Rattle.um_fine.specs.Addresses.{row_named}
-use Rattle.um_fine.specs.Asks.{allows, check_site}
-use Rattle.um_fine.specs.Cells.{Cell}
-use Rattle.um_fine.specs.Continues.{newborn}
-use Rattle.um_fine.specs.Memory.{Bytes, memory_says_act}
-use Rattle.um_fine.specs.Places.{Todo, Todos}
-use Rattle.um_fine.specs.Processor.{fails}
-use Rattle.um_fine.specs.Sites.{SiteState}
-use Rattle.um_fine.specs.Steps.{Exchange, Site}
-use Rattle.um_erasure.specs.Domains.{reads}
-use Rattle.um_erasure.specs.Fine.{Fine, bytes, domain, one_if, row, word}
-use Rattle.um_erasure.specs.Lists.{edits, edits_step, has_claimed, has_held, has_steps, is_hold, is_let_go, moves_to, moving, runs}
-use Rattle.um_erasure.specs.Objects.{is_reserved, recyclers, status_of, vacaters}
-use Rattle.um_erasure.specs.Offers.{Fits, IsOffered, is_over}
+use Rattle.um_fine.specs.Memory.{memory_says_act}
 use Rattle.um_erasure.specs.Offers as O
-use Rattle.um_erasure.specs.Relation.{Rel}
-use Rattle.um_erasure.specs.Room.{IsHalted}
-use Rattle.um_erasure.specs.Threads.{IsOf, is_ended}
 use Rattle.um_erasure.proofs.CallSteps.{Proper}
 use Rattle.um_erasure.proofs.CallsProper.{AreProper}
 use Rattle.um_erasure.proofs.HeapSteps.{heap-sort}
-use Rattle.um_erasure.proofs.HeldRows.{one-some}
 use Rattle.um_erasure.proofs.IdleComplete.{past}
 use Rattle.um_erasure.proofs.ListSingles.{AreSingle, is_single, shows_single}
 use Rattle.um_erasure.proofs.MemoryPart.{InDomains}
@@ -66,6 +24,7 @@ use Rattle.um_erasure.proofs.StepsLeft.{offered-on}
 use Rattle.um_erasure.proofs.Stuck as S
 use Rattle.um_erasure.proofs.Stuck.{HasRoom, domain-is, row-is}
 use Rattle.um_erasure.proofs.WorkSteps.{object-sort}
+use Rattle.um_erasure.proofs.Sums.{one-true}
 
 -- What is asked of the events that are next: none is a resume, an inheritance or the drops of an end, and a mark that is cleared is of a row that
 -- isn't free.
@@ -245,7 +204,7 @@ module _ (f : Fine) (m : State) (rel : Rel f m) (proper : AreProper m.image m) (
       let part = part-total (λ j. one_if (edits d (f.processors j).todo)) f.cpus k l.inside in
       let mine : one_if (edits d (f.processors k).todo) ≡ 1 = ap (λ (z : Todos). one_if (edits d z)) at ∙ ap one_if h in
       let sum = (rel.domains d few).writers in
-      let writer = one-some (domain f d).writer (omega (arith, part, mine, sum)) in
+      let writer = one-true (domain f d).writer (omega (arith, part, mine, sum)) in
       let version = lt-ltb (domain f d).version 1048575 (room.counts.versions d few) in
       let number = S.counts f m rel room (Site.domain d) (SiteState.domain (domain f d)) (domain-word d) in
       λ i. number i && (writer i && version i)

@@ -1,35 +1,11 @@
 -- Where a processor can't step, it waits with nothing, a claim of a domain, or an event: a hold is never refused, a claim waits for one that writes or reads its domain, a
 -- move for one that holds its thread. Where none can step, no processor has a step left to make: those have steps to make that wait for nobody.
-use Rattle.std.proofs.Common.{◌≡◌, ◌⊎◌, inl, inr, ⊎_elim, ℕ, zero, suc, ◌+◌, ◌<◌, ◌≤◌, Bool, true, false, [], ◌∷◌, length, Option, Some, None, refl, sym, ap, ◌∙◌, subst, arith, eq-eqb}
-use Rattle.std.specs.Prelude.{◌==◌, ◌&&◌, ◌||◌, not, nat_lt}
-use Rattle.std.specs.List.{list_any}
-use Rattle.std.proofs.lemmas.Bool.{and_parts, eqb-true, false≢true, lt-ltb, ltb-true, true≢false}
-use Rattle.std.proofs.Math.Bool.{or-true}
-use Rattle.um_base.specs.declared.limits.TheConstants.{THREADS}
-use Rattle.um_base.specs.declared.names.Reply.{Reply}
-use Rattle.um_base.specs.declared.names.ThreadIx.{ThreadIx}
-use Rattle.um_machine.specs.declared.pending.Pending.{Pending}
-use Rattle.um_machine.specs.Order.{Steps}
-use Rattle.um_machine.specs.Services.{is_empty}
-use Rattle.um_machine.specs.State.{State}
+use Rattle.um_erasure.proofs.Words.{◌≡◌, ◌⊎◌, inl, inr, ℕ, zero, suc, ◌+◌, ◌<◌, ◌≤◌, Bool, true, false, [], ◌∷◌, length, Option, Some, None, refl, sym, ap, ◌∙◌, subst, arith, eq-eqb, ◌==◌, ◌&&◌, ◌||◌, not, nat_lt, list_any, and_parts, eqb-true, false≢true, lt-ltb, ltb-true, true≢false, or-true, THREADS, Reply, ThreadIx, Pending, Steps, is_empty, State, Context, ByOneOf, Todo, Todos, fails, SiteState, Exchange, Site, reads, Fine, domain, one_if, over_processors, word, AreFramed, Behind, access_over, adders, edits, edits_step, has_claimed, has_held, has_steps, is_hold, is_let_go, is_own_claim, is_own_done, moves_step, moves_to, of_thread, runs, runs_thread, Fits, behind_shown, is_over, Rel, IsHalted, IsStuck, runs_on}
+use Rattle.std.proofs.Common.{⊎_elim}
 use Rattle.um_fine.specs.Asks.{claimed_domain}
-use Rattle.um_fine.specs.Context.{Context}
-use Rattle.um_fine.specs.FineRun.{ByOneOf}
-use Rattle.um_fine.specs.Places.{Todo, Todos}
-use Rattle.um_fine.specs.Processor.{fails}
-use Rattle.um_fine.specs.Sites.{SiteState}
-use Rattle.um_fine.specs.Steps.{Exchange, Site}
-use Rattle.um_erasure.specs.Domains.{reads}
-use Rattle.um_erasure.specs.Fine.{Fine, domain, one_if, over_processors, word}
-use Rattle.um_erasure.specs.Frames.{AreFramed, Behind, access_over}
-use Rattle.um_erasure.specs.Lists.{adders, edits, edits_step, has_claimed, has_held, has_steps, is_hold, is_let_go, is_own_claim, is_own_done, moves_step, moves_to, of_thread, runs, runs_thread}
-use Rattle.um_erasure.specs.Offers.{Fits, behind_shown, is_over}
-use Rattle.um_erasure.specs.Relation.{Rel}
-use Rattle.um_erasure.specs.Room.{IsHalted, IsStuck}
-use Rattle.um_erasure.specs.Threads.{runs_on}
 use Rattle.um_erasure.proofs.CallsProper.{AreProper}
 use Rattle.um_erasure.proofs.DomainReads.{memory-edits-none, memory-moves-none}
-use Rattle.um_erasure.proofs.HeldRows.{one-some, some-part}
+use Rattle.um_erasure.proofs.HeldRows.{some-part}
 use Rattle.um_erasure.proofs.MemoryPart.{InDomains}
 use Rattle.um_erasure.proofs.MemorySteps.{part-total}
 use Rattle.um_erasure.proofs.Reachable.{IsSound}
@@ -39,6 +15,7 @@ use Rattle.um_erasure.proofs.StepsLeft.{offered-on}
 use Rattle.um_erasure.proofs.Stuck as S
 use Rattle.um_erasure.proofs.StuckEvents.{EventsStand, IsHeldMove, edit-in, guarded, offered-in, own-domain}
 use Rattle.um_erasure.proofs.Stuck.{HasRoom, domain-is}
+use Rattle.um_erasure.proofs.Sums.{one-true}
 
 -- a grip that hasn't ended: its end is on the list, and its beginning isn't
 abbrev is_between : (Todo → Bool) → (Todo → Bool) → Todos → Bool
@@ -86,7 +63,7 @@ module _ (f : Fine) (m : State) (rel : Rel f m) (proper : AreProper m.image m) (
   holder t few held =
       let sum : over_processors f (λ p. one_if (runs_thread t p && has_held p)) ≡ 1 = sym (rel.threads t few).held.held ∙ ap one_if held in
       let one = some-part (λ j. one_if (runs_thread t (f.processors j) && has_held (f.processors j))) f.cpus (omega (arith, sum)) in
-      let parts = and_parts (runs_thread t (f.processors one.0)) (has_held (f.processors one.0)) (one-some _ one.2) in
+      let parts = and_parts (runs_thread t (f.processors one.0)) (has_held (f.processors one.0)) (one-true _ one.2) in
       (one.0, one.1, parts.0, parts.1)
 
   offered-behind : (c : Context) (rest : Todos) → Behind f.image Todo.hold rest → Fits f.image c rest → is_over c ≡ false
@@ -273,7 +250,7 @@ module _ (f : Fine) (m : State) (rel : Rel f m) (proper : AreProper m.image m) (
       by true e =
           let sum : over_processors f (λ p. one_if (edits d p.todo)) ≡ 1 = sym (rel.domains d few).writers ∙ ap one_if e in
           let one = some-part (λ j. one_if (edits d (f.processors j).todo)) f.cpus (omega (arith, sum)) in
-          absurd (no-edit one.0 d (f.processors one.0).todo one.1 refl (halted one.0 (f.processors one.0).todo one.1 refl) (one-some _ one.2))
+          absurd (no-edit one.0 d (f.processors one.0).todo one.1 refl (halted one.0 (f.processors one.0).todo one.1 refl) (one-true _ one.2))
 
   -- Nobody reads a domain: who does has an event next.
 
@@ -329,7 +306,7 @@ module _ (f : Fine) (m : State) (rel : Rel f m) (proper : AreProper m.image m) (
       by zero e = refl
       by (suc n) e =
           let sum = (rel.domains d few).readers in
-          let one = some-part (λ j. one_if (reads d (f.processors j))) f.cpus (omega (arith, sum, e)) in absurd (here one.0 one.1 (one-some _ one.2))
+          let one = some-part (λ j. one_if (reads d (f.processors j))) f.cpus (omega (arith, sum, e)) in absurd (here one.0 one.1 (one-true _ one.2))
 
   -- So no claim is refused.
 

@@ -1,26 +1,8 @@
 -- What the events ask of the machine's state is so in every state that a run of a described image reaches: edits are of the image's
 -- domains, a call works on an object that it holds, only threads that wait are told anything, and who is in no call holds nothing by one.
-use Rattle.std.proofs.Common.{◌≡◌, ◌≢◌, inl, inr, ℕ, Bool, true, false, List, [], ◌∷◌, length, refl, sym, ap, ◌∙◌, subst}
-use Rattle.std.specs.Prelude.{IsTrue, is_some, slice_index_or}
-use Rattle.std.proofs.lemmas.Bool.{false≢true, true≢false}
-use Rattle.um_base.specs.declared.ask.Ask.{Ask}
-use Rattle.um_base.specs.declared.image.Image.{Image}
-use Rattle.um_base.specs.declared.names.Addr.{Addr}
-use Rattle.um_base.specs.Lawful.{IsLawful}
-use Rattle.um_machine.specs.declared.pending.Pending.{Pending}
-use Rattle.um_machine.specs.declared.thread.Life.{Life}
-use Rattle.um_machine.specs.Order.{Steps}
-use Rattle.um_machine.specs.Run.{Offers, opening}
-use Rattle.um_machine.specs.State.{State, is_living, thread_at}
+use Rattle.um_erasure.proofs.Words.{◌≡◌, ◌≢◌, inl, inr, ℕ, Bool, true, false, List, [], ◌∷◌, length, refl, sym, ap, ◌∙◌, subst, IsTrue, is_some, slice_index_or, false≢true, true≢false, Ask, Image, Addr, IsLawful, Pending, Life, Steps, Offers, opening, State, is_living, thread_at, core_of, IsKnown, row_is, IsDescribed, AreKept, is_resume, waits, Fine, Rel}
 use Rattle.um_machine.specs.Table as T
-use Rattle.um_invariants.proofs.Cores.{core_of}
-use Rattle.um_invariants.proofs.Turns.{IsKnown, row_is}
-use Rattle.um_invariants.specs.Described.{IsDescribed}
-use Rattle.um_scheduler.proofs.ThreadRuns.{reached-kept}
-use Rattle.um_scheduler.proofs.ThreadWords.{AreKept, is_resume}
-use Rattle.um_fine.specs.Scheduler.{waits}
-use Rattle.um_erasure.specs.Fine.{Fine}
-use Rattle.um_erasure.specs.Relation.{Rel}
+use Rattle.um_invariants.proofs.ThreadRuns.{reached-kept}
 use Rattle.um_erasure.proofs.CallSteps.{Bare, Proper}
 use Rattle.um_erasure.proofs.CallsKnown.{RestsHoldNothing}
 use Rattle.um_erasure.proofs.CallsProper.{AreProper, Closing, Stands, none-held, offered-proper, proper-run}

@@ -1,12 +1,15 @@
 -- Sums over processors when one of them makes a step.
-use Rattle.std.proofs.Common.{◌≡◌, ℕ, zero, suc, ◌+◌, ◌<◌, Bool, true, false, cond, refl, sym, ap, ◌∙◌, arith, eq-eqb}
-use Rattle.std.specs.Prelude.{◌==◌}
-use Rattle.std.proofs.lemmas.Bool.{eqb-false, eqb-true}
-use Rattle.um_fine.specs.Follows.{p_next}
-use Rattle.um_fine.specs.Processor.{Processor}
-use Rattle.um_fine.specs.Steps.{FineStep}
-use Rattle.um_erasure.specs.Fine.{Fine, over_processors, total}
+use Rattle.um_erasure.proofs.Words.{◌≡◌, ℕ, zero, suc, ◌+◌, ◌<◌, Bool, true, false, cond, refl, sym, ap, ◌∙◌, arith, eq-eqb, ◌==◌, eqb-false, eqb-true, p_next, Processor, FineStep, Fine, over_processors, total, one_if}
 use Rattle.um_erasure.proofs.Erased.{stepped}
+
+-- what is counted of a Bool
+pub one-true : (b : Bool) → 0 < one_if b → b ≡ true
+one-true true h = refl
+one-true false h = absurd (omega (arith, h))
+
+pub one-none : (b : Bool) → one_if b ≡ 0 → b ≡ false
+one-none true h = absurd (omega (arith, h))
+one-none false h = refl
 
 pub total-same : (a b : ℕ → ℕ) (n : ℕ) → ((k : ℕ) → k < n → a k ≡ b k) → total a n ≡ total b n
 total-same a b zero h = refl

@@ -1,32 +1,11 @@
 -- The region tables of processors are of the partitions that stand, as far as their versions say so, after every lawful step.
-use Rattle.std.proofs.Common.{◌≡◌, ◌⊎◌, inl, inr, ℕ, ◌<◌, ◌≤◌, Bool, true, false, cond, [], ◌∷◌, length, Option, Some, None, refl, sym, ap, ◌∙◌, subst, arith, eq-eqb}
-use Rattle.std.specs.Prelude.{◌==◌, ◌&&◌, ◌||◌, not, IsTrue, if◌then◌else◌, unwrap_or}
-use Rattle.std.specs.List.{list_any}
-use Rattle.std.proofs.lemmas.Bool.{and_parts, eqb-true, false≢true}
-use Rattle.um_machine.specs.declared.pending.Pending.{Pending}
+use Rattle.um_erasure.proofs.Words.{◌≡◌, ◌⊎◌, inl, inr, ℕ, ◌<◌, ◌≤◌, Bool, true, false, cond, [], ◌∷◌, length, Option, Some, None, refl, sym, ap, ◌∙◌, subst, arith, eq-eqb, ◌==◌, ◌&&◌, ◌||◌, not, IsTrue, if◌then◌else◌, unwrap_or, list_any, and_parts, eqb-true, false≢true, Pending, Steps, State, is_user, DomWord, FineAct, Unseen, act_in, domain_in, is_visit, is_word_read, begins_cleaning, Cell, Context, after_claim, after_show, dropped_at, goes_on_by, p_next, unless_loaded, Todo, Todos, Processor, is_of, key_of, SiteState, is_sort, s_next, same_site, site_moves, word_of, FineStep, Site, same-itself, reads, Fine, domain, domain_state, one_if, parts, parts_state, Behind, OnMemory, access_over, edited, edits, is_hold, is_region_load, moves_to, Fits, behind_shown}
 use Rattle.um_machine.specs.Memory.{parts_or_none, partitions_of}
-use Rattle.um_machine.specs.Order.{Steps}
-use Rattle.um_machine.specs.State.{State, is_user}
 use Rattle.um_machine.specs.Table as T
-use Rattle.um_words.specs.declared.dom_word.DomWord.{DomWord}
-use Rattle.um_words.specs.declared.fine.FineAct.{FineAct}
-use Rattle.um_words.specs.declared.fine.Unseen.{Unseen}
 use Rattle.um_fine.specs.declared.table.Table.{Table}
-use Rattle.um_fine.specs.Answers.{act_in, domain_in, is_visit, is_word_read, parts_in}
-use Rattle.um_fine.specs.Asks.{begins_cleaning}
-use Rattle.um_fine.specs.Cells.{Cell}
-use Rattle.um_fine.specs.Context.{Context}
-use Rattle.um_fine.specs.Follows.{after_claim, after_show, dropped_at, goes_on_by, p_next, unless_loaded}
-use Rattle.um_fine.specs.Places.{Todo, Todos}
-use Rattle.um_fine.specs.Processor.{Processor, is_of, key_of}
-use Rattle.um_fine.specs.Sites.{SiteState, is_sort, s_next, same_site, site_moves, word_of}
-use Rattle.um_fine.specs.Steps.{FineStep, Site}
-use Rattle.um_fine.proofs.Keys.{same-itself}
-use Rattle.um_erasure.specs.Domains.{TableIs, reads}
-use Rattle.um_erasure.specs.Fine.{Fine, domain, domain_state, one_if, parts, parts_state}
-use Rattle.um_erasure.specs.Frames.{Behind, OnMemory, access_over}
-use Rattle.um_erasure.specs.Lists.{edited, edits, has_loaded, is_hold, is_region_load, moves_to}
-use Rattle.um_erasure.specs.Offers.{Fits, behind_shown}
+use Rattle.um_fine.specs.Answers.{parts_in}
+use Rattle.um_erasure.specs.Domains.{TableIs}
+use Rattle.um_erasure.specs.Lists.{has_loaded}
 use Rattle.um_erasure.proofs.DomainReads.{claimed, claimed-reads, next-domain}
 use Rattle.um_erasure.proofs.DomainFacts.{edited-edits}
 use Rattle.um_erasure.proofs.DomainWords.{IsEdited, Stays, stays-or-edited}

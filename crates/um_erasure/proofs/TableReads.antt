@@ -1,26 +1,9 @@
 -- What is read of a processor's list of its region table, and which steps leave what a table is of.
-use Rattle.std.proofs.Common.{◌≡◌, inl, inr, ℕ, Bool, true, false, [], ◌∷◌, Option, Some, None, refl, sym, ap, ◌∙◌}
-use Rattle.std.specs.Prelude.{◌==◌, ◌&&◌, not, if◌then◌else◌}
-use Rattle.std.specs.List.{list_any}
-use Rattle.std.proofs.lemmas.Bool.{and_parts, eqb-true, false≢true, true≢false}
-use Rattle.um_base.specs.declared.act.Act.{Act}
-use Rattle.um_base.specs.declared.act.Found.{Found}
-use Rattle.um_base.specs.declared.image.Image.{Image}
-use Rattle.um_machine.specs.declared.pending.Pending.{Pending}
-use Rattle.um_machine.specs.Order.{Steps}
+use Rattle.um_erasure.proofs.Words.{◌≡◌, inl, inr, ℕ, Bool, true, false, List, [], ◌∷◌, Option, Some, None, refl, sym, ap, ◌∙◌, subst, ◌==◌, ◌&&◌, not, if◌then◌else◌, list_any, and_parts, eqb-true, false≢true, true≢false, Act, Image, Pending, Thread, Change, Next, Steps, domain_in, is_word_read, begins_cleaning, Context, as_thread, came_in, changed_part, continues, gone_part, after_claim, after_show, after_take, goes_on_by, p_next, with_cleaned, Todo, Todos, fine_steps, Processor, is_of, Exchange, FineStep, heard, part-heard, AreFramed, Behind, OnMemory, has_steps, is_region_load, behind_shown}
+use Rattle.um_machine.specs.Table as T
 use Rattle.um_fine.specs.declared.table.Table.{Table}
 use Rattle.um_fine.specs.declared.table.TableKey.{TableKey}
-use Rattle.um_fine.specs.Answers.{domain_in, fits_in, found_in, is_fault, is_word_read}
-use Rattle.um_fine.specs.Asks.{begins_cleaning}
-use Rattle.um_fine.specs.Context.{Context}
-use Rattle.um_fine.specs.Continues.{after_access, after_text, continues}
-use Rattle.um_fine.specs.Follows.{after_claim, after_show, after_take, goes_on_by, p_next, with_cleaned}
-use Rattle.um_fine.specs.Places.{Todo, Todos, fine_steps}
-use Rattle.um_fine.specs.Processor.{Processor, is_of, same_mode}
-use Rattle.um_fine.specs.Steps.{Exchange, FineStep}
-use Rattle.um_erasure.specs.Frames.{AreFramed, Behind, OnMemory}
-use Rattle.um_erasure.specs.Lists.{has_steps, is_region_load}
-use Rattle.um_erasure.specs.Offers.{behind_shown}
+use Rattle.um_fine.specs.Processor.{same_mode}
 use Rattle.um_erasure.proofs.DomainReads.{claimed}
 use Rattle.um_erasure.proofs.ListGrips.{grip}
 use Rattle.um_erasure.proofs.ListGrowth.{either-look}
@@ -100,31 +83,35 @@ pub record SameOwn (c d : Context) : Type 0 where
   pub stack : c.stack ≡ d.stack
   pub mode : c.mode ≡ d.mode
 
-same-own : (c : Context) → SameOwn c c
-same-own c = record { thread = refl; stack = refl; mode = refl }
+changed-own : (change : Change) (c : Context) → SameOwn (changed_part change c) c
+changed-own Change.nothing c = record { thread = refl; stack = refl; mode = refl }
+changed-own change c = record { thread = refl; stack = refl; mode = refl }
 
-own-either : (b : Bool) (c1 c2 d : Context) → SameOwn c1 d → SameOwn c2 d → SameOwn (if b then c1 else c2) d
-own-either true c1 c2 d h k = h
-own-either false c1 c2 d h k = k
+-- it stays so in its call
+abbrev IsOn : Next → Type 0
+IsOn (Next.on change way) = Unit {0}
+IsOn next = ⊥
 
-access-own : (image : Image) (c : Context) (b : Bool) (rest otherwise : Steps) → SameOwn (after_access image c b rest otherwise) c
-access-own image c true rest otherwise = record { thread = refl; stack = refl; mode = refl }
-access-own image c false rest otherwise = record { thread = refl; stack = refl; mode = refl }
+gone-own : (image : Image) (c : Context) (left : Steps) (next : Next) → IsOn next → SameOwn (gone_part image left next c) c
+gone-own image c left (Next.on change way) h = let same = changed-own change c in record { thread = same.thread; stack = same.stack; mode = same.mode }
+gone-own image c left next h = absurd h
 
-text-own : (image : Image) (c : Context) (bs : _) (rest : Steps) (found : Found) → SameOwn (after_text image c bs rest found) c
-text-own image c bs rest (Found.Length n) = record { thread = refl; stack = refl; mode = refl }
-text-own image c bs rest Found.Unreadable = record { thread = refl; stack = refl; mode = refl }
-text-own image c bs rest Found.TooLong = record { thread = refl; stack = refl; mode = refl }
+memory-on : (image : Image) (t : ℕ) (me : Thread) (x : ℕ) (q : Pending) (act : Act) (came : List ℕ) → OnMemory q → IsOn (T.continues image t me x q act came)
+memory-on image t me x (Pending.Load to a n) act came on = tt
+memory-on image t me x (Pending.Store a n value) act came on = tt
+memory-on image t me x (Pending.Fetch a) act came on = tt
+memory-on image t me x (Pending.Probe a amount) act came on = tt
+memory-on image t me x (Pending.CopyIn a amount) act came on = tt
+memory-on image t me x (Pending.CopyOut a) act came on = tt
+memory-on image t me x (Pending.CopyStr a) act came on = tt
+memory-on image t me x q act came on = absurd on
 
 pub memory-own : (image : Image) (c : Context) (x : ℕ) (q : Pending) (rest : Steps) (act : Act) (moved : Exchange) → OnMemory q → SameOwn (continues image c x q rest act moved) c
-memory-own image c x (Pending.Load to a n) rest act moved on = own-either (is_fault act) _ _ c (record { thread = refl; stack = refl; mode = refl }) (record { thread = refl; stack = refl; mode = refl })
-memory-own image c x (Pending.Store a n value) rest act moved on = own-either (is_fault act) _ _ c (record { thread = refl; stack = refl; mode = refl }) (record { thread = refl; stack = refl; mode = refl })
-memory-own image c x (Pending.Fetch a) rest act moved on = own-either (is_fault act) _ _ c (record { thread = refl; stack = refl; mode = refl }) (record { thread = refl; stack = refl; mode = refl })
-memory-own image c x (Pending.Probe a amount) rest act moved on = access-own image c (fits_in act) _ _
-memory-own image c x (Pending.CopyIn a amount) rest act moved on = own-either (fits_in act) _ _ c (record { thread = refl; stack = refl; mode = refl }) (record { thread = refl; stack = refl; mode = refl })
-memory-own image c x (Pending.CopyOut a) rest act moved on = access-own image c (fits_in act) _ _
-memory-own image c x (Pending.CopyStr a) rest act moved on = text-own image c _ rest (found_in act)
-memory-own image c x q rest act moved on = absurd on
+memory-own image c x q rest act moved on =
+    let said = heard image c rest q act moved in
+    let came = came_in q moved in
+    subst (λ (d : Context). SameOwn d c) (sym (part-heard image c rest x q act moved))
+    (gone-own image c rest (T.continues image c.thread (as_thread c) x q said came) (memory-on image c.thread (as_thread c) x q said came on))
 
 -- The table and the version that a processor has.
 

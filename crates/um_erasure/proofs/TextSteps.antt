@@ -1,25 +1,12 @@
 -- A processor's copy of a text is that step of the machine, where the relation holds: as many bytes are read as its table allows one by
 -- one, up to a zero.
-use Rattle.std.proofs.Common.{◌≡◌, ℕ, zero, suc, ◌+◌, ◌-◌, ◌<◌, ◌≤◌, Bool, true, false, List, [], ◌∷◌, length, refl, sym, ap, ◌∙◌, subst, arith, eq-eqb, ne_eqb}
-use Rattle.std.specs.Prelude.{◌==◌, if◌then◌else◌, slice_index}
-use Rattle.std.proofs.lemmas.Bool.{false≢true}
-use Rattle.um_base.specs.declared.act.Act.{Act}
-use Rattle.um_base.specs.declared.act.Found.{Found}
-use Rattle.um_base.specs.declared.image.Image.{Image}
+use Rattle.um_erasure.proofs.Words.{◌≡◌, ℕ, zero, suc, ◌+◌, ◌-◌, ◌<◌, ◌≤◌, Bool, true, false, List, [], ◌∷◌, length, refl, sym, ap, ◌∙◌, subst, arith, eq-eqb, ne_eqb, ◌==◌, if◌then◌else◌, false≢true, Act, Found, Image, Addr, Pending, allowed, bytes_at, string_bytes, Steps, State, act_in, bytes_in, Exchange, FineStep, Site, Bytes, read, SiteState, site_answers, Todos, Processor, allows, moves, shows, Fine, bytes}
+use Rattle.std.specs.Prelude.{slice_index}
 use Rattle.um_base.specs.declared.names.Access.TheVariants as Access
-use Rattle.um_base.specs.declared.names.Addr.{Addr}
-use Rattle.um_machine.specs.declared.pending.Pending.{Pending}
-use Rattle.um_machine.specs.Memory.{allowed, bytes_at, string_bytes, string_from}
-use Rattle.um_machine.specs.Order.{Steps}
-use Rattle.um_machine.specs.State.{State}
-use Rattle.um_fine.specs.Answers.{act_in, bytes_in, found_in, limit_in}
-use Rattle.um_fine.specs.Steps.{Exchange, FineStep, Site}
-use Rattle.um_fine.specs.Memory.{Bytes, read, text_bytes, text_found}
-use Rattle.um_fine.specs.Sites.{SiteState, site_answers}
-use Rattle.um_fine.specs.Places.{Todos}
-use Rattle.um_fine.specs.Processor.{Processor}
-use Rattle.um_fine.specs.Asks.{allows, moves, readable, shows}
-use Rattle.um_erasure.specs.Fine.{Fine, bytes}
+use Rattle.um_machine.specs.Memory.{string_from}
+use Rattle.um_fine.specs.Answers.{found_in, limit_in}
+use Rattle.um_fine.specs.Memory.{text_bytes, text_found}
+use Rattle.um_fine.specs.Asks.{readable}
 use Rattle.um_erasure.proofs.MemorySteps.{allows-it, memory-sort}
 use Rattle.um_erasure.proofs.Offered.{IsStep, Shows, act-is, behind-is, machine-step, says-at, site-is}
 use Rattle.um_erasure.proofs.Says.{read-agrees}

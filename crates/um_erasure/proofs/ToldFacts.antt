@@ -1,18 +1,7 @@
 -- What a thread is told stands in one place, which is what the relation says of it; and what a step of the machine tells threads.
-use Rattle.std.proofs.Common.{◌≡◌, ℕ, zero, suc, ◌+◌, ◌<◌, ◌≤◌, Bool, true, false, List, [], ◌∷◌, length, Option, Some, None, refl, sym, ap, ◌∙◌, subst, arith}
-use Rattle.std.specs.Prelude.{◌==◌, if◌then◌else◌, is_some, slice_index_or, slice_set}
-use Rattle.std.proofs.lemmas.Bool.{eqb-false, eqb-true, true≢false}
-use Rattle.um_base.specs.declared.ask.Told.{Told}
-use Rattle.um_base.specs.declared.limits.TheConstants.{THREADS}
-use Rattle.um_base.specs.declared.names.ThreadIx.{ThreadIx}
-use Rattle.um_machine.specs.declared.thread.Thread.{Thread}
-use Rattle.um_machine.specs.State.{State, nobody, thread_at, with_thread}
+use Rattle.um_erasure.proofs.Words.{◌≡◌, ℕ, zero, suc, ◌+◌, ◌<◌, ◌≤◌, Bool, true, false, List, [], ◌∷◌, length, Option, Some, None, refl, sym, ap, ◌∙◌, subst, arith, ◌==◌, if◌then◌else◌, is_some, slice_index_or, slice_set, eqb-false, eqb-true, true≢false, Told, THREADS, ThreadIx, Thread, State, nobody, thread_at, with_thread, told_at, Fine, one_if, scheduler, counted, is_wake, wake_of, Rel, first_told, told_by}
 use Rattle.um_machine.specs.Table as T
-use Rattle.um_fine.specs.Scheduler.{told_at}
-use Rattle.um_erasure.specs.Fine.{Fine, one_if, scheduler}
-use Rattle.um_erasure.specs.Lists.{counted, is_wake, wake_of}
-use Rattle.um_erasure.specs.Relation.{Rel}
-use Rattle.um_erasure.specs.Threads.{first_told, tellers, told_by}
+use Rattle.um_erasure.specs.Threads.{tellers}
 use Rattle.um_erasure.proofs.DomainFacts.{two-parts}
 use Rattle.um_erasure.proofs.HeldRows.{some-part}
 use Rattle.um_erasure.proofs.ListWakes.{Wakes, named, told_first, told_times, wake-first, wake-times, wakers}

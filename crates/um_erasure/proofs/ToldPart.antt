@@ -1,50 +1,17 @@
 -- What a woken thread is told stands with the scheduler, or on the list of the processor that wakes it, after every lawful step.
-use Rattle.std.proofs.Common.{◌≡◌, ℕ, zero, suc, ◌+◌, ◌<◌, ◌≤◌, Bool, true, false, cond, List, [], ◌∷◌, ◌++◌, length, Option, Some, None, refl, sym, ap, ◌∙◌, subst, arith, eq-eqb}
-use Rattle.std.specs.Prelude.{◌==◌, if◌then◌else◌, is_some, slice_index_or, slice_set}
+use Rattle.um_erasure.proofs.Words.{◌≡◌, ℕ, zero, suc, ◌+◌, ◌<◌, ◌≤◌, Bool, true, false, cond, List, [], ◌∷◌, ◌++◌, length, Option, Some, None, refl, sym, ap, ◌∙◌, subst, arith, eq-eqb, ◌==◌, if◌then◌else◌, is_some, slice_index_or, slice_set, eqb-false, eqb-true, false≢true, true≢false, get_or-set_at, get_or-set_other, Told, THREADS, Errno, Pending, Thread, verdict, Steps, to_thread, Offers, exits, goes, skips_drops, skips_inherit, State, nobody, object_at, thread_at, with_object, with_thread, rows-are, AreKept, is_resume, Todo, Todos, Processor, Exchange, FineStep, Site, Fine, Addr, Reply, ThreadIx, Answer, Ask, Object, Acted, outcome_in, ready_in, says_idle, p_next, outcome_of, Scheduler, told_at, same_site, one_if, over_processors, scheduler, AreFramed, counted, is_wake, wake_of, first_told, FineAct, Unseen, Context, IsOf}
 use Rattle.std.proofs.Math.Seq.{map-set_same}
-use Rattle.std.proofs.lemmas.Bool.{eqb-false, eqb-true, false≢true, true≢false}
-use Rattle.std.proofs.lemmas.Grind.{get_or-set_at}
-use Rattle.std.proofs.lemmas.List.{get_or-set_other}
-use Rattle.um_base.specs.declared.ask.Told.{Told}
-use Rattle.um_base.specs.declared.limits.TheConstants.{THREADS}
-use Rattle.um_base.specs.declared.names.Errno.{Errno}
-use Rattle.um_machine.specs.declared.pending.Pending.{Pending}
-use Rattle.um_machine.specs.declared.thread.Thread.{Thread}
-use Rattle.um_machine.specs.Objects.{verdict}
-use Rattle.um_machine.specs.Order.{Steps, to_thread}
-use Rattle.um_machine.specs.Run.{Offers, exits, goes, skips_drops, skips_inherit}
-use Rattle.um_machine.specs.State.{State, nobody, object_at, thread_at, with_object, with_thread}
 use Rattle.um_machine.specs.Table as T
 use Rattle.um_invariants.proofs.Cores.{map_at}
-use Rattle.um_scheduler.proofs.ThreadWords.{AreKept, is_resume}
-use Rattle.um_fine.specs.Places.{Todo, Todos}
-use Rattle.um_fine.specs.Processor.{Processor}
-use Rattle.um_fine.specs.Steps.{Exchange, FineStep, Site}
-use Rattle.um_erasure.specs.Fine.{Fine}
 use Rattle.um_erasure.proofs.CallsKnown.{starts-known}
 use Rattle.um_erasure.proofs.Leaves.{Lawful, Leaves, cleans, drops, event, nothing, passes, recycles, resumes}
 use Rattle.um_erasure.proofs.Offered.{Shows, shown-offers}
 use Rattle.um_erasure.proofs.RestKept.{beside-kept, beside-same}
 use Rattle.std.proofs.lemmas.List.{append-nil}
-use Rattle.um_base.specs.declared.names.Addr.{Addr}
-use Rattle.um_base.specs.declared.names.Reply.{Reply}
-use Rattle.um_base.specs.declared.names.ThreadIx.{ThreadIx}
-use Rattle.um_base.specs.declared.act.Answer.{Answer}
-use Rattle.um_base.specs.declared.ask.Ask.{Ask}
-use Rattle.um_machine.specs.declared.object.Object.{Object}
-use Rattle.um_machine.specs.Services.{Acted}
-use Rattle.um_scheduler.proofs.ThreadServes.{served}
-use Rattle.um_scheduler.proofs.ThreadWaits.{IsServed, times, wakings, wakings-more}
-use Rattle.um_fine.specs.Answers.{outcome_in, ready_in, wake_in}
-use Rattle.um_fine.specs.Asks.{says_idle}
-use Rattle.um_fine.specs.Follows.{p_next}
-use Rattle.um_fine.specs.Objects.{outcome_of}
-use Rattle.um_fine.specs.Scheduler.{Scheduler, told_at}
-use Rattle.um_fine.specs.Sites.{same_site}
-use Rattle.um_erasure.specs.Fine.{one_if, over_processors, scheduler}
-use Rattle.um_erasure.specs.Frames.{AreFramed}
-use Rattle.um_erasure.specs.Lists.{counted, is_wake, wake_of}
-use Rattle.um_erasure.specs.Threads.{ToldIs, first_told, tellers}
+use Rattle.um_invariants.proofs.ThreadServes.{served}
+use Rattle.um_invariants.proofs.ThreadWaits.{IsServed, times, wakings, wakings-more}
+use Rattle.um_fine.specs.Answers.{wake_in}
+use Rattle.um_erasure.specs.Threads.{ToldIs, tellers}
 use Rattle.um_erasure.proofs.Erased.{around}
 use Rattle.um_erasure.proofs.LawfulSteps.{Suits}
 use Rattle.um_erasure.proofs.ListWakes.{named, next-wakers, takes-wakers, told_first, told_times, wake-first, wake-times, wakers, woken_by}
@@ -57,10 +24,6 @@ use Rattle.um_erasure.proofs.SchedulerSteps.{made-at, made-moves, made-says, sch
 use Rattle.um_erasure.proofs.StepReads.{last-read}
 use Rattle.um_erasure.proofs.Sums.{over-changed}
 use Rattle.um_erasure.proofs.ToldFacts.{last-first, none-first, none-told, scheduler-told, some-first, told-alike, told_last, untold, wake-is-told, woken-told}
-use Rattle.um_words.specs.declared.fine.FineAct.{FineAct}
-use Rattle.um_words.specs.declared.fine.Unseen.{Unseen}
-use Rattle.um_fine.specs.Context.{Context}
-use Rattle.um_erasure.specs.Threads.{IsOf}
 use Rattle.um_erasure.proofs.ContextsPart.{is_shown, read-only}
 use Rattle.um_erasure.proofs.MemorySteps.{part-total}
 use Rattle.um_erasure.proofs.OfVisits.{scheduler-tells}
@@ -215,8 +178,8 @@ module _ (f : Fine) (m : State) (e : FineStep) (law : Lawful f m e) (suits : Sui
 
       machine : (thread_at s t).told ≡ told_last t (T.work_of m p.context.thread a ask).woken (thread_at m t).told
       machine =
-          answer-tells (T.all_woken w.woken (with_object m (T.row_of m a) o)) p.context.thread ask w.taken rest w.answer t
-          ∙ woken-told (T.work_of m p.context.thread a ask).woken (with_object m (T.row_of m a) o) t room
+          ap (λ (z : State). (thread_at z t).told) (sym (rows-are m p.context.thread x (Pending.Work a ask) rest)) ∙ (answer-tells (T.all_woken w.woken (with_object m (T.row_of m a) o)) p.context.thread ask w.taken rest w.answer t
+          ∙ woken-told (T.work_of m p.context.thread a ask).woken (with_object m (T.row_of m a) o) t room)
 
       here : told_at (scheduler later) t ≡ told_at (scheduler f) t
       here = elsewhere (Todo.show (Pending.Work a ask) rest) todo h.at refl
@@ -298,7 +261,7 @@ module _ (f : Fine) (m : State) (e : FineStep) (law : Lawful f m e) (suits : Sui
       th = T.at_steps m.image (record (thread_at m c.thread) { told = None; reply = told.reply; buffer = told.taken }) (elim told.reply as (λ _. Steps) [ Reply.Fail e ↦ T.without_copy rest | _ ↦ rest ])
 
       written : (n : ℕ) → thread_at (T.after m c.thread 0 Pending.Resume rest) n ≡ thread_at (with_thread m c.thread th) n
-      written n = λ i. thread_at (T.resumed m c.thread (thread_at m c.thread) rest (scheduler-tells f m law.rel c.thread is.index told stands i)) n
+      written n = ap (λ (s : State). thread_at s n) (sym (rows-are m c.thread 0 Pending.Resume rest)) ∙ λ i. thread_at (T.resumed m c.thread (thread_at m c.thread) rest (scheduler-tells f m law.rel c.thread is.index told stands i)) n
 
       first : IsTaken f e
       first = takes-first f m e law at

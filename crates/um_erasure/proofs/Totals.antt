@@ -1,14 +1,7 @@
 -- Bounds of sums.
-use Rattle.std.proofs.Common.{◌≡◌, ℕ, zero, suc, ◌+◌, ◌*◌, ◌<◌, ◌≤◌, Bool, true, false, List, [], ◌∷◌, length, refl, sym, ap, ◌∙◌, arith, eq-eqb}
+use Rattle.um_erasure.proofs.Words.{◌≡◌, ℕ, zero, suc, ◌+◌, ◌*◌, ◌<◌, ◌≤◌, Bool, true, false, List, [], ◌∷◌, length, refl, sym, ap, ◌∙◌, arith, eq-eqb, ◌==◌, if◌then◌else◌, nat_lt, list_all, and_parts, eqb-false, eqb-true, ltb-true, ROWS, Todo, Todos, cleanings, one_if, total, counted, is_recycle, names_row, occurs}
 use Rattle.std.proofs.Math.Nat.{suc-mul}
-use Rattle.std.specs.Prelude.{◌==◌, if◌then◌else◌, nat_lt}
-use Rattle.std.specs.List.{list_all}
-use Rattle.std.proofs.lemmas.Bool.{and_parts, eqb-false, eqb-true, ltb-false, ltb-true}
-use Rattle.um_base.specs.declared.limits.TheConstants.{ROWS}
-use Rattle.um_fine.specs.Places.{Todo, Todos, cleanings}
-use Rattle.um_erasure.specs.Fine.{one_if, total}
-use Rattle.um_erasure.specs.Lists.{counted, is_recycle, names_row}
-use Rattle.um_erasure.specs.Threads.{occurs}
+use Rattle.std.proofs.lemmas.Bool.{ltb-false}
 use Rattle.um_erasure.proofs.HeldRows.{total-zero}
 use Rattle.um_erasure.proofs.Sums.{total-one}
 

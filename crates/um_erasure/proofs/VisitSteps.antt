@@ -1,32 +1,7 @@
 -- What a processor's visit of a row makes is that step of the machine, where the relation holds: an inherited permission, and a
 -- permission that a thread's end drops.
-use Rattle.std.proofs.Common.{◌≡◌, ℕ, ◌<◌, Bool, false, List, ◌∷◌, refl, sym, ap, ◌∙◌, subst}
-use Rattle.std.specs.Prelude.{not, if◌then◌else◌, IsTrue, slice_index_or}
-use Rattle.std.proofs.lemmas.Bool.{and_parts}
-use Rattle.um_base.specs.declared.act.Act.{Act}
-use Rattle.um_base.specs.declared.image.Image.{Image}
-use Rattle.um_base.specs.declared.limits.TheConstants.{ROWS}
-use Rattle.um_base.specs.Places.{own_row}
-use Rattle.um_machine.specs.declared.pending.Pending.{Pending}
-use Rattle.um_machine.specs.declared.thread.Thread.{Thread}
-use Rattle.um_machine.specs.Order.{Steps, to_thread}
-use Rattle.um_machine.specs.Run.{goes}
-use Rattle.um_machine.specs.State.{State, pair_at}
+use Rattle.um_erasure.proofs.Words.{◌≡◌, ℕ, ◌<◌, Bool, false, List, ◌∷◌, refl, sym, ap, ◌∙◌, subst, not, if◌then◌else◌, IsTrue, slice_index_or, and_parts, Act, Image, ROWS, own_row, Pending, Thread, Steps, to_thread, goes, State, pair_at, FineAct, Unseen, has, address_of, is_visit, FineStep, Site, SiteMay, SiteState, site_takes, Todo, Todos, CpuMay, by_me, says, site_at, Fine, row, has_steps, Fits, Passes, IsRun, Rel}
 use Rattle.um_machine.specs.Table as T
-use Rattle.um_words.specs.declared.fine.FineAct.{FineAct}
-use Rattle.um_words.specs.declared.fine.Unseen.{Unseen}
-use Rattle.um_words.specs.Rows.{has}
-use Rattle.um_fine.specs.Addresses.{address_of}
-use Rattle.um_fine.specs.Answers.{is_visit}
-use Rattle.um_fine.specs.Steps.{FineStep, Site}
-use Rattle.um_fine.specs.Sites.{SiteMay, SiteState, site_takes}
-use Rattle.um_fine.specs.Places.{Todo, Todos}
-use Rattle.um_fine.specs.Asks.{CpuMay, by_me, says, site_at}
-use Rattle.um_erasure.specs.Fine.{Fine, row}
-use Rattle.um_erasure.specs.Lists.{has_steps}
-use Rattle.um_erasure.specs.Offers.{Fits, Passes}
-use Rattle.um_erasure.specs.Threads.{IsRun}
-use Rattle.um_erasure.specs.Relation.{Rel}
 use Rattle.um_erasure.proofs.StepsLeft.{passes-on}
 use Rattle.um_erasure.proofs.Erased.{Goes, GoesBy}
 use Rattle.um_erasure.proofs.RowSteps.{row-stands}

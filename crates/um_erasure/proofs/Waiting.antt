@@ -1,28 +1,5 @@
 -- A processor of a fine run that can't step waits for a thread that is ready, for one that is held, or for a domain that is claimed.
-use Rattle.std.proofs.Common.{◌≡◌, ◌⊎◌, inl, inr, ℕ, ◌<◌, ◌≤◌, List, [], ◌∷◌, length, map, refl, ap, ◌∙◌, arith}
-use Rattle.um_base.specs.declared.image.Boot.{Boot}
-use Rattle.um_base.specs.declared.image.Image.{Image}
-use Rattle.um_machine.specs.declared.pending.Pending.{Pending}
-use Rattle.um_machine.specs.Order.{Steps}
-use Rattle.um_machine.specs.Run.{opening}
-use Rattle.um_machine.specs.State.{State}
-use Rattle.um_invariants.proofs.Cores.{core_of}
-use Rattle.um_invariants.proofs.Opening.{is_opening}
-use Rattle.um_invariants.proofs.SitedImages.{is_sited}
-use Rattle.um_invariants.proofs.Turns.{IsKnown}
-use Rattle.um_invariants.specs.Described.{IsDescribed}
-use Rattle.um_fine.specs.Erasure.{shown}
-use Rattle.um_fine.specs.FineRun.{IsFineRun}
-use Rattle.um_fine.specs.Opening.{boot_index}
-use Rattle.um_fine.specs.Places.{Todo, Todos}
-use Rattle.um_fine.specs.Processor.{Processor}
-use Rattle.um_fine.specs.Sites.{SiteState}
-use Rattle.um_fine.specs.Steps.{FineStep, Site}
-use Rattle.um_erasure.specs.After.{left_by}
-use Rattle.um_erasure.specs.Fine.{Fine, one_if, scheduler}
-use Rattle.um_erasure.specs.Lists.{runs}
-use Rattle.um_erasure.specs.Relation.{Rel}
-use Rattle.um_erasure.specs.Room.{CanCount, CanRun, IsHalted}
+use Rattle.um_erasure.proofs.Words.{◌≡◌, ◌⊎◌, inl, inr, ℕ, ◌<◌, ◌≤◌, List, [], ◌∷◌, length, map, refl, ap, ◌∙◌, arith, Boot, Image, Pending, Steps, opening, State, core_of, is_opening, is_sited, IsKnown, IsDescribed, shown, IsFineRun, boot_index, Todo, Todos, Processor, SiteState, FineStep, Site, left_by, Fine, one_if, scheduler, runs, Rel, CanCount, CanRun, IsHalted}
 use Rattle.um_erasure.specs.Waits.{WaitsFor}
 use Rattle.um_erasure.proofs.BoundedRuns.{bounded-runs}
 use Rattle.um_erasure.proofs.Bounds.{AreBounded, ReadyThreads}

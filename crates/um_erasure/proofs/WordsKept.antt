@@ -1,53 +1,22 @@
 -- The words of threads say what the machine's threads are after each event of a pending step, where the relation holds before it.
-use Rattle.std.proofs.Common.{◌≡◌, ℕ, zero, suc, ◌+◌, ◌<◌, Bool, true, false, cond, List, [], ◌∷◌, length, Option, Some, None, ℤ, refl, sym, ap, ◌∙◌, subst}
-use Rattle.std.specs.Prelude.{◌==◌, ◌&&◌, not, if◌then◌else◌, slice_index_or, slice_set}
-use Rattle.std.specs.List.{list_any}
-use Rattle.std.proofs.lemmas.Bool.{eqb-false, eqb-true}
-use Rattle.um_base.specs.declared.act.Act.{Act}
-use Rattle.um_base.specs.declared.act.Cause.{Cause}
-use Rattle.um_base.specs.declared.act.Event.{Event}
-use Rattle.um_base.specs.declared.image.Image.{Image}
-use Rattle.um_base.specs.declared.limits.TheConstants.{THREADS}
+use Rattle.um_erasure.proofs.Words.{◌≡◌, ℕ, ◌<◌, Bool, true, false, cond, List, ◌∷◌, length, Option, Some, None, refl, sym, ap, ◌∙◌, subst, ◌==◌, ◌&&◌, not, if◌then◌else◌, slice_index_or, slice_set, list_any, eqb-false, eqb-true, Act, Cause, Event, Image, THREADS, Mode, Reply, Row, ThreadIx, Partitions, Pending, Thread, Steps, State, nobody, thread_at, FineAct, More, ThreadWord, thread_after_act, act_in, FineStep, Site, SiteState, s_next, same_site, site_after, Todo, Todos, Processor, fails, allows, more_of, says_step, shows, Fine, thread_state, word, has_held, is_hold, is_let_go, moving, behind_shown, WordIs, Rel, bytes-leave}
+use Rattle.std.proofs.Common.{ℤ}
 use Rattle.um_base.specs.declared.names.Access.TheVariants as Access
-use Rattle.um_base.specs.declared.names.Mode.{Mode}
-use Rattle.um_base.specs.declared.names.Reply.{Reply}
-use Rattle.um_base.specs.declared.names.Row.{Row}
-use Rattle.um_base.specs.declared.names.ThreadIx.{ThreadIx}
-use Rattle.um_base.specs.Regions.{Partitions}
-use Rattle.um_machine.specs.declared.pending.Pending.{Pending}
 use Rattle.um_machine.specs.declared.thread.Life.TheVariants as Life
-use Rattle.um_machine.specs.declared.thread.Thread.{Thread}
-use Rattle.um_machine.specs.Order.{Steps}
-use Rattle.um_machine.specs.State.{State, nobody, thread_at, with_pair}
 use Rattle.um_machine.specs.Table as T
-use Rattle.um_words.specs.declared.fine.FineAct.{FineAct}
-use Rattle.um_words.specs.declared.fine.More.{More}
-use Rattle.um_words.specs.declared.thread_word.ThreadWord.{ThreadWord}
-use Rattle.um_words.specs.Threads.{thread_after_act}
-use Rattle.um_fine.specs.Answers.{act_in}
-use Rattle.um_fine.specs.Steps.{FineStep, Site}
-use Rattle.um_fine.specs.Sites.{SiteState, s_next, same_site, site_after}
-use Rattle.um_fine.specs.Places.{Todo, Todos}
-use Rattle.um_fine.specs.Processor.{Processor, fails}
-use Rattle.um_fine.specs.Asks.{allows, more_of, says_step, shows}
-use Rattle.um_erasure.specs.Fine.{Fine, thread_state, word}
-use Rattle.um_erasure.specs.Lists.{has_held, is_hold, is_let_go, moving}
-use Rattle.um_erasure.specs.Offers.{behind_shown}
-use Rattle.um_erasure.specs.Threads.{WordIs}
-use Rattle.um_erasure.specs.Relation.{Rel}
 use Rattle.um_erasure.proofs.Erased.{stepped}
-use Rattle.um_erasure.proofs.Offered.{Shows, act-is, behind-is, own-part, shows-rest, site-is}
+use Rattle.um_erasure.proofs.Offered.{Shows, act-is, behind-is, own-part, shows-rest, site-is, either-act}
 use Rattle.um_erasure.proofs.RowSteps.{thread-sort}
-use Rattle.um_erasure.proofs.ThreadLists.{at-here, read-set, set-else}
-use Rattle.um_erasure.proofs.Writes.{Keeping, Makes, Part, Said, after-kept, said_of, words, bytes-kept}
+use Rattle.um_erasure.proofs.ThreadLists.{at-here, paired-same, read-set, set-else}
+use Rattle.um_erasure.proofs.Writes.{Keeping, Makes, Part, Said, after-kept, said_of, words, after_saying}
 
 abbrev pub word_says : ThreadWord → Said
 word_says w = record { life = w.life; doomed = w.doomed; mode = w.mode; domain = w.domain }
 
 -- all that a step may write but the words of threads
-abbrev pub NoWords : Part → Type 0
-NoWords words = ⊥
-NoWords part = Unit {0}
+abbrev pub NoWords : Part → Bool
+NoWords words = false
+NoWords part = true
 
 -- The access-matrix machine.
 
@@ -62,11 +31,6 @@ set-said xs v u th l = by (v == u) refl
         ∙ (ap said_of (at-here xs u th l) ∙ sym (ap (λ c. if c then said_of th else said_of (slice_index_or xs u nobody)) q))
     by false q = ap said_of (set-else xs v u th (eqb-false v u q)) ∙ sym (ap (λ c. if c then said_of th else said_of (slice_index_or xs u nobody)) q)
 
-dues-said : (x i : ℕ) (holders : List Bool) (xs : List Thread) (u : ℕ) → said_of (slice_index_or (T.with_dues x i holders xs) u nobody) ≡ said_of (slice_index_or xs u nobody)
-dues-said x i holders [] u = refl
-dues-said x i holders (y ∷ ys) zero = refl
-dues-said x i holders (y ∷ ys) (suc u) = dues-said x (i + 1) holders ys u
-
 module _ (m : State) (u : ℕ) where
   abbrev SaysSame : State → Type 0
   SaysSame s = said_of (thread_at s u) ≡ said_of (thread_at m u)
@@ -79,8 +43,8 @@ module _ (m : State) (u : ℕ) where
         object = λ may s x o e q k. k;
         status = λ may s x o e k. k;
         birth = λ may s x o k. k;
-        pair = λ may s v x there k. dues-said x 0 (slice_index_or (with_pair s v x there).pairs x []) s.threads u ∙ k;
-        bytes = λ may s a bs k. bytes-kept (λ (z : State). said_of (thread_at z u)) (λ z bytes. refl) (λ z bytes. refl) s a bs ∙ k;
+        pair = λ may s v x there k. paired-same said_of (λ me due. refl) s v x there u ∙ k;
+        bytes = λ may s a bs k. bytes-leave (λ (z : State). said_of (thread_at z u)) (λ z bytes. refl) (λ z bytes. refl) s a bs ∙ k;
         pool = λ may s left k. k;
         parts = λ may s d ps k. k;
       }
@@ -90,11 +54,6 @@ module _ (m : State) (u : ℕ) where
   says-kept t x q rest h = after-kept NoWords SaysSame says-keeping m t refl x q rest h
 
 -- The fine machine.
-
-either-same : (w : ThreadWord) (more : More) (b : Bool) (good bad : Act) → word_says (thread_after_act w more good) ≡ word_says w → word_says (thread_after_act w more bad) ≡ word_says w
-    → word_says (thread_after_act w more (if b then good else bad)) ≡ word_says w
-either-same w more true good bad h k = h
-either-same w more false good bad h k = k
 
 -- the steps that are shown as such: a resumed call, visits, and cleaning have places of their own
 abbrev pub IsShown : Pending → Type 0
@@ -108,9 +67,9 @@ IsShown q = Unit {0}
 act-same : (image : Image) (p : Processor) (w : ThreadWord) (more : More) (q : Pending) (act : Act) → IsShown q → Makes NoWords q
     → word_says (thread_after_act w more (says_step image p q act)) ≡ word_says w
 act-same image p w more Pending.Exit act shown h = absurd h
-act-same image p w more (Pending.Load to a n) act shown h = either-same w more (allows image p Access.Read a.0 n) _ _ refl refl
-act-same image p w more (Pending.Store a n value) act shown h = either-same w more (allows image p Access.Write a.0 n) _ _ refl refl
-act-same image p w more (Pending.Fetch a) act shown h = either-same w more (allows image p Access.Exec a.0 4) _ _ refl refl
+act-same image p w more (Pending.Load to a n) act shown h = either-act (λ z. word_says (thread_after_act w more z)) _ (allows image p Access.Read a.0 n) _ _ refl refl
+act-same image p w more (Pending.Store a n value) act shown h = either-act (λ z. word_says (thread_after_act w more z)) _ (allows image p Access.Write a.0 n) _ _ refl refl
+act-same image p w more (Pending.Fetch a) act shown h = either-act (λ z. word_says (thread_after_act w more z)) _ (allows image p Access.Exec a.0 4) _ _ refl refl
 act-same image p w more (Pending.DomMove d who) act shown h = absurd h
 act-same image p w more (Pending.Start who script stack priority mode) act shown h = absurd h
 act-same image p w more (Pending.EnterUser script) act shown h = absurd h
@@ -262,8 +221,7 @@ module _ {f : Fine} {m : State} {k : ℕ} {e : FineStep} {rest : Steps} {todo : 
       reply-is parts q = (h.rel.processors k h.there).looks.reply d (ap moving h.at) ∙ ap T.move_reply q
 
       after-by : Option Partitions → State
-      after-by parts =
-          let s = T.moved m who.0 d (T.move_reply parts) in T.goes_on s (f.processors k).context.thread (record (thread_at s (f.processors k).context.thread) { reply = T.move_reply parts }) rest
+      after-by parts = after_saying m (f.processors k).context.thread x (Pending.DomMove d who) (Act.DomMove d who (T.move_reply parts)) rest
 
       with-parts : (parts : Option Partitions) → T.domain_at m d ≡ parts → WordIs (stepped f.image f.cpus f.processors f.sites e) (after-by parts) u
       with-parts None q =

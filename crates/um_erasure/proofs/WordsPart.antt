@@ -1,15 +1,6 @@
 -- The words of threads say what the machine's threads are after every lawful step.
-use Rattle.std.proofs.Common.{ℕ, ◌<◌, refl}
-use Rattle.um_base.specs.declared.limits.TheConstants.{THREADS}
-use Rattle.um_machine.specs.declared.pending.Pending.{Pending}
-use Rattle.um_machine.specs.Order.{Steps, to_thread}
-use Rattle.um_machine.specs.State.{State}
+use Rattle.um_erasure.proofs.Words.{ℕ, ◌<◌, refl, THREADS, Pending, Steps, to_thread, State, More, FineStep, Todos, Fine, WordIs}
 use Rattle.um_machine.specs.Table as T
-use Rattle.um_words.specs.declared.fine.More.{More}
-use Rattle.um_fine.specs.Steps.{FineStep}
-use Rattle.um_fine.specs.Places.{Todos}
-use Rattle.um_erasure.specs.Fine.{Fine}
-use Rattle.um_erasure.specs.Threads.{WordIs}
 use Rattle.um_erasure.proofs.Erased.{stepped}
 use Rattle.um_erasure.proofs.Leaves.{Lawful, Leaves, cleans, drops, event, mine, nothing, passes, recycles, resumes}
 use Rattle.um_erasure.proofs.Offered.{IsStep, Shows}
@@ -27,12 +18,6 @@ module _ (f : Fine) (m : State) (e : FineStep) (law : Lawful f m e) (u : ℕ) (l
   by-event (Pending.Dooms from) rest todo x h shown is = doom-words law.sound.wide.threads x u l from h
   by-event (Pending.Start who script stack priority mode) rest todo x h shown is = start-words law.sound.wide.threads x u l who script stack priority mode h
   by-event (Pending.DomMove d who) rest todo x h shown is = move-words law.sound.wide.threads x u l d who h
-  by-event (Pending.DropPair who a) rest todo x h shown is = words-kept h x u l is.said shown (tt, tt)
-  by-event (Pending.Reserve kind) rest todo x h shown is = words-kept h x u l is.said shown (tt, tt)
-  by-event (Pending.Born a) rest todo x h shown is = words-kept h x u l is.said shown (tt, tt)
-  by-event (Pending.Drops from) rest todo x h shown is = absurd shown
-  by-event (Pending.CleanPair who) rest todo x h shown is = absurd shown
-  by-event Pending.Recycle rest todo x h shown is = absurd shown
   by-event q rest todo x h shown is = words-kept h x u l is.said shown tt
 
   pub words-part : (s : State) → Leaves f m e s → Kept s
@@ -40,7 +25,7 @@ module _ (f : Fine) (m : State) (e : FineStep) (law : Lawful f m e) (u : ℕ) (l
   words-part _ (event q rest todo x h shown is) = by-event q rest todo x h shown is
   words-part _ (resumes c told rest idle moved said) = words-beside f m law.rel e _ More.Nothing said Pending.Resume rest c.thread 0 u l (λ w. refl) tt
   words-part _ (passes who x rest todo h said) = words-beside f m law.rel e _ More.Nothing said (Pending.Inherit (to_thread who)) rest (mine f m e) x u l (λ w. refl) tt
-  words-part _ (drops from x rest todo h said) = words-beside f m law.rel e _ More.Nothing said (Pending.Drops from) rest (mine f m e) x u l (λ w. refl) (tt, tt)
+  words-part _ (drops from x rest todo h said) = words-beside f m law.rel e _ More.Nothing said (Pending.Drops from) rest (mine f m e) x u l (λ w. refl) tt
   words-part _ (cleans who x rest todo h said) =
-      words-beside f m law.rel e _ More.Nothing said (Pending.CleanPair (to_thread who)) rest (mine f m e) x u l (λ w. refl) (tt, tt, tt)
-  words-part _ (recycles x rest todo at few said chosen) = words-beside f m law.rel e _ More.Nothing said Pending.Recycle rest (mine f m e) x u l (λ w. refl) (tt, tt)
+      words-beside f m law.rel e _ More.Nothing said (Pending.CleanPair (to_thread who)) rest (mine f m e) x u l (λ w. refl) tt
+  words-part _ (recycles x rest todo at few said chosen) = words-beside f m law.rel e _ More.Nothing said Pending.Recycle rest (mine f m e) x u l (λ w. refl) tt

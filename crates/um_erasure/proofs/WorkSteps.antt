@@ -1,32 +1,11 @@
 -- A processor's event on the contents of an object that its thread holds is that step of the machine, where the relation holds. So is a
 -- copy or a probe of a queue's message, whose size it has looked at, and a move to a domain, which it has claimed.
-use Rattle.std.proofs.Common.{◌≡◌, ℕ, ◌<◌, Bool, true, false, ◌∷◌, Some, refl, sym, ap, ◌∙◌, subst, length}
-use Rattle.std.specs.Prelude.{IsTrue, slice_index_or}
-use Rattle.std.proofs.lemmas.Bool.{false≢true}
-use Rattle.um_base.specs.declared.act.Act.{Act}
-use Rattle.um_base.specs.declared.ask.Ask.{Ask}
-use Rattle.um_base.specs.declared.limits.TheConstants.{ROWS}
-use Rattle.um_base.specs.declared.names.Access.{Access}
-use Rattle.um_base.specs.declared.names.Addr.{Addr}
-use Rattle.um_base.specs.declared.names.ThreadIx.{ThreadIx}
+use Rattle.um_erasure.proofs.Words.{◌≡◌, ℕ, ◌<◌, Bool, true, false, ◌∷◌, Some, refl, sym, ap, ◌∙◌, subst, length, IsTrue, slice_index_or, false≢true, Act, Ask, ROWS, Access, Addr, ThreadIx, Pending, Thread, allowed, Steps, Acted, acted, State, object_at, thread_at, row_named, act_in, outcome_in, Cell, ObjectCell, work_on, Exchange, FineStep, Site, SiteState, is_sort, site_answers, Todo, Todos, allows, moves, shows, Fine, object, has_steps, looked, moving}
 use Rattle.um_machine.specs.declared.pending.Amount.TheVariants as Amount
-use Rattle.um_machine.specs.declared.pending.Pending.{Pending}
-use Rattle.um_machine.specs.declared.thread.Thread.{Thread}
-use Rattle.um_machine.specs.Memory.{allowed}
-use Rattle.um_machine.specs.Order.{Steps}
-use Rattle.um_machine.specs.Services.{Acted, acted}
-use Rattle.um_machine.specs.State.{State, object_at, thread_at}
 use Rattle.um_machine.specs.Table as T
-use Rattle.um_fine.specs.Addresses.{row_named}
-use Rattle.um_fine.specs.Answers.{act_in, answer_in, caller_in, outcome_in, woken_in}
-use Rattle.um_fine.specs.Cells.{Cell}
-use Rattle.um_fine.specs.Objects.{ObjectCell, work_on}
-use Rattle.um_fine.specs.Steps.{Exchange, FineStep, Site}
-use Rattle.um_fine.specs.Sites.{SiteState, is_sort, site_answers}
-use Rattle.um_fine.specs.Places.{Todo, Todos}
-use Rattle.um_fine.specs.Asks.{allows, caller, moves, shows}
-use Rattle.um_erasure.specs.Fine.{Fine, object, object_state}
-use Rattle.um_erasure.specs.Lists.{has_steps, looked, moving}
+use Rattle.um_fine.specs.Answers.{answer_in, caller_in, woken_in}
+use Rattle.um_fine.specs.Asks.{caller}
+use Rattle.um_erasure.specs.Fine.{object_state}
 use Rattle.um_erasure.proofs.HeldRows.{checked-claimed, claimed-whole}
 use Rattle.um_erasure.proofs.MemorySteps.{allows-it}
 use Rattle.um_erasure.proofs.Offered.{IsStep, Shows, act-is, behind-is, machine-step, own-part, says-at, shown-on, site-is}

@@ -17,7 +17,7 @@ use Rattle.um_words.specs.declared.thread_word.ThreadWord.{ThreadWord}
 use Rattle.um_words.specs.Rows.{row_says_act}
 use Rattle.um_fine.specs.Steps.{Exchange, FineStep, Site}
 use Rattle.um_fine.specs.Addresses.{address_of}
-use Rattle.um_fine.specs.Answers.{act_in, before_in, bytes_in, is_visit, is_word_read, left_in, value_in}
+use Rattle.um_fine.specs.Answers.{act_in, before_in, bytes_in, is_visit, is_word_read, leftover_in, value_in}
 use Rattle.um_fine.specs.Threads.{thread_answers, unless_doomed}
 use Rattle.um_fine.specs.Objects.{ObjectCell, object_moves_act, object_says_act}
 use Rattle.um_fine.specs.Memory.{Bytes, memory_moves, memory_says_act}
@@ -239,9 +239,9 @@ module _ (image : Image) (p : Processor) where
   as-made (Todo.add c ∷ todo) (SiteState.cell n (Cell.scheduler s)) act moved h e takes = (refl, refl)
   as-made (Todo.pass who x ∷ todo) (SiteState.row w) act moved h e takes = (visit-made w (Act.Inherit (to_thread who) (address_of image x)) (λ z. Act.Inherit (to_thread who) (address_of image x)) (is_visit act) refl, refl)
   as-made (Todo.drop x ∷ todo) (SiteState.row w) act moved h e takes =
-      (visit-made w (Act.DropPair (me image p) (address_of image x) (left_in (act_in act))) (λ z. Act.DropPair (me image p) (address_of image x) (left_in z)) (is_visit act) refl, refl)
+      (visit-made w (Act.DropPair (me image p) (address_of image x) (leftover_in (act_in act))) (λ z. Act.DropPair (me image p) (address_of image x) (leftover_in z)) (is_visit act) refl, refl)
   as-made (Todo.clean_pair who x ∷ todo) (SiteState.row w) act moved h e takes =
-      (visit-made w (Act.DropPair (to_thread who) (address_of image x) (left_in (act_in act))) (λ z. Act.DropPair (to_thread who) (address_of image x) (left_in z)) (is_visit act) refl, refl)
+      (visit-made w (Act.DropPair (to_thread who) (address_of image x) (leftover_in (act_in act))) (λ z. Act.DropPair (to_thread who) (address_of image x) (leftover_in z)) (is_visit act) refl, refl)
   as-made (Todo.wipe x ∷ todo) (SiteState.cell n (Cell.object o)) act moved h e takes = (refl, refl)
   as-made (Todo.vacate x ∷ todo) (SiteState.row w) act moved h e takes = (refl, refl)
   as-made (Todo.recycle x ∷ todo) (SiteState.cell n (Cell.heap k)) act moved h e takes = (refl, refl)

@@ -1,23 +1,17 @@
 -- The answers that are in acts, in words, and in what goes between a processor and a site.
 use Rattle.std.specs.Prelude.{ℕ, Bool, true, false, List, [], Option, None, pos}
-use Rattle.um_base.specs.declared.names.Addr.{Addr}
-use Rattle.um_base.specs.declared.names.Errno.{Errno}
 use Rattle.um_base.specs.declared.names.Mode.{Mode}
 use Rattle.um_base.specs.declared.names.Reply.{Reply}
-use Rattle.um_base.specs.declared.names.ThreadIx.{ThreadIx}
 use Rattle.um_base.specs.declared.act.Act.{Act}
 use Rattle.um_base.specs.declared.act.Answer.{Answer}
 use Rattle.um_base.specs.declared.act.Event.{Event}
-use Rattle.um_base.specs.declared.act.Found.{Found}
-use Rattle.um_base.specs.declared.act.Given.{Given}
-use Rattle.um_base.specs.declared.act.Leftover.{Leftover}
-use Rattle.um_base.specs.declared.act.SetSaid.{SetSaid}
 use Rattle.um_base.specs.declared.ask.Ask.{Ask}
 use Rattle.um_base.specs.declared.ask.Told.{Told}
 use Rattle.um_base.specs.declared.ask.Waiter.{Waiter}
 use Rattle.um_base.specs.Regions.{Partitions}
 use Rattle.um_machine.specs.declared.object.Cost.{Cost}
 use Rattle.um_machine.specs.declared.thread.Life.{Life}
+pub use Rattle.um_machine.specs.Outcomes.{answer_in, domain_reply_in, fits_in, found_in, given_in, is_fault, leftover_in, reserved_in, set_in, value_in, verdict_in, woken_in}
 use Rattle.um_words.specs.declared.fine.FineAct.{FineAct}
 use Rattle.um_words.specs.declared.fine.Unseen.{Unseen}
 use Rattle.um_words.specs.declared.row_word.RowWord.{RowWord}
@@ -39,62 +33,6 @@ event_in (FineAct.Unseen unseen) = no_event
 
 abbrev pub act_in : FineAct → Act
 act_in act = (event_in act).act
-
-abbrev pub verdict_in : Act → Option Errno
-verdict_in (Act.Check addr kind want verdict) = verdict
-verdict_in _ = None
-
-abbrev pub value_in : Act → ℕ
-value_in (Act.Load addr n value) = value
-value_in _ = 0
-
-abbrev pub fits_in : Act → Bool
-fits_in (Act.Probe addr n fits) = fits
-fits_in (Act.CopyIn addr n fits) = fits
-fits_in (Act.CopyOut addr n fits) = fits
-fits_in (Act.Buffer n fits) = fits
-fits_in _ = false
-
-abbrev pub is_fault : Act → Bool
-is_fault (Act.Fault access addr n) = true
-is_fault _ = false
-
-abbrev pub found_in : Act → Found
-found_in (Act.CopyStr addr found) = found
-found_in _ = Found.Unreadable
-
-abbrev pub answer_in : Act → Answer
-answer_in (Act.Work addr answer woken) = answer
-answer_in _ = Answer.Wait
-
-abbrev pub woken_in : Act → List (ThreadIx × Reply)
-woken_in (Act.Work addr answer woken) = woken
-woken_in _ = []
-
-abbrev pub given_in : Act → Given
-given_in (Act.Grant who addr given) = given
-given_in (Act.Own who given) = given
-given_in (Act.Publish addr given) = given
-given_in _ = Given.Done
-
-abbrev pub left_in : Act → Leftover
-left_in (Act.DropPair who addr left) = left
-left_in _ = Leftover.NoPair
-
-abbrev pub set_in : Act → SetSaid
-set_in (Act.SetInit addr set) = set
-set_in _ = SetSaid.Done
-
-abbrev pub reserved_in : Act → Option Addr
-reserved_in (Act.Reserve kind addr) = addr
-reserved_in _ = None
-
-abbrev pub domain_reply_in : Act → Reply
-domain_reply_in (Act.DomInit d reply) = reply
-domain_reply_in (Act.DomAdd d range attr reply) = reply
-domain_reply_in (Act.DomRemove d range attr reply) = reply
-domain_reply_in (Act.DomMove d who reply) = reply
-domain_reply_in _ = Reply.Void
 
 abbrev pub is_visit : FineAct → Bool
 is_visit (FineAct.Unseen Unseen.Visit) = true

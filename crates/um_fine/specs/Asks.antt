@@ -25,7 +25,7 @@ use Rattle.um_words.specs.declared.fine.Unseen.{Unseen}
 use Rattle.um_words.specs.Rows.{has, is_cleaning}
 use Rattle.um_fine.specs.Steps.{Site, Exchange, FineStep}
 use Rattle.um_fine.specs.Addresses.{row_named, address_of}
-use Rattle.um_fine.specs.Answers.{act_in, answer_in, before_in, bytes_in, charge_in, fits_in, found_in, given_in, is_visit, is_word_read, left_in, outcome_in, parts_in, ready_in, reserved_in, row_in, set_in, size_in, thread_in, value_in, verdict_in, woken_in}
+use Rattle.um_fine.specs.Answers.{act_in, answer_in, before_in, bytes_in, charge_in, fits_in, found_in, given_in, is_visit, is_word_read, leftover_in, outcome_in, parts_in, ready_in, reserved_in, row_in, set_in, size_in, thread_in, value_in, verdict_in, woken_in}
 use Rattle.um_fine.specs.Scheduler.{takes_turn}
 use Rattle.um_fine.specs.Continues.{reply_of}
 use Rattle.um_fine.specs.Places.{Todo, Todos, cleanings}
@@ -37,7 +37,7 @@ is_dropped Leftover.NoPair = false
 is_dropped left = true
 
 abbrev pub fits_visit : FineStep → Bool → Bool
-fits_visit e there = if is_visit e.act then not there else is_dropped (left_in (act_in e.act))
+fits_visit e there = if is_visit e.act then not there else is_dropped (leftover_in (act_in e.act))
 
 -- whether a step moved its row to cleaning
 abbrev pub begins_cleaning : FineStep → Bool
@@ -45,7 +45,7 @@ begins_cleaning e =
     elim e.act as (λ _. Bool) [
       | FineAct.Unseen Unseen.EndCall ↦ is_cleaning (row_in e.word).stage
       | FineAct.Unseen _ ↦ false
-      | FineAct.Shown event more ↦ elim (left_in event.act) as (λ _. Bool) [ Leftover.Gone ↦ is_cleaning (row_in e.word).stage | _ ↦ false ]
+      | FineAct.Shown event more ↦ elim (leftover_in event.act) as (λ _. Bool) [ Leftover.Gone ↦ is_cleaning (row_in e.word).stage | _ ↦ false ]
     ]
 
 module _ (image : Image) (p : Processor) where
@@ -150,7 +150,7 @@ module _ (image : Image) (p : Processor) where
   says_step (Pending.Answer reply to) act = Act.Answered (reply_of image p.context reply)
   says_step (Pending.Grant who a) act = Act.Grant who a (given_in act)
   says_step (Pending.Own who) act = Act.Own who (given_in act)
-  says_step (Pending.DropPair who a) act = Act.DropPair who a (left_in act)
+  says_step (Pending.DropPair who a) act = Act.DropPair who a (leftover_in act)
   says_step (Pending.Publish a) act = Act.Publish a (given_in act)
   says_step (Pending.SetInit a strict undo) act = Act.SetInit a (set_in act)
   says_step (Pending.ClearInit a) act = Act.ClearInit a
@@ -218,8 +218,8 @@ module _ (image : Image) (p : Processor) where
   says (Todo.wake who told ∷ todo) e moved = FineAct.Unseen (Unseen.Wake (to_thread who) (ready_in e))
   says (Todo.add c ∷ todo) e moved = FineAct.Unseen (Unseen.Add (to_thread c.thread))
   says (Todo.pass who x ∷ todo) e moved = visits e (Act.Inherit (to_thread who) (address_of image x))
-  says (Todo.drop x ∷ todo) e moved = visits e (Act.DropPair me (address_of image x) (left_in (act_in e)))
-  says (Todo.clean_pair who x ∷ todo) e moved = visits e (Act.DropPair (to_thread who) (address_of image x) (left_in (act_in e)))
+  says (Todo.drop x ∷ todo) e moved = visits e (Act.DropPair me (address_of image x) (leftover_in (act_in e)))
+  says (Todo.clean_pair who x ∷ todo) e moved = visits e (Act.DropPair (to_thread who) (address_of image x) (leftover_in (act_in e)))
   says (Todo.wipe x ∷ todo) e moved = FineAct.Unseen Unseen.Wipe
   says (Todo.vacate x ∷ todo) e moved = FineAct.Unseen Unseen.Vacate
   says (Todo.recycle x ∷ todo) e moved = by_me (Act.Recycle (address_of image x))

@@ -17,6 +17,7 @@ use Rattle.um_machine.specs.declared.pending.Pending.{Pending}
 use Rattle.um_machine.specs.State.{next_place, first_place, instruction_at}
 use Rattle.um_machine.specs.Order.{Steps, refuses, copy_fails, answer_error, steps_of, end_steps, fatal_steps}
 use Rattle.um_machine.specs.Services.{is_empty}
+use Rattle.um_machine.specs.Goes.{Change, Next, steps_by, told_way}
 use Rattle.um_machine.specs.Table.{fault, after_check, after_error, cleared_first, next_doom, with_answer, with_begin, without_copy}
 use Rattle.um_fine.specs.Context.{Context, as_thread, no_context}
 use Rattle.um_fine.specs.Steps.{Exchange}
@@ -138,3 +139,42 @@ module _ (image : Image) where
   continues c x (Pending.Dooms from) rest act moved = record c { pending = next_doom from }
   continues c x (Pending.CleanPair who) rest act moved = c
   continues c x Pending.Recycle rest act moved = c
+
+-- The same from the machine's one table: the own part of a thread that goes on so.
+
+-- what its call has worked out
+abbrev pub changed_part : Change → Context → Context
+changed_part Change.nothing c = c
+changed_part (Change.register to value) c = record c { registers = slice_set c.registers to value }
+changed_part (Change.copies bs) c = record c { buffer = bs }
+changed_part (Change.says reply) c = record c { reply = reply }
+changed_part (Change.outcome reply taken) c = record c { reply = reply; buffer = taken }
+
+-- a check that is ok holds its object
+abbrev pub held_part : ℕ → Option Errno → Context → Context
+held_part x None c = record c { claims = c.claims ++ x ∷ [] }
+held_part x (Some e) c = c
+
+-- it goes on so, with these steps behind the one that it made
+abbrev pub gone_part : Image → Steps → Next → Context → Context
+gone_part image left (Next.on change way) c = goes_on image (changed_part change c) (steps_by left way)
+gone_part image left (Next.checks x verdict way) c = goes_on image (held_part x verdict c) (steps_by left way)
+gone_part image left (Next.answers to reply) c = goes_on image (record c { claims = []; registers = with_answer c.registers to reply }) left
+gone_part image left (Next.owns keeps) c = goes_on image c left
+gone_part image left (Next.creates who) c = goes_on image c left
+gone_part image left Next.starts c = goes_on image c left
+gone_part image left (Next.begins (Some instr)) c =
+    goes_on image (record c { registers = with_begin c.registers instr }) (steps_of image c.thread (as_thread c) instr)
+gone_part image left (Next.resumes (Some told)) c = goes_on image (record c { reply = told.reply; buffer = told.taken }) (steps_by left (told_way told.reply))
+gone_part image left (Next.inherits who) c = record c { pending = Pending.Inherit who ∷ left }
+gone_part image left (Next.drops from) c = record c { pending = Pending.Drops from ∷ left }
+gone_part image left (Next.dooms from) c = record c { pending = next_doom from }
+gone_part image left (Next.enters script) c = record c { mode = Mode.User; place = first_place image script; pending = [] }
+gone_part image left Next.exits c = ends_with image c (end_steps image c.thread (as_thread c))
+gone_part image left (Next.fatal reason) c = ends_with image c (fatal_steps image c.thread (as_thread c) reason image.policy)
+gone_part image left next c = c
+
+-- the bytes that came with a step
+abbrev pub came_in : Pending → Exchange → List ℕ
+came_in (Pending.Work a ask) moved = (outcome_in moved).taken
+came_in step moved = bytes_in moved

@@ -1,5 +1,5 @@
 -- The cell of memory: what it answers, which steps it takes, and what each leaves.
-use Rattle.std.specs.Prelude.{ℕ, zero, suc, ◌+◌, Bool, true, false, ◌==◌, if◌then◌else◌, List, [], ◌∷◌, take, slice_index}
+use Rattle.std.specs.Prelude.{ℕ, zero, suc, ◌+◌, true, ◌==◌, if◌then◌else◌, List, [], ◌∷◌, take, slice_index}
 use Rattle.um_base.specs.declared.act.Act.{Act}
 use Rattle.um_base.specs.declared.act.Found.{Found}
 use Rattle.um_base.specs.declared.image.Image.{Image}

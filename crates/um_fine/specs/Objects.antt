@@ -1,5 +1,5 @@
 -- The cells of objects and of domains: what each answers, which steps it takes, and what each leaves.
-use Rattle.std.specs.Prelude.{Bool, true, false, List, [], Option, None}
+use Rattle.std.specs.Prelude.{List, [], Option, None}
 use Rattle.um_base.specs.declared.act.Act.{Act}
 use Rattle.um_base.specs.declared.ask.Waiter.{Waiter}
 use Rattle.um_base.specs.Regions.{Partitions}

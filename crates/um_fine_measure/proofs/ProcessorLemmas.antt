@@ -15,7 +15,7 @@ use Rattle.um_machine.specs.State.{instruction_at}
 use Rattle.um_words.specs.declared.fine.FineAct.{FineAct}
 use Rattle.um_words.specs.declared.fine.Unseen.{Unseen}
 use Rattle.um_fine.specs.Addresses.{address_of}
-use Rattle.um_fine.specs.Answers.{act_in, domain_in, is_visit, is_word_read, left_in}
+use Rattle.um_fine.specs.Answers.{act_in, domain_in, is_visit, is_word_read, leftover_in}
 use Rattle.um_fine.specs.Asks.{CpuMay, begins_cleaning, by_me, me, moves, moves_step, says, says_idle, says_show, says_step, shows, site_at, visits}
 use Rattle.um_fine.specs.Context.{Context}
 use Rattle.um_fine.specs.Continues.{continues, resumed, resumed_at, told_steps}
@@ -170,7 +170,7 @@ module _ (image : Image) (p : Processor) (e : FineStep) where
       let more = but-more own (x + 1) in
       let none = visit-none (is_visit e.act) (Act.Inherit (to_thread who) (address_of image x)) refl in omega (arith, filled, visits, more, none)
   pays (Todo.drop x ∷ todo) may begins h =
-      let act = Act.DropPair (me image p) (address_of image x) (left_in (act_in e.act)) in
+      let act = Act.DropPair (me image p) (address_of image x) (leftover_in (act_in e.act)) in
       let none = visit-none (is_visit e.act) act refl in
       let visit = is_visit (visits image p e.act act) in
       let c = dropped_at image p.context x visit in
@@ -182,7 +182,7 @@ module _ (image : Image) (p : Processor) (e : FineStep) where
       omega (arith, filled, visits, none, claims, list)
   pays (Todo.clean_pair who x ∷ todo) may begins h =
       let visits = clean-cost image (ahead_cost image p.context) (rest_cost image p.context) who (x + 1) todo in
-      let none = visit-none (is_visit e.act) (Act.DropPair (to_thread who) (address_of image x) (left_in (act_in e.act))) refl in omega (arith, visits, none)
+      let none = visit-none (is_visit e.act) (Act.DropPair (to_thread who) (address_of image x) (leftover_in (act_in e.act))) refl in omega (arith, visits, none)
   pays (Todo.recycle x ∷ todo) may begins h = let filled = filled-cost image p.context todo in omega (arith, filled)
   pays (Todo.park ∷ todo) may begins h = absurd (true≢false h)
   pays (Todo.done ∷ todo) may begins h = absurd (true≢false h)

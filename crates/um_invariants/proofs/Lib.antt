@@ -20,3 +20,17 @@ pub mod BootClaims
 pub mod Opening
 pub mod Starts
 pub mod Outcomes
+pub mod ThreadCounts
+pub mod ThreadWaits
+pub mod ThreadServes
+pub mod ThreadWords
+pub mod ThreadFrames
+pub mod ThreadPairs
+pub mod ThreadSteps
+mod ThreadWorks
+pub mod ThreadStarts
+pub mod ThreadMoves
+pub mod ThreadOffers
+pub mod ThreadCleans
+pub mod ThreadOpens
+pub mod ThreadRuns

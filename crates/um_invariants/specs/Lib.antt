@@ -1,2 +1,5 @@
 pub mod Acts
 pub mod Described
+pub mod Counts
+pub mod Lines
+pub mod Ready

@@ -9,5 +9,10 @@ pub mod Services
 pub mod Serving
 pub mod Domains
 pub mod Order
+pub mod Readings
+pub mod Writes
+pub mod Goes
+pub mod Outcomes
+pub mod Rows
 pub mod Table
 pub mod Run

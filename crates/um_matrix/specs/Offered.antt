@@ -14,6 +14,7 @@ use Rattle.um_machine.specs.Objects.{is_gone, is_held}
 use Rattle.um_machine.specs.Table.{act_of, after}
 use Rattle.um_machine.specs.Run.{Step, Runs, MayChoose, none_due, Advances}
 use Rattle.um_matrix.specs.declared.matrix.choice.Choice.{Choice}
+pub use Rattle.um_invariants.specs.Ready.{is_cleaning}
 
 -- an event is a step of a state
 abbrev pub IsStep : State → Event → Type 0
@@ -78,12 +79,6 @@ IsChoice s t act (Choice.Makes step row taken) =
     IsSound step × (row < ROWS) × (0 < taken) × Step s (event_of t act) (after s t row step (drop taken (thread_at s t).pending))
 IsChoice s t act (Choice.CleansPair who row) = (row < ROWS) × Step s (event_of t act) (after s t row (Pending.CleanPair who) [])
 IsChoice s t act (Choice.Recycles row) = (row < ROWS) × Step s (event_of t act) (after s t row Pending.Recycle [])
-
--- a step that cleans an object which is gone
-abbrev pub is_cleaning : Pending → Bool
-is_cleaning (Pending.CleanPair who) = true
-is_cleaning Pending.Recycle = true
-is_cleaning _ = false
 
 -- a step may choose no row
 abbrev pub ChoosesNone : State → ℕ → Pending → Type 0

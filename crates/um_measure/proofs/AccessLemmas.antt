@@ -29,12 +29,13 @@ use Rattle.um_machine.specs.Memory.{allowed, bytes_at, with_bytes, le_bytes, le_
 use Rattle.um_machine.specs.Objects.{verdict, is_gone}
 use Rattle.um_machine.specs.Order.{Steps, refuses, copy_fails, answer_error}
 use Rattle.um_machine.specs.State.{State, no_rows, vacant, thread_at, object_at, with_object}
-use Rattle.um_machine.specs.Table.{goes_on, row_of, amount_of, set_said, reply_of, pays, paid_from, paid_back, cost_of, with_answer, with_checked, after_check, fault, after_string, cleared_first, after_set, erased, after_reserve, after_domain, after}
+use Rattle.um_machine.specs.Table.{goes_on, row_of, amount_of, set_said, reply_of, pays, paid_from, paid_back, cost_of, with_answer, with_checked, after_check, fault, after_string, cleared_first, after_set, erased, after_reserve, after_domain}
 use Rattle.um_measure.specs.Measure.{step_cost, gone_cost}
 use Rattle.um_measure.specs.Reached.{is_of_end, may_wait, passes_on, IsReached}
 use Rattle.um_measure.proofs.EasedLemmas.{IsEased, eased-same, all-same}
 use Rattle.um_measure.proofs.MadeLemmas.{IsMade, IsReady, plain, moves_in, moves, turns, either, ready-living, ready-rest, alike}
 use Rattle.um_measure.proofs.StoreLemmas.{store-object}
+use Rattle.um_machine.specs.Rows.{by_rows}
 
 module _ (s : State) (reached : IsReached s) (t x : ℕ) (rest : Steps) where
   abbrev Makes : State → Type 0
@@ -55,7 +56,7 @@ module _ (s : State) (reached : IsReached s) (t x : ℕ) (rest : Steps) where
   check-made a kind want (Refusal.Answers reply) ready mode (Some e) =
       turns s reached t rest (Pending.Check a kind want (Refusal.Answers reply)) ready refl (thread_at s t) (Pending.Answer (Some reply) None ∷ []) (eased-same _) (omega arith) refl refl
 
-  pub check : (a : Addr) (kind : Option Kind) (want : Want) (refusal : Refusal) → IsReady s t (Pending.Check a kind want refusal) rest → Makes (after s t x (Pending.Check a kind want refusal) rest)
+  pub check : (a : Addr) (kind : Option Kind) (want : Want) (refusal : Refusal) → IsReady s t (Pending.Check a kind want refusal) rest → Makes (by_rows s t x (Pending.Check a kind want refusal) rest)
   check a kind want refusal ready = check-made a kind want refusal ready (thread_at s t).mode (verdict s t a.0 kind want)
 
   -- Memory.
@@ -77,32 +78,32 @@ module _ (s : State) (reached : IsReached s) (t x : ℕ) (rest : Steps) where
   no-copy step ready end cost Mode.User = turns s reached t rest step ready end (thread_at s t) (copy_fails Mode.User) (eased-same _) (omega (arith, cost)) refl refl
   no-copy step ready end cost Mode.Supervisor = turns s reached t rest step ready end (thread_at s t) (copy_fails Mode.Supervisor) (eased-same _) (omega (arith, cost)) refl refl
 
-  pub load : (to : ℕ) (a : Addr) (n : ℕ) → IsReady s t (Pending.Load to a n) rest → Makes (after s t x (Pending.Load to a n) rest)
+  pub load : (to : ℕ) (a : Addr) (n : ℕ) → IsReady s t (Pending.Load to a n) rest → Makes (by_rows s t x (Pending.Load to a n) rest)
   load to a n ready = either Makes (allowed s t Access.Read a.0 n) _ _
       (moves s reached t rest (Pending.Load to a n) ready (record (thread_at s t) { registers = slice_set (thread_at s t).registers to (le_value (bytes_at s a.0 n)) }) (alike _ _ refl refl refl refl refl) (omega arith) ready.passes)
       (faults (Pending.Load to a n) ready refl (omega arith))
 
-  pub store : (a : Addr) (n value : ℕ) → IsReady s t (Pending.Store a n value) rest → Makes (after s t x (Pending.Store a n value) rest)
+  pub store : (a : Addr) (n value : ℕ) → IsReady s t (Pending.Store a n value) rest → Makes (by_rows s t x (Pending.Store a n value) rest)
   store a n value ready = either Makes (allowed s t Access.Write a.0 n) _ _
       (bytes-made (Pending.Store a n value) ready a.0 (le_bytes n value) (omega arith) ready.passes)
       (faults (Pending.Store a n value) ready refl (omega arith))
 
-  pub fetch : (a : Addr) → IsReady s t (Pending.Fetch a) rest → Makes (after s t x (Pending.Fetch a) rest)
+  pub fetch : (a : Addr) → IsReady s t (Pending.Fetch a) rest → Makes (by_rows s t x (Pending.Fetch a) rest)
   fetch a ready = either Makes (allowed s t Access.Exec a.0 4) _ _
       (moves s reached t rest (Pending.Fetch a) ready (thread_at s t) (eased-same _) (omega arith) ready.passes)
       (faults (Pending.Fetch a) ready refl (omega arith))
 
-  pub probe : (a : Addr) (amount : Amount) → IsReady s t (Pending.Probe a amount) rest → Makes (after s t x (Pending.Probe a amount) rest)
+  pub probe : (a : Addr) (amount : Amount) → IsReady s t (Pending.Probe a amount) rest → Makes (by_rows s t x (Pending.Probe a amount) rest)
   probe a amount ready = either Makes (allowed s t Access.Write a.0 (amount_of s amount)) _ _
       (moves s reached t rest (Pending.Probe a amount) ready (thread_at s t) (eased-same _) (omega arith) ready.passes)
       (no-copy (Pending.Probe a amount) ready refl (omega arith) (thread_at s t).mode)
 
-  pub copy_in : (a : Addr) (amount : Amount) → IsReady s t (Pending.CopyIn a amount) rest → Makes (after s t x (Pending.CopyIn a amount) rest)
+  pub copy_in : (a : Addr) (amount : Amount) → IsReady s t (Pending.CopyIn a amount) rest → Makes (by_rows s t x (Pending.CopyIn a amount) rest)
   copy_in a amount ready = either Makes (allowed s t Access.Read a.0 (amount_of s amount)) _ _
       (moves s reached t rest (Pending.CopyIn a amount) ready (record (thread_at s t) { buffer = take PIECE (bytes_at s a.0 (amount_of s amount)) }) (alike _ _ refl refl refl refl refl) (omega arith) ready.passes)
       (no-copy (Pending.CopyIn a amount) ready refl (omega arith) (thread_at s t).mode)
 
-  pub copy_out : (a : Addr) → IsReady s t (Pending.CopyOut a) rest → Makes (after s t x (Pending.CopyOut a) rest)
+  pub copy_out : (a : Addr) → IsReady s t (Pending.CopyOut a) rest → Makes (by_rows s t x (Pending.CopyOut a) rest)
   copy_out a ready = either Makes (allowed s t Access.Write a.0 (length (thread_at s t).buffer)) _ _
       (bytes-made (Pending.CopyOut a) ready a.0 (thread_at s t).buffer (omega arith) ready.passes)
       (no-copy (Pending.CopyOut a) ready refl (omega arith) (thread_at s t).mode)
@@ -113,17 +114,17 @@ module _ (s : State) (reached : IsReached s) (t x : ℕ) (rest : Steps) where
   string-made a ready Found.Unreadable = turns s reached t rest (Pending.CopyStr a) ready refl (thread_at s t) (answer_error Errno.EFAULT) (eased-same _) (omega arith) refl refl
   string-made a ready Found.TooLong = turns s reached t rest (Pending.CopyStr a) ready refl (thread_at s t) (answer_error Errno.EINVAL) (eased-same _) (omega arith) refl refl
 
-  pub copy_string : (a : Addr) → IsReady s t (Pending.CopyStr a) rest → Makes (after s t x (Pending.CopyStr a) rest)
+  pub copy_string : (a : Addr) → IsReady s t (Pending.CopyStr a) rest → Makes (by_rows s t x (Pending.CopyStr a) rest)
   copy_string a ready = string-made a ready (string_read s t a.0 32)
 
   erase-made : (stack : Row) → IsReady s t (Pending.Erase stack) rest → (range : Option Range) → Makes (goes_on (erased s range) t (thread_at s t) rest)
   erase-made stack ready None = moves s reached t rest (Pending.Erase stack) ready (thread_at s t) (eased-same _) (omega arith) ready.passes
   erase-made stack ready (Some range) = bytes-made (Pending.Erase stack) ready range.start.0 (replicate range.size 0) (omega arith) ready.passes
 
-  pub erase : (stack : Row) → IsReady s t (Pending.Erase stack) rest → Makes (after s t x (Pending.Erase stack) rest)
+  pub erase : (stack : Row) → IsReady s t (Pending.Erase stack) rest → Makes (by_rows s t x (Pending.Erase stack) rest)
   erase stack ready = erase-made stack ready (stack_range (setup_at s.image stack.0))
 
-  pub answer : (reply : Option Reply) (to : Option ℕ) → IsReady s t (Pending.Answer reply to) rest → Makes (after s t x (Pending.Answer reply to) rest)
+  pub answer : (reply : Option Reply) (to : Option ℕ) → IsReady s t (Pending.Answer reply to) rest → Makes (by_rows s t x (Pending.Answer reply to) rest)
   answer reply to ready =
       moves s reached t rest (Pending.Answer reply to) ready (record (thread_at s t) { checked = no_rows; registers = with_answer (thread_at s t).registers to (reply_of (thread_at s t) reply) })
       (alike _ _ refl refl refl refl refl) (omega arith) ready.passes
@@ -140,7 +141,7 @@ module _ (s : State) (reached : IsReached s) (t x : ℕ) (rest : Steps) where
   publish-if a ready true = moves s reached t rest (Pending.Publish a) ready (thread_at s t) (eased-same _) (omega arith) ready.passes
   publish-if a ready false = object-made (Pending.Publish a) ready (row_of s a) (record (object_at s (row_of s a)) { public = true }) (thread_at s t) (omega arith) (eased-same _) (omega arith) ready.passes
 
-  pub publish : (a : Addr) → IsReady s t (Pending.Publish a) rest → Makes (after s t x (Pending.Publish a) rest)
+  pub publish : (a : Addr) → IsReady s t (Pending.Publish a) rest → Makes (by_rows s t x (Pending.Publish a) rest)
   publish a ready = publish-if a ready (is_gone (object_at s (row_of s a)).status)
 
   cleared : (a : Addr) (strict : Bool) (undo : Option Addr) → IsReady s t (Pending.SetInit a strict undo) rest → (first : Option Addr) (cause : Cause) (mode : Mode) → Makes (goes_on s t (thread_at s t) (cleared_first first (refuses mode cause)))
@@ -153,15 +154,15 @@ module _ (s : State) (reached : IsReached s) (t x : ℕ) (rest : Steps) where
   set-made a strict undo ready SetSaid.Gone = moves s reached t rest (Pending.SetInit a strict undo) ready (thread_at s t) (eased-same _) (omega arith) ready.passes
   set-made a strict undo ready (SetSaid.Fail e) = cleared a strict undo ready undo (Cause.Refused e) (thread_at s t).mode
 
-  pub set_init : (a : Addr) (strict : Bool) (undo : Option Addr) → IsReady s t (Pending.SetInit a strict undo) rest → Makes (after s t x (Pending.SetInit a strict undo) rest)
+  pub set_init : (a : Addr) (strict : Bool) (undo : Option Addr) → IsReady s t (Pending.SetInit a strict undo) rest → Makes (by_rows s t x (Pending.SetInit a strict undo) rest)
   set_init a strict undo ready = set-made a strict undo ready (set_said (object_at s (row_of s a)) strict)
 
-  pub clear_init : (a : Addr) → IsReady s t (Pending.ClearInit a) rest → Makes (after s t x (Pending.ClearInit a) rest)
+  pub clear_init : (a : Addr) → IsReady s t (Pending.ClearInit a) rest → Makes (by_rows s t x (Pending.ClearInit a) rest)
   clear_init a ready =
       object-made (Pending.ClearInit a) ready (row_of s a) (record (object_at s (row_of s a)) { init = false })
       (record (thread_at s t) { keeps_own = (thread_at s t).keeps_own && not (row_of s a == own_row s.image t) }) (omega arith) (alike _ _ refl refl refl refl refl) (omega arith) ready.passes
 
-  pub named : (who : ThreadIx) → IsReady s t (Pending.Named who) rest → Makes (after s t x (Pending.Named who) rest)
+  pub named : (who : ThreadIx) → IsReady s t (Pending.Named who) rest → Makes (by_rows s t x (Pending.Named who) rest)
   named who ready =
       object-made (Pending.Named who) ready (own_row s.image who.0) (record (object_at s (own_row s.image who.0)) { contents = Contents.Named (thread_at s t).buffer }) (thread_at s t) (omega arith) (eased-same _) (omega arith) ready.passes
 
@@ -177,12 +178,12 @@ module _ (s : State) (reached : IsReached s) (t x : ℕ) (rest : Steps) where
 
   -- Pools and domains.
 
-  pub buffer : (size : ℕ) → IsReady s t (Pending.Buffer size) rest → Makes (after s t x (Pending.Buffer size) rest)
+  pub buffer : (size : ℕ) → IsReady s t (Pending.Buffer size) rest → Makes (by_rows s t x (Pending.Buffer size) rest)
   buffer size ready = either Makes (pays s (thread_at s t).pool size) _ _
       (moves_in s reached t rest (Pending.Buffer size) ready (record s { pools = paid_from (thread_at s t).pool size s.pools }) 0 (thread_at s t) refl (all-same s.threads) reached.sized (omega arith) (eased-same _) (omega arith) ready.passes)
       (turns s reached t rest (Pending.Buffer size) ready refl (thread_at s t) (answer_error Errno.ENOMEM) (eased-same _) (omega arith) refl refl)
 
-  pub unbuffer : (size : ℕ) → IsReady s t (Pending.Unbuffer size) rest → Makes (after s t x (Pending.Unbuffer size) rest)
+  pub unbuffer : (size : ℕ) → IsReady s t (Pending.Unbuffer size) rest → Makes (by_rows s t x (Pending.Unbuffer size) rest)
   unbuffer size ready =
       moves_in s reached t rest (Pending.Unbuffer size) ready (record s { pools = paid_back (cost_of (thread_at s t).pool size) s.pools }) 0 (thread_at s t) refl (all-same s.threads) reached.sized (omega arith) (eased-same _) (omega arith) ready.passes
 

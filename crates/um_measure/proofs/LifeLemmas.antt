@@ -16,7 +16,7 @@ use Rattle.um_machine.specs.declared.thread.Place.{Place}
 use Rattle.um_machine.specs.declared.thread.Thread.{Thread}
 use Rattle.um_machine.specs.Order.{Steps, end_steps, fatal_steps, steps_of}
 use Rattle.um_machine.specs.State.{State, pair_at, no_rows, thread_at, with_thread, is_living, first_place, instruction_at, next_place}
-use Rattle.um_machine.specs.Table.{at_steps, rows_held, ended, next_doom, with_begin, after_begin, after_drop, after}
+use Rattle.um_machine.specs.Table.{at_steps, rows_held, ended, next_doom, with_begin, after_begin, after_drop}
 use Rattle.um_measure.specs.Measure.{total, end_cost, step_cost, lines_left, life_cost, due_cost, thread_cost}
 use Rattle.um_measure.specs.Reached.{makes_steps, is_of_end, may_wait, passes_on, IsSound, IsReached}
 use Rattle.um_measure.proofs.EasedLemmas.{AreEased, all-same, all-set, at-eased, sound-eased, due-le, eased-drop}
@@ -25,6 +25,7 @@ use Rattle.um_measure.proofs.MadeLemmas.{IsMade, IsReady, begun_cost, cost-at_st
 use Rattle.um_measure.proofs.NextLemmas.{next-line, first-stands}
 use Rattle.um_measure.proofs.ScriptLemmas.{lawful-line}
 use Rattle.um_measure.proofs.StoreLemmas.{store-dropped, sized-drop, image-drop}
+use Rattle.um_machine.specs.Rows.{by_rows}
 
 life-living : (life : Life) → IsTrue (is_living life) → life ≡ Life.Living
 life-living Life.Unborn h = absurd (false≢true h)
@@ -75,12 +76,12 @@ ends s reached t steps last cost =
     refl (all-same s.threads) reached.sized (record { place = λ living. absurd (false≢true living); waits = last.waits; passes = last.passes })
     (λ due. omega (arith, after-it, few, cost))
 
-pub exit : (s : State) → IsReached s → (t x : ℕ) (rest : Steps) → (thread_at s t).pending ≡ [] → IsTrue (is_living (thread_at s t).life) → IsMade s (after s t x Pending.Exit rest) (Unit {0})
+pub exit : (s : State) → IsReached s → (t x : ℕ) (rest : Steps) → (thread_at s t).pending ≡ [] → IsTrue (is_living (thread_at s t).life) → IsMade s (by_rows s t x Pending.Exit rest) (Unit {0})
 exit s reached t x rest none living =
     let cost = cost-rests s.image (thread_at s t) none (life-living (thread_at s t).life living) in
     ends s reached t (end_steps s.image t (thread_at s t)) (end-last s.image t (thread_at s t)) (omega (arith, cost))
 
-pub fatal : (s : State) → IsReached s → (t x : ℕ) (rest : Steps) (reason : ℕ) (cause : Cause) → IsReady s t (Pending.Fatal reason cause) rest → IsMade s (after s t x (Pending.Fatal reason cause) rest) (Unit {0})
+pub fatal : (s : State) → IsReached s → (t x : ℕ) (rest : Steps) (reason : ℕ) (cause : Cause) → IsReady s t (Pending.Fatal reason cause) rest → IsMade s (by_rows s t x (Pending.Fatal reason cause) rest) (Unit {0})
 fatal s reached t x rest reason cause ready =
     let cost = cost-pending s.image (thread_at s t) ready.first ready.others ready.are in
     let begun = begun-living s.image (thread_at s t).life (thread_at s t).place (ready-living s t (Pending.Fatal reason cause) rest ready refl) in
@@ -109,7 +110,7 @@ begin-made s reached t none living (Some line) e some =
     (sound-at_steps s.image reached.lawful me2 steps (λ l. place) (living-waits me.life steps alive plan.waits) (plan.passes me.child))
     (λ due. omega (arith, before, after-it, begun, cost, less))
 
-pub begin : (s : State) → IsReached s → (t x : ℕ) (rest : Steps) → (thread_at s t).pending ≡ [] → IsTrue (is_living (thread_at s t).life) → IsTrue (is_some (instruction_at s.image (thread_at s t).place)) → IsMade s (after s t x Pending.Begin rest) (Unit {0})
+pub begin : (s : State) → IsReached s → (t x : ℕ) (rest : Steps) → (thread_at s t).pending ≡ [] → IsTrue (is_living (thread_at s t).life) → IsTrue (is_some (instruction_at s.image (thread_at s t).place)) → IsMade s (by_rows s t x Pending.Begin rest) (Unit {0})
 begin s reached t x rest none living some = begin-made s reached t none living (instruction_at s.image (thread_at s t).place) refl some
 
 -- Another script.
@@ -118,7 +119,7 @@ cost-enters : (image : Image) (me : Thread) (place : Place) (mode : Mode) → me
 unfolding thread_cost
 cost-enters image me place mode e = rw e (omega arith)
 
-pub enter : (s : State) → IsReached s → (t x : ℕ) (rest : Steps) (script : ℕ) → IsReady s t (Pending.EnterUser script) rest → IsMade s (after s t x (Pending.EnterUser script) rest) (Unit {0})
+pub enter : (s : State) → IsReached s → (t x : ℕ) (rest : Steps) (script : ℕ) → IsReady s t (Pending.EnterUser script) rest → IsMade s (by_rows s t x (Pending.EnterUser script) rest) (Unit {0})
 enter s reached t x rest script ready =
     let me = thread_at s t in
     let alive = ready-living s t (Pending.EnterUser script) rest ready refl in
@@ -160,7 +161,7 @@ cost-lines : (image : Image) (me : Thread) (steps : Steps) → thread_cost image
 unfolding thread_cost
 cost-lines image me steps = refl
 
-pub dooms : (s : State) → IsReached s → (t x : ℕ) (rest : Steps) (from : ℕ) → IsReady s t (Pending.Dooms from) rest → IsMade s (after s t x (Pending.Dooms from) rest) (Unit {0})
+pub dooms : (s : State) → IsReached s → (t x : ℕ) (rest : Steps) (from : ℕ) → IsReady s t (Pending.Dooms from) rest → IsMade s (by_rows s t x (Pending.Dooms from) rest) (Unit {0})
 dooms s reached t x rest from ready =
     let s2 = with_thread s from (record (thread_at s from) { doomed = true }) in
     let eased = eased-doomed s from in
@@ -188,7 +189,7 @@ drops-wait Life.Unborn from n rest h = h
 drops-wait Life.Living from n rest h = h
 drops-wait Life.Ended from n rest h = h
 
-pub drops : (s : State) → IsReached s → (t x : ℕ) (rest : Steps) (from : ℕ) → IsReady s t (Pending.Drops from) rest → pair_at s t x ≡ true → IsMade s (after s t x (Pending.Drops from) rest) (Unit {0})
+pub drops : (s : State) → IsReached s → (t x : ℕ) (rest : Steps) (from : ℕ) → IsReady s t (Pending.Drops from) rest → pair_at s t x ≡ true → IsMade s (by_rows s t x (Pending.Drops from) rest) (Unit {0})
 drops s reached t x rest from ready held =
     let s2 = after_drop s t x in
     let eased = eased-drop s t x in

@@ -15,7 +15,7 @@ use Rattle.um_machine.specs.declared.thread.Life.{Life}
 use Rattle.um_machine.specs.declared.thread.Thread.{Thread}
 use Rattle.um_machine.specs.Order.{Steps}
 use Rattle.um_machine.specs.State.{State, nobody, thread_at, object_at, with_object, pair_at}
-use Rattle.um_machine.specs.Table.{goes_on, row_of, stays_due, with_dues, paired, rows_to_pass, after_drop, after_given, moved, move_reply, domain_at, after}
+use Rattle.um_machine.specs.Table.{goes_on, row_of, stays_due, with_dues, paired, rows_to_pass, after_drop, after_given, moved, move_reply, domain_at}
 use Rattle.um_measure.specs.Measure.{one_if, flags_set, due_cost}
 use Rattle.um_machine.specs.Run.{ChoosesDue}
 use Rattle.um_measure.specs.Reached.{may_wait, passes_on, is_child, IsSound, IsReached}
@@ -23,6 +23,7 @@ use Rattle.um_measure.proofs.TotalLemmas.{total-set}
 use Rattle.um_measure.proofs.EasedLemmas.{AreEased, all-same, at-eased, sound-eased, eased-paired, eased-given, eased-drop, eased-moved}
 use Rattle.um_measure.proofs.MadeLemmas.{IsMade, IsReady, begun_cost, cost-pending, writes, goes, moves_in, ready-rest, alike}
 use Rattle.um_measure.proofs.StoreLemmas.{store-object, store-pair, store-drop, store-given, sized-pair, sized-drop, sized-given, image-drop, image-given}
+use Rattle.um_machine.specs.Rows.{by_rows}
 
 -- Flags.
 
@@ -86,14 +87,14 @@ module _ (s : State) (reached : IsReached s) (t x : ℕ) (rest : Steps) where
   abbrev Makes : State → Type 0
   Makes s2 = IsMade s s2 (Unit {0})
 
-  pub grant : (who : ThreadIx) (a : Addr) → IsReady s t (Pending.Grant who a) rest → Makes (after s t x (Pending.Grant who a) rest)
+  pub grant : (who : ThreadIx) (a : Addr) → IsReady s t (Pending.Grant who a) rest → Makes (by_rows s t x (Pending.Grant who a) rest)
   grant who a ready =
       let s2 = after_given s who.0 (row_of s a) in
       let eased = eased-given s who.0 (row_of s a) in
       moves_in s reached t rest (Pending.Grant who a) ready s2 2 (thread_at s2 t) (image-given s who.0 (row_of s a)) eased (sized-given s who.0 (row_of s a) reached.sized) (store-given s who.0 (row_of s a))
       (at-eased s.threads s2.threads eased t) (omega arith) ready.passes
 
-  pub drop_pair : (who : ThreadIx) (a : Addr) → IsReady s t (Pending.DropPair who a) rest → Makes (after s t x (Pending.DropPair who a) rest)
+  pub drop_pair : (who : ThreadIx) (a : Addr) → IsReady s t (Pending.DropPair who a) rest → Makes (by_rows s t x (Pending.DropPair who a) rest)
   drop_pair who a ready =
       let s2 = after_drop s who.0 (row_of s a) in
       let eased = eased-drop s who.0 (row_of s a) in
@@ -101,7 +102,7 @@ module _ (s : State) (reached : IsReached s) (t x : ℕ) (rest : Steps) where
       moves_in s reached t rest (Pending.DropPair who a) ready s2 0 (thread_at s2 t) (image-drop s who.0 (row_of s a)) eased (sized-drop s who.0 (row_of s a) reached.sized) (omega (arith, store))
       (at-eased s.threads s2.threads eased t) (omega arith) ready.passes
 
-  pub born : (a : Addr) → IsReady s t (Pending.Born a) rest → Makes (after s t x (Pending.Born a) rest)
+  pub born : (a : Addr) → IsReady s t (Pending.Born a) rest → Makes (by_rows s t x (Pending.Born a) rest)
   born a ready =
       let y = row_of s a in
       let s1 = with_object s y (record (object_at s y) { status = Status.Live }) in
@@ -112,7 +113,7 @@ module _ (s : State) (reached : IsReached s) (t x : ℕ) (rest : Steps) where
       moves_in s reached t rest (Pending.Born a) ready s2 2 (thread_at s2 t) refl eased (sized-pair s1 t y true reached.sized) (omega (arith, object, pair))
       (at-eased s.threads s2.threads eased t) (omega arith) ready.passes
 
-  pub own : (who : ThreadIx) → IsReady s t (Pending.Own who) rest → Makes (after s t x (Pending.Own who) rest)
+  pub own : (who : ThreadIx) → IsReady s t (Pending.Own who) rest → Makes (by_rows s t x (Pending.Own who) rest)
   own who ready =
       let y = own_row s.image who.0 in
       let s2 = after_given s who.0 y in
@@ -127,7 +128,7 @@ module _ (s : State) (reached : IsReached s) (t x : ℕ) (rest : Steps) where
       goes s reached t (Pending.Own who) rest ready s2 (record (thread_at s2 t) { child = Some who; due = due }) rest 2 (Unit {0}) (image-given s who.0 y) eased sized (store-given s who.0 y)
       same.life same.place (omega (arith, few, long, rows, most)) (ready-rest s t (Pending.Own who) rest ready) ready.passes
 
-  pub inherit : (who : ThreadIx) → IsReady s t (Pending.Inherit who) rest → IsTrue (pair_at s t x) → IsMade s (after s t x (Pending.Inherit who) rest) (ChoosesDue s t (Pending.Inherit who) x)
+  pub inherit : (who : ThreadIx) → IsReady s t (Pending.Inherit who) rest → IsTrue (pair_at s t x) → IsMade s (by_rows s t x (Pending.Inherit who) rest) (ChoosesDue s t (Pending.Inherit who) x)
   inherit who ready held =
       let s2 = paired s who.0 x true in
       let eased = eased-paired s who.0 x true in
@@ -167,5 +168,5 @@ module _ (s : State) (reached : IsReached s) (t x : ℕ) (rest : Steps) where
       moves_in s reached t rest (Pending.DomMove d who) ready s 0 (record (thread_at s t) { reply = reply }) refl (all-same s.threads) reached.sized (omega arith)
       (alike _ _ refl refl refl refl refl) (omega arith) ready.passes
 
-  pub move_domain : (d : ℕ) (who : ThreadIx) → IsReady s t (Pending.DomMove d who) rest → Makes (after s t x (Pending.DomMove d who) rest)
+  pub move_domain : (d : ℕ) (who : ThreadIx) → IsReady s t (Pending.DomMove d who) rest → Makes (by_rows s t x (Pending.DomMove d who) rest)
   move_domain d who ready = move-made d who ready (move_reply (domain_at s d))

@@ -16,12 +16,13 @@ use Rattle.um_machine.specs.declared.thread.Life.{Life}
 use Rattle.um_machine.specs.declared.thread.Thread.{Thread}
 use Rattle.um_machine.specs.Order.{Steps}
 use Rattle.um_machine.specs.State.{State, thread_at, object_at, with_thread, with_object}
-use Rattle.um_machine.specs.Table.{goes_on, row_of, work_of, all_woken, buffer_cost, without_copy, after_error, after_answer, resumed, after}
+use Rattle.um_machine.specs.Table.{goes_on, row_of, work_of, all_woken, buffer_cost, without_copy, after_error, after_answer, resumed}
 use Rattle.um_measure.specs.Measure.{total, step_cost}
 use Rattle.um_measure.specs.Reached.{may_wait, passes_on, AreSized, IsReached}
 use Rattle.um_measure.proofs.EasedLemmas.{IsEased, AreEased, all-same, at-eased, eased-woken}
 use Rattle.um_measure.proofs.MadeLemmas.{IsMade, IsReady, plain, ready-living, ready-rest, alike}
 use Rattle.um_measure.proofs.StoreLemmas.{store_of, store-object}
+use Rattle.um_machine.specs.Rows.{by_rows}
 
 -- steps that cost at most so much, and that a thread of this life and child may have pending
 pub record IsLeft (image : Image) (life : Life) (child : Option ThreadIx) (most : ℕ) (steps : Steps) : Type 0 where
@@ -94,7 +95,7 @@ module _ (s : State) (reached : IsReached s) (t x : ℕ) (rest : Steps) where
       left-made (Pending.Work a ask) ready s1 image eased sized store (record me { reply = reply; buffer = taken }) (record { life = same.life; place = same.place; pending = same.pending; child = same.child; due = same.due })
       (total (step_cost s.image) rest) rest (rest-left (Pending.Work a ask) ready ready.passes) (omega arith)
 
-  pub work : (a : Addr) (ask : Ask) → IsReady s t (Pending.Work a ask) rest → Makes (after s t x (Pending.Work a ask) rest)
+  pub work : (a : Addr) (ask : Ask) → IsReady s t (Pending.Work a ask) rest → Makes (by_rows s t x (Pending.Work a ask) rest)
   work a ask ready =
       let w = work_of s t a ask in
       let y = row_of s a in
@@ -118,5 +119,5 @@ module _ (s : State) (reached : IsReached s) (t x : ℕ) (rest : Steps) where
       ])
       (omega arith)
 
-  pub resume : IsReady s t Pending.Resume rest → (told : Told) → (thread_at s t).told ≡ Some told → Makes (after s t x Pending.Resume rest)
+  pub resume : IsReady s t Pending.Resume rest → (told : Told) → (thread_at s t).told ≡ Some told → Makes (by_rows s t x Pending.Resume rest)
   resume ready told e = subst (λ (o : Option Told). Makes (resumed s t (thread_at s t) rest o)) (sym e) (resume-made ready told)

@@ -10,6 +10,7 @@ use Rattle.um_machine.specs.declared.pending.Pending.{Pending}
 use Rattle.um_machine.specs.declared.thread.Life.{Life}
 use Rattle.um_machine.specs.declared.thread.Place.{Place}
 use Rattle.um_machine.specs.declared.thread.Thread.{Thread}
+pub use Rattle.um_invariants.specs.Counts.{one_if}
 use Rattle.um_machine.specs.Objects.{is_gone}
 use Rattle.um_machine.specs.Order.{Steps}
 use Rattle.um_machine.specs.State.{State, script_lines, is_repeat, first_place, next_place}
@@ -18,10 +19,6 @@ use Rattle.um_machine.specs.State.{State, script_lines, is_repeat, first_place, 
 abbrev pub total : {A : Type 0} → (A → ℕ) → List A → ℕ
 total f [] = 0
 total f (x ∷ xs) = f x + total f xs
-
-abbrev pub one_if : Bool → ℕ
-one_if false = 0
-one_if true = 1
 
 -- how many flags are set
 abbrev pub flags_set : List Bool → ℕ

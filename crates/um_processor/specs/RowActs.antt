@@ -11,7 +11,7 @@ use Rattle.um_words.specs.declared.fine.More.{More}
 use Rattle.um_words.specs.declared.fine.Unseen.{Unseen}
 use Rattle.um_words.specs.declared.row_word.RowWord.{RowWord}
 use Rattle.um_words.specs.Rows.{has, is_cleaning}
-use Rattle.um_fine.specs.Answers.{act_in, given_in, is_visit, left_in, set_in, verdict_in}
+use Rattle.um_fine.specs.Answers.{act_in, given_in, is_visit, leftover_in, set_in, verdict_in}
 use Rattle.um_fine.specs.Asks.{begins_cleaning}
 use Rattle.um_fine.specs.Sites.{SiteState, filled}
 use Rattle.um_fine.specs.Steps.{Exchange, FineStep, Site, Word}
@@ -46,7 +46,7 @@ row_said e =
     record {
       verdict = verdict_in (act_in e.act);
       given = given_in (act_in e.act);
-      left = left_in (act_in e.act);
+      left = leftover_in (act_in e.act);
       set = set_in (act_in e.act);
       visits = is_visit e.act;
       cleans = begins_cleaning e;

@@ -11,6 +11,7 @@ use Rattle.um_machine.specs.declared.pending.Pending.{Pending}
 use Rattle.um_machine.specs.Run.{opening, MayChoose, RunsDue, IsComplete}
 use Rattle.um_machine.specs.State.{State, thread_at}
 use Rattle.um_machine.specs.Table.{after}
+use Rattle.um_matrix.specs.Alone.{CleansBy}
 use Rattle.um_matrix.specs.Offered.{is_cleaning}
 use Rattle.um_measure.specs.Reached.{IsReached}
 use Rattle.um_machine.proofs.RunLemmas.{runs-due-push}
@@ -29,9 +30,9 @@ use Rattle.um_scheduler.proofs.RowKept.{RowsKept, passed-rows}
 use Rattle.um_scheduler.proofs.RowNext.{next-offers, next-plain}
 use Rattle.um_scheduler.proofs.RowOpens.{opens-rows}
 use Rattle.um_scheduler.proofs.RowTurns.{goes-advances, going-advances, none-recycles, none-takes-pairs}
-use Rattle.um_scheduler.proofs.ThreadWords.{IsMade, IsBase}
-use Rattle.um_scheduler.proofs.ThreadCleans.{cleans-base}
-use Rattle.um_scheduler.proofs.ThreadOffers.{offered, made}
+use Rattle.um_invariants.proofs.ThreadWords.{AreKept, IsMade, IsBase}
+use Rattle.um_invariants.proofs.ThreadCleans.{pair-base, recycle-base}
+use Rattle.um_invariants.proofs.ThreadOffers.{offered, made}
 use Rattle.um_scheduler.proofs.ThreadOpens.{opens-threads}
 use Rattle.um_scheduler.proofs.ThreadRests.{rests-threads, none-steps, offers-may}
 use Rattle.um_scheduler.proofs.ThreadHeld.{ThreadsKept}
@@ -46,6 +47,11 @@ pub record IsKept (turn : Turn) : Type 0 where
   pub some : 0 < length turn.processors
 
 -- Events.
+
+cleans-base : (s : State) (t x : ℕ) (p : Pending) (row : ℕ) → AreKept s → CleansBy s t x p row → IsBase s (after s t row p [])
+cleans-base s t x Pending.Recycle row kept by = recycle-base s t row [] kept
+cleans-base s t x (Pending.CleanPair who) row kept by = pair-base s t row who [] kept
+cleans-base s t x p row kept by = absurd by
 
 goes-threads : (turn turn2 : Turn) (cpu : ℕ) (event : Event) → cpu < length turn.processors → IsKept turn → Goes turn cpu event turn2 → ThreadsKept turn2
 goes-threads turn turn2 cpu event inside kept (inl clean) =

@@ -15,7 +15,7 @@ use Rattle.um_invariants.specs.Described.{IsDescribed}
 use Rattle.um_scheduler.specs.declared.processor.Processor.{Processor}
 use Rattle.um_scheduler.specs.InOrder.{AreInOrder, CleansNone, Follows, IsCleaning, IsInOrder, Point}
 use Rattle.um_scheduler.specs.Schedule.{CleansFirst, CleansNothing, Goes, RunsOn, Turn, came_up, goes_on, idle, left_ready, left_to_clean, opening_turn, processor_at, ready_after, settled, with_processor}
-use Rattle.um_scheduler.specs.Lines.{all_join}
+use Rattle.um_invariants.specs.Lines.{all_join}
 use Rattle.um_scheduler.proofs.EndLemmas.{IsKept, going-opens, goes-kept}
 use Rattle.um_scheduler.proofs.FollowLemmas.{FollowsAlone, length-goes}
 use Rattle.um_scheduler.proofs.RowKept.{rests-pairs, rests-recycles}

@@ -2,9 +2,9 @@
 use Rattle.std.proofs.Common.{◌≡◌, ◌≢◌, ◌⊎◌, inl, inr, ◌≤◌, ℕ, ◌+◌, Bool, true, false, ◌==◌, ◌||◌, List, [], ◌∷◌, ◌++◌, drop, refl, sym, subst, ◌∙◌, arith, Some, slice_get, if◌then◌else◌}
 use Rattle.um_measure.specs.Measure.{one_if}
 use Rattle.um_invariants.proofs.Facts.{either_left, either_right, is_equal, equals, itself, left_of, right_of, is_not, differs}
-use Rattle.um_scheduler.specs.Lines.{stands, joins, all_join}
+use Rattle.um_invariants.specs.Lines.{stands, joins, all_join}
 use Rattle.um_scheduler.proofs.LineLemmas.{stands-push, or-none}
-use Rattle.um_scheduler.proofs.ThreadCounts.{count, count-append, count-any, any-count, equal_or_not, unequal}
+use Rattle.um_invariants.proofs.ThreadCounts.{count, count-append, count-any, any-count, equal_or_not, unequal}
 
 -- Which ones stand in it.
 

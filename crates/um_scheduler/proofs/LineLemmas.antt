@@ -6,7 +6,7 @@ use Rattle.std.proofs.Math.Dec.{eqb}
 use Rattle.std.proofs.lemmas.Bool.{eqb-true, or_from, or_parts}
 use Rattle.std.proofs.lemmas.Bool.Decides.{nat_tests}
 use Rattle.std.proofs.lemmas.Map.Steps.{length-le_from_distinct_below}
-use Rattle.um_scheduler.specs.Lines.{stands, IsLine}
+use Rattle.um_invariants.specs.Lines.{stands, IsLine}
 
 or-three : (a b c : Bool) → (a || (b || c)) ≡ ((a || b) || c)
 or-three true b c = refl

@@ -19,7 +19,7 @@ use Rattle.um_invariants.proofs.Reached.{at_set_apart}
 use Rattle.um_invariants.proofs.RunMoves.{known_step}
 use Rattle.um_invariants.proofs.Turns.{IsKnown}
 use Rattle.um_scheduler.specs.declared.processor.Processor.{Processor}
-use Rattle.um_scheduler.specs.Lines.{stands}
+use Rattle.um_invariants.specs.Lines.{stands}
 use Rattle.um_scheduler.specs.Schedule.{Turn, idle, processor_at, with_processor, left_to_clean, CleansFirst}
 use Rattle.um_scheduler.proofs.RowForsaken.{still-forsaken}
 use Rattle.um_scheduler.proofs.RowFrames.{Frame, frame, frame-pairs}

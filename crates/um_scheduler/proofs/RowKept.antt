@@ -20,7 +20,7 @@ use Rattle.um_invariants.proofs.Facts.{both_of, both, is_not}
 use Rattle.um_invariants.proofs.Moves.{IsReached}
 use Rattle.um_invariants.proofs.Reached.{not_live}
 use Rattle.um_invariants.proofs.Turns.{IsKnown}
-use Rattle.um_scheduler.specs.Lines.{stands}
+use Rattle.um_invariants.specs.Lines.{stands}
 use Rattle.um_scheduler.specs.Schedule.{Turn, processor_at, is_listed, passed, CleansNothing}
 use Rattle.um_scheduler.proofs.JoinLemmas.{IsOnce}
 use Rattle.um_scheduler.proofs.RowLines.{listed-where, first-of}

@@ -3,7 +3,7 @@ use Rattle.std.proofs.Common.{◌≡◌, ◌≢◌, ℕ, zero, suc, ◌+◌, ◌
 use Rattle.std.proofs.lemmas.Bool.Decides.{nat_tests}
 use Rattle.um_invariants.proofs.Facts.{either_left, either_right, is_equal, equals, itself, is_not, or_else_right, differs}
 use Rattle.um_scheduler.specs.declared.processor.Processor.{Processor}
-use Rattle.um_scheduler.specs.Lines.{stands}
+use Rattle.um_invariants.specs.Lines.{stands}
 use Rattle.um_scheduler.specs.Schedule.{idle, is_listed, rows_from}
 
 -- numbers that pass a test

@@ -17,7 +17,7 @@ use Rattle.um_matrix.specs.Offered.{is_forsaken}
 use Rattle.um_invariants.proofs.BootClaims.{replicate_at}
 use Rattle.um_invariants.proofs.Cores.{at_set}
 use Rattle.um_scheduler.specs.declared.processor.Processor.{Processor}
-use Rattle.um_scheduler.specs.Lines.{stands}
+use Rattle.um_invariants.specs.Lines.{stands}
 use Rattle.um_scheduler.specs.Schedule.{idle, opening_turn}
 use Rattle.um_scheduler.proofs.RowKept.{has_to_clean, IsAlive, RowsKept}
 use Rattle.um_scheduler.proofs.JoinLemmas.{IsOnce}

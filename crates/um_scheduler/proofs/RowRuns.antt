@@ -11,7 +11,7 @@ use Rattle.um_invariants.proofs.Facts.{is_not}
 use Rattle.um_invariants.proofs.RunMoves.{known_step}
 use Rattle.um_invariants.proofs.Turns.{IsKnown}
 use Rattle.um_scheduler.specs.declared.processor.Processor.{Processor}
-use Rattle.um_scheduler.specs.Lines.{stands}
+use Rattle.um_invariants.specs.Lines.{stands}
 use Rattle.um_scheduler.specs.Schedule.{Turn, idle, processor_at, with_processor, goes_on, ready_after, left_ready, RunsOn}
 use Rattle.um_scheduler.proofs.RowFrames.{Frame, frame}
 use Rattle.um_scheduler.proofs.RowKept.{has_to_clean, AreOwn, RowsKept, cleans-some}

@@ -9,7 +9,7 @@ use Rattle.um_invariants.proofs.Cores.{core_of, at_set}
 use Rattle.um_invariants.proofs.Facts.{both, both_of, is_false}
 use Rattle.um_invariants.proofs.Turns.{IsKnown}
 use Rattle.um_scheduler.specs.declared.processor.Processor.{Processor}
-use Rattle.um_scheduler.specs.Lines.{stands, all_join}
+use Rattle.um_invariants.specs.Lines.{stands, all_join}
 use Rattle.um_scheduler.specs.Schedule.{Turn, idle, processor_at, is_listed, comes_up, came_up, rows_from, settled}
 use Rattle.um_scheduler.proofs.RowKept.{has_to_clean, IsCleaner, AreOwn, RowsKept, forsaken-dynamic}
 use Rattle.um_scheduler.proofs.JoinLemmas.{IsOnce, all-old, all-new, all-from, all-once}

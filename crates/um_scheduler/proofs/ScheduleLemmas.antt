@@ -7,7 +7,7 @@ use Rattle.um_matrix.specs.Alone.{IsNext}
 use Rattle.um_base.specs.declared.limits.TheConstants.{ROWS, STATIC_ROWS}
 use Rattle.um_machine.specs.State.{State}
 use Rattle.um_scheduler.specs.declared.processor.Processor.{Processor}
-use Rattle.um_scheduler.specs.Lines.{all_join}
+use Rattle.um_invariants.specs.Lines.{all_join}
 use Rattle.um_scheduler.specs.Schedule.{Turn, RunsOn, CleansNothing, runs, goes_on, ready_after, processor_at, with_processor, settled, after_running, came_up, comes_up, rows_from, Goes, Rests, passed, FirstGoes, AllRest}
 
 pub came-first : (s : State) (processors : List Processor) → all_join [] (filter (comes_up s processors) (rows_from STATIC_ROWS (ROWS - STATIC_ROWS))) ≡ came_up s processors

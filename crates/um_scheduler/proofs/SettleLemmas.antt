@@ -9,7 +9,7 @@ use Rattle.um_machine.specs.State.{vacant}
 use Rattle.um_matrix.specs.Offered.{is_forsaken}
 use Rattle.um_invariants.proofs.Facts.{left_of, right_of}
 use Rattle.um_scheduler.specs.declared.processor.Processor.{Processor}
-use Rattle.um_scheduler.specs.Lines.{stands, joins, all_join}
+use Rattle.um_invariants.specs.Lines.{stands, joins, all_join}
 use Rattle.um_scheduler.specs.Schedule.{Turn, idle, processor_at, with_processor, is_listed, comes_up, came_up, rows_from, settled}
 use Rattle.um_scheduler.proofs.JoinLemmas.{all-new, join-apart}
 use Rattle.um_scheduler.proofs.ScheduleLemmas.{came-first}

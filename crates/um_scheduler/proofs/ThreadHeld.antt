@@ -5,11 +5,11 @@ use Rattle.um_machine.specs.declared.thread.Thread.{Thread}
 use Rattle.um_machine.specs.State.{thread_at, is_living}
 use Rattle.um_measure.specs.Measure.{one_if}
 use Rattle.um_scheduler.specs.declared.processor.Processor.{Processor}
-use Rattle.um_scheduler.specs.Lines.{all_join}
+use Rattle.um_invariants.specs.Lines.{all_join}
 use Rattle.um_scheduler.specs.Schedule.{Turn, idle, processor_at, came_up, settled}
 use Rattle.um_invariants.proofs.Facts.{differs}
-use Rattle.um_scheduler.proofs.ThreadCounts.{count, count-set}
-use Rattle.um_scheduler.proofs.ThreadWords.{is_on, is_resting, stands_still, may_step, may_stand, AreKept}
+use Rattle.um_invariants.proofs.ThreadCounts.{count, count-set}
+use Rattle.um_invariants.proofs.ThreadWords.{is_on, is_resting, stands_still, may_step, may_stand, AreKept}
 use Rattle.um_scheduler.proofs.JoinLemmas.{often}
 
 -- whether a processor runs a thread, how many do, and how often it is there: among those that are ready, or run

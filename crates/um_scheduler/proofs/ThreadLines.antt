@@ -7,8 +7,8 @@ use Rattle.um_measure.specs.Measure.{one_if}
 use Rattle.um_scheduler.specs.Schedule.{is_still, next_ready, behind_next}
 use Rattle.um_invariants.proofs.Facts.{differs, itself}
 use Rattle.um_scheduler.proofs.JoinLemmas.{often}
-use Rattle.um_scheduler.proofs.ThreadCounts.{equal_or_not}
-use Rattle.um_scheduler.proofs.ThreadWords.{stands_still}
+use Rattle.um_invariants.proofs.ThreadCounts.{equal_or_not}
+use Rattle.um_invariants.proofs.ThreadWords.{stands_still}
 
 -- those that don't stand still stay, but for the one that is next
 pub record IsBehind (s : State) (line behind : List ℕ) (u : ℕ) : Type 0 where

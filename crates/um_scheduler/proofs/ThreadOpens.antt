@@ -22,94 +22,71 @@ use Rattle.um_invariants.proofs.Cores.{at_set}
 use Rattle.um_invariants.proofs.Facts.{both_of, less_is, none_checked}
 use Rattle.um_invariants.proofs.Opening.{is_boot, boot_parts, passes_within}
 use Rattle.um_invariants.proofs.SitedImages.{is_sited}
-use Rattle.um_scheduler.specs.Lines.{joins}
+use Rattle.um_invariants.specs.Lines.{joins}
 use Rattle.um_scheduler.specs.Schedule.{idle, joins_some, boots_ready, opening_turn}
-use Rattle.um_scheduler.proofs.ThreadCounts.{equal_or_not}
-use Rattle.um_scheduler.proofs.ThreadWaits.{times}
-use Rattle.um_scheduler.proofs.ThreadWords.{is_on, is_resting, AreKept}
+use Rattle.um_invariants.proofs.ThreadCounts.{equal_or_not}
+use Rattle.um_invariants.proofs.ThreadWaits.{times}
+use Rattle.um_invariants.proofs.ThreadWords.{is_on, is_resting, AreKept}
 use Rattle.um_scheduler.proofs.JoinLemmas.{often, IsOnce, joins-other, joins-in, joins-once, joins-more}
-use Rattle.um_scheduler.proofs.ThreadStarts.{real-below, idle-off}
+use Rattle.um_invariants.proofs.ThreadStarts.{real-below, idle-off}
+use Rattle.um_invariants.proofs.ThreadOpens.{booted-index, opening-kept}
+use Rattle.um_invariants.proofs.ThreadOpens as Openings
 use Rattle.um_scheduler.proofs.ThreadHeld.{runners, ThreadsKept, resting-stands}
 
--- a thread in no call, which has nothing due
-record IsBare (me : Thread) : Type 0 where
-  pending : me.pending ≡ []
-  told : me.told ≡ None
-  due : (r : ℕ) → slice_index_or me.due r false ≡ false
-
 -- a state where some boot threads are started, which stand in a line
-record IsOpened (image : Image) (s : State) (line : List ℕ) : Type 0 where
+record IsLined (image : Image) (s : State) (line : List ℕ) : Type 0 where
   image_is : s.image ≡ image
   many : length s.threads ≡ THREADS
-  bare : (u : ℕ) → IsBare (thread_at s u)
-  waiters : (x u : ℕ) → times u (object_at s x).waiters ≡ 0
   once : IsOnce line
   all : (u : ℕ) → is_living (thread_at s u).life ≡ true → 1 ≤ often u line
   stand : (u : ℕ) → 1 ≤ often u line → is_living (thread_at s u).life ≡ true
 
-no-due : (r : ℕ) → slice_index_or no_rows r false ≡ false
-no-due r = none_checked r ROWS
-
-bare-nobody : IsBare nobody
-bare-nobody = record { pending = refl; told = refl; due = no-due }
-
 -- Nobody is started.
 
-none-wait : (bs : List Boot) (x : ℕ) (os : List ObjectDef) (y u : ℕ) → times u (slice_index_or (objects_from bs x os) y vacant).waiters ≡ 0
-none-wait bs x [] y u = ap (λ (o : Object). times u o.waiters) (replicate_at (ROWS - x) y vacant)
-none-wait bs x (o ∷ os) zero u = refl
-none-wait bs x (o ∷ os) (suc y) u = none-wait bs (x + 1) os y u
-
-blank-opened : (image : Image) → IsOpened image (blank image) []
+blank-lined : (image : Image) → IsLined image (blank image) []
 unfolding blank
-blank-opened image = record {
+blank-lined image = record {
   image_is = refl;
   many = length-replicate THREADS nobody;
-  bare = λ u. subst (λ (th : Thread). IsBare th) (sym (replicate_at THREADS u nobody)) bare-nobody;
-  waiters = λ x u. none-wait image.boots 0 image.objects x u;
   once = λ u. omega arith;
   all = λ u h. absurd (let none : is_living (slice_index_or (replicate THREADS nobody) u nobody).life ≡ false = ap (λ (th : Thread). is_living th.life) (replicate_at THREADS u nobody) in let bad : true ≡ false = sym h ∙ none in cc);
   stand = λ u h. absurd (omega (arith, h));
 }
 
 -- the same threads and objects
-same-opened : (image : Image) (s s2 : State) (line : List ℕ) → s2.image ≡ s.image → s2.threads ≡ s.threads → s2.objects ≡ s.objects → IsOpened image s line → IsOpened image s2 line
-same-opened image s s2 line images threads objects o = record {
+same-lined : (image : Image) (s s2 : State) (line : List ℕ) → s2.image ≡ s.image → s2.threads ≡ s.threads → IsLined image s line → IsLined image s2 line
+same-lined image s s2 line images threads o = record {
   image_is = images ∙ o.image_is;
   many = ap (λ (ts : List Thread). length ts) threads ∙ o.many;
-  bare = λ u. subst (λ (ts : List Thread). IsBare (slice_index_or ts u nobody)) (sym threads) (o.bare u);
-  waiters = λ x u. ap (λ (os : List Object). times u (slice_index_or os x vacant).waiters) objects ∙ o.waiters x u;
   once = o.once;
   all = λ u h. o.all u (ap (λ (ts : List Thread). is_living (slice_index_or ts u nobody).life) (sym threads) ∙ h);
   stand = λ u h. ap (λ (ts : List Thread). is_living (slice_index_or ts u nobody).life) threads ∙ o.stand u h;
 }
 
-bytes-opened : (image : Image) (s : State) (line : List ℕ) (a : ℕ) (bytes : List ℕ) → IsOpened image s line → IsOpened image (with_bytes s a bytes) line
-bytes-opened image s line a bytes o =
-    elim (nat_lt a STACK_AREA) as (λ b. IsOpened image (if b then record s { memory = put_bytes s.memory (a - PARTITION_AREA) bytes } else record s { stacks = put_bytes s.stacks (a - STACK_AREA) bytes }) line) [
-      | true ↦ same-opened image s (record s { memory = put_bytes s.memory (a - PARTITION_AREA) bytes }) line refl refl refl o
-      | false ↦ same-opened image s (record s { stacks = put_bytes s.stacks (a - STACK_AREA) bytes }) line refl refl refl o
+bytes-lined : (image : Image) (s : State) (line : List ℕ) (a : ℕ) (bytes : List ℕ) → IsLined image s line → IsLined image (with_bytes s a bytes) line
+bytes-lined image s line a bytes o =
+    elim (nat_lt a STACK_AREA) as (λ b. IsLined image (if b then record s { memory = put_bytes s.memory (a - PARTITION_AREA) bytes } else record s { stacks = put_bytes s.stacks (a - STACK_AREA) bytes }) line) [
+      | true ↦ same-lined image s (record s { memory = put_bytes s.memory (a - PARTITION_AREA) bytes }) line refl refl o
+      | false ↦ same-lined image s (record s { stacks = put_bytes s.stacks (a - STACK_AREA) bytes }) line refl refl o
     ]
 
-loaded-opened : (image : Image) (ps : List Partition) (s : State) (line : List ℕ) → IsOpened image s line → IsOpened image (loaded ps s) line
-loaded-opened image [] s line o = o
-loaded-opened image (p ∷ ps) s line o = loaded-opened image ps (with_bytes s p.range.start.0 p.bytes) line (bytes-opened image s line p.range.start.0 p.bytes o)
+loaded-lined : (image : Image) (ps : List Partition) (s : State) (line : List ℕ) → IsLined image s line → IsLined image (loaded ps s) line
+loaded-lined image [] s line o = o
+loaded-lined image (p ∷ ps) s line o = loaded-lined image ps (with_bytes s p.range.start.0 p.bytes) line (bytes-lined image s line p.range.start.0 p.bytes o)
 
 -- Boot threads.
 
-granted-opened : (image : Image) (t : ℕ) (xs : List Row) (s : State) (line : List ℕ) → IsOpened image s line → IsOpened image (granted t xs s) line
-granted-opened image t [] s line o = o
-granted-opened image t (x ∷ xs) s line o = granted-opened image t xs (with_pair s t x.0 true) line (same-opened image s (with_pair s t x.0 true) line refl refl refl o)
+granted-lined : (image : Image) (t : ℕ) (xs : List Row) (s : State) (line : List ℕ) → IsLined image s line → IsLined image (granted t xs s) line
+granted-lined image t [] s line o = o
+granted-lined image t (x ∷ xs) s line o = granted-lined image t xs (with_pair s t x.0 true) line (same-lined image s (with_pair s t x.0 true) line refl refl o)
 
-started-opened : (image : Image) (s : State) (line : List ℕ) (t : ℕ) (boot : Boot) → t < THREADS → IsOpened image s line → IsOpened image (with_thread s t (boot_thread s.image boot)) (joins line t)
-started-opened image s line t boot below o =
+started-lined : (image : Image) (s : State) (line : List ℕ) (t : ℕ) (boot : Boot) → t < THREADS → IsLined image s line → IsLined image (with_thread s t (boot_thread s.image boot)) (joins line t)
+started-lined image s line t boot below o =
     let me = boot_thread s.image boot in
     let inside : t < length s.threads = (let many = o.many in omega (arith, many, below)) in
     record {
       image_is = o.image_is;
       many = length-set s.threads t me ∙ o.many;
-      bare = λ u. at_set (λ n (other : Thread). IsBare other) s.threads t u me nobody (record { pending = refl; told = refl; due = no-due }) (o.bare u);
-      waiters = o.waiters;
       once = λ u. joins-once u t line (o.once u);
       all = λ u h. at_set (λ n (other : Thread). is_living other.life ≡ true → 1 ≤ often n (joins line t)) s.threads t u me nobody (λ lives. joins-in t line)
           (λ lives. (let was = o.all u lives in let more = joins-more u t line in omega (arith, was, more))) h;
@@ -119,45 +96,23 @@ started-opened image s line t boot below o =
       ];
     }
 
--- a boot entry's thread is one of the machine's
-booted-index : (image : Image) → IsDescribed image → (boot : Boot) → IsTrue (is_lawful_boot image boot) → (t : ℕ) × (thread_of_row image boot.thread.0 ≡ Some t) × (t < THREADS)
-booted-index image given boot lawful =
-    let parts = boot_parts _ _ _ _ _ _ _ lawful in
-    let inside = passes_within _ image.objects boot.thread.0 parts.0 in
-    let sited = is_sited image given.lawful given.few (omega (arith, inside)) in
-    let b = is_boot image sited boot parts.0 parts.2 in
-    let t = index_or (thread_of_row image boot.thread.0) in
-    (t, subst (λ (x : ℕ). thread_of_row image x ≡ Some t) b.own b.real.1, real-below image given.lawful t b.real)
-
-booted-one : (image : Image) → IsDescribed image → (s : State) (line : List ℕ) (boot : Boot) → IsTrue (is_lawful_boot image boot) → IsOpened image s line → IsOpened image (booted_one boot s) (joins_some line (thread_of_row image boot.thread.0))
+booted-one : (image : Image) → IsDescribed image → (s : State) (line : List ℕ) (boot : Boot) → IsTrue (is_lawful_boot image boot) → IsLined image s line → IsLined image (booted_one boot s) (joins_some line (thread_of_row image boot.thread.0))
 booted-one image given s line boot lawful o =
     let (t, there, below) = booted-index image given boot lawful in
     let here : index_or (thread_of_row s.image boot.thread.0) ≡ t = ap (λ (i : Image). index_or (thread_of_row i boot.thread.0)) o.image_is ∙ ap index_or there in
     let line_is : joins_some line (thread_of_row image boot.thread.0) ≡ joins line t = rw (there, less_is t THREADS below) refl in
-    subst (λ (l : List ℕ). IsOpened image (booted_one boot s) l) (sym line_is)
-    (subst (λ (n : ℕ). IsOpened image (granted n (boot.thread ∷ boot.grants) (with_thread s n (boot_thread s.image boot))) (joins line t)) (sym here)
-    (granted-opened image t (boot.thread ∷ boot.grants) (with_thread s t (boot_thread s.image boot)) (joins line t) (started-opened image s line t boot below o)))
+    subst (λ (l : List ℕ). IsLined image (booted_one boot s) l) (sym line_is)
+    (subst (λ (n : ℕ). IsLined image (granted n (boot.thread ∷ boot.grants) (with_thread s n (boot_thread s.image boot))) (joins line t)) (sym here)
+    (granted-lined image t (boot.thread ∷ boot.grants) (with_thread s t (boot_thread s.image boot)) (joins line t) (started-lined image s line t boot below o)))
 
-booted-all : (image : Image) → IsDescribed image → (bs : List Boot) (s : State) (line : List ℕ) → list_all (is_lawful_boot image) bs ≡ true → IsOpened image s line → IsOpened image (booted bs s) (boots_ready image line bs)
+booted-all : (image : Image) → IsDescribed image → (bs : List Boot) (s : State) (line : List ℕ) → list_all (is_lawful_boot image) bs ≡ true → IsLined image s line → IsLined image (booted bs s) (boots_ready image line bs)
 booted-all image given [] s line lawful o = o
 booted-all image given (boot ∷ bs) s line lawful o =
     let parts = both_of (is_lawful_boot image boot) _ lawful in
     booted-all image given bs (booted_one boot s) (joins_some line (thread_of_row image boot.thread.0)) parts.1 (booted-one image given s line boot parts.0 o)
 
-opens : (image : Image) → IsDescribed image → IsOpened image (opening image) (boots_ready image [] image.boots)
-opens image given = booted-all image given image.boots (loaded image.partitions (blank image)) [] given.lawful.boots (loaded-opened image image.partitions (blank image) [] (blank-opened image))
-
--- What is kept.
-
-opened-kept : (image : Image) (s : State) (line : List ℕ) → IsOpened image s line → AreKept s
-opened-kept image s line o = record {
-  many = o.many;
-  orderly = λ u. (let b = o.bare u in record { steps = rw b.pending refl; from = rw b.pending tt; told = λ e. b.told });
-  due = λ u r h. absurd (let b = o.bare u in let off = b.due r in let bad : true ≡ false = sym h ∙ off in cc);
-  waits = λ x u h. absurd (let none = o.waiters x u in omega (arith, none, h));
-  once = λ x u. (let none = o.waiters x u in omega (arith, none));
-  sole = λ x y u h g. absurd (let none = o.waiters x u in omega (arith, none, h));
-}
+opens : (image : Image) → IsDescribed image → IsLined image (opening image) (boots_ready image [] image.boots)
+opens image given = booted-all image given image.boots (loaded image.partitions (blank image)) [] given.lawful.boots (loaded-lined image image.partitions (blank image) [] (blank-lined image))
 
 none-run : (u n : ℕ) → runners u (replicate n idle) ≡ 0
 none-run u zero = refl
@@ -176,11 +131,12 @@ opens-threads image cpus given =
     let s = opening image in
     let line = boots_ready image [] image.boots in
     let o = opens image given in
+    let bare = Openings.opens image in
     record {
-      state = opened-kept image s line o;
+      state = opening-kept image;
       running = λ u h. absurd (let none = none-run u cpus in omega (arith, none, h));
       once = λ u. (let none = none-run u cpus in let one = o.once u in omega (arith, none, one));
-      all = λ u h. (let none = none-run u cpus in let b = o.bare u in
+      all = λ u h. (let none = none-run u cpus in let b = bare.bare u in
           let there = o.all u (step-lives (is_on (thread_at s u)) (is_living (thread_at s u).life) (length (thread_at s u).pending == 0) (thread_at s u).doomed (idle-off (thread_at s u) b.pending) h) in omega (arith, none, there));
-      stand = λ u h. (let none = none-run u cpus in let b = o.bare u in resting-stands (thread_at s u) (rests (thread_at s u) b.pending (o.stand u (omega (arith, none, h)))));
+      stand = λ u h. (let none = none-run u cpus in let b = bare.bare u in resting-stands (thread_at s u) (rests (thread_at s u) b.pending (o.stand u (omega (arith, none, h)))));
     }

@@ -14,7 +14,7 @@ use Rattle.um_scheduler.specs.declared.processor.Processor.{Processor}
 use Rattle.um_scheduler.specs.Schedule.{Turn, idle, processor_at, next_ready, running_or, runs, CleansNothing, RunsNothing, Rests, passed, AllRest, NoneGoes}
 use Rattle.um_invariants.proofs.Facts.{itself}
 use Rattle.um_scheduler.proofs.RowTurns.{around}
-use Rattle.um_scheduler.proofs.ThreadWords.{is_on, may_step, is_resume}
+use Rattle.um_invariants.proofs.ThreadWords.{is_on, may_step, is_resume}
 use Rattle.um_scheduler.proofs.JoinLemmas.{often}
 use Rattle.um_scheduler.proofs.ThreadLines.{next-not_still, none-next, next-in}
 use Rattle.um_scheduler.proofs.ThreadStays.{never-stays}

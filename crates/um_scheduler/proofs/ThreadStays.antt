@@ -21,10 +21,10 @@ use Rattle.um_matrix.specs.Offered.{line_step, rest_step, first_or, first_step, 
 use Rattle.um_measure.specs.Reached.{is_child, passes_on}
 use Rattle.um_measure.specs.Reached.{IsReached}
 use Rattle.um_invariants.proofs.Facts.{both_of, is_equal, not_less, differs}
-use Rattle.um_scheduler.proofs.ThreadWords.{is_on, may_step, starts_one, clears_one, are_plain, are_orderly, DueFrom, MayPass, AreKept}
+use Rattle.um_invariants.proofs.ThreadWords.{is_on, may_step, starts_one, clears_one, are_plain, are_orderly, DueFrom, MayPass, AreKept}
 use Rattle.um_matrix.proofs.OfferLemmas.{le-or-lt}
-use Rattle.um_scheduler.proofs.ThreadStarts.{idle-off}
-use Rattle.um_scheduler.proofs.ThreadPairs.{pass-held}
+use Rattle.um_invariants.proofs.ThreadStarts.{idle-off}
+use Rattle.um_invariants.proofs.ThreadPairs.{pass-held}
 
 -- The first of some flags.
 

@@ -9,12 +9,12 @@ use Rattle.um_machine.specs.Order.{to_thread}
 use Rattle.um_machine.specs.State.{State, thread_at, is_living}
 use Rattle.um_measure.specs.Measure.{one_if}
 use Rattle.um_scheduler.specs.declared.processor.Processor.{Processor}
-use Rattle.um_scheduler.specs.Lines.{stands, joins, all_join}
+use Rattle.um_invariants.specs.Lines.{stands, joins, all_join}
 use Rattle.um_scheduler.specs.Schedule.{Turn, idle, processor_at, with_processor, goes_on, is_at_rest, readied, next_ready, behind_next, running_or, runs, left_ready, ready_after, left_to_clean, after_cleaning, after_running, passed}
 use Rattle.um_invariants.proofs.Facts.{itself, differs}
-use Rattle.um_scheduler.proofs.ThreadCounts.{count-set, equal_or_not}
-use Rattle.um_scheduler.proofs.ThreadWords.{is_on, is_resting, stands_still, may_step, may_stand, IsFramed, IsMade, IsBase}
-use Rattle.um_scheduler.proofs.ThreadFrames.{alike-framed, base-kept}
+use Rattle.um_invariants.proofs.ThreadCounts.{count-set, equal_or_not}
+use Rattle.um_invariants.proofs.ThreadWords.{is_on, is_resting, stands_still, may_step, may_stand, IsFramed, IsMade, IsBase}
+use Rattle.um_invariants.proofs.ThreadFrames.{alike-framed, base-kept}
 use Rattle.um_scheduler.proofs.JoinLemmas.{often, joins-other, joins-in, joins-once, all-other, all-more, all-in, all-once}
 use Rattle.um_scheduler.proofs.ThreadLines.{behind-other, behind-next}
 use Rattle.um_scheduler.proofs.ThreadHeld.{is_running, is_run, runners, held, ThreadsKept, on-busy, step-not_still, resting-stands, on-stands, steps-by, runners-at, runners-kept, runners-settled}

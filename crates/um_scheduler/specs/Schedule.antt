@@ -15,8 +15,9 @@ use Rattle.um_machine.specs.Run.{opening}
 use Rattle.um_machine.specs.State.{State, thread_at, is_living, is_started}
 use Rattle.um_matrix.specs.Alone.{IsNext, Stays, Cleans, CleansNot}
 use Rattle.um_matrix.specs.Offered.{is_forsaken}
+pub use Rattle.um_invariants.specs.Ready.{is_still, is_at_rest, is_ready_step, goes_on, readied, joins_some, boots_ready}
 use Rattle.um_scheduler.specs.declared.processor.Processor.{Processor}
-use Rattle.um_scheduler.specs.Lines.{stands, joins, all_join}
+use Rattle.um_invariants.specs.Lines.{stands, joins, all_join}
 
 -- The machine, the threads that are ready, the one that waits longest at the front, and the processors.
 pub record Turn : Type 0 where
@@ -33,31 +34,6 @@ processor_at turn cpu = slice_index_or turn.processors cpu idle
 
 abbrev pub with_processor : Turn → ℕ → Processor → Turn
 with_processor turn cpu processor = record turn { processors = slice_set turn.processors cpu processor }
-
--- Threads.
-
--- a thread stands still: it is doomed and at rest
-abbrev pub is_still : State → ℕ → Bool
-is_still s t = let me = thread_at s t in me.doomed && length me.pending == 0
-
--- a thread is living and at rest
-abbrev pub is_at_rest : State → ℕ → Bool
-is_at_rest s t = let me = thread_at s t in is_living me.life && length me.pending == 0
-
--- a thread goes on with its instruction: it has a step left, and doesn't wait
-abbrev pub is_ready_step : Bool → Option Pending → Bool
-is_ready_step told None = false
-is_ready_step told (Some Pending.Resume) = told
-is_ready_step told (Some step) = true
-
-abbrev pub goes_on : State → ℕ → Bool
-goes_on s t = let me = thread_at s t in is_ready_step (is_some me.told) (slice_get me.pending 0)
-
--- whom an act starts or wakes
-abbrev pub readied : Act → List ℕ
-readied (Act.Start who) = who.0 ∷ []
-readied (Act.Work a answer woken) = map (λ (w : ThreadIx × Reply). w.0.0) woken
-readied act = []
 
 -- The ready list.
 
@@ -193,16 +169,7 @@ NoneGoes turn first = AllRest turn first 0 (length turn.processors)
 
 -- The opening.
 
--- the thread of a boot entry is ready
-abbrev pub joins_some : List ℕ → Option ℕ → List ℕ
-joins_some line None = line
-joins_some line (Some t) = if nat_lt t THREADS then joins line t else line
-
-abbrev pub boots_ready : Image → List ℕ → List Boot → List ℕ
-boots_ready image line [] = line
-boots_ready image line (boot ∷ boots) = boots_ready image (joins_some line (thread_of_row image boot.thread.0)) boots
-
--- this many processors that run no thread, and the boot threads ready in their order
+-- so many processors that run no thread, and the boot threads ready in their order
 abbrev pub opening_turn : Image → ℕ → Turn
 opening_turn image cpus =
     record { state = opening image; ready = boots_ready image [] image.boots; processors = replicate cpus idle }

@@ -1,7 +1,7 @@
 //! Numbers in a line.
 
 ghost use Rattle.std.specs.Prelude.{◌≡◌, [], slice_get, drop, length};
-ghost use Rattle.um_scheduler.specs.Lines.{stands, joins};
+ghost use Rattle.um_invariants.specs.Lines.{stands, joins};
 
 use arrayvec::ArrayVec;
 use std::marker::Model;
@@ -14,7 +14,7 @@ pub struct Line {
 
 impl Model for Line {
     ghost use Rattle.std.specs.Prelude.{ℕ, List};
-    ghost use Rattle.um_scheduler.specs.Lines.{IsLine};
+    ghost use Rattle.um_invariants.specs.Lines.{IsLine};
 
     ghost Value = { List ℕ };
 

@@ -3,10 +3,8 @@
 ghost use Rattle.std.specs.Prelude.{◌≡◌, ◌<◌, ◌≤◌, ℕ, map, Some, None, true, false, if◌then◌else◌, [], replicate, slice_get, slice_set, slice_index_or, IfOk, IfSome, IfNone};
 ghost use Rattle.um_base.specs.{declared.names.Reply.{Reply}, Lawful.{IsLawful}};
 ghost use Rattle.um_machine.specs.Run.{opening};
-ghost use Rattle.um_scheduler.specs.{
-  Lines.{joins, all_join},
-  Schedule.{boots_ready, idle, is_still, is_at_rest, goes_on, next_ready, behind_next, readied, ready_after, is_listed, comes_up, left_to_clean, opening_turn},
-};
+ghost use Rattle.um_invariants.specs.{Lines.{joins, all_join}, Ready.{boots_ready, is_still, is_at_rest, goes_on, readied}};
+ghost use Rattle.um_scheduler.specs.Schedule.{idle, next_ready, behind_next, ready_after, is_listed, comes_up, left_to_clean, opening_turn};
 
 use crate::line::Line;
 use crate::processor::Processor;

@@ -40,6 +40,9 @@ settled_twice (Pending.Drops from ∷ rest) = refl
 settled_twice [] = refl
 settled_twice steps = refl
 
+pub core_thread_twice : (m : Thread) → core_thread (core_thread m) ≡ core_thread m
+core_thread_twice m = ap (λ (steps : Steps). record m { pending = steps }) (settled_twice m.pending)
+
 core_threads_twice : (ts : List Thread) → map core_thread (map core_thread ts) ≡ map core_thread ts
 core_threads_twice [] = refl
 core_threads_twice (me ∷ ts) =

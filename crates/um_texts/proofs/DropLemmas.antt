@@ -1,5 +1,5 @@
 -- A drop is known by its thread and its object, whichever step makes it.
-use Rattle.std.proofs.Common.{◌≡◌, inl, inr, ℕ, zero, suc, ◌+◌, ◌-◌, ◌<◌, ◌≤◌, Bool, true, false, ◌&&◌, ◌||◌, List, [], ◌∷◌, length, refl, sym, ap, ◌∙◌, arith, Option, Some, None, slice_index_or, map, unwrap_or}
+use Rattle.std.proofs.Common.{◌≡◌, inl, inr, ℕ, zero, suc, ◌+◌, ◌-◌, ◌<◌, ◌≤◌, Bool, true, false, ◌&&◌, ◌||◌, List, [], ◌∷◌, length, refl, sym, ap, ◌∙◌, arith, Option, Some, None, slice_index_or, map, unwrap_or, subst}
 use Rattle.std.specs.Prelude.{nat_lt, nat_le, position}
 use Rattle.std.proofs.Math.Seq.{map-set_same}
 use Rattle.std.proofs.lemmas.Bool.{and_parts, cases_lt}
@@ -30,6 +30,8 @@ use Rattle.um_texts.proofs.OwnLemmas.{IsSound}
 use Rattle.um_texts.proofs.AddressLemmas.{row_found}
 use Rattle.um_texts.proofs.CoreLemmas.{core, core_thread, core_object, settled, same_drop}
 use Rattle.um_texts.proofs.MarkLemmas.{drops, mark_step}
+use Rattle.um_machine.specs.Rows.{by_rows}
+use Rattle.um_machine.proofs.AfterLemmas.{rows-are}
 
 -- a thread drops a pair of a thread with the object at an address
 pub record IsDrop (image : Image) (s : State) (act : Act) (s2 : State) : Type 0 where
@@ -146,7 +148,7 @@ drops_next image s kept t from rest (skips_inherit e h) = absurd (start_no_drops
 drops_next image s kept t from rest (skips_drops e h) = absurd (clear_no_drops from rest (behind_drops image s kept t _ _ e))
 
 pair_drop : (image : Image) (s : State) → IsKept image s → (t : ℕ) (who : ThreadIx) (a : Addr) (rest : Steps) (x : ℕ) → (thread_at s t).pending ≡ Pending.DropPair who a ∷ rest
-    → IsDrop image s (act_of s t x (Pending.DropPair who a)) (after s t x (Pending.DropPair who a) rest)
+    → IsDrop image s (act_of s t x (Pending.DropPair who a)) (by_rows s t x (Pending.DropPair who a) rest)
 pair_drop image s kept t who a rest x e =
     let fit : are_fit image (Pending.DropPair who a ∷ rest) ≡ true = rw e at (kept.fit t) in
     let here = (and_parts (has_own image who.0 && is_answer_void rest) (are_fit image rest) fit).0 in
@@ -161,7 +163,7 @@ pair_drop image s kept t who a rest x e =
     }
 
 end_drop : (image : Image) → IsSound image → (s : State) → IsKept image s → (t from : ℕ) (rest : Steps) (x : ℕ) → has_own image t ≡ true → (thread_at s t).pending ≡ Pending.Drops from ∷ rest → pair_at s t x ≡ true
-    → IsDrop image s (act_of s t x (Pending.Drops from)) (after s t x (Pending.Drops from) rest)
+    → IsDrop image s (act_of s t x (Pending.Drops from)) (by_rows s t x (Pending.Drops from) rest)
 end_drop image sound s kept t from rest x own e pair =
     let row = row_there image sound s kept.image_is x (kept.real t x pair) in
     let s2 = after_drop s t x in
@@ -174,7 +176,7 @@ end_drop image sound s kept t from rest x own e pair =
     }
 
 clean_drop : (image : Image) → IsSound image → (s : State) → IsKept image s → (t : ℕ) (who : ThreadIx) (rest : Steps) (x : ℕ) → is_gone (object_at s (own_row s.image who.0)).status ≡ true → pair_at s who.0 x ≡ true
-    → IsDrop image s (act_of s t x (Pending.CleanPair who)) (after s t x (Pending.CleanPair who) rest)
+    → IsDrop image s (act_of s t x (Pending.CleanPair who)) (by_rows s t x (Pending.CleanPair who) rest)
 clean_drop image sound s kept t who rest x gone pair =
     let row = row_there image sound s kept.image_is x (kept.real who.0 x pair) in
     let y = own_row s.image who.0 in
@@ -194,7 +196,10 @@ clean_drop image sound s kept t who rest x gone pair =
 
 pub drop_step : (image : Image) → IsSound image → (s : State) → IsKept image s → (t x : ℕ) (p : Pending) (rest : Steps) → has_own image t ≡ true → Offers s t p rest → MayChoose s t x p → mark_step p ≡ drops
     → IsDrop image s (act_of s t x p) (after s t x p rest)
-drop_step image sound s kept t x (Pending.DropPair who a) rest own offered may h = pair_drop image s kept t who a rest x (drop_next image s kept t who a rest offered)
-drop_step image sound s kept t x (Pending.Drops from) rest own offered may h = end_drop image sound s kept t from rest x own (drops_next image s kept t from rest offered) may.1
-drop_step image sound s kept t x (Pending.CleanPair who) rest own offered may h = clean_drop image sound s kept t who rest x may.0.0 may.1
+drop_step image sound s kept t x (Pending.DropPair who a) rest own offered may h =
+    subst (IsDrop image s (act_of s t x (Pending.DropPair who a))) (rows-are s t x (Pending.DropPair who a) rest) (pair_drop image s kept t who a rest x (drop_next image s kept t who a rest offered))
+drop_step image sound s kept t x (Pending.Drops from) rest own offered may h =
+    subst (IsDrop image s (act_of s t x (Pending.Drops from))) (rows-are s t x (Pending.Drops from) rest) (end_drop image sound s kept t from rest x own (drops_next image s kept t from rest offered) may.1)
+drop_step image sound s kept t x (Pending.CleanPair who) rest own offered may h =
+    subst (IsDrop image s (act_of s t x (Pending.CleanPair who))) (rows-are s t x (Pending.CleanPair who) rest) (clean_drop image sound s kept t who rest x may.0.0 may.1)
 drop_step image sound s kept t x p rest own offered may h = cc

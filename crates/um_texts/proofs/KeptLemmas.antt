@@ -1,5 +1,5 @@
 -- Each step keeps what holds in each state of a run.
-use Rattle.std.proofs.Common.{◌≡◌, ℕ, zero, suc, Bool, true, false, List, ◌∷◌, refl, Option, Some, None, if◌then◌else◌, slice_set, length}
+use Rattle.std.proofs.Common.{◌≡◌, ℕ, zero, suc, Bool, true, false, List, ◌∷◌, refl, Option, Some, None, if◌then◌else◌, slice_set, length, subst}
 use Rattle.std.specs.Prelude.{replicate}
 use Rattle.std.proofs.lemmas.Bool.{and_parts}
 use Rattle.um_base.specs.declared.act.Answer.{Answer}
@@ -30,6 +30,8 @@ use Rattle.um_texts.proofs.IdentityLemmas.{is_real, has_own, own_real}
 use Rattle.um_texts.proofs.StateLemmas.{IsKept, fits, are_fit, kept_thread, kept_same, kept_object, kept_status, kept_paired, kept_given, kept_drop, kept_bytes, kept_pools, kept_moved, kept_woken}
 use Rattle.um_texts.proofs.OwnLemmas.{IsSound, real_of_addr}
 use Rattle.um_texts.proofs.FitLemmas.{fit_steps, fit_without, fit_error, fit_check, fit_copy, fit_cleared, fit_fatal, fit_doom}
+use Rattle.um_machine.specs.Rows.{by_rows}
+use Rattle.um_machine.proofs.AfterLemmas.{rows-are}
 
 kept_if : (image : Image) (b : Bool) (s s2 : State) → IsKept image s → IsKept image s2 → IsKept image (if b then s else s2)
 kept_if image true s s2 h k = h
@@ -103,31 +105,31 @@ real_own image s kept who own = rw kept.image_is (own_real image who own)
 none_gone : false ≡ true → ⊥
 none_gone h = cc
 
-pub kept_after : (image : Image) → IsSound image → (s : State) → IsKept image s → (t x : ℕ) (p : Pending) (rest : Steps) → has_own image t ≡ true → are_fit image (p ∷ rest) ≡ true → MayChoose s t x p
-    → IsKept image (after s t x p rest)
-kept_after image sound s kept t x Pending.Begin rest own fit may = kept_begin image sound s t (thread_at s t) _ kept own
-kept_after image sound s kept t x Pending.Exit rest own fit may = kept_ended image s t (thread_at s t) _ kept own refl
-kept_after image sound s kept t x (Pending.Check a kind want refusal) rest own fit may =
+kept_by_rows : (image : Image) → IsSound image → (s : State) → IsKept image s → (t x : ℕ) (p : Pending) (rest : Steps) → has_own image t ≡ true → are_fit image (p ∷ rest) ≡ true → MayChoose s t x p
+    → IsKept image (by_rows s t x p rest)
+kept_by_rows image sound s kept t x Pending.Begin rest own fit may = kept_begin image sound s t (thread_at s t) _ kept own
+kept_by_rows image sound s kept t x Pending.Exit rest own fit may = kept_ended image s t (thread_at s t) _ kept own refl
+kept_by_rows image sound s kept t x (Pending.Check a kind want refusal) rest own fit may =
     kept_thread image s t _ kept (λ h. own) (fit_check image (thread_at s t).mode rest refusal (verdict s t a.0 kind want) fit)
-kept_after image sound s kept t x (Pending.Load to a n) rest own fit may =
+kept_by_rows image sound s kept t x (Pending.Load to a n) rest own fit may =
     kept_if image (allowed s t Access.Read a.0 n) _ _ (kept_thread image s t _ kept (λ h. own) fit) (kept_thread image s t _ kept (λ h. own) refl)
-kept_after image sound s kept t x (Pending.Store a n value) rest own fit may =
+kept_by_rows image sound s kept t x (Pending.Store a n value) rest own fit may =
     kept_if image (allowed s t Access.Write a.0 n) _ _ (kept_thread image _ t _ (kept_bytes image s a.0 (le_bytes n value) kept) (λ h. own) fit) (kept_thread image s t _ kept (λ h. own) refl)
-kept_after image sound s kept t x (Pending.Fetch a) rest own fit may =
+kept_by_rows image sound s kept t x (Pending.Fetch a) rest own fit may =
     kept_if image (allowed s t Access.Exec a.0 4) _ _ (kept_thread image s t _ kept (λ h. own) fit) (kept_thread image s t _ kept (λ h. own) refl)
-kept_after image sound s kept t x (Pending.Probe a amount) rest own fit may =
+kept_by_rows image sound s kept t x (Pending.Probe a amount) rest own fit may =
     kept_if image (allowed s t Access.Write a.0 (amount_of s amount)) _ _ (kept_thread image s t _ kept (λ h. own) fit)
     (kept_thread image s t _ kept (λ h. own) (fit_copy image (thread_at s t).mode))
-kept_after image sound s kept t x (Pending.CopyIn a amount) rest own fit may =
+kept_by_rows image sound s kept t x (Pending.CopyIn a amount) rest own fit may =
     kept_if image (allowed s t Access.Read a.0 (amount_of s amount)) _ _ (kept_thread image s t _ kept (λ h. own) fit)
     (kept_thread image s t _ kept (λ h. own) (fit_copy image (thread_at s t).mode))
-kept_after image sound s kept t x (Pending.CopyOut a) rest own fit may =
+kept_by_rows image sound s kept t x (Pending.CopyOut a) rest own fit may =
     kept_if image (allowed s t Access.Write a.0 (length (thread_at s t).buffer)) _ _
     (kept_thread image _ t _ (kept_bytes image s a.0 (thread_at s t).buffer kept) (λ h. own) fit) (kept_thread image s t _ kept (λ h. own) (fit_copy image (thread_at s t).mode))
-kept_after image sound s kept t x (Pending.CopyStr a) rest own fit may = kept_string image s t (thread_at s t) a rest (string_read s t a.0 32) kept own fit
-kept_after image sound s kept t x (Pending.Erase stack) rest own fit may =
+kept_by_rows image sound s kept t x (Pending.CopyStr a) rest own fit may = kept_string image s t (thread_at s t) a rest (string_read s t a.0 32) kept own fit
+kept_by_rows image sound s kept t x (Pending.Erase stack) rest own fit may =
     kept_thread image _ t _ (kept_erased image s (stack_range (setup_at s.image stack.0)) kept) (λ h. own) fit
-kept_after image sound s kept t x (Pending.Work a ask) rest own fit may =
+kept_by_rows image sound s kept t x (Pending.Work a ask) rest own fit may =
     let w = work_of s t a ask in
     let y = row_of s a in
     let o = object_at s y in
@@ -135,52 +137,56 @@ kept_after image sound s kept t x (Pending.Work a ask) rest own fit may =
     let s2 = with_object s y o2 in
     let s3 = all_woken w.woken s2 in
     kept_answer image s3 t (thread_at s3 t) ask w.taken rest w.answer (kept_woken image w.woken s2 (kept_status image s y o2 kept refl)) own fit
-kept_after image sound s kept t x Pending.Resume rest own fit may = kept_resumed image s t (thread_at s t) rest (thread_at s t).told kept own fit
-kept_after image sound s kept t x (Pending.Answer reply to) rest own fit may = kept_thread image s t _ kept (λ h. own) fit
-kept_after image sound s kept t x (Pending.Grant who a) rest own fit may =
+kept_by_rows image sound s kept t x Pending.Resume rest own fit may = kept_resumed image s t (thread_at s t) rest (thread_at s t).told kept own fit
+kept_by_rows image sound s kept t x (Pending.Answer reply to) rest own fit may = kept_thread image s t _ kept (λ h. own) fit
+kept_by_rows image sound s kept t x (Pending.Grant who a) rest own fit may =
     kept_thread image _ t _ (kept_given image s who.0 (row_of s a) kept (real_row image sound s kept a)) (λ h. own) fit
-kept_after image sound s kept t x (Pending.Own who) rest own fit may =
+kept_by_rows image sound s kept t x (Pending.Own who) rest own fit may =
     let whose = (and_parts (has_own image who.0) (are_fit image rest) fit).0 in
     kept_thread image _ t _ (kept_given image s who.0 (own_row s.image who.0) kept (real_own image s kept who.0 whose)) (λ h. own) (and_parts (has_own image who.0) (are_fit image rest) fit).1
-kept_after image sound s kept t x (Pending.Inherit who) rest own fit may =
+kept_by_rows image sound s kept t x (Pending.Inherit who) rest own fit may =
     kept_thread image _ t _ (kept_paired image s who.0 x true kept (λ h. kept.real t x may.0)) (λ h. own) fit
-kept_after image sound s kept t x (Pending.DropPair who a) rest own fit may =
+kept_by_rows image sound s kept t x (Pending.DropPair who a) rest own fit may =
     kept_thread image _ t _ (kept_drop image s who.0 (row_of s a) kept) (λ h. own) (and_parts (fits image (Pending.DropPair who a) rest) (are_fit image rest) fit).1
-kept_after image sound s kept t x (Pending.Publish a) rest own fit may =
+kept_by_rows image sound s kept t x (Pending.Publish a) rest own fit may =
     let y = row_of s a in
     let o2 : Object = record (object_at s y) { public = true } in
     kept_thread image _ t _ (kept_if image (is_gone (object_at s y).status) s (with_object s y o2) kept (kept_status image s y o2 kept refl)) (λ h. own) fit
-kept_after image sound s kept t x (Pending.SetInit a strict undo) rest own fit may =
+kept_by_rows image sound s kept t x (Pending.SetInit a strict undo) rest own fit may =
     kept_set image s t (thread_at s t) a undo rest (set_said (object_at s (row_of s a)) strict) kept own fit
-kept_after image sound s kept t x (Pending.ClearInit a) rest own fit may =
+kept_by_rows image sound s kept t x (Pending.ClearInit a) rest own fit may =
     let y = row_of s a in
     let o2 : Object = record (object_at s y) { init = false } in kept_thread image _ t _ (kept_status image s y o2 kept refl) (λ h. own) fit
-kept_after image sound s kept t x (Pending.Named who) rest own fit may =
+kept_by_rows image sound s kept t x (Pending.Named who) rest own fit may =
     let y = own_row s.image who.0 in kept_thread image _ t _ (kept_status image s y _ kept refl) (λ h. own) fit
-kept_after image sound s kept t x (Pending.Reserve kind) rest own fit may = kept_reserve image s t (thread_at s t) x kind rest kept own fit
-kept_after image sound s kept t x (Pending.Born a) rest own fit may =
+kept_by_rows image sound s kept t x (Pending.Reserve kind) rest own fit may = kept_reserve image s t (thread_at s t) x kind rest kept own fit
+kept_by_rows image sound s kept t x (Pending.Born a) rest own fit may =
     let y = row_of s a in
     let o2 : Object = record (object_at s y) { status = Status.Live } in
     kept_thread image _ t _ (kept_paired image (with_object s y o2) t y true (kept_object image s y o2 kept (λ h. absurd (none_gone h))) (λ h. real_row image sound s kept a)) (λ h. own) fit
-kept_after image sound s kept t x (Pending.Buffer size) rest own fit may =
+kept_by_rows image sound s kept t x (Pending.Buffer size) rest own fit may =
     kept_if image _ _ _ (kept_thread image _ t _ (kept_pools image s _ kept) (λ h. own) fit) (kept_thread image s t _ kept (λ h. own) refl)
-kept_after image sound s kept t x (Pending.Unbuffer size) rest own fit may = kept_thread image _ t _ (kept_pools image s _ kept) (λ h. own) fit
-kept_after image sound s kept t x (Pending.DomInit d parts) rest own fit may = kept_domain image s t (thread_at s t) d _ _ rest kept own fit
-kept_after image sound s kept t x (Pending.DomAdd d range attr) rest own fit may = kept_domain image s t (thread_at s t) d _ _ rest kept own fit
-kept_after image sound s kept t x (Pending.DomRemove d range attr) rest own fit may = kept_domain image s t (thread_at s t) d _ _ rest kept own fit
-kept_after image sound s kept t x (Pending.DomMove d who) rest own fit may = kept_thread image _ t _ (kept_moved image s who.0 d _ kept) (λ h. own) fit
-kept_after image sound s kept t x (Pending.Start who script stack priority mode) rest own fit may =
+kept_by_rows image sound s kept t x (Pending.Unbuffer size) rest own fit may = kept_thread image _ t _ (kept_pools image s _ kept) (λ h. own) fit
+kept_by_rows image sound s kept t x (Pending.DomInit d parts) rest own fit may = kept_domain image s t (thread_at s t) d _ _ rest kept own fit
+kept_by_rows image sound s kept t x (Pending.DomAdd d range attr) rest own fit may = kept_domain image s t (thread_at s t) d _ _ rest kept own fit
+kept_by_rows image sound s kept t x (Pending.DomRemove d range attr) rest own fit may = kept_domain image s t (thread_at s t) d _ _ rest kept own fit
+kept_by_rows image sound s kept t x (Pending.DomMove d who) rest own fit may = kept_thread image _ t _ (kept_moved image s who.0 d _ kept) (λ h. own) fit
+kept_by_rows image sound s kept t x (Pending.Start who script stack priority mode) rest own fit may =
     let whose = (and_parts (has_own image who.0) (are_fit image rest) fit).0 in
     kept_thread image _ t _ (kept_thread image s who.0 _ kept (λ h. whose) refl) (λ h. own) (and_parts (has_own image who.0) (are_fit image rest) fit).1
-kept_after image sound s kept t x (Pending.EnterUser script) rest own fit may = kept_thread image s t _ kept (λ h. own) refl
-kept_after image sound s kept t x (Pending.Fatal reason cause) rest own fit may =
+kept_by_rows image sound s kept t x (Pending.EnterUser script) rest own fit may = kept_thread image s t _ kept (λ h. own) refl
+kept_by_rows image sound s kept t x (Pending.Fatal reason cause) rest own fit may =
     let me = thread_at s t in
     let steps : are_fit image (fatal_steps s.image t me reason s.image.policy) ≡ true = rw kept.image_is (fit_fatal image t me reason image.policy) in
     kept_ended image s t me _ kept own steps
-kept_after image sound s kept t x (Pending.Drops from) rest own fit may = kept_thread image _ t _ (kept_drop image s t x kept) (λ h. own) fit
-kept_after image sound s kept t x (Pending.Dooms from) rest own fit may =
+kept_by_rows image sound s kept t x (Pending.Drops from) rest own fit may = kept_thread image _ t _ (kept_drop image s t x kept) (λ h. own) fit
+kept_by_rows image sound s kept t x (Pending.Dooms from) rest own fit may =
     kept_thread image _ t _ (kept_same image s from (record (thread_at s from) { doomed = true }) kept refl refl) (λ h. own) (fit_doom image from)
-kept_after image sound s kept t x (Pending.CleanPair who) rest own fit may =
+kept_by_rows image sound s kept t x (Pending.CleanPair who) rest own fit may =
     let y = own_row s.image who.0 in kept_drop image _ who.0 x (kept_status image s y (record (object_at s y) { cleaner = Some (to_thread t) }) kept refl)
-kept_after image sound s kept t x Pending.Recycle rest own fit may =
+kept_by_rows image sound s kept t x Pending.Recycle rest own fit may =
     kept_pools image (with_object s x vacant) _ (kept_object image s x vacant kept (λ h. absurd (none_gone h)))
+
+pub kept_after : (image : Image) → IsSound image → (s : State) → IsKept image s → (t x : ℕ) (p : Pending) (rest : Steps) → has_own image t ≡ true → are_fit image (p ∷ rest) ≡ true → MayChoose s t x p
+    → IsKept image (after s t x p rest)
+kept_after image sound s kept t x p rest own fit may = subst (IsKept image) (rows-are s t x p rest) (kept_by_rows image sound s kept t x p rest own fit may)

@@ -96,7 +96,7 @@ impl<'a> Matrix<'a> {
         }
     }
 
-    /// How many rows are tried for a step: all rows, if the step chooses one.
+    /// How many rows are tried for a step: all that there are, where it chooses one.
     pub fn row_count(&self, step: &Pending) -> usize
         ensures value { result ≡ row_count step.now }
         ensures few { result ≤ ROWS }

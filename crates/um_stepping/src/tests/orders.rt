@@ -1,7 +1,7 @@
 //! The orders of threads and processors.
 
 ghost use Rattle.std.specs.Prelude.{◌≡◌, [], ◌∷◌};
-ghost use Rattle.um_scheduler.specs.Lines.{all_join};
+ghost use Rattle.um_invariants.specs.Lines.{all_join};
 
 use std::test::Fail;
 use um_scheduler::Order;

@@ -37,7 +37,7 @@ fn standing_at(last: &Matrix, thread: u8) -> Standing
     }
 }
 
-/// Whether a thread is shown for a row and counted so.
+/// Whether a thread is shown for a row, and is so.
 fn stands_so(shown: Shown, image: &Image, last: &Matrix, row: usize) -> bool
     requires { row < ROWS }
     ensures { result ≡ stands_so shown last.now (shown_thread image.now last.now row) }

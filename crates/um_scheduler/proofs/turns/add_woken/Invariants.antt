@@ -1,7 +1,7 @@
 use Rattle.std.proofs.Common.{◌≡◌, drop, map}
 use Rattle.um_base.specs.declared.names.Reply.{Reply}
 use Rattle.um_base.specs.declared.names.ThreadIx.{ThreadIx}
-use Rattle.um_scheduler.specs.Lines.{all_join}
+use Rattle.um_invariants.specs.Lines.{all_join}
 use Rattle.um_scheduler.proofs.turns.add_woken.Given as goal
 
 abbrev pub invariant-loop-i : goal.invariant-loop-i

@@ -1,5 +1,5 @@
 use Rattle.std.proofs.Common.{◌≡◌, false, sym, ◌∙◌, ap, subst, arith, List, ℕ}
-use Rattle.um_scheduler.specs.Lines.{stands, IsLine}
+use Rattle.um_invariants.specs.Lines.{stands, IsLine}
 use Rattle.um_scheduler.proofs.LineLemmas.{line-room, line-push}
 use Rattle.um_scheduler.proofs.line.Line.add.Goals as goal
 

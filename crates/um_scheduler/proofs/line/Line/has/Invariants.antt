@@ -1,5 +1,5 @@
 use Rattle.std.proofs.Common.{◌≡◌, drop}
-use Rattle.um_scheduler.specs.Lines.{stands}
+use Rattle.um_invariants.specs.Lines.{stands}
 use Rattle.um_scheduler.proofs.line.Line.has.Given as goal
 
 abbrev pub invariant-loop-other : goal.invariant-loop-other

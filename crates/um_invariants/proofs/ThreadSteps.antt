@@ -1,0 +1,120 @@
+-- The steps of an instruction, and what is left of them after each step.
+use Rattle.std.proofs.Common.{◌≡◌, ℕ, ◌*◌, Bool, true, false, ◌&&◌, ◌||◌, ◌==◌, ◌+◌, List, [], ◌∷◌, ◌++◌, refl, arith, Option, Some, None, ℤ, if◌then◌else◌, nat_lt, unwrap_or}
+use Rattle.um_base.specs.declared.act.Cause.{Cause}
+use Rattle.um_base.specs.declared.ask.Ask.{Ask}
+use Rattle.um_base.specs.declared.image.Image.{Image}
+use Rattle.um_base.specs.declared.instr.Instr.{Instr}
+use Rattle.um_base.specs.declared.instr.Options.{Options}
+use Rattle.um_base.specs.declared.names.Addr.{Addr}
+use Rattle.um_base.specs.declared.names.Errno.{Errno}
+use Rattle.um_base.specs.declared.names.Kind.{Kind}
+use Rattle.um_base.specs.declared.names.Mode.{Mode}
+use Rattle.um_base.specs.declared.names.Policy.{Policy}
+use Rattle.um_base.specs.declared.names.Reply.{Reply}
+use Rattle.um_base.specs.declared.names.ThreadIx.{ThreadIx}
+use Rattle.um_base.specs.Lawful.{is_within}
+use Rattle.um_machine.specs.declared.pending.Pending.{Pending}
+use Rattle.um_machine.specs.declared.pending.Refusal.{Refusal}
+use Rattle.um_machine.specs.declared.thread.Thread.{Thread}
+use Rattle.um_machine.specs.Order.{Steps, to_addr, privileged, creates, steps_of, work, answer_zero, answer_error, buffered, copy_fails, end_steps, fatal_steps}
+use Rattle.um_machine.specs.State.{value_of}
+use Rattle.um_machine.specs.Table.{without_copy, after_error, after_check, cleared_first}
+use Rattle.um_invariants.proofs.ThreadWords.{are_plain, are_orderly, DueFrom}
+
+plain-privileged : (mode : Mode) (steps : Steps) → are_plain steps ≡ true → are_plain (privileged mode steps) ≡ true
+plain-privileged Mode.User steps h = refl
+plain-privileged Mode.Supervisor steps h = h
+
+plain-init : (a : ℕ) (ask : Ask) (refused : Bool) → are_plain (if refused then answer_error Errno.EINVAL else work a ask ∷ Pending.SetInit (to_addr a) false None ∷ answer_zero) ≡ true
+plain-init a ask true = refl
+plain-init a ask false = refl
+
+plain-buffered : (a : ℕ) (kind : Kind) (lawful : Bool) (size : ℕ) (ask : Ask) → are_plain (buffered a kind lawful size ask) ≡ true
+plain-buffered a kind true size ask = refl
+plain-buffered a kind false size ask = refl
+
+plain-inherit : (inherits : Bool) (who child : ThreadIx) (script : ℕ) (stack : _) (priority : ℤ) (mode : Mode) (rest : Steps) → are_plain rest ≡ true
+    → are_plain ((if inherits then Pending.Inherit who ∷ [] else []) ++ Pending.Start child script stack priority mode ∷ rest) ≡ true
+plain-inherit true who child script stack priority mode rest h = h
+plain-inherit false who child script stack priority mode rest h = h
+
+plain-creates : (mode : Mode) (who stack a b script : ℕ) (priority : ℤ) (options : Options) (cause : Option Cause) → are_plain (creates mode who stack a b script priority options cause) ≡ true
+plain-creates mode who stack a b script priority options (Some cause) = refl
+plain-creates mode who stack a b script priority options None = plain-inherit options.inherit _ _ _ _ _ _ _ refl
+
+pub plain-steps : (image : Image) (t : ℕ) (me : Thread) (instr : Instr) → are_plain (steps_of image t me instr) ≡ true
+plain-steps image t me (Instr.DomainInit domain parts) = plain-privileged me.mode _ refl
+plain-steps image t me (Instr.DomainAdd domain part) = plain-privileged me.mode _ refl
+plain-steps image t me (Instr.DomainRemove domain part) = plain-privileged me.mode _ refl
+plain-steps image t me (Instr.UserMode script) = plain-privileged me.mode _ refl
+plain-steps image t me (Instr.DomainMove domain thread) = plain-privileged me.mode _ refl
+plain-steps image t me (Instr.AllGrant object) = plain-privileged me.mode _ refl
+plain-steps image t me (Instr.Revoke object thread) = plain-privileged me.mode _ refl
+plain-steps image t me (Instr.Create thread stack size script priority options) = plain-creates me.mode _ _ (value_of me.registers thread) _ _ _ options _
+plain-steps image t me (Instr.SemInit object count limit) =
+    let c = value_of me.registers count in
+    let l = value_of me.registers limit in plain-init (value_of me.registers object) (Ask.SemInit c l) (l == 0 || nat_lt l c)
+plain-steps image t me (Instr.MsgqInit object msg_size max_msgs) =
+    let size = value_of me.registers msg_size in
+    let most = value_of me.registers max_msgs in
+    plain-buffered (value_of me.registers object) Kind.Msgq (is_within 1 256 size && is_within 1 64 most) (size * most) (Ask.MsgqInit size most (unwrap_or me.pool 0))
+plain-steps image t me (Instr.StackInit object entries) =
+    let most = value_of me.registers entries in
+    plain-buffered (value_of me.registers object) Kind.Stack (is_within 1 64 most) (4 * most) (Ask.StackInit most (unwrap_or me.pool 0))
+plain-steps image t me (Instr.PipeInit object size) =
+    let most = value_of me.registers size in
+    plain-buffered (value_of me.registers object) Kind.Pipe (is_within 1 256 most) most (Ask.PipeInit most (unwrap_or me.pool 0))
+plain-steps image t me _ = refl
+
+-- What is left.
+
+pub plain-without : (rest : Steps) → are_plain rest ≡ true → are_plain (without_copy rest) ≡ true
+plain-without [] h = h
+plain-without (Pending.CopyOut a ∷ rest) h = h
+plain-without (p ∷ rest) h = h
+
+pub plain-error : (mode : Mode) (ask : Ask) (e : Errno) (rest : Steps) → are_plain rest ≡ true → are_plain (after_error mode ask e rest) ≡ true
+plain-error mode (Ask.SemInit count limit) e rest h = refl
+plain-error mode Ask.MutexInit e rest h = refl
+plain-error mode (Ask.MsgqInit size most pool) e rest h = refl
+plain-error mode (Ask.StackInit most pool) e rest h = refl
+plain-error mode (Ask.PipeInit size pool) e rest h = refl
+plain-error mode ask e rest h = plain-without rest h
+
+pub plain-check : (mode : Mode) (rest : Steps) (refusal : Refusal) (v : Option Errno) → are_plain rest ≡ true → are_plain (after_check mode rest refusal v) ≡ true
+plain-check mode rest refusal None h = h
+plain-check mode rest Refusal.Fails (Some e) h = refl
+plain-check Mode.User rest Refusal.FailsUser (Some e) h = refl
+plain-check Mode.Supervisor rest Refusal.FailsUser (Some e) h = refl
+plain-check mode rest (Refusal.Answers reply) (Some e) h = refl
+
+pub plain-fails : (mode : Mode) → are_plain (copy_fails mode) ≡ true
+plain-fails Mode.User = refl
+plain-fails Mode.Supervisor = refl
+
+pub plain-cleared : (undo : Option Addr) (rest : Steps) → are_plain rest ≡ true → are_plain (cleared_first undo rest) ≡ true
+plain-cleared None rest h = h
+plain-cleared (Some a) rest h = h
+
+pub plain-told : (reply : Reply) (rest : Steps) → are_plain rest ≡ true → are_plain (elim reply as (λ _. Steps) [ Reply.Fail e ↦ without_copy rest | _ ↦ rest ]) ≡ true
+plain-told (Reply.Fail e) rest h = plain-without rest h
+plain-told _ rest h = h
+
+pub plain-dooms : (more : Bool) (from : ℕ) → are_plain (if more then Pending.Dooms (from + 1) ∷ [] else []) ≡ true
+plain-dooms true from = refl
+plain-dooms false from = refl
+
+-- the steps of an end
+abbrev pub IsEnd : Steps → Type 0
+IsEnd steps = (are_orderly steps ≡ true) × ((due : List Bool) → DueFrom steps due)
+
+pub end-orderly : (image : Image) (t : ℕ) (me : Thread) → IsEnd (end_steps image t me)
+end-orderly image t me = (refl, λ due r h. omega arith)
+
+abort-orderly : (image : Image) (t : ℕ) (me : Thread) (panics : Bool) → IsEnd (if panics then Pending.Dooms 0 ∷ [] else end_steps image t me)
+abort-orderly image t me true = (refl, λ due. tt)
+abort-orderly image t me false = end-orderly image t me
+
+pub fatal-orderly : (image : Image) (t : ℕ) (me : Thread) (reason : ℕ) (policy : Policy) → IsEnd (fatal_steps image t me reason policy)
+fatal-orderly image t me reason Policy.Halt = (refl, λ due. tt)
+fatal-orderly image t me reason Policy.Abort = abort-orderly image t me (reason == 4)

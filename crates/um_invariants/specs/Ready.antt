@@ -1,0 +1,50 @@
+-- Threads that can go on, and who becomes ready.
+use Rattle.std.specs.Prelude.{ℕ, Bool, true, false, ◌==◌, ◌&&◌, nat_lt, if◌then◌else◌, List, [], ◌∷◌, length, map, Option, Some, None, is_some, slice_get}
+use Rattle.um_base.specs.declared.act.Act.{Act}
+use Rattle.um_base.specs.declared.image.Boot.{Boot}
+use Rattle.um_base.specs.declared.image.Image.{Image}
+use Rattle.um_base.specs.declared.limits.TheConstants.{THREADS}
+use Rattle.um_base.specs.declared.names.Reply.{Reply}
+use Rattle.um_base.specs.declared.names.ThreadIx.{ThreadIx}
+use Rattle.um_base.specs.Places.{thread_of_row}
+use Rattle.um_machine.specs.declared.pending.Pending.{Pending}
+use Rattle.um_machine.specs.State.{State, thread_at, is_living}
+use Rattle.um_invariants.specs.Lines.{joins}
+
+-- a thread stands still: it is doomed and at rest
+abbrev pub is_still : State → ℕ → Bool
+is_still s t = let me = thread_at s t in me.doomed && length me.pending == 0
+
+-- a thread is living and at rest
+abbrev pub is_at_rest : State → ℕ → Bool
+is_at_rest s t = let me = thread_at s t in is_living me.life && length me.pending == 0
+
+-- a thread goes on with its instruction: it has a step left, and doesn't wait
+abbrev pub is_ready_step : Bool → Option Pending → Bool
+is_ready_step told None = false
+is_ready_step told (Some Pending.Resume) = told
+is_ready_step told (Some step) = true
+
+abbrev pub goes_on : State → ℕ → Bool
+goes_on s t = let me = thread_at s t in is_ready_step (is_some me.told) (slice_get me.pending 0)
+
+-- whom an act starts or wakes
+abbrev pub readied : Act → List ℕ
+readied (Act.Start who) = who.0 ∷ []
+readied (Act.Work a answer woken) = map (λ (w : ThreadIx × Reply). w.0.0) woken
+readied act = []
+
+-- the thread of a boot entry is ready
+abbrev pub joins_some : List ℕ → Option ℕ → List ℕ
+joins_some line None = line
+joins_some line (Some t) = if nat_lt t THREADS then joins line t else line
+
+abbrev pub boots_ready : Image → List ℕ → List Boot → List ℕ
+boots_ready image line [] = line
+boots_ready image line (boot ∷ boots) = boots_ready image (joins_some line (thread_of_row image boot.thread.0)) boots
+
+-- a step that cleans an object which is gone
+abbrev pub is_cleaning : Pending → Bool
+is_cleaning (Pending.CleanPair who) = true
+is_cleaning Pending.Recycle = true
+is_cleaning _ = false
