@@ -15,6 +15,7 @@ use Rattle.um_words.specs.Domains.{DomainMay, counted_domain, domain_after, doma
 use Rattle.um_words.specs.WordFacts.{KeepsDomain}
 use Rattle.um_words.specs.Packed.{FitsDomain, FitsRow, FitsThread, domain_in, domain_of, is_domain, is_thread, packed_domain, packed_row, packed_thread, row_of, thread_in, thread_of}
 use Rattle.um_words.specs.RowFacts.{row-fits}
+use Rattle.um_words.specs.RowActs.{row_act_at, row_answers}
 use Rattle.um_words.specs.Rows.{RowMay, counted_row, row_after}
 use Rattle.um_words.specs.Steps.{StepIn, WordMay, cell_kind_at, kind_at, number, number_in}
 use Rattle.um_words.specs.Threads.{ThreadMay, counted_thread, thread_after, thread_after_act}
@@ -24,10 +25,11 @@ use Rattle.um_fine.proofs.Keys.{number-back}
 use Rattle.um_fine.specs.Sites.{SiteState, is_site, site_number, site_numbered, word_of}
 use Rattle.um_fine.specs.Steps.{FineStep, Site, Word}
 use Rattle.um_site.proofs.Lawful.{at-row}
+use Rattle.um_processor.proofs.WordActs.{row-takes}
 use Rattle.um_processor.specs.Asked.{Takes}
 use Rattle.um_processor.specs.RowActs.{row_made, row_said}
-use Rattle.um_processor.specs.declared.row_act.RowAct.{RowAct}
-use Rattle.um_processor.specs.declared.row_act.RowSaid.{RowSaid}
+use Rattle.um_words.specs.declared.row_act.RowAct.{RowAct}
+use Rattle.um_words.specs.declared.row_act.RowSaid.{RowSaid}
 use Rattle.um_board.specs.Noted.{packed}
 use Rattle.um_board.specs.ReadBack.{IsReadBack, unpacked}
 
@@ -65,10 +67,10 @@ module _ (image : Image) (e : FineStep) where
 
 -- the word that was read is the one that stands
 pub row-read : (image : Image) (cpu x : ℕ) (v w : RowWord) (act : RowAct) (z : RowWord) (said : RowSaid) → v ≡ w
-    → Takes image (SiteState.row v) (row_made image cpu x v act) (SiteState.row z) × (said ≡ row_said (row_made image cpu x v act))
+    → RowMay v (row_act_at v act) z × (said ≡ row_answers v act)
     → Takes image (SiteState.row w) (row_made image cpu x w act) (SiteState.row z) × (said ≡ row_said (row_made image cpu x w act))
 row-read image cpu x v w act z said is t =
-    subst (λ (r : RowWord). Takes image (SiteState.row r) (row_made image cpu x r act) (SiteState.row z) × (said ≡ row_said (row_made image cpu x r act))) is t
+    row-takes image cpu x w act z said (subst (λ (r : RowWord). RowMay r (row_act_at r act) z × (said ≡ row_answers r act)) is t)
 
 pub row-number : (site word : ℕ) (z : RowWord) → site < 128 → row_of word ≡ z → number site word ≡ z.number
 unfolding number

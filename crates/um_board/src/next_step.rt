@@ -1,6 +1,6 @@
 //! Which step may come next on a board whose seats are those of processors.
 
-use um_words::{FineAct, Local, word_step};
+use um_words::Local;
 
 /// The rule by which each processor makes only the steps that it asks for, one after another.
 pub struct NextStep;
@@ -13,9 +13,4 @@ impl Local for NextStep {
     ghost fact = { λ image words history. Unit {0} };
 
     ghost fact_holds = { λ image opening words history first stands. tt };
-
-    #[inline(always)]
-    fn step(site: u16, word: u64, act: &FineAct) -> Option<u64> {
-        word_step(site, word, act)
-    }
 }

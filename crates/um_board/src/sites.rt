@@ -6,12 +6,11 @@ use std::snapshot::Snapshot;
 use um_base::{Addr, Image, Parts, Piece, Reply, Row, ThreadIx, Told, Waiter};
 use um_machine::{Cost, Pending};
 use um_processor::{
-    Bytes, Context, DomainAct, DomainCell, Heap, HeapAct, HeapSaid, Here, MemoryAct, MemorySaid,
-    ObjectCell, RowAct, RowSaid, Said, Scheduler, Sites, ThreadAct, edited, named, parts_or_none,
-    resumed, worked,
+    Bytes, Context, DomainCell, Heap, HeapAct, HeapSaid, Here, MemoryAct, MemorySaid, ObjectCell,
+    Said, Scheduler, Sites, edited, named, parts_or_none, resumed, worked,
 };
 use um_service::Outcome;
-use um_words::{CellWord, DomWord, RowWord, ThreadWord};
+use um_words::{CellWord, DomWord, DomainAct, RowAct, RowSaid, RowWord, ThreadAct, ThreadWord};
 
 /// The sites of the cells of memory, of the heap and of the scheduler.
 const MEMORY: u16 = 304;

@@ -1,6 +1,10 @@
 //! A board with one cell, which two seats use.
 
 ghost use Rattle.std.specs.Prelude.{◌≡◌, ◌<◌, IfOk, IfSome, None};
+ghost use Rattle.um_words.specs.{
+  declared.fine.{FineAct.{FineAct}, Unseen.{Unseen}},
+  Steps.{WordMay},
+};
 ghost use Rattle.um_cell.specs.Contents.{IsCell, KnowsFilled};
 
 use super::*;
@@ -9,7 +13,7 @@ use std::marker::Brand;
 use std::mem::size_of;
 use um_cell::{Cells, Held};
 use um_site::{Board, Seat, are_unstepped, have_no_turn};
-use um_words::{AnyStep, Content, FineAct, Local, Unseen};
+use um_words::{AnyStep, Content};
 
 /// The cell of the first row's object.
 const CELL: u16 = 168;
@@ -49,6 +53,15 @@ fn with_cell(
     Ok(Some((board, seat, cells)))
 }
 
+/// The word of the cell after its first step, by which its contents are cleared.
+fn wiped(word: u64) -> u64
+    requires { word ≡ 0 }
+    ensures { WordMay 168 word (FineAct.Unseen Unseen.Wipe) result }
+{
+    let _ = word;
+    0x0000_0010_0000_0000
+}
+
 /// One seat takes the cell, and a second finds it taken. After the put, which is step 1, the second gets the contents that the act left.
 #[test]
 fn one_cell(rt: HostRuntime) -> Result<(), Memory> {
@@ -67,11 +80,7 @@ fn one_cell(rt: HostRuntime) -> Result<(), Memory> {
     };
     assert!(rt; busy.word == 1 && held.word == 0 && !held.contents.cleared);
     held.contents.cleared = true;
-    let wipe = FineAct::Unseen(Unseen::Wipe);
-    let Some(next) = AnyStep::step(CELL, held.word, &wipe) else {
-        assert!(rt; false, "a step of the first");
-        return Ok(());
-    };
+    let next = wiped(held.word);
     let number = cells.put::<_, Brand>(&board, &mut first, held, next);
     assert!(rt; number == 1);
     let Ok(held) = cells.take(&board, &mut second, CELL) else {

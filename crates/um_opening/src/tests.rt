@@ -13,7 +13,8 @@ use um_base::{
     Term, ThreadIx, Told, Want,
 };
 use um_machine::{Cost, Life};
-use um_processor::{Context, DomainAct, HeapAct, Here, RowAct, Said, Sites, Tables, ThreadAct};
+use um_processor::{Context, HeapAct, Here, Said, Sites, Tables};
+use um_words::{DomainAct, RowAct, ThreadAct};
 
 /// The list of one item.
 fn sole<T: Drop, const MOST: usize>(alloc: Global, item: T) -> Result<BoundedVec<T, MOST>, Memory>

@@ -9,6 +9,8 @@ use Rattle.um_base.specs.declared.act.SetSaid.{SetSaid}
 use Rattle.um_words.specs.declared.fine.FineAct.{FineAct}
 use Rattle.um_words.specs.declared.fine.More.{More}
 use Rattle.um_words.specs.declared.fine.Unseen.{Unseen}
+use Rattle.um_words.specs.declared.row_act.RowAct.{RowAct}
+use Rattle.um_words.specs.declared.row_act.RowSaid.{RowSaid}
 use Rattle.um_words.specs.declared.row_word.Stage.{Stage}
 use Rattle.um_words.specs.declared.row_word.RowWord.{RowWord}
 use Rattle.um_words.specs.Rows.{is_free, is_cleaning, has, given_of, left_of, set_of}
@@ -54,6 +56,19 @@ fits_row (RowCall.Born addr) w = is_free w.stage
 fits_row RowCall.Vacate w = is_cleaning w.stage && (w.claims == 0)
 fits_row call w = not (is_free w.stage)
 
+-- what each asks of the body that steps the word
+abbrev pub asked_of : ThreadIx → RowCall → RowAct
+asked_of by (RowCall.Grant who addr) = RowAct.Grant by who addr
+asked_of by (RowCall.Own who) = RowAct.Own by who
+asked_of by (RowCall.Inherit child addr) = RowAct.Pass by child addr
+asked_of by (RowCall.Publish addr) = RowAct.Publish by addr
+asked_of by (RowCall.Drop who true addr) = RowAct.DropPair by who addr
+asked_of by (RowCall.Drop who false addr) = RowAct.Sweep by who addr
+asked_of by (RowCall.SetInit strict addr) = RowAct.SetInit by addr strict
+asked_of by (RowCall.ClearInit addr) = RowAct.ClearInit by addr
+asked_of by (RowCall.Born addr) = RowAct.Born by addr
+asked_of by RowCall.Vacate = RowAct.Vacate
+
 -- The answers.
 
 abbrev pub passed_of : Bool → Passed
@@ -65,10 +80,13 @@ marked_of (SetSaid.Fail Errno.EADDRINUSE) = Set.Already
 marked_of _ = Set.Gone
 
 -- an object that lost its last permission is to be cleaned at once where no claim is out
+abbrev pub dropped_by : Leftover → Bool → Dropped
+dropped_by Leftover.NoPair clean = Dropped.NoPair
+dropped_by Leftover.Kept clean = Dropped.Kept
+dropped_by Leftover.Gone clean = Dropped.Gone clean
+
 abbrev pub dropped_of : Leftover → ℕ → Dropped
-dropped_of Leftover.NoPair claims = Dropped.NoPair
-dropped_of Leftover.Kept claims = Dropped.Kept
-dropped_of Leftover.Gone claims = Dropped.Gone (claims == 0)
+dropped_of left claims = dropped_by left (claims == 0)
 
 abbrev pub answer_of : ThreadIx → RowCall → RowWord → Answer
 answer_of by (RowCall.Grant who addr) w = Answer.Given (given_of w)
@@ -78,6 +96,16 @@ answer_of by (RowCall.Publish addr) w = Answer.Given (given_of w)
 answer_of by (RowCall.Drop who is_shown addr) w = Answer.Dropped (dropped_of (left_of w who.0) w.claims)
 answer_of by (RowCall.SetInit strict addr) w = Answer.Set (marked_of (set_of w strict))
 answer_of by call w = Answer.Done
+
+-- the answer by what the word says
+abbrev pub answer_by : RowCall → RowSaid → Answer
+answer_by (RowCall.Grant who addr) said = Answer.Given said.given
+answer_by (RowCall.Own who) said = Answer.Given said.given
+answer_by (RowCall.Inherit child addr) said = Answer.Passed (if said.visits then Passed.Nothing else Passed.Pair)
+answer_by (RowCall.Publish addr) said = Answer.Given said.given
+answer_by (RowCall.Drop who is_shown addr) said = Answer.Dropped (dropped_by said.left said.cleans)
+answer_by (RowCall.SetInit strict addr) said = Answer.Set (marked_of said.set)
+answer_by call said = Answer.Done
 
 -- What a drop says of the cleaning.
 

@@ -1,7 +1,7 @@
 //! What the calls answer.
 
 ghost use Rattle.std.specs.Prelude.{◌≡◌};
-ghost use Rattle.um_perm.specs.Pairs.{dropped_of, marked_of};
+ghost use Rattle.um_perm.specs.Pairs.{dropped_by, marked_of};
 
 use um_base::{Errno, Given, Leftover, SetSaid};
 
@@ -53,13 +53,14 @@ impl Set {
 }
 
 impl Dropped {
-    pub fn of(left: Leftover, claims: u8) -> Dropped
-        ensures { result ≡ dropped_of left claims }
+    /// Clean: the row came to cleaning by the drop.
+    pub fn of(left: Leftover, clean: bool) -> Dropped
+        ensures { result ≡ dropped_by left clean }
     {
         match left {
             Leftover::NoPair => Dropped::NoPair,
             Leftover::Kept => Dropped::Kept,
-            Leftover::Gone => Dropped::Gone { clean: claims == 0 },
+            Leftover::Gone => Dropped::Gone { clean },
         }
     }
 }

@@ -3,12 +3,13 @@
 ghost use Rattle.std.specs.Prelude.{◌≡◌, true, IfOk, IsTrue};
 ghost use Rattle.um_words.specs.Packed.{row_of};
 ghost use Rattle.um_site.specs.{Calls.{Stays, AtRow, MayNext, Records}, Lives.{Cleans, CleansOnce}};
-ghost use Rattle.um_perm.specs.Pairs.{row_act, answer_of, passes, fits_row, IfDropped, is_to_clean, TellsCleaning};
+ghost use Rattle.um_perm.specs.Pairs.{row_act, answer_of, answer_by, asked_of, fits_row, IfDropped, is_to_clean, TellsCleaning};
 
 use crate::answer::{Answer, Dropped, Passed, Set};
-use um_base::{Act, Addr, Event, Row, ThreadIx};
-use um_site::{Asked, Board, Changed, Place, Seat, shown};
-use um_words::{Content, FineAct, Local, More, RowWord, Unseen};
+use std::marker::Brand;
+use um_base::{Addr, Row, ThreadIx};
+use um_site::{Asked, Board, Changed, Place, Seat};
+use um_words::{Content, Local, RowAct, RowSaid, RowWord};
 
 /// What a call does with the object of a row.
 #[derive(Clone, Copy)]
@@ -55,13 +56,6 @@ pub enum RowCall {
     Vacate,
 }
 
-/// Whether the parent has a permission that the child hasn't.
-fn passes(word: &RowWord, parent: ThreadIx, child: ThreadIx) -> bool
-    ensures { result ≡ passes word.now parent.0 child.0 }
-{
-    word.has(parent.0) && !word.has(child.0)
-}
-
 impl RowCall {
     /// Whether a row with this word takes the call.
     pub fn fits(self, word: &RowWord) -> bool
@@ -76,63 +70,45 @@ impl RowCall {
         }
     }
 
-    /// The step of the call, with the answers of the word.
-    fn act(self, by: ThreadIx, word: &RowWord) -> FineAct
-        ensures { result ≡ row_act by self word.now }
+    /// What the call asks of the word.
+    fn act(self, by: ThreadIx) -> RowAct
+        ensures { result ≡ asked_of by self }
     {
-        let given = word.given();
-        let act = match self {
-            RowCall::Grant { who, addr } => Act::Grant { who, addr, given },
-            RowCall::Own { who } => Act::Own { who, given },
-            RowCall::Inherit { child, addr } if passes(word, by, child) => {
-                Act::Inherit { who: child, addr }
-            }
-            RowCall::Publish { addr } => Act::Publish { addr, given },
+        let thread = by;
+        match self {
+            RowCall::Grant { who, addr } => RowAct::Grant { thread, who, addr },
+            RowCall::Own { who } => RowAct::Own { thread, who },
+            RowCall::Inherit { child: who, addr } => RowAct::Pass { thread, who, addr },
+            RowCall::Publish { addr } => RowAct::Publish { thread, addr },
             RowCall::Drop {
                 who,
-                is_shown,
+                is_shown: true,
                 addr,
-            } if word.has(who.0) || is_shown => {
-                let left = word.left(who.0);
-                Act::DropPair { who, addr, left }
-            }
-            RowCall::Inherit { .. } | RowCall::Drop { .. } => {
-                return FineAct::Unseen(Unseen::Visit);
-            }
-            RowCall::SetInit { strict, addr } => {
-                let set = word.set(strict);
-                return FineAct::Shown {
-                    event: Event {
-                        thread: by,
-                        act: Act::SetInit { addr, set },
-                    },
-                    more: More::Strict(strict),
-                };
-            }
-            RowCall::ClearInit { addr } => Act::ClearInit { addr },
-            RowCall::Born { addr } => Act::Born { addr },
-            RowCall::Vacate => return FineAct::Unseen(Unseen::Vacate),
-        };
-        shown(by, act)
+            } => RowAct::DropPair { thread, who, addr },
+            RowCall::Drop { who, addr, .. } => RowAct::Sweep { thread, who, addr },
+            RowCall::SetInit { strict, addr } => RowAct::SetInit {
+                thread,
+                addr,
+                strict,
+            },
+            RowCall::ClearInit { addr } => RowAct::ClearInit { thread, addr },
+            RowCall::Born { addr } => RowAct::Born { thread, addr },
+            RowCall::Vacate => RowAct::Vacate,
+        }
     }
 
-    /// What the word answers.
-    fn answer(self, by: ThreadIx, word: &RowWord) -> Answer
-        ensures { result ≡ answer_of by self word.now }
+    /// The answer, by what the word says.
+    fn answer(self, said: &RowSaid) -> Answer
+        ensures { result ≡ answer_by self said.now }
     {
         match self {
             RowCall::Grant { .. } | RowCall::Own { .. } | RowCall::Publish { .. } => {
-                Answer::Given(word.given())
+                Answer::Given(said.given)
             }
-            RowCall::Inherit { child, .. } if passes(word, by, child) => {
-                Answer::Passed(Passed::Pair)
-            }
-            RowCall::Inherit { .. } => Answer::Passed(Passed::Nothing),
-            RowCall::Drop { who, .. } => Answer::Dropped(Dropped::of(
-                word.left(who.0),
-                word.claims,
-            )),
-            RowCall::SetInit { strict, .. } => Answer::Set(Set::of(word.set(strict))),
+            RowCall::Inherit { .. } if said.visits => Answer::Passed(Passed::Nothing),
+            RowCall::Inherit { .. } => Answer::Passed(Passed::Pair),
+            RowCall::Drop { .. } => Answer::Dropped(Dropped::of(said.left, said.cleans)),
+            RowCall::SetInit { .. } => Answer::Set(Set::of(said.set)),
             RowCall::ClearInit { .. } | RowCall::Born { .. } | RowCall::Vacate => Answer::Done,
         }
     }
@@ -155,8 +131,11 @@ pub fn call_row<T: Content, L: Local>(
     ensures cleaner { IfOk result (λ answer. IfDropped answer (λ dropped. TellsCleaning row.0 asked.seen (row_act asked.by asked.call (row_of asked.seen)) seat.old.token.me.0 dropped seat.new.token.me.0 × (is_to_clean dropped ≡ true → Cleans row.0 seat.new.token.me.0))) }
     ensures once { CleansOnce L.goes seat.old.token.me.0 row.0 }
 {
-    let word = RowWord::read(asked.seen);
-    let act = asked.call.act(asked.by, &word);
-    board.step_at(seat, Place::Row(row), asked.seen, &act)?;
-    Ok(asked.call.answer(asked.by, &word))
+    let act = asked.call.act(asked.by);
+    let Some((next, said)) = act.step(asked.seen) else {
+        unreachable!();
+    };
+    let about = (asked.by, asked.call);
+    board.step_at::<Brand, _>(seat, Place::Row(row), asked.seen, next, &about)?;
+    Ok(asked.call.answer(&said))
 }

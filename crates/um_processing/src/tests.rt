@@ -36,12 +36,11 @@ use um_base::{
 };
 use um_machine::{Cost, Life, Pending};
 use um_processor::{
-    Bytes, Context, DomainAct, DomainCell, Heap, HeapAct, Here, ObjectCell, RowAct, Said,
-    Scheduler, Sites, Tables, ThreadAct,
+    Bytes, Context, DomainCell, Heap, HeapAct, Here, ObjectCell, Said, Scheduler, Sites, Tables,
 };
 use um_samples::empty_image;
 use um_service::Outcome;
-use um_words::{DomWord, Permissions, RowWord, Stage, ThreadWord};
+use um_words::{DomWord, DomainAct, Permissions, RowAct, RowWord, Stage, ThreadAct, ThreadWord};
 
 /// An object that one call holds, and the thread 3 alone may use.
 fn row() -> RowWord {

@@ -21,3 +21,4 @@ pub mod Tabled
 pub mod TextLemmas
 pub mod Visited
 pub mod Wholes
+pub mod WordActs

@@ -26,13 +26,15 @@ use Rattle.um_processor.specs.Asked.{asked, by_thread, event_of, shown}
 use Rattle.um_processor.specs.HeapActs.{heap_act, heap_event, heap_said}
 use Rattle.um_processor.specs.MemoryActs.{memory_act, memory_event, memory_said}
 use Rattle.um_processor.specs.Parked.{some_if}
-use Rattle.um_processor.specs.RowActs.{row_event, row_made, row_said}
+use Rattle.um_words.specs.RowActs.{row_event}
+use Rattle.um_processor.specs.RowActs.{row_made, row_said}
 use Rattle.um_processor.specs.Sited.{IsDue, IsSeen, Sited, WasMade, logged, with_state}
-use Rattle.um_processor.specs.ThreadActs.{thread_event, thread_made}
+use Rattle.um_words.specs.ThreadActs.{thread_event}
+use Rattle.um_processor.specs.ThreadActs.{thread_made}
 use Rattle.um_processor.specs.declared.heap_act.HeapAct.{HeapAct}
 use Rattle.um_processor.specs.declared.memory_act.MemoryAct.{MemoryAct}
-use Rattle.um_processor.specs.declared.row_act.RowAct.{RowAct}
-use Rattle.um_processor.specs.declared.thread_act.ThreadAct.{ThreadAct}
+use Rattle.um_words.specs.declared.row_act.RowAct.{RowAct}
+use Rattle.um_words.specs.declared.thread_act.ThreadAct.{ThreadAct}
 use Rattle.um_processor.proofs.ByteLemmas.{memory-made}
 
 module _ (image : Image) (cpu x : ℕ) (w : RowWord) where

@@ -13,7 +13,7 @@ use Rattle.um_fine.specs.Continues.{ends_with, goes_on, reply_of}
 use Rattle.um_fine.specs.Processor.{Processor}
 use Rattle.um_processor.specs.declared.phase.Phase.{Phase}
 use Rattle.um_processor.specs.declared.running.Running.{Running}
-use Rattle.um_processor.specs.declared.thread_act.ThreadAct.{ThreadAct}
+use Rattle.um_words.specs.declared.thread_act.ThreadAct.{ThreadAct}
 use Rattle.um_processor.specs.Events.{about_to, behind_event, rest_of, with_ends}
 use Rattle.um_processor.specs.Processors.{Goes}
 use Rattle.um_processor.specs.ThreadActs.{thread_made}

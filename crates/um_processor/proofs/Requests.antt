@@ -12,7 +12,7 @@ use Rattle.um_processor.specs.declared.phase.Turn.{Turn}
 use Rattle.um_processor.specs.declared.request.Request.{Request}
 use Rattle.um_processor.specs.declared.running.Running.{Running}
 use Rattle.um_processor.specs.declared.sites.Sites.{Ghosts as SitesOf}
-use Rattle.um_processor.specs.declared.thread_act.ThreadAct.{ThreadAct}
+use Rattle.um_words.specs.declared.thread_act.ThreadAct.{ThreadAct}
 use Rattle.um_processor.specs.Processors.{Goes, IsStuck, MayNext, OnMade, Turned, processor_of}
 use Rattle.um_processor.specs.Requests.{Each, Holds, Leads, One, Requested, RequestedAt}
 use Rattle.um_processor.specs.ThreadActs.{thread_made}

@@ -11,7 +11,7 @@ use Rattle.um_fine.specs.Asks.{begins_cleaning}
 use Rattle.um_fine.specs.Continues.{goes_on}
 use Rattle.um_fine.specs.Processor.{Processor}
 use Rattle.um_processor.specs.declared.phase.Phase.{Phase}
-use Rattle.um_processor.specs.declared.row_act.RowAct.{RowAct}
+use Rattle.um_words.specs.declared.row_act.RowAct.{RowAct}
 use Rattle.um_processor.specs.declared.running.Running.{Running}
 use Rattle.um_processor.specs.Events.{about_to, behind_event, rest_of}
 use Rattle.um_processor.specs.Processors.{AsksFor, Goes, cleaned}

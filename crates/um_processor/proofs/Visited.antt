@@ -23,7 +23,7 @@ use Rattle.um_fine.specs.Processor.{Processor}
 use Rattle.um_fine.specs.Sites.{SiteState, filled}
 use Rattle.um_fine.specs.Steps.{Exchange, FineStep, Site}
 use Rattle.um_processor.specs.declared.phase.Phase.{Phase}
-use Rattle.um_processor.specs.declared.row_act.RowAct.{RowAct}
+use Rattle.um_words.specs.declared.row_act.RowAct.{RowAct}
 use Rattle.um_processor.specs.declared.running.Running.{Running}
 use Rattle.um_processor.specs.Asked.{asked, shown}
 use Rattle.um_processor.specs.Phases.{passed_to, phase_of}

@@ -21,7 +21,7 @@ use Rattle.um_base.specs.Places.{addr_of}
 use Rattle.um_processor.specs.declared.heap_act.HeapAct.{HeapAct}
 use Rattle.um_processor.specs.declared.processor.Processor.{Processor as Kept}
 use Rattle.um_processor.specs.declared.request.Request.{Request}
-use Rattle.um_processor.specs.declared.row_act.RowAct.{RowAct}
+use Rattle.um_words.specs.declared.row_act.RowAct.{RowAct}
 use Rattle.um_processor.specs.declared.running.Running.{Running}
 use Rattle.um_processor.specs.Cleanings.{all_clean, block_if}
 use Rattle.um_processor.specs.HeapActs.{heap_made}

@@ -1,28 +1,12 @@
 -- Steps as a processor asks for them, before the site has filled them in, and what comes of them at the site.
-use Rattle.std.specs.Prelude.{◌≡◌, ℕ, false, Option, Some, None}
-use Rattle.um_base.specs.declared.act.Act.{Act}
-use Rattle.um_base.specs.declared.act.Event.{Event}
+use Rattle.std.specs.Prelude.{◌≡◌, ℕ, false}
 use Rattle.um_base.specs.declared.image.Image.{Image}
-use Rattle.um_base.specs.declared.names.ThreadIx.{ThreadIx}
 use Rattle.um_words.specs.declared.fine.FineAct.{FineAct}
-use Rattle.um_words.specs.declared.fine.More.{More}
+pub use Rattle.um_words.specs.ShownActs.{by_thread, event_of, shown}
 use Rattle.um_fine.specs.Answers.{no_row}
 use Rattle.um_fine.specs.Steps.{Exchange, FineStep, Site, Word}
 use Rattle.um_fine.specs.Cells.{Cell}
 use Rattle.um_fine.specs.Sites.{SiteMay, SiteState, filled, s_next, site_takes}
-
--- an event of a thread
-abbrev pub by_thread : ThreadIx → Act → Event
-by_thread t act = record { thread = t; act = act }
-
--- the event that a step shows, if it shows one
-abbrev pub event_of : FineAct → Option Event
-event_of (FineAct.Shown event more) = Some event
-event_of (FineAct.Unseen unseen) = None
-
--- an event of a thread, with what the site needs beside it
-abbrev pub shown : ThreadIx → Act → More → FineAct
-shown t act more = FineAct.Shown (by_thread t act) more
 
 -- a step without the word that its site leaves
 abbrev pub asked : ℕ → Site → FineAct → Exchange → FineStep

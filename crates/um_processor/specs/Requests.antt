@@ -24,7 +24,7 @@ use Rattle.um_processor.specs.declared.request.Onward.{Onward}
 use Rattle.um_processor.specs.declared.request.Request.{Request}
 use Rattle.um_processor.specs.declared.running.Running.{Running}
 use Rattle.um_processor.specs.declared.sites.Sites.{Ghosts as SitesOf}
-use Rattle.um_processor.specs.declared.thread_act.ThreadAct.{ThreadAct}
+use Rattle.um_words.specs.declared.thread_act.ThreadAct.{ThreadAct}
 use Rattle.um_processor.specs.DomainActs.{domain_made}
 use Rattle.um_processor.specs.Events.{behind_event, rest_of}
 use Rattle.um_processor.specs.HeapActs.{heap_made}

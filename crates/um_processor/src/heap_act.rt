@@ -3,8 +3,8 @@
 ghost use Rattle.std.specs.Prelude.{◌≡◌, Some};
 ghost use Rattle.um_processor.specs.HeapActs.{heap_event};
 
-use crate::log::shown;
 use um_base::{Act, Addr, Event, Kind, ThreadIx};
+use um_words::shown;
 
 /// A step that a processor asks of the heap's cell, with the thread that makes it.
 #[derive(Clone, Copy)]

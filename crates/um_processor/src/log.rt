@@ -5,7 +5,7 @@ ghost use Rattle.um_base.specs.declared.act.Act.{Act};
 ghost use Rattle.um_machine.specs.{Order.{to_thread}, Table.{replies_of}};
 ghost use Rattle.um_processor.specs.{Asked.{by_thread}, Sited.{logged}};
 
-use um_base::{Act, Addr, Errno, Event, Kind, ThreadIx, Waiter, Want};
+use um_base::{Act, Addr, Event, ThreadIx, Waiter};
 use um_service::Outcome;
 
 /// Whether the log has no room for one more event.
@@ -35,34 +35,6 @@ pub fn note(log: &mut Vec<Event>, event: &Option<Event>)
     if let Some(event) = event {
         put(log, event);
     }
-}
-
-/// An event of a thread, which a trace shows.
-pub fn shown(thread: ThreadIx, act: Act) -> Option<Event>
-    ensures { result ≡ Some (by_thread thread act) }
-{
-    Some(Event { thread, act })
-}
-
-/// The event of a check, with its verdict.
-pub fn checked(
-    thread: ThreadIx,
-    addr: Addr,
-    kind: Option<Kind>,
-    want: Want,
-    verdict: Option<Errno>,
-) -> Option<Event>
-    ensures { result ≡ Some (by_thread thread (Act.Check addr kind want verdict)) }
-{
-    shown(
-        thread,
-        Act::Check {
-            addr,
-            kind,
-            want,
-            verdict,
-        },
-    )
 }
 
 /// The event of a call's work with this outcome.

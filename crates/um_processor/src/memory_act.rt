@@ -3,8 +3,8 @@
 ghost use Rattle.std.specs.Prelude.{◌≡◌, Some};
 ghost use Rattle.um_processor.specs.MemoryActs.{memory_event};
 
-use crate::log::shown;
 use um_base::{Access, Act, Addr, Event, Found, Row, ThreadIx};
+use um_words::shown;
 
 /// A step that a processor asks of the memory's cell, with the thread that makes it. Its region table has already said whether it may.
 #[derive(Clone, Copy)]

@@ -3,17 +3,15 @@
 ghost use Rattle.std.specs.Prelude.{IsTrue};
 ghost use Rattle.um_processor.specs.Requests.{Each, RequestedAt, is_short};
 
-use crate::domain_act::DomainAct;
 use crate::heap_act::HeapAct;
 use crate::here::Here;
 use crate::memory_act::MemoryAct;
 use crate::phase::{Phase, Turn};
-use crate::row_act::RowAct;
 use crate::said::made;
 use crate::sites::Sites;
-use crate::thread_act::ThreadAct;
 use um_base::{DOMAINS, Piece, ROWS, Row, THREADS, ThreadIx};
 use um_machine::Cost;
+use um_words::{DomainAct, RowAct, ThreadAct};
 
 /// A step at a site, of which the processor needs no answer.
 #[derive(Clone, Copy)]

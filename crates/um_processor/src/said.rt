@@ -22,20 +22,7 @@ macro_rules! made {
     };
 }
 
-/// The word that a step leaves. If the word takes no such step, the calling function returns `None`.
-macro_rules! next_word {
-    ($act:expr, $word:expr) => {{
-        if $word.number >= LAST || !$act.is_taken($word) {
-            return None;
-        }
-        let mut next = *$word;
-        $act.take(&mut next);
-        next.number += 1;
-        next
-    }};
-}
-
-/// Goes on if a step was made. If not, the calling function returns that turn.
+/// Goes on where a step was made. Where none was, the turn of the function around it ends.
 macro_rules! took {
     ($turn:expr) => {
         match $turn {
@@ -48,5 +35,4 @@ macro_rules! took {
 }
 
 pub(crate) use made;
-pub(crate) use next_word;
 pub(crate) use took;

@@ -31,17 +31,14 @@ ghost use Rattle.um_processor.specs.{
 };
 
 use crate::context::Context;
-use crate::domain_act::DomainAct;
 use crate::heap_act::{HeapAct, HeapSaid};
 use crate::here::Here;
 use crate::memory_act::{MemoryAct, MemorySaid};
-use crate::row_act::{RowAct, RowSaid};
 use crate::said::Said;
-use crate::thread_act::ThreadAct;
 use um_base::{Addr, Image, Parts, Piece, Reply, Row, ThreadIx, Told, Waiter};
 use um_machine::{Cost, Pending};
 use um_service::Outcome;
-use um_words::{DomWord, ThreadWord};
+use um_words::{DomWord, DomainAct, RowAct, RowSaid, ThreadAct, ThreadWord};
 
 /// The sites that a processor shares with others, wherever they are kept. Each call asks for one step by the processor with this number.
 /// The caller doesn't learn the site's state; its contract says that in some state of the site's sort the step was made or is refused.

@@ -6,7 +6,6 @@ ghost use Rattle.um_processor.specs.Sited.{in_domains};
 
 use crate::bytes::Bytes;
 use crate::context::Context;
-use crate::domain_act::DomainAct;
 use crate::domain_cell::{DomainCell, edited, parts_or_none};
 use crate::heap::Heap;
 use crate::heap_act::{HeapAct, HeapSaid};
@@ -14,17 +13,15 @@ use crate::here::Here;
 use crate::log::{is_full, named, note, resumed, worked};
 use crate::memory_act::{MemoryAct, MemorySaid};
 use crate::object_cell::ObjectCell;
-use crate::row_act::{RowAct, RowSaid};
 use crate::said::Said;
 use crate::scheduler::Scheduler;
 use crate::sites::Sites;
 use crate::table_parts::TableParts;
-use crate::thread_act::ThreadAct;
 use std::marker::Model;
 use um_base::{Addr, Event, Image, Parts, Piece, Reply, Row, ThreadIx, Told, Waiter};
 use um_machine::{Cost, Pending};
 use um_service::Outcome;
-use um_words::{DomWord, RowWord, ThreadWord};
+use um_words::{DomWord, DomainAct, RowAct, RowSaid, RowWord, ThreadAct, ThreadWord};
 
 /// The greatest step number. A cell that has reached it takes no step.
 const LAST: u32 = 0xfff_ffff;

@@ -1,14 +1,11 @@
 -- What a call on a board asks of its seat, and what it tells.
-use Rattle.std.specs.Prelude.{◌≡◌, ◌≢◌, ℕ, ◌+◌, ◌<◌, true, List, Some, Result, MatchResult, IsTrue}
+use Rattle.std.specs.Prelude.{◌≡◌, ◌≢◌, ℕ, ◌+◌, ◌<◌, true, List, Some, Result, MatchResult}
 use Rattle.atomic_table.specs.Seated.{TableId}
 use Rattle.um_base.specs.declared.act.Act.{Act}
 use Rattle.um_base.specs.declared.image.Image.{Image}
 use Rattle.um_base.specs.declared.names.ThreadIx.{ThreadIx}
 use Rattle.um_words.specs.Packed.{row_of, is_thread, thread_in, is_domain, domain_in}
-use Rattle.um_words.specs.Rows.{row_takes, row_says}
-use Rattle.um_words.specs.Threads.{thread_takes, thread_says}
-use Rattle.um_words.specs.Domains.{domain_takes}
-use Rattle.um_words.specs.Steps.{WordMay}
+use Rattle.um_words.specs.Steps.{DomainStep, RowStep, ThreadStep, WordMay}
 use Rattle.um_words.specs.declared.fine.FineAct.{FineAct}
 use Rattle.um_words.specs.declared.fine.More.{More}
 use Rattle.um_words.specs.declared.made.Made.{Made}
@@ -73,11 +70,11 @@ AtPlace board s (Place.Row row) seen = AtRow board s row.0 seen
 AtPlace board s (Place.Thread who) seen = AtThread board s who.0 seen
 AtPlace board s (Place.Domain domain) seen = AtDomain board s domain seen
 
--- the word takes the act, which has the answers that the word gives
-abbrev pub Takes : Place → ℕ → FineAct → Type 0
-Takes (Place.Row row) seen act = IsTrue (row_takes (row_of seen) act) × (row_says (row_of seen) act ≡ act)
-Takes (Place.Thread who) seen act = IsTrue (thread_takes (thread_in seen) act) × (thread_says act ≡ act)
-Takes (Place.Domain domain) seen act = IsTrue (domain_takes (domain_in seen) act)
+-- the step by this act is lawful at the word, and leaves that one
+abbrev pub LeavesAt : Place → ℕ → FineAct → ℕ → Type 0
+LeavesAt (Place.Row row) seen act next = RowStep seen act next
+LeavesAt (Place.Thread who) seen act next = ThreadStep seen act next
+LeavesAt (Place.Domain domain) seen act next = DomainStep seen act next
 
 module _ (goes : Image → List ℕ → List Made → Made → Type 0) where
   -- the seat may make this act next, where it is lawful

@@ -6,9 +6,8 @@ ghost use Rattle.std.specs.{
 };
 ghost use Rattle.um_words.specs.Steps.{number, WordMay};
 ghost use Rattle.um_site.specs.{
-  Tells.{made, last_got, with_made, GoesOn, Looked, StandsWithFact, Steps, stepped_by},
+  Tells.{made, last_got, with_made, GoesOn, Looked, StandsWithFact, stepped_by},
   History.{opening_view, splitter, newborn, joiner, AmongNames, IsClosed, IsClosedWithFact, shadow_of},
-  Calls.{HasSeen, Missed, Stays},
   Cells.{IsClosedWithCells, Moment},
 };
 ghost use Rattle.atomic_table.specs.Table.{step};
@@ -21,10 +20,9 @@ use crate::seat::Seat;
 use crate::view::View;
 use atomic_table::Table;
 use std::alloc::Global;
-use std::marker::Brand;
 use std::snapshot::Snapshot;
 use um_base::{Image, Memory};
-use um_words::{Content, FineAct, Local, step_number};
+use um_words::{Content, Local, step_number};
 
 /// A word for each site, which many threads may change at once.
 #[derive(Drop)]
@@ -148,55 +146,6 @@ impl<T: Content, L: Local> Board<T, L> {
         } else {
             Err(Changed { seen: found })
         }
-    }
-
-    /// The same, for a step whose act is given as a value.
-    #[inline(always)]
-    fn step_by<D: Step>(
-        &self,
-        seat: &mut Seat<T>,
-        site: u16,
-        seen: u64,
-        word: u64,
-        act: &FineAct,
-    ) -> Result<u32, Changed>
-        requires at { HasSeen self.now.table.shared.table_id seat.old site seen × (site < 168) }
-        requires step { D.made ≡ made site act.now word }
-        requires lawful { WordMay site seen act.now word }
-        requires goes { L.goes seat.old.token.me.0.image seat.old.token.me.0.name seat.old.token.me.0.made (made site act.now word) }
-        ensures stays { Stays seat.old seat.new }
-        ensures told { MatchResult result (λ n. Steps L.goes seat.old.token.me.0 site act.now seen n seat.new.token.me.0) (λ e. Missed L.goes seat.old.token.me.0 site seen e.seen seat.new.token.me.0) }
-    {
-        let _ = act;
-        self.step_to::<D>(seat, site, seen, word)
-    }
-
-    /// Records a step of a row, a thread or a domain. Returns its number, or the word that stands there if it isn't `seen`.
-    #[inline(always)]
-    pub fn step(
-        &self,
-        seat: &mut Seat<T>,
-        site: u16,
-        seen: u64,
-        act: &FineAct,
-    ) -> Result<u32, Changed>
-        requires here { seat.old.token.table_id ≡ self.now.table.shared.table_id }
-        requires site { site < self.now.table.shared.table_id.words }
-        requires no_cell { site < 168 }
-        requires seen { last_got seat.old.token.me.0.got site ≡ Some seen }
-        requires lawful { (next : ℕ) × WordMay site seen act.now next }
-        requires goes { (next : ℕ) → WordMay site seen act.now next → L.goes seat.old.token.me.0.image seat.old.token.me.0.name seat.old.token.me.0.made (made site act.now next) }
-        ensures same { (seat.new.token.table_id ≡ seat.old.token.table_id) × (seat.new.token.id ≡ seat.old.token.id) }
-        ensures told { MatchResult result (λ n. Steps L.goes seat.old.token.me.0 site act.now seen n seat.new.token.me.0) (λ e. (e.seen ≢ seen) × Looked L.goes seat.old.token.me.0 site e.seen seat.new.token.me.0) }
-        ensures counts { (seat.new.split ≡ seat.old.split) × (seat.new.joined ≡ seat.old.joined) × (seat.new.first ≡ seat.old.first) }
-        ensures slots { seat.new.token.me.1 ≡ seat.old.token.me.1 }
-        ensures kin { (seat.new.token.me.0.name ≡ seat.old.token.me.0.name) × (seat.new.token.me.0.children ≡ seat.old.token.me.0.children) × (seat.new.token.me.0.turn ≡ seat.old.token.me.0.turn) × (seat.new.token.me.0.filled ≡ seat.old.token.me.0.filled) }
-        ensures last { IfErr result (λ e. last_got seat.new.token.me.0.got site ≡ Some (e.seen)) }
-    {
-        let Some(word) = L::step(site, seen, act) else {
-            unreachable!();
-        };
-        self.step_by::<Brand>(seat, site, seen, word, act)
     }
 
     /// Splits a new seat off.

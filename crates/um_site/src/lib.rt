@@ -1,7 +1,6 @@
 //! A board: a word for each site, which seats change by lawful steps, and one history of all steps that were made.
 #![tactic(auto)]
 
-mod acts;
 mod asked;
 mod board;
 mod closed;
@@ -15,7 +14,6 @@ mod turn;
 mod turns;
 mod view;
 
-pub use acts::shown;
 pub use asked::Asked;
 pub use board::{Board, Changed, StillOut};
 pub use closed::Closed;

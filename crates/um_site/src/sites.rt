@@ -1,13 +1,17 @@
 //! Steps of rows, threads and domains, each at its place.
 
 ghost use Rattle.std.specs.Prelude.{◌≡◌, ◌<◌};
-ghost use Rattle.um_site.specs.Calls.{thread_site, domain_site, site_of, IsPlace, Stays, AtPlace, Takes, MayNext, Records};
+ghost use Rattle.um_site.specs.{
+  Calls.{thread_site, domain_site, site_of, IsPlace, Stays, AtPlace, LeavesAt, MayNext, Records},
+  Tells.{made},
+};
 
 use crate::board::{Board, Changed};
 use crate::place::Place;
+use crate::plays::Step;
 use crate::seat::Seat;
 use um_base::ThreadIx;
-use um_words::{Content, FineAct, Local};
+use um_words::{Content, Local};
 
 /// The site of a thread's word.
 pub fn thread_site(who: ThreadIx) -> u16
@@ -38,22 +42,26 @@ pub fn site_of(place: Place) -> u16
 }
 
 impl<T: Content, L: Local> Board<T, L> {
-    /// One recorded step of a row, of a thread or of a domain.
+    /// One recorded step of a row, of a thread or of a domain, by which this word comes to stand at its place. The step itself stands in
+    /// clauses alone, as `D::made`: a caller picks it by what it is about.
     #[inline(always)]
-    pub fn step_at(
+    pub fn step_at<D: Step, A>(
         &self,
         seat: &mut Seat<T>,
         place: Place,
         seen: u64,
-        act: &FineAct,
+        next: u64,
+        about: &A,
     ) -> Result<(), Changed>
         requires at { AtPlace self.now.table.shared.table_id seat.old place seen }
-        requires takes { Takes place seen act.now }
-        requires goes { MayNext L.goes seat.old (site_of place) seen act.now }
+        requires step { D.made ≡ made (site_of place) D.made.act next }
+        requires leaves { LeavesAt place seen D.made.act next }
+        requires goes { MayNext L.goes seat.old (site_of place) seen D.made.act }
         ensures stays { Stays seat.old seat.new }
-        ensures told { Records L.goes seat.old (site_of place) seen act.now result seat.new }
+        ensures told { Records L.goes seat.old (site_of place) seen D.made.act result seat.new }
     {
-        self.step(seat, site_of(place), seen, act)?;
+        let _ = about;
+        self.step_to::<D>(seat, site_of(place), seen, next)?;
         Ok(())
     }
 }

@@ -1,2 +1,2 @@
--- A word that fits a call, and doesn't forbid it, takes its step.
+-- What the body that steps a word makes of a call that the word doesn't forbid.
 pub mod Taken

@@ -1,6 +1,7 @@
 -- The steps of calls on threads and on domains, what each asks of the word, and what forbids it.
 use Rattle.std.specs.Prelude.{ℕ, Bool, true, false, ◌==◌, ◌&&◌, ◌||◌, not, nat_lt, Some, None}
 use Rattle.um_base.specs.declared.names.Errno.{Errno}
+use Rattle.um_base.specs.declared.names.Mode.{Mode}
 use Rattle.um_base.specs.declared.names.Reply.{Reply}
 use Rattle.um_base.specs.declared.names.ThreadIx.{ThreadIx}
 use Rattle.um_base.specs.declared.act.Act.{Act}
@@ -9,6 +10,8 @@ use Rattle.um_machine.specs.State.{is_living}
 use Rattle.um_words.specs.declared.fine.FineAct.{FineAct}
 use Rattle.um_words.specs.declared.fine.More.{More}
 use Rattle.um_words.specs.declared.fine.Unseen.{Unseen}
+use Rattle.um_words.specs.declared.domain_act.DomainAct.{DomainAct}
+use Rattle.um_words.specs.declared.thread_act.ThreadAct.{ThreadAct}
 use Rattle.um_words.specs.declared.thread_word.ThreadWord.{ThreadWord}
 use Rattle.um_words.specs.declared.dom_word.DomWord.{DomWord}
 use Rattle.um_words.specs.Domains.{writes}
@@ -31,6 +34,21 @@ thread_act by who ThreadCall.LetGo = FineAct.Unseen Unseen.LetGo
 thread_act by who (ThreadCall.Move domain) = shown by (Act.DomMove domain who (Reply.Num 0))
 thread_act by who ThreadCall.EnterUser = shown by Act.EnterUser
 thread_act by who ThreadCall.ReadWord = FineAct.Unseen Unseen.WordRead
+
+-- what each asks of the body that steps the word
+abbrev pub asked_of_thread : ThreadIx → ThreadIx → ThreadCall → ThreadAct
+asked_of_thread by who (ThreadCall.Start mode domain) = ThreadAct.Start by who mode domain
+asked_of_thread by who (ThreadCall.Begin script line) = ThreadAct.Begin by script line
+asked_of_thread by who (ThreadCall.Reply reply) = ThreadAct.Answered by reply
+asked_of_thread by who (ThreadCall.Miss addr kind want) = ThreadAct.Miss by addr kind want Mode.User
+asked_of_thread by who (ThreadCall.Fatal reason cause) = ThreadAct.Fatal by reason cause
+asked_of_thread by who ThreadCall.Exit = ThreadAct.Exit by
+asked_of_thread by who ThreadCall.Doom = ThreadAct.Doom by who
+asked_of_thread by who ThreadCall.Hold = ThreadAct.Hold
+asked_of_thread by who ThreadCall.LetGo = ThreadAct.LetGo
+asked_of_thread by who (ThreadCall.Move domain) = ThreadAct.DomMove by domain who (Reply.Num 0)
+asked_of_thread by who ThreadCall.EnterUser = ThreadAct.EnterUser by
+asked_of_thread by who ThreadCall.ReadWord = ThreadAct.ReadWord
 
 -- a doomed thread begins no line, and doesn't end by itself; one that is held keeps its domain
 abbrev pub forbids_thread : ThreadCall → ThreadWord → Bool
@@ -57,6 +75,20 @@ domain_act by domain (DomainCall.ReadDone None) = FineAct.Unseen Unseen.ReadDone
 domain_act by domain (DomainCall.ReadDone (Some who)) = shown by (Act.DomMove domain who (Reply.Fail Errno.EINVAL))
 domain_act by domain DomainCall.WriteClaim = FineAct.Unseen Unseen.WriteClaim
 domain_act by domain (DomainCall.WriteDone edit) = shown by edit
+
+-- what each asks of the body that steps the word
+abbrev pub asked_edit : ThreadIx → Act → DomainAct
+asked_edit by (Act.DomInit d reply) = DomainAct.DomInit by d reply
+asked_edit by (Act.DomAdd d range attr reply) = DomainAct.DomAdd by d range attr reply
+asked_edit by (Act.DomRemove d range attr reply) = DomainAct.DomRemove by d range attr reply
+asked_edit by act = DomainAct.WriteClaim
+
+abbrev pub asked_of_domain : ThreadIx → ℕ → DomainCall → DomainAct
+asked_of_domain by domain DomainCall.ReadClaim = DomainAct.ReadClaim
+asked_of_domain by domain (DomainCall.ReadDone None) = DomainAct.ReadDone
+asked_of_domain by domain (DomainCall.ReadDone (Some who)) = DomainAct.DomMove by domain who (Reply.Fail Errno.EINVAL)
+asked_of_domain by domain DomainCall.WriteClaim = DomainAct.WriteClaim
+asked_of_domain by domain (DomainCall.WriteDone edit) = asked_edit by edit
 
 -- nobody reads while somebody writes, and nobody writes while somebody reads or writes
 abbrev pub forbids_domain : DomainCall → DomWord → Bool

@@ -3,12 +3,13 @@
 ghost use Rattle.std.specs.Prelude.{◌≡◌, IsTrue};
 ghost use Rattle.um_words.specs.Packed.{domain_in};
 ghost use Rattle.um_site.specs.Calls.{domain_site, Stays, AtDomain, MayNext};
-ghost use Rattle.um_thread.specs.{Acts.{domain_act, forbids_domain, fits_domain, is_edit_of}, Tells.{Tells}};
+ghost use Rattle.um_thread.specs.{Acts.{domain_act, asked_edit, asked_of_domain, forbids_domain, fits_domain, is_edit_of}, Tells.{Tells}};
 
-use crate::outcome::{Outcome, tried};
+use crate::outcome::{Outcome, forbidden};
+use std::marker::Brand;
 use um_base::{Act, Errno, Reply, ThreadIx};
-use um_site::{Asked, Board, Changed, Place, Seat, shown};
-use um_words::{Content, DomWord, FineAct, Local, Unseen};
+use um_site::{Asked, Board, Changed, Place, Seat};
+use um_words::{Content, DomWord, DomainAct, Local};
 
 /// What a call does with a domain's partitions.
 #[derive(Clone, Copy)]
@@ -35,6 +36,45 @@ fn is_edit_of(domain: u8, act: &Act) -> bool
     }
 }
 
+/// What an edit asks of the word. No other act is handed in: of one, this would be a claim.
+fn asked_edit(by: ThreadIx, edit: &Act) -> DomainAct
+    ensures { result ≡ asked_edit by edit.now }
+{
+    let thread = by;
+    match *edit {
+        Act::DomInit { domain, reply } => DomainAct::DomInit {
+            thread,
+            domain,
+            reply,
+        },
+        Act::DomAdd {
+            domain,
+            range,
+            attr,
+            reply,
+        } => DomainAct::DomAdd {
+            thread,
+            domain,
+            range,
+            attr,
+            reply,
+        },
+        Act::DomRemove {
+            domain,
+            range,
+            attr,
+            reply,
+        } => DomainAct::DomRemove {
+            thread,
+            domain,
+            range,
+            attr,
+            reply,
+        },
+        _ => DomainAct::WriteClaim,
+    }
+}
+
 impl DomainCall {
     /// Whether a domain with this word takes the call, given that the word doesn't forbid it.
     pub fn fits(&self, domain: u8, word: &DomWord) -> bool
@@ -51,23 +91,21 @@ impl DomainCall {
         }
     }
 
-    /// The step of the call, on this domain.
-    fn act(&self, by: ThreadIx, domain: u8) -> FineAct
-        ensures { result ≡ domain_act by domain self.now }
+    /// What the call asks of the word of this domain.
+    fn act(&self, by: ThreadIx, domain: u8) -> DomainAct
+        ensures { result ≡ asked_of_domain by domain self.now }
     {
         match self {
-            DomainCall::ReadClaim => FineAct::Unseen(Unseen::ReadClaim),
-            DomainCall::ReadDone { failed: None } => FineAct::Unseen(Unseen::ReadDone),
-            DomainCall::ReadDone { failed: Some(who) } => {
-                let act = Act::DomMove {
-                    domain,
-                    who: *who,
-                    reply: Reply::Fail(Errno::EINVAL),
-                };
-                shown(by, act)
-            }
-            DomainCall::WriteClaim => FineAct::Unseen(Unseen::WriteClaim),
-            DomainCall::WriteDone { edit } => shown(by, *edit),
+            DomainCall::ReadClaim => DomainAct::ReadClaim,
+            DomainCall::ReadDone { failed: None } => DomainAct::ReadDone,
+            DomainCall::ReadDone { failed: Some(who) } => DomainAct::DomMove {
+                thread: by,
+                domain,
+                who: *who,
+                reply: Reply::Fail(Errno::EINVAL),
+            },
+            DomainCall::WriteClaim => DomainAct::WriteClaim,
+            DomainCall::WriteDone { edit } => asked_edit(by, edit),
         }
     }
 
@@ -96,11 +134,18 @@ pub fn call_domain<T: Content, L: Local>(
     ensures stays { Stays seat.old seat.new }
     ensures told { Tells L.goes seat.old (domain_site domain) asked.seen (forbids_domain asked.call (domain_in asked.seen)) (domain_act asked.by domain asked.call) (domain_in asked.seen) result seat.new }
 {
-    let Some(word) = DomWord::unpack(asked.seen) else {
+    let Some(before) = DomWord::unpack(asked.seen) else {
         unreachable!();
     };
-    let act = asked.call.act(asked.by, domain);
-    let is_forbidden = asked.call.is_forbidden(&word);
     let place = Place::Domain(domain);
-    tried(board, seat, place, act, word, is_forbidden, asked.seen)
+    if asked.call.is_forbidden(&before) {
+        return forbidden(board, seat, place, asked.seen);
+    }
+    let act = asked.call.act(asked.by, domain);
+    let Some(next) = act.step(asked.seen) else {
+        unreachable!();
+    };
+    let about = (asked.by, domain, asked.call);
+    board.step_at::<Brand, _>(seat, place, asked.seen, next, &about)?;
+    Ok(Outcome::Recorded { before })
 }

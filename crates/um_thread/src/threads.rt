@@ -3,13 +3,14 @@
 ghost use Rattle.std.specs.Prelude.{◌≡◌, IsTrue};
 ghost use Rattle.um_words.specs.Packed.{thread_in};
 ghost use Rattle.um_site.specs.Calls.{thread_site, Stays, AtThread, MayNext};
-ghost use Rattle.um_thread.specs.{Acts.{thread_act, forbids_thread, fits_thread}, Tells.{Tells}};
+ghost use Rattle.um_thread.specs.{Acts.{thread_act, asked_of_thread, forbids_thread, fits_thread}, Tells.{Tells}};
 
-use crate::outcome::{Outcome, tried};
-use um_base::{Act, Addr, Cause, DOMAINS, Errno, Event, Kind, Mode, Reply, ThreadIx, Want};
+use crate::outcome::{Outcome, forbidden};
+use std::marker::Brand;
+use um_base::{Addr, Cause, DOMAINS, Kind, Mode, Reply, ThreadIx, Want};
 use um_machine::Life;
-use um_site::{Asked, Board, Changed, Place, Seat, shown};
-use um_words::{Content, FineAct, Local, More, ThreadWord, Unseen};
+use um_site::{Asked, Board, Changed, Place, Seat};
+use um_words::{Content, Local, ThreadAct, ThreadWord};
 
 /// What a call does with a thread.
 #[derive(Clone, Copy)]
@@ -56,42 +57,49 @@ pub enum ThreadCall {
 }
 
 impl ThreadCall {
-    /// The step of the call, on this thread.
-    fn act(self, by: ThreadIx, who: ThreadIx) -> FineAct
-        ensures { result ≡ thread_act by who self }
+    /// What the call asks of the word of this thread.
+    fn act(self, by: ThreadIx, who: ThreadIx) -> ThreadAct
+        ensures { result ≡ asked_of_thread by who self }
     {
-        let act = match self {
-            ThreadCall::Start { mode, domain } => {
-                return FineAct::Shown {
-                    event: Event {
-                        thread: by,
-                        act: Act::Start { who },
-                    },
-                    more: More::Starts { mode, domain },
-                };
-            }
-            ThreadCall::Begin { script, line } => Act::Begin { script, line },
-            ThreadCall::Reply(reply) => Act::Answered { reply },
-            ThreadCall::Miss { addr, kind, want } => Act::Check {
+        let thread = by;
+        match self {
+            ThreadCall::Start { mode, domain } => ThreadAct::Start {
+                thread,
+                who,
+                mode,
+                domain,
+            },
+            ThreadCall::Begin { script, line } => ThreadAct::Begin {
+                thread,
+                script,
+                line,
+            },
+            ThreadCall::Reply(reply) => ThreadAct::Answered { thread, reply },
+            ThreadCall::Miss { addr, kind, want } => ThreadAct::Miss {
+                thread,
                 addr,
                 kind,
                 want,
-                verdict: Some(Errno::EBADF),
+                mode: Mode::User,
             },
-            ThreadCall::Fatal { reason, cause } => Act::Fatal { reason, cause },
-            ThreadCall::Exit => Act::Exit,
-            ThreadCall::Doom => Act::Doom { who },
-            ThreadCall::Hold => return FineAct::Unseen(Unseen::Hold),
-            ThreadCall::LetGo => return FineAct::Unseen(Unseen::LetGo),
-            ThreadCall::Move { domain } => Act::DomMove {
+            ThreadCall::Fatal { reason, cause } => ThreadAct::Fatal {
+                thread,
+                reason,
+                cause,
+            },
+            ThreadCall::Exit => ThreadAct::Exit { thread },
+            ThreadCall::Doom => ThreadAct::Doom { thread, who },
+            ThreadCall::Hold => ThreadAct::Hold,
+            ThreadCall::LetGo => ThreadAct::LetGo,
+            ThreadCall::Move { domain } => ThreadAct::DomMove {
+                thread,
                 domain,
                 who,
                 reply: Reply::Num(0),
             },
-            ThreadCall::EnterUser => Act::EnterUser,
-            ThreadCall::ReadWord => return FineAct::Unseen(Unseen::WordRead),
-        };
-        shown(by, act)
+            ThreadCall::EnterUser => ThreadAct::EnterUser { thread },
+            ThreadCall::ReadWord => ThreadAct::ReadWord,
+        }
     }
 
     /// Whether a thread with this word takes the call, given that the word doesn't forbid it.
@@ -136,11 +144,18 @@ pub fn call_thread<T: Content, L: Local>(
     ensures stays { Stays seat.old seat.new }
     ensures told { Tells L.goes seat.old (thread_site who.0) asked.seen (forbids_thread asked.call (thread_in asked.seen)) (thread_act asked.by who asked.call) (thread_in asked.seen) result seat.new }
 {
-    let Some(thread) = ThreadWord::unpack(asked.seen) else {
+    let Some(before) = ThreadWord::unpack(asked.seen) else {
         unreachable!();
     };
-    let act = asked.call.act(asked.by, who);
-    let is_forbidden = asked.call.is_forbidden(&thread);
     let place = Place::Thread(who);
-    tried(board, seat, place, act, thread, is_forbidden, asked.seen)
+    if asked.call.is_forbidden(&before) {
+        return forbidden(board, seat, place, asked.seen);
+    }
+    let act = asked.call.act(asked.by, who);
+    let Some(next) = act.step(asked.seen) else {
+        unreachable!();
+    };
+    let about = (asked.by, who, asked.call);
+    board.step_at::<Brand, _>(seat, place, asked.seen, next, &about)?;
+    Ok(Outcome::Recorded { before })
 }

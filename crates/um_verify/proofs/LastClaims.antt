@@ -1,5 +1,5 @@
 -- What the end of a claim does to a row's stage.
-use Rattle.std.proofs.Common.{◌≡◌, ℕ, ◌<◌, Bool, true, false, List, refl, sym, ap, ◌∙◌, subst, eq-eqb}
+use Rattle.std.proofs.Common.{◌≡◌, ℕ, ◌<◌, Bool, true, false, not, List, refl, sym, ap, ◌∙◌, subst, eq-eqb}
 use Rattle.std.specs.Prelude.{◌==◌, ◌&&◌, if◌then◌else◌}
 use Rattle.um_base.specs.declared.image.Image.{Image}
 use Rattle.um_words.specs.declared.made.Made.{Made}
@@ -13,6 +13,14 @@ use Rattle.um_site.specs.Calls.{Recorded}
 use Rattle.um_site.specs.Lives.{stage, begins_cleaning, Cleans}
 use Rattle.um_site.proofs.Lives.{row-step, row-left, in-cleaning, to-clean}
 use Rattle.um_verify.specs.Checks.{end_act, cleans, TellsCleaning}
+
+-- the end of a claim leaves the row in cleaning, where it wasn't before, exactly where it was the last claim of a dying row
+pub came-to-cleaning : (s : Stage) (one : Bool) → (is_cleaning (if is_dying s && one then Stage.Cleaning else s) && not (is_cleaning s)) ≡ (is_dying s && one)
+came-to-cleaning Stage.Free one = refl
+came-to-cleaning Stage.Live one = refl
+came-to-cleaning Stage.Dying true = refl
+came-to-cleaning Stage.Dying false = refl
+came-to-cleaning Stage.Cleaning one = refl
 
 begins : (s : Stage) (one : Bool) → begins_cleaning s (if is_dying s && one then Stage.Cleaning else s) ≡ (is_dying s && one)
 begins Stage.Free one = refl

@@ -1,13 +1,14 @@
 //! The calls.
 
-ghost use Rattle.std.specs.Prelude.{◌≡◌, ◌<◌, true, None, IfOk};
-ghost use Rattle.um_words.specs.{Packed.{row_of}, Rows.{verdict_of}};
+ghost use Rattle.std.specs.Prelude.{◌≡◌, ◌<◌, ◌&&◌, not, true, None, IfOk};
+ghost use Rattle.um_words.specs.{Packed.{row_of}, Rows.{is_cleaning, verdict_of}};
 ghost use Rattle.um_site.specs.{Calls.{Stays, AtRow, MayNext, Records}, Lives.{Cleans, CleansOnce}};
 ghost use Rattle.um_verify.specs.Checks.{check_act, checked_of, end_act, cleans, TellsCleaning};
 
-use um_base::{Act, Addr, Errno, Event, Kind, Mode, Row, ThreadIx, Want};
+use std::marker::Brand;
+use um_base::{Addr, Errno, Kind, Mode, Row, ThreadIx, Want};
 use um_site::{Board, Changed, Place, Seat};
-use um_words::{Content, FineAct, Local, More, RowWord, Unseen};
+use um_words::{Content, Local, RowAct, RowSaid, RowWord};
 
 /// What a check found.
 #[derive(Clone, Copy, PartialEq, Eq)]
@@ -48,29 +49,26 @@ pub fn check<T: Content, L: Local>(
     ensures told { Records L.goes seat.old row.0 seen (check_act who mode kind fits want addr seen) result seat.new }
     ensures answer { IfOk result (λ checked. checked ≡ checked_of (verdict_of (row_of seen) who.0 mode fits want)) }
 {
-    let verdict = RowWord::read(seen).verdict(who.0, mode, fits, want);
-    let act = FineAct::Shown {
-        event: Event {
-            thread: who,
-            act: Act::Check {
-                addr,
-                kind,
-                want,
-                verdict,
-            },
-        },
-        more: More::By { mode, fits },
+    let act = RowAct::Check {
+        thread: who,
+        addr,
+        kind,
+        want,
+        mode,
+        fits,
     };
-    board.step_at(seat, Place::Row(row), seen, &act)?;
-    Ok(to_checked(verdict))
+    let Some((next, said)) = act.step(seen) else {
+        unreachable!();
+    };
+    board.step_at::<Brand, _>(seat, Place::Row(row), seen, next, &act)?;
+    Ok(to_checked(said.verdict))
 }
 
-/// Whether the object has to be cleaned after the end of a claim.
-fn cleans(seen: u64) -> bool
-    ensures { result ≡ cleans seen }
+/// Whether the row came to cleaning by the end of a claim: it is in cleaning now, and wasn't before.
+fn begins(seen: u64, said: &RowSaid) -> bool
+    ensures { result ≡ (said.now.cleans && not (is_cleaning (row_of seen).stage)) }
 {
-    let word = RowWord::read(seen);
-    word.is_dying() && word.claims == 1
+    said.cleans && !RowWord::read(seen).is_cleaning()
 }
 
 /// Ends a claim on an object. Returns whether it was the last claim on an object that is gone; then this seat has to clean the object.
@@ -90,8 +88,11 @@ pub fn end_call<T: Content, L: Local>(
     ensures cleans { IfOk result (λ clean. clean ≡ true → Cleans row.0 seat.new.token.me.0) }
     ensures once { CleansOnce L.goes seat.old.token.me.0 row.0 }
 {
-    let clean = cleans(seen);
-    let act = FineAct::Unseen(Unseen::EndCall);
-    board.step_at(seat, Place::Row(row), seen, &act)?;
+    let act = RowAct::EndCall;
+    let Some((next, said)) = act.step(seen) else {
+        unreachable!();
+    };
+    let clean = begins(seen, &said);
+    board.step_at::<Brand, _>(seat, Place::Row(row), seen, next, &act)?;
     Ok(clean)
 }

@@ -7,6 +7,10 @@ pub mod Context
 pub mod Answering
 pub mod Exchanges
 pub mod Rows
+pub mod ShownActs
+pub mod RowActs
+pub mod ThreadActs
+pub mod DomainActs
 pub mod Threads
 pub mod Domains
 pub mod CellActs

@@ -1,6 +1,6 @@
 -- A step raises the step number of its word by one.
-use Rattle.std.proofs.Common.{◌≡◌, ℕ, ◌+◌, ◌<◌, ◌≤◌, ◌/◌, ◌%◌, Bool, true, false, not, Option, Some, None, refl, sym, ap, ◌∙◌, arith, subst}
-use Rattle.std.specs.Prelude.{◌&&◌, nat_lt, if◌then◌else◌, IsTrue, MatchOption, IfSome}
+use Rattle.std.proofs.Common.{◌≡◌, ℕ, ◌+◌, ◌<◌, ◌≤◌, ◌/◌, ◌%◌, Bool, true, false, not, Some, None, refl, sym, ap, ◌∙◌, arith, subst}
+use Rattle.std.specs.Prelude.{◌&&◌, nat_lt, if◌then◌else◌, IsTrue}
 use Rattle.std.proofs.lemmas.Bool.Decides.{nat_tests}
 use Rattle.um_base.specs.declared.act.Act.{Act}
 use Rattle.um_words.specs.declared.fine.FineAct.{FineAct}
@@ -174,13 +174,6 @@ counts-in (WordKind.Cell kind) w act next s = cell-counts kind w act next s
 pub counts : (site w : ℕ) (act : FineAct) (next : ℕ) → WordMay site w act next → number site next ≡ number site w + 1
 unfolding number
 counts site w act next may = counts-in (kind_at site) w act next may.step
-
--- the same of an answer that may be none
-pub counts-some : (kind : WordKind) (site w : ℕ) (act : FineAct) → kind_at site ≡ kind → (r : Option ℕ)
-    → MatchOption r ((next : ℕ) → StepIn kind w act next → ⊥) (λ next. StepIn kind w act next) → IfSome r (λ next. number site next ≡ number site w + 1)
-unfolding number
-counts-some kind site w act is None s = tt
-counts-some kind site w act is (Some next) s = subst (λ k. number_in k next ≡ number_in k w + 1) (sym is) (counts-in kind w act next s)
 
 -- The turn of a cell.
 

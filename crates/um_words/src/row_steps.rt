@@ -68,33 +68,6 @@ impl RowWord {
         init_verdict(want, self.init)
     }
 
-    /// Whether a permission can still be given: the object must stand.
-    pub fn given(&self) -> Given
-        ensures { result ≡ given_of self.now }
-    {
-        if self.is_live() {
-            Given::Done
-        } else {
-            Given::Gone
-        }
-    }
-
-    /// What a drop leaves.
-    pub fn left(&self, who: u8) -> Leftover
-        ensures { result ≡ left_of self.now who }
-    {
-        if !self.has(who) {
-            return Leftover::NoPair;
-        }
-        let mut rest = self.permissions;
-        rest.remove(who);
-        if self.dynamic && self.is_live() && rest.is_empty() {
-            Leftover::Gone
-        } else {
-            Leftover::Kept
-        }
-    }
-
     /// What marking the object as initialised answers. `strict` says that it must not be initialised before.
     pub fn set(&self, strict: bool) -> SetSaid
         ensures { result ≡ set_of self.now strict }

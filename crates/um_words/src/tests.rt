@@ -1,171 +1,123 @@
 //! Words before and after worked steps, and words that say nothing.
 
 use super::*;
-use um_base::{Act, Addr, Attr, Event, Given, Kind, Leftover, Mode, Range, Reply, ThreadIx, Want};
+use um_base::{Addr, Attr, Errno, Given, Kind, Leftover, Mode, Range, Reply, ThreadIx, Want};
 
 const OBJECT: Addr = Addr(0x4800_0000);
 
-fn shown(thread: u8, act: Act, more: More) -> FineAct {
-    FineAct::Shown {
-        event: Event {
-            thread: ThreadIx(thread),
-            act,
-        },
-        more,
-    }
-}
+const FIRST: ThreadIx = ThreadIx(0);
 
-fn check(want: Want, thread: u8, verdict: Option<um_base::Errno>) -> FineAct {
-    let act = Act::Check {
+const SECOND: ThreadIx = ThreadIx(1);
+
+fn check(want: Want, thread: ThreadIx) -> RowAct {
+    RowAct::Check {
+        thread,
         addr: OBJECT,
         kind: Some(Kind::Sem),
         want,
-        verdict,
-    };
-    shown(
-        thread,
-        act,
-        More::By {
-            mode: Mode::User,
-            fits: true,
-        },
-    )
+        mode: Mode::User,
+        fits: true,
+    }
 }
 
-fn drop_of(who: u8, left: Leftover) -> FineAct {
-    let act = Act::DropPair {
-        who: ThreadIx(who),
-        addr: OBJECT,
-        left,
-    };
-    shown(who, act, More::Nothing)
+/// What a row says of the step by which that word comes to stand, if it is that one.
+fn said(act: RowAct, word: u64, after: u64) -> Option<RowSaid> {
+    match act.step(word) {
+        Some((next, said)) if next == after => Some(said),
+        _ => None,
+    }
 }
 
-/// Whether the step at this site leaves that word.
-fn leaves(site: u16, word: u64, act: &FineAct, after: u64) -> bool {
-    word_step(site, word, act) == Some(after)
-}
-
-fn is_refused(site: u16, word: u64, act: &FineAct) -> bool {
-    word_step(site, word, act).is_none()
+fn is_refused(act: RowAct, word: u64) -> bool {
+    act.step(word).is_none()
 }
 
 /// An object's row from its last permission, by its cleaning, to its next birth.
 #[test]
 fn rows(rt: HostRuntime) {
-    let row = 96;
-    let held = check(Want::Init, 0, None);
-    assert!(rt; leaves(row, 0x9_0000_0001, &held, 0x1029_0000_0001));
-    let refused = check(Want::Uninit, 1, Some(um_base::Errno::EPERM));
-    assert!(rt; leaves(row, 0x9_0000_0001, &refused, 0x1009_0000_0001));
-    let gone = drop_of(0, Leftover::Gone);
-    assert!(rt; leaves(row, 0xc_0000_0001, &gone, 0x101c_0000_0000));
-    assert!(rt; leaves(row, 0x2c_0000_0001, &gone, 0x1034_0000_0000));
-    let late = shown(
-        0,
-        Act::Grant {
-            who: ThreadIx(1),
-            addr: OBJECT,
-            given: Given::Gone,
-        },
-        More::Nothing,
-    );
-    assert!(rt; leaves(row, 0x1034_0000_0000, &late, 0x2034_0000_0000));
-    let end = FineAct::Unseen(Unseen::EndCall);
-    assert!(rt; leaves(row, 0x2034_0000_0000, &end, 0x301c_0000_0000));
-    let vacate = FineAct::Unseen(Unseen::Vacate);
-    assert!(rt; leaves(row, 0x301c_0000_0000, &vacate, 0x4000_0000_0000));
-    let born = shown(1, Act::Born { addr: OBJECT }, More::Nothing);
-    assert!(rt; leaves(row, 0x4000_0000_0000, &born, 0x500c_0000_0002));
+    let held = said(check(Want::Init, FIRST), 0x9_0000_0001, 0x1029_0000_0001);
+    assert!(rt; matches!(held, Some(said) if said.verdict.is_none()));
+    let refused = said(check(Want::Uninit, SECOND), 0x9_0000_0001, 0x1009_0000_0001);
+    assert!(rt; matches!(refused, Some(said) if said.verdict == Some(Errno::EPERM)));
+    let drop = RowAct::DropPair {
+        thread: FIRST,
+        who: FIRST,
+        addr: OBJECT,
+    };
+    let gone = said(drop, 0xc_0000_0001, 0x101c_0000_0000);
+    assert!(rt; matches!(gone, Some(said) if said.left == Leftover::Gone && said.cleans));
+    let dying = said(drop, 0x2c_0000_0001, 0x1034_0000_0000);
+    assert!(rt; matches!(dying, Some(said) if said.left == Leftover::Gone && !said.cleans));
+    let grant = RowAct::Grant {
+        thread: FIRST,
+        who: SECOND,
+        addr: OBJECT,
+    };
+    let late = said(grant, 0x1034_0000_0000, 0x2034_0000_0000);
+    assert!(rt; matches!(late, Some(said) if said.given == Given::Gone));
+    let end = said(RowAct::EndCall, 0x2034_0000_0000, 0x301c_0000_0000);
+    assert!(rt; matches!(end, Some(said) if said.cleans));
+    assert!(rt; said(RowAct::Vacate, 0x301c_0000_0000, 0x4000_0000_0000).is_some());
+    let birth = RowAct::Born {
+        thread: SECOND,
+        addr: OBJECT,
+    };
+    assert!(rt; said(birth, 0x4000_0000_0000, 0x500c_0000_0002).is_some());
 }
 
-/// Steps that no row takes: a wrong answer, a claim that isn't there, an object that isn't gone, and a number that ends.
+/// Steps that no row takes: a claim that isn't there, an object that isn't gone, and a number that ends.
 #[test]
 fn refused_rows(rt: HostRuntime) {
-    assert!(rt; is_refused(0, 0x9_0000_0001, &check(Want::Init, 1, None)));
-    assert!(rt; is_refused(0, 0xc_0000_0001, &drop_of(0, Leftover::Kept)));
-    assert!(rt; is_refused(0, 0xc_0000_0001, &FineAct::Unseen(Unseen::EndCall)));
-    assert!(rt; is_refused(0, 0xc_0000_0001, &FineAct::Unseen(Unseen::Vacate)));
-    assert!(rt; is_refused(0, 0xffff_f00c_0000_0001, &FineAct::Unseen(Unseen::Visit)));
-    assert!(rt; is_refused(168, 0, &FineAct::Unseen(Unseen::Done)));
+    assert!(rt; is_refused(RowAct::EndCall, 0xc_0000_0001));
+    assert!(rt; is_refused(RowAct::Vacate, 0xc_0000_0001));
+    let sweep = RowAct::Sweep {
+        thread: FIRST,
+        who: SECOND,
+        addr: OBJECT,
+    };
+    assert!(rt; is_refused(sweep, 0xffff_f00c_0000_0001));
 }
 
-/// A hold and a claim to read, a claim to write and the edit that ends it.
+/// A hold that keeps a domain, and a thread that is doomed.
 #[test]
-fn threads_and_domains(rt: HostRuntime) {
-    let thread = 128;
-    let hold = FineAct::Unseen(Unseen::Hold);
-    assert!(rt; leaves(thread, 0x41, &hold, 0x10_0000_0049));
-    let moved = shown(
-        0,
-        Act::DomMove {
-            domain: 0,
-            who: ThreadIx(0),
-            reply: Reply::Num(0),
-        },
-        More::Nothing,
-    );
-    assert!(rt; is_refused(thread, 0x10_0000_0049, &moved));
-    let let_go = FineAct::Unseen(Unseen::LetGo);
-    assert!(rt; leaves(thread, 0x10_0000_0049, &let_go, 0x20_0000_0041));
-    let begin = shown(0, Act::Begin { script: 0, line: 1 }, More::Nothing);
-    assert!(rt; is_refused(thread, 0x45, &begin));
-    assert!(rt; leaves(thread, 0x41, &begin, 0x10_0000_0041));
-    let domain = 160;
-    let read_claim = FineAct::Unseen(Unseen::ReadClaim);
-    assert!(rt; leaves(domain, 0x1, &read_claim, 0x10_0000_0005));
-    let write_claim = FineAct::Unseen(Unseen::WriteClaim);
-    assert!(rt; is_refused(domain, 0x10_0000_0005, &write_claim));
-    let read_done = FineAct::Unseen(Unseen::ReadDone);
-    assert!(rt; leaves(domain, 0x10_0000_0005, &read_done, 0x20_0000_0001));
-    assert!(rt; leaves(domain, 0x20_0000_0001, &write_claim, 0x30_0000_0003));
-    assert!(rt; is_refused(domain, 0x30_0000_0003, &read_claim));
-    let added = shown(
-        0,
-        Act::DomAdd {
-            domain: 0,
-            range: Range {
-                start: Addr(0x2000_0000),
-                size: 32,
-            },
-            attr: Attr(27),
-            reply: Reply::Num(0),
-        },
-        More::Nothing,
-    );
-    assert!(rt; leaves(domain, 0x30_0000_0003, &added, 0x40_0000_0201));
+fn threads(rt: HostRuntime) {
+    assert!(rt; ThreadAct::Hold.step(0x41) == Some(0x10_0000_0049));
+    let moved = ThreadAct::DomMove {
+        thread: FIRST,
+        domain: 0,
+        who: FIRST,
+        reply: Reply::Num(0),
+    };
+    assert!(rt; moved.step(0x10_0000_0049).is_none());
+    assert!(rt; ThreadAct::LetGo.step(0x10_0000_0049) == Some(0x20_0000_0041));
+    let begin = ThreadAct::Begin {
+        thread: FIRST,
+        script: 0,
+        line: 1,
+    };
+    assert!(rt; begin.step(0x41) == Some(0x10_0000_0041));
+    assert!(rt; begin.step(0x45) == Some(0x10_0000_0045));
 }
 
-/// The steps of cells: a cell takes those of its kind alone while nobody has its turn, and the scheduler's counts threads.
+/// A claim to read, a claim to write and the edit that ends it.
 #[test]
-fn cells(rt: HostRuntime) {
-    let wipe = FineAct::Unseen(Unseen::Wipe);
-    assert!(rt; leaves(295, 0x0, &wipe, 0x10_0000_0000));
-    assert!(rt; is_refused(295, 0x1, &wipe) && is_refused(296, 0x0, &wipe));
-    assert!(rt; is_refused(295, 0xffff_fff0_0000_0000, &wipe));
-    assert!(rt; leaves(296, 0x0, &FineAct::Unseen(Unseen::Edit), 0x10_0000_0000));
-    let fetch = shown(0, Act::Fetch { addr: OBJECT }, More::Nothing);
-    assert!(rt; leaves(304, 0x0, &fetch, 0x10_0000_0000) && is_refused(305, 0x0, &fetch));
-    let paid = shown(0, Act::Unbuffer { size: 64 }, More::Nothing);
-    assert!(rt; leaves(305, 0x0, &paid, 0x10_0000_0000) && is_refused(307, 0x0, &paid));
-    let scheduler = 306;
-    let resume = shown(0, Act::Resume, More::Nothing);
-    assert!(rt; leaves(scheduler, 0x4, &resume, 0x10_0000_0202));
-    let park = FineAct::Unseen(Unseen::Park {
-        who: ThreadIx(0),
-        ready: true,
-    });
-    assert!(rt; leaves(scheduler, 0x10_0000_0202, &park, 0x20_0000_0004));
-    assert!(rt; is_refused(scheduler, 0x4, &park));
-    assert!(rt; is_refused(scheduler, 0x0, &FineAct::Unseen(Unseen::Next(ThreadIx(0)))));
-    assert!(rt;
-        leaves(
-            scheduler,
-            0x200,
-            &FineAct::Unseen(Unseen::Done),
-            0x10_0000_0000
-        )
-    );
+fn domains(rt: HostRuntime) {
+    assert!(rt; DomainAct::ReadClaim.step(0x1) == Some(0x10_0000_0005));
+    assert!(rt; DomainAct::WriteClaim.step(0x10_0000_0005).is_none());
+    assert!(rt; DomainAct::ReadDone.step(0x10_0000_0005) == Some(0x20_0000_0001));
+    assert!(rt; DomainAct::WriteClaim.step(0x20_0000_0001) == Some(0x30_0000_0003));
+    assert!(rt; DomainAct::ReadClaim.step(0x30_0000_0003).is_none());
+    let added = DomainAct::DomAdd {
+        thread: FIRST,
+        domain: 0,
+        range: Range {
+            start: Addr(0x2000_0000),
+            size: 32,
+        },
+        attr: Attr(27),
+        reply: Reply::Num(0),
+    };
+    assert!(rt; added.step(0x30_0000_0003) == Some(0x40_0000_0201));
 }
 
 /// Each word's fields by bits, and the bits that are always zero.

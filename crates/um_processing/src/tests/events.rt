@@ -3,7 +3,8 @@
 use super::{EVENTS, image};
 use std::test::Fail;
 use um_base::{Act, Addr, Errno, Event, Kind, Mode, Row, ThreadIx, Want};
-use um_processor::{HeapAct, Here, RowAct, Said, Sites};
+use um_processor::{HeapAct, Here, Said, Sites};
+use um_words::RowAct;
 
 /// A permission is passed on, and a second look finds it; another thread's check is refused. Reservations that nobody pays for fill the
 /// log.

@@ -10,10 +10,10 @@ ghost use Rattle.um_processor.specs.{
 use crate::here::Here;
 use crate::phase::Turn;
 use crate::processor::Processor;
-use crate::row_act::RowAct;
 use crate::said::made;
 use crate::sites::Sites;
 use um_base::{ROWS, Row, THREADS};
+use um_words::RowAct;
 
 impl Processor {
     /// Ends the first claim. If that brings the row to cleaning, the object joins those to clean.

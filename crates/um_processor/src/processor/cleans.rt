@@ -12,11 +12,11 @@ use crate::here::Here;
 use crate::phase::Turn;
 use crate::processor::Processor;
 use crate::request::Request;
-use crate::row_act::RowAct;
 use crate::said::{made, took};
 use crate::sites::Sites;
 use um_base::{Addr, ROWS, Row, ThreadIx};
 use um_steps::rows::addr_of;
+use um_words::RowAct;
 
 impl Processor {
     /// Drops the permission at a row of a thread whose object is gone, if there is one. If that brings the row to cleaning, its object

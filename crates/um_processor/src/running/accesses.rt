@@ -10,15 +10,14 @@ ghost use Rattle.um_processor.specs.{
   Turns.{CanTurn, HasRun},
 };
 
-use crate::domain_act::DomainAct;
 use crate::here::Here;
 use crate::phase::{Phase, Turn};
 use crate::running::Running;
 use crate::said::made;
 use crate::sites::Sites;
-use crate::thread_act::ThreadAct;
 use um_base::{DOMAINS, Mode, ROWS, Row};
 use um_fine::TableKey;
+use um_words::{DomainAct, ThreadAct};
 
 fn same_key(a: &TableKey, b: &TableKey) -> bool
     ensures { result ≡ same_key a.now b.now }

@@ -10,17 +10,16 @@ ghost use Rattle.um_processor.specs.{
 
 use crate::here::Here;
 use crate::phase::Turn;
-use crate::row_act::RowAct;
 use crate::running::Running;
 use crate::running::kinds::kind_of;
 use crate::said::made;
 use crate::sites::Sites;
-use crate::thread_act::ThreadAct;
 use arrayvec::ArrayVec;
 use um_base::{Addr, Errno, Kind, Reply, Row, ThreadIx, Want};
 use um_machine::Refusal;
 use um_steps::kinds::has_kind;
 use um_steps::rows::row_at;
+use um_words::{RowAct, ThreadAct};
 
 /// The object that a call looks for, and what comes where it isn't there.
 #[derive(Clone, Copy)]

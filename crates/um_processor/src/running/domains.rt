@@ -6,7 +6,6 @@ ghost use Rattle.um_processor.specs.{
   Turns.{CanTurn, HasRun},
 };
 
-use crate::domain_act::DomainAct;
 use crate::here::Here;
 use crate::phase::{Phase, Turn};
 use crate::running::Running;
@@ -14,6 +13,7 @@ use crate::running::next::domain_named;
 use crate::said::made;
 use crate::sites::Sites;
 use um_base::{DOMAINS, Errno, Reply};
+use um_words::DomainAct;
 
 impl Running {
     /// Changes the domain's partitions as the call asks.

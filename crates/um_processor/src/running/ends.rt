@@ -12,14 +12,13 @@ ghost use Rattle.um_fine.specs.Addresses.{row_named};
 
 use crate::here::Here;
 use crate::phase::{Phase, Turn};
-use crate::row_act::RowAct;
 use crate::running::Running;
 use crate::running::next::row_named;
 use crate::said::made;
 use crate::sites::Sites;
-use crate::thread_act::ThreadAct;
 use arrayvec::ArrayVec;
 use um_base::{Addr, Cause, Row, ThreadIx};
+use um_words::{RowAct, ThreadAct};
 
 impl Running {
     /// Has the thread exit after its last line, unless it is doomed. The claims of its call are to end then.

@@ -8,14 +8,13 @@ ghost use Rattle.um_processor.specs.{
   Turns.{CanTurn, HasRun},
 };
 
-use crate::domain_act::DomainAct;
 use crate::here::Here;
 use crate::phase::{Phase, Turn};
 use crate::request::{Onward, Request};
 use crate::running::Running;
 use crate::running::next::domain_named;
 use crate::sites::Sites;
-use crate::thread_act::ThreadAct;
+use um_words::{DomainAct, ThreadAct};
 
 impl Running {
     /// The domain that its call names.

@@ -13,10 +13,10 @@ use crate::phase::{Phase, Turn};
 use crate::running::Running;
 use crate::said::made;
 use crate::sites::Sites;
-use crate::thread_act::ThreadAct;
 use um_base::Image;
 use um_machine::Place;
 use um_machine::places::instruction_at;
+use um_words::ThreadAct;
 
 /// The number of the line at a place, from 1 on, if one stands there.
 fn line_number(image: &Image, place: Place) -> Option<u16>

@@ -11,7 +11,6 @@ ghost use Rattle.um_processor.specs.{
 
 use crate::here::Here;
 use crate::phase::Turn;
-use crate::row_act::RowAct;
 use crate::running::Running;
 use crate::running::next::row_named;
 use crate::said::made;
@@ -19,6 +18,7 @@ use crate::sites::Sites;
 use arrayvec::ArrayVec;
 use um_base::{Addr, Image, Row, SetSaid, ThreadIx};
 use um_steps::rows::own_row;
+use um_words::RowAct;
 
 impl Running {
     /// Goes on after an attempt to mark an object as initialised.

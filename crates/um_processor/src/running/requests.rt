@@ -14,22 +14,20 @@ ghost use Rattle.um_processor.specs.{
   Turns.{CanTurn, HasRun},
 };
 
-use crate::domain_act::DomainAct;
 use crate::heap_act::HeapAct;
 use crate::here::Here;
 use crate::memory_act::MemoryAct;
 use crate::phase::Turn;
 use crate::request::{Onward, Request};
-use crate::row_act::RowAct;
 use crate::running::Running;
 use crate::running::events::own_row;
 use crate::running::next::row_named;
 use crate::said::took;
 use crate::sites::Sites;
-use crate::thread_act::ThreadAct;
 use um_base::{Access, Image, ROWS, Reply, Row, ThreadIx};
 use um_machine::Pending;
 use um_steps::costs::cost_of;
+use um_words::{DomainAct, RowAct, ThreadAct};
 
 /// Whether a call failed.
 fn fails(reply: Reply) -> bool

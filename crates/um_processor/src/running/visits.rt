@@ -10,7 +10,6 @@ ghost use Rattle.um_processor.specs.{
 
 use crate::here::Here;
 use crate::phase::{Phase, Turn};
-use crate::row_act::RowAct;
 use crate::running::Running;
 use crate::running::next::{but, first_phase};
 use crate::said::made;
@@ -18,6 +17,7 @@ use crate::sites::Sites;
 use um_base::{Addr, ROWS, Row, ThreadIx};
 use um_machine::Pending;
 use um_steps::rows::{addr_of, own_row};
+use um_words::RowAct;
 
 impl Running {
     /// To whom permissions are passed on.

@@ -3,7 +3,9 @@ use Rattle.um_fine.specs.Answers.{domain_in}
 use Rattle.um_fine.specs.Steps.{Exchange, Site, Word}
 use Rattle.um_fine.proofs.Filled.{filled-twice}
 use Rattle.um_processor.specs.Asked.{asked}
-use Rattle.um_processor.specs.DomainActs.{domain_act, domain_made}
+use Rattle.um_words.specs.DomainActs.{domain_act}
+use Rattle.um_processor.specs.DomainActs.{domain_made}
+use Rattle.um_processor.proofs.WordActs.{domain-refuses, domain-takes}
 use Rattle.um_board.specs.Noted.{number_of, packed}
 use Rattle.um_board.proofs.Keeping.{noted-then}
 use Rattle.um_board.proofs.WordSteps.{domain-lawful, domain-left, domain-number, domain-packs, domain-read, domain-reads-back}
@@ -15,26 +17,26 @@ use Rattle.um_board.proofs.sites.SeatedSites.domain.Goals as goal
 
 pub pack-requires : goal.pack-requires
 pack-requires c =
-    let t = c.in-Some-make.ensures c.args.here.now.image.now c.args.here.now.cpu c.args.domain in
+    let t = domain-takes c.args.here.now.image.now c.args.here.now.cpu c.args.domain c.in-Some-unpack.word c.args.act.now _ c.in-Some-make.ensures in
     domain-packs c.args.here.now.image.now (domain_made c.args.here.now.image.now c.args.here.now.cpu c.args.domain c.in-Some-unpack.word c.args.act.now) _ _ c.in-Some-unpack.ensures.fits t
 
 pub step-requires-clause-step : goal.step-requires-clause-step
 step-requires-clause-step c =
     let e = domain_made c.args.here.now.image.now c.args.here.now.cpu c.args.domain c.in-Some-unpack.word c.args.act.now in
-    let t = c.in-Some-make.ensures c.args.here.now.image.now c.args.here.now.cpu c.args.domain in
+    let t = domain-takes c.args.here.now.image.now c.args.here.now.cpu c.args.domain c.in-Some-unpack.word c.args.act.now _ c.in-Some-make.ensures in
     let left : packed e.word ≡ c.pack.result = ap packed (domain-left c.args.here.now.image.now e _ _ t).0 ∙ sym c.pack.ensures.value in
     λ i. record { site = 160 + c.args.domain; act = e.act; word = left i; moved = Exchange.nothing }
 
 pub step-requires-clause-numbered : goal.step-requires-clause-numbered
 step-requires-clause-numbered c =
     let e = domain_made c.args.here.now.image.now c.args.here.now.cpu c.args.domain c.in-Some-unpack.word c.args.act.now in
-    let t = c.in-Some-make.ensures c.args.here.now.image.now c.args.here.now.cpu c.args.domain in
+    let t = domain-takes c.args.here.now.image.now c.args.here.now.cpu c.args.domain c.in-Some-unpack.word c.args.act.now _ c.in-Some-make.ensures in
     domain-number c.args.domain _ _ c.requires.domain c.pack.ensures.back ∙ ap number_of (sym (domain-left c.args.here.now.image.now e _ _ t).0)
 
 pub step-requires-clause-back : goal.step-requires-clause-back
 step-requires-clause-back c =
     let e = domain_made c.args.here.now.image.now c.args.here.now.cpu c.args.domain c.in-Some-unpack.word c.args.act.now in
-    let t = c.in-Some-make.ensures c.args.here.now.image.now c.args.here.now.cpu c.args.domain in
+    let t = domain-takes c.args.here.now.image.now c.args.here.now.cpu c.args.domain c.in-Some-unpack.word c.args.act.now _ c.in-Some-make.ensures in
     domain-reads-back e c.args.domain _ _ refl c.requires.domain (domain-left c.args.here.now.image.now e _ _ t).0 c.pack.ensures.value c.pack.ensures.back
 
 pub step-requires-clause-event : goal.step-requires-clause-event
@@ -43,7 +45,7 @@ step-requires-clause-event c = c.event-event.ensures
 pub step-requires-clause-lawful : goal.step-requires-clause-lawful
 step-requires-clause-lawful c =
     let e = domain_made c.args.here.now.image.now c.args.here.now.cpu c.args.domain c.in-Some-unpack.word c.args.act.now in
-    let t = c.in-Some-make.ensures c.args.here.now.image.now c.args.here.now.cpu c.args.domain in
+    let t = domain-takes c.args.here.now.image.now c.args.here.now.cpu c.args.domain c.in-Some-unpack.word c.args.act.now _ c.in-Some-make.ensures in
     domain-lawful c.args.here.now.image.now e c.args.domain c.in-Some.seen _ _ c.requires.domain (sym c.in-Some-unpack.ensures.value) t _ c.pack.ensures.value
 
 pub step-requires-clause-goes : goal.step-requires-clause-goes
@@ -52,7 +54,7 @@ step-requires-clause-goes c = next-then _ _ _ _ _ _ c.in-Some.ensures.unnoted (c
 pub returns-clause-said : goal.returns-clause-said
 returns-clause-said c =
     let e = domain_made c.args.here.now.image.now c.args.here.now.cpu c.args.domain c.in-Some-unpack.word c.args.act.now in
-    let t = c.in-Some-make.ensures c.args.here.now.image.now c.args.here.now.cpu c.args.domain in
+    let t = domain-takes c.args.here.now.image.now c.args.here.now.cpu c.args.domain c.in-Some-unpack.word c.args.act.now _ c.in-Some-make.ensures in
     (c.in-Some-unpack.word, noted-then _ _ _ _ _ _ e c.in-Some.ensures.unnoted (c.if-not-step.ensures.made refl), sym (ap domain_in (domain-left c.args.here.now.image.now e _ _ t).0))
 
 pub returns-in-None-make-clause-said : goal.returns-in-None-make-clause-said
@@ -61,7 +63,7 @@ returns-in-None-make-clause-said c =
     let got = got-one _ _ _ _ c.in-Some.ensures.seen.got in
     let low : 160 + c.args.domain < 168 = let less = c.requires.domain in omega (arith, less) in
     let filled = filled-twice c.args.here.now.image.now (SiteState.domain w) (asked c.args.here.now.cpu (Site.domain c.args.domain) (domain_act c.args.act.now) Exchange.nothing) in
-    let shut = SawShut.word_refused (SiteState.domain w) c.in-Some.seen low got c.in-Some.ensures.seen.saw (ap Word.domain (domain-read c.in-Some.seen w (sym c.in-Some-unpack.ensures.value))) (record { refuses = c.in-None-make.ensures c.args.here.now.image.now c.args.here.now.cpu c.args.domain; filled_in = filled; seen = tt }) in
+    let shut = SawShut.word_refused (SiteState.domain w) c.in-Some.seen low got c.in-Some.ensures.seen.saw (ap Word.domain (domain-read c.in-Some.seen w (sym c.in-Some-unpack.ensures.value))) (record { refuses = (domain-refuses c.args.here.now.image.now c.args.here.now.cpu c.args.domain c.in-Some-unpack.word c.args.act.now c.in-None-make.ensures); filled_in = filled; seen = tt }) in
     (w, c.in-Some.ensures.unnoted, shut)
 
 pub returns-in-None-clause-said : goal.returns-in-None-clause-said

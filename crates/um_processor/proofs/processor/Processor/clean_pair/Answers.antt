@@ -3,7 +3,7 @@ use Rattle.std.proofs.lemmas.Bool.{le-leb}
 use Rattle.um_fine.specs.Places.{Todos, clean_pairs, cleanings}
 use Rattle.um_processor.specs.Cleanings.{all_clean, behind_first, block_if}
 use Rattle.um_processor.specs.declared.cleaning.TheConstants.{MOST}
-use Rattle.um_processor.specs.declared.row_act.RowSaid.{RowSaid}
+use Rattle.um_words.specs.declared.row_act.RowSaid.{RowSaid}
 use Rattle.um_processor.specs.Processors.{IsStuck}
 use Rattle.um_processor.proofs.Wholes.{cleanings-stood, pair-goes, pair-asks}
 use Rattle.um_processor.proofs.processor.Processor.clean_pair.Goals as goal

@@ -1,7 +1,7 @@
 use Rattle.std.proofs.Common.{◌≡◌, ◌∷◌, ◌++◌, drop, get_or, refl, ap, sym, ◌∙◌}
 use Rattle.std.specs.Prelude.{remove}
 use Rattle.um_fine.specs.Places.{Todos}
-use Rattle.um_processor.specs.declared.row_act.RowSaid.{RowSaid}
+use Rattle.um_words.specs.declared.row_act.RowSaid.{RowSaid}
 use Rattle.um_processor.specs.Cleanings.{block_if}
 use Rattle.um_processor.proofs.Wholes.{end-goes, first-removed}
 use Rattle.um_processor.proofs.processor.Processor.end_call.Goals as goal

@@ -1,5 +1,5 @@
 use Rattle.std.proofs.Common.{ap, sym, ◌∙◌}
-use Rattle.um_processor.specs.declared.row_act.RowSaid.{RowSaid}
+use Rattle.um_words.specs.declared.row_act.RowSaid.{RowSaid}
 use Rattle.um_processor.specs.Processors.{processor_of}
 use Rattle.um_processor.proofs.Runs.{runs-visiting}
 use Rattle.um_processor.proofs.Visited.{drop-goes, looked-at, taken-away}

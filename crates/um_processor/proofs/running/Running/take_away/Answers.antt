@@ -1,5 +1,5 @@
 use Rattle.std.proofs.Common.{refl, ap}
-use Rattle.um_processor.specs.declared.row_act.RowSaid.{RowSaid}
+use Rattle.um_words.specs.declared.row_act.RowSaid.{RowSaid}
 use Rattle.um_processor.proofs.Runs.{runs-behind}
 use Rattle.um_processor.proofs.Shown.{taken-goes}
 use Rattle.um_processor.proofs.running.Running.take_away.Goals as goal

@@ -5,9 +5,11 @@ use Rattle.um_fine.specs.Answers.{domain_in, no_domain}
 use Rattle.um_fine.specs.Sites.{SiteState, word_of}
 use Rattle.um_fine.specs.Steps.{Exchange, Site}
 use Rattle.um_processor.specs.Asked.{asked}
-use Rattle.um_processor.specs.DomainActs.{domain_act, domain_made}
+use Rattle.um_words.specs.DomainActs.{domain_act}
+use Rattle.um_processor.specs.DomainActs.{domain_made}
 use Rattle.um_processor.specs.Sited.{logged}
 use Rattle.um_processor.proofs.Tabled.{refused, taken}
+use Rattle.um_processor.proofs.WordActs.{domain-refuses, domain-takes}
 use Rattle.um_processor.proofs.tables.TablesSites.domain.Goals as goal
 
 pub returns-clause-said : goal.returns-clause-said
@@ -15,7 +17,7 @@ returns-clause-said c =
     let w = c.index.result.now in
     let here : w ≡ slice_index_or c.self.inside.domains.items c.args.domain no_domain = get_or_read c.self.inside.domains.items _ _ (omega arith) c.index.ensures no_domain in
     let e = domain_made c.args.here.now.image.now c.args.here.now.cpu c.args.domain w c.args.act.now in
-    let t = c.in-Some.ensures c.args.here.now.image.now c.args.here.now.cpu c.args.domain in
+    let t = domain-takes c.args.here.now.image.now c.args.here.now.cpu c.args.domain w c.args.act.now _ c.in-Some.ensures in
     let log = c.self.inside.log.items in (
       w,
       taken c.args.here.now.image.now _ _ c.self.view_is e (SiteState.domain w) (SiteState.domain c.in-Some.next) (ap SiteState.domain here) t
@@ -31,6 +33,6 @@ returns-in-None-clause-said c =
     let w = c.index.result.now in
     let here : w ≡ slice_index_or c.self.inside.domains.items c.args.domain no_domain = get_or_read c.self.inside.domains.items _ _ (omega arith) c.index.ensures no_domain in
     let e = domain_made c.args.here.now.image.now c.args.here.now.cpu c.args.domain w c.args.act.now in
-    let r = c.in-None.ensures c.args.here.now.image.now c.args.here.now.cpu c.args.domain in
+    let r = domain-refuses c.args.here.now.image.now c.args.here.now.cpu c.args.domain w c.args.act.now c.in-None.ensures in
     let fill = filled-twice c.args.here.now.image.now (SiteState.domain w) (asked c.args.here.now.cpu (Site.domain c.args.domain) (domain_act c.args.act.now) Exchange.nothing) in
     (w, refl, refused c.args.here.now.image.now _ _ c.self.view_is e (SiteState.domain w) (ap SiteState.domain here) r fill tt)

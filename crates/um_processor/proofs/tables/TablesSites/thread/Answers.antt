@@ -6,9 +6,11 @@ use Rattle.um_fine.specs.Sites.{SiteState, word_of}
 use Rattle.um_fine.specs.Steps.{Exchange, Site}
 use Rattle.um_processor.specs.Asked.{asked, event_of}
 use Rattle.um_processor.specs.Sited.{logged}
-use Rattle.um_processor.specs.ThreadActs.{thread_act, thread_event, thread_made}
+use Rattle.um_words.specs.ThreadActs.{thread_act, thread_event}
+use Rattle.um_processor.specs.ThreadActs.{thread_made}
 use Rattle.um_processor.proofs.Noted.{thread-event}
 use Rattle.um_processor.proofs.Tabled.{refused, taken}
+use Rattle.um_processor.proofs.WordActs.{thread-refuses, thread-takes}
 use Rattle.um_processor.proofs.tables.TablesSites.thread.Goals as goal
 
 pub returns-clause-said : goal.returns-clause-said
@@ -16,7 +18,7 @@ returns-clause-said c =
     let w = c.index.result.now in
     let here : w ≡ slice_index_or c.self.inside.threads.items c.args.thread.0 no_thread = get_or_read c.self.inside.threads.items _ _ (omega arith) c.index.ensures no_thread in
     let e = thread_made c.args.here.now.image.now c.args.here.now.cpu c.args.thread.0 w c.args.act.now in
-    let t = c.in-Some.ensures.made c.args.here.now.image.now c.args.here.now.cpu c.args.thread.0 in
+    let t = thread-takes c.args.here.now.image.now c.args.here.now.cpu c.args.thread.0 w c.args.act.now _ c.in-Some.ensures.made in
     let left : c.in-Some.next ≡ thread_in e.word = ap (λ (s : SiteState). thread_in (word_of s)) t.leaves in
     let log = c.self.inside.log.items in
     let event : c.event.result ≡ event_of e.act =
@@ -35,6 +37,6 @@ returns-in-None-clause-said c =
     let w = c.index.result.now in
     let here : w ≡ slice_index_or c.self.inside.threads.items c.args.thread.0 no_thread = get_or_read c.self.inside.threads.items _ _ (omega arith) c.index.ensures no_thread in
     let e = thread_made c.args.here.now.image.now c.args.here.now.cpu c.args.thread.0 w c.args.act.now in
-    let r = c.in-None.ensures.made c.args.here.now.image.now c.args.here.now.cpu c.args.thread.0 in
+    let r = thread-refuses c.args.here.now.image.now c.args.here.now.cpu c.args.thread.0 w c.args.act.now c.in-None.ensures.made in
     let fill = filled-twice c.args.here.now.image.now (SiteState.thread w) (asked c.args.here.now.cpu (Site.thread c.args.thread.0) (thread_act c.args.act.now) Exchange.nothing) in
     (w, refl, refused c.args.here.now.image.now _ _ c.self.view_is e (SiteState.thread w) (ap SiteState.thread here) r fill tt)

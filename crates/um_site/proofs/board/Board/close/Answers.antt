@@ -21,7 +21,7 @@ returns-clause-closed g c = let key = c.args.self.table.shared.key in let v = c.
     )
 
 pub returns-clause-fact : goal.returns-clause-fact
-returns-clause-fact g c = let v = c.args.seat.token.me.0 in let is = (returns-clause-closed g c).2 in λ first. (is.0, is.1, is.2, g.met.L.Local.fact_holds v.image v.opening _ is.0 first is.1)
+returns-clause-fact g c = let v = c.args.seat.token.me.0 in let is = (returns-clause-closed g c).2 in λ first. (is.0, is.1, is.2, g.L.Local.fact_holds v.image v.opening _ is.0 first is.1)
 
 pub returns-clause-cells : goal.returns-clause-cells
 returns-clause-cells g c = let key = c.args.self.table.shared.key in let v = c.args.seat.token.me.0 in let is = ap (λ m. m.0) c.split_seat-shadow.ensures.2 in

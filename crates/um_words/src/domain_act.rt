@@ -1,20 +1,21 @@
-//! What a processor asks of the word of a domain.
+//! What is asked of the word of a domain, and the word that it leaves: the only code that steps a domain's word.
 
-ghost use Rattle.std.specs.Prelude.{◌≡◌, ◌<◌, ℕ, IsTrue, MatchOption};
-ghost use Rattle.um_base.specs.declared.image.Image.{Image};
-ghost use Rattle.um_words.specs.Domains.{domain_after, domain_takes, is_zero, left_by_reader, writes, written};
-ghost use Rattle.um_fine.specs.Sites.{SiteState};
-ghost use Rattle.um_processor.specs.{Asked.{Refuses, Takes, event_of}, DomainActs.{domain_act, domain_made}};
+ghost use Rattle.std.specs.Prelude.{◌≡◌, ◌<◌, false, true, IsTrue, MatchOption};
+ghost use Rattle.um_words.specs.{
+  DomainActs.{domain_act, domain_takes_at},
+  Domains.{DomainMay, domain_after, domain_takes, is_zero, left_by_reader, writes, written},
+  Packed.{domain_in, is_domain},
+  ShownActs.{event_of},
+  Steps.{DomainStep},
+};
 
-use crate::log::shown;
-use crate::said::next_word;
+use crate::dom_word::DomWord;
+use crate::events::shown;
+use crate::kind::LAST;
+use crate::next_word::next_word;
 use um_base::{Act, Attr, Event, Range, Reply, ThreadIx};
-use um_words::DomWord;
 
-/// The greatest step number. A word that has reached it takes no step.
-const LAST: u32 = 0xfff_ffff;
-
-/// A step that a processor asks of a domain's word, with the thread that makes it.
+/// What is asked of the word of a domain, and by which thread.
 #[derive(Clone, Copy)]
 pub enum DomainAct {
     ReadClaim,
@@ -64,7 +65,7 @@ fn writes(word: &DomWord) -> bool
     word.writer && word.version < 0xf_ffff
 }
 
-/// Ends the claim to write. `init` says that this initialises the domain.
+/// The claim to write ends. Init: the domain is initialised by it.
 fn end_write(word: &mut DomWord, init: bool)
     requires { IsTrue (writes word.old) }
     ensures { word.new ≡ written word.old init }
@@ -74,7 +75,7 @@ fn end_write(word: &mut DomWord, init: bool)
     word.version += 1;
 }
 
-/// Ends a claim to read.
+/// A claim to read ends.
 fn end_read(word: &mut DomWord)
     requires { 0 < word.old.readers }
     ensures { word.new ≡ left_by_reader word.old }
@@ -83,7 +84,7 @@ fn end_read(word: &mut DomWord)
 }
 
 impl DomainAct {
-    /// Whether the word takes the step.
+    /// Whether the word takes it.
     fn is_taken(&self, word: &DomWord) -> bool
         ensures { result ≡ domain_takes word.now (domain_act self.now) }
     {
@@ -98,7 +99,7 @@ impl DomainAct {
         }
     }
 
-    /// Changes all of the word but its step number.
+    /// What is left but for the step number.
     fn take(&self, word: &mut DomWord)
         requires { IsTrue (domain_takes word.old (domain_act self.now)) }
         ensures { word.new ≡ domain_after word.old (domain_act self.now) }
@@ -114,13 +115,29 @@ impl DomainAct {
         }
     }
 
-    /// The word that the step leaves, or `None` if the word takes no such step.
+    /// The word that the step leaves; nothing where the word takes no such step.
     pub fn make(&self, word: &DomWord) -> Option<DomWord>
         ensures { MatchOption result
-            ((image : Image) (cpu d : ℕ) → Refuses (SiteState.domain word.now) (domain_made image cpu d word.now self.now))
-            (λ next. (image : Image) (cpu d : ℕ) → Takes image (SiteState.domain word.now) (domain_made image cpu d word.now self.now) (SiteState.domain next)) }
+            (domain_takes_at word.now self.now ≡ false)
+            (λ next. DomainMay word.now (domain_act self.now) next) }
     {
         Some(next_word!(self, word))
+    }
+
+    /// The same of the bits of a word that says something.
+    pub fn step(&self, seen: u64) -> Option<u64>
+        requires { is_domain seen ≡ true }
+        ensures { MatchOption result
+            (domain_takes_at (domain_in seen) self.now ≡ false)
+            (λ next. DomainStep seen (domain_act self.now) next) }
+    {
+        let Some(word) = DomWord::unpack(seen) else {
+            unreachable!();
+        };
+        match self.make(&word) {
+            None => None,
+            Some(next) => Some(next.pack()),
+        }
     }
 
     /// The event of the step, if a trace shows it.

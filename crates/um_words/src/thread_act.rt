@@ -1,33 +1,32 @@
-//! What a processor asks of the word of a thread index.
+//! What is asked of the word of a thread index, and the word that it leaves: the only code that steps a thread's word.
 
-ghost use Rattle.std.specs.Prelude.{◌≡◌, ◌<◌, ℕ, IfSome, IsTrue, MatchOption};
-ghost use Rattle.um_base.specs.declared.{image.Image.{Image}, limits.TheConstants.{DOMAINS}};
-ghost use Rattle.um_words.specs.Threads.{thread_after, thread_takes};
-ghost use Rattle.um_fine.specs.{Sites.{SiteState}, Threads.{thread_answers}};
-ghost use Rattle.um_processor.specs.{
-  Asked.{Refuses, Takes},
-  ThreadActs.{thread_act, thread_event, thread_made},
+ghost use Rattle.std.specs.Prelude.{◌≡◌, ◌<◌, ◌&&◌, false, true, not, IfSome, IsTrue, MatchOption};
+ghost use Rattle.um_base.specs.declared.limits.TheConstants.{DOMAINS};
+ghost use Rattle.um_machine.specs.State.{is_living};
+ghost use Rattle.um_words.specs.{
+  Packed.{is_thread, thread_in},
+  Steps.{ThreadStep},
+  ThreadActs.{thread_act_at, thread_event, thread_takes_at},
+  Threads.{ThreadMay, thread_after, thread_takes},
 };
 
-use crate::log::{checked, shown};
-use crate::said::next_word;
+use crate::events::{checked, shown};
+use crate::kind::LAST;
+use crate::next_word::next_word;
+use crate::thread_word::ThreadWord;
 use um_base::{Act, Addr, Cause, DOMAINS, Errno, Event, Kind, Mode, Reply, ThreadIx, Want};
 use um_machine::Life;
-use um_words::ThreadWord;
 
-/// The greatest step number. A word that has reached it takes no step.
-const LAST: u32 = 0xfff_ffff;
-
-/// A step that a processor asks of a thread index's word, with the thread that makes it.
+/// What is asked of the word of a thread index, and by which thread.
 #[derive(Clone, Copy)]
 pub enum ThreadAct {
-    /// Begins a line, unless the thread is doomed; then its word is only read.
+    /// To begin a line, unless the thread is doomed: then its word is read instead.
     Begin {
         thread: ThreadIx,
         script: u8,
         line: u16,
     },
-    /// Ends after the last line, unless the thread is doomed; then its word is only read.
+    /// To end after the last line, unless the thread is doomed: then its word is read instead.
     Exit {
         thread: ThreadIx,
     },
@@ -68,14 +67,30 @@ pub enum ThreadAct {
     EnterUser {
         thread: ThreadIx,
     },
+    /// To keep the thread's domain.
     Hold,
+    /// To let its domain change again.
     LetGo,
+    /// To read the word, which changes the step number alone.
+    ReadWord,
+}
+
+impl ThreadWord {
+    /// Whether it may begin a line, or end by itself.
+    pub fn may_begin(&self) -> bool
+        ensures { result ≡ (is_living self.now.life && not self.now.doomed) }
+    {
+        match self.life {
+            Life::Living => !self.doomed,
+            _ => false,
+        }
+    }
 }
 
 impl ThreadAct {
-    /// Whether the word takes the step.
+    /// Whether the word takes it.
     fn is_taken(&self, word: &ThreadWord) -> bool
-        ensures { result ≡ thread_takes word.now (thread_answers word.now (thread_act self.now)) }
+        ensures { result ≡ thread_takes word.now (thread_act_at word.now self.now) }
     {
         match self {
             ThreadAct::Begin { .. } => word.doomed || word.may_begin(),
@@ -89,14 +104,15 @@ impl ThreadAct {
             ThreadAct::EnterUser { .. } => true,
             ThreadAct::Hold => !word.held,
             ThreadAct::LetGo => word.held,
+            ThreadAct::ReadWord => true,
         }
     }
 
-    /// Changes all of the word but its step number.
+    /// What is left but for the step number.
     fn take(&self, word: &mut ThreadWord)
-        requires { IsTrue (thread_takes word.old (thread_answers word.old (thread_act self.now))) }
+        requires { IsTrue (thread_takes word.old (thread_act_at word.old self.now)) }
         ensures domain { word.old.domain < DOMAINS → word.new.domain < DOMAINS }
-        ensures word { word.new ≡ thread_after word.old (thread_answers word.old (thread_act self.now)) }
+        ensures word { word.new ≡ thread_after word.old (thread_act_at word.old self.now) }
     {
         match self {
             ThreadAct::Begin { .. } => {}
@@ -118,17 +134,34 @@ impl ThreadAct {
             ThreadAct::EnterUser { .. } => word.mode = Mode::User,
             ThreadAct::Hold => word.held = true,
             ThreadAct::LetGo => word.held = false,
+            ThreadAct::ReadWord => {}
         }
     }
 
-    /// The word that the step leaves, or `None` if the word takes no such step.
+    /// The word that the step leaves; nothing where the word takes no such step.
     pub fn make(&self, word: &ThreadWord) -> Option<ThreadWord>
         ensures domain { word.now.domain < DOMAINS → IfSome result (λ next. next.domain < DOMAINS) }
         ensures made { MatchOption result
-            ((image : Image) (cpu t : ℕ) → Refuses (SiteState.thread word.now) (thread_made image cpu t word.now self.now))
-            (λ next. (image : Image) (cpu t : ℕ) → Takes image (SiteState.thread word.now) (thread_made image cpu t word.now self.now) (SiteState.thread next)) }
+            (thread_takes_at word.now self.now ≡ false)
+            (λ next. ThreadMay word.now (thread_act_at word.now self.now) next) }
     {
         Some(next_word!(self, word))
+    }
+
+    /// The same of the bits of a word that says something.
+    pub fn step(&self, seen: u64) -> Option<u64>
+        requires { is_thread seen ≡ true }
+        ensures { MatchOption result
+            (thread_takes_at (thread_in seen) self.now ≡ false)
+            (λ next. ThreadStep seen (thread_act_at (thread_in seen) self.now) next) }
+    {
+        let Some(word) = ThreadWord::unpack(seen) else {
+            unreachable!();
+        };
+        match self.make(&word) {
+            None => None,
+            Some(next) => Some(next.pack()),
+        }
     }
 
     /// The event of the step, by the word that it leaves, if a trace shows it.
@@ -176,6 +209,7 @@ impl ThreadAct {
             ThreadAct::EnterUser { thread } => shown(thread, Act::EnterUser),
             ThreadAct::Hold => None,
             ThreadAct::LetGo => None,
+            ThreadAct::ReadWord => None,
         }
     }
 }

@@ -1,25 +1,24 @@
-//! What a processor asks of the word of a row.
+//! What is asked of the word of a row, the word that it leaves, and what the word says: the only code that steps a row's word.
 
-ghost use Rattle.std.specs.Prelude.{◌≡◌, ◌<◌, ℕ, IsTrue, MatchOption};
-ghost use Rattle.um_base.specs.declared.image.Image.{Image};
-ghost use Rattle.um_words.specs.Rows.{row_after, row_says, row_takes};
-ghost use Rattle.um_fine.specs.Sites.{SiteState};
-ghost use Rattle.um_processor.specs.{
-  Asked.{Refuses, Takes},
-  RowActs.{left_by, row_act, row_event, row_made, row_said},
+ghost use Rattle.std.specs.Prelude.{◌≡◌, ◌<◌, false, IsTrue, MatchOption};
+ghost use Rattle.um_words.specs.{
+  Packed.{row_of},
+  RowActs.{drop_said, row_act_at, row_answers, row_event, row_takes_at},
+  Rows.{RowMay, dropped, left_of, row_after, row_takes},
+  Steps.{RowStep},
 };
 
-use crate::log::{checked, shown};
+use crate::events::{checked, shown};
+use crate::row_word::RowWord;
 use um_base::{Act, Addr, Errno, Event, Given, Kind, Leftover, Mode, SetSaid, ThreadIx, Want};
-use um_words::RowWord;
 
-/// The greatest step number. A word that has reached it takes no step.
+/// The greatest step number: there the word takes no step.
 const LAST: u32 = 0xf_ffff;
 
-/// A step that a processor asks of a row's word, with the thread that makes it.
+/// What is asked of the word of a row, and by which thread.
 #[derive(Clone, Copy)]
 pub enum RowAct {
-    /// A check, which holds the object for a call if it passes. `fits` says whether the row has the wanted kind.
+    /// To hold the object for a call, where it passes the check. Fits: the row has the wanted kind.
     Check {
         thread: ThreadIx,
         addr: Addr,
@@ -37,7 +36,7 @@ pub enum RowAct {
         thread: ThreadIx,
         who: ThreadIx,
     },
-    /// Passes the thread's permission on, if the thread has one and the other hasn't.
+    /// To pass the thread's permission on, where it has one and the other hasn't.
     Pass {
         thread: ThreadIx,
         who: ThreadIx,
@@ -48,7 +47,7 @@ pub enum RowAct {
         who: ThreadIx,
         addr: Addr,
     },
-    /// Drops a permission, if there is one.
+    /// To drop a permission, where there is one.
     Sweep {
         thread: ThreadIx,
         who: ThreadIx,
@@ -88,7 +87,7 @@ pub struct RowSaid {
     pub cleans: bool,
 }
 
-/// What a row says of a step that has no answer.
+/// A row that says nothing.
 const QUIET: RowSaid = RowSaid {
     verdict: None,
     given: Given::Done,
@@ -98,10 +97,10 @@ const QUIET: RowSaid = RowSaid {
     cleans: false,
 };
 
-/// Takes a permission away.
+/// A permission is taken away.
 fn drops(word: &mut RowWord, who: ThreadIx) -> RowSaid
-    ensures word { word.new ≡ Rattle.um_words.specs.Rows.dropped word.old who.0 }
-    ensures said { result ≡ Rattle.um_processor.specs.RowActs.drop_said (Rattle.um_words.specs.Rows.left_of word.old who.0) word.new }
+    ensures word { word.new ≡ dropped word.old who.0 }
+    ensures said { result ≡ drop_said (left_of word.old who.0) word.new }
 {
     match word.drop_one(who.0) {
         Leftover::Gone => RowSaid {
@@ -118,9 +117,9 @@ fn drops(word: &mut RowWord, who: ThreadIx) -> RowSaid
 }
 
 impl RowAct {
-    /// Whether the word takes the step.
+    /// Whether the word takes it.
     fn is_taken(&self, word: &RowWord) -> bool
-        ensures { result ≡ row_takes word.now (row_says word.now (row_act word.now self.now)) }
+        ensures { result ≡ row_takes word.now (row_act_at word.now self.now) }
     {
         match self {
             RowAct::Check { .. } => word.claims < 127,
@@ -138,11 +137,11 @@ impl RowAct {
         }
     }
 
-    /// Changes all of the word but its step number, and returns what the word says.
+    /// What the word says, and the word that is left but for its step number.
     fn take(&self, word: &mut RowWord) -> RowSaid
-        requires { IsTrue (row_takes word.old (row_says word.old (row_act word.old self.now))) }
-        ensures word { word.new ≡ row_after word.old (row_says word.old (row_act word.old self.now)) }
-        ensures said { result ≡ row_said (left_by (row_says word.old (row_act word.old self.now)) word.new) }
+        requires { IsTrue (row_takes word.old (row_act_at word.old self.now)) }
+        ensures word { word.new ≡ row_after word.old (row_act_at word.old self.now) }
+        ensures said { result ≡ row_answers word.old self.now }
     {
         match self {
             RowAct::Check {
@@ -213,11 +212,11 @@ impl RowAct {
         }
     }
 
-    /// The word that the step leaves, and what the word says, or `None` if the word takes no such step.
+    /// The word that the step leaves, with what it says; nothing where the word takes no such step.
     pub fn make(&self, word: &RowWord) -> Option<(RowWord, RowSaid)>
         ensures { MatchOption result
-            ((image : Image) (cpu x : ℕ) → Refuses (SiteState.row word.now) (row_made image cpu x word.now self.now))
-            (λ made. (image : Image) (cpu x : ℕ) → Takes image (SiteState.row word.now) (row_made image cpu x word.now self.now) (SiteState.row made.0) × (made.1 ≡ row_said (row_made image cpu x word.now self.now))) }
+            (row_takes_at word.now self.now ≡ false)
+            (λ made. RowMay word.now (row_act_at word.now self.now) made.0 × (made.1 ≡ row_answers word.now self.now)) }
     {
         if word.number >= LAST || !self.is_taken(word) {
             return None;
@@ -226,6 +225,20 @@ impl RowAct {
         let said = self.take(&mut next);
         next.number += 1;
         Some((next, said))
+    }
+
+    /// The same of the bits of a word.
+    pub fn step(&self, seen: u64) -> Option<(u64, RowSaid)>
+        ensures { MatchOption result
+            (row_takes_at (row_of seen) self.now ≡ false)
+            (λ made. RowStep seen (row_act_at (row_of seen) self.now) made.0 × (made.1 ≡ row_answers (row_of seen) self.now)) }
+    {
+        let word = RowWord::read(seen);
+        let (next, said) = match self.make(&word) {
+            None => return None,
+            Some(made) => made,
+        };
+        Some((next.pack(), said))
     }
 
     /// The event of the step, by what the word says, if a trace shows it.

@@ -1,0 +1,2 @@
+-- What a step of a row leaves.
+pub mod RowsLeft
