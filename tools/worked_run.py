@@ -35,13 +35,13 @@ def imports(text, own):
     lines += own
     lines.append("use Rattle.um_machine.specs.Run.{blank}")
     ways = [w for w in ("skips", "begins", "exits", "cleans", "recycles", "goes") if uses(w, text)]
-    lines.append(f"use Rattle.um_rows.specs.Evaluate.{{{', '.join(['Choice', *ways])}}}")
+    lines.append(f"use Rattle.um_worked_runs.specs.Evaluate.{{{', '.join(['Choice', *ways])}}}")
     words = "unborn started doomed ended waits ready initialised uninitialised gone nothing named filled unlocked locked closed".split()
-    lines.append(f"use Rattle.um_rows.specs.Dump.{{{', '.join(['Dump', *[w for w in words if uses(w, text)]])}}}")
+    lines.append(f"use Rattle.um_worked_runs.specs.Dump.{{{', '.join(['Dump', *[w for w in words if uses(w, text)]])}}}")
     short = [w for w in ("at", "thread", "row", "range", "rights", "by", "on", "choose") if re.search(rf"(?<![\w.]){w} (?!=)", text)]
     if short:
-        lines.append(f"use Rattle.um_rows.specs.Words.{{{', '.join(short)}}}")
-    lines.append("use Rattle.um_rows.specs.Whole.{whole_run}")
+        lines.append(f"use Rattle.um_worked_runs.specs.Words.{{{', '.join(short)}}}")
+    lines.append("use Rattle.um_worked_runs.specs.Whole.{whole_run}")
     return "\n".join(lines)
 
 

@@ -12,7 +12,7 @@ use Rattle.um_machine.specs.State.{State}
 use Rattle.um_invariants.specs.Described.{IsDescribed}
 use Rattle.um_texts.proofs.RunLemmas.{texts_differ}
 use Rattle.um_trace.specs.Text.{text}
-use Rattle.um_scheduler.specs.InOrder.{IsInOrder}
+use Rattle.um_invariants.specs.InOrder.{IsInOrder}
 use Rattle.um_scheduler.specs.Scheduled.{IsScheduled}
 use Rattle.um_scheduler.specs.declared.running.Ran.{Ran}
 use Rattle.um_app.specs.Ordered.{IsOrdered, IsShown}

@@ -7,7 +7,7 @@ use Rattle.um_core.specs.PickedRun.{IsPickedRun}
 use Rattle.um_fine.specs.Erasure.{shown}
 use Rattle.um_fine.specs.Steps.{FineStep}
 use Rattle.um_machine.specs.State.{State}
-use Rattle.um_scheduler.specs.InOrder.{IsInOrder}
+use Rattle.um_invariants.specs.InOrder.{IsInOrder}
 use Rattle.um_scheduler.specs.Scheduled.{IsScheduled}
 
 -- the events that the steps of several processors show. At each turn the first processor that can make a step makes it, beginning with the

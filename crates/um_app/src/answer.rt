@@ -21,7 +21,7 @@ use std::alloc::Global;
 use std::sync::Wait;
 use std::thread::Threads;
 use um_audit::Parts;
-use um_base::{Image, Memory};
+use um_base::{Image, OutOfMemory};
 use um_command::{Command, Options};
 use um_image::{ImageFault, fault_text, print_image, read_image};
 use um_io::Gate;
@@ -43,7 +43,7 @@ pub enum Answer {
 }
 
 /// The text of a run.
-fn run_text(alloc: Global, image: &Image, options: Options) -> Result<Vec<u8>, Memory>
+fn run_text(alloc: Global, image: &Image, options: Options) -> Result<Vec<u8>, OutOfMemory>
     requires lawful { IsLawful image.now }
     requires cpus { IsFew options }
     ensures { IfOk result (λ text. IsRunText image.now options text.items) }
@@ -55,7 +55,7 @@ fn run_text(alloc: Global, image: &Image, options: Options) -> Result<Vec<u8>, M
 }
 
 /// The counts of a run.
-fn run_summary(alloc: Global, image: &Image, options: Options) -> Result<Vec<u8>, Memory>
+fn run_summary(alloc: Global, image: &Image, options: Options) -> Result<Vec<u8>, OutOfMemory>
     requires lawful { IsLawful image.now }
     requires cpus { IsFew options }
     ensures { IfOk result (λ text. IsRunSummary image.now options text.items) }
@@ -67,7 +67,7 @@ fn run_summary(alloc: Global, image: &Image, options: Options) -> Result<Vec<u8>
 }
 
 /// The addresses of an image.
-fn addresses(alloc: Global, image: &Image) -> Result<Vec<u8>, Memory>
+fn addresses(alloc: Global, image: &Image) -> Result<Vec<u8>, OutOfMemory>
     ensures { IfOk result (λ text. text.items ≡ layout_text image.now) }
 {
     let mut text = Vec::with_capacity(alloc, um_trace::layout_room(image))?;
@@ -76,7 +76,7 @@ fn addresses(alloc: Global, image: &Image) -> Result<Vec<u8>, Memory>
 }
 
 /// The canonical description of an image.
-fn upgraded(alloc: Global, image: &Image) -> Result<Vec<u8>, Memory>
+fn upgraded(alloc: Global, image: &Image) -> Result<Vec<u8>, OutOfMemory>
     requires described { (source : List ℕ) × Describes source image.now }
     ensures { IfOk result (λ text. IsUpgrade image.now text.items) }
 {
@@ -84,7 +84,7 @@ fn upgraded(alloc: Global, image: &Image) -> Result<Vec<u8>, Memory>
 }
 
 /// The verdict on a trace.
-fn verdict(alloc: Global, image: &Image, trace: &[u8]) -> Result<Vec<u8>, Memory>
+fn verdict(alloc: Global, image: &Image, trace: &[u8]) -> Result<Vec<u8>, OutOfMemory>
     requires lawful { IsLawful image.now }
     requires short { length trace.now < 2 ^ 32 - 1 }
     ensures { IfOk result (λ text. IsAudit image.now trace.now text.items) }
@@ -95,7 +95,12 @@ fn verdict(alloc: Global, image: &Image, trace: &[u8]) -> Result<Vec<u8>, Memory
 }
 
 /// What a command writes of an image, and of the trace after it.
-fn written(alloc: Global, command: Command, image: &Image, trace: &[u8]) -> Result<Vec<u8>, Memory>
+fn written(
+    alloc: Global,
+    command: Command,
+    image: &Image,
+    trace: &[u8],
+) -> Result<Vec<u8>, OutOfMemory>
     requires serial { is_serial command ≡ true }
     requires described { (source : List ℕ) × Describes source image.now }
     requires lawful { IsLawful image.now }
@@ -116,7 +121,7 @@ fn written(alloc: Global, command: Command, image: &Image, trace: &[u8]) -> Resu
 
 /// The line on standard error that tells a fault.
 #[tactic(auto, unfolding(crate::specs::Messages::refused_line))]
-fn line_of_fault(alloc: Global, fault: &ImageFault) -> Result<String, Memory>
+fn line_of_fault(alloc: Global, fault: &ImageFault) -> Result<String, OutOfMemory>
     ensures { IfOk result (λ line. string_bytes line ≡ refused_line fault.now) }
 {
     let text = fault_text(alloc, fault)?;
@@ -142,13 +147,13 @@ fn refused(alloc: Global, fault: &ImageFault) -> Answer
 {
     match line_of_fault(alloc, fault) {
         Ok(line) => Answer::Refused(line),
-        Err(Memory) => Answer::NoMemory,
+        Err(OutOfMemory) => Answer::NoMemory,
     }
 }
 
 /// The line on standard error that tells that there is no trace.
 #[tactic(auto, unfolding(crate::specs::Messages::no_trace_line))]
-fn line_of_no_trace(alloc: Global) -> Result<String, Memory>
+fn line_of_no_trace(alloc: Global) -> Result<String, OutOfMemory>
     ensures { IfOk result (λ line. string_bytes line ≡ no_trace_line) }
 {
     Ok(String::from_str(alloc, "zumode: refused: NoTrace\n")?)
@@ -161,7 +166,7 @@ fn without_trace(alloc: Global) -> Answer
 {
     match line_of_no_trace(alloc) {
         Ok(line) => Answer::Refused(line),
-        Err(Memory) => Answer::NoMemory,
+        Err(OutOfMemory) => Answer::NoMemory,
     }
 }
 
@@ -189,7 +194,7 @@ fn answer_of(alloc: Global, command: Command, description: &[u8], trace: &[u8]) 
     match read_image(alloc, description) {
         Ok(image) => match written(alloc, command, &image, trace) {
             Ok(text) => Answer::Text(text),
-            Err(Memory) => Answer::NoMemory,
+            Err(OutOfMemory) => Answer::NoMemory,
         },
         Err(fault) => not_read(alloc, &fault),
     }
@@ -246,7 +251,7 @@ pub fn thread_answer_to<R: Threads + Wait + Sync, G: Gate + Sync>(
     match read_image(alloc, input) {
         Ok(image) => match thread_text(rt, alloc, &image, cpus, gate) {
             Ok(made) => Ok(made),
-            Err(Memory) => Err(Answer::NoMemory),
+            Err(OutOfMemory) => Err(Answer::NoMemory),
         },
         Err(fault) => Err(not_read(alloc, &fault)),
     }

@@ -9,14 +9,18 @@ ghost use Rattle.um_trace.specs.Text.{text};
 ghost use Rattle.um_app.specs.{Ordered.{IsShown}, Top.{IsRunOf, NamesRun}};
 
 use std::alloc::Global;
-use um_base::{Event, Image, Memory};
+use um_base::{Event, Image, OutOfMemory};
 use um_command::Options;
 use um_image::weight;
 use um_matrix::Matrix;
 use um_scheduler::{Ran, run};
 
 /// The state that the events of a run lead to.
-pub fn replayed<'a>(alloc: Global, image: &'a Image, events: &[Event]) -> Result<Matrix<'a>, Memory>
+pub fn replayed<'a>(
+    alloc: Global,
+    image: &'a Image,
+    events: &[Event],
+) -> Result<Matrix<'a>, OutOfMemory>
     requires described { IsDescribed image.now }
     requires run { (last : State) × IsRun image.now events.now last × IsComplete last }
     ensures run { IfOk result (λ last. IsRun image.now events.now last) }
@@ -28,7 +32,7 @@ pub fn replayed<'a>(alloc: Global, image: &'a Image, events: &[Event]) -> Result
 }
 
 /// A complete run of an image on several processors, and the state that it leads to.
-fn played<'a>(alloc: Global, image: &'a Image, options: Options) -> Result<Ran<'a>, Memory>
+fn played<'a>(alloc: Global, image: &'a Image, options: Options) -> Result<Ran<'a>, OutOfMemory>
     requires described { IsDescribed image.now }
     requires cpus { IsFew options }
     ensures run { IfOk result (λ ran. IsRun image.now ran.events.items ran.last) }
@@ -43,7 +47,7 @@ fn played<'a>(alloc: Global, image: &'a Image, options: Options) -> Result<Ran<'
 }
 
 /// The run on several processors. Some of their steps show no event.
-fn several<'a>(alloc: Global, image: &'a Image, options: Options) -> Result<Ran<'a>, Memory>
+fn several<'a>(alloc: Global, image: &'a Image, options: Options) -> Result<Ran<'a>, OutOfMemory>
     requires lawful { IsLawful image.now }
     requires cpus { IsFew options }
     requires many { 1 < options.cpus }
@@ -55,7 +59,7 @@ fn several<'a>(alloc: Global, image: &'a Image, options: Options) -> Result<Ran<
 }
 
 /// The run on one processor, by the turns of its threads.
-fn alone<'a>(alloc: Global, image: &'a Image, options: Options) -> Result<Ran<'a>, Memory>
+fn alone<'a>(alloc: Global, image: &'a Image, options: Options) -> Result<Ran<'a>, OutOfMemory>
     requires lawful { IsLawful image.now }
     requires one { options.cpus ≡ 1 }
     ensures run { IfOk result (λ ran. IsRunOf image.now options ran.events.items ran.last) }
@@ -72,7 +76,7 @@ fn alone<'a>(alloc: Global, image: &'a Image, options: Options) -> Result<Ran<'a
 }
 
 /// A complete run of an image, which obeys the laws, and the state that it leads to. The room for events is the image's weight.
-pub fn ran<'a>(alloc: Global, image: &'a Image, options: Options) -> Result<Ran<'a>, Memory>
+pub fn ran<'a>(alloc: Global, image: &'a Image, options: Options) -> Result<Ran<'a>, OutOfMemory>
     requires lawful { IsLawful image.now }
     requires cpus { IsFew options }
     ensures run { IfOk result (λ ran. IsRunOf image.now options ran.events.items ran.last) }
@@ -91,7 +95,7 @@ pub fn sim_events(
     image: &Image,
     cpus: u8,
     pick: Option<u64>,
-) -> Result<Vec<Event>, Memory>
+) -> Result<Vec<Event>, OutOfMemory>
     requires lawful { IsLawful image.now }
     requires some { 1 ≤ cpus }
     requires few { cpus ≤ 8 }

@@ -10,7 +10,7 @@ use crate::sim::replayed;
 use std::alloc::Global;
 use std::sync::Wait;
 use std::thread::Threads;
-use um_base::{Event, Image, Memory};
+use um_base::{Event, Image, OutOfMemory};
 use um_board::Contents;
 use um_cpu::{Ran, run_events};
 use um_image::weight;
@@ -38,7 +38,7 @@ fn thread_run<'a, R: Threads + Wait + Sync, G: Gate + Sync>(
     image: &'a Image,
     cpus: u8,
     gate: &G,
-) -> Result<ThreadRun<'a>, Memory>
+) -> Result<ThreadRun<'a>, OutOfMemory>
     requires may { MayRun image.now cpus }
     ensures run { IfOk result (λ made. IsThreadRun image.now cpus made.closed made.events.items made.last) }
     ensures names { IfOk result (λ made. NamesRun image.now (text image.now made.events.items made.last) made.events.items) }
@@ -66,7 +66,7 @@ fn text_of(
     image: &Image,
     events: &[Event],
     last: &Matrix<'_>,
-) -> Result<Vec<u8>, Memory>
+) -> Result<Vec<u8>, OutOfMemory>
     requires lawful { IsLawful image.now }
     requires run { IsRun image.now events.now last.now }
     requires few { length events.now ≤ weight image.now }
@@ -84,7 +84,7 @@ pub fn thread_text<R: Threads + Wait + Sync, G: Gate + Sync>(
     image: &Image,
     cpus: u8,
     gate: &G,
-) -> Result<ThreadText, Memory>
+) -> Result<ThreadText, OutOfMemory>
     requires may { MayRun image.now cpus }
     ensures { IfOk result (λ made. IsThreadRunText image.now cpus made.closed made.text.items) }
 {

@@ -15,7 +15,7 @@ use crate::pieces::{first_piece, is_dump, line_of};
 use crate::steps::takes_line;
 use crate::verdict::Verdict;
 use std::alloc::Global;
-use um_base::{Image, Memory};
+use um_base::{Image, OutOfMemory};
 use um_matrix::Matrix;
 use um_trace::{DUMP_ROOM, LINE_ROOM, dump_text};
 
@@ -77,7 +77,7 @@ fn ended(matrix: &Matrix, image: &Image, lines: usize, rest: &[u8], room: &mut V
 
 /// What is said of a text: whether it is that of a complete run of an image, and else its first line that isn't. All memory is taken
 /// before the first line is read.
-pub fn audit(alloc: Global, image: &Image, text: &[u8]) -> Result<Verdict, Memory>
+pub fn audit(alloc: Global, image: &Image, text: &[u8]) -> Result<Verdict, OutOfMemory>
     requires lawful { IsLawful image.now }
     requires short { length text.now < 2 ^ 32 - 1 }
     ensures verdict { IfOk result (λ verdict. IsVerdict image.now text.now verdict) }

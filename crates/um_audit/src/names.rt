@@ -4,11 +4,11 @@ ghost use Rattle.std.specs.Prelude.{◌≡◌, IfOk, length};
 ghost use Rattle.um_audit.specs.Beginnings.{AreBeginnings};
 
 use std::alloc::Global;
-use um_base::{Image, Memory, THREADS};
+use um_base::{Image, OutOfMemory, THREADS};
 use um_trace::{LINE_ROOM, thread_beginning};
 
 /// What the lines of each thread begin with, by thread index.
-pub fn beginnings(alloc: Global, image: &Image) -> Result<Vec<Vec<u8>>, Memory>
+pub fn beginnings(alloc: Global, image: &Image) -> Result<Vec<Vec<u8>>, OutOfMemory>
     ensures { IfOk result (λ names. AreBeginnings image.now names.items) }
 {
     let mut names = Vec::with_capacity(alloc, THREADS)?;

@@ -4,7 +4,7 @@ ghost use Rattle.std.specs.Prelude.{◌≡◌, IfOk};
 ghost use Rattle.um_audit.specs.Told.{verdict_text};
 
 use std::alloc::Global;
-use um_base::Memory;
+use um_base::OutOfMemory;
 
 /// Whether a text is that of a complete run, and else what it lacks. Lines are numbered from 1.
 #[derive(Clone, Copy, Debug, PartialEq, Eq)]
@@ -21,7 +21,7 @@ pub enum Verdict {
 
 /// The line that tells a verdict.
 #[tactic(auto, unfolding(crate::specs::Told::verdict_text))]
-pub fn verdict_text(alloc: Global, verdict: Verdict) -> Result<Vec<u8>, Memory>
+pub fn verdict_text(alloc: Global, verdict: Verdict) -> Result<Vec<u8>, OutOfMemory>
     ensures { IfOk result (λ text. text.items ≡ verdict_text verdict) }
 {
     let text = match verdict {

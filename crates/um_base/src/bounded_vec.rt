@@ -2,7 +2,7 @@
 
 ghost use Rattle.std.specs.Prelude.{◌≡◌, ◌==◌, ◌<◌, ◌≤◌, [], ◌∷◌, ◌++◌, length, OnOk, OnErr};
 
-use crate::memory::Memory;
+use crate::out_of_memory::OutOfMemory;
 use std::alloc::Global;
 use std::marker::Model;
 
@@ -56,7 +56,7 @@ impl<T: Drop, const MOST: usize> BoundedVec<T, MOST> {
     }
 
     /// One more at the end. Where memory runs out, the list stays as it was.
-    pub fn push(&mut self, item: T) -> Result<(), Memory>
+    pub fn push(&mut self, item: T) -> Result<(), OutOfMemory>
         requires { length self.old < MOST }
         ensures ok { OnOk result (self.new ≡ self.old ++ item ∷ []) }
         ensures err { OnErr result (self.new ≡ self.old) }
@@ -85,7 +85,7 @@ impl<T: Drop, const MOST: usize> BoundedVec<T, MOST> {
 
 impl<T: Copy + Drop, const MOST: usize> BoundedVec<T, MOST> {
     /// One more at the end, a copy of the item. Where memory runs out, the list stays as it was.
-    pub fn push_copy(&mut self, item: &T) -> Result<(), Memory>
+    pub fn push_copy(&mut self, item: &T) -> Result<(), OutOfMemory>
         requires { length self.old < MOST }
         ensures ok { OnOk result (self.new ≡ self.old ++ item.now ∷ []) }
         ensures err { OnErr result (self.new ≡ self.old) }

@@ -9,9 +9,9 @@ mod image;
 mod instr;
 mod limits;
 mod lists;
-mod memory;
 mod name;
 mod names;
+mod out_of_memory;
 
 pub use act::{Act, Answer, Cause, Event, Found, Given, Leftover, SetSaid};
 pub use ask::{Ask, Told, Waiter};
@@ -25,9 +25,9 @@ pub use limits::{
     SCRIPTS, STACK_AREA, STATIC_ROWS, STATIC_THREADS, THREADS,
 };
 pub use lists::{PartRefs, Parts, Piece, Replies};
-pub use memory::Memory;
 pub use name::Name;
 pub use names::{
     Access, Addr, Errno, Kind, Mode, Mpu, PartRef, Policy, Range, Ref, Reply, Row, Term, ThreadIx,
     Timeout, Want,
 };
+pub use out_of_memory::OutOfMemory;

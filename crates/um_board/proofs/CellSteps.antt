@@ -19,7 +19,7 @@ use Rattle.um_fine.specs.Sites.{SiteState, is_site, site_after, site_number, wor
 use Rattle.um_fine.specs.Steps.{Exchange, FineStep, Site, Word}
 use Rattle.um_fine.proofs.Filled.{filled-twice}
 use Rattle.um_fine.proofs.Keys.{number-back}
-use Rattle.um_processor.specs.Asked.{Takes, asked, cell_made}
+use Rattle.um_tables.specs.Asked.{Takes, asked, cell_made}
 use Rattle.um_board.specs.Contents.{Follows, Known}
 use Rattle.um_board.specs.Noted.{number_of, packed}
 use Rattle.um_board.specs.ReadBack.{IsReadBack, unpacked}

@@ -15,10 +15,10 @@ use Rattle.um_fine.specs.Steps.{Site}
 use Rattle.um_fine.proofs.Keys.{number-back}
 use Rattle.um_machine.specs.Run.{opening}
 use Rattle.um_machine.specs.Table.{domain_at}
-use Rattle.um_processor.specs.ObjectCells.{cleared, kept_in}
-use Rattle.um_processor.specs.Sited.{domain_cell_state, no_domain_cell, object_state}
-use Rattle.um_processor.specs.declared.domain_cell.DomainCell.{DomainCell}
-use Rattle.um_processor.specs.declared.object_cell.ObjectCell.{ObjectCell}
+use Rattle.um_tables.specs.ObjectCells.{cleared, kept_in}
+use Rattle.um_tables.specs.Sited.{domain_cell_state, no_domain_cell, object_state}
+use Rattle.um_tables.specs.declared.domain_cell.DomainCell.{DomainCell}
+use Rattle.um_tables.specs.declared.object_cell.ObjectCell.{ObjectCell}
 use Rattle.um_opening.specs.Opened.{AreParts}
 use Rattle.um_board.specs.Contents.{Known, Opens}
 use Rattle.um_board.specs.Opening.{AreFirst}

@@ -10,8 +10,8 @@ use Rattle.um_fine.specs.Opening.{heap_cell, s_start, scheduler_cell}
 use Rattle.um_fine.specs.Memory.{bytes_of}
 use Rattle.um_fine.specs.Sites.{SiteState, is_site}
 use Rattle.um_fine.specs.Steps.{Site}
-use Rattle.um_processor.specs.ObjectCells.{cleared}
-use Rattle.um_processor.specs.Sited.{Sited, object_state, state_at}
+use Rattle.um_tables.specs.ObjectCells.{cleared}
+use Rattle.um_tables.specs.Sited.{Sited, object_state, state_at}
 use Rattle.um_opening.specs.Opened.{AreDomains, AreParts, AreRows, AreThreads}
 use Rattle.um_board.proofs.FirstCells.{opened}
 

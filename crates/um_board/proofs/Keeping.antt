@@ -9,7 +9,7 @@ use Rattle.um_words.specs.declared.made.Made.{Made}
 use Rattle.um_fine.specs.Sites.{site_number}
 use Rattle.um_fine.specs.Steps.{FineStep}
 use Rattle.um_merge.specs.declared.logged.Logged.{Logged}
-use Rattle.um_processor.specs.Asked.{event_of}
+use Rattle.um_tables.specs.Asked.{event_of}
 use Rattle.um_board.specs.Contents.{Known}
 use Rattle.um_board.specs.Noted.{logged_of, made_of, number_of}
 use Rattle.um_board.specs.ReadBack.{IsReadBack}

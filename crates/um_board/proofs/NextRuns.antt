@@ -10,7 +10,7 @@ use Rattle.um_fine.specs.Runs.{Run, ends}
 use Rattle.um_fine.specs.Sites.{site_number, site_numbered}
 use Rattle.um_fine.specs.Steps.{FineStep, Site}
 use Rattle.um_fine.proofs.Subs.{ends-append}
-use Rattle.um_processor.specs.Processors.{AsksFor}
+use Rattle.um_tables.specs.Asked.{AsksFor}
 use Rattle.um_site.specs.declared.seat.Seat.{Seat}
 use Rattle.um_merge.specs.declared.logged.Logged.{Logged}
 use Rattle.um_board.specs.Contents.{Known}

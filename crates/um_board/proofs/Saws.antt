@@ -12,9 +12,9 @@ use Rattle.um_fine.specs.Steps.{Exchange, Site}
 use Rattle.um_merge.specs.Logs.{Log}
 use Rattle.um_merge.specs.declared.logged.Logged.{Logged}
 use Rattle.um_fine.proofs.Filled.{filled-twice}
-use Rattle.um_processor.specs.Asked.{asked}
-use Rattle.um_processor.specs.Sited.{IsShut}
-use Rattle.um_processor.specs.SchedulerActs.{scheduler_made, taken_made}
+use Rattle.um_tables.specs.Asked.{asked}
+use Rattle.um_tables.specs.Sited.{IsShut}
+use Rattle.um_tables.specs.SchedulerActs.{scheduler_made, taken_made}
 use Rattle.um_site.specs.declared.seat.Seat.{Seat}
 use Rattle.um_board.specs.Contents.{Known, known}
 use Rattle.um_board.specs.Placed.{AsksTurn, HasMadeNone}

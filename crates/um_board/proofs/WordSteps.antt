@@ -25,9 +25,9 @@ use Rattle.um_fine.proofs.Keys.{number-back}
 use Rattle.um_fine.specs.Sites.{SiteState, is_site, site_number, site_numbered, word_of}
 use Rattle.um_fine.specs.Steps.{FineStep, Site, Word}
 use Rattle.um_site.proofs.Lawful.{at-row}
-use Rattle.um_processor.proofs.WordActs.{row-takes}
-use Rattle.um_processor.specs.Asked.{Takes}
-use Rattle.um_processor.specs.RowActs.{row_made, row_said}
+use Rattle.um_tables.proofs.WordActs.{row-takes}
+use Rattle.um_tables.specs.Asked.{Takes}
+use Rattle.um_tables.specs.RowActs.{row_made, row_said}
 use Rattle.um_words.specs.declared.row_act.RowAct.{RowAct}
 use Rattle.um_words.specs.declared.row_act.RowSaid.{RowSaid}
 use Rattle.um_board.specs.Noted.{packed}

@@ -1,6 +1,6 @@
 -- What is kept in a cell of a board, as contents of a cell of the fine machine.
 use Rattle.um_fine.specs.Cells.{Cell}
-use Rattle.um_processor.specs.ObjectCells.{kept_in}
+use Rattle.um_tables.specs.ObjectCells.{kept_in}
 use Rattle.um_board.specs.declared.contents.Kept.{Kept}
 
 -- the contents without the number of steps

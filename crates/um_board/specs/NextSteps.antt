@@ -7,7 +7,7 @@ use Rattle.um_fine.specs.Follows.{p_next}
 use Rattle.um_fine.specs.Processor.{Processor, idle}
 use Rattle.um_fine.specs.Runs.{Run, ends}
 use Rattle.um_fine.specs.Steps.{FineStep}
-use Rattle.um_processor.specs.Processors.{AsksFor}
+use Rattle.um_tables.specs.Asked.{AsksFor}
 use Rattle.um_board.specs.ReadBack.{fine_at}
 
 -- the processor k after the steps of its list

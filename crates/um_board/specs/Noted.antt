@@ -5,7 +5,7 @@ use Rattle.um_words.specs.Packed.{packed_cell, packed_domain, packed_row, packed
 use Rattle.um_fine.specs.Sites.{site_number}
 use Rattle.um_fine.specs.Steps.{FineStep, Word}
 use Rattle.um_merge.specs.declared.logged.Logged.{Logged}
-use Rattle.um_processor.specs.Asked.{event_of}
+use Rattle.um_tables.specs.Asked.{event_of}
 
 -- the bits of a word, and its step number
 abbrev pub packed : Word → ℕ

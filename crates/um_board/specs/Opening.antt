@@ -11,10 +11,10 @@ use Rattle.um_fine.specs.Cells.{Cell}
 use Rattle.um_fine.specs.Opening.{s_start}
 use Rattle.um_fine.specs.Sites.{SiteState, site_numbered, word_of}
 use Rattle.um_fine.specs.Steps.{Site}
-use Rattle.um_processor.specs.ObjectCells.{cleared}
-use Rattle.um_processor.specs.Sited.{object_state}
-use Rattle.um_processor.specs.declared.domain_cell.DomainCell.{DomainCell}
-use Rattle.um_processor.specs.declared.object_cell.ObjectCell.{ObjectCell}
+use Rattle.um_tables.specs.ObjectCells.{cleared}
+use Rattle.um_tables.specs.Sited.{object_state}
+use Rattle.um_tables.specs.declared.domain_cell.DomainCell.{DomainCell}
+use Rattle.um_tables.specs.declared.object_cell.ObjectCell.{ObjectCell}
 use Rattle.um_opening.specs.Opened.{AreParts}
 use Rattle.um_board.specs.Contents.{Known, Opens}
 use Rattle.um_board.specs.Noted.{packed}

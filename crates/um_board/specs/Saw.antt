@@ -10,7 +10,7 @@ use Rattle.um_fine.specs.Cells.{cell_word}
 use Rattle.um_fine.specs.Sites.{SiteState, site_number, word_of}
 use Rattle.um_fine.specs.Steps.{FineStep, Site}
 use Rattle.um_merge.specs.declared.logged.Logged.{Logged}
-use Rattle.um_processor.specs.Sited.{IsShut}
+use Rattle.um_tables.specs.Sited.{IsShut}
 use Rattle.um_site.specs.Cells.{ContentsAre, Moment}
 use Rattle.um_site.specs.declared.seat.Seat.{Seat}
 use Rattle.um_site.specs.declared.view.View.{View}

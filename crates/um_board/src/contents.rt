@@ -7,7 +7,7 @@ ghost use Rattle.um_board.specs.Kept.{cell_of};
 use std::marker::Model;
 use std::snapshot::Snapshot;
 use um_base::Image;
-use um_processor::{Bytes, DomainCell, Heap, ObjectCell, Scheduler};
+use um_tables::{Bytes, DomainCell, Heap, ObjectCell, Scheduler};
 use um_words::Content;
 
 /// What a cell keeps: an object's, a domain's, the memory's, the heap's or the scheduler's contents. The cell's word counts its steps; the

@@ -9,10 +9,10 @@ use crate::first_contents::first_contents;
 use crate::first_words::first_words;
 use crate::next_step::NextStep;
 use std::alloc::Global;
-use um_base::{Image, Memory};
+use um_base::{Image, OutOfMemory};
 use um_cell::Cells;
-use um_processor::TableParts;
 use um_site::{Board, Seat};
+use um_tables::TableParts;
 
 /// The site of the first cell.
 const FIRST_CELL: u16 = 168;
@@ -24,7 +24,7 @@ const CELLS: u32 = 139;
 pub fn opening(
     alloc: Global,
     image: &Image,
-) -> Result<(Board<Contents, NextStep>, Seat<Contents>, Cells<Contents>), Memory>
+) -> Result<(Board<Contents, NextStep>, Seat<Contents>, Cells<Contents>), OutOfMemory>
     requires lawful { IsLawful image.now }
     ensures seated { IfOk result (λ r. IsSeated image.now r.0.table.shared.table_id r.2 r.1) }
     ensures first { IfOk result (λ r. IsFirst r.1) }

@@ -7,14 +7,14 @@ ghost use Rattle.um_board.specs.{Kept.{cell_of}, Opening.{AreDomainCells, AreFir
 
 use crate::contents::{Contents, Kept};
 use std::alloc::Global;
-use um_base::{Image, Memory};
-use um_processor::{Bytes, DomainCell, Heap, ObjectCell, Scheduler};
+use um_base::{Image, OutOfMemory};
+use um_tables::{Bytes, DomainCell, Heap, ObjectCell, Scheduler};
 
 /// How many cells a board has.
 const CELLS: usize = 139;
 
 /// Adds one cell.
-fn add(image: &Image, all: &mut Vec<Contents>, kept: Kept) -> Result<(), Memory>
+fn add(image: &Image, all: &mut Vec<Contents>, kept: Kept) -> Result<(), OutOfMemory>
     requires first { AreFirst image.now all.old.items }
     requires opens { OpensWith image.now (site_numbered (168 + length all.old.items)) (cell_of kept) }
     ensures first { IfOk result (λ _. AreFirst image.now all.new.items) }
@@ -30,7 +30,7 @@ fn add_objects(
     image: &Image,
     all: &mut Vec<Contents>,
     objects: Vec<ObjectCell>,
-) -> Result<(), Memory>
+) -> Result<(), OutOfMemory>
     requires first { AreFirst image.now all.old.items }
     requires none { length all.old.items ≡ 0 }
     requires objects { AreObjects image.now objects.items }
@@ -50,7 +50,7 @@ fn add_parts(
     image: &Image,
     all: &mut Vec<Contents>,
     cells: Vec<DomainCell>,
-) -> Result<(), Memory>
+) -> Result<(), OutOfMemory>
     requires first { AreFirst image.now all.old.items }
     requires objects { length all.old.items ≡ ROWS }
     requires parts { AreDomainCells image.now cells.items }
@@ -73,7 +73,7 @@ pub fn first_contents(
     memory: Bytes,
     heap: Heap,
     scheduler: Scheduler,
-) -> Result<Vec<Contents>, Memory>
+) -> Result<Vec<Contents>, OutOfMemory>
     requires objects { AreObjects image.now objects.items }
     requires all_objects { length objects.items ≡ ROWS }
     requires parts { AreDomainCells image.now domain_cells.items }

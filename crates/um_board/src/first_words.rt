@@ -8,7 +8,7 @@ ghost use Rattle.um_opening.specs.Opened.{AreDomains, AreRows, AreThreads};
 ghost use Rattle.um_board.specs.Opening.{AreOpening, IsFirstWord};
 
 use std::alloc::Global;
-use um_base::{Image, Memory};
+use um_base::{Image, OutOfMemory};
 use um_words::{CellWord, DomWord, RowWord, ThreadWord};
 
 /// How many words a board has.
@@ -109,7 +109,7 @@ pub fn first_words(
     rows: &[RowWord],
     threads: &[ThreadWord],
     domains: &[DomWord],
-) -> Result<Vec<u64>, Memory>
+) -> Result<Vec<u64>, OutOfMemory>
     requires lawful { IsLawful image.now }
     requires rows { AreRows (opening image.now) ROWS rows.now }
     requires threads { AreThreads (opening image.now) THREADS threads.now }

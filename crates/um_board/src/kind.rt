@@ -4,7 +4,7 @@ ghost use Rattle.std.specs.Prelude.{◌≡◌};
 ghost use Rattle.um_board.specs.{Kept.{cell_of}, Turned.{kind_of}};
 
 use crate::contents::Kept;
-use um_processor::{Bytes, DomainCell, Heap, ObjectCell, Scheduler};
+use um_tables::{Bytes, DomainCell, Heap, ObjectCell, Scheduler};
 
 /// What cells of one kind keep.
 pub trait Kind {
@@ -30,7 +30,7 @@ pub trait Kind {
 impl Kind for Box<ObjectCell> {
     ghost use Rattle.um_words.specs.declared.kind.CellKind.{CellKind};
     ghost use Rattle.um_fine.specs.Cells.{Cell};
-    ghost use Rattle.um_processor.specs.ObjectCells.{kept_in};
+    ghost use Rattle.um_tables.specs.ObjectCells.{kept_in};
 
     ghost kind = { CellKind.Object };
 

@@ -10,7 +10,7 @@ ghost use Rattle.um_fine.specs.{
   Steps.{Exchange},
 };
 ghost use Rattle.um_site.specs.Tells.{NoOlder, last_got};
-ghost use Rattle.um_processor.specs.Asked.{Takes, event_of};
+ghost use Rattle.um_tables.specs.Asked.{Takes, event_of};
 ghost use Rattle.um_board.specs.{
   NextSteps.{IsNext},
   Noted.{made_of, number_of},
@@ -27,8 +27,8 @@ use std::snapshot::Snapshot;
 use um_base::{Event, Image};
 use um_cell::{Cells, Held};
 use um_merge::Log;
-use um_processor::Here;
 use um_site::{Board, Seat};
+use um_tables::Here;
 use um_words::{CellWord, step_number};
 
 /// The greatest step number: there a cell takes no step.

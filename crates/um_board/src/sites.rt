@@ -5,11 +5,11 @@ use std::marker::Brand;
 use std::snapshot::Snapshot;
 use um_base::{Addr, Image, Parts, Piece, Reply, Row, ThreadIx, Told, Waiter};
 use um_machine::{Cost, Pending};
-use um_processor::{
+use um_service::Outcome;
+use um_tables::{
     Bytes, Context, DomainCell, Heap, HeapAct, HeapSaid, Here, MemoryAct, MemorySaid, ObjectCell,
     Said, Scheduler, Sites, edited, named, parts_or_none, resumed, worked,
 };
-use um_service::Outcome;
 use um_words::{CellWord, DomWord, DomainAct, RowAct, RowSaid, RowWord, ThreadAct, ThreadWord};
 
 /// The sites of the cells of memory, of the heap and of the scheduler.

@@ -3,7 +3,7 @@
 ghost use Rattle.std.specs.Prelude.{◌≡◌, ◌<◌, [], true, IfOk, IfSome, length};
 
 use std::alloc::Global;
-use um_base::{Image, Memory};
+use um_base::{Image, OutOfMemory};
 use um_samples::empty_image;
 use um_site::{Board, Seat, are_unstepped, have_no_turn};
 use um_words::AnyStep;
@@ -17,7 +17,7 @@ pub fn empty_image(alloc: Global) -> Image {
 pub fn board_of(
     alloc: Global,
     words: Vec<u64>,
-) -> Result<Option<(Board<(), AnyStep>, Seat<()>)>, Memory>
+) -> Result<Option<(Board<(), AnyStep>, Seat<()>)>, OutOfMemory>
     ensures same { IfOk result (λ r. IfSome r (λ b. b.1.token.table_id ≡ b.0.table.shared.table_id)) }
     ensures sites { IfOk result (λ r. IfSome r (λ b. b.0.table.shared.table_id.words ≡ length words.items)) }
     ensures first { IfOk result (λ r. IfSome r (λ b. (b.1.split ≡ 0) × (b.1.joined ≡ 0) × (b.1.first ≡ true) × (b.1.token.me.1 ≡ []))) }
@@ -32,7 +32,12 @@ pub fn board_of(
 }
 
 /// This many words, all empty but this one, at its site.
-pub fn words_with(alloc: Global, count: u16, site: u16, word: u64) -> Result<Vec<u64>, Memory> {
+pub fn words_with(
+    alloc: Global,
+    count: u16,
+    site: u16,
+    word: u64,
+) -> Result<Vec<u64>, OutOfMemory> {
     let mut words = Vec::new(alloc);
     for at in 0..count {
         words.push(if at == site { word } else { 0 })?;

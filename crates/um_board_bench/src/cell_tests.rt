@@ -35,7 +35,7 @@ impl Content for Mark {
 /// A board with that cell, its first seat and the cell.
 fn with_cell(
     alloc: Global,
-) -> Result<Option<(Board<Mark, AnyStep>, Seat<Mark>, Cells<Mark>)>, Memory>
+) -> Result<Option<(Board<Mark, AnyStep>, Seat<Mark>, Cells<Mark>)>, OutOfMemory>
     ensures same { IfOk result (λ r. IfSome r (λ b. b.1.token.table_id ≡ b.0.table.shared.table_id)) }
     ensures sites { IfOk result (λ r. IfSome r (λ b. 168 < b.0.table.shared.table_id.words)) }
     ensures first { IfOk result (λ r. IfSome r (λ b. (b.1.split ≡ 0) × (b.1.joined ≡ 0) × (b.1.token.me.0.turn ≡ None))) }
@@ -64,7 +64,7 @@ fn wiped(word: u64) -> u64
 
 /// One seat takes the cell, and a second finds it taken. After the put, which is step 1, the second gets the contents that the act left.
 #[test]
-fn one_cell(rt: HostRuntime) -> Result<(), Memory> {
+fn a_taken_cell_is_given_back_changed(rt: HostRuntime) -> Result<(), OutOfMemory> {
     let Some((board, mut first, cells)) = with_cell(rt.alloc())? else {
         assert!(rt; false, "a board");
         return Ok(());
@@ -94,7 +94,7 @@ fn one_cell(rt: HostRuntime) -> Result<(), Memory> {
 
 /// Seats, boards, cells and what is taken of a cell are small: ghost data takes no memory.
 #[test]
-fn sizes(rt: HostRuntime) {
+fn cells_are_small(rt: HostRuntime) {
     assert!(rt; size_of::<Seat<Mark>>() == 12);
     assert!(rt; size_of::<Board<Mark, AnyStep>>() == 64);
     assert!(rt; size_of::<Cells<Mark>>() == 4);

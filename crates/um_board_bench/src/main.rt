@@ -21,7 +21,7 @@ use std::process::ExitCode;
 use std::sync::Wait;
 use std::thread::Threads;
 use tally::Tally;
-use um_base::Memory;
+use um_base::OutOfMemory;
 use work::{Job, work_by};
 
 /// The words of a board without cells.
@@ -77,7 +77,7 @@ fn worked<R: Threads + Sync>(
     job: Job,
     threads: u8,
     site: u16,
-) -> Result<Option<(Tally, u64)>, Memory> {
+) -> Result<Option<(Tally, u64)>, OutOfMemory> {
     if words.len() < 160 || usize::from(site) >= words.len() {
         return Ok(None);
     }
@@ -92,7 +92,7 @@ fn worked<R: Threads + Sync>(
 }
 
 /// How many steps were made.
-fn made<R: Threads + Wait + Sync>(rt: &R, alloc: Global, asked: Asked) -> Result<u32, Memory> {
+fn made<R: Threads + Wait + Sync>(rt: &R, alloc: Global, asked: Asked) -> Result<u32, OutOfMemory> {
     match asked.kind {
         Kind::Board => {
             let words = words_with(alloc, WORDS, 0, 0)?;

@@ -4,7 +4,7 @@ use std::alloc::Global;
 use std::sync::atomic::{AtomicU64, Ordering};
 use std::sync::{Mutex, Wait};
 use std::thread::{Threads, join};
-use um_base::Memory;
+use um_base::OutOfMemory;
 
 /// How often an exchange is tried at most.
 const MOST_TRIES: u32 = 1_000_000_000;
@@ -13,7 +13,7 @@ const MOST_TRIES: u32 = 1_000_000_000;
 const STEP: u64 = 0x10_0000_0000;
 
 /// Atomic words of zero.
-pub fn atomics(alloc: Global) -> Result<Vec<AtomicU64>, Memory> {
+pub fn atomics(alloc: Global) -> Result<Vec<AtomicU64>, OutOfMemory> {
     let mut words = Vec::new(alloc);
     for _ in 0..32 {
         words.push(AtomicU64::new(0))?;
@@ -22,7 +22,7 @@ pub fn atomics(alloc: Global) -> Result<Vec<AtomicU64>, Memory> {
 }
 
 /// Words of zero, each under a lock.
-pub fn locks(alloc: Global) -> Result<Vec<Mutex<u64>>, Memory> {
+pub fn locks(alloc: Global) -> Result<Vec<Mutex<u64>>, OutOfMemory> {
     let mut words = Vec::new(alloc);
     for _ in 0..32 {
         words.push(Mutex::new(0))?;

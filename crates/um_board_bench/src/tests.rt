@@ -24,13 +24,13 @@ const SECOND: ThreadIx = ThreadIx(1);
 /// Why there is no board.
 #[derive(Debug, Drop)]
 enum NoBoard {
-    Memory(Memory),
+    Memory(OutOfMemory),
     /// None opens with these words.
     Words,
 }
 
-impl From<Memory> for NoBoard {
-    fn from(e: Memory) -> NoBoard {
+impl From<OutOfMemory> for NoBoard {
+    fn from(e: OutOfMemory) -> NoBoard {
         NoBoard::Memory(e)
     }
 }
@@ -86,7 +86,7 @@ fn answers(at: &mut Seated<'_>, by: ThreadIx, call: RowCall, answer: Answer) -> 
 
 /// A check that holds the object, and one that is refused.
 #[test]
-fn checks(rt: HostRuntime) -> Result<(), NoBoard> {
+fn a_check_holds_or_is_refused(rt: HostRuntime) -> Result<(), NoBoard> {
     let (board, seat) = board_with(rt.alloc(), 1, 0, 0x0000_0009_0000_0001)?;
     let mut at = Seated::new(&board, seat);
     let refused = at.check(ROW, SECOND, Want::Uninit);
@@ -123,7 +123,7 @@ fn is_gone(at: &mut Seated<'_>, clean: bool) -> bool
 
 /// The last permission goes while nobody holds the object.
 #[test]
-fn cleaned_at_once(rt: HostRuntime) -> Result<(), NoBoard> {
+fn the_last_drop_cleans_at_once(rt: HostRuntime) -> Result<(), NoBoard> {
     seated!(rt, at, 1, 0, 0x0000_000c_0000_0001);
     assert!(rt; is_gone(&mut at, true));
     assert!(rt; stands(&mut at, 0, 0x0000_101c_0000_0000));
@@ -132,7 +132,7 @@ fn cleaned_at_once(rt: HostRuntime) -> Result<(), NoBoard> {
 
 /// From a last drop under a hold to the next birth.
 #[test]
-fn a_life(rt: HostRuntime) -> Result<(), NoBoard> {
+fn an_object_dies_and_is_born_again(rt: HostRuntime) -> Result<(), NoBoard> {
     seated!(rt, at, 1, 0, 0x0000_002c_0000_0001);
     let addr = OBJECT;
     assert!(rt; is_gone(&mut at, false));
@@ -154,7 +154,7 @@ fn a_life(rt: HostRuntime) -> Result<(), NoBoard> {
 
 /// Permissions that are given, passed on and dropped, and an object that is opened and marked.
 #[test]
-fn pairs(rt: HostRuntime) -> Result<(), NoBoard> {
+fn permissions_are_given_and_dropped(rt: HostRuntime) -> Result<(), NoBoard> {
     seated!(rt, at, 1, 0, 0x0000_0008_0000_0001);
     let at = &mut at;
     let addr = OBJECT;
@@ -220,7 +220,7 @@ const MOVE: ThreadCall = ThreadCall::Move { domain: 0 };
 
 /// A hold keeps a thread's domain, and a doomed thread begins no line.
 #[test]
-fn threads(rt: HostRuntime) -> Result<(), NoBoard> {
+fn a_hold_keeps_a_threads_domain(rt: HostRuntime) -> Result<(), NoBoard> {
     seated!(rt, at, WORDS, 128, 0x41);
     let at = &mut at;
     let Some(before) = recorded(at, FIRST, FIRST, ThreadCall::Hold) else {
@@ -251,7 +251,7 @@ fn threads(rt: HostRuntime) -> Result<(), NoBoard> {
 
 /// A thread from its start to its end.
 #[test]
-fn a_thread(rt: HostRuntime) -> Result<(), NoBoard> {
+fn a_thread_starts_and_ends(rt: HostRuntime) -> Result<(), NoBoard> {
     seated!(rt, at, WORDS, 129, 0);
     let start = ThreadCall::Start {
         mode: Mode::Supervisor,
@@ -313,7 +313,7 @@ fn keeps_out(at: &mut Seated<'_>, call: DomainCall, word: u64) -> bool
 
 /// Nobody writes while somebody reads, and nobody reads while somebody writes.
 #[test]
-fn claims(rt: HostRuntime) -> Result<(), NoBoard> {
+fn readers_and_writers_exclude_each_other(rt: HostRuntime) -> Result<(), NoBoard> {
     seated!(rt, at, WORDS, 160, 1);
     let at = &mut at;
     assert!(rt; records(at, DomainCall::ReadClaim));
@@ -343,7 +343,7 @@ fn claims(rt: HostRuntime) -> Result<(), NoBoard> {
 
 /// Both seats see one word; the first one's check is recorded, the second's isn't. The board closes once the second is joined in.
 #[test]
-fn two_seats(rt: HostRuntime) -> Result<(), NoBoard> {
+fn two_seats_see_one_word(rt: HostRuntime) -> Result<(), NoBoard> {
     let (board, mut seat) = board_with(rt.alloc(), 1, 0, 0x0000_0009_0000_0001)?;
     let other = board.split(&mut seat);
     let mut first = Seated::new(&board, seat);
@@ -394,7 +394,7 @@ fn adds_up(tally: Tally, word: u64) -> bool {
 
 /// Threads grant, drop, check, clean and bear one object, and the closed board's word is what their steps add up to.
 #[test]
-fn many_threads(rt: HostRuntime) -> Result<(), Memory> {
+fn the_steps_of_many_threads_add_up(rt: HostRuntime) -> Result<(), OutOfMemory> {
     let job = Job::Play { steps: 100_000 };
     for threads in [2, 8] {
         let words = words_with(rt.alloc(), WORDS, 0, 0x0000_000c_0000_0001)?;
@@ -410,7 +410,7 @@ fn many_threads(rt: HostRuntime) -> Result<(), Memory> {
 
 /// What a seat and a board take in memory: ghost data takes nothing.
 #[test]
-fn sizes(rt: HostRuntime) {
+fn seats_are_small(rt: HostRuntime) {
     assert!(rt; size_of::<Seat<()>>() == 12);
     assert!(rt; size_of::<Board<(), AnyStep>>() == 64);
 }

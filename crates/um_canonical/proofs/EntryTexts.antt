@@ -12,7 +12,7 @@ use Rattle.um_base.specs.declared.image.Script.{Script}
 use Rattle.um_document.specs.declared.shape.Key.{Key}
 use Rattle.um_document.specs.Shape.{word}
 use Rattle.um_vocabulary.specs.Words.{attr_word, kind_word, mode_word}
-use Rattle.um_plain_toml.specs.Printed.{Pairs, members_text}
+use Rattle.um_canonical.specs.Printed.{Pairs, members_text}
 use Rattle.um_canonical.specs.declared.names.NameTable.{NameTable}
 use Rattle.um_canonical.specs.Entries.{Names, packed, names_at, row_names, details_by}
 use Rattle.um_canonical.specs.Named.{name_at}

@@ -1,6 +1,7 @@
 -- What is printed for an image is read back as that image. First names: EnoughNames, FreshNames, FreeNumbers and DistinctNames. Then each part of what is
 -- printed is read back: PrintedLines, PrintedScripts, PrintedObjects, PrintedEntries, PrintedSections, PrintedTop, PrintedForm, and what it means: NamedAlike,
 -- RoundedPartitions, PrintedMeaning, PrintedDescription. PlainLines, PlainDocument, EntryTexts and PrintedText are of its bytes; PrintedReading and ReadBack are the laws.
+pub mod Toml
 pub mod EnoughNames
 pub mod FreshNames
 pub mod PrintedObjects

@@ -18,11 +18,11 @@ use Rattle.um_document.specs.declared.description.PoolEntry.{PoolEntry}
 use Rattle.um_document.specs.declared.description.ScriptEntry.{ScriptEntry}
 use Rattle.um_document.specs.declared.shape.Key.{Key}
 use Rattle.um_document.specs.Shape.{word}
-use Rattle.um_plain_toml.specs.Printed.{Line, Pairs, pair_lines, entry_lines, section_lines}
-use Rattle.um_plain_toml.proofs.Lines.{ArePlainLines}
-use Rattle.um_plain_toml.proofs.Runs.{AreApart, are_apart, keys, IsPlainDocument}
-use Rattle.um_plain_toml.proofs.Strings.{is_plain_byte}
-use Rattle.um_plain_toml.proofs.Values.{is_plain, is_bare_key, ArePlain}
+use Rattle.um_canonical.specs.Printed.{Line, Pairs, pair_lines, entry_lines, section_lines}
+use Rattle.um_canonical.proofs.Toml.Lines.{ArePlainLines}
+use Rattle.um_canonical.proofs.Toml.Runs.{AreApart, are_apart, keys, IsPlainDocument}
+use Rattle.um_canonical.proofs.Toml.Strings.{is_plain_byte}
+use Rattle.um_canonical.proofs.Toml.Values.{is_plain, is_bare_key, ArePlain}
 use Rattle.um_canonical.specs.Entries.{Packed}
 use Rattle.um_canonical.specs.Objects.{pairs_by}
 use Rattle.um_canonical.specs.Sections.{hex_digit, encoded, bytes_pairs, pool_by, partition_by, domain_by, boot_by, script_by}

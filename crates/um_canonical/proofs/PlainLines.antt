@@ -5,8 +5,8 @@ use Rattle.std.proofs.lemmas.Bool.Decides.{nat_tests}
 use Rattle.std.proofs.lemmas.List.Folds.{list_all-append}
 use Rattle.std.specs.Fmt.{signed_decimal}
 use Rattle.std.specs.List.{list_all}
-use Rattle.um_plain_toml.proofs.Strings.{is_plain_byte}
-use Rattle.um_plain_toml.proofs.Values.{is_plain}
+use Rattle.um_canonical.proofs.Toml.Strings.{is_plain_byte}
+use Rattle.um_canonical.proofs.Toml.Values.{is_plain}
 use Rattle.um_base.specs.declared.attr.Attr.{Attr}
 use Rattle.um_base.specs.declared.instr.Instr.{Instr}
 use Rattle.um_base.specs.declared.names.Kind.{Kind}

@@ -22,7 +22,7 @@ use Rattle.um_document.specs.Reading.{entries_of, pool_of, partition_of, domain_
 use Rattle.um_document.specs.Shape.{section_key}
 use Rattle.um_document.specs.Unknown.{strays_of_entry, strays_of_entries, strays_of_section, strays_of_sections}
 use Rattle.um_vocabulary.proofs.Again.{mpu_again, policy_again}
-use Rattle.um_plain_toml.specs.Printed.{Pairs, table_of, tables_of, document_table}
+use Rattle.um_canonical.specs.Printed.{Pairs, table_of, tables_of, document_table}
 use Rattle.um_canonical.specs.Entries.{Packed, partition_entry}
 use Rattle.um_canonical.specs.Text.{of_pool, of_partition, of_domain, of_object, of_boot, of_script, top_of, sections_of}
 use Rattle.um_canonical.proofs.PrintedObjects.{passes, AreSound, again_by, sound_by, known_by}

@@ -12,7 +12,7 @@ use Rattle.um_document.specs.Broken.{is_broken}
 use Rattle.um_document.specs.Parts.{Part, key_parts, entries_parts}
 use Rattle.um_document.specs.Reading.{object_of, entries_of}
 use Rattle.um_document.specs.Unknown.{own_strays, strays_below, strays_of_entry, strays_of_entries}
-use Rattle.um_plain_toml.specs.Printed.{table_of, tables_of}
+use Rattle.um_canonical.specs.Printed.{table_of, tables_of}
 use Rattle.um_canonical.specs.Objects.{pairs_by, object_pairs}
 
 abbrev pub passes : Check → List Part → Bool

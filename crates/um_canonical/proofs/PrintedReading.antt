@@ -41,10 +41,10 @@ use Rattle.um_description.proofs.LawfulLists.{same_text}
 use Rattle.um_description.proofs.LawfulNames.{all_names}
 use Rattle.um_description.proofs.LawfulObjects.{own_limits, later_limits}
 use Rattle.um_description.proofs.LawfulRanges.{inside}
-use Rattle.um_plain_toml.specs.Printed.{document_lines}
-use Rattle.um_plain_toml.proofs.Ascii.{lines_utf8}
-use Rattle.um_plain_toml.proofs.Runs.{document_again}
-use Rattle.um_plain_toml.proofs.Values.{ArePlain}
+use Rattle.um_canonical.specs.Printed.{document_lines}
+use Rattle.um_canonical.proofs.Toml.Ascii.{lines_utf8}
+use Rattle.um_canonical.proofs.Toml.Runs.{document_again}
+use Rattle.um_canonical.proofs.Toml.Values.{ArePlain}
 use Rattle.um_canonical.specs.Entries.{Packed, partition_entry, row_names}
 use Rattle.um_canonical.specs.Text.{top_of, sections_of, text_for, described, printed_text}
 use Rattle.um_description.proofs.LawfulBoots.{known_boot}

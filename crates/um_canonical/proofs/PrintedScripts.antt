@@ -19,7 +19,7 @@ use Rattle.um_canonical.proofs.NamedAlike.{AreNamedAlike}
 use Rattle.um_canonical.proofs.PrintedLines.{shown_in, line_shown, line_again}
 use Rattle.um_script.proofs.ReadWritable.{gives, gives_line}
 use Rattle.um_canonical.proofs.PlainLines.{line_plain}
-use Rattle.um_plain_toml.proofs.Values.{is_plain, ArePlain}
+use Rattle.um_canonical.proofs.Toml.Values.{is_plain, ArePlain}
 
 abbrev pub printed : Description → Instr → Text
 printed d line = canonical (shown_in d line)

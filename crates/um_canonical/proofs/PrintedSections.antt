@@ -14,7 +14,7 @@ use Rattle.um_document.specs.Parts.{key_parts, variable_keys, item_parts}
 use Rattle.um_document.specs.Reading.{texts_of, pool_of, partition_of, domain_of, boot_of, script_of}
 use Rattle.um_vocabulary.proofs.Again.{given_attr_again}
 use Rattle.um_document.specs.Unknown.{own_strays, strays_below, strays_of_entry}
-use Rattle.um_plain_toml.specs.Printed.{table_of, texts_items}
+use Rattle.um_canonical.specs.Printed.{table_of, texts_items}
 use Rattle.um_canonical.specs.Entries.{partition_entry}
 use Rattle.um_canonical.specs.Sections.{hex_digit, encoded, pool_by, partition_by, domain_by, boot_by, script_by}
 use Rattle.um_canonical.proofs.PrintedObjects.{passes, AreSound, short_name}

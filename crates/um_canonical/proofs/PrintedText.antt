@@ -7,7 +7,7 @@ use Rattle.std.specs.List.{flat_map}
 use Rattle.um_base.specs.declared.image.Image.{Image}
 use Rattle.um_document.specs.declared.shape.Key.{Key}
 use Rattle.um_document.specs.Shape.{word}
-use Rattle.um_plain_toml.specs.Printed.{Pairs, Section, line_text, lines_text, pair_lines, entry_lines, section_lines}
+use Rattle.um_canonical.specs.Printed.{Pairs, Section, line_text, lines_text, pair_lines, entry_lines, section_lines}
 use Rattle.um_canonical.specs.declared.names.NameTable.{NameTable}
 use Rattle.um_canonical.specs.Entries.{pool_entry, domain_entry, object_entry, boot_entry}
 use Rattle.um_canonical.specs.Fresh.{free_numbers}

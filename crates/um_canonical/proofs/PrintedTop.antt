@@ -18,9 +18,9 @@ use Rattle.um_document.specs.Parts.{◌>>=◌, Part, top_part, sections, partiti
 use Rattle.um_document.specs.Shape.{word, top_fields, sections_with, section_key, required, optional}
 use Rattle.um_document.specs.Unknown.{is_key, keys_of, strays_at_top}
 use Rattle.um_vocabulary.specs.Words.{mpu_word, policy_word}
-use Rattle.um_plain_toml.specs.Printed as printed
-use Rattle.um_plain_toml.specs.Printed.{Pairs, value_pairs, section_pairs, tables_of, with_members, document_table}
-use Rattle.um_plain_toml.proofs.Lookups.{found, found-append, at_all, all_keys, keys_pass}
+use Rattle.um_canonical.specs.Printed as printed
+use Rattle.um_canonical.specs.Printed.{Pairs, value_pairs, section_pairs, tables_of, with_members, document_table}
+use Rattle.um_canonical.proofs.Toml.Lookups.{found, found-append, at_all, all_keys, keys_pass}
 use Rattle.um_canonical.specs.Sections.{encoded}
 use Rattle.um_canonical.specs.Text.{top_by, sections_by}
 use Rattle.um_canonical.proofs.PrintedObjects.{passes}

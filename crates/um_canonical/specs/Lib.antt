@@ -1,3 +1,4 @@
+pub mod Printed
 pub mod Fresh
 pub mod Objects
 pub mod Named

@@ -6,7 +6,7 @@ use Rattle.um_document.specs.declared.description.ObjectEntry.{ObjectEntry}
 use Rattle.um_document.specs.declared.shape.Key.{Key}
 use Rattle.um_document.specs.Shape.{word}
 use Rattle.um_vocabulary.specs.Words.{kind_word}
-use Rattle.um_plain_toml.specs.Printed.{Atom, Printed, Pairs}
+use Rattle.um_canonical.specs.Printed.{Atom, Printed, Pairs}
 
 abbrev pub number_pair : Key → ℤ → List ℕ × Printed
 number_pair k z = (word k, Printed.one (Atom.number z))

@@ -11,7 +11,7 @@ use Rattle.um_base.specs.declared.image.Script.{Script}
 use Rattle.um_base.specs.declared.names.Row.{Row}
 use Rattle.um_document.specs.declared.shape.Key.{Key}
 use Rattle.um_document.specs.Shape.{word}
-use Rattle.um_plain_toml.specs.Printed.{Printed, Pairs, header, pair, line_text}
+use Rattle.um_canonical.specs.Printed.{Printed, Pairs, header, pair, line_text}
 use Rattle.um_canonical.specs.Entries.{Names, Packed, packed_by, pool_entry, domain_entry, object_entry, boot_entry, row_names}
 use Rattle.um_canonical.specs.Fresh.{variable_name, first_name}
 use Rattle.um_canonical.specs.Sections.{variable_atoms, texts_pair}

@@ -5,7 +5,7 @@ use Rattle.um_base.specs.declared.names.Mode.{Mode}
 use Rattle.um_document.specs.declared.shape.Key.{Key}
 use Rattle.um_document.specs.Shape.{word}
 use Rattle.um_vocabulary.specs.Words.{attr_word, mode_word}
-use Rattle.um_plain_toml.specs.Printed.{Atom, Printed, Pairs}
+use Rattle.um_canonical.specs.Printed.{Atom, Printed, Pairs}
 use Rattle.um_canonical.specs.Objects.{number_pair, text_pair}
 
 abbrev pub hex_digit : ℕ → ℕ

@@ -19,8 +19,8 @@ use Rattle.um_document.specs.declared.shape.Key.{Key}
 use Rattle.um_document.specs.Shape.{word}
 use Rattle.um_vocabulary.specs.Words.{mpu_word, policy_word}
 use Rattle.um_script.specs.Canonical.{canonical}
-use Rattle.um_plain_toml.specs.Printed as printed
-use Rattle.um_plain_toml.specs.Printed.{Pairs, document_text}
+use Rattle.um_canonical.specs.Printed as printed
+use Rattle.um_canonical.specs.Printed.{Pairs, document_text}
 use Rattle.um_canonical.specs.Entries.{Packed, partition_entry, packed_by, pool_entry, domain_entry, object_entry, boot_entry}
 use Rattle.um_canonical.specs.Fresh.{fresh_names}
 use Rattle.um_canonical.specs.Named.{shown}

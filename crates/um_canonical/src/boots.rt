@@ -10,23 +10,23 @@ ghost use Rattle.um_canonical.specs.{
   Tables.{boot_by},
 };
 ghost use Rattle.um_document.specs.declared.shape.Key.{Key};
-ghost use Rattle.um_plain_toml.specs.Printed.{items_text};
+ghost use Rattle.um_canonical.specs.Printed.{items_text};
 
 use crate::names::{NameTable, name_at};
 use crate::pairs::{put, put_header, put_item, put_key, put_signed, put_text};
-use um_base::{Boot, Memory, Name, Row};
+use um_base::{Boot, Name, OutOfMemory, Row};
 use um_document::Key;
 use um_vocabulary::mode_word;
 
 /// A key with the name of a number.
-fn put_named(text: &mut Vec<u8>, key: Key, names: &[Name], index: u8) -> Result<(), Memory>
+fn put_named(text: &mut Vec<u8>, key: Key, names: &[Name], index: u8) -> Result<(), OutOfMemory>
     ensures { OnOk result (text.new.items ≡ text.old.items ++ pair_text (text_pair key (name_at names.now index))) }
 {
     put_text(text, key, name_at(names, index).as_slice())
 }
 
 /// The name of a thread's resource pool, where it has one.
-fn put_pool(text: &mut Vec<u8>, pools: &[Name], pool: Option<u8>) -> Result<(), Memory>
+fn put_pool(text: &mut Vec<u8>, pools: &[Name], pool: Option<u8>) -> Result<(), OutOfMemory>
     ensures { OnOk result (text.new.items ≡ text.old.items ++ pairs_text (pool_pairs (option_map (name_at pools.now) pool))) }
 {
     match pool {
@@ -36,7 +36,7 @@ fn put_pool(text: &mut Vec<u8>, pools: &[Name], pool: Option<u8>) -> Result<(), 
 }
 
 /// The names of objects, up to the end of their list.
-fn put_names(text: &mut Vec<u8>, objects: &[Name], rows: &[Row]) -> Result<(), Memory>
+fn put_names(text: &mut Vec<u8>, objects: &[Name], rows: &[Row]) -> Result<(), OutOfMemory>
     ensures { OnOk result (text.new.items ≡ text.old.items ++ items_text true (row_names objects.now rows.now)) }
 {
     let mut is_first = true;
@@ -49,7 +49,7 @@ fn put_names(text: &mut Vec<u8>, objects: &[Name], rows: &[Row]) -> Result<(), M
 
 /// A list of objects.
 #[tactic(auto, unfolding(crate::specs::Pieces::rows_text))]
-fn put_rows(text: &mut Vec<u8>, objects: &[Name], rows: &[Row]) -> Result<(), Memory>
+fn put_rows(text: &mut Vec<u8>, objects: &[Name], rows: &[Row]) -> Result<(), OutOfMemory>
     ensures { OnOk result (text.new.items ≡ text.old.items ++ rows_text objects.now rows.now) }
 {
     put_key(text, Key::Grants)?;
@@ -60,7 +60,7 @@ fn put_rows(text: &mut Vec<u8>, objects: &[Name], rows: &[Row]) -> Result<(), Me
 
 /// The objects that a thread has the permission for, where there are any.
 #[tactic(auto, unfolding(crate::specs::Pieces::rows_text))]
-fn put_grants(text: &mut Vec<u8>, objects: &[Name], rows: &[Row]) -> Result<(), Memory>
+fn put_grants(text: &mut Vec<u8>, objects: &[Name], rows: &[Row]) -> Result<(), OutOfMemory>
     ensures { OnOk result (text.new.items ≡ text.old.items ++ pairs_text (grant_pairs (row_names objects.now rows.now))) }
 {
     if rows.is_empty() {
@@ -70,13 +70,13 @@ fn put_grants(text: &mut Vec<u8>, objects: &[Name], rows: &[Row]) -> Result<(), 
 }
 
 /// The key `priority`.
-fn put_priority(text: &mut Vec<u8>, boot: &Boot) -> Result<(), Memory>
+fn put_priority(text: &mut Vec<u8>, boot: &Boot) -> Result<(), OutOfMemory>
     ensures { OnOk result (text.new.items ≡ text.old.items ++ pair_text (number_pair Key.Priority boot.now.priority)) }
 {
     put_signed(text, Key::Priority, boot.priority)
 }
 
-fn put_boot(text: &mut Vec<u8>, names: &NameTable, boot: &Boot) -> Result<(), Memory>
+fn put_boot(text: &mut Vec<u8>, names: &NameTable, boot: &Boot) -> Result<(), OutOfMemory>
     ensures { OnOk result (text.new.items ≡ text.old.items ++ boot_by names.now boot.now) }
 {
     put_header(text, Key::Boot)?;
@@ -91,7 +91,7 @@ fn put_boot(text: &mut Vec<u8>, names: &NameTable, boot: &Boot) -> Result<(), Me
 }
 
 /// The threads that are ready from the beginning, in their order.
-pub fn put_boots(text: &mut Vec<u8>, names: &NameTable, boots: &[Boot]) -> Result<(), Memory>
+pub fn put_boots(text: &mut Vec<u8>, names: &NameTable, boots: &[Boot]) -> Result<(), OutOfMemory>
     ensures { OnOk result (text.new.items ≡ text.old.items ++ flat_map (boot_by names.now) boots.now) }
 {
     for boot in boots {

@@ -6,15 +6,15 @@ ghost use Rattle.um_canonical.specs.{
   Pieces.{domain_text, pairs_text},
   Sections.{given_pairs},
 };
-ghost use Rattle.um_plain_toml.specs.Printed.{items_text};
+ghost use Rattle.um_canonical.specs.Printed.{items_text};
 
 use crate::names::name_at;
 use crate::pairs::{put, put_header, put_item, put_key, put_text};
-use um_base::{BoundedVec, DomainDef, Memory, Name, PARTITIONS};
+use um_base::{BoundedVec, DomainDef, Name, OutOfMemory, PARTITIONS};
 use um_document::Key;
 
 /// The names of partitions, up to the end of their list.
-fn put_names(text: &mut Vec<u8>, partitions: &[Name], numbers: &[u8]) -> Result<(), Memory>
+fn put_names(text: &mut Vec<u8>, partitions: &[Name], numbers: &[u8]) -> Result<(), OutOfMemory>
     ensures { OnOk result (text.new.items ≡ text.old.items ++ items_text true (names_at partitions.now numbers.now)) }
 {
     let mut is_first = true;
@@ -30,7 +30,7 @@ fn put_parts(
     text: &mut Vec<u8>,
     partitions: &[Name],
     parts: &Option<BoundedVec<u8, PARTITIONS>>,
-) -> Result<(), Memory>
+) -> Result<(), OutOfMemory>
     ensures { OnOk result (text.new.items ≡ text.old.items ++ pairs_text (given_pairs (option_map (names_at partitions.now) parts.now))) }
 {
     match parts {
@@ -44,7 +44,11 @@ fn put_parts(
     }
 }
 
-fn put_domain(text: &mut Vec<u8>, partitions: &[Name], domain: &DomainDef) -> Result<(), Memory>
+fn put_domain(
+    text: &mut Vec<u8>,
+    partitions: &[Name],
+    domain: &DomainDef,
+) -> Result<(), OutOfMemory>
     ensures { OnOk result (text.new.items ≡ text.old.items ++ domain_text partitions.now domain.now) }
 {
     put_header(text, Key::Domain)?;
@@ -57,7 +61,7 @@ pub fn put_domains(
     text: &mut Vec<u8>,
     partitions: &[Name],
     domains: &[DomainDef],
-) -> Result<(), Memory>
+) -> Result<(), OutOfMemory>
     ensures { OnOk result (text.new.items ≡ text.old.items ++ flat_map (domain_text partitions.now) domains.now) }
 {
     for domain in domains {

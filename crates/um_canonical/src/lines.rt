@@ -5,7 +5,7 @@ ghost use Rattle.um_canonical.specs.Named as named;
 ghost use Rattle.um_canonical.specs.Tables.{shown_line};
 
 use crate::names::{NameTable, name_at};
-use um_base::{Instr, Memory, Name, PartRef, PartRefs, Ref};
+use um_base::{Instr, Name, OutOfMemory, PartRef, PartRefs, Ref};
 use um_script::put_line;
 
 fn named_ref(names: &[Name], thing: &Ref) -> Ref
@@ -68,7 +68,7 @@ fn shown(names: &NameTable, line: &Instr) -> Instr
 
 /// The canonical line of an instruction of the image.
 #[tactic(auto, unfolding(crate::specs::Tables::shown_line))]
-pub fn put_shown(text: &mut Vec<u8>, names: &NameTable, line: &Instr) -> Result<(), Memory>
+pub fn put_shown(text: &mut Vec<u8>, names: &NameTable, line: &Instr) -> Result<(), OutOfMemory>
     ensures { OnOk result (text.new.items ≡ text.old.items ++ shown_line names.now line.now) }
 {
     put_line(text, &shown(names, line))

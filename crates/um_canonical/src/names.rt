@@ -4,7 +4,7 @@ ghost use Rattle.std.specs.Prelude.{◌≡◌, IfOk, map};
 ghost use Rattle.um_canonical.specs.{Named.{name_at}, Tables.{names_of, AreNamesOf}};
 
 use std::alloc::Global;
-use um_base::{DomainDef, Image, Memory, Name, ObjectDef, Partition, Pool, Script};
+use um_base::{DomainDef, Image, Name, ObjectDef, OutOfMemory, Partition, Pool, Script};
 
 /// The names of an image, kind by kind, in their order.
 #[derive(Drop)]
@@ -26,31 +26,31 @@ pub fn name_at(names: &[Name], index: u8) -> Name
     }
 }
 
-fn of_pools(alloc: Global, pools: &[Pool]) -> Result<Vec<Name>, Memory>
+fn of_pools(alloc: Global, pools: &[Pool]) -> Result<Vec<Name>, OutOfMemory>
     ensures { IfOk result (λ names. names.items ≡ map (λ pool. pool.name) pools.now) }
 {
     Ok(pools.iter().map(|pool| pool.name).collect(alloc)?)
 }
 
-fn of_partitions(alloc: Global, partitions: &[Partition]) -> Result<Vec<Name>, Memory>
+fn of_partitions(alloc: Global, partitions: &[Partition]) -> Result<Vec<Name>, OutOfMemory>
     ensures { IfOk result (λ names. names.items ≡ map (λ partition. partition.name) partitions.now) }
 {
     Ok(partitions.iter().map(|part| part.name).collect(alloc)?)
 }
 
-fn of_domains(alloc: Global, domains: &[DomainDef]) -> Result<Vec<Name>, Memory>
+fn of_domains(alloc: Global, domains: &[DomainDef]) -> Result<Vec<Name>, OutOfMemory>
     ensures { IfOk result (λ names. names.items ≡ map (λ domain. domain.name) domains.now) }
 {
     Ok(domains.iter().map(|domain| domain.name).collect(alloc)?)
 }
 
-fn of_objects(alloc: Global, objects: &[ObjectDef]) -> Result<Vec<Name>, Memory>
+fn of_objects(alloc: Global, objects: &[ObjectDef]) -> Result<Vec<Name>, OutOfMemory>
     ensures { IfOk result (λ names. names.items ≡ map (λ object. object.name) objects.now) }
 {
     Ok(objects.iter().map(|object| object.name).collect(alloc)?)
 }
 
-fn of_scripts(alloc: Global, scripts: &[Script]) -> Result<Vec<Name>, Memory>
+fn of_scripts(alloc: Global, scripts: &[Script]) -> Result<Vec<Name>, OutOfMemory>
     ensures { IfOk result (λ names. names.items ≡ map (λ script. script.name) scripts.now) }
 {
     let mut names = Vec::new(alloc);
@@ -62,7 +62,7 @@ fn of_scripts(alloc: Global, scripts: &[Script]) -> Result<Vec<Name>, Memory>
 
 impl NameTable {
     /// That of an image.
-    pub fn of(alloc: Global, image: &Image) -> Result<NameTable, Memory>
+    pub fn of(alloc: Global, image: &Image) -> Result<NameTable, OutOfMemory>
         ensures { IfOk result (λ names. AreNamesOf names image.now) }
     {
         Ok(NameTable {
@@ -75,7 +75,7 @@ impl NameTable {
     }
 
     /// All names in one list.
-    pub fn all(&self, alloc: Global) -> Result<Vec<Name>, Memory>
+    pub fn all(&self, alloc: Global) -> Result<Vec<Name>, OutOfMemory>
         ensures { IfOk result (λ all. all.items ≡ names_of self.now) }
     {
         let mut all = Vec::new(alloc);

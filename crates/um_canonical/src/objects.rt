@@ -8,12 +8,12 @@ ghost use Rattle.um_canonical.specs.{
 };
 
 use crate::pairs::{put_header, put_number, put_text, put_truth};
-use um_base::{Kind, Memory, ObjectDef, Setup};
+use um_base::{Kind, ObjectDef, OutOfMemory, Setup};
 use um_document::Key;
 use um_vocabulary::kind_word;
 
 /// What an object of this kind has beside its name.
-fn put_details(text: &mut Vec<u8>, kind: Kind, setup: &Setup) -> Result<(), Memory>
+fn put_details(text: &mut Vec<u8>, kind: Kind, setup: &Setup) -> Result<(), OutOfMemory>
     ensures { OnOk result (text.new.items ≡ text.old.items ++ pairs_text (details_pairs (details_by kind setup.now))) }
 {
     match (kind, setup) {
@@ -36,7 +36,7 @@ fn put_details(text: &mut Vec<u8>, kind: Kind, setup: &Setup) -> Result<(), Memo
     }
 }
 
-fn put_object(text: &mut Vec<u8>, object: &ObjectDef) -> Result<(), Memory>
+fn put_object(text: &mut Vec<u8>, object: &ObjectDef) -> Result<(), OutOfMemory>
     ensures { OnOk result (text.new.items ≡ text.old.items ++ object_text object.now) }
 {
     put_header(text, Key::Object)?;
@@ -47,7 +47,7 @@ fn put_object(text: &mut Vec<u8>, object: &ObjectDef) -> Result<(), Memory>
 }
 
 /// The objects.
-pub fn put_objects(text: &mut Vec<u8>, objects: &[ObjectDef]) -> Result<(), Memory>
+pub fn put_objects(text: &mut Vec<u8>, objects: &[ObjectDef]) -> Result<(), OutOfMemory>
     ensures { OnOk result (text.new.items ≡ text.old.items ++ flat_map object_text objects.now) }
 {
     for object in objects {

@@ -7,14 +7,14 @@ ghost use Rattle.um_canonical.specs.{
   Sections.{hex_digit, encoded, bytes_pairs},
 };
 ghost use Rattle.um_document.specs.Shape.{word};
-ghost use Rattle.um_plain_toml.specs.Printed.{before, quoted};
+ghost use Rattle.um_canonical.specs.Printed.{before, quoted};
 
 use itoa::Buffer;
-use um_base::Memory;
+use um_base::OutOfMemory;
 use um_document::Key;
 
 /// Text as it is.
-pub fn put(text: &mut Vec<u8>, piece: &[u8]) -> Result<(), Memory>
+pub fn put(text: &mut Vec<u8>, piece: &[u8]) -> Result<(), OutOfMemory>
     ensures { OnOk result (text.new.items ≡ text.old.items ++ piece.now) }
 {
     text.extend_from_slice(piece)?;
@@ -22,7 +22,7 @@ pub fn put(text: &mut Vec<u8>, piece: &[u8]) -> Result<(), Memory>
 }
 
 /// The header of an entry.
-pub fn put_header(text: &mut Vec<u8>, section: Key) -> Result<(), Memory>
+pub fn put_header(text: &mut Vec<u8>, section: Key) -> Result<(), OutOfMemory>
     ensures { OnOk result (text.new.items ≡ text.old.items ++ header_text section) }
 {
     put(text, b"[[")?;
@@ -31,7 +31,7 @@ pub fn put_header(text: &mut Vec<u8>, section: Key) -> Result<(), Memory>
 }
 
 /// A key, up to its value.
-pub fn put_key(text: &mut Vec<u8>, key: Key) -> Result<(), Memory>
+pub fn put_key(text: &mut Vec<u8>, key: Key) -> Result<(), OutOfMemory>
     ensures { OnOk result (text.new.items ≡ text.old.items ++ (word key ++ codes " = ")) }
 {
     put(text, key.word().as_bytes())?;
@@ -39,7 +39,7 @@ pub fn put_key(text: &mut Vec<u8>, key: Key) -> Result<(), Memory>
 }
 
 /// A string, which needs no escapes.
-pub fn put_quoted(text: &mut Vec<u8>, piece: &[u8]) -> Result<(), Memory>
+pub fn put_quoted(text: &mut Vec<u8>, piece: &[u8]) -> Result<(), OutOfMemory>
     ensures { OnOk result (text.new.items ≡ text.old.items ++ quoted piece.now) }
 {
     put(text, b"\"")?;
@@ -48,7 +48,7 @@ pub fn put_quoted(text: &mut Vec<u8>, piece: &[u8]) -> Result<(), Memory>
 }
 
 /// A number.
-pub fn put_digits(text: &mut Vec<u8>, number: u64) -> Result<(), Memory>
+pub fn put_digits(text: &mut Vec<u8>, number: u64) -> Result<(), OutOfMemory>
     ensures { OnOk result (text.new.items ≡ text.old.items ++ decimal number) }
 {
     let mut buffer = Buffer::new();
@@ -56,7 +56,7 @@ pub fn put_digits(text: &mut Vec<u8>, number: u64) -> Result<(), Memory>
 }
 
 /// A key with a string.
-pub fn put_text(text: &mut Vec<u8>, key: Key, piece: &[u8]) -> Result<(), Memory>
+pub fn put_text(text: &mut Vec<u8>, key: Key, piece: &[u8]) -> Result<(), OutOfMemory>
     ensures { OnOk result (text.new.items ≡ text.old.items ++ pair_text (text_pair key piece.now)) }
 {
     put_key(text, key)?;
@@ -65,7 +65,7 @@ pub fn put_text(text: &mut Vec<u8>, key: Key, piece: &[u8]) -> Result<(), Memory
 }
 
 /// A key with a number from 0 on.
-pub fn put_number(text: &mut Vec<u8>, key: Key, number: u32) -> Result<(), Memory>
+pub fn put_number(text: &mut Vec<u8>, key: Key, number: u32) -> Result<(), OutOfMemory>
     ensures { OnOk result (text.new.items ≡ text.old.items ++ pair_text (number_pair key (pos number))) }
 {
     put_key(text, key)?;
@@ -74,7 +74,7 @@ pub fn put_number(text: &mut Vec<u8>, key: Key, number: u32) -> Result<(), Memor
 }
 
 /// A key with any small number.
-pub fn put_signed(text: &mut Vec<u8>, key: Key, number: i8) -> Result<(), Memory>
+pub fn put_signed(text: &mut Vec<u8>, key: Key, number: i8) -> Result<(), OutOfMemory>
     ensures { OnOk result (text.new.items ≡ text.old.items ++ pair_text (number_pair key number)) }
 {
     let mut buffer = Buffer::new();
@@ -84,7 +84,7 @@ pub fn put_signed(text: &mut Vec<u8>, key: Key, number: i8) -> Result<(), Memory
 }
 
 /// A key with `true`, where it holds.
-pub fn put_truth(text: &mut Vec<u8>, key: Key, holds: bool) -> Result<(), Memory>
+pub fn put_truth(text: &mut Vec<u8>, key: Key, holds: bool) -> Result<(), OutOfMemory>
     ensures { OnOk result (text.new.items ≡ text.old.items ++ pairs_text (truth_pairs key holds)) }
 {
     if !holds {
@@ -107,7 +107,7 @@ fn hex_digit(number: u8) -> u8
 }
 
 /// Bytes, two digits each.
-pub fn put_encoded(text: &mut Vec<u8>, bytes: &[u8]) -> Result<(), Memory>
+pub fn put_encoded(text: &mut Vec<u8>, bytes: &[u8]) -> Result<(), OutOfMemory>
     ensures { OnOk result (text.new.items ≡ text.old.items ++ encoded bytes.now) }
 {
     for byte in bytes {
@@ -117,7 +117,7 @@ pub fn put_encoded(text: &mut Vec<u8>, bytes: &[u8]) -> Result<(), Memory>
 }
 
 /// A key with bytes, where there are any.
-pub fn put_bytes(text: &mut Vec<u8>, key: Key, bytes: &[u8]) -> Result<(), Memory>
+pub fn put_bytes(text: &mut Vec<u8>, key: Key, bytes: &[u8]) -> Result<(), OutOfMemory>
     ensures { OnOk result (text.new.items ≡ text.old.items ++ pairs_text (bytes_pairs key bytes.now)) }
 {
     if bytes.is_empty() {
@@ -130,7 +130,7 @@ pub fn put_bytes(text: &mut Vec<u8>, key: Key, bytes: &[u8]) -> Result<(), Memor
 }
 
 /// What stands before an item of a list.
-pub fn put_before(text: &mut Vec<u8>, is_first: bool) -> Result<(), Memory>
+pub fn put_before(text: &mut Vec<u8>, is_first: bool) -> Result<(), OutOfMemory>
     ensures { OnOk result (text.new.items ≡ text.old.items ++ before is_first) }
 {
     if is_first {
@@ -140,7 +140,7 @@ pub fn put_before(text: &mut Vec<u8>, is_first: bool) -> Result<(), Memory>
 }
 
 /// An item of a list of strings.
-pub fn put_item(text: &mut Vec<u8>, piece: &[u8], is_first: bool) -> Result<(), Memory>
+pub fn put_item(text: &mut Vec<u8>, piece: &[u8], is_first: bool) -> Result<(), OutOfMemory>
     ensures { OnOk result (text.new.items ≡ text.old.items ++ (before is_first ++ quoted piece.now)) }
 {
     put_before(text, is_first)?;

@@ -6,15 +6,15 @@ ghost use Rattle.um_canonical.specs.{
   Pieces.{pool_text, variable_text, partition_text, partitions_text, first_variable},
   Sections.{data_atoms},
 };
-ghost use Rattle.um_plain_toml.specs.Printed.{members_text};
+ghost use Rattle.um_canonical.specs.Printed.{members_text};
 
 use crate::pairs::{put, put_digits, put_encoded, put_header, put_key, put_number, put_text};
-use um_base::{Memory, Partition, Pool};
+use um_base::{OutOfMemory, Partition, Pool};
 use um_document::Key;
 use um_vocabulary::attr_word;
 
 #[tactic(auto, unfolding(crate::specs::Pieces::pool_text))]
-fn put_pool(text: &mut Vec<u8>, pool: &Pool) -> Result<(), Memory>
+fn put_pool(text: &mut Vec<u8>, pool: &Pool) -> Result<(), OutOfMemory>
     ensures { OnOk result (text.new.items ≡ text.old.items ++ pool_text pool.now) }
 {
     put_header(text, Key::Pool)?;
@@ -23,7 +23,7 @@ fn put_pool(text: &mut Vec<u8>, pool: &Pool) -> Result<(), Memory>
 }
 
 /// The resource pools.
-pub fn put_pools(text: &mut Vec<u8>, pools: &[Pool]) -> Result<(), Memory>
+pub fn put_pools(text: &mut Vec<u8>, pools: &[Pool]) -> Result<(), OutOfMemory>
     ensures { OnOk result (text.new.items ≡ text.old.items ++ flat_map pool_text pools.now) }
 {
     for pool in pools {
@@ -33,7 +33,7 @@ pub fn put_pools(text: &mut Vec<u8>, pools: &[Pool]) -> Result<(), Memory>
 }
 
 /// The name of the first variable, where there is one.
-fn put_first(text: &mut Vec<u8>, numbers: &[u64]) -> Result<(), Memory>
+fn put_first(text: &mut Vec<u8>, numbers: &[u64]) -> Result<(), OutOfMemory>
     ensures { OnOk result (text.new.items ≡ text.old.items ++ first_variable numbers.now) }
 {
     match numbers.first() {
@@ -46,7 +46,7 @@ fn put_first(text: &mut Vec<u8>, numbers: &[u64]) -> Result<(), Memory>
 }
 
 /// The bytes of a variable, where there are any, and the end of its table.
-fn put_data(text: &mut Vec<u8>, bytes: &[u8]) -> Result<(), Memory>
+fn put_data(text: &mut Vec<u8>, bytes: &[u8]) -> Result<(), OutOfMemory>
     ensures { OnOk result (text.new.items ≡ text.old.items ++ members_text false (data_atoms bytes.now)) }
 {
     if bytes.is_empty() {
@@ -59,7 +59,12 @@ fn put_data(text: &mut Vec<u8>, bytes: &[u8]) -> Result<(), Memory>
 
 /// The list of one variable of so many bytes, aligned to 32.
 #[tactic(auto, unfolding(crate::specs::Pieces::variable_text))]
-fn put_variable(text: &mut Vec<u8>, numbers: &[u64], size: u32, bytes: &[u8]) -> Result<(), Memory>
+fn put_variable(
+    text: &mut Vec<u8>,
+    numbers: &[u64],
+    size: u32,
+    bytes: &[u8],
+) -> Result<(), OutOfMemory>
     ensures { OnOk result (text.new.items ≡ text.old.items ++ variable_text (first_variable numbers.now) size bytes.now) }
 {
     put_key(text, Key::Vars)?;
@@ -74,7 +79,11 @@ fn put_variable(text: &mut Vec<u8>, numbers: &[u64], size: u32, bytes: &[u8]) ->
 }
 
 /// A partition, with one variable.
-fn put_partition(text: &mut Vec<u8>, partition: &Partition, numbers: &[u64]) -> Result<(), Memory>
+fn put_partition(
+    text: &mut Vec<u8>,
+    partition: &Partition,
+    numbers: &[u64],
+) -> Result<(), OutOfMemory>
     ensures { OnOk result (text.new.items ≡ text.old.items ++ partition_text (packed (first_variable numbers.now) partition.now)) }
 {
     put_header(text, Key::Partition)?;
@@ -103,7 +112,7 @@ pub fn put_partitions(
     text: &mut Vec<u8>,
     partitions: &[Partition],
     numbers: &[u64],
-) -> Result<(), Memory>
+) -> Result<(), OutOfMemory>
     ensures { OnOk result (text.new.items ≡ text.old.items ++ partitions_text numbers.now partitions.now) }
 {
     let mut left = numbers;

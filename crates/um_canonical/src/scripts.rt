@@ -7,12 +7,12 @@ ghost use Rattle.um_canonical.specs.{
   Tables.{script_by, shown_line, shown_lines},
 };
 ghost use Rattle.um_document.specs.declared.shape.Key.{Key};
-ghost use Rattle.um_plain_toml.specs.Printed.{before, items_text, quoted};
+ghost use Rattle.um_canonical.specs.Printed.{before, items_text, quoted};
 
 use crate::lines::put_shown;
 use crate::names::NameTable;
 use crate::pairs::{put, put_before, put_header, put_key, put_text};
-use um_base::{Instr, Memory, Script};
+use um_base::{Instr, OutOfMemory, Script};
 use um_document::Key;
 
 /// A line in its list.
@@ -21,7 +21,7 @@ fn put_item(
     names: &NameTable,
     line: &Instr,
     is_first: bool,
-) -> Result<(), Memory>
+) -> Result<(), OutOfMemory>
     ensures { OnOk result (text.new.items ≡ text.old.items ++ (before is_first ++ quoted (shown_line names.now line.now))) }
 {
     put_before(text, is_first)?;
@@ -31,7 +31,7 @@ fn put_item(
 }
 
 /// Lines, up to the end of their list.
-fn put_lines(text: &mut Vec<u8>, names: &NameTable, lines: &[Instr]) -> Result<(), Memory>
+fn put_lines(text: &mut Vec<u8>, names: &NameTable, lines: &[Instr]) -> Result<(), OutOfMemory>
     ensures { OnOk result (text.new.items ≡ text.old.items ++ items_text true (shown_lines names.now lines.now)) }
 {
     let mut is_first = true;
@@ -43,7 +43,7 @@ fn put_lines(text: &mut Vec<u8>, names: &NameTable, lines: &[Instr]) -> Result<(
 }
 
 /// The list of a script's lines.
-fn put_list(text: &mut Vec<u8>, names: &NameTable, lines: &[Instr]) -> Result<(), Memory>
+fn put_list(text: &mut Vec<u8>, names: &NameTable, lines: &[Instr]) -> Result<(), OutOfMemory>
     ensures { OnOk result (text.new.items ≡ text.old.items ++ pair_text (texts_pair Key.Lines (shown_lines names.now lines.now))) }
 {
     put_key(text, Key::Lines)?;
@@ -52,7 +52,7 @@ fn put_list(text: &mut Vec<u8>, names: &NameTable, lines: &[Instr]) -> Result<()
     put(text, b"\n")
 }
 
-fn put_script(text: &mut Vec<u8>, names: &NameTable, script: &Script) -> Result<(), Memory>
+fn put_script(text: &mut Vec<u8>, names: &NameTable, script: &Script) -> Result<(), OutOfMemory>
     ensures { OnOk result (text.new.items ≡ text.old.items ++ script_by names.now script.now) }
 {
     put_header(text, Key::Script)?;
@@ -61,7 +61,11 @@ fn put_script(text: &mut Vec<u8>, names: &NameTable, script: &Script) -> Result<
 }
 
 /// The scripts, with the names of what their lines number.
-pub fn put_scripts(text: &mut Vec<u8>, names: &NameTable, scripts: &[Script]) -> Result<(), Memory>
+pub fn put_scripts(
+    text: &mut Vec<u8>,
+    names: &NameTable,
+    scripts: &[Script],
+) -> Result<(), OutOfMemory>
     ensures { OnOk result (text.new.items ≡ text.old.items ++ flat_map (script_by names.now) scripts.now) }
 {
     for script in scripts {

@@ -12,13 +12,13 @@ use crate::partitions::{put_partitions, put_pools};
 use crate::scripts::put_scripts;
 use crate::variables::free_numbers;
 use std::alloc::Global;
-use um_base::{Image, Memory};
+use um_base::{Image, OutOfMemory};
 use um_document::Key;
 use um_vocabulary::{mpu_word, policy_word};
 
 /// The keys of the whole.
 #[tactic(auto, unfolding(crate::specs::Pieces::top_text))]
-fn put_top(text: &mut Vec<u8>, image: &Image) -> Result<(), Memory>
+fn put_top(text: &mut Vec<u8>, image: &Image) -> Result<(), OutOfMemory>
     ensures { OnOk result (text.new.items ≡ text.old.items ++ top_text image.now) }
 {
     put_number(text, Key::Version, 2)?;
@@ -34,7 +34,7 @@ fn put_all(
     image: &Image,
     names: &NameTable,
     numbers: &[u64],
-) -> Result<(), Memory>
+) -> Result<(), OutOfMemory>
     ensures { OnOk result (text.new.items ≡ text.old.items ++ text_by names.now numbers.now image.now) }
 {
     put_top(text, image)?;
@@ -52,7 +52,7 @@ fn put_all(
 /// # Errors
 ///
 /// Memory ran out.
-pub fn put_image(alloc: Global, text: &mut Vec<u8>, image: &Image) -> Result<(), Memory>
+pub fn put_image(alloc: Global, text: &mut Vec<u8>, image: &Image) -> Result<(), OutOfMemory>
     ensures { OnOk result (text.new.items ≡ text.old.items ++ printed_text image.now) }
 {
     let names = NameTable::of(alloc, image)?;

@@ -5,7 +5,7 @@ ghost use Rattle.um_canonical.specs.Fresh.{is_taken, with_free, free_numbers};
 
 use itoa::Buffer;
 use std::alloc::Global;
-use um_base::{Memory, Name};
+use um_base::{Name, OutOfMemory};
 
 /// Whether a name is `v` and these digits.
 fn is_variable(name: &[u8], digits: &[u8]) -> bool
@@ -29,7 +29,12 @@ fn is_taken(taken: &[Name], number: u64) -> bool
 }
 
 /// One more number, where more are wanted and its name isn't taken.
-fn push_free(numbers: &mut Vec<u64>, taken: &[Name], count: u32, number: u64) -> Result<(), Memory>
+fn push_free(
+    numbers: &mut Vec<u64>,
+    taken: &[Name],
+    count: u32,
+    number: u64,
+) -> Result<(), OutOfMemory>
     ensures { OnOk result (numbers.new.items ≡ with_free taken.now count numbers.old.items number) }
 {
     if numbers.len() < count as usize && !is_taken(taken, number) {
@@ -39,7 +44,7 @@ fn push_free(numbers: &mut Vec<u64>, taken: &[Name], count: u32, number: u64) ->
 }
 
 /// The least numbers of variables whose names aren't taken, so many of them.
-pub fn free_numbers(alloc: Global, taken: &[Name], count: u32) -> Result<Vec<u64>, Memory>
+pub fn free_numbers(alloc: Global, taken: &[Name], count: u32) -> Result<Vec<u64>, OutOfMemory>
     ensures { IfOk result (λ numbers. numbers.items ≡ free_numbers taken.now count) }
 {
     let most = count as u64 + taken.len() as u64;

@@ -21,7 +21,7 @@ fn generated(number: u64) -> Option<Command> {
 }
 
 #[test]
-fn commands(rt: HostRuntime) -> Result<(), Fail> {
+fn words_are_commands(rt: HostRuntime) -> Result<(), Fail> {
     let all_options: &[&str] = &["summary", "--cpus", "4", "--pick", "18446744073709551615"];
     let summary = Options {
         cpus: 4,
@@ -52,7 +52,7 @@ fn commands(rt: HostRuntime) -> Result<(), Fail> {
 }
 
 #[test]
-fn no_commands(rt: HostRuntime) -> Result<(), Fail> {
+fn wrong_words_are_no_commands(rt: HostRuntime) -> Result<(), Fail> {
     let cases: [&[&str]; 29] = [
         &[],
         &["sim", "--cpus", "9"],

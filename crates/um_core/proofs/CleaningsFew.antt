@@ -4,11 +4,11 @@ use Rattle.um_base.specs.declared.limits.TheConstants.{ROWS, STATIC_ROWS}
 use Rattle.um_machine.specs.State.{State}
 use Rattle.um_fine.specs.Places.{cleanings}
 use Rattle.um_fine.specs.Processor.{Processor}
-use Rattle.um_erasure.specs.Fine.{Fine}
-use Rattle.um_erasure.specs.Lists.{counted, is_recycle}
-use Rattle.um_erasure.proofs.CleanRoom.{recyclers-few, recyclers-static}
-use Rattle.um_erasure.proofs.MemorySteps.{part-total}
-use Rattle.um_erasure.proofs.Totals.{recycles-total, total-late}
+use Rattle.um_refinement.specs.Fine.{Fine}
+use Rattle.um_refinement.specs.Lists.{counted, is_recycle}
+use Rattle.um_refinement.proofs.CleanRoom.{recyclers-few, recyclers-static}
+use Rattle.um_refinement.proofs.MemorySteps.{part-total}
+use Rattle.um_refinement.proofs.Totals.{recycles-total, total-late}
 use Rattle.um_core.proofs.LeftKnown.{IsLeft}
 
 module _ (f : Fine) (m : State) (is : IsLeft f m) where

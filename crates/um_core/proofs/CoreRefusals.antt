@@ -10,10 +10,11 @@ use Rattle.um_fine.specs.Places.{cleanings}
 use Rattle.um_fine.specs.Processor.{Processor, idle}
 use Rattle.um_fine.specs.Sites.{SiteState, is_site}
 use Rattle.um_fine.specs.Steps.{FineStep}
-use Rattle.um_erasure.specs.Room.{CanRun}
+use Rattle.um_refinement.specs.Room.{CanRun}
 use Rattle.um_processor.specs.declared.cleaning.TheConstants.{MOST}
-use Rattle.um_processor.specs.Processors.{AsksFor, IsStuck, fits_next, full, has_thread, no_event, no_room, no_site, no_thread, shows_event}
-use Rattle.um_processor.specs.Sited.{IsFull, IsShut, state_at}
+use Rattle.um_processor.specs.Processors.{IsStuck, fits_next, full, has_thread, no_event, no_room, no_site, no_thread, shows_event}
+use Rattle.um_tables.specs.Asked.{AsksFor}
+use Rattle.um_tables.specs.Sited.{IsFull, IsShut, state_at}
 use Rattle.um_core.specs.Cores.{Core, Stands}
 use Rattle.um_core.specs.PickedRun.{NoneFollows, processor_after, site_after}
 use Rattle.um_core.proofs.LogRoom.{full-none}

@@ -12,9 +12,9 @@ use Rattle.um_fine.specs.Steps.{FineStep, Site}
 use Rattle.um_scheduler.specs.declared.order.Order.{Order}
 use Rattle.um_scheduler.specs.Order.{coming, preferred}
 use Rattle.um_scheduler.proofs.ScheduledLemmas.{Left, all-left, none-preferred, order-first, order-left}
-use Rattle.um_processor.specs.Sited.{IsSized, state_at}
-use Rattle.um_processor.proofs.Noted.{made-most}
-use Rattle.um_erasure.specs.Room.{CanRun}
+use Rattle.um_tables.specs.Sited.{IsSized, state_at}
+use Rattle.um_tables.proofs.Noted.{made-most}
+use Rattle.um_refinement.specs.Room.{CanRun}
 use Rattle.um_core.specs.CoreSteps.{AllHalt, FirstSteps, GoesOn, Halts, IsCoreOf, Steps}
 use Rattle.um_core.specs.Cores.{Core, Stands}
 use Rattle.um_core.specs.PickedRun.{ArePicked, IsPicked, IsPickedRun, NoneFollows, behind}

@@ -8,8 +8,9 @@ use Rattle.um_fine.specs.Processor.{Processor, idle}
 use Rattle.um_fine.specs.Steps.{FineStep, Site}
 use Rattle.um_processor.specs.declared.phase.Turn.{Turn}
 use Rattle.um_processor.specs.declared.processor.Processor.{Processor as Kept}
-use Rattle.um_processor.specs.Processors.{AsksFor, IsStuck, Turned, UnlessMade}
-use Rattle.um_processor.specs.Sited.{IsFull, IsShut, Sited, WasMade, state_at}
+use Rattle.um_processor.specs.Processors.{IsStuck, Turned, UnlessMade}
+use Rattle.um_tables.specs.Asked.{AsksFor}
+use Rattle.um_tables.specs.Sited.{IsFull, IsShut, Sited, WasMade, state_at}
 use Rattle.um_processor.specs.Standing.{whole}
 use Rattle.um_core.specs.CoreSteps.{Halts, Steps, is_made, processor_at}
 use Rattle.um_core.specs.CoreSteps as C

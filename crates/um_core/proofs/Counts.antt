@@ -20,9 +20,9 @@ use Rattle.um_fine.specs.Opening.{s_start}
 use Rattle.um_fine.specs.Runs.{ends, has_key, sub}
 use Rattle.um_fine.specs.Sites.{SiteState, s_next, same_site}
 use Rattle.um_fine.specs.Steps.{FineStep, Site}
-use Rattle.um_erasure.specs.Fine.{domain_state}
-use Rattle.um_erasure.specs.After.{left_by}
-use Rattle.um_erasure.specs.Room.{CanCount, has_number}
+use Rattle.um_refinement.specs.Fine.{domain_state}
+use Rattle.um_refinement.specs.After.{left_by}
+use Rattle.um_refinement.specs.Room.{CanCount, has_number}
 use Rattle.um_core.specs.PickedRun.{site_after}
 
 abbrev pub number_of : SiteState → ℕ
@@ -41,10 +41,6 @@ verdict-kept : (w : RowWord) (verdict : Option Errno) → (after_verdict w verdi
 verdict-kept w None = refl
 verdict-kept w (Some e) = refl
 
-set-kept : (w : RowWord) (said : SetSaid) → (after_set w said).number ≡ w.number
-set-kept w SetSaid.Done = refl
-set-kept w said = refl
-
 row-kept : (w : RowWord) (act : FineAct) → (row_after w act).number ≡ w.number
 row-kept w (FineAct.Shown event more) = by event.thread.0 event.act
   where
@@ -54,8 +50,6 @@ row-kept w (FineAct.Shown event more) = by event.thread.0 event.act
     by t (Act.Own who given) = either-row w.number (is_live w.stage) (permitted w who.0 true) w refl refl
     by t (Act.DropPair who a left) =
         either-row w.number (is_last w who.0 && has w who.0) (record (permitted w who.0 false) { stage = gone_stage w }) (permitted w who.0 false) refl refl
-    by t (Act.Publish a given) = either-row w.number (is_live w.stage) (record w { public = true }) w refl refl
-    by t (Act.SetInit a said) = set-kept w said
     by t act = refl
 row-kept w (FineAct.Unseen Unseen.EndCall) = refl
 row-kept w (FineAct.Unseen Unseen.Vacate) = refl

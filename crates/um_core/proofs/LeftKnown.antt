@@ -10,19 +10,19 @@ use Rattle.um_invariants.specs.Described.{IsDescribed}
 use Rattle.um_fine.specs.Erasure.{shown}
 use Rattle.um_fine.specs.FineRun.{IsFineRun}
 use Rattle.um_fine.specs.Steps.{FineStep}
-use Rattle.um_erasure.specs.After.{left_by}
-use Rattle.um_erasure.specs.Fine.{Fine}
-use Rattle.um_erasure.specs.Relation.{Rel}
-use Rattle.um_erasure.specs.Room.{CanRun}
-use Rattle.um_erasure.proofs.BoundedRuns.{bounded-runs}
-use Rattle.um_erasure.proofs.Bounds.{AreBounded}
-use Rattle.um_erasure.proofs.CallsProper.{AreProper}
-use Rattle.um_erasure.proofs.DomainsKnown.{started-placed}
-use Rattle.um_erasure.proofs.Erased.{IsReachable}
-use Rattle.um_erasure.proofs.ErasedRuns.{no-steps, none-or-some}
-use Rattle.um_erasure.proofs.MemoryPart.{InDomains}
-use Rattle.um_erasure.proofs.Reachable.{IsSound, reachable-sound}
-use Rattle.um_erasure.proofs.SuitsKnown.{proper-known}
+use Rattle.um_refinement.specs.After.{left_by}
+use Rattle.um_refinement.specs.Fine.{Fine}
+use Rattle.um_refinement.specs.Relation.{Rel}
+use Rattle.um_refinement.specs.Room.{CanRun}
+use Rattle.um_refinement.proofs.BoundedRuns.{bounded-runs}
+use Rattle.um_refinement.proofs.Bounds.{AreBounded}
+use Rattle.um_refinement.proofs.CallsProper.{AreProper}
+use Rattle.um_refinement.proofs.DomainsKnown.{started-placed}
+use Rattle.um_refinement.proofs.Erased.{IsReachable}
+use Rattle.um_refinement.proofs.ErasedRuns.{no-steps, none-or-some}
+use Rattle.um_refinement.proofs.MemoryPart.{InDomains}
+use Rattle.um_refinement.proofs.Reachable.{IsSound, reachable-sound}
+use Rattle.um_refinement.proofs.SuitsKnown.{proper-known}
 use Rattle.um_core.proofs.NamedThreads.{AllNamed, named-known}
 
 pub record IsLeft (f : Fine) (m : State) : Type 0 where

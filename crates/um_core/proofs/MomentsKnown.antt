@@ -15,10 +15,10 @@ use Rattle.um_fine.specs.Places.{Todo, Todos, cleanings}
 use Rattle.um_fine.specs.Processor.{Processor}
 use Rattle.um_fine.specs.Sites.{SiteMay, is_site}
 use Rattle.um_fine.specs.Steps.{FineStep}
-use Rattle.um_erasure.specs.After.{left_by}
-use Rattle.um_erasure.specs.Lists.{has_steps}
-use Rattle.um_erasure.specs.Room.{CanRun}
-use Rattle.um_erasure.proofs.CleanRoom.{clean-room}
+use Rattle.um_refinement.specs.After.{left_by}
+use Rattle.um_refinement.specs.Lists.{has_steps}
+use Rattle.um_refinement.specs.Room.{CanRun}
+use Rattle.um_refinement.proofs.CleanRoom.{clean-room}
 use Rattle.um_core.specs.PickedRun.{processor_after, site_after}
 use Rattle.um_core.proofs.CleaningsFew.{cleanings-few}
 use Rattle.um_core.proofs.LeftKnown.{IsLeft, left-known}

@@ -24,7 +24,7 @@ use Rattle.um_fine.specs.Scheduler.{Scheduler, first_ready, sched_moves}
 use Rattle.um_fine.specs.Sites.{SiteMay, SiteState, filled, is_sort, site_after, site_answers, site_moves, site_takes, word_of}
 use Rattle.um_fine.specs.Steps.{Exchange, FineStep, Site, Word}
 use Rattle.um_fine.specs.Threads.{unless_doomed}
-use Rattle.um_processor.specs.Sited.{IsSeen}
+use Rattle.um_tables.specs.Sited.{IsSeen}
 use Rattle.um_core.specs.Moments.{AreSorted, MayStep}
 use Rattle.um_core.proofs.Filling.{filled-alike, gave, said}
 

@@ -19,9 +19,9 @@ use Rattle.um_fine.specs.Places.{Todo, Todos, cleanings}
 use Rattle.um_fine.specs.Processor.{Processor}
 use Rattle.um_fine.specs.Sites.{SiteMay, SiteState, filled, is_site, is_sort, site_takes}
 use Rattle.um_fine.specs.Steps.{FineStep, Site}
-use Rattle.um_erasure.specs.Room.{CanRun}
+use Rattle.um_refinement.specs.Room.{CanRun}
 use Rattle.um_processor.specs.Processors.{fits_next, has_thread, is_event, shows_event}
-use Rattle.um_processor.specs.Sited.{IsSeen}
+use Rattle.um_tables.specs.Sited.{IsSeen}
 use Rattle.um_core.specs.PickedRun.{MayFollow, NoneFollows, processor_after, site_after}
 use Rattle.um_core.proofs.MomentsKnown.{add-there, few-cleanings, site-there, wake-there}
 use Rattle.um_core.proofs.OneStep.{refused-none}

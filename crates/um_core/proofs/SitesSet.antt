@@ -11,9 +11,9 @@ use Rattle.um_fine.specs.Cells.{Cell}
 use Rattle.um_fine.specs.Sites.{SiteState, is_site, is_sort, same_site}
 use Rattle.um_fine.specs.Erasure.{shown_by}
 use Rattle.um_fine.specs.Steps.{FineStep, Site}
-use Rattle.um_processor.specs.Asked.{event_of}
-use Rattle.um_processor.specs.ObjectCells.{cleared}
-use Rattle.um_processor.specs.Sited.{IsSized, Sited, domain_cell_state, logged, no_domain_cell, noted, object_state, state_at, with_state}
+use Rattle.um_tables.specs.Asked.{event_of}
+use Rattle.um_tables.specs.ObjectCells.{cleared}
+use Rattle.um_tables.specs.Sited.{IsSized, Sited, domain_cell_state, logged, no_domain_cell, noted, object_state, state_at, with_state}
 
 module _ (s : Sited) where
   inside : (x n m : ℕ) → m ≡ n → IsTrue (nat_lt x n) → x < m

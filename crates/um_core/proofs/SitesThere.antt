@@ -22,18 +22,18 @@ use Rattle.um_fine.specs.Places.{Todo, Todos}
 use Rattle.um_fine.specs.Processor.{Processor, fails}
 use Rattle.um_fine.specs.Sites.{is_site}
 use Rattle.um_fine.specs.Steps.{Site}
-use Rattle.um_erasure.specs.Fine.{Fine}
-use Rattle.um_erasure.specs.Frames.{AreFramed}
-use Rattle.um_erasure.specs.Lists.{Adds, has_held, has_steps, is_hold, is_let_go, names_row, runs}
-use Rattle.um_erasure.specs.Offers as O
-use Rattle.um_erasure.specs.Offers.{Fits, IsOffered}
-use Rattle.um_erasure.specs.Threads.{IsOf}
-use Rattle.um_erasure.proofs.Bounds.{AreThreads}
-use Rattle.um_erasure.proofs.CallSteps.{Proper}
-use Rattle.um_erasure.proofs.ListWakes.{wakers}
-use Rattle.um_erasure.proofs.ObjectsKept.{found-below}
-use Rattle.um_erasure.proofs.StepsLeft.{offered-on}
-use Rattle.um_erasure.proofs.StuckEvents.{InImage, edit-in, first-in}
+use Rattle.um_refinement.specs.Fine.{Fine}
+use Rattle.um_refinement.specs.Frames.{AreFramed}
+use Rattle.um_refinement.specs.Lists.{Adds, has_held, has_steps, is_hold, is_let_go, names_row, runs}
+use Rattle.um_refinement.specs.Offers as O
+use Rattle.um_refinement.specs.Offers.{Fits, IsOffered}
+use Rattle.um_refinement.specs.Threads.{IsOf}
+use Rattle.um_refinement.proofs.Bounds.{AreThreads}
+use Rattle.um_refinement.proofs.CallSteps.{Proper}
+use Rattle.um_refinement.proofs.ListWakes.{wakers}
+use Rattle.um_refinement.proofs.ObjectsKept.{found-below}
+use Rattle.um_refinement.proofs.StepsLeft.{offered-on}
+use Rattle.um_refinement.proofs.StuckEvents.{InImage, edit-in, first-in}
 use Rattle.um_core.proofs.LeftKnown.{IsLeft}
 use Rattle.um_core.proofs.NamedSteps.{AreNamed, names_thread}
 

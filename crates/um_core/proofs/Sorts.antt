@@ -2,7 +2,7 @@
 use Rattle.std.specs.Prelude.{List}
 use Rattle.um_base.specs.declared.image.Image.{Image}
 use Rattle.um_fine.specs.Steps.{FineStep}
-use Rattle.um_erasure.proofs.First.{sorts-along}
+use Rattle.um_refinement.proofs.First.{sorts-along}
 use Rattle.um_core.specs.Moments.{AreSorted}
 use Rattle.um_core.specs.PickedRun.{site_after}
 

@@ -18,10 +18,10 @@ use Rattle.um_fine.specs.Sites.{SiteMay, SiteState, is_site, is_sort, s_next, sa
 use Rattle.um_fine.specs.Steps.{FineStep, Site}
 use Rattle.um_fine.proofs.FineRuns.{state_push}
 use Rattle.um_fine.proofs.Keys.{same-itself, same-sound}
-use Rattle.um_erasure.specs.Room.{CanRun}
-use Rattle.um_processor.specs.Processors.{AsksFor}
-use Rattle.um_processor.specs.Sited.{IsSized, Sited, WasMade, noted, state_at, with_state}
-use Rattle.um_processor.proofs.Noted.{made-log}
+use Rattle.um_refinement.specs.Room.{CanRun}
+use Rattle.um_tables.specs.Asked.{AsksFor}
+use Rattle.um_tables.specs.Sited.{IsSized, Sited, WasMade, noted, state_at, with_state}
+use Rattle.um_tables.proofs.Noted.{made-log}
 use Rattle.um_core.specs.Cores.{Core, Stands}
 use Rattle.um_core.specs.PickedRun.{MayFollow, processor_after, site_after}
 use Rattle.um_core.proofs.MomentsKnown.{asked-may, site-there}

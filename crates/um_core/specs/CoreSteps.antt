@@ -6,10 +6,11 @@ use Rattle.um_invariants.specs.Described.{IsDescribed}
 use Rattle.um_fine.specs.Follows.{p_next}
 use Rattle.um_fine.specs.Processor.{Processor, idle}
 use Rattle.um_fine.specs.Steps.{FineStep}
-use Rattle.um_erasure.specs.Room.{CanRun}
+use Rattle.um_refinement.specs.Room.{CanRun}
 use Rattle.um_processor.specs.declared.phase.Turn.{Turn}
-use Rattle.um_processor.specs.Processors.{AsksFor, IsStuck}
-use Rattle.um_processor.specs.Sited.{IsFull, IsShut, WasMade, state_at}
+use Rattle.um_processor.specs.Processors.{IsStuck}
+use Rattle.um_tables.specs.Asked.{AsksFor}
+use Rattle.um_tables.specs.Sited.{IsFull, IsShut, WasMade, state_at}
 use Rattle.um_core.specs.Cores.{Core, Stands}
 use Rattle.um_core.specs.PickedRun.{MayFollow, behind}
 

@@ -8,7 +8,7 @@ use Rattle.um_fine.specs.Opening.{s_start}
 use Rattle.um_fine.specs.Processor.{Processor, idle}
 use Rattle.um_fine.specs.Sites.{is_site}
 use Rattle.um_fine.specs.Steps.{FineStep, Site}
-use Rattle.um_processor.specs.Sited.{IsSized, Sited, state_at}
+use Rattle.um_tables.specs.Sited.{IsSized, Sited, state_at}
 use Rattle.um_core.specs.PickedRun.{processor_after, site_after}
 
 pub record Core : Type 0 where

@@ -10,11 +10,11 @@ ghost use Rattle.um_fine.specs.{
   Sites.{SiteState},
   Steps.{FineStep, Site},
 };
-ghost use Rattle.um_erasure.specs.{Room.{CanRun}, Shows.{AreCompleteRun, AreRun}};
+ghost use Rattle.um_refinement.specs.{Room.{CanRun}, Shows.{AreCompleteRun, AreRun}};
 ghost use Rattle.um_core.specs.{Moments.{AreSorted, MayStep}, PickedRun.{IsPickedRun}};
 
-use um_erasure::every_fine_run;
 use um_fine_measure::longest_fine_run;
+use um_refinement::every_fine_run;
 
 /// A processor has at most one next step: if each site keeps its sort, two steps that the same processor may make and that their sites take
 /// are equal.

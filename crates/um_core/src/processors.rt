@@ -14,10 +14,11 @@ ghost use Rattle.um_core.specs.{
 
 use std::alloc::Global;
 use std::marker::Model;
-use um_base::{Event, Image, Memory};
+use um_base::{Event, Image, OutOfMemory};
 use um_fine_measure::longest_fine_run;
 use um_opening::opening;
-use um_processor::{Processor, Tables, Turn};
+use um_processor::{Processor, Turn};
+use um_tables::Tables;
 
 /// Processors of the fine machine, and the sites that they share, in tables.
 #[derive(Drop)]
@@ -37,7 +38,7 @@ impl Model for Core {
 }
 
 /// Makes this many processors, none with a thread.
-fn idle_processors(alloc: Global, cpus: u8) -> Result<Vec<Processor>, Memory>
+fn idle_processors(alloc: Global, cpus: u8) -> Result<Vec<Processor>, OutOfMemory>
     ensures { IfOk result (λ all. map whole all.items ≡ replicate cpus idle) }
 {
     let mut all = Vec::with_capacity(alloc, cpus as usize)?;
@@ -59,7 +60,7 @@ fn is_made(turn: Turn) -> bool
 
 impl Core {
     /// Makes this many processors at the opening of an image, with room for at least `most` events. All memory is taken here.
-    pub fn boot(alloc: Global, image: &Image, cpus: u8, most: usize) -> Result<Core, Memory>
+    pub fn boot(alloc: Global, image: &Image, cpus: u8, most: usize) -> Result<Core, OutOfMemory>
         requires lawful { IsLawful image.now }
         ensures { IfOk result (λ core. IsOpened image.now cpus most core) }
     {

@@ -4,13 +4,13 @@ ghost use Rattle.std.specs.Prelude.{◌≡◌, ◌≤◌, IfOk, List, length};
 ghost use Rattle.um_base.specs.{Lawful.{IsLawful}, Weight.{weight}};
 ghost use Rattle.um_invariants.specs.Described.{IsDescribed};
 ghost use Rattle.um_fine.specs.{Erasure.{shown}, Steps.{FineStep}};
-ghost use Rattle.um_erasure.specs.{Room.{CanRun}, Shows.{AreCompleteRun}};
+ghost use Rattle.um_refinement.specs.{Room.{CanRun}, Shows.{AreCompleteRun}};
 ghost use Rattle.um_core.specs.PickedRun.{IsPickedRun};
 
 use crate::laws::every_order;
 use crate::processors::Core;
 use std::alloc::Global;
-use um_base::{Event, Image, Memory};
+use um_base::{Event, Image, OutOfMemory};
 use um_fine_measure::longest_fine_run;
 use um_scheduler::Order;
 
@@ -21,7 +21,7 @@ fn picked(
     cpus: u8,
     pick: Option<u64>,
     most: usize,
-) -> Result<Vec<Event>, Memory>
+) -> Result<Vec<Event>, OutOfMemory>
     requires described { IsDescribed image.now }
     requires can { CanRun image.now cpus }
     requires room { weight image.now ≤ most }
@@ -46,7 +46,7 @@ pub fn run(
     cpus: u8,
     pick: Option<u64>,
     most: usize,
-) -> Result<Vec<Event>, Memory>
+) -> Result<Vec<Event>, OutOfMemory>
     requires lawful { IsLawful image.now }
     requires some { 1 ≤ cpus }
     requires few { cpus ≤ 8 }

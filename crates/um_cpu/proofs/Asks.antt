@@ -11,11 +11,12 @@ use Rattle.um_fine.specs.Processor.{Processor, idle}
 use Rattle.um_fine.specs.Runs.{ends}
 use Rattle.um_fine.specs.Sites.{is_site, site_number}
 use Rattle.um_fine.specs.Steps.{FineStep, Site}
-use Rattle.um_erasure.specs.Room.{CanRun}
+use Rattle.um_refinement.specs.Room.{CanRun}
 use Rattle.um_core.specs.PickedRun.{processor_after}
 use Rattle.um_core.proofs.MomentsKnown.{site-there}
 use Rattle.um_merge.specs.declared.logged.Logged.{Logged}
-use Rattle.um_processor.specs.Processors.{AsksFor, IsStuck, Turned, UnlessMade}
+use Rattle.um_processor.specs.Processors.{IsStuck, Turned, UnlessMade}
+use Rattle.um_tables.specs.Asked.{AsksFor}
 use Rattle.um_processor.specs.declared.phase.Turn.{Turn}
 use Rattle.um_site.specs.declared.seat.Seat.{Seat}
 use Rattle.um_board.specs.Contents.{Known}

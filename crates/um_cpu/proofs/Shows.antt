@@ -11,7 +11,7 @@ use Rattle.um_fine.specs.FineRun.{cpu_of, same_cpu}
 use Rattle.um_fine.specs.Runs.{sub, sublist}
 use Rattle.um_fine.specs.Sites.{is_site}
 use Rattle.um_fine.specs.Steps.{FineStep}
-use Rattle.um_erasure.specs.Room.{CanRun}
+use Rattle.um_refinement.specs.Room.{CanRun}
 use Rattle.um_fine.proofs.Keys.{number-bound}
 use Rattle.um_merge.specs.Logs.{Log}
 use Rattle.um_merge.specs.Merged.{AreAtSites, ArePlaced, log_at}

@@ -10,7 +10,8 @@ use Rattle.um_fine.specs.Runs.{ends}
 use Rattle.um_fine.specs.Sites.{site_number, word_of}
 use Rattle.um_fine.specs.Steps.{FineStep, Site}
 use Rattle.um_merge.specs.declared.logged.Logged.{Logged}
-use Rattle.um_processor.specs.Processors.{AsksFor, Goes}
+use Rattle.um_processor.specs.Processors.{Goes}
+use Rattle.um_tables.specs.Asked.{AsksFor}
 use Rattle.um_site.specs.Tells.{NoOlder}
 use Rattle.um_site.specs.declared.seat.Seat.{Seat}
 use Rattle.um_board.specs.Contents.{Known}

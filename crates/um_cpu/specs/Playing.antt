@@ -2,7 +2,7 @@
 use Rattle.std.specs.Prelude.{ℕ}
 use Rattle.um_base.specs.declared.image.Image.{Image}
 use Rattle.um_invariants.specs.Described.{IsDescribed}
-use Rattle.um_erasure.specs.Room.{CanRun}
+use Rattle.um_refinement.specs.Room.{CanRun}
 use Rattle.um_steps.specs.Given.{IsGiven}
 use Rattle.um_processor.specs.Standing.{whole}
 use Rattle.um_board.specs.Placed.{IsAt}

@@ -7,9 +7,9 @@ ghost use Rattle.um_cpu.specs.{Cpus.{Tells}, Playing.{AskedOnce, CanPlay, GoesOn
 use crate::turn::Turn;
 use um_base::Image;
 use um_board::Seated;
-use um_erasure::every_fine_run;
 use um_fine_measure::longest_fine_run;
 use um_processor::{Processor, Turn as Asked};
+use um_refinement::every_fine_run;
 use um_words::CellWord;
 
 /// A processor by its number, at its place at a board.

@@ -4,14 +4,14 @@ ghost use Rattle.std.specs.Prelude.{◌≡◌, ◌≤◌, IfOk, List, length};
 ghost use Rattle.um_base.specs.{Lawful.{IsLawful}, Weight.{weight}};
 ghost use Rattle.um_fine.specs.{Erasure.{shown}, Steps.{FineStep}};
 ghost use Rattle.um_merge.specs.Logs.{events_of};
-ghost use Rattle.um_erasure.specs.Shows.{AreCompleteRun};
+ghost use Rattle.um_refinement.specs.Shows.{AreCompleteRun};
 ghost use Rattle.um_cpu.specs.OnBoard.{HasRun};
 
 use crate::run::{Ended, run_cpus};
 use std::alloc::Global;
 use std::sync::Wait;
 use std::thread::Threads;
-use um_base::{Event, Image, Memory};
+use um_base::{Event, Image, OutOfMemory};
 use um_board::Contents;
 use um_fine_measure::longest_fine_run;
 use um_history::every_played_board;
@@ -35,7 +35,7 @@ pub fn run_events<R: Threads + Wait + Sync, G: Gate + Sync>(
     cpus: u8,
     most: usize,
     gate: &G,
-) -> Result<Ran, Memory>
+) -> Result<Ran, OutOfMemory>
     requires lawful { IsLawful image.now }
     requires some { 1 ≤ cpus }
     requires few { cpus ≤ 8 }

@@ -3,7 +3,7 @@
 ghost use Rattle.std.specs.Prelude.{◌≡◌, ◌≤◌, ℕ, [], IfOk, length, vec_capacity};
 ghost use Rattle.um_base.specs.{Lawful.{IsLawful}, Weight.{weight}};
 ghost use Rattle.um_invariants.specs.Described.{IsDescribed};
-ghost use Rattle.um_erasure.specs.Room.{CanRun};
+ghost use Rattle.um_refinement.specs.Room.{CanRun};
 ghost use Rattle.um_steps.specs.Given.{IsGiven};
 ghost use Rattle.um_cpu.specs.Ended.{Begins, EachAt, Ends, Gathered, HasEnded};
 
@@ -14,7 +14,7 @@ use std::alloc::Global;
 use std::sync::Wait;
 use std::thread;
 use std::thread::Threads;
-use um_base::{Image, Memory};
+use um_base::{Image, OutOfMemory};
 use um_board::{Contents, NextStep, opening};
 use um_io::Gate;
 use um_merge::{Log, PROCESSORS};
@@ -113,7 +113,7 @@ pub fn run_cpus<R: Threads + Wait + Sync, G: Gate + Sync>(
     cpus: u8,
     most: usize,
     gate: &G,
-) -> Result<Ended, Memory>
+) -> Result<Ended, OutOfMemory>
     requires lawful { IsLawful image.now }
     requires some { 1 ≤ cpus }
     requires few { cpus ≤ 8 }

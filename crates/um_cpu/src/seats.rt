@@ -8,7 +8,7 @@ ghost use Rattle.um_cpu.specs.Ended.{Begins, EachAt, Gathered};
 
 use crate::cpu::Cpu;
 use std::alloc::Global;
-use um_base::{Image, Memory};
+use um_base::{Image, OutOfMemory};
 use um_board::{Contents, NextStep, Seated};
 use um_cell::Cells;
 use um_merge::Log;
@@ -25,7 +25,7 @@ fn seat_of<'a>(
     seat: &mut Seat<Contents>,
     number: u8,
     most: usize,
-) -> Result<Cpu<'a>, Memory>
+) -> Result<Cpu<'a>, OutOfMemory>
     requires seated { IsSeated image.now board.now.table.shared.table_id cells.now seat.old }
     requires rodata { rodata.now ≡ rodata_of image.now }
     requires gathered { Gathered image.now board.now.table.shared.table_id seat.old number number [] }
@@ -59,7 +59,7 @@ pub(crate) fn seats<'a>(
     seat: &mut Seat<Contents>,
     cpus: u8,
     most: usize,
-) -> Result<Vec<Cpu<'a>>, Memory>
+) -> Result<Vec<Cpu<'a>>, OutOfMemory>
     requires seated { IsSeated image.now board.now.table.shared.table_id cells.now seat.old }
     requires rodata { rodata.now ≡ rodata_of image.now }
     requires first { IsFirst seat.old }

@@ -8,7 +8,7 @@ ghost use Rattle.um_description.specs.Names as names;
 use crate::lines::line_place;
 use crate::read::{ReadLine, ReadScript};
 use std::alloc::Global;
-use um_base::{Instr, Memory};
+use um_base::{Instr, OutOfMemory};
 use um_document::Place;
 
 /// What a line is to the blocks of a script.
@@ -32,7 +32,7 @@ fn bracket_at(line: &ReadLine<'_>) -> Bracket
 }
 
 /// What lines are to the blocks of their script.
-fn brackets(alloc: Global, lines: &[ReadLine<'_>]) -> Result<Vec<Bracket>, Memory>
+fn brackets(alloc: Global, lines: &[ReadLine<'_>]) -> Result<Vec<Bracket>, OutOfMemory>
     ensures { IfOk result (λ found. found.items ≡ map spec.bracket_at lines.now) }
 {
     let mut found = Vec::new(alloc);
@@ -99,7 +99,11 @@ fn broken_block(script: usize, brackets: &[Bracket]) -> Option<Place>
 
 /// The first line of a script that breaks a block.
 #[tactic(auto, unfolding(crate::specs::Lines::blocks_in))]
-fn block_of(alloc: Global, script: usize, lines: &[ReadLine<'_>]) -> Result<Option<Place>, Memory>
+fn block_of(
+    alloc: Global,
+    script: usize,
+    lines: &[ReadLine<'_>],
+) -> Result<Option<Place>, OutOfMemory>
     ensures { IfOk result (λ found. found ≡ first_of (spec.blocks_in script lines.now)) }
 {
     let found = brackets(alloc, lines)?;
@@ -107,7 +111,7 @@ fn block_of(alloc: Global, script: usize, lines: &[ReadLine<'_>]) -> Result<Opti
 }
 
 /// The first line of some scripts that breaks a block.
-pub fn first_block(alloc: Global, scripts: &[ReadScript<'_>]) -> Result<Option<Place>, Memory>
+pub fn first_block(alloc: Global, scripts: &[ReadScript<'_>]) -> Result<Option<Place>, OutOfMemory>
     ensures { IfOk result (λ found. found ≡ first_of (names.each spec.blocks_of 0 scripts.now)) }
 {
     let mut index = 0usize;

@@ -16,7 +16,7 @@ ghost use Rattle.um_description.specs.Names.{variables_of, variable_names, names
 
 use crate::seen::Seen;
 use std::alloc::Global;
-use um_base::{Memory, Name};
+use um_base::{Name, OutOfMemory};
 use um_document::{
     BootEntry, Description, DomainEntry, Key, ObjectEntry, PartitionContents, PartitionEntry,
     Place, PoolEntry, ScriptEntry, Section, Text, VariableEntry,
@@ -28,7 +28,7 @@ fn name_again(
     seen: &mut Seen,
     section: Section,
     names: &[Name],
-) -> Result<Option<Place>, Memory>
+) -> Result<Option<Place>, OutOfMemory>
     ensures found { IfOk result (λ found. found ≡ first_of (spec.names_again seen.old section 0 names.now)) }
     ensures added { result ≡ Ok None → spec.SameTexts seen.new (spec.added seen.old names.now) }
 {
@@ -43,7 +43,7 @@ fn name_again(
 }
 
 /// The first of a domain's partitions that stands twice in it.
-fn part_again(alloc: Global, domain: usize, parts: &[Text]) -> Result<Option<Place>, Memory>
+fn part_again(alloc: Global, domain: usize, parts: &[Text]) -> Result<Option<Place>, OutOfMemory>
     ensures { IfOk result (λ found. found ≡ first_of (spec.parts_again [] domain 0 parts.now)) }
 {
     let mut seen = Seen::new(alloc);
@@ -63,7 +63,7 @@ fn domain_found(
     seen: &mut Seen,
     index: usize,
     domain: &DomainEntry,
-) -> Result<Option<Place>, Memory>
+) -> Result<Option<Place>, OutOfMemory>
     ensures found { IfOk result (λ found. found ≡ first_of (spec.domain_again seen.old index domain.now)) }
     ensures added { OnOk result (spec.SameTexts seen.new (domain.now.name ∷ seen.old)) }
 {
@@ -81,7 +81,7 @@ fn domain_again(
     alloc: Global,
     seen: &mut Seen,
     domains: &[DomainEntry],
-) -> Result<Option<Place>, Memory>
+) -> Result<Option<Place>, OutOfMemory>
     ensures found { IfOk result (λ found. found ≡ first_of (spec.domains_again seen.old 0 domains.now)) }
     ensures added { result ≡ Ok None → spec.SameTexts seen.new (spec.added seen.old (map (λ (m : DomainEntry). m.name) domains.now)) }
 {
@@ -103,7 +103,7 @@ fn boot_found(
     stacks: &mut Seen,
     index: usize,
     boot: &BootEntry,
-) -> Result<Option<Place>, Memory>
+) -> Result<Option<Place>, OutOfMemory>
     ensures found { IfOk result (λ found. found ≡ first_of (spec.boot_again threads.old stacks.old index boot.now)) }
     ensures threads { OnOk result (spec.SameTexts threads.new (boot.now.thread ∷ threads.old)) }
     ensures stacks { OnOk result (spec.SameTexts stacks.new (boot.now.stack ∷ stacks.old)) }
@@ -120,7 +120,7 @@ fn boot_found(
 }
 
 /// The first thread or stack that stands in two boot entries.
-fn boot_again(alloc: Global, boots: &[BootEntry]) -> Result<Option<Place>, Memory>
+fn boot_again(alloc: Global, boots: &[BootEntry]) -> Result<Option<Place>, OutOfMemory>
     ensures { IfOk result (λ found. found ≡ first_of (spec.boots_again [] [] 0 boots.now)) }
 {
     let mut threads = Seen::new(alloc);
@@ -136,7 +136,7 @@ fn boot_again(alloc: Global, boots: &[BootEntry]) -> Result<Option<Place>, Memor
     Ok(None)
 }
 
-fn pool_names(alloc: Global, pools: &[PoolEntry]) -> Result<Vec<Name>, Memory>
+fn pool_names(alloc: Global, pools: &[PoolEntry]) -> Result<Vec<Name>, OutOfMemory>
     ensures { IfOk result (λ found. found.items ≡ map (λ (p : PoolEntry). p.name) pools.now) }
 {
     let mut found = Vec::new(alloc);
@@ -147,7 +147,10 @@ fn pool_names(alloc: Global, pools: &[PoolEntry]) -> Result<Vec<Name>, Memory>
 }
 
 /// The names of partitions.
-pub fn partition_names(alloc: Global, partitions: &[PartitionEntry]) -> Result<Vec<Name>, Memory>
+pub fn partition_names(
+    alloc: Global,
+    partitions: &[PartitionEntry],
+) -> Result<Vec<Name>, OutOfMemory>
     ensures { IfOk result (λ found. found.items ≡ map (λ (p : PartitionEntry). p.name) partitions.now) }
 {
     let mut found = Vec::new(alloc);
@@ -158,7 +161,7 @@ pub fn partition_names(alloc: Global, partitions: &[PartitionEntry]) -> Result<V
 }
 
 /// The names of objects.
-pub fn object_names(alloc: Global, objects: &[ObjectEntry]) -> Result<Vec<Name>, Memory>
+pub fn object_names(alloc: Global, objects: &[ObjectEntry]) -> Result<Vec<Name>, OutOfMemory>
     ensures { IfOk result (λ found. found.items ≡ map (λ (o : ObjectEntry). o.name) objects.now) }
 {
     let mut found = Vec::new(alloc);
@@ -168,7 +171,7 @@ pub fn object_names(alloc: Global, objects: &[ObjectEntry]) -> Result<Vec<Name>,
     Ok(found)
 }
 
-fn script_names(alloc: Global, scripts: &[ScriptEntry]) -> Result<Vec<Name>, Memory>
+fn script_names(alloc: Global, scripts: &[ScriptEntry]) -> Result<Vec<Name>, OutOfMemory>
     ensures { IfOk result (λ found. found.items ≡ map (λ (s : ScriptEntry). s.name) scripts.now) }
 {
     let mut found = Vec::new(alloc);
@@ -178,7 +181,11 @@ fn script_names(alloc: Global, scripts: &[ScriptEntry]) -> Result<Vec<Name>, Mem
     Ok(found)
 }
 
-fn pools_again(alloc: Global, seen: &mut Seen, pools: &[PoolEntry]) -> Result<Option<Place>, Memory>
+fn pools_again(
+    alloc: Global,
+    seen: &mut Seen,
+    pools: &[PoolEntry],
+) -> Result<Option<Place>, OutOfMemory>
     ensures found { IfOk result (λ found. found ≡ first_of (spec.names_again seen.old Section.Pool 0 (map (λ (p : PoolEntry). p.name) pools.now))) }
     ensures added { result ≡ Ok None → spec.SameTexts seen.new (spec.added seen.old (map (λ (p : PoolEntry). p.name) pools.now)) }
 {
@@ -192,7 +199,7 @@ fn variable_again(
     seen: &mut Seen,
     partition: usize,
     variables: &[VariableEntry],
-) -> Result<Option<Place>, Memory>
+) -> Result<Option<Place>, OutOfMemory>
     ensures found { IfOk result (λ found. found ≡ first_of (spec.variables_again seen.old partition 0 variables.now)) }
     ensures added { result ≡ Ok None → spec.SameTexts seen.new (spec.added seen.old (map (λ (v : VariableEntry). v.name) variables.now)) }
 {
@@ -212,7 +219,7 @@ fn contents_again(
     seen: &mut Seen,
     partition: usize,
     contents: &PartitionContents,
-) -> Result<Option<Place>, Memory>
+) -> Result<Option<Place>, OutOfMemory>
     ensures found { IfOk result (λ found. found ≡ first_of (spec.variables_again seen.old partition 0 (variables_of contents.now))) }
     ensures added { result ≡ Ok None → spec.SameTexts seen.new (spec.added seen.old (map (λ (v : VariableEntry). v.name) (variables_of contents.now))) }
 {
@@ -230,7 +237,7 @@ fn partition_found(
     seen: &mut Seen,
     index: usize,
     partition: &PartitionEntry,
-) -> Result<Option<Place>, Memory>
+) -> Result<Option<Place>, OutOfMemory>
     ensures found { IfOk result (λ found. found ≡ first_of (spec.partition_again seen.old index partition.now)) }
     ensures added { result ≡ Ok None → spec.SameTexts seen.new (spec.added (partition.now.name ∷ seen.old) (variable_names partition.now)) }
 {
@@ -245,7 +252,7 @@ fn partitions_again(
     alloc: Global,
     seen: &mut Seen,
     partitions: &[PartitionEntry],
-) -> Result<Option<Place>, Memory>
+) -> Result<Option<Place>, OutOfMemory>
     ensures found { IfOk result (λ found. found ≡ first_of (spec.partitions_again seen.old 0 partitions.now)) }
     ensures added { result ≡ Ok None → spec.SameTexts seen.new (spec.added seen.old (names_within partitions.now)) }
 {
@@ -264,7 +271,7 @@ fn objects_again(
     alloc: Global,
     seen: &mut Seen,
     objects: &[ObjectEntry],
-) -> Result<Option<Place>, Memory>
+) -> Result<Option<Place>, OutOfMemory>
     ensures found { IfOk result (λ found. found ≡ first_of (spec.names_again seen.old Section.Object 0 (map (λ (o : ObjectEntry). o.name) objects.now))) }
     ensures added { result ≡ Ok None → spec.SameTexts seen.new (spec.added seen.old (map (λ (o : ObjectEntry). o.name) objects.now)) }
 {
@@ -276,7 +283,7 @@ fn scripts_again(
     alloc: Global,
     seen: &mut Seen,
     scripts: &[ScriptEntry],
-) -> Result<Option<Place>, Memory>
+) -> Result<Option<Place>, OutOfMemory>
     ensures { IfOk result (λ found. found ≡ first_of (spec.names_again seen.old Section.Script 0 (map (λ (s : ScriptEntry). s.name) scripts.now))) }
 {
     let names = script_names(alloc, scripts)?;
@@ -285,7 +292,7 @@ fn scripts_again(
 
 /// The first place of a description whose text stood before: as a name, in the same domain, or as another boot
 /// entry's thread or stack.
-pub fn first_duplicate(alloc: Global, d: &Description) -> Result<Option<Place>, Memory>
+pub fn first_duplicate(alloc: Global, d: &Description) -> Result<Option<Place>, OutOfMemory>
     ensures { IfOk result (λ found. found ≡ first_of (spec.duplicates d.now)) }
 {
     let mut seen = Seen::new(alloc);

@@ -5,7 +5,7 @@ ghost use Rattle.um_description.specs.Faults as spec;
 
 use crate::flaw::{Counted, Flaw};
 use std::alloc::Global;
-use um_base::Memory;
+use um_base::OutOfMemory;
 use um_document::{ImageFault, Spot};
 
 /// What is counted where a limit is passed, as it is written.
@@ -19,7 +19,7 @@ fn counted_text(counted: Counted) -> &'static str
 }
 
 /// The fault of a flaw: its places as text, as `boot[0].thread`.
-pub fn fault_of(alloc: Global, flaw: Flaw) -> Result<ImageFault, Memory>
+pub fn fault_of(alloc: Global, flaw: Flaw) -> Result<ImageFault, OutOfMemory>
     ensures { IfOk result (λ fault. fault ≡ spec.fault_of flaw) }
 {
     let fault = match flaw {

@@ -7,7 +7,7 @@ use crate::spots::{Spot, spot_named, spots_of};
 use std::alloc::Global;
 use std::collections::HashMap;
 use std::marker::Model;
-use um_base::{Memory, Partition, RODATA};
+use um_base::{OutOfMemory, Partition, RODATA};
 use um_document::Description;
 
 /// A description, with the spots of its variables. Contracts see the description.
@@ -31,7 +31,7 @@ impl<'a> Model for Indexed<'a> {
 
 impl<'a> Indexed<'a> {
     /// A description, once its variables are found.
-    pub fn new(alloc: Global, description: &'a Description) -> Result<Indexed<'a>, Memory>
+    pub fn new(alloc: Global, description: &'a Description) -> Result<Indexed<'a>, OutOfMemory>
         ensures { IfOk result (λ d. d ≡ description.now) }
     {
         let spots = spots_of(alloc, description.partitions.as_slice())?;

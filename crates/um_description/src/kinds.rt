@@ -17,11 +17,11 @@ use crate::resolve::image_or_flaw;
 use crate::strangers::first_stranger;
 use crate::unknown::first_unknown;
 use std::alloc::Global;
-use um_base::{Image, Memory};
+use um_base::{Image, OutOfMemory};
 use um_document::Description;
 
 /// The first flaw of a description's entries: a name given twice, one that names nothing, or a number out of its range.
-fn first_in_entries(alloc: Global, d: &Description) -> Result<Option<Flaw>, Memory>
+fn first_in_entries(alloc: Global, d: &Description) -> Result<Option<Flaw>, OutOfMemory>
     ensures { IfOk result (λ found. found ≡ first_of (kinds.entry_flaws d.now)) }
 {
     if let Some(place) = first_duplicate(alloc, d)? {
@@ -38,7 +38,7 @@ fn first_in_lines(
     alloc: Global,
     d: &Description,
     scripts: &[ReadScript<'_>],
-) -> Result<Option<Flaw>, Memory>
+) -> Result<Option<Flaw>, OutOfMemory>
     requires { scripts.now ≡ d.now.scripts }
     ensures { IfOk result (λ found. found ≡ first_of (kinds.line_flaws d.now)) }
 {
@@ -60,7 +60,7 @@ fn first_in_lines(
 /// The image that a description gives, or the first of its flaws. Variables are packed into their partition: apart, in
 /// their order, each at a multiple of its alignment, and none could stand lower.
 #[tactic(auto, using(crate::proofs::PackingLemmas::packed_law))]
-pub fn meaning(alloc: Global, d: &Description) -> Result<Result<Image, Flaw>, Memory>
+pub fn meaning(alloc: Global, d: &Description) -> Result<Result<Image, Flaw>, OutOfMemory>
     ensures value { IfOk result (λ r. r ≡ spec.meaning d.now) }
     ensures packed { (variables : List VariableEntry) → ArePacked 0 variables (offsets variables) }
 {

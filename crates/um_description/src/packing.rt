@@ -9,7 +9,7 @@ ghost use Rattle.um_description.specs.Packing as spec;
 
 use crate::numbers::clamped;
 use std::alloc::Global;
-use um_base::Memory;
+use um_base::OutOfMemory;
 use um_document::{Alignment, Text, VariableEntry};
 
 /// Where a variable of this alignment begins behind so many bytes.
@@ -43,7 +43,7 @@ pub fn packed_size(variables: &[VariableEntry]) -> u32
 }
 
 /// The data of a variable at its offset behind bytes, with zeros between.
-fn add_data(bytes: &mut Vec<u8>, offset: u32, given: &Option<Text>) -> Result<(), Memory>
+fn add_data(bytes: &mut Vec<u8>, offset: u32, given: &Option<Text>) -> Result<(), OutOfMemory>
     ensures { OnOk result (bytes.new.items ≡ spec.with_data bytes.old.items offset given.now) }
 {
     if let Some(text) = given {
@@ -56,7 +56,7 @@ fn add_data(bytes: &mut Vec<u8>, offset: u32, given: &Option<Text>) -> Result<()
 }
 
 /// The bytes of a partition of these variables, up to the end of the last data that is given.
-pub fn packed_bytes(alloc: Global, variables: &[VariableEntry]) -> Result<Vec<u8>, Memory>
+pub fn packed_bytes(alloc: Global, variables: &[VariableEntry]) -> Result<Vec<u8>, OutOfMemory>
     requires { spec.size_of variables.now ≤ AREA_ENTRY }
     ensures { IfOk result (λ bytes. bytes.items ≡ spec.bytes_of variables.now) }
 {

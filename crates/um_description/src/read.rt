@@ -5,7 +5,7 @@ ghost use Rattle.um_script.specs.Lines.{line_of};
 
 use std::alloc::Global;
 use std::marker::Model;
-use um_base::{Instr, Memory};
+use um_base::{Instr, OutOfMemory};
 use um_document::{ScriptEntry, Text};
 use um_script::{LineFault, parse_line};
 
@@ -32,11 +32,11 @@ impl<'a> Model for ReadLine<'a> {
 
 impl<'a> ReadLine<'a> {
     /// A line, once it is read. One that is longer than any memory is want of it.
-    pub fn of(text: &'a Text) -> Result<ReadLine<'a>, Memory>
+    pub fn of(text: &'a Text) -> Result<ReadLine<'a>, OutOfMemory>
         ensures { IfOk result (λ line. line ≡ text.now) }
     {
         if text.len() > LONGEST {
-            return Err(Memory);
+            return Err(OutOfMemory);
         }
         let outcome = parse_line(text.as_slice());
         Ok(ReadLine { text, outcome })
@@ -93,7 +93,7 @@ impl<'a> ReadScript<'a> {
 }
 
 /// Lines, once they are read.
-fn read_lines<'a>(alloc: Global, texts: &'a [Text]) -> Result<Vec<ReadLine<'a>>, Memory>
+fn read_lines<'a>(alloc: Global, texts: &'a [Text]) -> Result<Vec<ReadLine<'a>>, OutOfMemory>
     ensures { IfOk result (λ all. all.items ≡ texts.now) }
 {
     let mut all = Vec::with_capacity(alloc, texts.len())?;
@@ -107,7 +107,7 @@ fn read_lines<'a>(alloc: Global, texts: &'a [Text]) -> Result<Vec<ReadLine<'a>>,
 pub fn read_scripts<'a>(
     alloc: Global,
     entries: &'a [ScriptEntry],
-) -> Result<Vec<ReadScript<'a>>, Memory>
+) -> Result<Vec<ReadScript<'a>>, OutOfMemory>
     ensures { IfOk result (λ all. all.items ≡ entries.now) }
 {
     let mut all = Vec::with_capacity(alloc, entries.len())?;

@@ -6,7 +6,7 @@ ghost use Rattle.um_description.specs.{Names.{is_among}, Duplicates.{SameTexts}}
 use std::alloc::Global;
 use std::collections::BTreeSet;
 use std::marker::Model;
-use um_base::Memory;
+use um_base::OutOfMemory;
 
 /// A set of texts.
 #[derive(Drop)]
@@ -33,7 +33,7 @@ impl Seen {
     }
 
     /// One more text, and whether it was there before.
-    pub fn add(&mut self, alloc: Global, text: &[u8]) -> Result<bool, Memory>
+    pub fn add(&mut self, alloc: Global, text: &[u8]) -> Result<bool, OutOfMemory>
         ensures again { IfOk result (λ again. again ≡ is_among text.now self.old) }
         ensures added { OnOk result (SameTexts self.new (text.now ∷ self.old)) }
     {

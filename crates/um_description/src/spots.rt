@@ -10,7 +10,7 @@ ghost use Rattle.um_description.specs.{
 use crate::packing::{end_behind, offset_behind};
 use std::alloc::Global;
 use std::collections::HashMap;
-use um_base::Memory;
+use um_base::OutOfMemory;
 use um_document::{PartitionContents, PartitionEntry, VariableEntry};
 
 /// Where a variable stands: the number of its partition, and its offset there in bytes.
@@ -33,7 +33,7 @@ fn add(
     alloc: Global,
     name: &[u8],
     spot: Spot,
-) -> Result<(), Memory>
+) -> Result<(), OutOfMemory>
     ensures { OnOk result ((text : List ℕ) → spot_in spots.new text ≡ or_else (spot_in spots.old text) (if bytes_eq text name.now then Some spot else None)) }
 {
     if spots.contains_key(name) {
@@ -51,7 +51,7 @@ fn add_variables(
     alloc: Global,
     partition: usize,
     variables: &[VariableEntry],
-) -> Result<(), Memory>
+) -> Result<(), OutOfMemory>
     ensures { OnOk result ((text : List ℕ) → spot_in spots.new text ≡ or_else (spot_in spots.old text) (spot_at partition (offset_named text 0 variables.now))) }
 {
     let mut end = 0u32;
@@ -70,7 +70,7 @@ fn add_contents(
     alloc: Global,
     partition: usize,
     contents: &PartitionContents,
-) -> Result<(), Memory>
+) -> Result<(), OutOfMemory>
     ensures { OnOk result ((text : List ℕ) → spot_in spots.new text ≡ or_else (spot_in spots.old text) (spot_at partition (offset_named text 0 (variables_of contents.now)))) }
 {
     match contents {
@@ -85,7 +85,7 @@ fn add_contents(
 pub fn spots_of(
     alloc: Global,
     partitions: &[PartitionEntry],
-) -> Result<HashMap<Vec<u8>, Spot>, Memory>
+) -> Result<HashMap<Vec<u8>, Spot>, OutOfMemory>
     ensures { IfOk result (λ spots. (text : List ℕ) → spot_in spots text ≡ spot_of text 0 partitions.now) }
 {
     let mut spots = HashMap::new(alloc);

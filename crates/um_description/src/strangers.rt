@@ -14,7 +14,7 @@ use crate::lines::line_place;
 use crate::mentions::{Wanted, in_part, in_parts, in_ref, in_term};
 use crate::read::{ReadLine, ReadScript};
 use std::alloc::Global;
-use um_base::{Instr, Memory, PartRef, PartRefs, Ref, Term};
+use um_base::{Instr, OutOfMemory, PartRef, PartRefs, Ref, Term};
 use um_document::Description;
 
 /// The names of two terms.
@@ -203,7 +203,7 @@ pub fn first_stranger(
     alloc: Global,
     d: &Description,
     scripts: &[ReadScript<'_>],
-) -> Result<Option<Flaw>, Memory>
+) -> Result<Option<Flaw>, OutOfMemory>
     ensures { IfOk result (λ found. found ≡ first_of (names.each (spec.unknown_in_script d.now) 0 scripts.now)) }
 {
     let indexed = Indexed::new(alloc, d)?;

@@ -20,13 +20,13 @@ use crate::limits::is_thread;
 use crate::named::number_of;
 use crate::seen::Seen;
 use std::alloc::Global;
-use um_base::{Memory, Name};
+use um_base::{Name, OutOfMemory};
 use um_document::{
     BootEntry, Description, Details, DomainEntry, Key, ObjectEntry, Place, Section, Text,
 };
 
 /// The set of some names.
-fn set_of(alloc: Global, names: &[Name]) -> Result<Seen, Memory>
+fn set_of(alloc: Global, names: &[Name]) -> Result<Seen, OutOfMemory>
     ensures { IfOk result (λ known. SameTexts known names.now) }
 {
     let mut known = Seen::new(alloc);
@@ -161,7 +161,7 @@ fn unknown_in_boot(d: &Description, objects: &Seen, index: usize, boot: &BootEnt
 }
 
 /// The first name in a key of a description that names nothing of the kind wanted.
-pub fn first_unknown(alloc: Global, d: &Description) -> Result<Option<Place>, Memory>
+pub fn first_unknown(alloc: Global, d: &Description) -> Result<Option<Place>, OutOfMemory>
     ensures { IfOk result (λ found. found ≡ first_of (spec.unknown_names d.now)) }
 {
     let names = partition_names(alloc, d.partitions.as_slice())?;

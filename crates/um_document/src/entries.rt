@@ -19,7 +19,7 @@ use crate::words::alignment_of;
 use std::alloc::Global;
 use toml::Table;
 use toml::value::Array;
-use um_base::{Attr, Kind, Memory, Mode};
+use um_base::{Attr, Kind, Mode, OutOfMemory};
 use um_vocabulary::{given_attr_named, mode_named};
 
 /// What a section lists.
@@ -28,12 +28,12 @@ pub trait Entry: Drop + Sized {
     ghost of: { Members → Self };
 
     /// The entry of a table.
-    fn read(alloc: Global, table: &Table) -> Result<Self, Memory>
+    fn read(alloc: Global, table: &Table) -> Result<Self, OutOfMemory>
         ensures { IfOk result (λ entry. entry ≡ of (table_view table.now)) };
 }
 
 /// The entries of the tables among some items.
-fn entries_of<E: Entry>(alloc: Global, items: &Array) -> Result<Sequence<E>, Memory>
+fn entries_of<E: Entry>(alloc: Global, items: &Array) -> Result<Sequence<E>, OutOfMemory>
     ensures { IfOk result (λ entries. entries ≡ reading.entries_of E.of (array_view items.now)) }
 {
     let mut entries = Sequence::new(alloc);
@@ -50,7 +50,7 @@ pub fn entries_at<E: Entry>(
     alloc: Global,
     table: &Table,
     section: Section,
-) -> Result<Sequence<E>, Memory>
+) -> Result<Sequence<E>, OutOfMemory>
     ensures { IfOk result (λ entries. entries ≡ reading.entries_at E.of section (table_view table.now)) }
 {
     match items_at(table, section.key()) {
@@ -62,7 +62,7 @@ pub fn entries_at<E: Entry>(
 impl Entry for PoolEntry {
     ghost of = { reading.pool_of };
 
-    fn read(_alloc: Global, table: &Table) -> Result<PoolEntry, Memory> {
+    fn read(_alloc: Global, table: &Table) -> Result<PoolEntry, OutOfMemory> {
         Ok(PoolEntry {
             name: name_at(table),
             size: number_at(table, Key::Size),
@@ -73,7 +73,7 @@ impl Entry for PoolEntry {
 impl Entry for VariableEntry {
     ghost of = { reading.variable_of };
 
-    fn read(alloc: Global, table: &Table) -> Result<VariableEntry, Memory> {
+    fn read(alloc: Global, table: &Table) -> Result<VariableEntry, OutOfMemory> {
         Ok(VariableEntry {
             name: name_at(table),
             size: number_at(table, Key::Size),
@@ -86,7 +86,7 @@ impl Entry for VariableEntry {
 }
 
 /// What a partition consists of: its variables, where it lists them.
-fn contents_of(alloc: Global, table: &Table) -> Result<PartitionContents, Memory>
+fn contents_of(alloc: Global, table: &Table) -> Result<PartitionContents, OutOfMemory>
     ensures { IfOk result (λ contents. contents ≡ reading.contents_of (table_view table.now)) }
 {
     match items_at(table, Key::Vars) {
@@ -101,7 +101,7 @@ fn contents_of(alloc: Global, table: &Table) -> Result<PartitionContents, Memory
 impl Entry for PartitionEntry {
     ghost of = { reading.partition_of };
 
-    fn read(alloc: Global, table: &Table) -> Result<PartitionEntry, Memory> {
+    fn read(alloc: Global, table: &Table) -> Result<PartitionEntry, OutOfMemory> {
         Ok(PartitionEntry {
             name: name_at(table),
             attr: text_given(table, Key::Attr)
@@ -115,7 +115,7 @@ impl Entry for PartitionEntry {
 impl Entry for DomainEntry {
     ghost of = { reading.domain_of };
 
-    fn read(alloc: Global, table: &Table) -> Result<DomainEntry, Memory> {
+    fn read(alloc: Global, table: &Table) -> Result<DomainEntry, OutOfMemory> {
         Ok(DomainEntry {
             name: name_at(table),
             partitions: copies_given(alloc, table, Key::Partitions)?,
@@ -169,7 +169,7 @@ fn details(table: &Table, kind: Kind) -> Details
 impl Entry for ObjectEntry {
     ghost of = { reading.object_of };
 
-    fn read(_alloc: Global, table: &Table) -> Result<ObjectEntry, Memory> {
+    fn read(_alloc: Global, table: &Table) -> Result<ObjectEntry, OutOfMemory> {
         Ok(ObjectEntry {
             name: name_at(table),
             public: truth_at(table, Key::Public),
@@ -181,7 +181,7 @@ impl Entry for ObjectEntry {
 impl Entry for BootEntry {
     ghost of = { reading.boot_of };
 
-    fn read(alloc: Global, table: &Table) -> Result<BootEntry, Memory> {
+    fn read(alloc: Global, table: &Table) -> Result<BootEntry, OutOfMemory> {
         Ok(BootEntry {
             thread: copy_at(alloc, table, Key::Thread)?,
             stack: copy_at(alloc, table, Key::Stack)?,
@@ -200,7 +200,7 @@ impl Entry for BootEntry {
 impl Entry for ScriptEntry {
     ghost of = { reading.script_of };
 
-    fn read(alloc: Global, table: &Table) -> Result<ScriptEntry, Memory> {
+    fn read(alloc: Global, table: &Table) -> Result<ScriptEntry, OutOfMemory> {
         Ok(ScriptEntry {
             name: name_at(table),
             lines: copies_at(alloc, table, Key::Lines)?,

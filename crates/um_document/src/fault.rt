@@ -75,10 +75,10 @@ impl<T: Drop> From<AllocFailed<T>> for ImageFault {
     }
 }
 
-impl From<um_base::Memory> for ImageFault {
+impl From<um_base::OutOfMemory> for ImageFault {
     ghost from_gives = { λ _ e. e ≡ Memory };
 
-    fn from(_e: um_base::Memory) -> ImageFault {
+    fn from(_e: um_base::OutOfMemory) -> ImageFault {
         ImageFault::Memory
     }
 }

@@ -7,7 +7,7 @@ use crate::shape::{Key, Section};
 use crate::spot::Spot;
 use std::alloc::Global;
 use std::fmt::Write;
-use um_base::Memory;
+use um_base::OutOfMemory;
 
 /// A key at the top, an entry, a key of an entry, an item of the list at such a key, or a key of a partition's variable.
 #[derive(Clone, Copy, PartialEq, Eq)]
@@ -21,7 +21,7 @@ pub enum Place {
 
 impl Place {
     /// The place as it is written.
-    pub fn spot(self, alloc: Global) -> Result<Spot, Memory>
+    pub fn spot(self, alloc: Global) -> Result<Spot, OutOfMemory>
         ensures { IfOk result (λ spot. spot ≡ place_text self) }
     {
         let mut text = String::new(alloc);
@@ -51,24 +51,24 @@ impl Place {
         };
         match written {
             Ok(()) => Ok(Spot::new(text)),
-            Err(_) => Err(Memory),
+            Err(_) => Err(OutOfMemory),
         }
     }
 }
 
 /// A key of an entry, as its place is written.
-pub fn key_spot(alloc: Global, section: Section, i: usize, key: &str) -> Result<Spot, Memory>
+pub fn key_spot(alloc: Global, section: Section, i: usize, key: &str) -> Result<Spot, OutOfMemory>
     ensures { IfOk result (λ spot. spot ≡ key_text section i key.now) }
 {
     let mut text = String::new(alloc);
     match write!(text, "{}[{}].{}", section.key().word(), i, key) {
         Ok(()) => Ok(Spot::new(text)),
-        Err(_) => Err(Memory),
+        Err(_) => Err(OutOfMemory),
     }
 }
 
 /// A key of a variable, as its place is written.
-pub fn variable_spot(alloc: Global, i: usize, j: usize, key: &str) -> Result<Spot, Memory>
+pub fn variable_spot(alloc: Global, i: usize, j: usize, key: &str) -> Result<Spot, OutOfMemory>
     ensures { IfOk result (λ spot. spot ≡ variable_text i j key.now) }
 {
     let mut text = String::new(alloc);
@@ -82,6 +82,6 @@ pub fn variable_spot(alloc: Global, i: usize, j: usize, key: &str) -> Result<Spo
         key
     ) {
         Ok(()) => Ok(Spot::new(text)),
-        Err(_) => Err(Memory),
+        Err(_) => Err(OutOfMemory),
     }
 }

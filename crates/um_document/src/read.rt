@@ -13,11 +13,11 @@ use crate::shape::{Key, Section};
 use crate::texts::{bytes_at, number_at, text_given};
 use std::alloc::Global;
 use toml::Table;
-use um_base::{Memory, Mpu, Policy};
+use um_base::{Mpu, OutOfMemory, Policy};
 use um_vocabulary::{mpu_named, policy_named};
 
 /// What a document describes.
-fn description(alloc: Global, table: &Table) -> Result<Description, Memory>
+fn description(alloc: Global, table: &Table) -> Result<Description, OutOfMemory>
     ensures { IfOk result (λ d. d ≡ reading.description_of (table_view table.now)) }
 {
     Ok(Description {

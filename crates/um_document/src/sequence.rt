@@ -4,7 +4,7 @@ ghost use Rattle.std.specs.Prelude.{◌≡◌, ◌==◌, [], ◌∷◌, ◌++◌
 
 use std::alloc::Global;
 use std::marker::Model;
-use um_base::Memory;
+use um_base::OutOfMemory;
 
 /// A list on the heap.
 #[derive(Drop)]
@@ -55,7 +55,7 @@ impl<T: Drop> Sequence<T> {
     }
 
     /// One more at the end. Where memory runs out, the list stays as it was.
-    pub fn push(&mut self, item: T) -> Result<(), Memory>
+    pub fn push(&mut self, item: T) -> Result<(), OutOfMemory>
         ensures ok { OnOk result (self.new ≡ self.old ++ item ∷ []) }
         ensures err { OnErr result (self.new ≡ self.old) }
     {
@@ -73,7 +73,7 @@ impl<T: Drop> Sequence<T> {
 
 impl Sequence<u8> {
     /// A copy of these bytes.
-    pub fn of_bytes(alloc: Global, bytes: &[u8]) -> Result<Self, Memory>
+    pub fn of_bytes(alloc: Global, bytes: &[u8]) -> Result<Self, OutOfMemory>
         ensures { IfOk result (λ text. text ≡ bytes.now) }
     {
         let mut items = Vec::new(alloc);

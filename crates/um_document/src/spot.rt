@@ -4,7 +4,7 @@ ghost use Rattle.std.specs.Prelude.{◌≡◌, string_bytes, IfOk};
 
 use std::alloc::Global;
 use std::marker::Model;
-use um_base::Memory;
+use um_base::OutOfMemory;
 
 /// The text of a place in a description, or the word of what is counted there.
 #[derive(Drop)]
@@ -29,7 +29,7 @@ impl Spot {
     }
 
     /// The spot of a copy of this text.
-    pub fn of_text(alloc: Global, text: &str) -> Result<Spot, Memory>
+    pub fn of_text(alloc: Global, text: &str) -> Result<Spot, OutOfMemory>
         ensures { IfOk result (λ spot. spot ≡ text.now) }
     {
         Ok(Spot {

@@ -12,7 +12,7 @@ use crate::tables::{items_at, value_at};
 use std::alloc::Global;
 use toml::value::Array;
 use toml::{Table, Value};
-use um_base::{Memory, Name};
+use um_base::{Name, OutOfMemory};
 
 /// The bytes at a key.
 pub fn text_given(table: &Table, key: Key) -> Option<&[u8]>
@@ -74,14 +74,14 @@ pub fn truth_at(table: &Table, key: Key) -> bool
 }
 
 /// A copy of the bytes at a key, or none.
-pub fn copy_at(alloc: Global, table: &Table, key: Key) -> Result<Text, Memory>
+pub fn copy_at(alloc: Global, table: &Table, key: Key) -> Result<Text, OutOfMemory>
     ensures { IfOk result (λ text. text ≡ reading.text_at key (table_view table.now)) }
 {
     Text::of_bytes(alloc, text_at(table, key))
 }
 
 /// A copy of the bytes at a key.
-pub fn copy_given(alloc: Global, table: &Table, key: Key) -> Result<Option<Text>, Memory>
+pub fn copy_given(alloc: Global, table: &Table, key: Key) -> Result<Option<Text>, OutOfMemory>
     ensures { IfOk result (λ text. text ≡ reading.text_given key (table_view table.now)) }
 {
     match text_given(table, key) {
@@ -91,7 +91,7 @@ pub fn copy_given(alloc: Global, table: &Table, key: Key) -> Result<Option<Text>
 }
 
 /// A copy of a text.
-fn copy(alloc: Global, value: &Value) -> Result<Text, Memory>
+fn copy(alloc: Global, value: &Value) -> Result<Text, OutOfMemory>
     ensures { IfOk result (λ text. text ≡ reading.text_in (view value.now)) }
 {
     match text_of(value) {
@@ -101,7 +101,7 @@ fn copy(alloc: Global, value: &Value) -> Result<Text, Memory>
 }
 
 /// Copies of some texts.
-fn copies(alloc: Global, items: &Array) -> Result<Sequence<Text>, Memory>
+fn copies(alloc: Global, items: &Array) -> Result<Sequence<Text>, OutOfMemory>
     ensures { IfOk result (λ texts. texts ≡ reading.texts_of (array_view items.now)) }
 {
     let mut texts = Sequence::new(alloc);
@@ -116,7 +116,7 @@ pub fn copies_given(
     alloc: Global,
     table: &Table,
     key: Key,
-) -> Result<Option<Sequence<Text>>, Memory>
+) -> Result<Option<Sequence<Text>>, OutOfMemory>
     ensures { IfOk result (λ texts. texts ≡ reading.texts_given key (table_view table.now)) }
 {
     match items_at(table, key) {
@@ -126,7 +126,7 @@ pub fn copies_given(
 }
 
 /// Copies of the texts at a key, or none.
-pub fn copies_at(alloc: Global, table: &Table, key: Key) -> Result<Sequence<Text>, Memory>
+pub fn copies_at(alloc: Global, table: &Table, key: Key) -> Result<Sequence<Text>, OutOfMemory>
     ensures { IfOk result (λ texts. texts ≡ reading.texts_at key (table_view table.now)) }
 {
     match items_at(table, key) {
@@ -147,7 +147,7 @@ fn digit_value(byte: u8) -> u8
 }
 
 /// The bytes that pairs of hexadecimal digits spell.
-fn decoded(alloc: Global, digits: &[u8]) -> Result<Text, Memory>
+fn decoded(alloc: Global, digits: &[u8]) -> Result<Text, OutOfMemory>
     ensures { IfOk result (λ bytes. bytes ≡ forms.decoded digits.now) }
 {
     let mut bytes = Text::new(alloc);
@@ -164,14 +164,14 @@ fn decoded(alloc: Global, digits: &[u8]) -> Result<Text, Memory>
 }
 
 /// The bytes that the digits at a key spell, or none.
-pub fn bytes_at(alloc: Global, table: &Table, key: Key) -> Result<Text, Memory>
+pub fn bytes_at(alloc: Global, table: &Table, key: Key) -> Result<Text, OutOfMemory>
     ensures { IfOk result (λ bytes. bytes ≡ reading.bytes_at key (table_view table.now)) }
 {
     decoded(alloc, text_at(table, key))
 }
 
 /// The bytes that the digits at a key spell, where it is there.
-pub fn bytes_given(alloc: Global, table: &Table, key: Key) -> Result<Option<Text>, Memory>
+pub fn bytes_given(alloc: Global, table: &Table, key: Key) -> Result<Option<Text>, OutOfMemory>
     ensures { IfOk result (λ bytes. bytes ≡ reading.bytes_given key (table_view table.now)) }
 {
     match text_given(table, key) {

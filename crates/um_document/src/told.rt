@@ -6,7 +6,7 @@ ghost use Rattle.um_document.specs.FaultTexts as texts;
 use crate::fault::ImageFault;
 use std::alloc::Global;
 use std::fmt::Write;
-use um_base::Memory;
+use um_base::OutOfMemory;
 use um_script::LineKind;
 
 fn line_kind_word(kind: LineKind) -> &'static str
@@ -28,7 +28,7 @@ fn area_word(stacks: bool) -> &'static str
 }
 
 /// The text of a fault: its kind, and where it stands.
-pub fn fault_text(alloc: Global, fault: &ImageFault) -> Result<String, Memory>
+pub fn fault_text(alloc: Global, fault: &ImageFault) -> Result<String, OutOfMemory>
     ensures { IfOk result (λ text. string_bytes text ≡ texts.fault_text fault.now) }
 {
     let mut text = String::new(alloc);
@@ -72,6 +72,6 @@ pub fn fault_text(alloc: Global, fault: &ImageFault) -> Result<String, Memory>
     };
     match written {
         Ok(()) => Ok(text),
-        Err(_) => Err(Memory),
+        Err(_) => Err(OutOfMemory),
     }
 }

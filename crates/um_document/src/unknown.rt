@@ -14,10 +14,10 @@ use crate::tables::{items_at, kind_of, sections};
 use std::alloc::Global;
 use toml::value::Array;
 use toml::{Table, Value};
-use um_base::Memory;
+use um_base::OutOfMemory;
 
 /// A spot, where one is found.
-type FoundSpot = Result<Option<Spot>, Memory>;
+type FoundSpot = Result<Option<Spot>, OutOfMemory>;
 
 /// Whether one of the keys is written so.
 fn is_key(fields: &[Field], text: &str) -> bool

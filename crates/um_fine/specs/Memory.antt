@@ -8,7 +8,7 @@ use Rattle.um_base.specs.Places.{setup_at}
 use Rattle.um_base.specs.Regions.{stack_range}
 use Rattle.um_machine.specs.State.{State}
 use Rattle.um_machine.specs.Memory.{bytes_at, with_bytes, le_bytes, le_value}
-use Rattle.um_machine.specs.Table.{erased}
+use Rattle.um_machine.specs.Writes.{start_of, zeros_of}
 use Rattle.um_words.specs.declared.fine.FineAct.{FineAct}
 use Rattle.um_fine.specs.Steps.{Exchange}
 use Rattle.um_fine.specs.Answers.{bytes_in, limit_in}
@@ -63,5 +63,5 @@ module _ (image : Image) where
   abbrev pub memory_after : Bytes → Act → Exchange → Bytes
   memory_after m (Act.Store a n value) moved = write m a.0 (le_bytes n value)
   memory_after m (Act.CopyOut a n true) moved = write m a.0 (bytes_in moved)
-  memory_after m (Act.Erase stack) moved = bytes_of (erased (with_memory image m) (stack_range (setup_at image stack.0)))
+  memory_after m (Act.Erase stack) moved = let range = stack_range (setup_at image stack.0) in write m (start_of range) (zeros_of range)
   memory_after m act moved = m

@@ -22,7 +22,7 @@ taken_cost image moved = 0
 -- what a step gives its site: the cleaning of a new object, what one that waits needs, or a thread
 abbrev pub given_by_act : Act → Exchange → ℕ
 given_by_act (Act.Born a) moved = cleaning_cost
-given_by_act (Act.Work a answer woken) moved = waiting_cost * joins (outcome_in moved).answer
+given_by_act (Act.Work a answer woken) moved = waiting_cost * joins answer
 given_by_act act moved = 0
 
 abbrev pub given_by_unseen : Image → Unseen → Exchange → ℕ

@@ -18,9 +18,9 @@ use Rattle.um_fine.specs.FineRun.{ByOneOf, IsFineRun}
 use Rattle.um_fine.specs.Places.{Todos}
 use Rattle.um_fine.specs.Sites.{SiteMay}
 use Rattle.um_fine.specs.Steps.{FineStep}
-use Rattle.um_erasure.specs.After.{left_by}
-use Rattle.um_erasure.specs.Lists.{has_steps}
-use Rattle.um_erasure.specs.Relation.{Rel}
+use Rattle.um_refinement.specs.After.{left_by}
+use Rattle.um_refinement.specs.Lists.{has_steps}
+use Rattle.um_refinement.specs.Relation.{Rel}
 use Rattle.um_fine_measure.specs.Ready.{MayStep}
 use Rattle.um_fine_measure.proofs.OfferLemmas.{may-step}
 use Rattle.um_fine_measure.proofs.RunLemmas.{StepsFall, processors, run-bounded, sites}

@@ -1,8 +1,10 @@
 -- What a thread has left with the steps that follow an event.
-use Rattle.std.proofs.Common.{◌≡◌, ◌≤◌, ℕ, ◌+◌, ◌-◌, Bool, true, false, [], ◌∷◌, length, refl, arith, if◌then◌else◌, Option, Some, None}
+use Rattle.std.proofs.Common.{◌≡◌, ◌≤◌, ℕ, ◌+◌, ◌*◌, ◌-◌, Bool, true, false, [], ◌∷◌, length, refl, arith, if◌then◌else◌, Option, Some, None}
 use Rattle.std.specs.Prelude.{◌==◌, nat_lt}
 use Rattle.std.proofs.lemmas.Bool.{ltb-true, true≢false}
-use Rattle.um_base.specs.declared.act.Cause.TheVariants as Cause
+use Rattle.um_base.specs.declared.act.Answer.{Answer}
+use Rattle.um_base.specs.declared.act.Found.{Found}
+use Rattle.um_base.specs.declared.act.SetSaid.{SetSaid}
 use Rattle.um_base.specs.declared.ask.Ask.{Ask}
 use Rattle.um_base.specs.declared.image.Image.{Image}
 use Rattle.um_base.specs.declared.limits.TheConstants.{ROWS, THREADS}
@@ -10,16 +12,18 @@ use Rattle.um_base.specs.declared.names.Addr.{Addr}
 use Rattle.um_base.specs.declared.names.Errno.{Errno}
 use Rattle.um_base.specs.declared.names.Mode.{Mode}
 use Rattle.um_base.specs.declared.names.Policy.{Policy}
+use Rattle.um_base.specs.declared.names.Reply.{Reply}
 use Rattle.um_machine.specs.declared.pending.Pending.{Pending}
 use Rattle.um_machine.specs.declared.pending.Refusal.{Refusal}
-use Rattle.um_machine.specs.Order.{Steps, copy_fails, end_steps, fatal_steps, refuses}
+use Rattle.um_machine.specs.Order.{Steps, end_steps, fatal_steps}
 use Rattle.um_machine.specs.Services.{is_empty}
 use Rattle.um_machine.specs.State.{next_place}
-use Rattle.um_machine.specs.Table.{after_check, after_error, cleared_first, next_doom, without_copy}
+use Rattle.um_machine.specs.Goes.{Way, checked_way, copied, error_way, next_doom, no_access, reserve_way, set_way, steps_by, text_way, without_copy, work_way}
 use Rattle.um_measure.specs.Measure.{lines_ahead, lines_left}
 use Rattle.um_fine.specs.Context.{Context, as_thread}
 use Rattle.um_fine.specs.Continues.{goes_on}
-use Rattle.um_fine_measure.specs.Measure.{ahead_cost, end_cost, rest_cost, steps_cost, put_back_cost}
+use Rattle.um_fine_measure.specs.Measure.{ahead_cost, cleaning_cost, end_cost, rest_cost, steps_cost, put_back_cost, waiting_cost}
+use Rattle.um_fine_measure.proofs.Between.{joins}
 
 -- Steps that follow.
 
@@ -28,27 +32,62 @@ without-cost image [] = omega arith
 without-cost image (Pending.CopyOut a ∷ steps) = omega arith
 without-cost image (q ∷ steps) = omega arith
 
-pub error-cost : (image : Image) (mode : Mode) (ask : Ask) (e : Errno) (steps : Steps) → steps_cost image (after_error mode ask e steps) ≤ 1 + steps_cost image steps
-error-cost image mode (Ask.SemInit count limit) e steps = omega arith
-error-cost image mode Ask.MutexInit e steps = omega arith
-error-cost image mode (Ask.MsgqInit size most pool) e steps = omega arith
-error-cost image mode (Ask.StackInit most pool) e steps = omega arith
-error-cost image mode (Ask.PipeInit size pool) e steps = omega arith
-error-cost image mode ask e steps = let less = without-cost image steps in omega (arith, less)
+-- what a way to go on costs more than the steps behind
+abbrev pub way_cost : Way → ℕ
+way_cost (Way.bears a) = 1 + cleaning_cost
+way_cost (Way.replies reply) = 1
+way_cost (Way.gives_back size reason cause) = 1
+way_cost (Way.clears a reason cause) = 2
+way_cost way = 0
 
-pub check-cost : (image : Image) (mode : Mode) (steps : Steps) (refusal : Refusal) (e : Errno) → steps_cost image (after_check mode steps refusal (Some e)) ≤ 1
-check-cost image mode steps Refusal.Fails e = omega arith
-check-cost image Mode.User steps Refusal.FailsUser e = omega arith
-check-cost image Mode.Supervisor steps Refusal.FailsUser e = omega arith
-check-cost image mode steps (Refusal.Answers reply) e = omega arith
+pub way-cost : (image : Image) (way : Way) (steps : Steps) → steps_cost image (steps_by steps way) ≤ way_cost way + steps_cost image steps
+way-cost image Way.skips_copy steps = let less = without-cost image steps in omega (arith, less)
+way-cost image way steps = omega arith
 
-pub copy-cost : (image : Image) (mode : Mode) → steps_cost image (copy_fails mode) ≡ 0
-copy-cost image Mode.User = refl
-copy-cost image Mode.Supervisor = refl
+pub fault-way : (b : Bool) → way_cost (if b then no_access else Way.rest) ≡ 0
+fault-way true = refl
+fault-way false = refl
 
-pub cleared-cost : (image : Image) (undo : Option Addr) (mode : Mode) (e : Errno) → steps_cost image (cleared_first undo (refuses mode (Cause.Refused e))) ≤ 2
-cleared-cost image None mode e = omega arith
-cleared-cost image (Some a) mode e = omega arith
+pub copied-way : (mode : Mode) (b : Bool) → way_cost (copied mode b) ≡ 0
+copied-way mode true = refl
+copied-way Mode.User false = refl
+copied-way Mode.Supervisor false = refl
+
+pub text-way : (found : Found) → way_cost (text_way found) ≤ 1
+text-way (Found.Length n) = omega arith
+text-way found = omega arith
+
+pub refused-way : (mode : Mode) (refusal : Refusal) (e : Errno) → way_cost (checked_way mode refusal (Some e)) ≤ 1
+refused-way mode Refusal.Fails e = omega arith
+refused-way Mode.User Refusal.FailsUser e = omega arith
+refused-way Mode.Supervisor Refusal.FailsUser e = omega arith
+refused-way mode (Refusal.Answers reply) e = omega arith
+
+error-way : (mode : Mode) (ask : Ask) (e : Errno) → way_cost (error_way mode ask e) ≤ 1
+error-way mode (Ask.SemInit count limit) e = omega arith
+error-way mode Ask.MutexInit e = omega arith
+error-way mode (Ask.MsgqInit size most pool) e = omega arith
+error-way mode (Ask.StackInit most pool) e = omega arith
+error-way mode (Ask.PipeInit size pool) e = omega arith
+error-way mode ask e = omega arith
+
+pub work-way : (mode : Mode) (ask : Ask) (answer : Answer) → way_cost (work_way mode ask answer) + waiting_cost * joins answer ≤ waiting_cost
+work-way mode ask Answer.Wait = omega arith
+work-way mode ask (Answer.Now (Reply.Fail e)) = let less = error-way mode ask e in omega (arith, less)
+work-way mode ask (Answer.Now reply) = omega arith
+
+pub set-way : (mode : Mode) (undo : Option Addr) (said : SetSaid) → way_cost (set_way mode undo said) ≤ 2
+set-way mode None (SetSaid.Fail e) = omega arith
+set-way mode (Some a) (SetSaid.Fail e) = omega arith
+set-way mode undo said = omega arith
+
+pub reserve-way : (found : Option Addr) → way_cost (reserve_way found) ≤ 1 + cleaning_cost
+reserve-way None = omega arith
+reserve-way (Some a) = omega arith
+
+pub buffer-way : (fits : Bool) → way_cost (if fits then Way.rest else Way.replies (Reply.Fail Errno.ENOMEM)) ≤ 1
+buffer-way true = omega arith
+buffer-way false = omega arith
 
 pub end-cost : (image : Image) (t : ℕ) (c : Context) → steps_cost image (end_steps image t (as_thread c)) ≡ ROWS + 4
 end-cost image t c = refl
@@ -87,8 +126,3 @@ module _ (image : Image) where
       by : (steps : Steps) → is_empty steps ≡ false → (if c.ended then 0 else end_cost + lines_ahead image c.place steps) ≡ behind_line c
       by [] e = absurd (true≢false e)
       by (q ∷ steps) e = refl
-
-  -- one of two contexts, each of which has no more left
-  pub either-left : (b : Bool) (x y : Context) (n : ℕ) → left_cost x ≤ n → left_cost y ≤ n → left_cost (if b then x else y) ≤ n
-  either-left true x y n hx hy = hx
-  either-left false x y n hx hy = hy

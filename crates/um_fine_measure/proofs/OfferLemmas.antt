@@ -26,8 +26,8 @@ use Rattle.um_fine.specs.Processor.{Processor}
 use Rattle.um_fine.specs.Scheduler.{Scheduler, first_ready, has_ready}
 use Rattle.um_fine.specs.Sites.{SiteMay, SiteState, is_sort, site_moves, site_takes}
 use Rattle.um_fine.specs.Steps.{Exchange, FineStep, Site}
-use Rattle.um_erasure.specs.Offers.{Fits, IsOffered, behind_shown, is_over}
-use Rattle.um_erasure.specs.Threads.{IsOf, IsRun, is_ended}
+use Rattle.um_refinement.specs.Offers.{Fits, IsOffered, behind_shown, is_over}
+use Rattle.um_refinement.specs.Threads.{IsOf, IsRun, is_ended}
 use Rattle.um_fine_measure.specs.Ready.{HasDrops, IsTurn, MayShow, MayStep, is_round}
 
 -- steps that have places of their own, and are no events here

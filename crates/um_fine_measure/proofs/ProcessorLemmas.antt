@@ -10,6 +10,7 @@ use Rattle.um_base.specs.declared.instr.Instr.{Instr}
 use Rattle.um_base.specs.declared.names.Reply.{Reply}
 use Rattle.um_base.specs.Places.{own_row, thread_of_row}
 use Rattle.um_machine.specs.declared.pending.Pending.{Pending}
+use Rattle.um_machine.specs.Goes.{steps_by, told_way}
 use Rattle.um_machine.specs.Order.{Steps, to_thread}
 use Rattle.um_machine.specs.State.{instruction_at}
 use Rattle.um_words.specs.declared.fine.FineAct.{FineAct}
@@ -18,7 +19,7 @@ use Rattle.um_fine.specs.Addresses.{address_of}
 use Rattle.um_fine.specs.Answers.{act_in, domain_in, is_visit, is_word_read, leftover_in}
 use Rattle.um_fine.specs.Asks.{CpuMay, begins_cleaning, by_me, me, moves, moves_step, says, says_idle, says_show, says_step, shows, site_at, visits}
 use Rattle.um_fine.specs.Context.{Context}
-use Rattle.um_fine.specs.Continues.{continues, resumed, resumed_at, told_steps}
+use Rattle.um_fine.specs.Continues.{continues, resumed, resumed_at}
 use Rattle.um_fine.specs.Follows.{after_claim, after_show, after_take, behind_step, dropped_at, filled_up, goes_on_by, p_next, row_number, with_cleaned}
 use Rattle.um_fine.specs.Places.{Todo, Todos, but, cleaning, drops, passes, turn_of, with_cleaning}
 use Rattle.um_fine.specs.Processor.{Processor, is_of, key_of}
@@ -51,13 +52,13 @@ module _ (image : Image) (p : Processor) (e : FineStep) where
   turn-cost-of c None = omega arith
   turn-cost-of c (Some instr) = omega arith
 
-  told-cost : (reply : Reply) (rest : Steps) → steps_cost image (told_steps reply rest) ≤ steps_cost image rest
+  told-cost : (reply : Reply) (rest : Steps) → steps_cost image (steps_by rest (told_way reply)) ≤ steps_cost image rest
   told-cost (Reply.Fail e) rest = without-cost image rest
   told-cost reply rest = omega arith
 
   resumed-cost : (c : Context) (told : Told) (steps : Steps) → c.pending ≡ steps → left_cost image (resumed_at image c told steps) ≤ left_cost image c
   resumed-cost c told (Pending.Resume ∷ rest) h =
-      let goes = goes-cost image (record c { reply = told.reply; buffer = told.taken }) (told_steps told.reply rest) in
+      let goes = goes-cost image (record c { reply = told.reply; buffer = told.taken }) (steps_by rest (told_way told.reply)) in
       let less = told-cost told.reply rest in
       let before : left_cost image (record c { pending = Pending.Resume ∷ rest }) ≡ left_cost image c = ap (λ (steps : Steps). left_cost image (record c { pending = steps })) (sym h) in
       omega (arith, goes, less, before)

@@ -67,18 +67,6 @@ module _ (image : Image) (w : RowWord) where
       by true = own-more w.stage w.dynamic w.claims h
       by false = own-more w.stage w.dynamic w.claims h
 
-  published-cost : row_cost (published w) ≡ row_cost w
-  published-cost = by (is_live w.stage)
-    where
-      by : (b : Bool) → row_cost (if b then record w { public = true } else w) ≡ row_cost w
-      by true = refl
-      by false = refl
-
-  set-cost : (set : SetSaid) → row_cost (after_set w set) ≡ row_cost w
-  set-cost SetSaid.Done = refl
-  set-cost SetSaid.Gone = refl
-  set-cost (SetSaid.Fail e) = refl
-
   -- Drops.
 
   last-cost : (stage : Stage) (dynamic rest : Bool) (claims : ℕ) → (dynamic && is_live stage && rest) ≡ true → stage_cost stage dynamic claims ≡ cleaning_cost
@@ -122,8 +110,8 @@ module _ (image : Image) (w : RowWord) where
   act-falls moved t more (Act.Inherit who a) h = omega arith
   act-falls moved t more (Act.DropPair who a left) h =
       let falls = drop-cost t more who a (is_last w who.0) (has w who.0) refl in omega (arith, falls)
-  act-falls moved t more (Act.Publish a given) h = let same = published-cost in omega (arith, same)
-  act-falls moved t more (Act.SetInit a set) h = let same = set-cost (set_of w (strict_in more)) in omega (arith, same)
+  act-falls moved t more (Act.Publish a given) h = omega arith
+  act-falls moved t more (Act.SetInit a set) h = omega arith
   act-falls moved t more (Act.ClearInit a) h = omega arith
   act-falls moved t more (Act.Born a) h = omega arith
   act-falls moved t more act h = absurd (false≢true h)

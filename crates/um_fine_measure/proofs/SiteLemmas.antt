@@ -19,10 +19,10 @@ use Rattle.um_words.specs.CellActs.{heap_takes, is_resume, memory_takes, object_
 use Rattle.um_words.specs.Domains.{domain_takes}
 use Rattle.um_words.specs.Rows.{is_cleaning, row_takes}
 use Rattle.um_words.specs.Threads.{thread_takes}
-use Rattle.um_fine.specs.Answers.{caller_in, context_in, outcome_in, row_in, wake_in}
-use Rattle.um_fine.specs.Cells.{Cell, cell_moves, cell_takes}
+use Rattle.um_fine.specs.Answers.{act_in, answer_in, caller_in, context_in, outcome_in, row_in, wake_in}
+use Rattle.um_fine.specs.Cells.{Cell, cell_moves, cell_says, cell_takes}
 use Rattle.um_fine.specs.Context.{Context, no_context}
-use Rattle.um_fine.specs.Objects.{ObjectCell, object_after, object_moves, outcome_of, work_on}
+use Rattle.um_fine.specs.Objects.{ObjectCell, object_after, object_moves, object_says, outcome_of, work_on}
 use Rattle.um_fine.specs.Scheduler.{Scheduler, first_ready, first_taken, has_ready, parked_at, sched_after, sched_moves, sched_takes}
 use Rattle.um_fine.specs.Sites.{SiteMay, SiteState, s_next, site_after, site_answers, site_moves, site_takes, word_of}
 use Rattle.um_fine.specs.Steps.{Exchange, FineStep, Outcome, Word}
@@ -98,21 +98,22 @@ module _ (image : Image) where
   ObjectFalls o act moved = object_cost (object_after o act moved) + taken_by image act moved ≤ object_cost o + given_by image act moved
 
   object-shown : (o : ObjectCell) (t : ThreadIx) (more : More) (act : Act) (moved : Exchange) → object_takes (FineAct.Shown (record { thread = t; act = act }) more) ≡ true
+      → object_says o moved (FineAct.Shown (record { thread = t; act = act }) more) ≡ FineAct.Shown (record { thread = t; act = act }) more
       → object_moves o (FineAct.Shown (record { thread = t; act = act }) more) moved ≡ moved → ObjectFalls o (FineAct.Shown (record { thread = t; act = act }) more) moved
-  object-shown o t more (Act.Work a answer woken) moved takes moves =
+  object-shown o t more (Act.Work a answer woken) moved takes says moves =
       let outcome : outcome_of (work_on o moved) ≡ outcome_in moved = ap outcome_in moves in
       let pays = waiters-pay o.contents o.waiters (caller_in moved) in
       let woke : length (work_on o moved).woken ≡ length (outcome_in moved).woken = ap (λ (r : Outcome). length r.woken) outcome in
-      let joined : joins (work_on o moved).answer ≡ joins (outcome_in moved).answer = ap (λ (r : Outcome). joins r.answer) outcome in
+      let joined : joins (work_on o moved).answer ≡ joins answer = ap (λ (act : FineAct). joins (answer_in (act_in act))) says in
       omega (arith, pays, woke, joined)
-  object-shown o t more (Act.Named who) moved takes moves = omega arith
-  object-shown o t more act moved takes moves = absurd (false≢true takes)
+  object-shown o t more (Act.Named who) moved takes says moves = omega arith
+  object-shown o t more act moved takes says moves = absurd (false≢true takes)
 
-  object-falls : (o : ObjectCell) (act : FineAct) (moved : Exchange) → object_takes act ≡ true → object_moves o act moved ≡ moved → ObjectFalls o act moved
-  object-falls o (FineAct.Shown event more) moved takes moves = object-shown o event.thread more event.act moved takes moves
-  object-falls o (FineAct.Unseen Unseen.SizeLook) moved takes moves = omega arith
-  object-falls o (FineAct.Unseen Unseen.Wipe) moved takes moves = omega arith
-  object-falls o (FineAct.Unseen unseen) moved takes moves = absurd (false≢true takes)
+  object-falls : (o : ObjectCell) (act : FineAct) (moved : Exchange) → object_takes act ≡ true → object_says o moved act ≡ act → object_moves o act moved ≡ moved → ObjectFalls o act moved
+  object-falls o (FineAct.Shown event more) moved takes says moves = object-shown o event.thread more event.act moved takes says moves
+  object-falls o (FineAct.Unseen Unseen.SizeLook) moved takes says moves = omega arith
+  object-falls o (FineAct.Unseen Unseen.Wipe) moved takes says moves = omega arith
+  object-falls o (FineAct.Unseen unseen) moved takes says moves = absurd (false≢true takes)
 
   -- The scheduler.
 
@@ -157,20 +158,20 @@ module _ (image : Image) where
 
   -- All sites.
 
-  cell-falls : (n : ℕ) (c : Cell) (act : FineAct) (moved : Exchange) → cell_takes c act ≡ true → cell_moves image c act moved ≡ moved → SiteFalls (SiteState.cell n c) act moved
-  cell-falls n (Cell.object o) act moved takes moves =
+  cell-falls : (n : ℕ) (c : Cell) (act : FineAct) (moved : Exchange) → cell_takes c act ≡ true → cell_says image c moved act ≡ act → cell_moves image c act moved ≡ moved → SiteFalls (SiteState.cell n c) act moved
+  cell-falls n (Cell.object o) act moved takes says moves =
       let none = begins-none act (word_of (site_after image (SiteState.cell n (Cell.object o)) act moved)) tt in
-      let falls = object-falls o act moved takes moves in rw none (omega (arith, falls))
-  cell-falls n (Cell.parts d) act moved takes moves =
+      let falls = object-falls o act moved takes says moves in rw none (omega (arith, falls))
+  cell-falls n (Cell.parts d) act moved takes says moves =
       let none = begins-none act (word_of (site_after image (SiteState.cell n (Cell.parts d)) act moved)) tt in
       let quiet = parts-quiet act moved takes in rw none (omega (arith, quiet))
-  cell-falls n (Cell.memory m) act moved takes moves =
+  cell-falls n (Cell.memory m) act moved takes says moves =
       let none = begins-none act (word_of (site_after image (SiteState.cell n (Cell.memory m)) act moved)) tt in
       let quiet = memory-quiet act moved takes in rw none (omega (arith, quiet))
-  cell-falls n (Cell.heap h) act moved takes moves =
+  cell-falls n (Cell.heap h) act moved takes says moves =
       let none = begins-none act (word_of (site_after image (SiteState.cell n (Cell.heap h)) act moved)) tt in
       let quiet = heap-quiet act moved takes in rw none (omega (arith, quiet))
-  cell-falls n (Cell.scheduler s) act moved takes moves =
+  cell-falls n (Cell.scheduler s) act moved takes says moves =
       let none = begins-none act (word_of (site_after image (SiteState.cell n (Cell.scheduler s)) act moved)) tt in
       let falls = scheduler-falls s act moved takes moves in rw none (omega (arith, falls))
 
@@ -182,7 +183,7 @@ module _ (image : Image) where
   falls (SiteState.domain w) act moved takes says moves =
       let none = begins-none act (word_of (site_after image (SiteState.domain w) act moved)) tt in
       let quiet = domain-quiet w act moved (and_parts (nat_lt w.number 268435455) (domain_takes w act) takes).1 in rw none (omega (arith, quiet))
-  falls (SiteState.cell n c) act moved takes says moves = cell-falls n c act moved (and_parts (nat_lt n 268435455) (cell_takes c act) takes).1 moves
+  falls (SiteState.cell n c) act moved takes says moves = cell-falls n c act moved (and_parts (nat_lt n 268435455) (cell_takes c act) takes).1 says moves
 
   -- what a site has left after a step, and what the step takes from there, is no more than was left and what the step adds
   pub site-falls : (s : SiteState) (e : FineStep) → SiteMay image s e

@@ -6,7 +6,7 @@ ghost use Rattle.um_invariants.specs.Described.{IsDescribed};
 ghost use Rattle.um_fine.specs.{FineRun.{IsFineRun}, Processor.{idle}, Steps.{FineStep}};
 ghost use Rattle.um_fine_measure.specs.{Falls.{Falls, Opens}, Measure.{processor_cost}};
 
-use um_erasure::every_fine_run;
+use um_refinement::every_fine_run;
 
 /// What processors and sites have left falls with each fine step, and is at most the weight of the image at the opening.
 ///

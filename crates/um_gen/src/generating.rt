@@ -9,7 +9,7 @@ use crate::writer::Writer;
 use rand_core::SeedableRng;
 use rand_pcg::Lcg64Xsh32;
 use std::alloc::Global;
-use um_base::Memory;
+use um_base::OutOfMemory;
 
 /// The most bytes of a description.
 const MOST: usize = 17_160;
@@ -29,7 +29,7 @@ impl Writer {
 
 /// The description of a number: eight threads that have the same kinds of objects, with drawn domains, grants and
 /// script lines. All memory is taken before the first byte is written.
-pub fn generate(alloc: Global, number: u64) -> Result<Vec<u8>, Memory>
+pub fn generate(alloc: Global, number: u64) -> Result<Vec<u8>, OutOfMemory>
     ensures { IfOk result (λ text. text.items ≡ description.description number) }
 {
     let mut writer = Writer {

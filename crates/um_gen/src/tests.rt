@@ -3,7 +3,7 @@
 use crate::generate;
 use std::alloc::Global;
 use std::test::Fail;
-use um_base::Memory;
+use um_base::OutOfMemory;
 
 /// The header and the pool of every description.
 const HEAD: &str =
@@ -58,14 +58,19 @@ fn stand(text: &[u8], parts: &[(usize, &str)]) -> bool {
 }
 
 /// Whether the description of a number has so many bytes, begins as each does, and has these parts too.
-fn has(alloc: Global, number: u64, len: usize, parts: &[(usize, &str)]) -> Result<bool, Memory> {
+fn has(
+    alloc: Global,
+    number: u64,
+    len: usize,
+    parts: &[(usize, &str)],
+) -> Result<bool, OutOfMemory> {
     let text = generate(alloc, number)?;
     let begins = stand(&text, &[(0, HEAD), (872, LAST_THREAD)]);
     Ok(text.len() == len && begins && stand(&text, parts))
 }
 
 #[test]
-fn generates_of_numbers(rt: HostRuntime) -> Result<(), Fail> {
+fn descriptions_are_generated_from_numbers(rt: HostRuntime) -> Result<(), Fail> {
     assert!(rt; has(rt.alloc(), 0, 9476, &OF_ZERO)?);
     assert!(rt; has(rt.alloc(), u64::MAX, 9393, &OF_THE_GREATEST)?);
     assert!(rt; has(rt.alloc(), 1, 9457, &[])?);

@@ -26,9 +26,9 @@ use Rattle.um_merge.specs.Logs.{Log, events_of}
 use Rattle.um_merge.specs.Merged.{HaveOrder, IsOrder}
 use Rattle.um_merge.specs.declared.logged.Logged.{Logged}
 use Rattle.um_site.specs.declared.view.View.{View}
-use Rattle.um_erasure.specs.After.{left_by}
-use Rattle.um_erasure.specs.Room.{CanCount, CanRun, IsStuck}
-use Rattle.um_erasure.specs.Shows.{AreCompleteRun, AreRun}
+use Rattle.um_refinement.specs.After.{left_by}
+use Rattle.um_refinement.specs.Room.{CanCount, CanRun, IsStuck}
+use Rattle.um_refinement.specs.Shows.{AreCompleteRun, AreRun}
 use Rattle.um_core.proofs.Counts.{can-count}
 use Rattle.um_board.specs.Noted.{logged_of}
 use Rattle.um_history.specs.Fine.{IsFineOf}

@@ -13,8 +13,8 @@ use Rattle.um_fine.specs.Sites.{SiteMay, s_next, same_site}
 use Rattle.um_fine.specs.Steps.{FineStep}
 use Rattle.um_fine.proofs.FineRuns.{by_last, runs_pop}
 use Rattle.um_fine.proofs.Keys.{same-itself, same-sound}
-use Rattle.um_processor.specs.Processors.{AsksFor}
-use Rattle.um_erasure.specs.Room.{CanRun}
+use Rattle.um_tables.specs.Asked.{AsksFor}
+use Rattle.um_refinement.specs.Room.{CanRun}
 use Rattle.um_core.proofs.MomentsKnown.{asked-may}
 use Rattle.um_core.proofs.OneRun.{fine-more}
 use Rattle.um_history.specs.Played.{Each}

@@ -22,13 +22,13 @@ use Rattle.um_fine.specs.Runs.{has_key}
 use Rattle.um_fine.specs.Scheduler.{Scheduler, has_ready}
 use Rattle.um_fine.specs.Sites.{SiteState, is_site, site_number, site_numbered, site_takes, word_of}
 use Rattle.um_fine.specs.Steps.{FineStep, Site, Word}
-use Rattle.um_erasure.specs.Fine.{scheduler_state}
-use Rattle.um_erasure.specs.Room.{CanRun, has_number}
+use Rattle.um_refinement.specs.Fine.{scheduler_state}
+use Rattle.um_refinement.specs.Room.{CanRun, has_number}
 use Rattle.um_core.specs.PickedRun.{processor_after}
 use Rattle.um_core.proofs.Counts.{can-count}
 use Rattle.um_merge.specs.declared.logged.Logged.{Logged}
-use Rattle.um_processor.specs.Processors.{AsksFor}
-use Rattle.um_processor.specs.Sited.{IsShut}
+use Rattle.um_tables.specs.Asked.{AsksFor}
+use Rattle.um_tables.specs.Sited.{IsShut}
 use Rattle.um_site.specs.declared.seat.Seat.{Seat}
 use Rattle.um_site.proofs.Bare.{bare-even, bare-high, bare-low}
 use Rattle.um_board.specs.Contents.{Known}

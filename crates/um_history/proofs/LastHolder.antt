@@ -18,15 +18,15 @@ use Rattle.um_fine.specs.Sites.{SiteMay, s_next, same_site}
 use Rattle.um_fine.specs.Steps.{FineStep, Site}
 use Rattle.um_fine.proofs.FineRuns.{by_last, runs_pop, state_push}
 use Rattle.um_fine.proofs.Keys.{same-itself, same-sound}
-use Rattle.um_erasure.specs.After.{left_by}
-use Rattle.um_erasure.specs.Fine.{Fine, one_if, row, row_state, total}
-use Rattle.um_erasure.specs.Lists.{counted, is_vacate}
-use Rattle.um_erasure.specs.Objects.{is_reserved, recyclers, status_of, vacaters}
-use Rattle.um_erasure.specs.Relation.{Rel}
-use Rattle.um_erasure.proofs.DomainFacts.{two-parts}
-use Rattle.um_erasure.proofs.FirstThreads.{one-most}
-use Rattle.um_erasure.proofs.HeldRows.{some-part, total-zero}
-use Rattle.um_erasure.proofs.MemorySteps.{part-total}
+use Rattle.um_refinement.specs.After.{left_by}
+use Rattle.um_refinement.specs.Fine.{Fine, one_if, row, row_state, total}
+use Rattle.um_refinement.specs.Lists.{counted, is_vacate}
+use Rattle.um_refinement.specs.Objects.{is_reserved, recyclers, status_of, vacaters}
+use Rattle.um_refinement.specs.Relation.{Rel}
+use Rattle.um_refinement.proofs.DomainFacts.{two-parts}
+use Rattle.um_refinement.proofs.FirstThreads.{one-most}
+use Rattle.um_refinement.proofs.HeldRows.{some-part, total-zero}
+use Rattle.um_refinement.proofs.MemorySteps.{part-total}
 use Rattle.um_history.specs.LastHolder.{HasLastHolder, InCleaning, IsCleanedSince, Since, still_vacates}
 
 cleaning-is : (s : Stage) → is_cleaning s ≡ true → s ≡ Stage.Cleaning

@@ -20,7 +20,7 @@ use Rattle.um_fine.specs.Sites.{SiteMay, is_site, s_next, same_site, site_number
 use Rattle.um_fine.specs.Steps.{FineStep, Site}
 use Rattle.um_fine.proofs.Keys.{number-back, number-bound}
 use Rattle.um_site.proofs.Sublists.{same_itself, same_sound}
-use Rattle.um_processor.specs.Processors.{AsksFor}
+use Rattle.um_tables.specs.Asked.{AsksFor}
 use Rattle.um_board.specs.Contents.{Known}
 use Rattle.um_board.specs.Noted.{packed}
 use Rattle.um_board.specs.ReadBack.{fine_at}

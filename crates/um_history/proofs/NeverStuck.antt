@@ -16,17 +16,17 @@ use Rattle.um_fine.specs.FineRun.{IsFineRun}
 use Rattle.um_fine.specs.Places.{Todo, Todos}
 use Rattle.um_fine.specs.Processor.{Processor}
 use Rattle.um_fine.specs.Steps.{FineStep}
-use Rattle.um_erasure.specs.After.{left_by}
-use Rattle.um_erasure.specs.Fine.{Fine}
-use Rattle.um_erasure.specs.Lists.{has_steps}
-use Rattle.um_erasure.specs.Offers as O
-use Rattle.um_erasure.specs.Offers.{Fits, IsOffered}
-use Rattle.um_erasure.specs.Room.{CanRun}
-use Rattle.um_erasure.specs.Threads.{IsOf}
-use Rattle.um_erasure.proofs.CallBounds.{Bounded}
-use Rattle.um_erasure.proofs.ListSingles.{is_single, shows_single}
-use Rattle.um_erasure.proofs.StepsLeft.{offered-on}
-use Rattle.um_erasure.proofs.CallSteps.{Proper}
+use Rattle.um_refinement.specs.After.{left_by}
+use Rattle.um_refinement.specs.Fine.{Fine}
+use Rattle.um_refinement.specs.Lists.{has_steps}
+use Rattle.um_refinement.specs.Offers as O
+use Rattle.um_refinement.specs.Offers.{Fits, IsOffered}
+use Rattle.um_refinement.specs.Room.{CanRun}
+use Rattle.um_refinement.specs.Threads.{IsOf}
+use Rattle.um_refinement.proofs.CallBounds.{Bounded}
+use Rattle.um_refinement.proofs.ListSingles.{is_single, shows_single}
+use Rattle.um_refinement.proofs.StepsLeft.{offered-on}
+use Rattle.um_refinement.proofs.CallSteps.{Proper}
 use Rattle.um_processor.specs.Processors.{IsStuck, fits_next, full, is_event, no_event, no_room, no_site, no_thread, shows_event}
 use Rattle.um_processor.specs.declared.cleaning.TheConstants.{MOST}
 use Rattle.um_core.specs.PickedRun.{processor_after}

@@ -10,16 +10,16 @@ use Rattle.um_machine.specs.State.{is_started, thread_at}
 use Rattle.um_invariants.specs.Described.{IsDescribed}
 use Rattle.um_fine.specs.Opening.{count, indexed}
 use Rattle.um_fine.specs.Scheduler.{parked_at, told_at}
-use Rattle.um_erasure.specs.Fine.{scheduler}
-use Rattle.um_erasure.specs.Room.{CanRun}
-use Rattle.um_erasure.specs.Threads.{is_ready_there, occurs}
-use Rattle.um_erasure.proofs.DomainsKnown.{started-placed}
-use Rattle.um_erasure.proofs.First.{first}
-use Rattle.um_erasure.proofs.FirstBounds.{bounded-first}
-use Rattle.um_erasure.proofs.FirstLawful.{opens-described}
-use Rattle.um_erasure.proofs.FirstThreads.{one-most, opening-is, threads-long}
-use Rattle.um_erasure.proofs.Reachable.{opening-wide}
-use Rattle.um_erasure.proofs.Totals.{occurs-total, total-most}
+use Rattle.um_refinement.specs.Fine.{scheduler}
+use Rattle.um_refinement.specs.Room.{CanRun}
+use Rattle.um_refinement.specs.Threads.{is_ready_there, occurs}
+use Rattle.um_refinement.proofs.DomainsKnown.{started-placed}
+use Rattle.um_refinement.proofs.First.{first}
+use Rattle.um_refinement.proofs.FirstBounds.{bounded-first}
+use Rattle.um_refinement.proofs.FirstLawful.{opens-described}
+use Rattle.um_refinement.proofs.FirstThreads.{one-most, opening-is, threads-long}
+use Rattle.um_refinement.proofs.Reachable.{opening-wide}
+use Rattle.um_refinement.proofs.Totals.{occurs-total, total-most}
 use Rattle.um_history.proofs.OpeningRuns.{OpensWell}
 
 count-most : (bs : List Bool) → count bs ≤ length bs

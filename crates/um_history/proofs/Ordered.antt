@@ -17,7 +17,7 @@ use Rattle.um_merge.specs.Merged as Merged
 use Rattle.um_merge.specs.Logs.{Log, event_on, events_of}
 use Rattle.um_merge.specs.Merged.{AreNumbered, IsOrder, log_at}
 use Rattle.um_merge.specs.declared.logged.Logged.{Logged}
-use Rattle.um_processor.specs.Asked.{event_of}
+use Rattle.um_tables.specs.Asked.{event_of}
 use Rattle.um_board.specs.Noted.{logged_of, packed}
 use Rattle.um_history.specs.Fine.{IsFineOf}
 use Rattle.um_history.specs.Played.{Each}

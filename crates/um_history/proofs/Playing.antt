@@ -11,7 +11,7 @@ use Rattle.um_fine.specs.Sites.{site_number}
 use Rattle.um_fine.specs.Steps.{FineStep}
 use Rattle.um_fine.proofs.Subs.{Run-append, ends-append}
 use Rattle.um_merge.specs.declared.logged.Logged.{Logged}
-use Rattle.um_processor.specs.Processors.{AsksFor}
+use Rattle.um_tables.specs.Asked.{AsksFor}
 use Rattle.um_site.specs.Tells.{NoOlder}
 use Rattle.um_board.specs.Noted.{logged_of, made_of, packed}
 use Rattle.um_board.specs.ReadBack.{IsReadBack}

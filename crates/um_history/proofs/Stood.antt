@@ -8,7 +8,7 @@ use Rattle.um_words.specs.History.{Entry, bare, by_seat, by_site}
 use Rattle.um_fine.specs.FineRun.{IsFineRun}
 use Rattle.um_fine.specs.Sites.{is_site, site_number, word_of}
 use Rattle.um_fine.specs.Steps.{FineStep, Site}
-use Rattle.um_erasure.specs.Room.{CanRun}
+use Rattle.um_refinement.specs.Room.{CanRun}
 use Rattle.um_site.specs.Cells.{AmongCells, ContentsAre}
 use Rattle.um_site.specs.declared.seat.Seat.{Seat}
 use Rattle.um_site.specs.declared.view.View.{View}

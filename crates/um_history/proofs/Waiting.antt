@@ -14,15 +14,15 @@ use Rattle.um_fine.specs.FineRun.{ByOneOf, IsFineRun}
 use Rattle.um_fine.specs.Places.{Todo, Todos}
 use Rattle.um_fine.specs.Processor.{Processor}
 use Rattle.um_fine.specs.Steps.{Exchange, FineStep}
-use Rattle.um_erasure.specs.After.{left_by}
-use Rattle.um_erasure.specs.Fine.{scheduler}
-use Rattle.um_erasure.specs.Room.{CanCount, IsHalted}
-use Rattle.um_erasure.specs.Waits.{WaitsFor}
+use Rattle.um_refinement.specs.After.{left_by}
+use Rattle.um_refinement.specs.Fine.{scheduler}
+use Rattle.um_refinement.specs.Room.{CanCount, IsHalted}
+use Rattle.um_refinement.specs.Waits.{WaitsFor}
 use Rattle.um_core.specs.PickedRun.{processor_after, site_after}
 use Rattle.um_core.proofs.Counts.{can-count}
 use Rattle.um_core.proofs.Refusals.{busy-none}
-use Rattle.um_processor.specs.Processors.{AsksFor}
-use Rattle.um_processor.specs.Sited.{IsShut}
+use Rattle.um_tables.specs.Asked.{AsksFor}
+use Rattle.um_tables.specs.Sited.{IsShut}
 
 -- what is known of each processor of a fine run that can't step
 abbrev pub WaitsAll : Image → Type 0

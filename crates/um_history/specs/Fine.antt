@@ -8,11 +8,11 @@ use Rattle.um_fine.specs.Opening.{s_start}
 use Rattle.um_fine.specs.Runs.{state_at, sublist}
 use Rattle.um_fine.specs.Sites.{SiteState, is_site, s_next, same_site, site_number, site_numbered, word_of}
 use Rattle.um_fine.specs.Steps.{FineStep, Site}
-use Rattle.um_erasure.specs.After.{left_by}
-use Rattle.um_erasure.specs.Waits.{WaitsFor}
+use Rattle.um_refinement.specs.After.{left_by}
+use Rattle.um_refinement.specs.Waits.{WaitsFor}
 use Rattle.um_merge.specs.Merged as Merged
 use Rattle.um_merge.specs.Merged.{AreNumbered}
-use Rattle.um_processor.specs.Asked.{Refuses}
+use Rattle.um_tables.specs.Asked.{Refuses}
 use Rattle.um_site.specs.declared.seat.Seat.{Seat}
 use Rattle.um_board.specs.Contents.{Known}
 use Rattle.um_board.specs.Noted.{logged_of, packed}

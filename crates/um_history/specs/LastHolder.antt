@@ -6,10 +6,10 @@ use Rattle.um_machine.specs.State.{State}
 use Rattle.um_words.specs.Rows.{is_cleaning}
 use Rattle.um_fine.specs.FineRun.{IsFineRun}
 use Rattle.um_fine.specs.Steps.{FineStep, Site}
-use Rattle.um_erasure.specs.After.{left_by}
-use Rattle.um_erasure.specs.Claims.{claims}
-use Rattle.um_erasure.specs.Fine.{row}
-use Rattle.um_erasure.specs.Lists.{counted, is_vacate}
+use Rattle.um_refinement.specs.After.{left_by}
+use Rattle.um_refinement.specs.Claims.{claims}
+use Rattle.um_refinement.specs.Fine.{row}
+use Rattle.um_refinement.specs.Lists.{counted, is_vacate}
 
 -- after a fine run: whether the row x stands in cleaning, and how often the processor k has still to vacate it
 abbrev pub InCleaning : Image → ℕ → ℕ → List FineStep → Type 0

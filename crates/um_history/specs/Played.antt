@@ -13,7 +13,7 @@ use Rattle.um_fine.specs.Steps.{FineStep}
 use Rattle.um_merge.specs.Logs.{Log}
 use Rattle.um_merge.specs.Merged.{log_at}
 use Rattle.um_merge.specs.declared.logged.Logged.{Logged}
-use Rattle.um_processor.specs.Processors.{AsksFor}
+use Rattle.um_tables.specs.Asked.{AsksFor}
 use Rattle.um_site.specs.Cells.{AmongCells, ContentsAre, IsClosedWithCells, Moment}
 use Rattle.um_site.specs.History.{Among}
 use Rattle.um_site.specs.declared.view.View.{View}

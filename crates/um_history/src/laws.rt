@@ -17,7 +17,7 @@ ghost use Rattle.um_merge.specs.{
 };
 ghost use Rattle.um_site.specs.declared.view.View.{View};
 ghost use Rattle.um_board.specs.{Noted.{logged_of}, ReadBack.{fine_at}};
-ghost use Rattle.um_erasure.specs.{
+ghost use Rattle.um_refinement.specs.{
   After.{left_by},
   Relation.{Rel},
   Room.{CanRun},
@@ -29,8 +29,8 @@ ghost use Rattle.um_history.specs.{
   Played.{IsMoment, IsPlayed, SawNone},
 };
 
-use um_erasure::every_fine_run;
 use um_fine_measure::longest_fine_run;
+use um_refinement::every_fine_run;
 
 /// The law over the rows of every fine run of an image that a description gives, in whatever order of processors. The word of a row counts
 /// exactly the claims that calls, lives and creators have still to end. A row in cleaning belongs to one processor: the one that made the

@@ -6,7 +6,7 @@ ghost use Rattle.um_canonical.specs.Text.{printed_text};
 ghost use Rattle.um_image.specs.Meaning.{Describes};
 
 use std::alloc::Global;
-use um_base::{Image, Memory};
+use um_base::{Image, OutOfMemory};
 use um_canonical::put_image;
 
 #[cfg(test)]
@@ -18,7 +18,7 @@ mod tests;
 /// # Errors
 ///
 /// Memory ran out.
-pub fn print_image(alloc: Global, image: &Image) -> Result<Vec<u8>, Memory>
+pub fn print_image(alloc: Global, image: &Image) -> Result<Vec<u8>, OutOfMemory>
     ensures text { IfOk result (λ text. text.items ≡ printed_text image.now) }
     ensures law { IfOk result (λ text. (source : List ℕ) → Describes source image.now → Describes text.items image.now) }
     ensures twice { IfOk result (λ text. (source : List ℕ) (again : Image) → Describes source image.now → Describes text.items again → printed_text again ≡ text.items) }

@@ -1,10 +1,13 @@
 -- Small facts that many proofs share: of numbers and tests, of statuses, kinds and lists.
 use Rattle.std.proofs.Common.{◌≡◌, ◌≢◌, ℕ, zero, suc, ◌<◌, ◌≤◌, Bool, true, false, not, ◌==◌, ◌&&◌, ◌||◌, nat_lt, nat_le, IsTrue, List, [], ◌∷◌, length, replicate, refl, sym, ap, ◌∙◌, None, slice_get, slice_index_or, slice_set, if◌then◌else◌, arith}
+use Rattle.std.specs.List.{list_all}
 use Rattle.std.proofs.lemmas.Bool.Decides.{nat_tests}
 use Rattle.um_base.specs.declared.image.ObjectDef.{ObjectDef}
 use Rattle.um_base.specs.declared.names.Kind.{Kind}
 use Rattle.um_machine.specs.declared.object.Status.{Status}
 use Rattle.um_machine.specs.Objects.{is_live, is_free, kind_number}
+use Rattle.um_machine.specs.Writes.{Effect, Effects}
+use Rattle.um_machine.proofs.EffectLemmas.{OfEach}
 
 -- whether what stands at a row was born
 abbrev pub is_standing : Status → Bool
@@ -138,3 +141,8 @@ set-less (flag ∷ flags) zero zero stays h = (both_of flag stays h).0
 set-less (flag ∷ flags) zero (suc r) stays h = h
 set-less (flag ∷ flags) (suc x) zero stays h = h
 set-less (flag ∷ flags) (suc x) (suc r) stays h = set-less flags x r stays h
+
+-- a fact of each write that a test lets through is one of all writes that it does
+pub each-of : (is : Effect → Bool) (F : Effect → Type 0) → ((e : Effect) → is e ≡ true → F e) → (ws : Effects) → list_all (λ (w : Bool × Effect). is w.1) ws ≡ true → OfEach F ws
+each-of is F f [] h = tt
+each-of is F f ((b, e) ∷ ws) h = let parts = both_of (is e) (list_all (λ (w : Bool × Effect). is w.1) ws) h in (f e parts.0, each-of is F f ws parts.1)

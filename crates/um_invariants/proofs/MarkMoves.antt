@@ -13,12 +13,14 @@ use Rattle.um_machine.specs.declared.thread.Thread.{Thread}
 use Rattle.um_machine.specs.Objects.{is_gone}
 use Rattle.um_machine.specs.Order.{Steps, refuses}
 use Rattle.um_machine.specs.State.{State, thread_at, object_at, with_thread, with_object}
-use Rattle.um_machine.specs.Table.{after, at_steps, after_set, set_said, row_of}
+use Rattle.um_machine.specs.Goes.{Change, Next, at_steps, set_way, went}
+use Rattle.um_machine.specs.Writes.{Edit, Effect, is_done, only, wrote}
+use Rattle.um_machine.specs.Table.{after, set_said, row_of}
 use Rattle.um_invariants.proofs.Cores.{Call, Core, call_of, core_of, call_at, call_is, core-thread, rest_of, with_init, init_is, core-init}
 use Rattle.um_invariants.proofs.Guards.{Guarded}
 use Rattle.um_invariants.proofs.Moves.{is_quiet, Move, goes, marks, Marks, sets, clears, leaves}
 use Rattle.um_invariants.proofs.Facts.{is_equal, differs, equals, and_not, and_is}
-use Rattle.um_invariants.proofs.Turns.{IsKnown, IsReady, mine, turn_on, row_is}
+use Rattle.um_invariants.proofs.Turns.{IsKnown, IsReady, mine, turn, row_is}
 
 -- a row is marked, or its mark is cleared
 pub mark_moves : (s : State) (t : ℕ) (act : Act) (y : ℕ) (init : Bool) (me : Thread) (rest : Steps) → is_quiet act ≡ true → (call_at (core_of s) t).keeps ≡ true
@@ -48,7 +50,7 @@ gone_loose false true false e f h = cc
 gone_loose false false init e f h = refl
 
 pub set_moves : (s : State) (t : ℕ) (a : Addr) (strict : Bool) (undo : Option Addr) (rest : Steps) (said : SetSaid) → set_said (object_at s (row_of s a)) strict ≡ said → IsReady (core_of s) t (Pending.SetInit a strict undo) rest
-    → Move (core_of s) t (Act.SetInit a said) (core_of (after_set s t (thread_at s t) a undo rest said))
+    → Move (core_of s) t (Act.SetInit a said) (core_of (went rest (wrote (only (is_done said) (Effect.object (row_of s a) (Edit.inits true)) ∷ []) s) t (Next.on Change.nothing (set_way (thread_at s t).mode undo said))))
 set_moves s t a strict None rest SetSaid.Done said ready =
     let y = row_of s a in
     let keeps = ready.1.2 in
@@ -71,13 +73,14 @@ set_moves s t a strict (Some b) rest SetSaid.Done said ready =
 set_moves s t a strict None rest SetSaid.Gone said ready =
     let y = row_of s a in
     let loose = gone_loose (is_gone (object_at s y).status) strict (object_at s y).init Errno.EBADF Errno.EADDRINUSE said in
-    goes refl (turn_on s s t (thread_at s t) rest refl (mine s t) (ready.0, (ready.1.0.1, (λ w h. let tight = (ready.1.0.0 w h).0 in cc), ready.1.2)))
-set_moves s t a strict (Some b) rest SetSaid.Gone said ready = goes refl (turn_on s s t (thread_at s t) rest refl (mine s t) (ready.0, (ready.1.0.2, ready.1.1, ready.1.2)))
+    goes refl (turn s t (at_steps s.image (thread_at s t) rest) rest refl refl (ready.0, (ready.1.0.1, (λ w h. let tight = (ready.1.0.0 w h).0 in cc), ready.1.2)))
+set_moves s t a strict (Some b) rest SetSaid.Gone said ready = goes refl (turn s t (at_steps s.image (thread_at s t) rest) rest refl refl (ready.0, (ready.1.0.2, ready.1.1, ready.1.2)))
 set_moves s t a strict None rest (SetSaid.Fail e) said ready =
-    goes refl (turn_on s s t (thread_at s t) (refuses (thread_at s t).mode (Cause.Refused e)) refl (mine s t) (tt, (tt, (λ w h. cc), ready.1.2)))
+    goes refl (turn s t (at_steps s.image (thread_at s t) (refuses (thread_at s t).mode (Cause.Refused e))) (refuses (thread_at s t).mode (Cause.Refused e)) refl refl (tt, (tt, (λ w h. cc), ready.1.2)))
 set_moves s t a strict (Some b) rest (SetSaid.Fail e) said ready =
     let (there, claimed, shaped) = ready.1.0 in
-    goes refl (turn_on s s t (thread_at s t) (Pending.ClearInit b ∷ refuses (thread_at s t).mode (Cause.Refused e)) refl (mine s t)
+    let steps = Pending.ClearInit b ∷ refuses (thread_at s t).mode (Cause.Refused e) in
+    goes refl (turn s t (at_steps s.image (thread_at s t) steps) steps refl refl
     (tt, (there, (λ w h. ready.1.1 w (subst (λ (n : ℕ). claims s.image n rest ≡ true) (is_equal (thread_of_addr s.image b.0) w h) claimed)), ready.1.2)))
 
 -- two indices with one row of their own are one

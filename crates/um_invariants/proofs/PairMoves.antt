@@ -15,13 +15,16 @@ use Rattle.um_machine.specs.declared.object.Status.{Status}
 use Rattle.um_machine.specs.declared.thread.Thread.{Thread}
 use Rattle.um_machine.specs.Objects.{is_live, is_gone}
 use Rattle.um_machine.specs.Order.{Steps}
-use Rattle.um_machine.specs.State.{State, thread_at, object_at, with_thread, with_object, with_pair, pair_at}
-use Rattle.um_machine.specs.Table.{at_steps, goes_on, after_drop, dropped, paired}
-use Rattle.um_invariants.proofs.Cores.{Core, call_of, core_of, call_at, status_at, has_pair, with_call, with_status, with_seat, status_is, core-dues, rest_of, core-status}
+use Rattle.um_machine.specs.State.{State, thread_at, object_at, with_thread, with_pair, pair_at}
+use Rattle.um_machine.specs.Goes.{Next, gone}
+use Rattle.um_machine.specs.Writes.{Effect, only, was_given, wrote}
+use Rattle.um_machine.specs.Writes as W
+use Rattle.um_machine.specs.Table.{dropped, paired}
+use Rattle.um_invariants.proofs.Cores.{Call, Core, call_of, core_of, call_at, status_at, has_pair, with_call, with_status, with_seat, status_is, core-dues, rest_of, core-status}
 use Rattle.um_invariants.proofs.Guards.{IsRow}
 use Rattle.um_invariants.proofs.Moves.{IsReached, is_quiet, same, turns, Move, goes, gives, drops, kills}
 use Rattle.um_invariants.proofs.Facts.{not_free, is_standing}
-use Rattle.um_invariants.proofs.Turns.{mine, turn_on, turned}
+use Rattle.um_invariants.proofs.Turns.{turn, turned}
 
 -- a pair comes or goes
 pub core-paired : (s : State) (u x : ℕ) (there : Bool) → core_of (paired s u x there) ≡ with_seat (core_of s) u x there
@@ -33,16 +36,19 @@ is_lasting Status.Gone h g = cc
 is_lasting Status.Free h g = cc
 is_lasting Status.Reserved h g = cc
 
-pub give_moves : (s : State) (t who y : ℕ) (make : Given → Act) (me : State → Thread) (rest : Steps) → (s1 : State) (b : Bool) → is_gone (object_at s y).status ≡ b → IsRow s.image y
+-- a pair is given, unless the object is gone, and its thread goes on
+pub give_moves : (s : State) (t who y : ℕ) (make : Given → Act) (next : Next) (rest : Steps) → (b : Bool) → is_gone (object_at s y).status ≡ b → IsRow s.image y
     → is_standing (status_at (core_of s) y) ≡ true → is_quiet (make Given.Done) ≡ true → is_quiet (make Given.Gone) ≡ true → ActGives s.image who (addr_of s.image y) t (make Given.Done)
-    → ((s2 : State) → rest_of (call_of (me s2)) ≡ rest_of (call_of (thread_at s2 t))) → Fits (core_of s) t rest
-    → Move (core_of s) t (make (if b then Given.Gone else Given.Done)) (core_of (let s2 = if b then s else paired s who y true in goes_on s2 t (me s2) rest))
-give_moves s t who y make me rest s1 true e row stands q r act f g = goes r (turn_on s s t (me s) rest refl (f s ∙ mine s t) g)
-give_moves s t who y make me rest s1 false e row stands q r act f g =
-    let s2 = paired s who y true in
+    → ((u : State) (me : Thread) → call_of (gone rest u t next me) ≡ record (call_of me) { pending = rest }) → Fits (core_of s) t rest
+    → (let given = if b then Given.Gone else Given.Done in let u = wrote (only (was_given given) (Effect.pair who y true) ∷ []) s in Move (core_of s) t (make given) (core_of (with_thread u t (gone rest u t next (thread_at u t)))))
+give_moves s t who y make next rest true e row stands q r act f g =
+    let me = gone rest s t next (thread_at s t) in goes r (turn s t me rest (ap rest_of (f s (thread_at s t))) (ap (λ (call : Call). call.pending) (f s (thread_at s t))) g)
+give_moves s t who y make next rest false e row stands q r act f g =
+    let u = paired s who y true in
+    let now = f u (thread_at u t) in
     let lives : is_live (status_at (core_of s) y) ≡ true = is_lasting (status_at (core_of s) y) stands (ap is_gone (status_is s y) ∙ e) in
     subst (λ (c : Core). Move (core_of s) t (make Given.Done) c)
-    (sym (turned s s2 (with_seat (core_of s) who y true) t (at_steps s2.image (me s2) rest) rest (core-paired s who y true) refl (f s2) refl))
+    (sym (turned s u (with_seat (core_of s) who y true) t (gone rest u t next (thread_at u t)) rest (core-paired s who y true) refl (ap rest_of now) (ap (λ (call : Call). call.pending) now)))
     (gives who y q act row lives (turns rest g.0 g.1))
 
 -- what a dropped pair leaves
@@ -56,14 +62,11 @@ calls_dropped c who x Leftover.NoPair = refl
 calls_dropped c who x Leftover.Kept = refl
 calls_dropped c who x Leftover.Gone = refl
 
-pub core-drop : (s : State) (who x : ℕ) → core_of (after_drop s who x) ≡ core_dropped (core_of s) who x (dropped s who x)
-core-drop s who x =
-    let o = object_at s x in
-    elim (dropped s who x) as (λ l. core_of (elim l as (λ _. State) [ Leftover.NoPair ↦ s | Leftover.Kept ↦ paired s who x false | Leftover.Gone ↦ with_object (paired s who x false) x (record o { status = Status.Gone }) ]) ≡ core_dropped (core_of s) who x l) [
-      | Leftover.NoPair ↦ refl
-      | Leftover.Kept ↦ core-paired s who x false
-      | Leftover.Gone ↦ core-status (paired s who x false) x (record o { status = Status.Gone }) refl refl ∙ ap (λ (c : Core). with_status c x Status.Gone) (core-paired s who x false)
-    ]
+pub core-drop : (s : State) (who x : ℕ) (l : Leftover) → core_of (wrote (W.drops who x l) s) ≡ core_dropped (core_of s) who x l
+core-drop s who x Leftover.NoPair = refl
+core-drop s who x Leftover.Kept = core-paired s who x false
+core-drop s who x Leftover.Gone =
+    core-status (paired s who x false) x (record (object_at s x) { status = Status.Gone }) refl refl ∙ ap (λ (c : Core). with_status c x Status.Gone) (core-paired s who x false)
 
 -- the last pair of a dynamic object was there, and none is left
 pub record WasLast (c : Core) (who x : ℕ) : Type 0 where
@@ -106,14 +109,16 @@ drop_move c t (Some steps) g who b x Leftover.Kept last row e = drops who b x ro
 drop_move c t None g who b x Leftover.Gone last row e = let w = last refl in kills who b x w.dynamic row e w.there w.alone same
 drop_move c t (Some steps) g who b x Leftover.Gone last row e = let w = last refl in kills who b x w.dynamic row e w.there w.alone (turns steps g.0 g.1)
 
-pub drop_moves : (s : State) (t : ℕ) (who : ThreadIx) (b : Addr) (x : ℕ) (me : Thread) (rest : Steps) → IsRow s.image x → b.0 ≡ addr_of s.image x
-    → rest_of (call_of me) ≡ rest_of (call_of (thread_at (after_drop s who.0 x) t)) → me.pending ≡ rest → Fits (core_of s) t rest
-    → Move (core_of s) t (Act.DropPair who b (dropped s who.0 x)) (core_of (with_thread (after_drop s who.0 x) t me))
-drop_moves s t who b x me rest row e f h g =
+pub drop_moves : (s : State) (t : ℕ) (who : ThreadIx) (b : Addr) (x : ℕ) (next : Next) (rest left : Steps) → IsRow s.image x → b.0 ≡ addr_of s.image x
+    → ((u : State) (me : Thread) → call_of (gone rest u t next me) ≡ record (call_of me) { pending = left }) → Fits (core_of s) t left
+    → (let u = wrote (W.drops who.0 x (dropped s who.0 x)) s in Move (core_of s) t (Act.DropPair who b (dropped s who.0 x)) (core_of (with_thread u t (gone rest u t next (thread_at u t)))))
+drop_moves s t who b x next rest left row e f g =
     let l = dropped s who.0 x in
+    let u = wrote (W.drops who.0 x l) s in
+    let now = f u (thread_at u t) in
     subst (λ (c : Core). Move (core_of s) t (Act.DropPair who b l) c)
-    (sym (turned s (after_drop s who.0 x) (core_dropped (core_of s) who.0 x l) t me rest (core-drop s who.0 x) (calls_dropped (core_of s) who.0 x l) f h))
-    (drop_move (core_of s) t (Some rest) g who b x l (was_last s who.0 x) row e)
+    (sym (turned s u (core_dropped (core_of s) who.0 x l) t (gone rest u t next (thread_at u t)) left (core-drop s who.0 x l) (calls_dropped (core_of s) who.0 x l) (ap rest_of now) (ap (λ (call : Call). call.pending) now)))
+    (drop_move (core_of s) t (Some left) g who b x l (was_last s who.0 x) row e)
 
 pub paired_row : (c : Core) → IsReached c → (u x : ℕ) → has_pair c u x ≡ true → IsRow c.image x
 paired_row c inv u x h = inv.used x (not_free (status_at c x) (inv.living u x h))

@@ -6,7 +6,7 @@ use Rattle.um_base.specs.declared.act.Act.{Act}
 use Rattle.um_base.specs.declared.act.Event.{Event}
 use Rattle.um_machine.specs.declared.pending.Pending.{Pending}
 use Rattle.um_machine.specs.Order.{Steps}
-use Rattle.um_machine.specs.Run.{Offers, goes, skips_inherit, skips_drops, begins, exits, cleans_pair, recycles, Step, Runs}
+use Rattle.um_machine.specs.Run.{Offers, goes, skips_inherit, skips_drops, begins, exits, tends, Step, Runs}
 use Rattle.um_machine.specs.State.{State, thread_at, is_living}
 use Rattle.um_machine.specs.Table.{act_of}
 use Rattle.um_invariants.proofs.Cores.{Call, Core, core_of, call_at, call_is}
@@ -75,8 +75,9 @@ ready_offer s t p rest inv (skips_drops {from = from} e due) =
     let steps = Pending.Drops from ∷ p ∷ rest in ready_behind s t (Pending.Drops from) p rest inv e (guarded_now s t steps inv e) (shaped_now s t steps inv e) (claims_now s t steps e)
 ready_offer s t _ _ inv (begins e living well line) = (tt, (tt, (λ w h. cc), lives_now s t inv living))
 ready_offer s t _ _ inv (exits e living well line) = (tt, (tt, (λ w h. cc), lives_now s t inv living))
-ready_offer s t _ _ inv (cleans_pair started) = tt
-ready_offer s t _ _ inv (recycles started) = tt
+ready_offer s t (Pending.CleanPair who) _ inv (tends is started) = tt
+ready_offer s t Pending.Recycle _ inv (tends is started) = tt
+ready_offer s t _ _ inv (tends is started) = cc
 
 pub step_move : (s s2 : State) (event : Event) → IsKnown (core_of s) → Step s event s2 → Move (core_of s) event.thread.0 event.act (core_of s2)
 step_move s s2 event inv step =

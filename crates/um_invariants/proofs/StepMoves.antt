@@ -2,40 +2,37 @@
 use Rattle.um_invariants.proofs.Claims.{IsStackRow, claims, Shaped, Fits}
 use Rattle.um_base.specs.declared.names.Policy.{Policy}
 use Rattle.um_base.specs.declared.image.ObjectDef.{ObjectDef}
-use Rattle.um_machine.specs.declared.contents.Contents.{Contents}
-use Rattle.um_base.specs.declared.names.Mode.{Mode}
-use Rattle.std.proofs.Common.{◌≡◌, inl, inr, ℕ, zero, suc, ◌+◌, ◌<◌, ◌≤◌, Bool, true, false, ◌==◌, ◌&&◌, List, [], ◌∷◌, length, map, refl, sym, ap, subst, ◌∙◌, Option, Some, None, slice_index_or, slice_set, if◌then◌else◌, arith, IsTrue, nat_le, nat_lt, take, suc-ne-zero, ◌≢◌}
+use Rattle.std.proofs.Common.{◌≡◌, inl, inr, ℕ, zero, suc, ◌+◌, ◌<◌, ◌≤◌, Bool, true, false, ◌==◌, ◌&&◌, List, [], ◌∷◌, length, map, refl, sym, ap, subst, ◌∙◌, Option, Some, None, slice_index_or, if◌then◌else◌, arith, IsTrue, nat_le, nat_lt, ◌≢◌}
 use Rattle.std.proofs.lemmas.Bool.Decides.{nat_tests}
 use Rattle.um_base.specs.declared.act.Act.{Act}
 use Rattle.um_base.specs.declared.image.Image.{Image}
-use Rattle.um_base.specs.declared.limits.TheConstants.{STATIC_ROWS, ROWS, THREADS, PIECE}
+use Rattle.um_base.specs.declared.limits.TheConstants.{STATIC_ROWS, ROWS}
 use Rattle.um_base.specs.declared.names.Access.TheVariants as Access
 use Rattle.um_base.specs.declared.names.Addr.{Addr}
 use Rattle.um_base.specs.declared.names.Errno.{Errno}
 use Rattle.um_base.specs.declared.names.Kind.{Kind}
 use Rattle.um_base.specs.declared.names.Reply.{Reply}
 use Rattle.um_base.specs.declared.names.ThreadIx.{ThreadIx}
-use Rattle.um_base.specs.Places.{row_at, addr_of, own_row, setup_at, dynamic_kind}
-use Rattle.um_base.specs.Regions.{Partitions, stack_range}
-use Rattle.um_base.specs.Lawful.{most_parts}
-use Rattle.um_machine.specs.Domains.{initialised, added, removed, reply_to, domain_after, part_named}
+use Rattle.um_base.specs.Places.{row_at, addr_of, own_row, dynamic_kind}
 use Rattle.um_machine.specs.declared.object.Status.{Status}
 use Rattle.um_machine.specs.declared.pending.Pending.{Pending}
 use Rattle.um_machine.specs.declared.thread.Thread.{Thread}
-use Rattle.um_machine.specs.declared.thread.Life.TheVariants as Life
-use Rattle.um_machine.specs.Memory.{allowed, with_bytes, string_read, le_value, bytes_at, le_bytes}
+use Rattle.um_machine.specs.Memory.{allowed, string_read, le_value, bytes_at}
 use Rattle.um_machine.specs.Objects.{verdict, is_gone, is_free, any_holds, thread_holds, is_held, kind_number}
-use Rattle.um_machine.specs.Order.{Steps, to_addr, end_steps, fatal_steps, answer_error, to_thread}
+use Rattle.um_machine.specs.Order.{Steps, to_addr, end_steps, fatal_steps, to_thread}
 use Rattle.um_machine.specs.Run.{MayChoose, is_free_for}
-use Rattle.um_machine.specs.State.{State, no_rows, vacant, thread_at, object_at, with_thread, with_object, pair_at, instruction_at, first_place, is_living}
-use Rattle.um_machine.specs.Table.{after, after_domain, act_of, at_steps, goes_on, erased, after_drop, dropped, paired, set_said, after_reserve, moved, move_reply, domain_at, amount_of, pays, row_of, cleaned_by, cost_of, paid_from, next_doom, newborn, rows_to_pass, reply_of, with_answer, rows_held, paid_back}
-use Rattle.um_machine.specs.Rows.{by_rows}
-use Rattle.um_machine.proofs.AfterLemmas.{rows-are}
-use Rattle.um_invariants.proofs.Cores.{Call, Core, call_of, core_of, idle, call_at, status_at, with_call, with_status, with_seat, call_is, status_is, core-thread, core-same, core-object, core-kept, rest_of, with_init, with_kind, core-status}
+use Rattle.um_machine.specs.State.{State, no_rows, vacant, thread_at, object_at, with_thread, with_object, pair_at, is_living}
+use Rattle.um_machine.specs.Goes.{Change, Next, Way, at_end, at_steps, no_access, went, with_answer}
+use Rattle.um_machine.specs.Outcomes.{is_fault}
+use Rattle.um_machine.specs.Writes.{cost_of, newborn, paid_from, paired, wrote}
+use Rattle.um_machine.specs.Table.{after, act_of, amount_of, came_with, continues, dropped, effects, pays, reply_of, row_of, set_said, work_of}
+use Rattle.um_machine.proofs.AfterLemmas.{after-is}
+use Rattle.um_machine.proofs.EffectLemmas.{effects_of, next_of}
+use Rattle.um_invariants.proofs.Cores.{Call, Core, call_of, core_of, idle, call_at, status_at, with_call, with_status, with_seat, call_is, status_is, core-thread, core-object, core-kept, rest_of, with_init, with_kind, core-status}
 use Rattle.um_invariants.proofs.Guards.{IsRow, IsSited, IsStatic, Guarded, bearing, behind_birth, guarded_fatal, row_kind, kind_in}
 use Rattle.um_invariants.proofs.Moves.{IsReached, is_quiet, Turn, turns, Move, goes, starts, gives, bears, reserves, recycles}
 use Rattle.um_invariants.proofs.Facts.{equals, left_of, right_of, none_checked, is_false, unfree, same_kind, no_slice, lively, is_standing}
-use Rattle.um_invariants.proofs.Turns.{IsKnown, IsReady, newest, mine, turn, turn_on, turned, end_moves, begin_moves, row_is, fits_doom, check_moves, core-bytes, core-erased, core-moved, core-published, either, one_of, fails_turn, fault_turn, string_turn, work_turn, resume_turn}
+use Rattle.um_invariants.proofs.Turns.{IsKnown, IsReady, AreAside, is_even, is_turn, turn, turned, turn-made, end_moves, row_is, check_moves, even-copied, even-if, even-text, even-work}
 use Rattle.um_invariants.proofs.MarkMoves.{set_moves, clear_moves}
 use Rattle.um_invariants.proofs.PairMoves.{core-paired, give_moves, core_dropped, core-drop, was_last, drop_move, drop_moves, paired_row}
 
@@ -84,26 +81,29 @@ static_stands : (s : State) (t y : ℕ) → IsReached (core_of s) → IsStatic s
 static_stands s t y inv (inl h) = lively (status_at (core_of s) y) (inv.static y h)
 static_stands s t y inv (inr h) = inv.standing t y h.1
 
-reserve_moves : (s : State) (t x : ℕ) (kind : Kind) (act : Act) (rest : Steps) → IsSited s.image → is_quiet act ≡ true → MayChoose s t x (Pending.Reserve kind) → Fits (core_of s) t rest
-    → Move (core_of s) t act (core_of (after_reserve s t (thread_at s t) x kind rest))
-reserve_moves s t zero kind act rest sited q chosen g = goes q (turn_on s s t (record (thread_at s t) { reply = Reply.Null }) rest refl (mine s t) g)
-reserve_moves s t (suc n) kind act rest sited q (inr none) g = absurd (suc-ne-zero n none.0)
-reserve_moves s t (suc n) kind act rest sited q (inl free) g =
-    let x = suc n in
+-- a step whose act is this
+abbrev made : State → ℕ → ℕ → Pending → Steps → Act → State
+made s t x p rest act = went rest (wrote (effects s t x p act) s) t (continues s.image t (thread_at s t) x p act (came_with s t p))
+
+reserve_moves : (s : State) (t x : ℕ) (kind : Kind) (rest : Steps) (b : Bool) → (x == 0) ≡ b → IsSited s.image → MayChoose s t x (Pending.Reserve kind) → Fits (core_of s) t rest
+    → (let act = Act.Reserve kind (if b then None else Some (to_addr (addr_of s.image x))) in Move (core_of s) t act (core_of (made s t x (Pending.Reserve kind) rest act)))
+reserve_moves s t x kind rest true zeroth sited chosen g = goes refl (turn s t (at_steps s.image (record (thread_at s t) { reply = Reply.Null }) rest) rest refl refl g)
+reserve_moves s t x kind rest false some sited (inr none) g = absurd (let bad : true ≡ false = sym (equals x 0 none.0) ∙ some in cc)
+reserve_moves s t x kind rest false some sited (inl free) g =
     let me = thread_at s t in
     let (dynamic, inside, same_one, here) = free_row s kind x free.1 in
     let o = record vacant { kind = Some kind; status = Status.Reserved; cost = cost_of me.pool 64 } in
     let s2 = with_object (record s { pools = paid_from me.pool 64 s.pools }) x o in
     let steps = Pending.Born (to_addr (addr_of s.image x)) ∷ rest in
-    subst (λ (c : Core). Move (core_of s) t act c)
+    subst (λ (c : Core). Move (core_of s) t (Act.Reserve kind (Some (to_addr (addr_of s.image x)))) c)
     (sym (turned s s2 (with_kind (with_init (with_status (core_of s) x Status.Reserved) x false) x (Some kind)) t (at_steps s2.image (record me { reply = Reply.At (to_addr (addr_of s.image x)) }) steps) steps
     (core-object (record s { pools = paid_from me.pool 64 s.pools }) x o) refl refl refl))
-    (reserves x kind rest q dynamic inside (status_is s x ∙ here) (sym same_one ∙ sym (dynamic_row_kind s.image x sited dynamic)) g.0 g.1)
+    (reserves x kind rest refl dynamic inside (status_is s x ∙ here) (sym same_one ∙ sym (dynamic_row_kind s.image x sited dynamic)) g.0 g.1)
 
-bear_moves : (s : State) (t : ℕ) (a : Addr) (rest : Steps) → IsReached (core_of s) → IsReady (core_of s) t (Pending.Born a) rest
+bear_moves : (s : State) (t row : ℕ) (a : Addr) (rest : Steps) → IsReached (core_of s) → IsReady (core_of s) t (Pending.Born a) rest
     → Move (core_of s) t (Act.Born a)
-    (core_of (let y = row_of s a in let s2 = paired (with_object s y (record (object_at s y) { status = Status.Live })) t y true in goes_on s2 t (thread_at s2 t) rest))
-bear_moves s t a rest inv ready =
+    (core_of (after s t row (Pending.Born a) rest))
+bear_moves s t row a rest inv ready =
     let y = row_of s a in
     let s1 = with_object s y (record (object_at s y) { status = Status.Live }) in
     let s2 = paired s1 t y true in
@@ -129,19 +129,15 @@ start_moves s t who stack child me rest new f h g l =
     (sym (core-thread s2 c2 t me (record (call_at c2 t) { pending = rest }) e (λ i. record (kept i) { pending = h i })))
     (starts who stack rest g l)
 
-clean_moves : (s : State) (t x : ℕ) (who : ThreadIx) → IsReached (core_of s) → pair_at s who.0 x ≡ true
-    → Move (core_of s) t (act_of s t x (Pending.CleanPair who)) (core_of (by_rows s t x (Pending.CleanPair who) []))
-clean_moves s t x who inv there =
+clean_moves : (s : State) (t x : ℕ) (who : ThreadIx) (rest : Steps) → IsReached (core_of s) → pair_at s who.0 x ≡ true
+    → Move (core_of s) t (act_of s t x (Pending.CleanPair who)) (core_of (after s t x (Pending.CleanPair who) rest))
+clean_moves s t x who rest inv there =
     let y = own_row s.image who.0 in
-    let s1 = cleaned_by s t y in
+    let o = record (object_at s y) { cleaner = Some (to_thread t) } in
     let l = dropped s who.0 x in
     subst (λ (c : Core). Move (core_of s) t (Act.DropPair who (to_addr (addr_of s.image x)) l) c)
-    (sym (core-drop s1 who.0 x ∙ ap (λ (c : Core). core_dropped c who.0 x l) (core-kept s y (record (object_at s y) { cleaner = Some (to_thread t) }) refl)))
+    (sym (core-drop (with_object s y o) who.0 x l ∙ ap (λ (c : Core). core_dropped c who.0 x l) (core-kept s y o refl)))
     (drop_move (core_of s) t None tt who (to_addr (addr_of s.image x)) x l (was_last s who.0 x) (paired_row (core_of s) inv who.0 x there) refl)
-
-domain_turn : (s : State) (t d : ℕ) (parts : Option Partitions) (reply : Reply) (rest : Steps) → Fits (core_of s) t rest
-    → Turn (core_of s) t (core_of (after_domain s t (thread_at s t) d parts reply rest))
-domain_turn s t d parts reply rest g = turn_on s (record s { domains = slice_set s.domains d parts }) t (record (thread_at s t) { reply = reply }) rest refl (mine s t) g
 
 -- the steps at a thread's end
 shaped_end : (s : State) (t : ℕ) → IsKnown (core_of s) → (call_at (core_of s) t).keeps ≡ true → Shaped s.image t false no_rows (end_steps s.image t (thread_at s t))
@@ -168,120 +164,88 @@ claimless_fatal s t reason Policy.Abort w = panics (reason == 4)
     panics true = refl
     panics false = refl
 
+-- an access that is made, or is a fault
+access_moves : (s : State) (t x : ℕ) (p : Pending) (rest : Steps) (one other : Act) (b : Bool) → is_quiet one ≡ true → is_quiet other ≡ true
+    → ((act : Act) → AreAside (effects s t x p act)) → ((act : Act) → is_turn (continues s.image t (thread_at s t) x p act (came_with s t p)) ≡ true) → IsSited s.image → Fits (core_of s) t rest
+    → (let act = if b then one else other in Move (core_of s) t act (core_of (made s t x p rest act)))
+access_moves s t x p rest one other true q r aside goes_so sited g = goes q (turn-made s t (effects s t x p one) rest (continues s.image t (thread_at s t) x p one (came_with s t p)) (aside one) (goes_so one) sited g)
+access_moves s t x p rest one other false q r aside goes_so sited g = goes r (turn-made s t (effects s t x p other) rest (continues s.image t (thread_at s t) x p other (came_with s t p)) (aside other) (goes_so other) sited g)
+
+-- a step that writes aside alone, and goes on so
+turn-after : (s : State) (t x : ℕ) (p : Pending) (rest : Steps) → IsKnown (core_of s) → AreAside (effects_of s t x p) → is_turn (next_of s t x p) ≡ true → Fits (core_of s) t rest → Turn (core_of s) t (core_of (after s t x p rest))
+turn-after s t x p rest inv aside goes_so g =
+    subst (λ (u : State). Turn (core_of s) t (core_of u)) (sym (after-is s t x p rest)) (turn-made s t (effects_of s t x p) rest (next_of s t x p) aside goes_so inv.reached.sited g)
+
 -- each step is a move
-moves_by_rows : (s : State) (t x : ℕ) (p : Pending) (rest : Steps) → IsKnown (core_of s) → IsReady (core_of s) t p rest → MayChoose s t x p → Move (core_of s) t (act_of s t x p) (core_of (by_rows s t x p rest))
-moves_by_rows s t x Pending.Begin rest inv ready chosen = begin_moves s t (act_of s t x Pending.Begin) inv.reached.sited ready.1.2 refl (instruction_at s.image (thread_at s t).place)
-moves_by_rows s t x Pending.Exit rest inv ready chosen =
+pub moves : (s : State) (t x : ℕ) (p : Pending) (rest : Steps) → IsKnown (core_of s) → IsReady (core_of s) t p rest → MayChoose s t x p → Move (core_of s) t (act_of s t x p) (core_of (after s t x p rest))
+moves s t x Pending.Exit rest inv ready chosen =
     let me = thread_at s t in
-    let steps = end_steps s.image t me in
-    end_moves s t Act.Exit (record me { life = Life.Ended; checked = no_rows; told = None; child = None; due = rows_held s t; pending = steps }) steps false tt refl tt
-    (shaped_end s t inv ready.1.2, (λ w. refl), ready.1.2)
-moves_by_rows s t x (Pending.Fatal reason cause) rest inv ready chosen =
+    let steps = end_steps s.image t me in end_moves s t Act.Exit (at_end s t me steps) steps false tt refl tt (shaped_end s t inv ready.1.2, (λ w. refl), ready.1.2)
+moves s t x (Pending.Fatal reason cause) rest inv ready chosen =
     let me = thread_at s t in
     let steps = fatal_steps s.image t me reason s.image.policy in
-    end_moves s t (Act.Fatal reason cause) (record me { life = Life.Ended; checked = no_rows; told = None; child = None; due = rows_held s t; pending = steps }) steps false tt refl
+    end_moves s t (Act.Fatal reason cause) (at_end s t me steps) steps false tt refl
     (guarded_fatal s.image t me reason s.image.policy) (shaped_fatal s t inv ready.1.2 reason s.image.policy, claimless_fatal s t reason s.image.policy, ready.1.2)
-moves_by_rows s t x (Pending.Check a kind want refusal) rest inv ready chosen = check_moves s t a kind want refusal rest inv ready (verdict s t a.0 kind want) refl
-moves_by_rows s t x (Pending.Load to a n) rest inv ready chosen =
-    either s t (Act.Load a n (le_value (bytes_at s a.0 n))) (Act.Fault Access.Read a n) _ _ (allowed s t Access.Read a.0 n) refl refl
-    (turn_on s s t (record (thread_at s t) { registers = slice_set (thread_at s t).registers to (le_value (bytes_at s a.0 n)) }) rest refl (mine s t) ready) (fault_turn s t ready.1.2)
-moves_by_rows s t x (Pending.Store a n value) rest inv ready chosen =
-    either s t (Act.Store a n value) (Act.Fault Access.Write a n) _ _ (allowed s t Access.Write a.0 n) refl refl
-    (turn_on s (with_bytes s a.0 (le_bytes n value)) t (thread_at s t) rest (core-bytes s a.0 (le_bytes n value)) (mine s t) ready) (fault_turn s t ready.1.2)
-moves_by_rows s t x (Pending.Fetch a) rest inv ready chosen =
-    either s t (Act.Fetch a) (Act.Fault Access.Exec a 4) _ _ (allowed s t Access.Exec a.0 4) refl refl (turn_on s s t (thread_at s t) rest refl (mine s t) ready) (fault_turn s t ready.1.2)
-moves_by_rows s t x (Pending.Probe a amount) rest inv ready chosen =
-    goes refl (one_of s t _ _ (allowed s t Access.Write a.0 (amount_of s amount)) (turn_on s s t (thread_at s t) rest refl (mine s t) ready) (fails_turn s t ready.1.2))
-moves_by_rows s t x (Pending.CopyIn a amount) rest inv ready chosen =
-    goes refl (one_of s t _ _ (allowed s t Access.Read a.0 (amount_of s amount))
-    (turn_on s s t (record (thread_at s t) { buffer = take PIECE (bytes_at s a.0 (amount_of s amount)) }) rest refl (mine s t) ready) (fails_turn s t ready.1.2))
-moves_by_rows s t x (Pending.CopyOut a) rest inv ready chosen =
-    let bytes = (thread_at s t).buffer in
-    goes refl (one_of s t _ _ (allowed s t Access.Write a.0 (length bytes)) (turn_on s (with_bytes s a.0 bytes) t (thread_at s t) rest (core-bytes s a.0 bytes) (mine s t) ready) (fails_turn s t ready.1.2))
-moves_by_rows s t x (Pending.CopyStr a) rest inv ready chosen = goes refl (string_turn s t a rest (string_read s t a.0 32) ready)
-moves_by_rows s t x (Pending.Erase stack) rest inv ready chosen =
-    let range = stack_range (setup_at s.image stack.0) in goes refl (turn_on s (erased s range) t (thread_at s t) rest (core-erased s range) (mine s t) ready)
-moves_by_rows s t x (Pending.Work a ask) rest inv ready chosen = goes refl (work_turn s t a ask rest ready)
-moves_by_rows s t x Pending.Resume rest inv ready chosen = goes refl (resume_turn s t rest (thread_at s t).told ready)
-moves_by_rows s t x (Pending.Answer reply to) rest inv ready chosen =
+moves s t x (Pending.Answer reply to) rest inv ready chosen =
     let me = thread_at s t in
     let living = is_living me.life in
     end_moves s t (Act.Answered (reply_of me reply)) (at_steps s.image (record me { checked = no_rows; registers = with_answer me.registers to (reply_of me reply) }) rest) rest living tt refl ready.0
     (subst (λ (steps : Steps). Shaped s.image t living no_rows steps) (sym ready.1.0) tt, (λ w. ap (λ (steps : Steps). claims s.image w steps) ready.1.0), ready.1.2)
-moves_by_rows s t x (Pending.Grant who a) rest inv ready chosen =
+moves s t x (Pending.Check a kind want refusal) rest inv ready chosen = check_moves s t a kind want refusal rest inv ready (verdict s t a.0 kind want) refl
+moves s t x (Pending.Load to a n) rest inv ready chosen =
+    access_moves s t x (Pending.Load to a n) rest (Act.Load a n (le_value (bytes_at s a.0 n))) (Act.Fault Access.Read a n) (allowed s t Access.Read a.0 n) refl refl (λ act. refl) (λ act. even-if (is_fault act) no_access Way.rest refl refl)
+    inv.reached.sited ready
+moves s t x (Pending.Store a n value) rest inv ready chosen =
+    access_moves s t x (Pending.Store a n value) rest (Act.Store a n value) (Act.Fault Access.Write a n) (allowed s t Access.Write a.0 n) refl refl (λ act. refl) (λ act. even-if (is_fault act) no_access Way.rest refl refl)
+    inv.reached.sited ready
+moves s t x (Pending.Fetch a) rest inv ready chosen =
+    access_moves s t x (Pending.Fetch a) rest (Act.Fetch a) (Act.Fault Access.Exec a 4) (allowed s t Access.Exec a.0 4) refl refl (λ act. refl) (λ act. even-if (is_fault act) no_access Way.rest refl refl) inv.reached.sited ready
+moves s t x (Pending.Probe a amount) rest inv ready chosen =
+    goes refl (turn-after s t x (Pending.Probe a amount) rest inv refl (even-copied (thread_at s t).mode (allowed s t Access.Write a.0 (amount_of s amount))) ready)
+moves s t x (Pending.CopyIn a amount) rest inv ready chosen =
+    goes refl (turn-after s t x (Pending.CopyIn a amount) rest inv refl (even-copied (thread_at s t).mode (allowed s t Access.Read a.0 (amount_of s amount))) ready)
+moves s t x (Pending.CopyOut a) rest inv ready chosen =
+    goes refl (turn-after s t x (Pending.CopyOut a) rest inv refl (even-copied (thread_at s t).mode (allowed s t Access.Write a.0 (length (thread_at s t).buffer))) ready)
+moves s t x (Pending.CopyStr a) rest inv ready chosen = goes refl (turn-after s t x (Pending.CopyStr a) rest inv refl (even-text (string_read s t a.0 32)) ready)
+moves s t x (Pending.Work a ask) rest inv ready chosen = goes refl (turn-after s t x (Pending.Work a ask) rest inv refl (even-work (thread_at s t).mode ask (work_of s t a ask).answer) ready)
+moves s t x (Pending.Buffer size) rest inv ready chosen = goes refl (turn-after s t x (Pending.Buffer size) rest inv refl (even-if (pays s (thread_at s t).pool size) Way.rest (Way.replies (Reply.Fail Errno.ENOMEM)) refl refl) ready)
+moves s t x (Pending.Grant who a) rest inv ready chosen =
     let (y, e, held) = ready.0.0 in
     let same_row = row_is s a y e in
     let found = inv.reached.sited.found a.0 y e in
-    give_moves s t who.0 (row_of s a) (λ g. Act.Grant who a g) (λ s2. thread_at s2 t) rest s (is_gone (object_at s (row_of s a)).status) refl
+    give_moves s t who.0 (row_of s a) (λ g. Act.Grant who a g) (Next.on Change.nothing Way.rest) rest (is_gone (object_at s (row_of s a)).status) refl
     (subst (λ (n : ℕ). IsRow s.image n) (sym same_row) found.0) (subst (λ (n : ℕ). is_standing (status_at (core_of s) n) ≡ true) (sym same_row) (inv.reached.standing t y held)) refl refl
-    (refl, sym found.1 ∙ ap (addr_of s.image) (sym same_row)) (λ s2. refl) (ready.0.1, ready.1)
-moves_by_rows s t x (Pending.Own who) rest inv ready chosen =
+    (refl, sym found.1 ∙ ap (addr_of s.image) (sym same_row)) (λ u me. refl) (ready.0.1, ready.1)
+moves s t x (Pending.Own who) rest inv ready chosen =
     let y = own_row s.image who.0 in
-    give_moves s t who.0 y (λ g. Act.Own who g) (λ s2. record (thread_at s2 t) { child = Some who; due = slice_set (rows_to_pass s2 t who.0) (own_row s.image t) false }) rest s
-    (is_gone (object_at s y).status) refl (static_row s t y ready.0.0) (static_stands s t y inv.reached ready.0.0) refl refl (refl, refl) (λ s2. refl) (ready.0.1, ready.1)
-moves_by_rows s t x (Pending.Inherit who) rest inv ready chosen =
+    give_moves s t who.0 y (λ g. Act.Own who g) (Next.creates who) rest (is_gone (object_at s y).status) refl (static_row s t y ready.0.0) (static_stands s t y inv.reached ready.0.0) refl refl (refl, refl)
+    (λ u me. refl) (ready.0.1, ready.1)
+moves s t x (Pending.Inherit who) rest inv ready chosen =
     let row = paired_row (core_of s) inv.reached t x chosen.0 in
     let s2 = paired s who.0 x true in
     subst (λ (c : Core). Move (core_of s) t (Act.Inherit who (to_addr (addr_of s.image x))) c)
     (sym (turned s s2 (with_seat (core_of s) who.0 x true) t (record (thread_at s2 t) { pending = Pending.Inherit who ∷ rest }) (Pending.Inherit who ∷ rest) (core-paired s who.0 x true) refl refl refl))
     (gives who.0 x refl (refl, refl) row (inv.reached.living t x chosen.0) (turns (Pending.Inherit who ∷ rest) ready.0 ready.1))
-moves_by_rows s t x (Pending.DropPair who a) rest inv ready chosen =
+moves s t x (Pending.DropPair who a) rest inv ready chosen =
     let (y, e, held) = ready.0.0 in
     let same_row = row_is s a y e in
     let found = inv.reached.sited.found a.0 y e in
-    let s2 = after_drop s who.0 (row_of s a) in
-    drop_moves s t who a (row_of s a) (at_steps s2.image (thread_at s2 t) rest) rest (subst (λ (n : ℕ). IsRow s.image n) (sym same_row) found.0)
-    (sym found.1 ∙ ap (addr_of s.image) (sym same_row)) refl refl (ready.0.1, (ready.1.0.1, ready.1.1, ready.1.2))
-moves_by_rows s t x (Pending.Publish a) rest inv ready chosen =
-    let y = row_of s a in
-    let s1 = if is_gone (object_at s y).status then s else with_object s y (record (object_at s y) { public = true }) in
-    goes refl (turn_on s s1 t (thread_at s t) rest (core-published s y (is_gone (object_at s y).status)) (mine s t) ready)
-moves_by_rows s t x (Pending.SetInit a strict undo) rest inv ready chosen = set_moves s t a strict undo rest (set_said (object_at s (row_of s a)) strict) refl ready
-moves_by_rows s t x (Pending.ClearInit a) rest inv ready chosen = clear_moves s t a rest inv ready
-moves_by_rows s t x (Pending.Named who) rest inv ready chosen =
-    let y = own_row s.image who.0 in
-    let o = record (object_at s y) { contents = Contents.Named (thread_at s t).buffer } in
-    goes refl (turn_on s (with_object s y o) t (thread_at s t) rest (core-kept s y o refl) (mine s t) ready)
-moves_by_rows s t x (Pending.Reserve kind) rest inv ready chosen = reserve_moves s t x kind (act_of s t x (Pending.Reserve kind)) rest inv.reached.sited refl chosen ready
-moves_by_rows s t x (Pending.Born a) rest inv ready chosen = bear_moves s t a rest inv.reached ready
-moves_by_rows s t x (Pending.Buffer size) rest inv ready chosen =
-    let me = thread_at s t in
-    goes refl (one_of s t _ _ (pays s me.pool size) (turn_on s (record s { pools = paid_from me.pool size s.pools }) t me rest refl (mine s t) ready)
-    (turn_on s s t me (answer_error Errno.ENOMEM) refl (mine s t) (tt, (refl, (λ w h. cc), ready.1.2))))
-moves_by_rows s t x (Pending.Unbuffer size) rest inv ready chosen =
-    let me = thread_at s t in goes refl (turn_on s (record s { pools = paid_back (cost_of me.pool size) s.pools }) t me rest refl (mine s t) ready)
-moves_by_rows s t x (Pending.DomInit d parts) rest inv ready chosen =
-    let made = initialised s.image.mpu (most_parts s.image) (domain_at s d) (map (part_named s.image) parts) in goes refl (domain_turn s t d (domain_after (domain_at s d) made) (reply_to made) rest ready)
-moves_by_rows s t x (Pending.DomAdd d range attr) rest inv ready chosen =
-    let made = added s.image.mpu (most_parts s.image) (domain_at s d) (range, attr) in goes refl (domain_turn s t d (domain_after (domain_at s d) made) (reply_to made) rest ready)
-moves_by_rows s t x (Pending.DomRemove d range attr) rest inv ready chosen =
-    let made = removed (domain_at s d) range in goes refl (domain_turn s t d (domain_after (domain_at s d) made) (reply_to made) rest ready)
-moves_by_rows s t x (Pending.DomMove d who) rest inv ready chosen =
-    let reply = move_reply (domain_at s d) in
-    let s2 = moved s who.0 d reply in
-    goes refl (turn_on s s2 t (record (thread_at s2 t) { reply = reply }) rest (core-moved s who.0 d reply) (newest s s2 t (core-moved s who.0 d reply)) ready)
-moves_by_rows s t x (Pending.Start who script stack priority mode) rest inv ready chosen =
+    drop_moves s t who a (row_of s a) (Next.on Change.nothing Way.rest) rest rest (subst (λ (n : ℕ). IsRow s.image n) (sym same_row) found.0)
+    (sym found.1 ∙ ap (addr_of s.image) (sym same_row)) (λ u me. refl) (ready.0.1, (ready.1.0.1, ready.1.1, ready.1.2))
+moves s t x (Pending.SetInit a strict undo) rest inv ready chosen = set_moves s t a strict undo rest (set_said (object_at s (row_of s a)) strict) refl ready
+moves s t x (Pending.ClearInit a) rest inv ready chosen = clear_moves s t a rest inv ready
+moves s t x (Pending.Reserve kind) rest inv ready chosen = reserve_moves s t x kind rest (x == 0) refl inv.reached.sited chosen ready
+moves s t x (Pending.Born a) rest inv ready chosen = bear_moves s t x a rest inv.reached ready
+moves s t x (Pending.Start who script stack priority mode) rest inv ready chosen =
     let child = newborn s (thread_at s t) who.0 script (Pending.Start who script stack priority mode) in
     let s2 = with_thread s who.0 child in
     start_moves s t who stack.0 child (at_steps s2.image (record (thread_at s2 t) { child = None }) rest) rest refl refl refl ready.0
     (ready.1.1 who.0 (equals who.0 who.0 refl), ready.1.0.0, ready.1.0.1, ready.1.0.2, ready.1.2)
-moves_by_rows s t x (Pending.EnterUser script) rest inv ready chosen =
-    goes refl (turn s s t (record (thread_at s t) { mode = Mode.User; place = first_place s.image script; pending = [] }) [] refl (mine s t) refl (tt, (tt, (λ w h. cc), ready.1.2)))
-moves_by_rows s t x (Pending.Drops from) rest inv ready chosen =
-    let s2 = after_drop s t x in
-    drop_moves s t (to_thread t) (to_addr (addr_of s.image x)) x (record (thread_at s2 t) { pending = Pending.Drops (x + 1) ∷ rest }) (Pending.Drops (x + 1) ∷ rest)
-    (paired_row (core_of s) inv.reached t x chosen.1) refl refl refl ready
-moves_by_rows s t x (Pending.Dooms from) rest inv ready chosen =
-    let s2 = with_thread s from (record (thread_at s from) { doomed = true }) in
-    let e : core_of s2 ≡ core_of s = core-same s from (record (thread_at s from) { doomed = true }) refl in
-    goes refl (turn s s2 t (record (thread_at s2 t) { pending = next_doom from }) (next_doom from) e (newest s s2 t e) refl
-    (fits_doom (core_of s) t (nat_lt (from + 1) THREADS) from ready.1.2))
-moves_by_rows s t x (Pending.CleanPair who) rest inv ready chosen = clean_moves s t x who inv.reached chosen.1
-moves_by_rows s t x Pending.Recycle rest inv ready chosen =
-    let s2 = with_object s x vacant in
+moves s t x (Pending.Drops from) rest inv ready chosen =
+    drop_moves s t (to_thread t) (to_addr (addr_of s.image x)) x (Next.drops (x + 1)) rest (Pending.Drops (x + 1) ∷ rest) (paired_row (core_of s) inv.reached t x chosen.1) refl (λ u me. refl) ready
+moves s t x (Pending.CleanPair who) rest inv ready chosen = clean_moves s t x who rest inv.reached chosen.1
+moves s t x Pending.Recycle rest inv ready chosen =
     subst (λ (c : Core). Move (core_of s) t (Act.Recycle (to_addr (addr_of s.image x))) c) (sym (core-object s x vacant))
     (recycles x (ap is_gone (status_is s x) ∙ chosen.0.0) (unchecked s.image x 0 s.threads (is_false (is_held s x) chosen.0.1))
     (λ u k. let zeroth : 0 + u ≡ u = omega arith in subst (λ (n : ℕ). own_row s.image n ≢ x) zeroth (unkept s.image x 0 s.threads (is_false (is_held s x) chosen.0.1) u k)))
-
-pub moves : (s : State) (t x : ℕ) (p : Pending) (rest : Steps) → IsKnown (core_of s) → IsReady (core_of s) t p rest → MayChoose s t x p → Move (core_of s) t (act_of s t x p) (core_of (after s t x p rest))
-moves s t x p rest inv ready chosen = subst (λ (z : State). Move (core_of s) t (act_of s t x p) (core_of z)) (rows-are s t x p rest) (moves_by_rows s t x p rest inv ready chosen)
+moves s t x p rest inv ready chosen = goes refl (turn-after s t x p rest inv refl refl ready)

@@ -1,12 +1,11 @@
 -- A thread is written, and what holds of all threads is kept.
-use Rattle.std.proofs.Common.{◌≡◌, ◌≢◌, inl, ◌≤◌, ℕ, Bool, true, false, List, [], ◌∷◌, refl, sym, ap, subst, ◌∙◌, arith, None, slice_index_or}
+use Rattle.std.proofs.Common.{◌≡◌, ◌≢◌, inl, ◌≤◌, ℕ, Bool, true, false, List, [], ◌∷◌, refl, sym, ap, subst, ◌∙◌, arith, slice_index_or}
 use Rattle.std.proofs.lemmas.List.{length-set, get_or-set_other}
 use Rattle.um_machine.specs.declared.object.Object.{Object}
 use Rattle.um_machine.specs.declared.pending.Pending.{Pending}
 use Rattle.um_machine.specs.declared.thread.Thread.{Thread}
 use Rattle.um_machine.specs.Order.{Steps}
 use Rattle.um_machine.specs.State.{State, nobody, vacant, thread_at, object_at, with_thread, with_object}
-use Rattle.um_machine.specs.Table.{at_steps, goes_on}
 use Rattle.um_invariants.proofs.Cores.{at_set}
 use Rattle.um_invariants.proofs.Facts.{both_of}
 use Rattle.um_invariants.proofs.ThreadWaits.{times}
@@ -133,17 +132,3 @@ module _ (s : State) (kept : AreKept s) (t : ℕ) (p : Pending) (rest : Steps) (
     others = λ u other. others-alike s s1 t me base u other;
     apart = refl;
   }
-
-  -- it goes on with other steps, and has the same due
-  pub turns : (s1 : State) (me : Thread) (steps : Steps) → IsBase s s1 → me.told ≡ None → me.child ≡ (thread_at s1 t).child → me.due ≡ (thread_at s1 t).due → are_plain steps ≡ true → IsMade s t [] (goes_on s1 t me steps)
-  turns s1 me steps base told child due plain =
-      writes s1 (at_steps s1.image me steps) base
-      (record { steps = plain-orderly steps plain; from = plain-from steps me.due plain; told = λ e. told })
-      (λ r h. rw child (base.due t r (rw due at h)))
-
-  pub told-then : (s1 : State) → IsBase s s1 → is_resume (p ∷ rest) ≡ false → (thread_at s1 t).told ≡ None
-  told-then s1 base e = (base.alike t).told ∙ offered.told e
-
--- nothing changes
-pub stays-made : (s : State) → AreKept s → (t : ℕ) → IsMade s t [] s
-stays-made s kept t = record { kept = kept; others = λ u other. alike-framed (thread_at s u) (thread_at s u) (alike-self (thread_at s u)); apart = refl }

@@ -1,20 +1,19 @@
 -- Each step that a thread makes by itself keeps what holds of the threads.
-use Rattle.std.proofs.Common.{◌≡◌, inl, inr, ℕ, Bool, true, false, not, List, [], ◌∷◌, map, refl, sym, ap, subst, ◌∙◌, arith, Some, None, if◌then◌else◌}
+use Rattle.std.proofs.Common.{◌≡◌, inl, inr, ℕ, Bool, true, false, not, List, [], ◌∷◌, refl, sym, ap, subst, ◌∙◌, arith, Some, None, if◌then◌else◌}
 use Rattle.std.proofs.lemmas.Bool.{cases_Bool}
 use Rattle.um_base.specs.declared.act.Act.{Act}
 use Rattle.um_base.specs.declared.ask.Told.{Told}
 use Rattle.um_base.specs.declared.names.Access.TheVariants as Access
-use Rattle.um_base.specs.Lawful.{IsLawful, most_parts}
+use Rattle.um_base.specs.Lawful.{IsLawful}
 use Rattle.um_machine.specs.declared.pending.Pending.{Pending}
 use Rattle.um_machine.specs.declared.thread.Thread.{Thread}
-use Rattle.um_machine.specs.Domains.{initialised, added, removed, reply_to, domain_after, part_named}
 use Rattle.um_machine.specs.Memory.{allowed, bytes_at, le_value}
 use Rattle.um_machine.specs.Order.{Steps}
-use Rattle.um_machine.specs.Run.{Offers, goes, skips_inherit, skips_drops, begins, exits, cleans_pair, recycles, MayChoose}
+use Rattle.um_machine.specs.Run.{Offers, goes, skips_inherit, skips_drops, begins, exits, tends, MayChoose}
 use Rattle.um_machine.specs.Services.{is_empty}
 use Rattle.um_machine.specs.State.{State, thread_at, object_at, is_living}
-use Rattle.um_machine.specs.Table.{after, act_of, domain_at}
-use Rattle.um_invariants.specs.Ready.{is_cleaning}
+use Rattle.um_machine.specs.Table.{after, act_of}
+use Rattle.um_machine.specs.Run.{is_tending}
 use Rattle.um_invariants.specs.Ready.{readied}
 use Rattle.um_invariants.proofs.Claims.{claims}
 use Rattle.um_invariants.proofs.Cores.{core_of}
@@ -23,11 +22,9 @@ use Rattle.um_invariants.proofs.ThreadCounts.{equal_or_not}
 use Rattle.um_invariants.proofs.ThreadWaits.{times}
 use Rattle.um_invariants.proofs.ThreadWords.{are_plain, are_orderly, DueFrom, is_resume, AreKept, IsMade, IsOffered}
 use Rattle.um_invariants.proofs.ThreadFrames.{plain-orderly, plain-from, orderly-rest}
-use Rattle.um_invariants.proofs.ThreadMoves.{begin, check, load, store, fetch, probe, copy_in, copy_out, copy_string, erase, resume, answer, grant, drop_pair, own, inherit, publish, set_init, clear_init, named, reserve, born, buffer, unbuffer, domain, move_domain, enter_user, exit, fatal, drops}
+use Rattle.um_invariants.proofs.ThreadMoves.{calm-made}
 use Rattle.um_invariants.proofs.ThreadStarts.{start-made, doom-made}
 use Rattle.um_invariants.proofs.ThreadWorks.{inside-of, work-made}
-use Rattle.um_machine.specs.Rows.{by_rows}
-use Rattle.um_machine.proofs.AfterLemmas.{rows-are}
 
 -- who isn't to resume waits on nothing, and neither does one that was told
 not-waiting : (s : State) (t : ℕ) → AreKept s → is_resume (thread_at s t).pending ≡ false → (x : ℕ) → times t (object_at s x).waiters ≡ 0
@@ -93,68 +90,29 @@ module _ (s : State) (t x : ℕ) (kept : AreKept s) where
     inside = inside-of (λ (th : Thread). is_living th.life) refl s.threads t living;
   }
 
-  pub offered : (p : Pending) (rest : Steps) → Offers s t p rest → is_cleaning p ≡ false → MayChoose s t x p → IsOffered s t p rest
+  pub offered : (p : Pending) (rest : Steps) → Offers s t p rest → is_tending p ≡ false → MayChoose s t x p → IsOffered s t p rest
   offered p rest (goes e) own chosen = goes-offered p rest e chosen
   offered p rest (skips_inherit {who = who} e due) own chosen = skips-offered (Pending.Inherit who) p rest e refl (λ w h. h)
   offered p rest (skips_drops {from = from} e due) own chosen = skips-offered (Pending.Drops from) p rest e refl (λ w h. h)
   offered _ _ (begins e living well line) own chosen = rests-offered Pending.Begin e living refl tt (λ w. refl)
   offered _ _ (exits e living well line) own chosen = rests-offered Pending.Exit e living refl tt (λ w. refl)
-  offered _ _ (cleans_pair started) own chosen = cc
-  offered _ _ (recycles started) own chosen = cc
+  offered p _ (tends is started) own chosen = cc
 
 -- an access is made or not, and wakes nobody
-quiet-either : (b : Bool) (one other : Act) → readied one ≡ [] → readied other ≡ [] → readied (if b then one else other) ≡ []
-quiet-either true one other f g = f
-quiet-either false one other f g = g
+either-made : (s s2 : State) (t : ℕ) (b : Bool) (one other : Act) → readied one ≡ [] → readied other ≡ [] → IsMade s t [] s2 → IsMade s t (readied (if b then one else other)) s2
+either-made s s2 t true one other f g h = subst (λ (line : List ℕ). IsMade s t line s2) (sym f) h
+either-made s s2 t false one other f g h = subst (λ (line : List ℕ). IsMade s t line s2) (sym g) h
 
-made-by-rows : (s : State) (t x : ℕ) (p : Pending) (rest : Steps) → AreKept s → IsKnown (core_of s) → IsLawful s.image → is_cleaning p ≡ false → MayChoose s t x p → IsOffered s t p rest → IsMade s t (readied (act_of s t x p)) (by_rows s t x p rest)
-made-by-rows s t x Pending.Begin rest kept known lawful own_step chosen o = begin s kept t x rest o
-made-by-rows s t x Pending.Exit rest kept known lawful own_step chosen o = exit s kept t x rest o
-made-by-rows s t x (Pending.Check a kind want refusal) rest kept known lawful own_step chosen o = check s kept t x rest a kind want refusal o
-made-by-rows s t x (Pending.Load to a n) rest kept known lawful own_step chosen o =
-    subst (λ (line : List ℕ). IsMade s t line (by_rows s t x (Pending.Load to a n) rest)) (sym (quiet-either (allowed s t Access.Read a.0 n) (Act.Load a n (le_value (bytes_at s a.0 n))) (Act.Fault Access.Read a n) refl refl)) (load s kept t x rest to a n o)
-made-by-rows s t x (Pending.Store a n value) rest kept known lawful own_step chosen o =
-    subst (λ (line : List ℕ). IsMade s t line (by_rows s t x (Pending.Store a n value) rest)) (sym (quiet-either (allowed s t Access.Write a.0 n) (Act.Store a n value) (Act.Fault Access.Write a n) refl refl)) (store s kept t x rest a n value o)
-made-by-rows s t x (Pending.Fetch a) rest kept known lawful own_step chosen o =
-    subst (λ (line : List ℕ). IsMade s t line (by_rows s t x (Pending.Fetch a) rest)) (sym (quiet-either (allowed s t Access.Exec a.0 4) (Act.Fetch a) (Act.Fault Access.Exec a 4) refl refl)) (fetch s kept t x rest a o)
-made-by-rows s t x (Pending.Probe a amount) rest kept known lawful own_step chosen o = probe s kept t x rest a amount o
-made-by-rows s t x (Pending.CopyIn a amount) rest kept known lawful own_step chosen o = copy_in s kept t x rest a amount o
-made-by-rows s t x (Pending.CopyOut a) rest kept known lawful own_step chosen o = copy_out s kept t x rest a o
-made-by-rows s t x (Pending.CopyStr a) rest kept known lawful own_step chosen o = copy_string s kept t x rest a o
-made-by-rows s t x (Pending.Erase stack) rest kept known lawful own_step chosen o = erase s kept t x rest stack o
-made-by-rows s t x (Pending.Work a ask) rest kept known lawful own_step chosen o = work-made s t a ask rest kept o
-made-by-rows s t x Pending.Resume rest kept known lawful own_step chosen o = resume s kept t x rest o chosen.0 chosen.1
-made-by-rows s t x (Pending.Answer reply to) rest kept known lawful own_step chosen o = answer s kept t x rest reply to o
-made-by-rows s t x (Pending.Grant who a) rest kept known lawful own_step chosen o = grant s kept t x rest who a o
-made-by-rows s t x (Pending.Own who) rest kept known lawful own_step chosen o = own s kept t x rest who o
-made-by-rows s t x (Pending.Inherit who) rest kept known lawful own_step chosen o = inherit s kept t x rest who o
-made-by-rows s t x (Pending.DropPair who a) rest kept known lawful own_step chosen o = drop_pair s kept t x rest who a o
-made-by-rows s t x (Pending.Publish a) rest kept known lawful own_step chosen o = publish s kept t x rest a o
-made-by-rows s t x (Pending.SetInit a strict undo) rest kept known lawful own_step chosen o = set_init s kept t x rest a strict undo o
-made-by-rows s t x (Pending.ClearInit a) rest kept known lawful own_step chosen o = clear_init s kept t x rest a o
-made-by-rows s t x (Pending.Named who) rest kept known lawful own_step chosen o = named s kept t x rest who o
-made-by-rows s t x (Pending.Reserve kind) rest kept known lawful own_step chosen o = reserve s kept t x rest kind x o
-made-by-rows s t x (Pending.Born a) rest kept known lawful own_step chosen o = born s kept t x rest a o
-made-by-rows s t x (Pending.Buffer size) rest kept known lawful own_step chosen o = buffer s kept t x rest size o
-made-by-rows s t x (Pending.Unbuffer size) rest kept known lawful own_step chosen o = unbuffer s kept t x rest size o
-made-by-rows s t x (Pending.DomInit d parts) rest kept known lawful own_step chosen o =
-    let done = initialised s.image.mpu (most_parts s.image) (domain_at s d) (map (part_named s.image) parts) in
-    domain s kept t x rest (Pending.DomInit d parts) o refl d (domain_after (domain_at s d) done) (reply_to done)
-made-by-rows s t x (Pending.DomAdd d range attr) rest kept known lawful own_step chosen o =
-    let done = added s.image.mpu (most_parts s.image) (domain_at s d) (range, attr) in
-    domain s kept t x rest (Pending.DomAdd d range attr) o refl d (domain_after (domain_at s d) done) (reply_to done)
-made-by-rows s t x (Pending.DomRemove d range attr) rest kept known lawful own_step chosen o =
-    let done = removed (domain_at s d) range in
-    domain s kept t x rest (Pending.DomRemove d range attr) o refl d (domain_after (domain_at s d) done) (reply_to done)
-made-by-rows s t x (Pending.DomMove d who) rest kept known lawful own_step chosen o = move_domain s kept t x rest d who o
-made-by-rows s t x (Pending.Start who script stack priority mode) rest kept known lawful own_step chosen o = start-made s t x who script stack priority mode rest kept known lawful o
-made-by-rows s t x (Pending.EnterUser script) rest kept known lawful own_step chosen o = enter_user s kept t x rest script o
-made-by-rows s t x (Pending.Fatal reason cause) rest kept known lawful own_step chosen o = fatal s kept t x rest reason cause o
-made-by-rows s t x (Pending.Drops from) rest kept known lawful own_step chosen o = drops s kept t x rest from o chosen
-made-by-rows s t x (Pending.Dooms from) rest kept known lawful own_step chosen o = doom-made s t x from rest kept o
-made-by-rows s t x (Pending.CleanPair who) rest kept known lawful own_step chosen o = cc
-made-by-rows s t x Pending.Recycle rest kept known lawful own_step chosen o = cc
-
-pub made : (s : State) (t x : ℕ) (p : Pending) (rest : Steps) → AreKept s → IsKnown (core_of s) → IsLawful s.image → is_cleaning p ≡ false → MayChoose s t x p → IsOffered s t p rest → IsMade s t (readied (act_of s t x p)) (after s t x p rest)
-made s t x p rest kept known lawful own_step chosen o =
-    subst (IsMade s t (readied (act_of s t x p))) (rows-are s t x p rest) (made-by-rows s t x p rest kept known lawful own_step chosen o)
+pub made : (s : State) (t x : ℕ) (p : Pending) (rest : Steps) → AreKept s → IsKnown (core_of s) → IsLawful s.image → is_tending p ≡ false → MayChoose s t x p → IsOffered s t p rest → IsMade s t (readied (act_of s t x p)) (after s t x p rest)
+made s t x (Pending.Load to a n) rest kept known lawful own_step chosen o =
+    either-made s (after s t x (Pending.Load to a n) rest) t (allowed s t Access.Read a.0 n) (Act.Load a n (le_value (bytes_at s a.0 n))) (Act.Fault Access.Read a n) refl refl (calm-made s t x (Pending.Load to a n) rest kept o refl chosen)
+made s t x (Pending.Store a n value) rest kept known lawful own_step chosen o =
+    either-made s (after s t x (Pending.Store a n value) rest) t (allowed s t Access.Write a.0 n) (Act.Store a n value) (Act.Fault Access.Write a n) refl refl (calm-made s t x (Pending.Store a n value) rest kept o refl chosen)
+made s t x (Pending.Fetch a) rest kept known lawful own_step chosen o =
+    either-made s (after s t x (Pending.Fetch a) rest) t (allowed s t Access.Exec a.0 4) (Act.Fetch a) (Act.Fault Access.Exec a 4) refl refl (calm-made s t x (Pending.Fetch a) rest kept o refl chosen)
+made s t x (Pending.Work a ask) rest kept known lawful own_step chosen o = work-made s t x a ask rest kept o
+made s t x (Pending.Start who script stack priority mode) rest kept known lawful own_step chosen o = start-made s t x who script stack priority mode rest kept known lawful o
+made s t x (Pending.Dooms from) rest kept known lawful own_step chosen o = doom-made s t x from rest kept o
+made s t x (Pending.CleanPair who) rest kept known lawful own_step chosen o = cc
+made s t x Pending.Recycle rest kept known lawful own_step chosen o = cc
+made s t x p rest kept known lawful own_step chosen o = calm-made s t x p rest kept o refl chosen

@@ -1,8 +1,7 @@
 -- At the opening each boot thread is at its script's first line, in no call, and nobody waits.
-use Rattle.std.proofs.Common.{◌≡◌, inl, inr, ◌≤◌, ◌<◌, ℕ, zero, suc, ◌+◌, ◌-◌, Bool, true, false, ◌==◌, ◌&&◌, ◌||◌, not, nat_lt, List, [], ◌∷◌, length, replicate, refl, sym, ap, subst, ◌∙◌, arith, Some, None, slice_index_or, if◌then◌else◌}
+use Rattle.std.proofs.Common.{◌≡◌, ◌<◌, ℕ, zero, suc, ◌+◌, ◌-◌, true, false, nat_lt, List, [], ◌∷◌, length, refl, sym, ap, subst, ◌∙◌, arith, Some, None, slice_index_or, if◌then◌else◌}
 use Rattle.std.specs.Prelude.{IsTrue}
-use Rattle.std.specs.List.{list_all}
-use Rattle.std.proofs.lemmas.List.{length-set, length-replicate, get_or-set_other, get_or-set_same}
+use Rattle.std.proofs.lemmas.List.{length-set, length-replicate}
 use Rattle.um_base.specs.declared.image.Boot.{Boot}
 use Rattle.um_base.specs.declared.image.Image.{Image}
 use Rattle.um_base.specs.declared.image.ObjectDef.{ObjectDef}
@@ -15,21 +14,16 @@ use Rattle.um_machine.specs.declared.object.Object.{Object}
 use Rattle.um_machine.specs.declared.thread.Thread.{Thread}
 use Rattle.um_machine.specs.Memory.{with_bytes, put_bytes}
 use Rattle.um_machine.specs.Run.{blank, opening, loaded, booted, booted_one, granted, boot_thread, index_or, objects_from}
-use Rattle.um_machine.specs.State.{State, nobody, vacant, no_rows, thread_at, object_at, with_thread, with_pair, is_living}
+use Rattle.um_machine.specs.State.{State, nobody, vacant, no_rows, thread_at, object_at, with_thread, with_pair}
 use Rattle.um_invariants.specs.Described.{IsDescribed}
 use Rattle.um_invariants.proofs.BootClaims.{replicate_at}
 use Rattle.um_invariants.proofs.Cores.{at_set}
-use Rattle.um_invariants.proofs.Facts.{both_of, less_is, none_checked}
+use Rattle.um_invariants.proofs.Facts.{none_checked}
 use Rattle.um_invariants.proofs.Opening.{is_boot, boot_parts, passes_within}
 use Rattle.um_invariants.proofs.SitedImages.{is_sited}
-use Rattle.um_invariants.specs.Lines.{joins}
-use Rattle.um_invariants.proofs.ThreadCounts.{equal_or_not}
-use Rattle.um_invariants.proofs.ThreadWaits.{times}
-use Rattle.um_invariants.proofs.ThreadWords.{is_on, is_resting, AreKept}
-use Rattle.um_invariants.proofs.ThreadStarts.{real-below, idle-off}
-use Rattle.um_invariants.proofs.ThreadStarts.{real-below}
 use Rattle.um_invariants.proofs.ThreadWaits.{times}
 use Rattle.um_invariants.proofs.ThreadWords.{AreKept}
+use Rattle.um_invariants.proofs.ThreadStarts.{real-below}
 
 -- a thread in no call, which has nothing due
 pub record IsBare (me : Thread) : Type 0 where

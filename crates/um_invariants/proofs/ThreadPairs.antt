@@ -1,24 +1,24 @@
 -- Pairs come and go, and what is due stays what a thread can pass on or drop.
-use Rattle.std.proofs.Common.{◌≡◌, ◌≢◌, ◌⊎◌, inl, inr, ◌≤◌, ℕ, zero, suc, ◌+◌, Bool, true, false, ◌&&◌, not, List, [], ◌∷◌, length, refl, sym, ap, subst, ◌∙◌, arith, Option, Some, None, slice_index_or, slice_set, if◌then◌else◌, nat_le}
-use Rattle.std.proofs.lemmas.Bool.{not-true}
+use Rattle.std.proofs.Common.{◌≡◌, ◌≢◌, ◌⊎◌, inl, inr, ℕ, zero, suc, ◌+◌, ◌-◌, Bool, true, false, ◌&&◌, not, List, [], ◌∷◌, length, refl, sym, ap, subst, ◌∙◌, arith, Option, Some, None, slice_index_or, slice_set, if◌then◌else◌, nat_le, nat_lt}
+use Rattle.std.specs.List.{list_all}
+use Rattle.std.proofs.lemmas.Bool.{not-true, true≢false}
 use Rattle.std.proofs.lemmas.List.{length-set, get_or-set_other}
 use Rattle.um_base.specs.declared.act.Leftover.{Leftover}
 use Rattle.um_base.specs.declared.image.Image.{Image}
-use Rattle.um_base.specs.declared.limits.TheConstants.{ROWS, STATIC_ROWS}
-use Rattle.um_base.specs.declared.names.Reply.{Reply}
+use Rattle.um_base.specs.declared.limits.TheConstants.{ROWS, STATIC_ROWS, PARTITION_AREA, STACK_AREA}
 use Rattle.um_base.specs.declared.names.ThreadIx.{ThreadIx}
-use Rattle.um_machine.specs.declared.object.Object.{Object}
-use Rattle.um_machine.specs.declared.object.Status.TheVariants as Status
 use Rattle.um_machine.specs.declared.thread.Thread.{Thread}
-use Rattle.um_machine.specs.Objects.{is_gone, has_no_pair}
+use Rattle.um_machine.specs.Objects.{has_no_pair}
 use Rattle.um_machine.specs.State.{State, nobody, vacant, no_rows, thread_at, object_at, with_object, pair_at, with_pair}
-use Rattle.um_machine.specs.Table.{with_due, with_dues, stays_due, paired, after_given, after_drop, dropped, moved}
+use Rattle.um_machine.specs.Memory.{put_bytes}
+use Rattle.um_machine.specs.Table.{with_due, with_dues, stays_due, paired, dropped}
+use Rattle.um_machine.specs.Writes.{Edit, Effect, Effects, drops, edited, effect, wrote}
+use Rattle.um_machine.proofs.EffectLemmas.{all-wrote}
 use Rattle.um_invariants.proofs.Cores.{at_set}
-use Rattle.um_invariants.proofs.Facts.{both_of, none_checked, set-less}
+use Rattle.um_invariants.proofs.Facts.{both_of, each-of, none_checked, set-less}
 use Rattle.um_invariants.proofs.ThreadCounts.{equal_or_not}
-use Rattle.um_invariants.proofs.ThreadWaits.{times}
 use Rattle.um_invariants.proofs.ThreadWords.{has_pair, MayPass, AreDue, AreKept, IsAlike, IsBase}
-use Rattle.um_invariants.proofs.ThreadFrames.{alike-self, alike-then, base-self}
+use Rattle.um_invariants.proofs.ThreadFrames.{alike-self, alike-then, base-self, base-same, base-object, base-kept, fewer-wait}
 
 -- what a row's change does to a thread at an index
 dues-at : (x u : ℕ) (holders : List Bool) (ts : List Thread) (t : ℕ) → (slice_index_or (with_dues x u holders ts) t nobody ≡ with_due x (u + t) holders (slice_index_or ts t nobody)) ⊎ (slice_index_or (with_dues x u holders ts) t nobody ≡ nobody)
@@ -83,44 +83,6 @@ base-paired s kept w x there =
       waiters = λ y u. omega arith;
     }
 
--- the same, with an object written
-pub base-then : (s s1 : State) → IsBase s s1 → (y : ℕ) (o : Object) → o.waiters ≡ (object_at s y).waiters → IsBase s (with_object s1 y o)
-base-then s s1 base y o same = record {
-  image = base.image;
-  many = base.many;
-  alike = base.alike;
-  due = base.due;
-  waiters = λ x u. at_set (λ n (other : Object). times u other.waiters ≤ times u (object_at s n).waiters) s1.objects y x o vacant (rw same (omega arith)) (base.waiters x u);
-}
-
-pub base-given : (s : State) → AreKept s → (w x : ℕ) → IsBase s (after_given s w x)
-base-given s kept w x =
-    elim (is_gone (object_at s x).status) as (λ b. IsBase s (if b then s else paired s w x true)) [
-      | true ↦ base-self s kept
-      | false ↦ base-paired s kept w x true
-    ]
-
-pub base-drop : (s : State) → AreKept s → (w x : ℕ) → IsBase s (after_drop s w x)
-base-drop s kept w x =
-    let o = record (object_at s x) { status = Status.Gone } in
-    elim (dropped s w x) as (λ l. IsBase s (elim l as (λ _. State) [ Leftover.NoPair ↦ s | Leftover.Kept ↦ paired s w x false | Leftover.Gone ↦ with_object (paired s w x false) x o ])) [
-      | Leftover.NoPair ↦ base-self s kept
-      | Leftover.Kept ↦ base-paired s kept w x false
-      | Leftover.Gone ↦ base-then s (paired s w x false) (base-paired s kept w x false) x o refl
-    ]
-
-pub base-moved : (s : State) → AreKept s → (who d : ℕ) (reply : Reply) → IsBase s (moved s who d reply)
-base-moved s kept who d (Reply.Num n) =
-    let me = record (thread_at s who) { domain = d } in
-    record {
-      image = refl;
-      many = length-set s.threads who me;
-      alike = λ u. at_set (λ n (other : Thread). IsAlike (thread_at s n) other) s.threads who u me nobody (record { life = refl; doomed = refl; pending = refl; told = refl; child = refl; due = λ r h. h }) (alike-self (thread_at s u));
-      due = λ u. at_set (λ n (other : Thread). AreDue s.image s.pairs n other) s.threads who u me nobody (kept.due who) (kept.due u);
-      waiters = λ x u. omega arith;
-    }
-base-moved s kept who d _ = base-self s kept
-
 pub base-compose : (s s1 s2 : State) → IsBase s s1 → IsBase s1 s2 → IsBase s s2
 base-compose s s1 s2 one two = record {
   image = two.image ∙ one.image;
@@ -129,6 +91,50 @@ base-compose s s1 s2 one two = record {
   due = two.due;
   waiters = λ x u. (let first = one.waiters x u in let later = two.waiters x u in omega (arith, first, later));
 }
+
+-- a write that wakes, dooms and starts nobody, and makes nobody wait
+abbrev pub is_calm : Effect → Bool
+is_calm (Effect.wakes woken) = false
+is_calm (Effect.dooms who) = false
+is_calm (Effect.starts who thread) = false
+is_calm (Effect.object x (Edit.works contents waiters buffer)) = false
+is_calm e = true
+
+base-edited : (s : State) → AreKept s → (y : ℕ) (edit : Edit) → is_calm (Effect.object y edit) ≡ true → IsBase s (effect (Effect.object y edit) s)
+base-edited s kept y (Edit.works contents waiters buffer) h = absurd (true≢false (sym h))
+base-edited s kept y (Edit.reserved kind cost) h =
+    let o = edited (Edit.reserved kind cost) (object_at s y) in base-same s (with_object s y o) kept refl refl refl (fewer-wait s y o (λ u. omega arith))
+base-edited s kept y Edit.vacates h = base-same s (with_object s y vacant) kept refl refl refl (fewer-wait s y vacant (λ u. omega arith))
+base-edited s kept y edit h = base-object s kept y (edited edit (object_at s y)) refl
+
+base-moved : (s : State) → AreKept s → (who d : ℕ) → IsBase s (effect (Effect.moves who d) s)
+base-moved s kept who d =
+    let me = record (thread_at s who) { domain = d } in
+    record {
+      image = refl;
+      many = length-set s.threads who me;
+      alike = λ u. at_set (λ n (other : Thread). IsAlike (thread_at s n) other) s.threads who u me nobody (record { life = refl; doomed = refl; pending = refl; told = refl; child = refl; due = λ r h. h }) (alike-self (thread_at s u));
+      due = λ u. at_set (λ n (other : Thread). AreDue s.image s.pairs n other) s.threads who u me nobody (kept.due who) (kept.due u);
+      waiters = λ x u. omega arith;
+    }
+
+base-effect : (s : State) → AreKept s → (e : Effect) → is_calm e ≡ true → IsBase s (effect e s)
+base-effect s kept (Effect.wakes woken) h = absurd (true≢false (sym h))
+base-effect s kept (Effect.dooms who) h = absurd (true≢false (sym h))
+base-effect s kept (Effect.starts who thread) h = absurd (true≢false (sym h))
+base-effect s kept (Effect.moves who d) h = base-moved s kept who d
+base-effect s kept (Effect.pair who x there) h = base-paired s kept who x there
+base-effect s kept (Effect.object y edit) h = base-edited s kept y edit h
+base-effect s kept (Effect.bytes a bs) h =
+    elim (nat_lt a STACK_AREA) as (λ b. IsBase s (if b then record s { memory = put_bytes s.memory (a - PARTITION_AREA) bs } else record s { stacks = put_bytes s.stacks (a - STACK_AREA) bs })) [
+      | true ↦ base-same s _ kept refl refl refl (λ y u. omega arith)
+      | false ↦ base-same s _ kept refl refl refl (λ y u. omega arith)
+    ]
+base-effect s kept e h = base-same s (effect e s) kept refl refl refl (λ y u. omega arith)
+
+pub base-wrote : (s : State) → AreKept s → (ws : Effects) → list_all (λ (w : Bool × Effect). is_calm w.1) ws ≡ true → IsBase s (wrote ws s)
+base-wrote s kept ws h =
+    all-wrote (IsBase s) (λ e. is_calm e ≡ true) (λ e u calm base. base-compose s u (effect e u) base (base-effect u (base-kept s u kept base) e calm)) ws s (each-of is_calm (λ e. is_calm e ≡ true) (λ e calm. calm) ws h) (base-self s kept)
 
 -- a pair that was dropped is gone
 set-off : (pairs : List (List Bool)) (t x : ℕ) → has_pair (slice_set pairs x (slice_set (slice_index_or pairs x []) t false)) t x ≡ false
@@ -141,12 +147,12 @@ set-off (row ∷ pairs) t zero = flag-off row t
     flag-off (flag ∷ row) (suc t) = flag-off row t
 set-off (row ∷ pairs) t (suc x) = set-off pairs t x
 
-pub drop-off : (s : State) (t x : ℕ) → has_pair (after_drop s t x).pairs t x ≡ false
+pub drop-off : (s : State) (t x : ℕ) → has_pair (wrote (drops t x (dropped s t x)) s).pairs t x ≡ false
 drop-off s t x =
-    let o = record (object_at s x) { status = Status.Gone } in
-    elim (pair_at s t x) as (λ b. pair_at s t x ≡ b → has_pair (elim (if not b then Leftover.NoPair else if nat_le STATIC_ROWS x && has_no_pair (with_pair s t x false) x then Leftover.Gone else Leftover.Kept) as (λ _. State) [ Leftover.NoPair ↦ s | Leftover.Kept ↦ paired s t x false | Leftover.Gone ↦ with_object (paired s t x false) x o ]).pairs t x ≡ false) [
+    let Off = λ (l : Leftover). has_pair (wrote (drops t x l) s).pairs t x ≡ false in
+    elim (pair_at s t x) as (λ b. pair_at s t x ≡ b → Off (if not b then Leftover.NoPair else if nat_le STATIC_ROWS x && has_no_pair (with_pair s t x false) x then Leftover.Gone else Leftover.Kept)) [
       | false ↦ λ e. e
-      | true ↦ λ e. elim (nat_le STATIC_ROWS x && has_no_pair (with_pair s t x false) x) as (λ b. has_pair (elim (if b then Leftover.Gone else Leftover.Kept) as (λ _. State) [ Leftover.NoPair ↦ s | Leftover.Kept ↦ paired s t x false | Leftover.Gone ↦ with_object (paired s t x false) x o ]).pairs t x ≡ false) [
+      | true ↦ λ e. elim (nat_le STATIC_ROWS x && has_no_pair (with_pair s t x false) x) as (λ b. Off (if b then Leftover.Gone else Leftover.Kept)) [
         | true ↦ set-off s.pairs t x
         | false ↦ set-off s.pairs t x
       ]

@@ -9,7 +9,7 @@ use Rattle.um_machine.specs.Order.{Steps}
 use Rattle.um_machine.specs.Run.{MayChoose, Offers, Runs, Step, opening}
 use Rattle.um_machine.specs.State.{State}
 use Rattle.um_machine.specs.Table.{after}
-use Rattle.um_invariants.specs.Ready.{is_cleaning}
+use Rattle.um_machine.specs.Run.{is_tending}
 use Rattle.um_invariants.specs.Described.{IsDescribed}
 use Rattle.um_invariants.proofs.Cores.{core_of}
 use Rattle.um_invariants.proofs.Reached.{image_move}
@@ -22,9 +22,9 @@ use Rattle.um_invariants.proofs.ThreadOpens.{opening-kept}
 use Rattle.um_invariants.proofs.ThreadWords.{AreKept}
 
 step-kept : (s : State) (event : Event) (s2 : State) → AreKept s → IsKnown (core_of s) → IsLawful s.image → Step s event s2 → AreKept s2
-step-kept s event s2 kept known lawful step = subst AreKept (sym step.leaves) (by step.step step.rest step.offered step.chosen (is_cleaning step.step) refl)
+step-kept s event s2 kept known lawful step = subst AreKept (sym step.leaves) (by step.step step.rest step.offered step.chosen (is_tending step.step) refl)
   where
-    by : (p : Pending) (rest : Steps) → Offers s event.thread.0 p rest → MayChoose s event.thread.0 step.row p → (b : Bool) → is_cleaning p ≡ b → AreKept (after s event.thread.0 step.row p rest)
+    by : (p : Pending) (rest : Steps) → Offers s event.thread.0 p rest → MayChoose s event.thread.0 step.row p → (b : Bool) → is_tending p ≡ b → AreKept (after s event.thread.0 step.row p rest)
     by p rest offers chosen false e =
         (made s event.thread.0 step.row p rest kept known lawful e chosen (offered s event.thread.0 step.row kept p rest offers e chosen)).kept
     by (Pending.CleanPair who) rest offers chosen true e = base-kept s _ kept (pair-base s event.thread.0 step.row who rest kept)

@@ -14,7 +14,7 @@ use Rattle.um_machine.specs.declared.thread.Life.TheVariants as Life
 use Rattle.um_machine.specs.declared.thread.Thread.{Thread}
 use Rattle.um_machine.specs.Order.{Steps}
 use Rattle.um_machine.specs.State.{State, nobody, no_rows, thread_at, object_at, with_thread, is_living}
-use Rattle.um_machine.specs.Table.{at_steps, newborn, next_doom}
+use Rattle.um_machine.specs.Table.{after, at_steps, newborn, next_doom}
 use Rattle.um_invariants.specs.Lines.{stands}
 use Rattle.um_invariants.proofs.Claims.{claims, IsReal}
 use Rattle.um_invariants.proofs.Cores.{at_set, Call, core_of, call_at, call_is}
@@ -27,7 +27,6 @@ use Rattle.um_invariants.proofs.ThreadPairs.{pass-dropped}
 use Rattle.um_invariants.proofs.ThreadSteps.{plain-dooms}
 use Rattle.um_invariants.proofs.ThreadWords.{is_on, is_resting, may_stand, IsFramed, are_plain, is_resume, IsOrderly, AreDue, AreKept, IsMade, IsOffered}
 use Rattle.um_invariants.proofs.ThreadFrames.{alike-self, alike-framed, plain-orderly, plain-from, written-kept}
-use Rattle.um_machine.specs.Rows.{by_rows}
 
 -- a thread with a row of its own is one of the machine's
 real-inside : (image : Image) → IsLawful image → (x w : ℕ) (low inside : Bool) → nat_lt x STATIC_ROWS ≡ low → nat_lt (STATIC_THREADS + (x - STATIC_ROWS)) THREADS ≡ inside
@@ -78,7 +77,7 @@ no-due : (r : ℕ) → slice_index_or no_rows r false ≡ true → ⊥
 no-due r h = let none : slice_index_or no_rows r false ≡ false = none_checked r ROWS in absurd (let bad : true ≡ false = sym h ∙ none in cc)
 
 pub start-made : (s : State) (t x : ℕ) (who : ThreadIx) (script : ℕ) (stack : Row) (priority : _) (mode : Mode) (rest : Steps) → AreKept s → IsKnown (core_of s) → IsLawful s.image
-    → IsOffered s t (Pending.Start who script stack priority mode) rest → IsMade s t (who.0 ∷ []) (by_rows s t x (Pending.Start who script stack priority mode) rest)
+    → IsOffered s t (Pending.Start who script stack priority mode) rest → IsMade s t (who.0 ∷ []) (after s t x (Pending.Start who script stack priority mode) rest)
 start-made s t x who script stack priority mode rest kept known lawful offered =
     let u0 = who.0 in
     let claim : claims s.image u0 (thread_at s t).pending ≡ true = offered.claim u0 (itself u0) in
@@ -157,7 +156,7 @@ doomed-framed x = record {
   comes = λ h. cc;
 }
 
-pub doom-made : (s : State) (t x from : ℕ) (rest : Steps) → AreKept s → IsOffered s t (Pending.Dooms from) rest → IsMade s t [] (by_rows s t x (Pending.Dooms from) rest)
+pub doom-made : (s : State) (t x from : ℕ) (rest : Steps) → AreKept s → IsOffered s t (Pending.Dooms from) rest → IsMade s t [] (after s t x (Pending.Dooms from) rest)
 doom-made s t x from rest kept offered =
     let doomed = record (thread_at s from) { doomed = true } in
     let s2 = with_thread s from doomed in

@@ -5,20 +5,18 @@ use Rattle.um_base.specs.declared.ask.Ask.{Ask}
 use Rattle.um_base.specs.declared.image.Image.{Image}
 use Rattle.um_base.specs.declared.instr.Instr.{Instr}
 use Rattle.um_base.specs.declared.instr.Options.{Options}
-use Rattle.um_base.specs.declared.names.Addr.{Addr}
 use Rattle.um_base.specs.declared.names.Errno.{Errno}
 use Rattle.um_base.specs.declared.names.Kind.{Kind}
 use Rattle.um_base.specs.declared.names.Mode.{Mode}
 use Rattle.um_base.specs.declared.names.Policy.{Policy}
-use Rattle.um_base.specs.declared.names.Reply.{Reply}
 use Rattle.um_base.specs.declared.names.ThreadIx.{ThreadIx}
 use Rattle.um_base.specs.Lawful.{is_within}
 use Rattle.um_machine.specs.declared.pending.Pending.{Pending}
-use Rattle.um_machine.specs.declared.pending.Refusal.{Refusal}
 use Rattle.um_machine.specs.declared.thread.Thread.{Thread}
-use Rattle.um_machine.specs.Order.{Steps, to_addr, privileged, creates, steps_of, work, answer_zero, answer_error, buffered, copy_fails, end_steps, fatal_steps}
+use Rattle.um_machine.specs.Order.{Steps, to_addr, privileged, creates, steps_of, work, answer_zero, answer_error, buffered, end_steps, fatal_steps}
 use Rattle.um_machine.specs.State.{value_of}
-use Rattle.um_machine.specs.Table.{without_copy, after_error, after_check, cleared_first}
+use Rattle.um_machine.specs.Goes.{Way, steps_by}
+use Rattle.um_machine.proofs.WayLemmas.{HoldsOfWays, way-left}
 use Rattle.um_invariants.proofs.ThreadWords.{are_plain, are_orderly, DueFrom}
 
 plain-privileged : (mode : Mode) (steps : Steps) → are_plain steps ≡ true → are_plain (privileged mode steps) ≡ true
@@ -68,37 +66,11 @@ plain-steps image t me _ = refl
 
 -- What is left.
 
-pub plain-without : (rest : Steps) → are_plain rest ≡ true → are_plain (without_copy rest) ≡ true
-plain-without [] h = h
-plain-without (Pending.CopyOut a ∷ rest) h = h
-plain-without (p ∷ rest) h = h
+plain-ways : HoldsOfWays (λ steps. are_plain steps ≡ true)
+plain-ways = record { call = (λ a left h. h, λ left h. h, λ a left h. h); replies = λ reply. refl; fails = λ reason cause. (refl, λ size. refl, λ a. refl) }
 
-pub plain-error : (mode : Mode) (ask : Ask) (e : Errno) (rest : Steps) → are_plain rest ≡ true → are_plain (after_error mode ask e rest) ≡ true
-plain-error mode (Ask.SemInit count limit) e rest h = refl
-plain-error mode Ask.MutexInit e rest h = refl
-plain-error mode (Ask.MsgqInit size most pool) e rest h = refl
-plain-error mode (Ask.StackInit most pool) e rest h = refl
-plain-error mode (Ask.PipeInit size pool) e rest h = refl
-plain-error mode ask e rest h = plain-without rest h
-
-pub plain-check : (mode : Mode) (rest : Steps) (refusal : Refusal) (v : Option Errno) → are_plain rest ≡ true → are_plain (after_check mode rest refusal v) ≡ true
-plain-check mode rest refusal None h = h
-plain-check mode rest Refusal.Fails (Some e) h = refl
-plain-check Mode.User rest Refusal.FailsUser (Some e) h = refl
-plain-check Mode.Supervisor rest Refusal.FailsUser (Some e) h = refl
-plain-check mode rest (Refusal.Answers reply) (Some e) h = refl
-
-pub plain-fails : (mode : Mode) → are_plain (copy_fails mode) ≡ true
-plain-fails Mode.User = refl
-plain-fails Mode.Supervisor = refl
-
-pub plain-cleared : (undo : Option Addr) (rest : Steps) → are_plain rest ≡ true → are_plain (cleared_first undo rest) ≡ true
-plain-cleared None rest h = h
-plain-cleared (Some a) rest h = h
-
-pub plain-told : (reply : Reply) (rest : Steps) → are_plain rest ≡ true → are_plain (elim reply as (λ _. Steps) [ Reply.Fail e ↦ without_copy rest | _ ↦ rest ]) ≡ true
-plain-told (Reply.Fail e) rest h = plain-without rest h
-plain-told _ rest h = h
+pub plain-way : (left : Steps) (way : Way) → are_plain left ≡ true → are_plain (steps_by left way) ≡ true
+plain-way = way-left (λ steps. are_plain steps ≡ true) plain-ways
 
 pub plain-dooms : (more : Bool) (from : ℕ) → are_plain (if more then Pending.Dooms (from + 1) ∷ [] else []) ≡ true
 plain-dooms true from = refl

@@ -7,6 +7,7 @@ use Rattle.um_base.specs.declared.ask.Ask.{Ask}
 use Rattle.um_base.specs.declared.ask.Told.{Told}
 use Rattle.um_base.specs.declared.image.Image.{Image}
 use Rattle.um_base.specs.declared.names.Addr.{Addr}
+use Rattle.um_base.specs.declared.names.Mode.{Mode}
 use Rattle.um_base.specs.declared.names.Reply.{Reply}
 use Rattle.um_base.specs.declared.names.ThreadIx.{ThreadIx}
 use Rattle.um_machine.specs.declared.object.Object.{Object}
@@ -14,7 +15,8 @@ use Rattle.um_machine.specs.declared.pending.Pending.{Pending}
 use Rattle.um_machine.specs.declared.thread.Thread.{Thread}
 use Rattle.um_machine.specs.Order.{Steps, to_thread}
 use Rattle.um_machine.specs.State.{State, nobody, vacant, thread_at, object_at, with_thread, with_object}
-use Rattle.um_machine.specs.Table.{row_of, bytes_given, work_of, replies_of, all_woken, buffer_cost, after_error, after_answer, after_work, at_steps, goes_on}
+use Rattle.um_machine.specs.Goes.{Next, at_steps, steps_by, went, work_change, work_way}
+use Rattle.um_machine.specs.Table.{after, row_of, bytes_given, work_of, replies_of, all_woken, buffer_cost}
 use Rattle.um_invariants.specs.Lines.{stands}
 use Rattle.um_invariants.proofs.Cores.{at_set}
 use Rattle.um_invariants.proofs.Facts.{is_equal, is_not, left_of, right_of}
@@ -23,7 +25,7 @@ use Rattle.um_invariants.proofs.ThreadWaits.{times, numbers, IsServed}
 use Rattle.um_invariants.proofs.ThreadServes.{served}
 use Rattle.um_invariants.proofs.ThreadWords.{is_on, may_stand, IsFramed, are_plain, is_resume, IsOrderly, AreDue, AreKept, IsMade, IsOffered}
 use Rattle.um_invariants.proofs.ThreadFrames.{alike-self, alike-framed, plain-orderly, plain-from}
-use Rattle.um_invariants.proofs.ThreadSteps.{plain-error}
+use Rattle.um_invariants.proofs.ThreadSteps.{plain-way}
 
 pub set-either : {A : Type 0} (xs : List A) (i : ℕ) (y d : A) → (slice_index_or (slice_set xs i y) i d ≡ y) ⊎ (slice_index_or (slice_set xs i y) i d ≡ d)
 set-either [] i y d = inr refl
@@ -140,7 +142,7 @@ module _ (s s3 : State) (t x : ℕ) (woken : List ℕ) (answer : Answer) (kept :
       ] refl
 
   goes-made : (me : Thread) (steps : Steps) → me.told ≡ None → me.child ≡ (thread_at s t).child → me.due ≡ (thread_at s t).due → are_plain steps ≡ true → (answer ≡ Answer.Wait → is_resume steps ≡ true)
-      → IsMade s t woken (goes_on s3 t me steps)
+      → IsMade s t woken (with_thread s3 t (at_steps s3.image me steps))
   goes-made me steps told child due plain waits =
       let mine = at_steps s3.image me steps in
       let orderly : IsOrderly mine = record { steps = plain-orderly steps plain; from = plain-from steps me.due plain; told = λ e. told } in
@@ -173,27 +175,30 @@ module _ (s s3 : State) (t x : ℕ) (woken : List ℕ) (answer : Answer) (kept :
         apart = asleep;
       }
 
-answer-made : (s s3 : State) (t x : ℕ) (woken : List ℕ) (ask : Ask) (taken : List ℕ) (rest : Steps) (answer : Answer) → AreKept s → ((y : ℕ) → times t (object_at s y).waiters ≡ 0) → t < length s.threads → (thread_at s t).told ≡ None → are_plain rest ≡ true
-    → IsWorked s s3 t x woken answer → IsMade s t woken (after_answer s3 t (thread_at s3 t) ask taken rest answer)
-answer-made s s3 t x woken ask taken rest Answer.Wait kept apart inside told plain w =
-    let same = w.same t (asleep s s3 t x woken Answer.Wait kept apart inside w) in
-    goes-made s s3 t x woken Answer.Wait kept apart inside w (thread_at s3 t) (Pending.Resume ∷ rest) (ap (λ (th : Thread). th.told) same ∙ told) (ap (λ (th : Thread). th.child) same) (ap (λ (th : Thread). th.due) same) plain (λ e. refl)
-answer-made s s3 t x woken ask taken rest (Answer.Now (Reply.Fail e)) kept apart inside told plain w =
-    let same = w.same t (asleep s s3 t x woken (Answer.Now (Reply.Fail e)) kept apart inside w) in
-    goes-made s s3 t x woken (Answer.Now (Reply.Fail e)) kept apart inside w (record (thread_at s3 t) { reply = Reply.Fail e; buffer = taken }) (after_error (thread_at s3 t).mode ask e rest) (ap (λ (th : Thread). th.told) same ∙ told)
-    (ap (λ (th : Thread). th.child) same) (ap (λ (th : Thread). th.due) same) (plain-error (thread_at s3 t).mode ask e rest plain) (λ f. cc)
-answer-made s s3 t x woken ask taken rest (Answer.Now reply) kept apart inside told plain w =
-    let same = w.same t (asleep s s3 t x woken (Answer.Now reply) kept apart inside w) in
-    goes-made s s3 t x woken (Answer.Now reply) kept apart inside w (record (thread_at s3 t) { reply = reply; buffer = taken }) rest (ap (λ (th : Thread). th.told) same ∙ told)
-    (ap (λ (th : Thread). th.child) same) (ap (λ (th : Thread). th.due) same) plain (λ f. cc)
+answer-made : (s s3 : State) (t x : ℕ) (woken : List ℕ) (mode : Mode) (ask : Ask) (taken : List ℕ) (rest : Steps) (answer : Answer) → AreKept s → ((y : ℕ) → times t (object_at s y).waiters ≡ 0) → t < length s.threads → (thread_at s t).told ≡ None → are_plain rest ≡ true
+    → IsWorked s s3 t x woken answer → IsMade s t woken (went rest s3 t (Next.on (work_change answer taken) (work_way mode ask answer)))
+answer-made s s3 t x woken mode ask taken rest answer kept apart inside none plain w = by answer w
+  where
+    same : (answer : Answer) → IsWorked s s3 t x woken answer → thread_at s3 t ≡ thread_at s t
+    same answer w = w.same t (asleep s s3 t x woken answer kept apart inside w)
+
+    by : (answer : Answer) → IsWorked s s3 t x woken answer → IsMade s t woken (went rest s3 t (Next.on (work_change answer taken) (work_way mode ask answer)))
+    by Answer.Wait w =
+        goes-made s s3 t x woken Answer.Wait kept apart inside w (thread_at s3 t) (Pending.Resume ∷ rest) (ap (λ (th : Thread). th.told) (same Answer.Wait w) ∙ none)
+        (ap (λ (th : Thread). th.child) (same Answer.Wait w)) (ap (λ (th : Thread). th.due) (same Answer.Wait w)) plain (λ e. refl)
+    by (Answer.Now reply) w =
+        let way = work_way mode ask (Answer.Now reply) in
+        goes-made s s3 t x woken (Answer.Now reply) kept apart inside w (record (thread_at s3 t) { reply = reply; buffer = taken }) (steps_by rest way)
+        (ap (λ (th : Thread). th.told) (same (Answer.Now reply) w) ∙ none) (ap (λ (th : Thread). th.child) (same (Answer.Now reply) w)) (ap (λ (th : Thread). th.due) (same (Answer.Now reply) w))
+        (plain-way rest way plain) (λ f. cc)
 
 line-is : (woken : List (ThreadIx × Told)) → map (λ (w : ThreadIx × Reply). w.0.0) (replies_of woken) ≡ numbers woken
 line-is [] = refl
 line-is (w ∷ woken) = ap (λ (l : List ℕ). w.0.0 ∷ l) (line-is woken)
 
-pub work-made : (s : State) (t : ℕ) (a : Addr) (ask : Ask) (rest : Steps) → AreKept s → IsOffered s t (Pending.Work a ask) rest
-    → IsMade s t (map (λ (w : ThreadIx × Reply). w.0.0) (replies_of (work_of s t a ask).woken)) (after_work s t a ask rest)
-work-made s t a ask rest kept offered =
+pub work-made : (s : State) (t x : ℕ) (a : Addr) (ask : Ask) (rest : Steps) → AreKept s → IsOffered s t (Pending.Work a ask) rest
+    → IsMade s t (map (λ (w : ThreadIx × Reply). w.0.0) (replies_of (work_of s t a ask).woken)) (after s t x (Pending.Work a ask) rest)
+work-made s t row a ask rest kept offered =
     let x = row_of s a in
     let o = object_at s x in
     let w = work_of s t a ask in
@@ -229,5 +234,5 @@ work-made s t a ask rest kept offered =
           ]);
       once = λ y u. subst (λ (ob : Object). times u ob.waiters ≤ 1) (sym (objects y)) (at_set (λ n (other : Object). times u other.waiters ≤ 1) s.objects x y o2 vacant (done.apart u) (kept.once y u));
     } in
-    subst (λ (line : List ℕ). IsMade s t line (after_work s t a ask rest)) (sym (line-is w.woken))
-    (answer-made s s3 t x (numbers w.woken) ask w.taken rest w.answer kept offered.apart offered.inside (offered.told refl) offered.behind worked)
+    subst (λ (line : List ℕ). IsMade s t line (after s t row (Pending.Work a ask) rest)) (sym (line-is w.woken))
+    (answer-made s s3 t x (numbers w.woken) me.mode ask w.taken rest w.answer kept offered.apart offered.inside (offered.told refl) offered.behind worked)

@@ -3,3 +3,5 @@ pub mod Described
 pub mod Counts
 pub mod Lines
 pub mod Ready
+pub mod NextSteps
+pub mod InOrder

@@ -9,7 +9,8 @@ use Rattle.um_base.specs.declared.names.ThreadIx.{ThreadIx}
 use Rattle.um_base.specs.Places.{thread_of_row}
 use Rattle.um_machine.specs.declared.pending.Pending.{Pending}
 use Rattle.um_machine.specs.State.{State, thread_at, is_living}
-use Rattle.um_invariants.specs.Lines.{joins}
+use Rattle.um_machine.specs.Order.{to_thread}
+use Rattle.um_invariants.specs.Lines.{all_join, joins}
 
 -- a thread stands still: it is doomed and at rest
 abbrev pub is_still : State → ℕ → Bool
@@ -43,8 +44,22 @@ abbrev pub boots_ready : Image → List ℕ → List Boot → List ℕ
 boots_ready image line [] = line
 boots_ready image line (boot ∷ boots) = boots_ready image (joins_some line (thread_of_row image boot.thread.0)) boots
 
--- a step that cleans an object which is gone
-abbrev pub is_cleaning : Pending → Bool
-is_cleaning (Pending.CleanPair who) = true
-is_cleaning Pending.Recycle = true
-is_cleaning _ = false
+-- The ready list.
+
+-- the first of these threads that doesn't stand still, and those after it. Those before it leave the list
+abbrev pub next_ready : State → List ℕ → Option ThreadIx
+next_ready s [] = None
+next_ready s (t ∷ ts) = if is_still s t then next_ready s ts else Some (to_thread t)
+
+abbrev pub behind_next : State → List ℕ → List ℕ
+behind_next s [] = []
+behind_next s (t ∷ ts) = if is_still s t then behind_next s ts else ts
+
+-- the thread that a processor runs, and those that are ready then
+abbrev pub running_or : Option ThreadIx → Option ThreadIx → Option ThreadIx
+running_or None next = next
+running_or (Some t) next = Some t
+
+-- the ready threads after an event of a thread: those that it starts or wakes go to the back, and then the thread itself if it is at rest
+abbrev pub ready_after : List ℕ → ℕ → Act → State → List ℕ
+ready_after ready t act s2 = let others = all_join ready (readied act) in if is_at_rest s2 t then joins others t else others

@@ -5,7 +5,7 @@ ghost use Rattle.um_io.specs.Room.{reserved_room};
 use crate::calls::Calls;
 use crate::{Failed, Sink};
 use std::alloc::Global;
-use um_base::Memory;
+use um_base::OutOfMemory;
 
 /// How many bytes a sink in memory has room for.
 const ROOM: usize = 64 << 20;
@@ -31,7 +31,7 @@ impl MemSink {
     /// An empty sink that reserves 64 MiB, and takes at most `piece` bytes a write. The calls whose
     /// numbers are in `fails`, counted from 0, fail; where none is, no call does while room is left.
     /// The error is that 64 MiB cannot be had.
-    pub fn new(alloc: Global, piece: u32, fails: Vec<u32>) -> Result<Self, Memory>
+    pub fn new(alloc: Global, piece: u32, fails: Vec<u32>) -> Result<Self, OutOfMemory>
         requires { 1 ≤ piece }
         ensures taken { IfOk result (λ s. sink_taken s ≡ []) }
         ensures faults { IfOk result (λ s. sink_faults s ≡ 0) }

@@ -30,13 +30,13 @@ mod tests {
     use crate::{MemSink, StdSink};
     use std::alloc::{AllocError, Global};
     use std::test::Fail;
-    use um_base::Memory;
+    use um_base::OutOfMemory;
 
     fn sample(alloc: Global) -> Result<Vec<u8>, AllocError> {
         (0..10_000u32).map(|k| (k % 251) as u8).collect(alloc)
     }
 
-    fn sink_of_pieces(alloc: Global, piece: u32, fails: &[u32]) -> Result<MemSink, Memory>
+    fn sink_of_pieces(alloc: Global, piece: u32, fails: &[u32]) -> Result<MemSink, OutOfMemory>
         requires { 1 ≤ piece }
     {
         MemSink::new(alloc, piece, Vec::from_slice(alloc, fails)?)

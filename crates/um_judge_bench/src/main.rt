@@ -7,7 +7,7 @@ ghost use Rattle.um_base.specs.Lawful.{IsLawful};
 use std::alloc::Global;
 use std::env::{self, Env};
 use std::process::ExitCode;
-use um_base::{Image, Memory};
+use um_base::{Image, OutOfMemory};
 use um_image::{read_image, weight};
 use um_io::{StdSource, read_all};
 use um_matrix::Matrix;
@@ -32,7 +32,7 @@ fn asked<R: Env + AllocGlobal>(rt: &R) -> Option<Passes> {
 }
 
 /// How many events are judged to be steps.
-fn judged(alloc: Global, image: &Image, passes: Passes) -> Result<u64, Memory>
+fn judged(alloc: Global, image: &Image, passes: Passes) -> Result<u64, OutOfMemory>
     requires { IsLawful image.now }
 {
     let ran = run(alloc, image, 1, None, weight(image) as usize)?;

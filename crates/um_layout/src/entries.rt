@@ -10,7 +10,7 @@ ghost use Rattle.um_layout.specs.{Sizes.{needed}, Entries.{AreEntriesOf, AreOrde
 use crate::rounding::rounded;
 use std::alloc::Global;
 use std::cmp::Reverse;
-use um_base::{Memory, Mpu};
+use um_base::{Mpu, OutOfMemory};
 
 /// One size of a layout.
 #[derive(Clone, Copy)]
@@ -35,7 +35,7 @@ pub fn total(mpu: Mpu, sizes: &[u32]) -> u32
 }
 
 /// An entry for each size, in their order.
-pub fn entries_of(alloc: Global, mpu: Mpu, sizes: &[u32]) -> Result<Vec<Entry>, Memory>
+pub fn entries_of(alloc: Global, mpu: Mpu, sizes: &[u32]) -> Result<Vec<Entry>, OutOfMemory>
     requires sizes { All (λ n. IsTrue (is_within 1 65536 n)) sizes.now }
     ensures { IfOk result (λ entries. AreEntriesOf mpu sizes.now entries.items) }
 {

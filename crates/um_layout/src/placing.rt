@@ -10,7 +10,7 @@ ghost use Rattle.um_layout.specs.{
 
 use crate::entries::{Entry, entries_of, put_in_order, total};
 use std::alloc::Global;
-use um_base::{Addr, Memory, Mpu, Range};
+use um_base::{Addr, Mpu, OutOfMemory, Range};
 
 /// Why there is no layout: the ranges need more bytes than the area has, or memory ran out.
 #[derive(Clone, Copy, Debug, PartialEq, Eq)]
@@ -46,12 +46,12 @@ pub fn place(alloc: Global, mpu: Mpu, area: Range, sizes: &[u32]) -> Result<Vec<
     }
     match laid_out(alloc, mpu, area, sizes) {
         Ok(ranges) => Ok(ranges),
-        Err(Memory) => Err(NoRoom::Memory),
+        Err(OutOfMemory) => Err(NoRoom::Memory),
     }
 }
 
 /// The layout of sizes for which there is room.
-fn laid_out(alloc: Global, mpu: Mpu, area: Range, sizes: &[u32]) -> Result<Vec<Range>, Memory>
+fn laid_out(alloc: Global, mpu: Mpu, area: Range, sizes: &[u32]) -> Result<Vec<Range>, OutOfMemory>
     requires asked { All (λ n. IsTrue (is_within 1 65536 n)) sizes.now }
     requires area_start { area.start.0 % 65536 ≡ 0 }
     requires area_end { area.start.0 + area.size ≤ 2 ^ 32 }
@@ -64,7 +64,7 @@ fn laid_out(alloc: Global, mpu: Mpu, area: Range, sizes: &[u32]) -> Result<Vec<R
 }
 
 /// The ranges of entries that stand one after another from an address on, each at the number of its entry.
-fn stand(alloc: Global, start: Addr, entries: &[Entry]) -> Result<Vec<Range>, Memory>
+fn stand(alloc: Global, start: Addr, entries: &[Entry]) -> Result<Vec<Range>, OutOfMemory>
     requires numbers { All (λ e. e.number < length entries.now) entries.now }
     requires distinct { AreDistinct entries.now }
     requires sizes { All (λ e. 1 ≤ e.size) entries.now }

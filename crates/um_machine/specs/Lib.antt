@@ -13,6 +13,5 @@ pub mod Readings
 pub mod Writes
 pub mod Goes
 pub mod Outcomes
-pub mod Rows
 pub mod Table
 pub mod Run

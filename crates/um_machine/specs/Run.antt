@@ -38,6 +38,16 @@ abbrev pub rest_steps : Option Pending → Steps
 rest_steps None = []
 rest_steps (Some p) = p ∷ []
 
+-- whether a thread at rest may begin its line, or exit
+abbrev pub may_go : Thread → Bool
+may_go me = not me.doomed
+
+-- whether a step isn't of an instruction: it tends to what others have left
+abbrev pub is_tending : Pending → Bool
+is_tending (Pending.CleanPair who) = true
+is_tending Pending.Recycle = true
+is_tending step = false
+
 -- The steps of which a thread may make the first.
 pub data Offers (s : State) (t : ℕ) : Pending → Steps → Type 0 where
   -- the next step of its instruction
@@ -45,12 +55,11 @@ pub data Offers (s : State) (t : ℕ) : Pending → Steps → Type 0 where
   -- the one after an inheritance or the drops of an end, where nothing is due
   skips_inherit : {who : _} {p : Pending} {rest : Steps} → (thread_at s t).pending ≡ Pending.Inherit who ∷ p ∷ rest → IsTrue (none_due (thread_at s t)) → Offers s t p rest
   skips_drops : {from : ℕ} {p : Pending} {rest : Steps} → (thread_at s t).pending ≡ Pending.Drops from ∷ p ∷ rest → IsTrue (none_due (thread_at s t)) → Offers s t p rest
-  -- a living thread at rest that isn't doomed begins its line, or exits where none is left
-  begins : (thread_at s t).pending ≡ [] → IsTrue (is_living (thread_at s t).life) → (thread_at s t).doomed ≡ false → IsTrue (is_some (instruction_at s.image (thread_at s t).place)) → Offers s t Pending.Begin []
-  exits : (thread_at s t).pending ≡ [] → IsTrue (is_living (thread_at s t).life) → (thread_at s t).doomed ≡ false → instruction_at s.image (thread_at s t).place ≡ None → Offers s t Pending.Exit []
-  -- any thread that was started may clean
-  cleans_pair : {who : _} → IsTrue (is_started (thread_at s t).life) → Offers s t (Pending.CleanPair who) (thread_at s t).pending
-  recycles : IsTrue (is_started (thread_at s t).life) → Offers s t Pending.Recycle (thread_at s t).pending
+  -- a living thread at rest that may go begins its line, or exits where none is left
+  begins : (thread_at s t).pending ≡ [] → IsTrue (is_living (thread_at s t).life) → IsTrue (may_go (thread_at s t)) → IsTrue (is_some (instruction_at s.image (thread_at s t).place)) → Offers s t Pending.Begin []
+  exits : (thread_at s t).pending ≡ [] → IsTrue (is_living (thread_at s t).life) → IsTrue (may_go (thread_at s t)) → instruction_at s.image (thread_at s t).place ≡ None → Offers s t Pending.Exit []
+  -- any thread that was started may tend
+  tends : {p : Pending} → IsTrue (is_tending p) → IsTrue (is_started (thread_at s t).life) → Offers s t p (thread_at s t).pending
 
 -- whether a row is free for an object of this kind
 abbrev pub is_free_for : State → Kind → ℕ → Bool

@@ -1,6 +1,8 @@
 -- The state of the machine, and the words for its parts.
 use Rattle.std.specs.Prelude.{ℕ, zero, suc, ◌+◌, ◌-◌, Bool, true, false, nat_le, if◌then◌else◌, List, [], replicate, Option, Some, None, slice_get, slice_index, slice_index_or, slice_set, pos}
 use Rattle.um_base.specs.declared.names.Mode.{Mode}
+use Rattle.um_base.specs.declared.names.Mpu.{Mpu}
+use Rattle.um_base.specs.declared.names.Policy.{Policy}
 use Rattle.um_base.specs.declared.names.Reply.TheVariants as Reply
 use Rattle.um_base.specs.declared.names.Term.{Term}
 use Rattle.um_base.specs.declared.image.Image.{Image}
@@ -24,6 +26,23 @@ pub record State : Type 0 where
   pub memory : List ℕ  -- the bytes of the area of the partitions
   pub stacks : List ℕ  -- the bytes of the area of the stacks
   pub pools : List ℕ  -- what is left in each pool
+
+-- an image without anything
+abbrev pub no_image : Image
+no_image =
+    record {
+      mpu = Mpu.V7;
+      regions = 0;
+      policy = Policy.Abort;
+      rodata = None;
+      rodata_bytes = [];
+      pools = [];
+      partitions = [];
+      domains = [];
+      objects = [];
+      boots = [];
+      scripts = [];
+    }
 
 abbrev pub is_user : Mode → Bool
 is_user Mode.User = true

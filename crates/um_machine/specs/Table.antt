@@ -25,7 +25,6 @@ use Rattle.um_machine.specs.Outcomes.{domain_reply_in, fits_in, given_in, is_fau
 pub use Rattle.um_machine.specs.Readings.{row_of, message_size, amount_of, bytes_given, work_of, replies_of, given, dropped, set_said, left_in, pays, domain_at, move_reply, reply_of}
 pub use Rattle.um_machine.specs.Writes.{stays_due, with_due, with_dues, paired, paid_back, paid_from, cost_of, all_woken, buffer_cost, newborn}
 pub use Rattle.um_machine.specs.Goes.{at_steps, rows_held, rows_to_pass, without_copy, with_answer, with_begin, next_doom}
-pub use Rattle.um_machine.specs.Rows.{goes_on, after_drop, after_given, after_error, after_answer, after_work, resumed, after_begin, after_check, with_checked, fault, after_string, cleared_first, after_set, erased, ended, after_reserve, after_domain, moved, cleaned_by}
 
 -- what a step says. `x` is the row that it chooses, where it may choose
 abbrev pub act_of : State → ℕ → ℕ → Pending → Act

@@ -11,7 +11,7 @@ use Rattle.um_base.specs.Places.{thread_of_row}
 use Rattle.um_machine.specs.declared.pending.Pending.{Pending}
 use Rattle.um_machine.specs.Limits.{IsSound}
 use Rattle.um_machine.specs.State.{State, thread_at, is_started, instruction_at}
-use Rattle.um_machine.specs.Run.{Step, MayChoose, goes, begins, exits, cleans_pair, recycles, none_due, ChoosesDue}
+use Rattle.um_machine.specs.Run.{Step, MayChoose, goes, begins, exits, tends, none_due, ChoosesDue}
 use Rattle.um_machine.specs.Table.{act_of, after}
 use Rattle.um_matrix.specs.declared.matrix.choice.Choice.{Choice}
 use Rattle.um_matrix.specs.Offered.{chooses, row_count, first_step, IsMove, after_choice, event_of, line_act, rest_act, rest_choice, said, second_step}
@@ -67,14 +67,14 @@ pub move-cleans : (s : State) (t x : ℕ) (who : ThreadIx) → IsTrue (is_starte
     → IsMove s t (Choice.CleansPair who x) (act_of s t x (Pending.CleanPair who))
 move-cleans s t x who started inside may =
     let made : Step s (event_of t (act_of s t x (Pending.CleanPair who))) (after s t x (Pending.CleanPair who) []) =
-    record { step = Pending.CleanPair who; rest = (thread_at s t).pending; row = x; offered = cleans_pair started; chosen = may; says = refl; leaves = refl } in
+    record { step = Pending.CleanPair who; rest = (thread_at s t).pending; row = x; offered = tends refl started; chosen = may; says = refl; leaves = refl } in
     (inside, record { made = made; due = tt })
 
 pub move-recycles : (s : State) (t x : ℕ) → IsTrue (is_started (thread_at s t).life) → x < ROWS → MayChoose s t x Pending.Recycle
     → IsMove s t (Choice.Recycles x) (act_of s t x Pending.Recycle)
 move-recycles s t x started inside may =
     let made : Step s (event_of t (act_of s t x Pending.Recycle)) (after s t x Pending.Recycle []) =
-    record { step = Pending.Recycle; rest = (thread_at s t).pending; row = x; offered = recycles started; chosen = may; says = refl; leaves = refl } in
+    record { step = Pending.Recycle; rest = (thread_at s t).pending; row = x; offered = tends refl started; chosen = may; says = refl; leaves = refl } in
     (inside, record { made = made; due = tt })
 
 -- Rows that may be taken.

@@ -16,9 +16,9 @@ use Rattle.um_machine.specs.State.{State, nobody, vacant, thread_at, object_at, 
 use Rattle.um_machine.specs.Objects.{is_gone}
 use Rattle.um_machine.specs.Order.{Steps}
 use Rattle.um_machine.specs.Table.{act_of, after}
-use Rattle.um_machine.specs.Run.{Offers, goes, skips_inherit, skips_drops, begins, exits, cleans_pair, recycles, MayChoose, Step, IsComplete, none_due}
+use Rattle.um_machine.specs.Run.{Offers, goes, skips_inherit, skips_drops, begins, exits, may_go, tends, MayChoose, Step, IsComplete, none_due}
 use Rattle.um_matrix.specs.declared.matrix.choice.Choice.{Choice}
-use Rattle.um_matrix.specs.Offered.{line_act, line_step, rest_act, rest_step, first_step, second_step, is_skipped, chooses, row_count, Says, SaysNot, ChoosesNone, is_cleaning, IsStep, IsNoStep, IsIdle, event_of, pair_of}
+use Rattle.um_matrix.specs.Offered.{line_act, line_step, rest_act, rest_step, first_step, second_step, is_skipped, chooses, row_count, Says, SaysNot, ChoosesNone, is_tending, IsStep, IsNoStep, IsIdle, event_of, pair_of}
 
 -- Rows.
 
@@ -145,28 +145,24 @@ says-second s t p (Some act) next says = (_, step-second s t says.0 act p next s
 pub step-cleans : (s : State) (t x : ℕ) (act : Act) (who : ThreadIx) → IsTrue (is_started (thread_at s t).life) → MayChoose s t x (Pending.CleanPair who) → act ≡ act_of s t x (Pending.CleanPair who)
     → Step s (event_of t act) (after s t x (Pending.CleanPair who) [])
 step-cleans s t x act who started chosen says =
-    record { step = Pending.CleanPair who; rest = (thread_at s t).pending; row = x; offered = cleans_pair started; chosen = chosen; says = says; leaves = refl }
+    record { step = Pending.CleanPair who; rest = (thread_at s t).pending; row = x; offered = tends refl started; chosen = chosen; says = says; leaves = refl }
 
 pub step-recycles : (s : State) (t x : ℕ) (act : Act) → IsTrue (is_started (thread_at s t).life) → MayChoose s t x Pending.Recycle → act ≡ act_of s t x Pending.Recycle
     → Step s (event_of t act) (after s t x Pending.Recycle [])
 step-recycles s t x act started chosen says =
-    record { step = Pending.Recycle; rest = (thread_at s t).pending; row = x; offered = recycles started; chosen = chosen; says = says; leaves = refl }
+    record { step = Pending.Recycle; rest = (thread_at s t).pending; row = x; offered = tends refl started; chosen = chosen; says = says; leaves = refl }
 
 -- At rest.
 chosen-some : {A : Type 0} (b : Bool) (x y : A) → (if b then Some x else None) ≡ Some y → IsTrue b × (x ≡ y)
 chosen-some true x y h = (refl, cc)
 chosen-some false x y h = cc
 
-not-true : (b : Bool) → IsTrue (not b) → b ≡ false
-not-true true h = cc
-not-true false h = refl
-
 pub rest-conditions : (s : State) (t : ℕ) (act : Act) → rest_act s t ≡ Some act
-    → IsTrue (is_living (thread_at s t).life) × ((thread_at s t).doomed ≡ false) × (line_act (thread_at s t).place (instruction_at s.image (thread_at s t).place) ≡ act)
+    → IsTrue (is_living (thread_at s t).life) × IsTrue (may_go (thread_at s t)) × (line_act (thread_at s t).place (instruction_at s.image (thread_at s t).place) ≡ act)
 rest-conditions s t act h =
     let me = thread_at s t in
-    let both = chosen-some (is_living me.life && not me.doomed) (line_act me.place (instruction_at s.image me.place)) act h in
-    ((and_parts (is_living me.life) (not me.doomed) both.0).0, not-true me.doomed (and_parts (is_living me.life) (not me.doomed) both.0).1, both.1)
+    let both = chosen-some (is_living me.life && may_go me) (line_act me.place (instruction_at s.image me.place)) act h in
+    let may = and_parts (is_living me.life) (may_go me) both.0 in (may.0, may.1, both.1)
 
 pub line-begins : (place : Place) (o : Option Instr) → IsTrue (is_some o) → line_act place o ≡ Act.Begin place.script (place.line + 1)
 line-begins place None h = cc
@@ -215,7 +211,7 @@ line-says s t x false o p h = cc
 
 pub rest-says : (s : State) (t x : ℕ) (p : Pending) → rest_step s t ≡ Some p → rest_act s t ≡ Some (act_of s t x p)
 rest-says s t x p h =
-    let me = thread_at s t in line-says s t x (is_living me.life && not me.doomed) (instruction_at s.image me.place) p h
+    let me = thread_at s t in line-says s t x (is_living me.life && may_go me) (instruction_at s.image me.place) p h
 
 -- where a thread at rest says something else, or nothing, an act is no step at rest
 pub rest-not : (s : State) (t : ℕ) (act : Act) → (rest_act s t ≡ Some act → ⊥) → (p : Pending) → rest_step s t ≡ Some p → SaysNot s t act p
@@ -234,7 +230,7 @@ line-none true place o h = cc
 line-none false place o h = refl
 
 pub rest-none : (s : State) (t : ℕ) → rest_act s t ≡ None → rest_step s t ≡ None
-rest-none s t h = let me = thread_at s t in line-none (is_living me.life && not me.doomed) me.place (instruction_at s.image me.place) h
+rest-none s t h = let me = thread_at s t in line-none (is_living me.life && may_go me) me.place (instruction_at s.image me.place) h
 
 -- No step.
 line-is-begin : (o : Option Instr) → IsTrue (is_some o) → line_step o ≡ Pending.Begin
@@ -244,11 +240,11 @@ line-is-begin (Some instr) h = refl
 first-goes : (s : State) (t : ℕ) {p : Pending} {rest : Steps} → (thread_at s t).pending ≡ p ∷ rest → first_step s t ≡ Some p
 first-goes s t e = rw e refl
 
-first-begins : (s : State) (t : ℕ) → (thread_at s t).pending ≡ [] → is_living (thread_at s t).life ≡ true → (thread_at s t).doomed ≡ false → IsTrue (is_some (instruction_at s.image (thread_at s t).place))
+first-begins : (s : State) (t : ℕ) → (thread_at s t).pending ≡ [] → is_living (thread_at s t).life ≡ true → may_go (thread_at s t) ≡ true → IsTrue (is_some (instruction_at s.image (thread_at s t).place))
     → first_step s t ≡ Some Pending.Begin
 first-begins s t e l d some = rw (e, l, d, line-is-begin (instruction_at s.image (thread_at s t).place) some) refl
 
-first-exits : (s : State) (t : ℕ) → (thread_at s t).pending ≡ [] → is_living (thread_at s t).life ≡ true → (thread_at s t).doomed ≡ false → instruction_at s.image (thread_at s t).place ≡ None → first_step s t ≡ Some Pending.Exit
+first-exits : (s : State) (t : ℕ) → (thread_at s t).pending ≡ [] → is_living (thread_at s t).life ≡ true → may_go (thread_at s t) ≡ true → instruction_at s.image (thread_at s t).place ≡ None → first_step s t ≡ Some Pending.Exit
 first-exits s t e l d i = rw (e, l, d, i) refl
 
 second-inherit : (s : State) (t : ℕ) {who : ThreadIx} {p : Pending} {rest : Steps} → (thread_at s t).pending ≡ Pending.Inherit who ∷ p ∷ rest → none_due (thread_at s t) ≡ true → second_step s t ≡ Some p
@@ -269,7 +265,7 @@ rest-if-none s t None none e = λ p f.
     let same : first_step s t ≡ rest_step s t = rw none refl in absurd (let bad : None ≡ Some p = sym nothing ∙ sym same ∙ f in cc)
 
 -- a step that cleans
-pub clean-step : (s : State) (t x : ℕ) (step : Pending) (act : Act) → IsTrue (is_started (thread_at s t).life) → IsTrue (is_cleaning step) → MayChoose s t x step → act ≡ act_of s t x step → IsStep s (event_of t act)
+pub clean-step : (s : State) (t x : ℕ) (step : Pending) (act : Act) → IsTrue (is_started (thread_at s t).life) → IsTrue (is_tending step) → MayChoose s t x step → act ≡ act_of s t x step → IsStep s (event_of t act)
 clean-step s t x (Pending.CleanPair who) act started h m says = (_, step-cleans s t x act who started m says)
 clean-step s t x Pending.Recycle act started h m says = (_, step-recycles s t x act started m says)
 clean-step s t x _ act started h m says = cc
@@ -321,14 +317,18 @@ pub record IsRefused (s : State) (t : ℕ) (act : Act) : Type 0 where
   pub pairs : IsTrue (is_started (thread_at s t).life) → (who : ThreadIx) → SaysNot s t act (Pending.CleanPair who)
   pub objects : IsTrue (is_started (thread_at s t).life) → SaysNot s t act Pending.Recycle
 
+no-tending : (s : State) (t x : ℕ) (act : Act) (p : Pending) → IsRefused s t act → IsTrue (is_tending p) → IsTrue (is_started (thread_at s t).life) → MayChoose s t x p → act ≡ act_of s t x p → ⊥
+no-tending s t x act (Pending.CleanPair who) r is l m says = r.pairs l who x m says
+no-tending s t x act Pending.Recycle r is l m says = r.objects l x m says
+no-tending s t x act p r is l m says = cc
+
 no-offer : (s : State) (t x : ℕ) (act : Act) {p : Pending} {rest : Steps} → IsRefused s t act → Offers s t p rest → MayChoose s t x p → act ≡ act_of s t x p → ⊥
 no-offer s t x act {p} r (goes e) m says = r.first p (first-goes s t e) x m says
 no-offer s t x act {p} r (skips_inherit e due) m says = r.second p (second-inherit s t e due) x m says
 no-offer s t x act {p} r (skips_drops e due) m says = r.second p (second-drops s t e due) x m says
 no-offer s t x act r (begins e l d some) m says = r.first Pending.Begin (first-begins s t e l d some) x m says
 no-offer s t x act r (exits e l d i) m says = r.first Pending.Exit (first-exits s t e l d i) x m says
-no-offer s t x act r (cleans_pair {who} l) m says = r.pairs l who x m says
-no-offer s t x act r (recycles l) m says = r.objects l x m says
+no-offer s t x act {p} r (tends is l) m says = no-tending s t x act p r is l m says
 
 pub no-step : (s : State) (event : Event) → IsRefused s event.thread.0 event.act → IsNoStep s event
 no-step s event r s2 step = no-offer s event.thread.0 step.row event.act r step.offered step.chosen step.says

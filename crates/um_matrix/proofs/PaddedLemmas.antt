@@ -1,5 +1,5 @@
 -- Rows that are filled up with vacant ones, and written to.
-use Rattle.std.proofs.Common.{◌≡◌, ◌<◌, ◌≤◌, ◌||◌, Bool, false, zero, suc, [], ◌∷◌, drop, subst, ◌+◌, ◌-◌, ◌∙◌, ℕ, List, ◌++◌, length, replicate, slice_set, slice_index_or, arith, refl, sym, ap, append_assoc, length-append}
+use Rattle.std.proofs.Common.{◌≡◌, ◌<◌, ◌≤◌, ◌||◌, Bool, false, zero, suc, [], drop, subst, ◌+◌, ◌-◌, ◌∙◌, ℕ, List, ◌++◌, length, replicate, slice_set, slice_index_or, arith, refl, sym, ap, append_assoc, length-append}
 use Rattle.std.proofs.lemmas.List.{set-append_left, set-append_right, replicate-append-replicate, get_or_append_left, get_or-append_right, length-set, length-replicate, get_or_default}
 use Rattle.std.proofs.Math.Seq.{drop-append_seam}
 use Rattle.std.proofs.lemmas.List.Folds.{list_any-append}

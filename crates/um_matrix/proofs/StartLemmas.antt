@@ -1,11 +1,11 @@
 -- A new thread is started, and its creator goes on.
-use Rattle.std.proofs.Common.{◌≡◌, ◌≢◌, ◌⊎◌, inl, inr, ℕ, zero, suc, ◌<◌, true, false, ◌==◌, List, [], ◌∷◌, length, drop, refl, sym, subst, ap, ◌∙◌, None, slice_set, if◌then◌else◌}
+use Rattle.std.proofs.Common.{◌≡◌, ◌≢◌, ◌⊎◌, inl, inr, ℕ, zero, suc, ◌<◌, true, false, ◌==◌, List, [], ◌∷◌, length, drop, refl, sym, subst, ap, ◌∙◌, slice_set, if◌then◌else◌}
 use Rattle.std.proofs.lemmas.List.{get_or-set_same, get_or-set_other}
 use Rattle.std.proofs.lemmas.Bool.Decides.{eqb_tells}
 use Rattle.um_machine.specs.declared.thread.Thread.{Thread}
 use Rattle.um_machine.specs.State.{State, nobody, thread_at, with_thread}
 use Rattle.um_machine.specs.Order.{Steps}
-use Rattle.um_machine.specs.Table.{goes_on}
+use Rattle.um_machine.specs.Goes.{Next, went}
 
 -- the last write to a place counts
 set-twice : (ts : List Thread) (t : ℕ) (a b : Thread) → slice_set (slice_set ts t a) t b ≡ slice_set ts t b
@@ -15,7 +15,7 @@ set-twice (x ∷ ts) (suc t) a b = ap (λ (rest : List Thread). x ∷ rest) (set
 
 -- a thread goes on that has just started another one
 abbrev pub goes_on_started : State → ℕ → Steps → State
-goes_on_started s t rest = goes_on s t (record (thread_at s t) { child = None }) rest
+goes_on_started s t rest = went rest s t Next.starts
 
 itself : (s : State) (t : ℕ) (born : Thread) (rest : Steps) → t < length s.threads
     → goes_on_started (with_thread s t (record born { pending = (thread_at s t).pending })) t rest ≡ goes_on_started (with_thread s t born) t rest

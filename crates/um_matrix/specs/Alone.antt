@@ -1,5 +1,5 @@
--- What a thread does when the caller doesn't say it: the step that it makes next, and the row that this takes.
-use Rattle.std.specs.Prelude.{IsTrue, ◌≡◌, ◌⊎◌, ℕ, ◌<◌, [], drop, Some}
+-- What a thread does when the caller doesn't say it, and how an object is cleaned.
+use Rattle.std.specs.Prelude.{IsTrue, ◌≡◌, ℕ, ◌<◌, [], Some}
 use Rattle.um_base.specs.declared.names.ThreadIx.{ThreadIx}
 use Rattle.um_base.specs.declared.act.Act.{Act}
 use Rattle.um_base.specs.declared.limits.TheConstants.{THREADS}
@@ -7,41 +7,9 @@ use Rattle.um_base.specs.Places.{thread_of_row}
 use Rattle.um_machine.specs.declared.pending.Pending.{Pending}
 use Rattle.um_machine.specs.State.{State, thread_at, is_started}
 use Rattle.um_machine.specs.Table.{act_of, after}
-use Rattle.um_machine.specs.Run.{MayChoose, ChoosesDue}
-use Rattle.um_matrix.specs.Offered.{ChoosesNone, first_step, second_step}
-
--- a row that a step may take: one that it may choose, and for an inheritance one that is due
-abbrev pub MayTake : State → ℕ → Pending → ℕ → Type 0
-MayTake s t step x = MayChoose s t x step × ChoosesDue s t step x
-
-abbrev pub TakesNone : State → ℕ → Pending → Type 0
-TakesNone s t step = (x : ℕ) → MayTake s t step x → ⊥
-
--- the least row that a step may take
-abbrev pub IsLeast : State → ℕ → Pending → ℕ → Type 0
-IsLeast s t step x = MayTake s t step x × ((y : ℕ) → y < x → MayTake s t step y → ⊥)
-
--- a thread's next step can take no row, nor can the one after it
-abbrev pub NoFirst : State → ℕ → Type 0
-NoFirst s t = (step : Pending) → first_step s t ≡ Some step → TakesNone s t step
-
-abbrev pub NoSecond : State → ℕ → Type 0
-NoSecond s t = (step : Pending) → second_step s t ≡ Some step → TakesNone s t step
-
--- a thread makes its next step, or, if that can take no row, the one after it. `taken` of its pending steps are over then
-abbrev pub IsNextStep : State → ℕ → Pending → ℕ → Type 0
-IsNextStep s t step taken =
-    ((taken ≡ 1) × (first_step s t ≡ Some step)) ⊎ ((taken ≡ 2) × (second_step s t ≡ Some step) × NoFirst s t)
-
--- What a thread says and leaves by the step that it makes next, with the least row that this may take.
-pub record IsNext (s : State) (t : ℕ) (act : Act) (s2 : State) : Type 0 where
-  pub step : Pending
-  pub row : ℕ
-  pub taken : ℕ
-  pub next : IsNextStep s t step taken
-  pub least : IsLeast s t step row
-  pub says : act ≡ act_of s t row step
-  pub leaves : s2 ≡ after s t row step (drop taken (thread_at s t).pending)
+use Rattle.um_machine.specs.Run.{MayChoose}
+use Rattle.um_matrix.specs.Offered.{ChoosesNone}
+pub use Rattle.um_invariants.specs.NextSteps.{IsLeast, IsNext, IsNextStep, MayTake, NoFirst, NoSecond, TakesNone}
 
 -- a thread can make no step by itself
 abbrev pub Stays : State → ℕ → Type 0

@@ -14,7 +14,8 @@ use Rattle.um_machine.specs.Objects.{is_gone, is_held}
 use Rattle.um_machine.specs.Table.{act_of, after}
 use Rattle.um_machine.specs.Run.{Step, Runs, MayChoose, none_due, Advances}
 use Rattle.um_matrix.specs.declared.matrix.choice.Choice.{Choice}
-pub use Rattle.um_invariants.specs.Ready.{is_cleaning}
+pub use Rattle.um_machine.specs.Run.{is_tending, may_go}
+pub use Rattle.um_invariants.specs.NextSteps.{first_or, first_step, is_skipped, line_step, rest_step, second_step}
 
 -- an event is a step of a state
 abbrev pub IsStep : State → Event → Type 0
@@ -27,33 +28,6 @@ IsNoStep s event = (s2 : State) → Step s event s2 → ⊥
 -- the event of a thread with an act
 abbrev pub event_of : ℕ → Act → Event
 event_of t act = record { thread = record { 0 = t }; act = act }
-
--- what a thread at rest does next, by the instruction at its place: it begins it, or exits where there is none
-abbrev pub line_step : Option Instr → Pending
-line_step (Some instr) = Pending.Begin
-line_step None = Pending.Exit
-
-abbrev pub rest_step : State → ℕ → Option Pending
-rest_step s t =
-    let me = thread_at s t in if is_living me.life && not me.doomed then Some (line_step (instruction_at s.image me.place)) else None
-
--- the next step of a thread: of its instruction, or at rest
-abbrev pub first_or : Option Pending → Option Pending → Option Pending
-first_or None rest = rest
-first_or (Some p) rest = Some p
-
-abbrev pub first_step : State → ℕ → Option Pending
-first_step s t = first_or (slice_get (thread_at s t).pending 0) (rest_step s t)
-
--- the step after an inheritance or the drops of an end, where nothing is due
-abbrev pub is_skipped : Option Pending → Bool
-is_skipped (Some (Pending.Inherit who)) = true
-is_skipped (Some (Pending.Drops from)) = true
-is_skipped _ = false
-
-abbrev pub second_step : State → ℕ → Option Pending
-second_step s t =
-    let me = thread_at s t in if is_skipped (slice_get me.pending 0) && none_due me then slice_get me.pending 1 else None
 
 -- whether a step chooses a row
 abbrev pub chooses : Pending → Bool
@@ -103,7 +77,7 @@ line_act place None = Act.Exit
 abbrev pub rest_act : State → ℕ → Option Act
 rest_act s t =
     let me = thread_at s t in
-    if is_living me.life && not me.doomed then Some (line_act me.place (instruction_at s.image me.place)) else None
+    if is_living me.life && may_go me then Some (line_act me.place (instruction_at s.image me.place)) else None
 
 -- how many rows are tried for a step
 abbrev pub row_count : Pending → ℕ

@@ -1,16 +1,17 @@
--- What work on an object leaves to threads.
+-- What work on an object, or a string read, leaves to threads.
 use Rattle.std.specs.Prelude.{ℕ, List, [], ◌∷◌, Some, slice_index_or, slice_set}
 use Rattle.um_base.specs.declared.act.Answer.{Answer}
+use Rattle.um_base.specs.declared.act.Found.{Found}
 use Rattle.um_base.specs.declared.ask.Ask.{Ask}
 use Rattle.um_base.specs.declared.ask.Told.{Told}
 use Rattle.um_base.specs.declared.image.Image.{Image}
-use Rattle.um_base.specs.declared.names.Reply.{Reply}
+use Rattle.um_base.specs.declared.names.Addr.{Addr}
 use Rattle.um_base.specs.declared.names.ThreadIx.{ThreadIx}
-use Rattle.um_machine.specs.declared.pending.Pending.{Pending}
 use Rattle.um_machine.specs.declared.thread.Thread.{Thread}
+use Rattle.um_machine.specs.Goes.{Next, at_steps, changed, steps_by, text_change, text_way, went, work_change, work_way}
+use Rattle.um_machine.specs.Memory.{string_bytes}
 use Rattle.um_machine.specs.Order.{Steps}
-use Rattle.um_machine.specs.State.{nobody}
-use Rattle.um_machine.specs.Table.{at_steps, after_error}
+use Rattle.um_machine.specs.State.{State, nobody}
 
 -- the woken among the threads are told
 abbrev pub threads_woken : List (ThreadIx × Told) → List Thread → List Thread
@@ -19,7 +20,9 @@ threads_woken (w ∷ ws) ts = threads_woken ws (slice_set ts w.0.0 (record (slic
 
 -- the thread that did the work has its answer, or waits
 abbrev pub answered : Image → Thread → Ask → List ℕ → Steps → Answer → Thread
-answered image me ask taken rest Answer.Wait = at_steps image me (Pending.Resume ∷ rest)
-answered image me ask taken rest (Answer.Now (Reply.Fail e)) =
-    at_steps image (record me { reply = Reply.Fail e; buffer = taken }) (after_error me.mode ask e rest)
-answered image me ask taken rest (Answer.Now reply) = at_steps image (record me { reply = reply; buffer = taken }) rest
+answered image me ask taken rest answer = at_steps image (changed (work_change answer taken) me) (steps_by rest (work_way me.mode ask answer))
+
+-- a thread has the string that it read, or answers why there is none
+abbrev pub string_taken : State → ℕ → Addr → Steps → Found → State
+string_taken s t a rest found =
+    went rest s t (Next.on (text_change (elim found as (λ _. List ℕ) [ Found.Length n ↦ string_bytes s a.0 n | _ ↦ [] ]) found) (text_way found))

@@ -15,7 +15,7 @@ ghost use Rattle.um_machine.specs.{
 
 use std::alloc::Global;
 use std::marker::Model;
-use um_base::{Image, Memory, ROWS, STATIC_ROWS};
+use um_base::{Image, OutOfMemory, ROWS, STATIC_ROWS};
 use um_machine::{Object, Status};
 use um_steps::blank::{opening_object, vacant};
 
@@ -46,7 +46,7 @@ impl Model for ObjectTable {
 
 /// The objects of a description.
 #[tactic(auto, using(crate::proofs::BootLemmas::in_limits))]
-fn statics(alloc: Global, image: &Image) -> Result<Vec<Object>, Memory>
+fn statics(alloc: Global, image: &Image) -> Result<Vec<Object>, OutOfMemory>
     requires { IsLawful image.now }
     ensures items { IfOk result (λ all. all.items ++ replicate (ROWS - length all.items) vacant ≡ objects_from image.now.boots 0 image.now.objects) }
     ensures few { IfOk result (λ all. length all.items ≤ STATIC_ROWS) }
@@ -87,7 +87,7 @@ impl ObjectTable {
     ghost use Rattle.um_matrix.specs.Lending.{LendsRow};
 
     /// Makes the table of a description's objects, with no others.
-    pub fn boot(alloc: Global, image: &Image) -> Result<ObjectTable, Memory>
+    pub fn boot(alloc: Global, image: &Image) -> Result<ObjectTable, OutOfMemory>
         requires { IsLawful image.now }
         ensures items { IfOk result (λ table. table ≡ objects_from image.now.boots 0 image.now.objects) }
         ensures all { IfOk result (λ table. length table ≡ ROWS) }

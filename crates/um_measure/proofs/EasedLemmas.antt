@@ -1,15 +1,10 @@
 -- Threads that are as they were, or have less due: what a step changes at the others.
-use Rattle.std.proofs.Common.{◌≡◌, ◌≤◌, ℕ, zero, suc, ◌+◌, Bool, true, false, ◌&&◌, List, [], ◌∷◌, refl, ◌∙◌, arith, Option, Some, None, slice_index_or, slice_set, if◌then◌else◌}
-use Rattle.um_base.specs.declared.act.Leftover.{Leftover}
-use Rattle.um_base.specs.declared.ask.Told.{Told}
+use Rattle.std.proofs.Common.{◌≡◌, ◌≤◌, ℕ, zero, suc, ◌+◌, Bool, true, false, ◌&&◌, List, [], ◌∷◌, refl, ◌∙◌, arith, Option, Some, None, slice_index_or, slice_set}
 use Rattle.um_base.specs.declared.image.Image.{Image}
-use Rattle.um_base.specs.declared.names.Reply.{Reply}
 use Rattle.um_base.specs.declared.names.ThreadIx.{ThreadIx}
-use Rattle.um_machine.specs.declared.object.Status.TheVariants as Status
 use Rattle.um_machine.specs.declared.thread.Thread.{Thread}
-use Rattle.um_machine.specs.Objects.{is_gone}
-use Rattle.um_machine.specs.State.{State, nobody, thread_at, object_at, with_thread, with_object}
-use Rattle.um_machine.specs.Table.{with_dues, stays_due, paired, after_given, after_drop, dropped, moved, all_woken}
+use Rattle.um_machine.specs.State.{State, nobody}
+use Rattle.um_machine.specs.Writes.{with_dues, stays_due, paired}
 use Rattle.um_measure.specs.Measure.{total, flags_set, due_cost, thread_cost}
 use Rattle.um_measure.specs.Reached.{IsSound}
 use Rattle.um_measure.proofs.TotalLemmas.{total-set}
@@ -29,7 +24,7 @@ AreEased _ _ = ⊥
 pub eased-same : (x : Thread) → IsEased x x
 eased-same x = record { life = refl; place = refl; pending = refl; child = refl; due = omega arith }
 
-eased-then : (x y z : Thread) → IsEased x y → IsEased y z → IsEased x z
+pub eased-then : (x y z : Thread) → IsEased x y → IsEased y z → IsEased x z
 eased-then x y z h g = record {
   life = g.life ∙ h.life;
   place = g.place ∙ h.place;
@@ -112,7 +107,7 @@ sound-set image (x ∷ xs) zero me h all (suc u) = all (suc u)
 sound-set image (x ∷ xs) (suc t) me h all zero = all zero
 sound-set image (x ∷ xs) (suc t) me h all (suc u) = sound-set image xs t me h (λ v. all (suc v)) u
 
--- What steps ease.
+-- What a pair that comes or goes eases.
 
 set-and : (c : Bool) (due : List Bool) (x : ℕ) → flags_set (slice_set due x (slice_index_or due x false && c)) ≤ flags_set due
 set-and c [] x = omega arith
@@ -129,31 +124,3 @@ all-with_dues x t holders (me ∷ xs) =
 
 pub eased-paired : (s : State) (u x : ℕ) (there : Bool) → AreEased s.threads (paired s u x there).threads
 eased-paired s u x there = all-with_dues x 0 _ s.threads
-
-pub eased-given : (s : State) (u x : ℕ) → AreEased s.threads (after_given s u x).threads
-eased-given s u x =
-    elim (is_gone (object_at s x).status) as (λ b. AreEased s.threads (if b then s else paired s u x true).threads) [
-      | true ↦ all-same s.threads
-      | false ↦ eased-paired s u x true
-    ]
-
-pub eased-drop : (s : State) (u x : ℕ) → AreEased s.threads (after_drop s u x).threads
-eased-drop s u x =
-    elim (dropped s u x) as (λ l. AreEased s.threads (elim l as (λ _. State) [ Leftover.NoPair ↦ s | Leftover.Kept ↦ paired s u x false | Leftover.Gone ↦ with_object (paired s u x false) x (record (object_at s x) { status = Status.Gone }) ]).threads) [
-      | Leftover.NoPair ↦ all-same s.threads
-      | Leftover.Kept ↦ eased-paired s u x false
-      | Leftover.Gone ↦ eased-paired s u x false
-    ]
-
-pub eased-moved : (s : State) (who d : ℕ) (reply : Reply) → AreEased s.threads (moved s who d reply).threads
-eased-moved s who d (Reply.Num n) =
-    all-set s.threads who (record (thread_at s who) { domain = d }) (record { life = refl; place = refl; pending = refl; child = refl; due = omega arith })
-eased-moved s who d _ = all-same s.threads
-
-pub eased-woken : (ws : List (ThreadIx × Told)) (s : State) → AreEased s.threads (all_woken ws s).threads
-eased-woken [] s = all-same s.threads
-eased-woken (w ∷ ws) s =
-    let told = record (thread_at s w.0.0) { told = Some w.1 } in
-    let s2 = with_thread s w.0.0 told in
-    all-then s.threads s2.threads (all_woken ws s2).threads
-    (all-set s.threads w.0.0 told (record { life = refl; place = refl; pending = refl; child = refl; due = omega arith })) (eased-woken ws s2)

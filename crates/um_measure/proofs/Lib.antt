@@ -1,6 +1,6 @@
 -- Each step lowers a measure, so a run ends. First sums (TotalLemmas, StoreLemmas), lines and places (LineLemmas, ScriptLemmas, PlaceLemmas, NextLemmas, SettledLemmas, IndexLemmas) and
--- threads that are no dearer (EasedLemmas); MadeLemmas is what has to be shown of a step, and AccessLemmas, WorkLemmas, PassLemmas, LifeLemmas, StartLemmas and CleanLemmas show it,
--- StepLemmas of all. OpenLemmas is of the opening, RunLemmas of whole runs.
+-- threads that are no dearer (EasedLemmas, and WriteLemmas for each kind of write); MadeLemmas is what has to be shown of a step. GoesLemmas shows it of each way to go on
+-- in a call, and PassLemmas, LifeLemmas, StartLemmas and CleanLemmas of the other steps; StepLemmas of all. OpenLemmas is of the opening, RunLemmas of whole runs.
 pub mod TotalLemmas
 mod EasedLemmas
 pub mod PlaceLemmas
@@ -10,9 +10,9 @@ pub mod NextLemmas
 pub mod IndexLemmas
 mod LineLemmas
 mod StoreLemmas
+mod WriteLemmas
 mod MadeLemmas
-mod AccessLemmas
-mod WorkLemmas
+mod GoesLemmas
 mod PassLemmas
 mod LifeLemmas
 mod StartLemmas

@@ -16,16 +16,19 @@ use Rattle.um_machine.specs.declared.thread.Place.{Place}
 use Rattle.um_machine.specs.declared.thread.Thread.{Thread}
 use Rattle.um_machine.specs.Order.{Steps, end_steps, fatal_steps, steps_of}
 use Rattle.um_machine.specs.State.{State, pair_at, no_rows, thread_at, with_thread, is_living, first_place, instruction_at, next_place}
-use Rattle.um_machine.specs.Table.{at_steps, rows_held, ended, next_doom, with_begin, after_begin, after_drop}
+use Rattle.um_machine.specs.Goes.{Next, at_end, at_steps, next_doom, rows_held, went, with_begin}
+use Rattle.um_machine.specs.Table.{after}
+use Rattle.um_machine.specs.Writes.{wrote}
+use Rattle.um_machine.proofs.EffectLemmas.{effects_of}
 use Rattle.um_measure.specs.Measure.{total, end_cost, step_cost, lines_left, life_cost, due_cost, thread_cost}
 use Rattle.um_measure.specs.Reached.{makes_steps, is_of_end, may_wait, passes_on, IsSound, IsReached}
-use Rattle.um_measure.proofs.EasedLemmas.{AreEased, all-same, all-set, at-eased, sound-eased, due-le, eased-drop}
+use Rattle.um_measure.proofs.EasedLemmas.{at-eased, sound-eased, due-le}
 use Rattle.um_measure.proofs.LineLemmas.{line-plan}
 use Rattle.um_measure.proofs.MadeLemmas.{IsMade, IsReady, begun_cost, cost-at_steps, cost-pending, sound-at_steps, writes, ready-living, living-waits}
 use Rattle.um_measure.proofs.NextLemmas.{next-line, first-stands}
 use Rattle.um_measure.proofs.ScriptLemmas.{lawful-line}
-use Rattle.um_measure.proofs.StoreLemmas.{store-dropped, sized-drop, image-drop}
-use Rattle.um_machine.specs.Rows.{by_rows}
+use Rattle.um_measure.proofs.StoreLemmas.{store-dropped}
+use Rattle.um_measure.proofs.WriteLemmas.{base-self, base-wrote, base-drop}
 
 life-living : (life : Life) → IsTrue (is_living life) → life ≡ Life.Living
 life-living Life.Unborn h = absurd (false≢true h)
@@ -68,20 +71,19 @@ fatal-last image t me reason Policy.Halt = dooms-last image
 fatal-last image t me reason Policy.Abort = abort-last image t me (reason == 4)
 
 -- a living thread ends
-ends : (s : State) → IsReached s → (t : ℕ) (steps : Steps) → IsLast s.image steps → end_cost ≤ thread_cost s.image (thread_at s t) → IsMade s (ended s t (thread_at s t) steps) (Unit {0})
+ends : (s : State) → IsReached s → (t : ℕ) (steps : Steps) → IsLast s.image steps → end_cost ≤ thread_cost s.image (thread_at s t) → IsMade s (with_thread s t (at_end s t (thread_at s t) steps)) (Unit {0})
 ends s reached t steps last cost =
     let after-it = cost-ended s.image (thread_at s t) steps (rows_held s t) no_rows in
     let few = last.cost in
-    writes s reached t s (record (thread_at s t) { life = Life.Ended; checked = no_rows; told = None; child = None; due = rows_held s t; pending = steps }) (Unit {0})
-    refl (all-same s.threads) reached.sized (record { place = λ living. absurd (false≢true living); waits = last.waits; passes = last.passes })
+    writes s reached t s 0 (base-self s reached.sized) (at_end s t (thread_at s t) steps) (Unit {0}) (record { place = λ living. absurd (false≢true living); waits = last.waits; passes = last.passes })
     (λ due. omega (arith, after-it, few, cost))
 
-pub exit : (s : State) → IsReached s → (t x : ℕ) (rest : Steps) → (thread_at s t).pending ≡ [] → IsTrue (is_living (thread_at s t).life) → IsMade s (by_rows s t x Pending.Exit rest) (Unit {0})
+pub exit : (s : State) → IsReached s → (t x : ℕ) (rest : Steps) → (thread_at s t).pending ≡ [] → IsTrue (is_living (thread_at s t).life) → IsMade s (after s t x Pending.Exit rest) (Unit {0})
 exit s reached t x rest none living =
     let cost = cost-rests s.image (thread_at s t) none (life-living (thread_at s t).life living) in
     ends s reached t (end_steps s.image t (thread_at s t)) (end-last s.image t (thread_at s t)) (omega (arith, cost))
 
-pub fatal : (s : State) → IsReached s → (t x : ℕ) (rest : Steps) (reason : ℕ) (cause : Cause) → IsReady s t (Pending.Fatal reason cause) rest → IsMade s (by_rows s t x (Pending.Fatal reason cause) rest) (Unit {0})
+pub fatal : (s : State) → IsReached s → (t x : ℕ) (rest : Steps) (reason : ℕ) (cause : Cause) → IsReady s t (Pending.Fatal reason cause) rest → IsMade s (after s t x (Pending.Fatal reason cause) rest) (Unit {0})
 fatal s reached t x rest reason cause ready =
     let cost = cost-pending s.image (thread_at s t) ready.first ready.others ready.are in
     let begun = begun-living s.image (thread_at s t).life (thread_at s t).place (ready-living s t (Pending.Fatal reason cause) rest ready refl) in
@@ -89,10 +91,10 @@ fatal s reached t x rest reason cause ready =
 
 -- Begins.
 
-begin-made : (s : State) → IsReached s → (t : ℕ) → (thread_at s t).pending ≡ [] → IsTrue (is_living (thread_at s t).life) → (instr : Option Instr) → instruction_at s.image (thread_at s t).place ≡ instr → IsTrue (is_some instr)
-    → IsMade s (after_begin s t (thread_at s t) instr) (Unit {0})
-begin-made s reached t none living None e some = absurd (false≢true some)
-begin-made s reached t none living (Some line) e some =
+begin-made : (s : State) → IsReached s → (t : ℕ) (left : Steps) → (thread_at s t).pending ≡ [] → IsTrue (is_living (thread_at s t).life) → (instr : Option Instr) → instruction_at s.image (thread_at s t).place ≡ instr → IsTrue (is_some instr)
+    → IsMade s (went left s t (Next.begins instr)) (Unit {0})
+begin-made s reached t left none living None e some = absurd (false≢true some)
+begin-made s reached t left none living (Some line) e some =
     let me = thread_at s t in
     let alive = life-living me.life living in
     let place = (reached.sound t).place living in
@@ -106,12 +108,12 @@ begin-made s reached t none living (Some line) e some =
     let begun = begun-living s.image me.life me.place alive in
     let cost = plan.cost in
     let less = next.1 in
-    writes s reached t s (at_steps s.image me2 steps) (Unit {0}) refl (all-same s.threads) reached.sized
+    writes s reached t s 0 (base-self s reached.sized) (at_steps s.image me2 steps) (Unit {0})
     (sound-at_steps s.image reached.lawful me2 steps (λ l. place) (living-waits me.life steps alive plan.waits) (plan.passes me.child))
     (λ due. omega (arith, before, after-it, begun, cost, less))
 
-pub begin : (s : State) → IsReached s → (t x : ℕ) (rest : Steps) → (thread_at s t).pending ≡ [] → IsTrue (is_living (thread_at s t).life) → IsTrue (is_some (instruction_at s.image (thread_at s t).place)) → IsMade s (by_rows s t x Pending.Begin rest) (Unit {0})
-begin s reached t x rest none living some = begin-made s reached t none living (instruction_at s.image (thread_at s t).place) refl some
+pub begin : (s : State) → IsReached s → (t x : ℕ) (rest : Steps) → (thread_at s t).pending ≡ [] → IsTrue (is_living (thread_at s t).life) → IsTrue (is_some (instruction_at s.image (thread_at s t).place)) → IsMade s (after s t x Pending.Begin rest) (Unit {0})
+begin s reached t x rest none living some = begin-made s reached t rest none living (instruction_at s.image (thread_at s t).place) refl some
 
 -- Another script.
 
@@ -119,7 +121,7 @@ cost-enters : (image : Image) (me : Thread) (place : Place) (mode : Mode) → me
 unfolding thread_cost
 cost-enters image me place mode e = rw e (omega arith)
 
-pub enter : (s : State) → IsReached s → (t x : ℕ) (rest : Steps) (script : ℕ) → IsReady s t (Pending.EnterUser script) rest → IsMade s (by_rows s t x (Pending.EnterUser script) rest) (Unit {0})
+pub enter : (s : State) → IsReached s → (t x : ℕ) (rest : Steps) (script : ℕ) → IsReady s t (Pending.EnterUser script) rest → IsMade s (after s t x (Pending.EnterUser script) rest) (Unit {0})
 enter s reached t x rest script ready =
     let me = thread_at s t in
     let alive = ready-living s t (Pending.EnterUser script) rest ready refl in
@@ -128,14 +130,11 @@ enter s reached t x rest script ready =
     let begun = begun-living s.image me.life me.place alive in
     let after-it = cost-enters s.image me (first_place s.image script) Mode.User alive in
     let cost = ready.cost in
-    writes s reached t s (record me { mode = Mode.User; place = first_place s.image script; pending = [] }) (Unit {0}) refl (all-same s.threads) reached.sized
+    writes s reached t s 0 (base-self s reached.sized) (record me { mode = Mode.User; place = first_place s.image script; pending = [] }) (Unit {0})
     (record { place = λ l. first.stands; waits = refl; passes = refl })
     (λ due. omega (arith, before, begun, after-it, cost))
 
 -- Dooms and drops.
-
-eased-doomed : (s : State) (from : ℕ) → AreEased s.threads (with_thread s from (record (thread_at s from) { doomed = true })).threads
-eased-doomed s from = all-set s.threads from (record (thread_at s from) { doomed = true }) (record { life = refl; place = refl; pending = refl; child = refl; due = omega arith })
 
 -- a thread that isn't living has no lines
 ended-lines : (image : Image) (life : Life) (from : ℕ) (place : Place) (steps : Steps) → may_wait life (Pending.Dooms from) ≡ true → life_cost image life place steps ≡ 0
@@ -161,11 +160,11 @@ cost-lines : (image : Image) (me : Thread) (steps : Steps) → thread_cost image
 unfolding thread_cost
 cost-lines image me steps = refl
 
-pub dooms : (s : State) → IsReached s → (t x : ℕ) (rest : Steps) (from : ℕ) → IsReady s t (Pending.Dooms from) rest → IsMade s (by_rows s t x (Pending.Dooms from) rest) (Unit {0})
+pub dooms : (s : State) → IsReached s → (t x : ℕ) (rest : Steps) (from : ℕ) → IsReady s t (Pending.Dooms from) rest → IsMade s (after s t x (Pending.Dooms from) rest) (Unit {0})
 dooms s reached t x rest from ready =
     let s2 = with_thread s from (record (thread_at s from) { doomed = true }) in
-    let eased = eased-doomed s from in
-    let same = at-eased s.threads s2.threads eased t in
+    let base = base-wrote s reached.sized (effects_of s t x (Pending.Dooms from)) refl in
+    let same = at-eased s.threads s2.threads base.eased t in
     let may = (and_parts (may_wait (thread_at s t).life (Pending.Dooms from)) _ ready.waits).0 in
     let may2 : may_wait (thread_at s2 t).life (Pending.Dooms from) ≡ true = rw same.life may in
     let steps = next_doom from in
@@ -176,7 +175,7 @@ dooms s reached t x rest from ready =
     let due : due_cost (thread_at s2 t).child (thread_at s2 t).due ≤ due_cost (thread_at s t).child (thread_at s t).due = rw same.child (due-le (thread_at s t).child (thread_at s2 t).due (thread_at s t).due same.due) in
     let less = next-cost s.image from (nat_lt (from + 1) THREADS) refl in
     let cost = ready.cost in
-    writes s reached t s2 me (Unit {0}) refl eased reached.sized
+    writes s reached t s2 0 base me (Unit {0})
     (record {
       place = (sound-eased s.image (thread_at s t) (thread_at s2 t) same (reached.sound t)).place;
       waits = next-waits (thread_at s2 t).life from (from + 1) (nat_lt (from + 1) THREADS) may2;
@@ -189,11 +188,11 @@ drops-wait Life.Unborn from n rest h = h
 drops-wait Life.Living from n rest h = h
 drops-wait Life.Ended from n rest h = h
 
-pub drops : (s : State) → IsReached s → (t x : ℕ) (rest : Steps) (from : ℕ) → IsReady s t (Pending.Drops from) rest → pair_at s t x ≡ true → IsMade s (by_rows s t x (Pending.Drops from) rest) (Unit {0})
+pub drops : (s : State) → IsReached s → (t x : ℕ) (rest : Steps) (from : ℕ) → IsReady s t (Pending.Drops from) rest → pair_at s t x ≡ true → IsMade s (after s t x (Pending.Drops from) rest) (Unit {0})
 drops s reached t x rest from ready held =
-    let s2 = after_drop s t x in
-    let eased = eased-drop s t x in
-    let same = at-eased s.threads s2.threads eased t in
+    let s2 = wrote (effects_of s t x (Pending.Drops from)) s in
+    let base = base-drop s t x reached.sized in
+    let same = at-eased s.threads s2.threads base.eased t in
     let me = record (thread_at s2 t) { pending = Pending.Drops (x + 1) ∷ rest } in
     let before = cost-pending s.image (thread_at s t) ready.first ready.others ready.are in
     let after-it = cost-pending s.image me (Pending.Drops (x + 1)) rest refl in
@@ -206,6 +205,6 @@ drops s reached t x rest from ready held =
       waits = drops-wait (thread_at s t).life from (x + 1) rest ready.waits;
       passes = ready.passes;
     } in
-    writes s reached t s2 me (Unit {0}) (image-drop s t x) eased (sized-drop s t x reached.sized)
+    writes s reached t s2 0 base me (Unit {0})
     (sound-eased s.image (record (thread_at s t) { pending = Pending.Drops (x + 1) ∷ rest }) me (record { life = same.life; place = same.place; pending = refl; child = same.child; due = same.due }) sound)
     (λ d. omega (arith, before, after-it, begun, due, less, cost))

@@ -1,5 +1,5 @@
 -- Where a step leads: a state that a run may reach, with a lower measure.
-use Rattle.std.proofs.Common.{◌≡◌, ◌<◌, ◌≤◌, ℕ, ◌+◌, Bool, true, false, [], ◌∷◌, refl, sym, ◌∙◌, subst, arith, slice_index_or, if◌then◌else◌}
+use Rattle.std.proofs.Common.{◌≡◌, ◌<◌, ◌≤◌, ℕ, ◌+◌, true, false, [], ◌∷◌, refl, sym, ◌∙◌, subst, arith, slice_index_or, if◌then◌else◌}
 use Rattle.std.specs.Prelude.{IsTrue}
 use Rattle.std.specs.List.{list_all}
 use Rattle.std.proofs.lemmas.Bool.{and_parts, false≢true}
@@ -12,12 +12,13 @@ use Rattle.um_machine.specs.declared.thread.Thread.{Thread}
 use Rattle.um_machine.specs.Order.{Steps}
 use Rattle.um_machine.specs.Services.{is_empty}
 use Rattle.um_machine.specs.State.{State, thread_at, with_thread, is_living, next_place}
-use Rattle.um_machine.specs.Table.{at_steps, goes_on}
+use Rattle.um_machine.specs.Goes.{at_steps}
 use Rattle.um_measure.specs.Measure.{total, step_cost, life_cost, due_cost, thread_cost, measure}
 use Rattle.um_measure.specs.Reached.{IsPlace, is_of_living, is_of_end, may_wait, passes_on, IsSound, AreSized, IsReached}
-use Rattle.um_measure.proofs.EasedLemmas.{IsEased, AreEased, all-same, at-eased, due-le, total-eased, total-set_eased, sound-eased, sound-set}
+use Rattle.um_measure.proofs.EasedLemmas.{at-eased, total-eased, total-set_eased, sound-eased, sound-set}
 use Rattle.um_measure.proofs.NextLemmas.{next-stands}
 use Rattle.um_measure.proofs.StoreLemmas.{store_of}
+use Rattle.um_measure.proofs.WriteLemmas.{IsBase}
 
 -- a step that is due lowers the measure, and each step keeps what the states of a run have in common
 pub record IsMade (s s2 : State) (Due : Type 0) : Type 0 where
@@ -70,67 +71,42 @@ pub sound-at_steps : (image : Image) → IsLawful image → (me : Thread) (steps
 sound-at_steps image lawful me steps place waits passes = record { place = λ living. stands-steps image lawful me.place steps (place living); waits = waits; passes = passes }
 
 -- one thread is written, and the others are eased
-pub writes : (s : State) → IsReached s → (t : ℕ) (s1 : State) (me : Thread) (Due : Type 0)
-    → s1.image ≡ s.image → AreEased s.threads s1.threads → AreSized s1.pairs → IsSound s.image me
-    → (Due → store_of s1 + thread_cost s.image me < store_of s + thread_cost s.image (thread_at s t))
-    → IsMade s (with_thread s1 t me) Due
+pub writes : (s : State) → IsReached s → (t : ℕ) (u : State) (n : ℕ) → IsBase s u n → (me : Thread) (Due : Type 0) → IsSound s.image me
+    → (Due → store_of u + thread_cost s.image me < store_of s + thread_cost s.image (thread_at s t))
+    → IsMade s (with_thread u t me) Due
 unfolding measure
-writes s reached t s1 me Due image eased sized sound cost = record {
-  image_is = image;
-  sized = sized;
-  sound = sound-set s.image s1.threads t me sound (λ u. sound-eased s.image (thread_at s u) (slice_index_or s1.threads u _) (at-eased s.threads s1.threads eased u) (reached.sound u));
-  falls = λ due. rw image (omega (arith, total-set_eased s.image s.threads s1.threads eased t me, cost due));
+writes s reached t u n base me Due sound cost = record {
+  image_is = base.image;
+  sized = base.sized;
+  sound = sound-set s.image u.threads t me sound (λ v. sound-eased s.image (thread_at s v) (slice_index_or u.threads v _) (at-eased s.threads u.threads base.eased v) (reached.sound v));
+  falls = λ due. rw base.image (omega (arith, total-set_eased s.image s.threads u.threads base.eased t me, cost due));
 }
 
 -- a thread goes on with these steps
-pub goes : (s : State) → IsReached s → (t : ℕ) (step : Pending) (rest : Steps) → IsReady s t step rest → (s1 : State) (me : Thread) (steps : Steps) (extra : ℕ) (Due : Type 0)
-    → s1.image ≡ s.image → AreEased s.threads s1.threads → AreSized s1.pairs
-    → store_of s1 ≤ store_of s + extra
+pub goes : (s : State) → IsReached s → (t : ℕ) (step : Pending) (rest : Steps) → IsReady s t step rest → (u : State) (extra : ℕ) → IsBase s u extra → (me : Thread) (steps : Steps)
     → me.life ≡ (thread_at s t).life → me.place ≡ (thread_at s t).place
     → total (step_cost s.image) steps + due_cost me.child me.due + extra < total (step_cost s.image) (step ∷ rest) + due_cost (thread_at s t).child (thread_at s t).due
     → list_all (may_wait (thread_at s t).life) steps ≡ true → passes_on me.child steps ≡ true
-    → IsMade s (goes_on s1 t me steps) Due
-goes s reached t step rest ready s1 me steps extra Due image eased sized store life place cost waits passes =
+    → IsMade s (with_thread u t (at_steps u.image me steps)) (Unit {0})
+goes s reached t step rest ready u extra base me steps life place cost waits passes =
     let before = cost-pending s.image (thread_at s t) ready.first ready.others ready.are in
     let after = cost-at_steps s.image me steps in
     let begun : begun_cost s.image me.life me.place ≡ begun_cost s.image (thread_at s t).life (thread_at s t).place = rw (life, place) refl in
     let less = ready.cost in
+    let store = base.store in
     let sound = sound-at_steps s.image reached.lawful me steps (rw (life, place) (reached.sound t).place) (rw life waits) passes in
-    subst (λ (i : Image). IsMade s (with_thread s1 t (at_steps i me steps)) Due) (sym image) (writes s reached t s1 (at_steps s.image me steps) Due image eased sized sound (λ due. omega (arith, before, after, begun, less, cost, store)))
-
--- a thread goes on, as it was before but for what doesn't count
-pub plain : (s : State) → IsReached s → (t : ℕ) (step : Pending) (rest : Steps) → IsReady s t step rest → (s1 : State) (me : Thread) (steps : Steps) (extra : ℕ) (Due : Type 0)
-    → s1.image ≡ s.image → AreEased s.threads s1.threads → AreSized s1.pairs
-    → store_of s1 ≤ store_of s + extra → IsEased (thread_at s t) me
-    → total (step_cost s.image) steps + extra < total (step_cost s.image) (step ∷ rest)
-    → list_all (may_wait (thread_at s t).life) steps ≡ true → passes_on (thread_at s t).child steps ≡ true
-    → IsMade s (goes_on s1 t me steps) Due
-plain s reached t step rest ready s1 me steps extra Due image eased sized store alike cost waits passes =
-    let due : due_cost me.child me.due ≤ due_cost (thread_at s t).child (thread_at s t).due = rw alike.child (due-le (thread_at s t).child me.due (thread_at s t).due alike.due) in
-    goes s reached t step rest ready s1 me steps extra Due image eased sized store alike.life alike.place (omega (arith, due, cost)) waits (rw alike.child passes)
-
--- the same, where nothing else changes that counts
-pub stays : (s : State) → IsReached s → (t : ℕ) (step : Pending) (rest : Steps) → IsReady s t step rest → (me : Thread) (steps : Steps) (Due : Type 0)
-    → IsEased (thread_at s t) me
-    → total (step_cost s.image) steps < total (step_cost s.image) (step ∷ rest)
-    → list_all (may_wait (thread_at s t).life) steps ≡ true → passes_on (thread_at s t).child steps ≡ true
-    → IsMade s (goes_on s t me steps) Due
-stays s reached t step rest ready me steps Due alike cost waits passes =
-    plain s reached t step rest ready s me steps 0 Due refl (all-same s.threads) reached.sized (omega arith) alike (omega (arith, cost)) waits passes
+    subst (λ (i : Image). IsMade s (with_thread u t (at_steps i me steps)) (Unit {0})) (sym base.image)
+    (writes s reached t u extra base (at_steps s.image me steps) (Unit {0}) sound (λ due. omega (arith, before, after, begun, less, cost, store)))
 
 -- no thread is written
-pub lowers : (s : State) → IsReached s → (s1 : State) (Due : Type 0) → s1.image ≡ s.image → AreEased s.threads s1.threads → AreSized s1.pairs → store_of s1 < store_of s → IsMade s s1 Due
+pub lowers : (s : State) → IsReached s → (u : State) (n : ℕ) → IsBase s u n → store_of u < store_of s → IsMade s u (Unit {0})
 unfolding measure
-lowers s reached s1 Due image eased sized store = record {
-  image_is = image;
-  sized = sized;
-  sound = λ u. sound-eased s.image (thread_at s u) (thread_at s1 u) (at-eased s.threads s1.threads eased u) (reached.sound u);
-  falls = λ due. rw image (omega (arith, total-eased s.image s.threads s1.threads eased, store));
+lowers s reached u n base store = record {
+  image_is = base.image;
+  sized = base.sized;
+  sound = λ v. sound-eased s.image (thread_at s v) (thread_at u v) (at-eased s.threads u.threads base.eased v) (reached.sound v);
+  falls = λ due. rw base.image (omega (arith, total-eased s.image s.threads u.threads base.eased, store));
 }
-
-pub either : (P : State → Type 0) (b : Bool) (x y : State) → P x → P y → P (if b then x else y)
-either P true x y f g = f
-either P false x y f g = g
 
 -- Lives.
 
@@ -147,24 +123,3 @@ ready-rest s t step rest ready = (and_parts (may_wait (thread_at s t).life step)
 
 pub living-waits : (life : Life) (steps : Steps) → life ≡ Life.Living → list_all is_of_living steps ≡ true → list_all (may_wait life) steps ≡ true
 living-waits life steps e h = rw e h
-
--- a thread that is as it was in what counts
-pub alike : (x y : Thread) → y.life ≡ x.life → y.place ≡ x.place → y.pending ≡ x.pending → y.child ≡ x.child → y.due ≡ x.due → IsEased x y
-alike x y life place pending child due = record { life = life; place = place; pending = pending; child = child; due = rw due (omega arith) }
-
--- One step of a thread.
-module _ (s : State) (reached : IsReached s) (t : ℕ) (rest : Steps) where
-  -- it goes on with the steps behind
-  pub moves_in : (step : Pending) → IsReady s t step rest → (s1 : State) (extra : ℕ) (me : Thread) → s1.image ≡ s.image → AreEased s.threads s1.threads → AreSized s1.pairs → store_of s1 ≤ store_of s + extra
-      → IsEased (thread_at s t) me → 1 + extra ≤ step_cost s.image step → passes_on (thread_at s t).child rest ≡ true → IsMade s (goes_on s1 t me rest) (Unit {0})
-  moves_in step ready s1 extra me image eased sized store same cost passes =
-      plain s reached t step rest ready s1 me rest extra (Unit {0}) image eased sized store same (omega (arith, cost)) (ready-rest s t step rest ready) passes
-
-  pub moves : (step : Pending) → IsReady s t step rest → (me : Thread) → IsEased (thread_at s t) me → 1 ≤ step_cost s.image step → passes_on (thread_at s t).child rest ≡ true → IsMade s (goes_on s t me rest) (Unit {0})
-  moves step ready me same cost passes = moves_in step ready s 0 me refl (all-same s.threads) reached.sized (omega arith) same (omega (arith, cost)) passes
-
-  -- it is a living one, and goes on with other steps
-  pub turns : (step : Pending) → IsReady s t step rest → is_of_end step ≡ false → (me : Thread) (steps : Steps) → IsEased (thread_at s t) me → total (step_cost s.image) steps < step_cost s.image step + total (step_cost s.image) rest
-      → list_all is_of_living steps ≡ true → passes_on (thread_at s t).child steps ≡ true → IsMade s (goes_on s t me steps) (Unit {0})
-  turns step ready end me steps same cost waits passes =
-      stays s reached t step rest ready me steps (Unit {0}) same (omega (arith, cost)) (living-waits (thread_at s t).life steps (ready-living s t step rest ready end) waits) passes

@@ -2,28 +2,30 @@
 use Rattle.std.proofs.Common.{◌≡◌, ◌<◌, ◌≤◌, ℕ, zero, suc, ◌+◌, ◌*◌, Bool, true, false, ◌&&◌, not, List, [], ◌∷◌, length, replicate, refl, sym, ◌∙◌, subst, arith, Option, Some, None, slice_index_or, slice_set}
 use Rattle.std.specs.Prelude.{IsTrue, ◌==◌, nat_lt}
 use Rattle.std.specs.List.{list_all}
-use Rattle.std.proofs.lemmas.Bool.{and_parts, false≢true, ltb-true, eqb-true}
+use Rattle.std.proofs.lemmas.Bool.{and_parts, false≢true, true≢false, ltb-true, eqb-true}
 use Rattle.std.proofs.lemmas.List.{length-set, length-map, get_or-set_same}
 use Rattle.um_base.specs.Places.{own_row}
 use Rattle.um_base.specs.declared.limits.TheConstants.{ROWS, THREADS}
 use Rattle.um_base.specs.declared.names.Addr.{Addr}
-use Rattle.um_base.specs.declared.names.Reply.{Reply}
 use Rattle.um_base.specs.declared.names.ThreadIx.{ThreadIx}
-use Rattle.um_machine.specs.declared.object.Status.TheVariants as Status
 use Rattle.um_machine.specs.declared.pending.Pending.{Pending}
 use Rattle.um_machine.specs.declared.thread.Life.{Life}
 use Rattle.um_machine.specs.declared.thread.Thread.{Thread}
 use Rattle.um_machine.specs.Order.{Steps}
-use Rattle.um_machine.specs.State.{State, nobody, thread_at, object_at, with_object, pair_at}
-use Rattle.um_machine.specs.Table.{goes_on, row_of, stays_due, with_dues, paired, rows_to_pass, after_drop, after_given, moved, move_reply, domain_at}
+use Rattle.um_machine.specs.State.{State, nobody, thread_at, pair_at}
+use Rattle.um_machine.specs.Goes.{Change, Next, Way, rows_to_pass}
+use Rattle.um_machine.specs.Table.{after, dropped, row_of}
+use Rattle.um_machine.specs.Writes.{drops, paired, stays_due, with_dues, wrote}
+use Rattle.um_machine.proofs.EffectLemmas.{effects_of}
 use Rattle.um_measure.specs.Measure.{one_if, flags_set, due_cost}
 use Rattle.um_machine.specs.Run.{ChoosesDue}
 use Rattle.um_measure.specs.Reached.{may_wait, passes_on, is_child, IsSound, IsReached}
 use Rattle.um_measure.proofs.TotalLemmas.{total-set}
-use Rattle.um_measure.proofs.EasedLemmas.{AreEased, all-same, at-eased, sound-eased, eased-paired, eased-given, eased-drop, eased-moved}
-use Rattle.um_measure.proofs.MadeLemmas.{IsMade, IsReady, begun_cost, cost-pending, writes, goes, moves_in, ready-rest, alike}
-use Rattle.um_measure.proofs.StoreLemmas.{store-object, store-pair, store-drop, store-given, sized-pair, sized-drop, sized-given, image-drop, image-given}
-use Rattle.um_machine.specs.Rows.{by_rows}
+use Rattle.um_measure.proofs.EasedLemmas.{at-eased, sound-eased}
+use Rattle.um_measure.proofs.GoesLemmas.{went-made}
+use Rattle.um_measure.proofs.MadeLemmas.{IsMade, IsReady, begun_cost, cost-pending, writes, goes, ready-rest}
+use Rattle.um_measure.proofs.StoreLemmas.{store-pair}
+use Rattle.um_measure.proofs.WriteLemmas.{base-wrote, base-drop}
 
 -- Flags.
 
@@ -84,55 +86,30 @@ due-of-child : (child : Option ThreadIx) (c : ThreadIx) (due : List Bool) → ch
 due-of-child child c due e = rw e refl
 
 module _ (s : State) (reached : IsReached s) (t x : ℕ) (rest : Steps) where
-  abbrev Makes : State → Type 0
-  Makes s2 = IsMade s s2 (Unit {0})
-
-  pub grant : (who : ThreadIx) (a : Addr) → IsReady s t (Pending.Grant who a) rest → Makes (by_rows s t x (Pending.Grant who a) rest)
-  grant who a ready =
-      let s2 = after_given s who.0 (row_of s a) in
-      let eased = eased-given s who.0 (row_of s a) in
-      moves_in s reached t rest (Pending.Grant who a) ready s2 2 (thread_at s2 t) (image-given s who.0 (row_of s a)) eased (sized-given s who.0 (row_of s a) reached.sized) (store-given s who.0 (row_of s a))
-      (at-eased s.threads s2.threads eased t) (omega arith) ready.passes
-
-  pub drop_pair : (who : ThreadIx) (a : Addr) → IsReady s t (Pending.DropPair who a) rest → Makes (by_rows s t x (Pending.DropPair who a) rest)
+  pub drop_pair : (who : ThreadIx) (a : Addr) → IsReady s t (Pending.DropPair who a) rest → IsMade s (after s t x (Pending.DropPair who a) rest) (Unit {0})
   drop_pair who a ready =
-      let s2 = after_drop s who.0 (row_of s a) in
-      let eased = eased-drop s who.0 (row_of s a) in
-      let store = store-drop s who.0 (row_of s a) in
-      moves_in s reached t rest (Pending.DropPair who a) ready s2 0 (thread_at s2 t) (image-drop s who.0 (row_of s a)) eased (sized-drop s who.0 (row_of s a) reached.sized) (omega (arith, store))
-      (at-eased s.threads s2.threads eased t) (omega arith) ready.passes
-
-  pub born : (a : Addr) → IsReady s t (Pending.Born a) rest → Makes (by_rows s t x (Pending.Born a) rest)
-  born a ready =
       let y = row_of s a in
-      let s1 = with_object s y (record (object_at s y) { status = Status.Live }) in
-      let s2 = paired s1 t y true in
-      let eased : AreEased s.threads s2.threads = eased-paired s1 t y true in
-      let object = store-object s y (record (object_at s y) { status = Status.Live }) (omega arith) in
-      let pair = store-pair s1 t y true in
-      moves_in s reached t rest (Pending.Born a) ready s2 2 (thread_at s2 t) refl eased (sized-pair s1 t y true reached.sized) (omega (arith, object, pair))
-      (at-eased s.threads s2.threads eased t) (omega arith) ready.passes
+      went-made s reached t (Pending.DropPair who a) rest ready (wrote (drops who.0 y (dropped s who.0 y)) s) 0 (base-drop s who.0 y reached.sized) (Next.on Change.nothing Way.rest) refl (λ h. absurd (true≢false h)) (omega arith) ready.passes
 
-  pub own : (who : ThreadIx) → IsReady s t (Pending.Own who) rest → Makes (by_rows s t x (Pending.Own who) rest)
+  pub own : (who : ThreadIx) → IsReady s t (Pending.Own who) rest → IsMade s (after s t x (Pending.Own who) rest) (Unit {0})
   own who ready =
-      let y = own_row s.image who.0 in
-      let s2 = after_given s who.0 y in
-      let eased = eased-given s who.0 y in
-      let sized = sized-given s who.0 y reached.sized in
-      let same = at-eased s.threads s2.threads eased t in
-      let due = slice_set (rows_to_pass s2 t who.0) (own_row s.image t) false in
+      let ws = effects_of s t x (Pending.Own who) in
+      let u = wrote ws s in
+      let base = base-wrote s reached.sized ws refl in
+      let same = at-eased s.threads u.threads base.eased t in
+      let due = slice_set (rows_to_pass u t who.0) (own_row u.image t) false in
       let few = flags-most due in
-      let long = length-set (rows_to_pass s2 t who.0) (own_row s.image t) false in
-      let rows = length-map s2.pairs (λ (holders : List Bool). slice_index_or holders t false && not (slice_index_or holders who.0 false)) in
-      let most = sized.rows in
-      goes s reached t (Pending.Own who) rest ready s2 (record (thread_at s2 t) { child = Some who; due = due }) rest 2 (Unit {0}) (image-given s who.0 y) eased sized (store-given s who.0 y)
+      let long = length-set (rows_to_pass u t who.0) (own_row u.image t) false in
+      let rows = length-map u.pairs (λ (holders : List Bool). slice_index_or holders t false && not (slice_index_or holders who.0 false)) in
+      let most = base.sized.rows in
+      goes s reached t (Pending.Own who) rest ready u 2 base (record (thread_at u t) { child = Some who; due = due }) rest
       same.life same.place (omega (arith, few, long, rows, most)) (ready-rest s t (Pending.Own who) rest ready) ready.passes
 
-  pub inherit : (who : ThreadIx) → IsReady s t (Pending.Inherit who) rest → IsTrue (pair_at s t x) → IsMade s (by_rows s t x (Pending.Inherit who) rest) (ChoosesDue s t (Pending.Inherit who) x)
+  pub inherit : (who : ThreadIx) → IsReady s t (Pending.Inherit who) rest → IsTrue (pair_at s t x) → IsMade s (after s t x (Pending.Inherit who) rest) (ChoosesDue s t (Pending.Inherit who) x)
   inherit who ready held =
       let s2 = paired s who.0 x true in
-      let eased = eased-paired s who.0 x true in
-      let same = at-eased s.threads s2.threads eased t in
+      let base = base-wrote s reached.sized (effects_of s t x (Pending.Inherit who)) refl in
+      let same = at-eased s.threads s2.threads base.eased t in
       let me = record (thread_at s2 t) { pending = Pending.Inherit who ∷ rest } in
       let passes = and_parts (is_child (thread_at s t).child who) (passes_on (thread_at s t).child rest) ready.passes in
       let child = child-is (thread_at s t).child who passes.0 in
@@ -143,7 +120,7 @@ module _ (s : State) (reached : IsReached s) (t x : ℕ) (rest : Steps) where
         waits = subst (λ (life : Life). list_all (may_wait life) (Pending.Inherit who ∷ rest) ≡ true) (sym same.life) ready.waits;
         passes = subst (λ (child : Option ThreadIx). passes_on child (Pending.Inherit who ∷ rest) ≡ true) (sym same.child) ready.passes;
       } in
-      writes s reached t s2 me (ChoosesDue s t (Pending.Inherit who) x) refl eased (sized-pair s who.0 x true reached.sized) sound
+      writes s reached t s2 2 base me (ChoosesDue s t (Pending.Inherit who) x) sound
       (λ chosen.
       let given = given-stands s.pairs x t who.0 held reached.sized.flags child.3 in
       let stays = stays-not t who.0 (thread_at s t).child child.0 holders child.1 child.2 given in
@@ -156,17 +133,3 @@ module _ (s : State) (reached : IsReached s) (t x : ℕ) (rest : Steps) where
       let due-then = due-of-child (thread_at s2 t).child child.0 (thread_at s2 t).due (same.child ∙ child.1) in
       let cost = ready.cost in
       omega (arith, pair, less, before, after-it, begun, due, due-then, cost))
-
-  move-made : (d : ℕ) (who : ThreadIx) → IsReady s t (Pending.DomMove d who) rest → (reply : Reply) → Makes (goes_on (moved s who.0 d reply) t (record (thread_at (moved s who.0 d reply) t) { reply = reply }) rest)
-  move-made d who ready (Reply.Num n) =
-      let s2 = moved s who.0 d (Reply.Num n) in
-      let eased = eased-moved s who.0 d (Reply.Num n) in
-      let same = at-eased s.threads s2.threads eased t in
-      moves_in s reached t rest (Pending.DomMove d who) ready s2 0 (record (thread_at s2 t) { reply = Reply.Num n }) refl eased reached.sized (omega arith)
-      (record { life = same.life; place = same.place; pending = same.pending; child = same.child; due = same.due }) (omega arith) ready.passes
-  move-made d who ready reply =
-      moves_in s reached t rest (Pending.DomMove d who) ready s 0 (record (thread_at s t) { reply = reply }) refl (all-same s.threads) reached.sized (omega arith)
-      (alike _ _ refl refl refl refl refl) (omega arith) ready.passes
-
-  pub move_domain : (d : ℕ) (who : ThreadIx) → IsReady s t (Pending.DomMove d who) rest → Makes (by_rows s t x (Pending.DomMove d who) rest)
-  move_domain d who ready = move-made d who ready (move_reply (domain_at s d))

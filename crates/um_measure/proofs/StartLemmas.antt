@@ -11,7 +11,7 @@ use Rattle.um_machine.specs.declared.thread.Life.{Life}
 use Rattle.um_machine.specs.declared.thread.Thread.{Thread}
 use Rattle.um_machine.specs.Order.{Steps}
 use Rattle.um_machine.specs.State.{State, nobody, thread_at, with_thread, first_place, next_place}
-use Rattle.um_machine.specs.Table.{at_steps, newborn}
+use Rattle.um_machine.specs.Table.{after, at_steps, newborn}
 use Rattle.um_measure.specs.Measure.{total, end_cost, lines_left, thread_cost, measure}
 use Rattle.um_measure.specs.Reached.{may_wait, IsSound, IsReached}
 use Rattle.um_measure.proofs.TotalLemmas.{total-set}
@@ -19,7 +19,6 @@ use Rattle.um_measure.proofs.EasedLemmas.{cost-nobody, sound-set}
 use Rattle.um_measure.proofs.MadeLemmas.{IsMade, IsReady, begun_cost, cost-at_steps, cost-pending, sound-at_steps, ready-living, ready-rest}
 use Rattle.um_measure.proofs.LifeLemmas.{cost-rests, begun-living}
 use Rattle.um_measure.proofs.NextLemmas.{next-stands, first-stands}
-use Rattle.um_machine.specs.Rows.{by_rows}
 
 -- an item of a list of which one is written: that one, or the one that stood there
 set-either : (xs : List Thread) (i : ℕ) (y : Thread) (j : ℕ) → ((slice_index_or (slice_set xs i y) j nobody ≡ y) × (i ≡ j)) ⊎ (slice_index_or (slice_set xs i y) j nobody ≡ slice_index_or xs j nobody)
@@ -71,7 +70,7 @@ module _ (s : State) (reached : IsReached s) (t x : ℕ) (rest : Steps) (who : T
       omega (arith, first, second, after-it, before, cost, new, begun, there))
       (set-either s.threads who.0 New t)
 
-  pub start : IsReady s t Step rest → IsMade s (by_rows s t x Step rest) (Unit {0})
+  pub start : IsReady s t Step rest → IsMade s (after s t x Step rest) (Unit {0})
   unfolding measure
   start ready =
       let me = record (thread_at Started t) { child = None } in

@@ -8,9 +8,10 @@ use Rattle.um_base.specs.declared.act.Leftover.{Leftover}
 use Rattle.um_base.specs.declared.limits.TheConstants.{THREADS, STATIC_ROWS}
 use Rattle.um_machine.specs.declared.object.Object.{Object}
 use Rattle.um_machine.specs.declared.object.Status.TheVariants as Status
-use Rattle.um_machine.specs.Objects.{is_gone, has_no_pair}
+use Rattle.um_machine.specs.Objects.{has_no_pair}
 use Rattle.um_machine.specs.State.{State, vacant, object_at, with_object, pair_at, with_pair}
-use Rattle.um_machine.specs.Table.{paired, after_given, after_drop, dropped}
+use Rattle.um_machine.specs.Readings.{dropped}
+use Rattle.um_machine.specs.Writes.{drops, paired, wrote}
 use Rattle.um_measure.specs.Measure.{one_if, flags_set, gone_cost, store_cost}
 use Rattle.um_measure.specs.Reached.{AreSized}
 use Rattle.um_measure.proofs.TotalLemmas.{total-set}
@@ -35,17 +36,14 @@ store-pair s u x b =
     let flags = total-set one_if false refl row u b in
     omega (arith, rows, flags)
 
-abbrev drop_by : State → ℕ → ℕ → Leftover → State
-drop_by s u x l = elim l as (λ _. State) [ Leftover.NoPair ↦ s | Leftover.Kept ↦ paired s u x false | Leftover.Gone ↦ with_object (paired s u x false) x (record (object_at s x) { status = Status.Gone }) ]
-
 one-if-most : (b : Bool) → one_if b ≤ 1
 one-if-most true = omega arith
 one-if-most false = omega arith
 
-drop-le : (s : State) (u x : ℕ) (l : Leftover) → (one_if (pair_at s u x) ≡ 0 → l ≡ Leftover.NoPair) → store_of (drop_by s u x l) ≤ store_of s
+drop-le : (s : State) (u x : ℕ) (l : Leftover) → (one_if (pair_at s u x) ≡ 0 → l ≡ Leftover.NoPair) → store_of (wrote (drops u x l) s) ≤ store_of s
 drop-le s u x Leftover.NoPair h = omega arith
 drop-le s u x Leftover.Kept h = let pair = store-pair s u x false in omega (arith, pair)
-drop-le s u x Leftover.Gone h = elim (pair_at s u x) as (λ b. (pair_at s u x ≡ b) → store_of (drop_by s u x Leftover.Gone) ≤ store_of s) [
+drop-le s u x Leftover.Gone h = elim (pair_at s u x) as (λ b. (pair_at s u x ≡ b) → store_of (wrote (drops u x Leftover.Gone) s) ≤ store_of s) [
   | true ↦ λ e.
       let pair : store_of (paired s u x false) + 2 * one_if true ≤ store_of s + 0 = rw e at (store-pair s u x false) in
       let set = store-set (paired s u x false).pairs s.objects x (record (object_at s x) { status = Status.Gone }) in omega (arith, pair, set)
@@ -62,10 +60,10 @@ drop-none s u x h = elim (pair_at s u x) as (λ b. one_if b ≡ 0 → (if not b 
 drop-some : (s : State) (u x : ℕ) → pair_at s u x ≡ true → dropped s u x ≡ Leftover.NoPair → ⊥
 drop-some s u x h e = left-none (nat_le STATIC_ROWS x && has_no_pair (with_pair s u x false) x) (subst (λ b. (if not b then Leftover.NoPair else if nat_le STATIC_ROWS x && has_no_pair (with_pair s u x false) x then Leftover.Gone else Leftover.Kept) ≡ Leftover.NoPair) h e)
 
-pub store-drop : (s : State) (u x : ℕ) → store_of (after_drop s u x) ≤ store_of s
+pub store-drop : (s : State) (u x : ℕ) → store_of (wrote (drops u x (dropped s u x)) s) ≤ store_of s
 store-drop s u x = drop-le s u x (dropped s u x) (drop-none s u x)
 
-drop-lt : (s : State) (u x : ℕ) (l : Leftover) → pair_at s u x ≡ true → (l ≡ Leftover.NoPair → ⊥) → store_of (drop_by s u x l) < store_of s
+drop-lt : (s : State) (u x : ℕ) (l : Leftover) → pair_at s u x ≡ true → (l ≡ Leftover.NoPair → ⊥) → store_of (wrote (drops u x l) s) < store_of s
 drop-lt s u x Leftover.NoPair e h = absurd (h refl)
 drop-lt s u x Leftover.Kept e h = let pair : store_of (paired s u x false) + 2 * one_if true ≤ store_of s + 0 = rw e at (store-pair s u x false) in omega (arith, pair)
 drop-lt s u x Leftover.Gone e h =
@@ -73,15 +71,8 @@ drop-lt s u x Leftover.Gone e h =
     let set = store-set (paired s u x false).pairs s.objects x (record (object_at s x) { status = Status.Gone }) in omega (arith, pair, set)
 
 -- a pair that stands is dropped
-pub store-dropped : (s : State) (u x : ℕ) → pair_at s u x ≡ true → store_of (after_drop s u x) < store_of s
+pub store-dropped : (s : State) (u x : ℕ) → pair_at s u x ≡ true → store_of (wrote (drops u x (dropped s u x)) s) < store_of s
 store-dropped s u x h = drop-lt s u x (dropped s u x) h (drop-some s u x h)
-
-given-if : (s : State) (u x : ℕ) (b : Bool) → store_of (if b then s else paired s u x true) ≤ store_of s + 2
-given-if s u x true = omega arith
-given-if s u x false = let pair = store-pair s u x true in omega (arith, pair)
-
-pub store-given : (s : State) (u x : ℕ) → store_of (after_given s u x) ≤ store_of s + 2
-store-given s u x = given-if s u x (is_gone (object_at s x).status)
 
 -- Sizes.
 
@@ -98,35 +89,3 @@ sized-pair s u x b h =
       rows = omega (arith, rows, h.rows);
       flags = all-set (λ (flags : List Bool). length flags == THREADS) [] s.pairs x (slice_set row u b) h.flags (λ e. rw (length-set row u b) e);
     }
-
-sized-drop_by : (s : State) (u x : ℕ) (l : Leftover) → AreSized s.pairs → AreSized (drop_by s u x l).pairs
-sized-drop_by s u x Leftover.NoPair h = h
-sized-drop_by s u x Leftover.Kept h = sized-pair s u x false h
-sized-drop_by s u x Leftover.Gone h = sized-pair s u x false h
-
-pub sized-drop : (s : State) (u x : ℕ) → AreSized s.pairs → AreSized (after_drop s u x).pairs
-sized-drop s u x h = sized-drop_by s u x (dropped s u x) h
-
-sized-given_if : (s : State) (u x : ℕ) (b : Bool) → AreSized s.pairs → AreSized (if b then s else paired s u x true).pairs
-sized-given_if s u x true h = h
-sized-given_if s u x false h = sized-pair s u x true h
-
-pub sized-given : (s : State) (u x : ℕ) → AreSized s.pairs → AreSized (after_given s u x).pairs
-sized-given s u x h = sized-given_if s u x (is_gone (object_at s x).status) h
-
--- The image stays.
-
-image-drop_by : (s : State) (u x : ℕ) (l : Leftover) → (drop_by s u x l).image ≡ s.image
-image-drop_by s u x Leftover.NoPair = refl
-image-drop_by s u x Leftover.Kept = refl
-image-drop_by s u x Leftover.Gone = refl
-
-pub image-drop : (s : State) (u x : ℕ) → (after_drop s u x).image ≡ s.image
-image-drop s u x = image-drop_by s u x (dropped s u x)
-
-image-given_if : (s : State) (u x : ℕ) (b : Bool) → (if b then s else paired s u x true).image ≡ s.image
-image-given_if s u x true = refl
-image-given_if s u x false = refl
-
-pub image-given : (s : State) (u x : ℕ) → (after_given s u x).image ≡ s.image
-image-given s u x = image-given_if s u x (is_gone (object_at s x).status)

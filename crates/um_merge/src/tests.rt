@@ -34,7 +34,7 @@ fn log_of(
 }
 
 #[test]
-fn steps_of_two_processors_at_two_sites(rt: HostRuntime) -> Result<(), Fail> {
+fn steps_of_two_processors_are_merged(rt: HostRuntime) -> Result<(), Fail> {
     let alloc = rt.alloc();
     let first = log_of(alloc, 0, (5, 2), (6, 1), shown(0))?;
     let second = log_of(alloc, 1, (5, 1), (6, 2), shown(1))?;
@@ -54,7 +54,7 @@ fn steps_of_two_processors_at_two_sites(rt: HostRuntime) -> Result<(), Fail> {
 }
 
 #[test]
-fn no_logs(rt: HostRuntime) -> Result<(), Fail> {
+fn no_logs_merge_to_nothing(rt: HostRuntime) -> Result<(), Fail> {
     let mut merged = Log::with_room(rt.alloc(), 1)?;
     merge(&[], &mut merged);
     assert_eq!(rt; merged.len(), 0);

@@ -20,7 +20,7 @@ use Rattle.um_machine.specs.declared.thread.Thread.{Thread}
 use Rattle.um_machine.specs.Memory.{put_bytes, with_bytes}
 use Rattle.um_machine.specs.Run.{blank, boot_thread, booted, booted_one, granted, index_or, loaded, objects_from, opening, parts_of}
 use Rattle.um_machine.specs.State.{State, nobody, with_pair, with_thread}
-use Rattle.um_processor.specs.Contexts.{rests}
+use Rattle.um_tables.specs.Contexts.{rests}
 use Rattle.um_opening.specs.Opened.{IsFresh, in_a_domain}
 
 -- What a boot leaves as it was.

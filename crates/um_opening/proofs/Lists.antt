@@ -16,9 +16,9 @@ use Rattle.um_fine.specs.Context.{Context, context_of}
 use Rattle.um_fine.specs.Cells.{Cell}
 use Rattle.um_fine.specs.Heap.{Heap}
 use Rattle.um_fine.specs.Opening.{boot_index, count, heap_cell, indexed, parked_if}
-use Rattle.um_processor.specs.Parked.{context_at, resting, scheduler_of, told_at}
-use Rattle.um_processor.specs.ObjectCells.{cleared}
-use Rattle.um_processor.specs.declared.object_cell.ObjectCell.{ObjectCell}
+use Rattle.um_tables.specs.Parked.{context_at, resting, scheduler_of, told_at}
+use Rattle.um_tables.specs.ObjectCells.{cleared}
+use Rattle.um_tables.specs.declared.object_cell.ObjectCell.{ObjectCell}
 use Rattle.um_opening.specs.Opened.{kept_by}
 
 -- one more item at the end of a list of items that are as they have to be

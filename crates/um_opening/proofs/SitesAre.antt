@@ -9,9 +9,9 @@ use Rattle.um_fine.specs.Cells.{Cell}
 use Rattle.um_fine.specs.Memory.{bytes_of}
 use Rattle.um_fine.specs.Sites.{is_site}
 use Rattle.um_fine.specs.Steps.{Site}
-use Rattle.um_processor.specs.ObjectCells.{cleared}
-use Rattle.um_processor.specs.Sited.{Sited, object_state, state_at}
-use Rattle.um_processor.specs.declared.object_cell.ObjectCell.{ObjectCell}
+use Rattle.um_tables.specs.ObjectCells.{cleared}
+use Rattle.um_tables.specs.Sited.{Sited, object_state, state_at}
+use Rattle.um_tables.specs.declared.object_cell.ObjectCell.{ObjectCell}
 use Rattle.um_opening.specs.Opened.{AreDomains, AreParts, AreRows, AreThreads, kept_by}
 use Rattle.um_opening.proofs.Lists.{kept-at}
 

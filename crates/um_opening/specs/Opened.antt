@@ -15,10 +15,10 @@ use Rattle.um_fine.specs.Answers.{no_domain, no_row, no_thread}
 use Rattle.um_fine.specs.Cells.{Cell}
 use Rattle.um_fine.specs.Opening.{boot_index, domain_state, new_cell, row_state, thread_state}
 use Rattle.um_fine.specs.Sites.{SiteState}
-use Rattle.um_processor.specs.Contexts.{rests}
-use Rattle.um_processor.specs.Sited.{domain_cell_state, no_domain_cell}
-use Rattle.um_processor.specs.declared.domain_cell.DomainCell.{DomainCell}
-use Rattle.um_processor.specs.declared.object_cell.ObjectCell.{ObjectCell}
+use Rattle.um_tables.specs.Contexts.{rests}
+use Rattle.um_tables.specs.Sited.{domain_cell_state, no_domain_cell}
+use Rattle.um_tables.specs.declared.domain_cell.DomainCell.{DomainCell}
+use Rattle.um_tables.specs.declared.object_cell.ObjectCell.{ObjectCell}
 
 -- its domain is one that there can be
 abbrev pub in_a_domain : Thread → Type 0

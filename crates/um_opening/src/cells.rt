@@ -16,17 +16,17 @@ ghost use Rattle.um_fine.specs.{
   Memory.{bytes_of},
   Opening.{boot_index, heap_cell, scheduler_cell},
 };
-ghost use Rattle.um_processor.specs.{Contexts.{rests}, ObjectCells.{cleared}};
+ghost use Rattle.um_tables.specs.{Contexts.{rests}, ObjectCells.{cleared}};
 ghost use Rattle.um_opening.specs.Opened.{AreParts, kept_by};
 
 use arrayvec::ArrayVec;
 use std::alloc::Global;
-use um_base::{Boot, DOMAINS, Image, Memory, Parts, ROWS, STATIC_ROWS, THREADS};
+use um_base::{Boot, DOMAINS, Image, OutOfMemory, Parts, ROWS, STATIC_ROWS, THREADS};
 use um_machine::Object;
 use um_matrix::Matrix;
-use um_processor::{Bytes, DomainCell, Heap, ObjectCell, Scheduler};
 use um_steps::blank::opening_object;
 use um_steps::rows::thread_of_row;
+use um_tables::{Bytes, DomainCell, Heap, ObjectCell, Scheduler};
 
 /// The partitions of a domain.
 fn parts_of(matrix: &Matrix, d: usize) -> Option<Parts>
@@ -39,7 +39,7 @@ fn parts_of(matrix: &Matrix, d: usize) -> Option<Parts>
 }
 
 /// The cells of all domains.
-pub fn domain_cells(alloc: Global, matrix: &Matrix) -> Result<Vec<DomainCell>, Memory>
+pub fn domain_cells(alloc: Global, matrix: &Matrix) -> Result<Vec<DomainCell>, OutOfMemory>
     ensures parts { IfOk result (λ cells. AreParts matrix.now DOMAINS cells.items) }
     ensures all { IfOk result (λ cells. length cells.items ≡ DOMAINS) }
 {
@@ -65,7 +65,7 @@ fn kept_by(object: Object) -> ObjectCell
 
 /// The cells of the objects that are described.
 #[tactic(auto, using(um_matrix::proofs::BootLemmas::in_limits))]
-fn described(alloc: Global, image: &Image) -> Result<Vec<ObjectCell>, Memory>
+fn described(alloc: Global, image: &Image) -> Result<Vec<ObjectCell>, OutOfMemory>
     requires { IsLawful image.now }
     ensures cells { IfOk result (λ cells. cells.items ++ replicate (ROWS - length cells.items) (cleared 0) ≡ map kept_by (objects_from image.now.boots 0 image.now.objects)) }
     ensures few { IfOk result (λ cells. length cells.items ≤ ROWS) }
@@ -79,7 +79,7 @@ fn described(alloc: Global, image: &Image) -> Result<Vec<ObjectCell>, Memory>
 }
 
 /// The cells of all rows.
-pub fn objects(alloc: Global, image: &Image) -> Result<Vec<ObjectCell>, Memory>
+pub fn objects(alloc: Global, image: &Image) -> Result<Vec<ObjectCell>, OutOfMemory>
     requires { IsLawful image.now }
     ensures cells { IfOk result (λ cells. cells.items ≡ map kept_by (objects_from image.now.boots 0 image.now.objects)) }
     ensures all { IfOk result (λ cells. length cells.items ≡ ROWS) }
@@ -93,7 +93,7 @@ pub fn objects(alloc: Global, image: &Image) -> Result<Vec<ObjectCell>, Memory>
 }
 
 /// The bytes of the partitions and of the thread stacks.
-pub fn memory(alloc: Global, matrix: &Matrix) -> Result<Bytes, Memory>
+pub fn memory(alloc: Global, matrix: &Matrix) -> Result<Bytes, OutOfMemory>
     ensures { IfOk result (λ bytes. bytes ≡ bytes_of matrix.now) }
 {
     let memory = matrix.memory().to_vec(alloc)?;
@@ -102,7 +102,7 @@ pub fn memory(alloc: Global, matrix: &Matrix) -> Result<Bytes, Memory>
 }
 
 /// What is left in the pools, the dynamic addresses, which are free, and what each object cost.
-pub fn heap(alloc: Global, matrix: &Matrix) -> Result<Heap, Memory>
+pub fn heap(alloc: Global, matrix: &Matrix) -> Result<Heap, OutOfMemory>
     ensures { IfOk result (λ heap. Cell.heap heap ≡ heap_cell matrix.now) }
 {
     let pools = matrix.pools().to_vec(alloc)?;
@@ -138,7 +138,7 @@ fn ready(matrix: &Matrix) -> ArrayVec<u8, THREADS>
 }
 
 /// The ready list, and the threads, all at rest.
-pub fn scheduler(alloc: Global, matrix: &Matrix) -> Result<Scheduler, Memory>
+pub fn scheduler(alloc: Global, matrix: &Matrix) -> Result<Scheduler, OutOfMemory>
     requires boots { All (λ (boot : Boot). boot_index matrix.now boot < THREADS) matrix.now.image.boots }
     requires rest { All rests matrix.now.threads }
     ensures { IfOk result (λ scheduler. Cell.scheduler scheduler ≡ scheduler_cell matrix.now) }

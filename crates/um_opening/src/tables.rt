@@ -4,18 +4,18 @@ ghost use Rattle.std.specs.Prelude.{◌≡◌, ◌≤◌, [], IfOk, IsTrue};
 ghost use Rattle.um_base.specs.Lawful.{IsLawful};
 ghost use Rattle.um_machine.specs.Memory.{rodata_of};
 ghost use Rattle.um_fine.specs.{Opening.{s_start, site_state}, Sites.{is_site}, Steps.{Site}};
-ghost use Rattle.um_processor.specs.Sited.{IsSized, state_at};
+ghost use Rattle.um_tables.specs.Sited.{IsSized, state_at};
 ghost use Rattle.um_opening.specs.Opened.{IsFresh};
 
 use crate::cells::{domain_cells, heap, memory, objects, scheduler};
 use crate::words::{domains, rows, threads};
 use std::alloc::Global;
-use um_base::{Image, Memory};
+use um_base::{Image, OutOfMemory};
 use um_matrix::Matrix;
-use um_processor::Tables;
+use um_tables::Tables;
 
 /// Tables of a state in which nobody has run.
-fn tables_of(alloc: Global, matrix: &Matrix, most: usize) -> Result<Tables, Memory>
+fn tables_of(alloc: Global, matrix: &Matrix, most: usize) -> Result<Tables, OutOfMemory>
     requires lawful { IsLawful matrix.now.image }
     requires fresh { IsFresh matrix.now }
     ensures sites { IfOk result (λ t. (i : Site) → IsTrue (is_site i) → state_at t i ≡ site_state matrix.now i) }
@@ -51,7 +51,7 @@ fn tables_of(alloc: Global, matrix: &Matrix, most: usize) -> Result<Tables, Memo
 }
 
 /// Makes the tables of an image at its opening: the words and cells of all sites, the read-only data, and room for at least `most` events.
-pub fn opening(alloc: Global, image: &Image, most: usize) -> Result<Tables, Memory>
+pub fn opening(alloc: Global, image: &Image, most: usize) -> Result<Tables, OutOfMemory>
     requires lawful { IsLawful image.now }
     ensures sites { IfOk result (λ t. (i : Site) → IsTrue (is_site i) → state_at t i ≡ s_start image.now i) }
     ensures sized { IfOk result (λ t. IsSized t) }

@@ -8,16 +8,19 @@ use super::*;
 use std::alloc::Global;
 use std::test::Fail;
 use um_base::{
-    Addr, BOOTS, Boot, BoundedVec, DomainDef, Errno, Image, Instr, Kind, LINES, Memory, Mode, Mpu,
-    Name, ObjectDef, Piece, Policy, Pool, Range, Reply, Row, SCRIPTS, STATIC_ROWS, Script, Setup,
-    Term, ThreadIx, Told, Want,
+    Addr, BOOTS, Boot, BoundedVec, DomainDef, Errno, Image, Instr, Kind, LINES, Mode, Mpu, Name,
+    ObjectDef, OutOfMemory, Piece, Policy, Pool, Range, Reply, Row, SCRIPTS, STATIC_ROWS, Script,
+    Setup, Term, ThreadIx, Told, Want,
 };
 use um_machine::{Cost, Life};
-use um_processor::{Context, HeapAct, Here, Said, Sites, Tables};
+use um_tables::{Context, HeapAct, Here, Said, Sites, Tables};
 use um_words::{DomainAct, RowAct, ThreadAct};
 
 /// The list of one item.
-fn sole<T: Drop, const MOST: usize>(alloc: Global, item: T) -> Result<BoundedVec<T, MOST>, Memory>
+fn sole<T: Drop, const MOST: usize>(
+    alloc: Global,
+    item: T,
+) -> Result<BoundedVec<T, MOST>, OutOfMemory>
     requires { 0 < MOST }
     ensures { IfOk result (λ list. list ≡ item ∷ []) }
 {
@@ -40,7 +43,7 @@ fn object(name: &[u8], kind: Kind, addr: u32, setup: Setup) -> ObjectDef
 }
 
 /// A thread, its stack, and a semaphore.
-fn objects(alloc: Global) -> Result<BoundedVec<ObjectDef, STATIC_ROWS>, Memory>
+fn objects(alloc: Global) -> Result<BoundedVec<ObjectDef, STATIC_ROWS>, OutOfMemory>
     ensures { IfOk result (λ list. list
         ≡ record { name = codes "a"; kind = Kind.Thread; addr = record { 0 = 0x40000000 }; public = false; setup = Setup.Thread (record { 0 = 0 }) }
         ∷ record { name = codes "sa"; kind = Kind.ThreadStack; addr = record { 0 = 0x20080000 }; public = false; setup = Setup.ThreadStack (record { start = record { 0 = 0x20080000 }; size = 64 }) 64 }
@@ -65,7 +68,7 @@ fn objects(alloc: Global) -> Result<BoundedVec<ObjectDef, STATIC_ROWS>, Memory>
 }
 
 /// The user a, with the permission on the semaphore.
-fn boots(alloc: Global) -> Result<BoundedVec<Boot, BOOTS>, Memory>
+fn boots(alloc: Global) -> Result<BoundedVec<Boot, BOOTS>, OutOfMemory>
     ensures { IfOk result (λ list. list
         ≡ record { thread = record { 0 = 0 }; stack = record { 0 = 1 }; script = 0; mode = Mode.User; priority = pos 0; domain = 0; pool = Some 0; grants = record { 0 = 2 } ∷ [] } ∷ []) }
 {
@@ -82,7 +85,7 @@ fn boots(alloc: Global) -> Result<BoundedVec<Boot, BOOTS>, Memory>
     sole(alloc, user)
 }
 
-fn scripts(alloc: Global) -> Result<BoundedVec<Script, SCRIPTS>, Memory>
+fn scripts(alloc: Global) -> Result<BoundedVec<Script, SCRIPTS>, OutOfMemory>
     ensures { IfOk result (λ list. list ≡ record { name = codes "m"; lines = Instr.SemGive (Term.Num 0x40000080) ∷ [] } ∷ []) }
 {
     let mut lines: BoundedVec<Instr, LINES> = BoundedVec::new(alloc);
@@ -116,7 +119,7 @@ fn domain(alloc: Global) -> DomainDef
     }
 }
 
-fn image(alloc: Global) -> Result<Image, Memory>
+fn image(alloc: Global) -> Result<Image, OutOfMemory>
     ensures { IfOk result IsLawful }
 {
     Ok(Image {
@@ -165,7 +168,7 @@ fn is_verdict(sites: &mut Tables, image: &Image, thread: u8, verdict: Option<Err
 
 /// The thread of the boot entry has its permission, and a hold on its own object.
 #[test]
-fn some_words(rt: HostRuntime) -> Result<(), Fail> {
+fn words_open_with_permission_and_hold(rt: HostRuntime) -> Result<(), Fail> {
     let image = image(rt.alloc())?;
     let mut sites = opening(rt.alloc(), &image, 8)?;
     let here = &here!(&image);
@@ -188,7 +191,7 @@ fn some_words(rt: HostRuntime) -> Result<(), Fail> {
 
 /// The thread of the boot entry is the one that is ready, and its pool pays for one semaphore, at the least address.
 #[test]
-fn some_cells(rt: HostRuntime) -> Result<(), Fail> {
+fn cells_open_ready_and_paid(rt: HostRuntime) -> Result<(), Fail> {
     let image = image(rt.alloc())?;
     let mut sites = opening(rt.alloc(), &image, 8)?;
     let here = &here!(&image);

@@ -7,11 +7,11 @@ ghost use Rattle.um_fine.specs.{
   Opening.{count, domain_state, indexed, row_state, stage_of, thread_state},
   Sites.{SiteState},
 };
-ghost use Rattle.um_processor.specs.Sited.{in_domains};
+ghost use Rattle.um_tables.specs.Sited.{in_domains};
 ghost use Rattle.um_opening.specs.Opened.{AreDomains, AreRows, AreThreads, in_a_domain};
 
 use std::alloc::Global;
-use um_base::{DOMAINS, Image, Memory, ROWS, THREADS};
+use um_base::{DOMAINS, Image, OutOfMemory, ROWS, THREADS};
 use um_machine::{Object, Status, Thread};
 use um_matrix::Matrix;
 use um_steps::holds::holds;
@@ -90,7 +90,7 @@ fn row_word(matrix: &Matrix, x: usize) -> RowWord
 }
 
 /// The words of all rows.
-pub fn rows(alloc: Global, matrix: &Matrix) -> Result<Vec<RowWord>, Memory>
+pub fn rows(alloc: Global, matrix: &Matrix) -> Result<Vec<RowWord>, OutOfMemory>
     ensures words { IfOk result (λ words. AreRows matrix.now ROWS words.items) }
     ensures all { IfOk result (λ words. length words.items ≡ ROWS) }
 {
@@ -120,7 +120,7 @@ fn thread_word(matrix: &Matrix, t: usize) -> ThreadWord
 }
 
 /// The words of all threads.
-pub fn threads(alloc: Global, matrix: &Matrix) -> Result<Vec<ThreadWord>, Memory>
+pub fn threads(alloc: Global, matrix: &Matrix) -> Result<Vec<ThreadWord>, OutOfMemory>
     requires { All in_a_domain matrix.now.threads }
     ensures words { IfOk result (λ words. AreThreads matrix.now THREADS words.items) }
     ensures all { IfOk result (λ words. length words.items ≡ THREADS) }
@@ -151,7 +151,7 @@ fn domain_word(matrix: &Matrix, d: usize) -> DomWord
 }
 
 /// The words of all domains.
-pub fn domains(alloc: Global, matrix: &Matrix) -> Result<Vec<DomWord>, Memory>
+pub fn domains(alloc: Global, matrix: &Matrix) -> Result<Vec<DomWord>, OutOfMemory>
     ensures words { IfOk result (λ words. AreDomains matrix.now DOMAINS words.items) }
     ensures all { IfOk result (λ words. length words.items ≡ DOMAINS) }
 {

@@ -11,16 +11,17 @@ use Rattle.um_machine.specs.Order.{to_thread}
 use Rattle.um_words.specs.declared.fine.More.{More}
 use Rattle.um_fine.specs.Answers.{act_in, value_in}
 use Rattle.um_fine.specs.Asks.{allows}
+use Rattle.um_fine.specs.Continues.{gone_part}
 use Rattle.um_fine.specs.Memory.{Bytes}
 use Rattle.um_fine.specs.Processor.{Processor}
 use Rattle.um_fine.specs.Steps.{FineStep}
-use Rattle.um_processor.specs.declared.memory_act.MemoryAct.{MemoryAct}
+use Rattle.um_tables.specs.declared.memory_act.MemoryAct.{MemoryAct}
 use Rattle.um_processor.specs.declared.phase.Phase.{Phase}
 use Rattle.um_processor.specs.declared.running.Running.{Running}
-use Rattle.um_processor.specs.Accesses.{behind_load}
-use Rattle.um_processor.specs.Asked.{shown}
-use Rattle.um_processor.specs.Events.{about_to, behind_event}
-use Rattle.um_processor.specs.MemoryActs.{memory_made}
+use Rattle.um_processor.specs.Accesses.{loaded}
+use Rattle.um_tables.specs.Asked.{shown}
+use Rattle.um_processor.specs.Events.{about_to, behind_event, rest_of}
+use Rattle.um_tables.specs.MemoryActs.{memory_made}
 use Rattle.um_processor.specs.Processors.{Goes, in_phase}
 
 module _ (image : Image) (cpu k : ℕ) (m : Bytes) (r : Running) (phase : Phase) (t to n : ℕ) (a : Addr) (buffer : List ℕ) where
@@ -33,7 +34,7 @@ module _ (image : Image) (cpu k : ℕ) (m : Bytes) (r : Running) (phase : Phase)
 
   -- the processor after it, with the number that was loaded
   abbrev pub behind : Bool → ℕ → Processor
-  behind b value = behind_event image phase (behind_load image r b to value) r
+  behind b value = behind_event image phase (gone_part image (rest_of r) (loaded b to value) r.context.value) r
 
   abbrev me : ThreadIx
   me = to_thread r.context.value.thread

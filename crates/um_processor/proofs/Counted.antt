@@ -8,7 +8,8 @@ use Rattle.um_fine.specs.Follows.{end_calls, wakes}
 use Rattle.um_fine.specs.Places.{Todos, cleanings}
 use Rattle.um_processor.specs.declared.phase.Phase.{Phase}
 use Rattle.um_processor.specs.declared.running.Running.{Running}
-use Rattle.um_processor.specs.Phases.{born, phase_of, showing, steps_behind, todo_in}
+use Rattle.um_processor.specs.Phases.{phase_of, showing, todo_in}
+use Rattle.um_tables.specs.Contexts.{born, steps_behind}
 use Rattle.um_processor.specs.Processors.{todo_behind, todo_of}
 
 none-showing : (steps : Steps) (todo : Todos) → cleanings (showing steps todo) ≡ cleanings todo

@@ -1,24 +1,14 @@
 -- What the proofs of several functions cite.
 pub mod Accesses
-pub mod ByteLemmas
-pub mod Celled
 pub mod Cleaned
 pub mod Counted
-pub mod Fronts
-pub mod HeapLemmas
-pub mod Noted
 pub mod Lifted
 pub mod Phased
-pub mod Places
 pub mod Released
 pub mod Requests
 pub mod Readable
 pub mod Runs
-pub mod Scheduled
 pub mod Shown
 pub mod Standings
-pub mod Tabled
-pub mod TextLemmas
 pub mod Visited
 pub mod Wholes
-pub mod WordActs

@@ -11,15 +11,16 @@ use Rattle.um_fine.specs.Follows.{end_calls, wakes}
 use Rattle.um_fine.specs.Places.{Todos}
 use Rattle.um_fine.specs.Processor.{Processor}
 use Rattle.um_fine.specs.Steps.{FineStep, Site}
-use Rattle.um_processor.specs.declared.here.Here.{Here}
+use Rattle.um_tables.specs.declared.here.Here.{Here}
 use Rattle.um_processor.specs.declared.phase.Phase.{Phase}
 use Rattle.um_processor.specs.declared.phase.Turn.{Turn}
 use Rattle.um_processor.specs.declared.processor.Processor.{Processor as Kept}
 use Rattle.um_processor.specs.declared.running.Running.{Running}
-use Rattle.um_processor.specs.declared.sites.Sites.{Ghosts as SitesOf}
+use Rattle.um_tables.specs.declared.sites.Sites.{Ghosts as SitesOf}
 use Rattle.um_processor.specs.Cleanings.{block_if}
 use Rattle.um_processor.specs.Events.{about_to, about_to_park, at_event, rest_of, shows, todo_after, with_ends, with_woken}
-use Rattle.um_processor.specs.Phases.{born, is_idle, showing, steps_behind}
+use Rattle.um_processor.specs.Phases.{is_idle, showing}
+use Rattle.um_tables.specs.Contexts.{born, steps_behind}
 use Rattle.um_processor.specs.Processors.{Goes, MayNext, OnMade, Turned, UnlessMade, cleaned, in_phase, processor_of, with_todo}
 use Rattle.um_processor.specs.Standing.{IsClear, before, standing, whole}
 use Rattle.um_processor.specs.Turns.{HasCleaned, HasEnded, HasRun, HasTurned}

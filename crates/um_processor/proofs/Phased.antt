@@ -12,7 +12,8 @@ use Rattle.um_fine.specs.Follows.{filled_up}
 use Rattle.um_fine.specs.Places.{Todo, Todos, drops, fine_steps, passes}
 use Rattle.um_processor.specs.declared.phase.Phase.{Phase}
 use Rattle.um_processor.specs.declared.running.Running.{Running}
-use Rattle.um_processor.specs.Phases.{born, first_of, first_phase, passed_to, phase_of, queue_of, showing, steps_behind, todo_in}
+use Rattle.um_processor.specs.Phases.{first_of, first_phase, passed_to, phase_of, queue_of, showing, todo_in}
+use Rattle.um_tables.specs.Contexts.{born, steps_behind}
 use Rattle.um_processor.specs.Processors.{in_phase, processor_of, todo_behind, visiting, with_todo}
 
 -- the fine steps of a step are those from its first phase on

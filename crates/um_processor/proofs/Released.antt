@@ -5,18 +5,18 @@ use Rattle.um_base.specs.declared.act.Cause.{Cause}
 use Rattle.um_base.specs.declared.image.Image.{Image}
 use Rattle.um_base.specs.declared.names.Reply.{Reply}
 use Rattle.um_machine.specs.declared.pending.Pending.{Pending}
+use Rattle.um_machine.specs.Goes.{Next}
 use Rattle.um_machine.specs.Order.{fatal_steps, to_thread}
-use Rattle.um_machine.specs.Table.{with_answer}
 use Rattle.um_words.specs.declared.thread_word.ThreadWord.{ThreadWord}
 use Rattle.um_fine.specs.Context.{Context, as_thread}
-use Rattle.um_fine.specs.Continues.{ends_with, goes_on, reply_of}
+use Rattle.um_fine.specs.Continues.{ends_with, gone_part, reply_of}
 use Rattle.um_fine.specs.Processor.{Processor}
 use Rattle.um_processor.specs.declared.phase.Phase.{Phase}
 use Rattle.um_processor.specs.declared.running.Running.{Running}
 use Rattle.um_words.specs.declared.thread_act.ThreadAct.{ThreadAct}
 use Rattle.um_processor.specs.Events.{about_to, behind_event, rest_of, with_ends}
 use Rattle.um_processor.specs.Processors.{Goes}
-use Rattle.um_processor.specs.ThreadActs.{thread_made}
+use Rattle.um_tables.specs.ThreadActs.{thread_made}
 
 module _ (image : Image) (cpu : ℕ) (r : Running) (phase : Phase) (w : ThreadWord) where
   abbrev own : Context
@@ -33,7 +33,7 @@ module _ (image : Image) (cpu : ℕ) (r : Running) (phase : Phase) (w : ThreadWo
   -- a thread after its answer
   abbrev pub answered : Option Reply → Option ℕ → Context
   answered reply to =
-      goes_on image (record own { claims = []; registers = with_answer own.registers to (reply_of image own reply) }) (rest_of r)
+      gone_part image (rest_of r) (Next.answers to (reply_of image own reply)) own
 
   pub answered-goes : (reply : Option Reply) (to : Option ℕ) (t : ℕ) (said : Reply) (ends : List ℕ) (z : Processor)
       → t ≡ own.thread → said ≡ reply_of image own reply → ends ≡ own.claims → z ≡ behind_event image phase (answered reply to) r

@@ -6,16 +6,16 @@ use Rattle.um_fine.specs.Answers.{thread_in}
 use Rattle.um_fine.specs.Processor.{Processor}
 use Rattle.um_fine.specs.Sites.{is_site}
 use Rattle.um_fine.specs.Steps.{FineStep, Site}
-use Rattle.um_processor.specs.declared.here.Here.{Here}
+use Rattle.um_tables.specs.declared.here.Here.{Here}
 use Rattle.um_processor.specs.declared.phase.Phase.{Phase}
 use Rattle.um_processor.specs.declared.phase.Turn.{Turn}
 use Rattle.um_processor.specs.declared.request.Request.{Request}
 use Rattle.um_processor.specs.declared.running.Running.{Running}
-use Rattle.um_processor.specs.declared.sites.Sites.{Ghosts as SitesOf}
+use Rattle.um_tables.specs.declared.sites.Sites.{Ghosts as SitesOf}
 use Rattle.um_words.specs.declared.thread_act.ThreadAct.{ThreadAct}
 use Rattle.um_processor.specs.Processors.{Goes, IsStuck, MayNext, OnMade, Turned, processor_of}
 use Rattle.um_processor.specs.Requests.{Each, Holds, Leads, One, Requested, RequestedAt}
-use Rattle.um_processor.specs.ThreadActs.{thread_made}
+use Rattle.um_tables.specs.ThreadActs.{thread_made}
 use Rattle.um_processor.specs.Turns.{TurnsAt}
 use Rattle.um_processor.proofs.Lifted.{goes-as, turned-as}
 

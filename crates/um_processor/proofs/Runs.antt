@@ -14,7 +14,8 @@ use Rattle.um_fine.specs.Processor.{Processor}
 use Rattle.um_processor.specs.declared.phase.Phase.{Phase}
 use Rattle.um_processor.specs.declared.running.Running.{Running}
 use Rattle.um_processor.specs.Events.{behind_event, todo_after}
-use Rattle.um_processor.specs.Phases.{born, is_idle}
+use Rattle.um_processor.specs.Phases.{is_idle}
+use Rattle.um_tables.specs.Contexts.{born}
 use Rattle.um_processor.specs.Processors.{processor_of, todo_behind, todo_of, visiting}
 use Rattle.um_processor.proofs.Phased.{dropped}
 

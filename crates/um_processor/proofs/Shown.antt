@@ -14,8 +14,9 @@ use Rattle.um_processor.specs.declared.phase.Phase.{Phase}
 use Rattle.um_words.specs.declared.row_act.RowAct.{RowAct}
 use Rattle.um_processor.specs.declared.running.Running.{Running}
 use Rattle.um_processor.specs.Events.{about_to, behind_event, rest_of}
-use Rattle.um_processor.specs.Processors.{AsksFor, Goes, cleaned}
-use Rattle.um_processor.specs.RowActs.{row_made}
+use Rattle.um_processor.specs.Processors.{Goes, cleaned}
+use Rattle.um_tables.specs.Asked.{AsksFor}
+use Rattle.um_tables.specs.RowActs.{row_made}
 use Rattle.um_processor.proofs.Visited.{cleaned-is}
 
 module _ (image : Image) (cpu : ℕ) (r : Running) (phase : Phase) (who : ThreadIx) (a : Addr) (w : RowWord) where

@@ -27,18 +27,19 @@ use Rattle.um_fine.specs.Processor.{Processor}
 use Rattle.um_fine.specs.Scheduler.{Scheduler}
 use Rattle.um_fine.specs.Sites.{SiteState, filled}
 use Rattle.um_fine.specs.Steps.{Exchange, FineStep, Site}
-use Rattle.um_processor.specs.declared.heap_act.HeapAct.{HeapAct}
+use Rattle.um_tables.specs.declared.heap_act.HeapAct.{HeapAct}
 use Rattle.um_processor.specs.declared.phase.Phase.{Phase}
 use Rattle.um_words.specs.declared.row_act.RowAct.{RowAct}
 use Rattle.um_processor.specs.declared.running.Running.{Running}
-use Rattle.um_processor.specs.Asked.{asked, shown}
+use Rattle.um_tables.specs.Asked.{asked, AsksFor, shown}
 use Rattle.um_processor.specs.Cleanings.{all_clean, block_if}
-use Rattle.um_processor.specs.HeapActs.{heap_made}
-use Rattle.um_processor.specs.ObjectCells.{cleared_made}
-use Rattle.um_processor.specs.Phases.{born, is_idle, showing, steps_behind, todo_in}
-use Rattle.um_processor.specs.Processors.{AsksFor, Goes, cleaned, processor_of, todo_of}
-use Rattle.um_processor.specs.RowActs.{row_made}
-use Rattle.um_processor.specs.SchedulerActs.{woken_made}
+use Rattle.um_tables.specs.HeapActs.{heap_made}
+use Rattle.um_tables.specs.ObjectCells.{cleared_made}
+use Rattle.um_processor.specs.Phases.{is_idle, showing, todo_in}
+use Rattle.um_tables.specs.Contexts.{born, steps_behind}
+use Rattle.um_processor.specs.Processors.{Goes, cleaned, processor_of, todo_of}
+use Rattle.um_tables.specs.RowActs.{row_made}
+use Rattle.um_tables.specs.SchedulerActs.{woken_made}
 use Rattle.um_processor.specs.Standing.{before, standing}
 use Rattle.um_processor.proofs.Cleaned.{behind-clean}
 use Rattle.um_processor.proofs.Visited.{cleaned-is, there-dropped}

@@ -25,10 +25,10 @@ use Rattle.um_fine.specs.Steps.{Exchange, FineStep, Site}
 use Rattle.um_processor.specs.declared.phase.Phase.{Phase}
 use Rattle.um_words.specs.declared.row_act.RowAct.{RowAct}
 use Rattle.um_processor.specs.declared.running.Running.{Running}
-use Rattle.um_processor.specs.Asked.{asked, shown}
+use Rattle.um_tables.specs.Asked.{asked, AsksFor, shown}
 use Rattle.um_processor.specs.Phases.{passed_to, phase_of}
-use Rattle.um_processor.specs.Processors.{AsksFor, Goes, cleaned, in_phase, processor_of, todo_at, todo_behind, visiting, with_todo}
-use Rattle.um_processor.specs.RowActs.{row_made}
+use Rattle.um_processor.specs.Processors.{Goes, cleaned, in_phase, processor_of, todo_at, todo_behind, visiting, with_todo}
+use Rattle.um_tables.specs.RowActs.{row_made}
 use Rattle.um_processor.proofs.Phased.{dropped, passed}
 
 -- a permission that is there is dropped

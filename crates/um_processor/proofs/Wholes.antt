@@ -18,19 +18,20 @@ use Rattle.um_fine.specs.Steps.{Exchange, FineStep}
 use Rattle.um_fine.specs.Context.{Context}
 use Rattle.um_processor.specs.declared.phase.Phase.{Phase}
 use Rattle.um_base.specs.Places.{addr_of}
-use Rattle.um_processor.specs.declared.heap_act.HeapAct.{HeapAct}
+use Rattle.um_tables.specs.declared.heap_act.HeapAct.{HeapAct}
 use Rattle.um_processor.specs.declared.processor.Processor.{Processor as Kept}
 use Rattle.um_processor.specs.declared.request.Request.{Request}
 use Rattle.um_words.specs.declared.row_act.RowAct.{RowAct}
 use Rattle.um_processor.specs.declared.running.Running.{Running}
 use Rattle.um_processor.specs.Cleanings.{all_clean, block_if}
-use Rattle.um_processor.specs.HeapActs.{heap_made}
-use Rattle.um_processor.specs.ObjectCells.{cleared_made}
+use Rattle.um_tables.specs.HeapActs.{heap_made}
+use Rattle.um_tables.specs.ObjectCells.{cleared_made}
 use Rattle.um_processor.specs.Phases.{is_idle}
-use Rattle.um_processor.specs.Processors.{AsksFor, Goes, context_in, in_phase, processor_of, todo_of}
+use Rattle.um_processor.specs.Processors.{Goes, context_in, in_phase, processor_of, todo_of}
+use Rattle.um_tables.specs.Asked.{AsksFor}
 use Rattle.um_processor.specs.Requests.{Leads}
-use Rattle.um_processor.specs.RowActs.{row_made}
-use Rattle.um_processor.specs.SchedulerActs.{woken_made}
+use Rattle.um_tables.specs.RowActs.{row_made}
+use Rattle.um_tables.specs.SchedulerActs.{woken_made}
 use Rattle.um_processor.specs.Standing.{CleansNext, standing, whole}
 use Rattle.um_processor.proofs.Cleaned.{cleanings-append}
 use Rattle.um_processor.proofs.Counted.{none-before, none-of}

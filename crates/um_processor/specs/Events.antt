@@ -4,15 +4,18 @@ use Rattle.um_base.specs.declared.ask.Told.{Told}
 use Rattle.um_base.specs.declared.image.Image.{Image}
 use Rattle.um_base.specs.declared.names.ThreadIx.{ThreadIx}
 use Rattle.um_machine.specs.declared.pending.Pending.{Pending}
+use Rattle.um_machine.specs.Goes.{Next}
 use Rattle.um_machine.specs.Order.{Steps}
 use Rattle.um_fine.specs.Context.{Context}
+use Rattle.um_fine.specs.Continues.{gone_part}
 use Rattle.um_fine.specs.Follows.{end_calls, filled_up, wakes}
 use Rattle.um_fine.specs.Places.{Todo, Todos}
 use Rattle.um_fine.specs.Processor.{Processor}
 use Rattle.um_processor.specs.declared.phase.Phase.{Phase}
 use Rattle.um_processor.specs.declared.running.Running.{Running}
 use Rattle.um_processor.specs.declared.running.calls.Wanted.{Wanted}
-use Rattle.um_processor.specs.Phases.{born, released, showing, steps_behind}
+use Rattle.um_processor.specs.Phases.{released, showing}
+use Rattle.um_tables.specs.Contexts.{born, steps_behind}
 use Rattle.um_processor.specs.Processors.{with_todo}
 
 -- what stands after the event in a phase, with the new thread of a start
@@ -50,6 +53,10 @@ shows_next r = at_event r.phase r
 -- the processor after the event, which left this own part of the thread
 abbrev pub behind_event : Image → Phase → Context → Running → Processor
 behind_event image phase c r = record (with_todo r []) { context = c; todo = filled_up image c (todo_after phase (born r.newborn)) }
+
+-- the same, where the thread goes on so
+abbrev pub gone_by : Image → Next → Running → Processor
+gone_by image next r = behind_event image r.phase (gone_part image (rest_of r) next r.context.value) r
 
 -- the same, with claims to end before
 abbrev pub with_ends : List ℕ → Processor → Processor

@@ -1,17 +1,5 @@
 pub mod Accesses
-pub mod Asked
-pub mod RowActs
-pub mod ThreadActs
-pub mod DomainActs
 pub mod Requests
-pub mod Sited
-pub mod Contexts
-pub mod Parked
-pub mod SchedulerActs
-pub mod DomainCells
-pub mod HeapActs
-pub mod MemoryActs
-pub mod ObjectCells
 pub mod Phases
 pub mod Processors
 pub mod Cleanings

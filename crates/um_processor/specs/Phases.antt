@@ -7,7 +7,7 @@ use Rattle.um_machine.specs.Order.{Steps}
 use Rattle.um_fine.specs.Addresses.{row_named}
 use Rattle.um_fine.specs.Context.{Context, no_context}
 use Rattle.um_fine.specs.Places.{Todo, Todos}
-use Rattle.um_processor.specs.declared.newborn.Newborn.{Newborn}
+use Rattle.um_tables.specs.declared.newborn.Newborn.{Newborn}
 use Rattle.um_processor.specs.declared.phase.Phase.{Phase}
 
 abbrev pub is_idle : Phase → Bool
@@ -23,11 +23,6 @@ is_plain_phase Phase.Access = false
 is_plain_phase Phase.Start = false
 is_plain_phase Phase.Show = false
 is_plain_phase phase = true
-
--- the steps after a visit
-abbrev pub steps_behind : Bool → Steps → Steps
-steps_behind true steps = drop 1 steps
-steps_behind false steps = steps
 
 -- the thread to which permissions are passed on
 abbrev pub passed_to : Steps → ℕ
@@ -55,18 +50,6 @@ abbrev pub queue_of : Image → Pending → ℕ
 queue_of image (Pending.Probe a amount) = row_of_amount image amount
 queue_of image (Pending.CopyIn a amount) = row_of_amount image amount
 queue_of image p = 0
-
--- the own part of a new thread
-abbrev pub born : Newborn → Context
-born n =
-    record no_context {
-      thread = n.thread.0;
-      mode = n.mode;
-      stack = n.stack;
-      priority = n.priority;
-      pool = n.pool;
-      place = n.place;
-    }
 
 -- the event of the next step, before these: a thread without one is put back
 abbrev pub showing : Steps → Todos → Todos

@@ -1,18 +1,20 @@
 -- The processor that the code's fields stand for, and what comes of a turn.
-use Rattle.std.specs.Prelude.{◌≡◌, ℕ, Bool, true, false, nat_le, nat_lt, IsTrue, if◌then◌else◌, [], ◌∷◌, drop}
+use Rattle.std.specs.Prelude.{◌≡◌, ℕ, Bool, true, false, nat_le, nat_lt, if◌then◌else◌, [], ◌∷◌, drop}
 use Rattle.um_base.specs.declared.image.Image.{Image}
 use Rattle.um_base.specs.declared.limits.TheConstants.{ROWS, THREADS}
 use Rattle.um_machine.specs.declared.pending.Pending.{Pending}
 use Rattle.um_machine.specs.Order.{Steps}
-use Rattle.um_fine.specs.Asks.{fits_step, has_room, made_by, next_site}
+use Rattle.um_fine.specs.Asks.{has_room, next_site}
 use Rattle.um_fine.specs.Context.{Context, no_context}
 use Rattle.um_fine.specs.Follows.{p_next}
 use Rattle.um_fine.specs.Places.{Todo, Todos, cleaning, cleanings, next_steps, turn, with_cleaning}
 use Rattle.um_fine.specs.Processor.{Processor}
 use Rattle.um_fine.specs.Sites.{is_site}
 use Rattle.um_fine.specs.Steps.{FineStep, Site}
-use Rattle.um_processor.specs.Parked.{some_if}
-use Rattle.um_processor.specs.Phases.{born, passed_to, phase_of, steps_behind, todo_in}
+use Rattle.um_tables.specs.Asked.{AsksFor}
+use Rattle.um_tables.specs.Parked.{some_if}
+use Rattle.um_processor.specs.Phases.{passed_to, phase_of, todo_in}
+use Rattle.um_tables.specs.Contexts.{born, steps_behind}
 use Rattle.um_processor.specs.declared.cleaning.TheConstants.{MOST}
 use Rattle.um_processor.specs.declared.phase.Phase.{Phase}
 use Rattle.um_processor.specs.declared.phase.Turn.{Turn}
@@ -76,13 +78,7 @@ abbrev pub cleaned : Image → ℕ → Bool → Processor → Processor
 cleaned image x false p = p
 cleaned image x true p = record p { todo = with_cleaning (cleaning image x) p.todo }
 
--- a step that the processor of this number asks for, as its site fills it in
-pub record AsksFor (cpu : ℕ) (image : Image) (p : Processor) (e : FineStep) : Type 0 where
-  pub maker : e.cpu ≡ cpu
-  pub makes : made_by image p e ≡ e
-  pub fit : IsTrue (fits_step image p p.todo e)
-
--- the same, and the processor after it
+-- a step that the processor of this number asks for, and the processor after it
 pub record Goes (cpu : ℕ) (image : Image) (p : Processor) (e : FineStep) (z : Processor) : Type 0 where
   pub asks : AsksFor cpu image p e
   pub next : z ≡ p_next image p e

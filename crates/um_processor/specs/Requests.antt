@@ -6,33 +6,29 @@ use Rattle.um_words.specs.declared.thread_word.ThreadWord.{ThreadWord}
 use Rattle.um_words.specs.declared.dom_word.DomWord.{DomWord}
 use Rattle.um_fine.specs.Answers.{thread_in}
 use Rattle.um_fine.specs.Asks.{next_site}
-use Rattle.um_fine.specs.Continues.{goes_on}
 use Rattle.um_fine.specs.Heap.{Heap}
 use Rattle.um_fine.specs.Memory.{Bytes}
 use Rattle.um_fine.specs.Processor.{Processor}
 use Rattle.um_fine.specs.Scheduler.{Scheduler}
 use Rattle.um_fine.specs.Sites.{is_site}
 use Rattle.um_fine.specs.Steps.{FineStep, Site}
-use Rattle.um_machine.specs.State.{first_place}
-use Rattle.um_machine.specs.Order.{copy_fails}
-use Rattle.um_machine.specs.Table.{fault, next_doom}
-use Rattle.um_base.specs.declared.names.Mode.TheVariants as Mode
-use Rattle.um_processor.specs.declared.here.Here.{Here}
+use Rattle.um_machine.specs.Goes.{Change, Next, Way, copied, no_access}
+use Rattle.um_tables.specs.declared.here.Here.{Here}
 use Rattle.um_processor.specs.declared.phase.Phase.{Phase}
 use Rattle.um_processor.specs.declared.phase.Turn.{Turn}
 use Rattle.um_processor.specs.declared.request.Onward.{Onward}
 use Rattle.um_processor.specs.declared.request.Request.{Request}
 use Rattle.um_processor.specs.declared.running.Running.{Running}
-use Rattle.um_processor.specs.declared.sites.Sites.{Ghosts as SitesOf}
+use Rattle.um_tables.specs.declared.sites.Sites.{Ghosts as SitesOf}
 use Rattle.um_words.specs.declared.thread_act.ThreadAct.{ThreadAct}
-use Rattle.um_processor.specs.DomainActs.{domain_made}
-use Rattle.um_processor.specs.Events.{behind_event, rest_of}
-use Rattle.um_processor.specs.HeapActs.{heap_made}
-use Rattle.um_processor.specs.MemoryActs.{has_room, memory_made}
+use Rattle.um_tables.specs.DomainActs.{domain_made}
+use Rattle.um_processor.specs.Events.{gone_by}
+use Rattle.um_tables.specs.HeapActs.{heap_made}
+use Rattle.um_tables.specs.MemoryActs.{has_room, memory_made}
 use Rattle.um_processor.specs.Processors.{Goes, in_phase, processor_of, refilled}
-use Rattle.um_processor.specs.RowActs.{row_made}
-use Rattle.um_processor.specs.SchedulerActs.{done_made}
-use Rattle.um_processor.specs.ThreadActs.{thread_made}
+use Rattle.um_tables.specs.RowActs.{row_made}
+use Rattle.um_tables.specs.SchedulerActs.{done_made}
+use Rattle.um_tables.specs.ThreadActs.{thread_made}
 
 abbrev pub site_of : Request → Site
 site_of (Request.Row x act) = Site.row x.0
@@ -96,12 +92,11 @@ RequestedAt sites turn here request s t =
 
 -- the processor after it
 abbrev pub gone_on : Image → Onward → Running → Processor
-gone_on image Onward.GoesOn r = behind_event image r.phase (goes_on image r.context.value (rest_of r)) r
-gone_on image Onward.Faults r = behind_event image r.phase (goes_on image r.context.value fault) r
-gone_on image Onward.CopyFails r = behind_event image r.phase (goes_on image r.context.value (copy_fails r.context.value.mode)) r
-gone_on image Onward.Replies r = behind_event image r.phase (goes_on image (record r.context.value { reply = r.reply }) (rest_of r)) r
-gone_on image (Onward.EntersUser script) r =
-    behind_event image r.phase (record r.context.value { mode = Mode.User; place = first_place image script; pending = [] }) r
-gone_on image (Onward.Dooms from) r = behind_event image r.phase (record r.context.value { pending = next_doom from }) r
+gone_on image Onward.GoesOn r = gone_by image (Next.on Change.nothing Way.rest) r
+gone_on image Onward.Faults r = gone_by image (Next.on Change.nothing no_access) r
+gone_on image Onward.CopyFails r = gone_by image (Next.on Change.nothing (copied r.context.value.mode false)) r
+gone_on image Onward.Replies r = gone_by image (Next.on (Change.says r.reply) Way.rest) r
+gone_on image (Onward.EntersUser script) r = gone_by image (Next.enters script) r
+gone_on image (Onward.Dooms from) r = gone_by image (Next.dooms from) r
 gone_on image Onward.Expands r = refilled image r
 gone_on image (Onward.To phase) r = in_phase phase r

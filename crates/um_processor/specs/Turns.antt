@@ -2,11 +2,11 @@
 use Rattle.std.specs.Prelude.{◌≡◌, ℕ, Bool, false, List}
 use Rattle.um_base.specs.declared.image.Image.{Image}
 use Rattle.um_fine.specs.Processor.{Processor}
-use Rattle.um_processor.specs.declared.here.Here.{Here}
+use Rattle.um_tables.specs.declared.here.Here.{Here}
 use Rattle.um_processor.specs.declared.phase.Turn.{Turn}
 use Rattle.um_processor.specs.declared.processor.Processor.{Processor as Kept}
 use Rattle.um_processor.specs.declared.running.Running.{Running}
-use Rattle.um_processor.specs.declared.sites.Sites.{Ghosts as SitesOf}
+use Rattle.um_tables.specs.declared.sites.Sites.{Ghosts as SitesOf}
 use Rattle.um_processor.specs.Events.{with_ends}
 use Rattle.um_processor.specs.Phases.{is_idle}
 use Rattle.um_processor.specs.Processors.{MayNext, OnMade, Turned, UnlessMade, cleaned, processor_of}

@@ -13,7 +13,7 @@ use crate::cleaning::Cleaning;
 use crate::running::Running;
 use arrayvec::ArrayVec;
 use std::alloc::Global;
-use um_base::Memory;
+use um_base::OutOfMemory;
 use um_service::Outcome;
 
 /// A processor: its thread, and what it has to do before the thread's next step.
@@ -32,7 +32,7 @@ pub struct Processor {
 
 impl Processor {
     /// Makes a processor without a thread, with all the room that it will ever need.
-    pub fn new(alloc: Global) -> Result<Processor, Memory>
+    pub fn new(alloc: Global) -> Result<Processor, OutOfMemory>
         ensures { IfOk result (λ p. whole p ≡ idle) }
     {
         Ok(Processor {

@@ -3,14 +3,11 @@
 ghost use Rattle.std.specs.Prelude.{IsTrue};
 ghost use Rattle.um_processor.specs.Requests.{Each, RequestedAt, is_short};
 
-use crate::heap_act::HeapAct;
-use crate::here::Here;
-use crate::memory_act::MemoryAct;
 use crate::phase::{Phase, Turn};
-use crate::said::made;
-use crate::sites::Sites;
+use crate::turns::made;
 use um_base::{DOMAINS, Piece, ROWS, Row, THREADS, ThreadIx};
 use um_machine::Cost;
+use um_tables::{HeapAct, Here, MemoryAct, Sites};
 use um_words::{DomainAct, RowAct, ThreadAct};
 
 /// A step at a site, of which the processor needs no answer.

@@ -25,14 +25,13 @@ ghost use Rattle.um_base.specs.declared.limits.TheConstants.{THREADS};
 ghost use Rattle.um_fine.specs.Processor.{idle};
 ghost use Rattle.um_processor.specs.{Phases.{is_idle}, Processors.{processor_of}};
 
-use crate::context::Context;
-use crate::newborn::{NOBODY, Newborn};
 use crate::phase::Phase;
 pub use next::row_named;
 use std::alloc::Global;
-use um_base::{Memory, Parts, Piece, Reply, ThreadIx, Told};
+use um_base::{OutOfMemory, Parts, Piece, Reply, ThreadIx, Told};
 use um_fine::{Table, TableKey};
 use um_machine::Cost;
+use um_tables::{Context, NOBODY, Newborn};
 
 /// The thread of a processor, how far it is with its next step, and what steps told it.
 #[derive(Drop)]
@@ -81,7 +80,7 @@ fn no_table() -> Table {
 
 impl Running {
     /// Makes the state of a processor without a thread, with room for one and for a thread that it starts.
-    pub fn new(alloc: Global) -> Result<Running, Memory>
+    pub fn new(alloc: Global) -> Result<Running, OutOfMemory>
         ensures { IfOk result (λ r. processor_of r ≡ idle) }
     {
         Ok(Running {

@@ -12,7 +12,7 @@ use Rattle.um_machine.specs.Run.{opening, MayChoose, RunsDue, IsComplete}
 use Rattle.um_machine.specs.State.{State, thread_at}
 use Rattle.um_machine.specs.Table.{after}
 use Rattle.um_matrix.specs.Alone.{CleansBy}
-use Rattle.um_matrix.specs.Offered.{is_cleaning}
+use Rattle.um_matrix.specs.Offered.{is_tending}
 use Rattle.um_measure.specs.Reached.{IsReached}
 use Rattle.um_machine.proofs.RunLemmas.{runs-due-push}
 use Rattle.um_measure.proofs.OpenLemmas.{opens}
@@ -97,7 +97,7 @@ first-kept turn turn2 first i (suc left) event kept (inr later) =
 
 -- Ends.
 
-clean-none : (turn : Turn) (first : ℕ) → IsKept turn → NoneGoes turn first → (t x : ℕ) (p : Pending) → is_cleaning p ≡ true → MayChoose turn.state t x p → ⊥
+clean-none : (turn : Turn) (first : ℕ) → IsKept turn → NoneGoes turn first → (t x : ℕ) (p : Pending) → is_tending p ≡ true → MayChoose turn.state t x p → ⊥
 clean-none turn first kept none t x (Pending.CleanPair who) h chosen = none-takes-pairs turn first (kept.known, kept.rows) none t x who chosen
 clean-none turn first kept none t x Pending.Recycle h chosen = none-recycles turn first (kept.known, kept.rows) none t x chosen
 clean-none turn first kept none t x p h chosen = cc
@@ -105,7 +105,7 @@ clean-none turn first kept none t x p h chosen = cc
 kept-ends : (turn : Turn) (first : ℕ) → IsKept turn → NoneGoes turn first → IsComplete turn.state
 kept-ends turn first kept none event s2 step =
     let t = event.thread.0 in
-    elim (is_cleaning step.step) as (λ b. is_cleaning step.step ≡ b → ⊥) [
+    elim (is_tending step.step) as (λ b. is_tending step.step ≡ b → ⊥) [
       | true ↦ λ e. clean-none turn first kept none t step.row step.step e step.chosen
       | false ↦ λ e. none-steps turn first kept.threads kept.reached kept.some none t (offers-may turn.state t step.row step.step step.rest step.offered e step.chosen)
     ] refl

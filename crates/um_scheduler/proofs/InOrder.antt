@@ -6,14 +6,14 @@ use Rattle.um_base.specs.declared.act.Event.{Event}
 use Rattle.um_base.specs.declared.image.Image.{Image}
 use Rattle.um_base.specs.declared.names.ThreadIx.{ThreadIx}
 use Rattle.um_machine.specs.declared.pending.Pending.{Pending}
-use Rattle.um_machine.specs.Run.{IsComplete, MayChoose, cleans_pair, recycles}
+use Rattle.um_machine.specs.Run.{IsComplete, MayChoose, tends}
 use Rattle.um_machine.specs.State.{State, is_started, thread_at}
 use Rattle.um_machine.specs.Table.{act_of, after}
 use Rattle.um_matrix.specs.Alone.{CleansBy}
-use Rattle.um_matrix.specs.Offered.{is_cleaning}
+use Rattle.um_matrix.specs.Offered.{is_tending}
 use Rattle.um_invariants.specs.Described.{IsDescribed}
 use Rattle.um_scheduler.specs.declared.processor.Processor.{Processor}
-use Rattle.um_scheduler.specs.InOrder.{AreInOrder, CleansNone, Follows, IsCleaning, IsInOrder, Point}
+use Rattle.um_invariants.specs.InOrder.{AreInOrder, CleansNone, Follows, IsCleaning, IsInOrder, Point}
 use Rattle.um_scheduler.specs.Schedule.{CleansFirst, CleansNothing, Goes, RunsOn, Turn, came_up, goes_on, idle, left_ready, left_to_clean, opening_turn, processor_at, ready_after, settled, with_processor}
 use Rattle.um_invariants.specs.Lines.{all_join}
 use Rattle.um_scheduler.proofs.EndLemmas.{IsKept, going-opens, goes-kept}
@@ -42,26 +42,26 @@ is-cleaning : (s s2 : State) (event : Event) (x : ℕ) (p : Pending) (row : ℕ)
     → MayChoose s event.thread.0 row p → event.act ≡ act_of s event.thread.0 row p → s2 ≡ after s event.thread.0 row p [] → IsCleaning s event s2
 is-cleaning s s2 event x (Pending.CleanPair who) row started by may says leaves =
     record {
-      made = record { step = Pending.CleanPair who; rest = (thread_at s event.thread.0).pending; row = row; offered = cleans_pair started; chosen = may; says = says; leaves = leaves };
+      made = record { step = Pending.CleanPair who; rest = (thread_at s event.thread.0).pending; row = row; offered = tends refl started; chosen = may; says = says; leaves = leaves };
       cleans = refl;
       least = by.2;
     }
 is-cleaning s s2 event x Pending.Recycle row started by may says leaves =
     record {
-      made = record { step = Pending.Recycle; rest = (thread_at s event.thread.0).pending; row = row; offered = recycles started; chosen = may; says = says; leaves = leaves };
+      made = record { step = Pending.Recycle; rest = (thread_at s event.thread.0).pending; row = row; offered = tends refl started; chosen = may; says = says; leaves = leaves };
       cleans = refl;
       least = tt;
     }
 is-cleaning s s2 event x _ row started by may says leaves = absurd by
 
 -- where the processor can clean nothing, no cleaning step of any thread is lawful
-none-chosen : (turn : Turn) → IsKept turn → IsOne turn → CleansNothing turn 0 → (t x : ℕ) (p : Pending) → is_cleaning p ≡ true → MayChoose turn.state t x p → ⊥
+none-chosen : (turn : Turn) → IsKept turn → IsOne turn → CleansNothing turn 0 → (t x : ℕ) (p : Pending) → is_tending p ≡ true → MayChoose turn.state t x p → ⊥
 none-chosen turn kept one none t x p h chosen = by p h chosen
   where
     every : (cpu : ℕ) → cpu < length turn.processors → CleansNothing turn cpu
     every cpu less = subst (λ (k : ℕ). CleansNothing turn k) (omega (arith, one, less)) none
 
-    by : (p : Pending) → is_cleaning p ≡ true → MayChoose turn.state t x p → ⊥
+    by : (p : Pending) → is_tending p ≡ true → MayChoose turn.state t x p → ⊥
     by (Pending.CleanPair who) h chosen = rests-pairs turn kept.known kept.rows every t x who chosen
     by Pending.Recycle h chosen = rests-recycles turn kept.known kept.rows every t x chosen
     by p h chosen = cc

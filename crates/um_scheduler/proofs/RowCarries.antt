@@ -9,7 +9,7 @@ use Rattle.um_machine.specs.Memory.{allowed, le_value, bytes_at}
 use Rattle.um_machine.specs.Run.{Step}
 use Rattle.um_machine.specs.State.{State, thread_at, object_at, is_started}
 use Rattle.um_machine.specs.Table.{act_of}
-use Rattle.um_matrix.specs.Offered.{is_forsaken, is_cleaning}
+use Rattle.um_matrix.specs.Offered.{is_forsaken, is_tending}
 use Rattle.um_invariants.proofs.Cores.{core_of}
 use Rattle.um_invariants.proofs.Turns.{IsKnown}
 use Rattle.um_scheduler.specs.Schedule.{Turn, processor_at, is_listed}
@@ -60,14 +60,14 @@ neither : (b : Bool) (one other : Act) → recycles_some one ≡ false → recyc
 neither true one other h g = h
 neither false one other h g = g
 
-pub recycles-none : (s : State) (t x : ℕ) (p : Pending) → is_cleaning p ≡ false → recycles_some (act_of s t x p) ≡ false
+pub recycles-none : (s : State) (t x : ℕ) (p : Pending) → is_tending p ≡ false → recycles_some (act_of s t x p) ≡ false
 recycles-none s t x (Pending.Load to a n) h = neither (allowed s t Access.Read a.0 n) (Act.Load a n (le_value (bytes_at s a.0 n))) (Act.Fault Access.Read a n) refl refl
 recycles-none s t x (Pending.Store a n value) h = neither (allowed s t Access.Write a.0 n) (Act.Store a n value) (Act.Fault Access.Write a n) refl refl
 recycles-none s t x (Pending.Fetch a) h = neither (allowed s t Access.Exec a.0 4) (Act.Fetch a) (Act.Fault Access.Exec a 4) refl refl
 recycles-none s t x Pending.Recycle h = cc
 recycles-none s t x _ h = refl
 
-pub plain-pairs : (p : Pending) → is_cleaning p ≡ false → is_pair_cleaning p ≡ false
+pub plain-pairs : (p : Pending) → is_tending p ≡ false → is_pair_cleaning p ≡ false
 plain-pairs (Pending.CleanPair who) h = cc
 plain-pairs _ h = refl
 

@@ -10,7 +10,7 @@ use Rattle.um_machine.specs.declared.pending.Pending.{Pending}
 use Rattle.um_machine.specs.Order.{to_addr, to_thread}
 use Rattle.um_machine.specs.Run.{Step}
 use Rattle.um_machine.specs.State.{State, vacant, thread_at, object_at, is_started}
-use Rattle.um_machine.specs.Table.{act_of, after, cleaned_by}
+use Rattle.um_machine.specs.Table.{act_of, after}
 use Rattle.um_matrix.specs.Alone.{CleansBy}
 use Rattle.um_matrix.specs.Offered.{is_forsaken}
 use Rattle.um_invariants.proofs.Cores.{core_of, at_set}
@@ -22,7 +22,7 @@ use Rattle.um_scheduler.specs.declared.processor.Processor.{Processor}
 use Rattle.um_invariants.specs.Lines.{stands}
 use Rattle.um_scheduler.specs.Schedule.{Turn, idle, processor_at, with_processor, left_to_clean, CleansFirst}
 use Rattle.um_scheduler.proofs.RowForsaken.{still-forsaken}
-use Rattle.um_scheduler.proofs.RowFrames.{Frame, frame, frame-pairs}
+use Rattle.um_scheduler.proofs.RowFrames.{Frame, cleaned_by, frame, frame-pairs}
 use Rattle.um_scheduler.proofs.RowKept.{has_to_clean, IsCleaner, AreOwn, RowsKept, forsaken-dynamic, row-thread}
 use Rattle.um_scheduler.proofs.JoinLemmas.{IsOnce, once-behind, first-once}
 use Rattle.um_scheduler.proofs.RowLines.{behind-first, in-whole, first-stands, listed-at, unlisted-through}

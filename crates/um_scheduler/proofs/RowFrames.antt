@@ -1,23 +1,22 @@
 -- What steps leave as it was: who was started, and by whom an object is cleaned.
-use Rattle.std.proofs.Common.{◌≡◌, ◌⊎◌, inl, inr, ℕ, zero, suc, ◌+◌, ◌-◌, Bool, true, false, nat_lt, List, [], ◌∷◌, refl, sym, subst, if◌then◌else◌, Some, None, Option, slice_index_or, slice_set, IsTrue}
+use Rattle.std.proofs.Common.{◌≡◌, ◌⊎◌, inl, inr, ℕ, zero, suc, ◌+◌, ◌-◌, Bool, true, false, nat_lt, List, [], ◌∷◌, refl, sym, subst, if◌then◌else◌, Some, None, Option, slice_index_or, IsTrue}
 use Rattle.std.specs.List.{list_all}
 use Rattle.std.proofs.lemmas.Bool.{and_parts, true≢false}
-use Rattle.um_base.specs.declared.act.Leftover.{Leftover}
 use Rattle.um_base.specs.declared.limits.TheConstants.{PARTITION_AREA, STACK_AREA}
 use Rattle.um_base.specs.declared.names.Errno.{Errno}
 use Rattle.um_base.specs.declared.names.ThreadIx.{ThreadIx}
 use Rattle.um_base.specs.Places.{own_row}
 use Rattle.um_machine.specs.declared.object.Object.{Object}
-use Rattle.um_machine.specs.declared.object.Status.TheVariants as Status
 use Rattle.um_machine.specs.declared.pending.Pending.{Pending}
 use Rattle.um_machine.specs.declared.thread.Thread.{Thread}
-use Rattle.um_machine.specs.Writes.{Edit, Effect, Effects, edited, effect, wrote}
-use Rattle.um_machine.specs.Table.{with_dues, paired, after_drop, dropped, cleaned_by, after}
+use Rattle.um_machine.specs.Writes.{Edit, Effect, Effects, drops, edited, effect, paired, with_dues, wrote}
+use Rattle.um_machine.specs.Readings.{dropped}
+use Rattle.um_machine.specs.Table.{after}
 use Rattle.um_machine.specs.Goes.{Change, Next, changed, gone, held, went}
-use Rattle.um_machine.specs.Memory.{put_bytes, with_bytes}
-use Rattle.um_machine.specs.Order.{Steps}
+use Rattle.um_machine.specs.Memory.{put_bytes}
+use Rattle.um_machine.specs.Order.{Steps, to_thread}
 use Rattle.um_machine.specs.State.{State, nobody, vacant, thread_at, object_at, with_thread, with_object, with_pair, is_started}
-use Rattle.um_machine.proofs.AfterLemmas.{after-is, rows-are}
+use Rattle.um_machine.proofs.AfterLemmas.{after-is}
 use Rattle.um_machine.proofs.EffectLemmas.{OfEach, all-wrote, effects_of, next_of, woken-by}
 use Rattle.um_invariants.proofs.Cores.{at_set}
 use Rattle.um_invariants.proofs.Facts.{both_of}
@@ -60,22 +59,13 @@ dues-at x u holders (me ∷ ts) (suc t) = dues-at x (u + 1) holders ts t
 after-lasts : (me now last : Thread) → Lasts me now → Lasts now last → Lasts me last
 after-lasts me now last f g = (λ h. g.0 (f.0 h), λ h. g.1 (f.1 h))
 
-pub pair : (s s1 : State) (t x : ℕ) (there : Bool) → Frame s s1 → Frame s (paired s1 t x there)
+pair : (s s1 : State) (t x : ℕ) (there : Bool) → Frame s s1 → Frame s (paired s1 t x there)
 pair s s1 t x there f =
     let s2 = with_pair s1 t x there in
     record {
       threads = λ u. after-lasts (thread_at s u) (thread_at s1 u) (thread_at (paired s1 t x there) u) (f.threads u) (dues-at x 0 (slice_index_or s2.pairs x []) s2.threads u);
       objects = f.objects;
     }
-
-pub drop-pair : (s s1 : State) (t x : ℕ) → Frame s s1 → Frame s (after_drop s1 t x)
-drop-pair s s1 t x f =
-    let o = object_at s1 x in
-    elim (dropped s1 t x) as (λ l. Frame s (elim l as (λ _. State) [ Leftover.NoPair ↦ s1 | Leftover.Kept ↦ paired s1 t x false | Leftover.Gone ↦ with_object (paired s1 t x false) x (record o { status = Status.Gone }) ])) [
-      | Leftover.NoPair ↦ f
-      | Leftover.Kept ↦ pair s s1 t x false f
-      | Leftover.Gone ↦ object s (paired s1 t x false) x (record o { status = Status.Gone }) (pair s s1 t x false f) (f.objects x)
-    ]
 
 -- whether a step takes a pair of a thread that is gone
 abbrev pub is_pair_cleaning : Pending → Bool
@@ -165,7 +155,11 @@ frame s t x p rest h =
     let ws = effects_of s t x p in
     subst (Frame s) (sym (after-is s t x p rest)) (went-frame s rest (wrote ws s) t (next_of s t x p) (all-wrote (Frame s) IsFramed (effect-frame s) ws s (writes-framed s t x p h) (same s)))
 
+-- the object of a row, with the thread that cleans it
+abbrev pub cleaned_by : State → ℕ → ℕ → State
+cleaned_by s t x = effect (Effect.object x (Edit.cleaned (to_thread t))) s
+
 -- the cleaner of a thread object is noted, and then nothing else of this changes
 pub frame-pairs : (s : State) (t x : ℕ) (who : ThreadIx) (rest : Steps) → Frame (cleaned_by s t (own_row s.image who.0)) (after s t x (Pending.CleanPair who) rest)
 frame-pairs s t x who rest =
-    let s1 = cleaned_by s t (own_row s.image who.0) in subst (Frame s1) (rows-are s t x (Pending.CleanPair who) rest) (drop-pair s1 s1 who.0 x (same s1))
+    let s1 = cleaned_by s t (own_row s.image who.0) in all-wrote (Frame s1) IsFramed (effect-frame s1) (drops who.0 x (dropped s who.0 x)) s1 (tt, (tt, tt)) (same s1)

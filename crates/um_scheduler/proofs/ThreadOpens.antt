@@ -1,34 +1,29 @@
 -- At the opening the boot threads are ready, and no other thread can make a step.
-use Rattle.std.proofs.Common.{◌≡◌, inl, inr, ◌≤◌, ◌<◌, ℕ, zero, suc, ◌+◌, ◌-◌, Bool, true, false, ◌==◌, ◌&&◌, ◌||◌, not, nat_lt, List, [], ◌∷◌, length, replicate, refl, sym, ap, subst, ◌∙◌, arith, Some, None, slice_index_or, if◌then◌else◌}
+use Rattle.std.proofs.Common.{◌≡◌, inl, inr, ◌≤◌, ◌<◌, ℕ, zero, suc, ◌-◌, Bool, true, false, ◌==◌, ◌&&◌, ◌||◌, not, nat_lt, List, [], ◌∷◌, length, replicate, refl, sym, ap, subst, ◌∙◌, arith, slice_index_or, if◌then◌else◌}
 use Rattle.std.specs.Prelude.{IsTrue}
 use Rattle.std.specs.List.{list_all}
 use Rattle.std.proofs.lemmas.List.{length-set, length-replicate, get_or-set_other, get_or-set_same}
 use Rattle.um_base.specs.declared.image.Boot.{Boot}
 use Rattle.um_base.specs.declared.image.Image.{Image}
-use Rattle.um_base.specs.declared.image.ObjectDef.{ObjectDef}
 use Rattle.um_base.specs.declared.image.Partition.{Partition}
-use Rattle.um_base.specs.declared.limits.TheConstants.{STACK_AREA, PARTITION_AREA, ROWS, THREADS}
+use Rattle.um_base.specs.declared.limits.TheConstants.{STACK_AREA, PARTITION_AREA, THREADS}
 use Rattle.um_base.specs.declared.names.Row.{Row}
 use Rattle.um_base.specs.Lawful.{is_lawful_boot}
 use Rattle.um_base.specs.Places.{thread_of_row}
-use Rattle.um_machine.specs.declared.object.Object.{Object}
 use Rattle.um_machine.specs.declared.thread.Thread.{Thread}
 use Rattle.um_machine.specs.Memory.{with_bytes, put_bytes}
-use Rattle.um_machine.specs.Run.{blank, opening, loaded, booted, booted_one, granted, boot_thread, index_or, objects_from}
-use Rattle.um_machine.specs.State.{State, nobody, vacant, no_rows, thread_at, object_at, with_thread, with_pair, is_living}
+use Rattle.um_machine.specs.Run.{blank, opening, loaded, booted, booted_one, granted, boot_thread, index_or}
+use Rattle.um_machine.specs.State.{State, nobody, thread_at, with_thread, with_pair, is_living}
 use Rattle.um_invariants.specs.Described.{IsDescribed}
 use Rattle.um_invariants.proofs.BootClaims.{replicate_at}
 use Rattle.um_invariants.proofs.Cores.{at_set}
-use Rattle.um_invariants.proofs.Facts.{both_of, less_is, none_checked}
-use Rattle.um_invariants.proofs.Opening.{is_boot, boot_parts, passes_within}
-use Rattle.um_invariants.proofs.SitedImages.{is_sited}
+use Rattle.um_invariants.proofs.Facts.{both_of, less_is}
 use Rattle.um_invariants.specs.Lines.{joins}
 use Rattle.um_scheduler.specs.Schedule.{idle, joins_some, boots_ready, opening_turn}
 use Rattle.um_invariants.proofs.ThreadCounts.{equal_or_not}
-use Rattle.um_invariants.proofs.ThreadWaits.{times}
-use Rattle.um_invariants.proofs.ThreadWords.{is_on, is_resting, AreKept}
+use Rattle.um_invariants.proofs.ThreadWords.{is_on, is_resting}
 use Rattle.um_scheduler.proofs.JoinLemmas.{often, IsOnce, joins-other, joins-in, joins-once, joins-more}
-use Rattle.um_invariants.proofs.ThreadStarts.{real-below, idle-off}
+use Rattle.um_invariants.proofs.ThreadStarts.{idle-off}
 use Rattle.um_invariants.proofs.ThreadOpens.{booted-index, opening-kept}
 use Rattle.um_invariants.proofs.ThreadOpens as Openings
 use Rattle.um_scheduler.proofs.ThreadHeld.{runners, ThreadsKept, resting-stands}

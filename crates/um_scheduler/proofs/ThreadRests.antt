@@ -1,14 +1,14 @@
 -- Where no processor makes an event, no thread can make a step by itself.
-use Rattle.std.proofs.Common.{◌≡◌, ◌≤◌, ◌<◌, ℕ, zero, suc, ◌+◌, ◌-◌, ◌%◌, true, false, List, [], ◌∷◌, length, refl, sym, ap, subst, ◌∙◌, arith, Option, Some, None, slice_index_or}
+use Rattle.std.proofs.Common.{not, ◌≡◌, ◌≤◌, ◌<◌, ℕ, zero, suc, ◌+◌, ◌-◌, ◌%◌, true, false, List, [], ◌∷◌, length, refl, sym, ap, subst, ◌∙◌, arith, Option, Some, None, slice_index_or}
 use Rattle.std.proofs.Math.Nat.{mod-lt}
 use Rattle.um_base.specs.declared.ask.Told.{Told}
 use Rattle.um_base.specs.declared.names.ThreadIx.{ThreadIx}
 use Rattle.um_machine.specs.declared.pending.Pending.{Pending}
 use Rattle.um_machine.specs.declared.thread.Thread.{Thread}
 use Rattle.um_machine.specs.Order.{Steps}
-use Rattle.um_machine.specs.Run.{Offers, goes, skips_inherit, skips_drops, begins, exits, cleans_pair, recycles, MayChoose}
+use Rattle.um_machine.specs.Run.{Offers, goes, skips_inherit, skips_drops, begins, exits, tends, MayChoose}
 use Rattle.um_machine.specs.State.{State, thread_at, is_living}
-use Rattle.um_matrix.specs.Offered.{is_cleaning}
+use Rattle.um_matrix.specs.Offered.{is_tending}
 use Rattle.um_measure.specs.Reached.{IsReached}
 use Rattle.um_scheduler.specs.declared.processor.Processor.{Processor}
 use Rattle.um_scheduler.specs.Schedule.{Turn, idle, processor_at, next_ready, running_or, runs, CleansNothing, RunsNothing, Rests, passed, AllRest, NoneGoes}
@@ -82,21 +82,20 @@ pending-on : (s : State) (t x : ℕ) (p : Pending) (rest : Steps) → (thread_at
 pending-on s t x Pending.Resume rest e chosen = on-told (thread_at s t) rest chosen.0 e chosen.1
 pending-on s t x p rest e chosen = rw e refl
 
-rest-may : (me : Thread) → me.pending ≡ [] → is_living me.life ≡ true → me.doomed ≡ false → may_step me ≡ true
+rest-may : (me : Thread) → me.pending ≡ [] → is_living me.life ≡ true → not me.doomed ≡ true → may_step me ≡ true
 rest-may me e living well = rw (e, living, well) refl
 
 skip-on : (me : Thread) (q : Pending) (rest : Steps) → me.pending ≡ q ∷ rest → is_resume (q ∷ rest) ≡ false → is_on me ≡ true
 skip-on me Pending.Resume rest e h = cc
 skip-on me q rest e h = rw e refl
 
-pub offers-may : (s : State) (t x : ℕ) (p : Pending) (rest : Steps) → Offers s t p rest → is_cleaning p ≡ false → MayChoose s t x p → may_step (thread_at s t) ≡ true
+pub offers-may : (s : State) (t x : ℕ) (p : Pending) (rest : Steps) → Offers s t p rest → is_tending p ≡ false → MayChoose s t x p → may_step (thread_at s t) ≡ true
 offers-may s t x p rest (goes e) own chosen = on-steps (thread_at s t) (pending-on s t x p rest e chosen)
 offers-may s t x p rest (skips_inherit {who = who} e due) own chosen = on-steps (thread_at s t) (skip-on (thread_at s t) (Pending.Inherit who) (p ∷ rest) e refl)
 offers-may s t x p rest (skips_drops {from = from} e due) own chosen = on-steps (thread_at s t) (skip-on (thread_at s t) (Pending.Drops from) (p ∷ rest) e refl)
 offers-may s t x _ _ (begins e living well line) own chosen = rest-may (thread_at s t) e living well
 offers-may s t x _ _ (exits e living well line) own chosen = rest-may (thread_at s t) e living well
-offers-may s t x _ _ (cleans_pair started) own chosen = cc
-offers-may s t x _ _ (recycles started) own chosen = cc
+offers-may s t x p _ (tends is started) own chosen = cc
 
 -- no processor runs a thread
 none-run : (u : ℕ) (ps : List Processor) → ((cpu : ℕ) → cpu < length ps → (slice_index_or ps cpu idle).running ≡ None) → runners u ps ≡ 0

@@ -1,4 +1,3 @@
 pub mod Order
 pub mod Schedule
 pub mod Scheduled
-pub mod InOrder

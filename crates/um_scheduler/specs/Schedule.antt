@@ -1,21 +1,17 @@
 -- The order in which processors make the events of threads.
-use Rattle.std.specs.Prelude.{◌≡◌, ◌⊎◌, ℕ, zero, suc, ◌+◌, ◌-◌, ◌%◌, Bool, true, false, ◌==◌, ◌&&◌, not, nat_lt, if◌then◌else◌, List, [], ◌∷◌, length, map, filter, drop, replicate, Option, Some, None, is_some, slice_get, slice_index_or, slice_set, IsTrue}
+use Rattle.std.specs.Prelude.{◌≡◌, ◌⊎◌, ℕ, zero, suc, ◌+◌, ◌-◌, ◌%◌, Bool, ◌&&◌, not, if◌then◌else◌, List, [], ◌∷◌, length, filter, drop, replicate, Option, Some, None, is_some, slice_get, slice_index_or, slice_set, IsTrue}
 use Rattle.std.specs.List.{list_any}
 use Rattle.um_base.specs.declared.act.Act.{Act}
 use Rattle.um_base.specs.declared.act.Event.{Event}
-use Rattle.um_base.specs.declared.image.Boot.{Boot}
 use Rattle.um_base.specs.declared.image.Image.{Image}
-use Rattle.um_base.specs.declared.limits.TheConstants.{ROWS, STATIC_ROWS, THREADS}
-use Rattle.um_base.specs.declared.names.Reply.{Reply}
+use Rattle.um_base.specs.declared.limits.TheConstants.{ROWS, STATIC_ROWS}
 use Rattle.um_base.specs.declared.names.ThreadIx.{ThreadIx}
-use Rattle.um_base.specs.Places.{thread_of_row}
-use Rattle.um_machine.specs.declared.pending.Pending.{Pending}
 use Rattle.um_machine.specs.Order.{to_thread}
 use Rattle.um_machine.specs.Run.{opening}
-use Rattle.um_machine.specs.State.{State, thread_at, is_living, is_started}
+use Rattle.um_machine.specs.State.{State, thread_at, is_started}
 use Rattle.um_matrix.specs.Alone.{IsNext, Stays, Cleans, CleansNot}
 use Rattle.um_matrix.specs.Offered.{is_forsaken}
-pub use Rattle.um_invariants.specs.Ready.{is_still, is_at_rest, is_ready_step, goes_on, readied, joins_some, boots_ready}
+pub use Rattle.um_invariants.specs.Ready.{is_still, is_at_rest, is_ready_step, goes_on, readied, joins_some, boots_ready, next_ready, behind_next, running_or, ready_after}
 use Rattle.um_scheduler.specs.declared.processor.Processor.{Processor}
 use Rattle.um_invariants.specs.Lines.{stands, joins, all_join}
 
@@ -37,30 +33,12 @@ with_processor turn cpu processor = record turn { processors = slice_set turn.pr
 
 -- The ready list.
 
--- the first of these threads that doesn't stand still, and those after it. Those before it leave the list
-abbrev pub next_ready : State → List ℕ → Option ThreadIx
-next_ready s [] = None
-next_ready s (t ∷ ts) = if is_still s t then next_ready s ts else Some (to_thread t)
-
-abbrev pub behind_next : State → List ℕ → List ℕ
-behind_next s [] = []
-behind_next s (t ∷ ts) = if is_still s t then behind_next s ts else ts
-
--- the thread that a processor runs, and those that are ready then
-abbrev pub running_or : Option ThreadIx → Option ThreadIx → Option ThreadIx
-running_or None next = next
-running_or (Some t) next = Some t
-
 abbrev pub runs : Turn → ℕ → Option ThreadIx
 runs turn cpu = running_or (processor_at turn cpu).running (next_ready turn.state turn.ready)
 
 abbrev pub left_ready : Turn → ℕ → List ℕ
 left_ready turn cpu =
     if is_some (processor_at turn cpu).running then turn.ready else behind_next turn.state turn.ready
-
--- the ready threads after an event of a thread: those that it starts or wakes go to the back, and then the thread itself if it is at rest
-abbrev pub ready_after : List ℕ → ℕ → Act → State → List ℕ
-ready_after ready t act s2 = let others = all_join ready (readied act) in if is_at_rest s2 t then joins others t else others
 
 -- Objects to clean.
 

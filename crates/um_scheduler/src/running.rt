@@ -3,13 +3,14 @@
 ghost use Rattle.std.specs.Prelude.{◌≡◌, ◌+◌, ◌<◌, ◌≤◌, ◌++◌, ◌∷◌, [], IfOk, length, vec_len, vec_capacity};
 ghost use Rattle.um_base.specs.{Lawful.{IsLawful}, Weight.{weight}};
 ghost use Rattle.um_machine.specs.Run.{opening, IsRun, RunsDue, IsComplete};
-ghost use Rattle.um_scheduler.specs.{InOrder.{IsInOrder}, Scheduled.{IsScheduled}};
+ghost use Rattle.um_invariants.specs.InOrder.{IsInOrder};
+ghost use Rattle.um_scheduler.specs.Scheduled.{IsScheduled};
 
 use crate::order::Order;
 use crate::turns::Processors;
 use std::alloc::Global;
 use std::slice::from_ref;
-use um_base::{Act, Event, Image, Memory, ThreadIx};
+use um_base::{Act, Event, Image, OutOfMemory, ThreadIx};
 use um_matrix::Matrix;
 
 /// The events of a run, and the state that they lead to.
@@ -37,7 +38,7 @@ pub fn run<'a>(
     cpus: u8,
     pick: Option<u64>,
     most: usize,
-) -> Result<Ran<'a>, Memory>
+) -> Result<Ran<'a>, OutOfMemory>
     requires lawful { IsLawful image.now }
     requires cpus { 1 ≤ cpus }
     requires room { weight image.now ≤ most }

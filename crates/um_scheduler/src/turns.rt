@@ -10,7 +10,7 @@ use crate::line::Line;
 use crate::processor::Processor;
 use std::alloc::Global;
 use std::marker::Model;
-use um_base::{Act, Event, Image, Memory, ROWS, Replies, STATIC_ROWS, THREADS, ThreadIx};
+use um_base::{Act, Event, Image, OutOfMemory, ROWS, Replies, STATIC_ROWS, THREADS, ThreadIx};
 use um_machine::{Life, Pending};
 use um_matrix::Matrix;
 use um_steps::rows::thread_of_row;
@@ -46,7 +46,7 @@ fn boot_ready(image: &Image) -> Line
 }
 
 /// Makes this many processors that run no thread.
-fn idle_processors(alloc: Global, cpus: u8) -> Result<Vec<Processor>, Memory>
+fn idle_processors(alloc: Global, cpus: u8) -> Result<Vec<Processor>, OutOfMemory>
     ensures { IfOk result (λ processors. processors.items ≡ replicate cpus idle) }
 {
     let mut processors = Vec::with_capacity(alloc, cpus as usize)?;
@@ -173,7 +173,7 @@ impl<'a> Processors<'a> {
     ghost use Rattle.um_scheduler.specs.Schedule.{Turn, IsOnly, CleansFirst, CleansNothing, NextGoes, NoneGoes, RunsOn, RunsNothing, Goes, Rests, passed, runs, left_ready, settled, processor_at, with_processor};
 
     /// The opening of an image: the boot threads are ready in the order of the description. It takes all memory that its steps need.
-    pub fn boot(alloc: Global, image: &'a Image, cpus: u8) -> Result<Processors<'a>, Memory>
+    pub fn boot(alloc: Global, image: &'a Image, cpus: u8) -> Result<Processors<'a>, OutOfMemory>
         requires { IsLawful image.now }
         ensures { IfOk result (λ processors. processors ≡ opening_turn image.now cpus) }
     {

@@ -10,7 +10,7 @@ use crate::writing::{
     put_term, put_timeout,
 };
 use std::alloc::Global;
-use um_base::{Instr, Memory, Term};
+use um_base::{Instr, OutOfMemory, Term};
 use um_vocabulary::kind_word;
 
 /// What a line of the instruction begins with.
@@ -64,14 +64,19 @@ fn mnemonic(line: &Instr) -> Mnemonic
     }
 }
 
-fn put_two(text: &mut Vec<u8>, first: &Term, second: &Term) -> Result<(), Memory>
+fn put_two(text: &mut Vec<u8>, first: &Term, second: &Term) -> Result<(), OutOfMemory>
     ensures { OnOk result (text.new.items ≡ text.old.items ++ (32 ∷ canonical.term_text first.now) ++ (32 ∷ canonical.term_text second.now)) }
 {
     put_term(text, first)?;
     put_term(text, second)
 }
 
-fn put_three(text: &mut Vec<u8>, first: &Term, second: &Term, third: &Term) -> Result<(), Memory>
+fn put_three(
+    text: &mut Vec<u8>,
+    first: &Term,
+    second: &Term,
+    third: &Term,
+) -> Result<(), OutOfMemory>
     ensures { OnOk result (text.new.items ≡ text.old.items ++ (32 ∷ canonical.term_text first.now) ++ (32 ∷ canonical.term_text second.now) ++ (32 ∷ canonical.term_text third.now)) }
 {
     put_two(text, first, second)?;
@@ -79,7 +84,7 @@ fn put_three(text: &mut Vec<u8>, first: &Term, second: &Term, third: &Term) -> R
 }
 
 /// The operands, each behind a space.
-fn put_operands(text: &mut Vec<u8>, line: &Instr) -> Result<(), Memory>
+fn put_operands(text: &mut Vec<u8>, line: &Instr) -> Result<(), OutOfMemory>
     ensures { OnOk result (text.new.items ≡ canonical.with_operands text.old.items (canonical.operands_of line.now)) }
 {
     match line {
@@ -216,7 +221,7 @@ fn put_operands(text: &mut Vec<u8>, line: &Instr) -> Result<(), Memory>
 }
 
 /// The canonical line of an instruction, put behind a text.
-pub fn put_line(text: &mut Vec<u8>, line: &Instr) -> Result<(), Memory>
+pub fn put_line(text: &mut Vec<u8>, line: &Instr) -> Result<(), OutOfMemory>
     ensures { OnOk result (text.new.items ≡ text.old.items ++ canonical.canonical line.now) }
 {
     text.extend_from_slice(mnemonic(line).word())?;
@@ -224,7 +229,7 @@ pub fn put_line(text: &mut Vec<u8>, line: &Instr) -> Result<(), Memory>
 }
 
 /// The canonical line of an instruction that a line can give.
-pub fn print_line(alloc: Global, line: &Instr) -> Result<Vec<u8>, Memory>
+pub fn print_line(alloc: Global, line: &Instr) -> Result<Vec<u8>, OutOfMemory>
     requires { IsTrue (is_line line.now) }
     ensures text { IfOk result (λ text. text.items ≡ canonical.canonical line.now) }
     ensures again { IfOk result (λ text. line_of text.items ≡ Ok line.now) }

@@ -5,11 +5,11 @@ ghost use Rattle.um_script.specs.Canonical as canonical;
 ghost use Rattle.um_vocabulary.specs.Words as words;
 
 use itoa::Buffer;
-use um_base::{Attr, Memory, Options, PartRef, Range, Ref, Term, Timeout};
+use um_base::{Attr, Options, OutOfMemory, PartRef, Range, Ref, Term, Timeout};
 use um_vocabulary::{attr_word, timeout_word};
 
 /// A word.
-pub fn put(text: &mut Vec<u8>, word: &[u8]) -> Result<(), Memory>
+pub fn put(text: &mut Vec<u8>, word: &[u8]) -> Result<(), OutOfMemory>
     ensures { OnOk result (text.new.items ≡ text.old.items ++ (32 ∷ word.now)) }
 {
     text.push(b' ')?;
@@ -18,7 +18,7 @@ pub fn put(text: &mut Vec<u8>, word: &[u8]) -> Result<(), Memory>
 }
 
 /// Decimal digits, with no space.
-fn put_digits(text: &mut Vec<u8>, number: u32) -> Result<(), Memory>
+fn put_digits(text: &mut Vec<u8>, number: u32) -> Result<(), OutOfMemory>
     ensures { OnOk result (text.new.items ≡ text.old.items ++ decimal number) }
 {
     let mut buffer = Buffer::new();
@@ -27,7 +27,7 @@ fn put_digits(text: &mut Vec<u8>, number: u32) -> Result<(), Memory>
 }
 
 /// A number.
-pub fn put_number(text: &mut Vec<u8>, number: u32) -> Result<(), Memory>
+pub fn put_number(text: &mut Vec<u8>, number: u32) -> Result<(), OutOfMemory>
     ensures { OnOk result (text.new.items ≡ text.old.items ++ (32 ∷ decimal number)) }
 {
     text.push(b' ')?;
@@ -35,7 +35,7 @@ pub fn put_number(text: &mut Vec<u8>, number: u32) -> Result<(), Memory>
 }
 
 /// A register.
-pub fn put_register(text: &mut Vec<u8>, register: u8) -> Result<(), Memory>
+pub fn put_register(text: &mut Vec<u8>, register: u8) -> Result<(), OutOfMemory>
     ensures { OnOk result (text.new.items ≡ text.old.items ++ (32 ∷ 114 ∷ decimal register)) }
 {
     text.push(b' ')?;
@@ -44,7 +44,7 @@ pub fn put_register(text: &mut Vec<u8>, register: u8) -> Result<(), Memory>
 }
 
 /// A priority.
-pub fn put_priority(text: &mut Vec<u8>, priority: i8) -> Result<(), Memory>
+pub fn put_priority(text: &mut Vec<u8>, priority: i8) -> Result<(), OutOfMemory>
     ensures { OnOk result (text.new.items ≡ text.old.items ++ (32 ∷ signed_decimal priority)) }
 {
     let mut buffer = Buffer::new();
@@ -52,7 +52,7 @@ pub fn put_priority(text: &mut Vec<u8>, priority: i8) -> Result<(), Memory>
 }
 
 /// How far a place stands behind its name, where it does.
-fn put_offset(text: &mut Vec<u8>, offset: u32) -> Result<(), Memory>
+fn put_offset(text: &mut Vec<u8>, offset: u32) -> Result<(), OutOfMemory>
     ensures { OnOk result (text.new.items ≡ text.old.items ++ canonical.offset_text offset) }
 {
     if offset == 0 {
@@ -62,7 +62,7 @@ fn put_offset(text: &mut Vec<u8>, offset: u32) -> Result<(), Memory>
     put_digits(text, offset)
 }
 
-fn put_place(text: &mut Vec<u8>, name: &[u8], offset: u32) -> Result<(), Memory>
+fn put_place(text: &mut Vec<u8>, name: &[u8], offset: u32) -> Result<(), OutOfMemory>
     ensures { OnOk result (text.new.items ≡ text.old.items ++ (32 ∷ ((64 ∷ name.now) ++ canonical.offset_text offset))) }
 {
     text.push(b' ')?;
@@ -72,7 +72,7 @@ fn put_place(text: &mut Vec<u8>, name: &[u8], offset: u32) -> Result<(), Memory>
 }
 
 /// A place, a register or a number.
-pub fn put_term(text: &mut Vec<u8>, term: &Term) -> Result<(), Memory>
+pub fn put_term(text: &mut Vec<u8>, term: &Term) -> Result<(), OutOfMemory>
     ensures { OnOk result (text.new.items ≡ text.old.items ++ (32 ∷ canonical.term_text term.now)) }
 {
     match term {
@@ -83,7 +83,7 @@ pub fn put_term(text: &mut Vec<u8>, term: &Term) -> Result<(), Memory>
 }
 
 /// The name of a domain or of a script.
-pub fn put_named(text: &mut Vec<u8>, named: &Ref) -> Result<(), Memory>
+pub fn put_named(text: &mut Vec<u8>, named: &Ref) -> Result<(), OutOfMemory>
     ensures { OnOk result (text.new.items ≡ text.old.items ++ (32 ∷ canonical.named_text named.now)) }
 {
     match named {
@@ -92,7 +92,7 @@ pub fn put_named(text: &mut Vec<u8>, named: &Ref) -> Result<(), Memory>
     }
 }
 
-fn put_given(text: &mut Vec<u8>, range: Range, attr: Attr) -> Result<(), Memory>
+fn put_given(text: &mut Vec<u8>, range: Range, attr: Attr) -> Result<(), OutOfMemory>
     ensures { OnOk result (text.new.items ≡ text.old.items ++ (32 ∷ (decimal range.start.0 ++ (47 ∷ decimal range.size) ++ (47 ∷ words.attr_word attr)))) }
 {
     put_number(text, range.start.0)?;
@@ -104,7 +104,7 @@ fn put_given(text: &mut Vec<u8>, range: Range, attr: Attr) -> Result<(), Memory>
 }
 
 /// A partition.
-pub fn put_part(text: &mut Vec<u8>, part: &PartRef) -> Result<(), Memory>
+pub fn put_part(text: &mut Vec<u8>, part: &PartRef) -> Result<(), OutOfMemory>
     ensures { OnOk result (text.new.items ≡ text.old.items ++ (32 ∷ canonical.part_text part.now)) }
 {
     match part {
@@ -115,7 +115,7 @@ pub fn put_part(text: &mut Vec<u8>, part: &PartRef) -> Result<(), Memory>
 }
 
 /// Partitions, one after the other.
-pub fn put_parts(text: &mut Vec<u8>, parts: &[PartRef]) -> Result<(), Memory>
+pub fn put_parts(text: &mut Vec<u8>, parts: &[PartRef]) -> Result<(), OutOfMemory>
     ensures { OnOk result (text.new.items ≡ canonical.with_parts text.old.items parts.now) }
 {
     for part in parts {
@@ -125,7 +125,7 @@ pub fn put_parts(text: &mut Vec<u8>, parts: &[PartRef]) -> Result<(), Memory>
 }
 
 /// How long a call waits.
-pub fn put_timeout(text: &mut Vec<u8>, timeout: Timeout) -> Result<(), Memory>
+pub fn put_timeout(text: &mut Vec<u8>, timeout: Timeout) -> Result<(), OutOfMemory>
     ensures { OnOk result (text.new.items ≡ text.old.items ++ (32 ∷ words.timeout_word timeout)) }
 {
     put(text, timeout_word(timeout))
@@ -148,7 +148,7 @@ fn options_word(set: Options) -> &'static [u8]
 }
 
 /// The options of a new thread.
-pub fn put_options(text: &mut Vec<u8>, set: Options) -> Result<(), Memory>
+pub fn put_options(text: &mut Vec<u8>, set: Options) -> Result<(), OutOfMemory>
     ensures { OnOk result (text.new.items ≡ text.old.items ++ (32 ∷ canonical.options_word set)) }
 {
     put(text, options_word(set))

@@ -128,7 +128,7 @@ fn wakes<R: Abort>(rt: &R, acted: &(Said, Outcome), answer: Answer, woken: &[(u8
 
 /// Threads of priority 5, 3 and 3 wait, and gives wake the second, the third and the first.
 #[test]
-fn semaphores(rt: HostRuntime) {
+fn a_give_wakes_the_first_in_order(rt: HostRuntime) {
     let mut sem = Trial::of(Contents::Sem { count: 0, limit: 1 });
     let take = Ask::SemTake { timeout: WAITS };
     answers(&rt, &sem.act((1, 5), &take), Answer::Wait);
@@ -145,7 +145,7 @@ fn semaphores(rt: HostRuntime) {
 
 /// The owner locks again, and nobody else unlocks; what is free isn't unlocked.
 #[test]
-fn mutexes(rt: HostRuntime) {
+fn only_the_owner_unlocks(rt: HostRuntime) {
     let mut mutex = Trial::of(Contents::Mutex {
         owner: None,
         depth: 0,
@@ -177,7 +177,7 @@ fn queue_of_one() -> Trial {
 
 /// A get lets the waiting message in, and a purge lets its putter go.
 #[test]
-fn message_queues(rt: HostRuntime) {
+fn a_get_lets_a_waiting_message_in(rt: HostRuntime) {
     let mut queue = queue_of_one();
     let get = Ask::MsgqGet { timeout: WAITS };
     let peek = Ask::MsgqPeek;
@@ -199,7 +199,7 @@ fn message_queues(rt: HostRuntime) {
 
 /// The newest value first, no more than there is room for, and one that waits for a value.
 #[test]
-fn stacks(rt: HostRuntime) {
+fn the_newest_value_comes_first(rt: HostRuntime) {
     let mut stack = Trial::of(Contents::Stack(ValueStack::new(2)));
     let pop = Ask::StackPop { timeout: WAITS };
     answers(&rt, &stack.act((0, 5), &Ask::StackPush { value: 7 }), DONE);
@@ -227,7 +227,7 @@ fn stacks(rt: HostRuntime) {
 
 /// A pipe of four bytes: what it takes, what it gives, and what is left of it once it is closed.
 #[test]
-fn pipes(rt: HostRuntime) {
+fn a_closed_pipe_gives_what_is_left(rt: HostRuntime) {
     let mut pipe = Trial::of(Contents::Pipe(BytePipe::new(4)));
     for (length, bytes, timeout, answer) in [
         (0, &[] as &[u8], Timeout::NoWait, DONE),
@@ -266,7 +266,7 @@ fn pipes(rt: HostRuntime) {
 
 /// A reset lets all go who wait, the least priority number first.
 #[test]
-fn resets(rt: HostRuntime) {
+fn a_reset_lets_all_go(rt: HostRuntime) {
     let mut sem = Trial::of(Contents::Sem { count: 0, limit: 1 });
     let take = Ask::SemTake { timeout: WAITS };
     let _ = sem.act((1, 5), &take);

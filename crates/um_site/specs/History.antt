@@ -7,8 +7,7 @@ use Rattle.um_words.specs.History.{Entry, bare, by_seat, IsHistory}
 use Rattle.um_words.specs.Steps.{number}
 use Rattle.um_words.specs.declared.made.Made.{Made}
 use Rattle.um_base.specs.declared.image.Image.{Image}
-use Rattle.um_base.specs.declared.names.Mpu.{Mpu}
-use Rattle.um_base.specs.declared.names.Policy.{Policy}
+use Rattle.um_machine.specs.State.{no_image}
 use Rattle.um_site.specs.declared.turn.Turn.{Turn}
 use Rattle.um_site.specs.declared.view.View.{View}
 
@@ -123,22 +122,6 @@ without n (k ∷ ks) = cond (same_name k n) ks (k ∷ without n ks)
 
 abbrev pub joiner : View → View → View
 joiner v w = record v { joined = v.joined ++ (w.name, w.made) ∷ w.joined; got = v.got ++ w.got; children = without w.name v.children ++ w.children; filled = v.filled ++ w.filled }
-
-abbrev pub no_image : Image
-no_image =
-    record {
-      mpu = Mpu.V7;
-      regions = 0;
-      policy = Policy.Abort;
-      rodata = None;
-      rodata_bytes = [];
-      pools = [];
-      partitions = [];
-      domains = [];
-      objects = [];
-      boots = [];
-      scripts = [];
-    }
 
 -- a seat that was joined in
 abbrev pub spent : View

@@ -21,7 +21,7 @@ use crate::view::View;
 use atomic_table::Table;
 use std::alloc::Global;
 use std::snapshot::Snapshot;
-use um_base::{Image, Memory};
+use um_base::{Image, OutOfMemory};
 use um_words::{Content, Local, step_number};
 
 /// A word for each site, which many threads may change at once.
@@ -55,7 +55,7 @@ impl<T: Content, L: Local> Board<T, L> {
         words: Vec<u64>,
         slots: u32,
         image: &Image,
-    ) -> Result<(Board<T, L>, Seat<T>), Memory>
+    ) -> Result<(Board<T, L>, Seat<T>), OutOfMemory>
         requires unstepped { (i : ℕ) → i < length words.items → number i (slice_index words.items i) ≡ 0 }
         requires turns { (i : ℕ) → 168 ≤ i → i < length words.items → slice_index words.items i % 2 ≡ 0 }
         requires fact { L.fact image.now words.items [] }

@@ -4,10 +4,10 @@ ghost use Rattle.std.specs.Prelude.{◌≡◌, IfOk};
 ghost use Rattle.um_machine.specs.Memory.{rodata_of};
 
 use std::alloc::Global;
-use um_base::{Image, Memory};
+use um_base::{Image, OutOfMemory};
 
 /// The bytes of the read-only data, filled up with zeros.
-pub fn rodata(alloc: Global, image: &Image) -> Result<Vec<u8>, Memory>
+pub fn rodata(alloc: Global, image: &Image) -> Result<Vec<u8>, OutOfMemory>
     ensures { IfOk result (λ bytes. bytes.items ≡ rodata_of image.now) }
 {
     let size = match image.rodata {

@@ -1,22 +1,21 @@
 -- The core of the state after a step depends on the core of the state before it alone: states with one core have the same writes and go on in the same way.
-use Rattle.std.proofs.Common.{◌≡◌, ℕ, Bool, true, false, List, [], ◌∷◌, refl, sym, ap, ◌∙◌, Option, Some, None, is_some, slice_set, take}
+use Rattle.std.proofs.Common.{◌≡◌, ℕ, List, [], ◌∷◌, refl, ap, ◌∙◌, Option, Some, None, is_some, slice_set, take}
 use Rattle.um_base.specs.declared.act.Act.{Act}
 use Rattle.um_base.specs.declared.act.Found.{Found}
 use Rattle.um_base.specs.declared.image.Image.{Image}
 use Rattle.um_base.specs.declared.instr.Instr.{Instr}
 use Rattle.um_base.specs.declared.limits.TheConstants.{PIECE}
 use Rattle.um_base.specs.declared.names.Errno.{Errno}
-use Rattle.um_base.specs.declared.names.Reply.TheVariants as Reply
 use Rattle.um_base.specs.Places.{own_row}
 use Rattle.um_base.specs.Regions.{Partitions}
 use Rattle.um_machine.specs.declared.object.Object.{Object}
 use Rattle.um_machine.specs.declared.pending.Pending.{Pending}
 use Rattle.um_machine.specs.declared.thread.Thread.{Thread}
-use Rattle.um_machine.specs.Goes.{Change, Next, at_steps, changed, gone, held, went, with_begin}
+use Rattle.um_machine.specs.Goes.{Change, Next, at_steps, gone, went, with_begin}
 use Rattle.um_machine.specs.Memory.{bytes_at, string_bytes, string_read}
 use Rattle.um_machine.specs.Order.{Steps, steps_of}
 use Rattle.um_machine.specs.Outcomes.{fits_in, reserved_in}
-use Rattle.um_machine.specs.Readings.{amount_of, row_of, work_of}
+use Rattle.um_machine.specs.Readings.{row_of, work_of}
 use Rattle.um_machine.specs.Services.{Acted}
 use Rattle.um_machine.specs.State.{State, object_at, thread_at, with_thread}
 use Rattle.um_machine.specs.Table.{act_of, after, came_with, continues, effects}
@@ -33,7 +32,7 @@ same_edit edit o = refl
 
 same_effect : (x : Effect) (s2 s : State) → core s2 ≡ core s → core (effect x s2) ≡ core (effect x s)
 same_effect (Effect.wakes woken) s2 s e = same_woken woken s2 s e
-same_effect (Effect.moves who d) s2 s e = same_moved s2 s e who d (Reply.Num 0)
+same_effect (Effect.moves who d) s2 s e = same_moved s2 s e who d
 same_effect (Effect.dooms who) s2 s e = same_doomed s2 s e who
 same_effect (Effect.starts who thread) s2 s e = same_with_thread s2 s e who thread thread refl
 same_effect (Effect.pair who x there) s2 s e = same_paired s2 s e who x there
@@ -43,7 +42,7 @@ same_effect (Effect.takes pool size) s2 s e = same_pools s2 s e (paid_from pool 
 same_effect (Effect.returns cost) s2 s e = same_pools s2 s e (paid_back cost)
 same_effect (Effect.edits d parts) s2 s e = same_domains s2 s e (λ (ds : List (Option Partitions)). slice_set ds d parts)
 
-same_wrote : (ws : Effects) (s2 s : State) → core s2 ≡ core s → core (wrote ws s2) ≡ core (wrote ws s)
+pub same_wrote : (ws : Effects) (s2 s : State) → core s2 ≡ core s → core (wrote ws s2) ≡ core (wrote ws s)
 same_wrote [] s2 s e = e
 same_wrote ((b, x) ∷ ws) s2 s e = same_wrote ws _ _ (same_if b (effect x s2) (effect x s) s2 s (same_effect x s2 s e) e)
 

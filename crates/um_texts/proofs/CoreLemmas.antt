@@ -1,23 +1,18 @@
 -- What of a state the steps of threads depend on: all but who cleans an object, and some of what is left of an instruction.
 use Rattle.std.proofs.Common.{◌≡◌, ℕ, zero, suc, ◌+◌, ◌-◌, Bool, true, false, List, [], ◌∷◌, refl, sym, ap, ◌∙◌, Option, Some, None, if◌then◌else◌, slice_index_or, slice_set, map}
 use Rattle.std.proofs.lemmas.List.{map-set}
-use Rattle.um_base.specs.declared.act.Leftover.{Leftover}
 use Rattle.um_base.specs.declared.ask.Told.{Told}
-use Rattle.um_base.specs.declared.image.Image.{Image}
 use Rattle.um_base.specs.declared.names.Reply.{Reply}
 use Rattle.um_base.specs.declared.names.ThreadIx.{ThreadIx}
 use Rattle.um_machine.specs.declared.object.Object.{Object}
-use Rattle.um_machine.specs.declared.object.Status.TheVariants as Status
 use Rattle.um_machine.specs.declared.pending.Pending.{Pending}
 use Rattle.um_machine.specs.declared.thread.Thread.{Thread}
 use Rattle.um_machine.specs.State.{State, nobody, vacant, thread_at, object_at, with_thread, with_object}
 use Rattle.um_base.specs.declared.limits.TheConstants.{PARTITION_AREA, STACK_AREA}
 use Rattle.um_base.specs.Regions.{Partitions}
 use Rattle.um_machine.specs.Memory.{with_bytes, put_bytes}
-use Rattle.um_machine.specs.Objects.{is_gone}
 use Rattle.um_machine.specs.Order.{Steps}
-use Rattle.um_texts.proofs.StateLemmas.{left_state}
-use Rattle.um_machine.specs.Table.{at_steps, goes_on, with_due, with_dues, paired, after_given, after_drop, dropped, moved, all_woken}
+use Rattle.um_machine.specs.Writes.{with_due, with_dues, paired, all_woken}
 
 -- what is left of an instruction, where a drop that is to come counts as done, and the drops of an end are all one
 abbrev pub settled : Steps → Steps
@@ -101,21 +96,6 @@ same_written s2 s e t f h =
     same_with_thread s2 s e t (f (thread_at s2 t)) (f (thread_at s t))
     (sym (h (thread_at s2 t)) ∙ ap (λ (m : Thread). core_thread (f m)) (same_thread s2 s e t) ∙ h (thread_at s t))
 
--- the same of another thread than the one that is read
-pub same_written_to : (s2 s : State) → core s2 ≡ core s → (u t : ℕ) (f : Thread → Thread) → ((m : Thread) → core_thread (f (core_thread m)) ≡ core_thread (f m)) → core (with_thread s2 u (f (thread_at s2 t))) ≡ core (with_thread s u (f (thread_at s t)))
-same_written_to s2 s e u t f h =
-    same_with_thread s2 s e u (f (thread_at s2 t)) (f (thread_at s t))
-    (sym (h (thread_at s2 t)) ∙ ap (λ (m : Thread). core_thread (f m)) (same_thread s2 s e t) ∙ h (thread_at s t))
-
--- a thread goes on
-pub same_goes : (s2 s : State) → core s2 ≡ core s → (t : ℕ) (f : Thread → Thread) (rest : Thread → Steps)
-    → ((i : Image) (m : Thread) → core_thread (at_steps i (f (core_thread m)) (rest (core_thread m))) ≡ core_thread (at_steps i (f m) (rest m)))
-    → core (goes_on s2 t (f (thread_at s2 t)) (rest (thread_at s2 t))) ≡ core (goes_on s t (f (thread_at s t)) (rest (thread_at s t)))
-same_goes s2 s e t f rest h =
-    let i : s2.image ≡ s.image = ap (λ (k : State). k.image) e in
-    ap (λ (image : Image). core (with_thread s2 t (at_steps image (f (thread_at s2 t)) (rest (thread_at s2 t))))) i
-    ∙ same_written s2 s e t (λ m. at_steps s.image (f m) (rest m)) (h s.image)
-
 pub same_written_object : (s2 s : State) → core s2 ≡ core s → (x : ℕ) (f : Object → Object) → ((o : Object) → core_object (f (core_object o)) ≡ core_object (f o)) → core (with_object s2 x (f (object_at s2 x))) ≡ core (with_object s x (f (object_at s x)))
 same_written_object s2 s e x f h =
     same_with_object s2 s e x (f (object_at s2 x)) (f (object_at s x))
@@ -139,27 +119,6 @@ core_paired s t x there =
 pub same_paired : (s2 s : State) → core s2 ≡ core s → (t x : ℕ) (there : Bool) → core (paired s2 t x there) ≡ core (paired s t x there)
 same_paired s2 s e t x there = core_paired s2 t x there ∙ ap (λ (k : State). paired k t x there) e ∙ sym (core_paired s t x there)
 
-pub same_status : (s2 s : State) → core s2 ≡ core s → (x : ℕ) → (object_at s2 x).status ≡ (object_at s x).status
-same_status s2 s e x = ap (λ (o : Object). o.status) (same_object s2 s e x)
-
-pub same_given : (s2 s : State) → core s2 ≡ core s → (t x : ℕ) → core (after_given s2 t x) ≡ core (after_given s t x)
-same_given s2 s e t x =
-    ap (λ (b : Bool). core (if b then s2 else paired s2 t x true)) (ap is_gone (same_status s2 s e x))
-    ∙ same_if (is_gone (object_at s x).status) s2 s (paired s2 t x true) (paired s t x true) e (same_paired s2 s e t x true)
-
-same_left : (s2 s : State) → core s2 ≡ core s → (t x : ℕ) (left : Leftover) → core (left_state s2 t x left) ≡ core (left_state s t x left)
-same_left s2 s e t x Leftover.NoPair = e
-same_left s2 s e t x Leftover.Kept = same_paired s2 s e t x false
-same_left s2 s e t x Leftover.Gone =
-    same_with_object (paired s2 t x false) (paired s t x false) (same_paired s2 s e t x false) x (record (object_at s2 x) { status = Status.Gone }) (record (object_at s x) { status = Status.Gone })
-    (ap (λ (o : Object). core_object (record o { status = Status.Gone })) (same_object s2 s e x))
-
-pub same_dropped : (s2 s : State) → core s2 ≡ core s → (t x : ℕ) → dropped s2 t x ≡ dropped s t x
-same_dropped s2 s e t x = ap (λ (k : State). dropped k t x) e
-
-pub same_drop : (s2 s : State) → core s2 ≡ core s → (t x : ℕ) → core (after_drop s2 t x) ≡ core (after_drop s t x)
-same_drop s2 s e t x = ap (λ (left : Leftover). core (left_state s2 t x left)) (same_dropped s2 s e t x) ∙ same_left s2 s e t x (dropped s t x)
-
 -- Memory, pools and domains.
 
 bytes_by : (s2 s : State) (low : Bool) (m2 m n2 n : List ℕ) → core s2 ≡ core s → m2 ≡ m → n2 ≡ n → core (if low then record s2 { memory = m2 } else record s2 { stacks = n2 }) ≡ core (if low then record s { memory = m } else record s { stacks = n })
@@ -178,12 +137,8 @@ same_domains s2 s e f = ap (λ (k : State). record k { domains = f k.domains }) 
 
 -- Other threads.
 
-pub same_moved : (s2 s : State) → core s2 ≡ core s → (who d : ℕ) (reply : Reply) → core (moved s2 who d reply) ≡ core (moved s who d reply)
-same_moved s2 s e who d (Reply.Num n) = same_written s2 s e who (λ (m : Thread). record m { domain = d }) (λ m. ap (λ (steps : Steps). record m { domain = d; pending = steps }) (settled_twice m.pending))
-same_moved s2 s e who d Reply.Void = e
-same_moved s2 s e who d (Reply.At a) = e
-same_moved s2 s e who d Reply.Null = e
-same_moved s2 s e who d (Reply.Fail x) = e
+pub same_moved : (s2 s : State) → core s2 ≡ core s → (who d : ℕ) → core (with_thread s2 who (record (thread_at s2 who) { domain = d })) ≡ core (with_thread s who (record (thread_at s who) { domain = d }))
+same_moved s2 s e who d = same_written s2 s e who (λ (m : Thread). record m { domain = d }) (λ m. ap (λ (steps : Steps). record m { domain = d; pending = steps }) (settled_twice m.pending))
 
 pub same_woken : (ws : List (ThreadIx × Told)) (s2 s : State) → core s2 ≡ core s → core (all_woken ws s2) ≡ core (all_woken ws s)
 same_woken [] s2 s e = e

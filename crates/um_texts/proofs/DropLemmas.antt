@@ -1,12 +1,11 @@
 -- A drop is known by its thread and its object, whichever step makes it.
-use Rattle.std.proofs.Common.{◌≡◌, inl, inr, ℕ, zero, suc, ◌+◌, ◌-◌, ◌<◌, ◌≤◌, Bool, true, false, ◌&&◌, ◌||◌, List, [], ◌∷◌, length, refl, sym, ap, ◌∙◌, arith, Option, Some, None, slice_index_or, map, unwrap_or, subst}
+use Rattle.std.proofs.Common.{◌≡◌, inl, inr, ℕ, ◌+◌, ◌-◌, ◌<◌, ◌≤◌, Bool, true, false, ◌&&◌, ◌||◌, List, [], ◌∷◌, length, refl, sym, ap, ◌∙◌, arith, Option, Some, None, map, unwrap_or}
 use Rattle.std.specs.Prelude.{nat_lt, nat_le, position}
 use Rattle.std.proofs.Math.Seq.{map-set_same}
 use Rattle.std.proofs.lemmas.Bool.{and_parts, cases_lt}
 use Rattle.std.proofs.lemmas.Bool.Decides.{nat_tests}
 use Rattle.std.proofs.lemmas.List.Quantifiers.{position-Some}
 use Rattle.um_base.specs.declared.act.Act.{Act}
-use Rattle.um_base.specs.declared.act.Leftover.{Leftover}
 use Rattle.um_base.specs.declared.image.Image.{Image}
 use Rattle.um_base.specs.declared.image.ObjectDef.{ObjectDef}
 use Rattle.um_base.specs.declared.image.Setup.{Setup}
@@ -22,16 +21,23 @@ use Rattle.um_machine.specs.declared.thread.Thread.{Thread}
 use Rattle.um_machine.specs.State.{State, nobody, vacant, thread_at, object_at, pair_at, with_thread, with_object}
 use Rattle.um_machine.specs.Objects.{is_gone}
 use Rattle.um_machine.specs.Order.{Steps, to_addr, to_thread}
-use Rattle.um_machine.specs.Run.{Offers, goes, skips_inherit, skips_drops, MayChoose}
-use Rattle.um_machine.specs.Table.{act_of, after, after_drop, at_steps, cleaned_by, dropped, row_of, with_dues}
+use Rattle.um_machine.specs.Run.{Offers, goes, skips_inherit, skips_drops, tends, MayChoose}
+use Rattle.um_machine.specs.Goes.{at_steps}
+use Rattle.um_machine.specs.Readings.{dropped, row_of}
+use Rattle.um_machine.specs.Table.{act_of, after}
+use Rattle.um_machine.specs.Writes.{drops as drop_writes, wrote}
 use Rattle.um_texts.proofs.IdentityLemmas.{is_real, has_own, static_own, dynamic_own}
-use Rattle.um_texts.proofs.StateLemmas.{left_state, IsKept, is_answer_void, begins_with_start, begins_with_clear, are_fit}
+use Rattle.um_texts.proofs.StateLemmas.{IsKept, is_answer_void, begins_with_start, begins_with_clear, are_fit}
 use Rattle.um_texts.proofs.OwnLemmas.{IsSound}
 use Rattle.um_texts.proofs.AddressLemmas.{row_found}
-use Rattle.um_texts.proofs.CoreLemmas.{core, core_thread, core_object, settled, same_drop}
+use Rattle.um_texts.proofs.CoreLemmas.{core, core_thread, core_object, settled}
+use Rattle.um_texts.proofs.AfterLemmas.{same_wrote}
 use Rattle.um_texts.proofs.MarkLemmas.{drops, mark_step}
-use Rattle.um_machine.specs.Rows.{by_rows}
-use Rattle.um_machine.proofs.AfterLemmas.{rows-are}
+use Rattle.um_machine.proofs.EffectLemmas.{all_other, key-same, keys-wrote}
+
+-- the state after a drop
+abbrev pub dropping : State → ℕ → ℕ → State
+dropping s t x = wrote (drop_writes t x (dropped s t x)) s
 
 -- a thread drops a pair of a thread with the object at an address
 pub record IsDrop (image : Image) (s : State) (act : Act) (s2 : State) : Type 0 where
@@ -39,22 +45,20 @@ pub record IsDrop (image : Image) (s : State) (act : Act) (s2 : State) : Type 0 
   pub addr : Addr
   pub own : has_own image who.0 ≡ true
   pub says : act ≡ Act.DropPair who addr (dropped s who.0 (row_of s addr))
-  pub leaves : core s2 ≡ core (after_drop s who.0 (row_of s addr))
+  pub leaves : core s2 ≡ core (dropping s who.0 (row_of s addr))
+
+pub same_dropping : (s2 s : State) → core s2 ≡ core s → (t x : ℕ) → core (dropping s2 t x) ≡ core (dropping s t x)
+same_dropping s2 s e t x = ap (λ (k : State). core (wrote (drop_writes t x (dropped k t x)) s2)) e ∙ same_wrote (drop_writes t x (dropped s t x)) s2 s e
 
 -- What is left of an instruction when a pair is dropped.
 
-pending_dues : (x i : ℕ) (holders : List Bool) (ts : List Thread) (u : ℕ) → (slice_index_or (with_dues x i holders ts) u nobody).pending ≡ (slice_index_or ts u nobody).pending
-pending_dues x i holders [] u = refl
-pending_dues x i holders (me ∷ ts) zero = refl
-pending_dues x i holders (me ∷ ts) (suc u) = pending_dues x (i + 1) holders ts u
-
-pending_left : (s : State) (t x u : ℕ) (left : Leftover) → (thread_at (left_state s t x left) u).pending ≡ (thread_at s u).pending
-pending_left s t x u Leftover.NoPair = refl
-pending_left s t x u Leftover.Kept = pending_dues x 0 _ s.threads u
-pending_left s t x u Leftover.Gone = pending_dues x 0 _ s.threads u
-
-pending_drop : (s : State) (t x u : ℕ) → (thread_at (after_drop s t x) u).pending ≡ (thread_at s u).pending
-pending_drop s t x u = pending_left s t x u (dropped s t x)
+pending_drop : (s : State) (t x u : ℕ) → (thread_at (dropping s t x) u).pending ≡ (thread_at s u).pending
+pending_drop s t x u =
+    let ws = drop_writes t x (dropped s t x) in
+    key-same of s (wrote ws s) (keys-wrote of all_other (record { due = λ h me due. refl; told = λ h me told. refl; domain = λ h me domain. refl; doomed = λ h me. refl }) ws s refl) u
+  where
+    of : Thread → Steps
+    of me = me.pending
 
 -- a thread is written whose core is the same
 unwritten : (s : State) (t : ℕ) (me : Thread) → core_thread me ≡ core_thread (thread_at s t) → core (with_thread s t me) ≡ core s
@@ -141,19 +145,21 @@ pub drop_next : (image : Image) (s : State) → IsKept image s → (t : ℕ) (wh
 drop_next image s kept t who a rest (goes e) = e
 drop_next image s kept t who a rest (skips_inherit e h) = absurd (start_no_drop who a rest (behind_inherit image s kept t _ _ e))
 drop_next image s kept t who a rest (skips_drops e h) = absurd (clear_no_drop who a rest (behind_drops image s kept t _ _ e))
+drop_next image s kept t who a _ (tends is started) = cc
 
 pub drops_next : (image : Image) (s : State) → IsKept image s → (t from : ℕ) (rest : Steps) → Offers s t (Pending.Drops from) rest → (thread_at s t).pending ≡ Pending.Drops from ∷ rest
 drops_next image s kept t from rest (goes e) = e
 drops_next image s kept t from rest (skips_inherit e h) = absurd (start_no_drops from rest (behind_inherit image s kept t _ _ e))
 drops_next image s kept t from rest (skips_drops e h) = absurd (clear_no_drops from rest (behind_drops image s kept t _ _ e))
+drops_next image s kept t from _ (tends is started) = cc
 
 pair_drop : (image : Image) (s : State) → IsKept image s → (t : ℕ) (who : ThreadIx) (a : Addr) (rest : Steps) (x : ℕ) → (thread_at s t).pending ≡ Pending.DropPair who a ∷ rest
-    → IsDrop image s (act_of s t x (Pending.DropPair who a)) (by_rows s t x (Pending.DropPair who a) rest)
+    → IsDrop image s (act_of s t x (Pending.DropPair who a)) (after s t x (Pending.DropPair who a) rest)
 pair_drop image s kept t who a rest x e =
     let fit : are_fit image (Pending.DropPair who a ∷ rest) ≡ true = rw e at (kept.fit t) in
     let here = (and_parts (has_own image who.0 && is_answer_void rest) (are_fit image rest) fit).0 in
     let void = void_is rest (and_parts (has_own image who.0) (is_answer_void rest) here).1 in
-    let s2 = after_drop s who.0 (row_of s a) in
+    let s2 = dropping s who.0 (row_of s a) in
     record {
       who = who;
       addr = a;
@@ -163,20 +169,20 @@ pair_drop image s kept t who a rest x e =
     }
 
 end_drop : (image : Image) → IsSound image → (s : State) → IsKept image s → (t from : ℕ) (rest : Steps) (x : ℕ) → has_own image t ≡ true → (thread_at s t).pending ≡ Pending.Drops from ∷ rest → pair_at s t x ≡ true
-    → IsDrop image s (act_of s t x (Pending.Drops from)) (by_rows s t x (Pending.Drops from) rest)
+    → IsDrop image s (act_of s t x (Pending.Drops from)) (after s t x (Pending.Drops from) rest)
 end_drop image sound s kept t from rest x own e pair =
     let row = row_there image sound s kept.image_is x (kept.real t x pair) in
-    let s2 = after_drop s t x in
+    let s2 = dropping s t x in
     record {
       who = to_thread t;
       addr = to_addr (addr_of s.image x);
       own = own;
       says = ap (λ (y : ℕ). Act.DropPair (to_thread t) (to_addr (addr_of s.image x)) (dropped s t y)) (sym row);
-      leaves = unwritten s2 t _ (drops_done (thread_at s2 t) from (x + 1) rest (pending_drop s t x t ∙ e)) ∙ ap (λ (y : ℕ). core (after_drop s t y)) (sym row);
+      leaves = unwritten s2 t _ (drops_done (thread_at s2 t) from (x + 1) rest (pending_drop s t x t ∙ e)) ∙ ap (λ (y : ℕ). core (dropping s t y)) (sym row);
     }
 
 clean_drop : (image : Image) → IsSound image → (s : State) → IsKept image s → (t : ℕ) (who : ThreadIx) (rest : Steps) (x : ℕ) → is_gone (object_at s (own_row s.image who.0)).status ≡ true → pair_at s who.0 x ≡ true
-    → IsDrop image s (act_of s t x (Pending.CleanPair who)) (by_rows s t x (Pending.CleanPair who) rest)
+    → IsDrop image s (act_of s t x (Pending.CleanPair who)) (after s t x (Pending.CleanPair who) rest)
 clean_drop image sound s kept t who rest x gone pair =
     let row = row_there image sound s kept.image_is x (kept.real who.0 x pair) in
     let y = own_row s.image who.0 in
@@ -190,16 +196,14 @@ clean_drop image sound s kept t who rest x gone pair =
       own = gone_own image sound.few who.0 (rw same at low) (rw same at high);
       says = ap (λ (z : ℕ). Act.DropPair who (to_addr (addr_of s.image x)) (dropped s who.0 z)) (sym row);
       leaves =
-          same_drop (cleaned_by s t y) s (unwritten_object s y (record (object_at s y) { cleaner = Some (to_thread t) }) refl) who.0 x
-          ∙ ap (λ (z : ℕ). core (after_drop s who.0 z)) (sym row);
+          same_wrote (drop_writes who.0 x (dropped s who.0 x)) (with_object s y (record (object_at s y) { cleaner = Some (to_thread t) })) s
+          (unwritten_object s y (record (object_at s y) { cleaner = Some (to_thread t) }) refl)
+          ∙ ap (λ (z : ℕ). core (dropping s who.0 z)) (sym row);
     }
 
 pub drop_step : (image : Image) → IsSound image → (s : State) → IsKept image s → (t x : ℕ) (p : Pending) (rest : Steps) → has_own image t ≡ true → Offers s t p rest → MayChoose s t x p → mark_step p ≡ drops
     → IsDrop image s (act_of s t x p) (after s t x p rest)
-drop_step image sound s kept t x (Pending.DropPair who a) rest own offered may h =
-    subst (IsDrop image s (act_of s t x (Pending.DropPair who a))) (rows-are s t x (Pending.DropPair who a) rest) (pair_drop image s kept t who a rest x (drop_next image s kept t who a rest offered))
-drop_step image sound s kept t x (Pending.Drops from) rest own offered may h =
-    subst (IsDrop image s (act_of s t x (Pending.Drops from))) (rows-are s t x (Pending.Drops from) rest) (end_drop image sound s kept t from rest x own (drops_next image s kept t from rest offered) may.1)
-drop_step image sound s kept t x (Pending.CleanPair who) rest own offered may h =
-    subst (IsDrop image s (act_of s t x (Pending.CleanPair who))) (rows-are s t x (Pending.CleanPair who) rest) (clean_drop image sound s kept t who rest x may.0.0 may.1)
+drop_step image sound s kept t x (Pending.DropPair who a) rest own offered may h = pair_drop image s kept t who a rest x (drop_next image s kept t who a rest offered)
+drop_step image sound s kept t x (Pending.Drops from) rest own offered may h = end_drop image sound s kept t from rest x own (drops_next image s kept t from rest offered) may.1
+drop_step image sound s kept t x (Pending.CleanPair who) rest own offered may h = clean_drop image sound s kept t who rest x may.0.0 may.1
 drop_step image sound s kept t x p rest own offered may h = cc

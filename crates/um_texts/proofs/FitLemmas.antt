@@ -16,11 +16,11 @@ use Rattle.um_base.specs.declared.names.Reply.{Reply}
 use Rattle.um_base.specs.Lawful.{is_within}
 use Rattle.um_base.specs.Places.{row_at, setup_at, thread_of_addr}
 use Rattle.um_machine.specs.declared.pending.Pending.{Pending}
-use Rattle.um_machine.specs.declared.pending.Refusal.{Refusal}
 use Rattle.um_machine.specs.declared.thread.Thread.{Thread}
 use Rattle.um_machine.specs.State.{value_of}
-use Rattle.um_machine.specs.Order.{Steps, to_addr, to_thread, to_row, copy_fails, answer_error, answer_zero, work, buffered, privileged, creation_refusal, stack_declared, number_of, new_mode, creates, steps_of, end_steps, fatal_steps}
-use Rattle.um_machine.specs.Table.{without_copy, after_error, after_check, cleared_first, next_doom}
+use Rattle.um_machine.specs.Order.{Steps, to_addr, to_thread, to_row, answer_error, answer_zero, work, buffered, privileged, creation_refusal, stack_declared, number_of, new_mode, creates, steps_of, end_steps, fatal_steps}
+use Rattle.um_machine.specs.Goes.{next_doom}
+use Rattle.um_machine.proofs.WayLemmas.{HoldsOfWays}
 use Rattle.um_texts.proofs.IdentityLemmas.{has_own}
 use Rattle.um_texts.proofs.StateLemmas.{are_fit}
 use Rattle.um_texts.proofs.OwnLemmas.{IsSound, own_of_addr}
@@ -113,33 +113,9 @@ fit_steps image sound t me (Instr.PipeClose object) own = refl
 fit_steps image sound t me Instr.End own = refl
 fit_steps image sound t me (Instr.Repeat times) own = refl
 
--- what is left after an error
-pub fit_without : (image : Image) (rest : Steps) → are_fit image rest ≡ true → are_fit image (without_copy rest) ≡ true
-fit_without image (Pending.CopyOut a ∷ rest) h = h
-fit_without image rest h = h
-
-pub fit_error : (image : Image) (mode : Mode) (ask : Ask) (e : Errno) (rest : Steps) → are_fit image rest ≡ true → are_fit image (after_error mode ask e rest) ≡ true
-fit_error image mode (Ask.SemInit count limit) e rest h = refl
-fit_error image mode Ask.MutexInit e rest h = refl
-fit_error image mode (Ask.MsgqInit size most pool) e rest h = refl
-fit_error image mode (Ask.StackInit most pool) e rest h = refl
-fit_error image mode (Ask.PipeInit size pool) e rest h = refl
-fit_error image mode ask e rest h = fit_without image rest h
-
-pub fit_check : (image : Image) (mode : Mode) (rest : Steps) (refusal : Refusal) (v : Option Errno) → are_fit image rest ≡ true → are_fit image (after_check mode rest refusal v) ≡ true
-fit_check image mode rest refusal None h = h
-fit_check image mode rest Refusal.Fails (Some e) h = refl
-fit_check image Mode.User rest Refusal.FailsUser (Some e) h = refl
-fit_check image Mode.Supervisor rest Refusal.FailsUser (Some e) h = refl
-fit_check image mode rest (Refusal.Answers reply) (Some e) h = refl
-
-pub fit_copy : (image : Image) (mode : Mode) → are_fit image (copy_fails mode) ≡ true
-fit_copy image Mode.User = refl
-fit_copy image Mode.Supervisor = refl
-
-pub fit_cleared : (image : Image) (undo : Option Addr) (rest : Steps) → are_fit image rest ≡ true → are_fit image (cleared_first undo rest) ≡ true
-fit_cleared image None rest h = h
-fit_cleared image (Some a) rest h = h
+-- what is left
+pub fit_ways : (image : Image) → HoldsOfWays (λ (left : Steps). are_fit image left ≡ true)
+fit_ways image = record { call = (λ a left h. h, λ left h. h, λ a left h. h); replies = λ reply. refl; fails = λ reason cause. (refl, λ size. refl, λ a. refl) }
 
 pub fit_fatal : (image : Image) (t : ℕ) (me : Thread) (reason : ℕ) (policy : Policy) → are_fit image (fatal_steps image t me reason policy) ≡ true
 fit_fatal image t me reason Policy.Halt = refl

@@ -21,7 +21,7 @@ use Rattle.um_machine.specs.declared.thread.Thread.{Thread}
 use Rattle.um_machine.specs.State.{State, nobody, vacant, thread_at, object_at, pair_at, with_pair, is_started, is_living}
 use Rattle.um_machine.specs.Objects.{is_gone}
 use Rattle.um_machine.specs.Order.{Steps}
-use Rattle.um_machine.specs.Run.{Offers, goes, skips_inherit, skips_drops, begins, exits, cleans_pair, recycles, objects_from, boot_thread, index_or, granted, booted_one, booted, loaded, blank, opening}
+use Rattle.um_machine.specs.Run.{Offers, goes, skips_inherit, skips_drops, begins, exits, tends, objects_from, boot_thread, index_or, granted, booted_one, booted, loaded, blank, opening}
 use Rattle.um_texts.proofs.PlainLemmas.{all_get}
 use Rattle.um_texts.proofs.IdentityLemmas.{is_real, has_own}
 use Rattle.um_texts.proofs.StateLemmas.{IsKept, is_acting, has_steps, are_fit, kept_thread, kept_pair, kept_bytes}
@@ -147,8 +147,7 @@ offered_acting s t p rest (skips_inherit e h) = steps_acting (thread_at s t) (rw
 offered_acting s t p rest (skips_drops e h) = steps_acting (thread_at s t) (rw e refl)
 offered_acting s t p rest (begins e h k l) = living_started (thread_at s t) h
 offered_acting s t p rest (exits e h k l) = living_started (thread_at s t) h
-offered_acting s t p rest (cleans_pair h) = life_acting (thread_at s t) h
-offered_acting s t p rest (recycles h) = life_acting (thread_at s t) h
+offered_acting s t p rest (tends is h) = life_acting (thread_at s t) h
 
 -- The first thread.
 

@@ -1,23 +1,18 @@
 -- What holds in each state of a run of an image: who has steps to make has an object of its own, pairs are with rows at which objects
 -- stand, only dynamic objects are gone, and steps that follow others are of their kinds.
-use Rattle.std.proofs.Common.{◌≡◌, ℕ, zero, suc, ◌+◌, ◌<◌, ◌≤◌, Bool, true, false, ◌&&◌, ◌||◌, not, List, [], ◌∷◌, length, refl, ap, arith, Some, None, if◌then◌else◌, slice_index_or, slice_set}
-use Rattle.std.specs.Prelude.{nat_le}
-use Rattle.std.proofs.lemmas.Bool.Decides.{nat_tests}
-use Rattle.um_base.specs.declared.act.Leftover.{Leftover}
-use Rattle.um_base.specs.declared.ask.Told.{Told}
+use Rattle.std.proofs.Common.{◌≡◌, ℕ, zero, suc, ◌+◌, ◌<◌, ◌≤◌, Bool, true, false, ◌&&◌, ◌||◌, List, [], ◌∷◌, length, refl, ap, Option, Some, None, if◌then◌else◌, slice_index_or, slice_set}
 use Rattle.um_base.specs.declared.image.Image.{Image}
 use Rattle.um_base.specs.declared.limits.TheConstants.{STATIC_ROWS, ROWS}
 use Rattle.um_base.specs.declared.names.Reply.{Reply}
-use Rattle.um_base.specs.declared.names.ThreadIx.{ThreadIx}
 use Rattle.um_machine.specs.declared.object.Object.{Object}
-use Rattle.um_machine.specs.declared.object.Status.TheVariants as Status
 use Rattle.um_machine.specs.declared.pending.Pending.{Pending}
 use Rattle.um_machine.specs.declared.thread.Thread.{Thread}
 use Rattle.um_machine.specs.State.{State, nobody, vacant, thread_at, object_at, with_thread, with_object, pair_at, with_pair, is_started}
+use Rattle.um_base.specs.Regions.{Partitions}
 use Rattle.um_machine.specs.Memory.{with_bytes}
-use Rattle.um_machine.specs.Objects.{is_gone, has_no_pair}
+use Rattle.um_machine.specs.Objects.{is_gone}
 use Rattle.um_machine.specs.Order.{Steps}
-use Rattle.um_machine.specs.Table.{with_dues, with_due, paired, after_given, after_drop, moved, all_woken, goes_on, at_steps}
+use Rattle.um_machine.specs.Writes.{with_dues, with_due, paired}
 use Rattle.um_texts.proofs.IdentityLemmas.{is_real, has_own}
 
 abbrev pub has_steps : Steps → Bool
@@ -94,10 +89,6 @@ kept_object image s x o kept gone = record {
   gone = λ y. set_cases (λ (p : Object). is_gone p.status ≡ true → (STATIC_ROWS ≤ y) × (y < ROWS)) s.objects x y o vacant (λ e h. rw e (gone h)) (kept.gone y);
 }
 
--- an object whose status stays
-pub kept_status : (image : Image) (s : State) (x : ℕ) (o : Object) → IsKept image s → o.status ≡ (object_at s x).status → IsKept image (with_object s x o)
-kept_status image s x o kept same = kept_object image s x o kept (λ h. kept.gone x (rw same at h))
-
 pub kept_pair : (image : Image) (s : State) (t x : ℕ) (there : Bool) → IsKept image s → (there ≡ true → is_real image x ≡ true) → IsKept image (with_pair s t x there)
 kept_pair image s t x there kept real = record {
   few = kept.few;
@@ -132,66 +123,15 @@ pub kept_paired : (image : Image) (s : State) (t x : ℕ) (there : Bool) → IsK
 kept_paired image s t x there kept real =
     let s2 = with_pair s t x there in kept_dues image s2 x (slice_index_or s2.pairs x []) (kept_pair image s t x there kept real)
 
-kept_given_by : (image : Image) (s : State) (t x : ℕ) (gone : Bool) → IsKept image s → is_real image x ≡ true → IsKept image (if gone then s else paired s t x true)
-kept_given_by image s t x true kept real = kept
-kept_given_by image s t x false kept real = kept_paired image s t x true kept (λ h. real)
-
-pub kept_given : (image : Image) (s : State) (t x : ℕ) → IsKept image s → is_real image x ≡ true → IsKept image (after_given s t x)
-kept_given image s t x kept real = kept_given_by image s t x (is_gone (object_at s x).status) kept real
-
--- what a drop leaves, by what it says
-abbrev pub left_state : State → ℕ → ℕ → Leftover → State
-left_state s t x left =
-    elim left as (λ _. State) [
-      | Leftover.NoPair ↦ s
-      | Leftover.Kept ↦ paired s t x false
-      | Leftover.Gone ↦ with_object (paired s t x false) x (record (object_at s x) { status = Status.Gone })
-    ]
-
-never : false ≡ true → ⊥
-never h = cc
-
-low_row : (x : ℕ) → nat_le STATIC_ROWS x ≡ true → STATIC_ROWS ≤ x
-low_row x h = grind (arith, nat_tests)
-
-below : (image : Image) (x : ℕ) → length image.objects ≤ STATIC_ROWS → is_real image x ≡ true → STATIC_ROWS ≤ x → x < ROWS
-below image x few real low = grind (arith, nat_tests)
-
-kept_drop_by : (image : Image) (s : State) (t x : ℕ) (pair low none : Bool) → IsKept image s → pair_at s t x ≡ pair → nat_le STATIC_ROWS x ≡ low
-    → IsKept image (left_state s t x (if not pair then Leftover.NoPair else if low && none then Leftover.Gone else Leftover.Kept))
-kept_drop_by image s t x false low none kept there dynamic = kept
-kept_drop_by image s t x true false none kept there dynamic = kept_paired image s t x false kept (λ h. absurd (never h))
-kept_drop_by image s t x true true false kept there dynamic = kept_paired image s t x false kept (λ h. absurd (never h))
-kept_drop_by image s t x true true true kept there dynamic =
-    kept_object image (paired s t x false) x (record (object_at s x) { status = Status.Gone }) (kept_paired image s t x false kept (λ h. absurd (never h)))
-    (λ h. (low_row x dynamic, below image x kept.few (kept.real t x there) (low_row x dynamic)))
-
-pub kept_drop : (image : Image) (s : State) (t x : ℕ) → IsKept image s → IsKept image (after_drop s t x)
-kept_drop image s t x kept = kept_drop_by image s t x (pair_at s t x) (nat_le STATIC_ROWS x) (has_no_pair (with_pair s t x false) x) kept refl refl
+-- what isn't read holds as before
+pub kept_beside : (image : Image) (s : State) (memory stacks pools : List ℕ) (domains : List (Option Partitions)) → IsKept image s
+    → IsKept image (record s { memory = memory; stacks = stacks; pools = pools; domains = domains })
+kept_beside image s memory stacks pools domains kept =
+    record { few = kept.few; image_is = kept.image_is; own = kept.own; fit = kept.fit; real = kept.real; gone = kept.gone }
 
 kept_bytes_by : (image : Image) (s : State) (low : Bool) (memory stacks : List ℕ) → IsKept image s → IsKept image (if low then record s { memory = memory } else record s { stacks = stacks })
-kept_bytes_by image s true memory stacks kept = record { few = kept.few; image_is = kept.image_is; own = kept.own; fit = kept.fit; real = kept.real; gone = kept.gone }
-kept_bytes_by image s false memory stacks kept = record { few = kept.few; image_is = kept.image_is; own = kept.own; fit = kept.fit; real = kept.real; gone = kept.gone }
+kept_bytes_by image s true memory stacks kept = kept_beside image s memory s.stacks s.pools s.domains kept
+kept_bytes_by image s false memory stacks kept = kept_beside image s s.memory stacks s.pools s.domains kept
 
 pub kept_bytes : (image : Image) (s : State) (a : ℕ) (bytes : List ℕ) → IsKept image s → IsKept image (with_bytes s a bytes)
 kept_bytes image s a bytes kept = kept_bytes_by image s _ _ _ kept
-
-pub kept_pools : (image : Image) (s : State) (pools : List ℕ) → IsKept image s → IsKept image (record s { pools = pools })
-kept_pools image s pools kept = record { few = kept.few; image_is = kept.image_is; own = kept.own; fit = kept.fit; real = kept.real; gone = kept.gone }
-
-pub kept_moved : (image : Image) (s : State) (who d : ℕ) (reply : Reply) → IsKept image s → IsKept image (moved s who d reply)
-kept_moved image s who d (Reply.Num n) kept = kept_same image s who (record (thread_at s who) { domain = d }) kept refl refl
-kept_moved image s who d Reply.Void kept = kept
-kept_moved image s who d (Reply.At a) kept = kept
-kept_moved image s who d Reply.Null kept = kept
-kept_moved image s who d (Reply.Fail e) kept = kept
-
-pub kept_woken : (image : Image) (ws : List (ThreadIx × Told)) (s : State) → IsKept image s → IsKept image (all_woken ws s)
-kept_woken image [] s kept = kept
-kept_woken image (w ∷ ws) s kept =
-    let s2 = with_thread s w.0.0 (record (thread_at s w.0.0) { told = Some w.1 }) in
-    kept_woken image ws s2 (kept_same image s w.0.0 (record (thread_at s w.0.0) { told = Some w.1 }) kept refl refl)
-
--- a thread with an object of its own goes on
-pub kept_goes : (image : Image) (s : State) (t : ℕ) (me : Thread) (rest : Steps) → IsKept image s → has_own image t ≡ true → are_fit image rest ≡ true → IsKept image (goes_on s t me rest)
-kept_goes image s t me rest kept own fit = kept_thread image s t (at_steps s.image me rest) kept (λ h. own) fit

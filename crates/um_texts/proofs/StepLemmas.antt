@@ -15,8 +15,8 @@ use Rattle.um_machine.specs.declared.thread.Thread.{Thread}
 use Rattle.um_machine.specs.State.{State, thread_at, object_at, pair_at, instruction_at}
 use Rattle.um_machine.specs.Objects.{is_gone}
 use Rattle.um_machine.specs.Order.{Steps, to_addr}
-use Rattle.um_machine.specs.Run.{Offers, goes, skips_inherit, skips_drops, begins, exits, cleans_pair, recycles, MayChoose, Step}
-use Rattle.um_machine.specs.Table.{act_of, after, after_drop, dropped, row_of}
+use Rattle.um_machine.specs.Run.{Offers, goes, skips_inherit, skips_drops, begins, exits, is_tending, tends, MayChoose, Step}
+use Rattle.um_machine.specs.Table.{act_of, after, dropped, row_of}
 use Rattle.um_trace.specs.Acts.{act_text}
 use Rattle.um_texts.proofs.NameLemmas.{AreNamed}
 use Rattle.um_texts.proofs.IdentityLemmas.{has_own}
@@ -24,13 +24,13 @@ use Rattle.um_texts.proofs.StateLemmas.{IsKept, begins_with_start, begins_with_c
 use Rattle.um_texts.proofs.OwnLemmas.{IsSound, real_dynamic}
 use Rattle.um_texts.proofs.OpeningLemmas.{offered_acting}
 use Rattle.um_texts.proofs.KeptLemmas.{kept_after}
-use Rattle.um_texts.proofs.CoreLemmas.{core, settled, same_thread, same_drop, same_dropped}
+use Rattle.um_texts.proofs.CoreLemmas.{core, settled, same_thread}
 use Rattle.um_texts.proofs.SaidLemmas.{same_act}
 use Rattle.um_texts.proofs.AfterLemmas.{same_after}
 use Rattle.um_texts.proofs.MarkLemmas.{Mark, drops, frees, inherits, others, mark_step, mark_made, same_mark}
 use Rattle.um_texts.proofs.RowLemmas.{chooses, act_free, after_free, settled_other}
 use Rattle.um_texts.proofs.ReadLemmas.{drop_known, recycle_known, inherit_known, reserve_known, is_reserved}
-use Rattle.um_texts.proofs.DropLemmas.{IsDrop, drop_step, behind_inherit}
+use Rattle.um_texts.proofs.DropLemmas.{IsDrop, drop_step, dropping, same_dropping, behind_inherit}
 
 -- The same step: of two threads that have the same left.
 
@@ -102,6 +102,12 @@ left_same image s s2 both t = ap (λ (m : Thread). m.pending) (same_thread s s2 
 not_idle : (image : Image) (s s2 : State) → AreBoth image s s2 → (t : ℕ) → (thread_at s t).pending ≡ [] → (p : Pending) (rest : Steps) → settled (thread_at s2 t).pending ≡ p ∷ rest → ⊥
 not_idle image s s2 both t none p rest some = cons_none p rest (sym some ∙ sym (left_same image s s2 both t) ∙ settled_none s t none)
 
+-- a step that tends drops or frees
+not_tending : (p : Pending) → IsTrue (is_tending p) → (mark_step p ≡ drops → ⊥) → (mark_step p ≡ frees → ⊥) → ⊥
+not_tending (Pending.CleanPair who) is np fp = np refl
+not_tending Pending.Recycle is np fp = fp refl
+not_tending p is np fp = cc
+
 pub same_step : (image : Image) (s s2 : State) → AreBoth image s s2 → (t : ℕ) (p q : Pending) (rest more : Steps) → Offers s t p rest → Offers s2 t q more → mark_step p ≡ mark_step q
     → (mark_step p ≡ drops → ⊥) → (mark_step q ≡ drops → ⊥) → (mark_step p ≡ frees → ⊥) → (mark_step q ≡ frees → ⊥) → AreSame p q rest more
 same_step image s s2 both t p q rest more (goes e) (goes f) marks np nq fp fq =
@@ -147,10 +153,8 @@ same_step image s s2 both t p q rest more (exits e g h i) (skips_drops {from = f
 same_step image s s2 both t p q rest more (exits e g h i) (begins f j k l) marks np nq fp fq =
     absurd (no_end (instruction_at s2.image (thread_at s2 t).place) l (sym (next_same s s2 both.same t) ∙ i))
 same_step image s s2 both t p q rest more (exits e g h i) (exits f j k l) marks np nq fp fq = record { step = refl; left = refl }
-same_step image s s2 both t p q rest more (cleans_pair e) offered marks np nq fp fq = absurd (np refl)
-same_step image s s2 both t p q rest more (recycles e) offered marks np nq fp fq = absurd (fp refl)
-same_step image s s2 both t p q rest more offered (cleans_pair f) marks np nq fp fq = absurd (nq refl)
-same_step image s s2 both t p q rest more offered (recycles f) marks np nq fp fq = absurd (fq refl)
+same_step image s s2 both t p q rest more (tends e started) offered marks np nq fp fq = absurd (not_tending p e np fp)
+same_step image s s2 both t p q rest more offered (tends f started) marks np nq fp fq = absurd (not_tending q f nq fq)
 
 -- One event, and one core after it.
 pub record IsOne (a b : Act) (m m2 : State) : Type 0 where
@@ -174,14 +178,14 @@ one_drop image s s2 both a b m m2 d f h =
     let addr : d.addr ≡ f.addr = addr_same d.addr f.addr known.1 in
     let row : row_of s d.addr ≡ row_of s2 f.addr = ap (λ (k : State). row_of k d.addr) both.same ∙ ap (λ (x : Addr). row_of s2 x) addr in
     let left : first ≡ second =
-    same_dropped s s2 both.same d.who.0 (row_of s d.addr) ∙ ap (λ (n : ℕ). dropped s2 n (row_of s d.addr)) known.0 ∙ ap (λ (n : ℕ). dropped s2 f.who.0 n) row in
+    ap (λ (k : State). dropped k d.who.0 (row_of s d.addr)) both.same ∙ ap (λ (n : ℕ). dropped s2 n (row_of s d.addr)) known.0 ∙ ap (λ (n : ℕ). dropped s2 f.who.0 n) row in
     record {
       act =
           d.says ∙ ap (λ (x : ThreadIx). Act.DropPair x d.addr first) who ∙ ap (λ (x : Addr). Act.DropPair f.who x first) addr
           ∙ ap (λ x. Act.DropPair f.who f.addr x) left ∙ sym f.says;
       after =
-          d.leaves ∙ same_drop s s2 both.same d.who.0 (row_of s d.addr) ∙ ap (λ (n : ℕ). core (after_drop s2 n (row_of s d.addr))) known.0
-          ∙ ap (λ (n : ℕ). core (after_drop s2 f.who.0 n)) row ∙ sym f.leaves;
+          d.leaves ∙ same_dropping s s2 both.same d.who.0 (row_of s d.addr) ∙ ap (λ (n : ℕ). core (dropping s2 n (row_of s d.addr))) known.0
+          ∙ ap (λ (n : ℕ). core (dropping s2 f.who.0 n)) row ∙ sym f.leaves;
     }
 
 -- a row that is chosen
@@ -318,8 +322,9 @@ offered_fit image s kept t p rest (skips_drops {from = from} e h) =
     let fit : are_fit image (Pending.Drops from ∷ p ∷ rest) ≡ true = rw e at (kept.fit t) in (and_parts (begins_with_clear (p ∷ rest)) (are_fit image (p ∷ rest)) fit).1
 offered_fit image s kept t p rest (begins e h k l) = refl
 offered_fit image s kept t p rest (exits e h k l) = refl
-offered_fit image s kept t p rest (cleans_pair h) = kept.fit t
-offered_fit image s kept t p rest (recycles h) = kept.fit t
+offered_fit image s kept t (Pending.CleanPair who) rest (tends is h) = kept.fit t
+offered_fit image s kept t Pending.Recycle rest (tends is h) = kept.fit t
+offered_fit image s kept t p rest (tends is h) = cc
 
 pub kept_made : (image : Image) → IsSound image → (s : State) → IsKept image s → (t : ℕ) (a : Act) (m : State) → IsMade s t a m → IsKept image m
 kept_made image sound s kept t a m made =

@@ -19,19 +19,12 @@ module _ (w : RowWord) where
   dropped-number who true = refl
   dropped-number who false = refl
 
-  published-number : (live : Bool) → (if live then record w { public = true } else w).number ≡ w.number
-  published-number true = refl
-  published-number false = refl
-
   act-number : (t : ℕ) (act : Act) → (row_after_act w t act).number ≡ w.number
   act-number t (Act.Check a kind want None) = refl
   act-number t (Act.Check a kind want (Some e)) = refl
   act-number t (Act.Grant who a given) = given-number who.0 (is_live w.stage)
   act-number t (Act.Own who given) = given-number who.0 (is_live w.stage)
   act-number t (Act.DropPair who a left) = dropped-number who.0 (is_last w who.0 && has w who.0)
-  act-number t (Act.Publish a given) = published-number (is_live w.stage)
-  act-number t (Act.SetInit a SetSaid.Done) = refl
-  act-number t (Act.SetInit a set) = refl
   act-number t act = refl
 
   pub row-number-kept : (act : FineAct) → (row_after w act).number ≡ w.number

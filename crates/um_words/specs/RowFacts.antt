@@ -46,14 +46,6 @@ module _ (w : RowWord) (long : length w.permissions ≡ 32) (claims : w.claims <
     | false ↦ permits who false
   ]
 
-  publishes : Keeps w (published w)
-  publishes = elim (is_live w.stage) as (λ b. Keeps w (if b then record w { public = true } else w)) [ true ↦ record { long = long; claims = claims; number = refl } | false ↦ same ]
-
-  sets : (set : SetSaid) → Keeps w (after_set w set)
-  sets SetSaid.Done = record { long = long; claims = claims; number = refl }
-  sets SetSaid.Gone = same
-  sets (SetSaid.Fail e) = same
-
   keeps-act : (t : ℕ) (act : Act) → IsTrue (row_takes_act w t act) → Keeps w (row_after_act w t act)
   keeps-act t (Act.Check a kind want None) h = record { long = long; claims = grind (arith, nat_tests); number = refl }
   keeps-act t (Act.Check a kind want (Some e)) h = same
@@ -61,8 +53,8 @@ module _ (w : RowWord) (long : length w.permissions ≡ 32) (claims : w.claims <
   keeps-act t (Act.Own who given) h = claims-more who.0 (below w.claims (not (is_free w.stage)) (not (is_cleaning w.stage)) h)
   keeps-act t (Act.Inherit who a) h = permits who.0 true
   keeps-act t (Act.DropPair who a left) h = drops who.0
-  keeps-act t (Act.Publish a given) h = publishes
-  keeps-act t (Act.SetInit a set) h = sets set
+  keeps-act t (Act.Publish a given) h = record { long = long; claims = claims; number = refl }
+  keeps-act t (Act.SetInit a set) h = record { long = long; claims = claims; number = refl }
   keeps-act t (Act.ClearInit a) h = record { long = long; claims = claims; number = refl }
   keeps-act t (Act.Born a) h = record { long = length-set (vacated w).permissions t true; claims = omega arith; number = refl }
   keeps-act t act h = absurd (cc)

@@ -136,12 +136,9 @@ impl RowWord {
         ensures given { result ≡ given_of self.old }
         ensures leaves { self.new ≡ published self.old }
     {
-        if self.is_live() {
-            self.public = true;
-            Given::Done
-        } else {
-            Given::Gone
-        }
+        let live = self.is_live();
+        self.public = live || self.public;
+        if live { Given::Done } else { Given::Gone }
     }
 
     /// Takes a permission away. A dynamic object that loses its last permission is gone.

@@ -34,7 +34,7 @@ fn is_refused(act: RowAct, word: u64) -> bool {
 
 /// An object's row from its last permission, by its cleaning, to its next birth.
 #[test]
-fn rows(rt: HostRuntime) {
+fn a_row_is_cleaned_and_born_again(rt: HostRuntime) {
     let held = said(check(Want::Init, FIRST), 0x9_0000_0001, 0x1029_0000_0001);
     assert!(rt; matches!(held, Some(said) if said.verdict.is_none()));
     let refused = said(check(Want::Uninit, SECOND), 0x9_0000_0001, 0x1009_0000_0001);
@@ -67,7 +67,7 @@ fn rows(rt: HostRuntime) {
 
 /// Steps that no row takes: a claim that isn't there, an object that isn't gone, and a number that ends.
 #[test]
-fn refused_rows(rt: HostRuntime) {
+fn rows_refuse_wrong_steps(rt: HostRuntime) {
     assert!(rt; is_refused(RowAct::EndCall, 0xc_0000_0001));
     assert!(rt; is_refused(RowAct::Vacate, 0xc_0000_0001));
     let sweep = RowAct::Sweep {
@@ -80,7 +80,7 @@ fn refused_rows(rt: HostRuntime) {
 
 /// A hold that keeps a domain, and a thread that is doomed.
 #[test]
-fn threads(rt: HostRuntime) {
+fn a_hold_keeps_a_doomed_threads_domain(rt: HostRuntime) {
     assert!(rt; ThreadAct::Hold.step(0x41) == Some(0x10_0000_0049));
     let moved = ThreadAct::DomMove {
         thread: FIRST,
@@ -101,7 +101,7 @@ fn threads(rt: HostRuntime) {
 
 /// A claim to read, a claim to write and the edit that ends it.
 #[test]
-fn domains(rt: HostRuntime) {
+fn an_edit_ends_its_claim(rt: HostRuntime) {
     assert!(rt; DomainAct::ReadClaim.step(0x1) == Some(0x10_0000_0005));
     assert!(rt; DomainAct::WriteClaim.step(0x10_0000_0005).is_none());
     assert!(rt; DomainAct::ReadDone.step(0x10_0000_0005) == Some(0x20_0000_0001));
@@ -122,7 +122,7 @@ fn domains(rt: HostRuntime) {
 
 /// Each word's fields by bits, and the bits that are always zero.
 #[test]
-fn bits(rt: HostRuntime) {
+fn words_keep_their_fields_by_bits(rt: HostRuntime) {
     let row = RowWord::read(0xffff_ffff_ffff_ffff);
     assert!(rt; row.claims == 127 && row.number == 0xf_ffff && row.stage == Stage::Cleaning);
     assert!(rt; row.permissions.has(31) && !row.permissions.has(32));

@@ -16,7 +16,7 @@ use crate::resolve::domains::domains;
 use crate::resolve::objects::objects;
 use crate::resolve::partitions::{bytes, partitions};
 use std::alloc::Global;
-use um_base::{AREA_ENTRY, Addr, BoundedVec, Image, Memory, POOLS, Pool, RODATA, Range};
+use um_base::{AREA_ENTRY, Addr, BoundedVec, Image, OutOfMemory, POOLS, Pool, RODATA, Range};
 use um_document::{Description, PoolEntry};
 use um_layout::rounded;
 
@@ -37,7 +37,7 @@ fn rodata_range(d: &Description) -> Option<Range>
 }
 
 /// The pools.
-fn pools(alloc: Global, entries: &[PoolEntry]) -> Result<BoundedVec<Pool, POOLS>, Memory>
+fn pools(alloc: Global, entries: &[PoolEntry]) -> Result<BoundedVec<Pool, POOLS>, OutOfMemory>
     requires { length entries.now ≤ POOLS }
     ensures { IfOk result (λ all. all ≡ map pool_of entries.now) }
 {
@@ -70,7 +70,7 @@ pub fn without_scripts(
     d: &Description,
     partition_ranges: &[Range],
     stack_ranges: &[Range],
-) -> Result<Image, Memory>
+) -> Result<Image, OutOfMemory>
     requires rodata { length d.now.rodata ≤ AREA_ENTRY }
     requires pools { length d.now.pools ≤ POOLS }
     requires partitions { length d.now.partitions ≤ PARTITIONS }

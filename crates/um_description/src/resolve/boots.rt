@@ -9,7 +9,9 @@ ghost use Rattle.um_description.specs.{
 
 use crate::named::{number, number_of};
 use std::alloc::Global;
-use um_base::{BOOTS, Boot, BoundedVec, DOMAINS, Memory, Name, POOLS, Row, SCRIPTS, STATIC_ROWS};
+use um_base::{
+    BOOTS, Boot, BoundedVec, DOMAINS, Name, OutOfMemory, POOLS, Row, SCRIPTS, STATIC_ROWS,
+};
 use um_document::{BootEntry, Description, ObjectEntry, Sequence, Text};
 
 /// Whether a name stands among these texts.
@@ -24,7 +26,7 @@ fn rows_among(
     alloc: Global,
     objects: &[ObjectEntry],
     texts: &[Text],
-) -> Result<BoundedVec<Row, STATIC_ROWS>, Memory>
+) -> Result<BoundedVec<Row, STATIC_ROWS>, OutOfMemory>
     requires { length objects.now ≤ STATIC_ROWS }
     ensures { IfOk result (λ all. all ≡ rows_among texts.now 0 (map (λ (o : ObjectEntry). o.name) objects.now)) }
 {
@@ -94,7 +96,7 @@ fn grants_of(
     alloc: Global,
     d: &Description,
     texts: &Sequence<Text>,
-) -> Result<BoundedVec<Row, STATIC_ROWS>, Memory>
+) -> Result<BoundedVec<Row, STATIC_ROWS>, OutOfMemory>
     requires { length d.now.objects ≤ STATIC_ROWS }
     ensures { IfOk result (λ all. all ≡ rows_among texts.now 0 (object_names d.now)) }
 {
@@ -102,7 +104,7 @@ fn grants_of(
 }
 
 /// A boot entry, with the rows and numbers of what it names.
-fn boot(alloc: Global, d: &Description, entry: &BootEntry) -> Result<Boot, Memory>
+fn boot(alloc: Global, d: &Description, entry: &BootEntry) -> Result<Boot, OutOfMemory>
     requires pools { length d.now.pools ≤ POOLS }
     requires domains { length d.now.domains ≤ DOMAINS }
     requires objects { length d.now.objects ≤ STATIC_ROWS }
@@ -123,7 +125,7 @@ fn boot(alloc: Global, d: &Description, entry: &BootEntry) -> Result<Boot, Memor
 }
 
 /// The boot entries, with the rows and numbers of what they name.
-pub fn boots(alloc: Global, d: &Description) -> Result<BoundedVec<Boot, BOOTS>, Memory>
+pub fn boots(alloc: Global, d: &Description) -> Result<BoundedVec<Boot, BOOTS>, OutOfMemory>
     requires pools { length d.now.pools ≤ POOLS }
     requires domains { length d.now.domains ≤ DOMAINS }
     requires objects { length d.now.objects ≤ STATIC_ROWS }

@@ -6,7 +6,7 @@ ghost use Rattle.um_description.specs.{Names.{items}, Resolve.{number_named, dom
 
 use crate::named::{number, number_of};
 use std::alloc::Global;
-use um_base::{BoundedVec, DOMAINS, DomainDef, Memory, PARTITIONS};
+use um_base::{BoundedVec, DOMAINS, DomainDef, OutOfMemory, PARTITIONS};
 use um_document::{DomainEntry, PartitionEntry, Text};
 
 /// The numbers of the partitions with these names.
@@ -14,7 +14,7 @@ fn numbers(
     alloc: Global,
     partitions: &[PartitionEntry],
     texts: &[Text],
-) -> Result<BoundedVec<u8, PARTITIONS>, Memory>
+) -> Result<BoundedVec<u8, PARTITIONS>, OutOfMemory>
     requires few { length partitions.now ≤ PARTITIONS }
     requires short { length texts.now ≤ PARTITIONS }
     ensures { IfOk result (λ all. all ≡ map (number_named (map (λ (p : PartitionEntry). p.name) partitions.now)) texts.now) }
@@ -31,7 +31,7 @@ fn domain(
     alloc: Global,
     partitions: &[PartitionEntry],
     entry: &DomainEntry,
-) -> Result<DomainDef, Memory>
+) -> Result<DomainDef, OutOfMemory>
     requires few { length partitions.now ≤ PARTITIONS }
     requires short { length (items entry.now.partitions) ≤ PARTITIONS }
     ensures { IfOk result (λ m. m ≡ domain_of (map (λ (p : PartitionEntry). p.name) partitions.now) entry.now) }
@@ -51,7 +51,7 @@ pub fn domains(
     alloc: Global,
     partitions: &[PartitionEntry],
     entries: &[DomainEntry],
-) -> Result<BoundedVec<DomainDef, DOMAINS>, Memory>
+) -> Result<BoundedVec<DomainDef, DOMAINS>, OutOfMemory>
     requires few { length partitions.now ≤ PARTITIONS }
     requires count { length entries.now ≤ DOMAINS }
     requires short { All (λ m. length (items m.partitions) ≤ PARTITIONS) entries.now }

@@ -9,8 +9,8 @@ ghost use Rattle.um_description.specs.{
 use crate::numbers::clamped;
 use std::alloc::Global;
 use um_base::{
-    Addr, BoundedVec, Kind, Memory, OBJECT_STEP, OBJECTS, ObjectDef, Range, STATIC_ROWS, Setup,
-    ThreadIx,
+    Addr, BoundedVec, Kind, OBJECT_STEP, OBJECTS, ObjectDef, OutOfMemory, Range, STATIC_ROWS,
+    Setup, ThreadIx,
 };
 use um_document::{Details, MsgqNumbers, ObjectEntry, SemNumbers};
 
@@ -159,7 +159,7 @@ pub fn objects(
     alloc: Global,
     ranges: &[Range],
     entries: &[ObjectEntry],
-) -> Result<BoundedVec<ObjectDef, STATIC_ROWS>, Memory>
+) -> Result<BoundedVec<ObjectDef, STATIC_ROWS>, OutOfMemory>
     requires { length entries.now ≤ STATIC_ROWS }
     ensures { IfOk result (λ all. all ≡ objects_from ranges.now 0 0 entries.now) }
 {

@@ -9,11 +9,11 @@ ghost use Rattle.um_description.specs.{
 
 use crate::packing::packed_bytes;
 use std::alloc::Global;
-use um_base::{AREA_ENTRY, BoundedVec, Memory, PARTITIONS, Partition, Range};
+use um_base::{AREA_ENTRY, BoundedVec, OutOfMemory, PARTITIONS, Partition, Range};
 use um_document::{PartitionContents, PartitionEntry, Text};
 
 /// A copy of bytes.
-pub fn bytes(alloc: Global, text: &Text) -> Result<BoundedVec<u8, AREA_ENTRY>, Memory>
+pub fn bytes(alloc: Global, text: &Text) -> Result<BoundedVec<u8, AREA_ENTRY>, OutOfMemory>
     requires { length text.now ≤ AREA_ENTRY }
     ensures { IfOk result (λ bytes. bytes ≡ text.now) }
 {
@@ -21,7 +21,10 @@ pub fn bytes(alloc: Global, text: &Text) -> Result<BoundedVec<u8, AREA_ENTRY>, M
 }
 
 /// The bytes at the start of a partition.
-fn first_bytes(alloc: Global, entry: &PartitionEntry) -> Result<BoundedVec<u8, AREA_ENTRY>, Memory>
+fn first_bytes(
+    alloc: Global,
+    entry: &PartitionEntry,
+) -> Result<BoundedVec<u8, AREA_ENTRY>, OutOfMemory>
     requires size { IsSize (asked_size entry.now) }
     requires few { length (first_bytes entry.now) ≤ AREA_ENTRY }
     ensures { IfOk result (λ bytes. bytes ≡ first_bytes entry.now) }
@@ -36,7 +39,7 @@ fn first_bytes(alloc: Global, entry: &PartitionEntry) -> Result<BoundedVec<u8, A
 }
 
 /// A partition in its range.
-fn partition(alloc: Global, range: Range, entry: &PartitionEntry) -> Result<Partition, Memory>
+fn partition(alloc: Global, range: Range, entry: &PartitionEntry) -> Result<Partition, OutOfMemory>
     requires size { IsSize (asked_size entry.now) }
     requires few { length (first_bytes entry.now) ≤ AREA_ENTRY }
     ensures { IfOk result (λ p. p ≡ record { name = entry.now.name; range = range; attr = entry.now.attr; bytes = first_bytes entry.now }) }
@@ -54,7 +57,7 @@ pub fn partitions(
     alloc: Global,
     ranges: &[Range],
     entries: &[PartitionEntry],
-) -> Result<BoundedVec<Partition, PARTITIONS>, Memory>
+) -> Result<BoundedVec<Partition, PARTITIONS>, OutOfMemory>
     requires few { length entries.now ≤ PARTITIONS }
     requires enough { length ranges.now ≡ length entries.now }
     requires sizes { All (λ p. IsSize (asked_size p)) entries.now }

@@ -16,7 +16,7 @@ ghost use Rattle.um_description.specs.{
 use crate::numbers::clamped;
 use crate::packing::packed_size;
 use std::alloc::Global;
-use um_base::{AREA_SIZE, Addr, Memory, Mpu, PARTITION_AREA, Range, STACK_AREA};
+use um_base::{AREA_SIZE, Addr, Mpu, OutOfMemory, PARTITION_AREA, Range, STACK_AREA};
 use um_document::{Description, Details, ObjectEntry, PartitionContents, PartitionEntry};
 use um_layout::{NoRoom, place};
 
@@ -31,7 +31,7 @@ fn asked_size(entry: &PartitionEntry) -> u32
 }
 
 /// The sizes that the partitions ask for.
-fn asked_partitions(alloc: Global, d: &Description) -> Result<Vec<u32>, Memory>
+fn asked_partitions(alloc: Global, d: &Description) -> Result<Vec<u32>, OutOfMemory>
     requires { All (λ p. IsSize (asked_size p)) d.now.partitions }
     ensures asked { IfOk result (λ sizes. All IsSize sizes.items) }
     ensures few { IfOk result (λ sizes. length sizes.items ≡ length d.now.partitions) }
@@ -55,7 +55,7 @@ fn asked_stack(entry: &ObjectEntry) -> Option<u32>
 }
 
 /// One more size at the end, if there is one.
-fn push_size(sizes: &mut Vec<u32>, size: Option<u32>) -> Result<(), Memory>
+fn push_size(sizes: &mut Vec<u32>, size: Option<u32>) -> Result<(), OutOfMemory>
     requires sizes { All IsSize sizes.old.items }
     requires size { All IsSize (option_list size) }
     ensures items { OnOk result (sizes.new.items ≡ sizes.old.items ++ option_list size) }
@@ -69,7 +69,7 @@ fn push_size(sizes: &mut Vec<u32>, size: Option<u32>) -> Result<(), Memory>
 }
 
 /// The sizes that the thread stacks ask for.
-fn asked_stacks(alloc: Global, d: &Description) -> Result<Vec<u32>, Memory>
+fn asked_stacks(alloc: Global, d: &Description) -> Result<Vec<u32>, OutOfMemory>
     requires { All (λ o. All IsSize (asked_stack o)) d.now.objects }
     ensures asked { IfOk result (λ sizes. All IsSize sizes.items) }
     ensures few { IfOk result (λ sizes. length sizes.items ≤ length d.now.objects) }
@@ -90,7 +90,7 @@ pub struct Placing {
 }
 
 /// Ranges at no address, of no size.
-fn nowhere(alloc: Global, count: usize) -> Result<Vec<Range>, Memory>
+fn nowhere(alloc: Global, count: usize) -> Result<Vec<Range>, OutOfMemory>
     ensures { IfOk result (λ ranges. length ranges.items ≡ count) }
 {
     let mut ranges = Vec::new(alloc);
@@ -125,7 +125,7 @@ fn ranges(alloc: Global, mpu: Mpu, area: u32, sizes: &[u32]) -> Result<Vec<Range
 }
 
 /// Places entries that ask for these sizes in an area.
-fn placed(alloc: Global, mpu: Mpu, area: u32, sizes: &[u32]) -> Result<Placing, Memory>
+fn placed(alloc: Global, mpu: Mpu, area: u32, sizes: &[u32]) -> Result<Placing, OutOfMemory>
     requires start { area % 65536 ≡ 0 }
     requires end { area ≤ 0x7000_0000 }
     requires few { length sizes.now ≤ 128 }
@@ -140,12 +140,12 @@ fn placed(alloc: Global, mpu: Mpu, area: u32, sizes: &[u32]) -> Result<Placing, 
             ranges: nowhere(alloc, sizes.len())?,
             need: Some(need),
         }),
-        Err(NoRoom::Memory) => Err(Memory),
+        Err(NoRoom::Memory) => Err(OutOfMemory),
     }
 }
 
 /// Places the partitions.
-pub fn partition_ranges(alloc: Global, d: &Description) -> Result<Placing, Memory>
+pub fn partition_ranges(alloc: Global, d: &Description) -> Result<Placing, OutOfMemory>
     requires { IsInLimits d.now }
     ensures all { IfOk result (λ p. length p.ranges.items ≡ length d.now.partitions) }
     ensures fits { IfOk result (λ p. IfNone p.need ((p.ranges.items ≡ placed d.now.mpu PARTITION_AREA (partition_sizes d.now)) × (sum (partition_sizes d.now) ≤ AREA_SIZE))) }
@@ -156,7 +156,7 @@ pub fn partition_ranges(alloc: Global, d: &Description) -> Result<Placing, Memor
 }
 
 /// Places the thread stacks.
-pub fn stack_ranges(alloc: Global, d: &Description) -> Result<Placing, Memory>
+pub fn stack_ranges(alloc: Global, d: &Description) -> Result<Placing, OutOfMemory>
     requires { IsInLimits d.now }
     ensures fits { IfOk result (λ p. IfNone p.need ((p.ranges.items ≡ placed d.now.mpu STACK_AREA (stack_sizes d.now)) × (sum (stack_sizes d.now) ≤ AREA_SIZE))) }
     ensures full { IfOk result (λ p. IfSome p.need (λ need. (need ≡ sum (stack_sizes d.now)) × (AREA_SIZE < need))) }

@@ -8,7 +8,7 @@ use crate::indexed::Indexed;
 use crate::read::{ReadLine, ReadScript};
 use crate::resolve::lines::resolved;
 use std::alloc::Global;
-use um_base::{BoundedVec, Image, Instr, LINES, Memory, SCRIPTS, Script};
+use um_base::{BoundedVec, Image, Instr, LINES, OutOfMemory, SCRIPTS, Script};
 use um_document::Description;
 
 /// What a line says, with its names resolved, where it can be read.
@@ -30,7 +30,7 @@ fn push_line(
     image: &Image,
     d: &Indexed<'_>,
     line: &ReadLine<'_>,
-) -> Result<(), Memory>
+) -> Result<(), OutOfMemory>
     requires room { length lines.old < LINES }
     requires domains { length d.now.domains ≤ DOMAINS }
     requires partitions { length d.now.partitions ≤ PARTITIONS }
@@ -49,7 +49,7 @@ fn lines(
     image: &Image,
     d: &Indexed<'_>,
     read: &[ReadLine<'_>],
-) -> Result<BoundedVec<Instr, LINES>, Memory>
+) -> Result<BoundedVec<Instr, LINES>, OutOfMemory>
     requires few { length read.now ≤ LINES }
     requires domains { length d.now.domains ≤ DOMAINS }
     requires partitions { length d.now.partitions ≤ PARTITIONS }
@@ -69,7 +69,7 @@ pub fn scripts(
     image: &Image,
     d: &Description,
     read: &[ReadScript<'_>],
-) -> Result<BoundedVec<Script, SCRIPTS>, Memory>
+) -> Result<BoundedVec<Script, SCRIPTS>, OutOfMemory>
     requires read { read.now ≡ d.now.scripts }
     requires lines { All (λ s. length s.lines ≤ LINES) d.now.scripts }
     requires domains { length d.now.domains ≤ DOMAINS }

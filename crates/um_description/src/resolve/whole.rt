@@ -16,7 +16,7 @@ use crate::resolve::ranges::{Placing, partition_ranges, stack_ranges};
 use crate::resolve::scripts::scripts;
 use crate::weighing::weight;
 use std::alloc::Global;
-use um_base::{AREA_SIZE, Image, MOST_WEIGHT, Memory};
+use um_base::{AREA_SIZE, Image, MOST_WEIGHT, OutOfMemory};
 use um_document::Description;
 
 /// The image with its partitions and its thread stacks in these ranges.
@@ -26,7 +26,7 @@ fn image_in(
     partitions: &Placing,
     stacks: &Placing,
     read: &[ReadScript<'_>],
-) -> Result<Image, Memory>
+) -> Result<Image, OutOfMemory>
     requires read { read.now ≡ d.now.scripts }
     requires limits { IsInLimits d.now }
     requires ranges { length partitions.now.ranges.items ≡ length d.now.partitions }
@@ -81,7 +81,7 @@ pub fn image_or_flaw(
     alloc: Global,
     d: &Description,
     read: &[ReadScript<'_>],
-) -> Result<Result<Image, Flaw>, Memory>
+) -> Result<Result<Image, Flaw>, OutOfMemory>
     requires read { read.now ≡ d.now.scripts }
     requires limits { IsInLimits d.now }
     ensures { IfOk result (λ r. r ≡ meaning_by d.now (image_flaws d.now)) }

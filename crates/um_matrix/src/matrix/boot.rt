@@ -17,7 +17,7 @@ use crate::matrix::moves::put;
 use crate::object_table::ObjectTable;
 use std::alloc::Global;
 use um_base::{
-    AREA_SIZE, Addr, Attr, Boot, DOMAIN_PARTITIONS, DOMAINS, DomainDef, Image, Memory, POOLS,
+    AREA_SIZE, Addr, Attr, Boot, DOMAIN_PARTITIONS, DOMAINS, DomainDef, Image, OutOfMemory, POOLS,
     Partition, Parts, ROWS, Range, Row, THREADS,
 };
 use um_machine::Thread;
@@ -27,7 +27,7 @@ use um_steps::rodata::rodata;
 use um_steps::rows::thread_of_row;
 
 /// Indices on which no thread was started.
-fn threads(alloc: Global) -> Result<Vec<Thread>, Memory>
+fn threads(alloc: Global) -> Result<Vec<Thread>, OutOfMemory>
     ensures items { IfOk result (λ all. all.items ≡ replicate THREADS nobody) }
     ensures all { IfOk result (λ all. length all.items ≡ THREADS) }
 {
@@ -39,7 +39,7 @@ fn threads(alloc: Global) -> Result<Vec<Thread>, Memory>
 }
 
 /// No pairs.
-fn no_pairs(alloc: Global) -> Result<Vec<[bool; THREADS]>, Memory>
+fn no_pairs(alloc: Global) -> Result<Vec<[bool; THREADS]>, OutOfMemory>
     ensures items { IfOk result (λ pairs. pairs.items ≡ replicate {A = List Bool} ROWS (replicate {A = Bool} THREADS false)) }
     ensures all { IfOk result (λ pairs. length pairs.items ≡ ROWS) }
 {
@@ -52,7 +52,7 @@ fn no_pairs(alloc: Global) -> Result<Vec<[bool; THREADS]>, Memory>
 const PAGE: usize = 1024;
 
 /// The bytes of an area, all zero.
-fn zeros(alloc: Global) -> Result<Vec<u8>, Memory>
+fn zeros(alloc: Global) -> Result<Vec<u8>, OutOfMemory>
     ensures items { IfOk result (λ bytes. bytes.items ≡ replicate {A = ℕ} AREA_SIZE 0) }
     ensures all { IfOk result (λ bytes. length bytes.items ≡ AREA_SIZE) }
 {
@@ -108,7 +108,7 @@ fn parts_of(image: &Image, domain: &DomainDef) -> Option<Parts>
 }
 
 /// The partitions of the domains.
-fn domains(alloc: Global, image: &Image) -> Result<Vec<Option<Parts>>, Memory>
+fn domains(alloc: Global, image: &Image) -> Result<Vec<Option<Parts>>, OutOfMemory>
     requires { IsLawful image.now }
     ensures items { IfOk result (λ all. all.items ≡ map (λ (d : DomainDef). parts_of image.now d.parts) image.now.domains) }
     ensures few { IfOk result (λ all. length all.items ≤ DOMAINS) }
@@ -121,7 +121,7 @@ fn domains(alloc: Global, image: &Image) -> Result<Vec<Option<Parts>>, Memory>
 }
 
 /// What the pools have.
-fn pools(alloc: Global, image: &Image) -> Result<Vec<u32>, Memory>
+fn pools(alloc: Global, image: &Image) -> Result<Vec<u32>, OutOfMemory>
     ensures items { IfOk result (λ all. all.items ≡ map (λ (p : Pool). p.size) image.now.pools) }
     ensures few { IfOk result (λ all. length all.items ≤ POOLS) }
 {
@@ -133,7 +133,7 @@ fn pools(alloc: Global, image: &Image) -> Result<Vec<u32>, Memory>
 }
 
 /// Room for one outcome.
-fn outcome(alloc: Global) -> Result<Vec<Outcome>, Memory>
+fn outcome(alloc: Global) -> Result<Vec<Outcome>, OutOfMemory>
     ensures { IfOk result (λ room. length room.items ≡ 1) }
 {
     let mut room = Vec::with_capacity(alloc, 1)?;
@@ -204,7 +204,7 @@ impl<'a> Matrix<'a> {
     }
 
     /// The state of an image without what the partitions and the boot entries put there.
-    fn blank(alloc: Global, image: &'a Image) -> Result<Matrix<'a>, Memory>
+    fn blank(alloc: Global, image: &'a Image) -> Result<Matrix<'a>, OutOfMemory>
         requires { IsLawful image.now }
         ensures { IfOk result (λ matrix. matrix ≡ blank image.now) }
     {
@@ -232,7 +232,7 @@ impl<'a> Matrix<'a> {
     }
 
     /// The opening state of an image. All room is reserved here.
-    pub fn boot(alloc: Global, image: &'a Image) -> Result<Matrix<'a>, Memory>
+    pub fn boot(alloc: Global, image: &'a Image) -> Result<Matrix<'a>, OutOfMemory>
         requires lawful { IsLawful image.now }
         ensures { IfOk result (λ matrix. matrix ≡ opening image.now) }
     {

@@ -9,12 +9,12 @@ use um_steps::blank::vacate;
 use um_steps::costs::pay_back;
 
 impl<'a> Matrix<'a> {
-    ghost use Rattle.um_machine.specs.Table.{after, cleaned_by};
+    ghost use Rattle.um_machine.specs.{Order.{to_thread}, Table.{after}, Writes.{Edit, Effect, effect}};
 
     /// A thread cleans the object of a row.
     fn cleaned_by(&mut self, t: usize, x: usize)
         requires { t < THREADS }
-        ensures { self.new ≡ cleaned_by self.old t x }
+        ensures { self.new ≡ effect (Effect.object x (Edit.cleaned (to_thread t))) self.old }
     {
         if x < ROWS {
             self.objects.row_mut(x).cleaner = Some(ThreadIx(t as u8));

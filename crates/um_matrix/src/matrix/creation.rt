@@ -34,8 +34,9 @@ fn replace_but_steps(me: &mut Thread, born: Thread)
 
 impl<'a> Matrix<'a> {
     ghost use Rattle.um_machine.specs.{
+      Goes.{Next, went},
       State.{thread_at, with_thread, instruction_at},
-      Table.{after, goes_on, newborn},
+      Table.{after, newborn},
     };
 
     /// The instruction at a thread's place. A load or store in it has at most four bytes.
@@ -103,7 +104,7 @@ impl<'a> Matrix<'a> {
     /// Has a thread go on after it started the one that it created.
     fn creator_goes_on(&mut self, t: usize, taken: usize)
         requires { t < THREADS }
-        ensures { self.new ≡ goes_on self.old t (record (thread_at self.old t) { child = None }) (drop taken (thread_at self.old t).pending) }
+        ensures { self.new ≡ went (drop taken (thread_at self.old t).pending) self.old t Next.starts }
     {
         let me = &mut self.threads[t];
         me.child = None;

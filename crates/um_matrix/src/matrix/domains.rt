@@ -11,8 +11,10 @@ impl<'a> Matrix<'a> {
     ghost use Rattle.um_base.specs.Lawful.{most_parts};
     ghost use Rattle.um_machine.specs.{
       Domains.{initialised, added, removed, reply_to, domain_after, part_named},
+      Goes.{Change, Next, Way, went},
       State.{thread_at},
-      Table.{act_of, after, after_domain, move_reply, moved, domain_at},
+      Table.{act_of, after, move_reply, domain_at},
+      Writes.{Effect, effect, is_number, only, write},
     };
 
     /// The partitions of a domain, where it is initialised.
@@ -28,7 +30,7 @@ impl<'a> Matrix<'a> {
     /// What a call makes of a domain.
     fn put_domain(&mut self, t: usize, domain: u8, parts: Option<Parts>, reply: Reply, taken: usize)
         requires { t < THREADS }
-        ensures { self.new ≡ after_domain self.old t (thread_at self.old t) domain parts reply (drop taken (thread_at self.old t).pending) }
+        ensures { self.new ≡ went (drop taken (thread_at self.old t).pending) (effect (Effect.edits domain parts) self.old) t (Next.on (Change.says reply) Way.rest) }
     {
         if (domain as usize) < self.domains.len() {
             self.domains[domain as usize] = parts;
@@ -48,7 +50,7 @@ impl<'a> Matrix<'a> {
         taken: usize,
     )
         requires { t < THREADS }
-        ensures { self.new ≡ after_domain self.old t (thread_at self.old t) domain (domain_after before made) (reply_to made) (drop taken (thread_at self.old t).pending) }
+        ensures { self.new ≡ went (drop taken (thread_at self.old t).pending) (effect (Effect.edits domain (domain_after before made)) self.old) t (Next.on (Change.says (reply_to made)) Way.rest) }
     {
         let reply = reply_to(&made);
         self.put_domain(t, domain, domain_after(before, made), reply, taken);
@@ -166,7 +168,7 @@ impl<'a> Matrix<'a> {
 
     /// A thread moves into a domain, unless that is refused.
     fn move_thread(&mut self, who: ThreadIx, domain: u8, reply: Reply)
-        ensures { self.new ≡ moved self.old who.0 domain reply }
+        ensures { self.new ≡ write (only (is_number reply) (Effect.moves who.0 domain)) self.old }
     {
         if let Reply::Num(_) = reply {
             if (who.0 as usize) < THREADS {

@@ -1,6 +1,6 @@
 //! What steps have in common: pairs come and go, and pools pay.
 
-ghost use Rattle.std.specs.Prelude.{◌≡◌, ◌<◌, ◌≤◌, [], false, not, ◌&&◌, slice_index_or, slice_set, map, length, List, Bool};
+ghost use Rattle.std.specs.Prelude.{◌≡◌, ◌<◌, ◌≤◌, [], true, false, not, ◌&&◌, slice_index_or, slice_set, map, length, List, Bool};
 ghost use Rattle.um_machine.specs.Table.{stays_due, with_dues};
 
 use crate::matrix::Matrix;
@@ -8,7 +8,7 @@ use um_base::{Given, Leftover, ROWS, THREADS, ThreadIx};
 use um_machine::{Status, Thread};
 
 impl<'a> Matrix<'a> {
-    ghost use Rattle.um_machine.specs.Table.{paired, after_drop, after_given};
+    ghost use Rattle.um_machine.specs.{Readings.{given, dropped}, Writes.{Effect, drops, only, paired, was_given, write, wrote}};
 
     /// A pair comes or goes, and the row leaves what is due.
     pub(crate) fn paired(&mut self, t: usize, x: usize, there: bool)
@@ -23,7 +23,7 @@ impl<'a> Matrix<'a> {
     /// Drops a pair: a dynamic object that lost its last pair is gone.
     pub(crate) fn drop_pair(&mut self, t: usize, x: usize)
         requires { x < ROWS }
-        ensures { self.new ≡ after_drop self.old t x }
+        ensures { self.new ≡ wrote (drops t x (dropped self.old t x)) self.old }
     {
         match self.dropped(t, x) {
             Leftover::NoPair => {}
@@ -37,7 +37,7 @@ impl<'a> Matrix<'a> {
 
     /// Gives a pair, unless the object is gone.
     pub(crate) fn give_pair(&mut self, t: usize, x: usize)
-        ensures { self.new ≡ after_given self.old t x }
+        ensures { self.new ≡ write (only (was_given (given self.old x)) (Effect.pair t x true)) self.old }
     {
         match self.given(x) {
             Given::Gone => {}

@@ -11,7 +11,7 @@ use um_machine::Pending;
 
 impl<'a> Matrix<'a> {
     ghost use Rattle.um_machine.specs.{Run.{MayChoose, IsComplete}, State.{thread_at, is_started}};
-    ghost use Rattle.um_matrix.specs.Offered.{IsStep, event_of, first_step, second_step, is_cleaning, Says, ChoosesNone, IsIdle};
+    ghost use Rattle.um_matrix.specs.Offered.{IsStep, event_of, first_step, second_step, is_tending, Says, ChoosesNone, IsIdle};
 
     /// The first row that a step may choose.
     fn least_row(&self, t: usize, step: &Pending) -> Option<usize>
@@ -99,7 +99,7 @@ impl<'a> Matrix<'a> {
     /// A step that cleans with a row.
     fn cleaning_of(&self, t: usize, x: usize) -> Option<Pending>
         requires { x < ROWS }
-        ensures some { IfSome result (λ step. MayChoose self.now t x step × IsTrue (is_cleaning step)) }
+        ensures some { IfSome result (λ step. MayChoose self.now t x step × IsTrue (is_tending step)) }
         ensures sound { IfSome result IsSound }
         ensures pairs { IfNone result ((who : ThreadIx) → MayChoose self.now t x (Pending.CleanPair who) → ⊥) }
         ensures objects { IfNone result (MayChoose self.now t x Pending.Recycle → ⊥) }

@@ -1,7 +1,7 @@
 //! Checks and answers, and the steps that mark an object.
 
 ghost use Rattle.std.specs.Prelude.{◌≡◌, ◌<◌, drop};
-ghost use Rattle.um_machine.specs.{Order.{refuses}, Table.{at_steps, cleared_first}};
+ghost use Rattle.um_machine.specs.{Goes.{at_steps, steps_by, undone}, Order.{Steps}};
 ghost use Rattle.um_base.specs.declared.image.Image.{Image};
 
 use crate::matrix::Matrix;
@@ -14,7 +14,7 @@ use um_steps::rows::own_row;
 
 /// What follows where an object can't be marked: the other one is cleared first.
 fn turn_back(thread: &mut Thread, undo: Option<Addr>, e: Errno)
-    ensures { (image : Image) → thread.new ≡ at_steps image thread.old (cleared_first undo (refuses thread.old.mode (Cause.Refused e))) }
+    ensures { (image : Image) (left : Steps) → thread.new ≡ at_steps image thread.old (steps_by left (undone thread.old.mode e undo)) }
 {
     thread.turns_to(&refuses(thread.mode, Cause::Refused(e)));
     if let Some(addr) = undo {

@@ -1,6 +1,6 @@
 //! The steps that give, pass on and drop permissions.
 
-ghost use Rattle.std.specs.Prelude.{◌≡◌, ◌<◌, drop, slice_set, Some, false};
+ghost use Rattle.std.specs.Prelude.{◌≡◌, ◌<◌, drop};
 
 use crate::matrix::Matrix;
 use crate::matrix::moves::{put, rows_to_pass};
@@ -9,7 +9,7 @@ use um_machine::Pending;
 use um_steps::rows::own_row;
 
 impl<'a> Matrix<'a> {
-    ghost use Rattle.um_machine.specs.{State.{thread_at}, Table.{after, goes_on, rows_to_pass}};
+    ghost use Rattle.um_machine.specs.{Goes.{Next, went}, State.{thread_at}, Table.{after}};
 
     /// A grant, unless the object is gone.
     #[tactic(auto, using(crate::proofs::PairLemmas::pendings_kept))]
@@ -29,18 +29,17 @@ impl<'a> Matrix<'a> {
         ensures { self.new ≡ after self.old t 0 (Pending.Own who) (drop taken (thread_at self.old t).pending) }
     {
         let x = self.own_row(who);
-        let own = own_row(self.image, t);
         self.give_pair(who.0 as usize, x);
-        self.passes_on(t, who, own, taken);
+        self.passes_on(t, who, taken);
     }
 
     /// A thread goes on, and what it has to pass on to a new thread is due: all its permissions but the one on its own object.
-    fn passes_on(&mut self, t: usize, who: ThreadIx, own: usize, taken: usize)
+    fn passes_on(&mut self, t: usize, who: ThreadIx, taken: usize)
         requires { t < THREADS }
-        ensures { self.new ≡ goes_on self.old t (record (thread_at self.old t) { child = Some who; due = slice_set (rows_to_pass self.old t who.0) own false }) (drop taken (thread_at self.old t).pending) }
+        ensures { self.new ≡ went (drop taken (thread_at self.old t).pending) self.old t (Next.creates who) }
     {
         let mut due = rows_to_pass(self.pairs.as_slice(), t, who.0 as usize);
-        put(&mut due, own, false);
+        put(&mut due, own_row(self.image, t), false);
         let thread = &mut self.threads[t];
         thread.child = Some(who);
         thread.due = due;

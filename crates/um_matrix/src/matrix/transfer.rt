@@ -1,8 +1,8 @@
 //! Accesses and copies: the steps that read and write memory.
 
-ghost use Rattle.std.specs.Prelude.{◌≡◌, ◌<◌, ◌≤◌, drop};
+ghost use Rattle.std.specs.Prelude.{◌≡◌, ◌<◌, ◌≤◌, drop, false};
 ghost use Rattle.um_base.specs.Regions.{stack_range};
-ghost use Rattle.um_matrix.specs.Offered.{IsShort};
+ghost use Rattle.um_matrix.specs.{Offered.{IsShort}, Worked.{string_taken}};
 
 use crate::matrix::Matrix;
 use um_base::{Access, Addr, Cause, Errno, Found, Range, Row, Setup, THREADS};
@@ -19,7 +19,12 @@ const FAULT: Pending = Pending::Fatal {
 };
 
 impl<'a> Matrix<'a> {
-    ghost use Rattle.um_machine.specs.{Order.{copy_fails}, State.{thread_at}, Table.{after, after_string, amount_of, erased, goes_on}};
+    ghost use Rattle.um_machine.specs.{
+      Goes.{Change, Next, copied, went},
+      Order.{Steps},
+      State.{thread_at},
+      Table.{after, amount_of},
+    };
     ghost use Rattle.um_base.specs.Places.{setup_at};
 
     /// How many bytes are copied or probed.
@@ -76,7 +81,7 @@ impl<'a> Matrix<'a> {
     /// What follows a copy that isn't allowed: a fatal error, by `EFAULT` of a user and by its access of a supervisor.
     fn copy_fails(&mut self, t: usize)
         requires { t < THREADS }
-        ensures { self.new ≡ goes_on self.old t (thread_at self.old t) (copy_fails (thread_at self.old t).mode) }
+        ensures { (left : Steps) → self.new ≡ went left self.old t (Next.on Change.nothing (copied (thread_at self.old t).mode false)) }
     {
         let thread = &mut self.threads[t];
         thread.turns_to(&copy_fails(thread.mode));
@@ -135,7 +140,7 @@ impl<'a> Matrix<'a> {
     fn take_string(&mut self, t: usize, a: Addr, found: Found, taken: usize)
         requires thread { t < THREADS }
         requires short { IsShort found }
-        ensures { self.new ≡ after_string self.old t (thread_at self.old t) a (drop taken (thread_at self.old t).pending) found }
+        ensures { self.new ≡ string_taken self.old t a (drop taken (thread_at self.old t).pending) found }
     {
         match found {
             Found::Length(n) => {

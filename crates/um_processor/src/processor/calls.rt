@@ -1,18 +1,13 @@
 //! The steps after a call: its claims end, and the woken threads are told.
 
 ghost use Rattle.std.specs.Prelude.{◌≡◌, ◌<◌, [], false, length};
-ghost use Rattle.um_processor.specs.{
-  Phases.{is_idle},
-  Standing.{whole},
-  Turns.{CanTurn, HasStepped},
-};
+ghost use Rattle.um_processor.specs.{Phases.{is_idle}, Standing.{whole}, Turns.{CanTurn, HasStepped}};
 
-use crate::here::Here;
 use crate::phase::Turn;
 use crate::processor::Processor;
-use crate::said::made;
-use crate::sites::Sites;
+use crate::turns::made;
 use um_base::{ROWS, Row, THREADS};
+use um_tables::{Here, Sites};
 use um_words::RowAct;
 
 impl Processor {

@@ -1,21 +1,16 @@
 //! The cleaning of objects, before all else.
 
 ghost use Rattle.um_fine.specs.Places.{Todo};
-ghost use Rattle.um_processor.specs.{
-  Standing.{CleansNext, whole},
-  Turns.{CanTurn, HasStepped},
-};
+ghost use Rattle.um_processor.specs.{Standing.{CleansNext, whole}, Turns.{CanTurn, HasStepped}};
 
 use crate::cleaning::MOST;
-use crate::heap_act::HeapAct;
-use crate::here::Here;
 use crate::phase::Turn;
 use crate::processor::Processor;
 use crate::request::Request;
-use crate::said::{made, took};
-use crate::sites::Sites;
+use crate::turns::{made, took};
 use um_base::{Addr, ROWS, Row, ThreadIx};
 use um_steps::rows::addr_of;
+use um_tables::{HeapAct, Here, Sites};
 use um_words::RowAct;
 
 impl Processor {

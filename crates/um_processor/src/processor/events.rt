@@ -3,21 +3,15 @@
 ghost use Rattle.std.specs.Prelude.{IsTrue};
 ghost use Rattle.um_machine.specs.Limits.{IsSound, is_sound_ask};
 ghost use Rattle.um_machine.specs.declared.pending.Pending.TheVariants as Pending;
-ghost use Rattle.um_processor.specs.{
-  Events.{shows, parks, shows_next},
-  Standing.{IsClear},
-  Subjects.{ends_claims},
-  Turns.{CanTurn, HasStepped},
-};
+ghost use Rattle.um_processor.specs.{Events.{shows, parks, shows_next}, Standing.{IsClear}, Subjects.{ends_claims}, Turns.{CanTurn, HasStepped}};
 
-use crate::here::Here;
 use crate::phase::Turn;
 use crate::processor::Processor;
 use crate::running::row_named;
-use crate::said::took;
-use crate::sites::Sites;
+use crate::turns::took;
 use um_base::{Addr, Ask, ThreadIx};
 use um_machine::Pending;
+use um_tables::{Here, Sites};
 
 impl Processor {
     /// Makes the event of a step after which claims end.

@@ -2,22 +2,15 @@
 
 ghost use Rattle.std.specs.Prelude.{◌≡◌, [], false, true, IsTrue};
 ghost use Rattle.um_steps.specs.Given.{IsGiven};
-ghost use Rattle.um_processor.specs.{
-  Cleanings.{clean_todo},
-  Phases.{is_idle, is_plain_phase},
-  Processors.{UnlessMade, in_phase},
-  Standing.{CleansNext, IsClear, whole},
-  Turns.{CanTurn, HasStepped, MayTurn, TurnsAt},
-};
+ghost use Rattle.um_processor.specs.{Cleanings.{clean_todo}, Phases.{is_idle, is_plain_phase}, Processors.{UnlessMade, in_phase}, Standing.{CleansNext, IsClear, whole}, Turns.{CanTurn, HasStepped, MayTurn, TurnsAt}};
 ghost use Rattle.um_processor.specs.declared.phase.Phase.TheVariants as Phase;
 
 use crate::cleaning::CleanStep;
-use crate::here::Here;
 use crate::phase::{Phase, Turn};
 use crate::processor::Processor;
-use crate::said::took;
-use crate::sites::Sites;
+use crate::turns::took;
 use um_base::Image;
+use um_tables::{Here, Sites};
 
 impl Processor {
     /// Forgets what had to be done before the thread's next step.

@@ -3,20 +3,15 @@
 ghost use Rattle.std.specs.Prelude.{◌≡◌};
 ghost use Rattle.um_fine.specs.Processor.{is_of, key_of, same_key};
 ghost use Rattle.um_machine.specs.State.{is_user};
-ghost use Rattle.um_processor.specs.{
-  Parked.{some_if},
-  Processors.{in_phase, processor_of},
-  Requests.{Holds},
-  Turns.{CanTurn, HasRun},
-};
+ghost use Rattle.um_processor.specs.{Processors.{in_phase, processor_of}, Requests.{Holds}, Turns.{CanTurn, HasRun}};
+ghost use Rattle.um_tables.specs.Parked.{some_if};
 
-use crate::here::Here;
 use crate::phase::{Phase, Turn};
 use crate::running::Running;
-use crate::said::made;
-use crate::sites::Sites;
+use crate::turns::made;
 use um_base::{DOMAINS, Mode, ROWS, Row};
 use um_fine::TableKey;
+use um_tables::{Here, Sites};
 use um_words::{DomainAct, ThreadAct};
 
 fn same_key(a: &TableKey, b: &TableKey) -> bool

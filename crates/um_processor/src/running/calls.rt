@@ -3,22 +3,18 @@
 ghost use Rattle.std.specs.Prelude.{◌≡◌, ◌<◌, [], length, Some, None};
 ghost use Rattle.um_base.specs.{declared.limits.TheConstants.{ROWS}, Places.{row_at}};
 ghost use Rattle.um_machine.specs.declared.pending.Pending.TheVariants as Pending;
-ghost use Rattle.um_processor.specs.{
-  Events.{check_for, shows},
-  Turns.{CanTurn, HasEnded, HasRun},
-};
+ghost use Rattle.um_processor.specs.{Events.{check_for, shows}, Turns.{CanTurn, HasEnded, HasRun}};
 
-use crate::here::Here;
 use crate::phase::Turn;
 use crate::running::Running;
 use crate::running::kinds::kind_of;
-use crate::said::made;
-use crate::sites::Sites;
+use crate::turns::made;
 use arrayvec::ArrayVec;
 use um_base::{Addr, Errno, Kind, Reply, Row, ThreadIx, Want};
 use um_machine::Refusal;
 use um_steps::kinds::has_kind;
 use um_steps::rows::row_at;
+use um_tables::{Here, Sites};
 use um_words::{RowAct, ThreadAct};
 
 /// The object that a call looks for, and what comes where it isn't there.

@@ -4,20 +4,14 @@ ghost use Rattle.std.specs.Prelude.{◌≡◌};
 ghost use Rattle.um_fine.specs.Asks.{amount};
 ghost use Rattle.um_machine.specs.declared.pending.Pending.TheVariants as Pending;
 ghost use Rattle.um_processor.specs.declared.phase.Phase.TheVariants as Phase;
-ghost use Rattle.um_processor.specs.{
-  Events.{shows},
-  Processors.{in_phase},
-  Turns.{CanTurn, HasRun},
-};
+ghost use Rattle.um_processor.specs.{Events.{shows}, Processors.{in_phase}, Turns.{CanTurn, HasRun}};
 
-use crate::here::Here;
-use crate::memory_act::MemoryAct;
 use crate::phase::{Phase, Turn};
 use crate::running::Running;
-use crate::said::made;
-use crate::sites::Sites;
+use crate::turns::made;
 use um_base::{Access, Addr, Image, Piece};
 use um_machine::Amount;
+use um_tables::{Here, MemoryAct, Sites};
 
 impl Running {
     /// The number of bytes of a copy.

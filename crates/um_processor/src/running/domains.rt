@@ -1,18 +1,14 @@
 //! The steps before the event of a domain's call.
 
 ghost use Rattle.std.specs.Prelude.{◌≡◌};
-ghost use Rattle.um_processor.specs.{
-  Processors.{in_phase},
-  Turns.{CanTurn, HasRun},
-};
+ghost use Rattle.um_processor.specs.{Processors.{in_phase}, Turns.{CanTurn, HasRun}};
 
-use crate::here::Here;
 use crate::phase::{Phase, Turn};
 use crate::running::Running;
 use crate::running::next::domain_named;
-use crate::said::made;
-use crate::sites::Sites;
+use crate::turns::made;
 use um_base::{DOMAINS, Errno, Reply};
+use um_tables::{Here, Sites};
 use um_words::DomainAct;
 
 impl Running {

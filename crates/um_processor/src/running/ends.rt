@@ -2,22 +2,16 @@
 
 ghost use Rattle.std.specs.Prelude.{◌≡◌, [], false};
 ghost use Rattle.um_machine.specs.declared.pending.Pending.TheVariants as Pending;
-ghost use Rattle.um_processor.specs.{
-  Events.{shows, with_ends},
-  Phases.{is_idle},
-  Processors.{OnMade, UnlessMade, in_phase, processor_of},
-  Turns.{CanTurn, HasCleaned, HasEnded, TurnsAt},
-};
+ghost use Rattle.um_processor.specs.{Events.{shows, with_ends}, Phases.{is_idle}, Processors.{OnMade, UnlessMade, in_phase, processor_of}, Turns.{CanTurn, HasCleaned, HasEnded, TurnsAt}};
 ghost use Rattle.um_fine.specs.Addresses.{row_named};
 
-use crate::here::Here;
 use crate::phase::{Phase, Turn};
 use crate::running::Running;
 use crate::running::next::row_named;
-use crate::said::made;
-use crate::sites::Sites;
+use crate::turns::made;
 use arrayvec::ArrayVec;
 use um_base::{Addr, Cause, Row, ThreadIx};
+use um_tables::{Here, Sites};
 use um_words::{RowAct, ThreadAct};
 
 impl Running {

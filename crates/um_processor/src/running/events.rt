@@ -2,21 +2,16 @@
 
 ghost use Rattle.std.specs.Prelude.{◌≡◌, ◌<◌, drop};
 ghost use Rattle.um_base.specs.Places.{own_row};
-ghost use Rattle.um_fine.specs.Continues.{goes_on};
+ghost use Rattle.um_machine.specs.Goes.{Change, Next, Way};
 ghost use Rattle.um_machine.specs.declared.pending.Pending.TheVariants as Pending;
-ghost use Rattle.um_processor.specs.{
-  Events.{shows, behind_event, rest_of},
-  Processors.{processor_of},
-  Turns.{CanTurn, HasRun},
-};
+ghost use Rattle.um_processor.specs.{Events.{behind_event, gone_by, rest_of, shows}, Processors.{processor_of}, Turns.{CanTurn, HasRun}};
 
-use crate::here::Here;
 use crate::phase::{Phase, Turn};
 use crate::running::Running;
-use crate::said::made;
-use crate::sites::Sites;
+use crate::turns::made;
 use um_base::{Image, ROWS, Row, STATIC_ROWS, STATIC_THREADS, THREADS, ThreadIx};
 use um_steps::rows;
+use um_tables::{Here, Sites};
 
 /// The row of a thread's own object. If there is no such thread, it may be past the last row.
 pub fn own_row(image: &Image, who: ThreadIx) -> usize
@@ -32,7 +27,7 @@ pub fn own_row(image: &Image, who: ThreadIx) -> usize
 
 impl Running {
     /// How many pending steps are over after the next one: 2 if visits stood before it, else 1.
-    #[tactic(auto, using(crate::proofs::Fronts::dropped_twice))]
+    #[tactic(auto, using(um_tables::proofs::Fronts::dropped_twice))]
     pub fn taken(&self) -> usize
         ensures some { 0 < result }
         ensures rest { drop result self.now.context.value.pending ≡ rest_of self.now }
@@ -53,7 +48,7 @@ impl Running {
 
     /// Has the thread go on after its next step, and the processor too.
     pub fn goes_on(&mut self, image: &Image)
-        ensures { processor_of self.new ≡ behind_event image.now self.old.phase (goes_on image.now self.old.context.value (rest_of self.old)) self.old }
+        ensures { processor_of self.new ≡ gone_by image.now (Next.on Change.nothing Way.rest) self.old }
     {
         self.context.leaves_step(image, self.visited);
         self.leaves(image);

@@ -2,18 +2,14 @@
 
 ghost use Rattle.std.specs.Prelude.{◌≡◌, IsTrue};
 ghost use Rattle.um_steps.specs.Given.{IsGiven};
-ghost use Rattle.um_processor.specs.{
-  Phases.{domain_named, first_of, is_plain_phase, steps_behind},
-  Processors.{processor_of},
-  Turns.{CanTurn, HasRun},
-};
+ghost use Rattle.um_processor.specs.{Phases.{domain_named, first_of, is_plain_phase}, Processors.{processor_of}, Turns.{CanTurn, HasRun}};
+ghost use Rattle.um_tables.specs.Contexts.{steps_behind};
 
-use crate::here::Here;
 use crate::phase::{Phase, Turn};
 use crate::request::{Onward, Request};
 use crate::running::Running;
 use crate::running::next::domain_named;
-use crate::sites::Sites;
+use um_tables::{Here, Sites};
 use um_words::{DomainAct, ThreadAct};
 
 impl Running {

@@ -1,29 +1,23 @@
 //! The events at the heap.
 
-ghost use Rattle.std.specs.Prelude.{◌≡◌};
+ghost use Rattle.std.specs.Prelude.{◌≡◌, if◌then◌else◌};
 ghost use Rattle.um_base.specs.declared.names.Errno.TheVariants as Errno;
-ghost use Rattle.um_fine.specs.Continues.{after_access, after_reserve};
-ghost use Rattle.um_machine.specs.{Order.{answer_error}};
+ghost use Rattle.um_base.specs.declared.names.Reply.TheVariants as Reply;
+ghost use Rattle.um_machine.specs.Goes.{Change, Next, Way, reserve_change, reserve_way};
 ghost use Rattle.um_machine.specs.declared.pending.Pending.TheVariants as Pending;
-ghost use Rattle.um_processor.specs.{
-  Events.{shows, behind_event, rest_of},
-  Processors.{processor_of},
-  Turns.{CanTurn, HasRun},
-};
+ghost use Rattle.um_processor.specs.{Events.{gone_by, shows}, Processors.{processor_of}, Turns.{CanTurn, HasRun}};
 
-use crate::heap_act::HeapAct;
-use crate::here::Here;
 use crate::phase::Turn;
 use crate::running::Running;
-use crate::said::made;
-use crate::sites::Sites;
+use crate::turns::made;
 use um_base::{Addr, Image, Kind};
 use um_steps::costs::cost_of;
+use um_tables::{HeapAct, Here, Sites};
 
 impl Running {
     /// Goes on with the new object at this address, if there is one.
     fn reserves(&mut self, image: &Image, addr: Option<Addr>)
-        ensures { processor_of self.new ≡ behind_event image.now self.old.phase (after_reserve image.now self.old.context.value (rest_of self.old) addr) self.old }
+        ensures { processor_of self.new ≡ gone_by image.now (Next.on (reserve_change addr) (reserve_way addr)) self.old }
     {
         let taken = self.taken();
         self.context.reserves(image, addr, taken);
@@ -32,7 +26,7 @@ impl Running {
 
     /// Goes on with a buffer, or answers that there is none.
     fn buffers(&mut self, image: &Image, fits: bool)
-        ensures { processor_of self.new ≡ behind_event image.now self.old.phase (after_access image.now self.old.context.value fits (rest_of self.old) (answer_error Errno.ENOMEM)) self.old }
+        ensures { processor_of self.new ≡ gone_by image.now (Next.on Change.nothing (if fits then Way.rest else Way.replies (Reply.Fail Errno.ENOMEM))) self.old }
     {
         let taken = self.taken();
         self.context.buffers(image, fits, taken);

@@ -3,19 +3,15 @@
 ghost use Rattle.std.specs.Prelude.{◌≡◌, ◌+◌, false, true, is_some, MatchOption};
 ghost use Rattle.um_machine.specs.State.{instruction_at};
 ghost use Rattle.um_steps.specs.Given.{IsGiven};
-ghost use Rattle.um_processor.specs.{
-  Processors.{in_phase},
-  Turns.{CanTurn, HasRun},
-};
+ghost use Rattle.um_processor.specs.{Processors.{in_phase}, Turns.{CanTurn, HasRun}};
 
-use crate::here::Here;
 use crate::phase::{Phase, Turn};
 use crate::running::Running;
-use crate::said::made;
-use crate::sites::Sites;
+use crate::turns::made;
 use um_base::Image;
 use um_machine::Place;
 use um_machine::places::instruction_at;
+use um_tables::{Here, Sites};
 use um_words::ThreadAct;
 
 /// The number of the line at a place, from 1 on, if one stands there.

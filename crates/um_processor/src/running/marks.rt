@@ -1,29 +1,24 @@
 //! The events by which objects are marked as initialised or not.
 
 ghost use Rattle.std.specs.Prelude.{◌≡◌, []};
-ghost use Rattle.um_fine.specs.Continues.{after_set};
+ghost use Rattle.um_machine.specs.Goes.{Change, Next, set_way};
 ghost use Rattle.um_machine.specs.declared.pending.Pending.TheVariants as Pending;
-ghost use Rattle.um_processor.specs.{
-  Events.{shows, behind_event, rest_of},
-  Processors.{processor_of},
-  Turns.{CanTurn, HasEnded, HasRun},
-};
+ghost use Rattle.um_processor.specs.{Events.{gone_by, shows}, Processors.{processor_of}, Turns.{CanTurn, HasEnded, HasRun}};
 
-use crate::here::Here;
 use crate::phase::Turn;
 use crate::running::Running;
 use crate::running::next::row_named;
-use crate::said::made;
-use crate::sites::Sites;
+use crate::turns::made;
 use arrayvec::ArrayVec;
 use um_base::{Addr, Image, Row, SetSaid, ThreadIx};
 use um_steps::rows::own_row;
+use um_tables::{Here, Sites};
 use um_words::RowAct;
 
 impl Running {
     /// Goes on after an attempt to mark an object as initialised.
     fn marks(&mut self, image: &Image, undo: Option<Addr>, said: SetSaid)
-        ensures { processor_of self.new ≡ behind_event image.now self.old.phase (after_set image.now self.old.context.value undo (rest_of self.old) said) self.old }
+        ensures { processor_of self.new ≡ gone_by image.now (Next.on Change.nothing (set_way self.old.context.value.mode undo said)) self.old }
     {
         let taken = self.taken();
         self.context.marks(image, undo, said, taken);

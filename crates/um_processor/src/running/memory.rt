@@ -2,21 +2,14 @@
 
 ghost use Rattle.std.specs.Prelude.{◌≡◌, if◌then◌else◌};
 ghost use Rattle.um_machine.specs.declared.pending.Pending.TheVariants as Pending;
-ghost use Rattle.um_processor.specs.declared.memory_act.MemoryAct.TheVariants as MemoryAct;
-ghost use Rattle.um_processor.specs.{
-  Accesses.{behind_load},
-  Events.{shows, behind_event},
-  Processors.{processor_of},
-  Turns.{CanTurn, HasRun},
-};
+ghost use Rattle.um_tables.specs.declared.memory_act.MemoryAct.TheVariants as MemoryAct;
+ghost use Rattle.um_processor.specs.{Accesses.{loaded}, Events.{gone_by, shows}, Processors.{processor_of}, Turns.{CanTurn, HasRun}};
 
-use crate::here::Here;
-use crate::memory_act::MemoryAct;
 use crate::phase::Turn;
 use crate::running::Running;
-use crate::said::made;
-use crate::sites::Sites;
+use crate::turns::made;
 use um_base::{Access, Addr, Image, Piece, ThreadIx};
+use um_tables::{Here, MemoryAct, Sites};
 
 /// An act where it is allowed, or else the fault of its access.
 fn or_fault(
@@ -44,7 +37,7 @@ fn or_fault(
 impl Running {
     /// Goes on after a load of this number, or after its fault.
     fn loads_or_faults(&mut self, image: &Image, allowed: bool, to: u8, value: u32)
-        ensures { processor_of self.new ≡ behind_event image.now self.old.phase (behind_load image.now self.old allowed to value) self.old }
+        ensures { processor_of self.new ≡ gone_by image.now (loaded allowed to value) self.old }
     {
         if allowed {
             let taken = self.taken();

@@ -4,20 +4,16 @@ ghost use Rattle.std.specs.Prelude.{◌≡◌, ◌<◌, ◌∷◌, [], IfSome, M
 ghost use Rattle.um_base.specs.declared.limits.TheConstants.{ROWS};
 ghost use Rattle.um_fine.specs.{Addresses.{row_named}, Continues.{newborn}, Places.{but}};
 ghost use Rattle.um_machine.specs.Limits.{IsSound};
-ghost use Rattle.um_processor.specs.{
-  Events.{rest_of},
-  Phases.{born, domain_named, first_of, first_phase, phase_of_amount, queue_of, row_of_amount, steps_behind},
-  Processors.{processor_of, refilled},
-};
+ghost use Rattle.um_processor.specs.{Events.{rest_of}, Phases.{domain_named, first_of, first_phase, phase_of_amount, queue_of, row_of_amount}, Processors.{processor_of, refilled}};
+ghost use Rattle.um_tables.specs.Contexts.{born, steps_behind};
 
-use crate::context::Context;
-use crate::newborn::{NOBODY, Newborn};
 use crate::phase::Phase;
 use crate::running::Running;
 use um_base::{Addr, Image, ROWS};
 use um_machine::places::first_place;
 use um_machine::{Amount, Pending};
 use um_steps::rows::{own_row, row_at};
+use um_tables::{Context, NOBODY, Newborn};
 
 /// The first phase of a copy. A copy of a message begins with a look at the message's size.
 fn phase_of_amount(amount: &Amount) -> Phase
@@ -132,7 +128,7 @@ pub fn but(own: usize, row: u8) -> u8
 
 impl Running {
     /// The next step after the visits, if there is one.
-    #[tactic(auto, using(crate::proofs::Fronts::dropped_twice))]
+    #[tactic(auto, using(um_tables::proofs::Fronts::dropped_twice))]
     pub fn next_step(&self) -> Option<Pending>
         ensures step { let steps = steps_behind self.now.visited self.now.context.value.pending in MatchOption result (steps ≡ []) (λ step. steps ≡ step ∷ rest_of self.now) }
         ensures sound { IfSome result IsSound }

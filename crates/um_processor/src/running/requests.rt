@@ -6,27 +6,18 @@ ghost use Rattle.um_base.specs.Places.{own_row};
 ghost use Rattle.um_fine.specs.Processor.{fails};
 ghost use Rattle.um_machine.specs.declared.pending.Pending.TheVariants as Pending;
 ghost use Rattle.um_processor.specs.declared.request.Onward.TheVariants as Onward;
-ghost use Rattle.um_processor.specs.{
-  Events.{shows},
-  Processors.{IsStuck, processor_of},
-  Requests.{Leads, gone_on},
-  Subjects.{is_access, is_edit, is_quiet},
-  Turns.{CanTurn, HasRun},
-};
+ghost use Rattle.um_processor.specs.{Events.{shows}, Processors.{IsStuck, processor_of}, Requests.{Leads, gone_on}, Subjects.{is_access, is_edit, is_quiet}, Turns.{CanTurn, HasRun}};
 
-use crate::heap_act::HeapAct;
-use crate::here::Here;
-use crate::memory_act::MemoryAct;
 use crate::phase::Turn;
 use crate::request::{Onward, Request};
 use crate::running::Running;
 use crate::running::events::own_row;
 use crate::running::next::row_named;
-use crate::said::took;
-use crate::sites::Sites;
+use crate::turns::took;
 use um_base::{Access, Image, ROWS, Reply, Row, ThreadIx};
 use um_machine::Pending;
 use um_steps::costs::cost_of;
+use um_tables::{HeapAct, Here, MemoryAct, Sites};
 use um_words::{DomainAct, RowAct, ThreadAct};
 
 /// Whether a call failed.

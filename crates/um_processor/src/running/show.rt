@@ -1,18 +1,13 @@
 //! The event of a thread's next step.
 
 ghost use Rattle.std.specs.Prelude.{IsTrue};
-ghost use Rattle.um_processor.specs.{
-  Events.{shows},
-  Subjects.{is_plain},
-  Turns.{CanTurn, HasRun},
-};
+ghost use Rattle.um_processor.specs.{Events.{shows}, Subjects.{is_plain}, Turns.{CanTurn, HasRun}};
 
-use crate::here::Here;
 use crate::phase::Turn;
 use crate::running::Running;
 use crate::running::calls::Wanted;
-use crate::sites::Sites;
 use um_machine::Pending;
+use um_tables::{Here, Sites};
 
 impl Running {
     /// Makes the event of a step after which the thread goes on at once.

@@ -1,19 +1,14 @@
 //! The begin and the end of a turn, and how a new thread gets ready.
 
 ghost use Rattle.std.specs.Prelude.{◌≡◌};
-ghost use Rattle.um_processor.specs.{
-  Events.{parks},
-  Processors.{in_phase, processor_of, turning},
-  Turns.{CanTurn, HasRun},
-};
+ghost use Rattle.um_processor.specs.{Events.{parks}, Processors.{in_phase, processor_of, turning}, Turns.{CanTurn, HasRun}};
 
-use crate::here::Here;
 use crate::phase::{Phase, Turn};
 use crate::running::Running;
-use crate::said::made;
-use crate::sites::Sites;
+use crate::turns::made;
 use um_base::{Image, THREADS};
 use um_machine::places::instruction_at;
+use um_tables::{Here, Sites};
 
 impl Running {
     /// Goes to the first step of a turn.

@@ -2,21 +2,16 @@
 
 ghost use Rattle.std.specs.Prelude.{◌≡◌, ◌∷◌, drop};
 ghost use Rattle.um_machine.specs.declared.pending.Pending.TheVariants as Pending;
-ghost use Rattle.um_processor.specs.{
-  Phases.{passed_to},
-  Processors.{in_phase, visiting},
-  Turns.{CanTurn, HasCleaned, HasRun},
-};
+ghost use Rattle.um_processor.specs.{Phases.{passed_to}, Processors.{in_phase, visiting}, Turns.{CanTurn, HasCleaned, HasRun}};
 
-use crate::here::Here;
 use crate::phase::{Phase, Turn};
 use crate::running::Running;
 use crate::running::next::{but, first_phase};
-use crate::said::made;
-use crate::sites::Sites;
+use crate::turns::made;
 use um_base::{Addr, ROWS, Row, ThreadIx};
 use um_machine::Pending;
 use um_steps::rows::{addr_of, own_row};
+use um_tables::{Here, Sites};
 use um_words::RowAct;
 
 impl Running {

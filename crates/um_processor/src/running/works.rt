@@ -2,25 +2,23 @@
 
 ghost use Rattle.std.specs.Prelude.{◌≡◌, ◌<◌, false, IsTrue};
 ghost use Rattle.um_base.specs.declared.limits.TheConstants.{THREADS};
-ghost use Rattle.um_fine.specs.Continues.{after_work};
-ghost use Rattle.um_machine.specs.{Limits.{is_sound_ask}, Order.{to_thread}, Table.{bytes_given}};
-ghost use Rattle.um_machine.specs.declared.pending.Pending.TheVariants as Pending;
-ghost use Rattle.um_processor.specs.{
-  Events.{shows, behind_event, rest_of, with_woken},
-  Phases.{is_idle},
-  Processors.{OnMade, UnlessMade, processor_of},
-  Turns.{CanTurn, TurnsAt},
+ghost use Rattle.um_machine.specs.{
+  Goes.{Next, work_change, work_way},
+  Limits.{is_sound_ask},
+  Order.{to_thread},
+  Table.{bytes_given},
 };
+ghost use Rattle.um_machine.specs.declared.pending.Pending.TheVariants as Pending;
+ghost use Rattle.um_processor.specs.{Events.{gone_by, shows, with_woken}, Phases.{is_idle}, Processors.{OnMade, UnlessMade, processor_of}, Turns.{CanTurn, TurnsAt}};
 
-use crate::here::Here;
 use crate::phase::Turn;
 use crate::running::Running;
 use crate::running::next::row_named;
-use crate::said::made;
-use crate::sites::Sites;
+use crate::turns::made;
 use um_base::{Addr, Answer, Ask, Image, Piece, Row, ThreadIx, Waiter};
 use um_service::Outcome;
 use um_steps::buffers::bytes_given;
+use um_tables::{Here, Sites};
 
 impl Running {
     /// The thread as the caller of a call.
@@ -39,7 +37,7 @@ impl Running {
     /// Goes on after the work of the thread's call.
     fn works(&mut self, image: &Image, ask: &Ask, answer: Answer, bytes: &Piece)
         requires { IsTrue (is_sound_ask ask.now) }
-        ensures { processor_of self.new ≡ behind_event image.now self.old.phase (after_work image.now self.old.context.value ask.now bytes.now (rest_of self.old) answer) self.old }
+        ensures { processor_of self.new ≡ gone_by image.now (Next.on (work_change answer bytes.now) (work_way self.old.context.value.mode ask.now answer)) self.old }
     {
         let taken = self.taken();
         self.context.works(image, ask, answer, bytes, taken);

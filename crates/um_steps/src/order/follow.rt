@@ -3,9 +3,9 @@
 ghost use Rattle.std.specs.Prelude.{◌≡◌, ◌∷◌, [], drop, Some, IsTrue};
 ghost use Rattle.um_base.specs.declared.act.Cause.TheVariants as Cause;
 ghost use Rattle.um_machine.specs.{
+  Goes.{at_steps, checked_way, error_way, steps_by},
   Limits.{IsSound, is_sound_ask},
-  Order.{refuses, copy_fails, answer_error},
-  Table.{at_steps, after_check, after_error},
+  Order.{Steps, refuses, copy_fails, answer_error},
 };
 
 use crate::order::steps::{refusal_reason, rounded};
@@ -53,7 +53,7 @@ pub fn answer_error(error: Errno) -> Pending
 
 /// What follows a check that isn't ok.
 pub fn refused(mode: Mode, refusal: Refusal, error: Errno) -> Pending
-    ensures value { after_check mode [] refusal (Some error) ≡ result ∷ [] }
+    ensures value { (left : Steps) → steps_by left (checked_way mode refusal (Some error)) ≡ result ∷ [] }
     ensures sound { IsSound result }
 {
     match refusal {
@@ -85,7 +85,7 @@ fn gives_back(me: &mut Thread, size: u32, error: Errno)
 #[inline(never)]
 pub fn after_error(image: &Image, me: &mut Thread, ask: &Ask, error: Errno, taken: usize)
     requires { IsTrue (is_sound_ask ask.now) }
-    ensures { me.new ≡ at_steps image.now me.old (after_error me.old.mode ask.now error (drop taken me.old.pending)) }
+    ensures { me.new ≡ at_steps image.now me.old (steps_by (drop taken me.old.pending) (error_way me.old.mode ask.now error)) }
 {
     match ask {
         Ask::SemInit { .. } | Ask::MutexInit => {

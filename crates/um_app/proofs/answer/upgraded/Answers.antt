@@ -1,13 +1,13 @@
 use Rattle.std.proofs.Common.{◌≡◌, ℕ, List, Result, Ok, Err, IfOk, Vec, Global}
 use Rattle.um_base.specs.declared.image.Image.{Image}
-use Rattle.um_base.specs.declared.memory.Memory.{Memory}
+use Rattle.um_base.specs.declared.out_of_memory.OutOfMemory.{OutOfMemory}
 use Rattle.um_canonical.specs.Text.{printed_text}
 use Rattle.um_image.specs.Meaning.{Describes}
 use Rattle.um_app.specs.Upgraded.{IsUpgrade}
 use Rattle.um_app.proofs.answer.upgraded.Goals as goal
 
 -- a canonical text of an image that is described is what the command writes
-is_upgrade : (image : Image) (source : List ℕ) → Describes source image → (r : Result (Vec ℕ Global) Memory) → IfOk r (λ text. text.items ≡ printed_text image)
+is_upgrade : (image : Image) (source : List ℕ) → Describes source image → (r : Result (Vec ℕ Global) OutOfMemory) → IfOk r (λ text. text.items ≡ printed_text image)
     → IfOk r (λ text. (source : List ℕ) → Describes source image → Describes text.items image)
     → IfOk r (λ text. (source : List ℕ) (again : Image) → Describes source image → Describes text.items again → printed_text again ≡ text.items)
     → IfOk r (λ text. IsUpgrade image text.items)

@@ -12,10 +12,10 @@ use Rattle.um_fine.specs.Heap.{Heap}
 use Rattle.um_fine.specs.Memory.{Bytes}
 use Rattle.um_fine.specs.Scheduler.{Scheduler}
 use Rattle.um_fine.specs.Sites.{SiteState}
-use Rattle.um_processor.specs.ObjectCells.{cleared}
-use Rattle.um_processor.specs.Sited.{object_state}
-use Rattle.um_processor.specs.declared.domain_cell.DomainCell.{DomainCell}
-use Rattle.um_processor.specs.declared.object_cell.ObjectCell.{ObjectCell}
+use Rattle.um_tables.specs.ObjectCells.{cleared}
+use Rattle.um_tables.specs.Sited.{object_state}
+use Rattle.um_tables.specs.declared.domain_cell.DomainCell.{DomainCell}
+use Rattle.um_tables.specs.declared.object_cell.ObjectCell.{ObjectCell}
 use Rattle.um_opening.specs.Opened.{AreDomains, AreParts, AreRows, AreThreads}
 use Rattle.um_board.specs.Contents.{Opens}
 use Rattle.um_board.proofs.FromTables.{domains-are, heap-is, memory-is, objects-are, parts-are, rows-are, scheduler-is, threads-are}

@@ -1,6 +1,6 @@
 use Rattle.std.proofs.Common.{◌≡◌, ◌++◌, true, drop}
 use Rattle.um_canonical.specs.Entries.{row_names}
-use Rattle.um_plain_toml.specs.Printed.{items_text}
+use Rattle.um_canonical.specs.Printed.{items_text}
 use Rattle.um_canonical.proofs.boots.put_names.Given as goal
 
 abbrev pub invariant-loop-row : goal.invariant-loop-row

@@ -1,6 +1,6 @@
 use Rattle.std.proofs.Common.{◌≡◌, ◌++◌, true, drop}
 use Rattle.um_canonical.specs.Entries.{names_at}
-use Rattle.um_plain_toml.specs.Printed.{items_text}
+use Rattle.um_canonical.specs.Printed.{items_text}
 use Rattle.um_canonical.proofs.domains.put_names.Given as goal
 
 abbrev pub invariant-loop-number : goal.invariant-loop-number

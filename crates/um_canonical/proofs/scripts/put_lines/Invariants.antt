@@ -1,6 +1,6 @@
 use Rattle.std.proofs.Common.{◌≡◌, ◌++◌, true, drop}
 use Rattle.um_canonical.specs.Tables.{shown_lines}
-use Rattle.um_plain_toml.specs.Printed.{items_text}
+use Rattle.um_canonical.specs.Printed.{items_text}
 use Rattle.um_canonical.proofs.scripts.put_lines.Given as goal
 
 abbrev pub invariant-loop-line : goal.invariant-loop-line

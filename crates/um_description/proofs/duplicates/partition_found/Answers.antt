@@ -1,5 +1,5 @@
 use Rattle.std.proofs.Common.{Result, Option, Ok, Err, ◌≡◌, refl, ◌∙◌}
-use Rattle.um_base.specs.declared.memory.Memory.{Memory}
+use Rattle.um_base.specs.declared.out_of_memory.OutOfMemory.{OutOfMemory}
 use Rattle.std.specs.Prelude.{IfOk}
 use Rattle.um_document.specs.declared.place.Place.{Place}
 use Rattle.um_document.specs.First.{first_of}
@@ -8,7 +8,7 @@ use Rattle.um_description.specs.Names.{variables_of}
 use Rattle.um_description.proofs.AgainLemmas.{partition_passed, partition_put}
 use Rattle.um_description.proofs.duplicates.partition_found.Goals as goal
 
-found_by : (r : Result (Option Place) Memory) (f g : Option Place) → IfOk r (λ found. found ≡ f) → f ≡ g → IfOk r (λ found. found ≡ g)
+found_by : (r : Result (Option Place) OutOfMemory) (f g : Option Place) → IfOk r (λ found. found ≡ f) → f ≡ g → IfOk r (λ found. found ≡ g)
 found_by (Ok found) f g h is = h ∙ is
 found_by (Err e) f g h is = h
 

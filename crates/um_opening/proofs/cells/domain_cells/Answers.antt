@@ -3,8 +3,8 @@ use Rattle.um_base.specs.Regions.{Partitions}
 use Rattle.um_fine.specs.Cells.{Cell}
 use Rattle.um_fine.specs.Opening.{new_cell}
 use Rattle.um_machine.specs.Table.{domain_at}
-use Rattle.um_processor.specs.Sited.{domain_cell_state, no_domain_cell}
-use Rattle.um_processor.specs.declared.domain_cell.DomainCell.{DomainCell}
+use Rattle.um_tables.specs.Sited.{domain_cell_state, no_domain_cell}
+use Rattle.um_tables.specs.declared.domain_cell.DomainCell.{DomainCell}
 use Rattle.um_opening.proofs.Lists.{each-more}
 use Rattle.um_opening.proofs.cells.domain_cells.Goals as goal
 

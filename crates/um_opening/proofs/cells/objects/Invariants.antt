@@ -1,5 +1,5 @@
 use Rattle.std.proofs.Common.{◌≡◌, ◌≤◌, ◌++◌, replicate, vec_capacity}
-use Rattle.um_processor.specs.ObjectCells.{cleared}
+use Rattle.um_tables.specs.ObjectCells.{cleared}
 use Rattle.um_opening.proofs.cells.objects.Given as goal
 
 abbrev pub invariant-loop : goal.invariant-loop

@@ -5,8 +5,8 @@ use Rattle.um_machine.specs.declared.thread.Thread.{Thread}
 use Rattle.um_fine.specs.Cells.{Cell}
 use Rattle.um_fine.specs.Opening.{boot_index, indexed, scheduler_cell}
 use Rattle.um_fine.specs.Scheduler.{Scheduler}
-use Rattle.um_processor.specs.Contexts.{rests}
-use Rattle.um_processor.specs.Parked.{resting, scheduler_of}
+use Rattle.um_tables.specs.Contexts.{rests}
+use Rattle.um_tables.specs.Parked.{resting, scheduler_of}
 use Rattle.um_opening.proofs.Lists.{ok-more, scheduler-is}
 use Rattle.um_opening.proofs.cells.scheduler.Goals as goal
 

@@ -7,7 +7,7 @@ use Rattle.um_machine.specs.State.{State}
 use Rattle.um_fine.specs.Opening.{s_start, site_state}
 use Rattle.um_fine.specs.Sites.{is_site}
 use Rattle.um_fine.specs.Steps.{Site}
-use Rattle.um_processor.specs.Sited.{Sited, state_at}
+use Rattle.um_tables.specs.Sited.{Sited, state_at}
 use Rattle.um_opening.specs.Opened.{IsFresh}
 use Rattle.um_opening.proofs.Fresh.{opening-fresh, opening-image}
 use Rattle.um_opening.proofs.Lists.{ok-more}

@@ -4,7 +4,7 @@ use Rattle.um_machine.specs.Run.{objects_from}
 use Rattle.um_fine.specs.Cells.{Cell}
 use Rattle.um_fine.specs.Memory.{Bytes}
 use Rattle.um_fine.specs.Sites.{SiteState}
-use Rattle.um_processor.specs.Sited.{IsSized, Sited}
+use Rattle.um_tables.specs.Sited.{IsSized, Sited}
 use Rattle.um_opening.specs.Opened.{kept_by}
 use Rattle.um_opening.proofs.SitesAre.{Keeps, sites-are}
 use Rattle.um_opening.proofs.tables.tables_of.Goals as goal

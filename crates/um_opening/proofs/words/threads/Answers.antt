@@ -4,7 +4,7 @@ use Rattle.um_fine.specs.Answers.{no_thread}
 use Rattle.um_fine.specs.Opening.{thread_state}
 use Rattle.um_fine.specs.Sites.{SiteState}
 use Rattle.um_words.specs.declared.thread_word.ThreadWord.{ThreadWord}
-use Rattle.um_processor.specs.Sited.{in_domains}
+use Rattle.um_tables.specs.Sited.{in_domains}
 use Rattle.um_opening.proofs.Lists.{each-more}
 use Rattle.um_opening.proofs.words.threads.Goals as goal
 

@@ -1,6 +1,6 @@
 use Rattle.std.proofs.Common.{◌≡◌, length}
 use Rattle.std.specs.List.{All}
-use Rattle.um_processor.specs.Sited.{in_domains}
+use Rattle.um_tables.specs.Sited.{in_domains}
 use Rattle.um_opening.specs.Opened.{AreThreads}
 use Rattle.um_opening.proofs.words.threads.Given as goal
 

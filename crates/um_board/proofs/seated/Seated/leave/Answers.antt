@@ -4,7 +4,7 @@ use Rattle.um_words.specs.Packed.{packed_cell}
 use Rattle.um_fine.specs.Cells.{Cell, cell_word, quiet_word}
 use Rattle.um_fine.specs.Sites.{SiteState}
 use Rattle.um_merge.specs.declared.logged.Logged.{Logged}
-use Rattle.um_processor.specs.Asked.{Takes}
+use Rattle.um_tables.specs.Asked.{Takes}
 use Rattle.um_board.specs.Contents.{Known, known}
 use Rattle.um_board.specs.NextSteps.{NextGoes}
 use Rattle.um_board.specs.Noted.{made_of}

@@ -1,4 +1,4 @@
-use Rattle.um_processor.specs.SchedulerActs.{added_made}
+use Rattle.um_tables.specs.SchedulerActs.{added_made}
 use Rattle.um_board.proofs.sites.SeatedSites.add.Given as goal
 
 abbrev pub ghosts-leave : goal.ghosts-leave

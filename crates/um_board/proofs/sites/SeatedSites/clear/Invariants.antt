@@ -1,4 +1,4 @@
-use Rattle.um_processor.specs.ObjectCells.{cleared_made, kept_in}
+use Rattle.um_tables.specs.ObjectCells.{cleared_made, kept_in}
 use Rattle.um_board.proofs.sites.SeatedSites.clear.Given as goal
 
 abbrev pub ghosts-leave : goal.ghosts-leave

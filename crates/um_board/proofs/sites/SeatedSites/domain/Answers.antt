@@ -2,10 +2,10 @@ use Rattle.std.proofs.Common.{◌≡◌, ◌+◌, ap, refl, sym, ◌∙◌, ◌<
 use Rattle.um_fine.specs.Answers.{domain_in}
 use Rattle.um_fine.specs.Steps.{Exchange, Site, Word}
 use Rattle.um_fine.proofs.Filled.{filled-twice}
-use Rattle.um_processor.specs.Asked.{asked}
+use Rattle.um_tables.specs.Asked.{asked}
 use Rattle.um_words.specs.DomainActs.{domain_act}
-use Rattle.um_processor.specs.DomainActs.{domain_made}
-use Rattle.um_processor.proofs.WordActs.{domain-refuses, domain-takes}
+use Rattle.um_tables.specs.DomainActs.{domain_made}
+use Rattle.um_tables.proofs.WordActs.{domain-refuses, domain-takes}
 use Rattle.um_board.specs.Noted.{number_of, packed}
 use Rattle.um_board.proofs.Keeping.{noted-then}
 use Rattle.um_board.proofs.WordSteps.{domain-lawful, domain-left, domain-number, domain-packs, domain-read, domain-reads-back}

@@ -1,4 +1,4 @@
-use Rattle.um_processor.specs.DomainActs.{domain_made}
+use Rattle.um_tables.specs.DomainActs.{domain_made}
 use Rattle.um_board.proofs.sites.SeatedSites.domain.Given as goal
 
 abbrev pub ghosts-step : goal.ghosts-step

@@ -6,7 +6,7 @@ use Rattle.um_machine.specs.Domains.{domain_after, reply_to}
 use Rattle.um_fine.specs.Processor.{edit_of}
 use Rattle.um_words.specs.declared.fine.FineAct.{FineAct}
 use Rattle.um_words.specs.declared.fine.Unseen.{Unseen}
-use Rattle.um_processor.specs.declared.domain_cell.DomainCell.{DomainCell}
+use Rattle.um_tables.specs.declared.domain_cell.DomainCell.{DomainCell}
 use Rattle.um_board.proofs.CellKinds.{parts-kind}
 use Rattle.um_board.proofs.CellSteps.{cell-takes}
 use Rattle.um_board.proofs.Keeping.{noted-then}

@@ -1,4 +1,4 @@
-use Rattle.um_processor.specs.DomainCells.{edited_made}
+use Rattle.um_tables.specs.DomainCells.{edited_made}
 use Rattle.um_board.proofs.sites.SeatedSites.edit.Given as goal
 
 abbrev pub ghosts-leave : goal.ghosts-leave

@@ -5,11 +5,11 @@ use Rattle.um_fine.specs.Cells.{Cell}
 use Rattle.um_fine.specs.Steps.{Exchange, Site}
 use Rattle.um_fine.specs.Answers.{act_in}
 use Rattle.um_fine.specs.Heap.{Heap, heap_after, heap_says}
-use Rattle.um_processor.specs.HeapActs.{heap_act, heap_event, heap_said}
-use Rattle.um_processor.specs.declared.heap_act.HeapAct.{HeapAct}
-use Rattle.um_processor.specs.declared.heap_act.HeapSaid.{HeapSaid}
-use Rattle.um_processor.proofs.HeapLemmas.{heap-takes}
-use Rattle.um_processor.proofs.Noted.{heap-event}
+use Rattle.um_tables.specs.HeapActs.{heap_act, heap_event, heap_said}
+use Rattle.um_tables.specs.declared.heap_act.HeapAct.{HeapAct}
+use Rattle.um_tables.specs.declared.heap_act.HeapSaid.{HeapSaid}
+use Rattle.um_tables.proofs.HeapLemmas.{heap-takes}
+use Rattle.um_tables.proofs.Noted.{heap-event}
 use Rattle.um_board.proofs.CellSteps.{cell-takes}
 use Rattle.um_board.proofs.Keeping.{noted-then}
 use Rattle.um_board.proofs.NextRuns.{next-then}

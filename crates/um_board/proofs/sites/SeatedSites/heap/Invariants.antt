@@ -1,4 +1,4 @@
-use Rattle.um_processor.specs.HeapActs.{heap_made}
+use Rattle.um_tables.specs.HeapActs.{heap_made}
 use Rattle.um_board.proofs.sites.SeatedSites.heap.Given as goal
 
 abbrev pub ghosts-leave : goal.ghosts-leave

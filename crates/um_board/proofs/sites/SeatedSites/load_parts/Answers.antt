@@ -1,7 +1,7 @@
 use Rattle.std.proofs.Common.{rules, refl, ◌≡◌, ◌∙◌, ap, sym}
 use Rattle.um_machine.specs.Memory.{parts_or_none}
 use Rattle.um_fine.specs.Steps.{Exchange}
-use Rattle.um_processor.specs.declared.domain_cell.DomainCell.{DomainCell}
+use Rattle.um_tables.specs.declared.domain_cell.DomainCell.{DomainCell}
 use Rattle.um_board.proofs.Keeping.{noted-then}
 use Rattle.um_board.proofs.NextRuns.{next-then}
 use Rattle.um_board.proofs.sites.SeatedSites.load_parts.Goals as goal

@@ -1,4 +1,4 @@
-use Rattle.um_processor.specs.DomainCells.{loaded_made}
+use Rattle.um_tables.specs.DomainCells.{loaded_made}
 use Rattle.um_board.proofs.sites.SeatedSites.load_parts.Given as goal
 
 abbrev pub ghosts-leave : goal.ghosts-leave

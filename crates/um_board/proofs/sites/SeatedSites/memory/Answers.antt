@@ -4,11 +4,11 @@ use Rattle.um_fine.specs.Cells.{Cell}
 use Rattle.um_fine.specs.Steps.{Site}
 use Rattle.um_fine.specs.Answers.{act_in}
 use Rattle.um_fine.specs.Memory.{Bytes, memory_after}
-use Rattle.um_processor.specs.MemoryActs.{memory_act, memory_answered, memory_event, memory_given, memory_made, memory_said, memory_sent, taken_after}
-use Rattle.um_processor.specs.declared.memory_act.MemoryAct.{MemoryAct}
-use Rattle.um_processor.specs.declared.memory_act.MemorySaid.{MemorySaid}
-use Rattle.um_processor.proofs.ByteLemmas.{memory-takes}
-use Rattle.um_processor.proofs.Noted.{memory-event}
+use Rattle.um_tables.specs.MemoryActs.{memory_act, memory_answered, memory_event, memory_given, memory_made, memory_said, memory_sent, taken_after}
+use Rattle.um_tables.specs.declared.memory_act.MemoryAct.{MemoryAct}
+use Rattle.um_tables.specs.declared.memory_act.MemorySaid.{MemorySaid}
+use Rattle.um_tables.proofs.ByteLemmas.{memory-takes}
+use Rattle.um_tables.proofs.Noted.{memory-event}
 use Rattle.um_board.specs.NextSteps.{IsNext}
 use Rattle.um_board.specs.Placed.{HasMadeThere}
 use Rattle.um_board.proofs.CellSteps.{cell-takes}

@@ -1,4 +1,4 @@
-use Rattle.um_processor.specs.MemoryActs.{memory_made}
+use Rattle.um_tables.specs.MemoryActs.{memory_made}
 use Rattle.um_board.proofs.sites.SeatedSites.memory.Given as goal
 
 abbrev pub ghosts-leave : goal.ghosts-leave

@@ -1,8 +1,8 @@
 use Rattle.std.proofs.Common.{rules, ◌≡◌, ◌∙◌, ap, sym}
 use Rattle.um_machine.specs.Table.{message_size}
 use Rattle.um_fine.specs.Steps.{Exchange}
-use Rattle.um_processor.specs.ObjectCells.{kept_in}
-use Rattle.um_processor.specs.declared.object_cell.ObjectCell.{ObjectCell}
+use Rattle.um_tables.specs.ObjectCells.{kept_in}
+use Rattle.um_tables.specs.declared.object_cell.ObjectCell.{ObjectCell}
 use Rattle.um_board.proofs.Keeping.{noted-then}
 use Rattle.um_board.proofs.NextRuns.{next-then}
 use Rattle.um_board.proofs.sites.SeatedSites.message_size.Goals as goal

@@ -1,4 +1,4 @@
-use Rattle.um_processor.specs.ObjectCells.{kept_in, looked_made}
+use Rattle.um_tables.specs.ObjectCells.{kept_in, looked_made}
 use Rattle.um_board.proofs.sites.SeatedSites.message_size.Given as goal
 
 abbrev pub ghosts-leave : goal.ghosts-leave

@@ -1,4 +1,4 @@
-use Rattle.um_processor.specs.ObjectCells.{kept_in}
+use Rattle.um_tables.specs.ObjectCells.{kept_in}
 use Rattle.um_board.proofs.Keeping.{noted-then}
 use Rattle.um_board.proofs.NextRuns.{next-then}
 use Rattle.um_board.proofs.sites.SeatedSites.name.Goals as goal

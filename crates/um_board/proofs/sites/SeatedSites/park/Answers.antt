@@ -6,7 +6,7 @@ use Rattle.um_fine.specs.Context.{Context}
 use Rattle.um_fine.specs.Scheduler.{Scheduler, has_place, is_ready, one_less, put_back}
 use Rattle.um_words.specs.declared.fine.FineAct.{FineAct}
 use Rattle.um_words.specs.declared.fine.Unseen.{Unseen}
-use Rattle.um_processor.specs.SchedulerActs.{parked_made}
+use Rattle.um_tables.specs.SchedulerActs.{parked_made}
 use Rattle.um_board.specs.NextSteps.{IsNext}
 use Rattle.um_board.specs.Placed.{HasMadeThere}
 use Rattle.um_board.proofs.CellSteps.{cell-takes}

@@ -2,11 +2,11 @@ use Rattle.std.proofs.Common.{◌≡◌, ap, refl, sym, ◌∙◌, ◌<◌, arit
 use Rattle.um_words.specs.Packed.{row_of}
 use Rattle.um_fine.specs.Steps.{Exchange, Site, Word}
 use Rattle.um_fine.proofs.Filled.{filled-twice}
-use Rattle.um_processor.specs.Asked.{asked}
+use Rattle.um_tables.specs.Asked.{asked}
 use Rattle.um_words.specs.RowActs.{row_act, row_event}
-use Rattle.um_processor.specs.RowActs.{row_made}
-use Rattle.um_processor.proofs.Noted.{row-event, row-seen}
-use Rattle.um_processor.proofs.WordActs.{row-refuses}
+use Rattle.um_tables.specs.RowActs.{row_made}
+use Rattle.um_tables.proofs.Noted.{row-event, row-seen}
+use Rattle.um_tables.proofs.WordActs.{row-refuses}
 use Rattle.um_board.specs.Noted.{number_of, packed}
 use Rattle.um_board.proofs.Keeping.{noted-then}
 use Rattle.um_board.proofs.WordSteps.{row-lawful, row-left, row-number, row-packs, row-reads-back, row-read}

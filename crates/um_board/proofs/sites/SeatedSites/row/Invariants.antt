@@ -1,5 +1,5 @@
 use Rattle.um_words.specs.Packed.{row_of}
-use Rattle.um_processor.specs.RowActs.{row_made}
+use Rattle.um_tables.specs.RowActs.{row_made}
 use Rattle.um_board.proofs.sites.SeatedSites.row.Given as goal
 
 abbrev pub ghosts-step : goal.ghosts-step

@@ -6,9 +6,9 @@ use Rattle.um_machine.specs.Order.{to_thread}
 use Rattle.um_words.specs.declared.cell_word.CellWord.{CellWord}
 use Rattle.um_fine.specs.Context.{Context}
 use Rattle.um_fine.specs.Scheduler.{Scheduler, first_ready, first_taken, has_ready, turn_in}
-use Rattle.um_processor.specs.Asked.{by_thread, event_of}
-use Rattle.um_processor.proofs.Noted.{resumes}
-use Rattle.um_processor.proofs.Scheduled.{next-after, next-takes}
+use Rattle.um_tables.specs.Asked.{by_thread, event_of}
+use Rattle.um_tables.proofs.Noted.{resumes}
+use Rattle.um_tables.proofs.Scheduled.{next-after, next-takes}
 use Rattle.um_board.proofs.Saws.{cell-first, got-first, got-one, hindered-first, nobody, none-shut, refused}
 use Rattle.um_words.specs.declared.fine.FineAct.{FineAct}
 use Rattle.um_words.specs.declared.fine.Unseen.{Unseen}

@@ -1,4 +1,4 @@
-use Rattle.um_processor.specs.SchedulerActs.{taken_made}
+use Rattle.um_tables.specs.SchedulerActs.{taken_made}
 use Rattle.um_board.proofs.sites.SeatedSites.take.Given as goal
 
 abbrev pub ghosts-leave : goal.ghosts-leave

@@ -3,11 +3,11 @@ use Rattle.um_words.specs.declared.thread_word.ThreadWord.{ThreadWord}
 use Rattle.um_fine.specs.Answers.{thread_in}
 use Rattle.um_fine.specs.Steps.{Exchange, Site, Word}
 use Rattle.um_fine.proofs.Filled.{filled-twice}
-use Rattle.um_processor.specs.Asked.{asked}
+use Rattle.um_tables.specs.Asked.{asked}
 use Rattle.um_words.specs.ThreadActs.{thread_act, thread_event}
-use Rattle.um_processor.specs.ThreadActs.{thread_made}
-use Rattle.um_processor.proofs.Noted.{thread-event}
-use Rattle.um_processor.proofs.WordActs.{thread-refuses, thread-takes}
+use Rattle.um_tables.specs.ThreadActs.{thread_made}
+use Rattle.um_tables.proofs.Noted.{thread-event}
+use Rattle.um_tables.proofs.WordActs.{thread-refuses, thread-takes}
 use Rattle.um_board.specs.Noted.{number_of, packed}
 use Rattle.um_board.proofs.Keeping.{noted-then}
 use Rattle.um_board.proofs.WordSteps.{thread-lawful, thread-left, thread-number, thread-packs, thread-read, thread-reads-back}

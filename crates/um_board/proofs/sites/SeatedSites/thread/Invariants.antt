@@ -1,4 +1,4 @@
-use Rattle.um_processor.specs.ThreadActs.{thread_made}
+use Rattle.um_tables.specs.ThreadActs.{thread_made}
 use Rattle.um_board.proofs.sites.SeatedSites.thread.Given as goal
 
 abbrev pub ghosts-step : goal.ghosts-step

@@ -4,7 +4,7 @@ use Rattle.um_fine.specs.Steps.{Exchange, Site}
 use Rattle.um_fine.specs.Scheduler.{Scheduler, has_place, parked_at}
 use Rattle.um_words.specs.declared.fine.FineAct.{FineAct}
 use Rattle.um_words.specs.declared.fine.Unseen.{Unseen}
-use Rattle.um_processor.specs.Parked.{awake}
+use Rattle.um_tables.specs.Parked.{awake}
 use Rattle.um_board.proofs.CellSteps.{cell-takes}
 use Rattle.um_board.proofs.Keeping.{noted-then}
 use Rattle.um_board.proofs.NextRuns.{next-then}

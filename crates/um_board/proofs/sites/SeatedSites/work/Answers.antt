@@ -9,9 +9,9 @@ use Rattle.um_machine.specs.Table.{buffer_cost, replies_of}
 use Rattle.um_machine.specs.declared.object.Cost.{Cost}
 use Rattle.um_fine.specs.Answers.{no_outcome}
 use Rattle.um_fine.specs.Objects.{outcome_of}
-use Rattle.um_processor.specs.Asked.{by_thread}
-use Rattle.um_processor.specs.ObjectCells.{kept_in, work_act}
-use Rattle.um_processor.specs.declared.object_cell.ObjectCell.{ObjectCell}
+use Rattle.um_tables.specs.Asked.{by_thread}
+use Rattle.um_tables.specs.ObjectCells.{kept_in, work_act}
+use Rattle.um_tables.specs.declared.object_cell.ObjectCell.{ObjectCell}
 use Rattle.um_board.proofs.CellKinds.{object-kind}
 use Rattle.um_board.proofs.CellSteps.{cell-takes}
 use Rattle.um_board.proofs.Keeping.{noted-then}

@@ -1,4 +1,4 @@
-use Rattle.um_processor.specs.ObjectCells.{kept_in, worked_made}
+use Rattle.um_tables.specs.ObjectCells.{kept_in, worked_made}
 use Rattle.um_board.proofs.sites.SeatedSites.work.Given as goal
 
 abbrev pub ghosts-leave : goal.ghosts-leave

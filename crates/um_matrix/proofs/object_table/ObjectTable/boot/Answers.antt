@@ -1,4 +1,4 @@
-use Rattle.std.proofs.Common.{◌≡◌, ◌∙◌, ◌++◌, List, ap, arith}
+use Rattle.std.proofs.Common.{◌∙◌, ◌++◌, List, ap}
 use Rattle.um_machine.specs.declared.object.Object.{Object}
 use Rattle.um_matrix.specs.Padded.{padded}
 use Rattle.um_matrix.proofs.PaddedLemmas.{padded-front}

@@ -1,4 +1,4 @@
-use Rattle.std.proofs.Common.{◌≡◌, ◌∙◌, List, ap, arith, refl, slice_index_or, slice_set}
+use Rattle.std.proofs.Common.{◌∙◌, List, ap, arith, refl, slice_index_or, slice_set}
 use Rattle.um_machine.specs.declared.object.Object.{Object}
 use Rattle.um_machine.specs.State.{vacant}
 use Rattle.um_matrix.proofs.PaddedLemmas.{set-static, set-dynamic, read-static, read-dynamic}

@@ -1,4 +1,4 @@
-use Rattle.std.proofs.Common.{◌≡◌, ◌∙◌, List, ap, drop, sym, arith}
+use Rattle.std.proofs.Common.{◌∙◌, List, ap, drop, sym, arith}
 use Rattle.std.specs.List.{list_any}
 use Rattle.um_machine.specs.declared.object.Object.{Object}
 use Rattle.um_machine.specs.Objects.{is_gone}

@@ -1,8 +1,8 @@
 use Rattle.std.proofs.Common.{rules, ◌≡◌, [], drop, ap, ◌∙◌}
+use Rattle.um_machine.specs.Goes.{Next}
 use Rattle.um_machine.specs.Order.{Steps}
-use Rattle.um_machine.specs.Table.{with_answer}
 use Rattle.um_fine.specs.Context.{Context}
-use Rattle.um_fine.specs.Continues.{goes_on, reply_of}
+use Rattle.um_fine.specs.Continues.{gone_part, reply_of}
 use Rattle.um_processor.specs.Events.{behind_event}
 use Rattle.um_processor.specs.Processors.{processor_of}
 use Rattle.um_processor.proofs.Runs.{runs-behind}
@@ -17,7 +17,7 @@ returns g c =
     let thread = c.thread-thread.ensures.value in
     let free : c.deref_mut-2.result.now ≡ record r.context.value { claims = [] } = search rules in
     let left : Context → Steps → Context = λ own rest.
-    goes_on image (record own { claims = []; registers = with_answer own.registers c.args.to (reply_of image own c.args.reply) }) rest in
+    gone_part image rest (Next.answers c.args.to (reply_of image own c.args.reply)) own in
     let after =
     c.answers.ensures
     ∙ (ap (λ (own : Context). left own (drop c.taken-taken.result own.pending)) free ∙ ap (left r.context.value) c.taken-taken.ensures.rest) in

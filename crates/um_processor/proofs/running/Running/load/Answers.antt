@@ -1,6 +1,6 @@
 use Rattle.std.proofs.Common.{ap, arith}
 use Rattle.std.proofs.lemmas.Bool.{le-leb}
-use Rattle.um_processor.specs.declared.memory_act.MemorySaid.{MemorySaid}
+use Rattle.um_tables.specs.declared.memory_act.MemorySaid.{MemorySaid}
 use Rattle.um_processor.proofs.Accesses.{load-goes}
 use Rattle.um_processor.proofs.running.Running.load.Goals as goal
 

@@ -1,4 +1,4 @@
-use Rattle.std.proofs.Common.{◌≡◌, ◌∙◌, ap, sym, drop, false}
+use Rattle.std.proofs.Common.{◌∙◌, ap, sym, drop}
 use Rattle.std.specs.List.{list_any}
 use Rattle.um_base.specs.declared.limits.TheConstants.{STATIC_ROWS}
 use Rattle.um_machine.specs.declared.object.Object.{Object}

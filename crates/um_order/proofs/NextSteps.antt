@@ -1,0 +1,139 @@
+-- The step of an event is the one that the machine's thread makes next, with the least row that it may take.
+use Rattle.std.proofs.Common.{◌≡◌, inl, inr, ℕ, zero, suc, Bool, true, false, List, [], ◌∷◌, drop, Option, Some, None, refl, sym, ap, ◌∙◌, subst, arith}
+use Rattle.std.specs.Prelude.{◌&&◌, not, IsTrue, if◌then◌else◌, is_some, slice_get, slice_index_or}
+use Rattle.std.specs.List.{list_all}
+use Rattle.std.proofs.lemmas.Bool.{and_parts, false≢true, true≢false}
+use Rattle.um_base.specs.declared.act.Act.{Act}
+use Rattle.um_base.specs.declared.instr.Instr.{Instr}
+use Rattle.um_base.specs.declared.names.Kind.{Kind}
+use Rattle.um_base.specs.declared.names.ThreadIx.{ThreadIx}
+use Rattle.um_machine.specs.declared.pending.Pending.{Pending}
+use Rattle.um_machine.specs.declared.thread.Thread.{Thread}
+use Rattle.um_machine.specs.Order.{Steps}
+use Rattle.um_machine.specs.Run.{Offers, begins, exits, goes, may_go, none_due, skips_drops, skips_inherit, tends}
+use Rattle.um_machine.specs.State.{State, instruction_at, is_living, thread_at}
+use Rattle.um_machine.specs.Table as T
+use Rattle.um_invariants.specs.NextSteps.{IsLeast, IsNext, IsNextStep, MayTake, NoFirst, TakesNone, first_or, first_step, is_skipped, line_step, rest_step, second_step}
+use Rattle.um_refinement.proofs.WordsKept.{IsShown}
+use Rattle.um_order.proofs.Standing.{IsFull}
+
+not-due : (xs : List Bool) (y : ℕ) → list_all not xs ≡ true → slice_index_or xs y false ≡ true → ⊥
+not-due [] y h d = false≢true d
+not-due (b ∷ bs) zero h d = true≢false (sym (and_parts (not b) _ h).0 ∙ ap not d)
+not-due (b ∷ bs) (suc y) h d = not-due bs y (and_parts (not b) _ h).1 d
+
+same-some : {A : Type 0} (x y : A) → Some x ≡ Some y → x ≡ y
+same-some x y e = cc
+
+module _ (m : State) (t : ℕ) where
+  me : Thread
+  me = thread_at m t
+
+  first-is : (q : Pending) (rest : Steps) → (thread_at m t).pending ≡ q ∷ rest → first_step m t ≡ Some q
+  first-is q rest e = ap (λ steps. first_or (slice_get steps 0) (rest_step m t)) e
+
+  second-is : (p q : Pending) (rest : Steps) → (thread_at m t).pending ≡ p ∷ q ∷ rest → is_skipped (Some p) ≡ true → IsTrue (none_due (thread_at m t)) → second_step m t ≡ Some q
+  second-is p q rest e skipped due =
+      ap (λ steps. if is_skipped (slice_get steps 0) && none_due (thread_at m t) then slice_get steps 1 else None) e ∙ λ i. if skipped i && due i then Some q else None
+
+  rest-is : (thread_at m t).pending ≡ [] → IsTrue (is_living (thread_at m t).life) → IsTrue (may_go (thread_at m t)) → first_step m t ≡ Some (line_step (instruction_at m.image (thread_at m t).place))
+  rest-is e lives free =
+      ap (λ steps. first_or (slice_get steps 0) (rest_step m t)) e
+      ∙ λ i. first_or None (if lives i && free i then Some (line_step (instruction_at m.image (thread_at m t).place)) else None)
+
+  begin-is : (o : Option Instr) → IsTrue (is_some o) → line_step o ≡ Pending.Begin
+  begin-is None h = absurd (false≢true h)
+  begin-is (Some instr) h = refl
+
+  -- nothing is left to pass on, or to drop
+  inherits-none : (who : ThreadIx) → IsTrue (none_due (thread_at m t)) → TakesNone m t (Pending.Inherit who)
+  inherits-none who due y may = not-due (thread_at m t).due y due may.1
+
+  drops-none : (from : ℕ) (rest : Steps) → (thread_at m t).pending ≡ Pending.Drops from ∷ rest → IsFull m t (thread_at m t).pending → IsTrue (none_due (thread_at m t)) → TakesNone m t (Pending.Drops from)
+  drops-none from rest e full due y may = not-due (thread_at m t).due y due (subst (IsFull m t) e full y may.0.0 may.0.1)
+
+  no-first : (p : Pending) (q : Pending) (rest : Steps) → (thread_at m t).pending ≡ p ∷ q ∷ rest → TakesNone m t p → NoFirst m t
+  no-first p q rest e none step first = subst (TakesNone m t) (same-some p step (sym (first-is p (q ∷ rest) e) ∙ first)) none
+
+  -- which step it is, and how many of its steps the thread leaves behind
+  pub record Leads (q : Pending) (rest : Steps) : Type 0 where
+    pub taken : ℕ
+    pub next : IsNextStep m t q taken
+    pub left : drop taken (thread_at m t).pending ≡ rest
+
+  pub leads : (q : Pending) (rest : Steps) → IsShown q → Offers m t q rest → IsFull m t (thread_at m t).pending → Leads q rest
+  leads q rest shown (goes e) full = record { taken = 1; next = inl (refl, first-is q rest e); left = ap (drop 1) e }
+  leads q rest shown (skips_inherit {who} e due) full =
+      record {
+        taken = 2;
+        next = inr (refl, second-is (Pending.Inherit who) q rest e refl due, no-first (Pending.Inherit who) q rest e (inherits-none who due));
+        left = ap (drop 2) e;
+      }
+  leads q rest shown (skips_drops {from} e due) full =
+      record {
+        taken = 2;
+        next = inr (refl, second-is (Pending.Drops from) q rest e refl due, no-first (Pending.Drops from) q rest e (drops-none from (q ∷ rest) e full due));
+        left = ap (drop 2) e;
+      }
+  leads _ _ shown (begins e lives free there) full =
+      record { taken = 1; next = inl (refl, rest-is e lives free ∙ ap Some (begin-is (instruction_at m.image (thread_at m t).place) there)); left = ap (drop 1) e }
+  leads _ _ shown (exits e lives free there) full = record { taken = 1; next = inl (refl, rest-is e lives free ∙ ap (λ o. Some (line_step o)) there); left = ap (drop 1) e }
+  leads (Pending.CleanPair who) _ shown (tends is started) full = absurd shown
+  leads Pending.Recycle _ shown (tends is started) full = absurd shown
+  leads q _ shown (tends is started) full = absurd (false≢true is)
+
+  abbrev is_reserve : Pending → Bool
+  is_reserve (Pending.Reserve kind) = true
+  is_reserve q = false
+
+  -- of a step that chooses no row
+  record Rowless (x : ℕ) (q : Pending) (rest : Steps) : Type 0 where
+    may : MayTake m t q 0
+    says : T.act_of m t x q ≡ T.act_of m t 0 q
+    leaves : T.after m t x q rest ≡ T.after m t 0 q rest
+
+  rowless : (x : ℕ) (q : Pending) (rest : Steps) → IsShown q → is_reserve q ≡ false → Rowless x q rest
+  rowless x (Pending.Reserve kind) rest shown plain = absurd (true≢false plain)
+  rowless x (Pending.Inherit who) rest shown plain = absurd shown
+  rowless x (Pending.Drops from) rest shown plain = absurd shown
+  rowless x (Pending.CleanPair who) rest shown plain = absurd shown
+  rowless x Pending.Recycle rest shown plain = absurd shown
+  rowless x Pending.Resume rest shown plain = absurd shown
+  rowless x q rest shown plain = record { may = (tt, tt); says = refl; leaves = refl }
+
+  -- the row that a reservation chooses is the least one
+  abbrev pub ReservesLeast : ℕ → Pending → Type 0
+  ReservesLeast x (Pending.Reserve kind) = IsLeast m t (Pending.Reserve kind) x
+  ReservesLeast x q = Unit {0}
+
+  pub next-is : (x : ℕ) (q : Pending) (rest : Steps) (act : Act) → IsShown q → Leads q rest → ReservesLeast x q → act ≡ T.act_of m t x q → IsNext m t act (T.after m t x q rest)
+  next-is x q rest act shown lead least said = by q refl
+    where
+      reserves : (kind : Kind) → q ≡ Pending.Reserve kind → IsNext m t act (T.after m t x q rest)
+      reserves kind e =
+          record {
+            step = q;
+            row = x;
+            taken = lead.taken;
+            next = lead.next;
+            least = subst (λ p. IsLeast m t p x) (sym e) (subst (ReservesLeast x) e least);
+            says = said;
+            leaves = ap (T.after m t x q) (sym lead.left);
+          }
+
+      plainly : is_reserve q ≡ false → IsNext m t act (T.after m t x q rest)
+      plainly plain =
+          let r = rowless x q rest shown plain in
+          record {
+            step = q;
+            row = 0;
+            taken = lead.taken;
+            next = lead.next;
+            least = (r.may, λ y l. absurd (omega (arith, l)));
+            says = said ∙ r.says;
+            leaves = r.leaves ∙ ap (T.after m t 0 q) (sym lead.left);
+          }
+
+      by : (p : Pending) → q ≡ p → IsNext m t act (T.after m t x q rest)
+      by (Pending.Reserve kind) e = reserves kind e
+      by p e = plainly (ap is_reserve e)

@@ -1,9 +1,0 @@
-use Rattle.std.proofs.Common.{◌≡◌}
-use Rattle.um_machine.specs.Memory.{rodata_of}
-use Rattle.um_processing.proofs.tests.events.a_log.Given as goal
-
-abbrev pub invariant-loop-act : goal.invariant-loop-act
-invariant-loop-act g l = l.sites.rodata ≡ rodata_of l.here.image.now
-
-abbrev pub invariant-loop : goal.invariant-loop
-invariant-loop g l = l.sites.rodata ≡ rodata_of l.here.image.now

@@ -1,6 +1,0 @@
-use Rattle.std.proofs.Common.{◌≡◌}
-use Rattle.um_machine.specs.Memory.{rodata_of}
-use Rattle.um_processing.proofs.tests.over_tables.Given as goal
-
-abbrev pub invariant-loop-row : goal.invariant-loop-row
-invariant-loop-row g l = l.sites.rodata ≡ rodata_of l.here.image.now

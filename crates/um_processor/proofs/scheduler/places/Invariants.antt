@@ -1,6 +1,0 @@
-use Rattle.std.proofs.Common.{◌≡◌, replicate}
-use Rattle.um_processor.specs.Parked.{nobody}
-use Rattle.um_processor.proofs.scheduler.places.Given as goal
-
-abbrev pub invariant-loop : goal.invariant-loop
-invariant-loop l = l.all.items ≡ replicate l.counter nobody

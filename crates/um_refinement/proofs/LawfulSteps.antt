@@ -1,0 +1,256 @@
+-- Each lawful step is one of the machine, or leaves it: given a few facts of the machine's state, what it makes of that state
+-- is one of the kinds of `Leaves`.
+use Rattle.um_refinement.proofs.Words.{◌≡◌, inl, inr, ℕ, ◌<◌, Bool, true, false, [], ◌∷◌, length, Some, None, refl, sym, ap, ◌∙◌, subst, ◌&&◌, if◌then◌else◌, nat_lt, slice_index_or, list_all, and_parts, false≢true, ltb-true, true≢false, Act, Ask, Image, ROWS, Addr, ThreadIx, own_row, Amount, Pending, Steps, to_thread, Offers, goes, skips_drops, skips_inherit, State, thread_at, call_is, Guarded, IsStatic, behind_birth, FineAct, Unseen, address_of, row_named, act_in, is_visit, is_word_read, leftover_in, by_me, says_idle, says_show, shows, Cell, Todo, Todos, SiteState, site_takes, Exchange, FineStep, Site, Fine, bytes, names_row, tends}
+use Rattle.um_machine.specs.Table as T
+use Rattle.um_refinement.proofs.CallsKnown.{RestsHoldNothing, calls-known}
+use Rattle.um_refinement.proofs.CleanSteps.{Calls, OwnRows, clean-pair-step, recycle-chosen, recycle-step}
+use Rattle.um_refinement.proofs.DomainSteps.{add-step, init-step, remove-step}
+use Rattle.um_refinement.proofs.DropSteps.{drop-pair-step, drop-step}
+use Rattle.um_refinement.proofs.Erased.{Goes, GoesBy, around}
+use Rattle.um_refinement.proofs.HeapSteps.{buffer-step, reserve-step}
+use Rattle.um_refinement.proofs.Leaves.{HasStep, Lawful, Leaves, cleans, drops, event, nothing, passes, recycles, resumes}
+use Rattle.um_refinement.proofs.MemoryPart.{InDomains, held-domain}
+use Rattle.um_refinement.proofs.MemorySteps.{copy-in-step, copy-out-step, fetch-step, load-step, memory-sort, probe-step, store-step}
+use Rattle.um_refinement.proofs.ObjectsKept.{row-below}
+use Rattle.um_refinement.proofs.Offered.{IsStep, Shows, act-is, shown-offers, site-is, step-goes, machine-step}
+use Rattle.um_refinement.proofs.Reachable.{sound-held}
+use Rattle.um_refinement.proofs.ResumeSteps.{TellsWaiters, resume-step}
+use Rattle.um_refinement.proofs.RowSteps.{check-step, grant-step, named-row, own-step, publish-step, set-step}
+use Rattle.um_refinement.proofs.RowsPart.{found, named-below}
+use Rattle.um_refinement.proofs.SchedulerSteps.{made-says}
+use Rattle.um_refinement.proofs.Shown.{answer-step, begin-step, exit-step}
+use Rattle.um_refinement.proofs.TextSteps.{copy-str-step}
+use Rattle.um_refinement.proofs.VisitSteps.{Visits, pass-step}
+use Rattle.um_refinement.proofs.WordsKept.{IsShown}
+use Rattle.um_refinement.proofs.WorkSteps.{get-probe-step, move-step, put-copy-step, work-step}
+
+-- an edit is of one of so many domains
+abbrev pub EditsOne : ℕ → Pending → Type 0
+EditsOne n (Pending.DomInit d parts) = d < n
+EditsOne n (Pending.DomAdd d range attr) = d < n
+EditsOne n (Pending.DomRemove d range attr) = d < n
+EditsOne n q = Unit {0}
+
+-- What the events ask of the machine's state beside what is known of it: edits are of the image's domains, a call works on an object that
+-- it holds, only threads that wait are told anything, and who is in no call holds nothing by one.
+pub record Suits (f : Fine) (m : State) : Type 0 where
+  pub edits : (t : ℕ) (q : Pending) (rest : Steps) → Offers m t q rest → EditsOne (length f.image.domains) q
+  pub works : (t : ℕ) (a : Addr) (ask : Ask) (rest : Steps) → Offers m t (Pending.Work a ask) rest → slice_index_or (thread_at m t).checked (T.row_of m a) false ≡ true
+  pub tells : TellsWaiters m
+  pub rests : RestsHoldNothing m
+
+-- what a step leaves, and that the machine goes there
+pub record Next (f : Fine) (m : State) (e : FineStep) : Type 0 where
+  pub state : State
+  pub goes : Goes m e state
+  pub leaves : Leaves f m e state
+  pub has : HasStep f m e state leaves
+
+module _ (f : Fine) (m : State) (e : FineStep) (law : Lawful f m e) (suits : Suits f m) (own : OwnRows f.image) (all : InDomains f m) where
+  calls : Calls m
+  calls = calls-known m law.sound suits.rests
+
+  open around f e use {processor as p}
+
+  quietly : (u : Unseen) → e.act ≡ FineAct.Unseen u → Next f m e
+  quietly u said = record { state = m; goes = subst (λ act. GoesBy m act m) (sym said) refl; leaves = nothing u said; has = tt }
+
+  row-named : (a : Addr) → row_named f.image a < ROWS
+  row-named a = ltb-true (row_named f.image a) ROWS (named-below f m e law a)
+
+  -- the row of a new thread's own object
+  own-below : (t : ℕ) (who : ThreadIx) (rest : Steps) → Offers m t (Pending.Own who) rest → own_row f.image who.0 < ROWS
+  own-below t who rest offers = subst (λ (i : Image). own_row i who.0 < ROWS) law.rel.image (by offers)
+    where
+      static : IsStatic m.image (thread_at m t).checked (own_row m.image who.0) → own_row m.image who.0 < ROWS
+      static (inl l) = row-below m law.sound (own_row m.image who.0) (inl l)
+      static (inr r) = row-below m law.sound (own_row m.image who.0) r.0
+
+      guarded : Guarded m.image (thread_at m t).checked (behind_birth (thread_at m t).pending)
+      guarded = subst (λ (c : _). Guarded m.image c.checked (behind_birth c.pending)) (call_is m t) (law.sound.known.reached.guarded t)
+
+      by : {left : Steps} → Offers m t (Pending.Own who) left → own_row m.image who.0 < ROWS
+      by (goes q) = static (subst (λ (steps : Steps). Guarded m.image (thread_at m t).checked (behind_birth steps)) q guarded).0
+      by (skips_inherit q due) = static (subst (λ (steps : Steps). Guarded m.image (thread_at m t).checked (behind_birth steps)) q guarded).0
+      by (skips_drops q due) = static (subst (λ (steps : Steps). Guarded m.image (thread_at m t).checked (behind_birth steps)) q guarded).0
+      by (tends is started) = absurd (false≢true is)
+
+  -- An event of an instruction.
+
+  exits-nowhere : (act : FineAct) → e.act ≡ act → e.site ≡ Site.memory → site_takes (SiteState.cell 0 (Cell.memory (bytes f))) act ≡ false → ⊥
+  exits-nowhere act said site none = false≢true (sym (both none) ∙ takes)
+    where
+      at : (n : ℕ) × (f.sites Site.memory ≡ SiteState.cell n (Cell.memory (bytes f)))
+      at = memory-sort (f.sites Site.memory) (law.rel.sorts Site.memory)
+
+      takes : site_takes (SiteState.cell at.0 (Cell.memory (bytes f))) act ≡ true
+      takes =
+          subst (λ (s : SiteState). site_takes s act ≡ true) at.1
+          (subst (λ (z : Site × FineAct). site_takes (f.sites z.0) z.1 ≡ true) (λ j. (site j, said j)) law.taken.takes)
+
+      both : site_takes (SiteState.cell 0 (Cell.memory (bytes f))) act ≡ false → site_takes (SiteState.cell at.0 (Cell.memory (bytes f))) act ≡ false
+      both h = ap (λ b. nat_lt at.0 268435455 && b) h ∙ no (nat_lt at.0 268435455)
+        where
+          no : (b : Bool) → (b && false) ≡ false
+          no true = refl
+          no false = refl
+
+  module _ (rest : Steps) (todo : Todos) where
+    shown-step : (q : Pending) → Shows f m e.cpu e q rest todo → IsShown q × (x : ℕ) × IsStep f m e.cpu e x q
+    shown-step (Pending.Check a kind want refusal) h = (tt, 0, check-step a kind want refusal (λ x at. ltb-true x ROWS (found f m e law a.0 x at)) h)
+    shown-step (Pending.Load to a n) h = (tt, 0, load-step (held-domain all h refl) to a n h)
+    shown-step (Pending.Store a n value) h = (tt, 0, store-step (held-domain all h refl) a n value h)
+    shown-step (Pending.Fetch a) h = (tt, 0, fetch-step (held-domain all h refl) a h)
+    shown-step (Pending.Probe a (Amount.Bytes n)) h = (tt, 0, probe-step (held-domain all h refl) a n h)
+    shown-step (Pending.Probe a (Amount.MessageOf b)) h = (tt, 0, get-probe-step a b (held-domain all h refl) h)
+    shown-step (Pending.CopyIn a (Amount.Bytes n)) h = (tt, 0, copy-in-step (held-domain all h refl) a n h)
+    shown-step (Pending.CopyIn a (Amount.MessageOf b)) h = (tt, 0, put-copy-step a b (held-domain all h refl) h)
+    shown-step (Pending.CopyOut a) h = (tt, 0, copy-out-step (held-domain all h refl) a h)
+    shown-step (Pending.CopyStr a) h = (tt, 0, copy-str-step (held-domain all h refl) a h)
+    shown-step (Pending.Work a ask) h = (
+      tt,
+      0,
+      work-step a ask (row-named a)
+          (ap (λ y. slice_index_or (thread_at m p.context.thread).checked y false) (sym (named-row f m law.rel a)) ∙ suits.works p.context.thread a ask rest (shown-offers h)) h,
+    )
+    shown-step (Pending.Grant who a) h = (tt, 0, grant-step who a (row-named a) h)
+    shown-step (Pending.Own who) h = (tt, 0, own-step who (own-below p.context.thread who rest (shown-offers h)) h)
+    shown-step (Pending.DropPair who a) h = (tt, 0, drop-pair-step who a (row-named a) (sound-held m law.sound (row_named f.image a) who.0 (row-named a)) h)
+    shown-step (Pending.Publish a) h = (tt, 0, publish-step a (row-named a) h)
+    shown-step (Pending.SetInit a strict undo) h = (tt, 0, set-step a strict undo (row-named a) h)
+    shown-step (Pending.Reserve kind) h = let r = reserve-step kind h in (tt, r.0, r.1)
+    shown-step (Pending.Buffer size) h = (tt, 0, buffer-step size h)
+    shown-step (Pending.DomInit d parts) h = (tt, 0, init-step d parts (suits.edits p.context.thread (Pending.DomInit d parts) rest (shown-offers h)) h)
+    shown-step (Pending.DomAdd d range attr) h = (tt, 0, add-step d range attr (suits.edits p.context.thread (Pending.DomAdd d range attr) rest (shown-offers h)) h)
+    shown-step (Pending.DomRemove d range attr) h = (tt, 0, remove-step d range attr (suits.edits p.context.thread (Pending.DomRemove d range attr) rest (shown-offers h)) h)
+    shown-step (Pending.DomMove d who) h = (tt, 0, move-step d who h)
+    shown-step Pending.Resume h = absurd (exits-nowhere _ (act-is h) (site-is h) refl)
+    shown-step (Pending.Inherit who) h = absurd (exits-nowhere _ (act-is h) (site-is h) refl)
+    shown-step (Pending.Drops from) h = absurd (exits-nowhere _ (act-is h) (site-is h) refl)
+    shown-step (Pending.CleanPair who) h = absurd (exits-nowhere _ (act-is h) (site-is h) refl)
+    shown-step Pending.Recycle h = absurd (exits-nowhere _ (act-is h) (site-is h) refl)
+    shown-step Pending.Begin h = (tt, 0, begin-step h)
+    shown-step Pending.Exit h = (tt, 0, exit-step h)
+    shown-step (Pending.Answer reply to) h = (tt, 0, answer-step reply to h)
+    shown-step q h = (tt, 0, machine-step h 0 (act-is h) tt refl)
+
+  show-next : (q : Pending) (rest : Steps) (todo : Todos) → p.todo ≡ Todo.show q rest ∷ todo → (b : Bool) → is_word_read e.act ≡ b → Next f m e
+  show-next q rest todo at false shown =
+      let h : Shows f m e.cpu e q rest todo = record { rel = law.rel; there = law.by.named; at = at; may = law.by.may; taken = law.taken; shown = shown } in
+      let r = shown-step rest todo q h in
+      record { state = T.after m p.context.thread r.1 q rest; goes = step-goes h r.2; leaves = event q rest todo r.1 h r.0 r.2; has = tt }
+  show-next q rest todo at true read = by q (made-says f m e law (Todo.show q rest ∷ todo) at)
+    where
+      reads : (q : Pending) → e.act ≡ (if is_word_read e.act then FineAct.Unseen Unseen.WordRead else shows f.image p q e.act) → Next f m e
+      reads q said = quietly Unseen.WordRead (said ∙ ap (λ b. if b then FineAct.Unseen Unseen.WordRead else shows f.image p q e.act) read)
+
+      by : (q : Pending) → e.act ≡ says_show f.image p q e.act → Next f m e
+      by Pending.Begin said = reads Pending.Begin said
+      by Pending.Exit said = reads Pending.Exit said
+      by q said = absurd (true≢false (sym read ∙ ap is_word_read said))
+
+  -- Visits, and the end of a cleaning.
+
+  row-first : (q : Todo) (todo : Todos) → p.todo ≡ q ∷ todo → names_row q ≡ true
+  row-first q todo at = (and_parts (names_row q) (list_all names_row todo) (subst (λ (z : Todos). list_all names_row z ≡ true) at (law.rel.processors e.cpu law.by.named).rows)).0
+
+  visited-at : (x : ℕ) (q : Todo) (todo : Todos) → p.todo ≡ q ∷ todo → nat_lt x ROWS ≡ true → is_visit e.act ≡ false → Visits f m e.cpu e x q todo
+  visited-at x q todo at few shown =
+      record { rel = law.rel; there = law.by.named; at = at; few = ltb-true x ROWS few; may = law.by.may; taken = law.taken; shown = shown }
+
+  looks : (act : Act) → e.act ≡ (if is_visit e.act then FineAct.Unseen Unseen.Visit else by_me f.image p act) → is_visit e.act ≡ true → Next f m e
+  looks act said look = quietly Unseen.Visit (said ∙ ap (λ b. if b then FineAct.Unseen Unseen.Visit else by_me f.image p act) look)
+
+  does : (act : Act) → e.act ≡ (if is_visit e.act then FineAct.Unseen Unseen.Visit else by_me f.image p act) → is_visit e.act ≡ false → e.act ≡ by_me f.image p act
+  does act said shown = said ∙ ap (λ b. if b then FineAct.Unseen Unseen.Visit else by_me f.image p act) shown
+
+  pass-next : (who x : ℕ) (todo : Todos) → p.todo ≡ Todo.pass who x ∷ todo → (b : Bool) → is_visit e.act ≡ b → Next f m e
+  pass-next who x todo at true look = looks (Act.Inherit (to_thread who) (address_of f.image x)) (made-says f m e law (Todo.pass who x ∷ todo) at) look
+  pass-next who x todo at false shown =
+      let v = visited-at x (Todo.pass who x) todo at (row-first (Todo.pass who x) todo at) shown in
+      let r = pass-step who v in
+      record {
+        state = T.after m p.context.thread x (Pending.Inherit (to_thread who)) r.0;
+        goes = r.2;
+        has = r.1;
+        leaves = passes who x r.0 todo v (does (Act.Inherit (to_thread who) (address_of f.image x)) (made-says f m e law (Todo.pass who x ∷ todo) at) shown);
+      }
+
+  drop-next : (x : ℕ) (todo : Todos) → p.todo ≡ Todo.drop x ∷ todo → (b : Bool) → is_visit e.act ≡ b → Next f m e
+  drop-next x todo at true look =
+      looks (Act.DropPair (to_thread p.context.thread) (address_of f.image x) (leftover_in (act_in e.act))) (made-says f m e law (Todo.drop x ∷ todo) at) look
+  drop-next x todo at false shown =
+      let v = visited-at x (Todo.drop x) todo at (row-first (Todo.drop x) todo at) shown in
+      let r = drop-step v (sound-held m law.sound x p.context.thread v.few) in
+      record {
+        state = T.after m p.context.thread x (Pending.Drops r.0) r.1;
+        goes = r.3;
+        has = r.2;
+        leaves = drops r.0 x r.1 todo v (does (Act.DropPair (to_thread p.context.thread) (address_of f.image x) (leftover_in (act_in e.act))) (made-says f m e law (Todo.drop x ∷ todo) at) shown);
+      }
+
+  clean-next : (who x : ℕ) (todo : Todos) → p.todo ≡ Todo.clean_pair who x ∷ todo → (b : Bool) → is_visit e.act ≡ b → Next f m e
+  clean-next who x todo at true look =
+      looks (Act.DropPair (to_thread who) (address_of f.image x) (leftover_in (act_in e.act))) (made-says f m e law (Todo.clean_pair who x ∷ todo) at) look
+  clean-next who x todo at false shown =
+      let v = visited-at x (Todo.clean_pair who x) todo at (row-first (Todo.clean_pair who x) todo at) shown in
+      let pending = (thread_at m p.context.thread).pending in
+      record {
+        state = T.after m p.context.thread x (Pending.CleanPair (to_thread who)) pending;
+        has = tt;
+        goes = clean-pair-step v calls own (sound-held m law.sound x who v.few);
+        leaves = cleans who x pending todo v (does (Act.DropPair (to_thread who) (address_of f.image x) (leftover_in (act_in e.act))) (made-says f m e law (Todo.clean_pair who x ∷ todo) at) shown);
+      }
+
+  recycle-next : (x : ℕ) (todo : Todos) → p.todo ≡ Todo.recycle x ∷ todo → Next f m e
+  recycle-next x todo at =
+      let few = ltb-true x ROWS (row-first (Todo.recycle x) todo at) in
+      let pending = (thread_at m p.context.thread).pending in
+      record {
+        state = T.after m p.context.thread x Pending.Recycle pending;
+        has = tt;
+        goes = recycle-step f m law.rel calls own x todo law.by.named few at law.by.may;
+        leaves = recycles x pending todo at few (made-says f m e law (Todo.recycle x ∷ todo) at) (recycle-chosen f m law.rel calls own x todo law.by.named few at);
+      }
+
+  -- A thread is taken.
+  take-next : p.todo ≡ [] → (moved : Exchange) → e.moved ≡ moved → e.act ≡ says_idle f.image p moved → Next f m e
+  take-next at (Exchange.thread c None) moved said = quietly (Unseen.Next (to_thread c.thread)) said
+  take-next at (Exchange.thread c (Some told)) moved said =
+      let r = resume-step f m law.rel c told law.by.named at law.by.may law.taken moved suits.tells in
+      record { state = T.after m c.thread 0 Pending.Resume r.0; goes = r.2; leaves = resumes c told r.0 at moved said; has = r.1 }
+  take-next at Exchange.nothing moved said = quietly _ said
+  take-next at (Exchange.bytes bs) moved said = quietly _ said
+  take-next at (Exchange.asked who outcome) moved said = quietly _ said
+  take-next at (Exchange.text n bs) moved said = quietly _ said
+  take-next at (Exchange.told told) moved said = quietly _ said
+  take-next at (Exchange.charge cost) moved said = quietly _ said
+  take-next at (Exchange.parts ps) moved said = quietly _ said
+  take-next at (Exchange.edited before after) moved said = quietly _ said
+  take-next at (Exchange.size n) moved said = quietly _ said
+
+  by-todo : (todo : Todos) → p.todo ≡ todo → Next f m e
+  by-todo [] at = take-next at e.moved refl (made-says f m e law [] at)
+  by-todo (Todo.show q rest ∷ todo) at = show-next q rest todo at (is_word_read e.act) refl
+  by-todo (Todo.pass who x ∷ todo) at = pass-next who x todo at (is_visit e.act) refl
+  by-todo (Todo.drop x ∷ todo) at = drop-next x todo at (is_visit e.act) refl
+  by-todo (Todo.clean_pair who x ∷ todo) at = clean-next who x todo at (is_visit e.act) refl
+  by-todo (Todo.recycle x ∷ todo) at = recycle-next x todo at
+  by-todo (Todo.hold ∷ todo) at = quietly _ (made-says f m e law (Todo.hold ∷ todo) at)
+  by-todo (Todo.let_go ∷ todo) at = quietly _ (made-says f m e law (Todo.let_go ∷ todo) at)
+  by-todo (Todo.read_claim d ∷ todo) at = quietly _ (made-says f m e law (Todo.read_claim d ∷ todo) at)
+  by-todo (Todo.read_done d ∷ todo) at = quietly _ (made-says f m e law (Todo.read_done d ∷ todo) at)
+  by-todo (Todo.region_load ∷ todo) at = quietly _ (made-says f m e law (Todo.region_load ∷ todo) at)
+  by-todo (Todo.write_claim d ∷ todo) at = quietly _ (made-says f m e law (Todo.write_claim d ∷ todo) at)
+  by-todo (Todo.edit d q ∷ todo) at = quietly _ (made-says f m e law (Todo.edit d q ∷ todo) at)
+  by-todo (Todo.size_look x ∷ todo) at = quietly _ (made-says f m e law (Todo.size_look x ∷ todo) at)
+  by-todo (Todo.end_call x ∷ todo) at = quietly _ (made-says f m e law (Todo.end_call x ∷ todo) at)
+  by-todo (Todo.wake who told ∷ todo) at = quietly _ (made-says f m e law (Todo.wake who told ∷ todo) at)
+  by-todo (Todo.add c ∷ todo) at = quietly _ (made-says f m e law (Todo.add c ∷ todo) at)
+  by-todo (Todo.wipe x ∷ todo) at = quietly _ (made-says f m e law (Todo.wipe x ∷ todo) at)
+  by-todo (Todo.vacate x ∷ todo) at = quietly _ (made-says f m e law (Todo.vacate x ∷ todo) at)
+  by-todo (Todo.park ∷ todo) at = quietly _ (made-says f m e law (Todo.park ∷ todo) at)
+  by-todo (Todo.done ∷ todo) at = quietly _ (made-says f m e law (Todo.done ∷ todo) at)
+
+  pub lawful-next : Next f m e
+  lawful-next = by-todo p.todo refl

@@ -1,0 +1,163 @@
+-- Each step leaves a list that fits: what is on it of the thread's own steps is what the thread is offered.
+use Rattle.um_refinement.proofs.Words.{◌≢◌, arith, ◌≡◌, inl, inr, ℕ, ◌+◌, Bool, true, false, [], ◌∷◌, ◌++◌, Option, Some, None, refl, sym, ap, ◌∙◌, subst, ◌==◌, if◌then◌else◌, nat_lt, is_some, eqb-false, eqb-true, false≢true, Image, Instr, ROWS, own_row, thread_of_row, Pending, Steps, instruction_at, act_in, is_visit, is_word_read, Context, Exchange, FineStep, continues, resumed, waits, Todo, Todos, but, cleaning_of, drops, end_of_turn, fine_steps, next_steps, passes, turn_of, is_cleaning_todo, Processor, after_show, after_take, dropped_at, filled_up, goes_on_by, p_next, row_number, with_cleaned, begins_cleaning, Drops, behind_shown, Fits, IsOffered, ListIs, Passes, turn, refilled_by}
+use Rattle.um_refinement.proofs.StepsLeft.{rests-on, steps-on}
+use Rattle.um_refinement.specs.Offers.{Bare, begins, dropped, exits, goes, passed}
+use Rattle.um_refinement.proofs.ListGrowth.{behind-kept, claim-context, cleaning-kept, either-look, claim-kept, either}
+
+-- a thread that is taken without being told anything is at rest, and hasn't ended
+abbrev pub IsAtRest : Exchange → Type 0
+IsAtRest (Exchange.thread c None) = (c.pending ≡ []) × (c.ended ≡ false)
+IsAtRest moved = Unit {0}
+
+-- a row that isn't the own one
+but-other : (own x : ℕ) → but own x ≢ own
+but-other own x = by (x == own) refl
+  where
+    by : (b : Bool) → (x == own) ≡ b → (if b then x + 1 else x) ≢ own
+    by true e h = let same = eqb-true x own e in omega (arith, h, same)
+    by false e h = eqb-false x own e h
+
+module _ (image : Image) where
+  bare-fits : (c : Context) (todo : Todos) → Bare image todo → Fits image c todo
+  bare-fits c [] h = tt
+  bare-fits c (Todo.show q rest ∷ todo) h = absurd h
+  bare-fits c (Todo.pass who x ∷ todo) h = absurd h
+  bare-fits c (Todo.drop x ∷ todo) h = absurd h
+  bare-fits c (Todo.add d ∷ todo) h = (h.0, bare-fits c todo h.1)
+  bare-fits c (Todo.park ∷ todo) h = absurd h
+  bare-fits c (q ∷ todo) h = bare-fits c todo h
+
+  pub behind-bare : (c : Context) (q : Pending) → Bare image (behind_shown image c q)
+  behind-bare c (Pending.Start who script stack priority mode) = (refl, tt)
+  behind-bare c q = tt
+
+  -- Expansions.
+
+  fine-fits : (c : Context) (q : Pending) (rest : Steps) → IsOffered image c q rest → Fits image c (fine_steps image c q rest)
+  fine-fits c (Pending.Probe a amount) rest h = either-look image (Fits image c) amount _ (λ x k. k) (h, refl)
+  fine-fits c (Pending.CopyIn a amount) rest h = either-look image (Fits image c) amount _ (λ x k. k) (h, refl)
+  fine-fits c q rest h = (h, refl)
+
+  -- the fine steps of a step are by what of the thread stays in its visits
+  fine-same : (c : Context) (steps : Steps) (q : Pending) (rest : Steps) → fine_steps image (record c { pending = steps }) q rest ≡ fine_steps image c q rest
+  fine-same c steps (Pending.Probe a amount) rest = refl
+  fine-same c steps q rest = refl
+
+  passes-fit : (c : Context) (who x : ℕ) (todo : Todos) → Passes image c who todo → x ≢ own_row image c.thread → Fits image c (passes who x todo)
+  passes-fit c who x todo h other =
+      elim (nat_lt x ROWS) as (λ b. Fits image c (if b then Todo.pass who x ∷ todo else todo)) [
+        | true ↦ (h, other)
+        | false ↦ subst (Fits image c) (sym h.behind) (fine-fits c h.step h.rest (passed h.pending))
+      ]
+
+  drops-fit : (c : Context) (x : ℕ) (todo : Todos) → Drops image c todo → Fits image c (drops x todo)
+  drops-fit c x todo h =
+      elim (nat_lt x ROWS) as (λ b. Fits image c (if b then Todo.drop x ∷ todo else todo)) [
+        | true ↦ h
+        | false ↦ subst (Fits image c) (sym h.behind) (fine-fits c h.step h.rest (dropped h.pending))
+      ]
+
+  turn-ends : (c : Context) (b : Bool) → c.ended ≡ b → c.pending ≡ [] → Fits image c (end_of_turn image b)
+  turn-ends c true e h = tt
+  turn-ends c false e h = (inl h, rests-on c e, refl)
+
+  next-fits : (c : Context) (steps : Steps) → c.pending ≡ steps → Fits image c (next_steps image c steps)
+  next-fits c [] h = turn-ends c c.ended refl h
+  next-fits c (Pending.Resume ∷ rest) h = (inr (ap waits h), steps-on c Pending.Resume rest h, refl)
+  next-fits c (Pending.Inherit who ∷ q ∷ rest) h =
+      passes-fit c who.0 (but (own_row image c.thread) 0) (fine_steps image c q rest)
+      (record { child = who; step = q; rest = rest; pending = h; same = refl; behind = refl }) (but-other (own_row image c.thread) 0)
+  next-fits c (Pending.Drops from ∷ q ∷ rest) h =
+      drops-fit c from (fine_steps image c q rest) (record { from = from; step = q; rest = rest; pending = h; behind = refl })
+  next-fits c (Pending.Probe a amount ∷ rest) h = fine-fits c (Pending.Probe a amount) rest (goes h)
+  next-fits c (Pending.CopyIn a amount ∷ rest) h = fine-fits c (Pending.CopyIn a amount) rest (goes h)
+  next-fits c (q ∷ rest) h = fine-fits c q rest (goes h)
+
+  filled-fits : (c : Context) (todo : Todos) → Fits image c todo → Fits image c (filled_up image c todo)
+  filled-fits c [] h = next-fits c c.pending refl
+  filled-fits c (q ∷ todo) h = h
+
+  -- A cleaning stands in front.
+
+  first-fits : (c : Context) (x : ℕ) (o : Option ℕ) (todo : Todos) → thread_of_row image x ≡ o → Fits image c todo → Fits image c (cleaning_of x o ++ todo)
+  first-fits c x None todo at h = h
+  first-fits c x (Some who) todo at h = h
+
+  later-fits : (c : Context) (q : Todo) (old new : Todos) → is_cleaning_todo q ≡ true → (Fits image c old → Fits image c new) → Fits image c (q ∷ old) → Fits image c (q ∷ new)
+  later-fits c (Todo.clean_pair who y) old new k more h = more h
+  later-fits c (Todo.wipe y) old new k more h = more h
+  later-fits c (Todo.vacate y) old new k more h = more h
+  later-fits c (Todo.recycle y) old new k more h = more h
+  later-fits c q old new k more h = absurd (false≢true k)
+
+  -- A step.
+
+  turn-fits : (c : Context) → (c.pending ≡ []) × (c.ended ≡ false) → Fits image c (turn image c)
+  turn-fits c h = by (instruction_at image c.place) refl
+    where
+      by : (instr : Option Instr) → instruction_at image c.place ≡ instr → Fits image c (turn_of image instr)
+      by None e = (exits h.0 h.1 e, refl)
+      by (Some instr) e = (begins h.0 h.1 (ap is_some e), refl)
+
+  take-fits : (p : Processor) (moved : Exchange) → p.todo ≡ [] → IsAtRest moved → ListIs image (after_take image p moved)
+  take-fits p (Exchange.thread c None) idle h = record { fits = turn-fits c h }
+  take-fits p (Exchange.thread c (Some told)) idle h = record { fits = filled-fits (resumed image c told) [] tt }
+  take-fits p moved idle h = record { fits = subst (Fits image p.context) (sym idle) tt }
+
+  dropped-drops : (c : Context) (x : ℕ) (todo : Todos) (b : Bool) → Drops image c todo → Drops image (dropped_at image c x b) todo
+  dropped-drops c x todo true h = h
+  dropped-drops c x todo false h =
+      record {
+        from = x + 1;
+        step = h.step;
+        rest = h.rest;
+        pending = ap (λ (steps : Steps). (dropped_at image (record c { pending = steps }) x false).pending) h.pending;
+        behind = h.behind ∙ sym (fine-same c (dropped_at image c x false).pending h.step h.rest);
+      }
+
+  show-fits : (p : Processor) (e : FineStep) (q : Pending) (rest : Steps) (todo : Todos) (b : Bool) → Bare image todo
+      → ListIs image (if b then record p { todo = Todo.done ∷ [] } else after_show image p e q rest todo)
+  show-fits p e q rest todo true h = record { fits = tt }
+  show-fits p e q rest todo false h =
+      let c = continues image p.context 0 q rest (act_in e.act) e.moved in
+      record { fits = behind-kept image (Fits image c) (λ who told z k. k) (λ x z k. k) p.context q e.moved (filled_up image c todo) (filled-fits c todo (bare-fits c todo h)) }
+
+  refilled-fits : (p : Processor) (todo : Todos) → Fits image p.context todo → ListIs image (refilled_by image p todo)
+  refilled-fits p todo h = record { fits = filled-fits p.context todo h }
+
+  goes-fits : (p : Processor) (e : FineStep) (todo : Todos) → p.todo ≡ todo → (p.todo ≡ [] → IsAtRest e.moved) → Fits image p.context todo → ListIs image (goes_on_by image p e todo)
+  goes-fits p e [] at rest h = take-fits p e.moved at (rest at)
+  goes-fits p e (Todo.show q rest ∷ todo) at r h = show-fits p e q rest todo (is_word_read e.act) (subst (Bare image) (sym h.1) (behind-bare p.context q))
+  goes-fits p e (Todo.hold ∷ todo) at r h = record { fits = h }
+  goes-fits p e (Todo.let_go ∷ todo) at r h = refilled-fits p todo h
+  goes-fits p e (Todo.read_claim d ∷ todo) at r h =
+      record { fits = subst (λ (c : Context). Fits image c (goes_on_by image p e (Todo.read_claim d ∷ todo)).todo) (sym (claim-context image p e d todo)) (claim-kept image (Fits image p.context) (λ z k. k) p e d todo (λ x some. h) h) }
+  goes-fits p e (Todo.read_done d ∷ todo) at r h = refilled-fits p todo h
+  goes-fits p e (Todo.region_load ∷ todo) at r h = record { fits = h }
+  goes-fits p e (Todo.write_claim d ∷ todo) at r h = record { fits = h }
+  goes-fits p e (Todo.edit d q ∷ todo) at r h = record { fits = h }
+  goes-fits p e (Todo.size_look x ∷ todo) at r h = record { fits = h }
+  goes-fits p e (Todo.end_call x ∷ todo) at r h = refilled-fits p todo h
+  goes-fits p e (Todo.wake who told ∷ todo) at r h = refilled-fits p todo h
+  goes-fits p e (Todo.add c ∷ todo) at r h = refilled-fits p todo h.1
+  goes-fits p e (Todo.pass who x ∷ todo) at r h =
+      let next = but (own_row image p.context.thread) (x + 1) in refilled-fits p (passes who next todo) (passes-fit p.context who next todo h.0 (but-other (own_row image p.context.thread) (x + 1)))
+  goes-fits p e (Todo.drop x ∷ todo) at r h =
+      let c = dropped_at image p.context x (is_visit e.act) in
+      refilled-fits (record p { context = c }) (drops (x + 1) todo) (drops-fit c (x + 1) todo (dropped-drops p.context x todo (is_visit e.act) h))
+  goes-fits p e (Todo.clean_pair who x ∷ todo) at r h = record { fits = either image (Fits image p.context) (nat_lt (x + 1) ROWS) (Todo.clean_pair who (x + 1)) todo (λ few k. k) h }
+  goes-fits p e (Todo.wipe x ∷ todo) at r h = record { fits = h }
+  goes-fits p e (Todo.vacate x ∷ todo) at r h = record { fits = h }
+  goes-fits p e (Todo.recycle x ∷ todo) at r h = refilled-fits p todo h
+  goes-fits p e (Todo.park ∷ todo) at r h = record { fits = tt }
+  goes-fits p e (Todo.done ∷ todo) at r h = record { fits = tt }
+
+  with-cleaned-fits : (p : Processor) (e : FineStep) (b : Bool) → ListIs image p → ListIs image (with_cleaned image p e b)
+  with-cleaned-fits p e false h = h
+  with-cleaned-fits p e true h =
+      let x = row_number e.site in record { fits = cleaning-kept image (λ old new. Fits image p.context old → Fits image p.context new) x (first-fits p.context x) (later-fits p.context) p.todo h.fits }
+
+  -- A processor that takes threads at rest has a list that fits, after each of its steps.
+  pub list-next : (p : Processor) (e : FineStep) → ListIs image p → (p.todo ≡ [] → IsAtRest e.moved) → ListIs image (p_next image p e)
+  list-next p e was rest =
+      with-cleaned-fits (goes_on_by image p e p.todo) e (begins_cleaning e) (goes-fits p e p.todo refl rest was.fits)

@@ -1,0 +1,74 @@
+-- Whether a processor holds its thread changes at a hold and its end alone; and it goes on with the same thread until the end of a turn.
+use Rattle.um_refinement.proofs.Words.{◌≡◌, ℕ, Bool, true, false, [], ◌∷◌, refl, sym, ap, ◌∙◌, ◌&&◌, not, if◌then◌else◌, list_any, false≢true, true≢false, Image, Pending, Steps, FineAct, act_in, is_visit, is_word_read, Context, FineStep, Todo, Todos, fine_steps, Processor, after_show, dropped_at, filled_up, goes_on_by, p_next, with_cleaned, begins_cleaning, says_show, Behind, is_hold, is_let_go, behind_shown}
+use Rattle.um_refinement.proofs.ListGrowth.{ReadsLast, is_end, either-look, claim-context}
+use Rattle.um_refinement.proofs.ListTails.{Reads, filled-read, is_passed, takes-read, whole-read}
+use Rattle.um_refinement.proofs.Continued.{continues-thread}
+
+-- a thread is held while the end of its hold is on the list, and the hold isn't
+abbrev pub grip : Todos → Bool
+grip todo = list_any is_let_go todo && not (list_any is_hold todo)
+
+abbrev pub is_gripping : Todo → Bool
+is_gripping Todo.hold = true
+is_gripping Todo.let_go = true
+is_gripping q = false
+
+-- an event that might have been the read of its thread's word has nothing behind it
+pub read-rests : (image : Image) (p : Processor) (c : Context) (q : Pending) (act : FineAct) → act ≡ says_show image p q act → is_word_read act ≡ true → behind_shown image c q ≡ []
+read-rests image p c Pending.Begin act said read = refl
+read-rests image p c Pending.Exit act said read = refl
+read-rests image p c q act said read = absurd (true≢false (sym read ∙ ap is_word_read said))
+
+grip-passed : (q : Todo) (todo : Todos) → is_passed q ≡ true → grip (q ∷ todo) ≡ grip todo
+grip-passed Todo.hold todo h = absurd (false≢true h)
+grip-passed Todo.let_go todo h = absurd (false≢true h)
+grip-passed q todo h = refl
+
+grip-none : (image : Image) (c : Context) (q : Pending) (rest : Steps) → grip (fine_steps image c q rest) ≡ false
+grip-none image c (Pending.Probe a amount) rest = either-look image (λ todo. grip todo ≡ false) amount _ (λ x h. h) refl
+grip-none image c (Pending.CopyIn a amount) rest = either-look image (λ todo. grip todo ≡ false) amount _ (λ x h. h) refl
+grip-none image c q rest = refl
+
+grip-reads : (image : Image) → Reads image grip false
+grip-reads image = record { empty = refl; passed = grip-passed; expanded = grip-none image; begins = refl; exits = refl }
+
+module _ (image : Image) where
+  pub filled-grip : (c : Context) (todo : Todos) → grip (filled_up image c todo) ≡ grip todo
+  filled-grip c todo = filled-read image grip false (grip-reads image) c todo
+
+  pub next-grips : (p : Processor) (e : FineStep) (q : Todo) (todo : Todos) → p.todo ≡ q ∷ todo → is_gripping q ≡ false → Behind image q todo → ReadsLast e q todo
+      → grip (p_next image p e).todo ≡ grip (q ∷ todo)
+  next-grips p e Todo.hold todo at free h last = absurd (true≢false free)
+  next-grips p e Todo.let_go todo at free h last = absurd (true≢false free)
+  next-grips p e q todo at free h last = whole-read image grip false (grip-reads image) (λ z. refl) (λ d z. refl) p e q todo at h last
+
+  pub takes-grip : (p : Processor) (e : FineStep) → p.todo ≡ [] → grip (p_next image p e).todo ≡ false
+  takes-grip p e at = takes-read image grip false (grip-reads image) p e at
+
+  -- The thread.
+
+  show-thread : (p : Processor) (e : FineStep) (q : Pending) (rest : Steps) (todo : Todos) (b : Bool)
+      → (if b then record p { todo = Todo.done ∷ [] } else after_show image p e q rest todo).context.thread ≡ p.context.thread
+  show-thread p e q rest todo true = refl
+  show-thread p e q rest todo false = continues-thread image p.context 0 q rest (act_in e.act) e.moved
+
+  dropped-thread : (c : Context) (x : ℕ) (b : Bool) → (dropped_at image c x b).thread ≡ c.thread
+  dropped-thread c x true = refl
+  dropped-thread c x false = refl
+
+  goes-thread : (p : Processor) (e : FineStep) (q : Todo) (todo : Todos) → is_end q ≡ false → (goes_on_by image p e (q ∷ todo)).context.thread ≡ p.context.thread
+  goes-thread p e (Todo.show q rest) todo goes = show-thread p e q rest todo (is_word_read e.act)
+  goes-thread p e (Todo.read_claim d) todo goes = ap (λ (c : Context). c.thread) (claim-context image p e d todo)
+  goes-thread p e (Todo.drop x) todo goes = dropped-thread p.context x (is_visit e.act)
+  goes-thread p e Todo.park todo goes = absurd (true≢false goes)
+  goes-thread p e Todo.done todo goes = absurd (true≢false goes)
+  goes-thread p e q todo goes = refl
+
+  pub cleaned-context : (p : Processor) (e : FineStep) (b : Bool) → (with_cleaned image p e b).context ≡ p.context
+  cleaned-context p e true = refl
+  cleaned-context p e false = refl
+
+  pub next-thread : (p : Processor) (e : FineStep) (q : Todo) (todo : Todos) → p.todo ≡ q ∷ todo → is_end q ≡ false → (p_next image p e).context.thread ≡ p.context.thread
+  next-thread p e q todo at goes =
+      ap (λ (c : Context). c.thread) (cleaned-context (goes_on_by image p e p.todo) e (begins_cleaning e))
+      ∙ (ap (λ (z : Todos). (goes_on_by image p e z).context.thread) at ∙ goes-thread p e q todo goes)

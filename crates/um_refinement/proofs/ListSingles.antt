@@ -1,0 +1,84 @@
+-- No list shows a resume, an inheritance or the drops of an end as one step: they are made as turns and visits.
+use Rattle.um_refinement.proofs.Words.{◌≡◌, ℕ, Bool, true, false, [], ◌∷◌, ◌++◌, Option, Some, None, refl, sym, ap, ◌∙◌, nat_lt, list_all, and_parts, false≢true, Image, ROWS, own_row, thread_of_row, Pending, Steps, are_orderly, begins_cleaning, Context, goes_on_by, p_next, row_number, with_cleaned, Todo, Todos, is_cleaning_todo, but, cleaning_of, end_of_turn, fine_steps, next_steps, Processor, FineStep, names_row}
+use Rattle.um_refinement.proofs.ListGrips.{cleaned-context}
+use Rattle.um_refinement.proofs.ListGrowth.{behind-kept, cleaning-kept, either, either-look, ends-always, quiet-kept, show-kept, take-kept, turn-kept, visits_row}
+
+-- a step that is shown as one
+abbrev pub is_single : Pending → Bool
+is_single Pending.Resume = false
+is_single (Pending.Inherit who) = false
+is_single (Pending.Drops from) = false
+is_single q = true
+
+abbrev pub shows_single : Todo → Bool
+shows_single (Todo.show q rest) = is_single q
+shows_single q = true
+
+abbrev pub AreSingle : Todos → Type 0
+AreSingle todo = list_all shows_single todo ≡ true
+
+tail-single : (q : Todo) (todo : Todos) → AreSingle (q ∷ todo) → AreSingle todo
+tail-single q todo h = (and_parts (shows_single q) (list_all shows_single todo) h).1
+
+module _ (image : Image) where
+  fine-single : (c : Context) (q : Pending) (rest : Steps) → is_single q ≡ true → AreSingle (fine_steps image c q rest)
+  fine-single c Pending.Resume rest h = absurd (false≢true h)
+  fine-single c (Pending.Inherit who) rest h = absurd (false≢true h)
+  fine-single c (Pending.Drops from) rest h = absurd (false≢true h)
+  fine-single c (Pending.Probe a amount) rest h = either-look image AreSingle amount _ (λ x k. k) refl
+  fine-single c (Pending.CopyIn a amount) rest h = either-look image AreSingle amount _ (λ x k. k) refl
+  fine-single c q rest h = refl
+
+  end-single : (b : Bool) → AreSingle (end_of_turn image b)
+  end-single true = refl
+  end-single false = refl
+
+  -- behind an inheritance stands a start, and behind the drops of an end a clearing
+  next-single : (c : Context) (steps : Steps) → are_orderly steps ≡ true → AreSingle (next_steps image c steps)
+  next-single c [] h = end-single c.ended
+  next-single c (Pending.Resume ∷ rest) h = refl
+  next-single c (Pending.Inherit who ∷ []) h = absurd (false≢true h)
+  next-single c (Pending.Inherit who ∷ Pending.Start w script stack priority mode ∷ rest) h =
+      let x = but (own_row image c.thread) 0 in either image AreSingle (nat_lt x ROWS) (Todo.pass who.0 x) (fine_steps image c (Pending.Start w script stack priority mode) rest) (λ few k. k) refl
+  next-single c (Pending.Inherit who ∷ q ∷ rest) h = absurd (false≢true h)
+  next-single c (Pending.Drops from ∷ []) h = absurd (false≢true h)
+  next-single c (Pending.Drops from ∷ Pending.ClearInit a ∷ rest) h =
+      either image AreSingle (nat_lt from ROWS) (Todo.drop from) (fine_steps image c (Pending.ClearInit a) rest) (λ few k. k) refl
+  next-single c (Pending.Drops from ∷ q ∷ rest) h = absurd (false≢true h)
+  next-single c (q ∷ rest) h = fine-single c q rest refl
+
+  abbrev IsOrderly : Context → Type 0
+  IsOrderly c = are_orderly c.pending ≡ true
+
+  expands : (c : Context) → IsOrderly c → AreSingle [] → AreSingle (next_steps image c c.pending)
+  expands c o h = next-single c c.pending o
+
+  put : (q : Todo) (todo : Todos) → visits_row q ≡ true → names_row q ≡ true → AreSingle todo → AreSingle (q ∷ todo)
+  put (Todo.show q rest) todo visit few h = absurd (false≢true visit)
+  put q todo visit few h = h
+
+  goes-single : (p : Processor) (e : FineStep) (todo : Todos) → AreSingle p.todo → IsOrderly (goes_on_by image p e todo).context → AreSingle todo → AreSingle (goes_on_by image p e todo).todo
+  goes-single p e [] was o h = take-kept image AreSingle IsOrderly expands p (turn-kept image AreSingle refl refl) e.moved o refl was
+  goes-single p e (Todo.show q rest ∷ todo) was o h =
+      show-kept image AreSingle IsOrderly expands p e q rest todo AreSingle o (behind-kept image AreSingle (λ who told z k. k) (λ x z k. k) p.context q e.moved) (λ read. refl)
+      (tail-single (Todo.show q rest) todo h)
+  goes-single p e (q ∷ todo) was o h =
+      quiet-kept image AreSingle IsOrderly expands p put (λ who x z few k. k) (λ z k. k) (λ d z k. k) e q todo refl o (ends-always AreSingle refl refl e q) h
+
+  cleaned-are : (p : Processor) (e : FineStep) (b : Bool) → AreSingle p.todo → AreSingle (with_cleaned image p e b).todo
+  cleaned-are p e false h = h
+  cleaned-are p e true h = cleaning-kept image (λ old new. AreSingle old → AreSingle new) (row_number e.site) first later p.todo h
+    where
+      first : (o : Option ℕ) (todo : Todos) → thread_of_row image (row_number e.site) ≡ o → AreSingle todo → AreSingle (cleaning_of (row_number e.site) o ++ todo)
+      first None todo at k = k
+      first (Some who) todo at k = k
+
+      later : (q : Todo) (old new : Todos) → is_cleaning_todo q ≡ true → (AreSingle old → AreSingle new) → AreSingle (q ∷ old) → AreSingle (q ∷ new)
+      later (Todo.show q rest) old new c more k = absurd (false≢true c)
+      later q old new c more k = more k
+
+  -- so after a step of the processor, where the steps that its thread has left then are in order
+  pub next-are-single : (p : Processor) (e : FineStep) → are_orderly (p_next image p e).context.pending ≡ true → AreSingle p.todo → AreSingle (p_next image p e).todo
+  next-are-single p e o h =
+      cleaned-are (goes_on_by image p e p.todo) e (begins_cleaning e)
+      (goes-single p e p.todo h (ap (λ (c : Context). are_orderly c.pending) (sym (cleaned-context image (goes_on_by image p e p.todo) e (begins_cleaning e))) ∙ o) h)

@@ -1,0 +1,84 @@
+-- Where no processor can step, the access-matrix machine has no step: the events of the run are then a complete run. Asked for is that words can
+-- count one step more.
+use Rattle.um_refinement.proofs.Words.{◌≡◌, ℕ, ◌+◌, ◌<◌, true, List, [], ◌∷◌, Option, Some, None, refl, sym, ap, ◌∙◌, arith, eq-eqb, ◌&&◌, if◌then◌else◌, is_some, nat_lt, unwrap_or, list_all, and_parts, false≢true, lt-ltb, ltb-true, Told, Image, THREADS, to_thread, IsComplete, opening, State, core_of, IsKnown, IsDescribed, FineAct, Unseen, Cell, Context, no_context, Processor, Scheduler, first_ready, has_ready, parked_at, sched_takes, told_at, SiteState, Exchange, Site, Fine, one_if, scheduler, has_steps, runs, Rel, CanCount, CanRun, IsHalted, IsStuck, is_ready_there, occurs, takes_turn, turn_in}
+use Rattle.um_refinement.proofs.Bounds.{AreBounded, ReadyThreads}
+use Rattle.um_refinement.proofs.ChildrenKnown.{children-known}
+use Rattle.um_refinement.proofs.DomainsKnown.{started-placed}
+use Rattle.um_refinement.proofs.Erased.{IsReachable, fine}
+use Rattle.um_refinement.proofs.HeldRows.{total-zero}
+use Rattle.um_refinement.proofs.IdleComplete.{IsIdle, idle-complete}
+use Rattle.um_refinement.proofs.Kept.{scheduler-sort}
+use Rattle.um_refinement.proofs.Reachable.{reachable-sound, reachable-wide}
+use Rattle.um_refinement.proofs.RoomKnown.{events-stand, has-room}
+use Rattle.um_refinement.proofs.Stuck as S
+use Rattle.um_refinement.proofs.Stuck.{HasRoom}
+use Rattle.um_refinement.proofs.StuckLists.{halts, stuck-empty}
+use Rattle.um_refinement.proofs.SuitsKnown.{proper-known, tells-known}
+use Rattle.um_refinement.proofs.Sums.{one-true}
+
+-- a first thread is taken where it is parked, and another one can be counted
+takes-first : (s : Scheduler) (c : Context) (told : Option Told) → sched_takes s (takes_turn c told) ≡ has_ready s s.ready
+takes-first s c None = refl
+takes-first s c (Some told) = refl
+
+is-parked : (o : Option Context) (told : Option Told) → is_ready_there o told ≡ true → is_some o ≡ true
+is-parked None told h = absurd (false≢true h)
+is-parked (Some c) told h = refl
+
+module _ (f : Fine) (m : State) (rel : Rel f m) (room : HasRoom f) (threads : ReadyThreads f) where
+  -- a processor without a thread that can't step would take the first one that is ready
+  first-taken : (k : ℕ) → IsHalted f k → (f.processors k).todo ≡ [] → (scheduler f).running < 255 → (t : ℕ) (ready : List ℕ) → (scheduler f).ready ≡ t ∷ ready → ⊥
+  first-taken k l at running t ready e =
+      S.not-taken f m rel room k [] (SiteState.cell is.0 cell) (S.plain f m rel room) Exchange.nothing l at is.1 tt
+      (λ i. S.counts f m rel room Site.scheduler _ is.1 i && taken i) refl
+    where
+      few : t < THREADS
+      few = ltb-true t THREADS (and_parts _ _ (sym (ap (list_all (λ t. nat_lt t THREADS)) e) ∙ threads)).0
+
+      is : (n : ℕ) × (f.sites Site.scheduler ≡ SiteState.cell n (Cell.scheduler (scheduler f)))
+      is = scheduler-sort (f.sites Site.scheduler) (rel.sorts Site.scheduler)
+
+      cell : Cell
+      cell = Cell.scheduler (scheduler f)
+
+      parked : is_some (parked_at (scheduler f) t) ≡ true
+      parked =
+          let once : occurs t (scheduler f).ready ≡ occurs t ready + 1 = ap (occurs t) e ∙ ap (λ b. if b then occurs t ready + 1 else occurs t ready) (eq-eqb t t refl) in
+          let count = (rel.threads t few).ready.ready in
+          is-parked (parked_at (scheduler f) t) (told_at (scheduler f) t) (one-true _ (omega (arith, once, count)))
+
+      counts : nat_lt (scheduler f).running 255 ≡ true
+      counts = lt-ltb (scheduler f).running 255 running
+
+      taken : sched_takes (scheduler f) (turn_in (FineAct.Unseen (Unseen.Next (to_thread (f.processors k).context.thread))) (first_ready (scheduler f) (scheduler f).ready)) ≡ true
+      taken =
+          ap (λ z. sched_takes (scheduler f) (turn_in (FineAct.Unseen (Unseen.Next (to_thread (f.processors k).context.thread))) (first_ready (scheduler f) z))) e
+          ∙ (takes-first (scheduler f) (unwrap_or (parked_at (scheduler f) t) no_context) (told_at (scheduler f) t)
+          ∙ (ap (has_ready (scheduler f)) e ∙ (λ i. parked i && counts i)))
+
+  pub none-ready : (k : ℕ) → IsHalted f k → (f.processors k).todo ≡ [] → (scheduler f).running < 255 → (scheduler f).ready ≡ []
+  none-ready k l at running = by (scheduler f).ready refl
+    where
+      by : (ready : List ℕ) → (scheduler f).ready ≡ ready → ready ≡ []
+      by [] e = refl
+      by (t ∷ ready) e = absurd (first-taken k l at running t ready e)
+
+  -- nobody is ready where no processor can step and none has a step left
+  pub stuck-idle : IsStuck f → 0 < f.cpus → ((k : ℕ) → k < f.cpus → (f.processors k).todo ≡ []) → IsIdle f
+  stuck-idle stuck some empty =
+      let none = rel.running.running ∙ total-zero (λ k. one_if (runs (f.processors k))) f.cpus (λ k l. ap (λ todo. one_if (has_steps todo)) (empty k l)) in
+      let ready = none-ready 0 (halts f stuck 0 some) (empty 0 some) (omega (arith, none)) in
+      record { lists = empty; ready = λ t few. ap (occurs t) ready }
+
+-- What a fine run leaves, and a state that its events reach: where no processor can step, the events are a complete run.
+pub stuck-complete : (image : Image) (cpus : ℕ) → IsDescribed image → IsKnown (core_of (opening image)) → CanRun image cpus
+    → (ps : ℕ → Processor) (ss : Site → SiteState) (m : State)
+    → let f = fine image cpus ps ss in Rel f m → IsReachable image cpus m → AreBounded f → CanCount f → IsStuck f → IsComplete m
+stuck-complete image cpus described known can ps ss m rel reach bounds counts stuck =
+    let f = fine image cpus ps ss in
+    let proper = proper-known image cpus described known m reach in
+    let sound = reachable-sound image cpus described.few m reach known in
+    let children = children-known image cpus m reach in
+    let room = has-room f m rel proper sound bounds (tells-known image cpus described known m reach) children can counts in
+    let empty = stuck-empty f m rel proper (λ t l started. started-placed image cpus described m reach t started) sound room (events-stand f m rel proper sound bounds) stuck in
+    idle-complete f m rel (stuck-idle f m rel room bounds.ready stuck can.some empty) (reachable-wide image cpus described.few m reach) children

@@ -1,0 +1,60 @@
+-- What follows, on a processor's list, each unseen step that belongs to an event.
+use Rattle.std.specs.Prelude.{◌≡◌, ◌⊎◌, ℕ, true, [], ◌∷◌, Some, None}
+use Rattle.um_base.specs.declared.image.Image.{Image}
+use Rattle.um_base.specs.declared.names.Addr.{Addr}
+use Rattle.um_base.specs.declared.names.ThreadIx.{ThreadIx}
+use Rattle.um_machine.specs.declared.pending.Pending.{Pending}
+use Rattle.um_machine.specs.Order.{Steps}
+use Rattle.um_fine.specs.Addresses.{row_named}
+use Rattle.um_fine.specs.Context.{Context}
+use Rattle.um_fine.specs.Places.{Todo, Todos, on_memory}
+use Rattle.um_refinement.specs.Lists.{edits_step, queue_in}
+
+-- the events for which the thread is held and its domain claimed
+abbrev pub OnMemory : Pending → Type 0
+OnMemory (Pending.Load to a n) = Unit {0}
+OnMemory (Pending.Store a n value) = Unit {0}
+OnMemory (Pending.Fetch a) = Unit {0}
+OnMemory (Pending.Probe a amount) = Unit {0}
+OnMemory (Pending.CopyIn a amount) = Unit {0}
+OnMemory (Pending.CopyOut a) = Unit {0}
+OnMemory (Pending.CopyStr a) = Unit {0}
+OnMemory q = ⊥
+
+-- the end of an access
+abbrev pub access_over : Todos
+access_over = Todo.read_done None ∷ Todo.let_go ∷ []
+
+-- an event on memory is next
+abbrev pub IsAccess : Todos → Type 0
+IsAccess todo = (q : Pending) × (rest : Steps) × (todo ≡ Todo.show q rest ∷ access_over) × OnMemory q
+
+-- a start is next
+abbrev pub IsStart : Todos → Type 0
+IsStart todo = (q : Pending) × (rest : Steps) × (c : Context) × (todo ≡ Todo.show q rest ∷ Todo.let_go ∷ Todo.add c ∷ [])
+
+-- a move to a domain is next
+abbrev pub IsMove : ℕ → Todos → Type 0
+IsMove d todo = (who : ThreadIx) × (rest : Steps) × (todo ≡ Todo.show (Pending.DomMove d who) rest ∷ [])
+
+-- what follows a step
+abbrev pub Behind : Image → Todo → Todos → Type 0
+Behind image Todo.hold todo =
+    ((q : Pending) × (rest : Steps) × (todo ≡ Todo.read_claim None ∷ Todo.region_load ∷ Todo.show q rest ∷ access_over) × OnMemory q) ⊎ IsStart todo
+Behind image Todo.let_go todo = (todo ≡ []) ⊎ ((c : Context) × (todo ≡ Todo.add c ∷ []))
+Behind image (Todo.read_claim None) todo = (q : Pending) × (rest : Steps) × (todo ≡ Todo.region_load ∷ Todo.show q rest ∷ access_over) × OnMemory q
+Behind image (Todo.read_claim (Some d)) todo = IsMove d todo
+Behind image (Todo.read_done None) todo = todo ≡ Todo.let_go ∷ []
+Behind image (Todo.read_done (Some d)) todo = IsMove d todo
+Behind image Todo.region_load todo = IsAccess todo
+Behind image (Todo.write_claim d) todo = (q : Pending) × (rest : Steps) × (todo ≡ Todo.edit d q ∷ Todo.show q rest ∷ []) × (edits_step d q ≡ true)
+Behind image (Todo.edit d q) todo = (rest : Steps) × (todo ≡ Todo.show q rest ∷ []) × (edits_step d q ≡ true)
+Behind image (Todo.size_look x) todo = (q : Pending) × (rest : Steps) × (a : Addr) × (todo ≡ on_memory q rest) × (queue_in q ≡ Some a) × (x ≡ row_named image a)
+Behind image (Todo.add c) todo = (todo ≡ []) × (c.claims ≡ [])
+Behind image Todo.park todo = todo ≡ []
+Behind image Todo.done todo = todo ≡ []
+Behind image q todo = Unit {0}
+
+abbrev pub AreFramed : Image → Todos → Type 0
+AreFramed image [] = Unit {0}
+AreFramed image (q ∷ todo) = Behind image q todo × AreFramed image todo

@@ -1,0 +1,11 @@
+-- What the proofs of several functions cite.
+pub mod ByteLemmas
+pub mod Celled
+pub mod Fronts
+pub mod HeapLemmas
+pub mod Noted
+pub mod Places
+pub mod Scheduled
+pub mod Tabled
+pub mod TextLemmas
+pub mod WordActs

@@ -1,0 +1,12 @@
+pub mod Asked
+pub mod RowActs
+pub mod ThreadActs
+pub mod DomainActs
+pub mod Sited
+pub mod Contexts
+pub mod Parked
+pub mod SchedulerActs
+pub mod DomainCells
+pub mod HeapActs
+pub mod MemoryActs
+pub mod ObjectCells

@@ -1,0 +1,99 @@
+//! The place of a thread index in the scheduler's cell.
+
+ghost use Rattle.std.specs.Prelude.{◌≡◌, IsTrue, Some, None, is_some, unwrap_or};
+ghost use Rattle.um_fine.specs.Context.{no_context};
+ghost use Rattle.um_tables.specs.Parked.{some_if};
+
+use crate::context::Context;
+use std::marker::Model;
+use um_base::{Piece, Reply, Told};
+
+/// The place of a thread index: the thread, if no processor runs it, and what it was told when it was woken. The room for both is always
+/// there.
+#[derive(Drop)]
+pub struct Parked {
+    context: Box<Context>,
+    is_there: bool,
+    told: Told,
+    is_told: bool,
+}
+
+impl Model for Parked {
+    ghost use Rattle.um_tables.specs.Parked.{Parked as Place, some_if};
+
+    ghost Value = { Place };
+
+    ghost view = { λ p. record { context = some_if p.is_there p.context.value; told = some_if p.is_told p.told } };
+}
+
+impl Parked {
+    /// An empty place, with room for a thread.
+    pub fn empty(room: Box<Context>) -> Parked
+        ensures { result ≡ record { context = None; told = None } }
+    {
+        Parked::of(room, false)
+    }
+
+    /// The place of a thread that is told nothing. `is_there` says whether the thread is there, or only the room for it.
+    pub fn of(context: Box<Context>, is_there: bool) -> Parked
+        ensures { result ≡ record { context = some_if is_there context.value; told = None } }
+    {
+        Parked {
+            context,
+            is_there,
+            told: Told {
+                reply: Reply::Void,
+                taken: Piece::new(),
+            },
+            is_told: false,
+        }
+    }
+
+    /// Whether a thread is there.
+    pub fn is_there(&self) -> bool
+        ensures { result ≡ is_some self.now.context }
+    {
+        self.is_there
+    }
+
+    /// Whether it was told something.
+    pub fn is_told(&self) -> bool
+        ensures { result ≡ is_some self.now.told }
+    {
+        self.is_told
+    }
+
+    /// Takes the thread out, leaves the given room in its stead, and writes what the thread was told. Returns whether it was told
+    /// something.
+    pub fn take(&mut self, context: &mut Box<Context>, told: &mut Told) -> bool
+        requires { IsTrue (is_some self.old.context) }
+        ensures left { self.new ≡ record { context = None; told = None } }
+        ensures context { context.new.value ≡ unwrap_or self.old.context no_context }
+        ensures told { some_if result told.new ≡ self.old.told }
+    {
+        std::mem::swap(context, &mut self.context);
+        self.is_there = false;
+        let woken = self.is_told;
+        if woken {
+            *told = self.told;
+        }
+        self.is_told = false;
+        woken
+    }
+
+    /// Puts a thread here, and gives the room for it back.
+    pub fn put(&mut self, context: &mut Box<Context>)
+        ensures { self.new ≡ record self.old { context = Some (context.old.value) } }
+    {
+        std::mem::swap(context, &mut self.context);
+        self.is_there = true;
+    }
+
+    /// Leaves this for the thread to be told.
+    pub fn tell(&mut self, told: &Told)
+        ensures { self.new ≡ record self.old { told = Some told.now } }
+    {
+        self.told = *told;
+        self.is_told = true;
+    }
+}
