@@ -1,0 +1,6 @@
+//! The last state of the access-matrix machine, read off the sites that a fine run has left.
+#![tactic(auto)]
+
+mod laws;
+
+pub use laws::every_closing;
