@@ -7,15 +7,12 @@ use Rattle.um_machine.specs.declared.thread.Thread.{Thread}
 use Rattle.um_machine.specs.Order.{Steps, to_thread}
 use Rattle.um_machine.specs.State.{State, thread_at}
 use Rattle.um_words.specs.declared.fine.FineAct.{FineAct}
-use Rattle.um_words.specs.declared.fine.Unseen.{Unseen}
 use Rattle.um_base.specs.declared.act.Act.{Act}
-use Rattle.um_base.specs.declared.image.Image.{Image}
-use Rattle.um_fine.specs.Asks.{by_me, says, says_idle, says_show, shows, visits}
-use Rattle.um_fine.specs.Answers.{context_in, is_visit, is_word_read}
+use Rattle.um_fine.specs.Asks.{says, visits}
+use Rattle.um_fine.specs.Answers.{context_in, is_visit}
 use Rattle.um_fine.specs.Context.{Context}
 use Rattle.um_fine.specs.Follows.{p_next}
 use Rattle.um_fine.specs.Places.{Todo, Todos}
-use Rattle.um_fine.specs.Processor.{Processor}
 use Rattle.um_fine.specs.Steps.{Exchange, FineStep}
 use Rattle.um_refinement.specs.Fine.{Fine}
 use Rattle.um_refinement.specs.Frames.{AreFramed}
@@ -32,27 +29,7 @@ use Rattle.um_refinement.proofs.Others.{starts_other}
 use Rattle.um_refinement.proofs.SchedulerSteps.{made-moves, made-says}
 use Rattle.um_closing.specs.Noted.{IsAdded, noted_after, put_by}
 use Rattle.um_closing.proofs.Priorities.{priority-stays}
-
--- Which steps put an own part at the scheduler's cell.
-
-module _ (image : Image) (p : Processor) (moved : Exchange) where
-  begins-none : (q : Pending) (act : FineAct) (b : Bool) → put_by (if b then FineAct.Unseen Unseen.WordRead else shows image p q act) moved ≡ None
-  begins-none q act true = refl
-  begins-none q act false = refl
-
-  visits-none : (b : Bool) (act : Act) → put_by (if b then FineAct.Unseen Unseen.Visit else by_me image p act) moved ≡ None
-  visits-none true act = refl
-  visits-none false act = refl
-
-  shows-none : (q : Pending) (act : FineAct) → put_by (says_show image p q act) moved ≡ None
-  shows-none Pending.Begin act = begins-none Pending.Begin act (is_word_read act)
-  shows-none Pending.Exit act = begins-none Pending.Exit act (is_word_read act)
-  shows-none q act = refl
-
-  idle-none : (exchange : Exchange) → put_by (says_idle image p exchange) moved ≡ None
-  idle-none (Exchange.thread c None) = refl
-  idle-none (Exchange.thread c (Some told)) = refl
-  idle-none exchange = refl
+use Rattle.um_closing.proofs.PutThere.{idle-none, shows-none, visits-none}
 
 -- what is noted for a thread after an own part of its own, and of another
 noted-own : (t : ℕ) (c : Context) (priority : ℤ) → (c.thread == t) ≡ true → noted_after t (Some c) priority ≡ c.priority

@@ -4,7 +4,13 @@ ghost use Rattle.std.specs.Prelude.{◌≡◌, ℕ, List, ℤ};
 ghost use Rattle.um_base.specs.declared.image.Image.{Image};
 ghost use Rattle.um_machine.specs.{Run.{IsComplete, Runs, opening}, State.{State, thread_at}};
 ghost use Rattle.um_invariants.specs.Described.{IsDescribed};
-ghost use Rattle.um_fine.specs.{Erasure.{shown}, FineRun.{IsFineRun}, Steps.{FineStep}};
+ghost use Rattle.um_fine.specs.{
+  Erasure.{shown},
+  FineRun.{IsFineRun, site_of},
+  Runs.{sublist},
+  Sites.{same_site},
+  Steps.{FineStep, Site},
+};
 ghost use Rattle.um_refinement.specs.{After.{left_by}, Relation.{Rel}, Room.{CanCount, CanRun, IsStuck}};
 ghost use Rattle.um_closing.specs.{
   Agreement.{AgreeInDump},
@@ -14,27 +20,35 @@ ghost use Rattle.um_closing.specs.{
 
 /// The law over the state that is read off the sites after a fine run of an image that a description gives.
 ///
-/// - `agrees`: if no processor has a step left, and the priorities given are those of the threads that were started, then the state read off
-///   agrees with the machine's last state in all that a dump reads.
+/// - `agrees`: if no processor has a step left, and the priorities given are those of the threads that were started,
+///   the state read off agrees with the machine's last state in all that a dump reads.
 /// - `notes`: the priority noted for a thread is the machine's, unless a processor has still to add the thread.
-/// - `closes`: so if no processor has a step left, the state read off with the priorities noted agrees with the machine's last state.
-/// - `complete`: that is so where no processor can make another step, and then the run is complete. This holds for one to eight processors
-///   and for an image with no more domains than there are words for, if each site can count one more step and each domain one more version.
+/// - `there`: what is noted follows from the steps at the cell of the scheduler alone.
+/// - `closes`: so if no processor has a step left, the state read off with the priorities noted agrees with the
+///   machine's last state.
+/// - `complete`: that is so where no processor can make another step, and then the run is complete. This holds for one
+///   to eight processors and for an image with no more domains than there are words for, if each site can count one
+///   more step and each domain one more version.
 pub fn every_closing()
     ensures agrees { (image : Image) (cpus : ℕ) (steps : List FineStep) (priorities : ℕ → ℤ) (last : State)
         → IsDescribed image → IsFineRun image cpus steps → Runs (opening image) (shown steps) last
-        → Rel (left_by image cpus steps) last → AreIdle (left_by image cpus steps) → KnowsPriorities last priorities
+        → Rel (left_by image cpus steps) last → AreIdle (left_by image cpus steps)
+        → KnowsPriorities last priorities
         → AgreeInDump image (read_off image (left_by image cpus steps).sites priorities) last }
-    ensures notes { (image : Image) (cpus : ℕ) (steps : List FineStep) → IsDescribed image → IsFineRun image cpus steps
+    ensures notes { (image : Image) (cpus : ℕ) (steps : List FineStep) → IsDescribed image
+        → IsFineRun image cpus steps
         → (last : State) × Runs (opening image) (shown steps) last × Rel (left_by image cpus steps) last
         × ((t : ℕ) → IsAdded (left_by image cpus steps) t
         → priority_noted image steps t ≡ (thread_at last t).priority) }
-    ensures closes { (image : Image) (cpus : ℕ) (steps : List FineStep) → IsDescribed image → IsFineRun image cpus steps
-        → AreIdle (left_by image cpus steps)
+    ensures there { (image : Image) (cpus : ℕ) (steps : List FineStep) (t : ℕ) → IsFineRun image cpus steps
+        → priority_noted image steps t ≡ priority_noted image (sublist same_site site_of Site.scheduler steps) t }
+    ensures closes { (image : Image) (cpus : ℕ) (steps : List FineStep) → IsDescribed image
+        → IsFineRun image cpus steps → AreIdle (left_by image cpus steps)
         → (last : State) × Runs (opening image) (shown steps) last × Rel (left_by image cpus steps) last
         × AgreeInDump image (closing_state image cpus steps) last }
-    ensures complete { (image : Image) (cpus : ℕ) (steps : List FineStep) → IsDescribed image → CanRun image cpus
-        → IsFineRun image cpus steps → IsStuck (left_by image cpus steps) → CanCount (left_by image cpus steps)
+    ensures complete { (image : Image) (cpus : ℕ) (steps : List FineStep) → IsDescribed image
+        → CanRun image cpus → IsFineRun image cpus steps
+        → IsStuck (left_by image cpus steps) → CanCount (left_by image cpus steps)
         → (last : State) × Runs (opening image) (shown steps) last × IsComplete last
         × AgreeInDump image (closing_state image cpus steps) last }
 {}

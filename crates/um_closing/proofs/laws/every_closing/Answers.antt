@@ -1,6 +1,7 @@
 use Rattle.um_refinement.specs.After.{left_by}
 use Rattle.um_closing.proofs.Agreed.{agreed}
 use Rattle.um_closing.proofs.NotedRuns.{closes, complete, is-placed, leaves-noted}
+use Rattle.um_closing.proofs.PutThere.{noted-by-scheduler}
 use Rattle.um_closing.proofs.laws.every_closing.Goals as goal
 
 pub returns-clause-agrees : goal.returns-clause-agrees
@@ -10,6 +11,9 @@ returns-clause-agrees c = λ image cpus steps priorities last described run runs
 pub returns-clause-notes : goal.returns-clause-notes
 returns-clause-notes c = λ image cpus steps described run.
     let left = leaves-noted image cpus described steps run in (left.last, left.run, left.rel, left.noted)
+
+pub returns-clause-there : goal.returns-clause-there
+returns-clause-there c = λ image cpus steps t run. noted-by-scheduler image cpus steps t run
 
 pub returns-clause-closes : goal.returns-clause-closes
 returns-clause-closes c = λ image cpus steps described run idle.
