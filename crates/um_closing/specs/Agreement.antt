@@ -10,7 +10,7 @@ use Rattle.um_machine.specs.Objects.{is_free}
 use Rattle.um_machine.specs.State.{State, is_started, object_at, pair_at, thread_at}
 use Rattle.um_machine.specs.Table.{domain_at}
 
--- A dump reads of a thread that was started also its mode, priority and domain.
+-- A dump reads how a thread is, and where it was started also its mode, priority and domain.
 pub record ThreadsAgree (a b : Thread) : Type 0 where
   pub life : a.life ≡ b.life
   pub doomed : a.doomed ≡ b.doomed
@@ -22,7 +22,7 @@ pub record ThreadsAgree (a b : Thread) : Type 0 where
 abbrev pub has_line : Image → ℕ → Status → Bool
 has_line image x status = nat_lt x (length image.objects) || not (is_free status)
 
--- It reads of an object of a row that it shows also its kind, its marks and its contents.
+-- It reads the status of a row, and where it shows the row also its object's kind, marks and contents.
 pub record ObjectsAgree (image : Image) (x : ℕ) (a b : Object) : Type 0 where
   pub status : a.status ≡ b.status
   pub kind : IsTrue (has_line image x a.status) → a.kind ≡ b.kind
@@ -34,6 +34,7 @@ pub record ObjectsAgree (image : Image) (x : ℕ) (a b : Object) : Type 0 where
 abbrev pub waiters_in : State → List (List Waiter)
 waiters_in s = map (λ (o : Object). o.waiters) s.objects
 
+-- Two states of which a dump reads the same: threads, objects, pairs, who waits, domains, pools and memory.
 pub record AgreeInDump (image : Image) (s s2 : State) : Type 0 where
   pub threads : (t : ℕ) → ThreadsAgree (thread_at s t) (thread_at s2 t)
   pub objects : (x : ℕ) → x < ROWS → ObjectsAgree image x (object_at s x) (object_at s2 x)
