@@ -3,6 +3,7 @@ pub mod RowActs
 pub mod ThreadActs
 pub mod DomainActs
 pub mod Sited
+pub mod Answers
 pub mod Contexts
 pub mod Parked
 pub mod SchedulerActs

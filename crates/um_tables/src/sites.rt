@@ -26,7 +26,8 @@ ghost use Rattle.um_tables.specs.{
   RowActs.{row_made, row_said},
   Parked.{some_if},
   SchedulerActs.{added_made, done_made, parked_made, taken_made, woken_made},
-  Sited.{IfMade, MatchSaid},
+  Answers.{Answers, CanAsk, CanAskCell, CellAnswers, CellKeeps, CellTakes, CellWrites},
+  Sited.{IfMade},
   ThreadActs.{thread_made},
 };
 
@@ -68,57 +69,70 @@ pub trait Sites {
     fn row(&mut self, here: &Here, row: Row, act: &RowAct) -> Said<RowSaid>
         requires image { IsOf here.now.image.now self.old }
         requires row { row.0 < ROWS }
-        requires goes { (w : RowWord) → May here.now.image.now self.old (row_made here.now.image.now here.now.cpu row.0 w act.now) }
+        requires goes { CanAsk (May here.now.image.now self.old)
+            (λ w. row_made here.now.image.now here.now.cpu row.0 w act.now) }
         ensures image { IsOf here.now.image.now self.new }
-        ensures said { MatchSaid result
-            (λ said. (w : RowWord) × Took here.now.image.now self.old (row_made here.now.image.now here.now.cpu row.0 w act.now) self.new × (said ≡ row_said (row_made here.now.image.now here.now.cpu row.0 w act.now)))
-            ((w : RowWord) × Kept self.old self.new × Shut here.now.image.now self.old (row_made here.now.image.now here.now.cpu row.0 w act.now) self.new)
-            (Kept self.old self.new × Contended here.now.image.now self.old (Site.row row.0) self.new) };
+        ensures said { Answers result (λ w. row_made here.now.image.now here.now.cpu row.0 w act.now)
+            (λ e. Took here.now.image.now self.old e self.new)
+            (λ e. Shut here.now.image.now self.old e self.new)
+            (Kept self.old self.new) (Contended here.now.image.now self.old (Site.row row.0) self.new)
+            (λ e said. said ≡ row_said e) };
 
     /// Makes a step at the word of a thread index. Returns the word that it leaves.
     fn thread(&mut self, here: &Here, thread: ThreadIx, act: &ThreadAct) -> Said<ThreadWord>
         requires image { IsOf here.now.image.now self.old }
         requires thread { thread.0 < THREADS }
-        requires goes { (w : ThreadWord) → May here.now.image.now self.old (thread_made here.now.image.now here.now.cpu thread.0 w act.now) }
+        requires goes { CanAsk (May here.now.image.now self.old)
+            (λ w. thread_made here.now.image.now here.now.cpu thread.0 w act.now) }
         ensures image { IsOf here.now.image.now self.new }
         ensures domain { IfMade result (λ word. word.domain < DOMAINS) }
-        ensures said { MatchSaid result
-            (λ word. (w : ThreadWord) × Took here.now.image.now self.old (thread_made here.now.image.now here.now.cpu thread.0 w act.now) self.new × (word ≡ thread_in (thread_made here.now.image.now here.now.cpu thread.0 w act.now).word))
-            ((w : ThreadWord) × Kept self.old self.new × Shut here.now.image.now self.old (thread_made here.now.image.now here.now.cpu thread.0 w act.now) self.new)
-            (Kept self.old self.new × Contended here.now.image.now self.old (Site.thread thread.0) self.new) };
+        ensures said { Answers result (λ w. thread_made here.now.image.now here.now.cpu thread.0 w act.now)
+            (λ e. Took here.now.image.now self.old e self.new)
+            (λ e. Shut here.now.image.now self.old e self.new)
+            (Kept self.old self.new) (Contended here.now.image.now self.old (Site.thread thread.0) self.new)
+            (λ e word. word ≡ thread_in e.word) };
 
     /// Makes a step at the word of a domain. Returns the word that it leaves.
     fn domain(&mut self, here: &Here, domain: u8, act: &DomainAct) -> Said<DomWord>
         requires image { IsOf here.now.image.now self.old }
         requires domain { domain < DOMAINS }
-        requires goes { (w : DomWord) → May here.now.image.now self.old (domain_made here.now.image.now here.now.cpu domain w act.now) }
+        requires goes { CanAsk (May here.now.image.now self.old)
+            (λ w. domain_made here.now.image.now here.now.cpu domain w act.now) }
         ensures image { IsOf here.now.image.now self.new }
-        ensures said { MatchSaid result
-            (λ word. (w : DomWord) × Took here.now.image.now self.old (domain_made here.now.image.now here.now.cpu domain w act.now) self.new × (word ≡ domain_in (domain_made here.now.image.now here.now.cpu domain w act.now).word))
-            ((w : DomWord) × Kept self.old self.new × Shut here.now.image.now self.old (domain_made here.now.image.now here.now.cpu domain w act.now) self.new)
-            (Kept self.old self.new × Contended here.now.image.now self.old (Site.domain domain) self.new) };
+        ensures said { Answers result (λ w. domain_made here.now.image.now here.now.cpu domain w act.now)
+            (λ e. Took here.now.image.now self.old e self.new)
+            (λ e. Shut here.now.image.now self.old e self.new)
+            (Kept self.old self.new) (Contended here.now.image.now self.old (Site.domain domain) self.new)
+            (λ e word. word ≡ domain_in e.word) };
 
     /// Reads the partitions of a domain for a region table: none if the domain isn't initialised.
     fn load_parts(&mut self, here: &Here, domain: u8, parts: &mut Parts) -> Said<()>
         requires image { IsOf here.now.image.now self.old }
         requires domain { domain < DOMAINS }
-        requires goes { (n : ℕ) (before : Option Partitions) → May here.now.image.now self.old (loaded_made here.now.image.now here.now.cpu domain n before) }
+        requires goes { CanAskCell (May here.now.image.now self.old)
+            (λ n before. loaded_made here.now.image.now here.now.cpu domain n before) }
         ensures image { IsOf here.now.image.now self.new }
-        ensures said { MatchSaid result
-            (λ said. (n : ℕ) × (before : Option Partitions) × Took here.now.image.now self.old (loaded_made here.now.image.now here.now.cpu domain n before) self.new × ((loaded_made here.now.image.now here.now.cpu domain n before).moved ≡ Exchange.parts parts.new))
-            ((n : ℕ) × (before : Option Partitions) × Kept self.old self.new × Shut here.now.image.now self.old (loaded_made here.now.image.now here.now.cpu domain n before) self.new × (parts.new ≡ parts.old))
-            (Kept self.old self.new × Contended here.now.image.now self.old (Site.parts domain) self.new × (parts.new ≡ parts.old)) };
+        ensures said { CellWrites result
+            (λ n before. loaded_made here.now.image.now here.now.cpu domain n before)
+            (λ e. Took here.now.image.now self.old e self.new)
+            (λ e. Shut here.now.image.now self.old e self.new)
+            (Kept self.old self.new) (Contended here.now.image.now self.old (Site.parts domain) self.new)
+            (λ e said. e.moved ≡ Exchange.parts parts.new)
+            (parts.new ≡ parts.old) };
 
     /// Changes the partitions of a domain as a call of this thread asks. Returns the call's reply.
     fn edit(&mut self, here: &Here, domain: u8, call: &Pending) -> Said<Reply>
         requires image { IsOf here.now.image.now self.old }
         requires domain { domain < DOMAINS }
-        requires goes { (n : ℕ) (before : Option Partitions) → May here.now.image.now self.old (edited_made here.now.image.now here.now.cpu domain n before call.now) }
+        requires goes { CanAskCell (May here.now.image.now self.old)
+            (λ n before. edited_made here.now.image.now here.now.cpu domain n before call.now) }
         ensures image { IsOf here.now.image.now self.new }
-        ensures said { MatchSaid result
-            (λ reply. (n : ℕ) × (before : Option Partitions) × Took here.now.image.now self.old (edited_made here.now.image.now here.now.cpu domain n before call.now) self.new × (reply ≡ reply_to (edit_of here.now.image.now call.now before)))
-            ((n : ℕ) × (before : Option Partitions) × Kept self.old self.new × Shut here.now.image.now self.old (edited_made here.now.image.now here.now.cpu domain n before call.now) self.new)
-            (Kept self.old self.new × Contended here.now.image.now self.old (Site.parts domain) self.new) };
+        ensures said { CellAnswers result
+            (λ n before. edited_made here.now.image.now here.now.cpu domain n before call.now)
+            (λ e. Took here.now.image.now self.old e self.new)
+            (λ e. Shut here.now.image.now self.old e self.new)
+            (Kept self.old self.new) (Contended here.now.image.now self.old (Site.parts domain) self.new)
+            (λ before e reply. reply ≡ reply_to (edit_of here.now.image.now call.now before)) };
 
     /// Does a call's work on the object of a row, at this address, and writes the outcome.
     fn work(
@@ -133,12 +147,16 @@ pub trait Sites {
         requires row { row.0 < ROWS }
         requires thread { who.now.thread.0 < THREADS }
         requires sound { IsTrue (is_sound_ask who.now.ask) }
-        requires goes { (n : ℕ) (o : ObjectCell) → May here.now.image.now self.old (worked_made here.now.image.now here.now.cpu row.0 n o addr who.now) }
+        requires goes { CanAskCell (May here.now.image.now self.old)
+            (λ n o. worked_made here.now.image.now here.now.cpu row.0 n o addr who.now) }
         ensures image { IsOf here.now.image.now self.new }
-        ensures said { MatchSaid result
-            (λ said. (n : ℕ) × (o : ObjectCell) × Took here.now.image.now self.old (worked_made here.now.image.now here.now.cpu row.0 n o addr who.now) self.new × ((worked_made here.now.image.now here.now.cpu row.0 n o addr who.now).moved ≡ Exchange.asked who.now (outcome_by outcome.new)))
-            ((n : ℕ) × (o : ObjectCell) × Kept self.old self.new × Shut here.now.image.now self.old (worked_made here.now.image.now here.now.cpu row.0 n o addr who.now) self.new × (outcome.new ≡ outcome.old))
-            (Kept self.old self.new × Contended here.now.image.now self.old (Site.object row.0) self.new × (outcome.new ≡ outcome.old)) };
+        ensures said { CellWrites result
+            (λ n o. worked_made here.now.image.now here.now.cpu row.0 n o addr who.now)
+            (λ e. Took here.now.image.now self.old e self.new)
+            (λ e. Shut here.now.image.now self.old e self.new)
+            (Kept self.old self.new) (Contended here.now.image.now self.old (Site.object row.0) self.new)
+            (λ e said. e.moved ≡ Exchange.asked who.now (outcome_by outcome.new))
+            (outcome.new ≡ outcome.old) };
 
     /// Gives the thread object of a row this name, on behalf of a thread.
     fn name(
@@ -151,104 +169,128 @@ pub trait Sites {
     ) -> Said<()>
         requires image { IsOf here.now.image.now self.old }
         requires row { row.0 < ROWS }
-        requires goes { (n : ℕ) (o : ObjectCell) → May here.now.image.now self.old (named_made here.now.image.now here.now.cpu row.0 n o thread who bytes.now) }
+        requires goes { CanAskCell (May here.now.image.now self.old)
+            (λ n o. named_made here.now.image.now here.now.cpu row.0 n o thread who bytes.now) }
         ensures image { IsOf here.now.image.now self.new }
-        ensures said { MatchSaid result
-            (λ said. (n : ℕ) × (o : ObjectCell) × Took here.now.image.now self.old (named_made here.now.image.now here.now.cpu row.0 n o thread who bytes.now) self.new)
-            ((n : ℕ) × (o : ObjectCell) × Kept self.old self.new × Shut here.now.image.now self.old (named_made here.now.image.now here.now.cpu row.0 n o thread who bytes.now) self.new)
-            (Kept self.old self.new × Contended here.now.image.now self.old (Site.object row.0) self.new) };
+        ensures said { CellTakes result
+            (λ n o. named_made here.now.image.now here.now.cpu row.0 n o thread who bytes.now)
+            (λ e. Took here.now.image.now self.old e self.new)
+            (λ e. Shut here.now.image.now self.old e self.new)
+            (Kept self.old self.new) (Contended here.now.image.now self.old (Site.object row.0) self.new) };
 
     /// Looks at the message size of the object of a row: 0 if it is no queue.
     fn message_size(&mut self, here: &Here, row: Row) -> Said<u32>
         requires image { IsOf here.now.image.now self.old }
         requires row { row.0 < ROWS }
-        requires goes { (n : ℕ) (o : ObjectCell) → May here.now.image.now self.old (looked_made here.now.image.now here.now.cpu row.0 n o) }
+        requires goes { CanAskCell (May here.now.image.now self.old)
+            (λ n o. looked_made here.now.image.now here.now.cpu row.0 n o) }
         ensures image { IsOf here.now.image.now self.new }
-        ensures said { MatchSaid result
-            (λ size. (n : ℕ) × (o : ObjectCell) × Took here.now.image.now self.old (looked_made here.now.image.now here.now.cpu row.0 n o) self.new × ((looked_made here.now.image.now here.now.cpu row.0 n o).moved ≡ Exchange.size size))
-            ((n : ℕ) × (o : ObjectCell) × Kept self.old self.new × Shut here.now.image.now self.old (looked_made here.now.image.now here.now.cpu row.0 n o) self.new)
-            (Kept self.old self.new × Contended here.now.image.now self.old (Site.object row.0) self.new) };
+        ensures said { CellAnswers result (λ n o. looked_made here.now.image.now here.now.cpu row.0 n o)
+            (λ e. Took here.now.image.now self.old e self.new)
+            (λ e. Shut here.now.image.now self.old e self.new)
+            (Kept self.old self.new) (Contended here.now.image.now self.old (Site.object row.0) self.new)
+            (λ o e size. e.moved ≡ Exchange.size size) };
 
     /// Clears what the object of a row keeps. Returns what its buffer cost.
     fn clear(&mut self, here: &Here, row: Row) -> Said<Option<Cost>>
         requires image { IsOf here.now.image.now self.old }
         requires row { row.0 < ROWS }
-        requires goes { (n : ℕ) (o : ObjectCell) → May here.now.image.now self.old (cleared_made here.now.image.now here.now.cpu row.0 n o) }
+        requires goes { CanAskCell (May here.now.image.now self.old)
+            (λ n o. cleared_made here.now.image.now here.now.cpu row.0 n o) }
         ensures image { IsOf here.now.image.now self.new }
-        ensures said { MatchSaid result
-            (λ cost. (n : ℕ) × (o : ObjectCell) × Took here.now.image.now self.old (cleared_made here.now.image.now here.now.cpu row.0 n o) self.new × ((cleared_made here.now.image.now here.now.cpu row.0 n o).moved ≡ Exchange.charge cost))
-            ((n : ℕ) × (o : ObjectCell) × Kept self.old self.new × Shut here.now.image.now self.old (cleared_made here.now.image.now here.now.cpu row.0 n o) self.new)
-            (Kept self.old self.new × Contended here.now.image.now self.old (Site.object row.0) self.new) };
+        ensures said { CellAnswers result (λ n o. cleared_made here.now.image.now here.now.cpu row.0 n o)
+            (λ e. Took here.now.image.now self.old e self.new)
+            (λ e. Shut here.now.image.now self.old e self.new)
+            (Kept self.old self.new) (Contended here.now.image.now self.old (Site.object row.0) self.new)
+            (λ o e cost. e.moved ≡ Exchange.charge cost) };
 
     /// Makes a step at the memory's cell. Returns what the cell says. A copy reads or writes the buffer.
     fn memory(&mut self, here: &Here, act: &MemoryAct, buffer: &mut Piece) -> Said<MemorySaid>
         requires image { IsOf here.now.image.now self.old }
         requires few { IsTrue (has_room act.now) }
-        requires goes { (n : ℕ) (m : Bytes) → May here.now.image.now self.old (memory_made here.now.image.now here.now.cpu n m act.now buffer.old) }
+        requires goes { CanAskCell (May here.now.image.now self.old)
+            (λ n m. memory_made here.now.image.now here.now.cpu n m act.now buffer.old) }
         ensures image { IsOf here.now.image.now self.new }
-        ensures said { MatchSaid result
-            (λ said. (n : ℕ) × (m : Bytes) × Took here.now.image.now self.old (memory_made here.now.image.now here.now.cpu n m act.now buffer.old) self.new × Tells (memory_made here.now.image.now here.now.cpu n m act.now buffer.old) said buffer.old buffer.new)
-            ((n : ℕ) × (m : Bytes) × Kept self.old self.new × Shut here.now.image.now self.old (memory_made here.now.image.now here.now.cpu n m act.now buffer.old) self.new × (buffer.new ≡ buffer.old))
-            (Kept self.old self.new × Contended here.now.image.now self.old Site.memory self.new × (buffer.new ≡ buffer.old)) };
+        ensures said { CellWrites result
+            (λ n m. memory_made here.now.image.now here.now.cpu n m act.now buffer.old)
+            (λ e. Took here.now.image.now self.old e self.new)
+            (λ e. Shut here.now.image.now self.old e self.new)
+            (Kept self.old self.new) (Contended here.now.image.now self.old Site.memory self.new)
+            (λ e said. Tells e said buffer.old buffer.new)
+            (buffer.new ≡ buffer.old) };
 
     /// Makes a step at the heap's cell, in which a pool pays this or gets it back. Returns what the cell says.
     fn heap(&mut self, here: &Here, act: &HeapAct, charge: Option<Cost>) -> Said<HeapSaid>
         requires image { IsOf here.now.image.now self.old }
-        requires goes { (n : ℕ) (h : Heap) → May here.now.image.now self.old (heap_made here.now.image.now here.now.cpu n h act.now charge) }
+        requires goes { CanAskCell (May here.now.image.now self.old)
+            (λ n h. heap_made here.now.image.now here.now.cpu n h act.now charge) }
         ensures image { IsOf here.now.image.now self.new }
-        ensures said { MatchSaid result
-            (λ said. (n : ℕ) × (h : Heap) × Took here.now.image.now self.old (heap_made here.now.image.now here.now.cpu n h act.now charge) self.new × (said ≡ heap_said (heap_made here.now.image.now here.now.cpu n h act.now charge).act))
-            ((n : ℕ) × (h : Heap) × Kept self.old self.new × Shut here.now.image.now self.old (heap_made here.now.image.now here.now.cpu n h act.now charge) self.new)
-            (Kept self.old self.new × Contended here.now.image.now self.old Site.heap self.new) };
+        ensures said { CellAnswers result
+            (λ n h. heap_made here.now.image.now here.now.cpu n h act.now charge)
+            (λ e. Took here.now.image.now self.old e self.new)
+            (λ e. Shut here.now.image.now self.old e self.new)
+            (Kept self.old self.new) (Contended here.now.image.now self.old Site.heap self.new)
+            (λ h e said. said ≡ heap_said e.act) };
 
     /// Takes the first ready thread, and leaves the given room in its stead. Returns whether it was woken, and writes what it was told.
     fn take(&mut self, here: &Here, context: &mut Box<Context>, told: &mut Told) -> Said<bool>
         requires image { IsOf here.now.image.now self.old }
-        requires goes { (n : ℕ) (s : Scheduler) → May here.now.image.now self.old (taken_made here.now.image.now here.now.cpu n s) }
+        requires goes { CanAskCell (May here.now.image.now self.old)
+            (λ n s. taken_made here.now.image.now here.now.cpu n s) }
         ensures image { IsOf here.now.image.now self.new }
-        ensures said { MatchSaid result
-            (λ woken. (n : ℕ) × (s : Scheduler) × Took here.now.image.now self.old (taken_made here.now.image.now here.now.cpu n s) self.new × ((taken_made here.now.image.now here.now.cpu n s).moved ≡ Exchange.thread context.new.value (some_if woken told.new)))
-            ((n : ℕ) × (s : Scheduler) × Kept self.old self.new × Shut here.now.image.now self.old (taken_made here.now.image.now here.now.cpu n s) self.new × (context.new ≡ context.old) × (told.new ≡ told.old))
-            (Kept self.old self.new × Contended here.now.image.now self.old Site.scheduler self.new × (context.new ≡ context.old) × (told.new ≡ told.old)) };
+        ensures said { CellWrites result (λ n s. taken_made here.now.image.now here.now.cpu n s)
+            (λ e. Took here.now.image.now self.old e self.new)
+            (λ e. Shut here.now.image.now self.old e self.new)
+            (Kept self.old self.new) (Contended here.now.image.now self.old Site.scheduler self.new)
+            (λ e woken. e.moved ≡ Exchange.thread context.new.value (some_if woken told.new))
+            ((context.new ≡ context.old) × (told.new ≡ told.old)) };
 
     /// Tells a thread what woke it.
     fn wake(&mut self, here: &Here, who: ThreadIx, told: &Told) -> Said<()>
         requires image { IsOf here.now.image.now self.old }
         requires thread { who.0 < THREADS }
-        requires goes { (n : ℕ) (s : Scheduler) → May here.now.image.now self.old (woken_made here.now.image.now here.now.cpu n s who told.now) }
+        requires goes { CanAskCell (May here.now.image.now self.old)
+            (λ n s. woken_made here.now.image.now here.now.cpu n s who told.now) }
         ensures image { IsOf here.now.image.now self.new }
-        ensures said { MatchSaid result
-            (λ said. (n : ℕ) × (s : Scheduler) × Took here.now.image.now self.old (woken_made here.now.image.now here.now.cpu n s who told.now) self.new)
-            ((n : ℕ) × (s : Scheduler) × Kept self.old self.new × Shut here.now.image.now self.old (woken_made here.now.image.now here.now.cpu n s who told.now) self.new)
-            (Kept self.old self.new × Contended here.now.image.now self.old Site.scheduler self.new) };
+        ensures said { CellTakes result (λ n s. woken_made here.now.image.now here.now.cpu n s who told.now)
+            (λ e. Took here.now.image.now self.old e self.new)
+            (λ e. Shut here.now.image.now self.old e self.new)
+            (Kept self.old self.new) (Contended here.now.image.now self.old Site.scheduler self.new) };
 
     /// Makes a new thread ready, and gives back the room that was there. No contract says what is in that room.
     fn add(&mut self, here: &Here, context: &mut Box<Context>) -> Said<()>
         requires image { IsOf here.now.image.now self.old }
-        requires goes { (n : ℕ) (s : Scheduler) → May here.now.image.now self.old (added_made here.now.image.now here.now.cpu n s context.old.value) }
+        requires goes { CanAskCell (May here.now.image.now self.old)
+            (λ n s. added_made here.now.image.now here.now.cpu n s context.old.value) }
         ensures image { IsOf here.now.image.now self.new }
-        ensures said { MatchSaid result
-            (λ said. (n : ℕ) × (s : Scheduler) × Took here.now.image.now self.old (added_made here.now.image.now here.now.cpu n s context.old.value) self.new)
-            ((n : ℕ) × (s : Scheduler) × Kept self.old self.new × Shut here.now.image.now self.old (added_made here.now.image.now here.now.cpu n s context.old.value) self.new × (context.new ≡ context.old))
-            (Kept self.old self.new × Contended here.now.image.now self.old Site.scheduler self.new × (context.new ≡ context.old)) };
+        ensures said { CellKeeps result
+            (λ n s. added_made here.now.image.now here.now.cpu n s context.old.value)
+            (λ e. Took here.now.image.now self.old e self.new)
+            (λ e. Shut here.now.image.now self.old e self.new)
+            (Kept self.old self.new) (Contended here.now.image.now self.old Site.scheduler self.new)
+            (context.new ≡ context.old) };
 
     /// Puts a thread back, and gives back the room that was there. No contract says what is in that room.
     fn park(&mut self, here: &Here, context: &mut Box<Context>) -> Said<()>
         requires image { IsOf here.now.image.now self.old }
-        requires goes { (n : ℕ) (s : Scheduler) → May here.now.image.now self.old (parked_made here.now.image.now here.now.cpu n s context.old.value) }
+        requires goes { CanAskCell (May here.now.image.now self.old)
+            (λ n s. parked_made here.now.image.now here.now.cpu n s context.old.value) }
         ensures image { IsOf here.now.image.now self.new }
-        ensures said { MatchSaid result
-            (λ said. (n : ℕ) × (s : Scheduler) × Took here.now.image.now self.old (parked_made here.now.image.now here.now.cpu n s context.old.value) self.new)
-            ((n : ℕ) × (s : Scheduler) × Kept self.old self.new × Shut here.now.image.now self.old (parked_made here.now.image.now here.now.cpu n s context.old.value) self.new × (context.new ≡ context.old))
-            (Kept self.old self.new × Contended here.now.image.now self.old Site.scheduler self.new × (context.new ≡ context.old)) };
+        ensures said { CellKeeps result
+            (λ n s. parked_made here.now.image.now here.now.cpu n s context.old.value)
+            (λ e. Took here.now.image.now self.old e self.new)
+            (λ e. Shut here.now.image.now self.old e self.new)
+            (Kept self.old self.new) (Contended here.now.image.now self.old Site.scheduler self.new)
+            (context.new ≡ context.old) };
 
     /// Has a thread stop running that isn't put back.
     fn done(&mut self, here: &Here) -> Said<()>
         requires image { IsOf here.now.image.now self.old }
-        requires goes { (n : ℕ) (s : Scheduler) → May here.now.image.now self.old (done_made here.now.image.now here.now.cpu n s) }
+        requires goes { CanAskCell (May here.now.image.now self.old)
+            (λ n s. done_made here.now.image.now here.now.cpu n s) }
         ensures image { IsOf here.now.image.now self.new }
-        ensures said { MatchSaid result
-            (λ said. (n : ℕ) × (s : Scheduler) × Took here.now.image.now self.old (done_made here.now.image.now here.now.cpu n s) self.new)
-            ((n : ℕ) × (s : Scheduler) × Kept self.old self.new × Shut here.now.image.now self.old (done_made here.now.image.now here.now.cpu n s) self.new)
-            (Kept self.old self.new × Contended here.now.image.now self.old Site.scheduler self.new) };
+        ensures said { CellTakes result (λ n s. done_made here.now.image.now here.now.cpu n s)
+            (λ e. Took here.now.image.now self.old e self.new)
+            (λ e. Shut here.now.image.now self.old e self.new)
+            (Kept self.old self.new) (Contended here.now.image.now self.old Site.scheduler self.new) };
 }

@@ -54,18 +54,18 @@ returns-in-None-clause-said c =
     let looked = c.look-seen.ensures.unnoted in
     let t = c.in-Some.ensures.turn.1 in
     let shut = refused c.args.here.now.image.now c.args.here.now.cpu c.in-Some.turn.number _ d (Unseen.Next (to_thread 0)) Exchange.nothing _ _ _ _ _ _ (unnoted-then _ _ _ _ _ _ looked c.in-Some.ensures.unnoted) c.put_back.ensures.unnoted t.turn.says (got-first _ _ _ looked.got.0 _ _ looked.got.1 t.got) (cell-first _ _ _ _ _ _ _ looked t.saw) denied in
-    (c.in-Some.turn.number, d, shut.0, shut.1, r.1, r.2)
+    (c.in-Some.turn.number, d, shut.0, shut.1, (r.1, r.2))
 
 pub returns-then-read-eq0-clause-said : goal.returns-then-read-eq0-clause-said
 returns-then-read-eq0-clause-said c =
     let none = ap (λ (w : CellWord). w.ready) (sym c.read.ensures.value) ∙ c.if-read-eq0.true in
-    (0, nobody, c.look-seen.ensures.unnoted, none-shut c.args.here.now.image.now c.args.here.now.cpu c.look-seen.result _ _ (got-one _ _ _ _ c.look-seen.ensures.got) c.look-seen.ensures.saw none, refl, refl)
+    (0, nobody, c.look-seen.ensures.unnoted, none-shut c.args.here.now.image.now c.args.here.now.cpu c.look-seen.result _ _ (got-one _ _ _ _ c.look-seen.ensures.got) c.look-seen.ensures.saw none, (refl, refl))
 
 pub returns-in_default-clause-said : goal.returns-in_default-clause-said
 returns-in_default-clause-said c =
     let looked = c.look-seen.ensures in
     let why = hindered-first c.args.self.now c.look-seen.new.self c.turn_at_once.new.self 306 looked.unnoted looked.log c.in_default.ensures.turn.1 in
-    (unnoted-then _ _ _ _ _ _ looked.unnoted c.turn_at_once.ensures.unnoted, why, refl, refl)
+    (unnoted-then _ _ _ _ _ _ looked.unnoted c.turn_at_once.ensures.unnoted, why, (refl, refl))
 
 pub put_back-requires-clause-same : goal.put_back-requires-clause-same
 put_back-requires-clause-same c =

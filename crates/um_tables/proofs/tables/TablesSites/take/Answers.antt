@@ -39,10 +39,9 @@ returns-in-None-clause-said c =
       s,
       kept _ _ c.self.view_is _ e.0,
       scheduler-refused c.args.here.now.image.now _ _ c.self.view_is c.args.here.now.cpu (Unseen.Next (to_thread 0)) (Exchange.nothing) (next-takes s (to_thread 0) ∙ e.3),
-      e.1,
-      e.2,
+      (e.1, e.2),
     )
 
 pub returns-then-self-ge-LAST-clause-said : goal.returns-then-self-ge-LAST-clause-said
 returns-then-self-ge-LAST-clause-said c =
-    (_, c.self.inside.scheduler, refl, scheduler-ends c.args.here.now.image.now _ _ c.self.view_is c.args.here.now.cpu (Unseen.Next (to_thread 0)) (Exchange.nothing) (search arith), refl, refl)
+    (_, c.self.inside.scheduler, refl, scheduler-ends c.args.here.now.image.now _ _ c.self.view_is c.args.here.now.cpu (Unseen.Next (to_thread 0)) (Exchange.nothing) (search arith), (refl, refl))
