@@ -60,7 +60,9 @@ impl<T: Content, L: Local> Board<T, L> {
         requires turns { (i : ℕ) → 168 ≤ i → i < length words.items → slice_index words.items i % 2 ≡ 0 }
         requires fact { L.fact image.now words.items [] }
         ensures same { IfOk result (λ r. r.1.token.table_id ≡ r.0.table.shared.table_id) }
-        ensures sites { IfOk result (λ r. (r.0.table.shared.table_id.words ≡ length words.items) × (r.0.table.shared.table_id.slots ≡ slots)) }
+        ensures sites { IfOk result
+            (λ r. (r.0.table.shared.table_id.words ≡ length words.items)
+            × (r.0.table.shared.table_id.slots ≡ slots)) }
         ensures opens { IfOk result (λ r. r.1.token.me.0 ≡ opening_view image.now words.items) }
         ensures slots { IfOk result (λ r. r.1.token.me.1 ≡ []) }
         ensures first { IfOk result (λ r. (r.1.first ≡ true) × (r.1.split ≡ 0) × (r.1.joined ≡ 0)) }
@@ -82,14 +84,20 @@ impl<T: Content, L: Local> Board<T, L> {
     pub fn look(&self, seat: &mut Seat<T>, site: u16) -> u64
         requires here { seat.old.token.table_id ≡ self.now.table.shared.table_id }
         requires site { site < self.now.table.shared.table_id.words }
-        ensures same { (seat.new.token.table_id ≡ seat.old.token.table_id) × (seat.new.token.id ≡ seat.old.token.id) }
+        ensures same { (seat.new.token.table_id ≡ seat.old.token.table_id)
+            × (seat.new.token.id ≡ seat.old.token.id) }
         ensures told { Looked L.goes seat.old.token.me.0 site result seat.new.token.me.0 }
         ensures moment { Moment T.opens T.follows L.goes seat.old.token.me.0 site result }
-        ensures counts { (seat.new.split ≡ seat.old.split) × (seat.new.joined ≡ seat.old.joined) × (seat.new.first ≡ seat.old.first) }
+        ensures counts { (seat.new.split ≡ seat.old.split) × (seat.new.joined ≡ seat.old.joined)
+            × (seat.new.first ≡ seat.old.first) }
         ensures slots { seat.new.token.me.1 ≡ seat.old.token.me.1 }
-        ensures kin { (seat.new.token.me.0.name ≡ seat.old.token.me.0.name) × (seat.new.token.me.0.children ≡ seat.old.token.me.0.children) × (seat.new.token.me.0.turn ≡ seat.old.token.me.0.turn) × (seat.new.token.me.0.filled ≡ seat.old.token.me.0.filled) }
+        ensures kin { (seat.new.token.me.0.name ≡ seat.old.token.me.0.name)
+            × (seat.new.token.me.0.children ≡ seat.old.token.me.0.children)
+            × (seat.new.token.me.0.turn ≡ seat.old.token.me.0.turn)
+            × (seat.new.token.me.0.filled ≡ seat.old.token.me.0.filled) }
         ensures last { last_got seat.new.token.me.0.got site ≡ Some result }
-        ensures fact { L.fact seat.old.token.me.0.image seat.old.token.me.0.opening [] → StandsWithFact L.goes L.fact seat.old.token.me.0 site result }
+        ensures fact { L.fact seat.old.token.me.0.image seat.old.token.me.0.opening []
+            → StandsWithFact L.goes L.fact seat.old.token.me.0 site result }
     {
         self.table
             .shared
@@ -105,9 +113,12 @@ impl<T: Content, L: Local> Board<T, L> {
         requires step { D.made ≡ made site D.made.act word }
         requires lawful { WordMay site seen D.made.act word }
         requires goes { L.goes seat.old.token.me.0.image seat.old.token.me.0.name seat.old.token.me.0.made D.made }
-        ensures same { (seat.new.token.table_id ≡ seat.old.token.table_id) × (seat.new.token.id ≡ seat.old.token.id) }
-        ensures counts { (seat.new.split ≡ seat.old.split) × (seat.new.joined ≡ seat.old.joined) × (seat.new.first ≡ seat.old.first) }
-        ensures told { stepped_by L.goes D.made (step 0 site seen word none) seat.old.token.me result seat.new.token.me }
+        ensures same { (seat.new.token.table_id ≡ seat.old.token.table_id)
+            × (seat.new.token.id ≡ seat.old.token.id) }
+        ensures counts { (seat.new.split ≡ seat.old.split) × (seat.new.joined ≡ seat.old.joined)
+            × (seat.new.first ≡ seat.old.first) }
+        ensures told { stepped_by L.goes D.made
+            (step 0 site seen word none) seat.old.token.me result seat.new.token.me }
     {
         self.table
             .shared
@@ -131,13 +142,19 @@ impl<T: Content, L: Local> Board<T, L> {
         requires step { D.made ≡ made site D.made.act word }
         requires lawful { WordMay site seen D.made.act word }
         requires goes { L.goes seat.old.token.me.0.image seat.old.token.me.0.name seat.old.token.me.0.made D.made }
-        ensures same { (seat.new.token.table_id ≡ seat.old.token.table_id) × (seat.new.token.id ≡ seat.old.token.id) }
+        ensures same { (seat.new.token.table_id ≡ seat.old.token.table_id)
+            × (seat.new.token.id ≡ seat.old.token.id) }
         ensures told { MatchResult result
-            (λ n. (n ≡ number site word) × GoesOn L.goes seat.old.token.me.0 D.made seen × (seat.new.token.me.0 ≡ with_made seat.old.token.me.0 D.made))
+            (λ n. (n ≡ number site word) × GoesOn L.goes seat.old.token.me.0 D.made seen
+            × (seat.new.token.me.0 ≡ with_made seat.old.token.me.0 D.made))
             (λ e. (e.seen ≢ seen) × Looked L.goes seat.old.token.me.0 site e.seen seat.new.token.me.0) }
-        ensures counts { (seat.new.split ≡ seat.old.split) × (seat.new.joined ≡ seat.old.joined) × (seat.new.first ≡ seat.old.first) }
+        ensures counts { (seat.new.split ≡ seat.old.split) × (seat.new.joined ≡ seat.old.joined)
+            × (seat.new.first ≡ seat.old.first) }
         ensures slots { seat.new.token.me.1 ≡ seat.old.token.me.1 }
-        ensures kin { (seat.new.token.me.0.name ≡ seat.old.token.me.0.name) × (seat.new.token.me.0.children ≡ seat.old.token.me.0.children) × (seat.new.token.me.0.turn ≡ seat.old.token.me.0.turn) × (seat.new.token.me.0.filled ≡ seat.old.token.me.0.filled) }
+        ensures kin { (seat.new.token.me.0.name ≡ seat.old.token.me.0.name)
+            × (seat.new.token.me.0.children ≡ seat.old.token.me.0.children)
+            × (seat.new.token.me.0.turn ≡ seat.old.token.me.0.turn)
+            × (seat.new.token.me.0.filled ≡ seat.old.token.me.0.filled) }
         ensures last { IfErr result (λ e. last_got seat.new.token.me.0.got site ≡ Some (e.seen)) }
     {
         let found = self.exchange::<D>(seat, site, seen, word);
@@ -153,11 +170,14 @@ impl<T: Content, L: Local> Board<T, L> {
         requires here { seat.old.token.table_id ≡ self.now.table.shared.table_id }
         requires words { 0 < self.now.table.shared.table_id.words }
         requires room { seat.old.split + 1 < 2 ^ 32 }
-        ensures same { (seat.new.token.table_id ≡ seat.old.token.table_id) × (seat.new.token.id ≡ seat.old.token.id) }
-        ensures counts { (seat.new.split ≡ seat.old.split + 1) × (seat.new.joined ≡ seat.old.joined) × (seat.new.first ≡ seat.old.first) }
+        ensures same { (seat.new.token.table_id ≡ seat.old.token.table_id)
+            × (seat.new.token.id ≡ seat.old.token.id) }
+        ensures counts { (seat.new.split ≡ seat.old.split + 1) × (seat.new.joined ≡ seat.old.joined)
+            × (seat.new.first ≡ seat.old.first) }
         ensures kept { seat.new.token.me.0 ≡ splitter seat.old.token.me.0 }
         ensures slots { seat.new.token.me.1 ≡ seat.old.token.me.1 }
-        ensures new { (result.token.table_id ≡ seat.old.token.table_id) × (result.token.me.0 ≡ newborn seat.old.token.me.0) × (result.token.me.1 ≡ []) }
+        ensures new { (result.token.table_id ≡ seat.old.token.table_id)
+            × (result.token.me.0 ≡ newborn seat.old.token.me.0) × (result.token.me.1 ≡ []) }
         ensures nothing { (result.split ≡ 0) × (result.joined ≡ 0) × (result.first ≡ false) }
     {
         let token = self.table.shared.split_seat::<Fork>(&mut seat.token);
@@ -172,13 +192,17 @@ impl<T: Content, L: Local> Board<T, L> {
 
     /// Joins a seat that this one, or one that it joined, split off.
     pub fn join(&self, seat: &mut Seat<T>, other: Seat<T>)
-        requires here { (seat.old.token.table_id ≡ self.now.table.shared.table_id) × (other.token.table_id ≡ self.now.table.shared.table_id) }
+        requires here { (seat.old.token.table_id ≡ self.now.table.shared.table_id)
+            × (other.token.table_id ≡ self.now.table.shared.table_id) }
         requires words { 0 < self.now.table.shared.table_id.words }
-        requires room { (seat.old.split + other.split < 2 ^ 32) × (seat.old.joined + other.joined + 1 < 2 ^ 32) }
+        requires room { (seat.old.split + other.split < 2 ^ 32)
+            × (seat.old.joined + other.joined + 1 < 2 ^ 32) }
         requires out { AmongNames seat.old.token.me.0.children other.token.me.0.name }
         requires empty { (other.token.me.1 ≡ []) × (other.token.me.0.turn ≡ None) }
-        ensures same { (seat.new.token.table_id ≡ seat.old.token.table_id) × (seat.new.token.id ≡ seat.old.token.id) × (seat.new.first ≡ seat.old.first) }
-        ensures counts { (seat.new.split ≡ seat.old.split + other.split) × (seat.new.joined ≡ seat.old.joined + other.joined + 1) }
+        ensures same { (seat.new.token.table_id ≡ seat.old.token.table_id)
+            × (seat.new.token.id ≡ seat.old.token.id) × (seat.new.first ≡ seat.old.first) }
+        ensures counts { (seat.new.split ≡ seat.old.split + other.split)
+            × (seat.new.joined ≡ seat.old.joined + other.joined + 1) }
         ensures both { seat.new.token.me.0 ≡ joiner seat.old.token.me.0 other.token.me.0 }
         ensures slots { seat.new.token.me.1 ≡ seat.old.token.me.1 }
     {
@@ -197,12 +221,19 @@ impl<T: Content, L: Local> Board<T, L> {
     pub fn close(self, seat: Seat<T>) -> Result<Closed<T>, StillOut<T, L>>
         requires here { seat.token.table_id ≡ self.table.shared.table_id }
         requires words { 0 < self.table.shared.table_id.words }
-        ensures closed { IfOk result (λ c. (c.token.me.0 ≡ shadow_of seat.token.me.0) × IsFull c.table.words × IsClosed L.goes seat.token.me.0 (slots_items c.table.words)) }
-        ensures fact { IfOk result (λ c. L.fact seat.token.me.0.image seat.token.me.0.opening [] → IsClosedWithFact L.goes L.fact seat.token.me.0 (slots_items c.table.words)) }
-        ensures cells { IfOk result (λ c. seat.token.me.0.turn ≡ None → IsClosedWithCells T.opens T.follows L.goes seat.token.me.0 (slots_items c.table.words)) }
+        ensures closed { IfOk result
+            (λ c. (c.token.me.0 ≡ shadow_of seat.token.me.0) × IsFull c.table.words
+            × IsClosed L.goes seat.token.me.0 (slots_items c.table.words)) }
+        ensures fact { IfOk result
+            (λ c. L.fact seat.token.me.0.image seat.token.me.0.opening []
+            → IsClosedWithFact L.goes L.fact seat.token.me.0 (slots_items c.table.words)) }
+        ensures cells { IfOk result
+            (λ c. seat.token.me.0.turn ≡ None
+            → IsClosedWithCells T.opens T.follows L.goes seat.token.me.0 (slots_items c.table.words)) }
         ensures sites { IfOk result (λ c. slots_len c.table.words ≡ self.table.shared.table_id.words) }
         ensures back { IfErr result (λ e. (e.board ≡ self) × (e.seat ≡ seat)) }
-        ensures out { IfErr result (λ e. (0 < e.seats) × ((seat.first ≡ false) ⊎ (seat.split ≢ seat.joined))) }
+        ensures out { IfErr result
+            (λ e. (0 < e.seats) × ((seat.first ≡ false) ⊎ (seat.split ≢ seat.joined))) }
         ensures all_in { IfOk result (λ c. (seat.first ≡ true) × (seat.split ≡ seat.joined)) }
     {
         if !seat.first || seat.split != seat.joined {

@@ -12,7 +12,8 @@ const CELLS: usize = 168;
 pub fn have_no_turn(words: &[u64]) -> bool
     requires { length words.now ≤ 65536 }
     ensures yes { result ≡ true → (i : ℕ) → 168 ≤ i → i < length words.now → slice_index words.now i % 2 ≡ 0 }
-    ensures no { result ≡ false → ((i : ℕ) → 168 ≤ i → i < length words.now → slice_index words.now i % 2 ≡ 0) → ⊥ }
+    ensures no { result ≡ false
+        → ((i : ℕ) → 168 ≤ i → i < length words.now → slice_index words.now i % 2 ≡ 0) → ⊥ }
 {
     let mut site = CELLS;
     while site < words.len() {
@@ -28,7 +29,8 @@ pub fn have_no_turn(words: &[u64]) -> bool
 pub fn are_unstepped(words: &[u64]) -> bool
     requires { length words.now ≤ 65536 }
     ensures yes { result ≡ true → (i : ℕ) → i < length words.now → number i (slice_index words.now i) ≡ 0 }
-    ensures no { result ≡ false → ((i : ℕ) → i < length words.now → number i (slice_index words.now i) ≡ 0) → ⊥ }
+    ensures no { result ≡ false → ((i : ℕ) → i < length words.now → number i (slice_index words.now i) ≡ 0)
+        → ⊥ }
 {
     let mut site = 0;
     while site < words.len() {

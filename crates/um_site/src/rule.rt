@@ -18,7 +18,8 @@ pub struct Ruled<L> {
 impl<T: Content, L: Local> TableRule<Option<T>, View, Opening> for Ruled<L> {
     ghost use Rattle.um_site.specs.{Cells.{Rule}, History.{opening_view}};
 
-    ghost holds = { λ key s. Rule T.opens T.follows (L.goes key.0.value) key.0.value key.1.value.items s.words s.homes s.views };
+    ghost holds = { λ key s. Rule T.opens T.follows
+        (L.goes key.0.value) key.0.value key.1.value.items s.words s.homes s.views };
 
     ghost first = { λ key. opening_view key.0.value key.1.value.items };
 }

@@ -23,7 +23,8 @@ impl<T: Content, L: Local> Board<T, L> {
         requires full { AmongCells seat.old.token.me.0.filled cell }
         requires idle { seat.old.token.me.0.turn ≡ None }
         ensures same { SameSeat seat.old seat.new }
-        ensures told { took T.opens T.follows L.goes (step 0 cell 1 0 none) seat.old.token.me result seat.new.token.me }
+        ensures told { took T.opens T.follows L.goes
+            (step 0 cell 1 0 none) seat.old.token.me result seat.new.token.me }
     {
         self.table
             .shared
@@ -34,10 +35,12 @@ impl<T: Content, L: Local> Board<T, L> {
     /// which is even.
     pub fn reach_turn(&self, seat: &mut Seat<T>, cell: u16) -> u64
         requires here { seat.old.token.table_id ≡ self.now.table.shared.table_id }
-        requires cell { (168 ≤ cell) × (cell < self.now.table.shared.table_id.words) × (cell < 168 + self.now.table.shared.table_id.slots) }
+        requires cell { (168 ≤ cell) × (cell < self.now.table.shared.table_id.words)
+            × (cell < 168 + self.now.table.shared.table_id.slots) }
         requires alone { (seat.old.first ≡ true) × (seat.old.split ≡ seat.old.joined) }
         requires idle { seat.old.token.me.0.turn ≡ None }
-        requires unstepped { NoSteps cell seat.old.token.me.0.made × NoneOfThem cell seat.old.token.me.0.joined }
+        requires unstepped { NoSteps cell seat.old.token.me.0.made
+            × NoneOfThem cell seat.old.token.me.0.joined }
         ensures same { SameSeat seat.old seat.new }
         ensures told { reached (step 0 cell 1 0 none) seat.old.token.me result seat.new.token.me }
     {
@@ -53,10 +56,13 @@ impl<T: Content, L: Local> Board<T, L> {
         requires here { seat.old.token.table_id ≡ self.now.table.shared.table_id }
         requires site { cell < self.now.table.shared.table_id.words }
         requires step { D.made ≡ record { site = cell; act = D.made.act; word = word; moved = D.made.moved } }
-        requires held { (before : ℕ) × (old : T) × (new : T) × HasTurn T.opens T.follows seat.old.token.me cell before (Some new) old × WordMay cell before D.made.act word × T.follows old D.made.act D.made.moved new }
+        requires held { (before : ℕ) × (old : T) × (new : T)
+            × HasTurn T.opens T.follows seat.old.token.me cell before (Some new) old
+            × WordMay cell before D.made.act word × T.follows old D.made.act D.made.moved new }
         requires goes { L.goes seat.old.token.me.0.image seat.old.token.me.0.name seat.old.token.me.0.made D.made }
         ensures same { SameSeat seat.old seat.new }
-        ensures told { recorded_by T.opens T.follows L.goes D.made (step 0 cell word 0 none) seat.old.token.me word seat.new.token.me }
+        ensures told { recorded_by T.opens T.follows L.goes D.made
+            (step 0 cell word 0 none) seat.old.token.me word seat.new.token.me }
     {
         self.table
             .shared
@@ -69,7 +75,8 @@ impl<T: Content, L: Local> Board<T, L> {
         requires site { cell < self.now.table.shared.table_id.words }
         requires held { (x : T) × HasTurn T.opens T.follows seat.old.token.me cell word (Some x) x }
         ensures same { SameSeat seat.old seat.new }
-        ensures told { returned seat.old.token.me.0.filled (step 0 cell word 0 none) seat.old.token.me word seat.new.token.me }
+        ensures told { returned seat.old.token.me.0.filled
+            (step 0 cell word 0 none) seat.old.token.me word seat.new.token.me }
     {
         self.table
             .shared
@@ -82,7 +89,8 @@ impl<T: Content, L: Local> Board<T, L> {
         requires site { cell < self.now.table.shared.table_id.words }
         requires held { (x : T) × HasTurn T.opens T.follows seat.old.token.me cell word (Some x) x }
         ensures same { SameSeat seat.old seat.new }
-        ensures told { returned (cell ∷ seat.old.token.me.0.filled) (step 0 cell word 0 none) seat.old.token.me word seat.new.token.me }
+        ensures told { returned (cell ∷ seat.old.token.me.0.filled)
+            (step 0 cell word 0 none) seat.old.token.me word seat.new.token.me }
     {
         self.table
             .shared
