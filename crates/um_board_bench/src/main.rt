@@ -1,28 +1,17 @@
 //! Makes steps on a board, or the same work on plain atomic words or under locks, in as many threads as it is asked for, and
-//! prints how many steps were made. The measurement of the speed of the board runs it. Its tests are those of the calls on a board.
+//! prints how many steps were made. The measurement of the speed of the board runs it.
 #![tactic(auto)]
 
-mod blank;
-#[cfg(test)]
-mod cell_tests;
 mod plain;
-mod play;
-mod seated;
-mod tally;
-#[cfg(test)]
-mod tests;
-mod work;
 
-use blank::{board_of, last_word, words_with};
 use plain::{atomics, changes_by, exchanges_by, locks};
 use std::alloc::Global;
 use std::env::{self, Env};
 use std::process::ExitCode;
 use std::sync::Wait;
 use std::thread::Threads;
-use tally::Tally;
 use um_base::OutOfMemory;
-use work::{Job, work_by};
+use um_seated::{Job, words_with, worked};
 
 /// The words of a board without cells.
 const WORDS: u16 = 168;
@@ -67,28 +56,6 @@ fn read_asked<R: Env + AllocGlobal>(rt: &R) -> Option<Asked> {
         own,
         times,
     })
-}
-
-/// What this many threads made on a board of these words, and the word of a site at its end.
-fn worked<R: Threads + Sync>(
-    rt: &R,
-    alloc: Global,
-    words: Vec<u64>,
-    job: Job,
-    threads: u8,
-    site: u16,
-) -> Result<Option<(Tally, u64)>, OutOfMemory> {
-    if words.len() < 160 || usize::from(site) >= words.len() {
-        return Ok(None);
-    }
-    let Some((board, seat)) = board_of(alloc, words)? else {
-        return Ok(None);
-    };
-    let (seat, tally) = work_by(rt, &board, seat, job, threads);
-    match last_word(board, seat, site) {
-        Some(word) => Ok(Some((tally, word))),
-        None => Ok(None),
-    }
 }
 
 /// How many steps were made.

@@ -17,7 +17,8 @@ fn fill<T: Content + Drop, L: Local>(
     contents: T,
 )
     requires here { seat.old.token.table_id ≡ board.now.table.shared.table_id }
-    requires cell { (168 ≤ cell) × (cell < board.now.table.shared.table_id.words) × (cell < 168 + board.now.table.shared.table_id.slots) }
+    requires cell { (168 ≤ cell) × (cell < board.now.table.shared.table_id.words)
+        × (cell < 168 + board.now.table.shared.table_id.slots) }
     requires alone { (seat.old.first ≡ true) × (seat.old.split ≡ seat.old.joined) }
     requires idle { seat.old.token.me.0.turn ≡ None }
     requires unstepped { NoSteps cell seat.old.token.me.0.made × NoneOfThem cell seat.old.token.me.0.joined }
@@ -47,11 +48,14 @@ impl<T: Content + Drop> Cells<T> {
         contents: Vec<T>,
     ) -> Cells<T>
         requires here { seat.old.token.table_id ≡ board.now.table.shared.table_id }
-        requires cells { (168 ≤ first) × (first + length contents.items ≤ board.now.table.shared.table_id.words) × (first + length contents.items ≤ 168 + board.now.table.shared.table_id.slots) }
+        requires cells { (168 ≤ first)
+            × (first + length contents.items ≤ board.now.table.shared.table_id.words)
+            × (first + length contents.items ≤ 168 + board.now.table.shared.table_id.slots) }
         requires few { first + length contents.items < 65536 }
         requires alone { (seat.old.first ≡ true) × (seat.old.split ≡ seat.old.joined) }
         requires idle { seat.old.token.me.0.turn ≡ None }
-        requires unstepped { (i : ℕ) → first ≤ i → i < first + length contents.items → NoSteps i seat.old.token.me.0.made × NoneOfThem i seat.old.token.me.0.joined }
+        requires unstepped { (i : ℕ) → first ≤ i → i < first + length contents.items
+            → NoSteps i seat.old.token.me.0.made × NoneOfThem i seat.old.token.me.0.joined }
         requires opens { Opens T.opens seat.old.token.me.0.image first contents.items }
         ensures cells { (result.first ≡ first) × (result.count ≡ length contents.items) }
         ensures same { SameSeat seat.old seat.new }

@@ -17,7 +17,8 @@ fn fill_slot<T: Content, L: Local>(board: &Board<T, L>, seat: &mut Seat<T>, cell
     requires cell { 168 ≤ cell }
     requires empty { seat.old.token.me.1 ≡ (cell - 168, None) ∷ rest seat.old.token.me.1 }
     ensures same { SameSeat seat.old seat.new }
-    ensures filled { seat.new.token.me ≡ (seat.old.token.me.0, (cell - 168, Some contents) ∷ rest seat.old.token.me.1) }
+    ensures filled { seat.new.token.me ≡
+        (seat.old.token.me.0, (cell - 168, Some contents) ∷ rest seat.old.token.me.1) }
 {
     let slot = (cell - 168) as usize;
     let emptied = board
@@ -40,8 +41,10 @@ impl<T: Content> Cells<T> {
         next: u64,
     ) -> u32
         requires at { AtCell board.now.table.shared.table_id seat.old self.now held.cell }
-        requires step { D.made ≡ record { site = held.cell; act = D.made.act; word = next; moved = D.made.moved } }
-        requires held { (old : T) × HasTurn T.opens T.follows seat.old.token.me held.cell held.word None old × T.follows old D.made.act D.made.moved held.contents }
+        requires step { D.made
+            ≡ record { site = held.cell; act = D.made.act; word = next; moved = D.made.moved } }
+        requires held { (old : T) × HasTurn T.opens T.follows seat.old.token.me held.cell held.word None old
+            × T.follows old D.made.act D.made.moved held.contents }
         requires lawful { WordMay held.cell held.word D.made.act next }
         requires goes { L.goes seat.old.token.me.0.image seat.old.token.me.0.name seat.old.token.me.0.made D.made }
         ensures same { SameSeat seat.old seat.new }
@@ -62,7 +65,9 @@ impl<T: Content> Cells<T> {
         ensures same { SameSeat seat.old seat.new }
         ensures kin { KeepsKin seat.old.token.me.0 seat.new.token.me.0 }
         ensures idle { seat.new.token.me.0.turn ≡ None }
-        ensures told { (seat.new.token.me.1 ≡ rest seat.old.token.me.1) × (seat.new.token.me.0 ≡ returning seat.old.token.me.0 held.cell held.word seat.old.token.me.0.filled) }
+        ensures told { (seat.new.token.me.1 ≡ rest seat.old.token.me.1)
+            × (seat.new.token.me.0
+            ≡ returning seat.old.token.me.0 held.cell held.word seat.old.token.me.0.filled) }
     {
         let Held {
             cell,

@@ -23,9 +23,16 @@ impl<T: Content> Cells<T> {
         requires idle { seat.old.token.me.0.turn ≡ None }
         ensures same { SameSeat seat.old seat.new }
         ensures kin { KeepsKin seat.old.token.me.0 seat.new.token.me.0 }
-        ensures held { MatchResult result (λ h. (h.cell ≡ cell) × HasTurn T.opens T.follows seat.new.token.me cell h.word None h.contents) (λ b. Stays seat.old seat.new) }
-        ensures slots { MatchResult result (λ h. rest seat.new.token.me.1 ≡ seat.old.token.me.1) (λ b. seat.new.token.me.1 ≡ seat.old.token.me.1) }
-        ensures told { MatchResult result (λ h. (h.word % 2 ≡ 0) × Took T.opens T.follows L.goes seat.old.token.me.0 cell h.word (Some (h.contents)) seat.new.token.me.0) (λ b. (b.word % 2 ≡ 1) × Looked L.goes seat.old.token.me.0 cell b.word seat.new.token.me.0) }
+        ensures held { MatchResult result
+            (λ h. (h.cell ≡ cell) × HasTurn T.opens T.follows seat.new.token.me cell h.word None h.contents)
+            (λ b. Stays seat.old seat.new) }
+        ensures slots { MatchResult result (λ h. rest seat.new.token.me.1 ≡ seat.old.token.me.1)
+            (λ b. seat.new.token.me.1 ≡ seat.old.token.me.1) }
+        ensures told { MatchResult result
+            (λ h. (h.word % 2 ≡ 0)
+            × Took T.opens T.follows L.goes seat.old.token.me.0 cell h.word
+            (Some (h.contents)) seat.new.token.me.0)
+            (λ b. (b.word % 2 ≡ 1) × Looked L.goes seat.old.token.me.0 cell b.word seat.new.token.me.0) }
     {
         let word = board.take_turn(seat, cell);
         if word % 2 == 1 {

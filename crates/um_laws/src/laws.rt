@@ -39,15 +39,32 @@ ghost use Rattle.um_invariants.specs.Described.{IsDescribed};
 ///
 /// So each run of an image that a description gives obeys all of them (`obeys`).
 pub fn every_run()
-    ensures accesses { (image : Image) (before : List Event) (event : Event) (s s2 : State) → IsRun image before s → Step s event s2 → WasAllowed s event }
-    ensures verdicts { (image : Image) (before : List Event) (event : Event) (s s2 : State) → IsRun image before s → Step s event s2 → IsVerdict s event }
-    ensures origins { (image : Image) (before : List Event) (event : Event) (s s2 : State) → IsDescribed image → IsRun image before s → Step s event s2 → IsOwned image before s event }
-    ensures turns { (image : Image) (events : List Event) (s : State) → IsDescribed image → IsRun image events s → (a : ℕ) → InTurns born (marks a events) }
-    ensures lives { (image : Image) (before middle : List Event) (birth rebirth : Event) (a : Addr) (s s2 : State) → IsDescribed image → IsRun image (before ++ birth ∷ middle) s → Step s rebirth s2 → birth.act ≡ Act.Born a → rebirth.act ≡ Act.Born a → IsWithoutBirth a middle → marks a.0 middle ≡ gone ∷ recycled ∷ [] }
-    ensures ends { (image : Image) (before : List Event) (event : Event) (a : Addr) (s s2 : State) → IsDescribed image → IsRun image before s → Step s event s2 → event.act ≡ Act.Recycle a → WasBornAndGone (marks a.0 before) }
-    ensures holds { (image : Image) (before middle : List Event) (check recycle : Event) (a : Addr) (kind : Option Kind) (want : Want) (s s2 : State) → IsDescribed image → IsRun image (before ++ check ∷ middle) s → Step s recycle s2 → check.act ≡ Act.Check a kind want None → IsInCall check.thread.0 middle → ¬ (recycle.act ≡ Act.Recycle a) }
-    ensures recycles { (image : Image) (before : List Event) (event : Event) (s s2 : State) → IsRun image before s → Step s event s2 → IsUnheld s event }
-    ensures inheritances { (image : Image) (before : List Event) (event : Event) (s s2 : State) → IsRun image before s → Step s event s2 → IsOfItsCreator s event }
-    ensures service { (image : Image) (before : List Event) (event : Event) (s s2 : State) → IsRun image before s → Step s event s2 → IsInOrderOfService s event }
-    ensures obeys { (image : Image) (events : List Event) (s : State) → IsDescribed image → IsRun image events s → ObeysLaws image events }
+    ensures accesses { (image : Image) (before : List Event) (event : Event) (s s2 : State)
+        → IsRun image before s → Step s event s2 → WasAllowed s event }
+    ensures verdicts { (image : Image) (before : List Event) (event : Event) (s s2 : State)
+        → IsRun image before s → Step s event s2 → IsVerdict s event }
+    ensures origins { (image : Image) (before : List Event) (event : Event) (s s2 : State)
+        → IsDescribed image → IsRun image before s → Step s event s2 → IsOwned image before s event }
+    ensures turns { (image : Image) (events : List Event) (s : State) → IsDescribed image
+        → IsRun image events s → (a : ℕ) → InTurns born (marks a events) }
+    ensures lives { (image : Image) (before middle : List Event) (birth rebirth : Event) (a : Addr)
+        (s s2 : State) → IsDescribed image → IsRun image (before ++ birth ∷ middle) s → Step s rebirth s2
+        → birth.act ≡ Act.Born a → rebirth.act ≡ Act.Born a → IsWithoutBirth a middle
+        → marks a.0 middle ≡ gone ∷ recycled ∷ [] }
+    ensures ends { (image : Image) (before : List Event) (event : Event) (a : Addr) (s s2 : State)
+        → IsDescribed image → IsRun image before s → Step s event s2 → event.act ≡ Act.Recycle a
+        → WasBornAndGone (marks a.0 before) }
+    ensures holds { (image : Image) (before middle : List Event) (check recycle : Event) (a : Addr)
+        (kind : Option Kind) (want : Want) (s s2 : State) → IsDescribed image
+        → IsRun image (before ++ check ∷ middle) s → Step s recycle s2
+        → check.act ≡ Act.Check a kind want None → IsInCall check.thread.0 middle
+        → ¬ (recycle.act ≡ Act.Recycle a) }
+    ensures recycles { (image : Image) (before : List Event) (event : Event) (s s2 : State)
+        → IsRun image before s → Step s event s2 → IsUnheld s event }
+    ensures inheritances { (image : Image) (before : List Event) (event : Event) (s s2 : State)
+        → IsRun image before s → Step s event s2 → IsOfItsCreator s event }
+    ensures service { (image : Image) (before : List Event) (event : Event) (s s2 : State)
+        → IsRun image before s → Step s event s2 → IsInOrderOfService s event }
+    ensures obeys { (image : Image) (events : List Event) (s : State) → IsDescribed image
+        → IsRun image events s → ObeysLaws image events }
 {}

@@ -124,11 +124,17 @@ pub fn call_row<T: Content, L: Local>(
     requires at { AtRow board.now.table.shared.table_id seat.old row.0 asked.seen }
     requires fits { IsTrue (fits_row asked.call (row_of asked.seen)) }
     requires cleans { asked.call ≡ RowCall.Vacate → Cleans row.0 seat.old.token.me.0 }
-    requires goes { MayNext L.goes seat.old row.0 asked.seen (row_act asked.by asked.call (row_of asked.seen)) }
+    requires goes { MayNext L.goes seat.old row.0 asked.seen
+        (row_act asked.by asked.call (row_of asked.seen)) }
     ensures stays { Stays seat.old seat.new }
-    ensures told { Records L.goes seat.old row.0 asked.seen (row_act asked.by asked.call (row_of asked.seen)) result seat.new }
+    ensures told { Records L.goes seat.old row.0 asked.seen
+        (row_act asked.by asked.call (row_of asked.seen)) result seat.new }
     ensures answer { IfOk result (λ answer. answer ≡ answer_of asked.by asked.call (row_of asked.seen)) }
-    ensures cleaner { IfOk result (λ answer. IfDropped answer (λ dropped. TellsCleaning row.0 asked.seen (row_act asked.by asked.call (row_of asked.seen)) seat.old.token.me.0 dropped seat.new.token.me.0 × (is_to_clean dropped ≡ true → Cleans row.0 seat.new.token.me.0))) }
+    ensures cleaner { IfOk result
+        (λ answer. IfDropped answer
+        (λ dropped. TellsCleaning row.0 asked.seen
+        (row_act asked.by asked.call (row_of asked.seen)) seat.old.token.me.0 dropped seat.new.token.me.0
+        × (is_to_clean dropped ≡ true → Cleans row.0 seat.new.token.me.0))) }
     ensures once { CleansOnce L.goes seat.old.token.me.0 row.0 }
 {
     let act = asked.call.act(asked.by);

@@ -130,9 +130,12 @@ pub fn call_domain<T: Content, L: Local>(
 ) -> Result<Outcome<DomWord>, Changed>
     requires at { AtDomain board.now.table.shared.table_id seat.old domain asked.seen }
     requires fits { IsTrue (fits_domain domain asked.call (domain_in asked.seen)) }
-    requires goes { MayNext L.goes seat.old (domain_site domain) asked.seen (domain_act asked.by domain asked.call) }
+    requires goes { MayNext L.goes seat.old (domain_site domain) asked.seen
+        (domain_act asked.by domain asked.call) }
     ensures stays { Stays seat.old seat.new }
-    ensures told { Tells L.goes seat.old (domain_site domain) asked.seen (forbids_domain asked.call (domain_in asked.seen)) (domain_act asked.by domain asked.call) (domain_in asked.seen) result seat.new }
+    ensures told { Tells L.goes seat.old (domain_site domain) asked.seen
+        (forbids_domain asked.call (domain_in asked.seen)) (domain_act asked.by domain asked.call)
+        (domain_in asked.seen) result seat.new }
 {
     let Some(before) = DomWord::unpack(asked.seen) else {
         unreachable!();

@@ -26,7 +26,8 @@ pub fn forbidden<W: Copy, T: Content, L: Local>(
 ) -> Result<Outcome<W>, Changed>
     requires at { AtPlace board.now.table.shared.table_id seat.old place seen }
     ensures stays { Stays seat.old seat.new }
-    ensures told { (act : FineAct) (says : W) → Tells L.goes seat.old (site_of place) seen true act says result seat.new }
+    ensures told { (act : FineAct) (says : W)
+        → Tells L.goes seat.old (site_of place) seen true act says result seat.new }
 {
     let word = board.look(seat, site_of(place));
     if word != seen {

@@ -140,9 +140,12 @@ pub fn call_thread<T: Content, L: Local>(
 ) -> Result<Outcome<ThreadWord>, Changed>
     requires at { AtThread board.now.table.shared.table_id seat.old who.0 asked.seen }
     requires fits { IsTrue (fits_thread asked.call (thread_in asked.seen)) }
-    requires goes { MayNext L.goes seat.old (thread_site who.0) asked.seen (thread_act asked.by who asked.call) }
+    requires goes { MayNext L.goes seat.old (thread_site who.0) asked.seen
+        (thread_act asked.by who asked.call) }
     ensures stays { Stays seat.old seat.new }
-    ensures told { Tells L.goes seat.old (thread_site who.0) asked.seen (forbids_thread asked.call (thread_in asked.seen)) (thread_act asked.by who asked.call) (thread_in asked.seen) result seat.new }
+    ensures told { Tells L.goes seat.old (thread_site who.0) asked.seen
+        (forbids_thread asked.call (thread_in asked.seen)) (thread_act asked.by who asked.call)
+        (thread_in asked.seen) result seat.new }
 {
     let Some(before) = ThreadWord::unpack(asked.seen) else {
         unreachable!();

@@ -46,8 +46,10 @@ pub fn check<T: Content, L: Local>(
     requires kind { kind ≡ None → fits ≡ true }
     requires goes { MayNext L.goes seat.old row.0 seen (check_act who mode kind fits want addr seen) }
     ensures stays { Stays seat.old seat.new }
-    ensures told { Records L.goes seat.old row.0 seen (check_act who mode kind fits want addr seen) result seat.new }
-    ensures answer { IfOk result (λ checked. checked ≡ checked_of (verdict_of (row_of seen) who.0 mode fits want)) }
+    ensures told { Records L.goes seat.old row.0 seen
+        (check_act who mode kind fits want addr seen) result seat.new }
+    ensures answer { IfOk result
+        (λ checked. checked ≡ checked_of (verdict_of (row_of seen) who.0 mode fits want)) }
 {
     let act = RowAct::Check {
         thread: who,
@@ -84,7 +86,8 @@ pub fn end_call<T: Content, L: Local>(
     ensures stays { Stays seat.old seat.new }
     ensures told { Records L.goes seat.old row.0 seen end_act result seat.new }
     ensures answer { IfOk result (λ clean. clean ≡ cleans seen) }
-    ensures cleaner { IfOk result (λ clean. TellsCleaning row.0 seen seat.old.token.me.0 clean seat.new.token.me.0) }
+    ensures cleaner { IfOk result
+        (λ clean. TellsCleaning row.0 seen seat.old.token.me.0 clean seat.new.token.me.0) }
     ensures cleans { IfOk result (λ clean. clean ≡ true → Cleans row.0 seat.new.token.me.0) }
     ensures once { CleansOnce L.goes seat.old.token.me.0 row.0 }
 {

@@ -1,0 +1,2 @@
+-- The first step of a cell.
+pub mod Wiped

@@ -1,0 +1,7 @@
+use Rattle.std.proofs.Common.{◌≡◌}
+use Rattle.um_site.specs.Lives.{Cleans}
+use Rattle.um_seated.specs.Seats.{Remains}
+use Rattle.um_seated.proofs.play.clean.Given as goal
+
+abbrev pub invariant-tries : goal.invariant-tries
+invariant-tries l = record { here : l.at.seat.token.table_id ≡ l.at.board.now.table.shared.table_id; stays : Remains l.initial.at l.at; cleans : Cleans l.row.0 l.at.seat.token.me.0 }
