@@ -1,7 +1,9 @@
--- Numbers of two digits.
-use Rattle.std.proofs.Common.{◌≡◌, ℕ, ◌/◌, ◌%◌, ◌≤◌, ◌<◌, List, ◌++◌, sym, ap, ◌∙◌, arith, append_assoc, decimal}
+-- Numbers of two digits, and hexadecimal digits.
+use Rattle.std.proofs.Common.{◌≡◌, ℕ, zero, suc, ◌/◌, ◌%◌, ◌≤◌, ◌<◌, List, ◌++◌, refl, sym, ap, ◌∙◌, arith, append_assoc, decimal, slice_index}
 use Rattle.std.proofs.lemmas.Fmt.{decimal_step, decimal_digit}
 use Rattle.std.specs.Global.{Vec}
+use Rattle.um_trace.specs.declared.room.TheConstants.{GLYPHS}
+use Rattle.um_trace.specs.Digits.{glyph_of}
 use Rattle.um_trace.specs.Room.{Puts}
 
 two_digits : (n : ℕ) → 10 ≤ n → n < 100 → decimal n ≡ decimal (n / 10) ++ decimal (n % 10)
@@ -15,3 +17,23 @@ puts_two n a b c some few tens ones = record {
   len = omega (arith, tens.len, ones.len);
   capacity = omega (arith, tens.capacity, ones.capacity);
 }
+
+-- each of the hexadecimal digits
+pub glyph_at : (d : ℕ) → d < 16 → slice_index GLYPHS d ≡ glyph_of d
+glyph_at zero h = refl
+glyph_at (suc zero) h = refl
+glyph_at (suc (suc zero)) h = refl
+glyph_at (suc (suc (suc zero))) h = refl
+glyph_at (suc (suc (suc (suc zero)))) h = refl
+glyph_at (suc (suc (suc (suc (suc zero))))) h = refl
+glyph_at (suc (suc (suc (suc (suc (suc zero)))))) h = refl
+glyph_at (suc (suc (suc (suc (suc (suc (suc zero))))))) h = refl
+glyph_at (suc (suc (suc (suc (suc (suc (suc (suc zero)))))))) h = refl
+glyph_at (suc (suc (suc (suc (suc (suc (suc (suc (suc zero))))))))) h = refl
+glyph_at (suc (suc (suc (suc (suc (suc (suc (suc (suc (suc zero)))))))))) h = refl
+glyph_at (suc (suc (suc (suc (suc (suc (suc (suc (suc (suc (suc zero))))))))))) h = refl
+glyph_at (suc (suc (suc (suc (suc (suc (suc (suc (suc (suc (suc (suc zero)))))))))))) h = refl
+glyph_at (suc (suc (suc (suc (suc (suc (suc (suc (suc (suc (suc (suc (suc zero))))))))))))) h = refl
+glyph_at (suc (suc (suc (suc (suc (suc (suc (suc (suc (suc (suc (suc (suc (suc zero)))))))))))))) h = refl
+glyph_at (suc (suc (suc (suc (suc (suc (suc (suc (suc (suc (suc (suc (suc (suc (suc zero))))))))))))))) h = refl
+glyph_at (suc (suc (suc (suc (suc (suc (suc (suc (suc (suc (suc (suc (suc (suc (suc (suc d)))))))))))))))) h = absurd (omega arith)

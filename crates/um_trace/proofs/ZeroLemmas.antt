@@ -25,7 +25,7 @@ eight_more a b c d e f g h rest none =
     rw (z1.0, z1.1, z2.1, z3.1, z4.1, z5.1, z6.1, z7.1) refl
 
 -- the same of the front of a list
-pub eight_zeros : (xs : List ℕ) → 8 ≤ length xs → bit_or (bit_or (bit_or (bit_or (bit_or (bit_or (bit_or (slice_index xs 0) (slice_index xs 1)) (slice_index xs 2)) (slice_index xs 3)) (slice_index xs 4)) (slice_index xs 5)) (slice_index xs 6)) (slice_index xs 7) ≡ 0
+eight_zeros : (xs : List ℕ) → 8 ≤ length xs → bit_or (bit_or (bit_or (bit_or (bit_or (bit_or (bit_or (slice_index xs 0) (slice_index xs 1)) (slice_index xs 2)) (slice_index xs 3)) (slice_index xs 4)) (slice_index xs 5)) (slice_index xs 6)) (slice_index xs 7) ≡ 0
     → list_all (λ (b : ℕ). b == 0) xs ≡ list_all (λ (b : ℕ). b == 0) (take (length xs - 8) (drop 8 xs))
 eight_zeros (a ∷ b ∷ c ∷ d ∷ e ∷ f ∷ g ∷ h ∷ rest) long none =
     let size : length (a ∷ b ∷ c ∷ d ∷ e ∷ f ∷ g ∷ h ∷ rest) - 8 ≡ length rest = omega arith in
@@ -38,3 +38,21 @@ eight_zeros (a ∷ b ∷ c ∷ d ∷ []) long none = absurd (omega arith)
 eight_zeros (a ∷ b ∷ c ∷ d ∷ e ∷ []) long none = absurd (omega arith)
 eight_zeros (a ∷ b ∷ c ∷ d ∷ e ∷ f ∷ []) long none = absurd (omega arith)
 eight_zeros (a ∷ b ∷ c ∷ d ∷ e ∷ f ∷ g ∷ []) long none = absurd (omega arith)
+
+-- and of sixteen
+pub sixteen_zeros : (xs : List ℕ) → 16 ≤ length xs
+    → bit_or (bit_or (bit_or (bit_or (bit_or (bit_or (bit_or (bit_or (slice_index xs 0) (slice_index xs 1)) (slice_index xs 2)) (slice_index xs 3)) (slice_index xs 4)) (slice_index xs 5)) (slice_index xs 6)) (slice_index xs 7))
+    (bit_or (bit_or (bit_or (bit_or (bit_or (bit_or (bit_or (slice_index xs 8) (slice_index xs 9)) (slice_index xs 10)) (slice_index xs 11)) (slice_index xs 12)) (slice_index xs 13)) (slice_index xs 14)) (slice_index xs 15)) ≡ 0
+    → list_all (λ (b : ℕ). b == 0) xs ≡ list_all (λ (b : ℕ). b == 0) (take (length xs - 16) (drop 16 xs))
+sixteen_zeros (a ∷ b ∷ c ∷ d ∷ e ∷ f ∷ g ∷ h ∷ rest) long none =
+    let size : length (a ∷ b ∷ c ∷ d ∷ e ∷ f ∷ g ∷ h ∷ rest) - 16 ≡ length rest - 8 = omega arith in
+    let both = or_none _ _ none in
+    rw size (eight_more a b c d e f g h rest both.0 ∙ eight_zeros rest (omega arith) both.1)
+sixteen_zeros [] long none = absurd (omega arith)
+sixteen_zeros (a ∷ []) long none = absurd (omega arith)
+sixteen_zeros (a ∷ b ∷ []) long none = absurd (omega arith)
+sixteen_zeros (a ∷ b ∷ c ∷ []) long none = absurd (omega arith)
+sixteen_zeros (a ∷ b ∷ c ∷ d ∷ []) long none = absurd (omega arith)
+sixteen_zeros (a ∷ b ∷ c ∷ d ∷ e ∷ []) long none = absurd (omega arith)
+sixteen_zeros (a ∷ b ∷ c ∷ d ∷ e ∷ f ∷ []) long none = absurd (omega arith)
+sixteen_zeros (a ∷ b ∷ c ∷ d ∷ e ∷ f ∷ g ∷ []) long none = absurd (omega arith)

@@ -1,12 +1,12 @@
 -- What is printed of a state: its threads, objects, domains, pools and memory.
-use Rattle.std.specs.Prelude.{ℕ, ◌+◌, ◌*◌, Bool, true, false, ◌==◌, ◌||◌, not, nat_lt, if◌then◌else◌, List, [], ◌∷◌, ◌++◌, length, codes, decimal, filter, Option, Some, None, position, slice_get, slice_index, slice_index_or}
+use Rattle.std.specs.Prelude.{ℕ, ◌+◌, ◌*◌, ◌/◌, Bool, true, false, ◌==◌, ◌||◌, not, nat_lt, if◌then◌else◌, List, [], ◌∷◌, ◌++◌, length, codes, decimal, filter, Option, Some, None, position, slice_get, slice_index, slice_index_or}
 use Rattle.std.specs.Fmt.{signed_decimal}
 use Rattle.std.specs.List.{flat_map, join_by, list_all, list_any, range_with_len, slice_range}
 use Rattle.um_base.specs.declared.ask.Waiter.{Waiter}
 use Rattle.um_base.specs.declared.attr.Attr.{Attr}
 use Rattle.um_base.specs.declared.image.Image.{Image}
 use Rattle.um_base.specs.declared.image.Pool.{Pool}
-use Rattle.um_base.specs.declared.limits.TheConstants.{ROWS, THREADS, PARTITION_AREA, STACK_AREA}
+use Rattle.um_base.specs.declared.limits.TheConstants.{ROWS, THREADS, PARTITION_AREA, STACK_AREA, AREA_SIZE}
 use Rattle.um_base.specs.declared.names.Kind.{Kind}
 use Rattle.um_base.specs.declared.names.Range.{Range}
 use Rattle.um_base.specs.declared.names.ThreadIx.{ThreadIx}
@@ -19,7 +19,6 @@ use Rattle.um_machine.specs.declared.thread.Thread.{Thread}
 use Rattle.um_machine.specs.State.{State, thread_at, object_at, pair_at, is_started}
 use Rattle.um_machine.specs.Objects.{is_free, is_gone}
 use Rattle.um_machine.specs.Order.{to_row}
-use Rattle.um_trace.specs.declared.dump.memory.TheConstants.{BLOCKS}
 use Rattle.um_trace.specs.declared.dump.standing.Standing.{Standing}
 use Rattle.um_trace.specs.Digits.{address, hex2}
 use Rattle.um_trace.specs.Words.{any_kind_word}
@@ -204,9 +203,9 @@ block_line area bytes k =
     if list_all (λ b. b == 0) (block bytes k) then []
     else codes "memory " ++ address (area + 32 * k) ++ codes " " ++ flat_map hex2 (block bytes k) ++ codes "\n"
 
--- the lines of an area
+-- the lines of an area, which has a block for each 32 of its bytes
 unfoldable pub area_lines : ℕ → List ℕ → List ℕ
-area_lines area bytes = flat_map (block_line area bytes) (numbers BLOCKS)
+area_lines area bytes = flat_map (block_line area bytes) (numbers (AREA_SIZE / 32))
 
 -- The dump: threads by index, objects by row, domains, pools, and both areas of memory.
 unfoldable pub dump : Image → State → List ℕ

@@ -1,13 +1,12 @@
--- The rows of the threads' own objects.
-use Rattle.std.specs.Prelude.{◌≡◌, ℕ, ◌<◌, List, slice_index}
+-- The rows of the threads' own objects, and whether objects stand apart.
+use Rattle.std.specs.Prelude.{◌≡◌, ℕ, ◌<◌, List, length, Some, slice_index}
 use Rattle.um_base.specs.declared.image.Image.{Image}
-use Rattle.um_base.specs.declared.limits.TheConstants.{THREADS}
-use Rattle.um_base.specs.Places.{own_row}
+use Rattle.um_base.specs.Places.{own_row, row_at, addr_of}
 
--- the row of a thread's own object stands at its thread index
-abbrev pub IsOwnRow : Image → ℕ → ℕ → Type 0
-IsOwnRow image t row = (row ≡ own_row image t) × (row < 1000)
+-- the rows of the own objects of the first threads stand at their thread indices
+abbrev pub OwnRows : Image → List ℕ → ℕ → Type 0
+OwnRows image rows n = (t : ℕ) → t < n → slice_index rows t ≡ own_row image t
 
--- so it is for each thread
-abbrev pub OwnRows : Image → List ℕ → Type 0
-OwnRows image rows = (t : ℕ) → t < THREADS → IsOwnRow image t (slice_index rows t)
+-- each static object is the first at its address
+abbrev pub AreApart : Image → Type 0
+AreApart image = (x : ℕ) → x < length image.objects → row_at image (addr_of image x) ≡ Some x

@@ -5,7 +5,6 @@ use Rattle.um_base.specs.declared.act.Act.{Act}
 use Rattle.um_base.specs.declared.act.Event.{Event}
 use Rattle.um_base.specs.declared.image.Image.{Image}
 use Rattle.um_machine.specs.State.{State}
-use Rattle.um_trace.specs.declared.dump.TheConstants.{DUMP_ROOM}
 use Rattle.um_trace.specs.Acts.{event_line}
 use Rattle.um_trace.specs.Dump.{dump}
 
@@ -17,9 +16,12 @@ abbrev pub woken_by : Act → ℕ
 woken_by (Act.Work addr answer woken) = length woken
 woken_by _ = 0
 
--- how many bytes an event's line has at most, and those of a whole text
+-- how many bytes an event's line has at most, and a dump, and a whole text
 abbrev pub line_room : Event → ℕ
 line_room event = 128 + 64 * woken_by event.act
 
+abbrev pub dump_room : ℕ
+dump_room = 3_000_000
+
 unfoldable pub room_for : List Event → ℕ
-room_for events = DUMP_ROOM + sum_by line_room events
+room_for events = dump_room + sum_by line_room events

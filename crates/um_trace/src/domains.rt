@@ -8,10 +8,11 @@ ghost use Rattle.um_trace.specs.{
 };
 
 use self::Operand::{Alone, Part, Thread};
+use crate::indexed::Indexed;
 use crate::names::{put_domain, put_of, put_part, put_reply};
 use crate::room::{put_space, put_text};
 use crate::threads::put_thread_act;
-use um_base::{Act, Attr, Image, Range, Reply, ThreadIx};
+use um_base::{Act, Attr, Range, Reply, ThreadIx};
 
 /// What a call on a domain is about besides the domain.
 #[derive(Clone, Copy)]
@@ -25,7 +26,7 @@ pub enum Operand {
 }
 
 /// What a call is about, with a space before it.
-fn put_operand(room: &mut Vec<u8>, image: &Image, operand: Operand)
+fn put_operand(room: &mut Vec<u8>, image: &Indexed, operand: Operand)
     requires { vec_len room.old + 34 ≤ vec_capacity room.old }
     ensures { Puts room.old room.new (operand_text image.now operand) 34 }
 {
@@ -42,7 +43,7 @@ fn put_operand(room: &mut Vec<u8>, image: &Image, operand: Operand)
 /// A call on a domain, with what it is answered.
 fn put_call(
     room: &mut Vec<u8>,
-    image: &Image,
+    image: &Indexed,
     word: &str,
     domain: u8,
     operand: Operand,
@@ -53,7 +54,7 @@ fn put_call(
 {
     put_text(room, "domain ");
     put_text(room, word);
-    put_domain(room, image, domain);
+    put_domain(room, image.image(), domain);
     put_operand(room, image, operand);
     put_space(room);
     put_reply(room, image, reply);
@@ -61,7 +62,7 @@ fn put_call(
 
 /// The text of an act on a domain, or of what a thread does by itself. Of any other it puts nothing.
 #[tactic(auto, unfolding(crate::specs::Acts::domain_act_text))]
-pub fn put_domain_act(room: &mut Vec<u8>, image: &Image, act: &Act)
+pub fn put_domain_act(room: &mut Vec<u8>, image: &Indexed, act: &Act)
     requires { vec_len room.old + 100 ≤ vec_capacity room.old }
     ensures { Puts room.old room.new (domain_act_text image.now act.now) 100 }
 {

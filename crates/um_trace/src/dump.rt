@@ -11,8 +11,9 @@ pub mod standing;
 mod state;
 mod threads;
 
+use crate::indexed::Indexed;
 use crate::room::put_text;
-use um_base::{Image, PARTITION_AREA, STACK_AREA};
+use um_base::{PARTITION_AREA, STACK_AREA};
 use um_matrix::Matrix;
 
 /// How many bytes a dump takes at most.
@@ -20,15 +21,15 @@ pub const DUMP_ROOM: usize = 3_000_000;
 
 /// The dump of a state: threads, objects, domains, pools and memory.
 #[tactic(auto, unfolding(crate::specs::Dump::dump))]
-pub fn put_dump(room: &mut Vec<u8>, image: &Image, last: &Matrix)
+pub fn put_dump(room: &mut Vec<u8>, image: &Indexed, last: &Matrix)
     requires { vec_len room.old + DUMP_ROOM ≤ vec_capacity room.old }
     ensures { Puts room.old room.new (dump image.now last.now) DUMP_ROOM }
 {
     put_text(room, "dump\n");
-    threads::put_threads(room, image, last);
+    threads::put_threads(room, image.image(), last);
     objects::put_objects(room, image, last);
-    domains::put_domains(room, image, last);
-    domains::put_pools(room, image, last);
+    domains::put_domains(room, image.image(), last);
+    domains::put_pools(room, image.image(), last);
     memory::put_area(room, PARTITION_AREA, last.memory());
     memory::put_area(room, STACK_AREA, last.stacks());
 }

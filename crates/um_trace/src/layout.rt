@@ -7,7 +7,7 @@ ghost use Rattle.um_trace.specs.{
 };
 
 use crate::memory::put_range;
-use crate::room::{put, put_address, put_decimal, put_newline, put_space, put_text};
+use crate::room::{put_address, put_decimal, put_newline, put_short, put_space, put_text};
 use um_base::{Image, Name, ObjectDef, Partition, Range, Setup};
 use um_vocabulary::{attr_word, kind_word};
 
@@ -33,7 +33,7 @@ fn put_named(room: &mut Vec<u8>, word: &str, name: &Name)
     ensures { Puts room.old room.new (word.now ++ name.now ++ codes " ") (length word.now + 25) }
 {
     put_text(room, word);
-    put(room, name.as_slice());
+    put_short(room, name.as_slice());
     put_space(room);
 }
 
@@ -46,7 +46,7 @@ fn put_partition(room: &mut Vec<u8>, partition: &Partition)
     put_named(room, "partition ", &partition.name);
     put_range(room, partition.range.start, partition.range.size);
     put_space(room);
-    put(room, attr_word(partition.attr));
+    put_short(room, attr_word(partition.attr));
     put_newline(room);
 }
 
@@ -72,7 +72,7 @@ fn put_place(room: &mut Vec<u8>, object: &ObjectDef)
     ensures { Puts room.old room.new (place_line object.now) 72 }
 {
     put_named(room, "object ", &object.name);
-    put(room, kind_word(object.kind));
+    put_short(room, kind_word(object.kind));
     put_space(room);
     put_address(room, object.addr);
     put_stack_size(room, object.setup);

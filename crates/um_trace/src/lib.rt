@@ -5,13 +5,13 @@
 mod domains;
 mod dump;
 mod heap;
+mod indexed;
 mod layout;
 mod lines;
 mod memory;
 mod names;
 mod objects;
 mod pairs;
-mod places;
 mod room;
 mod summary;
 mod threads;

@@ -4,6 +4,7 @@ ghost use Rattle.std.specs.Prelude.{◌≡◌, ◌≤◌, ◌++◌, codes, vec_c
 ghost use Rattle.um_trace.specs.{Acts.{event_line}, Dump.{dump}, Names.{thread_text}};
 
 use crate::dump::{DUMP_ROOM, put_dump};
+use crate::indexed::Indexed;
 use crate::names::put_thread;
 use crate::room::{put_space, put_text};
 use crate::trace::{put_event, woken_by};
@@ -21,7 +22,7 @@ pub fn line_text(image: &Image, event: &Event, room: &mut Vec<u8>)
 {
     room.clear();
     let _few = woken_by(&event.act);
-    put_event(room, image, event);
+    put_event(room, &Indexed::of_lines(image), event);
 }
 
 /// Writes what the lines of a thread begin with, in place of what stands in a room: the thread, and a space.
@@ -31,7 +32,7 @@ pub fn thread_beginning(image: &Image, thread: u8, room: &mut Vec<u8>)
     ensures capacity { vec_capacity room.old ≤ vec_capacity room.new }
 {
     room.clear();
-    put_thread(room, image, thread);
+    put_thread(room, &Indexed::of_lines(image), thread);
     put_space(room);
 }
 
@@ -41,5 +42,5 @@ pub fn dump_text(image: &Image, last: &Matrix, room: &mut Vec<u8>)
     ensures { room.new.items ≡ dump image.now last.now }
 {
     room.clear();
-    put_dump(room, image, last);
+    put_dump(room, &Indexed::of_text(image), last);
 }

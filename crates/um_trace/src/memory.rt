@@ -9,11 +9,12 @@ ghost use Rattle.um_trace.specs.{
   Words.{reach_word},
 };
 
+use crate::indexed::Indexed;
 use crate::names::put_row;
 use crate::objects::put_object_act;
-use crate::room::{put, put_address, put_decimal, put_space, put_text, put_value};
+use crate::room::{put_address, put_decimal, put_short, put_space, put_text, put_value};
 use crate::words::{Said, put_said};
-use um_base::{Act, Addr, Found, Image};
+use um_base::{Act, Addr, Found};
 use um_vocabulary::access_word;
 
 /// Bytes of memory.
@@ -62,7 +63,7 @@ fn put_found(room: &mut Vec<u8>, found: Found)
 
 /// The text of an act.
 #[tactic(auto, unfolding(crate::specs::Acts::act_text))]
-pub fn put_act(room: &mut Vec<u8>, image: &Image, act: &Act)
+pub fn put_act(room: &mut Vec<u8>, image: &Indexed, act: &Act)
     requires { vec_len room.old + 100 + 64 * woken_by act.now ≤ vec_capacity room.old }
     ensures { Puts room.old room.new (act_text image.now act.now) (100 + 64 * woken_by act.now) }
 {
@@ -81,7 +82,7 @@ pub fn put_act(room: &mut Vec<u8>, image: &Image, act: &Act)
         }
         Act::Fault { access, addr, size } => {
             put_text(room, "fault ");
-            put(room, access_word(*access));
+            put_short(room, access_word(*access));
             put_space(room);
             put_range(room, *addr, *size);
         }
@@ -96,7 +97,7 @@ pub fn put_act(room: &mut Vec<u8>, image: &Image, act: &Act)
         }
         Act::Erase { stack } => {
             put_text(room, "erase ");
-            put_row(room, image, stack.0 as usize);
+            put_row(room, image.image(), stack.0 as usize);
         }
         _ => put_object_act(room, image, act),
     }

@@ -6,10 +6,9 @@ ghost use Rattle.um_trace.specs.{
   Room.{Puts},
 };
 
-use crate::places::own_row;
-use crate::room::{put, put_address, put_decimal, put_short, put_text};
+use crate::indexed::Indexed;
+use crate::room::{put_address, put_decimal, put_short, put_text};
 use um_base::{Addr, Attr, Image, Range, Reply, STATIC_ROWS, ThreadIx};
-use um_steps::rows::row_at;
 use um_vocabulary::{attr_word, errno_word};
 
 /// The object of a row: a static one by its name, the dynamic address j as `#j`.
@@ -30,21 +29,21 @@ pub fn put_row(room: &mut Vec<u8>, image: &Image, row: usize)
 
 /// A thread, by its thread object.
 #[tactic(auto, unfolding(crate::specs::Names::thread_text))]
-pub fn put_thread(room: &mut Vec<u8>, image: &Image, thread: u8)
+pub fn put_thread(room: &mut Vec<u8>, image: &Indexed, thread: u8)
     requires { vec_len room.old + 24 ≤ vec_capacity room.old }
     ensures { Puts room.old room.new (thread_text image.now thread) 24 }
 {
-    put_row(room, image, own_row(image, thread))
+    put_row(room, image.image(), image.own_row(thread))
 }
 
 /// An object by its address, which is shown as it is where no object stands at it.
 #[tactic(auto, unfolding(crate::specs::Names::object_text))]
-pub fn put_object(room: &mut Vec<u8>, image: &Image, addr: Addr)
+pub fn put_object(room: &mut Vec<u8>, image: &Indexed, addr: Addr)
     requires { vec_len room.old + 24 ≤ vec_capacity room.old }
     ensures { Puts room.old room.new (object_text image.now addr.0) 24 }
 {
-    match row_at(image, addr.0) {
-        Some(row) => put_row(room, image, row),
+    match image.row_at(addr.0) {
+        Some(row) => put_row(room, image.image(), row),
         None => put_address(room, addr),
     }
 }
@@ -56,7 +55,7 @@ pub fn put_domain(room: &mut Vec<u8>, image: &Image, domain: u8)
     ensures { Puts room.old room.new (domain_text image.now domain) 24 }
 {
     match image.domains.as_slice().get(domain as usize) {
-        Some(domain) => put(room, domain.name.as_slice()),
+        Some(domain) => put_short(room, domain.name.as_slice()),
         None => {}
     }
 }
@@ -71,12 +70,12 @@ pub fn put_part(room: &mut Vec<u8>, range: Range, attr: Attr)
     put_text(room, "/");
     put_decimal(room, range.size);
     put_text(room, "/");
-    put(room, attr_word(attr));
+    put_short(room, attr_word(attr));
 }
 
 /// What a call answers.
 #[tactic(auto, unfolding(crate::specs::Names::reply_text))]
-pub fn put_reply(room: &mut Vec<u8>, image: &Image, reply: Reply)
+pub fn put_reply(room: &mut Vec<u8>, image: &Indexed, reply: Reply)
     requires { vec_len room.old + 24 ≤ vec_capacity room.old }
     ensures { Puts room.old room.new (reply_text image.now reply) 24 }
 {
@@ -85,12 +84,12 @@ pub fn put_reply(room: &mut Vec<u8>, image: &Image, reply: Reply)
         Reply::Num(n) => put_decimal(room, n),
         Reply::At(addr) => put_object(room, image, addr),
         Reply::Null => put_text(room, "NULL"),
-        Reply::Fail(error) => put(room, errno_word(error)),
+        Reply::Fail(error) => put_short(room, errno_word(error)),
     }
 }
 
 /// A word, and a thread.
-pub fn put_of(room: &mut Vec<u8>, image: &Image, word: &str, thread: ThreadIx)
+pub fn put_of(room: &mut Vec<u8>, image: &Indexed, word: &str, thread: ThreadIx)
     requires { vec_len room.old + length word.now + 24 ≤ vec_capacity room.old }
     ensures { Puts room.old room.new (word.now ++ thread_text image.now thread.0) (length word.now + 24) }
 {
@@ -99,7 +98,7 @@ pub fn put_of(room: &mut Vec<u8>, image: &Image, word: &str, thread: ThreadIx)
 }
 
 /// A word, and the object at an address.
-pub fn put_on(room: &mut Vec<u8>, image: &Image, word: &str, addr: Addr)
+pub fn put_on(room: &mut Vec<u8>, image: &Indexed, word: &str, addr: Addr)
     requires { vec_len room.old + length word.now + 24 ≤ vec_capacity room.old }
     ensures { Puts room.old room.new (word.now ++ object_text image.now addr.0) (length word.now + 24) }
 {

@@ -14,10 +14,11 @@ ghost use Rattle.um_trace.specs.{
 ghost use Rattle.um_vocabulary.specs.Words.{want_word};
 
 use crate::heap::put_heap_act;
+use crate::indexed::Indexed;
 use crate::names::{put_of, put_on, put_reply};
-use crate::room::{put, put_space, put_text};
+use crate::room::{put_short, put_space, put_text};
 use crate::words::{Said, any_kind_word, put_said};
-use um_base::{Act, Addr, Answer, Errno, Image, Kind, Replies, Reply, ThreadIx, Want};
+use um_base::{Act, Addr, Answer, Errno, Kind, Replies, Reply, ThreadIx, Want};
 use um_vocabulary::want_word;
 
 /// The kind and the state that a check wants, and what it says.
@@ -26,15 +27,15 @@ fn put_check(room: &mut Vec<u8>, kind: Option<Kind>, want: Want, verdict: Option
     ensures { Puts room.old room.new (codes " " ++ any_kind_word kind ++ codes " " ++ want_word want ++ codes " " ++ verdict_word verdict) 31 }
 {
     put_space(room);
-    put(room, any_kind_word(kind));
+    put_short(room, any_kind_word(kind));
     put_space(room);
-    put(room, want_word(want));
+    put_short(room, want_word(want));
     put_said(room, Said::Verdict(verdict));
 }
 
 /// What an act on an object's contents answers.
 #[tactic(auto, unfolding(crate::specs::Acts::answer_text))]
-fn put_answer(room: &mut Vec<u8>, image: &Image, answer: Answer)
+fn put_answer(room: &mut Vec<u8>, image: &Indexed, answer: Answer)
     requires { vec_len room.old + 24 ≤ vec_capacity room.old }
     ensures { Puts room.old room.new (answer_text image.now answer) 24 }
 {
@@ -46,7 +47,7 @@ fn put_answer(room: &mut Vec<u8>, image: &Image, answer: Answer)
 
 /// A thread that is woken, with its reply.
 #[tactic(auto, unfolding(crate::specs::Acts::wake_text))]
-fn put_wake(room: &mut Vec<u8>, image: &Image, woken: (ThreadIx, Reply))
+fn put_wake(room: &mut Vec<u8>, image: &Indexed, woken: (ThreadIx, Reply))
     requires { vec_len room.old + 64 ≤ vec_capacity room.old }
     ensures { Puts room.old room.new (wake_text image.now woken) 64 }
 {
@@ -56,7 +57,7 @@ fn put_wake(room: &mut Vec<u8>, image: &Image, woken: (ThreadIx, Reply))
 }
 
 /// The threads that an act wakes, in order, each with its reply.
-fn put_wakes(room: &mut Vec<u8>, image: &Image, woken: &Replies)
+fn put_wakes(room: &mut Vec<u8>, image: &Indexed, woken: &Replies)
     requires { vec_len room.old + 64 * length woken.now ≤ vec_capacity room.old }
     ensures { Puts room.old room.new (flat_map (wake_text image.now) woken.now) (64 * length woken.now) }
 {
@@ -67,7 +68,7 @@ fn put_wakes(room: &mut Vec<u8>, image: &Image, woken: &Replies)
 
 /// The text of an act on an object, or of any other that isn't about memory.
 #[tactic(auto, unfolding(crate::specs::Acts::object_act_text))]
-pub fn put_object_act(room: &mut Vec<u8>, image: &Image, act: &Act)
+pub fn put_object_act(room: &mut Vec<u8>, image: &Indexed, act: &Act)
     requires { vec_len room.old + 100 + 64 * woken_by act.now ≤ vec_capacity room.old }
     ensures { Puts room.old room.new (object_act_text image.now act.now) (100 + 64 * woken_by act.now) }
 {

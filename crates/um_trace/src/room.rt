@@ -10,7 +10,8 @@ ghost use Rattle.um_trace.specs.{Digits.{hex2, hex8, address, value, glyph_of, l
 use itoa::Buffer;
 use um_base::Addr;
 
-/// A piece. The room is there, so it takes no memory.
+/// A piece. The room is there, so it takes no memory. Where the length is a constant, the bytes are written at once.
+#[inline(always)]
 pub fn put(room: &mut Vec<u8>, piece: &[u8])
     requires { vec_len room.old + length piece.now ≤ vec_capacity room.old }
     ensures { Puts room.old room.new piece.now (length piece.now) }
@@ -18,20 +19,31 @@ pub fn put(room: &mut Vec<u8>, piece: &[u8])
     room.extend_from_slice(piece).unwrap()
 }
 
-/// A short piece, such as a name.
-pub fn put_short(room: &mut Vec<u8>, piece: &[u8])
+/// A piece, one byte after another.
+fn put_each(room: &mut Vec<u8>, piece: &[u8])
     requires { vec_len room.old + length piece.now ≤ vec_capacity room.old }
     ensures { Puts room.old room.new piece.now (length piece.now) }
 {
-    if piece.len() > 8 {
-        return put(room, piece);
-    }
     for byte in piece {
         room.push_reserved(*byte);
     }
 }
 
+/// A short piece, such as a name or a word, four bytes at a time.
+pub fn put_short(room: &mut Vec<u8>, piece: &[u8])
+    requires { vec_len room.old + length piece.now ≤ vec_capacity room.old }
+    ensures { Puts room.old room.new piece.now (length piece.now) }
+{
+    let mut left = piece;
+    'fours: while let [a, b, c, d, rest @ ..] = left {
+        put(room, &[*a, *b, *c, *d]);
+        left = rest;
+    }
+    put_each(room, left);
+}
+
 /// A space.
+#[inline(always)]
 pub fn put_space(room: &mut Vec<u8>)
     requires { vec_len room.old + 1 ≤ vec_capacity room.old }
     ensures { Puts room.old room.new (codes " ") 1 }
@@ -40,6 +52,7 @@ pub fn put_space(room: &mut Vec<u8>)
 }
 
 /// The end of a line.
+#[inline(always)]
 pub fn put_newline(room: &mut Vec<u8>)
     requires { vec_len room.old + 1 ≤ vec_capacity room.old }
     ensures { Puts room.old room.new (codes "\n") 1 }
@@ -48,6 +61,7 @@ pub fn put_newline(room: &mut Vec<u8>)
 }
 
 /// A piece of text.
+#[inline(always)]
 pub fn put_text(room: &mut Vec<u8>, text: &str)
     requires { vec_len room.old + length text.now ≤ vec_capacity room.old }
     ensures { Puts room.old room.new text.now (length text.now) }
@@ -108,16 +122,21 @@ pub fn put_signed(room: &mut Vec<u8>, priority: i8)
     put_text(room, buffer.format(priority))
 }
 
+/// The digits.
+const GLYPHS: [u8; 16] = *b"0123456789abcdef";
+
 /// A digit, in lower case.
+#[inline(always)]
 fn glyph(d: u32) -> u8
     requires { d < 16 }
     ensures { result ≡ glyph_of d }
 {
-    if d < 10 { 48 + d as u8 } else { 87 + d as u8 }
+    GLYPHS[d as usize]
 }
 
 /// The eight digits of a number.
 #[tactic(auto, unfolding(crate::specs::Digits::hex8))]
+#[inline(always)]
 fn digits(n: u32) -> [u8; 8]
     ensures value { result ≡ hex8 n }
     ensures len { length (hex8 n) ≡ 8 }
@@ -140,8 +159,8 @@ pub fn put_address(room: &mut Vec<u8>, addr: Addr)
     requires { vec_len room.old + 10 ≤ vec_capacity room.old }
     ensures { Puts room.old room.new (address addr.0) 10 }
 {
-    put_text(room, "0x");
-    put(room, &digits(addr.0))
+    let [a, b, c, d, e, f, g, h] = digits(addr.0);
+    put(room, &[b'0', b'x', a, b, c, d, e, f, g, h])
 }
 
 /// How many of a number's eight digits are zeros in front.
@@ -176,7 +195,7 @@ pub fn put_value(room: &mut Vec<u8>, n: u32)
 {
     put_text(room, "0x");
     let all = digits(n);
-    put(room, &all[leading(n)..])
+    put_short(room, &all[leading(n)..])
 }
 
 /// The two digits of a byte.

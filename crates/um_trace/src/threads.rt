@@ -3,8 +3,9 @@
 ghost use Rattle.std.specs.Prelude.{◌+◌, ◌≤◌, ◌++◌, length, vec_len, vec_capacity};
 ghost use Rattle.um_trace.specs.{Acts.{thread_act_text}, Names.{script_text}, Room.{Puts}};
 
+use crate::indexed::Indexed;
 use crate::names::{put_of, put_reply};
-use crate::room::{put, put_decimal, put_numbered, put_short, put_space, put_text};
+use crate::room::{put_decimal, put_numbered, put_short, put_space, put_text};
 use crate::words::cause_word;
 use um_base::{Act, Image};
 
@@ -23,13 +24,13 @@ fn put_script(room: &mut Vec<u8>, image: &Image, word: &str, script: u8)
 
 /// The text of such an act. Of any other it puts nothing.
 #[tactic(auto, unfolding(crate::specs::Acts::thread_act_text))]
-pub fn put_thread_act(room: &mut Vec<u8>, image: &Image, act: &Act)
+pub fn put_thread_act(room: &mut Vec<u8>, image: &Indexed, act: &Act)
     requires { vec_len room.old + 100 ≤ vec_capacity room.old }
     ensures { Puts room.old room.new (thread_act_text image.now act.now) 100 }
 {
     match act {
         Act::Begin { script, line } => {
-            put_script(room, image, "begin ", *script);
+            put_script(room, image.image(), "begin ", *script);
             put_space(room);
             put_decimal(room, *line as u32);
         }
@@ -44,7 +45,7 @@ pub fn put_thread_act(room: &mut Vec<u8>, image: &Image, act: &Act)
         Act::Fatal { reason, cause } => {
             put_numbered(room, "fatal ", *reason as u32);
             put_space(room);
-            put(room, cause_word(*cause));
+            put_short(room, cause_word(*cause));
         }
         Act::Doom { who } => put_numbered(room, "doom ", who.0 as u32),
         Act::Exit => put_text(room, "exit"),

@@ -4,13 +4,13 @@ ghost use Rattle.std.specs.{
   Prelude.{◌≡◌, ◌+◌, ◌*◌, ◌<◌, ◌≤◌, ◌^◌, ◌++◌, length, vec_len, vec_capacity},
   List.{flat_map, sum_by},
 };
-ghost use Rattle.um_base.specs.{declared.limits.TheConstants.{THREADS}, Places.{own_row}};
+ghost use Rattle.um_base.specs.declared.limits.TheConstants.{THREADS};
 ghost use Rattle.um_trace.specs.{Acts.{event_line}, Room.{Puts}, Text.{woken_by, line_room, room_for, text}};
 
 use crate::dump::{DUMP_ROOM, put_dump};
+use crate::indexed::Indexed;
 use crate::memory::put_act;
-use crate::names::put_row;
-use crate::places::{own_row, own_rows, row_among};
+use crate::names::put_thread;
 use crate::room::{put_newline, put_space};
 use um_base::{Act, Event, Image};
 use um_matrix::Matrix;
@@ -43,37 +43,25 @@ pub fn text_room(events: &[Event]) -> usize
     most
 }
 
-/// The line of an event, whose thread's own object has this row.
-#[tactic(auto, unfolding(crate::specs::Acts::event_line, crate::specs::Names::thread_text))]
-fn put_line(room: &mut Vec<u8>, image: &Image, row: usize, event: &Event)
-    requires room { vec_len room.old + line_room event.now ≤ vec_capacity room.old }
-    requires own { row ≡ own_row image.now event.now.thread.0 }
-    requires few { row < 1000 }
+/// The line of an event.
+#[tactic(auto, unfolding(crate::specs::Acts::event_line))]
+pub fn put_event(room: &mut Vec<u8>, image: &Indexed, event: &Event)
+    requires { vec_len room.old + line_room event.now ≤ vec_capacity room.old }
     ensures { Puts room.old room.new (event_line image.now event.now) (line_room event.now) }
 {
-    put_row(room, image, row);
+    put_thread(room, image, event.thread.0);
     put_space(room);
     put_act(room, image, &event.act);
     put_newline(room);
 }
 
-/// The line of an event.
-pub fn put_event(room: &mut Vec<u8>, image: &Image, event: &Event)
-    requires { vec_len room.old + line_room event.now ≤ vec_capacity room.old }
-    ensures { Puts room.old room.new (event_line image.now event.now) (line_room event.now) }
-{
-    put_line(room, image, own_row(image, event.thread.0), event);
-}
-
 /// The lines of events.
-fn put_events(room: &mut Vec<u8>, image: &Image, events: &[Event])
+fn put_events(room: &mut Vec<u8>, image: &Indexed, events: &[Event])
     requires { vec_len room.old + sum_by line_room events.now ≤ vec_capacity room.old }
     ensures { Puts room.old room.new (flat_map (event_line image.now) events.now) (sum_by line_room events.now) }
 {
-    let rows = own_rows(image);
     for event in events {
-        let row = row_among(&rows, image, event.thread.0);
-        put_line(room, image, row, event);
+        put_event(room, image, event);
     }
 }
 
@@ -84,6 +72,7 @@ pub fn trace_text(image: &Image, events: &[Event], last: &Matrix, room: &mut Vec
     ensures text { room.new.items ≡ room.old.items ++ text image.now events.now last.now }
     ensures capacity { vec_capacity room.old ≤ vec_capacity room.new }
 {
-    put_events(room, image, events);
-    put_dump(room, image, last);
+    let image = Indexed::of_text(image);
+    put_events(room, &image, events);
+    put_dump(room, &image, last);
 }

@@ -3,7 +3,7 @@
 ghost use Rattle.std.specs.Prelude.{◌≡◌, ◌+◌, ◌≤◌, ◌++◌, codes, length, vec_len, vec_capacity};
 ghost use Rattle.um_trace.specs.{Room.{Puts}, Said.{said_word}, Words.{any_kind_word, cause_word}};
 
-use crate::room::{put, put_space};
+use crate::room::{put_short, put_space};
 use um_base::{Cause, Errno, Given, Kind, Leftover, SetSaid};
 use um_vocabulary::{errno_word, kind_word};
 
@@ -65,7 +65,7 @@ pub fn put_said(room: &mut Vec<u8>, said: Said)
     ensures { Puts room.old room.new (codes " " ++ said_word said) 11 }
 {
     put_space(room);
-    put(room, said_word(said));
+    put_short(room, said_word(said));
 }
 
 /// Why a thread fails.

@@ -11,7 +11,7 @@ ghost use Rattle.um_trace.specs.{
 
 use crate::dump::lists::{put_lead, put_share};
 use crate::names::{put_domain, put_part};
-use crate::room::{put, put_newline, put_space, put_text};
+use crate::room::{put_newline, put_short, put_space, put_text};
 use um_base::{Attr, DOMAIN_PARTITIONS, DOMAINS, Image, POOLS, Pool, Range};
 use um_matrix::Matrix;
 
@@ -93,7 +93,7 @@ fn put_pool(room: &mut Vec<u8>, pool: &Pool, left: u32)
     ensures { Puts room.old room.new (pool_text pool.now left) 64 }
 {
     put_text(room, "pool ");
-    put(room, pool.name.as_slice());
+    put_short(room, pool.name.as_slice());
     put_space(room);
     put_share(room, left, pool.size);
     put_newline(room);

@@ -13,23 +13,21 @@ use um_base::{AREA_SIZE, Addr, STACK_AREA};
 const BLOCK: usize = 32;
 
 /// The blocks of an area.
-const BLOCKS: usize = 0x4000;
+const BLOCKS: usize = AREA_SIZE as usize / BLOCK;
 
 /// The blocks of a page.
 const PAGE: usize = 32;
 
-/// The bytes after the first eight, if there are eight and they are all zero.
+/// The bytes after the first sixteen, if there are sixteen and they are all zero.
 fn behind_zeros(bytes: &[u8]) -> Option<&[u8]>
     ensures same { IfSome result (λ rest. list_all (λ b. b == 0) bytes.now ≡ list_all (λ b. b == 0) rest.now) }
     ensures fewer { IfSome result (λ rest. length rest.now < length bytes.now) }
 {
     match bytes {
-        [a, b, c, d, e, f, g, h, rest @ ..] => {
-            if *a | *b | *c | *d | *e | *f | *g | *h == 0 {
-                Some(rest)
-            } else {
-                None
-            }
+        [a, b, c, d, e, f, g, h, i, j, k, l, m, n, o, p, rest @ ..] => {
+            let front = *a | *b | *c | *d | *e | *f | *g | *h;
+            let back = *i | *j | *k | *l | *m | *n | *o | *p;
+            if front | back == 0 { Some(rest) } else { None }
         }
         _ => None,
     }
@@ -42,12 +40,12 @@ fn each_is_zero(bytes: &[u8]) -> bool
     bytes.iter().all(|b| *b == 0)
 }
 
-/// Whether all bytes are zero, eight at a time.
+/// Whether all bytes are zero, sixteen at a time.
 fn are_zero(bytes: &[u8]) -> bool
     ensures { result ≡ list_all (λ b. b == 0) bytes.now }
 {
     let mut left = bytes;
-    'eights: while let Some(rest) = behind_zeros(left) {
+    'sixteens: while let Some(rest) = behind_zeros(left) {
         left = rest;
     }
     each_is_zero(left)

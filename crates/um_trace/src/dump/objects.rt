@@ -13,10 +13,11 @@ ghost use Rattle.um_trace.specs.{
 
 use crate::dump::lists::{put_lead, put_share};
 use crate::dump::state::{is_shown, object_at, pair_at};
+use crate::indexed::Indexed;
 use crate::names::{put_row, put_thread};
-use crate::room::{put, put_bytes, put_decimal, put_newline, put_space, put_text};
+use crate::room::{put_bytes, put_decimal, put_newline, put_short, put_space, put_text};
 use crate::words::any_kind_word;
-use um_base::{Image, Kind, PIECE, ROWS, THREADS, ThreadIx};
+use um_base::{Kind, PIECE, ROWS, THREADS, ThreadIx};
 use um_machine::{Contents, Object, Status};
 use um_matrix::Matrix;
 
@@ -56,7 +57,7 @@ fn put_marks(room: &mut Vec<u8>, object: &Object)
     requires { vec_len room.old + 27 ≤ vec_capacity room.old }
     ensures { Puts room.old room.new (marks_text object.now) 27 }
 {
-    put(room, any_kind_word(object.kind));
+    put_short(room, any_kind_word(object.kind));
     put_space(room);
     put_text(room, state_word(object));
     put_space(room);
@@ -64,7 +65,7 @@ fn put_marks(room: &mut Vec<u8>, object: &Object)
 }
 
 /// A thread, if it has a permission on an object, with a comma before it if it isn't the first. Returns whether the first is still to come.
-fn put_holder(room: &mut Vec<u8>, image: &Image, holds: bool, thread: u8, first: bool) -> bool
+fn put_holder(room: &mut Vec<u8>, image: &Indexed, holds: bool, thread: u8, first: bool) -> bool
     requires { vec_len room.old + 25 ≤ vec_capacity room.old }
     ensures text { Puts room.old room.new (if holds then lead first ++ thread_text image.now thread else []) 25 }
     ensures none { result ≡ (first && not holds) }
@@ -78,7 +79,7 @@ fn put_holder(room: &mut Vec<u8>, image: &Image, holds: bool, thread: u8, first:
 
 /// The threads that have a pair with an object, by index.
 #[tactic(auto, unfolding(crate::specs::Dump::holders_text))]
-fn put_holders(room: &mut Vec<u8>, image: &Image, last: &Matrix, row: usize)
+fn put_holders(room: &mut Vec<u8>, image: &Indexed, last: &Matrix, row: usize)
     requires room { vec_len room.old + HOLDERS_ROOM ≤ vec_capacity room.old }
     requires row { row < ROWS }
     ensures { Puts room.old room.new (holders_text image.now last.now row) HOLDERS_ROOM }
@@ -94,7 +95,7 @@ fn put_holders(room: &mut Vec<u8>, image: &Image, last: &Matrix, row: usize)
 
 /// Who has locked a mutex, and how often.
 #[tactic(auto, unfolding(crate::specs::Dump::owner_text))]
-fn put_owner(room: &mut Vec<u8>, image: &Image, owner: Option<ThreadIx>, depth: u32)
+fn put_owner(room: &mut Vec<u8>, image: &Indexed, owner: Option<ThreadIx>, depth: u32)
     requires { vec_len room.old + 35 ≤ vec_capacity room.old }
     ensures { Puts room.old room.new (owner_text image.now owner depth) 35 }
 {
@@ -110,7 +111,7 @@ fn put_owner(room: &mut Vec<u8>, image: &Image, owner: Option<ThreadIx>, depth: 
 
 /// What an initialised object keeps.
 #[tactic(auto, unfolding(crate::specs::Dump::kept_text))]
-fn put_kept(room: &mut Vec<u8>, image: &Image, contents: &Contents)
+fn put_kept(room: &mut Vec<u8>, image: &Indexed, contents: &Contents)
     requires { vec_len room.old + 35 ≤ vec_capacity room.old }
     ensures { Puts room.old room.new (kept_text image.now contents.now) 35 }
 {
@@ -159,7 +160,7 @@ fn put_name(room: &mut Vec<u8>, contents: &Contents)
 
 /// What an object keeps.
 #[tactic(auto, unfolding(crate::specs::Dump::content_text))]
-fn put_content(room: &mut Vec<u8>, image: &Image, object: &Object)
+fn put_content(room: &mut Vec<u8>, image: &Indexed, object: &Object)
     requires { vec_len room.old + 512 ≤ vec_capacity room.old }
     ensures { Puts room.old room.new (content_text image.now object.now) 512 }
 {
@@ -176,14 +177,14 @@ fn put_content(room: &mut Vec<u8>, image: &Image, object: &Object)
 
 /// The line of an object.
 #[tactic(auto, unfolding(crate::specs::Dump::object_line))]
-fn put_object_line(room: &mut Vec<u8>, image: &Image, last: &Matrix, row: usize)
+fn put_object_line(room: &mut Vec<u8>, image: &Indexed, last: &Matrix, row: usize)
     requires room { vec_len room.old + OBJECT_ROOM ≤ vec_capacity room.old }
     requires row { row < ROWS }
     ensures { Puts room.old room.new (object_line image.now last.now row) OBJECT_ROOM }
 {
     let object = object_at(last, row);
     put_text(room, "object ");
-    put_row(room, image, row);
+    put_row(room, image.image(), row);
     put_space(room);
     put_marks(room, object);
     put_space(room);
@@ -195,18 +196,18 @@ fn put_object_line(room: &mut Vec<u8>, image: &Image, last: &Matrix, row: usize)
 
 /// The line of a row, where an object stands there.
 #[tactic(auto, unfolding(crate::specs::Dump::object_line_of))]
-fn put_line_of(room: &mut Vec<u8>, image: &Image, last: &Matrix, row: usize)
+fn put_line_of(room: &mut Vec<u8>, image: &Indexed, last: &Matrix, row: usize)
     requires room { vec_len room.old + OBJECT_ROOM ≤ vec_capacity room.old }
     requires row { row < ROWS }
     ensures { Puts room.old room.new (object_line_of image.now last.now row) OBJECT_ROOM }
 {
-    if is_shown(image, last, row) {
+    if is_shown(image.image(), last, row) {
         put_object_line(room, image, last, row);
     }
 }
 
 /// The lines of objects, by row.
-pub fn put_objects(room: &mut Vec<u8>, image: &Image, last: &Matrix)
+pub fn put_objects(room: &mut Vec<u8>, image: &Indexed, last: &Matrix)
     requires { vec_len room.old + OBJECT_ROOM * ROWS ≤ vec_capacity room.old }
     ensures { Puts room.old room.new (flat_map (object_line_of image.now last.now) (numbers ROWS)) (OBJECT_ROOM * ROWS) }
 {

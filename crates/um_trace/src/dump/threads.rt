@@ -9,7 +9,7 @@ ghost use Rattle.um_trace.specs.{
 
 use crate::dump::standing::{Standing, shown_thread, standing_of};
 use crate::names::{put_domain, put_row};
-use crate::room::{put, put_newline, put_signed, put_space, put_text};
+use crate::room::{put_newline, put_short, put_signed, put_space, put_text};
 use um_base::{Image, ROWS};
 use um_machine::{Life, Thread};
 use um_matrix::Matrix;
@@ -41,7 +41,7 @@ fn put_rights(room: &mut Vec<u8>, image: &Image, me: &Thread)
 {
     if me.life != Life::Unborn {
         put_space(room);
-        put(room, mode_word(me.mode));
+        put_short(room, mode_word(me.mode));
         put_space(room);
         put_signed(room, me.priority);
         put_space(room);

@@ -1,6 +1,6 @@
 use Rattle.std.proofs.Common.{◌≡◌}
-use Rattle.um_trace.proofs.ZeroLemmas.{eight_zeros}
+use Rattle.um_trace.proofs.ZeroLemmas.{sixteen_zeros}
 use Rattle.um_trace.proofs.dump.memory.behind_zeros.Goals as goal
 
-pub returns-then-a-b-eq0-clause-same : goal.returns-then-a-b-eq0-clause-same
-returns-then-a-b-eq0-clause-same c = eight_zeros c.args.bytes.now c.in-len8-up.len_at_least c.if-a-b-eq0.true
+pub returns-then-front-back-eq0-clause-same : goal.returns-then-front-back-eq0-clause-same
+returns-then-front-back-eq0-clause-same c = sixteen_zeros c.args.bytes.now c.in-len16-up.len_at_least c.if-front-back-eq0.true
