@@ -6,7 +6,7 @@ ghost use Rattle.um_trace.specs.{Acts.{event_line}, Dump.{dump}, Names.{thread_t
 use crate::dump::{DUMP_ROOM, put_dump};
 use crate::indexed::Indexed;
 use crate::names::put_thread;
-use crate::room::{put_space, put_text};
+use crate::room::put_space;
 use crate::trace::{put_event, woken_by};
 use um_base::{Event, Image, THREADS};
 use um_matrix::Matrix;

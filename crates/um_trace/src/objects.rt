@@ -18,7 +18,7 @@ use crate::indexed::Indexed;
 use crate::names::{put_of, put_on, put_reply};
 use crate::room::{put_short, put_space, put_text};
 use crate::words::{Said, any_kind_word, put_said};
-use um_base::{Act, Addr, Answer, Errno, Kind, Replies, Reply, ThreadIx, Want};
+use um_base::{Act, Answer, Errno, Kind, Replies, Reply, ThreadIx, Want};
 use um_vocabulary::want_word;
 
 /// The kind and the state that a check wants, and what it says.

@@ -1,4 +1,3 @@
-use Rattle.std.proofs.Common.{◌≡◌}
 use Rattle.um_trace.proofs.ZeroLemmas.{sixteen_zeros}
 use Rattle.um_trace.proofs.dump.memory.behind_zeros.Goals as goal
 
