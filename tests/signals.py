@@ -1,9 +1,14 @@
-"""A program whose reads and writes are interrupted, as by a signal that has a handler, by the calls of a debugger on x86-64 Linux."""
+"""A program that is stopped and goes on, or whose reads and writes are interrupted, as by a signal that has a handler. What interrupts them
+are the calls of a debugger, on x86-64 Linux."""
 import ctypes
 import errno
 import functools
 import os
 import signal
+import time
+from pathlib import Path
+
+SECONDS_BETWEEN_LOOKS = 0.001
 
 # What ptrace is asked for, its options, and places of registers among those that it shows.
 TRACE_ME, PEEK, POKE, GO_TO_CALL, SET_OPTIONS = 0, 3, 6, 24, 0x4200
@@ -13,6 +18,24 @@ RESULT, FIRST_OPERAND, CALL = 80, 112, 120
 READ, WRITE, NO_CALL = 0, 1, -1
 STREAMS = (0, 1, 2)
 TIMES = 3
+
+
+def state_of(pid: int) -> str:
+    """The letter of a process's state: R running, S sleeping, T stopped, Z ended."""
+    return Path(f"/proc/{pid}/stat").read_text().rsplit(")", 1)[1].split()[0]
+
+
+def await_state(pid: int, states: str) -> str:
+    """Waits until a process is in one of these states, and says in which. Its end is the last one."""
+    while (state := state_of(pid)) not in f"{states}Z":
+        time.sleep(SECONDS_BETWEEN_LOOKS)
+    return state
+
+
+def stop_and_go(pid: int) -> None:
+    os.kill(pid, signal.SIGSTOP)
+    await_state(pid, "T")
+    os.kill(pid, signal.SIGCONT)
 
 
 @functools.cache
