@@ -1,4 +1,4 @@
--- Where no processor has a claim of a call to end, nor an object to clean, the machine allows no step that cleans: an object that is gone is held.
+-- Where no processor has a call's claim to end or an object to clean, no cleaning step is lawful, since each object that is gone is held.
 use Rattle.std.proofs.Common.{◌≡◌, ℕ, zero, suc, ◌+◌, ◌<◌, Bool, true, false, List, [], Option, Some, None, refl, sym, ap, ◌∙◌, subst, arith}
 use Rattle.std.specs.Prelude.{◌==◌, ◌&&◌, ◌||◌, not, IsTrue, nat_lt, slice_index_or}
 use Rattle.std.proofs.lemmas.Bool.{eqb-true, false≢true, ltb-true}
@@ -32,7 +32,7 @@ use Rattle.um_refinement.proofs.Reachable.{IsSound}
 use Rattle.um_refinement.proofs.Sums.{one-true}
 use Rattle.um_refinement.proofs.ClaimRoom.{child-claims}
 
--- No processor has a claim of a call to end, nor an object to clean.
+-- no processor has a step on its list that ends a call's claim, or that recycles an object
 pub record IsClear (f : Fine) : Type 0 where
   pub ends : (k x : ℕ) → k < f.cpus → counted (is_end_call x) (f.processors k).todo ≡ 0
   pub cleans : (k x : ℕ) → k < f.cpus → counted (is_recycle x) (f.processors k).todo ≡ 0
@@ -90,7 +90,7 @@ module _ (f : Fine) (m : State) (rel : Rel f m) (sound : IsSound m) (orderly : A
         flag-holds t l
         (ap (λ y. slice_index_or (thread_at m t).checked y false) (sym row) ∙ (sym (ap (λ (c : Call). slice_index_or c.checked (own_row m.image who.0) false) (call_is m t)) ∙ checked))
 
-    -- a row that is claimed is one of an object that is held
+    -- the object of a row with claims is held
     claimed-held : 0 < claims f m x → Plain.is_held m x ≡ true
     claimed-held some = by (over_processors f (call_claims x)) refl (total parked THREADS) refl (total lives THREADS) refl
       where
@@ -134,7 +134,7 @@ module _ (f : Fine) (m : State) (rel : Rel f m) (sound : IsSound m) (orderly : A
         stage : (row f x).stage ≡ Stage.Dying
         stage = is-dying (row f x).stage dying
 
-  -- no object is to be cleaned
+  -- no thread may clean an object
   pub none-cleans : (t x : ℕ) → MayClean m t x → ⊥
   none-cleans t x may = by (nat_lt x ROWS) refl
     where

@@ -1,4 +1,4 @@
--- A step that cleans is by the thread of the last event, and leaves who is ready.
+-- A cleaning step is made by the thread of the last event, and changes nothing of the point but its state.
 use Rattle.std.proofs.Common.{◌≡◌, inl, ℕ, ◌<◌, true, false, ◌∷◌, ◌++◌, map, Some, refl, sym, ap, ◌∙◌, subst, arith, eq-eqb}
 use Rattle.std.specs.Prelude.{not, if◌then◌else◌}
 use Rattle.std.specs.List.{list_any}
@@ -48,7 +48,7 @@ use Rattle.um_order.proofs.QuietSteps.{or-later, reads-last, unread-last}
 use Rattle.um_order.proofs.Standing.{Begun, back, comers, inside_of, is_show, woken_of}
 use Rattle.um_refinement.proofs.AwayPart.{none-left}
 
--- who drops a permission of a thread that is gone may clean that one's object
+-- where a processor drops a permission of a thread because that thread's object is gone, its own thread may clean the object
 pub may-clean : (f : Fine) (m : State) (e : FineStep) (who x : ℕ) (todo : Todos) → Visits f m e.cpu e x (Todo.clean_pair who x) todo → Calls m → OwnRows f.image → Held m x who
     → MayClean m (f.processors e.cpu).context.thread (own_row m.image who)
 may-clean f m e who x todo h calls own held =
@@ -65,7 +65,7 @@ module _ (f : Fine) (at : Point) (e : FineStep) (law : Lawful f at.state e) (was
   abbrev t : ℕ
   t = p.context.thread
 
-  -- only the state changes
+  -- what a cleaning step leads to: the same point with another state
   pub record Cleaned (s2 : State) : Type 0 where
     pub follows : FollowsBy at e.act (record at { state = s2 })
     pub begun : Begun now (scheduler later) (record at { state = s2 })
@@ -97,7 +97,7 @@ module _ (f : Fine) (at : Point) (e : FineStep) (law : Lawful f at.state e) (was
         told = λ h. ap (λ (c : Context). (thread_at s2 c.thread).told) same ∙ (told ∙ was.told (ap (λ (c : Context). waits c.pending) (sym same) ∙ h));
       }
 
-  -- a permission of a thread that is gone is dropped, the one with the least row
+  -- a permission of a thread whose object is gone is dropped: the one with the least row
   module _ (who x : ℕ) (rest : Steps) (todo : Todos) (h : Visits f m e.cpu e x (Todo.clean_pair who x) todo) (calls : Calls m) (own : OwnRows f.image) (held : Held m x who) where
     said : e.act ≡ by_me f.image p (Act.DropPair (to_thread who) (address_of f.image x) (leftover_in (act_in e.act)))
     said = visit-shows h (Act.DropPair (to_thread who) (address_of f.image x) (leftover_in (act_in e.act))) (visit-act h)

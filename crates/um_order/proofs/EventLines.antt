@@ -1,4 +1,4 @@
--- Who is ready after an event of the one processor: those whom its list wakes or adds, and its thread where that is at rest.
+-- The ready list after an event: at its back come the threads that the processor's list wakes or adds, and then its own thread if it is at rest.
 use Rattle.std.proofs.Common.{◌≡◌, ℕ, zero, suc, ◌+◌, ◌<◌, ◌≤◌, Bool, true, false, List, [], ◌∷◌, ◌++◌, map, length, Option, Some, None, refl, sym, ap, ◌∙◌, subst, arith, append-nil, append_assoc, eq-eqb}
 use Rattle.std.specs.Prelude.{◌==◌, ◌&&◌, ◌||◌, not, IsTrue, if◌then◌else◌, is_some, slice_get}
 use Rattle.std.proofs.lemmas.Bool.{and_parts, eqb-false, eqb-true, false≢true, ltb-true}
@@ -56,7 +56,7 @@ none-ready : (o : Option Context) (told : Option Told) → is_some o ≡ false �
 none-ready None told h = refl
 none-ready (Some c) told h = absurd (false≢true (sym h))
 
--- a thread that is woken is a thread index
+-- the number of a woken thread is a thread index
 below-woken : (u : ℕ) (ws : Wakes) → AreThreads ws → 0 < told_times u ws → u < THREADS
 below-woken u [] h some = absurd (omega (arith, some))
 below-woken u (w ∷ ws) h some = by (w.0 == u) refl some (below-woken u ws (and_parts _ _ h).1)
@@ -65,7 +65,7 @@ below-woken u (w ∷ ws) h some = by (w.0 == u) refl some (below-woken u ws (and
     by true e some more = subst (λ n. n < THREADS) (eqb-true w.0 u e) (ltb-true w.0 THREADS (and_parts _ _ h).0)
     by false e some more = more some
 
--- whether a thread goes on
+-- by its own part the thread goes on just where it does in the machine
 pub inside-is : (s : State) (c : Context) → IsOf s c → (waits c.pending ≡ true → (thread_at s c.thread).told ≡ None) → (if goes_on s c.thread then Some (to_thread c.thread) else None) ≡ inside_of c
 inside-is s c of none = ap (λ b. if b then Some (to_thread c.thread) else None) (ap (λ steps. is_ready_step (is_some (thread_at s c.thread).told) (slice_get steps 0)) (sym (ap (λ (z : Thread). z.pending) of.own)) ∙ by c.pending none)
   where
@@ -74,7 +74,7 @@ inside-is s c of none = ap (λ b. if b then Some (to_thread c.thread) else None)
     by (Pending.Resume ∷ rest) none = ap is_some (none refl)
     by (q ∷ rest) none = refl
 
--- whether it is at rest
+-- and it is at rest just where it is in the machine
 pub rest-is : (s : State) (c : Context) → IsOf s c → is_at_rest s c.thread ≡ (is_empty c.pending && not c.ended)
 rest-is s c of =
     ap (λ steps. is_living (thread_at s c.thread).life && length steps == 0) (sym (ap (λ (z : Thread). z.pending) of.own))
@@ -98,11 +98,11 @@ module _ (g : Fine) (s : State) (rel : Rel g s) (tells : TellsWaiters s) (k : �
   abbrev c : Context
   c = (g.processors k).context
 
-  -- who stands in the ready list is parked, and waits for nothing
+  -- a thread that isn't parked isn't in the ready list
   unready : (u : ℕ) → u < THREADS → is_some (parked_at (scheduler g) u) ≡ false → occurs u (scheduler g).ready ≡ 0
   unready u few none = (rel.threads u few).ready.ready ∙ ap one_if (none-ready (parked_at (scheduler g) u) (told_at (scheduler g) u) none)
 
-  -- who is woken waits
+  -- a thread that the list wakes waits
   woken-waits : (u : ℕ) → u < THREADS → 0 < counted (is_wake u) todo → IsTrue (waits (thread_at s u).pending)
   woken-waits u few some =
       let first : is_some (wake_of u todo) ≡ true = ap is_some (wake-first u todo) ∙ some-first u (wakers todo) (subst (λ n. 0 < n) (wake-times u todo) some) in
@@ -128,7 +128,7 @@ module _ (g : Fine) (s : State) (rel : Rel g s) (tells : TellsWaiters s) (k : �
       let sum = part-total (λ j. counted (is_wake u) (g.processors j).todo) g.cpus k l in
       let once = (rel.threads u few).told.once in omega (arith, sum, once)
 
-  -- who is added is at rest
+  -- a thread that the list adds is at rest
   added-rests : (u : ℕ) → 0 < of_thread u (adders todo) → (u < THREADS) × ((thread_at s u).pending ≡ [])
   added-rests u some =
       let d = adds-one u todo some in
@@ -171,7 +171,7 @@ module _ (g : Fine) (s : State) (rel : Rel g s) (tells : TellsWaiters s) (k : �
           omega (arith, none, most, all, sum, eb)
       by (suc a) ea (suc b) eb = let rests = added-rests u (omega (arith, eb)) in absurd (not-both u rests.0 (omega (arith, ea)) rests.1)
 
-  -- its own thread, at rest, stands nowhere yet
+  -- its own thread, if at rest, is neither in the ready list nor woken or added by its list
   own-new : is_empty c.pending ≡ true → c.ended ≡ false → occurs c.thread ((scheduler g).ready ++ comers todo) ≡ 0
   own-new rests lives =
       let few = of.index in
@@ -189,7 +189,7 @@ module _ (g : Fine) (s : State) (rel : Rel g s) (tells : TellsWaiters s) (k : �
       by zero h = refl
       by (suc n) h = absurd (not-both c.thread of.index (omega (arith, h)) (sym (ap (λ (th : Thread). th.pending) of.own) ∙ none-left c.pending rests))
 
-  -- who is ready after the event that leaves this
+  -- the ready list after the event that leads here
   pub line-is : (act : Act) → readied act ≡ comers todo → ready_after (scheduler g).ready c.thread act s ≡ (scheduler g).ready ++ (comers todo ++ back c)
   line-is act comes =
       ap (λ xs. let others = all_join (scheduler g).ready xs in if is_at_rest s c.thread then joins others c.thread else others) comes

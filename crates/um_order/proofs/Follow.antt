@@ -1,4 +1,4 @@
--- An event of its own thread follows, and its turn goes on.
+-- What makes an event of the processor's own thread follow. Behind it the processor's turn goes on.
 use Rattle.std.proofs.Common.{◌≡◌, inr, ℕ, ◌<◌, true, false, cond, ◌++◌, Option, Some, None, refl, sym, ap, ◌∙◌, subst, arith, eq-eqb}
 use Rattle.std.specs.Prelude.{if◌then◌else◌}
 use Rattle.std.specs.List.{list_any}
@@ -29,7 +29,7 @@ use Rattle.um_order.proofs.EventLines.{inside-is, line-is}
 use Rattle.um_order.proofs.ListShapes.{is_own, own-clear}
 use Rattle.um_order.proofs.Standing.{Begun, back, comers, is_show}
 
--- what an act is to the order: its event follows, or the point stays
+-- an event follows, and leads to another point; an act without an event leaves the point
 abbrev pub FollowsBy : Point → FineAct → Point → Type 0
 FollowsBy at (FineAct.Shown event more) to = Follows at event to
 FollowsBy at (FineAct.Unseen unseen) to = to ≡ at
@@ -48,7 +48,7 @@ module _ (f : Fine) (at : Point) (e : FineStep) (law : Lawful f at.state e) (one
         cleans = λ k x l. subst (λ j. counted (is_recycle x) (f.processors j).todo ≡ 0) (only k l) (own-clear f.image x p.context p.todo fits own).1;
       }
 
-  -- nothing is to be cleaned where its own thread is to make an event
+  -- no cleaning step is lawful where the processor's own thread is to make an event
   pub cleans-none : is_own f.image p.todo ≡ true → (last : Option ThreadIx) → CleansNone at.state last
   cleans-none own None = tt
   cleans-none own (Some u) =
@@ -57,7 +57,7 @@ module _ (f : Fine) (at : Point) (e : FineStep) (law : Lawful f at.state e) (one
   pub here : later.processors e.cpu ≡ now
   here = ap (λ b. cond b now p) (eq-eqb e.cpu e.cpu refl)
 
-  -- an event of the thread u, which leads to the state s2
+  -- what is asked of an event of the thread u that leads to the state s2
   pub record IsEvent (s2 : State) (u : ℕ) (act : Act) (more : More) : Type 0 where
     pub said : e.act ≡ FineAct.Shown (record { thread = to_thread u; act = act }) more
     pub own : is_own f.image p.todo ≡ true

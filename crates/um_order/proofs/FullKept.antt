@@ -1,4 +1,4 @@
--- Each permission that is left to pass on, or to drop, stays due by every lawful step of the one processor.
+-- Every lawful step of the one processor keeps `IsFull`: what its thread has still to pass on or to drop is due.
 use Rattle.std.proofs.Common.{Bool, List, None, Option, Some, [], ap, arith, false, length, map, refl, subst, suc, sym, true, zero, ℕ, ◌+◌, ◌<◌, ◌∙◌, ◌∷◌, ◌≡◌, ◌≢◌, ◌≤◌}
 use Rattle.std.proofs.lemmas.Bool.{eqb-false, eqb-true, false≢true, true≢false, not-true}
 use Rattle.std.proofs.lemmas.List.{get_or-set_other, get_or-set_same}
@@ -68,7 +68,7 @@ use Rattle.um_machine.specs.Table as T
 use Rattle.um_machine.specs.Objects as Plain
 use Rattle.um_order.proofs.CleanOrder.{may-clean}
 
--- no visit comes next
+-- These steps don't begin with permissions to pass on or to drop.
 
 abbrev Quiet : Steps → Type 0
 Quiet steps = is_visiting steps ≡ false
@@ -83,7 +83,7 @@ abbrev is_begin : Pending → Bool
 is_begin Pending.Begin = true
 is_begin q = false
 
--- the steps behind which visits come
+-- the steps behind which permissions are passed on or dropped
 abbrev opens_visits : Pending → Bool
 opens_visits (Pending.Own who) = true
 opens_visits Pending.Exit = true
@@ -91,7 +91,7 @@ opens_visits (Pending.Fatal reason cause) = true
 opens_visits q = false
 
 module _ (image : Image) (c : Context) where
-  -- the thread goes on in its call, or into the steps of an instruction
+  -- the ways to go on behind which no permissions are passed on or dropped
   abbrev IsPlain : Next → Type 0
   IsPlain (Next.begins instr) = Quiet c.pending
   IsPlain (Next.creates who) = ⊥
@@ -137,7 +137,7 @@ module _ (image : Image) (c : Context) where
   continued-quiet q rest act moved shown plain was h o =
       let came = came_in q moved in gone-quiet rest (T.continues image c.thread (as_thread c) 0 q act came) (next-plain q act came shown plain was) h o
 
--- What an end makes due: each permission of the thread.
+-- The end of a thread makes each of its permissions due.
 
 mapped : (f : List Bool → Bool) (pairs : List (List Bool)) (x : ℕ) → f (slice_index_or pairs x []) ≡ true → (f [] ≡ false) → slice_index_or (map f pairs) x false ≡ true
 mapped f [] x h none = absurd (true≢false (sym h ∙ none))
@@ -161,7 +161,7 @@ stands-creates m t x all Pending.Recycle rest shown h = absurd shown
 stands-creates m t x all q rest shown h = h
 
 module _ (m : State) (t : ℕ) (few : t < length m.threads) where
-  -- after an end each permission is due
+  -- so it does where the thread drops them all next
   ended-full : (steps left : Steps) → IsFull (with_thread m t (at_end m t (thread_at m t) steps)) t (Pending.Drops 0 ∷ left)
   ended-full steps left x low has =
       ap (λ (z : Thread). slice_index_or z.due x false) (at-here m.threads t (at_end m t (thread_at m t) steps) few) ∙ mapped (λ (flags : List Bool). slice_index_or flags t false) m.pairs x has refl
@@ -175,7 +175,7 @@ module _ (m : State) (t : ℕ) (few : t < length m.threads) where
       by true = tt
       by false = ended-full steps []
 
-  -- behind the permission on its own object, what the new thread may inherit is due
+  -- when the new thread has got the permission on its own object, each permission that it may inherit is due
   own-due : (s : State) → t < length s.threads → (who w : ThreadIx) → w ≡ who → (rest more : Steps) → IsFull (went rest s t (Next.creates who)) t (Pending.Inherit w ∷ more)
   own-due s room who w same rest more x has lacks apart =
       let lacking : pair_at s who.0 x ≡ false = ap (λ (z : ThreadIx). pair_at s z.0 x) (sym same) ∙ lacks in
@@ -198,7 +198,7 @@ module _ (m : State) (t : ℕ) (few : t < length m.threads) where
   given-full who (Pending.Start u script stack priority mode ∷ rest) h = tt
   given-full who rest h = absurd h
 
--- A permission of another row changes neither this one nor what is due of it.
+-- A change of a permission on one row changes no permission on another row, and nothing that is due there.
 
 due-else : (x y i : ℕ) (holders : List Bool) (ts : List Thread) (t : ℕ) → y ≢ x → slice_index_or (slice_index_or (T.with_dues x i holders ts) t nobody).due y false ≡ slice_index_or (slice_index_or ts t nobody).due y false
 due-else x y i holders [] t ne = refl
@@ -208,7 +208,7 @@ due-else x y i holders (me ∷ ts) (suc t) ne = due-else x y (i + 1) holders ts 
 pair-else : (s : State) (u x v y : ℕ) (b : Bool) → y ≢ x → pair_at (with_pair s u x b) v y ≡ pair_at s v y
 pair-else s u x v y b ne = ap (λ (row : List Bool). slice_index_or row v false) (get_or-set_other s.pairs x y _ [] ne)
 
--- what a drop leaves
+-- the state after a drop
 abbrev dropped : State → ℕ → ℕ → Leftover → State
 dropped s u x l = wrote (drop_writes u x l) s
 
@@ -235,7 +235,7 @@ same-full m s t steps pairs threads image h =
     there (q ∷ rest) h = tt
 
 module _ (m : State) (t : ℕ) (few : t < length m.threads) where
-  -- a drop at an end
+  -- a thread drops a permission at its end
   drops-full : (x from : ℕ) (rest left : Steps) → IsFull m t (Pending.Drops from ∷ rest) → from ≤ x → IsFull (T.after m t x (Pending.Drops from) rest) t (Pending.Drops (x + 1) ∷ left)
   drops-full x from rest left full low y more has =
       let ne : y ≢ x = λ q. absurd (omega (arith, more, q)) in
@@ -244,7 +244,7 @@ module _ (m : State) (t : ℕ) (few : t < length m.threads) where
       let was = full y (omega (arith, low, more)) (sym is.pair ∙ has) in
       ap (λ (z : Thread). slice_index_or z.due y false) (at-here s.threads t (record (thread_at s t) { pending = Pending.Drops (x + 1) ∷ rest }) (let long = is.long in omega (arith, long, few))) ∙ (is.due ∙ was)
 
-  -- a permission is inherited, which the child has then
+  -- a permission is inherited: the child has it then
   passes-full : (who : ThreadIx) (x : ℕ) (rest left : Steps) → x < length m.pairs → who.0 < length (slice_index_or m.pairs x []) → IsFull m t (Pending.Inherit who ∷ left)
       → IsFull (T.after m t x (Pending.Inherit who) rest) t (Pending.Inherit who ∷ left)
   passes-full who x rest left wide child full y has lacks apart = by (y == x) refl
@@ -265,7 +265,7 @@ module _ (m : State) (t : ℕ) (few : t < length m.threads) where
           ap (λ (th : Thread). slice_index_or th.due y false) (at-here z.threads t (record (thread_at z t) { pending = Pending.Inherit who ∷ rest }) (omega (arith, long, few)))
           ∙ (due-else x y 0 (slice_index_or (with_pair m who.0 x true).pairs x []) m.threads t ne ∙ was)
 
--- A permission of another thread is dropped where its object is cleaned.
+-- A permission of another thread is dropped, whose object is cleaned.
 
 set-at : (xs : List Bool) (x : ℕ) (b : Bool) → slice_index_or xs x false ≡ true → slice_index_or (slice_set xs x b) x false ≡ b
 set-at [] x b h = absurd (false≢true h)
@@ -291,7 +291,7 @@ module _ (s : State) (u x : ℕ) (wide : x < length s.pairs) where
   row-is : slice_index_or (with_pair s u x false).pairs x [] ≡ slice_set (slice_index_or s.pairs x []) u false
   row-is = get_or-set_same s.pairs x (slice_set (slice_index_or s.pairs x []) u false) [] wide
 
-  -- who has the permission then had it before
+  -- a thread that has the permission after the drop had it before
   pair-before : (v : ℕ) → pair_at (with_pair s u x false) v x ≡ true → pair_at s v x ≡ true
   pair-before v has = by (v == u) refl
     where
@@ -305,7 +305,7 @@ module _ (s : State) (u x : ℕ) (wide : x < length s.pairs) where
   pair-other : (v : ℕ) → v ≢ u → pair_at (with_pair s u x false) v x ≡ pair_at s v x
   pair-other v ne = ap (λ (row : List Bool). slice_index_or row v false) row-is ∙ get_or-set_other (slice_index_or s.pairs x []) u v false false ne
 
-  -- what a thread drops at its end, and what it passes on to another than this one
+  -- what a thread has to drop at its end stays due, and so does what it passes on to a child other than u
   drops-left : (t from : ℕ) (rest : Steps) (l : Leftover) → (thread_at s t).child ≡ None → IsFull s t (Pending.Drops from ∷ rest) → IsFull (dropped s u x l) t (Pending.Drops from ∷ rest)
   drops-left t from rest l none full y low has = by (y == x) refl
     where
@@ -371,7 +371,7 @@ module _ (s : State) (u x : ℕ) (wide : x < length s.pairs) where
   cleans-full t (Pending.Drops from ∷ rest) l c other full = drops-left t from rest l c.0 full
   cleans-full t (q ∷ rest) l c other full = tt
 
--- a thread that is woken goes on without a visit
+-- a woken thread doesn't pass on or drop permissions next
 resumed-quiet : (image : Image) (c : Context) (told : Told) (rest : Steps) → are_plain rest ≡ true → InOrder rest → Quiet (resumed_at image c told (Pending.Resume ∷ rest)).pending
 resumed-quiet image c told rest plain order = way-still image c rest (told_way told.reply) plain order
 
@@ -428,7 +428,7 @@ module _ (f : Fine) (at : Point) (e : FineStep) (law : Lawful f at.state e) (one
             subst (λ (i : Image). Proper i (thread_at m t).checked p.context.pending) law.rel.image
             (subst (Proper m.image (thread_at m t).checked) (sym (ap (λ (z : Thread). z.pending) (own-part h).own)) (proper t).0)
 
-        -- a line begins at rest
+        -- a thread that begins a line has no step left
         begin : q ≡ Pending.Begin → Quiet p.context.pending
         begin b =
             ap is_visiting
@@ -455,7 +455,7 @@ module _ (f : Fine) (at : Point) (e : FineStep) (law : Lawful f at.state e) (one
         by (Pending.Fatal reason cause) w = there (Pending.Fatal reason cause) w (fatal-full m t (room (ap has_steps h.at)) f.image p.context reason f.image.policy (fatal_steps m.image t (thread_at m t) reason m.image.policy))
         by r w = plain-full (ap opens_visits w)
 
-  -- A permission of a thread is dropped whose object is cleaned: nobody passes anything on to that one.
+  -- A permission of a thread is dropped, whose object is cleaned. No thread passes permissions on to that one: its object would be held.
   module _ (who x : ℕ) (rest : Steps) (todo : Todos) (h : Visits f m e.cpu e x (Todo.clean_pair who x) todo) where
     may : MayClean m t (own_row m.image who)
     may = may-clean f m e who x todo h calls own (sound-held m law.sound x who h.few)

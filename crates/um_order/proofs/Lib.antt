@@ -1,8 +1,11 @@
--- The order of the events of one processor, in this order: CleanNow shows when nobody may clean. Standing says where the processor stands
--- in the order, and FirstPoint where it stands at the opening. ReadyLines has lists of threads, ListShapes what the processor's list is after
--- a step, and EventLines who is ready then. QuietSteps shows that a step which no trace shows leaves the point. NextSteps, Reserves and
--- Follow show that an event follows: ShowSteps of a pending step, VisitOrder of a visit, CleanOrder of a cleaning, TakeOrder of a thread that is
--- taken. FullKept keeps what is due. OneStep puts all steps together, and OneRuns whole runs.
+-- The law `one_order`, by induction over the steps of a fine run by one processor. A point of the order (`Point` of um_invariants) goes along
+-- with them: a step that shows an event leads to a point at which that event follows, and any other step leaves the point as it is.
+--
+-- Standing: how the processor and the scheduler's cell relate to the point. FirstPoint: they do so at the opening. CleanNow: when no cleaning
+-- step is lawful. ReadyLines: lists of threads. ListShapes: the processor's list of steps after a step. EventLines: the ready list after an
+-- event. QuietSteps: steps that show no event. Follow: what makes an event follow. NextSteps and Reserves: it is its thread's next step, with
+-- the least row. ShowSteps, VisitOrder, CleanOrder and TakeOrder: the events of pending steps, of permissions that are inherited or dropped,
+-- of cleanings, and of threads that are taken from the ready list. FullKept: which permissions stay due. OneStep: any step. OneRuns: runs.
 mod CleanNow
 mod Standing
 mod ReadyLines

@@ -1,5 +1,5 @@
--- What the list of the one processor is after a step: no event of a thread at rest stands on it behind the first step of a turn, and nothing to end or to
--- clean stands behind an event of its thread.
+-- The processor's list of steps after a step: where its thread is at rest, no event stands on it. And a list that begins with an event of the thread
+-- ends no call's claim, and cleans no object.
 use Rattle.std.proofs.Common.{◌≡◌, ◌⊎◌, inl, inr, ℕ, Bool, true, false, [], ◌∷◌, ◌++◌, Option, Some, None, refl, sym, ap, ◌∙◌, subst}
 use Rattle.std.specs.Prelude.{◌||◌}
 use Rattle.std.specs.List.{list_any}
@@ -58,7 +58,7 @@ module _ (image : Image) where
       first (Some who) todo at = refl
   cleaned-shows p e false = refl
 
-  -- after a step behind which its thread is at rest
+  -- a step behind which the thread is at rest leaves no event on the list, if none stood behind it
   pub next-shows : (p : Processor) (e : FineStep) (q : Todo) (todo : Todos) → p.todo ≡ q ∷ todo → AtRest (goes_on_by image p e (q ∷ todo)).context → NoShow todo
       → NoShow (p_next image p e).todo
   next-shows p e q todo at of h =
@@ -68,7 +68,7 @@ module _ (image : Image) where
       by (Todo.show r rest) of = event-no-show p e r rest todo of h
       by q of = goes-no-show p e q todo refl of h
 
-  -- a turn ends with `done` only where it was to end so, or the thread has ended
+  -- `done` is on the list behind a step only if the thread has ended, if that was so before
   pub next-ends : (p : Processor) (e : FineStep) (q : Todo) (todo : Todos) → p.todo ≡ q ∷ todo → Fits image p.context (q ∷ todo) → (is_show q ≡ true → is_word_read e.act ≡ false)
       → (list_any is_done (q ∷ todo) ≡ true → p.context.ended ≡ true) → list_any is_done (p_next image p e).todo ≡ true → (goes_on_by image p e (q ∷ todo)).context.ended ≡ true
   next-ends p e q todo at fits unread was h =
@@ -90,7 +90,7 @@ module _ (image : Image) where
       by q unread was (inl read) = absurd read
       by q unread was (inr k) = other q was k
 
-  -- Behind an event of its thread nothing stands that ends a claim of a call, or cleans.
+  -- Behind an event of its thread the list has no step that ends a call's claim, or that recycles an object.
 
   shown-ends : (x : ℕ) (c : Context) (q : Pending) → (counted (is_end_call x) (behind_shown image c q) ≡ 0) × (counted (is_recycle x) (behind_shown image c q) ≡ 0)
   shown-ends x c (Pending.Start who script stack priority mode) = (refl, refl)

@@ -1,4 +1,4 @@
--- The step of an event is the one that the machine's thread makes next, with the least row that it may take.
+-- The step of an event is its thread's next step in the machine, with the least row that this step may take.
 use Rattle.std.proofs.Common.{◌≡◌, inl, inr, ℕ, zero, suc, Bool, true, false, List, [], ◌∷◌, drop, Option, Some, None, refl, sym, ap, ◌∙◌, subst, arith}
 use Rattle.std.specs.Prelude.{◌&&◌, not, IsTrue, if◌then◌else◌, is_some, slice_get, slice_index_or}
 use Rattle.std.specs.List.{list_all}
@@ -45,7 +45,7 @@ module _ (m : State) (t : ℕ) where
   begin-is None h = absurd (false≢true h)
   begin-is (Some instr) h = refl
 
-  -- nothing is left to pass on, or to drop
+  -- where nothing is due, no row is left to pass on or to drop
   inherits-none : (who : ThreadIx) → IsTrue (none_due (thread_at m t)) → TakesNone m t (Pending.Inherit who)
   inherits-none who due y may = not-due (thread_at m t).due y due may.1
 
@@ -55,7 +55,7 @@ module _ (m : State) (t : ℕ) where
   no-first : (p : Pending) (q : Pending) (rest : Steps) → (thread_at m t).pending ≡ p ∷ q ∷ rest → TakesNone m t p → NoFirst m t
   no-first p q rest e none step first = subst (TakesNone m t) (same-some p step (sym (first-is p (q ∷ rest) e) ∙ first)) none
 
-  -- which step it is, and how many of its steps the thread leaves behind
+  -- the step is the thread's next one, and this many steps are taken from those that it has left
   pub record Leads (q : Pending) (rest : Steps) : Type 0 where
     pub taken : ℕ
     pub next : IsNextStep m t q taken
@@ -86,7 +86,7 @@ module _ (m : State) (t : ℕ) where
   is_reserve (Pending.Reserve kind) = true
   is_reserve q = false
 
-  -- of a step that chooses no row
+  -- a step that chooses no row: it is the same with row 0
   record Rowless (x : ℕ) (q : Pending) (rest : Steps) : Type 0 where
     may : MayTake m t q 0
     says : T.act_of m t x q ≡ T.act_of m t 0 q
@@ -101,7 +101,7 @@ module _ (m : State) (t : ℕ) where
   rowless x Pending.Resume rest shown plain = absurd shown
   rowless x q rest shown plain = record { may = (tt, tt); says = refl; leaves = refl }
 
-  -- the row that a reservation chooses is the least one
+  -- a reservation has the least row that it may choose
   abbrev pub ReservesLeast : ℕ → Pending → Type 0
   ReservesLeast x (Pending.Reserve kind) = IsLeast m t (Pending.Reserve kind) x
   ReservesLeast x q = Unit {0}

@@ -28,7 +28,7 @@ use Rattle.um_order.proofs.OneStep.{step-kept, Holds}
 use Rattle.um_order.proofs.FirstPoint.{ready-first}
 use Rattle.um_refinement.proofs.Erased.{shown-append}
 
--- Events in order, up to a point.
+-- these events follow one another from one point to another
 abbrev Leads : Point → List Event → Point → Type 0
 Leads at [] to = to ≡ at
 Leads at (event ∷ events) to = (mid : Point) × Follows at event mid × Leads mid events to

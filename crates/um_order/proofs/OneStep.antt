@@ -1,4 +1,4 @@
--- A lawful step of the one processor leaves the point, or its event follows.
+-- With each lawful step of the one processor its event follows, or the point stays.
 use Rattle.std.proofs.Common.{◌≡◌, ◌⊎◌, inl, inr, ℕ, true, false, cond, [], ◌∷◌, length, refl, sym, ap, ◌∙◌, subst, arith, eq-eqb}
 use Rattle.std.proofs.lemmas.Bool.{false≢true}
 use Rattle.um_base.specs.declared.image.Image.{Image}
@@ -57,7 +57,7 @@ use Rattle.um_order.proofs.Standing.{Begun, Idles, IsFull, Opens, Stands, begun,
 use Rattle.um_order.proofs.TakeOrder.{opens-on, resume-follows, take-opens}
 use Rattle.um_order.proofs.VisitOrder.{drop-follows, fits-drop, fits-pass, pass-follows}
 
--- what holds of processors, sites and the point along a fine run
+-- what the induction along a fine run keeps of the processors, the sites and the point
 pub record Holds (image : Image) (ps : ℕ → Processor) (ss : Site → SiteState) (at : Point) : Type 0 where
   pub rel : Rel (fine image 1 ps ss) at.state
   pub reach : IsReachable image 1 at.state
@@ -73,7 +73,7 @@ abbrev from_of : Steps → ℕ
 from_of (Pending.Drops from ∷ rest) = from
 from_of steps = 0
 
--- what a processor has first
+-- the first step on a list
 abbrev first-of : Todos → Todo
 first-of [] = Todo.done
 first-of (q ∷ todo) = q
@@ -85,7 +85,7 @@ module _ (f : Fine) (at : Point) (e : FineStep) (law : Lawful f at.state e) (one
   abbrev m : State
   m = at.state
 
-  -- the event follows, or the point stays, and where the processor stands then
+  -- a step's point, to which its event leads, and how the processor relates to it
   pub record Next (s2 : State) : Type 0 where
     pub point : Point
     pub follows : FollowsBy at e.act point
@@ -118,7 +118,7 @@ module _ (f : Fine) (at : Point) (e : FineStep) (law : Lawful f at.state e) (one
       by (opens was) = right (opens-on f at e law one orderly was quiet)
       by (begun was) = left (quiet-begun f at e law one suits.tells proper bounds was quiet)
 
-  -- a processor that has begun, by what is first on its list
+  -- a processor whose list doesn't begin with the opening of a turn has made the last event
   has-begun : (q : Todo) (todo : Todos) → p.todo ≡ q ∷ todo → is_opening q ≡ false → Stands p (scheduler f) at → Begun p (scheduler f) at
   has-begun q todo list other (idles was) = absurd (false≢true (sym (ap has_steps was.list) ∙ ap has_steps list))
   has-begun q todo list other (opens was) = absurd (false≢true (sym other ∙ (ap is_opening (ap first-of (sym list ∙ was.list)) ∙ was.is)))
@@ -129,7 +129,7 @@ module _ (f : Fine) (at : Point) (e : FineStep) (law : Lawful f at.state e) (one
   is-idle list (opens was) = absurd (false≢true (sym (ap has_steps list) ∙ ap has_steps was.list))
   is-idle list (begun was) = absurd (false≢true (sym (ap has_steps list) ∙ was.runs))
 
-  -- the permissions that are left are due
+  -- what its thread has still to pass on or to drop is due
   abbrev Full : Type 0
   Full = runs p ≡ true → IsFull m p.context.thread p.context.pending
 

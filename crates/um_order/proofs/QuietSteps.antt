@@ -1,4 +1,5 @@
--- A step that no trace shows leaves the point where it is: who is woken or started goes behind the ready list, and its own thread at the end of its turn.
+-- A step that shows no event leaves the point as it is. By such steps threads that were woken or started come into the scheduler's ready list, as does
+-- the processor's own thread at the end of its turn. In the point's ready list they stand already.
 use Rattle.std.proofs.Common.{◌≡◌, ◌⊎◌, inl, inr, ℕ, zero, suc, ◌+◌, ◌<◌, Bool, true, false, List, [], ◌∷◌, ◌++◌, map, Some, None, refl, sym, ap, ◌∙◌, subst, arith, append-nil, append_assoc, eq-eqb}
 use Rattle.std.specs.Prelude.{◌==◌, ◌&&◌, ◌||◌, not, IsTrue, if◌then◌else◌, is_some}
 use Rattle.std.specs.List.{list_any}
@@ -50,13 +51,13 @@ use Rattle.um_order.proofs.ListShapes.{next-ends, next-shows}
 use Rattle.um_order.proofs.Standing.{Begun, Idles, back, comers, goes, inside_of, is_show, woken_of}
 use Rattle.um_refinement.proofs.AwayPart.{none-left}
 
--- the events of a thread at rest
+-- the steps that a thread at rest makes
 abbrev pub is_rest : Pending → Bool
 is_rest Pending.Begin = true
 is_rest Pending.Exit = true
 is_rest q = false
 
--- an instruction has none of them
+-- an instruction has no such step
 no-first : (image : Image) (checked : List Bool) (q : Pending) (rest : Steps) → is_rest q ≡ true → Proper image checked (q ∷ rest) → ⊥
 no-first image checked Pending.Begin rest h p = p
 no-first image checked Pending.Exit rest h p = p
@@ -105,7 +106,7 @@ module _ (f : Fine) (at : Point) (e : FineStep) (law : Lawful f at.state e) (one
   fits-at : (todo : Todos) → p.todo ≡ todo → Fits f.image p.context todo
   fits-at todo h = subst (Fits f.image p.context) h (law.rel.processors e.cpu law.by.named).list.fits
 
-  -- a read of its thread's word is of one at rest
+  -- where a step only reads the word of its thread, the thread is at rest
   pub read-rests : (q : Pending) (rest : Steps) (todo : Todos) → p.todo ≡ Todo.show q rest ∷ todo → is_word_read e.act ≡ true → p.context.pending ≡ []
   read-rests q rest todo list read = rest-offered f.image (thread_at at.state t).checked p.context fits (is q (made-says f at.state e law (Todo.show q rest ∷ todo) list)) steps
     where
@@ -128,14 +129,14 @@ module _ (f : Fine) (at : Point) (e : FineStep) (law : Lawful f at.state e) (one
       steps = over (is_over p.context) refl
 
   module _ (was : Begun p s at) (quiet : is_shown e.act ≡ false) where
-    -- no event of a thread at rest is next
+    -- no event is first on the list
     unread : (q : Pending) (rest : Steps) (todo : Todos) → p.todo ≡ Todo.show q rest ∷ todo → ⊥
     unread q rest todo list =
         let read = read-only f at.state e law q (made-says f at.state e law (Todo.show q rest ∷ todo) list) quiet in
         let none = was.shows (ap is_empty (read-rests q rest todo list read)) in
         true≢false (sym (ap (list_any is_show) list) ∙ none)
 
-    -- a step of which only the ready list and the list of the processor may change
+    -- a step that changes at most the scheduler's ready list and the processor's list, if together they give the same ready threads
     ordinary : (q : Todo) (todo : Todos) → p.todo ≡ q ∷ todo → is_end q ≡ false → is_show q ≡ false
         → (s.ready ++ (comers p.todo ++ back p.context) ≡ (scheduler later).ready ++ (comers now.todo ++ back p.context)) → Begun now (scheduler later) at
     ordinary q todo list on plain ready =
@@ -159,7 +160,7 @@ module _ (f : Fine) (at : Point) (e : FineStep) (law : Lawful f at.state e) (one
           told = λ h. ap (λ (c : Context). (thread_at at.state c.thread).told) same ∙ was.told (ap (λ (c : Context). waits c.pending) (sym same) ∙ h);
         }
 
-    -- who comes by the list that is left
+    -- the threads that the list wakes or adds after the step
     coming : (q : Todo) (todo : Todos) → p.todo ≡ q ∷ todo → is_show q ≡ false → comers now.todo ≡ woken_of (woken_by e q ++ wakers todo) ++ map (λ (c : Context). c.thread) (adders todo)
     coming q todo list plain =
         let framed = subst (AreFramed f.image) list (law.rel.processors e.cpu law.by.named).frames in
@@ -175,7 +176,7 @@ module _ (f : Fine) (at : Point) (e : FineStep) (law : Lawful f at.state e) (one
         ordinary q todo list on plain
         (λ i. (sym (elsewhere q todo list off) i).ready ++ (((ap comers list ∙ (all ∙ sym (coming q todo list plain))) i) ++ back p.context))
 
-    -- A thread is woken: it is parked.
+    -- A thread is woken, which is parked.
 
     woken-parked : (who : ℕ) (told : Told) (todo : Todos) → p.todo ≡ Todo.wake who told ∷ todo → is_some (parked_at s who) ≡ true
     woken-parked who told todo list = by (is_some (parked_at s who)) refl
@@ -339,7 +340,7 @@ module _ (f : Fine) (at : Point) (e : FineStep) (law : Lawful f at.state e) (one
             which (Pending.Resume ∷ rest) k = refl
             which (q ∷ rest) k = absurd (false≢true k)
 
-        -- who waits was told nothing
+        -- if it waits, it was told nothing
         untold : IsTrue (waits p.context.pending) → is_some (told_at s t) ≡ false
         untold h = which (is_some (told_at s t)) refl
           where
@@ -406,7 +407,7 @@ module _ (f : Fine) (at : Point) (e : FineStep) (law : Lawful f at.state e) (one
         same : (scheduler later).ready ≡ s.ready
         same = ap (λ (z : Scheduler). z.ready) (sched-later f at.state e law site (FineAct.Unseen Unseen.Done) said)
 
-    -- what its turn has come to
+    -- the turn goes on, or has ended
     pub quiet-begun : Begun now (scheduler later) at ⊎ Idles now (scheduler later) at
     quiet-begun = by p.todo refl
       where

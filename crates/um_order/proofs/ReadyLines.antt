@@ -1,4 +1,4 @@
--- Numbers that go to the back of a line in which none of them stands.
+-- Lists of threads: joining at the back, and passing over those that stand still.
 use Rattle.std.proofs.Common.{◌≡◌, ℕ, ◌+◌, ◌<◌, ◌≤◌, Bool, true, false, List, [], ◌∷◌, ◌++◌, Some, refl, sym, ap, ◌∙◌, subst, arith, append-nil, append_assoc, eq-eqb}
 use Rattle.std.specs.Prelude.{◌==◌, ◌||◌, if◌then◌else◌}
 use Rattle.um_machine.specs.Order.{to_thread}
@@ -46,7 +46,7 @@ all-join-new line (x ∷ xs) h =
     (λ u some. let more = occurs-more u x xs in subst (λ l. occurs u l ≤ 1) (sym (append_assoc line (x ∷ []) xs)) (h u (omega (arith, some, more))))
     ∙ append_assoc line (x ∷ []) xs)
 
--- Who is next behind threads that stand still.
+-- Threads that stand still are passed over.
 
 pub next-skips : (s : State) (skipped ready : List ℕ) → AllStill s skipped → next_ready s (skipped ++ ready) ≡ next_ready s ready
 next-skips s [] ready h = refl

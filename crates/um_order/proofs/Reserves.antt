@@ -1,4 +1,4 @@
--- The heap gives the least address that is free.
+-- A reservation has the least row that it may choose, since the heap gives the least free address.
 use Rattle.std.proofs.Common.{◌≡◌, ◌⊎◌, inl, inr, ℕ, zero, suc, ◌+◌, ◌<◌, ◌≤◌, Bool, true, false, Option, Some, None, refl, sym, ap, ◌∙◌, subst, arith, eq-or-lt_of_le, ne_eqb}
 use Rattle.std.specs.Prelude.{◌==◌, if◌then◌else◌, is_some}
 use Rattle.std.proofs.lemmas.Bool.{and_parts, false≢true, leb-true, ltb-true, true≢false}
@@ -27,7 +27,7 @@ use Rattle.um_refinement.proofs.Offered.{IsStep, Shows, act-is, says-at, site-is
 use Rattle.um_refinement.proofs.WordsKept.{IsShown}
 use Rattle.um_order.proofs.NextSteps.{ReservesLeast}
 
--- below the one that the search finds none is free
+-- the search for a free address finds the least one
 least-before : (h : Heap) (kind : Kind) (n x z y : ℕ) → least_open h kind x n ≡ Some z → x ≤ y → y < z → is_open h kind y ≡ false
 least-before h kind zero x z y e low less = absurd (false≢true (ap is_some e))
 least-before h kind (suc n) x z y e low less = by (is_open h kind x) refl e (least-before h kind n (x + 1) z y)
@@ -52,7 +52,7 @@ module _ (f : Fine) (m : State) (e : FineStep) (law : Lawful f m e) (kind : Kind
       let here = subst (λ (s : SiteState). site_answers f.image s e.moved act ≡ act) at.1 (says-at h Site.heap act (site-is h) (act-is h)) in
       (can_pay (heap f).pools (charge_in e.moved), sym (ap (λ z. reserved_in (act_in z)) here))
 
-  -- two rows that a reservation may choose have addresses of their own
+  -- the rows that a reservation may choose are dynamic, and no two of them have one address
   dynamic : (y : ℕ) → is_free_for m kind y ≡ true → (STATIC_ROWS ≤ y) × (y < ROWS)
   dynamic y free =
       let both = and_parts _ _ (and_parts _ _ (and_parts _ _ free).0).0 in (leb-true STATIC_ROWS y both.0, ltb-true y ROWS both.1)
@@ -101,7 +101,7 @@ module _ (f : Fine) (m : State) (e : FineStep) (law : Lawful f m e) (kind : Kind
           other (inl two) = least-is one.1 y less two.1
           other (inr two) = true≢false (sym one.1 ∙ two.1 one.0 x)
 
--- of any event
+-- the same for any pending step
 pub reserves-least : (f : Fine) (m : State) (e : FineStep) (q : Pending) (rest : Steps) (todo : Todos) (x : ℕ) → Lawful f m e → Shows f m e.cpu e q rest todo → IsShown q → IsStep f m e.cpu e x q
     → ReservesLeast m (f.processors e.cpu).context.thread x q
 reserves-least f m e (Pending.Reserve kind) rest todo x law h shown is = reserve-least f m e law kind rest todo x h is

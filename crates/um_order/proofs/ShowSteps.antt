@@ -1,4 +1,4 @@
--- The event of a pending step follows: the thread goes on whose instruction isn't over, or one begins its line that was taken from the ready list.
+-- The event of a pending step follows: a thread goes on with its instruction, or begins a line after it was taken from the ready list.
 use Rattle.std.proofs.Common.{◌≡◌, ◌⊎◌, inl, inr, ℕ, zero, suc, ◌+◌, ◌<◌, Bool, true, false, List, [], ◌∷◌, ◌++◌, map, length, Some, None, refl, sym, ap, ◌∙◌, subst, arith, append-nil, eq-eqb}
 use Rattle.std.specs.Prelude.{◌==◌, ◌&&◌, ◌||◌, not, if◌then◌else◌, is_some}
 use Rattle.std.specs.List.{list_any}
@@ -71,7 +71,7 @@ use Rattle.um_order.proofs.Standing.{Begun, IsFull, Opens, back, comers, goes, i
 use Rattle.um_refinement.proofs.AwayPart.{none-left}
 use Rattle.um_order.proofs.QuietSteps.{one-part}
 
--- a step that is shown and offered is of an instruction that goes on, or the first of one
+-- where a step is offered and shown, its thread is at rest, or goes on with its instruction
 first-goes : (q : Pending) (rest : Steps) → IsShown q → goes (q ∷ rest) ≡ true
 first-goes Pending.Resume rest h = absurd h
 first-goes q rest h = refl
@@ -98,7 +98,7 @@ begins-free image me c (O.dropped e) none life = absurd (false≢true (sym (ap i
 begins-free image me c (O.begins e on i) none life = life.1
 begins-free image me c (O.exits e on i) none life = life.1
 
--- nobody resumes by a step that is shown
+-- a thread that makes such a step has no `resume` next
 resumes-none : (m : State) (t : ℕ) {q : Pending} {rest : Steps} → IsShown q → Offers m t q rest → is_resume (thread_at m t).pending ≡ false
 resumes-none m t shown (R.goes {p} {rest} e) = ap is_resume e ∙ by p shown
   where
@@ -113,7 +113,7 @@ resumes-none m t shown (R.tends {p = Pending.CleanPair who} is started) = absurd
 resumes-none m t shown (R.tends {p = Pending.Recycle} is started) = absurd shown
 resumes-none m t shown (R.tends {p = q} is started) = absurd (false≢true is)
 
--- behind an event nobody is woken, and no event is shown
+-- what stands behind an event on the list wakes no thread, shows no event, and isn't `done`
 shown-plain : (image : Image) (c : Context) (q : Pending) → (wakers (behind_shown image c q) ≡ []) × (list_any is_show (behind_shown image c q) ≡ false) × (list_any is_done (behind_shown image c q) ≡ false)
 shown-plain image c (Pending.Start who script stack priority mode) = (refl, refl, refl)
 shown-plain image c q = (refl, refl, refl)
@@ -196,14 +196,14 @@ module _ (f : Fine) (at : Point) (e : FineStep) (law : Lawful f at.state e) (one
   room : t < length m.threads
   room = let many = law.sound.wide.threads in let index = (own-part h).index in omega (arith, index, many)
 
-  -- whom it wakes, the machine wakes
+  -- it wakes those whom the machine wakes
   outcome : (a : Addr) (ask : Ask) → q ≡ Pending.Work a ask → (outcome_in e.moved).woken ≡ (T.work_of m t a ask).woken
   outcome a ask w =
       subst
       (λ (r : Pending). (h : Shows f m e.cpu e r rest todo) → IsStep f m e.cpu e x r → r ≡ Pending.Work a ask → (outcome_in e.moved).woken ≡ (T.work_of m t a ask).woken)
       (sym w) (λ h is same. ap (λ o. o.woken) (carries f m e law suits all rest todo x (Pending.Work a ask) h room tt is)) h is w
 
-  -- those that come by its list are those that it starts or wakes
+  -- those whom the act starts or wakes are those whom the list adds or wakes
   comes : readied (says_step f.image p q (act_in e.act)) ≡ comers now.todo
   comes = by q refl is.says ∙ sym now-comers
     where
@@ -241,7 +241,7 @@ module _ (f : Fine) (at : Point) (e : FineStep) (law : Lawful f at.state e) (one
   runs-then : has_steps now.todo ≡ true
   runs-then = goes-runs f.image p e (Todo.show q rest) todo h.at refl framed.0 (subst (AreBlocks f.image) h.at (law.rel.processors e.cpu law.by.named).blocks)
 
-  -- it was told nothing: who is told waits, and nobody wakes himself
+  -- its thread was told nothing: only a waiting thread is told something, and no thread wakes itself
   module _ (related : Rel later s2) where
     told-then : (thread_at s2 now.context.thread).told ≡ None
     told-then = ap (λ n. (thread_at s2 n).told) thread ∙ ((related.threads t few).told.told ∙ none-told later t nobody)
@@ -286,7 +286,7 @@ module _ (f : Fine) (at : Point) (e : FineStep) (law : Lawful f at.state e) (one
             let none = before in
             omega (arith, sum, mine, there, none)
 
-    -- The event follows, where its thread is the one that goes on, and these are ready behind it.
+    -- The event follows if its thread is the one to go on, and the threads behind it are those of the scheduler's ready list.
     module _ (tells : TellsWaiters s2) (bounds : AreBounded later) (full : IsFull m t p.context.pending) (least : ReservesLeast m t x q) where
       full-there : IsFull m t (thread_at m t).pending
       full-there = subst (IsFull m t) (ap (λ (z : Thread). z.pending) (own-part h).own) full

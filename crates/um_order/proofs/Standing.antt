@@ -1,5 +1,4 @@
--- Where the one processor stands in the order of events: what its list, its own part and the ready list say of the point that the events
--- have come to.
+-- How the one processor and the scheduler's cell relate to the point that the events so far have led to.
 use Rattle.std.specs.Prelude.{◌≡◌, ◌≢◌, ℕ, ◌≤◌, Bool, true, false, ◌&&◌, not, if◌then◌else◌, List, [], ◌∷◌, ◌++◌, map, Option, Some, None, slice_index_or}
 use Rattle.std.specs.List.{list_any}
 use Rattle.um_base.specs.declared.names.ThreadIx.{ThreadIx}
@@ -24,11 +23,11 @@ woken_of ws = map (λ w. w.0) ws
 abbrev pub comers : Todos → List ℕ
 comers todo = woken_of (wakers todo) ++ map (λ (c : Context). c.thread) (adders todo)
 
--- its own thread, where that goes behind the ready list at the end of its turn
+-- its own thread, if that joins the ready list at the end of the turn: it has no step left, and hasn't ended
 abbrev pub back : Context → List ℕ
 back c = if is_empty c.pending && not c.ended then c.thread ∷ [] else []
 
--- whether an instruction goes on
+-- whether a thread with these steps goes on with its instruction: it has a step left, and doesn't wait
 abbrev pub goes : Steps → Bool
 goes [] = false
 goes (Pending.Resume ∷ rest) = false
@@ -41,18 +40,19 @@ abbrev pub is_show : Todo → Bool
 is_show (Todo.show q rest) = true
 is_show q = false
 
--- the first step of a turn, or the one that gives it up
+-- the step with which the turn of a thread at rest opens: the begin of a line, an exit, or `done`, which gives the turn up
 abbrev pub is_opening : Todo → Bool
 is_opening (Todo.show q rest) = true
 is_opening Todo.done = true
 is_opening q = false
 
--- threads that stand still
+-- all of these threads stand still
 abbrev pub AllStill : State → List ℕ → Type 0
 AllStill s [] = Unit {0}
 AllStill s (t ∷ ts) = (is_still s t ≡ true) × AllStill s ts
 
--- It has no thread. Those that it has taken since the last event stood still.
+-- The processor has no thread. Those that it has taken since the last event stood still, so it gave them up. They still stand in the point's
+-- ready list.
 pub record Idles (p : Processor) (s : Scheduler) (at : Point) : Type 0 where
   pub list : p.todo ≡ []
   pub skipped : List ℕ
@@ -60,7 +60,7 @@ pub record Idles (p : Processor) (s : Scheduler) (at : Point) : Type 0 where
   pub ready : at.ready ≡ skipped ++ s.ready
   pub inside : at.inside ≡ None
 
--- It has taken a thread at rest, and that has made no event: it begins its line, or exits, or it is given up.
+-- The processor has taken a thread at rest, which has made no event yet: next it begins a line or exits, or the processor gives it up.
 pub record Opens (p : Processor) (s : Scheduler) (at : Point) : Type 0 where
   pub first : Todo
   pub list : p.todo ≡ first ∷ []
@@ -72,16 +72,17 @@ pub record Opens (p : Processor) (s : Scheduler) (at : Point) : Type 0 where
   pub ready : at.ready ≡ skipped ++ p.context.thread ∷ s.ready
   pub inside : at.inside ≡ None
 
--- Its thread has made the last event.
+-- The processor's thread has made the last event. In the point's ready list stand already those whom its list has still to wake or to add,
+-- and the thread itself if it goes back.
 pub record Begun (p : Processor) (s : Scheduler) (at : Point) : Type 0 where
   pub runs : has_steps p.todo ≡ true
   pub last : at.last ≡ Some (to_thread p.context.thread)
   pub ready : at.ready ≡ s.ready ++ (comers p.todo ++ back p.context)
   pub inside : at.inside ≡ inside_of p.context
-  -- no event of a thread at rest is on the list, and a turn ends with `done` only where the thread has ended
+  -- a thread at rest has no event on the list, and `done` is on the list only if the thread has ended
   pub shows : is_empty p.context.pending ≡ true → list_any is_show p.todo ≡ false
   pub ends : list_any is_done p.todo ≡ true → p.context.ended ≡ true
-  -- it doesn't wait for what it was told
+  -- a thread that waits wasn't told anything yet
   pub told : waits p.context.pending ≡ true → (thread_at at.state p.context.thread).told ≡ None
 
 pub data Stands (p : Processor) (s : Scheduler) (at : Point) : Type 0 where
@@ -89,7 +90,8 @@ pub data Stands (p : Processor) (s : Scheduler) (at : Point) : Type 0 where
   opens : Opens p s at → Stands p s at
   begun : Begun p s at → Stands p s at
 
--- Each permission that is left to pass on, or to drop, is due.
+-- Where a thread passes permissions on, each one that it still can pass on is due. Where it drops them at its end, each one from that row on is
+-- due. Several processors break this: another one may grant or revoke meanwhile.
 abbrev pub IsFull : State → ℕ → Steps → Type 0
 IsFull m t (Pending.Inherit who ∷ rest) =
     (x : ℕ) → pair_at m t x ≡ true → pair_at m who.0 x ≡ false → x ≢ own_row m.image t → slice_index_or (thread_at m t).due x false ≡ true

@@ -1,4 +1,4 @@
--- A thread is taken from the ready list: behind those that stand still, the first one begins its line, is given up, or resumes.
+-- A thread is taken from the ready list: the first behind those that stand still. It begins a line or exits, or resumes, or is given up.
 use Rattle.std.proofs.Common.{◌≡◌, ◌⊎◌, inl, inr, ℕ, suc, ◌<◌, Bool, true, false, [], ◌∷◌, ◌++◌, map, length, drop, Option, Some, None, refl, sym, ap, ◌∙◌, subst, arith, append_assoc}
 use Rattle.std.specs.Prelude.{◌==◌, ◌&&◌, ◌||◌, not, if◌then◌else◌, is_some, slice_get}
 use Rattle.std.specs.List.{list_any}
@@ -64,7 +64,7 @@ use Rattle.um_machine.specs.Goes.{Next, gone, went}
 not-zero : (n : ℕ) → (suc n == 0) ≡ false
 not-zero n = grind (arith, nat_tests)
 
--- a thread at rest begins its line, or exits
+-- a thread at rest begins a line, or exits
 turn-opens : (image : Image) (o : Option Instr) → (first : Todo) × (turn_of image o ≡ first ∷ []) × (is_opening first ≡ true)
 turn-opens image None = (Todo.show Pending.Exit [], refl, refl)
 turn-opens image (Some instr) = (Todo.show Pending.Begin [], refl, refl)
@@ -147,7 +147,7 @@ module _ (f : Fine) (at : Point) (e : FineStep) (law : Lawful f at.state e) (one
           list : (scheduler later).ready ≡ first.list
           list = ap (λ (z : Scheduler). z.ready) first.after
 
-  -- One that was taken is found doomed, or is given up.
+  -- A thread that was taken at rest is found doomed, or is given up.
 
   pub opens-on : Opens p s at → is_shown e.act ≡ false → Opens now (scheduler later) at ⊎ Idles now (scheduler later) at
   opens-on was quiet = by was.first was.list was.is
@@ -219,7 +219,7 @@ module _ (f : Fine) (at : Point) (e : FineStep) (law : Lawful f at.state e) (one
       by Todo.done list is = inr (gives-up list)
       by first list is = absurd (false≢true is)
 
-  -- A woken one resumes.
+  -- A woken thread is taken, and resumes.
 
   module _ (c : Context) (told : Told) (rest : Steps) (was : Idles p s at) (moved : e.moved ≡ Exchange.thread c (Some told))
       (said : e.act ≡ FineAct.Shown (record { thread = to_thread c.thread; act = Act.Resume }) More.Nothing) (has : c.pending ≡ Pending.Resume ∷ rest)

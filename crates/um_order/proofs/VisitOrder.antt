@@ -1,4 +1,4 @@
--- A permission that is inherited, or that is dropped at a thread's end, is the one with the least row.
+-- The permission that a thread passes on or drops next is that of the least row due, and its event follows.
 use Rattle.std.proofs.Common.{◌≡◌, ◌≢◌, inl, ℕ, ◌<◌, ◌≤◌, true, false, [], ◌∷◌, ◌++◌, map, drop, Some, None, refl, sym, ap, ◌∙◌, subst, arith, append-nil}
 use Rattle.std.specs.Prelude.{◌&&◌, not, IsTrue, if◌then◌else◌, is_some, slice_get, slice_index_or}
 use Rattle.std.specs.List.{list_any}
@@ -65,7 +65,7 @@ module _ (f : Fine) (at : Point) (e : FineStep) (law : Lawful f at.state e) (one
   abbrev t : ℕ
   t = p.context.thread
 
-  -- What visits of both kinds have in common.
+  -- What holds of both.
   module _ (x : ℕ) (step : Todo) (todo : Todos) (h : Visits f m e.cpu e x step todo) (own : is_own f.image (step ∷ todo) ≡ true) (plain : is_show step ≡ false)
       (bare : (wakers todo ≡ []) × (adders todo ≡ [])) where
     framed : AreFramed f.image (step ∷ todo)
