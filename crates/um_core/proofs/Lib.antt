@@ -1,15 +1,16 @@
 -- A processor has one next step: OneStep, since what a site says and gives of a shown step doesn't depend on what stood in it before
--- (Filling). So an order of processors has one run: OneRun, by the sorts of sites (Sorts). MomentsKnown has what a fine run leaves of a
--- processor, from what is known of the run (LeftKnown): its sites and threads exist (SitesThere, by NamedThreads and NamedSteps), and it has
--- few objects to clean (CleaningsFew). Refusals tells when no step of a processor may follow. StepsOn and CoreRefusals say the same of a core
--- with tables: how it goes on (SitesSet has what a step leaves of tables), and when nobody goes on. LogRoom: a log has room for what is shown.
--- CoreTurns has what comes of a processor's turn in code, CoreExact what that does to the run so far, and CoreRuns how a core goes on as an
--- order of processors picks its steps (Picked), until all halt.
+-- (Filling). So an order of processors has one run: OneRun, by the sorts of sites (Sorts); and one processor has one, whatever the order:
+-- OneWhole. MomentsKnown has what a fine run leaves of a processor, from what is known of the run (LeftKnown): its sites and threads exist
+-- (SitesThere, by NamedThreads and NamedSteps), and it has few objects to clean (CleaningsFew). Refusals tells when no step of a processor
+-- may follow. StepsOn and CoreRefusals say the same of a core with tables: how it goes on (SitesSet has what a step leaves of tables), and
+-- when nobody goes on. LogRoom: a log has room for what is shown. CoreTurns has what comes of a processor's turn in code, CoreExact what
+-- that does to the run so far, and CoreRuns how a core goes on as an order of processors picks its steps (Picked), until all halt.
 pub mod Filling
 pub mod OneStep
 pub mod Sorts
 pub mod Counts
 pub mod OneRun
+pub mod OneWhole
 pub mod NamedSteps
 pub mod NamedThreads
 pub mod LeftKnown

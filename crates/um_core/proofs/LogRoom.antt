@@ -6,7 +6,7 @@ use Rattle.um_words.specs.declared.fine.FineAct.{FineAct}
 use Rattle.um_fine.specs.Erasure.{shown, shown_by}
 use Rattle.um_fine.specs.FineRun.{IsFineRun}
 use Rattle.um_fine.specs.Steps.{FineStep}
-use Rattle.um_core.specs.PickedRun.{MayFollow}
+use Rattle.um_core.specs.PickedRun.{IsOver}
 use Rattle.um_core.proofs.OneRun.{fine-more}
 
 -- each step shows one event at most
@@ -19,7 +19,7 @@ shown-few (e ∷ done) = by e.act (shown-few done)
     by (FineAct.Unseen unseen) few = omega (arith, few)
 
 pub full-none : (image : Image) (cpus most : ℕ) → ((h : List FineStep) → IsFineRun image cpus h → length h ≤ most) → (done : List FineStep) → IsFineRun image cpus done
-    → most ≤ length (shown done) → (e : FineStep) → MayFollow image cpus done e → ⊥
+    → most ≤ length (shown done) → IsOver image cpus done
 full-none image cpus most longest done run full e follows =
     let more = longest (done ++ e ∷ []) (fine-more image cpus done e run follows) in
     let count = length-append done (e ∷ []) in

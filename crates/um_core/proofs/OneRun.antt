@@ -12,7 +12,7 @@ use Rattle.um_fine.proofs.FineRuns.{runs_push}
 use Rattle.um_fine.proofs.Keys.{same-itself, same-sound}
 use Rattle.rand_pcg.specs.Pcg.{pcg32}
 use Rattle.um_scheduler.specs.Order.{drawn_from, preferred, round_from, seeded}
-use Rattle.um_core.specs.PickedRun.{ArePicked, IsPicked, IsPickedRun, MayFollow, behind, processor_after, site_after}
+use Rattle.um_core.specs.PickedRun.{ArePicked, IsOver, IsPicked, IsPickedRun, MayFollow, behind, processor_after, site_after}
 use Rattle.um_core.proofs.OneStep.{one-step}
 use Rattle.um_core.proofs.Sorts.{sorts-after}
 
@@ -37,8 +37,8 @@ picked-one image cpus first done e g l r =
 -- A stream of preferred processors, of which each takes the first from it.
 module _ {S : Type 0} (first : S → ℕ) (rest : S → S) (from : S → ℕ → List ℕ) (none : (s : S) → from s 0 ≡ []) (more : (s : S) (n : ℕ) → from s (suc n) ≡ first s ∷ from (rest s) n)
     (image : Image) (cpus : ℕ) where
-  pub one-order : (s : S) (done h g : List FineStep) → ArePicked image cpus done (from s (length h)) h → ((e : FineStep) → MayFollow image cpus (done ++ h) e → ⊥)
-      → ArePicked image cpus done (from s (length g)) g → ((e : FineStep) → MayFollow image cpus (done ++ g) e → ⊥) → h ≡ g
+  pub one-order : (s : S) (done h g : List FineStep) → ArePicked image cpus done (from s (length h)) h → IsOver image cpus (done ++ h)
+      → ArePicked image cpus done (from s (length g)) g → IsOver image cpus (done ++ g) → h ≡ g
   one-order s done [] [] l over r over' = refl
   one-order s done [] (e ∷ g) l over r over' =
       let here = subst (λ firsts. ArePicked image cpus done firsts (e ∷ g)) (more s (length g)) r in

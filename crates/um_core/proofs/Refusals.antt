@@ -22,7 +22,7 @@ use Rattle.um_fine.specs.Steps.{FineStep, Site}
 use Rattle.um_refinement.specs.Room.{CanRun}
 use Rattle.um_processor.specs.Processors.{fits_next, has_thread, is_event, shows_event}
 use Rattle.um_tables.specs.Sited.{IsSeen}
-use Rattle.um_core.specs.PickedRun.{MayFollow, NoneFollows, processor_after, site_after}
+use Rattle.um_core.specs.PickedRun.{IsOver, MayFollow, NoneFollows, processor_after, site_after}
 use Rattle.um_core.proofs.MomentsKnown.{add-there, few-cleanings, site-there, wake-there}
 use Rattle.um_core.proofs.OneStep.{refused-none}
 use Rattle.um_core.proofs.Sorts.{sorts-after}
@@ -111,5 +111,5 @@ module _ (image : Image) (cpus : ℕ) (described : IsDescribed image) (can : Can
       omega (arith, few, many, more)
 
 -- where no processor may make a step, the run is over
-pub nobody-steps : (image : Image) (cpus : ℕ) (done : List FineStep) → ((k : ℕ) → k < cpus → NoneFollows image cpus done k) → (e : FineStep) → MayFollow image cpus done e → ⊥
+pub nobody-steps : (image : Image) (cpus : ℕ) (done : List FineStep) → ((k : ℕ) → k < cpus → NoneFollows image cpus done k) → IsOver image cpus done
 nobody-steps image cpus done none e follows = none e.cpu follows.makes.named e refl follows

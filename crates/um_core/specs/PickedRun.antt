@@ -26,6 +26,10 @@ pub record MayFollow (image : Image) (cpus : ℕ) (done : List FineStep) (e : Fi
 abbrev pub NoneFollows : Image → ℕ → List FineStep → ℕ → Type 0
 NoneFollows image cpus done k = (e : FineStep) → e.cpu ≡ k → MayFollow image cpus done e → ⊥
 
+-- The run is over: no step of any processor may follow.
+abbrev pub IsOver : Image → ℕ → List FineStep → Type 0
+IsOver image cpus done = (e : FineStep) → MayFollow image cpus done e → ⊥
+
 -- the processor that comes this many places after one, going round
 abbrev pub behind : ℕ → ℕ → ℕ → ℕ
 behind cpus first n = (first + n) % cpus
@@ -48,4 +52,4 @@ ArePicked image cpus done (first ∷ firsts) (e ∷ steps) = IsPicked image cpus
 -- The steps of this many processors, which are preferred round-robin or as a pick draws them, until none can make another.
 pub record IsPickedRun (image : Image) (cpus : ℕ) (pick : Option ℕ) (steps : List FineStep) : Type 0 where
   pub picked : ArePicked image cpus [] (preferred cpus pick (length steps)) steps
-  pub over : (e : FineStep) → MayFollow image cpus steps e → ⊥
+  pub over : IsOver image cpus steps

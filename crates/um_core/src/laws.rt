@@ -1,4 +1,4 @@
-//! Laws over every moment of a fine run, and over the run of an order of processors.
+//! Laws over every moment of a fine run, over the run of an order of processors, and over that of one processor.
 
 ghost use Rattle.std.specs.Prelude.{◌≡◌, ℕ, List, Option};
 ghost use Rattle.um_base.specs.declared.image.Image.{Image};
@@ -11,7 +11,7 @@ ghost use Rattle.um_fine.specs.{
   Steps.{FineStep, Site},
 };
 ghost use Rattle.um_refinement.specs.{Room.{CanRun}, Shows.{AreCompleteRun, AreRun}};
-ghost use Rattle.um_core.specs.{Moments.{AreSorted, MayStep}, PickedRun.{IsPickedRun}};
+ghost use Rattle.um_core.specs.{Moments.{AreSorted, MayStep}, PickedRun.{IsOver, IsPickedRun}};
 
 use um_fine_measure::longest_fine_run;
 use um_refinement::every_fine_run;
@@ -39,3 +39,12 @@ pub fn every_order()
     every_fine_run();
     longest_fine_run();
 }
+
+/// On one processor there is one fine run behind which no step may follow: it is the run of every pick.
+pub fn one_whole()
+    ensures picked { (image : Image) (pick : Option ℕ) (steps : List FineStep)
+        → IsFineRun image 1 steps → IsOver image 1 steps → IsPickedRun image 1 pick steps }
+    ensures one { (image : Image) (steps steps2 : List FineStep)
+        → IsFineRun image 1 steps → IsOver image 1 steps → IsFineRun image 1 steps2 → IsOver image 1 steps2
+        → steps ≡ steps2 }
+{}

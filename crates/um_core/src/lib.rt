@@ -5,6 +5,6 @@ mod laws;
 mod processors;
 mod running;
 
-pub use laws::{every_moment, every_order};
+pub use laws::{every_moment, every_order, one_whole};
 pub use processors::Core;
 pub use running::run;

@@ -1,0 +1,63 @@
+-- On one processor there is one run that is over, whatever the pick: each step of a fine run may follow those before it, and the one processor is always the
+-- preferred one.
+use Rattle.std.proofs.Common.{◌≡◌, ℕ, suc, ◌+◌, ◌%◌, ◌<◌, List, [], ◌∷◌, ◌++◌, length, Option, Some, None, refl, sym, subst, arith, append_assoc, append-nil, eq-eqb}
+use Rattle.std.proofs.Math.Nat.{mod-lt}
+use Rattle.std.proofs.lemmas.Bool.{eqb-true}
+use Rattle.um_base.specs.declared.image.Image.{Image}
+use Rattle.um_fine.specs.FineRun.{ByOneOf, IsFineRun, cpu_of, p_start, same_cpu, site_of}
+use Rattle.um_fine.specs.Follows.{p_next}
+use Rattle.um_fine.specs.Opening.{s_start}
+use Rattle.um_fine.specs.Sites.{SiteMay, s_next, same_site}
+use Rattle.um_fine.specs.Steps.{FineStep}
+use Rattle.um_fine.proofs.FineRuns.{by_last, runs_pop}
+use Rattle.um_fine.proofs.Keys.{same-itself, same-sound}
+use Rattle.rand_pcg.specs.Pcg.{pcg32}
+use Rattle.um_scheduler.specs.Order.{drawn_from, round_from, seeded}
+use Rattle.um_core.specs.PickedRun.{ArePicked, IsOver, IsPicked, IsPickedRun, MayFollow}
+use Rattle.um_core.proofs.OneRun.{one-run}
+
+-- The steps of a fine run, taken apart.
+module _ (image : Image) (cpus : ℕ) where
+  fine-less : (done : List FineStep) (e : FineStep) → IsFineRun image cpus (done ++ e ∷ []) → IsFineRun image cpus done × MayFollow image cpus done e
+  fine-less done e run =
+      let a = runs_pop same_cpu (λ k. eq-eqb k k refl) (λ j k h. eqb-true j k h) cpu_of (ByOneOf image cpus) (p_next image) p_start done e run.processors in
+      let b = runs_pop same_site same-itself same-sound site_of (SiteMay image) (s_next image) (s_start image) done e run.sites in
+      (record { processors = a.0; sites = b.0 }, record { makes = a.1; takes = b.1 })
+
+  -- its first steps are one too
+  fine-first : (done rest : List FineStep) → IsFineRun image cpus (done ++ rest) → IsFineRun image cpus done
+  fine-first done =
+      by_last (λ rest. IsFineRun image cpus (done ++ rest) → IsFineRun image cpus done) (λ run. subst (IsFineRun image cpus) (append-nil done) run)
+      (λ rest e before run. before (fine-less (done ++ rest) e (subst (IsFineRun image cpus) (sym (append_assoc done rest (e ∷ []))) run)).0)
+
+  follows-in : (done : List FineStep) (e : FineStep) (rest : List FineStep) → IsFineRun image cpus (done ++ e ∷ rest) → MayFollow image cpus done e
+  follows-in done e rest run = (fine-less done e (fine-first (done ++ e ∷ []) rest (subst (IsFineRun image cpus) (sym (append_assoc done (e ∷ []) rest)) run))).1
+
+module _ (image : Image) where
+  -- the one processor is picked, whichever is preferred
+  picks-it : (first : ℕ) (done : List FineStep) (e : FineStep) → MayFollow image 1 done e → IsPicked image 1 first done e
+  picks-it first done e follows =
+      record {
+        follows = follows;
+        turn = 0;
+        within = omega arith;
+        made_by = (let named = follows.makes.named in let some : 0 < 1 = omega arith in let low = mod-lt (first + 0) some in omega (arith, named, low));
+        others = λ n g l by may. absurd (omega (arith, l));
+      }
+
+  -- A stream of preferred processors, of which each step takes the first.
+  module _ {S : Type 0} (first : S → ℕ) (rest : S → S) (from : S → ℕ → List ℕ) (none : (s : S) → from s 0 ≡ []) (more : (s : S) (n : ℕ) → from s (suc n) ≡ first s ∷ from (rest s) n) where
+    all-picked : (s : S) (done h : List FineStep) → IsFineRun image 1 (done ++ h) → ArePicked image 1 done (from s (length h)) h
+    all-picked s done [] run = subst (λ firsts. ArePicked image 1 done firsts []) (sym (none s)) tt
+    all-picked s done (e ∷ h) run =
+        subst (λ firsts. ArePicked image 1 done firsts (e ∷ h)) (sym (more s (length h)))
+        (picks-it (first s) done e (follows-in image 1 done e h run), all-picked (rest s) (done ++ e ∷ []) h (subst (IsFineRun image 1) (sym (append_assoc done (e ∷ []) h)) run))
+
+  pub picked-whole : (pick : Option ℕ) (steps : List FineStep) → IsFineRun image 1 steps → IsOver image 1 steps → IsPickedRun image 1 pick steps
+  picked-whole None steps run over =
+      record { picked = all-picked (λ i. i % 1) (λ i. i + 1) (round_from 1) (λ i. refl) (λ i n. refl) 0 [] steps run; over = over }
+  picked-whole (Some seed) steps run over =
+      record { picked = all-picked (λ words. (pcg32 words).0 % 1) (λ words. (pcg32 words).1) (drawn_from 1) (λ words. refl) (λ words n. refl) (seeded seed) [] steps run; over = over }
+
+  pub one-whole : (h g : List FineStep) → IsFineRun image 1 h → IsOver image 1 h → IsFineRun image 1 g → IsOver image 1 g → h ≡ g
+  one-whole h g run over run' over' = one-run image 1 None h g (picked-whole None h run over) (picked-whole None g run' over')
