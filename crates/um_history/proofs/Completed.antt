@@ -1,5 +1,5 @@
--- Where each processor saw after its last step that no thread is ready, none can make another step: what any list in the order of the logs shows
--- is a complete run.
+-- Where each processor saw after its last step that no thread is ready, none can make another step: every fine run of their steps is over, and what any
+-- list in the order of the logs shows is a complete run.
 use Rattle.std.proofs.Common.{◌≡◌, ℕ, ◌<◌, ◌≤◌, false, eqb, List, [], length, map, Some, None, sym, ap, ◌∙◌, subst, arith}
 use Rattle.std.specs.Prelude.{IsTrue}
 use Rattle.std.proofs.lemmas.Bool.{and_parts}
@@ -12,13 +12,12 @@ use Rattle.um_words.specs.declared.fine.FineAct.{FineAct}
 use Rattle.um_fine.specs.Asks.{CpuMay, says, says_idle, site_at}
 use Rattle.um_fine.specs.Cells.{Cell}
 use Rattle.um_fine.specs.Erasure.{shown}
-use Rattle.um_fine.specs.FineRun.{IsFineRun, SameOrder}
+use Rattle.um_fine.specs.FineRun.{IsFineRun}
 use Rattle.um_fine.specs.Follows.{p_next}
-use Rattle.um_fine.specs.Opening.{s_start}
 use Rattle.um_fine.specs.Processor.{Processor, idle}
 use Rattle.um_fine.specs.Runs.{ends, sublist}
 use Rattle.um_fine.specs.Scheduler.{Scheduler, has_ready, sched_takes}
-use Rattle.um_fine.specs.Sites.{SiteMay, SiteState, s_next}
+use Rattle.um_fine.specs.Sites.{SiteMay, SiteState}
 use Rattle.um_fine.specs.Steps.{Exchange, FineStep, Site}
 use Rattle.um_fine.specs.Places.{Todos}
 use Rattle.um_merge.specs.Merged as Merged
@@ -29,6 +28,7 @@ use Rattle.um_site.specs.declared.view.View.{View}
 use Rattle.um_refinement.specs.After.{left_by}
 use Rattle.um_refinement.specs.Room.{CanCount, CanRun, IsStuck}
 use Rattle.um_refinement.specs.Shows.{AreCompleteRun, AreRun}
+use Rattle.um_core.specs.PickedRun.{IsOver, processor_after, site_after}
 use Rattle.um_core.proofs.Counts.{can-count}
 use Rattle.um_board.specs.Noted.{logged_of}
 use Rattle.um_history.specs.Fine.{IsFineOf}
@@ -55,19 +55,25 @@ refuses image p n s e done none makes may =
     let act : e.act ≡ says_idle image p e.moved = sym (ap (λ (g : FineStep). g.act) makes.makes) ∙ ap (λ (todo : Todos). says image p todo e.act e.moved) done in
     none-taken s none (idle-needs image p s e.moved (subst (λ (a : FineAct). IsTrue (sched_takes s a)) act (and_parts _ _ may.takes).1))
 
-module _ (image : Image) (cpus : ℕ) (g : List FineStep) where
-  -- no processor has steps to go on with, and no thread is ready
-  pub stuck-at : ((k : ℕ) → k < cpus → ((left_by image cpus g).processors k).todo ≡ [])
-      → ((n : ℕ) × (s : Scheduler) × ((left_by image cpus g).sites Site.scheduler ≡ SiteState.cell n (Cell.scheduler s)) × (s.ready ≡ []))
-      → IsStuck (left_by image cpus g)
-  stuck-at done (n, s, state, none) e by takes =
-      let p = (left_by image cpus g).processors e.cpu in
-      let at : e.site ≡ Site.scheduler = sym (ap (λ (z : FineStep). z.site) by.may.makes) ∙ ap (site_at image p) (done e.cpu by.named) in
-      let there : SiteMay image ((left_by image cpus g).sites Site.scheduler) e = subst (λ (i : Site). SiteMay image ((left_by image cpus g).sites i) e) at takes in
-      refuses image p n s e (done e.cpu by.named) none by.may (subst (λ (z : SiteState). SiteMay image z e) state there)
+-- no processor has steps to go on with, and no thread is ready
+over-at : (image : Image) (cpus : ℕ) (g : List FineStep) → ((k : ℕ) → k < cpus → (processor_after image g k).todo ≡ [])
+    → ((n : ℕ) × (s : Scheduler) × (site_after image g Site.scheduler ≡ SiteState.cell n (Cell.scheduler s)) × (s.ready ≡ [])) → IsOver image cpus g
+over-at image cpus g done (n, s, state, none) e follows =
+    let by = follows.makes in
+    let p = processor_after image g e.cpu in
+    let at : e.site ≡ Site.scheduler = sym (ap (λ (z : FineStep). z.site) by.may.makes) ∙ ap (site_at image p) (done e.cpu by.named) in
+    let there : SiteMay image (site_after image g Site.scheduler) e = subst (λ (i : Site). SiteMay image (site_after image g i) e) at follows.takes in
+    refuses image p n s e (done e.cpu by.named) none by.may (subst (λ (z : SiteState). SiteMay image z e) state there)
 
-module _ (image : Image) (cpus : ℕ) (v : View) (words : List ℕ) (logs : List Log) (steps : ℕ → List FineStep) (described : IsDescribed image) (can : CanRun image cpus) (well : OpensWell image) (played : IsPlayed image cpus v words logs steps)
-    (longest : (run : List FineStep) → IsFineRun image cpus run → length run ≤ weight image) where
+-- every fine run of the steps of processors that saw this is over
+pub over : (image : Image) (cpus : ℕ) (v : View) (words : List ℕ) (logs : List Log) (steps : ℕ → List FineStep) → IsDescribed image → CanRun image cpus
+    → IsPlayed image cpus v words logs steps → ((k : ℕ) → k < cpus → SawNone image v.got (steps k)) → (g : List FineStep) → IsFineOf image cpus words steps g → IsOver image cpus g
+over image cpus v words logs steps described can played saw g of =
+    over-at image cpus g (λ k less. ap (λ (l : List FineStep). (ends (p_next image) idle l).todo) (of.own k less) ∙ (saw k less).done)
+    (none-ready image cpus v words logs steps described can played saw g of)
+
+module _ (image : Image) (cpus : ℕ) (v : View) (words : List ℕ) (logs : List Log) (steps : ℕ → List FineStep) (described : IsDescribed image) (can : CanRun image cpus) (well : OpensWell image)
+    (played : IsPlayed image cpus v words logs steps) (longest : (run : List FineStep) → IsFineRun image cpus run → length run ≤ weight image) where
   abbrev pub g : List FineStep
   g = all image cpus words (history image cpus v words logs steps played) (of-played image cpus v words logs steps played)
 
@@ -84,33 +90,27 @@ module _ (image : Image) (cpus : ℕ) (v : View) (words : List ℕ) (logs : List
 
   -- what a list in the order of the logs is noted of
   noted-of : (list : List Logged) → ((order : List Logged) → IsOrder logs order → Merged.SameOrder list order)
-      → (h : List FineStep) × (map logged_of h ≡ list) × SameOrder g h × IsFineOf image cpus words steps h
+      → (h : List FineStep) × (map logged_of h ≡ list) × IsFineOf image cpus words steps h
   noted-of list same =
       let order = same (map logged_of g) ordered in
       let (h, is, alike, sited) = lifted g fine.sited list order in
-      (h, is, alike, fine-of-same image cpus words steps g h fine alike sited (λ n. ap (sublist eqb Merged.site_of n) is ∙ order.1 n))
+      (h, is, fine-of-same image cpus words steps g h fine alike sited (λ n. ap (sublist eqb Merged.site_of n) is ∙ order.1 n))
 
   -- and what it shows
   pub noted-run : ((run : List FineStep) → IsFineRun image cpus run → AreRun image (shown run)) → (list : List Logged) → ((order : List Logged) → IsOrder logs order → Merged.SameOrder list order)
       → (h : List FineStep) × (map logged_of h ≡ list) × IsFineOf image cpus words steps h × AreRun image (events_of list)
   noted-run runs list same =
-      let (h, is, _, of) = noted-of list same in
+      let (h, is, of) = noted-of list same in
       (h, is, of, subst (AreRun image) (sym (shown-noted h) ∙ ap events_of is) (runs h of.run))
 
-  module _ (saw : (k : ℕ) → k < cpus → SawNone image v.got (steps k))
-      (completes : (run : List FineStep) → IsFineRun image cpus run → IsStuck (left_by image cpus run) → CanCount (left_by image cpus run) → AreCompleteRun image (shown run)) where
-    all-stuck : (h : List FineStep) → SameOrder g h → IsStuck (left_by image cpus h)
-    all-stuck h same =
-        let (n, s, state, none) = none-ready image cpus v words logs steps played well can.some saw in
-        stuck-at image cpus h
-        (λ k less. ap (λ (l : List FineStep). (ends (p_next image) idle l).todo) (sym (same.processors k) ∙ fine.own k less) ∙ (saw k less).done)
-        (n, s, ap (ends (s_next image) (s_start image Site.scheduler)) (sym (same.sites Site.scheduler)) ∙ state, none)
-
-    pub complete : (list : List Logged) → ((order : List Logged) → IsOrder logs order → Merged.SameOrder list order) → AreCompleteRun image (events_of list)
-    complete list same =
-        let (h, is, order, of) = noted-of list same in
-        let run = of.run in
-        let few = longest h run in
-        let light = described.lawful.light in
-        let end = completes h run (all-stuck h order) (can-count image h (omega (arith, few, light)) cpus) in
-        subst (AreCompleteRun image) (sym (shown-noted h) ∙ ap events_of is) end
+  pub complete : ((k : ℕ) → k < cpus → SawNone image v.got (steps k))
+      → ((run : List FineStep) → IsFineRun image cpus run → IsStuck (left_by image cpus run) → CanCount (left_by image cpus run) → AreCompleteRun image (shown run))
+      → (list : List Logged) → ((order : List Logged) → IsOrder logs order → Merged.SameOrder list order) → AreCompleteRun image (events_of list)
+  complete saw completes list same =
+      let (h, is, of) = noted-of list same in
+      let few = longest h of.run in
+      let light = described.lawful.light in
+      let none = over image cpus v words logs steps described can played saw h of in
+      let stuck : IsStuck (left_by image cpus h) = λ e by takes. none e (record { makes = by; takes = takes }) in
+      let end = completes h of.run stuck (can-count image h (omega (arith, few, light)) cpus) in
+      subst (AreCompleteRun image) (sym (shown-noted h) ∙ ap events_of is) end

@@ -25,6 +25,7 @@ pub mod Hindered
 pub mod Lifts
 pub mod Fine
 pub mod Ordered
+pub mod ReadyFew
 pub mod NoneReady
 pub mod Completed
 pub mod Openings

@@ -1,36 +1,36 @@
--- Where each processor saw after its last step that no thread is ready, the scheduler's cell has none.
-use Rattle.std.proofs.Common.{◌≡◌, ℕ, ◌-◌, ◌<◌, ◌≤◌, ◌/◌, ◌%◌, List, [], ◌∷◌, ◌⊎◌, inl, inr, ⊎_elim, length, map, refl, sym, ap, ◌∙◌, subst, arith}
-use Rattle.std.specs.Prelude.{slice_index}
+-- Where each processor saw after its last step that no thread is ready, every fine run of their steps leaves the scheduler's cell with none.
+use Rattle.std.proofs.Common.{◌≡◌, ℕ, ◌+◌, ◌*◌, ◌-◌, ◌<◌, ◌≤◌, ◌/◌, ◌%◌, List, [], ◌∷◌, ◌⊎◌, inl, inr, ⊎_elim, length, map, refl, sym, ap, ◌∙◌, subst, arith}
+use Rattle.std.specs.Prelude.{IsTrue, slice_index}
 use Rattle.std.proofs.lemmas.Bool.{false≢true}
 use Rattle.um_base.specs.declared.image.Image.{Image}
+use Rattle.um_base.specs.declared.limits.TheConstants.{THREADS}
+use Rattle.um_invariants.specs.Described.{IsDescribed}
 use Rattle.um_words.specs.History.{Entry, Words, bare, by_seat, is_at, is_by}
 use Rattle.um_words.specs.History as History
-use Rattle.um_words.specs.Packed.{cell_of, packed_cell}
 use Rattle.um_words.specs.Steps.{number}
 use Rattle.um_words.specs.Sublists.{sub}
-use Rattle.um_words.specs.declared.cell_word.CellWord.{CellWord}
 use Rattle.um_words.specs.declared.made.Made.{Made}
-use Rattle.um_fine.specs.Cells.{Cell, cell_word}
-use Rattle.um_fine.specs.FineRun.{site_of}
-use Rattle.um_fine.specs.Opening.{s_start}
-use Rattle.um_fine.specs.Runs.{state_at}
+use Rattle.um_fine.specs.Cells.{Cell}
 use Rattle.um_fine.specs.Scheduler.{Scheduler}
-use Rattle.um_fine.specs.Sites.{SiteState, s_next, same_site, word_of}
+use Rattle.um_fine.specs.Sites.{SiteState, is_sort, word_of}
 use Rattle.um_fine.specs.Steps.{FineStep, Site}
 use Rattle.um_site.specs.History.{Fresh, IsNoNewer}
 use Rattle.um_site.specs.declared.view.View.{View}
 use Rattle.um_site.proofs.Bare.{bare-high, bare-number}
 use Rattle.um_site.proofs.Sublists.{same_itself}
 use Rattle.um_merge.specs.Logs.{Log}
-use Rattle.um_board.specs.Contents.{Known}
 use Rattle.um_board.specs.Noted.{made_of, packed}
 use Rattle.um_board.specs.Saw.{WasGot}
+use Rattle.um_refinement.specs.Fine.{scheduler_state}
+use Rattle.um_refinement.specs.Room.{CanRun}
+use Rattle.um_core.specs.PickedRun.{site_after}
+use Rattle.um_core.proofs.Sorts.{sorts-after}
+use Rattle.um_history.specs.Fine.{IsFineOf}
 use Rattle.um_history.specs.Played.{Each, IsHistoryOf, IsPlayed, SawNone}
-use Rattle.um_history.proofs.CellRuns.{CellKnown, cell-reads}
 use Rattle.um_history.proofs.Lists.{each-both, each-keyed, each-map, each-sub}
-use Rattle.um_history.proofs.OpeningRuns.{OpensWell}
-use Rattle.um_history.proofs.Moments.{all, last-at, names-of, site-left, sites-tested, words-left}
+use Rattle.um_history.proofs.Moments.{names-of, sites-tested}
 use Rattle.um_history.proofs.Played.{history, list-of, of-played}
+use Rattle.um_history.proofs.ReadyFew.{few-left}
 
 fresh-got : (words : List ℕ) (got : List (ℕ × ℕ)) (i w : ℕ) → Fresh words got → WasGot got i w → IsNoNewer words i w
 fresh-got words [] i w fresh was = absurd was
@@ -58,8 +58,8 @@ no-length (x ∷ xs) e = absurd (omega arith)
 pub ready-kept : (w z : ℕ) → w - w % 2 ≡ z → w / 2 % 256 ≡ z / 2 % 256
 ready-kept w z e = let h : w / 2 ≡ z / 2 = omega arith in ap (λ n. n % 256) h
 
-module _ (image : Image) (cpus : ℕ) (v : View) (words : List ℕ) (logs : List Log) (steps : ℕ → List FineStep) (played : IsPlayed image cpus v words logs steps) (well : OpensWell image)
-    (some : 0 < cpus) (saw : (k : ℕ) → k < cpus → SawNone image v.got (steps k)) where
+module _ (image : Image) (cpus : ℕ) (v : View) (words : List ℕ) (logs : List Log) (steps : ℕ → List FineStep) (described : IsDescribed image) (can : CanRun image cpus)
+    (played : IsPlayed image cpus v words logs steps) (saw : (k : ℕ) → k < cpus → SawNone image v.got (steps k)) where
   abbrev entries : List Entry
   entries = history image cpus v words logs steps played
 
@@ -97,7 +97,7 @@ module _ (image : Image) (cpus : ℕ) (v : View) (words : List ℕ) (logs : List
       (λ first.
       let opened = played.closed.stands.opened 306 (omega (arith, played.opening.count)) in
       let same : number 306 stands ≡ number 306 (slice_index v.opening 306) = sym (bare-number 306 stands) ∙ sym (ap (number 306) first) in
-      (0, some, omega (arith, same, opened)))
+      (0, can.some, omega (arith, same, opened)))
       (λ (e, ((k, less, newer), at), is).
       let same : number 306 stands ≡ number 306 e.1.word = sym (bare-number 306 stands) ∙ sym (ap (number 306) is) in
       let later = newer at in
@@ -115,24 +115,15 @@ module _ (image : Image) (cpus : ℕ) (v : View) (words : List ℕ) (logs : List
       let same : bare 306 s.word ≡ bare 306 stands = new.same (omega (arith, older, newest)) in
       sym (ready-kept s.word (bare 306 stands) (sym (bare-high 306 s.word (omega arith)) ∙ same)) ∙ s.none
 
-  abbrev pub scheduler_left : SiteState
-  scheduler_left = state_at same_site site_of (s_next image) (s_start image) (all image cpus words entries of) Site.scheduler
-
-  none-in : (last : Known) (state : SiteState) → CellKnown image last Site.scheduler state [] → packed (word_of state) ≡ bare 306 stands → (n : ℕ) × (s : Scheduler) × (state ≡ SiteState.cell n (Cell.scheduler s)) × (s.ready ≡ [])
-  none-in last (SiteState.cell n (Cell.scheduler s)) known word =
-      let count : (cell_of (packed_cell (cell_word (Cell.scheduler s) n))).ready ≡ length s.ready = ap (λ (w : CellWord). w.ready) (cell-reads Site.scheduler n (Cell.scheduler s) known.0) in
-      let none : (cell_of (packed_cell (cell_word (Cell.scheduler s) n))).ready ≡ 0 = ap (λ (w : ℕ). w / 2 % 256) word ∙ none-stands in
-      (n, s, refl, no-length s.ready (sym count ∙ none))
-  none-in last (SiteState.cell n (Cell.object o)) known word = absurd (false≢true known.0.sort)
-  none-in last (SiteState.cell n (Cell.parts p)) known word = absurd (false≢true known.0.sort)
-  none-in last (SiteState.cell n (Cell.memory m)) known word = absurd (false≢true known.0.sort)
-  none-in last (SiteState.cell n (Cell.heap h)) known word = absurd (false≢true known.0.sort)
-  none-in last (SiteState.row w) known word = absurd known
-  none-in last (SiteState.thread w) known word = absurd known
-  none-in last (SiteState.domain w) known word = absurd known
+  none-in : (state : SiteState) → IsTrue (is_sort Site.scheduler state) → length (scheduler_state state).ready ≤ THREADS → packed (word_of state) ≡ bare 306 stands
+      → (n : ℕ) × (s : Scheduler) × (state ≡ SiteState.cell n (Cell.scheduler s)) × (s.ready ≡ [])
+  none-in (SiteState.cell n (Cell.scheduler s)) sort few word =
+      let none : (0 + 2 * length s.ready + 512 * s.running + 131072 * 0 + 68719476736 * n) / 2 % 256 ≡ 0 = ap (λ (w : ℕ). w / 2 % 256) word ∙ none-stands in
+      (n, s, refl, no-length s.ready (omega (arith, none, few)))
+  none-in state sort few word = absurd (false≢true sort)
 
   -- no thread is ready
-  pub none-ready : (n : ℕ) × (s : Scheduler) × (scheduler_left ≡ SiteState.cell n (Cell.scheduler s)) × (s.ready ≡ [])
-  none-ready =
-      let last = last-at image cpus words entries of well Site.scheduler refl in
-      none-in last.0 scheduler_left (site-left image cpus words entries of well Site.scheduler refl last.0 last.1) (words-left image cpus words entries of well 306 (omega arith))
+  pub none-ready : (g : List FineStep) → IsFineOf image cpus words steps g
+      → (n : ℕ) × (s : Scheduler) × (site_after image g Site.scheduler ≡ SiteState.cell n (Cell.scheduler s)) × (s.ready ≡ [])
+  none-ready g fine =
+      none-in (site_after image g Site.scheduler) (sorts-after image g Site.scheduler) (few-left image cpus described can g fine.run) (fine.words_are 306 (omega arith))

@@ -2,25 +2,18 @@
 use Rattle.std.proofs.Common.{◌≡◌, ℕ, ◌+◌, ◌<◌, ◌≤◌, ◌⊎◌, suc, inl, inr, ⊎_elim, Bool, true, false, List, [], ◌∷◌, length, refl, ap, arith}
 use Rattle.std.specs.Prelude.{IsTrue}
 use Rattle.um_base.specs.declared.image.Image.{Image}
-use Rattle.um_base.specs.declared.limits.TheConstants.{THREADS}
 use Rattle.um_machine.specs.declared.thread.Thread.{Thread}
 use Rattle.um_machine.specs.Objects.{thread_holds}
 use Rattle.um_machine.specs.Run.{opening}
 use Rattle.um_machine.specs.State.{is_started, thread_at}
 use Rattle.um_invariants.specs.Described.{IsDescribed}
 use Rattle.um_fine.specs.Opening.{count, indexed}
-use Rattle.um_fine.specs.Scheduler.{parked_at, told_at}
-use Rattle.um_refinement.specs.Fine.{scheduler}
 use Rattle.um_refinement.specs.Room.{CanRun}
-use Rattle.um_refinement.specs.Threads.{is_ready_there, occurs}
 use Rattle.um_refinement.proofs.DomainsKnown.{started-placed}
-use Rattle.um_refinement.proofs.First.{first}
-use Rattle.um_refinement.proofs.FirstBounds.{bounded-first}
-use Rattle.um_refinement.proofs.FirstLawful.{opens-described}
-use Rattle.um_refinement.proofs.FirstThreads.{one-most, opening-is, threads-long}
+use Rattle.um_refinement.proofs.FirstThreads.{opening-is, threads-long}
 use Rattle.um_refinement.proofs.Reachable.{opening-wide}
-use Rattle.um_refinement.proofs.Totals.{occurs-total, total-most}
 use Rattle.um_history.proofs.OpeningRuns.{OpensWell}
+use Rattle.um_history.proofs.ReadyFew.{few-first}
 
 count-most : (bs : List Bool) → count bs ≤ length bs
 count-most [] = omega arith
@@ -52,23 +45,11 @@ module _ (image : Image) (cpus : ℕ) (described : IsDescribed image) (can : Can
       let all = threads-long image in
       omega (arith, most, long, all)
 
-  once : (t : ℕ) → t < THREADS → occurs t (scheduler (first image cpus)).ready ≤ 1
-  once t few =
-      let there = ((opens-described image described cpus).threads t few).ready.ready in
-      let most = one-most (is_ready_there (parked_at (scheduler (first image cpus)) t) (told_at (scheduler (first image cpus)) t)) in
-      omega (arith, there, most)
-
-  ready-few : length (scheduler (first image cpus)).ready ≤ THREADS
-  ready-few =
-      let all = occurs-total THREADS (scheduler (first image cpus)).ready (bounded-first image described cpus).ready in
-      let most = total-most (λ t. occurs t (scheduler (first image cpus)).ready) THREADS once in
-      omega (arith, all, most)
-
   pub opens-well : OpensWell image
   opens-well =
       record {
         flags = (opening-wide image described.few).flags;
         claims = claims;
         domains = domains;
-        ready = let few = ready-few in omega (arith, few);
+        ready = let few = few-first image cpus described in omega (arith, few);
       }

@@ -23,6 +23,7 @@ ghost use Rattle.um_refinement.specs.{
   Room.{CanRun},
   Shows.{AreCompleteRun, AreRun},
 };
+ghost use Rattle.um_core.specs.PickedRun.{IsOver};
 ghost use Rattle.um_history.specs.{
   Fine.{IsFineOf},
   LastHolder.{AreHeld, HasLastHolder},
@@ -67,7 +68,8 @@ pub fn every_board()
 /// - The logs have an order, of no more steps than the image's weight.
 /// - Take a list of steps that orders each processor's and each site's steps as every order of the logs does. It is what the logs note of a
 ///   fine run of these processors' steps, which leaves the same words, and its events are a run of the access-matrix machine.
-/// - If each processor saw after its last step that no thread is ready, and has no step to go on with, that run is complete.
+/// - If each processor saw after its last step that no thread is ready, and has no step to go on with, then none can make another step: each
+///   fine run of their steps is over, and the events of such a list are a complete run.
 pub fn every_played_board()
     ensures fine { (image : Image) (cpus : ℕ) (v : View) (words : List ℕ) (logs : List Log) (steps : ℕ → List FineStep) → IsDescribed image → CanRun image cpus
         → IsPlayed image cpus v words logs steps → (g : List FineStep) × IsFineOf image cpus words steps g }
@@ -76,6 +78,10 @@ pub fn every_played_board()
     ensures run { (image : Image) (cpus : ℕ) (v : View) (words : List ℕ) (logs : List Log) (steps : ℕ → List FineStep) → IsDescribed image → CanRun image cpus
         → IsPlayed image cpus v words logs steps → (list : List Logged) → ((order : List Logged) → IsOrder logs order → SameOrder list order)
         → (g : List FineStep) × (map logged_of g ≡ list) × IsFineOf image cpus words steps g × AreRun image (events_of list) }
+    ensures over { (image : Image) (cpus : ℕ) (v : View) (words : List ℕ) (logs : List Log)
+        (steps : ℕ → List FineStep) → IsDescribed image → CanRun image cpus
+        → IsPlayed image cpus v words logs steps → ((k : ℕ) → k < cpus → SawNone image v.got (steps k))
+        → (g : List FineStep) → IsFineOf image cpus words steps g → IsOver image cpus g }
     ensures complete { (image : Image) (cpus : ℕ) (v : View) (words : List ℕ) (logs : List Log) (steps : ℕ → List FineStep) → IsDescribed image → CanRun image cpus
         → IsPlayed image cpus v words logs steps → ((k : ℕ) → k < cpus → SawNone image v.got (steps k))
         → (list : List Logged) → ((order : List Logged) → IsOrder logs order → SameOrder list order)

@@ -1,7 +1,7 @@
 use Rattle.std.specs.Prelude.{List}
 use Rattle.um_fine.specs.FineRun.{IsFineRun}
 use Rattle.um_fine.specs.Steps.{FineStep}
-use Rattle.um_history.proofs.Completed.{complete, fine, g, have-order, noted-run}
+use Rattle.um_history.proofs.Completed.{complete, fine, g, have-order, noted-run, over}
 use Rattle.um_history.proofs.Openings.{opens-well}
 use Rattle.um_history.proofs.laws.every_played_board.Goals as goal
 
@@ -19,6 +19,9 @@ pub returns-clause-run : goal.returns-clause-run
 returns-clause-run c = λ image cpus v words logs steps described can played list same.
     noted-run image cpus v words logs steps described can (opens-well image cpus described can) played (λ run fine. c.longest_fine_run.ensures image cpus run described fine)
     (λ run fine. let last = c.every_fine_run.ensures.run image cpus run described fine in (last.0, last.1)) list same
+
+pub returns-clause-over : goal.returns-clause-over
+returns-clause-over c = λ image cpus v words logs steps described can played saw h of. over image cpus v words logs steps described can played saw h of
 
 pub returns-clause-complete : goal.returns-clause-complete
 returns-clause-complete c = λ image cpus v words logs steps described can played saw list same.
