@@ -1,6 +1,6 @@
 -- Runs with equal texts are equal. First texts: PlainLemmas, SplitLemmas, NameLemmas, ActLemmas, TextLemmas; who is named by them: IdentityLemmas, AddressLemmas, PlaceLemmas, OwnLemmas.
 -- StateLemmas, FitLemmas, KeptLemmas and OpeningLemmas have what holds in each state; CoreLemmas, SaidLemmas and AfterLemmas what of a state matters. MarkLemmas, RowLemmas, ReadLemmas,
--- DropLemmas and StepLemmas compare two steps, and RunLemmas, last, two runs.
+-- DropLemmas and StepLemmas compare two steps, and RunLemmas two runs. DumpLemmas stands by itself: states that agree in all that a dump reads are printed alike.
 pub mod PlainLemmas
 pub mod SplitLemmas
 pub mod NameLemmas
@@ -23,3 +23,4 @@ pub mod ReadLemmas
 pub mod DropLemmas
 pub mod StepLemmas
 pub mod RunLemmas
+pub mod DumpLemmas
