@@ -38,7 +38,7 @@ use um_machine::{Cost, Life, Pending};
 use um_samples::empty_image;
 use um_service::Outcome;
 use um_tables::{
-    Bytes, Context, DomainCell, Heap, HeapAct, Here, ObjectCell, Said, Scheduler, Sites, Tables,
+    Bytes, Context, DomainCell, Heap, HeapAct, Here, ObjectCells, Said, Scheduler, Sites, Tables,
 };
 use um_words::{DomWord, DomainAct, Permissions, RowAct, RowWord, Stage, ThreadAct, ThreadWord};
 
@@ -187,14 +187,10 @@ fn image(alloc: Global) -> Image
 }
 
 /// The cells of all rows, without an object.
-fn objects(alloc: Global) -> Result<Vec<ObjectCell>, OutOfMemory>
-    ensures { IfOk result (λ all. length all.items ≡ ROWS) }
+fn objects(alloc: Global) -> Result<ObjectCells, OutOfMemory>
+    ensures { IfOk result (λ all. length all ≡ ROWS) }
 {
-    let mut all = Vec::with_capacity(alloc, ROWS)?;
-    for _ in 0..ROWS {
-        all.push(ObjectCell::empty())?;
-    }
-    Ok(all)
+    ObjectCells::new(alloc)
 }
 
 /// The first bytes of the area of the partitions, all zero.

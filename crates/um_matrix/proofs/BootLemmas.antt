@@ -1,6 +1,7 @@
 -- States by their parts, and what a lawful description sets up.
 use Rattle.std.proofs.lemmas.Bool.{and_parts}
-use Rattle.std.proofs.Common.{◌≡◌, ◌<◌, ℕ, zero, suc, List, [], ◌∷◌, Bool, Option, length, get_or, arith, refl}
+use Rattle.std.proofs.Common.{◌≡◌, ◌<◌, ◌+◌, ◌-◌, ◌++◌, ◌∙◌, ℕ, zero, suc, List, [], ◌∷◌, Bool, Option, ap, length, get_or, replicate, slice_set, arith, refl}
+use Rattle.std.proofs.lemmas.List.{set_at}
 use Rattle.std.specs.Prelude.{IsTrue, nat_le}
 use Rattle.std.specs.List.{list_all}
 use Rattle.um_base.specs.Lawful.{IsLawful, is_setup_of, is_within}
@@ -13,7 +14,7 @@ use Rattle.um_base.specs.declared.image.Image.{Image}
 use Rattle.um_base.specs.Regions.{Partitions}
 use Rattle.um_machine.specs.declared.object.Object.{Object}
 use Rattle.um_machine.specs.declared.thread.Thread.{Thread}
-use Rattle.um_machine.specs.State.{State}
+use Rattle.um_machine.specs.State.{State, vacant}
 
 -- a state by the equations of its tables
 pub state-like : (image : Image) {threads threads2 : List Thread} {objects objects2 : List Object} {pairs pairs2 : List (List Bool)} {domains domains2 : List (Option Partitions)}
@@ -46,3 +47,9 @@ all-in-limits mpu (o ∷ os) (suc x) d h all =
 -- the objects of a lawful image keep the limits
 pub in_limits : (image : Image) (x : ℕ) (d : ObjectDef) → IsLawful image → x < length image.objects → IsTrue (is_in_limits (get_or image.objects x d).setup)
 in_limits image x d lawful h = all-in-limits image.mpu image.objects x d h lawful.objects
+
+-- a row that was just filled up to is written
+pub filled_last : (rows : List Object) (x : ℕ) (o : Object) → length rows ≡ x → slice_set (rows ++ replicate (x + 1 - length rows) vacant) x o ≡ rows ++ o ∷ []
+filled_last rows x o count =
+    let one : x + 1 - length rows ≡ 1 = omega arith in
+    ap (λ (k : ℕ). slice_set (rows ++ replicate k vacant) x o) one ∙ set_at rows vacant [] o x count

@@ -2,4 +2,3 @@ pub mod Alone
 pub mod Offered
 pub mod Worked
 pub mod Lending
-pub mod Padded

@@ -17,7 +17,7 @@ use std::alloc::Global;
 use std::marker::Model;
 use um_base::{Image, OutOfMemory, ROWS, STATIC_ROWS};
 use um_machine::{Object, Status};
-use um_steps::blank::{opening_object, vacant};
+use um_steps::blank::{open_object, vacant};
 
 /// The objects of all rows. Of the static rows, and of the dynamic ones, it has those up to the last that was ever written;
 /// the others are vacant, and read as the one blank row. Room for all rows is reserved from the beginning.
@@ -32,11 +32,11 @@ impl Model for ObjectTable {
     ghost use Rattle.std.specs.Prelude.{List, [], ◌∷◌, ◌≡◌, ◌≤◌, ◌-◌, ◌++◌, length, vec_capacity};
     ghost use Rattle.um_base.specs.declared.limits.TheConstants.{ROWS, STATIC_ROWS};
     ghost use Rattle.um_machine.specs.{declared.object.Object.{Object}, State.{vacant}};
-    ghost use Rattle.um_matrix.specs.Padded.{padded};
+    ghost use Rattle.um_steps.specs.Padded.{padded};
 
     ghost Value = { List Object };
 
-    ghost view = { λ t. padded STATIC_ROWS t.statics.items ++ padded (ROWS - STATIC_ROWS) t.dynamics.items };
+    ghost view = { λ t. padded vacant STATIC_ROWS t.statics.items ++ padded vacant (ROWS - STATIC_ROWS) t.dynamics.items };
 
     ghost invariant = { λ t.
         (length t.statics.items ≤ STATIC_ROWS) × (STATIC_ROWS ≤ vec_capacity t.statics)
@@ -54,7 +54,8 @@ fn statics(alloc: Global, image: &Image) -> Result<Vec<Object>, OutOfMemory>
 {
     let mut all = Vec::with_capacity(alloc, STATIC_ROWS)?;
     for (x, object) in image.objects.as_slice().iter().enumerate() {
-        all.push_reserved(opening_object(image.boots.as_slice(), x, object));
+        fill(&mut all, x + 1);
+        open_object(&mut all[x], image.boots.as_slice(), x, object);
     }
     Ok(all)
 }
@@ -95,7 +96,7 @@ impl ObjectTable {
         let statics = statics(alloc, image)?;
         let dynamics = Vec::with_capacity(alloc, ROWS - STATIC_ROWS)?;
         let mut blank = Vec::with_capacity(alloc, 1)?;
-        blank.push_reserved(vacant());
+        fill(&mut blank, 1);
         Ok(ObjectTable {
             statics,
             dynamics,

@@ -1,7 +1,7 @@
 -- Lists by what stands at each number, and what the cells of the scheduler and the heap keep of all threads and all objects.
-use Rattle.std.proofs.Common.{◌≡◌, ◌<◌, ◌≤◌, ◌+◌, ◌-◌, ◌++◌, ℕ, zero, suc, Bool, true, false, List, [], ◌∷◌, length, refl, sym, ap, ◌∙◌, subst, append_assoc, arith, drop, map, take, replicate}
+use Rattle.std.proofs.Common.{◌≡◌, ◌<◌, ◌≤◌, ◌+◌, ◌-◌, ◌++◌, ℕ, zero, suc, Bool, true, false, List, [], ◌∷◌, length, length-append, refl, sym, ap, ◌∙◌, subst, append_assoc, arith, drop, map, take, replicate}
 use Rattle.std.specs.Prelude.{Option, None, Result, Ok, Err, IfOk, nat_le, slice_index_or, slice_set}
-use Rattle.std.proofs.lemmas.List.{drop_all, drop_more, get_or_append_left, get_or_push, length-take-le, map-append, set_at, take_all, take_more}
+use Rattle.std.proofs.lemmas.List.{drop_all, drop_more, get_or_append_left, get_or-append_right, get_or_push, length-take-le, map-append, set_at, take_all, take_more}
 use borrow.Author.Count.{below_more}
 use Rattle.um_base.specs.declared.ask.Told.{Told}
 use Rattle.um_base.specs.declared.image.Boot.{Boot}
@@ -10,7 +10,7 @@ use Rattle.um_base.specs.declared.limits.TheConstants.{ROWS, STATIC_ROWS}
 use Rattle.um_machine.specs.declared.object.Cost.{Cost}
 use Rattle.um_machine.specs.declared.object.Object.{Object}
 use Rattle.um_machine.specs.declared.thread.Thread.{Thread}
-use Rattle.um_machine.specs.Run.{objects_from}
+use Rattle.um_machine.specs.Run.{objects_from, opening_object}
 use Rattle.um_machine.specs.State.{State, is_living, vacant}
 use Rattle.um_fine.specs.Context.{Context, context_of}
 use Rattle.um_fine.specs.Cells.{Cell}
@@ -115,12 +115,48 @@ pub none-kept : (n : ℕ) → map kept_by (replicate n vacant) ≡ replicate n (
 none-kept zero = refl
 none-kept (suc n) = ap (λ (cs : List ObjectCell). cleared 0 ∷ cs) (none-kept n)
 
--- the cells of described objects, and those of the rows after them
-pub kept-all : (boots : List Boot) (objects : List ObjectDef) (cells whole : List ObjectCell) (n : ℕ) → length cells ≡ n → length objects ≤ n
-    → cells ++ map kept_by (objects_from boots n (drop n objects)) ≡ whole → cells ++ replicate (ROWS - length cells) (cleared 0) ≡ whole
-kept-all boots objects cells whole n long few is =
-    ap (λ (k : ℕ). cells ++ replicate (ROWS - k) (cleared 0)) long ∙ ap (λ (cs : List ObjectCell). cells ++ cs) (sym (none-kept (ROWS - n)))
-    ∙ ap (λ (os : List ObjectDef). cells ++ map kept_by (objects_from boots n os)) (sym (drop_all n objects few)) ∙ is
+module _ (boots : List Boot) (objects : List ObjectDef) where
+  -- the first x cells are those of described objects, and the others are empty
+  pub record AreOpenTo (x : ℕ) (cells : List ObjectCell) : Type 0 where
+    pub front : List ObjectCell
+    pub cells_are : cells ≡ front ++ replicate (ROWS - x) (cleared 0)
+    pub long : length front ≡ x
+    pub whole : front ++ map kept_by (objects_from boots x (drop x objects)) ≡ map kept_by (objects_from boots 0 objects)
+
+  pub none-open : (cells : List ObjectCell) → cells ≡ replicate ROWS (cleared 0) → AreOpenTo 0 cells
+  none-open cells none = record { front = []; cells_are = none; long = refl; whole = refl }
+
+  -- the next cell is empty
+  pub next-empty : (x : ℕ) (cells : List ObjectCell) → AreOpenTo x cells → x < ROWS → slice_index_or cells x (cleared 0) ≡ cleared 0
+  next-empty x cells so_far within =
+      let one : ROWS - x ≡ suc (ROWS - (x + 1)) = omega arith in
+      let first : x - x ≡ 0 = omega arith in
+      ap (λ (cs : List ObjectCell). slice_index_or cs x (cleared 0)) so_far.cells_are
+      ∙ get_or-append_right so_far.front (replicate (ROWS - x) (cleared 0)) x x (cleared 0) so_far.long (omega arith)
+      ∙ ap (λ (k : ℕ). slice_index_or (replicate (ROWS - x) (cleared 0)) k (cleared 0)) first
+      ∙ ap (λ (k : ℕ). slice_index_or (replicate k (cleared 0)) 0 (cleared 0)) one
+
+  -- and is written
+  pub one-more : (x : ℕ) (cells : List ObjectCell) (d : ObjectDef) (cell : ObjectCell) → AreOpenTo x cells → x < ROWS → x < length objects
+      → cell ≡ kept_by (opening_object boots x (slice_index_or objects x d)) → AreOpenTo (x + 1) (slice_set cells x cell)
+  one-more x cells d cell so_far within there is =
+      let one : ROWS - x ≡ suc (ROWS - (x + 1)) = omega arith in
+      let rest = replicate (ROWS - (x + 1)) (cleared 0) in
+      let others = map kept_by (objects_from boots (x + 1) (drop (x + 1) objects)) in
+      record {
+        front = so_far.front ++ cell ∷ [];
+        cells_are = ap (λ (cs : List ObjectCell). slice_set cs x cell) so_far.cells_are ∙ ap (λ (k : ℕ). slice_set (so_far.front ++ replicate k (cleared 0)) x cell) one
+            ∙ set_at so_far.front (cleared 0) rest cell x so_far.long ∙ sym (append_assoc so_far.front (cell ∷ []) rest);
+        long = omega (arith, length-append so_far.front (cell ∷ []), so_far.long);
+        whole = append_assoc so_far.front (cell ∷ []) others ∙ ap (λ (c : ObjectCell). so_far.front ++ c ∷ others) is
+            ∙ ap (λ (os : List ObjectDef). so_far.front ++ map kept_by (objects_from boots x os)) (sym (drop_more objects x d there)) ∙ so_far.whole;
+      }
+
+  -- behind the last one no object is described
+  pub all-open : (x : ℕ) (cells : List ObjectCell) → AreOpenTo x cells → length objects ≤ x → cells ≡ map kept_by (objects_from boots 0 objects)
+  all-open x cells so_far few =
+      so_far.cells_are ∙ ap (λ (cs : List ObjectCell). so_far.front ++ cs) (sym (none-kept (ROWS - x)))
+      ∙ ap (λ (os : List ObjectDef). so_far.front ++ map kept_by (objects_from boots x os)) (sym (drop_all x objects few)) ∙ so_far.whole
 
 pub kept-at : (xs : List Object) (x : ℕ) → slice_index_or (map kept_by xs) x (cleared 0) ≡ kept_by (slice_index_or xs x vacant)
 kept-at [] x = refl

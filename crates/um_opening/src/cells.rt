@@ -1,7 +1,7 @@
 //! The contents of all cells, as a state of the machine has them.
 
 ghost use Rattle.std.specs.{
-  Prelude.{◌≡◌, ◌<◌, ◌≤◌, ◌-◌, ◌++◌, IfOk, length, map, replicate, vec_capacity},
+  Prelude.{◌≡◌, ◌<◌, IfOk, length, map},
   List.{All},
 };
 ghost use Rattle.um_base.specs.{
@@ -16,17 +16,16 @@ ghost use Rattle.um_fine.specs.{
   Memory.{bytes_of},
   Opening.{boot_index, heap_cell, scheduler_cell},
 };
-ghost use Rattle.um_tables.specs.{Contexts.{rests}, ObjectCells.{cleared}};
+ghost use Rattle.um_tables.specs.Contexts.{rests};
 ghost use Rattle.um_opening.specs.Opened.{AreParts, kept_by};
 
 use arrayvec::ArrayVec;
 use std::alloc::Global;
 use um_base::{Boot, DOMAINS, Image, OutOfMemory, Parts, ROWS, STATIC_ROWS, THREADS};
-use um_machine::Object;
 use um_matrix::Matrix;
-use um_steps::blank::opening_object;
+use um_steps::blank::set_up;
 use um_steps::rows::thread_of_row;
-use um_tables::{Bytes, DomainCell, Heap, ObjectCell, Scheduler};
+use um_tables::{Bytes, DomainCell, Heap, ObjectCells, Scheduler};
 
 /// The partitions of a domain.
 fn parts_of(matrix: &Matrix, d: usize) -> Option<Parts>
@@ -51,43 +50,16 @@ pub fn domain_cells(alloc: Global, matrix: &Matrix) -> Result<Vec<DomainCell>, O
     Ok(cells)
 }
 
-/// The cell of an object.
-fn kept_by(object: Object) -> ObjectCell
-    ensures { result ≡ kept_by object }
-{
-    ObjectCell {
-        contents: object.contents,
-        waiters: object.waiters,
-        buffer: object.buffer,
-        steps: 0,
-    }
-}
-
-/// The cells of the objects that are described.
-#[tactic(auto, using(um_matrix::proofs::BootLemmas::in_limits))]
-fn described(alloc: Global, image: &Image) -> Result<Vec<ObjectCell>, OutOfMemory>
-    requires { IsLawful image.now }
-    ensures cells { IfOk result (λ cells. cells.items ++ replicate (ROWS - length cells.items) (cleared 0) ≡ map kept_by (objects_from image.now.boots 0 image.now.objects)) }
-    ensures few { IfOk result (λ cells. length cells.items ≤ ROWS) }
-    ensures room { IfOk result (λ cells. ROWS ≤ vec_capacity cells) }
-{
-    let mut cells = Vec::with_capacity(alloc, ROWS)?;
-    for (x, object) in image.objects.as_slice().iter().enumerate() {
-        cells.push_reserved(kept_by(opening_object(image.boots.as_slice(), x, object)));
-    }
-    Ok(cells)
-}
-
 /// The cells of all rows.
-pub fn objects(alloc: Global, image: &Image) -> Result<Vec<ObjectCell>, OutOfMemory>
+#[tactic(auto, using(um_matrix::proofs::BootLemmas::in_limits))]
+pub fn objects(alloc: Global, image: &Image) -> Result<ObjectCells, OutOfMemory>
     requires { IsLawful image.now }
-    ensures cells { IfOk result (λ cells. cells.items ≡ map kept_by (objects_from image.now.boots 0 image.now.objects)) }
-    ensures all { IfOk result (λ cells. length cells.items ≡ ROWS) }
+    ensures cells { IfOk result (λ cells. cells ≡ map kept_by (objects_from image.now.boots 0 image.now.objects)) }
+    ensures all { IfOk result (λ cells. length cells ≡ ROWS) }
 {
-    let mut cells = described(alloc, image)?;
-    let missing = ROWS - cells.len();
-    for _ in 0..missing {
-        cells.push_reserved(ObjectCell::empty());
+    let mut cells = ObjectCells::new(alloc)?;
+    for (x, object) in image.objects.as_slice().iter().enumerate() {
+        set_up(&mut cells.row_mut(x).contents, object.setup);
     }
     Ok(cells)
 }

@@ -1,3 +1,4 @@
 pub mod Accesses
 pub mod Given
 pub mod Subjects
+pub mod Padded

@@ -2,6 +2,7 @@
 
 ghost use Rattle.std.specs.{Prelude.{◌≡◌, ◌||◌, ◌==◌, IsTrue}, List.{list_any}};
 ghost use Rattle.um_machine.specs.{
+  declared.contents.Contents.{Contents},
   State.{nobody, vacant},
   Limits.{is_in_limits},
   Run.{boot_thread, boots_row, setup_contents, is_set_up, opening_object},
@@ -91,23 +92,26 @@ pub fn vacate(object: &mut Object)
     object.cleaner = None;
 }
 
-/// Contents as a description sets them up.
-fn setup_contents(setup: Setup) -> Contents
-    requires { IsTrue (is_in_limits setup) }
-    ensures { result ≡ setup_contents setup }
+/// Sets contents up as a description says. There were none before.
+pub fn set_up(contents: &mut Contents, setup: Setup)
+    requires limits { IsTrue (is_in_limits setup) }
+    requires none { contents.old ≡ Contents.Nothing }
+    ensures { contents.new ≡ setup_contents setup }
 {
     match setup {
-        Setup::Sem { count, limit } => Contents::Sem { count, limit },
-        Setup::Mutex => Contents::Mutex {
-            owner: None,
-            depth: 0,
-        },
-        Setup::Msgq { msg_size, max_msgs } => {
-            Contents::Msgq(MessageQueue::new(msg_size, max_msgs))
+        Setup::Sem { count, limit } => *contents = Contents::Sem { count, limit },
+        Setup::Mutex => {
+            *contents = Contents::Mutex {
+                owner: None,
+                depth: 0,
+            }
         }
-        Setup::Stack { entries } => Contents::Stack(ValueStack::new(entries)),
-        Setup::Pipe { size } => Contents::Pipe(BytePipe::new(size)),
-        _ => Contents::Nothing,
+        Setup::Msgq { msg_size, max_msgs } => {
+            *contents = Contents::Msgq(MessageQueue::new(msg_size, max_msgs))
+        }
+        Setup::Stack { entries } => *contents = Contents::Stack(ValueStack::new(entries)),
+        Setup::Pipe { size } => *contents = Contents::Pipe(BytePipe::new(size)),
+        _ => {}
     }
 }
 
@@ -132,16 +136,15 @@ fn boots_row(boots: &[Boot], x: usize) -> bool
     boots.iter().any(|boot| boot.thread.0 as usize == x || boot.stack.0 as usize == x)
 }
 
-/// A static object of a row, as it stands from the beginning.
-pub fn opening_object(boots: &[Boot], x: usize, object: &ObjectDef) -> Object
-    requires { IsTrue (is_in_limits object.now.setup) }
-    ensures { result ≡ opening_object boots.now x object.now }
+/// Writes into a row without an object the static one that stands there from the beginning.
+pub fn open_object(row: &mut Object, boots: &[Boot], x: usize, object: &ObjectDef)
+    requires limits { IsTrue (is_in_limits object.now.setup) }
+    requires vacant { row.old ≡ vacant }
+    ensures { row.new ≡ opening_object boots.now x object.now }
 {
-    let mut opening = vacant();
-    opening.kind = Some(object.kind);
-    opening.status = Status::Live;
-    opening.public = object.public;
-    opening.init = is_set_up(object.setup) || boots_row(boots, x);
-    opening.contents = setup_contents(object.setup);
-    opening
+    row.kind = Some(object.kind);
+    row.status = Status::Live;
+    row.public = object.public;
+    row.init = is_set_up(object.setup) || boots_row(boots, x);
+    set_up(&mut row.contents, object.setup);
 }

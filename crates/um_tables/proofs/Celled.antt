@@ -53,23 +53,18 @@ pub domain-kept : (old p : Sited) → p ≡ old → (d : ℕ) (c : DomainCell) �
 domain-kept old p v d c here =
     ap (λ (o : List DomainCell). record p { domain_cells = o }) (ap (slice_set p.domain_cells d) here ∙ set-get_or p.domain_cells d no_domain_cell) ∙ v
 
--- the state of an object's cell is that of the cell that was read
-pub object-read : (objects : List ObjectCell) (x : ℕ) (c : ObjectCell) → x < length objects → c ≡ slice_index_or objects x c
-    → object_state c ≡ object_state (slice_index_or objects x (cleared 0))
-object-read objects x c short read = ap object_state (get_or_read objects x c short read (cleared 0))
-
--- the same of a domain's cell
+-- the state of a domain's cell is that of the cell that was read
 pub domain-read : (cells : List DomainCell) (d : ℕ) (c : DomainCell) → d < length cells → c ≡ slice_index_or cells d c
     → domain_cell_state c ≡ domain_cell_state (slice_index_or cells d no_domain_cell)
 domain-read cells d c short read = ap domain_cell_state (get_or_read cells d c short read no_domain_cell)
 
 -- an object's cell after its last step number: it is written back, and refuses the step
 pub object-ends : (image : Image) (old p : Sited) → p ≡ old → (cpu x : ℕ) (c : ObjectCell) (act : FineAct) (moved : Exchange)
-    → x < length p.objects → c ≡ slice_index_or p.objects x c → nat_lt c.steps 268435455 ≡ false
+    → c ≡ slice_index_or p.objects x (cleared 0) → nat_lt c.steps 268435455 ≡ false
     → (record p { objects = slice_set p.objects x c } ≡ old)
     × IsShut image (state_at old (Site.object x)) (cell_made image cpu (Site.object x) c.steps (Cell.object (kept_in c)) act moved)
-object-ends image old p v cpu x c act moved short read denied =
-    (object-kept old p v x c (get_or_read p.objects x c short read (cleared 0)), cell-ends image old p v cpu (Site.object x) c.steps (Cell.object (kept_in c)) act moved (object-read p.objects x c short read) denied)
+object-ends image old p v cpu x c act moved read denied =
+    (object-kept old p v x c read, cell-ends image old p v cpu (Site.object x) c.steps (Cell.object (kept_in c)) act moved (ap object_state read) denied)
 
 -- the same of a domain's cell
 pub domain-ends : (image : Image) (old p : Sited) → p ≡ old → (cpu d : ℕ) (c : DomainCell) (act : FineAct) (moved : Exchange)

@@ -11,3 +11,4 @@ pub mod DomainCells
 pub mod HeapActs
 pub mod MemoryActs
 pub mod ObjectCells
+pub mod Lending

@@ -3,7 +3,7 @@
 use crate::bytes::Bytes;
 use crate::domain_cell::DomainCell;
 use crate::heap::Heap;
-use crate::object_cell::ObjectCell;
+use crate::object_cells::ObjectCells;
 use crate::scheduler::Scheduler;
 use um_words::{DomWord, RowWord, ThreadWord};
 
@@ -15,7 +15,7 @@ pub struct TableParts {
     pub threads: Vec<ThreadWord>,
     pub domains: Vec<DomWord>,
     pub domain_cells: Vec<DomainCell>,
-    pub objects: Vec<ObjectCell>,
+    pub objects: ObjectCells,
     pub memory: Bytes,
     pub heap: Heap,
     pub scheduler: Scheduler,

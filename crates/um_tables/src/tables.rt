@@ -12,7 +12,7 @@ use crate::heap_act::{HeapAct, HeapSaid};
 use crate::here::Here;
 use crate::log::{is_full, named, note, resumed, worked};
 use crate::memory_act::{MemoryAct, MemorySaid};
-use crate::object_cell::ObjectCell;
+use crate::object_cells::ObjectCells;
 use crate::said::Said;
 use crate::scheduler::Scheduler;
 use crate::sites::Sites;
@@ -34,7 +34,7 @@ pub struct Tables {
     threads: Vec<ThreadWord>,
     domains: Vec<DomWord>,
     domain_cells: Vec<DomainCell>,
-    objects: Vec<ObjectCell>,
+    objects: ObjectCells,
     /// The bytes of the read-only data, which no step changes.
     rodata: Vec<u8>,
     memory: Bytes,
@@ -56,9 +56,9 @@ impl Model for Tables {
 
     ghost Value = { Sited };
 
-    ghost view = { λ t. record { rows = t.rows.items; threads = t.threads.items; domains = t.domains.items; domain_cells = t.domain_cells.items; objects = t.objects.items; rodata = t.rodata.items; memory = t.memory; memory_steps = t.memory_steps; heap = t.heap; heap_steps = t.heap_steps; scheduler = t.scheduler; scheduler_steps = t.scheduler_steps; log = t.log.items; most = vec_capacity t.log } };
+    ghost view = { λ t. record { rows = t.rows.items; threads = t.threads.items; domains = t.domains.items; domain_cells = t.domain_cells.items; objects = t.objects; rodata = t.rodata.items; memory = t.memory; memory_steps = t.memory_steps; heap = t.heap; heap_steps = t.heap_steps; scheduler = t.scheduler; scheduler_steps = t.scheduler_steps; log = t.log.items; most = vec_capacity t.log } };
 
-    ghost invariant = { λ t. (length t.rows.items ≡ ROWS) × (length t.threads.items ≡ THREADS) × (length t.domains.items ≡ DOMAINS) × (length t.domain_cells.items ≡ DOMAINS) × (length t.objects.items ≡ ROWS) × All in_domains t.threads.items };
+    ghost invariant = { λ t. (length t.rows.items ≡ ROWS) × (length t.threads.items ≡ THREADS) × (length t.domains.items ≡ DOMAINS) × (length t.domain_cells.items ≡ DOMAINS) × (length t.objects ≡ ROWS) × All in_domains t.threads.items };
 }
 
 impl Tables {
@@ -68,7 +68,7 @@ impl Tables {
         threads: Vec<ThreadWord>,
         domains: Vec<DomWord>,
         domain_cells: Vec<DomainCell>,
-        objects: Vec<ObjectCell>,
+        objects: ObjectCells,
         rodata: Vec<u8>,
         memory: Bytes,
         heap: Heap,
@@ -79,9 +79,9 @@ impl Tables {
         requires threads { length threads.items ≡ THREADS }
         requires domains { length domains.items ≡ DOMAINS }
         requires cells { length domain_cells.items ≡ DOMAINS }
-        requires objects { length objects.items ≡ ROWS }
+        requires objects { length objects ≡ ROWS }
         requires named { All in_domains threads.items }
-        ensures { result ≡ record { rows = rows.items; threads = threads.items; domains = domains.items; domain_cells = domain_cells.items; objects = objects.items; rodata = rodata.items; memory = memory; memory_steps = 0; heap = heap; heap_steps = 0; scheduler = scheduler; scheduler_steps = 0; log = log.items; most = vec_capacity log } }
+        ensures { result ≡ record { rows = rows.items; threads = threads.items; domains = domains.items; domain_cells = domain_cells.items; objects = objects; rodata = rodata.items; memory = memory; memory_steps = 0; heap = heap; heap_steps = 0; scheduler = scheduler; scheduler_steps = 0; log = log.items; most = vec_capacity log } }
     {
         Tables {
             rows,
@@ -120,7 +120,7 @@ impl Tables {
         ensures threads { result.threads.items ≡ self.threads }
         ensures domains { result.domains.items ≡ self.domains }
         ensures cells { result.domain_cells.items ≡ self.domain_cells }
-        ensures objects { result.objects.items ≡ self.objects }
+        ensures objects { result.objects ≡ self.objects }
         ensures memory { result.memory ≡ self.memory }
         ensures heap { result.heap ≡ self.heap }
         ensures scheduler { result.scheduler ≡ self.scheduler }
@@ -227,7 +227,7 @@ impl Sites for Tables {
         if is_full(&self.log) {
             return Said::Changed;
         }
-        let cell = &mut self.objects[row.0 as usize];
+        let cell = self.objects.row_mut(row.0 as usize);
         if cell.steps >= LAST {
             return Said::Busy;
         }
@@ -248,7 +248,7 @@ impl Sites for Tables {
         if is_full(&self.log) {
             return Said::Changed;
         }
-        let cell = &mut self.objects[row.0 as usize];
+        let cell = self.objects.row_mut(row.0 as usize);
         if cell.steps >= LAST {
             return Said::Busy;
         }
@@ -259,7 +259,7 @@ impl Sites for Tables {
     }
 
     fn message_size(&mut self, here: &Here, row: Row) -> Said<u32> {
-        let cell = &mut self.objects[row.0 as usize];
+        let cell = self.objects.row_mut(row.0 as usize);
         if cell.steps >= LAST {
             return Said::Busy;
         }
@@ -269,7 +269,7 @@ impl Sites for Tables {
     }
 
     fn clear(&mut self, here: &Here, row: Row) -> Said<Option<Cost>> {
-        let cell = &mut self.objects[row.0 as usize];
+        let cell = self.objects.row_mut(row.0 as usize);
         if cell.steps >= LAST {
             return Said::Busy;
         }

@@ -1,9 +1,9 @@
-use Rattle.std.proofs.Common.{◌≡◌, ◌≤◌, ◌++◌, replicate, vec_capacity}
-use Rattle.um_tables.specs.ObjectCells.{cleared}
+use Rattle.std.proofs.Common.{◌≡◌, length}
+use Rattle.um_opening.proofs.Lists.{AreOpenTo}
 use Rattle.um_opening.proofs.cells.objects.Given as goal
 
-abbrev pub invariant-loop : goal.invariant-loop
-invariant-loop l = record {
-  items : l.cells.items ≡ l.initial.cells.items ++ replicate l.counter (cleared 0);
-  room : 128 ≤ vec_capacity l.cells;
+abbrev pub invariant-loop-x : goal.invariant-loop-x
+invariant-loop-x l = record {
+  open_to : AreOpenTo l.image.boots l.image.objects l.x l.cells;
+  all : length l.cells ≡ 128;
 }

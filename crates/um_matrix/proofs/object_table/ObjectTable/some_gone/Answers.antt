@@ -2,7 +2,7 @@ use Rattle.std.proofs.Common.{◌∙◌, List, ap, drop, sym, arith}
 use Rattle.std.specs.List.{list_any}
 use Rattle.um_machine.specs.declared.object.Object.{Object}
 use Rattle.um_machine.specs.Objects.{is_gone}
-use Rattle.um_matrix.proofs.PaddedLemmas.{gone-padded}
+use Rattle.um_matrix.proofs.GoneLemmas.{gone-padded}
 use Rattle.um_matrix.proofs.object_table.ObjectTable.some_gone.Goals as goal
 
 pub returns : goal.returns

@@ -2,8 +2,8 @@ use Rattle.std.proofs.Common.{arith, ◌∙◌, Some, ap, refl}
 use Rattle.um_fine.specs.Cells.{Cell}
 use Rattle.um_fine.specs.Steps.{Exchange, Site}
 use Rattle.um_tables.specs.ObjectCells.{kept_in, named_as}
-use Rattle.um_tables.specs.Sited.{logged}
-use Rattle.um_tables.proofs.Celled.{cell-taken, object-ends, object-read}
+use Rattle.um_tables.specs.Sited.{logged, object_state}
+use Rattle.um_tables.proofs.Celled.{cell-taken, object-ends}
 use Rattle.um_base.specs.declared.act.Act.{Act}
 use Rattle.um_base.specs.declared.act.Event.{Event}
 use Rattle.um_words.specs.declared.fine.More.{More}
@@ -12,8 +12,8 @@ use Rattle.um_tables.proofs.tables.TablesSites.name.Goals as goal
 
 pub returns-clause-said : goal.returns-clause-said
 returns-clause-said c =
-    let d = c.index_mut-cell.result.now in
-    let here = object-read c.self.inside.objects.items c.args.row.0 d (omega arith) c.index_mut-cell.ensures.value in
+    let d = c.row_mut-cell.result.now in
+    let here = ap object_state c.row_mut-cell.ensures.value in
     rw c.name.ensures (
       d.steps,
       kept_in d,
@@ -26,6 +26,6 @@ returns-clause-said c =
 
 pub returns-then-cell-ge-LAST-clause-said : goal.returns-then-cell-ge-LAST-clause-said
 returns-then-cell-ge-LAST-clause-said c =
-    let d = c.index_mut-cell.result.now in
-    let ends = object-ends c.args.here.now.image.now _ _ c.self.view_is c.args.here.now.cpu c.args.row.0 d (shown c.args.thread (Act.Named c.args.who) More.Nothing) (Exchange.bytes c.args.bytes.now) (omega arith) c.index_mut-cell.ensures.value (search arith) in
+    let d = c.row_mut-cell.result.now in
+    let ends = object-ends c.args.here.now.image.now _ _ c.self.view_is c.args.here.now.cpu c.args.row.0 d (shown c.args.thread (Act.Named c.args.who) More.Nothing) (Exchange.bytes c.args.bytes.now) c.row_mut-cell.ensures.value (search arith) in
     (d.steps, kept_in d, ends.0, ends.1)
