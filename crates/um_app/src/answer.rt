@@ -141,8 +141,10 @@ fn is_memory(fault: &ImageFault) -> bool
 
 /// The answer to an input whose description is refused with this fault.
 fn refused(alloc: Global, fault: &ImageFault) -> Answer
-    ensures answered { (command : Command) (input trace : List ℕ) → length (description_in command input) ≤ most_described
-        → trace_in command input ≡ Some trace → Refuses (description_in command input) fault.now → Answered command result input }
+    ensures answered { (command : Command) (input trace : List ℕ)
+        → length (description_in command input) ≤ most_described
+        → trace_in command input ≡ Some trace → Refuses (description_in command input) fault.now
+        → Answered command result input }
     ensures silent { IsSilent result }
 {
     match line_of_fault(alloc, fault) {
@@ -172,8 +174,11 @@ fn without_trace(alloc: Global) -> Answer
 
 /// The answer to a description that is refused with this fault, or that there was no memory to read.
 fn not_read(alloc: Global, fault: &ImageFault) -> Answer
-    ensures answered { (command : Command) (input trace : List ℕ) → length (description_in command input) ≤ most_described
-        → trace_in command input ≡ Some trace → (¬ (fault.now ≡ ImageFault.Memory) → Refuses (description_in command input) fault.now) → Answered command result input }
+    ensures answered { (command : Command) (input trace : List ℕ)
+        → length (description_in command input) ≤ most_described
+        → trace_in command input ≡ Some trace
+        → (¬ (fault.now ≡ ImageFault.Memory) → Refuses (description_in command input) fault.now)
+        → Answered command result input }
     ensures silent { IsSilent result }
 {
     if is_memory(fault) {
@@ -188,7 +193,8 @@ fn answer_of(alloc: Global, command: Command, description: &[u8], trace: &[u8]) 
     requires serial { is_serial command ≡ true }
     requires few { HasFew command }
     requires short { length trace.now < 2 ^ 32 - 1 }
-    ensures { (input : List ℕ) → description.now ≡ description_in command input → trace_in command input ≡ Some trace.now
+    ensures { (input : List ℕ) → description.now ≡ description_in command input
+        → trace_in command input ≡ Some trace.now
         → length description.now ≤ most_described → Answered command result input }
 {
     match read_image(alloc, description) {
@@ -246,7 +252,8 @@ pub fn thread_answer_to<R: Threads + Wait + Sync, G: Gate + Sync>(
     requires short { length input.now ≤ most_described }
     ensures output { IfOk result (λ made. IsOutput (Command.Run cpus) input.now made.text.items) }
     ensures played { IfOk result (λ made. IsThreadOutput cpus input.now made.closed made.text.items) }
-    ensures answered { IfErr result (λ answer. Answered (Command.Run cpus) answer input.now × IsSilent answer) }
+    ensures answered { IfErr result
+        (λ answer. Answered (Command.Run cpus) answer input.now × IsSilent answer) }
 {
     match read_image(alloc, input) {
         Ok(image) => match thread_text(rt, alloc, &image, cpus, gate) {

@@ -52,7 +52,8 @@ fn several<'a>(alloc: Global, image: &'a Image, options: Options) -> Result<Ran<
     requires cpus { IsFew options }
     requires many { 1 < options.cpus }
     ensures run { IfOk result (λ ran. IsRunOf image.now options ran.events.items ran.last) }
-    ensures names { IfOk result (λ ran. NamesRun image.now (text image.now ran.events.items ran.last) ran.events.items) }
+    ensures names { IfOk result
+        (λ ran. NamesRun image.now (text image.now ran.events.items ran.last) ran.events.items) }
 {
     let _objects = image.objects.len();
     played(alloc, image, options)
@@ -63,7 +64,8 @@ fn alone<'a>(alloc: Global, image: &'a Image, options: Options) -> Result<Ran<'a
     requires lawful { IsLawful image.now }
     requires one { options.cpus ≡ 1 }
     ensures run { IfOk result (λ ran. IsRunOf image.now options ran.events.items ran.last) }
-    ensures names { IfOk result (λ ran. NamesRun image.now (text image.now ran.events.items ran.last) ran.events.items) }
+    ensures names { IfOk result
+        (λ ran. NamesRun image.now (text image.now ran.events.items ran.last) ran.events.items) }
 {
     let _objects = image.objects.len();
     run(
@@ -80,7 +82,8 @@ pub fn ran<'a>(alloc: Global, image: &'a Image, options: Options) -> Result<Ran<
     requires lawful { IsLawful image.now }
     requires cpus { IsFew options }
     ensures run { IfOk result (λ ran. IsRunOf image.now options ran.events.items ran.last) }
-    ensures names { IfOk result (λ ran. NamesRun image.now (text image.now ran.events.items ran.last) ran.events.items) }
+    ensures names { IfOk result
+        (λ ran. NamesRun image.now (text image.now ran.events.items ran.last) ran.events.items) }
 {
     if options.cpus == 1 {
         return alone(alloc, image, options);
@@ -99,7 +102,9 @@ pub fn sim_events(
     requires lawful { IsLawful image.now }
     requires some { 1 ≤ cpus }
     requires few { cpus ≤ 8 }
-    ensures run { IfOk result (λ events. (last : State) × IsRunOf image.now (record { cpus = cpus; pick = pick }) events.items last) }
+    ensures run { IfOk result
+        (λ events. (last : State)
+        × IsRunOf image.now (record { cpus = cpus; pick = pick }) events.items last) }
 {
     let ran = ran(alloc, image, Options { cpus, pick })?;
     Ok(ran.events)

@@ -47,7 +47,8 @@ fn write_text<O: Sink>(out: &mut O, text: &[u8]) -> Status
     ensures either { (result ≡ Status.Done) ⊎ (result ≡ Status.WriteFault) }
     ensures done { result ≡ Status.Done → Appends (O.taken out.old) (O.taken out.new) text.now }
     ensures write_fault { result ≡ Status.WriteFault → Rose (O.faults out.old) (O.faults out.new) }
-    ensures front { result ≡ Status.WriteFault → AppendsFront (O.taken out.old) (O.taken out.new) text.now × (O.room out.old < length text.now) }
+    ensures front { result ≡ Status.WriteFault → AppendsFront (O.taken out.old) (O.taken out.new) text.now
+        × (O.room out.old < length text.now) }
 {
     match write_all(out, text) {
         Ok(()) => Status::Done,
@@ -105,14 +106,21 @@ fn described<S: Source, O: Sink, E: Sink>(
         → (result ≡ Status.Done) ⊎ (result ≡ Status.NoMemory) }
     ensures no_usage { result ≢ Status.Usage }
     ensures read_fault { result ≡ Status.ReadFault → Rose (S.faults source.old) (S.faults source.new) }
-    ensures too_long { result ≡ Status.TooLong → ReadsTooLong command (S.left source.old) (S.left source.new) }
+    ensures too_long { result ≡ Status.TooLong
+        → ReadsTooLong command (S.left source.old) (S.left source.new) }
     ensures exceeds { (input : List ℕ) → S.left source.old ≡ Some input → IsTooLong command input
-        → ¬ Rose (S.faults source.old) (S.faults source.new) → (result ≡ Status.TooLong) ⊎ (result ≡ Status.NoMemory) }
-    ensures within { result ≢ Status.TooLong → result ≢ Status.NoMemory → ReadsWithin command (S.left source.old) (S.left source.new) }
-    ensures refused { result ≡ Status.Refused → (input line : List ℕ) × ReadsAll command (S.left source.old) (S.left source.new) input
-        × IsRefusal command input line × Tells (E.taken err.old) (E.taken err.new) (E.faults err.old) (E.faults err.new) line }
-    ensures refuses { (input line : List ℕ) → S.left source.old ≡ Some input → length input ≤ most_read command → IsRefusal command input line
-        → ¬ Rose (S.faults source.old) (S.faults source.new) → (result ≡ Status.Refused) ⊎ (result ≡ Status.NoMemory) }
+        → ¬ Rose (S.faults source.old) (S.faults source.new)
+        → (result ≡ Status.TooLong) ⊎ (result ≡ Status.NoMemory) }
+    ensures within { result ≢ Status.TooLong → result ≢ Status.NoMemory
+        → ReadsWithin command (S.left source.old) (S.left source.new) }
+    ensures refused { result ≡ Status.Refused → (input line : List ℕ)
+        × ReadsAll command (S.left source.old) (S.left source.new) input
+        × IsRefusal command input line
+        × Tells (E.taken err.old) (E.taken err.new) (E.faults err.old) (E.faults err.new) line }
+    ensures refuses { (input line : List ℕ) → S.left source.old ≡ Some input
+        → length input ≤ most_read command → IsRefusal command input line
+        → ¬ Rose (S.faults source.old) (S.faults source.new)
+        → (result ≡ Status.Refused) ⊎ (result ≡ Status.NoMemory) }
     ensures write_fault { result ≡ Status.WriteFault → Rose (O.faults out.old) (O.faults out.new) }
     ensures front { result ≡ Status.WriteFault → (written : List ℕ)
         × IsRead command (S.left source.old) (S.left source.new) written
@@ -180,20 +188,28 @@ fn threaded<R: AllocGlobal + Threads + Wait + Sync, S: Source, O: Sink, E: Sink,
         × Appends (O.taken out.old) (O.taken out.new) written }
     ensures unplayed { result ≢ Status.Done → ran.new ≡ None }
     ensures done_quiet { result ≡ Status.Done → err.new ≡ err.old }
-    ensures complete { (input : List ℕ) → S.left source.old ≡ Some input → length input ≤ most_read (Command.Run cpus)
+    ensures complete { (input : List ℕ) → S.left source.old ≡ Some input
+        → length input ≤ most_read (Command.Run cpus)
         → (image : Image) (trace : List ℕ) → IsOf (Command.Run cpus) input image trace
         → ¬ Rose (S.faults source.old) (S.faults source.new) → ¬ Rose (O.faults out.old) (O.faults out.new)
         → (result ≡ Status.Done) ⊎ (result ≡ Status.NoMemory) }
     ensures no_usage { result ≢ Status.Usage }
     ensures read_fault { result ≡ Status.ReadFault → Rose (S.faults source.old) (S.faults source.new) }
-    ensures too_long { result ≡ Status.TooLong → ReadsTooLong (Command.Run cpus) (S.left source.old) (S.left source.new) }
+    ensures too_long { result ≡ Status.TooLong
+        → ReadsTooLong (Command.Run cpus) (S.left source.old) (S.left source.new) }
     ensures exceeds { (input : List ℕ) → S.left source.old ≡ Some input → IsTooLong (Command.Run cpus) input
-        → ¬ Rose (S.faults source.old) (S.faults source.new) → (result ≡ Status.TooLong) ⊎ (result ≡ Status.NoMemory) }
-    ensures within { result ≢ Status.TooLong → result ≢ Status.NoMemory → ReadsWithin (Command.Run cpus) (S.left source.old) (S.left source.new) }
-    ensures refused { result ≡ Status.Refused → (input line : List ℕ) × ReadsAll (Command.Run cpus) (S.left source.old) (S.left source.new) input
-        × IsRefusal (Command.Run cpus) input line × Tells (E.taken err.old) (E.taken err.new) (E.faults err.old) (E.faults err.new) line }
-    ensures refuses { (input line : List ℕ) → S.left source.old ≡ Some input → length input ≤ most_read (Command.Run cpus) → IsRefusal (Command.Run cpus) input line
-        → ¬ Rose (S.faults source.old) (S.faults source.new) → (result ≡ Status.Refused) ⊎ (result ≡ Status.NoMemory) }
+        → ¬ Rose (S.faults source.old) (S.faults source.new)
+        → (result ≡ Status.TooLong) ⊎ (result ≡ Status.NoMemory) }
+    ensures within { result ≢ Status.TooLong → result ≢ Status.NoMemory
+        → ReadsWithin (Command.Run cpus) (S.left source.old) (S.left source.new) }
+    ensures refused { result ≡ Status.Refused → (input line : List ℕ)
+        × ReadsAll (Command.Run cpus) (S.left source.old) (S.left source.new) input
+        × IsRefusal (Command.Run cpus) input line
+        × Tells (E.taken err.old) (E.taken err.new) (E.faults err.old) (E.faults err.new) line }
+    ensures refuses { (input line : List ℕ) → S.left source.old ≡ Some input
+        → length input ≤ most_read (Command.Run cpus) → IsRefusal (Command.Run cpus) input line
+        → ¬ Rose (S.faults source.old) (S.faults source.new)
+        → (result ≡ Status.Refused) ⊎ (result ≡ Status.NoMemory) }
     ensures write_fault { result ≡ Status.WriteFault → Rose (O.faults out.old) (O.faults out.new) }
     ensures front { result ≡ Status.WriteFault → (written : List ℕ)
         × IsRead (Command.Run cpus) (S.left source.old) (S.left source.new) written
@@ -232,7 +248,9 @@ fn generated<O: Sink>(alloc: Global, number: u64, out: &mut O) -> Status
     ensures some { (result ≡ Status.Done) ⊎ ((result ≡ Status.WriteFault) ⊎ (result ≡ Status.NoMemory)) }
     ensures done { result ≡ Status.Done → Appends (O.taken out.old) (O.taken out.new) (description number) }
     ensures write_fault { result ≡ Status.WriteFault → Rose (O.faults out.old) (O.faults out.new) }
-    ensures front { result ≡ Status.WriteFault → AppendsFront (O.taken out.old) (O.taken out.new) (description number) × (O.room out.old < length (description number)) }
+    ensures front { result ≡ Status.WriteFault
+        → AppendsFront (O.taken out.old) (O.taken out.new) (description number)
+        × (O.room out.old < length (description number)) }
     ensures nothing_written { result ≡ Status.NoMemory → out.new ≡ out.old }
 {
     match um_gen::generate(alloc, number) {
@@ -255,13 +273,15 @@ pub fn serial<R: AllocGlobal, S: Source, O: Sink, E: Sink>(
     requires { (cpus : ℕ) → command_of (map string_bytes words.now) ≡ Some (Command.Run cpus) → ⊥ }
     // The headline: the words are a command, what was read describes an image, and all that was written is, for `sim` and `run`, the text of
     // one complete run of it; for the other commands, what they write.
-    ensures done { result ≡ Status.Done → (command : Command) × (command_of (map string_bytes words.now) ≡ Some command)
+    ensures done { result ≡ Status.Done → (command : Command)
+        × (command_of (map string_bytes words.now) ≡ Some command)
         × (written : List ℕ) × Answers command (S.left source.old) (S.left source.new) written
         × Appends (O.taken out.old) (O.taken out.new) written }
     ensures done_quiet { result ≡ Status.Done → err.new ≡ err.old }
 
     // A described image and a number are answered, unless memory ran out or the source or the sink failed.
-    ensures complete { (command : Command) → command_of (map string_bytes words.now) ≡ Some command → IsTrue (is_reading command)
+    ensures complete { (command : Command) → command_of (map string_bytes words.now) ≡ Some command
+        → IsTrue (is_reading command)
         → (input : List ℕ) → S.left source.old ≡ Some input → length input ≤ most_read command
         → (image : Image) (trace : List ℕ) → IsOf command input image trace
         → ¬ Rose (S.faults source.old) (S.faults source.new) → ¬ Rose (O.faults out.old) (O.faults out.new)
@@ -272,23 +292,35 @@ pub fn serial<R: AllocGlobal, S: Source, O: Sink, E: Sink>(
     // When each other answer comes.
     ensures usage { (result ≡ Status.Usage) ↔ (command_of (map string_bytes words.now) ≡ None) }
     ensures nothing_read { result ≡ Status.Usage → source.new ≡ source.old }
-    ensures reads_none { (number : ℕ) → command_of (map string_bytes words.now) ≡ Some (Command.Gen number) → source.new ≡ source.old }
+    ensures reads_none { (number : ℕ) → command_of (map string_bytes words.now) ≡ Some (Command.Gen number)
+        → source.new ≡ source.old }
     ensures read_fault { result ≡ Status.ReadFault → Rose (S.faults source.old) (S.faults source.new) }
-    ensures too_long { result ≡ Status.TooLong → (command : Command) × (command_of (map string_bytes words.now) ≡ Some command)
+    ensures too_long { result ≡ Status.TooLong → (command : Command)
+        × (command_of (map string_bytes words.now) ≡ Some command)
         × ReadsTooLong command (S.left source.old) (S.left source.new) }
-    ensures exceeds { (command : Command) → command_of (map string_bytes words.now) ≡ Some command → IsTrue (is_reading command)
-        → (input : List ℕ) → S.left source.old ≡ Some input → IsTooLong command input → ¬ Rose (S.faults source.old) (S.faults source.new)
+    ensures exceeds { (command : Command) → command_of (map string_bytes words.now) ≡ Some command
+        → IsTrue (is_reading command)
+        → (input : List ℕ) → S.left source.old ≡ Some input → IsTooLong command input
+        → ¬ Rose (S.faults source.old) (S.faults source.new)
         → (result ≡ Status.TooLong) ⊎ (result ≡ Status.NoMemory) }
-    ensures within { (command : Command) → command_of (map string_bytes words.now) ≡ Some command → IsTrue (is_reading command)
-        → result ≢ Status.TooLong → result ≢ Status.NoMemory → ReadsWithin command (S.left source.old) (S.left source.new) }
-    ensures refused { result ≡ Status.Refused → (command : Command) × (command_of (map string_bytes words.now) ≡ Some command)
+    ensures within { (command : Command) → command_of (map string_bytes words.now) ≡ Some command
+        → IsTrue (is_reading command)
+        → result ≢ Status.TooLong → result ≢ Status.NoMemory
+        → ReadsWithin command (S.left source.old) (S.left source.new) }
+    ensures refused { result ≡ Status.Refused → (command : Command)
+        × (command_of (map string_bytes words.now) ≡ Some command)
         × (input line : List ℕ) × ReadsAll command (S.left source.old) (S.left source.new) input
-        × IsRefusal command input line × Tells (E.taken err.old) (E.taken err.new) (E.faults err.old) (E.faults err.new) line }
-    ensures refuses { (command : Command) → command_of (map string_bytes words.now) ≡ Some command → IsTrue (is_reading command)
-        → (input line : List ℕ) → S.left source.old ≡ Some input → length input ≤ most_read command → IsRefusal command input line
-        → ¬ Rose (S.faults source.old) (S.faults source.new) → (result ≡ Status.Refused) ⊎ (result ≡ Status.NoMemory) }
+        × IsRefusal command input line
+        × Tells (E.taken err.old) (E.taken err.new) (E.faults err.old) (E.faults err.new) line }
+    ensures refuses { (command : Command) → command_of (map string_bytes words.now) ≡ Some command
+        → IsTrue (is_reading command)
+        → (input line : List ℕ) → S.left source.old ≡ Some input → length input ≤ most_read command
+        → IsRefusal command input line
+        → ¬ Rose (S.faults source.old) (S.faults source.new)
+        → (result ≡ Status.Refused) ⊎ (result ≡ Status.NoMemory) }
     ensures write_fault { result ≡ Status.WriteFault → Rose (O.faults out.old) (O.faults out.new) }
-    ensures front { result ≡ Status.WriteFault → (command : Command) × (command_of (map string_bytes words.now) ≡ Some command)
+    ensures front { result ≡ Status.WriteFault → (command : Command)
+        × (command_of (map string_bytes words.now) ≡ Some command)
         × (written : List ℕ) × Answers command (S.left source.old) (S.left source.new) written
         × AppendsFront (O.taken out.old) (O.taken out.new) written × (O.room out.old < length written) }
 
@@ -324,20 +356,24 @@ pub fn zumode<R: AllocGlobal + Threads + Wait + Sync, S: Source, O: Sink, E: Sin
     requires none { ran.old ≡ None }
     // The headline: the words are a command, what was read describes an image, and all that was written is, for `sim` and `run`, the text of
     // one complete run of it; for the other commands, what they write.
-    ensures done { result ≡ Status.Done → (command : Command) × (command_of (map string_bytes words.now) ≡ Some command)
+    ensures done { result ≡ Status.Done → (command : Command)
+        × (command_of (map string_bytes words.now) ≡ Some command)
         × (written : List ℕ) × Answers command (S.left source.old) (S.left source.new) written
         × Appends (O.taken out.old) (O.taken out.new) written }
     ensures done_quiet { result ≡ Status.Done → err.new ≡ err.old }
 
     // After a whole text of `run` the board is left on which threads made the run that the text tells. Otherwise no board is left.
-    ensures ran { (cpus : ℕ) → command_of (map string_bytes words.now) ≡ Some (Command.Run cpus) → result ≡ Status.Done → (written : List ℕ)
+    ensures ran { (cpus : ℕ) → command_of (map string_bytes words.now) ≡ Some (Command.Run cpus)
+        → result ≡ Status.Done → (written : List ℕ)
         × HasRan cpus (S.left source.old) (S.left source.new) ran.new written
         × Appends (O.taken out.old) (O.taken out.new) written }
     ensures unplayed { result ≢ Status.Done → ran.new ≡ None }
-    ensures alone { ((cpus : ℕ) → command_of (map string_bytes words.now) ≡ Some (Command.Run cpus) → ⊥) → ran.new ≡ None }
+    ensures alone { ((cpus : ℕ) → command_of (map string_bytes words.now) ≡ Some (Command.Run cpus) → ⊥)
+        → ran.new ≡ None }
 
     // A described image and a number are answered, unless memory ran out or the source or the sink failed.
-    ensures complete { (command : Command) → command_of (map string_bytes words.now) ≡ Some command → IsTrue (is_reading command)
+    ensures complete { (command : Command) → command_of (map string_bytes words.now) ≡ Some command
+        → IsTrue (is_reading command)
         → (input : List ℕ) → S.left source.old ≡ Some input → length input ≤ most_read command
         → (image : Image) (trace : List ℕ) → IsOf command input image trace
         → ¬ Rose (S.faults source.old) (S.faults source.new) → ¬ Rose (O.faults out.old) (O.faults out.new)
@@ -348,23 +384,35 @@ pub fn zumode<R: AllocGlobal + Threads + Wait + Sync, S: Source, O: Sink, E: Sin
     // When each other answer comes.
     ensures usage { (result ≡ Status.Usage) ↔ (command_of (map string_bytes words.now) ≡ None) }
     ensures nothing_read { result ≡ Status.Usage → source.new ≡ source.old }
-    ensures reads_none { (number : ℕ) → command_of (map string_bytes words.now) ≡ Some (Command.Gen number) → source.new ≡ source.old }
+    ensures reads_none { (number : ℕ) → command_of (map string_bytes words.now) ≡ Some (Command.Gen number)
+        → source.new ≡ source.old }
     ensures read_fault { result ≡ Status.ReadFault → Rose (S.faults source.old) (S.faults source.new) }
-    ensures too_long { result ≡ Status.TooLong → (command : Command) × (command_of (map string_bytes words.now) ≡ Some command)
+    ensures too_long { result ≡ Status.TooLong → (command : Command)
+        × (command_of (map string_bytes words.now) ≡ Some command)
         × ReadsTooLong command (S.left source.old) (S.left source.new) }
-    ensures exceeds { (command : Command) → command_of (map string_bytes words.now) ≡ Some command → IsTrue (is_reading command)
-        → (input : List ℕ) → S.left source.old ≡ Some input → IsTooLong command input → ¬ Rose (S.faults source.old) (S.faults source.new)
+    ensures exceeds { (command : Command) → command_of (map string_bytes words.now) ≡ Some command
+        → IsTrue (is_reading command)
+        → (input : List ℕ) → S.left source.old ≡ Some input → IsTooLong command input
+        → ¬ Rose (S.faults source.old) (S.faults source.new)
         → (result ≡ Status.TooLong) ⊎ (result ≡ Status.NoMemory) }
-    ensures within { (command : Command) → command_of (map string_bytes words.now) ≡ Some command → IsTrue (is_reading command)
-        → result ≢ Status.TooLong → result ≢ Status.NoMemory → ReadsWithin command (S.left source.old) (S.left source.new) }
-    ensures refused { result ≡ Status.Refused → (command : Command) × (command_of (map string_bytes words.now) ≡ Some command)
+    ensures within { (command : Command) → command_of (map string_bytes words.now) ≡ Some command
+        → IsTrue (is_reading command)
+        → result ≢ Status.TooLong → result ≢ Status.NoMemory
+        → ReadsWithin command (S.left source.old) (S.left source.new) }
+    ensures refused { result ≡ Status.Refused → (command : Command)
+        × (command_of (map string_bytes words.now) ≡ Some command)
         × (input line : List ℕ) × ReadsAll command (S.left source.old) (S.left source.new) input
-        × IsRefusal command input line × Tells (E.taken err.old) (E.taken err.new) (E.faults err.old) (E.faults err.new) line }
-    ensures refuses { (command : Command) → command_of (map string_bytes words.now) ≡ Some command → IsTrue (is_reading command)
-        → (input line : List ℕ) → S.left source.old ≡ Some input → length input ≤ most_read command → IsRefusal command input line
-        → ¬ Rose (S.faults source.old) (S.faults source.new) → (result ≡ Status.Refused) ⊎ (result ≡ Status.NoMemory) }
+        × IsRefusal command input line
+        × Tells (E.taken err.old) (E.taken err.new) (E.faults err.old) (E.faults err.new) line }
+    ensures refuses { (command : Command) → command_of (map string_bytes words.now) ≡ Some command
+        → IsTrue (is_reading command)
+        → (input line : List ℕ) → S.left source.old ≡ Some input → length input ≤ most_read command
+        → IsRefusal command input line
+        → ¬ Rose (S.faults source.old) (S.faults source.new)
+        → (result ≡ Status.Refused) ⊎ (result ≡ Status.NoMemory) }
     ensures write_fault { result ≡ Status.WriteFault → Rose (O.faults out.old) (O.faults out.new) }
-    ensures front { result ≡ Status.WriteFault → (command : Command) × (command_of (map string_bytes words.now) ≡ Some command)
+    ensures front { result ≡ Status.WriteFault → (command : Command)
+        × (command_of (map string_bytes words.now) ≡ Some command)
         × (written : List ℕ) × Answers command (S.left source.old) (S.left source.new) written
         × AppendsFront (O.taken out.old) (O.taken out.new) written × (O.room out.old < length written) }
 

@@ -61,7 +61,8 @@ fn follow<'t>(
 fn ended(matrix: &Matrix, image: &Image, lines: usize, rest: &[u8], room: &mut Vec<u8>) -> Verdict
     requires room { DUMP_ROOM ≤ vec_capacity room.old }
     requires short { lines + length rest.now < 2 ^ 32 - 1 }
-    ensures { (text : List ℕ) → IsAt image.now text rest.now lines matrix.now → BeginsDump rest.now → IsVerdict image.now text result }
+    ensures { (text : List ℕ) → IsAt image.now text rest.now lines matrix.now → BeginsDump rest.now
+        → IsVerdict image.now text result }
 {
     if !matrix.is_final() {
         return Verdict::NotComplete;

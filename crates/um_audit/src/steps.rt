@@ -100,7 +100,8 @@ fn at_rest(matrix: &mut Matrix, image: &Image, t: usize, line: &[u8], room: &mut
     requires rest { slice_get (thread_at matrix.old t).pending 0 ≡ None }
     requires room { LINE_ROOM ≤ vec_capacity room.old }
     ensures yes { result ≡ true → IsThreadsLine image.now line.now t matrix.old matrix.new }
-    ensures none { result ≡ false → (step : Pending) → rest_step matrix.old t ≡ Some step → SaysNotLine image.now line.now matrix.old t step }
+    ensures none { result ≡ false → (step : Pending) → rest_step matrix.old t ≡ Some step
+        → SaysNotLine image.now line.now matrix.old t step }
     ensures same { result ≡ false → matrix.new ≡ matrix.old }
     ensures capacity { vec_capacity room.old ≤ vec_capacity room.new }
 {
@@ -156,7 +157,8 @@ fn by_first(matrix: &mut Matrix, image: &Image, t: usize, line: &[u8], room: &mu
     requires thread { t < THREADS }
     requires room { LINE_ROOM ≤ vec_capacity room.old }
     ensures yes { result ≡ true → IsThreadsLine image.now line.now t matrix.old matrix.new }
-    ensures none { result ≡ false → (step : Pending) → first_step matrix.old t ≡ Some step → SaysNotLine image.now line.now matrix.old t step }
+    ensures none { result ≡ false → (step : Pending) → first_step matrix.old t ≡ Some step
+        → SaysNotLine image.now line.now matrix.old t step }
     ensures same { result ≡ false → matrix.new ≡ matrix.old }
     ensures capacity { vec_capacity room.old ≤ vec_capacity room.new }
 {
@@ -171,7 +173,8 @@ fn by_second(matrix: &mut Matrix, image: &Image, t: usize, line: &[u8], room: &m
     requires thread { t < THREADS }
     requires room { LINE_ROOM ≤ vec_capacity room.old }
     ensures yes { result ≡ true → IsThreadsLine image.now line.now t matrix.old matrix.new }
-    ensures none { result ≡ false → (step : Pending) → second_step matrix.old t ≡ Some step → SaysNotLine image.now line.now matrix.old t step }
+    ensures none { result ≡ false → (step : Pending) → second_step matrix.old t ≡ Some step
+        → SaysNotLine image.now line.now matrix.old t step }
     ensures same { result ≡ false → matrix.new ≡ matrix.old }
     ensures capacity { vec_capacity room.old ≤ vec_capacity room.new }
 {
@@ -225,7 +228,8 @@ fn by_pair_at(
     requires started { IsTrue (is_started (thread_at matrix.old t).life) }
     requires room { LINE_ROOM ≤ vec_capacity room.old }
     ensures yes { result ≡ true → IsThreadsLine image.now line.now t matrix.old matrix.new }
-    ensures none { result ≡ false → (who : ThreadIx) → SaysLine image.now line.now matrix.old t (Pending.CleanPair who) x → ⊥ }
+    ensures none { result ≡ false → (who : ThreadIx)
+        → SaysLine image.now line.now matrix.old t (Pending.CleanPair who) x → ⊥ }
     ensures same { result ≡ false → matrix.new ≡ matrix.old }
     ensures capacity { vec_capacity room.old ≤ vec_capacity room.new }
 {
@@ -245,7 +249,8 @@ fn by_pair(matrix: &mut Matrix, image: &Image, t: usize, line: &[u8], room: &mut
     requires started { IsTrue (is_started (thread_at matrix.old t).life) }
     requires room { LINE_ROOM ≤ vec_capacity room.old }
     ensures yes { result ≡ true → IsThreadsLine image.now line.now t matrix.old matrix.new }
-    ensures none { result ≡ false → (who : ThreadIx) → SaysNotLine image.now line.now matrix.old t (Pending.CleanPair who) }
+    ensures none { result ≡ false → (who : ThreadIx)
+        → SaysNotLine image.now line.now matrix.old t (Pending.CleanPair who) }
     ensures same { result ≡ false → matrix.new ≡ matrix.old }
     ensures capacity { vec_capacity room.old ≤ vec_capacity room.new }
 {
@@ -268,8 +273,10 @@ fn by_cleaning(
     requires thread { t < THREADS }
     requires room { LINE_ROOM ≤ vec_capacity room.old }
     ensures yes { result ≡ true → IsThreadsLine image.now line.now t matrix.old matrix.new }
-    ensures pairs { result ≡ false → IsTrue (is_started (thread_at matrix.old t).life) → (who : ThreadIx) → SaysNotLine image.now line.now matrix.old t (Pending.CleanPair who) }
-    ensures objects { result ≡ false → IsTrue (is_started (thread_at matrix.old t).life) → SaysNotLine image.now line.now matrix.old t Pending.Recycle }
+    ensures pairs { result ≡ false → IsTrue (is_started (thread_at matrix.old t).life) → (who : ThreadIx)
+        → SaysNotLine image.now line.now matrix.old t (Pending.CleanPair who) }
+    ensures objects { result ≡ false → IsTrue (is_started (thread_at matrix.old t).life)
+        → SaysNotLine image.now line.now matrix.old t Pending.Recycle }
     ensures same { result ≡ false → matrix.new ≡ matrix.old }
     ensures capacity { vec_capacity room.old ≤ vec_capacity room.new }
 {

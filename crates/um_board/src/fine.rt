@@ -14,7 +14,13 @@ impl Fine for Brand {
     ghost use Rattle.um_words.specs.declared.fine.{FineAct.{FineAct}, Unseen.{Unseen}};
     ghost use Rattle.um_fine.specs.{Answers.{no_row}, Steps.{Exchange, FineStep, Site, Word}};
 
-    ghost step = { record { cpu = 0; site = Site.row 0; act = FineAct.Unseen Unseen.Done; word = Word.row no_row; moved = Exchange.nothing } };
+    ghost step = { record {
+      cpu = 0;
+      site = Site.row 0;
+      act = FineAct.Unseen Unseen.Done;
+      word = Word.row no_row;
+      moved = Exchange.nothing;
+    } };
 }
 
 /// The same step as a board records it.

@@ -86,7 +86,8 @@ fn word_at(
     requires rows { AreRows (opening image.now) ROWS rows.now }
     requires threads { AreThreads (opening image.now) THREADS threads.now }
     requires domains { AreDomains (opening image.now) DOMAINS domains.now }
-    requires all { (length rows.now ≡ ROWS) × (length threads.now ≡ THREADS) × (length domains.now ≡ DOMAINS) }
+    requires all { (length rows.now ≡ ROWS) × (length threads.now ≡ THREADS)
+        × (length domains.now ≡ DOMAINS) }
     ensures { IsFirstWord image.now site result }
 {
     if site < 128 {
@@ -114,10 +115,13 @@ pub fn first_words(
     requires rows { AreRows (opening image.now) ROWS rows.now }
     requires threads { AreThreads (opening image.now) THREADS threads.now }
     requires domains { AreDomains (opening image.now) DOMAINS domains.now }
-    requires all { (length rows.now ≡ ROWS) × (length threads.now ≡ THREADS) × (length domains.now ≡ DOMAINS) }
+    requires all { (length rows.now ≡ ROWS) × (length threads.now ≡ THREADS)
+        × (length domains.now ≡ DOMAINS) }
     ensures words { IfOk result (λ words. AreOpening image.now words.items) }
-    ensures unstepped { IfOk result (λ words. (i : ℕ) → i < length words.items → number i (slice_index words.items i) ≡ 0) }
-    ensures free { IfOk result (λ words. (i : ℕ) → 168 ≤ i → i < length words.items → slice_index words.items i % 2 ≡ 0) }
+    ensures unstepped { IfOk result
+        (λ words. (i : ℕ) → i < length words.items → number i (slice_index words.items i) ≡ 0) }
+    ensures free { IfOk result
+        (λ words. (i : ℕ) → 168 ≤ i → i < length words.items → slice_index words.items i % 2 ≡ 0) }
 {
     // no more domains than have words
     let _few = image.domains.len();

@@ -61,7 +61,8 @@ pub struct Turn<K> {
 
 /// How many steps a cell has taken, if its word counts this many threads and the cell can take one more step.
 fn steps_of(word: u64, ready: u8, running: u8) -> Option<u32>
-    ensures { MatchOption result ((n : ℕ) → n < 268435455 → cell_of word ≢ quiet_word ready running n) (λ n. (cell_of word ≡ quiet_word ready running n) × (n < 268435455)) }
+    ensures { MatchOption result ((n : ℕ) → n < 268435455 → cell_of word ≢ quiet_word ready running n)
+        (λ n. (cell_of word ≡ quiet_word ready running n) × (n < 268435455)) }
 {
     let word = CellWord::read(word);
     if word.turn
@@ -86,7 +87,8 @@ impl<'a> Seated<'a> {
     ) -> Seated<'a>
         ensures seat { result.seat ≡ seat }
         ensures log { result.log ≡ log }
-        ensures board { (result.board.now ≡ board.now) × (result.cells.now ≡ cells.now) × (result.rodata.now ≡ rodata.now) }
+        ensures board { (result.board.now ≡ board.now) × (result.cells.now ≡ cells.now)
+            × (result.rodata.now ≡ rodata.now) }
     {
         Seated {
             board,
@@ -167,7 +169,8 @@ impl<'a> Seated<'a> {
         requires site { site < 168 }
         requires free { length self.old.log.items < self.old.log.room }
         requires seen { last_got self.old.seat.token.me.0.got site ≡ Some seen }
-        requires step { made_of D.step ≡ record { site = site; act = D.step.act; word = next; moved = Exchange.nothing } }
+        requires step { made_of D.step
+            ≡ record { site = site; act = D.step.act; word = next; moved = Exchange.nothing } }
         requires numbered { number site next ≡ number_of D.step.word }
         requires back { IsReadBack D.step }
         requires cpu { D.step.cpu ≡ here.now.cpu }
@@ -177,7 +180,8 @@ impl<'a> Seated<'a> {
         ensures image { IsAt here.now.image.now self.new }
         ensures made { result ≡ true → HasMadeThere self.old D.step self.new }
         ensures changed { result ≡ false → HasMadeNone self.old self.new }
-        ensures moved { result ≡ false → (z : ℕ) × (z ≢ seen) × (self.new.seat.token.me.0.got ≡ (site, z) ∷ self.old.seat.token.me.0.got) }
+        ensures moved { result ≡ false → (z : ℕ) × (z ≢ seen)
+            × (self.new.seat.token.me.0.got ≡ (site, z) ∷ self.old.seat.token.me.0.got) }
     {
         let _ = which;
         let _ = about;
@@ -273,9 +277,11 @@ impl<'a> Seated<'a> {
         event: &Option<Event>,
         about: &A,
     )
-        requires turn { HasTurnAt here.now.image.now self.old site turn.word turn.number (K.cell turn.before.value) }
+        requires turn { HasTurnAt here.now.image.now self.old site turn.word turn.number
+            (K.cell turn.before.value) }
         requires free { length self.old.log.items < self.old.log.room }
-        requires takes { Takes here.now.image.now (SiteState.cell turn.number (K.cell turn.before.value)) D.step
+        requires takes { Takes here.now.image.now
+            (SiteState.cell turn.number (K.cell turn.before.value)) D.step
             (SiteState.cell (turn.number + 1) (K.cell cell)) }
         requires site { site_number D.step.site ≡ site }
         requires there { IsTrue (is_site D.step.site) }

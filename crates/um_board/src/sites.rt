@@ -48,7 +48,8 @@ impl Sites for Seated<'_> {
 
     ghost Shut = { λ image old e new. SawShut image old.seat new.seat e };
 
-    ghost Contended = { λ image old site new. Hinders old.log.room old.log.items old.seat new.seat (site_number site) };
+    ghost Contended = { λ image old site new. Hinders old.log.room old.log.items old.seat new.seat
+        (site_number site) };
 
     fn row(&mut self, here: &Here, row: Row, act: &RowAct) -> Said<RowSaid> {
         let site = row.0 as u16;

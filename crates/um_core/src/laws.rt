@@ -19,7 +19,8 @@ use um_refinement::every_fine_run;
 /// A processor has at most one next step: if each site keeps its sort, two steps that the same processor may make and that their sites take
 /// are equal.
 pub fn every_moment()
-    ensures { (image : Image) (p : Processor) (sites : Site → SiteState) → AreSorted sites → (e e2 : FineStep) → e.cpu ≡ e2.cpu
+    ensures { (image : Image) (p : Processor) (sites : Site → SiteState) → AreSorted sites
+        → (e e2 : FineStep) → e.cpu ≡ e2.cpu
         → MayStep image p sites e → MayStep image p sites e2 → e ≡ e2 }
 {}
 
@@ -33,7 +34,8 @@ pub fn every_order()
         → IsPickedRun image cpus pick steps → IsFineRun image cpus steps }
     ensures run { (image : Image) (cpus : ℕ) (pick : Option ℕ) (steps : List FineStep) → IsDescribed image
         → IsPickedRun image cpus pick steps → AreRun image (shown steps) }
-    ensures complete { (image : Image) (cpus : ℕ) (pick : Option ℕ) (steps : List FineStep) → IsDescribed image → CanRun image cpus
+    ensures complete { (image : Image) (cpus : ℕ) (pick : Option ℕ) (steps : List FineStep)
+        → IsDescribed image → CanRun image cpus
         → IsPickedRun image cpus pick steps → AreCompleteRun image (shown steps) }
 {
     every_fine_run();

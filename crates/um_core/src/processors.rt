@@ -80,8 +80,10 @@ impl Core {
         ensures steps { result ≡ true → Steps image.now cpu self.old self.new }
         ensures same { result ≡ false → self.new ≡ self.old }
         ensures halts { result ≡ false → Halts image.now self.old cpu }
-        ensures goes { (cpus : ℕ) (done : List FineStep) → IsCoreOf image.now cpus done self.old → cpu < cpus → result ≡ true → GoesOn image.now cpus done cpu self.new }
-        ensures none { (cpus : ℕ) (done : List FineStep) → IsCoreOf image.now cpus done self.old → cpu < cpus → result ≡ false → NoneFollows image.now cpus done cpu }
+        ensures goes { (cpus : ℕ) (done : List FineStep) → IsCoreOf image.now cpus done self.old
+            → cpu < cpus → result ≡ true → GoesOn image.now cpus done cpu self.new }
+        ensures none { (cpus : ℕ) (done : List FineStep) → IsCoreOf image.now cpus done self.old
+            → cpu < cpus → result ≡ false → NoneFollows image.now cpus done cpu }
     {
         longest_fine_run();
         let processor = &mut self.processors[cpu as usize];

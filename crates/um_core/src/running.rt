@@ -25,7 +25,9 @@ fn picked(
     requires described { IsDescribed image.now }
     requires can { CanRun image.now cpus }
     requires room { weight image.now ≤ most }
-    ensures { IfOk result (λ events. (steps : List FineStep) × IsPickedRun image.now cpus pick steps × (events.items ≡ shown steps)) }
+    ensures { IfOk result
+        (λ events. (steps : List FineStep) × IsPickedRun image.now cpus pick steps
+        × (events.items ≡ shown steps)) }
 {
     longest_fine_run();
     let mut core = Core::boot(alloc, image, cpus, most)?;
@@ -52,7 +54,9 @@ pub fn run(
     requires few { cpus ≤ 8 }
     requires room { weight image.now ≤ most }
     ensures run { IfOk result (λ events. AreCompleteRun image.now events.items) }
-    ensures picked { IfOk result (λ events. (steps : List FineStep) × IsPickedRun image.now cpus pick steps × (events.items ≡ shown steps)) }
+    ensures picked { IfOk result
+        (λ events. (steps : List FineStep) × IsPickedRun image.now cpus pick steps
+        × (events.items ≡ shown steps)) }
     ensures few { IfOk result (λ events. length events.items ≤ weight image.now) }
 {
     every_order();

@@ -53,7 +53,8 @@ impl<'a> Cpu<'a> {
         ensures keeps { KeepsPlace self.old.place.seat self.new.place.seat }
         ensures goes { GoesOnTo image.now self.old self.new }
         ensures stands { IsPlaying image.now self.new }
-        ensures told { Tells result (Worked image.now self.old self.new) (Rested image.now self.old self.new) }
+        ensures told { Tells result (Worked image.now self.old self.new)
+            (Rested image.now self.old self.new) }
     {
         longest_fine_run();
         if !self.processor.is_idle() {

@@ -41,7 +41,9 @@ pub fn run_events<R: Threads + Wait + Sync, G: Gate + Sync>(
     requires few { cpus ≤ 8 }
     requires room { weight image.now ≤ most }
     ensures run { IfOk result (λ ran. AreCompleteRun image.now ran.events.items) }
-    ensures board { IfOk result (λ ran. (steps : List FineStep) × HasRun image.now cpus ran.closed steps × (ran.events.items ≡ shown steps)) }
+    ensures board { IfOk result
+        (λ ran. (steps : List FineStep) × HasRun image.now cpus ran.closed steps
+        × (ran.events.items ≡ shown steps)) }
     ensures few { IfOk result (λ ran. length ran.events.items ≤ weight image.now) }
 {
     every_played_board();

@@ -68,7 +68,8 @@ fn run_all<R: Threads + Wait + Sync, G: Gate + Sync>(
         cpus,
         PROCESSORS,
         &|k, cpu: &mut Cpu<'_>|
-            requires { IsGiven image.now × IsDescribed image.now × CanRun image.now 8 × Begins image.now board.now.table.shared.table_id k cpu.now }
+            requires { IsGiven image.now × IsDescribed image.now × CanRun image.now 8
+                × Begins image.now board.now.table.shared.table_id k cpu.now }
             ensures { Ends image.entry.now board.entry.now.table.shared.table_id k cpu.exit.now }
         { play(rt, image, board, k, cpu, gate) },
     );
@@ -83,11 +84,13 @@ fn gather(
     logs: &mut Vec<Log>,
 )
     requires ends { EachAt (Ends image.now board.now.table.shared.table_id) cpus.old.items }
-    requires seat { Gathered image.now board.now.table.shared.table_id seat.old (length cpus.old.items) (length cpus.old.items) [] }
+    requires seat { Gathered image.now board.now.table.shared.table_id seat.old (length cpus.old.items)
+        (length cpus.old.items) [] }
     requires few { length cpus.old.items ≤ 8 }
     requires empty { logs.old.items ≡ [] }
     requires room { length cpus.old.items ≤ vec_capacity logs.old }
-    ensures { Gathered image.now board.now.table.shared.table_id seat.new 0 (length cpus.old.items) logs.new.items }
+    ensures { Gathered image.now board.now.table.shared.table_id seat.new 0
+        (length cpus.old.items) logs.new.items }
 {
     let _ = image;
     'cpus: while let Some(cpu) = cpus.pop() {

@@ -32,8 +32,10 @@ fn seat_of<'a>(
     requires few { number < 8 }
     requires room { weight image.now ≤ most }
     requires light { weight image.now ≤ 400000 }
-    ensures seated { IfOk result (λ cpu. IsSeated image.now board.now.table.shared.table_id cells.now seat.new) }
-    ensures gathered { IfOk result (λ cpu. Gathered image.now board.now.table.shared.table_id seat.new (number + 1) (number + 1) []) }
+    ensures seated { IfOk result
+        (λ cpu. IsSeated image.now board.now.table.shared.table_id cells.now seat.new) }
+    ensures gathered { IfOk result
+        (λ cpu. Gathered image.now board.now.table.shared.table_id seat.new (number + 1) (number + 1) []) }
     ensures begins { IfOk result (λ cpu. Begins image.now board.now.table.shared.table_id number cpu) }
 {
     let _ = image;
@@ -68,8 +70,10 @@ pub(crate) fn seats<'a>(
     requires room { weight image.now ≤ most }
     requires light { weight image.now ≤ 400000 }
     ensures count { IfOk result (λ all. length all.items ≡ cpus) }
-    ensures begins { IfOk result (λ all. EachAt (Begins image.now board.now.table.shared.table_id) all.items) }
-    ensures gathered { IfOk result (λ all. Gathered image.now board.now.table.shared.table_id seat.new cpus cpus []) }
+    ensures begins { IfOk result
+        (λ all. EachAt (Begins image.now board.now.table.shared.table_id) all.items) }
+    ensures gathered { IfOk result
+        (λ all. Gathered image.now board.now.table.shared.table_id seat.new cpus cpus []) }
 {
     let mut all = Vec::with_capacity(alloc, cpus as usize)?;
     for number in 0..cpus {

@@ -37,9 +37,11 @@ use um_refinement::every_fine_run;
 /// exactly the claims that calls, lives and creators have still to end. A row in cleaning belongs to one processor: the one that made the
 /// step which moved it there. Only that one may vacate it.
 pub fn last_holder()
-    ensures claims { (image : Image) (cpus : ℕ) (g : List FineStep) → IsDescribed image → IsFineRun image cpus g
+    ensures claims { (image : Image) (cpus : ℕ) (g : List FineStep) → IsDescribed image
+        → IsFineRun image cpus g
         → (last : State) × Runs (opening image) (shown g) last × AreHeld image cpus g last }
-    ensures cleaner { (image : Image) (cpus : ℕ) (g : List FineStep) → IsDescribed image → IsFineRun image cpus g
+    ensures cleaner { (image : Image) (cpus : ℕ) (g : List FineStep) → IsDescribed image
+        → IsFineRun image cpus g
         → (x : ℕ) → x < ROWS → HasLastHolder image cpus g x }
 {
     every_fine_run();
@@ -52,8 +54,10 @@ pub fn last_holder()
 /// list has the step that moved it there, and only that seat may vacate it.
 pub fn every_board()
     ensures { (image : Image) (v : View) (i w : ℕ) → IsDescribed image → CanRun image 8
-        → (m : IsMoment image v i w) → (g : List FineStep) × IsFineOf image 8 m.moment.words (λ k. map (fine_at k) (by_seat (k ∷ []) m.moment.history)) g
-        × (length g ≤ weight image) × (last : State) × Runs (opening image) (shown g) last × Rel (left_by image 8 g) last
+        → (m : IsMoment image v i w) → (g : List FineStep)
+        × IsFineOf image 8 m.moment.words (λ k. map (fine_at k) (by_seat (k ∷ []) m.moment.history)) g
+        × (length g ≤ weight image) × (last : State) × Runs (opening image) (shown g) last
+        × Rel (left_by image 8 g) last
         × AreHeld image 8 g last × ((x : ℕ) → x < ROWS → HasLastHolder image 8 g x) }
 {
     every_fine_run();
@@ -71,18 +75,24 @@ pub fn every_board()
 /// - If each processor saw after its last step that no thread is ready, and has no step to go on with, then none can make another step: each
 ///   fine run of their steps is over, and the events of such a list are a complete run.
 pub fn every_played_board()
-    ensures fine { (image : Image) (cpus : ℕ) (v : View) (words : List ℕ) (logs : List Log) (steps : ℕ → List FineStep) → IsDescribed image → CanRun image cpus
+    ensures fine { (image : Image) (cpus : ℕ) (v : View) (words : List ℕ) (logs : List Log)
+        (steps : ℕ → List FineStep) → IsDescribed image → CanRun image cpus
         → IsPlayed image cpus v words logs steps → (g : List FineStep) × IsFineOf image cpus words steps g }
-    ensures order { (image : Image) (cpus : ℕ) (v : View) (words : List ℕ) (logs : List Log) (steps : ℕ → List FineStep) → IsDescribed image → CanRun image cpus
+    ensures order { (image : Image) (cpus : ℕ) (v : View) (words : List ℕ) (logs : List Log)
+        (steps : ℕ → List FineStep) → IsDescribed image → CanRun image cpus
         → IsPlayed image cpus v words logs steps → HaveOrder logs (weight image) }
-    ensures run { (image : Image) (cpus : ℕ) (v : View) (words : List ℕ) (logs : List Log) (steps : ℕ → List FineStep) → IsDescribed image → CanRun image cpus
-        → IsPlayed image cpus v words logs steps → (list : List Logged) → ((order : List Logged) → IsOrder logs order → SameOrder list order)
-        → (g : List FineStep) × (map logged_of g ≡ list) × IsFineOf image cpus words steps g × AreRun image (events_of list) }
+    ensures run { (image : Image) (cpus : ℕ) (v : View) (words : List ℕ) (logs : List Log)
+        (steps : ℕ → List FineStep) → IsDescribed image → CanRun image cpus
+        → IsPlayed image cpus v words logs steps → (list : List Logged)
+        → ((order : List Logged) → IsOrder logs order → SameOrder list order)
+        → (g : List FineStep) × (map logged_of g ≡ list) × IsFineOf image cpus words steps g
+        × AreRun image (events_of list) }
     ensures over { (image : Image) (cpus : ℕ) (v : View) (words : List ℕ) (logs : List Log)
         (steps : ℕ → List FineStep) → IsDescribed image → CanRun image cpus
         → IsPlayed image cpus v words logs steps → ((k : ℕ) → k < cpus → SawNone image v.got (steps k))
         → (g : List FineStep) → IsFineOf image cpus words steps g → IsOver image cpus g }
-    ensures complete { (image : Image) (cpus : ℕ) (v : View) (words : List ℕ) (logs : List Log) (steps : ℕ → List FineStep) → IsDescribed image → CanRun image cpus
+    ensures complete { (image : Image) (cpus : ℕ) (v : View) (words : List ℕ) (logs : List Log)
+        (steps : ℕ → List FineStep) → IsDescribed image → CanRun image cpus
         → IsPlayed image cpus v words logs steps → ((k : ℕ) → k < cpus → SawNone image v.got (steps k))
         → (list : List Logged) → ((order : List Logged) → IsOrder logs order → SameOrder list order)
         → AreCompleteRun image (events_of list) }

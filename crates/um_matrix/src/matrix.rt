@@ -72,8 +72,10 @@ impl<'a> Model for Matrix<'a> {
     } };
 
     ghost invariant = { λ m.
-        (length m.threads.items ≡ THREADS) × (length m.objects ≡ ROWS) × (length m.pairs.items ≡ ROWS) × (length m.domains.items ≤ DOMAINS)
-        × (length m.memory.items ≡ AREA_SIZE) × (length m.stacks.items ≡ AREA_SIZE) × (length m.pools.items ≤ POOLS) × (m.rodata.items ≡ rodata_of m.image.now)
+        (length m.threads.items ≡ THREADS) × (length m.objects ≡ ROWS) × (length m.pairs.items ≡ ROWS)
+        × (length m.domains.items ≤ DOMAINS)
+        × (length m.memory.items ≡ AREA_SIZE) × (length m.stacks.items ≡ AREA_SIZE)
+        × (length m.pools.items ≤ POOLS) × (m.rodata.items ≡ rodata_of m.image.now)
         × (length m.outcome.items ≡ 1) × IsGiven m.image.now };
 }
 
@@ -106,7 +108,8 @@ impl<'a> Matrix<'a> {
 
     /// Whether a dynamic object is gone.
     pub fn some_gone(&self) -> bool
-        ensures { result ≡ list_any (λ (object : Object). is_gone object.status) (drop STATIC_ROWS self.now.objects) }
+        ensures { result ≡ list_any (λ (object : Object). is_gone object.status)
+            (drop STATIC_ROWS self.now.objects) }
     {
         self.objects.some_gone()
     }

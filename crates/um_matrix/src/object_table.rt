@@ -36,7 +36,8 @@ impl Model for ObjectTable {
 
     ghost Value = { List Object };
 
-    ghost view = { λ t. padded vacant STATIC_ROWS t.statics.items ++ padded vacant (ROWS - STATIC_ROWS) t.dynamics.items };
+    ghost view = { λ t. padded vacant STATIC_ROWS t.statics.items ++ padded vacant
+        (ROWS - STATIC_ROWS) t.dynamics.items };
 
     ghost invariant = { λ t.
         (length t.statics.items ≤ STATIC_ROWS) × (STATIC_ROWS ≤ vec_capacity t.statics)
@@ -48,7 +49,9 @@ impl Model for ObjectTable {
 #[tactic(auto, using(crate::proofs::BootLemmas::in_limits))]
 fn statics(alloc: Global, image: &Image) -> Result<Vec<Object>, OutOfMemory>
     requires { IsLawful image.now }
-    ensures items { IfOk result (λ all. all.items ++ replicate (ROWS - length all.items) vacant ≡ objects_from image.now.boots 0 image.now.objects) }
+    ensures items { IfOk result
+        (λ all. all.items ++ replicate (ROWS - length all.items) vacant
+        ≡ objects_from image.now.boots 0 image.now.objects) }
     ensures few { IfOk result (λ all. length all.items ≤ STATIC_ROWS) }
     ensures room { IfOk result (λ all. STATIC_ROWS ≤ vec_capacity all) }
 {

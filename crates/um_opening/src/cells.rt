@@ -54,7 +54,8 @@ pub fn domain_cells(alloc: Global, matrix: &Matrix) -> Result<Vec<DomainCell>, O
 #[tactic(auto, using(um_matrix::proofs::BootLemmas::in_limits))]
 pub fn objects(alloc: Global, image: &Image) -> Result<ObjectCells, OutOfMemory>
     requires { IsLawful image.now }
-    ensures cells { IfOk result (λ cells. cells ≡ map kept_by (objects_from image.now.boots 0 image.now.objects)) }
+    ensures cells { IfOk result
+        (λ cells. cells ≡ map kept_by (objects_from image.now.boots 0 image.now.objects)) }
     ensures all { IfOk result (λ cells. length cells ≡ ROWS) }
 {
     let mut cells = ObjectCells::new(alloc)?;

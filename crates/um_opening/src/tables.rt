@@ -18,7 +18,8 @@ use um_tables::Tables;
 fn tables_of(alloc: Global, matrix: &Matrix, most: usize) -> Result<Tables, OutOfMemory>
     requires lawful { IsLawful matrix.now.image }
     requires fresh { IsFresh matrix.now }
-    ensures sites { IfOk result (λ t. (i : Site) → IsTrue (is_site i) → state_at t i ≡ site_state matrix.now i) }
+    ensures sites { IfOk result
+        (λ t. (i : Site) → IsTrue (is_site i) → state_at t i ≡ site_state matrix.now i) }
     ensures sized { IfOk result (λ t. IsSized t) }
     ensures rodata { IfOk result (λ t. t.rodata ≡ rodata_of matrix.now.image) }
     ensures log { IfOk result (λ t. t.log ≡ []) }

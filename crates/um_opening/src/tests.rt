@@ -31,7 +31,13 @@ fn sole<T: Drop, const MOST: usize>(
 
 fn object(name: &[u8], kind: Kind, addr: u32, setup: Setup) -> ObjectDef
     requires { length name.now ≤ 24 }
-    ensures { result ≡ record { name = name.now; kind = kind; addr = record { 0 = addr }; public = false; setup = setup } }
+    ensures { result ≡ record {
+      name = name.now;
+      kind = kind;
+      addr = record { 0 = addr };
+      public = false;
+      setup = setup;
+    } }
 {
     ObjectDef {
         name: Name::from_bytes(name),
@@ -45,9 +51,28 @@ fn object(name: &[u8], kind: Kind, addr: u32, setup: Setup) -> ObjectDef
 /// A thread, its stack, and a semaphore.
 fn objects(alloc: Global) -> Result<BoundedVec<ObjectDef, STATIC_ROWS>, OutOfMemory>
     ensures { IfOk result (λ list. list
-        ≡ record { name = codes "a"; kind = Kind.Thread; addr = record { 0 = 0x40000000 }; public = false; setup = Setup.Thread (record { 0 = 0 }) }
-        ∷ record { name = codes "sa"; kind = Kind.ThreadStack; addr = record { 0 = 0x20080000 }; public = false; setup = Setup.ThreadStack (record { start = record { 0 = 0x20080000 }; size = 64 }) 64 }
-        ∷ record { name = codes "s"; kind = Kind.Sem; addr = record { 0 = 0x40000080 }; public = false; setup = Setup.Sem 1 2 }
+        ≡ record {
+          name = codes "a";
+          kind = Kind.Thread;
+          addr = record { 0 = 0x40000000 };
+          public = false;
+          setup = Setup.Thread (record { 0 = 0 });
+        }
+        ∷ record {
+          name = codes "sa";
+          kind = Kind.ThreadStack;
+          addr = record { 0 = 0x20080000 };
+          public = false;
+          setup = Setup.ThreadStack
+              (record { start = record { 0 = 0x20080000 }; size = 64 }) 64;
+        }
+        ∷ record {
+          name = codes "s";
+          kind = Kind.Sem;
+          addr = record { 0 = 0x40000080 };
+          public = false;
+          setup = Setup.Sem 1 2;
+        }
         ∷ []) }
 {
     let range = Range {
@@ -70,7 +95,16 @@ fn objects(alloc: Global) -> Result<BoundedVec<ObjectDef, STATIC_ROWS>, OutOfMem
 /// The user a, with the permission on the semaphore.
 fn boots(alloc: Global) -> Result<BoundedVec<Boot, BOOTS>, OutOfMemory>
     ensures { IfOk result (λ list. list
-        ≡ record { thread = record { 0 = 0 }; stack = record { 0 = 1 }; script = 0; mode = Mode.User; priority = pos 0; domain = 0; pool = Some 0; grants = record { 0 = 2 } ∷ [] } ∷ []) }
+        ≡ record {
+          thread = record { 0 = 0 };
+          stack = record { 0 = 1 };
+          script = 0;
+          mode = Mode.User;
+          priority = pos 0;
+          domain = 0;
+          pool = Some 0;
+          grants = record { 0 = 2 } ∷ [];
+        } ∷ []) }
 {
     let user = Boot {
         thread: Row(0),
@@ -86,7 +120,8 @@ fn boots(alloc: Global) -> Result<BoundedVec<Boot, BOOTS>, OutOfMemory>
 }
 
 fn scripts(alloc: Global) -> Result<BoundedVec<Script, SCRIPTS>, OutOfMemory>
-    ensures { IfOk result (λ list. list ≡ record { name = codes "m"; lines = Instr.SemGive (Term.Num 0x40000080) ∷ [] } ∷ []) }
+    ensures { IfOk result
+        (λ list. list ≡ record { name = codes "m"; lines = Instr.SemGive (Term.Num 0x40000080) ∷ [] } ∷ []) }
 {
     let mut lines: BoundedVec<Instr, LINES> = BoundedVec::new(alloc);
     lines.push_copy(&Instr::SemGive {

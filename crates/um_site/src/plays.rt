@@ -19,7 +19,12 @@ impl Step for Brand {
       Exchanges.{Exchange},
     };
 
-    ghost made = { record { site = 0; act = FineAct.Unseen Unseen.Done; word = 0; moved = Exchange.nothing } };
+    ghost made = { record {
+      site = 0;
+      act = FineAct.Unseen Unseen.Done;
+      word = 0;
+      moved = Exchange.nothing;
+    } };
 }
 
 /// A look at a word.

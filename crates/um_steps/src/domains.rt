@@ -106,7 +106,9 @@ fn overlaps_any(range: Range, parts: &[(Range, Attr)]) -> bool
 
 /// Whether a range lies outside of the area of the partitions.
 fn is_outside(range: Range) -> bool
-    ensures { result ≡ (nat_lt (2 ^ 32) (range.start.0 + range.size) || nat_lt range.start.0 PARTITION_AREA || nat_lt STACK_AREA (range.start.0 + range.size)) }
+    ensures { result ≡ (nat_lt (2 ^ 32)
+        (range.start.0 + range.size) || nat_lt range.start.0 PARTITION_AREA || nat_lt STACK_AREA
+        (range.start.0 + range.size)) }
 {
     let end = range.start.0 as u64 + range.size as u64;
     0x1_0000_0000 < end || range.start.0 < PARTITION_AREA || (STACK_AREA as u64) < end
@@ -168,7 +170,8 @@ fn added_all(image: &Image, parts: &[PartRef]) -> Result<Parts, Errno>
 
 /// What an initialisation makes of a domain.
 pub fn initialised(image: &Image, before: &Option<Parts>, parts: &[PartRef]) -> Result<Parts, Errno>
-    ensures { result ≡ initialised image.now.mpu (most_parts image.now) before.now (map (part_named image.now) parts.now) }
+    ensures { result ≡ initialised image.now.mpu (most_parts image.now) before.now
+        (map (part_named image.now) parts.now) }
 {
     match before {
         Some(_) => Err(Errno::EINVAL),

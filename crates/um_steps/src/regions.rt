@@ -88,7 +88,9 @@ pub fn rodata_allows(rodata: Option<Range>, access: Access, a: u32, n: u32) -> b
 
 /// Whether one of all stacks allows it.
 fn stacks_allow(image: &Image, access: Access, a: u32, n: u32) -> bool
-    ensures { result ≡ list_any (λ (o : ObjectDef). list_any (region_allows access a n) (range_region read_write (stack_range o.setup))) image.now.objects }
+    ensures { result ≡ list_any
+        (λ (o : ObjectDef). list_any (region_allows access a n)
+        (range_region read_write (stack_range o.setup))) image.now.objects }
 {
     image
         .objects
@@ -99,14 +101,16 @@ fn stacks_allow(image: &Image, access: Access, a: u32, n: u32) -> bool
 
 /// Whether one of these partitions allows it.
 fn parts_allow(parts: &[(Range, Attr)], mode: Mode, access: Access, a: u32, n: u32) -> bool
-    ensures { result ≡ list_any (λ (part : Range × Attr). region_allows access a n (partition_region mode part)) parts.now }
+    ensures { result ≡ list_any
+        (λ (part : Range × Attr). region_allows access a n (partition_region mode part)) parts.now }
 {
     parts.iter().any(|part| attr_allows(part.1, mode, access) && covers(part.0, a, n))
 }
 
 /// Whether the stack of a row allows it.
 fn setup_allows(image: &Image, stack: Row, access: Access, a: u32, n: u32) -> bool
-    ensures { result ≡ list_any (region_allows access a n) (range_region read_write (stack_range (setup_at image.now stack.0))) }
+    ensures { result ≡ list_any (region_allows access a n)
+        (range_region read_write (stack_range (setup_at image.now stack.0))) }
 {
     match image.objects.as_slice().get(stack.0 as usize) {
         Some(o) => stack_allows(o.setup, access, a, n),
@@ -123,7 +127,9 @@ pub fn domain_allows(
     a: u32,
     n: u32,
 ) -> bool
-    ensures { result ≡ list_any (λ (part : Range × Attr). region_allows access a n (partition_region mode part)) (parts_or_none (slice_index_or domains.now domain None)) }
+    ensures { result ≡ list_any
+        (λ (part : Range × Attr). region_allows access a n (partition_region mode part))
+        (parts_or_none (slice_index_or domains.now domain None)) }
 {
     match domains.get(domain as usize) {
         Some(Some(parts)) => parts_allow(parts.as_slice(), mode, access, a, n),

@@ -208,8 +208,12 @@ impl Bytes {
         requires rodata { rodata.now ≡ rodata_of image.now }
         requires few { IsTrue (has_room act.now) }
         ensures said { result ≡ memory_said (memory_answered image.now self.old act.now buffer.old) }
-        ensures taken { buffer.new ≡ taken_after (act_in (memory_answered image.now self.old act.now buffer.old)) (memory_given image.now self.old act.now buffer.old) buffer.old }
-        ensures leaves { self.new ≡ memory_after image.now self.old (act_in (memory_answered image.now self.old act.now buffer.old)) (memory_given image.now self.old act.now buffer.old) }
+        ensures taken { buffer.new ≡ taken_after
+            (act_in (memory_answered image.now self.old act.now buffer.old))
+            (memory_given image.now self.old act.now buffer.old) buffer.old }
+        ensures leaves { self.new ≡ memory_after image.now self.old
+            (act_in (memory_answered image.now self.old act.now buffer.old))
+            (memory_given image.now self.old act.now buffer.old) }
     {
         match act {
             MemoryAct::Load { addr, size, .. } => MemorySaid {

@@ -101,8 +101,11 @@ impl Heap {
 
     /// Reserves an address for an object of this kind, if the pool pays.
     fn reserve(&mut self, image: &Image, kind: Kind, charge: Option<Cost>) -> Option<Addr>
-        ensures said { result ≡ (if can_pay self.old.pools charge then address_or image.now (least_open self.old kind 0 ROWS) else None) }
-        ensures leaves { self.new ≡ heap_after image.now self.old (Act.Reserve kind result) (Exchange.charge charge) }
+        ensures said { result ≡
+            (if can_pay self.old.pools charge then address_or image.now
+            (least_open self.old kind 0 ROWS) else None) }
+        ensures leaves { self.new ≡ heap_after image.now self.old (Act.Reserve kind result)
+            (Exchange.charge charge) }
     {
         if !can_pay(self.pools.as_slice(), charge) {
             return None;
@@ -122,7 +125,8 @@ impl Heap {
     /// Takes a buffer, if the pool pays.
     fn buffer(&mut self, size: u32, charge: Option<Cost>) -> bool
         ensures said { result ≡ can_pay self.old.pools charge }
-        ensures leaves { (image : Image) → self.new ≡ heap_after image self.old (Act.Buffer size result) (Exchange.charge charge) }
+        ensures leaves { (image : Image)
+            → self.new ≡ heap_after image self.old (Act.Buffer size result) (Exchange.charge charge) }
     {
         let fits = can_pay(self.pools.as_slice(), charge);
         if fits {
@@ -145,8 +149,11 @@ impl Heap {
 
     /// Makes a step, which the cell always takes, and returns what the cell says.
     pub fn make(&mut self, image: &Image, act: &HeapAct, charge: Option<Cost>) -> HeapSaid
-        ensures said { result ≡ heap_said (heap_says image.now self.old (Exchange.charge charge) (heap_act act.now)) }
-        ensures leaves { self.new ≡ heap_after image.now self.old (act_in (heap_says image.now self.old (Exchange.charge charge) (heap_act act.now))) (Exchange.charge charge) }
+        ensures said { result ≡ heap_said
+            (heap_says image.now self.old (Exchange.charge charge) (heap_act act.now)) }
+        ensures leaves { self.new ≡ heap_after image.now self.old
+            (act_in (heap_says image.now self.old (Exchange.charge charge) (heap_act act.now)))
+            (Exchange.charge charge) }
     {
         match act {
             HeapAct::Reserve { kind, .. } => HeapSaid {

@@ -39,7 +39,8 @@ pub fn note(log: &mut Vec<Event>, event: &Option<Event>)
 
 /// The event of a call's work with this outcome.
 pub fn worked(addr: Addr, who: &Waiter, outcome: &Outcome) -> Event
-    ensures { result ≡ by_thread who.now.thread (Act.Work addr outcome.now.answer (replies_of outcome.now.woken)) }
+    ensures { result ≡ by_thread who.now.thread
+        (Act.Work addr outcome.now.answer (replies_of outcome.now.woken)) }
 {
     Event {
         thread: who.thread,

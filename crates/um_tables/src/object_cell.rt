@@ -42,7 +42,8 @@ impl ObjectCell {
     pub fn work(&mut self, who: &Waiter, outcome: &mut Outcome)
         requires thread { who.now.thread.0 < THREADS }
         requires sound { IsTrue (is_sound_ask who.now.ask) }
-        ensures work { acted self.old.contents self.old.waiters who.now ≡ left self.new.contents self.new.waiters outcome.new }
+        ensures work { acted self.old.contents self.old.waiters who.now
+            ≡ left self.new.contents self.new.waiters outcome.new }
         ensures buffer { self.new.buffer ≡ buffer_cost who.now.ask outcome.new.answer self.old.buffer }
         ensures steps { self.new.steps ≡ self.old.steps }
     {

@@ -28,7 +28,8 @@ impl Model for ObjectCells {
 
     ghost Value = { List ObjectCell };
 
-    ghost view = { λ t. padded (cleared 0) STATIC_ROWS t.statics.items ++ padded (cleared 0) (ROWS - STATIC_ROWS) t.dynamics.items };
+    ghost view = { λ t. padded (cleared 0) STATIC_ROWS t.statics.items ++ padded (cleared 0)
+        (ROWS - STATIC_ROWS) t.dynamics.items };
 
     ghost invariant = { λ t.
         (length t.statics.items ≤ STATIC_ROWS) × (ROWS ≤ vec_capacity t.statics)

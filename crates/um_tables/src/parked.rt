@@ -23,7 +23,10 @@ impl Model for Parked {
 
     ghost Value = { Place };
 
-    ghost view = { λ p. record { context = some_if p.is_there p.context.value; told = some_if p.is_told p.told } };
+    ghost view = { λ p. record {
+      context = some_if p.is_there p.context.value;
+      told = some_if p.is_told p.told;
+    } };
 }
 
 impl Parked {

@@ -57,7 +57,8 @@ fn is_ready(waits: bool, is_told: bool) -> bool
 fn join(ready: &mut ArrayVec<u8, THREADS>, thread: u8, is_ready: bool)
     requires { length ready.old.items < THREADS }
     ensures items { ready.new.items ≡ behind is_ready thread ready.old.items }
-    ensures small { thread < THREADS → All (λ t. t < THREADS) ready.old.items → All (λ t. t < THREADS) ready.new.items }
+    ensures small { thread < THREADS → All (λ t. t < THREADS) ready.old.items
+        → All (λ t. t < THREADS) ready.new.items }
 {
     if is_ready {
         ready.push(thread);
@@ -144,9 +145,12 @@ impl Scheduler {
     /// told something, or `None` if no thread can be taken.
     pub fn take(&mut self, context: &mut Box<Context>, told: &mut Told) -> Option<bool>
         ensures { MatchOption result
-            ((self.new ≡ self.old) × (context.new ≡ context.old) × (told.new ≡ told.old) × (has_ready self.old self.old.ready ≡ false))
-            (λ woken. IsTrue (has_ready self.old self.old.ready) × (self.new ≡ first_taken self.old self.old.ready)
-            × (first_ready self.old self.old.ready ≡ Exchange.thread context.new.value (some_if woken told.new))) }
+            ((self.new ≡ self.old) × (context.new ≡ context.old) × (told.new ≡ told.old)
+            × (has_ready self.old self.old.ready ≡ false))
+            (λ woken. IsTrue (has_ready self.old self.old.ready)
+            × (self.new ≡ first_taken self.old self.old.ready)
+            × (first_ready self.old self.old.ready ≡ Exchange.thread context.new.value
+            (some_if woken told.new))) }
     {
         if self.running == 255 {
             return None;
@@ -180,8 +184,10 @@ impl Scheduler {
     /// Puts a thread back, and gives the room for it back. Returns whether the thread is ready.
     pub fn park(&mut self, context: &mut Box<Context>) -> Option<bool>
         ensures { MatchOption result
-            ((self.new ≡ self.old) × (context.new ≡ context.old) × ((nat_lt 0 self.old.running && has_place self.old) ≡ false))
-            (λ ready. IsTrue (nat_lt 0 self.old.running && has_place self.old) × (ready ≡ is_ready self.old context.old.value)
+            ((self.new ≡ self.old) × (context.new ≡ context.old)
+            × ((nat_lt 0 self.old.running && has_place self.old) ≡ false))
+            (λ ready. IsTrue (nat_lt 0 self.old.running && has_place self.old)
+            × (ready ≡ is_ready self.old context.old.value)
             × (self.new ≡ one_less (put_back self.old ready context.old.value))) }
     {
         if self.running == 0 || self.ready.len() >= THREADS {
@@ -202,7 +208,8 @@ impl Scheduler {
         requires { who.0 < THREADS }
         ensures { MatchOption result
             ((self.new ≡ self.old) × (has_place self.old ≡ false))
-            (λ ready. IsTrue (has_place self.old) × (ready ≡ is_some (parked_at self.old who.0)) × (self.new ≡ awake self.old ready who.0 told.now)) }
+            (λ ready. IsTrue (has_place self.old) × (ready ≡ is_some (parked_at self.old who.0))
+            × (self.new ≡ awake self.old ready who.0 told.now)) }
     {
         if self.ready.len() >= THREADS {
             return None;
@@ -216,8 +223,10 @@ impl Scheduler {
 
     /// Makes a new thread ready, and gives the room for it back. Returns whether the ready list had a place.
     pub fn add(&mut self, context: &mut Box<Context>) -> bool
-        ensures made { IsTrue result → IsTrue (has_place self.old) × (self.new ≡ put_back self.old true context.old.value) }
-        ensures refused { result ≡ false → (self.new ≡ self.old) × (context.new ≡ context.old) × (has_place self.old ≡ false) }
+        ensures made { IsTrue result → IsTrue (has_place self.old)
+            × (self.new ≡ put_back self.old true context.old.value) }
+        ensures refused { result ≡ false → (self.new ≡ self.old) × (context.new ≡ context.old)
+            × (has_place self.old ≡ false) }
     {
         if self.ready.len() >= THREADS {
             return false;

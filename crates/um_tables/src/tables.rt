@@ -56,9 +56,26 @@ impl Model for Tables {
 
     ghost Value = { Sited };
 
-    ghost view = { λ t. record { rows = t.rows.items; threads = t.threads.items; domains = t.domains.items; domain_cells = t.domain_cells.items; objects = t.objects; rodata = t.rodata.items; memory = t.memory; memory_steps = t.memory_steps; heap = t.heap; heap_steps = t.heap_steps; scheduler = t.scheduler; scheduler_steps = t.scheduler_steps; log = t.log.items; most = vec_capacity t.log } };
+    ghost view = { λ t. record {
+      rows = t.rows.items;
+      threads = t.threads.items;
+      domains = t.domains.items;
+      domain_cells = t.domain_cells.items;
+      objects = t.objects;
+      rodata = t.rodata.items;
+      memory = t.memory;
+      memory_steps = t.memory_steps;
+      heap = t.heap;
+      heap_steps = t.heap_steps;
+      scheduler = t.scheduler;
+      scheduler_steps = t.scheduler_steps;
+      log = t.log.items;
+      most = vec_capacity t.log;
+    } };
 
-    ghost invariant = { λ t. (length t.rows.items ≡ ROWS) × (length t.threads.items ≡ THREADS) × (length t.domains.items ≡ DOMAINS) × (length t.domain_cells.items ≡ DOMAINS) × (length t.objects ≡ ROWS) × All in_domains t.threads.items };
+    ghost invariant = { λ t. (length t.rows.items ≡ ROWS) × (length t.threads.items ≡ THREADS)
+        × (length t.domains.items ≡ DOMAINS) × (length t.domain_cells.items ≡ DOMAINS)
+        × (length t.objects ≡ ROWS) × All in_domains t.threads.items };
 }
 
 impl Tables {
@@ -81,7 +98,22 @@ impl Tables {
         requires cells { length domain_cells.items ≡ DOMAINS }
         requires objects { length objects ≡ ROWS }
         requires named { All in_domains threads.items }
-        ensures { result ≡ record { rows = rows.items; threads = threads.items; domains = domains.items; domain_cells = domain_cells.items; objects = objects; rodata = rodata.items; memory = memory; memory_steps = 0; heap = heap; heap_steps = 0; scheduler = scheduler; scheduler_steps = 0; log = log.items; most = vec_capacity log } }
+        ensures { result ≡ record {
+          rows = rows.items;
+          threads = threads.items;
+          domains = domains.items;
+          domain_cells = domain_cells.items;
+          objects = objects;
+          rodata = rodata.items;
+          memory = memory;
+          memory_steps = 0;
+          heap = heap;
+          heap_steps = 0;
+          scheduler = scheduler;
+          scheduler_steps = 0;
+          log = log.items;
+          most = vec_capacity log;
+        } }
     {
         Tables {
             rows,

@@ -50,7 +50,8 @@ fn put_call(
     reply: Reply,
 )
     requires { vec_len room.old + length word.now + 90 ≤ vec_capacity room.old }
-    ensures { Puts room.old room.new (domain_call_text image.now word.now domain operand reply) (length word.now + 90) }
+    ensures { Puts room.old room.new (domain_call_text image.now word.now domain operand reply)
+        (length word.now + 90) }
 {
     put_text(room, "domain ");
     put_text(room, word);

@@ -16,7 +16,8 @@ use um_vocabulary::kind_word;
 #[tactic(auto, unfolding(crate::specs::Acts::reserved_text))]
 fn put_reserved(room: &mut Vec<u8>, image: &Indexed, kind: Kind, addr: Option<Addr>)
     requires { vec_len room.old + 45 ≤ vec_capacity room.old }
-    ensures { Puts room.old room.new (codes "reserve " ++ kind_word kind ++ codes " " ++ reserved_text image.now addr) 45 }
+    ensures { Puts room.old room.new
+        (codes "reserve " ++ kind_word kind ++ codes " " ++ reserved_text image.now addr) 45 }
 {
     put_text(room, "reserve ");
     put_short(room, kind_word(kind));

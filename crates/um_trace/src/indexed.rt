@@ -28,7 +28,8 @@ impl<'a> Model for Indexed<'a> {
 
     ghost view = { λ i. i.image.now };
 
-    ghost invariant = { λ i. OwnRows i.image.now i.own_rows i.known × (i.apart ≡ true → AreApart i.image.now) };
+    ghost invariant = { λ i. OwnRows i.image.now i.own_rows i.known
+        × (i.apart ≡ true → AreApart i.image.now) };
 }
 
 /// The row of a thread's own object. An index past those of threads has one as if there were more rows.

@@ -31,7 +31,8 @@ pub fn put_range(room: &mut Vec<u8>, addr: Addr, size: u32)
 /// A word, bytes of memory, and a space.
 fn put_span(room: &mut Vec<u8>, word: &str, addr: Addr, size: u32)
     requires { vec_len room.old + length word.now + 22 ≤ vec_capacity room.old }
-    ensures { Puts room.old room.new (word.now ++ range_text addr.0 size ++ codes " ") (length word.now + 22) }
+    ensures { Puts room.old room.new (word.now ++ range_text addr.0 size ++ codes " ")
+        (length word.now + 22) }
 {
     put_text(room, word);
     put_range(room, addr, size);
@@ -41,7 +42,8 @@ fn put_span(room: &mut Vec<u8>, word: &str, addr: Addr, size: u32)
 /// A word, bytes of memory, and whether the thread may do that with them.
 fn put_reach(room: &mut Vec<u8>, word: &str, addr: Addr, size: u32, fits: bool)
     requires { vec_len room.old + length word.now + 32 ≤ vec_capacity room.old }
-    ensures { Puts room.old room.new (word.now ++ range_text addr.0 size ++ codes " " ++ reach_word fits) (length word.now + 32) }
+    ensures { Puts room.old room.new (word.now ++ range_text addr.0 size ++ codes " " ++ reach_word fits)
+        (length word.now + 32) }
 {
     put_text(room, word);
     put_range(room, addr, size);

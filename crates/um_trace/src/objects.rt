@@ -24,7 +24,9 @@ use um_vocabulary::want_word;
 /// The kind and the state that a check wants, and what it says.
 fn put_check(room: &mut Vec<u8>, kind: Option<Kind>, want: Want, verdict: Option<Errno>)
     requires { vec_len room.old + 31 ≤ vec_capacity room.old }
-    ensures { Puts room.old room.new (codes " " ++ any_kind_word kind ++ codes " " ++ want_word want ++ codes " " ++ verdict_word verdict) 31 }
+    ensures { Puts room.old room.new
+        (codes " " ++ any_kind_word kind ++ codes " " ++ want_word want ++ codes " "
+        ++ verdict_word verdict) 31 }
 {
     put_space(room);
     put_short(room, any_kind_word(kind));

@@ -58,7 +58,8 @@ pub fn put_event(room: &mut Vec<u8>, image: &Indexed, event: &Event)
 /// The lines of events.
 fn put_events(room: &mut Vec<u8>, image: &Indexed, events: &[Event])
     requires { vec_len room.old + sum_by line_room events.now ≤ vec_capacity room.old }
-    ensures { Puts room.old room.new (flat_map (event_line image.now) events.now) (sum_by line_room events.now) }
+    ensures { Puts room.old room.new (flat_map (event_line image.now) events.now)
+        (sum_by line_room events.now) }
 {
     for event in events {
         put_event(room, image, event);

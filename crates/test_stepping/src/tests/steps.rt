@@ -63,7 +63,13 @@ fn both<T: Drop, const MOST: usize>(
 fn thread(name: &[u8], index: u8) -> ObjectDef
     requires short { length name.now ≤ 24 }
     requires few { index < 3 }
-    ensures { result ≡ record { name = name.now; kind = Kind.Thread; addr = record { 0 = OBJECTS + 128 * index }; public = false; setup = Setup.Thread (record { 0 = index }) } }
+    ensures { result ≡ record {
+      name = name.now;
+      kind = Kind.Thread;
+      addr = record { 0 = OBJECTS + 128 * index };
+      public = false;
+      setup = Setup.Thread (record { 0 = index });
+    } }
 {
     ObjectDef {
         name: Name::from_bytes(name),
@@ -107,12 +113,51 @@ fn stack(name: &[u8], index: u8) -> ObjectDef
 /// Three threads, each with its stack.
 fn objects(alloc: Global) -> Result<BoundedVec<ObjectDef, STATIC_ROWS>, OutOfMemory>
     ensures { IfOk result (λ list. list
-        ≡ record { name = codes "a"; kind = Kind.Thread; addr = record { 0 = 0x40000000 }; public = false; setup = Setup.Thread (record { 0 = 0 }) }
-        ∷ record { name = codes "sa"; kind = Kind.ThreadStack; addr = record { 0 = 0x20080000 }; public = false; setup = Setup.ThreadStack (record { start = record { 0 = 0x20080000 }; size = 64 }) 64 }
-        ∷ record { name = codes "b"; kind = Kind.Thread; addr = record { 0 = 0x40000080 }; public = false; setup = Setup.Thread (record { 0 = 1 }) }
-        ∷ record { name = codes "sb"; kind = Kind.ThreadStack; addr = record { 0 = 0x20080040 }; public = false; setup = Setup.ThreadStack (record { start = record { 0 = 0x20080040 }; size = 64 }) 64 }
-        ∷ record { name = codes "c"; kind = Kind.Thread; addr = record { 0 = 0x40000100 }; public = false; setup = Setup.Thread (record { 0 = 2 }) }
-        ∷ record { name = codes "sc"; kind = Kind.ThreadStack; addr = record { 0 = 0x20080080 }; public = false; setup = Setup.ThreadStack (record { start = record { 0 = 0x20080080 }; size = 64 }) 64 }
+        ≡ record {
+          name = codes "a";
+          kind = Kind.Thread;
+          addr = record { 0 = 0x40000000 };
+          public = false;
+          setup = Setup.Thread (record { 0 = 0 });
+        }
+        ∷ record {
+          name = codes "sa";
+          kind = Kind.ThreadStack;
+          addr = record { 0 = 0x20080000 };
+          public = false;
+          setup = Setup.ThreadStack
+              (record { start = record { 0 = 0x20080000 }; size = 64 }) 64;
+        }
+        ∷ record {
+          name = codes "b";
+          kind = Kind.Thread;
+          addr = record { 0 = 0x40000080 };
+          public = false;
+          setup = Setup.Thread (record { 0 = 1 });
+        }
+        ∷ record {
+          name = codes "sb";
+          kind = Kind.ThreadStack;
+          addr = record { 0 = 0x20080040 };
+          public = false;
+          setup = Setup.ThreadStack
+              (record { start = record { 0 = 0x20080040 }; size = 64 }) 64;
+        }
+        ∷ record {
+          name = codes "c";
+          kind = Kind.Thread;
+          addr = record { 0 = 0x40000100 };
+          public = false;
+          setup = Setup.Thread (record { 0 = 2 });
+        }
+        ∷ record {
+          name = codes "sc";
+          kind = Kind.ThreadStack;
+          addr = record { 0 = 0x20080080 };
+          public = false;
+          setup = Setup.ThreadStack
+              (record { start = record { 0 = 0x20080080 }; size = 64 }) 64;
+        }
         ∷ []) }
 {
     let mut list = BoundedVec::new(alloc);
@@ -128,8 +173,26 @@ fn objects(alloc: Global) -> Result<BoundedVec<ObjectDef, STATIC_ROWS>, OutOfMem
 /// The user a with a pool and a pair with b, and the supervisor c. Nobody starts b.
 fn boots(alloc: Global) -> Result<BoundedVec<Boot, BOOTS>, OutOfMemory>
     ensures { IfOk result (λ list. list
-        ≡ record { thread = record { 0 = 0 }; stack = record { 0 = 1 }; script = 0; mode = Mode.User; priority = pos 0; domain = 0; pool = Some 0; grants = record { 0 = 2 } ∷ [] }
-        ∷ record { thread = record { 0 = 4 }; stack = record { 0 = 5 }; script = 1; mode = Mode.Supervisor; priority = pos 0; domain = 0; pool = None; grants = [] }
+        ≡ record {
+          thread = record { 0 = 0 };
+          stack = record { 0 = 1 };
+          script = 0;
+          mode = Mode.User;
+          priority = pos 0;
+          domain = 0;
+          pool = Some 0;
+          grants = record { 0 = 2 } ∷ [];
+        }
+        ∷ record {
+          thread = record { 0 = 4 };
+          stack = record { 0 = 5 };
+          script = 1;
+          mode = Mode.Supervisor;
+          priority = pos 0;
+          domain = 0;
+          pool = None;
+          grants = [];
+        }
         ∷ []) }
 {
     let user = Boot {
@@ -157,7 +220,9 @@ fn boots(alloc: Global) -> Result<BoundedVec<Boot, BOOTS>, OutOfMemory>
 
 /// Allocates a semaphore, and grants it to b.
 fn grants(alloc: Global) -> Result<BoundedVec<Instr, LINES>, OutOfMemory>
-    ensures { IfOk result (λ lines. lines ≡ Instr.ObjectAlloc Kind.Sem 0 ∷ Instr.Grant (Term.Reg 0) (Term.Num 0x40000080) ∷ []) }
+    ensures { IfOk result
+        (λ lines. lines ≡ Instr.ObjectAlloc Kind.Sem 0 ∷ Instr.Grant (Term.Reg 0) (Term.Num 0x40000080)
+        ∷ []) }
 {
     let mut lines: BoundedVec<Instr, LINES> = BoundedVec::new(alloc);
     lines.push_copy(&Instr::ObjectAlloc {
@@ -185,7 +250,10 @@ fn revokes(alloc: Global) -> Result<BoundedVec<Instr, LINES>, OutOfMemory>
 
 fn scripts(alloc: Global) -> Result<BoundedVec<Script, SCRIPTS>, OutOfMemory>
     ensures { IfOk result (λ list. list
-        ≡ record { name = codes "m"; lines = Instr.ObjectAlloc Kind.Sem 0 ∷ Instr.Grant (Term.Reg 0) (Term.Num 0x40000080) ∷ [] }
+        ≡ record {
+          name = codes "m";
+          lines = Instr.ObjectAlloc Kind.Sem 0 ∷ Instr.Grant (Term.Reg 0) (Term.Num 0x40000080) ∷ [];
+        }
         ∷ record { name = codes "v"; lines = Instr.Revoke (Term.Num 0x48000100) (Term.Num 0x40000000) ∷ [] }
         ∷ []) }
 {

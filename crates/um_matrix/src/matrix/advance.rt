@@ -84,7 +84,8 @@ impl<'a> Matrix<'a> {
         requires thread { t < THREADS }
         requires rest { slice_get (thread_at self.now t).pending 0 ≡ None }
         ensures some { IfSome result (λ choice. IsMove self.now t choice (said self.now t choice)) }
-        ensures next { IfSome result (λ choice. IsNext self.now t (said self.now t choice) (after_choice self.now t choice)) }
+        ensures next { IfSome result
+            (λ choice. IsNext self.now t (said self.now t choice) (after_choice self.now t choice)) }
         ensures none { IfNone result (Stays self.now t) }
     {
         match self.rest_act(t) {
@@ -99,7 +100,8 @@ impl<'a> Matrix<'a> {
         requires thread { t < THREADS }
         requires first { NoFirst self.now t }
         ensures some { IfSome result (λ choice. IsMove self.now t choice (said self.now t choice)) }
-        ensures next { IfSome result (λ choice. IsNext self.now t (said self.now t choice) (after_choice self.now t choice)) }
+        ensures next { IfSome result
+            (λ choice. IsNext self.now t (said self.now t choice) (after_choice self.now t choice)) }
         ensures none { IfNone result (NoSecond self.now t) }
     {
         let step = match self.second_step(t) {
@@ -121,7 +123,8 @@ impl<'a> Matrix<'a> {
     fn next_move(&self, t: usize) -> Option<Choice>
         requires { t < THREADS }
         ensures some { IfSome result (λ choice. IsMove self.now t choice (said self.now t choice)) }
-        ensures next { IfSome result (λ choice. IsNext self.now t (said self.now t choice) (after_choice self.now t choice)) }
+        ensures next { IfSome result
+            (λ choice. IsNext self.now t (said self.now t choice) (after_choice self.now t choice)) }
         ensures none { IfNone result (Stays self.now t) }
     {
         let step = match self.next_step(t) {
@@ -142,7 +145,8 @@ impl<'a> Matrix<'a> {
     fn first_pair(&self, t: usize, who: ThreadIx) -> Option<usize>
         ensures inside { IfSome result (λ x. x < ROWS) }
         ensures may { IfSome result (λ x. MayChoose self.now t x (Pending.CleanPair who)) }
-        ensures least { IfSome result (λ x. (y : ℕ) → y < x → MayChoose self.now t y (Pending.CleanPair who) → ⊥) }
+        ensures least { IfSome result
+            (λ x. (y : ℕ) → y < x → MayChoose self.now t y (Pending.CleanPair who) → ⊥) }
         ensures none { IfNone result (ChoosesNone self.now t (Pending.CleanPair who)) }
     {
         for x in 0..self.row_count(&Pending::CleanPair { who }) {
@@ -161,7 +165,8 @@ impl<'a> Matrix<'a> {
         requires object { thread_of_row self.now.image x ≡ Some who.0 }
         requires below { who.0 < THREADS }
         ensures some { IfSome result (λ choice. IsMove self.now t choice (said self.now t choice)) }
-        ensures next { IfSome result (λ choice. Cleans self.now t x (said self.now t choice) (after_choice self.now t choice)) }
+        ensures next { IfSome result
+            (λ choice. Cleans self.now t x (said self.now t choice) (after_choice self.now t choice)) }
         ensures none { IfNone result (ChoosesNone self.now t (Pending.CleanPair who)) }
     {
         match self.first_pair(t, who) {
@@ -177,7 +182,8 @@ impl<'a> Matrix<'a> {
         requires row { row < ROWS }
         requires started { IsTrue (is_started (thread_at self.now t).life) }
         ensures some { IfSome result (λ choice. IsMove self.now t choice (said self.now t choice)) }
-        ensures next { IfSome result (λ choice. Cleans self.now t row (said self.now t choice) (after_choice self.now t choice)) }
+        ensures next { IfSome result
+            (λ choice. Cleans self.now t row (said self.now t choice) (after_choice self.now t choice)) }
         ensures none { IfNone result (CleansNot self.now t row) }
     {
         if self.may_recycle(t, row) {
@@ -308,7 +314,8 @@ impl<'a> Matrix<'a> {
         ensures some { result ≡ true → Advances self.old (event_of thread.0 act.new) self.new }
         ensures next { result ≡ true → Cleans self.old thread.0 x act.new self.new }
         ensures none { result ≡ false → self.new ≡ self.old }
-        ensures not { result ≡ false → IsTrue (is_started (thread_at self.old thread.0).life) → CleansNot self.old thread.0 x }
+        ensures not { result ≡ false → IsTrue (is_started (thread_at self.old thread.0).life)
+            → CleansNot self.old thread.0 x }
     {
         let t = thread.0 as usize;
         if t >= self.threads.len() || !self.is_started(t) {

@@ -40,7 +40,8 @@ fn threads(alloc: Global) -> Result<Vec<Thread>, OutOfMemory>
 
 /// No pairs.
 fn no_pairs(alloc: Global) -> Result<Vec<[bool; THREADS]>, OutOfMemory>
-    ensures items { IfOk result (λ pairs. pairs.items ≡ replicate {A = List Bool} ROWS (replicate {A = Bool} THREADS false)) }
+    ensures items { IfOk result
+        (λ pairs. pairs.items ≡ replicate {A = List Bool} ROWS (replicate {A = Bool} THREADS false)) }
     ensures all { IfOk result (λ pairs. length pairs.items ≡ ROWS) }
 {
     let mut pairs = Vec::new(alloc);
@@ -110,7 +111,8 @@ fn parts_of(image: &Image, domain: &DomainDef) -> Option<Parts>
 /// The partitions of the domains.
 fn domains(alloc: Global, image: &Image) -> Result<Vec<Option<Parts>>, OutOfMemory>
     requires { IsLawful image.now }
-    ensures items { IfOk result (λ all. all.items ≡ map (λ (d : DomainDef). parts_of image.now d.parts) image.now.domains) }
+    ensures items { IfOk result
+        (λ all. all.items ≡ map (λ (d : DomainDef). parts_of image.now d.parts) image.now.domains) }
     ensures few { IfOk result (λ all. length all.items ≤ DOMAINS) }
 {
     let mut all = Vec::with_capacity(alloc, DOMAINS)?;

@@ -130,7 +130,8 @@ impl<'a> Matrix<'a> {
         requires thread { t < THREADS }
         requires sound { IsSound step.now }
         ensures inside { IfSome result (λ x. x < ROWS) }
-        ensures found { IfSome result (λ x. MayChoose self.now t x step.now × (act.now ≡ act_of self.now t x step.now)) }
+        ensures found { IfSome result
+            (λ x. MayChoose self.now t x step.now × (act.now ≡ act_of self.now t x step.now)) }
         ensures none { IfNone result (SaysNot self.now t act.now step.now) }
     {
         for x in 0..self.row_count(step) {
@@ -147,7 +148,8 @@ impl<'a> Matrix<'a> {
         requires thread { t < THREADS }
         requires rest { slice_get (thread_at self.now t).pending 0 ≡ None }
         ensures some { IfSome result (λ choice. IsChoice self.now t act.now choice) }
-        ensures none { IfNone result ((step : Pending) → rest_step self.now t ≡ Some step → SaysNot self.now t act.now step) }
+        ensures none { IfNone result
+            ((step : Pending) → rest_step self.now t ≡ Some step → SaysNot self.now t act.now step) }
     {
         match self.rest_act(t) {
             None => None,
@@ -167,7 +169,8 @@ impl<'a> Matrix<'a> {
     fn by_first(&self, t: usize, act: &Act) -> Option<Choice>
         requires thread { t < THREADS }
         ensures some { IfSome result (λ choice. IsChoice self.now t act.now choice) }
-        ensures none { IfNone result ((step : Pending) → first_step self.now t ≡ Some step → SaysNot self.now t act.now step) }
+        ensures none { IfNone result
+            ((step : Pending) → first_step self.now t ≡ Some step → SaysNot self.now t act.now step) }
     {
         let Some(step) = self.next_step(t) else {
             return self.at_rest(t, act);
@@ -181,7 +184,8 @@ impl<'a> Matrix<'a> {
     fn by_second(&self, t: usize, act: &Act) -> Option<Choice>
         requires thread { t < THREADS }
         ensures some { IfSome result (λ choice. IsChoice self.now t act.now choice) }
-        ensures none { IfNone result ((step : Pending) → second_step self.now t ≡ Some step → SaysNot self.now t act.now step) }
+        ensures none { IfNone result
+            ((step : Pending) → second_step self.now t ≡ Some step → SaysNot self.now t act.now step) }
     {
         let step = self.second_step(t)?;
         let row = self.row_for(t, &step, act)?;
@@ -193,8 +197,10 @@ impl<'a> Matrix<'a> {
     fn by_steps(&self, t: usize, act: &Act) -> Option<Choice>
         requires thread { t < THREADS }
         ensures some { IfSome result (λ choice. IsChoice self.now t act.now choice) }
-        ensures first { IfNone result ((step : Pending) → first_step self.now t ≡ Some step → SaysNot self.now t act.now step) }
-        ensures second { IfNone result ((step : Pending) → second_step self.now t ≡ Some step → SaysNot self.now t act.now step) }
+        ensures first { IfNone result
+            ((step : Pending) → first_step self.now t ≡ Some step → SaysNot self.now t act.now step) }
+        ensures second { IfNone result
+            ((step : Pending) → second_step self.now t ≡ Some step → SaysNot self.now t act.now step) }
     {
         match self.by_first(t, act) {
             Some(choice) => Some(choice),
@@ -250,8 +256,11 @@ impl<'a> Matrix<'a> {
     fn by_cleaning(&self, t: usize, act: &Act) -> Option<Choice>
         requires thread { t < THREADS }
         ensures some { IfSome result (λ choice. IsChoice self.now t act.now choice) }
-        ensures pairs { IfNone result (IsTrue (is_started (thread_at self.now t).life) → (who : ThreadIx) → SaysNot self.now t act.now (Pending.CleanPair who)) }
-        ensures objects { IfNone result (IsTrue (is_started (thread_at self.now t).life) → SaysNot self.now t act.now Pending.Recycle) }
+        ensures pairs { IfNone result
+            (IsTrue (is_started (thread_at self.now t).life) → (who : ThreadIx)
+            → SaysNot self.now t act.now (Pending.CleanPair who)) }
+        ensures objects { IfNone result
+            (IsTrue (is_started (thread_at self.now t).life) → SaysNot self.now t act.now Pending.Recycle) }
     {
         if !self.is_started(t) {
             return None;

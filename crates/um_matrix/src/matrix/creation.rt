@@ -44,7 +44,8 @@ impl<'a> Matrix<'a> {
     fn instruction(&self, t: usize) -> Option<&'a Instr>
         requires { t < THREADS }
         ensures value { option_copied result ≡ instruction_at self.now.image (thread_at self.now t).place }
-        ensures sized { IfSome (instruction_at self.now.image (thread_at self.now t).place) (λ i. IsTrue (is_sized i)) }
+        ensures sized { IfSome (instruction_at self.now.image (thread_at self.now t).place)
+            (λ i. IsTrue (is_sized i)) }
     {
         instruction_at(self.image, self.threads[t].place)
     }
@@ -65,7 +66,8 @@ impl<'a> Matrix<'a> {
     /// A new thread, with its creator's pool and domain.
     fn newborn(&self, t: usize, who: ThreadIx, start: Beginning) -> Thread
         requires { t < THREADS }
-        ensures { result ≡ newborn self.now (thread_at self.now t) who.0 start.script (Pending.Start who start.script start.stack start.priority start.mode) }
+        ensures { result ≡ newborn self.now (thread_at self.now t) who.0 start.script
+            (Pending.Start who start.script start.stack start.priority start.mode) }
     {
         let me = &self.threads[t];
         let mut born = nobody();
@@ -94,7 +96,9 @@ impl<'a> Matrix<'a> {
     /// The start of a new thread.
     pub(crate) fn start(&mut self, t: usize, who: ThreadIx, start: Beginning, taken: usize)
         requires { t < THREADS }
-        ensures { self.new ≡ after self.old t 0 (Pending.Start who start.script start.stack start.priority start.mode) (drop taken (thread_at self.old t).pending) }
+        ensures { self.new ≡ after self.old t 0
+            (Pending.Start who start.script start.stack start.priority start.mode)
+            (drop taken (thread_at self.old t).pending) }
     {
         let born = self.newborn(t, who, start);
         self.place_born(t, who, born);
@@ -114,7 +118,8 @@ impl<'a> Matrix<'a> {
     /// A new thread stands under its index. One that starts itself keeps the steps that are left.
     fn place_born(&mut self, t: usize, who: ThreadIx, born: Thread)
         requires { t < THREADS }
-        ensures value { self.new ≡ with_thread self.old who.0 (if who.0 == t then record born { pending = (thread_at self.old t).pending } else born) }
+        ensures value { self.new ≡ with_thread self.old who.0
+            (if who.0 == t then record born { pending = (thread_at self.old t).pending } else born) }
         ensures all { length self.old.threads ≡ THREADS }
     {
         if who.0 as usize == t {
@@ -127,7 +132,8 @@ impl<'a> Matrix<'a> {
     /// A thread goes on as a user, at the first line of a script.
     pub(crate) fn enter_user(&mut self, t: usize, script: u8, taken: usize)
         requires { t < THREADS }
-        ensures { self.new ≡ after self.old t 0 (Pending.EnterUser script) (drop taken (thread_at self.old t).pending) }
+        ensures { self.new ≡ after self.old t 0 (Pending.EnterUser script)
+            (drop taken (thread_at self.old t).pending) }
     {
         let thread = &mut self.threads[t];
         thread.mode = Mode::User;

@@ -30,7 +30,8 @@ impl<'a> Matrix<'a> {
     /// What a call makes of a domain.
     fn put_domain(&mut self, t: usize, domain: u8, parts: Option<Parts>, reply: Reply, taken: usize)
         requires { t < THREADS }
-        ensures { self.new ≡ went (drop taken (thread_at self.old t).pending) (effect (Effect.edits domain parts) self.old) t (Next.on (Change.says reply) Way.rest) }
+        ensures { self.new ≡ went (drop taken (thread_at self.old t).pending)
+            (effect (Effect.edits domain parts) self.old) t (Next.on (Change.says reply) Way.rest) }
     {
         if (domain as usize) < self.domains.len() {
             self.domains[domain as usize] = parts;
@@ -50,7 +51,9 @@ impl<'a> Matrix<'a> {
         taken: usize,
     )
         requires { t < THREADS }
-        ensures { self.new ≡ went (drop taken (thread_at self.old t).pending) (effect (Effect.edits domain (domain_after before made)) self.old) t (Next.on (Change.says (reply_to made)) Way.rest) }
+        ensures { self.new ≡ went (drop taken (thread_at self.old t).pending)
+            (effect (Effect.edits domain (domain_after before made)) self.old) t
+            (Next.on (Change.says (reply_to made)) Way.rest) }
     {
         let reply = reply_to(&made);
         self.put_domain(t, domain, domain_after(before, made), reply, taken);
@@ -58,7 +61,8 @@ impl<'a> Matrix<'a> {
 
     /// What an initialisation makes of a domain.
     fn initialised(&self, domain: u8, parts: &PartRefs) -> Result<Parts, Errno>
-        ensures { result ≡ initialised self.now.image.mpu (most_parts self.now.image) (domain_at self.now domain) (map (part_named self.now.image) parts.now) }
+        ensures { result ≡ initialised self.now.image.mpu (most_parts self.now.image)
+            (domain_at self.now domain) (map (part_named self.now.image) parts.now) }
     {
         initialised(self.image, &self.domain_at(domain), parts.as_slice())
     }
@@ -103,7 +107,8 @@ impl<'a> Matrix<'a> {
     /// The initialisation of a domain.
     pub(crate) fn domain_init(&mut self, t: usize, domain: u8, parts: &PartRefs, taken: usize)
         requires { t < THREADS }
-        ensures { self.new ≡ after self.old t 0 (Pending.DomInit domain parts.now) (drop taken (thread_at self.old t).pending) }
+        ensures { self.new ≡ after self.old t 0 (Pending.DomInit domain parts.now)
+            (drop taken (thread_at self.old t).pending) }
     {
         let made = self.initialised(domain, parts);
         self.edit_domain(t, domain, self.domain_at(domain), made, taken);
@@ -119,7 +124,8 @@ impl<'a> Matrix<'a> {
         taken: usize,
     )
         requires { t < THREADS }
-        ensures { self.new ≡ after self.old t 0 (Pending.DomAdd domain range attr) (drop taken (thread_at self.old t).pending) }
+        ensures { self.new ≡ after self.old t 0 (Pending.DomAdd domain range attr)
+            (drop taken (thread_at self.old t).pending) }
     {
         let before = self.domain_at(domain);
         let made = added(self.image, &before, range, attr);
@@ -136,7 +142,8 @@ impl<'a> Matrix<'a> {
         taken: usize,
     )
         requires { t < THREADS }
-        ensures { self.new ≡ after self.old t 0 (Pending.DomRemove domain range attr) (drop taken (thread_at self.old t).pending) }
+        ensures { self.new ≡ after self.old t 0 (Pending.DomRemove domain range attr)
+            (drop taken (thread_at self.old t).pending) }
     {
         let before = self.domain_at(domain);
         let made = removed(&before, range);
@@ -157,7 +164,8 @@ impl<'a> Matrix<'a> {
     #[tactic(auto, using(crate::proofs::PairLemmas::pendings_kept))]
     pub(crate) fn domain_move(&mut self, t: usize, domain: u8, who: ThreadIx, taken: usize)
         requires { t < THREADS }
-        ensures { self.new ≡ after self.old t 0 (Pending.DomMove domain who) (drop taken (thread_at self.old t).pending) }
+        ensures { self.new ≡ after self.old t 0 (Pending.DomMove domain who)
+            (drop taken (thread_at self.old t).pending) }
     {
         let reply = self.move_reply(domain);
         self.move_thread(who, domain, reply);

@@ -21,7 +21,8 @@ impl<'a> Matrix<'a> {
         requires thread { t < THREADS }
         requires row { x < ROWS }
         requires taken { 0 < taken }
-        ensures { self.new ≡ after self.old t x (Pending.Reserve kind) (drop taken (thread_at self.old t).pending) }
+        ensures { self.new ≡ after self.old t x (Pending.Reserve kind)
+            (drop taken (thread_at self.old t).pending) }
     {
         let thread = &mut self.threads[t];
         if x == 0 {
@@ -56,7 +57,8 @@ impl<'a> Matrix<'a> {
     /// A buffer from the pool, or the answer that there is none.
     pub(crate) fn buffer(&mut self, t: usize, size: u32, taken: usize)
         requires { t < THREADS }
-        ensures { self.new ≡ after self.old t 0 (Pending.Buffer size) (drop taken (thread_at self.old t).pending) }
+        ensures { self.new ≡ after self.old t 0 (Pending.Buffer size)
+            (drop taken (thread_at self.old t).pending) }
     {
         let pool = self.threads[t].pool;
         if self.pays(pool, size) {
@@ -70,7 +72,8 @@ impl<'a> Matrix<'a> {
     /// The pool gets a buffer back.
     pub(crate) fn unbuffer(&mut self, t: usize, size: u32, taken: usize)
         requires { t < THREADS }
-        ensures { self.new ≡ after self.old t 0 (Pending.Unbuffer size) (drop taken (thread_at self.old t).pending) }
+        ensures { self.new ≡ after self.old t 0 (Pending.Unbuffer size)
+            (drop taken (thread_at self.old t).pending) }
     {
         let thread = &mut self.threads[t];
         pay_back(&mut self.pools, cost_of(thread.pool, size));

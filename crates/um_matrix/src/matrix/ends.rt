@@ -25,7 +25,8 @@ impl<'a> Matrix<'a> {
     /// A fatal error: the end of the thread, or of all threads.
     pub(crate) fn fatal(&mut self, t: usize, reason: u8, cause: Cause, taken: usize)
         requires { t < THREADS }
-        ensures { self.new ≡ after self.old t 0 (Pending.Fatal reason cause) (drop taken (thread_at self.old t).pending) }
+        ensures { self.new ≡ after self.old t 0 (Pending.Fatal reason cause)
+            (drop taken (thread_at self.old t).pending) }
     {
         let due = rows_held(self.pairs.as_slice(), t);
         let thread = &mut self.threads[t];
@@ -39,7 +40,8 @@ impl<'a> Matrix<'a> {
         requires thread { t < THREADS }
         requires row { x < ROWS }
         requires taken { 0 < taken }
-        ensures { self.new ≡ after self.old t x (Pending.Drops from) (drop taken (thread_at self.old t).pending) }
+        ensures { self.new ≡ after self.old t x (Pending.Drops from)
+            (drop taken (thread_at self.old t).pending) }
     {
         self.drop_pair(t, x);
         let next = Pending::Drops { from: x as u8 + 1 };
@@ -49,7 +51,8 @@ impl<'a> Matrix<'a> {
     /// The dooming of one thread.
     pub(crate) fn doom(&mut self, t: usize, from: u8, taken: usize)
         requires { t < THREADS }
-        ensures { self.new ≡ after self.old t 0 (Pending.Dooms from) (drop taken (thread_at self.old t).pending) }
+        ensures { self.new ≡ after self.old t 0 (Pending.Dooms from)
+            (drop taken (thread_at self.old t).pending) }
     {
         if (from as usize) < THREADS {
             self.threads[from as usize].doomed = true;

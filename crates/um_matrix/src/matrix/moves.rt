@@ -88,7 +88,9 @@ pub(crate) fn rows_held(pairs: &[[bool; THREADS]], t: usize) -> [bool; ROWS]
 /// The rows with which a thread has a pair and another has none.
 pub(crate) fn rows_to_pass(pairs: &[[bool; THREADS]], t: usize, who: usize) -> [bool; ROWS]
     requires { length pairs.now ≡ ROWS }
-    ensures { result ≡ map (λ (holders : List Bool). slice_index_or holders t false && not (slice_index_or holders who false)) pairs.now }
+    ensures { result ≡ map
+        (λ (holders : List Bool). slice_index_or holders t false && not
+        (slice_index_or holders who false)) pairs.now }
 {
     let mut rows = [false; ROWS];
     for (x, holders) in pairs.iter().enumerate() {

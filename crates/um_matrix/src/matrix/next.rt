@@ -44,7 +44,8 @@ impl<'a> Matrix<'a> {
     fn first_act(&self, t: usize) -> Option<Act>
         requires { t < THREADS }
         ensures some { IfSome result (λ act. IsStep self.now (event_of t act)) }
-        ensures none { IfNone result ((step : Pending) → first_step self.now t ≡ Some step → ChoosesNone self.now t step) }
+        ensures none { IfNone result
+            ((step : Pending) → first_step self.now t ≡ Some step → ChoosesNone self.now t step) }
     {
         match self.next_step(t) {
             None => self.rest_act(t),
@@ -56,7 +57,8 @@ impl<'a> Matrix<'a> {
     fn second_act(&self, t: usize) -> Option<Act>
         requires { t < THREADS }
         ensures some { IfSome result (λ act. IsStep self.now (event_of t act)) }
-        ensures none { IfNone result ((step : Pending) → second_step self.now t ≡ Some step → ChoosesNone self.now t step) }
+        ensures none { IfNone result
+            ((step : Pending) → second_step self.now t ≡ Some step → ChoosesNone self.now t step) }
     {
         match self.second_step(t) {
             None => None,
@@ -68,8 +70,10 @@ impl<'a> Matrix<'a> {
     fn step_act(&self, t: usize) -> Option<Act>
         requires { t < THREADS }
         ensures some { IfSome result (λ act. IsStep self.now (event_of t act)) }
-        ensures first { IfNone result ((step : Pending) → first_step self.now t ≡ Some step → ChoosesNone self.now t step) }
-        ensures second { IfNone result ((step : Pending) → second_step self.now t ≡ Some step → ChoosesNone self.now t step) }
+        ensures first { IfNone result
+            ((step : Pending) → first_step self.now t ≡ Some step → ChoosesNone self.now t step) }
+        ensures second { IfNone result
+            ((step : Pending) → second_step self.now t ≡ Some step → ChoosesNone self.now t step) }
     {
         match self.first_act(t) {
             Some(act) => Some(act),
@@ -101,7 +105,8 @@ impl<'a> Matrix<'a> {
         requires { x < ROWS }
         ensures some { IfSome result (λ step. MayChoose self.now t x step × IsTrue (is_tending step)) }
         ensures sound { IfSome result IsSound }
-        ensures pairs { IfNone result ((who : ThreadIx) → MayChoose self.now t x (Pending.CleanPair who) → ⊥) }
+        ensures pairs { IfNone result
+            ((who : ThreadIx) → MayChoose self.now t x (Pending.CleanPair who) → ⊥) }
         ensures objects { IfNone result (MayChoose self.now t x Pending.Recycle → ⊥) }
     {
         if self.may_recycle(t, x) {
@@ -117,8 +122,11 @@ impl<'a> Matrix<'a> {
     fn cleaning_act(&self, t: usize) -> Option<Act>
         requires { t < THREADS }
         ensures some { IfSome result (λ act. IsStep self.now (event_of t act)) }
-        ensures pairs { IfNone result (IsTrue (is_started (thread_at self.now t).life) → (who : ThreadIx) → ChoosesNone self.now t (Pending.CleanPair who)) }
-        ensures objects { IfNone result (IsTrue (is_started (thread_at self.now t).life) → ChoosesNone self.now t Pending.Recycle) }
+        ensures pairs { IfNone result
+            (IsTrue (is_started (thread_at self.now t).life) → (who : ThreadIx)
+            → ChoosesNone self.now t (Pending.CleanPair who)) }
+        ensures objects { IfNone result
+            (IsTrue (is_started (thread_at self.now t).life) → ChoosesNone self.now t Pending.Recycle) }
     {
         if !self.is_started(t) {
             return None;

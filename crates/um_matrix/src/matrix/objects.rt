@@ -14,7 +14,8 @@ use um_steps::rows::own_row;
 
 /// What follows where an object can't be marked: the other one is cleared first.
 fn turn_back(thread: &mut Thread, undo: Option<Addr>, e: Errno)
-    ensures { (image : Image) (left : Steps) → thread.new ≡ at_steps image thread.old (steps_by left (undone thread.old.mode e undo)) }
+    ensures { (image : Image) (left : Steps)
+        → thread.new ≡ at_steps image thread.old (steps_by left (undone thread.old.mode e undo)) }
 {
     thread.turns_to(&refuses(thread.mode, Cause::Refused(e)));
     if let Some(addr) = undo {
@@ -36,7 +37,8 @@ impl<'a> Matrix<'a> {
         taken: usize,
     )
         requires { t < THREADS }
-        ensures { self.new ≡ after self.old t 0 (Pending.Check a kind want refusal) (drop taken (thread_at self.old t).pending) }
+        ensures { self.new ≡ after self.old t 0 (Pending.Check a kind want refusal)
+            (drop taken (thread_at self.old t).pending) }
     {
         let verdict = self.verdict(t, a, kind, want);
         let x = self.row_of(a);
@@ -53,7 +55,8 @@ impl<'a> Matrix<'a> {
     /// An answer: what the call has checked is let go.
     pub(crate) fn answer(&mut self, t: usize, reply: Option<Reply>, to: Option<u8>, taken: usize)
         requires { t < THREADS }
-        ensures { self.new ≡ after self.old t 0 (Pending.Answer reply to) (drop taken (thread_at self.old t).pending) }
+        ensures { self.new ≡ after self.old t 0 (Pending.Answer reply to)
+            (drop taken (thread_at self.old t).pending) }
     {
         let thread = &mut self.threads[t];
         let reply = reply.unwrap_or(thread.reply);
@@ -65,7 +68,8 @@ impl<'a> Matrix<'a> {
     /// An object becomes public, unless it is gone.
     pub(crate) fn publish(&mut self, t: usize, a: Addr, taken: usize)
         requires { t < THREADS }
-        ensures { self.new ≡ after self.old t 0 (Pending.Publish a) (drop taken (thread_at self.old t).pending) }
+        ensures { self.new ≡ after self.old t 0 (Pending.Publish a)
+            (drop taken (thread_at self.old t).pending) }
     {
         let x = self.row_of(a);
         match self.given(x) {
@@ -85,7 +89,8 @@ impl<'a> Matrix<'a> {
         taken: usize,
     )
         requires { t < THREADS }
-        ensures { self.new ≡ after self.old t 0 (Pending.SetInit a strict undo) (drop taken (thread_at self.old t).pending) }
+        ensures { self.new ≡ after self.old t 0 (Pending.SetInit a strict undo)
+            (drop taken (thread_at self.old t).pending) }
     {
         let x = self.row_of(a);
         match set_said(self.objects.row(x), strict) {
@@ -101,7 +106,8 @@ impl<'a> Matrix<'a> {
     /// The clearing of an object's initialised state.
     pub(crate) fn clear_init(&mut self, t: usize, a: Addr, taken: usize)
         requires { t < THREADS }
-        ensures { self.new ≡ after self.old t 0 (Pending.ClearInit a) (drop taken (thread_at self.old t).pending) }
+        ensures { self.new ≡ after self.old t 0 (Pending.ClearInit a)
+            (drop taken (thread_at self.old t).pending) }
     {
         let x = self.row_of(a);
         let own = own_row(self.image, t);
@@ -114,7 +120,8 @@ impl<'a> Matrix<'a> {
     /// A thread object gets the name in the buffer.
     pub(crate) fn named(&mut self, t: usize, who: ThreadIx, taken: usize)
         requires { t < THREADS }
-        ensures { self.new ≡ after self.old t 0 (Pending.Named who) (drop taken (thread_at self.old t).pending) }
+        ensures { self.new ≡ after self.old t 0 (Pending.Named who)
+            (drop taken (thread_at self.old t).pending) }
     {
         let x = self.own_row(who);
         let name = self.threads[t].buffer;

@@ -15,7 +15,8 @@ impl<'a> Matrix<'a> {
     #[tactic(auto, using(crate::proofs::PairLemmas::pendings_kept))]
     pub(crate) fn grant(&mut self, t: usize, who: ThreadIx, a: Addr, taken: usize)
         requires { t < THREADS }
-        ensures { self.new ≡ after self.old t 0 (Pending.Grant who a) (drop taken (thread_at self.old t).pending) }
+        ensures { self.new ≡ after self.old t 0 (Pending.Grant who a)
+            (drop taken (thread_at self.old t).pending) }
     {
         let x = self.row_of(a);
         self.give_pair(who.0 as usize, x);
@@ -26,7 +27,8 @@ impl<'a> Matrix<'a> {
     #[tactic(auto, using(crate::proofs::PairLemmas::pendings_kept))]
     pub(crate) fn own(&mut self, t: usize, who: ThreadIx, taken: usize)
         requires { t < THREADS }
-        ensures { self.new ≡ after self.old t 0 (Pending.Own who) (drop taken (thread_at self.old t).pending) }
+        ensures { self.new ≡ after self.old t 0 (Pending.Own who)
+            (drop taken (thread_at self.old t).pending) }
     {
         let x = self.own_row(who);
         self.give_pair(who.0 as usize, x);
@@ -51,7 +53,8 @@ impl<'a> Matrix<'a> {
     pub(crate) fn inherit(&mut self, t: usize, x: usize, who: ThreadIx, taken: usize)
         requires thread { t < THREADS }
         requires taken { 0 < taken }
-        ensures { self.new ≡ after self.old t x (Pending.Inherit who) (drop taken (thread_at self.old t).pending) }
+        ensures { self.new ≡ after self.old t x (Pending.Inherit who)
+            (drop taken (thread_at self.old t).pending) }
     {
         self.paired(who.0 as usize, x, true);
         self.threads[t].goes_to(&Pending::Inherit { who }, taken);
@@ -61,7 +64,8 @@ impl<'a> Matrix<'a> {
     #[tactic(auto, using(crate::proofs::PairLemmas::pendings_kept))]
     pub(crate) fn drop_by_call(&mut self, t: usize, who: ThreadIx, a: Addr, taken: usize)
         requires { t < THREADS }
-        ensures { self.new ≡ after self.old t 0 (Pending.DropPair who a) (drop taken (thread_at self.old t).pending) }
+        ensures { self.new ≡ after self.old t 0 (Pending.DropPair who a)
+            (drop taken (thread_at self.old t).pending) }
     {
         let x = self.row_of(a);
         self.drop_pair(who.0 as usize, x);

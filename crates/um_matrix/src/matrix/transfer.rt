@@ -41,7 +41,8 @@ impl<'a> Matrix<'a> {
     pub(crate) fn load(&mut self, t: usize, to: u8, a: Addr, n: u32, taken: usize)
         requires thread { t < THREADS }
         requires few { n ≤ 4 }
-        ensures { self.new ≡ after self.old t 0 (Pending.Load to a n) (drop taken (thread_at self.old t).pending) }
+        ensures { self.new ≡ after self.old t 0 (Pending.Load to a n)
+            (drop taken (thread_at self.old t).pending) }
     {
         if self.allowed(t, Access::Read, a.0, n) {
             let value = le_value(self.bytes_at(a.0, n));
@@ -56,7 +57,8 @@ impl<'a> Matrix<'a> {
     /// A store, or its fault.
     pub(crate) fn store(&mut self, t: usize, a: Addr, n: u32, value: u32, taken: usize)
         requires { t < THREADS }
-        ensures { self.new ≡ after self.old t 0 (Pending.Store a n value) (drop taken (thread_at self.old t).pending) }
+        ensures { self.new ≡ after self.old t 0 (Pending.Store a n value)
+            (drop taken (thread_at self.old t).pending) }
     {
         if self.allowed(t, Access::Write, a.0, n) {
             self.write_number(a.0, n, value);
@@ -69,7 +71,8 @@ impl<'a> Matrix<'a> {
     /// A fetch, or its fault.
     pub(crate) fn fetch(&mut self, t: usize, a: Addr, taken: usize)
         requires { t < THREADS }
-        ensures { self.new ≡ after self.old t 0 (Pending.Fetch a) (drop taken (thread_at self.old t).pending) }
+        ensures { self.new ≡ after self.old t 0 (Pending.Fetch a)
+            (drop taken (thread_at self.old t).pending) }
     {
         if self.allowed(t, Access::Exec, a.0, 4) {
             self.threads[t].goes_on(self.image, taken);
@@ -81,7 +84,9 @@ impl<'a> Matrix<'a> {
     /// What follows a copy that isn't allowed: a fatal error, by `EFAULT` of a user and by its access of a supervisor.
     fn copy_fails(&mut self, t: usize)
         requires { t < THREADS }
-        ensures { (left : Steps) → self.new ≡ went left self.old t (Next.on Change.nothing (copied (thread_at self.old t).mode false)) }
+        ensures { (left : Steps)
+            → self.new ≡ went left self.old t
+            (Next.on Change.nothing (copied (thread_at self.old t).mode false)) }
     {
         let thread = &mut self.threads[t];
         thread.turns_to(&copy_fails(thread.mode));
@@ -90,7 +95,8 @@ impl<'a> Matrix<'a> {
     /// The test of a buffer that a call will write.
     pub(crate) fn probe(&mut self, t: usize, a: Addr, amount: Amount, taken: usize)
         requires { t < THREADS }
-        ensures { self.new ≡ after self.old t 0 (Pending.Probe a amount) (drop taken (thread_at self.old t).pending) }
+        ensures { self.new ≡ after self.old t 0 (Pending.Probe a amount)
+            (drop taken (thread_at self.old t).pending) }
     {
         let n = self.amount_of(amount);
         if !self.allowed(t, Access::Write, a.0, n) {
@@ -102,7 +108,8 @@ impl<'a> Matrix<'a> {
     /// A copy from a caller's memory.
     pub(crate) fn copy_in(&mut self, t: usize, a: Addr, amount: Amount, taken: usize)
         requires { t < THREADS }
-        ensures { self.new ≡ after self.old t 0 (Pending.CopyIn a amount) (drop taken (thread_at self.old t).pending) }
+        ensures { self.new ≡ after self.old t 0 (Pending.CopyIn a amount)
+            (drop taken (thread_at self.old t).pending) }
     {
         let n = self.amount_of(amount);
         if !self.allowed(t, Access::Read, a.0, n) {
@@ -117,7 +124,8 @@ impl<'a> Matrix<'a> {
     /// A copy of the buffer to a caller's memory.
     pub(crate) fn copy_out(&mut self, t: usize, a: Addr, taken: usize)
         requires { t < THREADS }
-        ensures { self.new ≡ after self.old t 0 (Pending.CopyOut a) (drop taken (thread_at self.old t).pending) }
+        ensures { self.new ≡ after self.old t 0 (Pending.CopyOut a)
+            (drop taken (thread_at self.old t).pending) }
     {
         let buffer = self.threads[t].buffer;
         if !self.allowed(t, Access::Write, a.0, buffer.len() as u32) {
@@ -130,7 +138,8 @@ impl<'a> Matrix<'a> {
     /// A copy of a string from a caller's memory.
     pub(crate) fn copy_string(&mut self, t: usize, a: Addr, taken: usize)
         requires { t < THREADS }
-        ensures { self.new ≡ after self.old t 0 (Pending.CopyStr a) (drop taken (thread_at self.old t).pending) }
+        ensures { self.new ≡ after self.old t 0 (Pending.CopyStr a)
+            (drop taken (thread_at self.old t).pending) }
     {
         let found = self.string_read(t, a.0);
         self.take_string(t, a, found, taken);
@@ -157,7 +166,8 @@ impl<'a> Matrix<'a> {
     /// Zero bytes over a thread stack.
     pub(crate) fn erase(&mut self, t: usize, stack: Row, taken: usize)
         requires { t < THREADS }
-        ensures { self.new ≡ after self.old t 0 (Pending.Erase stack) (drop taken (thread_at self.old t).pending) }
+        ensures { self.new ≡ after self.old t 0 (Pending.Erase stack)
+            (drop taken (thread_at self.old t).pending) }
     {
         if let Some(range) = self.stack_range(stack) {
             self.clear(range);

@@ -20,7 +20,8 @@ use um_steps::order::after_error;
 /// A thread is told something.
 #[inline(never)]
 fn tell(threads: &mut [Thread], who: ThreadIx, told: &Told)
-    ensures { threads.new ≡ slice_set threads.old who.0 (record (slice_index_or threads.old who.0 nobody) { told = Some told.now }) }
+    ensures { threads.new ≡ slice_set threads.old who.0
+        (record (slice_index_or threads.old who.0 nobody) { told = Some told.now }) }
 {
     if (who.0 as usize) < threads.len() {
         threads[who.0 as usize].told = Some(*told);
@@ -50,7 +51,8 @@ fn after_answer(
 )
     requires sound { IsTrue (is_sound_ask ask.now) }
     requires taken { 0 < taken }
-    ensures { thread.new ≡ answered image.now thread.old ask.now bytes.now (drop taken thread.old.pending) answer }
+    ensures { thread.new ≡ answered image.now thread.old ask.now bytes.now
+        (drop taken thread.old.pending) answer }
 {
     match answer {
         Answer::Wait => thread.goes_to(&Pending::Resume, taken),
@@ -72,7 +74,13 @@ impl<'a> Matrix<'a> {
     #[inline(never)]
     fn worker(&self, t: usize, ask: &Ask) -> Waiter
         requires { t < THREADS }
-        ensures value { result ≡ record { thread = to_thread t; priority = (thread_at self.now t).priority; ask = ask.now; bytes = bytes_given (thread_at self.now t).buffer ask.now } }
+        ensures value { result
+            ≡ record {
+              thread = to_thread t;
+              priority = (thread_at self.now t).priority;
+              ask = ask.now;
+              bytes = bytes_given (thread_at self.now t).buffer ask.now;
+            } }
         ensures sound { IsTrue (is_sound_ask ask.now) → IsTrue (is_sound_ask result.ask) }
     {
         let thread = &self.threads[t];
@@ -108,7 +116,8 @@ impl<'a> Matrix<'a> {
         requires sound { IsTrue (is_sound_ask ask.now) }
         requires taken { 0 < taken }
         ensures says { (x : ℕ) → said.new ≡ act_of self.old t x (Pending.Work a ask.now) }
-        ensures leaves { self.new ≡ after self.old t 0 (Pending.Work a ask.now) (drop taken (thread_at self.old t).pending) }
+        ensures leaves { self.new ≡ after self.old t 0 (Pending.Work a ask.now)
+            (drop taken (thread_at self.old t).pending) }
     {
         let x = self.row_of(a);
         let who = self.worker(t, ask);

@@ -40,7 +40,8 @@ impl Processor {
     fn work<S: Sites>(&mut self, here: &Here, addr: Addr, ask: &Ask, sites: &mut S) -> Turn
         requires sound { IsTrue (is_sound_ask ask.now) }
         requires clear { IsClear self.old }
-        requires goes { CanTurn S.Sites here.now sites.old (shows (Pending.Work addr ask.now) self.old.running) }
+        requires goes { CanTurn S.Sites here.now sites.old
+            (shows (Pending.Work addr ask.now) self.old.running) }
         ensures turn { HasStepped S.Sites result here.now sites.old sites.new
             (shows (Pending.Work addr ask.now) self.old.running) self.old self.new }
     {
@@ -52,7 +53,8 @@ impl Processor {
     /// Takes a thread's permission for the object at an address away. If that brings the row to cleaning, the object joins those to clean.
     fn take_away<S: Sites>(&mut self, here: &Here, who: ThreadIx, addr: Addr, sites: &mut S) -> Turn
         requires clear { IsClear self.old }
-        requires goes { CanTurn S.Sites here.now sites.old (shows (Pending.DropPair who addr) self.old.running) }
+        requires goes { CanTurn S.Sites here.now sites.old
+            (shows (Pending.DropPair who addr) self.old.running) }
         ensures turn { HasStepped S.Sites result here.now sites.old sites.new
             (shows (Pending.DropPair who addr) self.old.running) self.old self.new }
     {

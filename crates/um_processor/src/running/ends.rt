@@ -76,7 +76,8 @@ impl Running {
     ) -> Turn
         requires goes { CanTurn S.Sites here.now sites.old (shows (Pending.DropPair who addr) self.old) }
         ensures cleans { HasCleaned S.Sites result here.now sites.old sites.new
-            (shows (Pending.DropPair who addr) self.old) self.old self.new (row_named here.now.image.now addr) cleans.old cleans.new }
+            (shows (Pending.DropPair who addr) self.old) self.old self.new
+            (row_named here.now.image.now addr) cleans.old cleans.new }
     {
         let row = Row(row_named(here.image, addr));
         let thread = self.thread();

@@ -37,7 +37,8 @@ impl Running {
 
     /// Goes on after the event of a step, by the phase in which it stood.
     pub fn leaves(&mut self, image: &Image)
-        ensures { processor_of self.new ≡ behind_event image.now self.old.phase self.old.context.value self.old }
+        ensures { processor_of self.new
+            ≡ behind_event image.now self.old.phase self.old.context.value self.old }
     {
         match self.phase {
             Phase::Access => self.phase = Phase::ReadDone,

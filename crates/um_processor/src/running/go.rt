@@ -15,7 +15,8 @@ use um_words::{DomainAct, ThreadAct};
 impl Running {
     /// The domain that its call names.
     fn named(&self) -> u8
-        ensures { result ≡ domain_named (first_of (steps_behind self.now.visited self.now.context.value.pending)) }
+        ensures { result ≡ domain_named
+            (first_of (steps_behind self.now.visited self.now.context.value.pending)) }
     {
         domain_named(&self.step())
     }

@@ -17,7 +17,8 @@ use um_tables::{HeapAct, Here, Sites};
 impl Running {
     /// Goes on with the new object at this address, if there is one.
     fn reserves(&mut self, image: &Image, addr: Option<Addr>)
-        ensures { processor_of self.new ≡ gone_by image.now (Next.on (reserve_change addr) (reserve_way addr)) self.old }
+        ensures { processor_of self.new ≡ gone_by image.now
+            (Next.on (reserve_change addr) (reserve_way addr)) self.old }
     {
         let taken = self.taken();
         self.context.reserves(image, addr, taken);
@@ -26,7 +27,9 @@ impl Running {
 
     /// Goes on with a buffer, or answers that there is none.
     fn buffers(&mut self, image: &Image, fits: bool)
-        ensures { processor_of self.new ≡ gone_by image.now (Next.on Change.nothing (if fits then Way.rest else Way.replies (Reply.Fail Errno.ENOMEM))) self.old }
+        ensures { processor_of self.new ≡ gone_by image.now
+            (Next.on Change.nothing
+            (if fits then Way.rest else Way.replies (Reply.Fail Errno.ENOMEM))) self.old }
     {
         let taken = self.taken();
         self.context.buffers(image, fits, taken);

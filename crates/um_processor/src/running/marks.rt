@@ -18,7 +18,8 @@ use um_words::RowAct;
 impl Running {
     /// Goes on after an attempt to mark an object as initialised.
     fn marks(&mut self, image: &Image, undo: Option<Addr>, said: SetSaid)
-        ensures { processor_of self.new ≡ gone_by image.now (Next.on Change.nothing (set_way self.old.context.value.mode undo said)) self.old }
+        ensures { processor_of self.new ≡ gone_by image.now
+            (Next.on Change.nothing (set_way self.old.context.value.mode undo said)) self.old }
     {
         let taken = self.taken();
         self.context.marks(image, undo, said, taken);
@@ -34,7 +35,8 @@ impl Running {
         undo: Option<Addr>,
         sites: &mut S,
     ) -> Turn
-        requires goes { CanTurn S.Sites here.now sites.old (shows (Pending.SetInit addr strict undo) self.old) }
+        requires goes { CanTurn S.Sites here.now sites.old
+            (shows (Pending.SetInit addr strict undo) self.old) }
         ensures turn { HasRun S.Sites result here.now sites.old sites.new
             (shows (Pending.SetInit addr strict undo) self.old) self.old self.new }
     {

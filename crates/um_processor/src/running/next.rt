@@ -130,7 +130,8 @@ impl Running {
     /// The next step after the visits, if there is one.
     #[tactic(auto, using(um_tables::proofs::Fronts::dropped_twice))]
     pub fn next_step(&self) -> Option<Pending>
-        ensures step { let steps = steps_behind self.now.visited self.now.context.value.pending in MatchOption result (steps ≡ []) (λ step. steps ≡ step ∷ rest_of self.now) }
+        ensures step { let steps = steps_behind self.now.visited self.now.context.value.pending
+            in MatchOption result (steps ≡ []) (λ step. steps ≡ step ∷ rest_of self.now) }
         ensures sound { IfSome result IsSound }
     {
         if self.visited {
@@ -153,7 +154,13 @@ impl Running {
     fn readies(&mut self, image: &Image, step: &Pending, visited: bool)
         ensures queue { self.new.queue ≡ queue_of image.now step.now }
         ensures newborn { born self.new.newborn ≡ newborn image.now self.old.context.value step.now }
-        ensures rest { self.new ≡ record self.old { queue = self.new.queue; newborn = self.new.newborn; visited = visited; phase = first_phase step.now } }
+        ensures rest { self.new
+            ≡ record self.old {
+              queue = self.new.queue;
+              newborn = self.new.newborn;
+              visited = visited;
+              phase = first_phase step.now;
+            } }
     {
         self.queue = queue_of(image, step);
         self.newborn = newborn(image, &self.context, step);

@@ -41,7 +41,8 @@ impl Running {
     /// What the event of a move to a domain asks for. If the domain is initialised, the thread's word gets it. If not, the move fails, and
     /// its event ends the claim on the domain.
     fn move_request(&self, here: &Here, domain: u8, who: ThreadIx) -> Request
-        ensures { Leads here.now.cpu here.now.image.now (shows (Pending.DomMove domain who) self.now) result (gone_on here.now.image.now Onward.Replies self.now) }
+        ensures { Leads here.now.cpu here.now.image.now (shows (Pending.DomMove domain who) self.now) result
+            (gone_on here.now.image.now Onward.Replies self.now) }
     {
         let thread = self.thread();
         let reply = self.reply;
@@ -66,7 +67,8 @@ impl Running {
     /// What the event of a call on a domain asks for, with the reply that was worked out before. The event ends the claim.
     fn edit_request(&self, here: &Here, step: &Pending) -> Request
         requires { IsTrue (is_edit step.now) }
-        ensures { Leads here.now.cpu here.now.image.now (shows step.now self.now) result (gone_on here.now.image.now Onward.Replies self.now) }
+        ensures { Leads here.now.cpu here.now.image.now (shows step.now self.now) result
+            (gone_on here.now.image.now Onward.Replies self.now) }
     {
         let thread = self.thread();
         let reply = self.reply;
@@ -116,7 +118,8 @@ impl Running {
     /// copy fails.
     fn access_request(&self, here: &Here, step: &Pending) -> (Request, Onward)
         requires { IsTrue (is_access step.now) }
-        ensures { Leads here.now.cpu here.now.image.now (shows step.now self.now) result.0 (gone_on here.now.image.now result.1 self.now) }
+        ensures { Leads here.now.cpu here.now.image.now (shows step.now self.now) result.0
+            (gone_on here.now.image.now result.1 self.now) }
     {
         let thread = self.thread();
         match *step {
@@ -178,7 +181,8 @@ impl Running {
         requires { IsTrue (is_quiet step.now) }
         ensures { MatchOption result
             (IsStuck here.now.image.now (shows step.now self.now))
-            (λ asked. Leads here.now.cpu here.now.image.now (shows step.now self.now) asked.0 (gone_on here.now.image.now asked.1 self.now)) }
+            (λ asked. Leads here.now.cpu here.now.image.now (shows step.now self.now) asked.0
+            (gone_on here.now.image.now asked.1 self.now)) }
     {
         let thread = self.thread();
         match *step {
@@ -291,7 +295,8 @@ impl Running {
         onward: Onward,
         sites: &mut S,
     ) -> Turn
-        requires leads { Leads here.now.cpu here.now.image.now (processor_of self.old) request.now (gone_on here.now.image.now onward self.old) }
+        requires leads { Leads here.now.cpu here.now.image.now (processor_of self.old) request.now
+            (gone_on here.now.image.now onward self.old) }
         requires goes { CanTurn S.Sites here.now sites.old (processor_of self.old) }
         ensures turn { HasRun S.Sites result here.now sites.old sites.new
             (processor_of self.old) self.old self.new }

@@ -30,7 +30,8 @@ fn covers(range: Range, a: u32, n: u32) -> bool
 
 /// Whether one of these partitions allows the access.
 fn parts_allow(parts: &[(Range, Attr)], mode: Mode, access: Access, a: u32, n: u32) -> bool
-    ensures { result ≡ list_any (λ (part : Range × Attr). region_allows access a n (partition_region mode part)) parts.now }
+    ensures { result ≡ list_any
+        (λ (part : Range × Attr). region_allows access a n (partition_region mode part)) parts.now }
 {
     parts.iter().any(|part| attr_allows(part.1, mode, access) && covers(part.0, a, n))
 }

@@ -40,7 +40,11 @@ impl Running {
 
     /// The rows from this one on are still to be visited, to drop permissions.
     fn drops_from(&mut self, row: u8)
-        ensures context { self.new.context.value ≡ record self.old.context.value { pending = Pending.Drops row ∷ drop 1 self.old.context.value.pending } }
+        ensures context { self.new.context.value
+            ≡ record self.old.context.value {
+              pending = Pending.Drops row
+                  ∷ drop 1 self.old.context.value.pending;
+            } }
         ensures rest { record self.new { context = self.old.context } ≡ self.old }
     {
         self.context.drops_from(row);

@@ -24,7 +24,13 @@ impl Running {
     /// The thread as the caller of a call.
     fn caller(&self, ask: &Ask) -> Waiter
         ensures thread { result.thread.0 < THREADS }
-        ensures value { let c = self.now.context.value in result ≡ record { thread = to_thread c.thread; priority = c.priority; ask = ask.now; bytes = bytes_given c.buffer ask.now } }
+        ensures value { let c = self.now.context.value in result
+            ≡ record {
+              thread = to_thread c.thread;
+              priority = c.priority;
+              ask = ask.now;
+              bytes = bytes_given c.buffer ask.now;
+            } }
     {
         Waiter {
             thread: ThreadIx(self.context.thread()),
@@ -37,7 +43,9 @@ impl Running {
     /// Goes on after the work of the thread's call.
     fn works(&mut self, image: &Image, ask: &Ask, answer: Answer, bytes: &Piece)
         requires { IsTrue (is_sound_ask ask.now) }
-        ensures { processor_of self.new ≡ gone_by image.now (Next.on (work_change answer bytes.now) (work_way self.old.context.value.mode ask.now answer)) self.old }
+        ensures { processor_of self.new ≡ gone_by image.now
+            (Next.on (work_change answer bytes.now)
+            (work_way self.old.context.value.mode ask.now answer)) self.old }
     {
         let taken = self.taken();
         self.context.works(image, ask, answer, bytes, taken);

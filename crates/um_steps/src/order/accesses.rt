@@ -27,7 +27,8 @@ fn low_bytes(value: u32, size: u8) -> u32
 pub fn begins(me: &mut Thread, instr: &Instr)
     requires subject { IsTrue (is_access instr.now) }
     requires sized { IsTrue (is_sized instr.now) }
-    ensures { (image : Image) (t : ℕ) → me.new ≡ record me.old { pending = steps_of image t me.old instr.now } }
+    ensures { (image : Image) (t : ℕ)
+        → me.new ≡ record me.old { pending = steps_of image t me.old instr.now } }
 {
     match instr {
         Instr::Load { to, addr, size } => {

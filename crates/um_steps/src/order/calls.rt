@@ -32,7 +32,10 @@ pub fn privileged(me: &mut Thread, steps: &[Pending])
 /// A check of an initialised object, and work on it.
 pub fn simple(me: &mut Thread, object: &Term, kind: Kind, ask: &Ask)
     requires { IsTrue (is_sound_ask ask.now) }
-    ensures { me.new ≡ record me.old { pending = simple (value_of me.old.registers object.now) kind ask.now } }
+    ensures { me.new ≡ record me.old {
+      pending = simple
+          (value_of me.old.registers object.now) kind ask.now;
+    } }
 {
     let x = value_of(&me.registers, object);
     turn(
@@ -59,7 +62,8 @@ pub fn gives(me: &mut Thread, object: &Term, kind: Kind, addr: &Term, amount: Am
     requires { IsTrue (is_sound_ask ask.now) }
     ensures { let x = value_of me.old.registers object.now in
         me.new ≡ record me.old {
-          pending = needs x kind Want.Init ∷ Pending.CopyIn (to_addr (value_of me.old.registers addr.now)) amount ∷ work x ask.now ∷ answer;
+          pending = needs x kind Want.Init ∷ Pending.CopyIn
+              (to_addr (value_of me.old.registers addr.now)) amount ∷ work x ask.now ∷ answer;
         } }
 {
     let x = value_of(&me.registers, object);
@@ -78,7 +82,10 @@ pub fn takes(me: &mut Thread, object: &Term, kind: Kind, addr: &Term, amount: Am
     requires { IsTrue (is_sound_ask ask.now) }
     ensures { let x = value_of me.old.registers object.now in
         let a = to_addr (value_of me.old.registers addr.now) in
-        me.new ≡ record me.old { pending = needs x kind Want.Init ∷ Pending.Probe a amount ∷ work x ask.now ∷ Pending.CopyOut a ∷ answer } }
+        me.new ≡ record me.old {
+          pending = needs x kind Want.Init ∷ Pending.Probe a amount ∷ work x ask.now
+              ∷ Pending.CopyOut a ∷ answer;
+        } }
 {
     let x = value_of(&me.registers, object);
     let addr = Addr(value_of(&me.registers, addr));

@@ -133,7 +133,8 @@ fn hands_over(pending: &mut Pendings, who: ThreadIx, stack: Row, asked: &Creatio
 /// What follows the checks of a creation.
 fn follows(image: &Image, me: &mut Thread, asked: &Creation, refusal: Option<Cause>)
     ensures steps { me.new ≡ record me.old {
-      pending = creates me.old.mode (thread_of_addr image.now asked.now.thread) (unwrap_or (row_at image.now asked.now.stack) 0)
+      pending = creates me.old.mode (thread_of_addr image.now asked.now.thread)
+          (unwrap_or (row_at image.now asked.now.stack) 0)
           asked.now.thread asked.now.stack asked.now.script asked.now.priority asked.now.options refusal;
     } }
     ensures few { length me.new.pending ≤ 7 }
@@ -156,9 +157,12 @@ fn follows(image: &Image, me: &mut Thread, asked: &Creation, refusal: Option<Cau
 pub fn create(image: &Image, me: &mut Thread, asked: &Creation)
     ensures { let row = unwrap_or (row_at image.now asked.now.stack) 0 in
         me.new ≡ record me.old {
-          pending = needs asked.now.thread Kind.Thread Want.Uninit ∷ needs asked.now.stack Kind.ThreadStack Want.Uninit
-              ∷ creates me.old.mode (thread_of_addr image.now asked.now.thread) row asked.now.thread asked.now.stack asked.now.script asked.now.priority asked.now.options
-              (creation_refusal me.old.mode me.old.priority (stack_declared (setup_at image.now row)) asked.now.size asked.now.priority asked.now.options);
+          pending = needs asked.now.thread Kind.Thread Want.Uninit
+              ∷ needs asked.now.stack Kind.ThreadStack Want.Uninit
+              ∷ creates me.old.mode
+              (thread_of_addr image.now asked.now.thread) row asked.now.thread asked.now.stack asked.now.script asked.now.priority asked.now.options
+              (creation_refusal me.old.mode me.old.priority
+              (stack_declared (setup_at image.now row)) asked.now.size asked.now.priority asked.now.options);
         } }
 {
     let row = row_of(image, asked.stack);

@@ -75,7 +75,10 @@ pub fn refused(mode: Mode, refusal: Refusal, error: Errno) -> Pending
 /// The buffer of an initialisation that was refused is given back.
 #[inline(never)]
 fn gives_back(me: &mut Thread, size: u32, error: Errno)
-    ensures { me.new ≡ record me.old { pending = Pending.Unbuffer size ∷ refuses me.old.mode (Cause.Refused error) } }
+    ensures { me.new ≡ record me.old {
+      pending = Pending.Unbuffer size ∷ refuses me.old.mode
+          (Cause.Refused error);
+    } }
 {
     me.turns_to(&refuses(me.mode, Cause::Refused(error)));
     me.pending.push(&Pending::Unbuffer { size });
@@ -85,7 +88,8 @@ fn gives_back(me: &mut Thread, size: u32, error: Errno)
 #[inline(never)]
 pub fn after_error(image: &Image, me: &mut Thread, ask: &Ask, error: Errno, taken: usize)
     requires { IsTrue (is_sound_ask ask.now) }
-    ensures { me.new ≡ at_steps image.now me.old (steps_by (drop taken me.old.pending) (error_way me.old.mode ask.now error)) }
+    ensures { me.new ≡ at_steps image.now me.old
+        (steps_by (drop taken me.old.pending) (error_way me.old.mode ask.now error)) }
 {
     match ask {
         Ask::SemInit { .. } | Ask::MutexInit => {

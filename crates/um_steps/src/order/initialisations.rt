@@ -91,7 +91,8 @@ pub fn semaphore(me: &mut Thread, object: &Term, count: &Term, limit: &Term)
 pub fn mutex(me: &mut Thread, object: &Term)
     ensures { let x = value_of me.old.registers object.now in
         me.new ≡ record me.old {
-          pending = needs x Kind.Mutex Want.Any ∷ work x AskOf.MutexInit ∷ Pending.SetInit (to_addr x) false None ∷ answer_zero;
+          pending = needs x Kind.Mutex Want.Any ∷ work x AskOf.MutexInit ∷ Pending.SetInit
+              (to_addr x) false None ∷ answer_zero;
         } }
 {
     let x = value_of(&me.registers, object);
@@ -105,7 +106,8 @@ pub fn queue(me: &mut Thread, object: &Term, msg_size: &Term, max_msgs: &Term)
     ensures { let size = value_of me.old.registers msg_size.now in
         let most = value_of me.old.registers max_msgs.now in
         me.new ≡ record me.old {
-          pending = buffered (value_of me.old.registers object.now) Kind.Msgq (is_within 1 256 size && is_within 1 64 most) (size * most)
+          pending = buffered (value_of me.old.registers object.now) Kind.Msgq
+              (is_within 1 256 size && is_within 1 64 most) (size * most)
               (AskOf.MsgqInit size most (unwrap_or me.old.pool 0));
         } }
 {
@@ -130,7 +132,8 @@ pub fn queue(me: &mut Thread, object: &Term, msg_size: &Term, max_msgs: &Term)
 pub fn stack(me: &mut Thread, object: &Term, entries: &Term)
     ensures { let most = value_of me.old.registers entries.now in
         me.new ≡ record me.old {
-          pending = buffered (value_of me.old.registers object.now) Kind.Stack (is_within 1 64 most) (4 * most)
+          pending = buffered (value_of me.old.registers object.now) Kind.Stack (is_within 1 64 most)
+              (4 * most)
               (AskOf.StackInit most (unwrap_or me.old.pool 0));
         } }
 {

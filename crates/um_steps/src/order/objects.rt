@@ -17,7 +17,8 @@ use um_machine::{Pending, Thread};
 /// A thread is given permission on an object.
 fn grants(image: &Image, me: &mut Thread, x: u32, a: u32)
     ensures { me.new ≡ record me.old {
-      pending = needs a Kind.Thread Want.Any ∷ needs_any x ∷ Pending.Grant (to_thread (thread_of_addr image.now a)) (to_addr x) ∷ answer_void;
+      pending = needs a Kind.Thread Want.Any ∷ needs_any x ∷ Pending.Grant
+          (to_thread (thread_of_addr image.now a)) (to_addr x) ∷ answer_void;
     } }
 {
     let check = needs(a, Kind::Thread, Want::Any);

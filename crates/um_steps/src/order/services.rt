@@ -22,7 +22,8 @@ fn message_of(registers: &[u32], object: &Term) -> Amount
 /// A thread goes on with the steps of a call of a service.
 pub fn begins(me: &mut Thread, instr: &Instr)
     requires { IsTrue (is_service instr.now) }
-    ensures { (image : Image) (t : ℕ) → me.new ≡ record me.old { pending = steps_of image t me.old instr.now } }
+    ensures { (image : Image) (t : ℕ)
+        → me.new ≡ record me.old { pending = steps_of image t me.old instr.now } }
 {
     match instr {
         Instr::SemInit {

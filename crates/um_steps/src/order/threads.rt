@@ -21,8 +21,10 @@ use um_machine::{Pending, Refusal, Thread};
 /// The thread at an address is given the name at another.
 fn names(image: &Image, me: &mut Thread, a: u32, name: u32)
     ensures { me.new ≡ record me.old {
-      pending = Pending.Check (to_addr a) (Some Kind.Thread) Want.Init (Refusal.Answers (Reply.Fail Errno.EINVAL))
-          ∷ Pending.CopyStr (to_addr name) ∷ Pending.Named (to_thread (thread_of_addr image.now a)) ∷ answer_zero;
+      pending = Pending.Check (to_addr a) (Some Kind.Thread) Want.Init
+          (Refusal.Answers (Reply.Fail Errno.EINVAL))
+          ∷ Pending.CopyStr (to_addr name) ∷ Pending.Named (to_thread (thread_of_addr image.now a))
+          ∷ answer_zero;
     } }
 {
     let check = Pending::Check {

@@ -20,7 +20,8 @@ const FAULT: Pending = Pending::Fatal {
 impl Context {
     /// Goes on after a load of this number into a register.
     pub fn loads(&mut self, image: &Image, to: u8, value: u32, taken: usize)
-        ensures { self.new ≡ gone_part image.now (drop taken self.old.pending) (Next.on (Change.register to value) Way.rest) self.old }
+        ensures { self.new ≡ gone_part image.now (drop taken self.old.pending)
+            (Next.on (Change.register to value) Way.rest) self.old }
     {
         put_register(&mut self.own.registers, to, value);
         self.own.goes_on(image, taken);
@@ -35,7 +36,9 @@ impl Context {
 
     /// Goes on after a copy or a probe that isn't allowed.
     pub fn fails_to_copy(&mut self, image: &Image)
-        ensures { (left : Steps) → self.new ≡ gone_part image.now left (Next.on Change.nothing (copied self.old.mode false)) self.old }
+        ensures { (left : Steps)
+            → self.new ≡ gone_part image.now left
+            (Next.on Change.nothing (copied self.old.mode false)) self.old }
     {
         let mode = self.own.mode;
         self.own.turns_to(&copy_fails(mode));
@@ -43,7 +46,8 @@ impl Context {
 
     /// Goes on after a probe or a copy out, where that is allowed, or else fails.
     pub fn copies_out(&mut self, image: &Image, fits: bool, taken: usize)
-        ensures { self.new ≡ gone_part image.now (drop taken self.old.pending) (Next.on Change.nothing (copied self.old.mode fits)) self.old }
+        ensures { self.new ≡ gone_part image.now (drop taken self.old.pending)
+            (Next.on Change.nothing (copied self.old.mode fits)) self.old }
     {
         if fits {
             self.own.goes_on(image, taken);
@@ -54,7 +58,9 @@ impl Context {
 
     /// Goes on after a copy of these bytes into its buffer, where that is allowed, or else fails.
     pub fn copies_in(&mut self, image: &Image, fits: bool, bytes: &Piece, taken: usize)
-        ensures { self.new ≡ gone_part image.now (drop taken self.old.pending) (Next.on (if fits then Change.copies bytes.now else Change.nothing) (copied self.old.mode fits)) self.old }
+        ensures { self.new ≡ gone_part image.now (drop taken self.old.pending)
+            (Next.on (if fits then Change.copies bytes.now else Change.nothing)
+            (copied self.old.mode fits)) self.old }
     {
         if fits {
             self.own.buffer = *bytes;
@@ -66,7 +72,8 @@ impl Context {
 
     /// Goes on after the copy of a text, of which these bytes were read, or answers an error.
     pub fn copies_text(&mut self, image: &Image, found: Found, bytes: &Piece, taken: usize)
-        ensures { self.new ≡ gone_part image.now (drop taken self.old.pending) (Next.on (text_change bytes.now found) (text_way found)) self.old }
+        ensures { self.new ≡ gone_part image.now (drop taken self.old.pending)
+            (Next.on (text_change bytes.now found) (text_way found)) self.old }
     {
         match found {
             Found::Length(_) => {

@@ -40,7 +40,9 @@ impl Context {
         taken: usize,
     )
         requires { length self.old.claims < 2 }
-        ensures { self.new ≡ gone_part image.now (drop taken self.old.pending) (Next.checks (row_named image.now addr) verdict (checked_way self.old.mode refusal verdict)) self.old }
+        ensures { self.new ≡ gone_part image.now (drop taken self.old.pending)
+            (Next.checks (row_named image.now addr) verdict
+            (checked_way self.old.mode refusal verdict)) self.old }
     {
         let mode = self.own.mode;
         match verdict {
@@ -56,7 +58,8 @@ impl Context {
     pub fn works(&mut self, image: &Image, ask: &Ask, answer: Answer, bytes: &Piece, taken: usize)
         requires sound { IsTrue (is_sound_ask ask.now) }
         requires taken { 0 < taken }
-        ensures { self.new ≡ gone_part image.now (drop taken self.old.pending) (Next.on (work_change answer bytes.now) (work_way self.old.mode ask.now answer)) self.old }
+        ensures { self.new ≡ gone_part image.now (drop taken self.old.pending)
+            (Next.on (work_change answer bytes.now) (work_way self.old.mode ask.now answer)) self.old }
     {
         match answer {
             Answer::Wait => self.own.goes_to(&Pending::Resume, taken),
@@ -89,7 +92,8 @@ impl Context {
 
     /// Goes on after its answer, and holds nothing any longer.
     pub fn answers(&mut self, image: &Image, reply: Option<Reply>, to: Option<u8>, taken: usize)
-        ensures { self.new ≡ gone_part image.now (drop taken self.old.pending) (Next.answers to (reply_of image.now self.old reply)) self.old }
+        ensures { self.new ≡ gone_part image.now (drop taken self.old.pending)
+            (Next.answers to (reply_of image.now self.old reply)) self.old }
     {
         let reply = reply.unwrap_or(self.own.reply);
         self.claims.clear();

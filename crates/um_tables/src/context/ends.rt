@@ -13,7 +13,8 @@ use um_steps::order::{end_steps, fatal_steps, next_doom};
 impl Context {
     /// Ends after its last line.
     pub fn exits(&mut self, image: &Image)
-        ensures { self.new ≡ ends_with image.now self.old (end_steps image.now self.old.thread (as_thread self.old)) }
+        ensures { self.new ≡ ends_with image.now self.old
+            (end_steps image.now self.old.thread (as_thread self.old)) }
     {
         self.ended = true;
         self.claims.clear();
@@ -22,7 +23,8 @@ impl Context {
 
     /// Fails: it ends, or dooms all.
     pub fn fails(&mut self, image: &Image, reason: u8)
-        ensures { self.new ≡ ends_with image.now self.old (fatal_steps image.now self.old.thread (as_thread self.old) reason image.now.policy) }
+        ensures { self.new ≡ ends_with image.now self.old
+            (fatal_steps image.now self.old.thread (as_thread self.old) reason image.now.policy) }
     {
         self.ended = true;
         self.claims.clear();

@@ -23,7 +23,9 @@ use um_steps::registers::put_begin;
 fn begin(image: &Image, t: usize, me: &mut Thread, instr: &Instr)
     requires thread { t < THREADS }
     requires sized { IsTrue (is_sized instr.now) }
-    ensures { me.new ≡ at_steps image.now (record me.old { registers = with_begin me.old.registers instr.now }) (steps_of image.now t me.old instr.now) }
+    ensures { me.new ≡ at_steps image.now
+        (record me.old { registers = with_begin me.old.registers instr.now })
+        (steps_of image.now t me.old instr.now) }
 {
     order::begins(image, t, me, instr);
     put_begin(&mut me.registers, instr);
@@ -61,7 +63,11 @@ impl Context {
 
     /// Goes to user mode for good, and to the first line of a script.
     pub fn enters_user(&mut self, image: &Image, script: u8)
-        ensures { self.new ≡ record self.old { mode = Mode.User; place = first_place image.now script; pending = [] } }
+        ensures { self.new ≡ record self.old {
+          mode = Mode.User;
+          place = first_place image.now script;
+          pending = [];
+        } }
     {
         self.own.mode = Mode::User;
         self.own.place = first_place(image, script);

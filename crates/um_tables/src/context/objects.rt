@@ -17,7 +17,8 @@ use um_steps::order::{answer_error, refuses};
 impl Context {
     /// Goes on after an object was to be marked as initialised. Where that is refused, another one is cleared first.
     pub fn marks(&mut self, image: &Image, undo: Option<Addr>, said: SetSaid, taken: usize)
-        ensures { self.new ≡ gone_part image.now (drop taken self.old.pending) (Next.on Change.nothing (set_way self.old.mode undo said)) self.old }
+        ensures { self.new ≡ gone_part image.now (drop taken self.old.pending)
+            (Next.on Change.nothing (set_way self.old.mode undo said)) self.old }
     {
         match said {
             SetSaid::Done => self.own.goes_on(image, taken),
@@ -28,7 +29,9 @@ impl Context {
 
     /// Fails, and clears another object first.
     fn turns_back(&mut self, image: &Image, undo: Option<Addr>, e: Errno)
-        ensures { (left : Steps) → self.new ≡ gone_part image.now left (Next.on Change.nothing (undone self.old.mode e undo)) self.old }
+        ensures { (left : Steps)
+            → self.new ≡ gone_part image.now left
+            (Next.on Change.nothing (undone self.old.mode e undo)) self.old }
     {
         let mode = self.own.mode;
         self.own.turns_to(&refuses(mode, Cause::Refused(e)));
@@ -40,7 +43,8 @@ impl Context {
     /// Goes on after it asked for a new object: at this address, where it got one.
     pub fn reserves(&mut self, image: &Image, addr: Option<Addr>, taken: usize)
         requires { 0 < taken }
-        ensures { self.new ≡ gone_part image.now (drop taken self.old.pending) (Next.on (reserve_change addr) (reserve_way addr)) self.old }
+        ensures { self.new ≡ gone_part image.now (drop taken self.old.pending)
+            (Next.on (reserve_change addr) (reserve_way addr)) self.old }
     {
         match addr {
             None => {
@@ -56,7 +60,9 @@ impl Context {
 
     /// Goes on after it asked its pool for a buffer, or answers that there is none.
     pub fn buffers(&mut self, image: &Image, fits: bool, taken: usize)
-        ensures { self.new ≡ gone_part image.now (drop taken self.old.pending) (Next.on Change.nothing (if fits then Way.rest else Way.replies (Reply.Fail Errno.ENOMEM))) self.old }
+        ensures { self.new ≡ gone_part image.now (drop taken self.old.pending)
+            (Next.on Change.nothing
+            (if fits then Way.rest else Way.replies (Reply.Fail Errno.ENOMEM))) self.old }
     {
         if fits {
             self.own.goes_on(image, taken);
@@ -67,7 +73,8 @@ impl Context {
 
     /// Goes on after a call on a domain, with this reply.
     pub fn replies(&mut self, image: &Image, reply: Reply, taken: usize)
-        ensures { self.new ≡ gone_part image.now (drop taken self.old.pending) (Next.on (Change.says reply) Way.rest) self.old }
+        ensures { self.new ≡ gone_part image.now (drop taken self.old.pending)
+            (Next.on (Change.says reply) Way.rest) self.old }
     {
         self.own.reply = reply;
         self.own.goes_on(image, taken);

@@ -17,7 +17,8 @@ impl Context {
     /// The next step.
     #[tactic(auto, using(crate::proofs::Fronts::first_is))]
     pub fn first(&self) -> Option<Pending>
-        ensures step { MatchOption result (self.now.pending ≡ []) (λ step. self.now.pending ≡ step ∷ drop 1 self.now.pending) }
+        ensures step { MatchOption result (self.now.pending ≡ [])
+            (λ step. self.now.pending ≡ step ∷ drop 1 self.now.pending) }
         ensures sound { IfSome result IsSound }
     {
         self.own.pending.first()
@@ -26,7 +27,8 @@ impl Context {
     /// The step after the next one.
     #[tactic(auto, using(crate::proofs::Fronts::second_is))]
     pub fn second(&self) -> Option<Pending>
-        ensures step { MatchOption result (drop 1 self.now.pending ≡ []) (λ step. drop 1 self.now.pending ≡ step ∷ drop 2 self.now.pending) }
+        ensures step { MatchOption result (drop 1 self.now.pending ≡ [])
+            (λ step. drop 1 self.now.pending ≡ step ∷ drop 2 self.now.pending) }
         ensures sound { IfSome result IsSound }
     {
         self.own.pending.second()

@@ -69,7 +69,8 @@ fn put_domain_line(room: &mut Vec<u8>, image: &Image, last: &Matrix, domain: usi
 /// The lines of domains.
 pub fn put_domains(room: &mut Vec<u8>, image: &Image, last: &Matrix)
     requires { vec_len room.old + 640 * DOMAINS ≤ vec_capacity room.old }
-    ensures { Puts room.old room.new (flat_map (domain_line image.now last.now) (numbers (length image.now.domains))) (640 * DOMAINS) }
+    ensures { Puts room.old room.new
+        (flat_map (domain_line image.now last.now) (numbers (length image.now.domains))) (640 * DOMAINS) }
 {
     for domain in 0..image.domains.len() {
         put_domain_line(room, image, last, domain);
@@ -114,7 +115,8 @@ fn put_pool_line(room: &mut Vec<u8>, image: &Image, last: &Matrix, pool: usize)
 /// The lines of pools.
 pub fn put_pools(room: &mut Vec<u8>, image: &Image, last: &Matrix)
     requires { vec_len room.old + 64 * POOLS ≤ vec_capacity room.old }
-    ensures { Puts room.old room.new (flat_map (pool_line image.now last.now) (numbers (length image.now.pools))) (64 * POOLS) }
+    ensures { Puts room.old room.new
+        (flat_map (pool_line image.now last.now) (numbers (length image.now.pools))) (64 * POOLS) }
 {
     for pool in 0..image.pools.len() {
         put_pool_line(room, image, last, pool);

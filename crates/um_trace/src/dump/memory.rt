@@ -20,7 +20,8 @@ const PAGE: usize = 32;
 
 /// The bytes after the first sixteen, if there are sixteen and they are all zero.
 fn behind_zeros(bytes: &[u8]) -> Option<&[u8]>
-    ensures same { IfSome result (λ rest. list_all (λ b. b == 0) bytes.now ≡ list_all (λ b. b == 0) rest.now) }
+    ensures same { IfSome result
+        (λ rest. list_all (λ b. b == 0) bytes.now ≡ list_all (λ b. b == 0) rest.now) }
     ensures fewer { IfSome result (λ rest. length rest.now < length bytes.now) }
 {
     match bytes {
@@ -74,7 +75,8 @@ fn put_page(room: &mut Vec<u8>, area: u32, bytes: &[u8], page: usize)
     requires room { vec_len room.old + 83 * PAGE ≤ vec_capacity room.old }
     requires within { BLOCK * (PAGE * page) + BLOCK * PAGE ≤ length bytes.now }
     requires fits { area + length bytes.now < 2 ^ 32 }
-    ensures { Puts room.old room.new (flat_map (block_line area bytes.now) (range_with_len (PAGE * page) PAGE)) (83 * PAGE) }
+    ensures { Puts room.old room.new
+        (flat_map (block_line area bytes.now) (range_with_len (PAGE * page) PAGE)) (83 * PAGE) }
 {
     let first = PAGE * page;
     if are_zero(&bytes[BLOCK * first..BLOCK * first + BLOCK * PAGE]) {

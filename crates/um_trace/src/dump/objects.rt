@@ -67,7 +67,8 @@ fn put_marks(room: &mut Vec<u8>, object: &Object)
 /// A thread, if it has a permission on an object, with a comma before it if it isn't the first. Returns whether the first is still to come.
 fn put_holder(room: &mut Vec<u8>, image: &Indexed, holds: bool, thread: u8, first: bool) -> bool
     requires { vec_len room.old + 25 ≤ vec_capacity room.old }
-    ensures text { Puts room.old room.new (if holds then lead first ++ thread_text image.now thread else []) 25 }
+    ensures text { Puts room.old room.new
+        (if holds then lead first ++ thread_text image.now thread else []) 25 }
     ensures none { result ≡ (first && not holds) }
 {
     if holds {
@@ -209,7 +210,8 @@ fn put_line_of(room: &mut Vec<u8>, image: &Indexed, last: &Matrix, row: usize)
 /// The lines of objects, by row.
 pub fn put_objects(room: &mut Vec<u8>, image: &Indexed, last: &Matrix)
     requires { vec_len room.old + OBJECT_ROOM * ROWS ≤ vec_capacity room.old }
-    ensures { Puts room.old room.new (flat_map (object_line_of image.now last.now) (numbers ROWS)) (OBJECT_ROOM * ROWS) }
+    ensures { Puts room.old room.new (flat_map (object_line_of image.now last.now) (numbers ROWS))
+        (OBJECT_ROOM * ROWS) }
 {
     for row in 0..ROWS {
         put_line_of(room, image, last, row);

@@ -101,7 +101,8 @@ fn put_line_of(room: &mut Vec<u8>, image: &Image, last: &Matrix, row: usize)
 /// The lines of threads, by the rows of their objects.
 pub fn put_threads(room: &mut Vec<u8>, image: &Image, last: &Matrix)
     requires { vec_len room.old + 128 * ROWS ≤ vec_capacity room.old }
-    ensures { Puts room.old room.new (flat_map (thread_line_of image.now last.now) (numbers ROWS)) (128 * ROWS) }
+    ensures { Puts room.old room.new (flat_map (thread_line_of image.now last.now) (numbers ROWS))
+        (128 * ROWS) }
 {
     for row in 0..ROWS {
         put_line_of(room, image, last, row);
