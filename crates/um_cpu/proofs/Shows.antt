@@ -13,6 +13,7 @@ use Rattle.um_fine.specs.Sites.{is_site}
 use Rattle.um_fine.specs.Steps.{FineStep}
 use Rattle.um_refinement.specs.Room.{CanRun}
 use Rattle.um_fine.proofs.Keys.{number-bound}
+use Rattle.um_core.specs.PickedRun.{IsOver}
 use Rattle.um_merge.specs.Logs.{Log}
 use Rattle.um_merge.specs.Merged.{AreAtSites, ArePlaced, log_at}
 use Rattle.um_words.specs.declared.made.Made.{Made}
@@ -56,11 +57,13 @@ at-sites image cpus v words logs steps played g fine k there =
 
 -- the closed board has the fine run that has the steps of each processor
 pub left-on : (image : Image) (cpus : ℕ) (closed : Closed Known) (v : View) (logs : List Log) (steps : ℕ → List FineStep) → closed.token.me.0 ≡ shadow_of v
-    → IsPlayed image cpus v (slots_items closed.table.words) logs steps → (g : List FineStep) → IsFineOf image cpus (slots_items closed.table.words) steps g → HasRun image cpus closed g
-left-on image cpus closed v logs steps seen played g fine =
+    → IsPlayed image cpus v (slots_items closed.table.words) logs steps → (g : List FineStep) → IsFineOf image cpus (slots_items closed.table.words) steps g → IsOver image cpus g
+    → HasRun image cpus closed g
+left-on image cpus closed v logs steps seen played g fine over =
     record {
       image_is = ap (λ (w : View). w.image) seen ∙ played.image_is;
       run = fine.run;
+      over = over;
       lists = λ k less.
           let (made, stands, own) = played.lists k less in
           let same : made ≡ map made_of (sublist same_cpu cpu_of k g) = own.made_is ∙ ap (map made_of) (sym (fine.own k less)) in

@@ -8,6 +8,7 @@ use Rattle.um_fine.specs.Opening.{s_start}
 use Rattle.um_fine.specs.Runs.{state_at, sublist}
 use Rattle.um_fine.specs.Sites.{s_next, same_site, site_numbered, word_of}
 use Rattle.um_fine.specs.Steps.{FineStep}
+use Rattle.um_core.specs.PickedRun.{IsOver}
 use Rattle.um_merge.specs.Merged as Merged
 use Rattle.um_merge.specs.Merged.{AreNumbered}
 use Rattle.um_site.specs.History.{Among, Distinct}
@@ -16,12 +17,13 @@ use Rattle.um_board.specs.Contents.{Known}
 use Rattle.um_board.specs.Noted.{logged_of, made_of, packed}
 use Rattle.um_history.specs.Played.{StandsUnder}
 
--- The board is that of an image, and was closed after these steps, which are a fine run of this many processors. The steps of each
--- processor stand in the list of a seat of its own, in their order; no other seat has made any, and no name stands for two lists. The steps
--- of each site are numbered from 1 without a gap, and have left the board's words, a cell's turn aside.
+-- The board is that of an image, and was closed after these steps, which are a fine run of this many processors; none of them can make
+-- another step. The steps of each processor stand in the list of a seat of its own, in their order; no other seat has made any, and no name
+-- stands for two lists. The steps of each site are numbered from 1 without a gap, and have left the board's words, a cell's turn aside.
 pub record HasRun (image : Image) (cpus : ℕ) (closed : Closed Known) (steps : List FineStep) : Type 0 where
   pub image_is : closed.token.me.0.image ≡ image
   pub run : IsFineRun image cpus steps
+  pub over : IsOver image cpus steps
   pub lists : (k : ℕ) → k < cpus → StandsUnder closed.token.me.0.joined (k ∷ []) (map made_of (sublist same_cpu cpu_of k steps))
   pub others : (n : List ℕ) → Among closed.token.me.0.joined n → (k : ℕ) × (k < cpus) × (n ≡ k ∷ [])
   pub once : Distinct closed.token.me.0.joined

@@ -44,7 +44,8 @@ returns-clause-board g c =
     let ended = c.in_ok-logs.ensures in
     let run = c.every_played_board.ensures.run image c.args.cpus ended.view _ _ ended.steps is.0 is.1 ended.played c.merge.new.room.items
     (λ order is. c.merge.ensures order (subst (λ (l : List Log). IsOrder l order) (sym c.as_slice.ensures.value) is)) in
-    (run.0, left-on image c.args.cpus _ ended.view _ ended.steps ended.seen ended.played run.0 run.2, c.into_events.ensures ∙ ap events_of (sym run.1) ∙ shown-noted run.0)
+    let over = c.every_played_board.ensures.over image c.args.cpus ended.view _ _ ended.steps is.0 is.1 ended.played ended.saw run.0 run.2 in
+    (run.0, left-on image c.args.cpus _ ended.view _ ended.steps ended.seen ended.played run.0 run.2 over, c.into_events.ensures ∙ ap events_of (sym run.1) ∙ shown-noted run.0)
 
 pub returns-clause-few : goal.returns-clause-few
 returns-clause-few g c =
