@@ -1,9 +1,11 @@
--- A command writes one text of an input.
-use Rattle.std.proofs.Common.{◌≡◌, ◌∙◌, inl, inr, ℕ, List, refl, sym, ap, subst}
+-- A command writes one text of an input, if it isn't `run` on several processors.
+use Rattle.std.proofs.Common.{◌≡◌, ◌∙◌, ◌≤◌, inl, inr, ℕ, List, None, refl, sym, ap, subst}
 use Rattle.std.specs.Prelude.{IsTrue, Option, Some}
+use Rattle.std.proofs.lemmas.Bool.{leb-true}
 use Rattle.std.proofs.lemmas.Bool.Decides.{leb_tells}
 use Rattle.um_base.specs.declared.act.Event.{Event}
 use Rattle.um_base.specs.declared.image.Image.{Image}
+use Rattle.um_board.specs.Contents.{Known}
 use Rattle.um_command.specs.declared.command.Command.{Command}
 use Rattle.um_command.specs.declared.command.Options.{Options}
 use Rattle.um_core.proofs.OneRun.{one-run as one-order}
@@ -11,6 +13,7 @@ use Rattle.um_fine.specs.Erasure.{shown}
 use Rattle.um_image.proofs.TextLemmas.{one_image}
 use Rattle.um_machine.specs.Run.{IsRun}
 use Rattle.um_machine.specs.State.{State}
+use Rattle.um_site.specs.declared.closed.Closed.{Closed}
 use Rattle.um_trace.specs.Summary.{summary_text}
 use Rattle.um_trace.specs.Text.{text}
 use Rattle.um_scheduler.proofs.RunLemmas.{one-run}
@@ -19,7 +22,8 @@ use Rattle.um_app.proofs.Replays.{one-end}
 use Rattle.um_audit.proofs.LawLemmas.{one-verdict}
 use Rattle.um_audit.specs.Told.{verdict_text}
 use Rattle.um_app.specs.Audited.{IsAudit}
-use Rattle.um_app.specs.Inputs.{description_in, is_serial}
+use Rattle.um_app.specs.Inputs.{description_in, has_one_answer}
+use Rattle.um_app.specs.Threaded.{IsThreadRun}
 use Rattle.um_app.specs.Top.{Answers, IsOutput, IsRead, IsRunOf, Writes}
 
 -- the run of an image with these options, and its last state, are one
@@ -34,6 +38,13 @@ same_run image options run run2 last last2 a b =
           (same, one-end image a.described run last last2 a.is_run (subst (λ (events : List Event). IsRun image events last2) (sym same) b.is_run))
     ]
 
+-- and so are those of threads on one processor
+same_thread_run : (image : Image) (cpus : ℕ) → cpus ≤ 1 → (closed closed2 : Closed Known) (run run2 : List Event) (last last2 : State) → IsThreadRun image cpus closed run last → IsThreadRun image cpus closed2 run2 last2
+    → (run ≡ run2) × (last ≡ last2)
+same_thread_run image cpus few closed closed2 run run2 last last2 a b =
+    let same : run ≡ run2 = a.shows ∙ (ap shown (one-order image cpus None a.steps b.steps (a.picked few None) (b.picked few None)) ∙ sym b.shows) in
+    (same, one-end image a.described run last last2 a.is_run (subst (λ (events : List Event). IsRun image events last2) (sym same) b.is_run))
+
 -- what is told of runs that are the same is the same
 same_told : (told : List Event → State → List ℕ) (run run2 : List Event) (last last2 : State) → (run ≡ run2) × (last ≡ last2) → told run last ≡ told run2 last2
 same_told told run run2 last last2 same = ap (λ (es : List Event). told es last) same.0 ∙ ap (told run2) same.1
@@ -41,35 +52,38 @@ same_told told run run2 last last2 same = ap (λ (es : List Event). told es last
 one_audit : (image : Image) (trace written other : List ℕ) → IsAudit image trace written → IsAudit image trace other → written ≡ other
 one_audit image trace written other a b = a.told ∙ ap verdict_text (one-verdict image a.lawful trace a.verdict b.verdict a.is_verdict b.is_verdict) ∙ sym b.told
 
-one_writing : (command : Command) (image : Image) (trace written other : List ℕ) → IsTrue (is_serial command) → Writes command image trace written → Writes command image trace other → written ≡ other
-one_writing (Command.Run cpus) image trace written other serial a b = absurd (cc)
-one_writing (Command.Sim options) image trace written other serial a b =
+one_writing : (command : Command) (image : Image) (trace written other : List ℕ) → IsTrue (has_one_answer command) → Writes command image trace written → Writes command image trace other → written ≡ other
+one_writing (Command.Run cpus) image trace written other one a b =
+    a.1.3
+    ∙ same_told (text image) a.1.0 b.1.0 a.1.1 b.1.1 (same_thread_run image cpus (leb-true cpus 1 one) a.0 b.0 a.1.0 b.1.0 a.1.1 b.1.1 a.1.2 b.1.2)
+    ∙ sym b.1.3
+one_writing (Command.Sim options) image trace written other one a b =
     a.3 ∙ same_told (text image) a.0 b.0 a.1 b.1 (same_run image options a.0 b.0 a.1 b.1 a.2 b.2) ∙ sym b.3
-one_writing (Command.Summary options) image trace written other serial a b =
+one_writing (Command.Summary options) image trace written other one a b =
     a.3 ∙ same_told (summary_text image) a.0 b.0 a.1 b.1 (same_run image options a.0 b.0 a.1 b.1 a.2 b.2) ∙ sym b.3
-one_writing Command.Layout image trace written other serial a b = a ∙ sym b
-one_writing (Command.Gen number) image trace written other serial a b = a ∙ sym b
-one_writing Command.Upgrade image trace written other serial a b = a.canonical ∙ sym b.canonical
-one_writing Command.Audit image trace written other serial a b = one_audit image trace written other a b
+one_writing Command.Layout image trace written other one a b = a ∙ sym b
+one_writing (Command.Gen number) image trace written other one a b = a ∙ sym b
+one_writing Command.Upgrade image trace written other one a b = a.canonical ∙ sym b.canonical
+one_writing Command.Audit image trace written other one a b = one_audit image trace written other a b
 
-one_output : (command : Command) (input written other : List ℕ) → IsTrue (is_serial command) → IsOutput command input written → IsOutput command input other → written ≡ other
-one_output command input written other serial a b =
+one_output : (command : Command) (input written other : List ℕ) → IsTrue (has_one_answer command) → IsOutput command input written → IsOutput command input other → written ≡ other
+one_output command input written other one a b =
     let image : b.image ≡ a.image = one_image (description_in command input) b.image a.image b.is_of.described a.is_of.described in
     let trace : b.trace ≡ a.trace = (let here = a.is_of.traced in let there = b.is_of.traced in cc) in
-    one_writing command a.image a.trace written other serial a.writes
+    one_writing command a.image a.trace written other one a.writes
     (subst (λ (t : List ℕ). Writes command a.image t other) trace (subst (λ (i : Image). Writes command i b.trace other) image b.writes))
 
-one_reading : (command : Command) (source written other : List ℕ) (left left2 : Option (List ℕ)) → IsTrue (is_serial command) → IsRead command (Some source) left written → IsRead command (Some source) left2 other → written ≡ other
-one_reading command source written other left left2 serial a b =
+one_reading : (command : Command) (source written other : List ℕ) (left left2 : Option (List ℕ)) → IsTrue (has_one_answer command) → IsRead command (Some source) left written → IsRead command (Some source) left2 other → written ≡ other
+one_reading command source written other left left2 one a b =
     let first = all_of_it _ left source a.input refl a.read.taken a.read.at_end in
     let second = all_of_it _ left2 source b.input refl b.read.taken b.read.at_end in
-    one_output command a.input written other serial a.output (subst (λ (input : List ℕ). IsOutput command input other) (second ∙ sym first) b.output)
+    one_output command a.input written other one a.output (subst (λ (input : List ℕ). IsOutput command input other) (second ∙ sym first) b.output)
 
-pub one_answer : (command : Command) (source written other : List ℕ) (left left2 : Option (List ℕ)) → IsTrue (is_serial command) → Answers command (Some source) left written → Answers command (Some source) left2 other → written ≡ other
-one_answer (Command.Run cpus) source written other left left2 serial a b = absurd (cc)
-one_answer (Command.Sim options) source written other left left2 serial a b = one_reading (Command.Sim options) source written other left left2 serial a b
-one_answer (Command.Summary options) source written other left left2 serial a b = one_reading (Command.Summary options) source written other left left2 serial a b
-one_answer Command.Layout source written other left left2 serial a b = one_reading Command.Layout source written other left left2 serial a b
-one_answer Command.Upgrade source written other left left2 serial a b = one_reading Command.Upgrade source written other left left2 serial a b
-one_answer Command.Audit source written other left left2 serial a b = one_reading Command.Audit source written other left left2 serial a b
-one_answer (Command.Gen number) source written other left left2 serial a b = a ∙ sym b
+pub one_answer : (command : Command) (source written other : List ℕ) (left left2 : Option (List ℕ)) → IsTrue (has_one_answer command) → Answers command (Some source) left written → Answers command (Some source) left2 other → written ≡ other
+one_answer (Command.Run cpus) source written other left left2 one a b = one_reading (Command.Run cpus) source written other left left2 one a b
+one_answer (Command.Sim options) source written other left left2 one a b = one_reading (Command.Sim options) source written other left left2 one a b
+one_answer (Command.Summary options) source written other left left2 one a b = one_reading (Command.Summary options) source written other left left2 one a b
+one_answer Command.Layout source written other left left2 one a b = one_reading Command.Layout source written other left left2 one a b
+one_answer Command.Upgrade source written other left left2 one a b = one_reading Command.Upgrade source written other left left2 one a b
+one_answer Command.Audit source written other left left2 one a b = one_reading Command.Audit source written other left left2 one a b
+one_answer (Command.Gen number) source written other left left2 one a b = a ∙ sym b

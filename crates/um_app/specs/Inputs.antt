@@ -1,5 +1,5 @@
 -- What a command reads.
-use Rattle.std.specs.Prelude.{◌≡◌, ℕ, ◌+◌, ◌<◌, ◌≤◌, ◌⊎◌, Bool, true, false, List, [], length, Option, Some}
+use Rattle.std.specs.Prelude.{◌≡◌, ℕ, ◌+◌, ◌<◌, ◌≤◌, ◌⊎◌, Bool, true, false, List, [], length, nat_le, Option, Some}
 use Rattle.std.specs.Io.KnownBytes.{Consumes, IsAtEnd}
 use Rattle.um_audit.specs.Parts.{description_part, trace_part}
 use Rattle.um_base.specs.declared.image.Image.{Image}
@@ -20,10 +20,15 @@ abbrev pub is_reading : Command → Bool
 is_reading (Command.Gen number) = false
 is_reading _ = true
 
--- whether a command runs on one thread, and so has just one answer to an input
+-- whether a command runs on one thread
 abbrev pub is_serial : Command → Bool
 is_serial (Command.Run cpus) = false
 is_serial _ = true
+
+-- whether a command has just one answer to an input
+abbrev pub has_one_answer : Command → Bool
+has_one_answer (Command.Run cpus) = nat_le cpus 1
+has_one_answer _ = true
 
 -- the description in an input: all of it, and for `audit` what stands before the first line `=====`
 abbrev pub description_in : Command → List ℕ → List ℕ

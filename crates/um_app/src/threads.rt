@@ -12,10 +12,12 @@ use std::sync::Wait;
 use std::thread::Threads;
 use um_base::{Event, Image, OutOfMemory};
 use um_board::Contents;
+use um_core::one_whole;
 use um_cpu::{Ran, run_events};
 use um_image::weight;
 use um_io::Gate;
 use um_matrix::Matrix;
+use um_order::one_order;
 use um_site::Closed;
 
 /// A complete run of an image whose processors are threads, the state that it leads to, and the board on which it was made.
@@ -41,8 +43,11 @@ fn thread_run<'a, R: Threads + Wait + Sync, G: Gate + Sync>(
 ) -> Result<ThreadRun<'a>, OutOfMemory>
     requires may { MayRun image.now cpus }
     ensures run { IfOk result (λ made. IsThreadRun image.now cpus made.closed made.events.items made.last) }
-    ensures names { IfOk result (λ made. NamesRun image.now (text image.now made.events.items made.last) made.events.items) }
+    ensures names { IfOk result
+        (λ made. NamesRun image.now (text image.now made.events.items made.last) made.events.items) }
 {
+    one_order();
+    one_whole();
     let _objects = image.objects.len();
     let most = weight(image) as usize;
     let ran = run_events(rt, alloc, image, cpus, most, gate)?;

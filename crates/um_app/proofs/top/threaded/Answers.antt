@@ -1,4 +1,4 @@
-use Rattle.std.proofs.Common.{◌≡◌, ◌∙◌, ◌<◌, List, ℕ, length, subst, sym}
+use Rattle.std.proofs.Common.{◌≡◌, ◌∙◌, ◌<◌, ◌≤◌, List, ℕ, arith, inl, inr, length, subst, sym}
 use Rattle.std.specs.Io.KnownBytes.{Appends}
 use Rattle.um_io.specs.Bytes.{AppendsFront}
 use Rattle.um_command.specs.declared.command.Command.{Command}
@@ -6,7 +6,7 @@ use Rattle.um_app.proofs.Ends.{all_of_it}
 use Rattle.um_app.proofs.InputLemmas.{of-refusal}
 use Rattle.um_app.specs.Answered.{Answered, IsRefusal}
 use Rattle.um_app.specs.declared.answer.Answer.{Answer}
-use Rattle.um_app.specs.Inputs.{IsOf}
+use Rattle.um_app.specs.Inputs.{IsOf, most_described}
 use Rattle.um_app.specs.Top.{IsOutput, IsThreadOutput}
 use Rattle.um_app.proofs.top.threaded.Goals as goal
 
@@ -58,3 +58,12 @@ returns-in-Err-Refused-clause-complete g c = λ input told short image trace is 
     let same : c.deref.result.now ≡ input = c.deref.ensures.value ∙ all_of_it _ _ input c.in-Ok.input.items told c.in-Ok.ensures.whole c.in-Ok.ensures.at_end in
     absurd (of-refusal command c.deref.result.now trace _ image (subst (λ (bytes : List ℕ). IsOf command bytes image trace) (sym same) is)
     (subst (λ (answer : Answer). Answered command answer c.deref.result.now) c.in-Err-Refused.field-0-is c.in-Err-Refused.ensures.answered.0))
+
+pub returns-in-Ok-thread_answer_to-clause-exceeds : goal.returns-in-Ok-thread_answer_to-clause-exceeds
+returns-in-Ok-thread_answer_to-clause-exceeds g c = λ input told long no_read.
+    let same = all_of_it _ _ input c.in-Ok.input.items told c.in-Ok.ensures.whole c.in-Ok.ensures.at_end in
+    let short : length input ≤ most_described = subst (λ (bytes : List ℕ). length bytes ≤ most_described) same c.in-Ok.ensures.short in
+    absurd (elim long [ inl over ↦ omega arith | inr over ↦ omega arith ])
+
+pub returns-in-Ok-thread_answer_to-clause-told : goal.returns-in-Ok-thread_answer_to-clause-told
+returns-in-Ok-thread_answer_to-clause-told g c = λ not_done not_refused. c.tell_status.ensures.told not_done

@@ -16,3 +16,9 @@ returns-in-Run-clause-refuses g c =
     let command = Command.Run c.in-Run.cpus in
     let is : command_of (map string_bytes c.args.words.now) ≡ Some command = sym c.read_command.ensures.command ∙ (c.in-Some.is ∙ ap Some c.in-Run.is) in
     λ other found reads. rw (same-command _ other command found is) c.threaded.ensures.refuses
+
+pub returns-in-Run-clause-within : goal.returns-in-Run-clause-within
+returns-in-Run-clause-within g c =
+    let command = Command.Run c.in-Run.cpus in
+    let is : command_of (map string_bytes c.args.words.now) ≡ Some command = sym c.read_command.ensures.command ∙ (c.in-Some.is ∙ ap Some c.in-Run.is) in
+    λ other found reads. rw (same-command _ other command found is) c.threaded.ensures.within
