@@ -87,6 +87,7 @@ module _ (s : State) where
         ready = map boot_index s.image.boots;
         parked = indexed (λ t (me : Thread). parked_if (is_living me.life) (context_of t me)) 0 s.threads;
         told = replicate THREADS None;
+        priorities = map (λ (me : Thread). me.priority) s.threads;
         running = 0;
       })
 

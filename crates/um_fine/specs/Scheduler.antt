@@ -1,5 +1,5 @@
--- The scheduler's cell: the ready list, the threads that no processor runs, and what those are told that were woken.
-use Rattle.std.specs.Prelude.{ℕ, ◌+◌, ◌-◌, Bool, true, false, ◌&&◌, ◌||◌, not, nat_lt, List, [], ◌∷◌, ◌++◌, length, Option, Some, None, is_some, unwrap_or, slice_index_or, slice_set}
+-- The scheduler's cell: the ready list, the threads that no processor runs, what those are told that were woken, and each thread's priority.
+use Rattle.std.specs.Prelude.{ℕ, ℤ, ◌+◌, ◌-◌, Bool, true, false, ◌&&◌, ◌||◌, not, nat_lt, List, [], ◌∷◌, ◌++◌, length, Option, Some, None, is_some, unwrap_or, slice_index_or, slice_set}
 use Rattle.um_base.specs.declared.act.Act.{Act}
 use Rattle.um_base.specs.declared.ask.Told.{Told}
 use Rattle.um_base.specs.declared.limits.TheConstants.{THREADS}
@@ -18,6 +18,7 @@ pub record Scheduler : Type 0 where
   pub ready : List ℕ  -- the first one is taken next
   pub parked : List (Option Context)  -- by thread index
   pub told : List (Option Told)  -- by thread index
+  pub priorities : List ℤ  -- by thread index: of the thread that was put here last, or at the opening
   pub running : ℕ  -- how many threads processors run
 
 abbrev pub parked_at : Scheduler → ℕ → Option Context
@@ -94,10 +95,15 @@ sched_takes s (FineAct.Unseen unseen) = sched_takes_unseen s unseen
 abbrev pub first_taken : Scheduler → List ℕ → Scheduler
 first_taken s [] = s
 first_taken s (t ∷ ready) =
-    record { ready = ready; parked = slice_set s.parked t None; told = slice_set s.told t None; running = s.running + 1 }
+    record s { ready = ready; parked = slice_set s.parked t None; told = slice_set s.told t None; running = s.running + 1 }
 
 abbrev pub put_back : Scheduler → Bool → Context → Scheduler
-put_back s ready c = record s { ready = behind ready c.thread s.ready; parked = slice_set s.parked c.thread (Some c) }
+put_back s ready c =
+    record s {
+      ready = behind ready c.thread s.ready;
+      parked = slice_set s.parked c.thread (Some c);
+      priorities = slice_set s.priorities c.thread c.priority;
+    }
 
 abbrev pub one_less : Scheduler → Scheduler
 one_less s = record s { running = s.running - 1 }

@@ -1,7 +1,5 @@
--- A matrix makes the machine's steps. BootLemmas and GoneLemmas are about its tables; PairLemmas, StringLemmas, WorkLemmas and StartLemmas
--- about what steps change. OfferLemmas has which steps a thread is offered, AdvanceLemmas, after it, what the thread does next; RunLemmas is
--- about runs.
-mod AdvanceLemmas
+-- A matrix makes the machine's steps. BootLemmas is about its tables; PairLemmas, StringLemmas, WorkLemmas and StartLemmas about what steps
+-- change. OfferLemmas has which steps a thread is offered; RunLemmas is about runs.
 pub mod BootLemmas
 pub mod OfferLemmas
 mod PairLemmas
@@ -9,4 +7,3 @@ mod RunLemmas
 mod StartLemmas
 mod StringLemmas
 mod WorkLemmas
-pub mod GoneLemmas

@@ -1,4 +1,3 @@
-pub mod Alone
 pub mod Offered
 pub mod Worked
 pub mod Lending

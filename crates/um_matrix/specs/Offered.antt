@@ -1,5 +1,5 @@
 -- Which steps a thread is offered, and what may be made of an act.
-use Rattle.std.specs.Prelude.{◌≡◌, ℕ, ◌+◌, ◌<◌, Bool, true, false, ◌&&◌, not, if◌then◌else◌, List, [], take, drop, slice_get, Option, Some, None, is_some, IsTrue, slice_index_or}
+use Rattle.std.specs.Prelude.{◌≡◌, ℕ, ◌+◌, ◌<◌, Bool, true, false, ◌&&◌, not, if◌then◌else◌, List, [], take, drop, slice_get, Option, Some, None, IsTrue}
 use Rattle.um_base.specs.declared.names.ThreadIx.{ThreadIx}
 use Rattle.um_base.specs.declared.act.Act.{Act}
 use Rattle.um_base.specs.declared.act.Event.{Event}
@@ -9,10 +9,9 @@ use Rattle.um_base.specs.declared.instr.Instr.{Instr}
 use Rattle.um_machine.specs.declared.pending.Pending.{Pending}
 use Rattle.um_machine.specs.declared.thread.Place.{Place}
 use Rattle.um_machine.specs.Limits.{IsSound}
-use Rattle.um_machine.specs.State.{State, thread_at, object_at, is_living, instruction_at}
-use Rattle.um_machine.specs.Objects.{is_gone, is_held}
+use Rattle.um_machine.specs.State.{State, thread_at, is_living, instruction_at}
 use Rattle.um_machine.specs.Table.{act_of, after}
-use Rattle.um_machine.specs.Run.{Step, Runs, MayChoose, none_due, Advances}
+use Rattle.um_machine.specs.Run.{Step, Runs, MayChoose}
 use Rattle.um_matrix.specs.declared.matrix.choice.Choice.{Choice}
 pub use Rattle.um_machine.specs.Run.{is_tending, may_go}
 pub use Rattle.um_invariants.specs.NextSteps.{first_or, first_step, is_skipped, line_step, rest_step, second_step}
@@ -92,40 +91,3 @@ pair_of _ = None
 abbrev pub IsShort : Found → Type 0
 IsShort (Found.Length n) = n < 32
 IsShort _ = Unit {0}
-
--- what is made of the act of a thread at rest
-abbrev pub rest_choice : Act → Choice
-rest_choice Act.Exit = Choice.Exits
-rest_choice _ = Choice.Begins
-
--- the state after a choice
-abbrev pub after_choice : State → ℕ → Choice → State
-after_choice s t Choice.Begins = after s t 0 Pending.Begin []
-after_choice s t Choice.Exits = after s t 0 Pending.Exit []
-after_choice s t (Choice.Makes step row taken) = after s t row step (drop taken (thread_at s t).pending)
-after_choice s t (Choice.CleansPair who row) = after s t row (Pending.CleanPair who) []
-after_choice s t (Choice.Recycles row) = after s t row Pending.Recycle []
-
--- what a thread says by a choice
-abbrev pub said : State → ℕ → Choice → Act
-said s t Choice.Begins = act_of s t 0 Pending.Begin
-said s t Choice.Exits = act_of s t 0 Pending.Exit
-said s t (Choice.Makes step row taken) = act_of s t row step
-said s t (Choice.CleansPair who row) = act_of s t row (Pending.CleanPair who)
-said s t (Choice.Recycles row) = act_of s t row Pending.Recycle
-
--- a choice can be carried out
-abbrev pub IsInside : State → ℕ → Choice → Type 0
-IsInside s t Choice.Begins = IsTrue (is_some (instruction_at s.image (thread_at s t).place))
-IsInside s t Choice.Exits = Unit {0}
-IsInside s t (Choice.Makes step row taken) = IsSound step × (row < ROWS) × (0 < taken)
-IsInside s t (Choice.CleansPair who row) = row < ROWS
-IsInside s t (Choice.Recycles row) = row < ROWS
-
--- a choice of what a thread does next, by which it says this act
-abbrev pub IsMove : State → ℕ → Choice → Act → Type 0
-IsMove s t choice act = IsInside s t choice × Advances s (event_of t act) (after_choice s t choice)
-
--- whether an object is gone, and nobody holds it
-abbrev pub is_forsaken : State → ℕ → Bool
-is_forsaken s x = is_gone (object_at s x).status && not (is_held s x)

@@ -1,6 +1,5 @@
 //! A state of the machine, and its steps.
 
-mod advance;
 mod apply;
 mod boot;
 mod checks;
@@ -8,6 +7,7 @@ mod choice;
 mod cleaning;
 mod creation;
 mod domains;
+mod dumped;
 mod dynamic;
 mod ends;
 mod make;
@@ -22,12 +22,11 @@ mod strings;
 mod transfer;
 mod waiting;
 
-ghost use Rattle.std.specs.{Prelude.{◌≡◌, ◌<◌, ◌≤◌, drop, length}, List.{list_any}};
-ghost use Rattle.um_machine.specs.{declared.object.Object.{Object}, Objects.{is_gone}};
+ghost use Rattle.std.specs.Prelude.{◌≡◌, ◌<◌, ◌≤◌, length};
 
 use crate::object_table::ObjectTable;
 use std::marker::Model;
-use um_base::{AREA_SIZE, DOMAINS, Image, POOLS, Parts, ROWS, STATIC_ROWS, THREADS};
+use um_base::{AREA_SIZE, DOMAINS, Image, POOLS, Parts, ROWS, THREADS};
 use um_machine::{Object, Thread};
 use um_service::Outcome;
 
@@ -104,14 +103,6 @@ impl<'a> Matrix<'a> {
         ensures all { length self.now.objects ≡ ROWS }
     {
         self.objects.row(x)
-    }
-
-    /// Whether a dynamic object is gone.
-    pub fn some_gone(&self) -> bool
-        ensures { result ≡ list_any (λ (object : Object). is_gone object.status)
-            (drop STATIC_ROWS self.now.objects) }
-    {
-        self.objects.some_gone()
     }
 
     /// Which threads have a pair with an object, by row and then by thread index.

@@ -1,14 +1,11 @@
 //! The objects of all rows.
 
 ghost use Rattle.std.specs.{
-  Prelude.{◌≡◌, ◌<◌, ◌≤◌, ◌-◌, ◌++◌, IfOk, length, replicate, drop, slice_index_or, vec_len, vec_capacity},
+  Prelude.{◌≡◌, ◌<◌, ◌≤◌, ◌-◌, ◌++◌, IfOk, length, replicate, slice_index_or, vec_len, vec_capacity},
   Borrow.{sem},
-  List.{list_any},
 };
 ghost use Rattle.um_base.specs.Lawful.{IsLawful};
 ghost use Rattle.um_machine.specs.{
-  declared.object.Object.{Object},
-  Objects.{is_gone},
   Run.{objects_from},
   State.{vacant},
 };
@@ -16,7 +13,7 @@ ghost use Rattle.um_machine.specs.{
 use std::alloc::Global;
 use std::marker::Model;
 use um_base::{Image, OutOfMemory, ROWS, STATIC_ROWS};
-use um_machine::{Object, Status};
+use um_machine::Object;
 use um_steps::blank::{open_object, vacant};
 
 /// The objects of all rows. Of the static rows, and of the dynamic ones, it has those up to the last that was ever written;
@@ -75,18 +72,6 @@ fn fill(rows: &mut Vec<Object>, n: usize)
     }
 }
 
-/// Whether one of these objects is gone.
-fn some_gone(objects: &[Object]) -> bool
-    ensures { result ≡ list_any (λ (object : Object). is_gone object.status) objects.now }
-{
-    for object in objects {
-        if object.status == Status::Gone {
-            return true;
-        }
-    }
-    false
-}
-
 impl ObjectTable {
     ghost use Rattle.um_matrix.specs.Lending.{LendsRow};
 
@@ -136,12 +121,5 @@ impl ObjectTable {
             fill(&mut self.dynamics, x - STATIC_ROWS + 1);
             &mut self.dynamics[x - STATIC_ROWS]
         }
-    }
-
-    /// Whether a dynamic object is gone.
-    pub fn some_gone(&self) -> bool
-        ensures { result ≡ list_any (λ (object : Object). is_gone object.status) (drop STATIC_ROWS self.now) }
-    {
-        some_gone(self.dynamics.as_slice())
     }
 }

@@ -6,6 +6,7 @@ pub mod buffers;
 pub mod bytes;
 pub mod costs;
 pub mod domains;
+mod dumped;
 pub mod holds;
 pub mod kinds;
 pub mod order;
@@ -14,3 +15,5 @@ pub mod registers;
 pub mod rodata;
 pub mod rows;
 pub mod same;
+
+pub use dumped::Dumped;
