@@ -1,5 +1,5 @@
 -- Which steps a thread is offered, and what may be made of an act.
-use Rattle.std.specs.Prelude.{◌≡◌, ℕ, ◌+◌, ◌<◌, Bool, true, false, ◌&&◌, not, if◌then◌else◌, List, [], take, drop, slice_get, Option, Some, None, IsTrue}
+use Rattle.std.specs.Prelude.{◌≡◌, ℕ, ◌+◌, ◌<◌, Bool, true, false, ◌&&◌, not, if◌then◌else◌, List, [], take, drop, slice_get, Option, Some, None}
 use Rattle.um_base.specs.declared.names.ThreadIx.{ThreadIx}
 use Rattle.um_base.specs.declared.act.Act.{Act}
 use Rattle.um_base.specs.declared.act.Event.{Event}
@@ -91,3 +91,16 @@ pair_of _ = None
 abbrev pub IsShort : Found → Type 0
 IsShort (Found.Length n) = n < 32
 IsShort _ = Unit {0}
+
+-- what is made of the act of a thread at rest
+abbrev pub rest_choice : Act → Choice
+rest_choice Act.Exit = Choice.Exits
+rest_choice _ = Choice.Begins
+
+-- the state after a choice
+abbrev pub after_choice : State → ℕ → Choice → State
+after_choice s t Choice.Begins = after s t 0 Pending.Begin []
+after_choice s t Choice.Exits = after s t 0 Pending.Exit []
+after_choice s t (Choice.Makes step row taken) = after s t row step (drop taken (thread_at s t).pending)
+after_choice s t (Choice.CleansPair who row) = after s t row (Pending.CleanPair who) []
+after_choice s t (Choice.Recycles row) = after s t row Pending.Recycle []
