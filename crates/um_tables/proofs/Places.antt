@@ -1,5 +1,5 @@
 -- The scheduler's contents where one of its places changes.
-use Rattle.std.proofs.Common.{◌≡◌, ◌<◌, ℕ, ◌+◌, Bool, List, [], ◌∷◌, Option, Some, None, IsTrue, ap, sym, subst, ◌∙◌, map, length, remove, slice_get, slice_index_or, slice_set, is_some, unwrap_or, nat_lt, ◌&&◌}
+use Rattle.std.proofs.Common.{◌≡◌, ◌<◌, ℕ, ℤ, ◌+◌, Bool, List, [], ◌∷◌, Option, Some, None, IsTrue, ap, sym, subst, ◌∙◌, map, length, remove, slice_get, slice_index_or, slice_set, is_some, unwrap_or, nat_lt, ◌&&◌}
 use Rattle.std.proofs.lemmas.List.{get_or-map, map-set}
 use Rattle.std.proofs.lemmas.Bool.{false≢true, lt-ltb}
 use Rattle.std.proofs.Math.Seq.{map-set_same}
@@ -8,38 +8,35 @@ use Rattle.um_fine.specs.Context.{Context, no_context}
 use Rattle.um_fine.specs.Steps.{Exchange}
 use Rattle.um_fine.specs.Scheduler.{Scheduler, behind, first_ready, first_taken, has_ready, put_back}
 use Rattle.um_fine.specs.Scheduler as Contents
-use Rattle.um_tables.specs.Parked.{Parked, awake, context_at, scheduler_of, some_if, told_at}
+use Rattle.um_tables.specs.Parked.{Parked, awake, context_at, priority_at, scheduler_of, some_if, told_at}
 
--- all places after a write at one of them
-written : (ready : List ℕ) (places : List Parked) (running t : ℕ) (y : Parked)
-    → scheduler_of ready (slice_set places t y) running
-    ≡ record { ready = ready; parked = slice_set (map context_at places) t y.context; told = slice_set (map told_at places) t y.told; running = running }
-written ready places running t y =
-    ap (λ (ps : List (Option Context)). record { ready = ready; parked = ps; told = map told_at (slice_set places t y); running = running }) (map-set context_at places t y)
-    ∙ ap (λ (ts : List (Option Told)). record { ready = ready; parked = slice_set (map context_at places) t y.context; told = ts; running = running }) (map-set told_at places t y)
+-- the contents with these parts
+abbrev of_parts : List ℕ → List (Option Context) → List (Option Told) → List ℤ → ℕ → Scheduler
+of_parts ready parked told priorities running = record { ready = ready; parked = parked; told = told; priorities = priorities; running = running }
 
 -- a thread was put at the place of its index
 pub put-back : (r ready : List ℕ) (places : List Parked) (running t : ℕ) (x y : Parked) (c : Context) (b : Bool)
-    → x ≡ slice_index_or places t x → y ≡ record x { context = Some c } → t ≡ c.thread → ready ≡ behind b t r
+    → x ≡ slice_index_or places t x → y ≡ record x { context = Some c; priority = c.priority } → t ≡ c.thread → ready ≡ behind b t r
     → scheduler_of ready (slice_set places t y) running ≡ put_back (scheduler_of r places running) b c
 put-back r ready places running t x y c b here is own joined =
-    ap (λ (ps : List (Option Context)). record { ready = ready; parked = ps; told = map told_at (slice_set places t y); running = running })
-    (map-set context_at places t y ∙ ap (λ (p : Parked). slice_set (map context_at places) t p.context) is)
-    ∙ ap (λ (ts : List (Option Told)). record { ready = ready; parked = slice_set (map context_at places) t (Some c); told = ts; running = running })
-    (map-set_same told_at places t y x (ap told_at is ∙ ap told_at here))
-    ∙ ap (λ (rs : List ℕ). record { ready = rs; parked = slice_set (map context_at places) t (Some c); told = map told_at places; running = running }) joined
-    ∙ ap (λ (u : ℕ). record { ready = behind b u r; parked = slice_set (map context_at places) u (Some c); told = map told_at places; running = running }) own
+    let told-same : map told_at (slice_set places t y) ≡ map told_at places = map-set_same told_at places t y x (ap told_at is ∙ ap told_at here) in
+    let put : map context_at (slice_set places t y) ≡ slice_set (map context_at places) t (Some c) =
+    map-set context_at places t y ∙ ap (λ (p : Parked). slice_set (map context_at places) t p.context) is in
+    let noted : map priority_at (slice_set places t y) ≡ slice_set (map priority_at places) t c.priority =
+    map-set priority_at places t y ∙ ap (λ (p : Parked). slice_set (map priority_at places) t p.priority) is in
+    (λ i. of_parts (joined i) (put i) (told-same i) (noted i) running)
+    ∙ ap (λ (u : ℕ). of_parts (behind b u r) (slice_set (map context_at places) u (Some c)) (map told_at places) (slice_set (map priority_at places) u c.priority) running) own
 
 -- the place of a thread was told something
 pub told-at-place : (r ready : List ℕ) (places : List Parked) (running t : ℕ) (x y : Parked) (told : Told) (b : Bool)
     → x ≡ slice_index_or places t x → y ≡ record x { told = Some told } → ready ≡ behind b t r
     → scheduler_of ready (slice_set places t y) running ≡ awake (scheduler_of r places running) b t told
 told-at-place r ready places running t x y told b here is joined =
-    ap (λ (ps : List (Option Context)). record { ready = ready; parked = ps; told = map told_at (slice_set places t y); running = running })
-    (map-set_same context_at places t y x (ap context_at is ∙ ap context_at here))
-    ∙ ap (λ (ts : List (Option Told)). record { ready = ready; parked = map context_at places; told = ts; running = running })
-    (map-set told_at places t y ∙ ap (λ (p : Parked). slice_set (map told_at places) t p.told) is)
-    ∙ ap (λ (rs : List ℕ). record { ready = rs; parked = map context_at places; told = slice_set (map told_at places) t (Some told); running = running }) joined
+    let same : map context_at (slice_set places t y) ≡ map context_at places = map-set_same context_at places t y x (ap context_at is ∙ ap context_at here) in
+    let noted : map priority_at (slice_set places t y) ≡ map priority_at places = map-set_same priority_at places t y x (ap priority_at is ∙ ap priority_at here) in
+    let put : map told_at (slice_set places t y) ≡ slice_set (map told_at places) t (Some told) =
+    map-set told_at places t y ∙ ap (λ (p : Parked). slice_set (map told_at places) t p.told) is in
+    λ i. of_parts (joined i) (same i) (put i) (noted i) running
 
 -- what a place says, and what the scheduler's contents say of it
 pub told-there : (ready : List ℕ) (places : List Parked) (running t : ℕ) (x : Parked) → x ≡ slice_index_or places t x → t < length places → Contents.told_at (scheduler_of ready places running) t ≡ x.told
@@ -51,7 +48,7 @@ parked-there ready places running t x here short = get_or-map context_at places 
 -- the first thread of the ready list was taken from its place
 pub first-taken : (r ready : List ℕ) (places : List Parked) (running t : ℕ) (x y : Parked) (c : Context) (woken : Bool) (told : Told)
     → slice_get r 0 ≡ Some t → ready ≡ remove r 0 → x ≡ slice_index_or places t x → t < length places → running < 255
-    → IsTrue (is_some x.context) → y ≡ record { context = None; told = None } → c ≡ unwrap_or x.context no_context → some_if woken told ≡ x.told
+    → IsTrue (is_some x.context) → y ≡ record x { context = None; told = None } → c ≡ unwrap_or x.context no_context → some_if woken told ≡ x.told
     → let s = scheduler_of r places running in
     IsTrue (has_ready s s.ready) × (scheduler_of ready (slice_set places t y) (running + 1) ≡ first_taken s s.ready)
     × (first_ready s s.ready ≡ Exchange.thread c (some_if woken told))
@@ -64,9 +61,12 @@ first-taken (u ∷ r) ready places running t x y c woken told first rest here sh
     let at = parked-there (u ∷ r) places running t x here short in
     let woken-is = told-there (u ∷ r) places running t x here short in (
       ap (λ (o : Option Context). is_some o && nat_lt running 255) at ∙ ap (λ (b : Bool). b && nat_lt running 255) there ∙ lt-ltb running 255 few,
-      written ready places (running + 1) t y
-          ∙ ap (λ (p : Parked). record { ready = ready; parked = slice_set (map context_at places) t p.context; told = slice_set (map told_at places) t p.told; running = running + 1 }) left
-          ∙ ap (λ (rs : List ℕ). record { ready = rs; parked = slice_set (map context_at places) t None; told = slice_set (map told_at places) t None; running = running + 1 }) rest,
+      (let taken : map context_at (slice_set places t y) ≡ slice_set (map context_at places) t None =
+      map-set context_at places t y ∙ ap (λ (p : Parked). slice_set (map context_at places) t p.context) left in
+      let heard : map told_at (slice_set places t y) ≡ slice_set (map told_at places) t None =
+      map-set told_at places t y ∙ ap (λ (p : Parked). slice_set (map told_at places) t p.told) left in
+      let noted : map priority_at (slice_set places t y) ≡ map priority_at places = map-set_same priority_at places t y x (ap priority_at left ∙ ap priority_at here) in
+      λ i. of_parts (rest i) (taken i) (heard i) (noted i) (running + 1)),
       ap (λ (o : Option Context). Exchange.thread (unwrap_or o no_context) (Contents.told_at s t)) at
           ∙ ap (λ (o : Option Told). Exchange.thread (unwrap_or x.context no_context) o) (woken-is ∙ sym said)
           ∙ ap (λ (d : Context). Exchange.thread d (some_if woken told)) (sym is),

@@ -81,6 +81,20 @@ impl Bytes {
         Bytes { memory, stacks }
     }
 
+    /// The bytes of the area of the partitions.
+    pub fn memory(&self) -> &[u8]
+        ensures { result.now ≡ self.now.memory }
+    {
+        self.memory.as_slice()
+    }
+
+    /// The bytes of the area of the thread stacks.
+    pub fn stacks(&self) -> &[u8]
+        ensures { result.now ≡ self.now.stacks }
+    {
+        self.stacks.as_slice()
+    }
+
     /// The n bytes from an address on, if they lie in one area.
     fn read<'a>(&'a self, image: &Image, rodata: &'a [u8], a: u32, n: u32) -> &'a [u8]
         requires { rodata.now ≡ rodata_of image.now }

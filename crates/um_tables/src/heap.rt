@@ -1,6 +1,6 @@
 //! The contents of the heap's cell.
 
-ghost use Rattle.std.specs.Prelude.{◌≡◌, ◌<◌, IfSome, None, if◌then◌else◌};
+ghost use Rattle.std.specs.Prelude.{◌≡◌, ◌<◌, IfSome, None, false, if◌then◌else◌, slice_index, slice_index_or};
 ghost use Rattle.um_base.specs.declared.{act.Act.{Act}, limits.TheConstants.{ROWS}};
 ghost use Rattle.um_fine.specs.{
   Addresses.{address_or, row_named},
@@ -74,6 +74,20 @@ impl Heap {
         ensures { result ≡ record { pools = pools.items; free = free.items; costs = costs.items } }
     {
         Heap { pools, free, costs }
+    }
+
+    /// Whether the dynamic address of a row is free.
+    pub fn is_free(&self, x: usize) -> bool
+        ensures { result ≡ slice_index_or self.now.free x false }
+    {
+        get_or(self.free.as_slice(), x, false)
+    }
+
+    /// How many bytes are left in a pool.
+    pub fn left_in_pool(&self, pool: usize) -> u32
+        ensures { result ≡ slice_index self.now.pools pool }
+    {
+        get_or(self.pools.as_slice(), pool, 0)
     }
 
     /// Whether an address is free for an object of this kind.

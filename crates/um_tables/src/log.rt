@@ -15,25 +15,14 @@ pub fn is_full(log: &Vec<Event>) -> bool
     log.capacity() <= log.len()
 }
 
-/// Appends an event. It takes no memory.
-fn put(log: &mut Vec<Event>, event: &Event)
+/// Appends the event of a step, if it has one. It takes no memory.
+pub fn note(log: &mut Vec<Event>, event: Option<Event>)
     requires { length log.old.items < vec_capacity log.old }
-    ensures events { log.new.items ≡ log.old.items ++ event.now ∷ [] }
-    ensures room { vec_capacity log.new ≡ vec_capacity log.old }
-{
-    let thread = event.thread;
-    let act = event.act;
-    log.push_reserved(Event { thread, act });
-}
-
-/// The same, if there is an event.
-pub fn note(log: &mut Vec<Event>, event: &Option<Event>)
-    requires { length log.old.items < vec_capacity log.old }
-    ensures events { log.new.items ≡ logged log.old.items event.now }
+    ensures events { log.new.items ≡ logged log.old.items event }
     ensures room { vec_capacity log.new ≡ vec_capacity log.old }
 {
     if let Some(event) = event {
-        put(log, event);
+        log.push_reserved(event);
     }
 }
 

@@ -1,7 +1,7 @@
 //! The cells of all objects.
 
 ghost use Rattle.std.specs.{
-  Prelude.{◌≡◌, ◌+◌, ◌<◌, ◌≤◌, ◌-◌, ◌++◌, IfOk, length, replicate, slice_index_or, vec_capacity},
+  Prelude.{◌≡◌, ◌+◌, ◌<◌, ◌≤◌, ◌-◌, ◌++◌, IfOk, length, replicate, slice_index_or, vec_capacity, MatchOption},
   Borrow.{sem},
 };
 ghost use Rattle.um_base.specs.declared.limits.TheConstants.{ROWS};
@@ -67,6 +67,19 @@ impl ObjectCells {
         let statics = Vec::with_capacity(alloc, ROWS)?;
         let dynamics = Vec::with_capacity(alloc, ROWS - STATIC_ROWS)?;
         Ok(ObjectCells { statics, dynamics })
+    }
+
+    /// The cell of a row, if it was ever asked for. If not, the cell keeps nothing.
+    pub fn row(&self, x: usize) -> Option<&ObjectCell>
+        requires { x < ROWS }
+        ensures { MatchOption result (slice_index_or self.now x (cleared 0) ≡ cleared 0)
+            (λ cell. slice_index_or self.now x (cleared 0) ≡ cell.now) }
+    {
+        if x < STATIC_ROWS {
+            self.statics.get(x)
+        } else {
+            self.dynamics.get(x - STATIC_ROWS)
+        }
     }
 
     /// The cell of a row, to change it. It takes no memory.

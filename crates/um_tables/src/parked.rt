@@ -8,14 +8,16 @@ use crate::context::Context;
 use std::marker::Model;
 use um_base::{Piece, Reply, Told};
 
-/// The place of a thread index: the thread, if no processor runs it, and what it was told when it was woken. The room for both is always
-/// there.
+/// The place of a thread index: the thread, if no processor runs it, what it was told when it was woken, and the priority of the thread that
+/// was put here last. The room for all is always there.
 #[derive(Drop)]
 pub struct Parked {
     context: Box<Context>,
     is_there: bool,
     told: Told,
     is_told: bool,
+    /// -16 to 14; a lower number is a higher priority.
+    priority: i8,
 }
 
 impl Model for Parked {
@@ -26,21 +28,27 @@ impl Model for Parked {
     ghost view = { λ p. record {
       context = some_if p.is_there p.context.value;
       told = some_if p.is_told p.told;
+      priority = p.priority;
     } };
 }
 
 impl Parked {
     /// An empty place, with room for a thread.
     pub fn empty(room: Box<Context>) -> Parked
-        ensures { result ≡ record { context = None; told = None } }
+        ensures { result ≡ record { context = None; told = None; priority = room.value.priority } }
     {
         Parked::of(room, false)
     }
 
     /// The place of a thread that is told nothing. `is_there` says whether the thread is there, or only the room for it.
     pub fn of(context: Box<Context>, is_there: bool) -> Parked
-        ensures { result ≡ record { context = some_if is_there context.value; told = None } }
+        ensures { result ≡ record {
+          context = some_if is_there context.value;
+          told = None;
+          priority = context.value.priority;
+        } }
     {
+        let priority = context.priority();
         Parked {
             context,
             is_there,
@@ -49,6 +57,7 @@ impl Parked {
                 taken: Piece::new(),
             },
             is_told: false,
+            priority,
         }
     }
 
@@ -70,7 +79,7 @@ impl Parked {
     /// something.
     pub fn take(&mut self, context: &mut Box<Context>, told: &mut Told) -> bool
         requires { IsTrue (is_some self.old.context) }
-        ensures left { self.new ≡ record { context = None; told = None } }
+        ensures left { self.new ≡ record self.old { context = None; told = None } }
         ensures context { context.new.value ≡ unwrap_or self.old.context no_context }
         ensures told { some_if result told.new ≡ self.old.told }
     {
@@ -86,10 +95,21 @@ impl Parked {
 
     /// Puts a thread here, and gives the room for it back.
     pub fn put(&mut self, context: &mut Box<Context>)
-        ensures { self.new ≡ record self.old { context = Some (context.old.value) } }
+        ensures { self.new ≡ record self.old {
+          context = Some (context.old.value);
+          priority = context.old.value.priority;
+        } }
     {
         std::mem::swap(context, &mut self.context);
+        self.priority = self.context.priority();
         self.is_there = true;
+    }
+
+    /// The priority of the thread that was put here last.
+    pub fn priority(&self) -> i8
+        ensures { result ≡ self.now.priority }
+    {
+        self.priority
     }
 
     /// Leaves this for the thread to be told.

@@ -1,7 +1,7 @@
 //! The contents of the scheduler's cell.
 
 ghost use Rattle.std.specs.{
-  Prelude.{◌≡◌, ◌<◌, ◌≤◌, ◌&&◌, ◌||◌, [], false, length, nat_lt, is_some, not, replicate, true, IfOk, IsTrue, MatchOption},
+  Prelude.{◌≡◌, ◌<◌, ◌≤◌, ◌&&◌, ◌||◌, [], false, length, nat_lt, is_some, not, pos, replicate, slice_index_or, true, IfOk, IsTrue, MatchOption},
   List.{All},
 };
 ghost use Rattle.um_base.specs.declared.limits.TheConstants.{THREADS};
@@ -235,6 +235,14 @@ impl Scheduler {
         self.places[thread as usize].put(context);
         join(&mut self.ready, thread, true);
         true
+    }
+
+    /// The priority of the thread that was put at this place last, -16 to 14.
+    pub fn priority(&self, thread: usize) -> i8
+        requires { thread < THREADS }
+        ensures { result ≡ slice_index_or self.now.priorities thread (pos 0) }
+    {
+        self.places[thread].priority()
     }
 
     /// How many threads are ready.

@@ -1,8 +1,12 @@
 //! Sites as tables, at which one call at a time makes a step.
 
-ghost use Rattle.std.specs.{Prelude.{◌≡◌, length, vec_capacity}, List.{All}};
+ghost use Rattle.std.specs.{
+  Prelude.{◌≡◌, ◌<◌, MatchOption, None, Some, length, slice_index_or, vec_capacity},
+  List.{All},
+};
 ghost use Rattle.um_base.specs.declared.limits.TheConstants.{DOMAINS, ROWS, THREADS};
-ghost use Rattle.um_tables.specs.Sited.{in_domains};
+ghost use Rattle.um_fine.specs.Answers.{no_row, no_thread};
+ghost use Rattle.um_tables.specs.{ObjectCells.{cleared}, Sited.{in_domains, no_domain_cell}};
 
 use crate::bytes::Bytes;
 use crate::context::Context;
@@ -12,6 +16,7 @@ use crate::heap_act::{HeapAct, HeapSaid};
 use crate::here::Here;
 use crate::log::{is_full, named, note, resumed, worked};
 use crate::memory_act::{MemoryAct, MemorySaid};
+use crate::object_cell::ObjectCell;
 use crate::object_cells::ObjectCells;
 use crate::said::Said;
 use crate::scheduler::Scheduler;
@@ -139,6 +144,66 @@ impl Tables {
         self.log.as_slice()
     }
 
+    /// The word of a row.
+    pub fn row_word(&self, row: usize) -> &RowWord
+        requires { row < ROWS }
+        ensures { result.now ≡ slice_index_or self.now.rows row no_row }
+    {
+        &self.rows[row]
+    }
+
+    /// The word of a thread.
+    pub fn thread_word(&self, thread: usize) -> &ThreadWord
+        requires { thread < THREADS }
+        ensures { result.now ≡ slice_index_or self.now.threads thread no_thread }
+    {
+        &self.threads[thread]
+    }
+
+    /// The partitions of a domain, where it is initialised.
+    pub fn partitions(&self, domain: usize) -> Option<&Parts>
+        ensures { let cell = slice_index_or self.now.domain_cells domain no_domain_cell in
+            MatchOption result (cell.parts ≡ None) (λ parts. cell.parts ≡ Some parts.now) }
+    {
+        match self.domain_cells.get(domain) {
+            Some(DomainCell {
+                parts: Some(parts),
+                steps: _,
+            }) => Some(parts),
+            _ => None,
+        }
+    }
+
+    /// The cell of a row, if it was ever asked for. If not, the cell keeps nothing.
+    pub fn object_cell(&self, row: usize) -> Option<&ObjectCell>
+        requires { row < ROWS }
+        ensures { MatchOption result (slice_index_or self.now.objects row (cleared 0) ≡ cleared 0)
+            (λ cell. slice_index_or self.now.objects row (cleared 0) ≡ cell.now) }
+    {
+        self.objects.row(row)
+    }
+
+    /// The bytes of the memory.
+    pub fn bytes(&self) -> &Bytes
+        ensures { result.now ≡ self.now.memory }
+    {
+        &self.memory
+    }
+
+    /// The contents of the heap.
+    pub fn heap_contents(&self) -> &Heap
+        ensures { result.now ≡ self.now.heap }
+    {
+        &self.heap
+    }
+
+    /// The contents of the scheduler's cell.
+    pub fn scheduler(&self) -> &Scheduler
+        ensures { result.now ≡ self.now.scheduler }
+    {
+        &self.scheduler
+    }
+
     /// The same, and drops the tables.
     pub fn into_events(self) -> Vec<Event>
         ensures { result.items ≡ self.log }
@@ -197,7 +262,7 @@ impl Sites for Tables {
             Some(made) => made,
         };
         self.rows[row.0 as usize] = next;
-        note(&mut self.log, &act.event(&said));
+        note(&mut self.log, act.event(&said));
         Said::Made(said)
     }
 
@@ -210,7 +275,7 @@ impl Sites for Tables {
             Some(next) => next,
         };
         self.threads[thread.0 as usize] = next;
-        note(&mut self.log, &act.event(&next));
+        note(&mut self.log, act.event(&next));
         Said::Made(next)
     }
 
@@ -223,7 +288,7 @@ impl Sites for Tables {
             Some(next) => next,
         };
         self.domains[domain as usize] = next;
-        note(&mut self.log, &act.event());
+        note(&mut self.log, act.event());
         Said::Made(next)
     }
 
@@ -265,7 +330,7 @@ impl Sites for Tables {
         }
         cell.work(who, outcome);
         cell.steps += 1;
-        note(&mut self.log, &Some(worked(addr, who, outcome)));
+        note(&mut self.log, Some(worked(addr, who, outcome)));
         Said::Made(())
     }
 
@@ -286,7 +351,7 @@ impl Sites for Tables {
         }
         cell.name(bytes);
         cell.steps += 1;
-        note(&mut self.log, &Some(named(thread, who)));
+        note(&mut self.log, Some(named(thread, who)));
         Said::Made(())
     }
 
@@ -321,7 +386,7 @@ impl Sites for Tables {
             .memory
             .make(here.image, self.rodata.as_slice(), act, buffer);
         self.memory_steps += 1;
-        note(&mut self.log, &act.event(&said));
+        note(&mut self.log, act.event(&said));
         Said::Made(said)
     }
 
@@ -334,7 +399,7 @@ impl Sites for Tables {
         }
         let said = self.heap.make(here.image, act, charge);
         self.heap_steps += 1;
-        note(&mut self.log, &act.event(&said));
+        note(&mut self.log, act.event(&said));
         Said::Made(said)
     }
 
@@ -350,7 +415,7 @@ impl Sites for Tables {
             Some(woken) => woken,
         };
         self.scheduler_steps += 1;
-        note(&mut self.log, &resumed(context.thread(), woken));
+        note(&mut self.log, resumed(context.thread(), woken));
         Said::Made(woken)
     }
 
