@@ -1,3 +1,3 @@
 pub mod Agreement
-pub mod Noted
+pub mod Idle
 pub mod ReadOff

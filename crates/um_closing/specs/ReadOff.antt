@@ -1,5 +1,5 @@
 -- The state of the access-matrix machine that is read off the sites, once no processor has a thread.
-use Rattle.std.specs.Prelude.{ℕ, ℤ, Bool, ◌&&◌, not, nat_le, if◌then◌else◌, false, List, length, map, Option, None, slice_index_or}
+use Rattle.std.specs.Prelude.{ℕ, ℤ, pos, Bool, ◌&&◌, not, nat_le, if◌then◌else◌, false, List, length, map, Option, None, slice_index_or}
 use Rattle.std.specs.List.{range_with_len}
 use Rattle.um_base.specs.declared.image.Image.{Image}
 use Rattle.um_base.specs.declared.limits.TheConstants.{ROWS, STATIC_ROWS, THREADS}
@@ -17,9 +17,8 @@ use Rattle.um_fine.specs.Processor.{kind_of}
 use Rattle.um_fine.specs.Sites.{SiteState}
 use Rattle.um_fine.specs.Steps.{FineStep, Site}
 use Rattle.um_refinement.specs.After.{left_by}
-use Rattle.um_refinement.specs.Fine.{bytes_state, heap_state, object_state, parts_state, row_state, thread_state}
+use Rattle.um_refinement.specs.Fine.{bytes_state, heap_state, object_state, parts_state, row_state, scheduler_state, thread_state}
 use Rattle.um_refinement.specs.Objects.{status_of}
-use Rattle.um_closing.specs.Noted.{priority_noted}
 
 -- the numbers below n, ascending
 unfoldable pub numbers : ℕ → List ℕ
@@ -48,10 +47,13 @@ object_off image x w cell h =
       cleaner = None;
     }
 
--- The state, with these priorities.
 module _ (image : Image) (sites : Site → SiteState) where
-  abbrev pub thread_there : (ℕ → ℤ) → ℕ → Thread
-  thread_there priorities t = thread_off (thread_state (sites (Site.thread t))) (priorities t)
+  -- the priority that the scheduler's cell has noted for a thread index
+  abbrev pub priority_there : ℕ → ℤ
+  priority_there t = slice_index_or (scheduler_state (sites Site.scheduler)).priorities t (pos 0)
+
+  abbrev pub thread_there : ℕ → Thread
+  thread_there t = thread_off (thread_state (sites (Site.thread t))) (priority_there t)
 
   abbrev pub object_there : ℕ → Object
   object_there x =
@@ -63,11 +65,11 @@ module _ (image : Image) (sites : Site → SiteState) where
   abbrev pub parts_there : ℕ → Option Partitions
   parts_there d = parts_state (sites (Site.parts d))
 
-  abbrev pub read_off : (ℕ → ℤ) → State
-  read_off priorities =
+  abbrev pub read_off : State
+  read_off =
       record {
         image = image;
-        threads = map (thread_there priorities) (numbers THREADS);
+        threads = map thread_there (numbers THREADS);
         objects = map object_there (numbers ROWS);
         pairs = map pairs_there (numbers ROWS);
         domains = map parts_there (numbers (length image.domains));
@@ -76,6 +78,6 @@ module _ (image : Image) (sites : Site → SiteState) where
         pools = (heap_state (sites Site.heap)).pools;
       }
 
--- the state after these steps of so many processors, with the priorities noted
+-- the state read off after these steps of so many processors
 abbrev pub closing_state : Image → ℕ → List FineStep → State
-closing_state image cpus steps = read_off image (left_by image cpus steps).sites (priority_noted image steps)
+closing_state image cpus steps = read_off image (left_by image cpus steps).sites

@@ -8,7 +8,6 @@ mod ends;
 mod events;
 mod go;
 mod heaps;
-mod kinds;
 mod lines;
 mod marks;
 mod memory;

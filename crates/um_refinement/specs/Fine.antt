@@ -51,7 +51,7 @@ heap_state _ = record { pools = []; free = []; costs = [] }
 
 abbrev pub scheduler_state : SiteState → Scheduler
 scheduler_state (SiteState.cell n (Cell.scheduler s)) = s
-scheduler_state _ = record { ready = []; parked = []; told = []; running = 0 }
+scheduler_state _ = record { ready = []; parked = []; told = []; priorities = []; running = 0 }
 
 -- What stands at the sites.
 

@@ -7,14 +7,13 @@ ghost use Rattle.um_processor.specs.{Events.{check_for, shows}, Turns.{CanTurn, 
 
 use crate::phase::Turn;
 use crate::running::Running;
-use crate::running::kinds::kind_of;
 use crate::turns::made;
 use arrayvec::ArrayVec;
 use um_base::{Addr, Errno, Kind, Reply, Row, ThreadIx, Want};
 use um_machine::Refusal;
 use um_steps::kinds::has_kind;
 use um_steps::rows::row_at;
-use um_tables::{Here, Sites};
+use um_tables::{Here, Sites, kind_of};
 use um_words::{RowAct, ThreadAct};
 
 /// The object that a call looks for, and what comes where it isn't there.
