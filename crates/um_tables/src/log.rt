@@ -21,8 +21,8 @@ pub fn note(log: &mut Vec<Event>, event: Option<Event>)
     ensures events { log.new.items ≡ logged log.old.items event }
     ensures room { vec_capacity log.new ≡ vec_capacity log.old }
 {
-    if let Some(event) = event {
-        log.push_reserved(event);
+    if let Some(Event { thread, act }) = event {
+        log.push_reserved(Event { thread, act });
     }
 }
 
