@@ -1,22 +1,24 @@
 -- A command writes one text of an input, if it isn't `run` on several processors.
-use Rattle.std.proofs.Common.{◌≡◌, ◌∙◌, ◌≤◌, inl, inr, ℕ, List, None, refl, sym, ap, subst}
+use Rattle.std.proofs.Common.{◌≡◌, ◌∙◌, ◌≤◌, ℕ, List, None, refl, sym, ap, subst, arith}
 use Rattle.std.specs.Prelude.{IsTrue, Option, Some}
 use Rattle.std.proofs.lemmas.Bool.{leb-true}
-use Rattle.std.proofs.lemmas.Bool.Decides.{leb_tells}
 use Rattle.um_base.specs.declared.act.Event.{Event}
 use Rattle.um_base.specs.declared.image.Image.{Image}
 use Rattle.um_board.specs.Contents.{Known}
 use Rattle.um_command.specs.declared.command.Command.{Command}
 use Rattle.um_command.specs.declared.command.Options.{Options}
 use Rattle.um_core.proofs.OneRun.{one-run as one-order}
+use Rattle.um_core.specs.PickedRun.{IsPickedRun}
 use Rattle.um_fine.specs.Erasure.{shown}
+use Rattle.um_fine.specs.Steps.{FineStep}
 use Rattle.um_image.proofs.TextLemmas.{one_image}
+use Rattle.um_image.specs.Meaning.{Describes}
+use Rattle.um_invariants.specs.Described.{IsDescribed}
 use Rattle.um_machine.specs.Run.{IsRun}
 use Rattle.um_machine.specs.State.{State}
 use Rattle.um_site.specs.declared.closed.Closed.{Closed}
 use Rattle.um_trace.specs.Summary.{summary_text}
 use Rattle.um_trace.specs.Text.{text}
-use Rattle.um_scheduler.proofs.RunLemmas.{one-run}
 use Rattle.um_app.proofs.Ends.{all_of_it}
 use Rattle.um_app.proofs.Replays.{one-end}
 use Rattle.um_audit.proofs.LawLemmas.{one-verdict}
@@ -26,24 +28,25 @@ use Rattle.um_app.specs.Inputs.{description_in, has_one_answer}
 use Rattle.um_app.specs.Threaded.{IsThreadRun}
 use Rattle.um_app.specs.Top.{Answers, IsOutput, IsRead, IsRunOf, Writes}
 
+-- events that the same steps show are one run, with one last state
+same_steps : (image : Image) (run run2 : List Event) (last last2 : State) (steps steps2 : List FineStep) → IsDescribed image → IsRun image run last → IsRun image run2 last2
+    → run ≡ shown steps → run2 ≡ shown steps2 → steps ≡ steps2 → (run ≡ run2) × (last ≡ last2)
+same_steps image run run2 last last2 steps steps2 described is_run is_run2 shows shows2 one =
+    let same : run ≡ run2 = shows ∙ (ap shown one ∙ sym shows2) in
+    (same, one-end image described run last last2 is_run (subst (λ (events : List Event). IsRun image events last2) (sym same) is_run2))
+
 -- the run of an image with these options, and its last state, are one
 same_run : (image : Image) (options : Options) (run run2 : List Event) (last last2 : State) → IsRunOf image options run last → IsRunOf image options run2 last2 → (run ≡ run2) × (last ≡ last2)
 same_run image options run run2 last last2 a b =
-    elim (leb_tells options.cpus 1) [
-      | inl one ↦ one-run image options.cpus options.pick run run2 last last2 (a.ordered.alone one.1) a.complete (b.ordered.alone one.1) b.complete
-      | inr many ↦
-          let here = a.ordered.several many.1 in
-          let there = b.ordered.several many.1 in
-          let same : run ≡ run2 = here.2 ∙ (ap shown (one-order image options.cpus options.pick here.0 there.0 here.1 there.1) ∙ sym there.2) in
-          (same, one-end image a.described run last last2 a.is_run (subst (λ (events : List Event). IsRun image events last2) (sym same) b.is_run))
-    ]
+    same_steps image run run2 last last2 a.ordered.steps b.ordered.steps a.described a.is_run b.is_run a.ordered.shows b.ordered.shows
+    (one-order image options.cpus options.pick a.ordered.steps b.ordered.steps a.ordered.picked b.ordered.picked)
 
 -- and so are those of threads on one processor
 same_thread_run : (image : Image) (cpus : ℕ) → cpus ≤ 1 → (closed closed2 : Closed Known) (run run2 : List Event) (last last2 : State) → IsThreadRun image cpus closed run last → IsThreadRun image cpus closed2 run2 last2
     → (run ≡ run2) × (last ≡ last2)
 same_thread_run image cpus few closed closed2 run run2 last last2 a b =
-    let same : run ≡ run2 = a.shows ∙ (ap shown (one-order image cpus None a.steps b.steps (a.picked few None) (b.picked few None)) ∙ sym b.shows) in
-    (same, one-end image a.described run last last2 a.is_run (subst (λ (events : List Event). IsRun image events last2) (sym same) b.is_run))
+    same_steps image run run2 last last2 a.steps b.steps a.described a.is_run b.is_run a.shows b.shows
+    (one-order image cpus None a.steps b.steps (a.picked few None) (b.picked few None))
 
 -- what is told of runs that are the same is the same
 same_told : (told : List Event → State → List ℕ) (run run2 : List Event) (last last2 : State) → (run ≡ run2) × (last ≡ last2) → told run last ≡ told run2 last2
@@ -87,3 +90,44 @@ one_answer Command.Layout source written other left left2 one a b = one_reading 
 one_answer Command.Upgrade source written other left left2 one a b = one_reading Command.Upgrade source written other left left2 one a b
 one_answer Command.Audit source written other left left2 one a b = one_reading Command.Audit source written other left left2 one a b
 one_answer (Command.Gen number) source written other left left2 one a b = a ∙ sym b
+
+-- On one processor.
+
+module _ (image : Image) where
+  -- whatever the pick, there is one run
+  same_pick : (options options2 : Options) (run run2 : List Event) (last last2 : State) → options.cpus ≡ 1 → options2.cpus ≡ 1 → IsRunOf image options run last → IsRunOf image options2 run2 last2
+      → (run ≡ run2) × (last ≡ last2)
+  same_pick options options2 run run2 last last2 one one2 a b =
+      same_steps image run run2 last last2 a.ordered.steps b.ordered.steps a.described a.is_run b.is_run a.ordered.shows b.ordered.shows
+      (one-order image 1 None a.ordered.steps b.ordered.steps (subst (λ (n : ℕ). IsPickedRun image n None a.ordered.steps) one (a.ordered.any (omega (arith, one)) None))
+      (subst (λ (n : ℕ). IsPickedRun image n None b.ordered.steps) one2 (b.ordered.any (omega (arith, one2)) None)))
+
+  -- and it is that of a thread
+  same_thread : (options : Options) (closed : Closed Known) (run run2 : List Event) (last last2 : State) → options.cpus ≡ 1 → IsRunOf image options run last → IsThreadRun image 1 closed run2 last2
+      → (run ≡ run2) × (last ≡ last2)
+  same_thread options closed run run2 last last2 one a b =
+      same_steps image run run2 last last2 a.ordered.steps b.steps a.described a.is_run b.is_run a.ordered.shows b.shows
+      (one-order image 1 None a.ordered.steps b.steps (subst (λ (n : ℕ). IsPickedRun image n None a.ordered.steps) one (a.ordered.any (omega (arith, one)) None))
+      (b.picked (omega arith) None))
+
+-- two commands that read the same description, and write the same of an image
+two_readings : (command command2 : Command) (source written other : List ℕ) (left left2 : Option (List ℕ)) → ((input : List ℕ) → description_in command input ≡ description_in command2 input)
+    → ((image : Image) (trace trace2 : List ℕ) → Writes command image trace written → Writes command2 image trace2 other → written ≡ other)
+    → IsRead command (Some source) left written → IsRead command2 (Some source) left2 other → written ≡ other
+two_readings command command2 source written other left left2 same alike a b =
+    let input : b.input ≡ a.input = all_of_it _ left2 source b.input refl b.read.taken b.read.at_end ∙ sym (all_of_it _ left source a.input refl a.read.taken a.read.at_end) in
+    let described = subst (λ (d : List ℕ). Describes d b.output.image) (ap (description_in command2) input ∙ sym (same a.input)) b.output.is_of.described in
+    let image : b.output.image ≡ a.output.image = one_image (description_in command a.input) b.output.image a.output.image described a.output.is_of.described in
+    alike a.output.image a.output.trace b.output.trace a.output.writes (subst (λ (i : Image). Writes command2 i b.output.trace other) image b.output.writes)
+
+pub one_pick : (options options2 : Options) (source written other : List ℕ) (left left2 : Option (List ℕ)) → options.cpus ≡ 1 → options2.cpus ≡ 1
+    → Answers (Command.Sim options) (Some source) left written → Answers (Command.Sim options2) (Some source) left2 other → written ≡ other
+one_pick options options2 source written other left left2 one one2 =
+    two_readings (Command.Sim options) (Command.Sim options2) source written other left left2 (λ input. refl)
+    (λ image trace trace2 a b. a.3 ∙ same_told (text image) a.0 b.0 a.1 b.1 (same_pick image options options2 a.0 b.0 a.1 b.1 one one2 a.2 b.2) ∙ sym b.3)
+
+pub one_thread : (options : Options) (source written other : List ℕ) (left left2 : Option (List ℕ)) → options.cpus ≡ 1
+    → Answers (Command.Sim options) (Some source) left written → Answers (Command.Run 1) (Some source) left2 other → written ≡ other
+one_thread options source written other left left2 one =
+    two_readings (Command.Sim options) (Command.Run 1) source written other left left2 (λ input. refl)
+    (λ image trace trace2 a b. a.3 ∙ same_told (text image) a.0 b.1.0 a.1 b.1.1 (same_thread image options b.0 a.0 b.1.0 a.1 b.1.1 one a.2 b.1.2) ∙ sym b.1.3)

@@ -1,5 +1,6 @@
 pub mod Answered
 pub mod Audited
+pub mod Ended
 pub mod Inputs
 pub mod Messages
 pub mod Ordered

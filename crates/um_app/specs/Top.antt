@@ -26,12 +26,12 @@ use Rattle.um_app.specs.Upgraded.{IsUpgrade}
 
 -- One complete run of the access-matrix machine from an image, in the order of its processors. It has at most as many events as the
 -- image's weight, and obeys the laws of accesses, verdicts, origins, inheritances, service, lives and holds.
--- The image and the options name just one such run (`one_run` of um_scheduler, `every_order` of um_core).
+-- The image and the options name just one such run (`every_order` of um_core).
 pub record IsRunOf (image : Image) (options : Options) (run : List Event) (last : State) : Type 0 where
   pub described : IsDescribed image
   pub is_run : IsRun image run last
   pub complete : IsComplete last
-  pub ordered : IsOrdered image options run last
+  pub ordered : IsOrdered image options run
   pub few : length run ≤ weight image
   pub laws : ObeysLaws image run
 

@@ -22,9 +22,11 @@ use std::sync::Wait;
 use std::thread::Threads;
 use um_audit::Parts;
 use um_base::{Image, OutOfMemory};
+use um_closing::Closing;
 use um_command::{Command, Options};
 use um_image::{ImageFault, fault_text, print_image, read_image};
 use um_io::Gate;
+use um_texts::one_dump;
 use um_trace::SUMMARY_ROOM;
 
 /// How many bytes a description has at most.
@@ -48,9 +50,12 @@ fn run_text(alloc: Global, image: &Image, options: Options) -> Result<Vec<u8>, O
     requires cpus { IsFew options }
     ensures { IfOk result (λ text. IsRunText image.now options text.items) }
 {
-    let ran = ran(alloc, image, options)?;
-    let mut text = Vec::with_capacity(alloc, um_trace::text_room(&ran.events))?;
-    um_trace::trace_text(image, &ran.events, &ran.last, &mut text);
+    // the state that is read off the tables has the text of the run's last state
+    one_dump();
+    let sites = ran(alloc, image, options)?;
+    let events = sites.events();
+    let mut text = Vec::with_capacity(alloc, um_trace::text_room(events))?;
+    um_trace::trace_text(image, events, &Closing::new(image, &sites), &mut text);
     Ok(text)
 }
 
@@ -60,9 +65,11 @@ fn run_summary(alloc: Global, image: &Image, options: Options) -> Result<Vec<u8>
     requires cpus { IsFew options }
     ensures { IfOk result (λ text. IsRunSummary image.now options text.items) }
 {
-    let ran = ran(alloc, image, options)?;
+    // the same of the run's summary
+    one_dump();
+    let sites = ran(alloc, image, options)?;
     let mut text = Vec::with_capacity(alloc, SUMMARY_ROOM)?;
-    um_trace::summary_text(image, &ran.events, &ran.last, &mut text);
+    um_trace::summary_text(image, sites.events(), &Closing::new(image, &sites), &mut text);
     Ok(text)
 }
 

@@ -1,94 +1,37 @@
 //! Runs of images on logical processors.
 
-ghost use Rattle.std.specs.Prelude.{◌≡◌, ◌<◌, ◌≤◌, IfOk, List, length};
-ghost use Rattle.um_base.specs.{Lawful.{IsLawful}, Weight.{weight}};
+ghost use Rattle.std.specs.Prelude.{◌≤◌, IfOk};
+ghost use Rattle.um_base.specs.Lawful.{IsLawful};
 ghost use Rattle.um_command.specs.Words.{IsFew};
-ghost use Rattle.um_machine.specs.{Run.{IsComplete, IsRun}, State.{State}};
-ghost use Rattle.um_invariants.specs.Described.{IsDescribed};
-ghost use Rattle.um_trace.specs.Text.{text};
-ghost use Rattle.um_app.specs.{Ordered.{IsShown}, Top.{IsRunOf, NamesRun}};
+ghost use Rattle.um_machine.specs.State.{State};
+ghost use Rattle.um_app.specs.{Ended.{IsEnded}, Top.{IsRunOf}};
 
 use std::alloc::Global;
 use um_base::{Event, Image, OutOfMemory};
 use um_command::Options;
+use um_core::one_whole;
 use um_image::weight;
-use um_matrix::Matrix;
-use um_scheduler::{Ran, run};
+use um_order::one_order;
+use um_tables::Tables;
 
-/// The state that the events of a run lead to.
-pub fn replayed<'a>(
-    alloc: Global,
-    image: &'a Image,
-    events: &[Event],
-) -> Result<Matrix<'a>, OutOfMemory>
-    requires described { IsDescribed image.now }
-    requires run { (last : State) × IsRun image.now events.now last × IsComplete last }
-    ensures run { IfOk result (λ last. IsRun image.now events.now last) }
-    ensures complete { IfOk result (λ last. IsComplete last) }
-{
-    let mut last = Matrix::boot(alloc, image)?;
-    last.judge(events).unwrap();
-    Ok(last)
-}
-
-/// A complete run of an image on several processors, and the state that it leads to.
-fn played<'a>(alloc: Global, image: &'a Image, options: Options) -> Result<Ran<'a>, OutOfMemory>
-    requires described { IsDescribed image.now }
-    requires cpus { IsFew options }
-    ensures run { IfOk result (λ ran. IsRun image.now ran.events.items ran.last) }
-    ensures complete { IfOk result (λ ran. IsComplete ran.last) }
-    ensures shown { IfOk result (λ ran. IsShown image.now options ran.events.items) }
-    ensures few { IfOk result (λ ran. length ran.events.items ≤ weight image.now) }
-{
-    let room = weight(image) as usize;
-    let events = um_core::run(alloc, image, options.cpus, options.pick, room)?;
-    let last = replayed(alloc, image, events.as_slice())?;
-    Ok(Ran { events, last })
-}
-
-/// The run on several processors. Some of their steps show no event.
-fn several<'a>(alloc: Global, image: &'a Image, options: Options) -> Result<Ran<'a>, OutOfMemory>
+/// A complete run of an image, which obeys the laws, in tables: its events, and what its steps have left at the sites. The room for events is the
+/// image's weight.
+pub fn ran(alloc: Global, image: &Image, options: Options) -> Result<Tables, OutOfMemory>
     requires lawful { IsLawful image.now }
     requires cpus { IsFew options }
-    requires many { 1 < options.cpus }
-    ensures run { IfOk result (λ ran. IsRunOf image.now options ran.events.items ran.last) }
-    ensures names { IfOk result
-        (λ ran. NamesRun image.now (text image.now ran.events.items ran.last) ran.events.items) }
+    ensures { IfOk result (λ sites. IsEnded image.now options sites) }
 {
+    // on one processor the events are in order, and the steps are those of every pick
+    one_order();
+    one_whole();
     let _objects = image.objects.len();
-    played(alloc, image, options)
-}
-
-/// The run on one processor, by the turns of its threads.
-fn alone<'a>(alloc: Global, image: &'a Image, options: Options) -> Result<Ran<'a>, OutOfMemory>
-    requires lawful { IsLawful image.now }
-    requires one { options.cpus ≡ 1 }
-    ensures run { IfOk result (λ ran. IsRunOf image.now options ran.events.items ran.last) }
-    ensures names { IfOk result
-        (λ ran. NamesRun image.now (text image.now ran.events.items ran.last) ran.events.items) }
-{
-    let _objects = image.objects.len();
-    run(
+    um_core::run(
         alloc,
         image,
         options.cpus,
         options.pick,
         weight(image) as usize,
     )
-}
-
-/// A complete run of an image, which obeys the laws, and the state that it leads to. The room for events is the image's weight.
-pub fn ran<'a>(alloc: Global, image: &'a Image, options: Options) -> Result<Ran<'a>, OutOfMemory>
-    requires lawful { IsLawful image.now }
-    requires cpus { IsFew options }
-    ensures run { IfOk result (λ ran. IsRunOf image.now options ran.events.items ran.last) }
-    ensures names { IfOk result
-        (λ ran. NamesRun image.now (text image.now ran.events.items ran.last) ran.events.items) }
-{
-    if options.cpus == 1 {
-        return alone(alloc, image, options);
-    }
-    several(alloc, image, options)
 }
 
 /// The events of a complete run of an image by 1 to 8 processors, which are preferred one after another, or as a seed picks
@@ -106,6 +49,6 @@ pub fn sim_events(
         (λ events. (last : State)
         × IsRunOf image.now (record { cpus = cpus; pick = pick }) events.items last) }
 {
-    let ran = ran(alloc, image, Options { cpus, pick })?;
-    Ok(ran.events)
+    let sites = ran(alloc, image, Options { cpus, pick })?;
+    Ok(sites.into_events())
 }

@@ -2,11 +2,11 @@
 
 ghost use Rattle.std.specs.Prelude.{◌≡◌, ◌≤◌, IfOk, length};
 ghost use Rattle.um_base.specs.{Lawful.{IsLawful}, Weight.{weight}};
-ghost use Rattle.um_machine.specs.Run.{IsComplete, IsRun};
+ghost use Rattle.um_machine.specs.{Run.{IsComplete, IsRun}, State.{State}};
+ghost use Rattle.um_invariants.specs.Described.{IsDescribed};
 ghost use Rattle.um_trace.specs.Text.{text};
 ghost use Rattle.um_app.specs.{Threaded.{IsThreadRun, MayRun}, Top.{IsThreadRunText, NamesRun}};
 
-use crate::sim::replayed;
 use std::alloc::Global;
 use std::sync::Wait;
 use std::thread::Threads;
@@ -19,6 +19,22 @@ use um_io::Gate;
 use um_matrix::Matrix;
 use um_order::one_order;
 use um_site::Closed;
+
+/// The state that the events of a run lead to.
+fn replayed<'a>(
+    alloc: Global,
+    image: &'a Image,
+    events: &[Event],
+) -> Result<Matrix<'a>, OutOfMemory>
+    requires described { IsDescribed image.now }
+    requires run { (last : State) × IsRun image.now events.now last × IsComplete last }
+    ensures run { IfOk result (λ last. IsRun image.now events.now last) }
+    ensures complete { IfOk result (λ last. IsComplete last) }
+{
+    let mut last = Matrix::boot(alloc, image)?;
+    last.judge(events).unwrap();
+    Ok(last)
+}
 
 /// A complete run of an image whose processors are threads, the state that it leads to, and the board on which it was made.
 struct ThreadRun<'a> {

@@ -1,4 +1,5 @@
+pub mod CoreSteps
+pub mod Cores
+pub mod Ended
 pub mod Moments
 pub mod PickedRun
-pub mod Cores
-pub mod CoreSteps

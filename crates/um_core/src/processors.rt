@@ -14,7 +14,7 @@ ghost use Rattle.um_core.specs.{
 
 use std::alloc::Global;
 use std::marker::Model;
-use um_base::{Event, Image, OutOfMemory};
+use um_base::{Image, OutOfMemory};
 use um_fine_measure::longest_fine_run;
 use um_opening::opening;
 use um_processor::{Processor, Turn};
@@ -111,10 +111,10 @@ impl Core {
         false
     }
 
-    /// The events that its steps have shown, in their order.
-    pub fn into_events(self) -> Vec<Event>
-        ensures { result.items ≡ self.sites.log }
+    /// What its steps have left at the sites, with the events that they have shown, in their order.
+    pub fn into_sites(self) -> Tables
+        ensures { result ≡ self.sites }
     {
-        self.sites.into_events()
+        self.sites
     }
 }

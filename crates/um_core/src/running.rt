@@ -1,34 +1,34 @@
-//! A whole run of several processors.
+//! A whole run of processors.
 
-ghost use Rattle.std.specs.Prelude.{◌≡◌, ◌≤◌, IfOk, List, length};
+ghost use Rattle.std.specs.Prelude.{◌≤◌, IfOk};
 ghost use Rattle.um_base.specs.{Lawful.{IsLawful}, Weight.{weight}};
 ghost use Rattle.um_invariants.specs.Described.{IsDescribed};
-ghost use Rattle.um_fine.specs.{Erasure.{shown}, Steps.{FineStep}};
-ghost use Rattle.um_refinement.specs.{Room.{CanRun}, Shows.{AreCompleteRun}};
-ghost use Rattle.um_core.specs.PickedRun.{IsPickedRun};
+ghost use Rattle.um_refinement.specs.Room.{CanRun};
+ghost use Rattle.um_core.specs.Ended.{HasEnded, HasStopped};
 
 use crate::laws::every_order;
+use crate::order::Order;
 use crate::processors::Core;
 use std::alloc::Global;
-use um_base::{Event, Image, OutOfMemory};
+use um_base::{Image, OutOfMemory};
+use um_closing::every_closing;
 use um_fine_measure::longest_fine_run;
-use um_scheduler::Order;
+use um_tables::Tables;
 
-/// Runs this many processors in the order of a pick, and returns the events that they show.
+/// Runs this many processors in the order of a pick, and returns what they leave at the sites.
 fn picked(
     alloc: Global,
     image: &Image,
     cpus: u8,
     pick: Option<u64>,
     most: usize,
-) -> Result<Vec<Event>, OutOfMemory>
+) -> Result<Tables, OutOfMemory>
     requires described { IsDescribed image.now }
     requires can { CanRun image.now cpus }
     requires room { weight image.now ≤ most }
-    ensures { IfOk result
-        (λ events. (steps : List FineStep) × IsPickedRun image.now cpus pick steps
-        × (events.items ≡ shown steps)) }
+    ensures { IfOk result (λ sites. HasStopped image.now cpus pick sites) }
 {
+    // no run has more steps than the image's weight
     longest_fine_run();
     let mut core = Core::boot(alloc, image, cpus, most)?;
     let mut order = Order::new(pick);
@@ -36,30 +36,28 @@ fn picked(
     'turns: while core.next(image, order.next(cpus)) {
         count += 1;
     }
-    Ok(core.into_events())
+    Ok(core.into_sites())
 }
 
-/// Makes a complete run of an image on this many processors of the fine machine, and returns its events. Processors are preferred one after
-/// another, or in an order drawn from a seed. All memory is taken before the first step: room for `most` events, which is at least the
-/// image's weight.
+/// Makes a complete run of an image on this many processors of the fine machine, and returns its events, with what its steps have left at the
+/// sites. Processors are preferred one after another, or in an order drawn from a seed. All memory is taken before the first step: room for
+/// `most` events, which is at least the image's weight.
 pub fn run(
     alloc: Global,
     image: &Image,
     cpus: u8,
     pick: Option<u64>,
     most: usize,
-) -> Result<Vec<Event>, OutOfMemory>
+) -> Result<Tables, OutOfMemory>
     requires lawful { IsLawful image.now }
     requires some { 1 ≤ cpus }
     requires few { cpus ≤ 8 }
     requires room { weight image.now ≤ most }
-    ensures run { IfOk result (λ events. AreCompleteRun image.now events.items) }
-    ensures picked { IfOk result
-        (λ events. (steps : List FineStep) × IsPickedRun image.now cpus pick steps
-        × (events.items ≡ shown steps)) }
-    ensures few { IfOk result (λ events. length events.items ≤ weight image.now) }
+    ensures { IfOk result (λ sites. HasEnded image.now cpus pick sites) }
 {
+    // the run is a fine run, whose steps are no more than the weight, and its last state is read off the sites
     every_order();
+    every_closing();
     longest_fine_run();
     let _objects = image.objects.len();
     let _domains = image.domains.len();

@@ -1,5 +1,6 @@
 use Rattle.std.proofs.Common.{◌≡◌, ℕ, ◌+◌, ◌≤◌, ◌∙◌, ap, arith}
 use Rattle.um_steps.specs.Given.{IsGiven}
+use Rattle.um_tables.specs.Sited.{Sited, state_at}
 use Rattle.um_core.specs.Cores.{Core}
 use Rattle.um_core.proofs.CoreRuns.{new-most, so-goes, so-opens, so-over, so-short}
 use Rattle.um_core.proofs.running.picked.Goals as goal
@@ -49,6 +50,13 @@ turns-preserved c =
 
 pub returns : goal.returns
 returns c =
-    let over = so-over c.args.image.now c.args.cpus c.requires.described c.requires.can c.longest_fine_run.ensures c.args.pick c.turns.count c.turns.core c.turns.order c.turns.invariant.so_far c.turns.invariant.room
+    let so = c.turns.invariant.so_far in
+    let over = so-over c.args.image.now c.args.cpus c.requires.described c.requires.can c.longest_fine_run.ensures c.args.pick c.turns.count c.turns.core c.turns.order so c.turns.invariant.room
     c.next.result c.next.ensures.within (c.next-in-turns.ensures.halts c.turns-test.false) in
-    (c.turns.invariant.so_far.done, over.0, c.into_events.ensures ∙ (ap (λ (core : Core). core.sites.log) (c.next-in-turns.ensures.same c.turns-test.false) ∙ over.1))
+    let same = c.into_sites.ensures ∙ ap (λ (core : Core). core.sites) (c.next-in-turns.ensures.same c.turns-test.false) in
+    record {
+      steps = so.done;
+      picked = over.0;
+      shows = ap (λ (sites : Sited). sites.log) same ∙ over.1;
+      at = λ i there. ap (λ (sites : Sited). state_at sites i) same ∙ so.stands.at i there;
+    }

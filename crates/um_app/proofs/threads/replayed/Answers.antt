@@ -4,7 +4,7 @@ use Rattle.um_machine.specs.Run.{IsComplete, IsRun, Runs}
 use Rattle.um_machine.specs.State.{State}
 use Rattle.um_matrix.specs.Offered.{IsRefusedAt}
 use Rattle.um_app.proofs.Replays.{none-refused, ok-unless, one-end}
-use Rattle.um_app.proofs.sim.replayed.Goals as goal
+use Rattle.um_app.proofs.threads.replayed.Goals as goal
 
 pub unwrap-requires : goal.unwrap-requires
 unwrap-requires c =
