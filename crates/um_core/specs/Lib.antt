@@ -1,3 +1,4 @@
+pub mod Order
 pub mod Moments
 pub mod PickedRun
 pub mod Cores

@@ -8,11 +8,11 @@ ghost use Rattle.um_refinement.specs.{Room.{CanRun}, Shows.{AreCompleteRun}};
 ghost use Rattle.um_core.specs.PickedRun.{IsPickedRun};
 
 use crate::laws::every_order;
+use crate::order::Order;
 use crate::processors::Core;
 use std::alloc::Global;
 use um_base::{Event, Image, OutOfMemory};
 use um_fine_measure::longest_fine_run;
-use um_scheduler::Order;
 
 /// Runs this many processors in the order of a pick, and returns the events that they show.
 fn picked(
