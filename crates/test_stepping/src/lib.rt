@@ -1,5 +1,5 @@
-//! Tests of the machine's steps and of the turns that processors take: a run step by step, a list of events that is
-//! judged, and the order of processors. No code.
+//! Tests of the machine's steps and of the order of processors: a run step by step, a list of events that is judged, and
+//! the words of a seed. No code.
 #![tactic(auto)]
 
 #[cfg(test)]

@@ -1,7 +1,7 @@
 //! What is written follows from the words and the input.
 
 ghost use Rattle.std.specs.Prelude.{◌≡◌, ℕ, IsTrue, List, Option, Some};
-ghost use Rattle.um_command.specs.declared.{command.Command.{Command}, options.Options.{Options}};
+ghost use Rattle.um_command.specs.declared.{command.Command.{Command}, command.Options.{Options}};
 ghost use Rattle.um_app.specs.{Inputs.{has_one_answer}, Top.{Answers}};
 
 /// The law over what commands write for what their source holds.

@@ -9,9 +9,9 @@ use Rattle.um_fine.specs.Opening.{s_start}
 use Rattle.um_fine.specs.Processor.{idle}
 use Rattle.um_fine.specs.Sites.{is_site}
 use Rattle.um_fine.specs.Steps.{FineStep, Site}
-use Rattle.um_scheduler.specs.declared.order.Order.{Order}
-use Rattle.um_scheduler.specs.Order.{coming, preferred}
-use Rattle.um_scheduler.proofs.ScheduledLemmas.{Left, all-left, none-preferred, order-first, order-left}
+use Rattle.um_core.specs.declared.order.Order.{Order}
+use Rattle.um_core.specs.Order.{coming, preferred}
+use Rattle.um_core.proofs.OrderLemmas.{Left, all-left, none-preferred, order-first, order-left}
 use Rattle.um_tables.specs.Sited.{IsSized, state_at}
 use Rattle.um_tables.proofs.Noted.{made-most}
 use Rattle.um_refinement.specs.Room.{CanRun}

@@ -4,7 +4,8 @@
 -- (SitesThere, by NamedThreads and NamedSteps), and it has few objects to clean (CleaningsFew). Refusals tells when no step of a processor
 -- may follow. StepsOn and CoreRefusals say the same of a core with tables: how it goes on (SitesSet has what a step leaves of tables), and
 -- when nobody goes on. LogRoom: a log has room for what is shown. CoreTurns has what comes of a processor's turn in code, CoreExact what
--- that does to the run so far, and CoreRuns how a core goes on as an order of processors picks its steps (Picked), until all halt.
+-- that does to the run so far, and CoreRuns how a core goes on as an order of processors (OrderLemmas) picks its steps (Picked), until all
+-- halt.
 pub mod Filling
 pub mod OneStep
 pub mod Sorts
@@ -22,6 +23,7 @@ pub mod SitesSet
 pub mod StepsOn
 pub mod CoreRefusals
 pub mod LogRoom
+mod OrderLemmas
 pub mod Picked
 pub mod CoreExact
 pub mod CoreTurns

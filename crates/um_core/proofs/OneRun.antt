@@ -11,7 +11,7 @@ use Rattle.um_fine.specs.Steps.{FineStep}
 use Rattle.um_fine.proofs.FineRuns.{runs_push}
 use Rattle.um_fine.proofs.Keys.{same-itself, same-sound}
 use Rattle.rand_pcg.specs.Pcg.{pcg32}
-use Rattle.um_scheduler.specs.Order.{drawn_from, preferred, round_from, seeded}
+use Rattle.um_core.specs.Order.{drawn_from, preferred, round_from, seeded}
 use Rattle.um_core.specs.PickedRun.{ArePicked, IsOver, IsPicked, IsPickedRun, MayFollow, behind, processor_after, site_after}
 use Rattle.um_core.proofs.OneStep.{one-step}
 use Rattle.um_core.proofs.Sorts.{sorts-after}

@@ -12,7 +12,7 @@ use Rattle.um_fine.specs.Steps.{FineStep}
 use Rattle.um_fine.proofs.FineRuns.{by_last, runs_pop}
 use Rattle.um_fine.proofs.Keys.{same-itself, same-sound}
 use Rattle.rand_pcg.specs.Pcg.{pcg32}
-use Rattle.um_scheduler.specs.Order.{drawn_from, round_from, seeded}
+use Rattle.um_core.specs.Order.{drawn_from, round_from, seeded}
 use Rattle.um_core.specs.PickedRun.{ArePicked, IsOver, IsPicked, IsPickedRun, MayFollow}
 use Rattle.um_core.proofs.OneRun.{one-run}
 

@@ -2,4 +2,5 @@ pub mod CoreSteps
 pub mod Cores
 pub mod Ended
 pub mod Moments
+pub mod Order
 pub mod PickedRun

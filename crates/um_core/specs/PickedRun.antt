@@ -8,7 +8,7 @@ use Rattle.um_fine.specs.Processor.{Processor}
 use Rattle.um_fine.specs.Runs.{state_at}
 use Rattle.um_fine.specs.Sites.{SiteMay, SiteState, s_next, same_site}
 use Rattle.um_fine.specs.Steps.{FineStep, Site}
-use Rattle.um_scheduler.specs.Order.{preferred}
+use Rattle.um_core.specs.Order.{preferred}
 
 -- what steps leave of a processor, and of a site
 abbrev pub processor_after : Image → List FineStep → ℕ → Processor

@@ -2,9 +2,11 @@
 #![tactic(auto)]
 
 mod laws;
+mod order;
 mod processors;
 mod running;
 
 pub use laws::{every_moment, every_order, one_whole};
+pub use order::Order;
 pub use processors::Core;
 pub use running::run;

@@ -8,10 +8,10 @@ use std::alloc::Global;
 use std::env::{self, Env};
 use std::process::ExitCode;
 use um_base::{Image, OutOfMemory};
+use um_core::run;
 use um_image::{read_image, weight};
 use um_io::{StdSource, read_all};
 use um_matrix::Matrix;
-use um_scheduler::run;
 
 /// The most bytes of a description.
 const MOST: u32 = 0x10_0000;
@@ -36,12 +36,13 @@ fn judged(alloc: Global, image: &Image, passes: Passes) -> Result<u64, OutOfMemo
     requires { IsLawful image.now }
 {
     let ran = run(alloc, image, 1, None, weight(image) as usize)?;
+    let events = ran.events();
     let mut steps: u64 = 0;
     for pass in 0..passes.boots {
         let mut matrix = Matrix::boot(alloc, image)?;
         if pass < passes.judged {
-            if let Ok(()) = matrix.judge(ran.events.as_slice()) {
-                steps = steps.saturating_add(ran.events.len() as u64);
+            if let Ok(()) = matrix.judge(events) {
+                steps = steps.saturating_add(events.len() as u64);
             }
         }
     }

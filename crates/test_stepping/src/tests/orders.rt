@@ -1,19 +1,10 @@
-//! The orders of threads and processors.
+//! The order of processors, and lists in which threads stand.
 
 ghost use Rattle.std.specs.Prelude.{◌≡◌, [], ◌∷◌};
 ghost use Rattle.um_invariants.specs.Lines.{all_join};
 
 use std::test::Fail;
-use um_scheduler::Order;
-
-#[test]
-fn processors_go_round(rt: HostRuntime) -> Result<(), Fail> {
-    let mut order = Order::new(None);
-    for preferred in [0, 1, 2, 0, 1] {
-        assert_eq!(rt; order.next(3), preferred);
-    }
-    Ok(())
-}
+use um_core::Order;
 
 #[test]
 fn processors_fall_as_the_words_of_a_seed(rt: HostRuntime) -> Result<(), Fail> {

@@ -83,7 +83,7 @@ module _ (image : Image) (b : Board) where
         pools = pools_at_site (site_in b Site.heap);
       }
 
--- no site keeps the priority of a thread that has ended
+-- a thread's line with no priority
 abbrev pub without_priority : ThreadLine → ThreadLine
 without_priority (unborn t) = unborn t
 without_priority (started t standing mode priority domain) = started t standing mode (pos 0) domain

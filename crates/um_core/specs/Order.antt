@@ -3,7 +3,7 @@ use Rattle.std.specs.Prelude.{ℕ, zero, suc, ◌+◌, ◌%◌, List, [], ◌∷
 use Rattle.rand_core.specs.Pcg32Seed.{pcg32_seed}
 use Rattle.rand_pcg.specs.Lcg.{Lcg}
 use Rattle.rand_pcg.specs.Pcg.{pcg32, pcg32_of_seed}
-use Rattle.um_scheduler.specs.declared.order.Order.{Order}
+use Rattle.um_core.specs.declared.order.Order.{Order}
 
 -- The processors at n turns from turn i on, one after another, going round.
 abbrev pub round_from : ℕ → ℕ → ℕ → List ℕ

@@ -1,6 +1,6 @@
 use Rattle.std.proofs.Common.{◌∷◌, ◌%◌, List, ℕ, ap, sym}
-use Rattle.um_scheduler.proofs.OrderLemmas.{round-on}
-use Rattle.um_scheduler.proofs.order.Order.next.Goals as goal
+use Rattle.um_core.proofs.OrderLemmas.{round-on}
+use Rattle.um_core.proofs.order.Order.next.Goals as goal
 
 pub returns-in-Round-clause-first : goal.returns-in-Round-clause-first
 returns-in-Round-clause-first c = λ n.

@@ -1,7 +1,7 @@
 //! Which processor is preferred at each turn.
 
 ghost use Rattle.std.specs.Prelude.{◌≡◌, ◌<◌, ◌≤◌, ◌∷◌, ℕ, suc};
-ghost use Rattle.um_scheduler.specs.Order.{coming, preferred};
+ghost use Rattle.um_core.specs.Order.{coming, preferred};
 
 use rand_core::SeedableRng;
 use rand_core::utils::NextWord;

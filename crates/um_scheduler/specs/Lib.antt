@@ -1,3 +1,0 @@
-pub mod Order
-pub mod Schedule
-pub mod Scheduled
