@@ -1,5 +1,5 @@
 -- The first place in a list, looked for one place after another.
-use Rattle.std.proofs.Common.{◌≡◌, ◌+◌, ◌<◌, ◌∙◌, ℕ, Bool, true, false, List, ◌∷◌, Option, Some, ap, drop, length, slice_index_or, if◌then◌else◌}
+use Rattle.std.proofs.Common.{◌≡◌, ◌+◌, ◌<◌, ◌∙◌, ℕ, Bool, List, Some, ap, drop, length, slice_index_or, if◌then◌else◌}
 use Rattle.std.proofs.lemmas.List.{at_drop_more}
 use Rattle.std.specs.List.{position_from}
 use Rattle.um_machine.specs.declared.object.Object.{Object}

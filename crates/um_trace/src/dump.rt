@@ -14,16 +14,16 @@ mod threads;
 use crate::indexed::Indexed;
 use crate::room::put_text;
 use um_base::{PARTITION_AREA, STACK_AREA};
-use um_matrix::Matrix;
+use um_steps::Dumped;
 
 /// How many bytes a dump takes at most.
 pub const DUMP_ROOM: usize = 3_000_000;
 
 /// The dump of a state: threads, objects, domains, pools and memory.
 #[tactic(auto, unfolding(crate::specs::Dump::dump))]
-pub fn put_dump(room: &mut Vec<u8>, image: &Indexed, last: &Matrix)
+pub fn put_dump<D: Dumped>(room: &mut Vec<u8>, image: &Indexed, last: &D)
     requires { vec_len room.old + DUMP_ROOM ≤ vec_capacity room.old }
-    ensures { Puts room.old room.new (dump image.now last.now) DUMP_ROOM }
+    ensures { Puts room.old room.new (dump image.now (D.state last.now)) DUMP_ROOM }
 {
     put_text(room, "dump\n");
     threads::put_threads(room, image.image(), last);

@@ -9,7 +9,7 @@ use crate::names::put_thread;
 use crate::room::put_space;
 use crate::trace::{put_event, woken_by};
 use um_base::{Event, Image, THREADS};
-use um_matrix::Matrix;
+use um_steps::Dumped;
 
 /// How many bytes a line takes at most.
 pub const LINE_ROOM: usize = 128 + 64 * THREADS;
@@ -37,9 +37,9 @@ pub fn thread_beginning(image: &Image, thread: u8, room: &mut Vec<u8>)
 }
 
 /// Writes the dump of a state in place of what stands in a room. The room is reserved, so it takes no memory.
-pub fn dump_text(image: &Image, last: &Matrix, room: &mut Vec<u8>)
+pub fn dump_text<D: Dumped>(image: &Image, last: &D, room: &mut Vec<u8>)
     requires { DUMP_ROOM ≤ vec_capacity room.old }
-    ensures { room.new.items ≡ dump image.now last.now }
+    ensures { room.new.items ≡ dump image.now (D.state last.now) }
 {
     room.clear();
     put_dump(room, &Indexed::of_text(image), last);

@@ -10,7 +10,7 @@ use crate::room::{put_count, put_newline, put_space, put_text};
 use crate::summary::events::{Counted, events_that};
 use crate::summary::threads::{Shown, threads_that};
 use um_base::{Event, Image};
-use um_matrix::Matrix;
+use um_steps::Dumped;
 
 /// How many bytes a summary takes at most.
 pub const SUMMARY_ROOM: usize = 288;
@@ -31,9 +31,9 @@ fn put_line(room: &mut Vec<u8>, word: &str, count: usize)
 /// Appends the summary of a run: counts of its events, and of the threads that the dump of its last state shows. The room is reserved, so
 /// it takes no memory.
 #[tactic(auto, unfolding(crate::specs::Summary::summary_text))]
-pub fn summary_text(image: &Image, events: &[Event], last: &Matrix, room: &mut Vec<u8>)
+pub fn summary_text<D: Dumped>(image: &Image, events: &[Event], last: &D, room: &mut Vec<u8>)
     requires room { vec_len room.old + SUMMARY_ROOM ≤ vec_capacity room.old }
-    ensures text { room.new.items ≡ room.old.items ++ summary_text image.now events.now last.now }
+    ensures text { room.new.items ≡ room.old.items ++ summary_text image.now events.now (D.state last.now) }
     ensures capacity { vec_capacity room.old ≤ vec_capacity room.new }
 {
     put_line(room, "events", events.len());

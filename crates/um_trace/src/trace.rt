@@ -13,7 +13,7 @@ use crate::memory::put_act;
 use crate::names::put_thread;
 use crate::room::{put_newline, put_space};
 use um_base::{Act, Event, Image};
-use um_matrix::Matrix;
+use um_steps::Dumped;
 
 /// How many threads an act wakes.
 pub fn woken_by(act: &Act) -> usize
@@ -68,9 +68,9 @@ fn put_events(room: &mut Vec<u8>, image: &Indexed, events: &[Event])
 
 /// Appends the text of a run: a line for each event, and then the dump of the last state. The room is reserved, so it takes no memory.
 #[tactic(auto, unfolding(crate::specs::Text::text, crate::specs::Text::room_for))]
-pub fn trace_text(image: &Image, events: &[Event], last: &Matrix, room: &mut Vec<u8>)
+pub fn trace_text<D: Dumped>(image: &Image, events: &[Event], last: &D, room: &mut Vec<u8>)
     requires room { vec_len room.old + room_for events.now ≤ vec_capacity room.old }
-    ensures text { room.new.items ≡ room.old.items ++ text image.now events.now last.now }
+    ensures text { room.new.items ≡ room.old.items ++ text image.now events.now (D.state last.now) }
     ensures capacity { vec_capacity room.old ≤ vec_capacity room.new }
 {
     let image = Indexed::of_text(image);

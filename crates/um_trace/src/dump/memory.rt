@@ -1,8 +1,8 @@
 //! The memory of a dump: the blocks of 32 bytes that aren't all zero.
 
 ghost use Rattle.std.specs.{
-  Prelude.{◌≡◌, ◌==◌, ◌+◌, ◌*◌, ◌≤◌, ◌<◌, ◌^◌, IfSome, length, vec_len, vec_capacity},
-  List.{flat_map, list_all, range_with_len},
+  Prelude.{◌≡◌, ◌==◌, ◌+◌, ◌-◌, ◌*◌, ◌/◌, ◌≤◌, ◌<◌, IfSome, length, vec_len, vec_capacity},
+  List.{flat_map, list_all, range_with_len, slice_range},
 };
 ghost use Rattle.um_trace.specs.{Dump.{block_line, area_lines}, Room.{Puts}};
 
@@ -52,15 +52,25 @@ fn are_zero(bytes: &[u8]) -> bool
     each_is_zero(left)
 }
 
+/// The bytes from one place to another, as far as there are any.
+fn between(bytes: &[u8], from: usize, to: usize) -> &[u8]
+    requires { from ≤ to }
+    ensures value { result.now ≡ slice_range bytes.now from to }
+    ensures few { length result.now ≤ to - from }
+{
+    let end = to.min(bytes.len());
+    if from < end { &bytes[from..end] } else { &[] }
+}
+
 /// The line of the k-th block of an area, unless it is all zero.
 #[tactic(auto, unfolding(crate::specs::Dump::block, crate::specs::Dump::block_line))]
 fn put_block(room: &mut Vec<u8>, area: u32, bytes: &[u8], k: usize)
     requires room { vec_len room.old + 83 ≤ vec_capacity room.old }
-    requires within { BLOCK * k + BLOCK ≤ length bytes.now }
-    requires fits { area + length bytes.now < 2 ^ 32 }
+    requires within { k < BLOCKS }
+    requires place { area ≤ STACK_AREA }
     ensures { Puts room.old room.new (block_line area bytes.now k) 83 }
 {
-    let block = &bytes[BLOCK * k..BLOCK * k + BLOCK];
+    let block = between(bytes, BLOCK * k, BLOCK * k + BLOCK);
     if !are_zero(block) {
         put_text(room, "memory ");
         put_address(room, Addr(area + (BLOCK * k) as u32));
@@ -73,13 +83,13 @@ fn put_block(room: &mut Vec<u8>, area: u32, bytes: &[u8], k: usize)
 /// The lines of the blocks of a page, which is passed over where all of it is zero.
 fn put_page(room: &mut Vec<u8>, area: u32, bytes: &[u8], page: usize)
     requires room { vec_len room.old + 83 * PAGE ≤ vec_capacity room.old }
-    requires within { BLOCK * (PAGE * page) + BLOCK * PAGE ≤ length bytes.now }
-    requires fits { area + length bytes.now < 2 ^ 32 }
+    requires within { page < BLOCKS / PAGE }
+    requires place { area ≤ STACK_AREA }
     ensures { Puts room.old room.new
         (flat_map (block_line area bytes.now) (range_with_len (PAGE * page) PAGE)) (83 * PAGE) }
 {
     let first = PAGE * page;
-    if are_zero(&bytes[BLOCK * first..BLOCK * first + BLOCK * PAGE]) {
+    if are_zero(between(bytes, BLOCK * first, BLOCK * first + BLOCK * PAGE)) {
         return;
     }
     for k in 0..PAGE {
@@ -91,7 +101,6 @@ fn put_page(room: &mut Vec<u8>, area: u32, bytes: &[u8], page: usize)
 #[tactic(auto, unfolding(crate::specs::Dump::area_lines))]
 pub fn put_area(room: &mut Vec<u8>, area: u32, bytes: &[u8])
     requires room { vec_len room.old + 83 * BLOCKS ≤ vec_capacity room.old }
-    requires whole { length bytes.now ≡ AREA_SIZE }
     requires place { area ≤ STACK_AREA }
     ensures { Puts room.old room.new (area_lines area bytes.now) (83 * BLOCKS) }
 {

@@ -4,7 +4,7 @@ ghost use Rattle.std.specs.{
   Prelude.{◌≡◌, ◌+◌, ◌*◌, ◌≤◌, ◌<◌, ◌++◌, ◌&&◌, [], length, not, vec_len, vec_capacity, if◌then◌else◌},
   List.{flat_map},
 };
-ghost use Rattle.um_machine.specs.State.{pair_at};
+ghost use Rattle.um_machine.specs.State.{object_at, pair_at};
 ghost use Rattle.um_trace.specs.{
   Dump.{numbers, lead, state_word, flag_word, marks_text, holders_text, owner_text, kept_text, digits_text, name_text, content_text, object_line, object_line_of},
   Names.{thread_text},
@@ -12,14 +12,14 @@ ghost use Rattle.um_trace.specs.{
 };
 
 use crate::dump::lists::{put_lead, put_share};
-use crate::dump::state::{is_shown, object_at, pair_at};
+use crate::dump::state::is_shown;
 use crate::indexed::Indexed;
 use crate::names::{put_row, put_thread};
 use crate::room::{put_bytes, put_decimal, put_newline, put_short, put_space, put_text};
 use crate::words::any_kind_word;
 use um_base::{Kind, PIECE, ROWS, THREADS, ThreadIx};
-use um_machine::{Contents, Object, Status};
-use um_matrix::Matrix;
+use um_machine::{Contents, Status};
+use um_steps::Dumped;
 
 /// How many bytes the holders of an object take at most: each a name and a comma.
 const HOLDERS_ROOM: usize = 25 * THREADS + 1;
@@ -29,13 +29,14 @@ const OBJECT_ROOM: usize = HOLDERS_ROOM + 600;
 
 /// Whether an object is initialised, or gone.
 #[tactic(auto, unfolding(crate::specs::Dump::state_word))]
-fn state_word(object: &Object) -> &'static str
-    ensures value { result.now ≡ state_word object.now }
+fn state_word<D: Dumped>(last: &D, row: usize) -> &'static str
+    requires { row < ROWS }
+    ensures value { result.now ≡ state_word (object_at (D.state last.now) row) }
     ensures short { length result.now ≤ 6 }
 {
-    if object.status == Status::Gone {
+    if last.status(row) == Status::Gone {
         "gone"
-    } else if object.init {
+    } else if last.is_initialised(row) {
         "init"
     } else {
         "uninit"
@@ -53,15 +54,16 @@ fn flag_word(public: bool) -> &'static str
 
 /// An object's kind, state and flag.
 #[tactic(auto, unfolding(crate::specs::Dump::marks_text))]
-fn put_marks(room: &mut Vec<u8>, object: &Object)
-    requires { vec_len room.old + 27 ≤ vec_capacity room.old }
-    ensures { Puts room.old room.new (marks_text object.now) 27 }
+fn put_marks<D: Dumped>(room: &mut Vec<u8>, last: &D, row: usize)
+    requires room { vec_len room.old + 27 ≤ vec_capacity room.old }
+    requires row { row < ROWS }
+    ensures { Puts room.old room.new (marks_text (object_at (D.state last.now) row)) 27 }
 {
-    put_short(room, any_kind_word(object.kind));
+    put_short(room, any_kind_word(last.kind(row)));
     put_space(room);
-    put_text(room, state_word(object));
+    put_text(room, state_word(last, row));
     put_space(room);
-    put_text(room, flag_word(object.public));
+    put_text(room, flag_word(last.is_public(row)));
 }
 
 /// A thread, if it has a permission on an object, with a comma before it if it isn't the first. Returns whether the first is still to come.
@@ -80,14 +82,14 @@ fn put_holder(room: &mut Vec<u8>, image: &Indexed, holds: bool, thread: u8, firs
 
 /// The threads that have a pair with an object, by index.
 #[tactic(auto, unfolding(crate::specs::Dump::holders_text))]
-fn put_holders(room: &mut Vec<u8>, image: &Indexed, last: &Matrix, row: usize)
+fn put_holders<D: Dumped>(room: &mut Vec<u8>, image: &Indexed, last: &D, row: usize)
     requires room { vec_len room.old + HOLDERS_ROOM ≤ vec_capacity room.old }
     requires row { row < ROWS }
-    ensures { Puts room.old room.new (holders_text image.now last.now row) HOLDERS_ROOM }
+    ensures { Puts room.old room.new (holders_text image.now (D.state last.now) row) HOLDERS_ROOM }
 {
     let mut first = true;
     for thread in 0..THREADS {
-        first = put_holder(room, image, pair_at(last, thread, row), thread as u8, first);
+        first = put_holder(room, image, last.has_pair(thread, row), thread as u8, first);
     }
     if first {
         put_text(room, "-");
@@ -133,6 +135,20 @@ fn put_kept(room: &mut Vec<u8>, image: &Indexed, contents: &Contents)
     }
 }
 
+/// What the object of a row keeps, if it is initialised.
+#[tactic(auto, unfolding(crate::specs::Dump::kept_text))]
+fn put_kept_at<D: Dumped>(room: &mut Vec<u8>, image: &Indexed, last: &D, row: usize)
+    requires room { vec_len room.old + 35 ≤ vec_capacity room.old }
+    requires row { row < ROWS }
+    ensures { Puts room.old room.new
+        (kept_text image.now (object_at (D.state last.now) row).contents) 35 }
+{
+    match last.contents(row) {
+        Some(contents) => put_kept(room, image, contents),
+        None => put_text(room, "-"),
+    }
+}
+
 /// A name in digits, or a dash for none.
 #[tactic(auto, unfolding(crate::specs::Dump::digits_text))]
 fn put_digits(room: &mut Vec<u8>, name: &[u8])
@@ -149,28 +165,31 @@ fn put_digits(room: &mut Vec<u8>, name: &[u8])
 
 /// A thread's name.
 #[tactic(auto, unfolding(crate::specs::Dump::name_text))]
-fn put_name(room: &mut Vec<u8>, contents: &Contents)
-    requires { vec_len room.old + 512 ≤ vec_capacity room.old }
-    ensures { Puts room.old room.new (name_text contents.now) 512 }
+fn put_name_at<D: Dumped>(room: &mut Vec<u8>, last: &D, row: usize)
+    requires room { vec_len room.old + 512 ≤ vec_capacity room.old }
+    requires row { row < ROWS }
+    ensures { Puts room.old room.new (name_text (object_at (D.state last.now) row).contents) 512 }
 {
-    match contents {
-        Contents::Named(name) => put_digits(room, name.as_slice()),
+    match last.contents(row) {
+        Some(Contents::Named(name)) => put_digits(room, name.as_slice()),
         _ => put_text(room, "-"),
     }
 }
 
 /// What an object keeps.
 #[tactic(auto, unfolding(crate::specs::Dump::content_text))]
-fn put_content(room: &mut Vec<u8>, image: &Indexed, object: &Object)
-    requires { vec_len room.old + 512 ≤ vec_capacity room.old }
-    ensures { Puts room.old room.new (content_text image.now object.now) 512 }
+fn put_content<D: Dumped>(room: &mut Vec<u8>, image: &Indexed, last: &D, row: usize)
+    requires room { vec_len room.old + 512 ≤ vec_capacity room.old }
+    requires row { row < ROWS }
+    ensures { Puts room.old room.new
+        (content_text image.now (object_at (D.state last.now) row)) 512 }
 {
-    if object.status == Status::Gone {
+    if last.status(row) == Status::Gone {
         put_text(room, "-");
-    } else if object.kind == Some(Kind::Thread) {
-        put_name(room, &object.contents);
-    } else if object.init {
-        put_kept(room, image, &object.contents);
+    } else if last.kind(row) == Some(Kind::Thread) {
+        put_name_at(room, last, row);
+    } else if last.is_initialised(row) {
+        put_kept_at(room, image, last, row);
     } else {
         put_text(room, "-");
     }
@@ -178,29 +197,28 @@ fn put_content(room: &mut Vec<u8>, image: &Indexed, object: &Object)
 
 /// The line of an object.
 #[tactic(auto, unfolding(crate::specs::Dump::object_line))]
-fn put_object_line(room: &mut Vec<u8>, image: &Indexed, last: &Matrix, row: usize)
+fn put_object_line<D: Dumped>(room: &mut Vec<u8>, image: &Indexed, last: &D, row: usize)
     requires room { vec_len room.old + OBJECT_ROOM ≤ vec_capacity room.old }
     requires row { row < ROWS }
-    ensures { Puts room.old room.new (object_line image.now last.now row) OBJECT_ROOM }
+    ensures { Puts room.old room.new (object_line image.now (D.state last.now) row) OBJECT_ROOM }
 {
-    let object = object_at(last, row);
     put_text(room, "object ");
     put_row(room, image.image(), row);
     put_space(room);
-    put_marks(room, object);
+    put_marks(room, last, row);
     put_space(room);
     put_holders(room, image, last, row);
     put_space(room);
-    put_content(room, image, object);
+    put_content(room, image, last, row);
     put_newline(room);
 }
 
 /// The line of a row, where an object stands there.
 #[tactic(auto, unfolding(crate::specs::Dump::object_line_of))]
-fn put_line_of(room: &mut Vec<u8>, image: &Indexed, last: &Matrix, row: usize)
+fn put_line_of<D: Dumped>(room: &mut Vec<u8>, image: &Indexed, last: &D, row: usize)
     requires room { vec_len room.old + OBJECT_ROOM ≤ vec_capacity room.old }
     requires row { row < ROWS }
-    ensures { Puts room.old room.new (object_line_of image.now last.now row) OBJECT_ROOM }
+    ensures { Puts room.old room.new (object_line_of image.now (D.state last.now) row) OBJECT_ROOM }
 {
     if is_shown(image.image(), last, row) {
         put_object_line(room, image, last, row);
@@ -208,10 +226,10 @@ fn put_line_of(room: &mut Vec<u8>, image: &Indexed, last: &Matrix, row: usize)
 }
 
 /// The lines of objects, by row.
-pub fn put_objects(room: &mut Vec<u8>, image: &Indexed, last: &Matrix)
+pub fn put_objects<D: Dumped>(room: &mut Vec<u8>, image: &Indexed, last: &D)
     requires { vec_len room.old + OBJECT_ROOM * ROWS ≤ vec_capacity room.old }
-    ensures { Puts room.old room.new (flat_map (object_line_of image.now last.now) (numbers ROWS))
-        (OBJECT_ROOM * ROWS) }
+    ensures { Puts room.old room.new
+        (flat_map (object_line_of image.now (D.state last.now)) (numbers ROWS)) (OBJECT_ROOM * ROWS) }
 {
     for row in 0..ROWS {
         put_line_of(room, image, last, row);

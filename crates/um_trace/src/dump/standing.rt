@@ -1,12 +1,13 @@
 //! How the threads of a dump are.
 
 ghost use Rattle.std.specs.{Prelude.{◌≡◌, ◌<◌, ◌≤◌, length, position, IfSome}, List.{list_any}};
+ghost use Rattle.um_machine.specs.State.{thread_at};
 ghost use Rattle.um_trace.specs.Dump.{is_waiter, awaited, waits, is_ended, standing_of, shown_thread};
 
 use crate::dump::state::{is_shown, thread_of_row};
-use um_base::{Image, ROWS, Row};
-use um_machine::{Life, Object, Thread};
-use um_matrix::Matrix;
+use um_base::{Image, ROWS, Row, Waiter};
+use um_machine::Life;
+use um_steps::Dumped;
 
 /// How a thread is.
 #[derive(Clone, Copy)]
@@ -20,25 +21,20 @@ pub enum Standing {
     Ready,
 }
 
-/// Whether a thread waits on an object.
-fn is_awaited(object: &Object, thread: u8) -> bool
-    ensures { result ≡ list_any (is_waiter thread) object.now.waiters }
+/// Whether a thread is one of these waiters.
+fn is_awaited(waiters: &[Waiter], thread: u8) -> bool
+    ensures { result ≡ list_any (is_waiter thread) waiters.now }
 {
-    object
-        .waiters
-        .as_slice()
-        .iter()
-        .any(|w| w.thread.0 == thread)
+    waiters.iter().any(|w| w.thread.0 == thread)
 }
 
 /// The row of the object in whose list of waiters a thread stands.
-fn awaited(last: &Matrix, thread: u8) -> Option<usize>
-    ensures value { result ≡ awaited last.now.objects thread }
+fn awaited<D: Dumped>(last: &D, thread: u8) -> Option<usize>
+    ensures value { result ≡ awaited (D.state last.now).objects thread }
     ensures few { IfSome result (λ x. x < ROWS) }
 {
-    let _first = last.object(0);
-    for x in 0..ROWS {
-        if is_awaited(last.object(x), thread) {
+    for x in 0..last.rows() {
+        if is_awaited(last.waiters(x), thread) {
             return Some(x);
         }
     }
@@ -58,14 +54,15 @@ fn waits(row: Option<usize>) -> Standing
 
 /// How a thread is: the first of these that holds.
 #[tactic(auto, unfolding(crate::specs::Dump::standing_of))]
-pub fn standing_of(last: &Matrix, thread: u8, me: &Thread) -> Standing
-    ensures { result ≡ standing_of last.now thread me.now }
+pub fn standing_of<D: Dumped>(last: &D, thread: u8) -> Standing
+    ensures { result ≡ standing_of (D.state last.now) thread (thread_at (D.state last.now) thread) }
 {
-    if me.life == Life::Unborn {
+    let life = last.life(thread as usize);
+    if life == Life::Unborn {
         Standing::Unborn
-    } else if me.doomed {
+    } else if last.is_doomed(thread as usize) {
         Standing::Doomed
-    } else if me.life == Life::Ended {
+    } else if life == Life::Ended {
         Standing::Ended
     } else {
         waits(awaited(last, thread))
@@ -74,9 +71,9 @@ pub fn standing_of(last: &Matrix, thread: u8, me: &Thread) -> Standing
 
 /// The thread that is shown for a row: the one whose object stands there.
 #[tactic(auto, unfolding(crate::specs::Dump::shown_thread))]
-pub fn shown_thread(image: &Image, last: &Matrix, row: usize) -> Option<u8>
+pub fn shown_thread<D: Dumped>(image: &Image, last: &D, row: usize) -> Option<u8>
     requires { row < ROWS }
-    ensures { result ≡ shown_thread image.now last.now row }
+    ensures { result ≡ shown_thread image.now (D.state last.now) row }
 {
     if is_shown(image, last, row) {
         thread_of_row(image, row)

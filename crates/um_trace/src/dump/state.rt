@@ -1,38 +1,20 @@
-//! What a dump reads of a state.
+//! Which rows a dump shows, and the threads whose objects stand there.
 
-ghost use Rattle.std.specs.Prelude.{◌≡◌, ◌<◌, not, slice_index, IfSome};
+ghost use Rattle.std.specs.Prelude.{◌≡◌, ◌<◌, not};
 ghost use Rattle.um_base.specs.Places.{thread_of_row, setup_thread, setup_at};
-ghost use Rattle.um_machine.specs.{State.{object_at, pair_at}, Objects.{is_free}};
 ghost use Rattle.um_trace.specs.Dump.{is_shown};
 
 use um_base::{Image, ROWS, STATIC_ROWS, STATIC_THREADS, Setup, THREADS};
-use um_machine::{Object, Status};
-use um_matrix::Matrix;
-
-/// The object of a row.
-pub fn object_at<'a>(last: &'a Matrix, row: usize) -> &'a Object
-    requires { row < ROWS }
-    ensures { result.now ≡ object_at last.now row }
-{
-    last.object(row)
-}
-
-/// Whether a thread has a pair with the object of a row.
-pub fn pair_at(last: &Matrix, thread: usize, row: usize) -> bool
-    requires thread { thread < THREADS }
-    requires row { row < ROWS }
-    ensures { result ≡ pair_at last.now thread row }
-{
-    last.pairs()[row][thread]
-}
+use um_machine::Status;
+use um_steps::Dumped;
 
 /// Whether a row is shown: one of a static object, or a dynamic one that isn't free.
 #[tactic(auto, unfolding(crate::specs::Dump::is_shown))]
-pub fn is_shown(image: &Image, last: &Matrix, row: usize) -> bool
+pub fn is_shown<D: Dumped>(image: &Image, last: &D, row: usize) -> bool
     requires { row < ROWS }
-    ensures { result ≡ is_shown image.now last.now row }
+    ensures { result ≡ is_shown image.now (D.state last.now) row }
 {
-    row < image.objects.len() || object_at(last, row).status != Status::Free
+    row < image.objects.len() || last.status(row) != Status::Free
 }
 
 /// The thread index that a row's setup gives.

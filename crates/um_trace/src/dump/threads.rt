@@ -11,8 +11,8 @@ use crate::dump::standing::{Standing, shown_thread, standing_of};
 use crate::names::{put_domain, put_row};
 use crate::room::{put_newline, put_short, put_signed, put_space, put_text};
 use um_base::{Image, ROWS};
-use um_machine::{Life, Thread};
-use um_matrix::Matrix;
+use um_machine::Life;
+use um_steps::Dumped;
 use um_vocabulary::mode_word;
 
 /// How a thread is.
@@ -35,62 +35,53 @@ fn put_standing(room: &mut Vec<u8>, image: &Image, standing: Standing)
 
 /// The mode, the priority and the domain of a thread that was started.
 #[tactic(auto, unfolding(crate::specs::Dump::rights_text))]
-fn put_rights(room: &mut Vec<u8>, image: &Image, me: &Thread)
+fn put_rights<D: Dumped>(room: &mut Vec<u8>, image: &Image, last: &D, thread: u8)
     requires { vec_len room.old + 41 ≤ vec_capacity room.old }
-    ensures { Puts room.old room.new (rights_text image.now me.now) 41 }
+    ensures { Puts room.old room.new
+        (rights_text image.now (thread_at (D.state last.now) thread)) 41 }
 {
-    if me.life != Life::Unborn {
+    let thread = thread as usize;
+    if last.life(thread) != Life::Unborn {
         put_space(room);
-        put_short(room, mode_word(me.mode));
+        put_short(room, mode_word(last.mode(thread)));
         put_space(room);
-        put_signed(room, me.priority);
+        put_signed(room, last.priority(thread));
         put_space(room);
-        put_domain(room, image, me.domain);
+        put_domain(room, image, last.domain(thread));
     }
 }
 
 /// What follows the object of a thread.
 #[tactic(auto, unfolding(crate::specs::Dump::life_text))]
-fn put_life(room: &mut Vec<u8>, image: &Image, last: &Matrix, thread: u8, me: &Thread)
+fn put_life<D: Dumped>(room: &mut Vec<u8>, image: &Image, last: &D, thread: u8)
     requires { vec_len room.old + 71 ≤ vec_capacity room.old }
-    ensures { Puts room.old room.new (life_text image.now last.now thread me.now) 71 }
+    ensures { Puts room.old room.new
+        (life_text image.now (D.state last.now) thread (thread_at (D.state last.now) thread)) 71 }
 {
-    put_standing(room, image, standing_of(last, thread, me));
-    put_rights(room, image, me);
-}
-
-/// The same of a thread index: past the last one nothing was started.
-#[tactic(auto, unfolding(crate::specs::Dump::life_text, crate::specs::Dump::standing_of, crate::specs::Dump::standing_text, crate::specs::Dump::rights_text))]
-fn put_life_at(room: &mut Vec<u8>, image: &Image, last: &Matrix, thread: u8)
-    requires { vec_len room.old + 71 ≤ vec_capacity room.old }
-    ensures { Puts room.old room.new (life_text image.now last.now thread (thread_at last.now thread)) 71 }
-{
-    match last.threads().get(thread as usize) {
-        Some(me) => put_life(room, image, last, thread, me),
-        None => put_text(room, "unborn"),
-    }
+    put_standing(room, image, standing_of(last, thread));
+    put_rights(room, image, last, thread);
 }
 
 /// The line of a thread and its row.
 #[tactic(auto, unfolding(crate::specs::Dump::thread_line))]
-fn put_thread_line(room: &mut Vec<u8>, image: &Image, last: &Matrix, row: usize, thread: u8)
+fn put_thread_line<D: Dumped>(room: &mut Vec<u8>, image: &Image, last: &D, row: usize, thread: u8)
     requires room { vec_len room.old + 128 ≤ vec_capacity room.old }
     requires row { row < ROWS }
-    ensures { Puts room.old room.new (thread_line image.now last.now row thread) 128 }
+    ensures { Puts room.old room.new (thread_line image.now (D.state last.now) row thread) 128 }
 {
     put_text(room, "thread ");
     put_row(room, image, row);
     put_space(room);
-    put_life_at(room, image, last, thread);
+    put_life(room, image, last, thread);
     put_newline(room);
 }
 
 /// The line of a row, where a thread object stands there.
 #[tactic(auto, unfolding(crate::specs::Dump::thread_line_of))]
-fn put_line_of(room: &mut Vec<u8>, image: &Image, last: &Matrix, row: usize)
+fn put_line_of<D: Dumped>(room: &mut Vec<u8>, image: &Image, last: &D, row: usize)
     requires room { vec_len room.old + 128 ≤ vec_capacity room.old }
     requires row { row < ROWS }
-    ensures { Puts room.old room.new (thread_line_of image.now last.now row) 128 }
+    ensures { Puts room.old room.new (thread_line_of image.now (D.state last.now) row) 128 }
 {
     match shown_thread(image, last, row) {
         Some(thread) => put_thread_line(room, image, last, row, thread),
@@ -99,10 +90,10 @@ fn put_line_of(room: &mut Vec<u8>, image: &Image, last: &Matrix, row: usize)
 }
 
 /// The lines of threads, by the rows of their objects.
-pub fn put_threads(room: &mut Vec<u8>, image: &Image, last: &Matrix)
+pub fn put_threads<D: Dumped>(room: &mut Vec<u8>, image: &Image, last: &D)
     requires { vec_len room.old + 128 * ROWS ≤ vec_capacity room.old }
-    ensures { Puts room.old room.new (flat_map (thread_line_of image.now last.now) (numbers ROWS))
-        (128 * ROWS) }
+    ensures { Puts room.old room.new
+        (flat_map (thread_line_of image.now (D.state last.now)) (numbers ROWS)) (128 * ROWS) }
 {
     for row in 0..ROWS {
         put_line_of(room, image, last, row);

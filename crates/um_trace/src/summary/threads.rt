@@ -1,12 +1,11 @@
 //! How many threads of a dump are as a summary counts them.
 
 ghost use Rattle.std.specs.Prelude.{◌≡◌, ◌<◌, ◌≤◌, if◌then◌else◌};
-ghost use Rattle.um_machine.specs.State.{thread_at};
-ghost use Rattle.um_trace.specs.{Dump.{standing_of, shown_thread}, Summary.{is_so, stands_so, threads_that}};
+ghost use Rattle.um_trace.specs.{Dump.{shown_thread}, Summary.{is_so, stands_so, threads_that}};
 
 use crate::dump::standing::{Standing, shown_thread, standing_of};
 use um_base::{Image, ROWS};
-use um_matrix::Matrix;
+use um_steps::Dumped;
 
 /// What is counted of the threads that are shown.
 #[derive(Clone, Copy)]
@@ -26,24 +25,14 @@ fn is_so(shown: Shown, standing: Standing) -> bool
     }
 }
 
-/// How the thread of an index is: past the last one nothing was started.
-#[tactic(auto, unfolding(crate::specs::Dump::standing_of))]
-fn standing_at(last: &Matrix, thread: u8) -> Standing
-    ensures { result ≡ standing_of last.now thread (thread_at last.now thread) }
-{
-    match last.threads().get(thread as usize) {
-        Some(me) => standing_of(last, thread, me),
-        None => Standing::Unborn,
-    }
-}
-
 /// Whether a thread is shown for a row, and is so.
-fn stands_so(shown: Shown, image: &Image, last: &Matrix, row: usize) -> bool
+fn stands_so<D: Dumped>(shown: Shown, image: &Image, last: &D, row: usize) -> bool
     requires { row < ROWS }
-    ensures { result ≡ stands_so shown last.now (shown_thread image.now last.now row) }
+    ensures { result ≡ stands_so shown (D.state last.now)
+        (shown_thread image.now (D.state last.now) row) }
 {
     match shown_thread(image, last, row) {
-        Some(thread) => is_so(shown, standing_at(last, thread)),
+        Some(thread) => is_so(shown, standing_of(last, thread)),
         None => false,
     }
 }
@@ -57,8 +46,8 @@ fn one_if(counted: bool) -> usize
 }
 
 /// How many of the threads that are shown are so.
-pub fn threads_that(shown: Shown, image: &Image, last: &Matrix) -> usize
-    ensures { result ≡ threads_that shown image.now last.now }
+pub fn threads_that<D: Dumped>(shown: Shown, image: &Image, last: &D) -> usize
+    ensures { result ≡ threads_that shown image.now (D.state last.now) }
 {
     let mut count = 0;
     for row in 0..ROWS {

@@ -5,4 +5,4 @@ use Rattle.um_trace.specs.Room.{Puts}
 use Rattle.um_trace.proofs.dump.domains.put_domains.Given as goal
 
 abbrev pub invariant-loop-domain : goal.invariant-loop-domain
-invariant-loop-domain l = Puts l.fn.room l.room (flat_map (domain_line l.image l.last) (numbers l.domain)) (640 * l.domain)
+invariant-loop-domain g l = Puts l.fn.room l.room (flat_map (domain_line l.image (g.D.Dumped.state l.last)) (numbers l.domain)) (640 * l.domain)

@@ -5,4 +5,4 @@ use Rattle.um_trace.specs.Room.{Puts}
 use Rattle.um_trace.proofs.dump.domains.put_pools.Given as goal
 
 abbrev pub invariant-loop-pool : goal.invariant-loop-pool
-invariant-loop-pool l = Puts l.fn.room l.room (flat_map (pool_line l.image l.last) (numbers l.pool)) (64 * l.pool)
+invariant-loop-pool g l = Puts l.fn.room l.room (flat_map (pool_line l.image (g.D.Dumped.state l.last)) (numbers l.pool)) (64 * l.pool)

@@ -16,7 +16,7 @@ returns-then-are_zero c =
     let bytes = c.args.bytes.now in
     let first = 32 * c.args.page in
     let size : 32 * first + 32 * 32 - 32 * first ≡ 32 * 32 = omega arith in
-    let zero = ap (λ (n : ℕ). list_all (λ (b : ℕ). b == 0) (take n (drop (32 * first) bytes))) (sym size) ∙ sym c.are_zero.ensures ∙ c.if-are_zero.true in
+    let zero = ap (λ (n : ℕ). list_all (λ (b : ℕ). b == 0) (take n (drop (32 * first) bytes))) (sym size) ∙ ap (list_all (λ (b : ℕ). b == 0)) (sym c.between.ensures.value) ∙ sym c.are_zero.ensures ∙ c.if-are_zero.true in
     subst (λ (lines : List ℕ). Puts c.args.room.now c.args.room.now lines (83 * 32)) (sym (zero_blocks c.args.area bytes first 32 zero)) (puts_nothing c.args.room.now (83 * 32))
 
 pub returns : goal.returns

@@ -6,7 +6,7 @@ use Rattle.um_trace.proofs.ListLemmas.{is_none}
 use Rattle.um_trace.proofs.dump.objects.put_holders.Given as goal
 
 abbrev pub invariant-loop-thread : goal.invariant-loop-thread
-invariant-loop-thread l = record {
-  text : Puts l.fn.room l.room (joined (thread_text l.image) (holders_below l.last l.row l.thread)) (25 * l.thread);
-  first : l.first ≡ is_none (holders_below l.last l.row l.thread);
+invariant-loop-thread g l = record {
+  text : Puts l.fn.room l.room (joined (thread_text l.image) (holders_below (g.D.Dumped.state l.last) l.row l.thread)) (25 * l.thread);
+  first : l.first ≡ is_none (holders_below (g.D.Dumped.state l.last) l.row l.thread);
 }

@@ -6,4 +6,4 @@ use Rattle.um_trace.specs.Room.{Puts}
 use Rattle.um_trace.proofs.dump.objects.put_objects.Given as goal
 
 abbrev pub invariant-loop-row : goal.invariant-loop-row
-invariant-loop-row l = Puts l.fn.room l.room (flat_map (object_line_of l.image l.last) (numbers l.row)) (OBJECT_ROOM * l.row)
+invariant-loop-row g l = Puts l.fn.room l.room (flat_map (object_line_of l.image (g.D.Dumped.state l.last)) (numbers l.row)) (OBJECT_ROOM * l.row)
