@@ -5,12 +5,16 @@ mod changed;
 mod told;
 mod values;
 
+ghost use Rattle.std.specs.Prelude.{◌<◌};
+ghost use Rattle.um_machine.specs.Limits.{IsSound};
+
 use changed::changed;
 use std::alloc::Global;
 use std::process::Abort;
 use std::test::Fail;
-use um_base::{Act, Event, ROWS, ThreadIx};
+use um_base::{Act, Event, THREADS, ThreadIx};
 use um_image::read_image;
+use um_machine::Pending;
 use um_matrix::Matrix;
 use um_samples::{DOMAINS, HALT, OBJECTS, RACE};
 
@@ -62,22 +66,57 @@ fn kind_of(act: &Act) -> usize {
     }
 }
 
-/// The next event, made by a machine that runs ahead: the next step of one of the threads from this one on, or what cleans.
-fn next(ahead: &mut Matrix<'_>, first: u8) -> Option<Event> {
-    let mut act = Act::Resume;
-    for k in 0..3 {
-        let thread = ThreadIx((first % 3 + k) % 3);
-        if ahead.advance(thread, &mut act) {
-            return Some(Event { thread, act });
-        }
-    }
-    for x in 0..ROWS {
-        let thread = ThreadIx(0);
-        if ahead.clean(thread, x, &mut act) {
-            return Some(Event { thread, act });
+/// What a thread says by a step, with the first row that it may choose.
+fn act_with(ahead: &Matrix<'_>, t: usize, step: &Pending) -> Option<Act>
+    requires thread { t < THREADS }
+    requires sound { IsSound step.now }
+{
+    for x in 0..ahead.row_count(step) {
+        if ahead.may_choose(t, x, step) {
+            return Some(ahead.says(t, x, step));
         }
     }
     None
+}
+
+/// What a thread says by its next step, or by the one after it where that may be left out.
+fn act_by(ahead: &Matrix<'_>, t: usize) -> Option<Act>
+    requires { t < THREADS }
+{
+    let step = match ahead.next_step(t) {
+        None => return ahead.rest_act(t),
+        Some(step) => step,
+    };
+    match act_with(ahead, t, &step) {
+        Some(act) => Some(act),
+        None => match ahead.second_step(t) {
+            Some(step) => act_with(ahead, t, &step),
+            None => None,
+        },
+    }
+}
+
+/// The next event of one of the threads from this one on, or what cleans.
+fn event_from(ahead: &Matrix<'_>, first: u8) -> Option<Event> {
+    for k in 0..3 {
+        let thread = (first % 3 + k) % 3;
+        if let Some(act) = act_by(ahead, thread as usize) {
+            return Some(Event {
+                thread: ThreadIx(thread),
+                act,
+            });
+        }
+    }
+    ahead.next_event()
+}
+
+/// The next event, made by a machine that runs ahead: the next step of one of the threads from this one on, or what cleans.
+fn next(ahead: &mut Matrix<'_>, first: u8) -> Option<Event> {
+    let event = event_from(ahead, first)?;
+    match ahead.apply(&event) {
+        Ok(()) => Some(event),
+        Err(_) => None,
+    }
 }
 
 /// The judge refuses an event with any of its fields wrong, and takes it as it is.

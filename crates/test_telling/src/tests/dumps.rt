@@ -2,7 +2,7 @@
 
 use super::image_of;
 use std::test::Fail;
-use um_base::{Act, ThreadIx};
+use um_base::{Act, Event};
 use um_matrix::Matrix;
 use um_samples::described;
 use um_trace::{DUMP_ROOM, dump_text};
@@ -55,15 +55,20 @@ memory 0x20000000 7a6100ff000000000000000000000000000000000000000000000000000000
 memory 0x20080020 00000000000000000000000000000000000000000000000000000000000000ab
 ";
 
+/// Whether an event recycles an object.
+fn recycles(event: &Event) -> bool {
+    matches!(event.act, Act::Recycle { .. })
+}
+
 #[test]
 fn dumps_show_objects_domains_pools_and_memory(rt: HostRuntime) -> Result<(), Fail> {
     let alloc = rt.alloc();
     let image = image_of(alloc, DESCRIPTION)?;
     let mut matrix = Matrix::boot(alloc, &image)?;
-    let mut act = Act::Resume;
-    for thread in [0, 1, 28] {
-        for _ in 0..100 {
-            let _ = matrix.advance(ThreadIx(thread), &mut act);
+    for _ in 0..300 {
+        match matrix.next_event() {
+            Some(event) if !recycles(&event) => assert!(rt; matrix.apply(&event).is_ok()),
+            _ => break,
         }
     }
     assert!(rt; !matrix.is_final());
