@@ -1,14 +1,14 @@
 -- What is noted along a fine run of a described image is the machine's: the last state of the machine with which the sites are related has
 -- the priorities noted, and agrees with the state that is read off. Where no processor can make another step, the run is complete.
 use Rattle.std.specs.Prelude.{slice_index_or}
-use Rattle.std.proofs.Common.{◌<◌, ◌∙◌, ◌∷◌, ◌≡◌, ◌≤◌, ◌⊎◌, List, [], ap, arith, eq-eqb, inl, inr, length, refl, subst, sym, ℕ}
+use Rattle.std.proofs.Common.{◌<◌, ◌∙◌, ◌∷◌, ◌≡◌, ◌≤◌, ◌⊎◌, List, [], ap, arith, eq-eqb, false, inl, inr, length, refl, subst, sym, ℕ}
 use Rattle.std.proofs.Math.ListN.{get_or-map}
 use Rattle.std.proofs.lemmas.Bool.{eqb-true, true≢false}
 use Rattle.std.proofs.lemmas.List.{length-map}
 use Rattle.std.proofs.lemmas.Option.{slice_get_within}
 use Rattle.um_base.specs.declared.image.Image.{Image}
 use Rattle.um_machine.specs.Run.{IsComplete, Runs, objects_from, opening}
-use Rattle.um_machine.specs.State.{State, nobody, object_at, vacant}
+use Rattle.um_machine.specs.State.{State, nobody, vacant}
 use Rattle.um_machine.specs.declared.object.Object.{Object}
 use Rattle.um_invariants.specs.Described.{IsDescribed}
 use Rattle.um_invariants.proofs.Cores.{core_of, status_is}
@@ -59,12 +59,22 @@ record Holds (f : Fine) (m : State) : Type 0 where
   reach : IsReachable f.image f.cpus m
   noted : IsNoted f m
 
--- What a fine run leaves: a state that its events lead to, with which processors and sites are related, and whose priorities are noted.
+-- What a fine run leaves: a state that its events lead to, with which processors and sites are related, and whose priorities are noted. A state
+-- that its events lead to has its objects where they may stand. Where no processor can make another step, none has a step left, and the run is
+-- complete.
 pub record Left (image : Image) (cpus : ℕ) (h : List FineStep) : Type 0 where
   pub last : State
   pub run : Runs (opening image) (shown h) last
   pub rel : Rel (left_by image cpus h) last
   pub noted : IsNoted (left_by image cpus h) last
+  pub placed : (m : State) → Runs (opening image) (shown h) m → IsPlaced m
+  pub ends : CanRun image cpus → IsStuck (left_by image cpus h) → CanCount (left_by image cpus h) → AreIdle (left_by image cpus h) × IsComplete last
+
+-- So the state read off agrees with it where no processor has a step left.
+pub closes : (image : Image) (cpus : ℕ) (h : List FineStep) (left : Left image cpus h) → AreIdle (left_by image cpus h) → AgreeInDump image (closing_state image cpus h) left.last
+closes image cpus h left idle =
+    agreed (left_by image cpus h) left.last left.rel (left.placed left.last left.run) idle
+    (λ t few started. left.noted.noted t few (λ k l. ap (λ (todo : Todos). of_thread t (adders todo)) (idle k l)))
 
 module _ (image : Image) (cpus : ℕ) (described : IsDescribed image) where
   -- the opening has the priorities of all its threads
@@ -88,14 +98,6 @@ module _ (image : Image) (cpus : ℕ) (described : IsDescribed image) where
           record { rel = next.related; reach = reach-on image cpus m next.state e.act holds.reach next.goes; noted = noted-step f m e law holds.noted next.state next.leaves },
         )
 
-    noted-run : (h : List FineStep) → IsFineRun image cpus h → Left image cpus h
-    noted-run h run =
-        let a = along same_cpu (λ k. eq-eqb k k refl) (λ j k q. eqb-true j k q) same_site same-itself same-sound cpu_of site_of
-        (ByOneOf image cpus) (p_next image) p_start (SiteMay image) (s_next image) (s_start image)
-        Goes (opening image) (λ ps ss m. Holds (fine image cpus ps ss) m) (record { rel = opens-described image described cpus; reach = ([], refl); noted = noted-first }) step-kept h run.processors run.sites in
-        record { last = a.0; run = along-runs (opening image) a.0 h a.1; rel = a.2.rel; noted = a.2.noted }
-
-    -- what is known of the state that it leads to
     placed-known : (m : State) → IsReachable image cpus m → IsPlaced m
     placed-known m reach =
         let sound = reachable-sound image cpus described.few m reach known in
@@ -105,80 +107,64 @@ module _ (image : Image) (cpus : ℕ) (described : IsDescribed image) where
           used = λ x free. sound.known.reached.used x (ap Plain.is_free (status_is m x) ∙ free);
         }
 
-    -- where no processor can make another step, none has a step left, and the run is complete
-    ends-known : CanRun image cpus → (h : List FineStep) → IsFineRun image cpus h → IsStuck (left_by image cpus h) → CanCount (left_by image cpus h) → (left : Left image cpus h)
-        → AreIdle (left_by image cpus h) × IsComplete left.last
-    ends-known can h run stuck counts left =
-        let m = left.last in
+    ends-known : (h : List FineStep) → IsFineRun image cpus h → (m : State) → IsReachable image cpus m → Rel (left_by image cpus h) m
+        → CanRun image cpus → IsStuck (left_by image cpus h) → CanCount (left_by image cpus h) → AreIdle (left_by image cpus h) × IsComplete m
+    ends-known h run m reach rel can stuck counts =
         let f = left_by image cpus h in
-        let reach : IsReachable image cpus m = (shown h, left.run) in
         let bounds = (bounded-runs image cpus described known h run).3 in
         let proper = proper-known image cpus described known m reach in
         let sound = reachable-sound image cpus described.few m reach known in
-        let room = has-room f m left.rel proper sound bounds (tells-known image cpus described known m reach) (children-known image cpus m reach) can counts in (
-          stuck-empty f m left.rel proper (λ t l started. started-placed image cpus described m reach t started) sound room (events-stand f m left.rel proper sound bounds) stuck,
-          stuck-complete image cpus described known can f.processors f.sites m left.rel reach bounds counts stuck,
+        let room = has-room f m rel proper sound bounds (tells-known image cpus described known m reach) (children-known image cpus m reach) can counts in (
+          stuck-empty f m rel proper (λ t l started. started-placed image cpus described m reach t started) sound room (events-stand f m rel proper sound bounds) stuck,
+          stuck-complete image cpus described known can f.processors f.sites m rel reach bounds counts stuck,
         )
 
-  known-some : 0 < length image.objects → IsKnown (core_of (opening image))
-  known-some some = (is_opening image (is_sited image described.lawful described.few some) described.lawful).known
+    left-known : (h : List FineStep) → IsFineRun image cpus h → Left image cpus h
+    left-known h run =
+        let first : Holds (fine image cpus p_start (s_start image)) (opening image) = record { rel = opens-described image described cpus; reach = ([], refl); noted = noted-first } in
+        let a = along same_cpu (λ k. eq-eqb k k refl) (λ j k q. eqb-true j k q) same_site same-itself same-sound cpu_of site_of
+        (ByOneOf image cpus) (p_next image) p_start (SiteMay image) (s_next image) (s_start image)
+        Goes (opening image) (λ ps ss m. Holds (fine image cpus ps ss) m) first step-kept h run.processors run.sites in
+        record {
+          last = a.0;
+          run = along-runs (opening image) a.0 h a.1;
+          rel = a.2.rel;
+          noted = a.2.noted;
+          placed = λ m runs. placed-known m (shown h, runs);
+          ends = ends-known h run a.0 a.2.reach a.2.rel;
+        }
 
-  -- Without an object there is no thread, and no step.
+  -- without an object there is no thread, and no step
+  module _ (none : length image.objects ≡ 0) where
+    placed-none : IsPlaced (opening image)
+    placed-none =
+        record {
+          wide = opening-wide image described.few;
+          live = λ x l.
+              let few = subst (λ (i : Image). x < length i.objects) (opening-image image) l in absurd (omega (arith, few, none));
+          used = λ x free. absurd (by x (stood-or-none image.boots 0 image.objects x) (ap (λ (os : List Object). Plain.is_free (slice_index_or os x vacant).status) (sym (opening-objects image)) ∙ free));
+        }
+      where
+        by : (x : ℕ) → Stood image.boots 0 image.objects x ⊎ ((slice_index_or (objects_from image.boots 0 image.objects) x vacant ≡ vacant) × (length image.objects ≤ x))
+            → Plain.is_free (slice_index_or (objects_from image.boots 0 image.objects) x vacant).status ≡ false → ⊥
+        by x (inl stood) free = let within = slice_get_within image.objects x stood.0 stood.1 in omega (arith, within, none)
+        by x (inr r) free = true≢false (ap (λ (o : Object). Plain.is_free o.status) (sym r.0) ∙ free)
 
-  vacant-none : length image.objects ≡ 0 → (x : ℕ) → object_at (opening image) x ≡ vacant
-  vacant-none none x =
-      ap (λ (os : List Object). slice_index_or os x vacant) (opening-objects image) ∙ by (stood-or-none image.boots 0 image.objects x)
-    where
-      by : Stood image.boots 0 image.objects x ⊎ ((slice_index_or (objects_from image.boots 0 image.objects) x vacant ≡ vacant) × (length image.objects ≤ x))
-          → slice_index_or (objects_from image.boots 0 image.objects) x vacant ≡ vacant
-      by (inl stood) = let within = slice_get_within image.objects x stood.0 stood.1 in absurd (omega (arith, within, none))
-      by (inr r) = r.0
-
-  placed-none : length image.objects ≡ 0 → IsPlaced (opening image)
-  placed-none none =
-      record {
-        wide = opening-wide image described.few;
-        live = λ x l.
-            let few = subst (λ (i : Image). x < length i.objects) (opening-image image) l in absurd (omega (arith, few, none));
-        used = λ x free. absurd (true≢false (ap (λ (o : Object). Plain.is_free o.status) (sym (vacant-none none x)) ∙ free));
-      }
-
-  -- All fine runs.
+    left-none : (h : List FineStep) → IsFineRun image cpus h → Left image cpus h
+    left-none [] run =
+        record {
+          last = opening image;
+          run = refl;
+          rel = opens-described image described cpus;
+          noted = noted-first;
+          placed = λ m runs. subst IsPlaced (sym runs) placed-none;
+          ends = λ can stuck counts. let one = complete-runs image cpus described can [] run counts stuck in (λ k l. refl, subst IsComplete one.1 one.2);
+        }
+    left-none (e ∷ h) run = absurd (no-steps image cpus described none e h run)
 
   pub leaves-noted : (h : List FineStep) → IsFineRun image cpus h → Left image cpus h
   leaves-noted = by (none-or-some (length image.objects))
     where
       by : (length image.objects ≡ 0) ⊎ (0 < length image.objects) → (h : List FineStep) → IsFineRun image cpus h → Left image cpus h
-      by (inl none) [] run = record { last = opening image; run = refl; rel = opens-described image described cpus; noted = noted-first }
-      by (inl none) (e ∷ h) run = absurd (no-steps image cpus described none e h run)
-      by (inr some) h run = noted-run (known-some some) h run
-
-  pub is-placed : (h : List FineStep) (m : State) → IsFineRun image cpus h → Runs (opening image) (shown h) m → IsPlaced m
-  is-placed = by (none-or-some (length image.objects))
-    where
-      by : (length image.objects ≡ 0) ⊎ (0 < length image.objects) → (h : List FineStep) (m : State) → IsFineRun image cpus h → Runs (opening image) (shown h) m → IsPlaced m
-      by (inl none) [] m run runs = subst IsPlaced (sym runs) (placed-none none)
-      by (inl none) (e ∷ h) m run runs = absurd (no-steps image cpus described none e h run)
-      by (inr some) h m run runs = placed-known (known-some some) m (shown h, runs)
-
-  -- where no processor has a step left
-  pub closes : (h : List FineStep) → IsFineRun image cpus h → AreIdle (left_by image cpus h) → (left : Left image cpus h) → AgreeInDump image (closing_state image cpus h) left.last
-  closes h run idle left =
-      agreed (left_by image cpus h) left.last left.rel (is-placed h left.last run left.run) idle
-      (λ t few started. left.noted.noted t few (λ k l. ap (λ (todo : Todos). of_thread t (adders todo)) (idle k l)))
-
-  ends : CanRun image cpus → (h : List FineStep) → IsFineRun image cpus h → IsStuck (left_by image cpus h) → CanCount (left_by image cpus h) → (left : Left image cpus h)
-      → AreIdle (left_by image cpus h) × IsComplete left.last
-  ends can = by (none-or-some (length image.objects))
-    where
-      by : (length image.objects ≡ 0) ⊎ (0 < length image.objects) → (h : List FineStep) → IsFineRun image cpus h → IsStuck (left_by image cpus h) → CanCount (left_by image cpus h) → (left : Left image cpus h)
-          → AreIdle (left_by image cpus h) × IsComplete left.last
-      by (inl none) [] run stuck counts left =
-          let one = complete-runs image cpus described can [] run counts stuck in (λ k l. refl, subst IsComplete (one.1 ∙ sym left.run) one.2)
-      by (inl none) (e ∷ h) run stuck counts left = absurd (no-steps image cpus described none e h run)
-      by (inr some) h run stuck counts left = ends-known (known-some some) can h run stuck counts left
-
-  pub complete : CanRun image cpus → (h : List FineStep) → IsFineRun image cpus h → IsStuck (left_by image cpus h) → CanCount (left_by image cpus h)
-      → (last : State) × Runs (opening image) (shown h) last × IsComplete last × AgreeInDump image (closing_state image cpus h) last
-  complete can h run stuck counts =
-      let left = leaves-noted h run in let end = ends can h run stuck counts left in (left.last, left.run, end.1, closes h run end.0 left)
+      by (inl none) = left-none none
+      by (inr some) = left-known (is_opening image (is_sited image described.lawful described.few some) described.lawful).known
