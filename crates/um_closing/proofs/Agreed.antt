@@ -1,44 +1,36 @@
 -- The state that is read off the sites agrees with the machine's last state in all that a dump reads, where no processor has a step left.
-use Rattle.std.proofs.Common.{◌≡◌, ◌≢◌, ◌⊎◌, inl, inr, ℕ, ℤ, ◌+◌, ◌<◌, ◌≤◌, Bool, true, false, ◌&&◌, ◌||◌, not, if◌then◌else◌, IsTrue, List, [], length, map, None, refl, sym, ap, ◌∙◌, subst, arith, nat_lt, nat_le}
-use Rattle.std.specs.Prelude.{slice_index_or}
+use Rattle.std.specs.Prelude.{if◌then◌else◌, ◌&&◌, ◌||◌, IsTrue, nat_le, nat_lt, not, slice_index_or}
+use Rattle.std.proofs.Common.{◌<◌, ◌∙◌, ◌≡◌, ◌≢◌, ◌≤◌, Bool, List, None, [], ap, arith, false, inl, inr, length, refl, subst, sym, true, ℕ}
 use Rattle.std.proofs.lemmas.Bool.{false≢true, ltb-true}
 use Rattle.std.proofs.lemmas.Bool.Decides.{nat_tests}
-use Rattle.std.proofs.lemmas.List.{ext_get_or, length-map, get_or-map}
-use Rattle.std.proofs.lemmas.List.FromFn.{get_or-map-range_with_len, length-map-range_with_len}
+use Rattle.std.proofs.lemmas.List.{length-map, ext_get_or, get_or-map}
 use Rattle.um_base.specs.declared.ask.Waiter.{Waiter}
 use Rattle.um_base.specs.declared.image.Image.{Image}
 use Rattle.um_base.specs.declared.limits.TheConstants.{ROWS, STATIC_ROWS, THREADS}
+use Rattle.um_machine.specs.State.{State, is_started, nobody, object_at, thread_at, vacant}
+use Rattle.um_machine.specs.Table.{domain_at}
 use Rattle.um_machine.specs.declared.object.Object.{Object}
 use Rattle.um_machine.specs.declared.object.Status.{Status}
 use Rattle.um_machine.specs.declared.thread.Life.{Life}
 use Rattle.um_machine.specs.declared.thread.Thread.{Thread}
-use Rattle.um_machine.specs.Objects as Plain
-use Rattle.um_machine.specs.State.{State, is_started, nobody, object_at, thread_at, vacant}
-use Rattle.um_machine.specs.Table.{domain_at}
 use Rattle.um_invariants.proofs.Guards.{IsRow}
 use Rattle.um_words.specs.declared.row_word.Stage.{Stage}
-use Rattle.um_fine.specs.Processor.{kind_of}
 use Rattle.um_fine.specs.Objects.{ObjectCell}
-use Rattle.um_refinement.specs.Fine.{Fine, heap, object, row}
+use Rattle.um_fine.specs.Places.{Todo}
+use Rattle.um_fine.specs.Processor.{kind_of}
+use Rattle.um_refinement.specs.Fine.{Fine, heap, object, row, total}
 use Rattle.um_refinement.specs.Lists.{counted, edited, is_recycle, is_vacate, is_wipe}
-use Rattle.um_refinement.specs.Objects.{is_reserved, recyclers, status_of, vacaters, wipers}
+use Rattle.um_refinement.specs.Objects.{is_reserved, recyclers, status_of, vacaters}
 use Rattle.um_refinement.specs.Relation.{Rel}
 use Rattle.um_refinement.proofs.HeldRows.{total-zero}
 use Rattle.um_refinement.proofs.IdleComplete.{outside, past}
 use Rattle.um_refinement.proofs.Reachable.{IsWide}
 use Rattle.um_closing.specs.Agreement.{AgreeInDump, ObjectsAgree, ThreadsAgree, has_line, waiters_in}
-use Rattle.um_closing.specs.Noted.{AreIdle, KnowsPriorities}
-use Rattle.um_closing.specs.ReadOff.{numbers, object_there, pairs_there, parts_there, read_off, status_off, thread_there}
-
--- Lists that say something of each number below n.
-
-at-number : {A : Type 0} (g : ℕ → A) (n i : ℕ) (d : A) → i < n → slice_index_or (map g (numbers n)) i d ≡ g i
-unfolding numbers
-at-number g n i d l = let here : 0 + i ≡ i = omega arith in get_or-map-range_with_len g 0 n i i d l here
-
-many-numbers : {A : Type 0} (g : ℕ → A) (n : ℕ) → length (map g (numbers n)) ≡ n
-unfolding numbers
-many-numbers g n = length-map-range_with_len g 0 n
+use Rattle.um_closing.specs.Idle.{AreIdle}
+use Rattle.um_closing.specs.ReadOff.{object_there, priority_there, read_off, status_off, thread_there}
+use Rattle.um_closing.proofs.Numbers.{many-numbers}
+use Rattle.um_closing.proofs.ReadAt.{object_read, pairs_read, parts_read, thread_past, thread_read}
+use Rattle.um_machine.specs.Objects as Plain
 
 -- What is known of the states that a run reaches: how long their lists are, that static objects live, and where an object may stand.
 pub record IsPlaced (m : State) : Type 0 where
@@ -61,20 +53,21 @@ same-status Stage.Free Status.Reserved false is static = absurd (static refl ref
 same-status Stage.Free Status.Live dynamic is static = cc
 same-status Stage.Free Status.Gone dynamic is static = cc
 
-module _ (f : Fine) (m : State) (rel : Rel f m) (placed : IsPlaced m) (idle : AreIdle f) (priorities : ℕ → ℤ) (knows : KnowsPriorities m priorities) where
+module _ (f : Fine) (m : State) (rel : Rel f m) (placed : IsPlaced m) (idle : AreIdle f)
+    (knows : (t : ℕ) → t < THREADS → IsTrue (is_started (thread_at m t).life) → priority_there f.image f.sites t ≡ (thread_at m t).priority) where
   abbrev read : State
-  read = read_off f.image f.sites priorities
+  read = read_off f.image f.sites
 
   -- Threads.
 
-  thread-there : (t : ℕ) → t < THREADS → ThreadsAgree (thread_there f.image f.sites priorities t) (thread_at m t)
+  thread-there : (t : ℕ) → t < THREADS → ThreadsAgree (thread_there f.image f.sites t) (thread_at m t)
   thread-there t few =
       let w = (rel.threads t few).word in
       record {
         life = w.life;
         doomed = w.doomed;
         mode = λ started. w.mode;
-        priority = λ started. knows t (subst (λ (life : Life). IsTrue (is_started life)) w.life started);
+        priority = λ started. knows t few (subst (λ (life : Life). IsTrue (is_started life)) w.life started);
         domain = λ started. w.domain;
       }
 
@@ -83,48 +76,38 @@ module _ (f : Fine) (m : State) (rel : Rel f m) (placed : IsPlaced m) (idle : Ar
     where
       by : (b : Bool) → nat_lt t THREADS ≡ b → ThreadsAgree (thread_at read t) (thread_at m t)
       by true few =
-          let l = ltb-true t THREADS few in
-          subst (λ (th : Thread). ThreadsAgree th (thread_at m t)) (sym (at-number (thread_there f.image f.sites priorities) THREADS t nobody l)) (thread-there t l)
+          let l = ltb-true t THREADS few in subst (λ (th : Thread). ThreadsAgree th (thread_at m t)) (sym (thread_read f.image f.sites t l)) (thread-there t l)
       by false many =
           let l = past t THREADS many in
           let long = placed.wide.threads in
-          let mine : thread_at read t ≡ nobody =
-          outside (map (thread_there f.image f.sites priorities) (numbers THREADS)) t nobody (omega (arith, l, many-numbers (thread_there f.image f.sites priorities) THREADS)) in
+          let mine = thread_past f.image f.sites t l in
           let its : thread_at m t ≡ nobody = outside m.threads t nobody (omega (arith, l, long)) in
           subst (λ (z : Thread × Thread). ThreadsAgree z.0 z.1) (λ i. (sym mine i, sym its i))
           (record { life = refl; doomed = refl; mode = λ h. refl; priority = λ h. refl; domain = λ h. refl })
 
   -- Objects.
 
+  -- no processor has a step of this kind left
+  none-left : (is : Todo → Bool) → total (λ k. counted is (f.processors k).todo) f.cpus ≡ 0
+  none-left is = total-zero (λ k. counted is (f.processors k).todo) f.cpus (λ k l. ap (counted is) (idle k l))
+
   module _ (x : ℕ) (few : x < ROWS) where
-    -- no processor has anything to do with the row
-    no-recyclers : recyclers f x ≡ 0
-    no-recyclers = total-zero (λ k. counted (is_recycle x) (f.processors k).todo) f.cpus (λ k l. ap (counted (is_recycle x)) (idle k l))
-
-    no-vacaters : vacaters f x ≡ 0
-    no-vacaters = total-zero (λ k. counted (is_vacate x) (f.processors k).todo) f.cpus (λ k l. ap (counted (is_vacate x)) (idle k l))
-
-    no-wipers : wipers f x ≡ 0
-    no-wipers = total-zero (λ k. counted (is_wipe x) (f.processors k).todo) f.cpus (λ k l. ap (counted (is_wipe x)) (idle k l))
-
     settled : vacaters f x ≡ recyclers f x
-    settled = no-vacaters ∙ sym no-recyclers
-
-    status-at : Status
-    status-at = (object_at m x).status
+    settled = none-left (is_vacate x) ∙ sym (none-left (is_recycle x))
 
     static-live : x < length f.image.objects → Plain.is_live (object_at m x).status ≡ true
     static-live l = placed.live x (subst (λ (i : Image). x < length i.objects) (sym rel.image) l)
 
-    not-reserved : (s : Status) → Plain.is_live s ≡ true → s ≢ Status.Reserved
-    not-reserved s live e = false≢true (sym (ap Plain.is_live e) ∙ live)
+    -- a status at which an object doesn't live
+    lives-not : (s : Status) → Plain.is_live (object_at m x).status ≡ true → Plain.is_live s ≡ false → (object_at m x).status ≢ s
+    lives-not s live not e = false≢true (sym not ∙ (sym (ap Plain.is_live e) ∙ live))
 
     -- no static row has a reserved object
     static-row : nat_le STATIC_ROWS x ≡ false → (object_at m x).status ≢ Status.Reserved
     static-row low reserved = by (placed.used x (ap Plain.is_free reserved))
       where
-        by : (x < length m.image.objects) ⊎ ((STATIC_ROWS ≤ x) × (x < ROWS)) → ⊥
-        by (inl l) = not-reserved (object_at m x).status (static-live (subst (λ (i : Image). x < length i.objects) rel.image l)) reserved
+        by : IsRow m.image x → ⊥
+        by (inl l) = lives-not Status.Reserved (placed.live x l) refl reserved
         by (inr l) = let high : STATIC_ROWS ≤ x = l.0 in let yes : nat_le STATIC_ROWS x ≡ true = grind (arith, nat_tests) in false≢true (sym low ∙ yes)
 
     status-same : status_off x (row f x) (heap f) ≡ (object_at m x).status
@@ -133,17 +116,14 @@ module _ (f : Fine) (m : State) (rel : Rel f m) (placed : IsPlaced m) (idle : Ar
         ∙ same-status (row f x).stage (object_at m x).status (nat_le STATIC_ROWS x) ((rel.rows x few).status.status settled) static-row
 
     cell-same : object f x ≡ record { contents = (object_at m x).contents; waiters = (object_at m x).waiters; buffer = (object_at m x).buffer }
-    cell-same = (rel.rows x few).contents.whole (no-wipers ∙ sym no-recyclers)
-
-    live-used : (s : Status) → Plain.is_live s ≡ true → s ≢ Status.Free
-    live-used s live e = false≢true (sym (ap Plain.is_live e) ∙ live)
+    cell-same = (rel.rows x few).contents.whole (none-left (is_wipe x) ∙ sym (none-left (is_recycle x)))
 
     -- a row that is shown isn't free
     used : IsTrue (has_line f.image x (object_at m x).status) → (object_at m x).status ≢ Status.Free
     used shown = by (nat_lt x (length f.image.objects)) refl
       where
         by : (b : Bool) → nat_lt x (length f.image.objects) ≡ b → (object_at m x).status ≢ Status.Free
-        by true l free = live-used (object_at m x).status (static-live (ltb-true x (length f.image.objects) l)) free
+        by true l free = lives-not Status.Free (static-live (ltb-true x (length f.image.objects) l)) refl free
         by false l free =
             let lacks : has_line f.image x (object_at m x).status ≡ false = λ i. l i || not (Plain.is_free (free i)) in false≢true (sym lacks ∙ shown)
 
@@ -166,17 +146,14 @@ module _ (f : Fine) (m : State) (rel : Rel f m) (placed : IsPlaced m) (idle : Ar
           contents = λ shown. ap (λ (c : ObjectCell). c.contents) cell-same;
         }
 
-    here : object_at read x ≡ object_there f.image f.sites x
-    here = at-number (object_there f.image f.sites) ROWS x vacant few
-
     objects-agree : ObjectsAgree f.image x (object_at read x) (object_at m x)
-    objects-agree = subst (λ (o : Object). ObjectsAgree f.image x o (object_at m x)) (sym here) object-agrees
+    objects-agree = subst (λ (o : Object). ObjectsAgree f.image x o (object_at m x)) (sym (object_read f.image f.sites x few)) object-agrees
 
     waiters-same : (object_at read x).waiters ≡ (object_at m x).waiters
-    waiters-same = ap (λ (o : Object). o.waiters) here ∙ ap (λ (c : ObjectCell). c.waiters) cell-same
+    waiters-same = ap (λ (o : Object). o.waiters) (object_read f.image f.sites x few) ∙ ap (λ (c : ObjectCell). c.waiters) cell-same
 
     pairs-same : slice_index_or read.pairs x [] ≡ slice_index_or m.pairs x []
-    pairs-same = at-number (pairs_there f.image f.sites) ROWS x [] few ∙ (rel.rows x few).pairs.pairs
+    pairs-same = pairs_read f.image f.sites x few ∙ (rel.rows x few).pairs.pairs
 
   abbrev waits-of : Object → List Waiter
   waits-of o = o.waiters
@@ -194,8 +171,7 @@ module _ (f : Fine) (m : State) (rel : Rel f m) (placed : IsPlaced m) (idle : Ar
 
   domain-same : (d : ℕ) → d < length f.image.domains → domain_at read d ≡ domain_at m d
   domain-same d l =
-      at-number (parts_there f.image f.sites) (length f.image.domains) d None l
-      ∙ (rel.domains d l).settled (λ k few. ap (edited d) (idle k few))
+      parts_read f.image f.sites d l ∙ (rel.domains d l).settled (λ k few. ap (edited d) (idle k few))
 
   pub agreed : AgreeInDump f.image read m
   agreed =

@@ -1,20 +1,28 @@
--- What is noted of the priorities of threads stays the machine's at every lawful step.
-use Rattle.std.proofs.Common.{◌≡◌, inl, ℕ, ℤ, ◌+◌, Bool, true, false, cond, ◌==◌, if◌then◌else◌, [], ◌∷◌, Some, None, refl, sym, ap, ◌∙◌, subst, arith}
-use Rattle.std.proofs.lemmas.Bool.{eqb-true}
-use Rattle.std.proofs.Common.{eq-eqb}
-use Rattle.um_machine.specs.declared.pending.Pending.{Pending}
-use Rattle.um_machine.specs.declared.thread.Thread.{Thread}
+-- The scheduler's cell has the machine's priorities of all threads but those still to be added, after every lawful step.
+use Rattle.std.specs.Prelude.{if◌then◌else◌, ◌==◌, slice_index_or, slice_set, ℤ, pos}
+use Rattle.std.proofs.Common.{◌+◌, ◌<◌, ◌∙◌, ◌∷◌, ◌≡◌, Bool, List, None, Some, [], ap, arith, cond, eq-eqb, false, inl, length, refl, subst, sym, true, ℕ}
+use Rattle.std.proofs.lemmas.Bool.{eqb-false, eqb-true}
+use Rattle.std.proofs.lemmas.Grind.{get_or-set_at}
+use Rattle.std.proofs.lemmas.List.{get_or-set_other, length-set}
+use Rattle.um_base.specs.declared.image.Image.{Image}
+use Rattle.um_base.specs.declared.limits.TheConstants.{THREADS}
 use Rattle.um_machine.specs.Order.{Steps, to_thread}
 use Rattle.um_machine.specs.State.{State, thread_at}
+use Rattle.um_machine.specs.declared.pending.Pending.{Pending}
+use Rattle.um_machine.specs.declared.thread.Thread.{Thread}
 use Rattle.um_words.specs.declared.fine.FineAct.{FineAct}
-use Rattle.um_base.specs.declared.act.Act.{Act}
-use Rattle.um_fine.specs.Asks.{says, visits}
-use Rattle.um_fine.specs.Answers.{context_in, is_visit}
+use Rattle.um_words.specs.declared.fine.Unseen.{Unseen}
+use Rattle.um_fine.specs.Answers.{context_in}
+use Rattle.um_fine.specs.Asks.{says, says_idle, site_at}
 use Rattle.um_fine.specs.Context.{Context}
 use Rattle.um_fine.specs.Follows.{p_next}
 use Rattle.um_fine.specs.Places.{Todo, Todos}
-use Rattle.um_fine.specs.Steps.{Exchange, FineStep}
-use Rattle.um_refinement.specs.Fine.{Fine}
+use Rattle.um_fine.specs.Processor.{Processor}
+use Rattle.um_fine.specs.Scheduler.{Scheduler, first_taken, sched_after}
+use Rattle.um_fine.specs.Sites.{same_site}
+use Rattle.um_fine.specs.Steps.{Exchange, FineStep, Site}
+use Rattle.um_fine.proofs.Keys.{same-sound}
+use Rattle.um_refinement.specs.Fine.{Fine, scheduler}
 use Rattle.um_refinement.specs.Frames.{AreFramed}
 use Rattle.um_refinement.specs.Lists.{Adds, adders, has_steps, of_thread}
 use Rattle.um_refinement.specs.Offers.{Fits, IsPutBack, is_over}
@@ -26,37 +34,47 @@ use Rattle.um_refinement.proofs.ListGrips.{read-rests}
 use Rattle.um_refinement.proofs.ListGrowth.{ReadsLast}
 use Rattle.um_refinement.proofs.Offered.{Shows, behind-is}
 use Rattle.um_refinement.proofs.Others.{starts_other}
-use Rattle.um_refinement.proofs.SchedulerSteps.{made-moves, made-says}
-use Rattle.um_closing.specs.Noted.{IsAdded, noted_after, put_by}
+use Rattle.um_refinement.proofs.SchedulerSteps.{made-at, made-moves, made-says, sched-else, sched-later, shown-elsewhere}
+use Rattle.um_closing.specs.Idle.{IsAdded}
+use Rattle.um_closing.specs.ReadOff.{priority_there}
 use Rattle.um_closing.proofs.Priorities.{priority-stays}
-use Rattle.um_closing.proofs.PutThere.{idle-none, shows-none, visits-none}
 
--- what is noted for a thread after an own part of its own, and of another
-noted-own : (t : ℕ) (c : Context) (priority : ℤ) → (c.thread == t) ≡ true → noted_after t (Some c) priority ≡ c.priority
-noted-own t c priority same = ap (λ b. if b then c.priority else priority) same
+-- The cell has a place for each thread index, and there the machine's priority of each thread but those still to be added.
+pub record IsNoted (f : Fine) (m : State) : Type 0 where
+  pub wide : length (scheduler f).priorities ≡ THREADS
+  pub noted : (t : ℕ) → t < THREADS → IsAdded f t → priority_there f.image f.sites t ≡ (thread_at m t).priority
 
-noted-else : (t : ℕ) (c : Context) (priority : ℤ) → (c.thread == t) ≡ false → noted_after t (Some c) priority ≡ priority
-noted-else t c priority other = ap (λ b. if b then c.priority else priority) other
+-- What steps there do to the priorities.
 
-module _ (f : Fine) (m : State) (e : FineStep) (law : Lawful f m e) (s : State) (leaves : Leaves f m e s)
-    (t : ℕ) (priority : ℤ) (was : IsAdded f t → priority ≡ (thread_at m t).priority) where
+taken-same : (s : Scheduler) (ready : List ℕ) → (first_taken s ready).priorities ≡ s.priorities
+taken-same s [] = refl
+taken-same s (t ∷ ready) = refl
+
+after-wide : (s : Scheduler) (act : FineAct) (moved : Exchange) → length (sched_after s act moved).priorities ≡ length s.priorities
+after-wide s (FineAct.Shown _ more) moved = ap length (taken-same s s.ready)
+after-wide s (FineAct.Unseen (Unseen.Next who)) moved = ap length (taken-same s s.ready)
+after-wide s (FineAct.Unseen (Unseen.Park who ready)) moved = length-set s.priorities _ _
+after-wide s (FineAct.Unseen (Unseen.Add who)) moved = length-set s.priorities _ _
+after-wide s (FineAct.Unseen u) moved = refl
+
+idle-same : (image : Image) (p : Processor) (s : Scheduler) (moved exchange : Exchange) → (sched_after s (says_idle image p exchange) moved).priorities ≡ s.priorities
+idle-same image p s moved (Exchange.thread c None) = taken-same s s.ready
+idle-same image p s moved (Exchange.thread c (Some told)) = taken-same s s.ready
+idle-same image p s moved exchange = taken-same s s.ready
+
+module _ (f : Fine) (m : State) (e : FineStep) (law : Lawful f m e) where
   open around f e use {later, processor as p, now}
 
-  -- A start of this thread.
-  abbrev Quiet : (z : State) → Leaves f m e z → Type 0
-  Quiet _ (event q rest todo x h shown is) = starts_other t q
-  Quiet _ other = Unit {0}
+  wide-kept : length (scheduler f).priorities ≡ THREADS → length (scheduler later).priorities ≡ THREADS
+  wide-kept was = by (same_site e.site Site.scheduler) refl ∙ was
+    where
+      by : (b : Bool) → same_site e.site Site.scheduler ≡ b → length (scheduler later).priorities ≡ length (scheduler f).priorities
+      by true here =
+          ap (λ (s : Scheduler). length s.priorities) (sched-later f m e law (same-sound e.site Site.scheduler here) e.act refl)
+          ∙ after-wide (scheduler f) e.act e.moved
+      by false off = ap (λ (s : Scheduler). length s.priorities) (sched-else f m e law off)
 
-  machine-same : (z : State) (l : Leaves f m e z) → Quiet z l → (thread_at z t).priority ≡ (thread_at m t).priority
-  machine-same _ (nothing u said) quiet = refl
-  machine-same _ (event q rest todo x h shown is) quiet = priority-stays m p.context.thread t x q rest quiet
-  machine-same _ (resumes c told rest idle moved said) quiet = priority-stays m c.thread t 0 Pending.Resume rest tt
-  machine-same _ (passes who x rest todo h said) quiet = priority-stays m p.context.thread t x (Pending.Inherit (to_thread who)) rest tt
-  machine-same _ (drops from x rest todo h said) quiet = priority-stays m p.context.thread t x (Pending.Drops from) rest tt
-  machine-same _ (cleans who x rest todo h said) quiet = priority-stays m p.context.thread t x (Pending.CleanPair (to_thread who)) rest tt
-  machine-same _ (recycles x rest todo at l said chosen) quiet = priority-stays m p.context.thread t x Pending.Recycle rest tt
-
-  module _ (added : IsAdded later t) where
+  module _ (was : IsNoted f m) (s : State) (leaves : Leaves f m e s) (t : ℕ) (few : t < THREADS) (added : IsAdded later t) where
     -- nothing is left to add on the maker's list
     now-none : of_thread t (adders now.todo) ≡ 0
     now-none = ap (λ b. of_thread t (adders (cond b now p).todo)) (sym (eq-eqb e.cpu e.cpu refl)) ∙ added e.cpu law.by.named
@@ -80,7 +98,8 @@ module _ (f : Fine) (m : State) (e : FineStep) (law : Lawful f m e) (s : State) 
             ∙ read-rests f.image p p.context r e.act (made-says f m e law (Todo.show r rest ∷ todo) at) read
         last r at = tt
 
-    -- a start of this thread leaves it to be added
+    -- The machine's priority stays: a start of this thread would leave it to be added.
+
     not-started : (q : Pending) (rest : Steps) (todo : Todos) → Shows f m e.cpu e q rest todo → starts_other t q
     not-started (Pending.Start who script stack priority mode) rest todo h = λ same. absurd (omega (arith, none, list, one same))
       where
@@ -94,42 +113,56 @@ module _ (f : Fine) (m : State) (e : FineStep) (law : Lawful f m e) (s : State) 
         one same = ap (λ b. if b then 0 + 1 else 0) (eq-eqb who.0 t same)
     not-started q rest todo h = tt
 
-    quiet : (z : State) (l : Leaves f m e z) → Quiet z l
-    quiet _ (event q rest todo x h shown is) = not-started q rest todo h
-    quiet _ (nothing u said) = tt
-    quiet _ (resumes c told rest idle moved said) = tt
-    quiet _ (passes who x rest todo h said) = tt
-    quiet _ (drops from x rest todo h said) = tt
-    quiet _ (cleans who x rest todo h said) = tt
-    quiet _ (recycles x rest todo at l said chosen) = tt
-
-    same : (thread_at s t).priority ≡ (thread_at m t).priority
-    same = machine-same s leaves (quiet s leaves)
+    stays : (z : State) → Leaves f m e z → (thread_at z t).priority ≡ (thread_at m t).priority
+    stays _ (nothing u said) = refl
+    stays _ (event q rest todo x h shown is) = priority-stays m p.context.thread t x q rest (not-started q rest todo h)
+    stays _ (resumes c told rest idle moved said) = priority-stays m c.thread t 0 Pending.Resume rest tt
+    stays _ (passes who x rest todo h said) = priority-stays m p.context.thread t x (Pending.Inherit (to_thread who)) rest tt
+    stays _ (drops from x rest todo h said) = priority-stays m p.context.thread t x (Pending.Drops from) rest tt
+    stays _ (cleans who x rest todo h said) = priority-stays m p.context.thread t x (Pending.CleanPair (to_thread who)) rest tt
+    stays _ (recycles x rest todo at l said chosen) = priority-stays m p.context.thread t x Pending.Recycle rest tt
 
     abbrev Noted : Type 0
-    Noted = noted_after t (put_by e.act e.moved) priority ≡ (thread_at s t).priority
+    Noted = priority_there later.image later.sites t ≡ (thread_at s t).priority
 
-    -- a step that puts nothing there
-    puts-none : put_by e.act e.moved ≡ None → of_thread t (adders p.todo) ≡ 0 → Noted
-    puts-none none before = ap (λ o. noted_after t o priority) none ∙ (was (added-before before) ∙ sym same)
+    -- a step that leaves all priorities
+    kept : (scheduler later).priorities ≡ (scheduler f).priorities → of_thread t (adders p.todo) ≡ 0 → Noted
+    kept same before = ap (λ (ps : List ℤ). slice_index_or ps t (pos 0)) same ∙ (was.noted t few (added-before before) ∙ sym (stays s leaves))
 
     -- a step that puts the machine's own part there
-    puts : (c : Context) → put_by e.act e.moved ≡ Some c → IsOf m c → ((c.thread == t) ≡ false → of_thread t (adders p.todo) ≡ 0) → Noted
-    puts c put of before = by (c.thread == t) refl
+    puts : (c : Context) → (scheduler later).priorities ≡ slice_set (scheduler f).priorities c.thread c.priority → IsOf m c
+        → ((c.thread == t) ≡ false → of_thread t (adders p.todo) ≡ 0) → Noted
+    puts c left of before = ap (λ (ps : List ℤ). slice_index_or ps t (pos 0)) left ∙ (by (c.thread == t) refl ∙ sym (stays s leaves))
       where
-        own : c.priority ≡ (thread_at m c.thread).priority
-        own = ap (λ (th : Thread). th.priority) of.own
+        by : (b : Bool) → (c.thread == t) ≡ b → slice_index_or (slice_set (scheduler f).priorities c.thread c.priority) t (pos 0) ≡ (thread_at m t).priority
+        by true q =
+            let same = eqb-true c.thread t q in
+            let wide = was.wide in
+            let index = of.index in
+            get_or-set_at (scheduler f).priorities c.thread t c.priority (pos 0) (sym same) (omega (arith, wide, index))
+            ∙ (ap (λ (th : Thread). th.priority) of.own ∙ ap (λ n. (thread_at m n).priority) same)
+        by false q =
+            get_or-set_other (scheduler f).priorities c.thread t c.priority (pos 0) (λ same. eqb-false c.thread t q (sym same))
+            ∙ was.noted t few (added-before (before q))
 
-        by : (b : Bool) → (c.thread == t) ≡ b → Noted
-        by true here =
-            ap (λ o. noted_after t o priority) put
-            ∙ (noted-own t c priority here ∙ (own ∙ (ap (λ n. (thread_at m n).priority) (eqb-true c.thread t here) ∙ sym same)))
-        by false other = ap (λ o. noted_after t o priority) put ∙ (noted-else t c priority other ∙ (was (added-before (before other)) ∙ sym same))
+    -- what stands there after a step at the scheduler, and after one elsewhere
+    there : (todo : Todos) → p.todo ≡ todo → site_at f.image p todo ≡ Site.scheduler
+        → (scheduler later).priorities ≡ (sched_after (scheduler f) (says f.image p todo e.act e.moved) e.moved).priorities
+    there todo at here =
+        ap (λ (z : Scheduler). z.priorities) (sched-later f m e law (made-at f m e law todo at ∙ here) (says f.image p todo e.act e.moved) (made-says f m e law todo at))
+
+    elsewhere : (todo : Todos) → p.todo ≡ todo → same_site (site_at f.image p todo) Site.scheduler ≡ false → (scheduler later).priorities ≡ (scheduler f).priorities
+    elsewhere todo at off = ap (λ (z : Scheduler). z.priorities) (sched-else f m e law (ap (λ i. same_site i Site.scheduler) (made-at f m e law todo at) ∙ off))
+
+    -- an own part that goes with a step is put there
+    with-part : (c : Context) → e.moved ≡ Exchange.thread c None
+        → slice_set (scheduler f).priorities (context_in e.moved).thread (context_in e.moved).priority ≡ slice_set (scheduler f).priorities c.thread c.priority
+    with-part c moved = ap (λ (mv : Exchange). slice_set (scheduler f).priorities (context_in mv).thread (context_in mv).priority) moved
 
     on-park : (todo : Todos) → p.todo ≡ Todo.park ∷ todo → Noted
     on-park todo at =
         puts p.context
-        ((λ i. put_by (made-says f m e law (Todo.park ∷ todo) at i) e.moved) ∙ ap (λ (mv : Exchange). Some (context_in mv)) (made-moves f m e law (Todo.park ∷ todo) at))
+        (there (Todo.park ∷ todo) at refl ∙ with-part p.context (made-moves f m e law (Todo.park ∷ todo) at))
         ((law.rel.contexts.running e.cpu law.by.named (ap has_steps at)).of fits.1)
         (λ other. ap (λ (z : Todos). of_thread t (adders z)) (at ∙ ap (λ z. Todo.park ∷ z) fits.2))
       where
@@ -139,37 +172,25 @@ module _ (f : Fine) (m : State) (e : FineStep) (law : Lawful f m e) (s : State) 
     on-add : (d : Context) (todo : Todos) → p.todo ≡ Todo.add d ∷ todo → Noted
     on-add d todo at =
         puts d
-        ((λ i. put_by (made-says f m e law (Todo.add d ∷ todo) at i) e.moved) ∙ ap (λ (mv : Exchange). Some (context_in mv)) (made-moves f m e law (Todo.add d ∷ todo) at))
+        (there (Todo.add d ∷ todo) at refl ∙ with-part d (made-moves f m e law (Todo.add d ∷ todo) at))
         (law.rel.contexts.added e.cpu d law.by.named (subst (Adds d) (sym at) (inl refl))).0
         (λ other.
         ap (λ (z : Todos). of_thread t (adders z)) at
         ∙ (ap (λ b. if b then of_thread t (adders todo) + 1 else of_thread t (adders todo)) other ∙ behind (Todo.add d) todo at))
 
-    on-visit : (q : Todo) (todo : Todos) (act : Act) → p.todo ≡ q ∷ todo → says f.image p (q ∷ todo) e.act e.moved ≡ visits f.image p e.act act
-        → of_thread t (adders (q ∷ todo)) ≡ of_thread t (adders todo) → Noted
-    on-visit q todo act at says-visit passed =
-        puts-none
-        ((λ i. put_by ((made-says f m e law (q ∷ todo) at ∙ says-visit) i) e.moved) ∙ visits-none f.image p e.moved (is_visit e.act) act)
-        (ap (λ (z : Todos). of_thread t (adders z)) at ∙ (passed ∙ behind q todo at))
-
-    plain : (q : Todo) (todo : Todos) (act : FineAct) → p.todo ≡ q ∷ todo → says f.image p (q ∷ todo) e.act e.moved ≡ act → put_by act e.moved ≡ None
-        → of_thread t (adders (q ∷ todo)) ≡ of_thread t (adders todo) → Noted
-    plain q todo act at said none passed =
-        puts-none ((λ i. put_by ((made-says f m e law (q ∷ todo) at ∙ said) i) e.moved) ∙ none) (ap (λ (z : Todos). of_thread t (adders z)) at ∙ (passed ∙ behind q todo at))
+    -- the maker's list has as much to add as its rest
+    before : (q : Todo) (todo : Todos) → p.todo ≡ q ∷ todo → of_thread t (adders (q ∷ todo)) ≡ of_thread t (adders todo) → of_thread t (adders p.todo) ≡ 0
+    before q todo at passed = ap (λ (z : Todos). of_thread t (adders z)) at ∙ (passed ∙ behind q todo at)
 
     by-todo : (todo : Todos) → p.todo ≡ todo → Noted
-    by-todo [] at =
-        puts-none ((λ i. put_by (made-says f m e law [] at i) e.moved) ∙ idle-none f.image p e.moved e.moved) (ap (λ (z : Todos). of_thread t (adders z)) at)
+    by-todo [] at = kept (there [] at refl ∙ idle-same f.image p (scheduler f) e.moved e.moved) (ap (λ (z : Todos). of_thread t (adders z)) at)
     by-todo (Todo.show q rest ∷ todo) at =
-        puts-none ((λ i. put_by (made-says f m e law (Todo.show q rest ∷ todo) at i) e.moved) ∙ shows-none f.image p e.moved q e.act)
-        (ap (λ (z : Todos). of_thread t (adders z)) at)
+        kept (elsewhere (Todo.show q rest ∷ todo) at (shown-elsewhere f.image p q)) (ap (λ (z : Todos). of_thread t (adders z)) at)
     by-todo (Todo.park ∷ todo) at = on-park todo at
     by-todo (Todo.add d ∷ todo) at = on-add d todo at
-    by-todo (Todo.pass who x ∷ todo) at = on-visit (Todo.pass who x) todo _ at refl refl
-    by-todo (Todo.drop x ∷ todo) at = on-visit (Todo.drop x) todo _ at refl refl
-    by-todo (Todo.clean_pair who x ∷ todo) at = on-visit (Todo.clean_pair who x) todo _ at refl refl
-    by-todo (q ∷ todo) at = plain q todo _ at refl refl refl
+    by-todo (Todo.wake who told ∷ todo) at = kept (there (Todo.wake who told ∷ todo) at refl) (before (Todo.wake who told) todo at refl)
+    by-todo (Todo.done ∷ todo) at = kept (there (Todo.done ∷ todo) at refl) (before Todo.done todo at refl)
+    by-todo (q ∷ todo) at = kept (elsewhere (q ∷ todo) at refl) (before q todo at refl)
 
-    -- what is noted after the step is the machine's priority
-    pub noted-step : Noted
-    noted-step = by-todo p.todo refl
+  pub noted-step : IsNoted f m → (s : State) → Leaves f m e s → IsNoted later s
+  noted-step was s leaves = record { wide = wide-kept was.wide; noted = λ t few added. by-todo was s leaves t few added p.todo refl }

@@ -1,16 +1,17 @@
 -- No step of the access-matrix machine but a start changes the priority of a thread, and a start changes only that of the thread started.
-use Rattle.std.proofs.Common.{◌≡◌, ℕ, ℤ, Some, None, refl, ap, ◌∙◌}
-use Rattle.um_machine.specs.declared.pending.Pending.{Pending}
-use Rattle.um_machine.specs.declared.thread.Thread.{Thread}
+use Rattle.std.specs.Prelude.{ℤ}
+use Rattle.std.proofs.Common.{◌∙◌, ◌≡◌, None, Some, ap, refl, ℕ}
 use Rattle.um_machine.specs.Goes.{Next, gone, went}
 use Rattle.um_machine.specs.Order.{Steps}
 use Rattle.um_machine.specs.State.{State, thread_at}
-use Rattle.um_machine.specs.Table as T
 use Rattle.um_machine.specs.Writes.{wrote}
-use Rattle.um_machine.proofs.EffectLemmas.{Ignores, all_other, effects_of, key-same, keys-went, keys-wrote, next_of}
+use Rattle.um_machine.specs.declared.pending.Pending.{Pending}
+use Rattle.um_machine.specs.declared.thread.Thread.{Thread}
+use Rattle.um_machine.proofs.EffectLemmas.{Ignores, all_other, effects_of, key-same, keys-wrote, next_of, keys-went}
 use Rattle.um_machine.proofs.WayLemmas.{changed-same, held-same}
 use Rattle.um_refinement.proofs.Others.{starts_other}
 use Rattle.um_refinement.proofs.ThreadLists.{set-else}
+use Rattle.um_machine.specs.Table as T
 
 abbrev pub priority_of : Thread → ℤ
 priority_of me = me.priority
