@@ -28,7 +28,7 @@ use Rattle.um_refinement.proofs.Reachable.{IsWide}
 use Rattle.um_closing.specs.Agreement.{AgreeInDump, ObjectsAgree, ThreadsAgree, has_line, waiters_in}
 use Rattle.um_closing.specs.Idle.{AreIdle}
 use Rattle.um_closing.specs.ReadOff.{object_there, priority_there, read_off, status_off, thread_there}
-use Rattle.um_closing.proofs.Numbers.{many-numbers}
+use Rattle.um_closing.proofs.Numbers.{many_numbers}
 use Rattle.um_closing.proofs.ReadAt.{object_read, pairs_read, parts_read, thread_past, thread_read}
 use Rattle.um_machine.specs.Objects as Plain
 
@@ -160,7 +160,7 @@ module _ (f : Fine) (m : State) (rel : Rel f m) (placed : IsPlaced m) (idle : Ar
 
   all-waiters : waiters_in read ≡ waiters_in m
   all-waiters =
-      let mine : length read.objects ≡ ROWS = many-numbers (object_there f.image f.sites) ROWS in
+      let mine : length read.objects ≡ ROWS = many_numbers (object_there f.image f.sites) ROWS in
       let its = placed.wide.objects in
       ext_get_or [] (waiters_in read) (waiters_in m)
       (length-map read.objects waits-of ∙ (mine ∙ (sym its ∙ sym (length-map m.objects waits-of))))

@@ -6,19 +6,19 @@ use Rattle.std.proofs.lemmas.List.FromFn.{get_or-map-range_with_len, length-map-
 use Rattle.um_closing.specs.ReadOff.{numbers}
 
 module _ {A : Type 0} (g : ℕ → A) (n : ℕ) where
-  pub at-number : (i : ℕ) (d : A) → i < n → slice_index_or (map g (numbers n)) i d ≡ g i
+  pub at_number : (i : ℕ) (d : A) → i < n → slice_index_or (map g (numbers n)) i d ≡ g i
   unfolding numbers
-  at-number i d l = let here : 0 + i ≡ i = omega arith in get_or-map-range_with_len g 0 n i i d l here
+  at_number i d l = let here : 0 + i ≡ i = omega arith in get_or-map-range_with_len g 0 n i i d l here
 
-  pub many-numbers : length (map g (numbers n)) ≡ n
+  pub many_numbers : length (map g (numbers n)) ≡ n
   unfolding numbers
-  many-numbers = length-map-range_with_len g 0 n
+  many_numbers = length-map-range_with_len g 0 n
 
-  pub past-numbers : (i : ℕ) (d : A) → n ≤ i → slice_index_or (map g (numbers n)) i d ≡ d
-  past-numbers i d l = get_or_past (map g (numbers n)) i d (omega (arith, l, many-numbers))
+  pub past_numbers : (i : ℕ) (d : A) → n ≤ i → slice_index_or (map g (numbers n)) i d ≡ d
+  past_numbers i d l = get_or_past (map g (numbers n)) i d (omega (arith, l, many_numbers))
 
 -- two such lists that say the same of each of them are the same
-pub same-numbers : {A : Type 0} (g h : ℕ → A) (n : ℕ) → ((i : ℕ) → i < n → g i ≡ h i) → map g (numbers n) ≡ map h (numbers n)
-same-numbers g h n same =
-    ext_get_or (g 0) (map g (numbers n)) (map h (numbers n)) (many-numbers g n ∙ sym (many-numbers h n))
-    (λ i l. let few : i < n = omega (arith, l, many-numbers g n) in at-number g n i (g 0) few ∙ (same i few ∙ sym (at-number h n i (g 0) few)))
+pub same_numbers : {A : Type 0} (g h : ℕ → A) (n : ℕ) → ((i : ℕ) → i < n → g i ≡ h i) → map g (numbers n) ≡ map h (numbers n)
+same_numbers g h n same =
+    ext_get_or (g 0) (map g (numbers n)) (map h (numbers n)) (many_numbers g n ∙ sym (many_numbers h n))
+    (λ i l. let few : i < n = omega (arith, l, many_numbers g n) in at_number g n i (g 0) few ∙ (same i few ∙ sym (at_number h n i (g 0) few)))

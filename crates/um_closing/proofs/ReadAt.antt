@@ -7,23 +7,23 @@ use Rattle.um_machine.specs.State.{nobody, object_at, thread_at, vacant}
 use Rattle.um_fine.specs.Sites.{SiteState}
 use Rattle.um_fine.specs.Steps.{Site}
 use Rattle.um_closing.specs.ReadOff.{object_there, pairs_there, parts_there, read_off, thread_there}
-use Rattle.um_closing.proofs.Numbers.{at-number, past-numbers}
+use Rattle.um_closing.proofs.Numbers.{at_number, past_numbers}
 
 module _ (image : Image) (sites : Site → SiteState) where
   pub thread_read : (t : ℕ) → t < THREADS → thread_at (read_off image sites) t ≡ thread_there image sites t
-  thread_read t l = at-number (thread_there image sites) THREADS t nobody l
+  thread_read t l = at_number (thread_there image sites) THREADS t nobody l
 
   pub thread_past : (t : ℕ) → THREADS ≤ t → thread_at (read_off image sites) t ≡ nobody
-  thread_past t l = past-numbers (thread_there image sites) THREADS t nobody l
+  thread_past t l = past_numbers (thread_there image sites) THREADS t nobody l
 
   pub object_read : (x : ℕ) → x < ROWS → object_at (read_off image sites) x ≡ object_there image sites x
-  object_read x l = at-number (object_there image sites) ROWS x vacant l
+  object_read x l = at_number (object_there image sites) ROWS x vacant l
 
   pub pairs_read : (x : ℕ) → x < ROWS → slice_index_or (read_off image sites).pairs x [] ≡ pairs_there image sites x
-  pairs_read x l = at-number (pairs_there image sites) ROWS x [] l
+  pairs_read x l = at_number (pairs_there image sites) ROWS x [] l
 
   pub parts_read : (d : ℕ) → d < length image.domains → slice_index_or (read_off image sites).domains d None ≡ parts_there image sites d
-  parts_read d l = at-number (parts_there image sites) (length image.domains) d None l
+  parts_read d l = at_number (parts_there image sites) (length image.domains) d None l
 
   pub parts_past : (d : ℕ) → length image.domains ≤ d → slice_index_or (read_off image sites).domains d None ≡ None
-  parts_past d l = past-numbers (parts_there image sites) (length image.domains) d None l
+  parts_past d l = past_numbers (parts_there image sites) (length image.domains) d None l

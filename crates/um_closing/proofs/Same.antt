@@ -9,7 +9,7 @@ use Rattle.um_fine.specs.Sites.{SiteState, is_site}
 use Rattle.um_fine.specs.Steps.{Site}
 use Rattle.um_refinement.specs.Fine.{bytes_state, heap_state, object_state, parts_state, row_state, scheduler_state, thread_state}
 use Rattle.um_closing.specs.ReadOff.{numbers, object_off, object_there, pairs_there, parts_there, read_off, thread_off, thread_there}
-use Rattle.um_closing.proofs.Numbers.{same-numbers}
+use Rattle.um_closing.proofs.Numbers.{same_numbers}
 
 pub read-same : (image : Image) (one two : Site → SiteState) → length image.domains ≤ DOMAINS → ((i : Site) → IsTrue (is_site i) → one i ≡ two i)
     → read_off image one ≡ read_off image two
@@ -27,18 +27,18 @@ read-same image one two few same = λ i.
   where
     threads : map (thread_there image one) (numbers THREADS) ≡ map (thread_there image two) (numbers THREADS)
     threads =
-        same-numbers (thread_there image one) (thread_there image two) THREADS
+        same_numbers (thread_there image one) (thread_there image two) THREADS
         (λ t l i. thread_off (thread_state (same (Site.thread t) (lt-ltb t THREADS l) i)) (slice_index_or (scheduler_state (same Site.scheduler refl i)).priorities t (pos 0)))
 
     objects : map (object_there image one) (numbers ROWS) ≡ map (object_there image two) (numbers ROWS)
     objects =
-        same-numbers (object_there image one) (object_there image two) ROWS
+        same_numbers (object_there image one) (object_there image two) ROWS
         (λ x l i. object_off image x (row_state (same (Site.row x) (lt-ltb x ROWS l) i)) (object_state (same (Site.object x) (lt-ltb x ROWS l) i)) (heap_state (same Site.heap refl i)))
 
     pairs : map (pairs_there image one) (numbers ROWS) ≡ map (pairs_there image two) (numbers ROWS)
-    pairs = same-numbers (pairs_there image one) (pairs_there image two) ROWS (λ x l i. (row_state (same (Site.row x) (lt-ltb x ROWS l) i)).permissions)
+    pairs = same_numbers (pairs_there image one) (pairs_there image two) ROWS (λ x l i. (row_state (same (Site.row x) (lt-ltb x ROWS l) i)).permissions)
 
     domains : map (parts_there image one) (numbers (length image.domains)) ≡ map (parts_there image two) (numbers (length image.domains))
     domains =
-        same-numbers (parts_there image one) (parts_there image two) (length image.domains)
+        same_numbers (parts_there image one) (parts_there image two) (length image.domains)
         (λ d l i. parts_state (same (Site.parts d) (lt-ltb d DOMAINS (omega (arith, l, few))) i))

@@ -1,20 +1,30 @@
 //! The state that is read off tables, as a dump reads it.
 
 ghost use Rattle.std.specs.Prelude.{◌≡◌, ◌<◌};
-ghost use Rattle.um_base.specs.declared.limits.TheConstants.{ROWS};
+ghost use Rattle.um_machine.specs.State.{thread_at};
 ghost use Rattle.um_refinement.specs.Objects.{status_of};
 ghost use Rattle.um_tables.specs.Sited.{state_at};
-ghost use Rattle.um_closing.specs.ReadOff.{object_there, read_off};
+ghost use Rattle.um_closing.specs.ReadOff.{read_off, thread_off};
 
 use std::marker::Model;
 use um_base::{Image, Kind, Mode, Parts, ROWS, STATIC_ROWS, THREADS, Waiter};
 use um_machine::{Contents, Life, Status};
 use um_steps::Dumped;
 use um_tables::{Tables, kind_of};
-use um_words::Stage;
+use um_words::{Stage, ThreadWord};
+
+/// The word of a thread index where nothing was started.
+const UNBORN: ThreadWord = ThreadWord {
+    life: Life::Unborn,
+    doomed: false,
+    held: false,
+    mode: Mode::User,
+    domain: 0,
+    number: 0,
+};
 
 /// Tables of an image, in which no processor has a step left. Contracts see the state that is read off them.
-#[derive(Clone, Copy)]
+#[derive(Drop)]
 pub struct Closing<'a> {
     image: &'a Image,
     tables: &'a Tables,
@@ -49,31 +59,35 @@ impl<'a> Closing<'a> {
     {
         Closing { image, tables }
     }
+
+    /// The word of a thread. Past the last one nothing was started.
+    fn word(&self, thread: usize) -> ThreadWord
+        ensures { thread_at self.now thread ≡ thread_off result (thread_at self.now thread).priority }
+    {
+        if thread < THREADS {
+            *self.tables.thread_word(thread)
+        } else {
+            UNBORN
+        }
+    }
 }
 
 impl<'a> Dumped for Closing<'a> {
     ghost state = { λ s. s };
 
     fn life(&self, thread: usize) -> Life {
-        if thread < THREADS {
-            self.tables.thread_word(thread).life
-        } else {
-            Life::Unborn
-        }
+        self.word(thread).life
     }
 
     fn is_doomed(&self, thread: usize) -> bool {
-        thread < THREADS && self.tables.thread_word(thread).doomed
+        self.word(thread).doomed
     }
 
     fn mode(&self, thread: usize) -> Mode {
-        if thread < THREADS {
-            self.tables.thread_word(thread).mode
-        } else {
-            Mode::User
-        }
+        self.word(thread).mode
     }
 
+    #[tactic(auto, using(crate::proofs::ReadAt::thread_read, crate::proofs::ReadAt::thread_past))]
     fn priority(&self, thread: usize) -> i8 {
         if thread < THREADS {
             self.tables.scheduler().priority(thread)
@@ -83,37 +97,42 @@ impl<'a> Dumped for Closing<'a> {
     }
 
     fn domain(&self, thread: usize) -> u8 {
-        if thread < THREADS {
-            self.tables.thread_word(thread).domain
-        } else {
-            0
-        }
+        self.word(thread).domain
     }
 
+    #[tactic(auto, using(crate::proofs::Numbers::many_numbers))]
     fn rows(&self) -> usize {
+        let _ = &self.tables;
         ROWS
     }
 
+    #[tactic(auto, using(crate::proofs::ReadAt::object_read))]
     fn status(&self, row: usize) -> Status {
         let is_reserved = row >= STATIC_ROWS && !self.tables.heap_contents().is_free(row);
         status_of(self.tables.row_word(row).stage, is_reserved)
     }
 
+    #[tactic(auto, using(crate::proofs::ReadAt::object_read))]
     fn kind(&self, row: usize) -> Option<Kind> {
+        let kind = kind_of(self.image, row);
         if self.status(row) == Status::Free {
-            return None;
+            None
+        } else {
+            kind
         }
-        kind_of(self.image, row)
     }
 
+    #[tactic(auto, using(crate::proofs::ReadAt::object_read))]
     fn is_public(&self, row: usize) -> bool {
         self.tables.row_word(row).public
     }
 
+    #[tactic(auto, using(crate::proofs::ReadAt::object_read))]
     fn is_initialised(&self, row: usize) -> bool {
         self.tables.row_word(row).init
     }
 
+    #[tactic(auto, using(crate::proofs::ReadAt::object_read))]
     fn contents(&self, row: usize) -> Option<&Contents> {
         match self.tables.object_cell(row) {
             Some(cell) => Some(&cell.contents),
@@ -121,6 +140,7 @@ impl<'a> Dumped for Closing<'a> {
         }
     }
 
+    #[tactic(auto, using(crate::proofs::ReadAt::object_read))]
     fn waiters(&self, row: usize) -> &[Waiter] {
         match self.tables.object_cell(row) {
             Some(cell) => cell.waiters.as_slice(),
@@ -128,10 +148,12 @@ impl<'a> Dumped for Closing<'a> {
         }
     }
 
+    #[tactic(auto, using(crate::proofs::ReadAt::pairs_read))]
     fn has_pair(&self, thread: usize, row: usize) -> bool {
         self.tables.row_word(row).permissions.has(thread as u8)
     }
 
+    #[tactic(auto, using(crate::proofs::ReadAt::parts_read, crate::proofs::ReadAt::parts_past))]
     fn partitions(&self, domain: usize) -> Option<&Parts> {
         if domain < self.image.domains.len() {
             self.tables.partitions(domain)
