@@ -7,7 +7,7 @@ use Rattle.um_machine.specs.State.{nobody, object_at, thread_at, vacant}
 use Rattle.um_fine.specs.Sites.{SiteState}
 use Rattle.um_fine.specs.Steps.{Site}
 use Rattle.um_closing.specs.ReadOff.{object_there, pairs_there, parts_there, read_off, thread_there}
-use Rattle.um_closing.proofs.Numbers.{at_number, past_numbers}
+use Rattle.um_closing.proofs.Numbers.{at_number, many_numbers, past_numbers}
 
 module _ (image : Image) (sites : Site → SiteState) where
   pub thread_read : (t : ℕ) → t < THREADS → thread_at (read_off image sites) t ≡ thread_there image sites t
@@ -27,3 +27,6 @@ module _ (image : Image) (sites : Site → SiteState) where
 
   pub parts_past : (d : ℕ) → length image.domains ≤ d → slice_index_or (read_off image sites).domains d None ≡ None
   parts_past d l = past_numbers (parts_there image sites) (length image.domains) d None l
+
+-- what `Closing` reads
+pub ruleset readings = (many_numbers, object_read, parts_read, parts_past)

@@ -1,4 +1,5 @@
 //! The state that is read off tables, as a dump reads it.
+#![tactic(auto, using(crate::proofs::ReadAt::readings))]
 
 ghost use Rattle.std.specs.Prelude.{◌≡◌, ◌<◌};
 ghost use Rattle.um_machine.specs.State.{thread_at};
@@ -87,7 +88,6 @@ impl<'a> Dumped for Closing<'a> {
         self.word(thread).mode
     }
 
-    #[tactic(auto, using(crate::proofs::ReadAt::thread_read, crate::proofs::ReadAt::thread_past))]
     fn priority(&self, thread: usize) -> i8 {
         if thread < THREADS {
             self.tables.scheduler().priority(thread)
@@ -100,19 +100,16 @@ impl<'a> Dumped for Closing<'a> {
         self.word(thread).domain
     }
 
-    #[tactic(auto, using(crate::proofs::Numbers::many_numbers))]
     fn rows(&self) -> usize {
         let _ = &self.tables;
         ROWS
     }
 
-    #[tactic(auto, using(crate::proofs::ReadAt::object_read))]
     fn status(&self, row: usize) -> Status {
         let is_reserved = row >= STATIC_ROWS && !self.tables.heap_contents().is_free(row);
         status_of(self.tables.row_word(row).stage, is_reserved)
     }
 
-    #[tactic(auto, using(crate::proofs::ReadAt::object_read))]
     fn kind(&self, row: usize) -> Option<Kind> {
         let kind = kind_of(self.image, row);
         if self.status(row) == Status::Free {
@@ -122,17 +119,14 @@ impl<'a> Dumped for Closing<'a> {
         }
     }
 
-    #[tactic(auto, using(crate::proofs::ReadAt::object_read))]
     fn is_public(&self, row: usize) -> bool {
         self.tables.row_word(row).public
     }
 
-    #[tactic(auto, using(crate::proofs::ReadAt::object_read))]
     fn is_initialised(&self, row: usize) -> bool {
         self.tables.row_word(row).init
     }
 
-    #[tactic(auto, using(crate::proofs::ReadAt::object_read))]
     fn contents(&self, row: usize) -> Option<&Contents> {
         match self.tables.object_cell(row) {
             Some(cell) => Some(&cell.contents),
@@ -140,7 +134,6 @@ impl<'a> Dumped for Closing<'a> {
         }
     }
 
-    #[tactic(auto, using(crate::proofs::ReadAt::object_read))]
     fn waiters(&self, row: usize) -> &[Waiter] {
         match self.tables.object_cell(row) {
             Some(cell) => cell.waiters.as_slice(),
@@ -148,12 +141,10 @@ impl<'a> Dumped for Closing<'a> {
         }
     }
 
-    #[tactic(auto, using(crate::proofs::ReadAt::pairs_read))]
     fn has_pair(&self, thread: usize, row: usize) -> bool {
         self.tables.row_word(row).permissions.has(thread as u8)
     }
 
-    #[tactic(auto, using(crate::proofs::ReadAt::parts_read, crate::proofs::ReadAt::parts_past))]
     fn partitions(&self, domain: usize) -> Option<&Parts> {
         if domain < self.image.domains.len() {
             self.tables.partitions(domain)

@@ -1,4 +1,4 @@
-use Rattle.std.proofs.Common.{◌≡◌, subst, sym}
+use Rattle.std.proofs.Common.{◌≡◌, subst}
 use Rattle.um_machine.specs.State.{State, pair_at}
 use Rattle.um_tables.specs.Sited.{state_at}
 use Rattle.um_closing.proofs.ReadAt.{pairs_read}
