@@ -54,13 +54,13 @@ same-status Stage.Free Status.Live dynamic is static = cc
 same-status Stage.Free Status.Gone dynamic is static = cc
 
 module _ (f : Fine) (m : State) (rel : Rel f m) (placed : IsPlaced m) (idle : AreIdle f)
-    (knows : (t : ℕ) → t < THREADS → IsTrue (is_started (thread_at m t).life) → priority_there f.image f.sites t ≡ (thread_at m t).priority) where
+    (knows : (t : ℕ) → t < THREADS → IsTrue (is_started (thread_at m t).life) → priority_there f.sites t ≡ (thread_at m t).priority) where
   abbrev read : State
   read = read_off f.image f.sites
 
   -- Threads.
 
-  thread-there : (t : ℕ) → t < THREADS → ThreadsAgree (thread_there f.image f.sites t) (thread_at m t)
+  thread-there : (t : ℕ) → t < THREADS → ThreadsAgree (thread_there f.sites t) (thread_at m t)
   thread-there t few =
       let w = (rel.threads t few).word in
       record {
@@ -76,11 +76,11 @@ module _ (f : Fine) (m : State) (rel : Rel f m) (placed : IsPlaced m) (idle : Ar
     where
       by : (b : Bool) → nat_lt t THREADS ≡ b → ThreadsAgree (thread_at read t) (thread_at m t)
       by true few =
-          let l = ltb-true t THREADS few in subst (λ (th : Thread). ThreadsAgree th (thread_at m t)) (sym (thread_read f.image f.sites t l)) (thread-there t l)
+          let l = ltb-true t THREADS few in subst (λ (th : Thread). ThreadsAgree th (thread_at m t)) (sym (thread_read f.sites t l)) (thread-there t l)
       by false many =
           let l = past t THREADS many in
           let long = placed.wide.threads in
-          let mine = thread_past f.image f.sites t l in
+          let mine = thread_past f.sites t l in
           let its : thread_at m t ≡ nobody = outside m.threads t nobody (omega (arith, l, long)) in
           subst (λ (z : Thread × Thread). ThreadsAgree z.0 z.1) (λ i. (sym mine i, sym its i))
           (record { life = refl; doomed = refl; mode = λ h. refl; priority = λ h. refl; domain = λ h. refl })
@@ -153,7 +153,7 @@ module _ (f : Fine) (m : State) (rel : Rel f m) (placed : IsPlaced m) (idle : Ar
     waiters-same = ap (λ (o : Object). o.waiters) (object_read f.image f.sites x few) ∙ ap (λ (c : ObjectCell). c.waiters) cell-same
 
     pairs-same : slice_index_or read.pairs x [] ≡ slice_index_or m.pairs x []
-    pairs-same = pairs_read f.image f.sites x few ∙ (rel.rows x few).pairs.pairs
+    pairs-same = pairs_read f.sites x few ∙ (rel.rows x few).pairs.pairs
 
   abbrev waits-of : Object → List Waiter
   waits-of o = o.waiters

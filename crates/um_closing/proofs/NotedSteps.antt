@@ -42,7 +42,7 @@ use Rattle.um_closing.proofs.Priorities.{priority-stays}
 -- The cell has a place for each thread index, and there the machine's priority of each thread but those still to be added.
 pub record IsNoted (f : Fine) (m : State) : Type 0 where
   pub wide : length (scheduler f).priorities ≡ THREADS
-  pub noted : (t : ℕ) → t < THREADS → IsAdded f t → priority_there f.image f.sites t ≡ (thread_at m t).priority
+  pub noted : (t : ℕ) → t < THREADS → IsAdded f t → priority_there f.sites t ≡ (thread_at m t).priority
 
 -- What steps there do to the priorities.
 
@@ -123,7 +123,7 @@ module _ (f : Fine) (m : State) (e : FineStep) (law : Lawful f m e) where
     stays _ (recycles x rest todo at l said chosen) = priority-stays m p.context.thread t x Pending.Recycle rest tt
 
     abbrev Noted : Type 0
-    Noted = priority_there later.image later.sites t ≡ (thread_at s t).priority
+    Noted = priority_there later.sites t ≡ (thread_at s t).priority
 
     -- a step that leaves all priorities
     kept : (scheduler later).priorities ≡ (scheduler f).priorities → of_thread t (adders p.todo) ≡ 0 → Noted

@@ -25,9 +25,9 @@ read-same image one two few same = λ i.
       pools = (heap_state (same Site.heap refl i)).pools;
     }
   where
-    threads : map (thread_there image one) (numbers THREADS) ≡ map (thread_there image two) (numbers THREADS)
+    threads : map (thread_there one) (numbers THREADS) ≡ map (thread_there two) (numbers THREADS)
     threads =
-        same_numbers (thread_there image one) (thread_there image two) THREADS
+        same_numbers (thread_there one) (thread_there two) THREADS
         (λ t l i. thread_off (thread_state (same (Site.thread t) (lt-ltb t THREADS l) i)) (slice_index_or (scheduler_state (same Site.scheduler refl i)).priorities t (pos 0)))
 
     objects : map (object_there image one) (numbers ROWS) ≡ map (object_there image two) (numbers ROWS)
@@ -35,10 +35,10 @@ read-same image one two few same = λ i.
         same_numbers (object_there image one) (object_there image two) ROWS
         (λ x l i. object_off image x (row_state (same (Site.row x) (lt-ltb x ROWS l) i)) (object_state (same (Site.object x) (lt-ltb x ROWS l) i)) (heap_state (same Site.heap refl i)))
 
-    pairs : map (pairs_there image one) (numbers ROWS) ≡ map (pairs_there image two) (numbers ROWS)
-    pairs = same_numbers (pairs_there image one) (pairs_there image two) ROWS (λ x l i. (row_state (same (Site.row x) (lt-ltb x ROWS l) i)).permissions)
+    pairs : map (pairs_there one) (numbers ROWS) ≡ map (pairs_there two) (numbers ROWS)
+    pairs = same_numbers (pairs_there one) (pairs_there two) ROWS (λ x l i. (row_state (same (Site.row x) (lt-ltb x ROWS l) i)).permissions)
 
-    domains : map (parts_there image one) (numbers (length image.domains)) ≡ map (parts_there image two) (numbers (length image.domains))
+    domains : map (parts_there one) (numbers (length image.domains)) ≡ map (parts_there two) (numbers (length image.domains))
     domains =
-        same_numbers (parts_there image one) (parts_there image two) (length image.domains)
+        same_numbers (parts_there one) (parts_there two) (length image.domains)
         (λ d l i. parts_state (same (Site.parts d) (lt-ltb d DOMAINS (omega (arith, l, few))) i))

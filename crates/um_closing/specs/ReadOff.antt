@@ -47,7 +47,7 @@ object_off image x w cell h =
       cleaner = None;
     }
 
-module _ (image : Image) (sites : Site → SiteState) where
+module _ (sites : Site → SiteState) where
   -- the priority that the scheduler's cell has noted for a thread index
   abbrev pub priority_there : ℕ → ℤ
   priority_there t = slice_index_or (scheduler_state (sites Site.scheduler)).priorities t (pos 0)
@@ -55,24 +55,25 @@ module _ (image : Image) (sites : Site → SiteState) where
   abbrev pub thread_there : ℕ → Thread
   thread_there t = thread_off (thread_state (sites (Site.thread t))) (priority_there t)
 
-  abbrev pub object_there : ℕ → Object
-  object_there x =
-      object_off image x (row_state (sites (Site.row x))) (object_state (sites (Site.object x))) (heap_state (sites Site.heap))
-
   abbrev pub pairs_there : ℕ → List Bool
   pairs_there x = (row_state (sites (Site.row x))).permissions
 
   abbrev pub parts_there : ℕ → Option Partitions
   parts_there d = parts_state (sites (Site.parts d))
 
+module _ (image : Image) (sites : Site → SiteState) where
+  abbrev pub object_there : ℕ → Object
+  object_there x =
+      object_off image x (row_state (sites (Site.row x))) (object_state (sites (Site.object x))) (heap_state (sites Site.heap))
+
   abbrev pub read_off : State
   read_off =
       record {
         image = image;
-        threads = map thread_there (numbers THREADS);
+        threads = map (thread_there sites) (numbers THREADS);
         objects = map object_there (numbers ROWS);
-        pairs = map pairs_there (numbers ROWS);
-        domains = map parts_there (numbers (length image.domains));
+        pairs = map (pairs_there sites) (numbers ROWS);
+        domains = map (parts_there sites) (numbers (length image.domains));
         memory = (bytes_state (sites Site.memory)).memory;
         stacks = (bytes_state (sites Site.memory)).stacks;
         pools = (heap_state (sites Site.heap)).pools;

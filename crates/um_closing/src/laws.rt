@@ -31,13 +31,13 @@ pub fn every_closing()
     ensures agrees { (image : Image) (cpus : ℕ) (steps : List FineStep) (last : State)
         → IsDescribed image → IsFineRun image cpus steps → Runs (opening image) (shown steps) last
         → Rel (left_by image cpus steps) last → AreIdle (left_by image cpus steps)
-        → KnowsPriorities last (priority_there image (left_by image cpus steps).sites)
+        → KnowsPriorities last (priority_there (left_by image cpus steps).sites)
         → AgreeInDump image (closing_state image cpus steps) last }
     ensures notes { (image : Image) (cpus : ℕ) (steps : List FineStep) → IsDescribed image
         → IsFineRun image cpus steps
         → (last : State) × Runs (opening image) (shown steps) last × Rel (left_by image cpus steps) last
         × ((t : ℕ) → t < THREADS → IsAdded (left_by image cpus steps) t
-        → priority_there image (left_by image cpus steps).sites t ≡ (thread_at last t).priority) }
+        → priority_there (left_by image cpus steps).sites t ≡ (thread_at last t).priority) }
     ensures closes { (image : Image) (cpus : ℕ) (steps : List FineStep) → IsDescribed image
         → IsFineRun image cpus steps → AreIdle (left_by image cpus steps)
         → (last : State) × Runs (opening image) (shown steps) last × Rel (left_by image cpus steps) last
