@@ -27,9 +27,8 @@ use Rattle.um_refinement.proofs.IdleComplete.{outside, past}
 use Rattle.um_refinement.proofs.Reachable.{IsWide}
 use Rattle.um_closing.specs.Agreement.{AgreeInDump, ObjectsAgree, ThreadsAgree, has_line, waiters_in}
 use Rattle.um_closing.specs.Idle.{AreIdle}
-use Rattle.um_closing.specs.ReadOff.{object_there, priority_there, read_off, status_off, thread_there}
-use Rattle.um_closing.proofs.Numbers.{many_numbers}
-use Rattle.um_closing.proofs.ReadAt.{object_read, pairs_read, parts_read, thread_past, thread_read}
+use Rattle.um_closing.specs.ReadOff.{object_there, pairs_there, parts_there, priority_there, read_off, status_off, thread_there}
+use Rattle.um_closing.proofs.Numbers.{at_number, many_numbers, past_numbers}
 use Rattle.um_machine.specs.Objects as Plain
 
 -- What is known of the states that a run reaches: how long their lists are, that static objects live, and where an object may stand.
@@ -76,11 +75,11 @@ module _ (f : Fine) (m : State) (rel : Rel f m) (placed : IsPlaced m) (idle : Ar
     where
       by : (b : Bool) → nat_lt t THREADS ≡ b → ThreadsAgree (thread_at read t) (thread_at m t)
       by true few =
-          let l = ltb-true t THREADS few in subst (λ (th : Thread). ThreadsAgree th (thread_at m t)) (sym (thread_read f.sites t l)) (thread-there t l)
+          let l = ltb-true t THREADS few in subst (λ (th : Thread). ThreadsAgree th (thread_at m t)) (sym (at_number (thread_there f.sites) THREADS t nobody l)) (thread-there t l)
       by false many =
           let l = past t THREADS many in
           let long = placed.wide.threads in
-          let mine = thread_past f.sites t l in
+          let mine = past_numbers (thread_there f.sites) THREADS t nobody l in
           let its : thread_at m t ≡ nobody = outside m.threads t nobody (omega (arith, l, long)) in
           subst (λ (z : Thread × Thread). ThreadsAgree z.0 z.1) (λ i. (sym mine i, sym its i))
           (record { life = refl; doomed = refl; mode = λ h. refl; priority = λ h. refl; domain = λ h. refl })
@@ -147,13 +146,13 @@ module _ (f : Fine) (m : State) (rel : Rel f m) (placed : IsPlaced m) (idle : Ar
         }
 
     objects-agree : ObjectsAgree f.image x (object_at read x) (object_at m x)
-    objects-agree = subst (λ (o : Object). ObjectsAgree f.image x o (object_at m x)) (sym (object_read f.image f.sites x few)) object-agrees
+    objects-agree = subst (λ (o : Object). ObjectsAgree f.image x o (object_at m x)) (sym (at_number (object_there f.image f.sites) ROWS x vacant few)) object-agrees
 
     waiters-same : (object_at read x).waiters ≡ (object_at m x).waiters
-    waiters-same = ap (λ (o : Object). o.waiters) (object_read f.image f.sites x few) ∙ ap (λ (c : ObjectCell). c.waiters) cell-same
+    waiters-same = ap (λ (o : Object). o.waiters) (at_number (object_there f.image f.sites) ROWS x vacant few) ∙ ap (λ (c : ObjectCell). c.waiters) cell-same
 
     pairs-same : slice_index_or read.pairs x [] ≡ slice_index_or m.pairs x []
-    pairs-same = pairs_read f.sites x few ∙ (rel.rows x few).pairs.pairs
+    pairs-same = at_number (pairs_there f.sites) ROWS x [] few ∙ (rel.rows x few).pairs.pairs
 
   abbrev waits-of : Object → List Waiter
   waits-of o = o.waiters
@@ -171,7 +170,7 @@ module _ (f : Fine) (m : State) (rel : Rel f m) (placed : IsPlaced m) (idle : Ar
 
   domain-same : (d : ℕ) → d < length f.image.domains → domain_at read d ≡ domain_at m d
   domain-same d l =
-      parts_read f.image f.sites d l ∙ (rel.domains d l).settled (λ k few. ap (edited d) (idle k few))
+      at_number (parts_there f.sites) (length f.image.domains) d None l ∙ (rel.domains d l).settled (λ k few. ap (edited d) (idle k few))
 
   pub agreed : AgreeInDump f.image read m
   agreed =

@@ -22,3 +22,6 @@ pub same_numbers : {A : Type 0} (g h : ℕ → A) (n : ℕ) → ((i : ℕ) → i
 same_numbers g h n same =
     ext_get_or (g 0) (map g (numbers n)) (map h (numbers n)) (many_numbers g n ∙ sym (many_numbers h n))
     (λ i l. let few : i < n = omega (arith, l, many_numbers g n) in at_number g n i (g 0) few ∙ (same i few ∙ sym (at_number h n i (g 0) few)))
+
+-- what is read of such a list
+pub ruleset readings = (at_number, many_numbers, past_numbers)

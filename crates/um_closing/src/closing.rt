@@ -1,5 +1,5 @@
 //! The state that is read off tables, as a dump reads it.
-#![tactic(auto, using(crate::proofs::ReadAt::readings))]
+#![tactic(auto, using(crate::proofs::Numbers::readings))]
 
 ghost use Rattle.std.specs.Prelude.{◌≡◌, ◌<◌};
 ghost use Rattle.um_machine.specs.State.{thread_at};
