@@ -1,7 +1,7 @@
 //! A matrix as a dump reads it.
 
 use crate::matrix::Matrix;
-use um_base::{Kind, Mode, Parts, ROWS, Waiter};
+use um_base::{Kind, Mode, Parts, Waiter};
 use um_machine::{Contents, Life, Status};
 use um_steps::Dumped;
 
@@ -44,7 +44,7 @@ impl<'a> Dumped for Matrix<'a> {
     }
 
     fn rows(&self) -> usize {
-        ROWS
+        self.pairs.len()
     }
 
     fn status(&self, row: usize) -> Status {
