@@ -17,18 +17,6 @@ use crate::{message_queue, mutex, pipe, semaphore, stack};
 use um_base::{Ask, Errno, Reply, THREADS, Waiter};
 use um_machine::{BytePipe, Contents, MessageQueue, ValueStack, Waiters};
 
-/// New contents from any state, where nobody waits.
-#[inline(never)]
-fn renews(contents: &mut Contents, new: Contents, waiters: &Waiters, outcome: &mut Outcome)
-    ensures { renews new contents.old waiters.now ≡ left contents.new waiters.now outcome.new }
-{
-    if !waiters.is_empty() {
-        return answers(Reply::Fail(Errno::EBUSY), outcome);
-    }
-    *contents = new;
-    answers(Reply::Num(0), outcome);
-}
-
 /// New contents where none are in use.
 #[inline(never)]
 fn fills(contents: &mut Contents, new: Contents, outcome: &mut Outcome)
@@ -69,7 +57,20 @@ fn renews_semaphore(
 )
     ensures { renews (Contents.Sem count limit) contents.old waiters.now ≡ left contents.new waiters.now outcome.new }
 {
-    renews(contents, Contents::Sem { count, limit }, waiters, outcome);
+    if !waiters.is_empty() {
+        return answers(Reply::Fail(Errno::EBUSY), outcome);
+    }
+    match contents {
+        Contents::Sem {
+            count: old_count,
+            limit: old_limit,
+        } => {
+            *old_count = count;
+            *old_limit = limit;
+        }
+        _ => *contents = Contents::Sem { count, limit },
+    }
+    answers(Reply::Num(0), outcome);
 }
 
 /// A mutex without owner, from any state where nobody waits.
@@ -77,15 +78,22 @@ fn renews_semaphore(
 fn renews_mutex(contents: &mut Contents, waiters: &Waiters, outcome: &mut Outcome)
     ensures { renews (Contents.Mutex None 0) contents.old waiters.now ≡ left contents.new waiters.now outcome.new }
 {
-    renews(
-        contents,
-        Contents::Mutex {
-            owner: None,
-            depth: 0,
-        },
-        waiters,
-        outcome,
-    );
+    if waiters.len() > 0 {
+        return answers(Reply::Fail(Errno::EBUSY), outcome);
+    }
+    match contents {
+        Contents::Mutex { owner, depth } => {
+            *owner = None;
+            *depth = 0;
+        }
+        _ => {
+            *contents = Contents::Mutex {
+                owner: None,
+                depth: 0,
+            }
+        }
+    }
+    answers(Reply::Num(0), outcome);
 }
 
 /// An empty message queue where no contents are in use.

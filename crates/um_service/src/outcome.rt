@@ -121,6 +121,17 @@ impl Outcome {
         }
     }
 
+    /// Writes this answer, with no bytes and nobody woken, over what was there.
+    pub fn answers(&mut self, answer: Answer)
+        ensures { self.new ≡ record { answer = answer; taken = []; woken = [] } }
+    {
+        self.answer = answer;
+        if self.taken.len() > 0 {
+            self.taken = Piece::new();
+        }
+        self.woken.clear();
+    }
+
     /// Writes this answer and these bytes, with nobody woken, over what was there.
     pub fn becomes(&mut self, answer: Answer, taken: &Piece)
         ensures { self.new ≡ record { answer = answer; taken = taken.now; woken = [] } }

@@ -18,7 +18,7 @@ use um_machine::{Served, Waiters};
 pub fn answers(reply: Reply, outcome: &mut Outcome)
     ensures { outcome.new ≡ record { answer = Answer.Now reply; taken = []; woken = [] } }
 {
-    gives(reply, &Piece::new(), outcome);
+    outcome.answers(Answer::Now(reply));
 }
 
 /// The same, with bytes that the caller takes.
@@ -43,7 +43,7 @@ pub fn blocks(
         Timeout::NoWait => answers(Reply::Fail(error), outcome),
         Timeout::Forever => {
             waiters.wait(who);
-            outcome.becomes(Answer::Wait, &Piece::new());
+            outcome.answers(Answer::Wait);
         }
     }
 }
