@@ -1,6 +1,5 @@
 -- The first phase of a step is the first of its fine steps.
 use Rattle.std.proofs.Common.{◌≡◌, ℕ, Bool, true, false, [], ◌∷◌, drop, refl, sym, ap, ◌∙◌}
-use Rattle.std.proofs.lemmas.Bool.{false≢true}
 use Rattle.std.specs.Prelude.{nat_lt, if◌then◌else◌}
 use Rattle.um_base.specs.declared.image.Image.{Image}
 use Rattle.um_base.specs.declared.limits.TheConstants.{ROWS}
@@ -10,12 +9,12 @@ use Rattle.um_machine.specs.Order.{Steps}
 use Rattle.um_fine.specs.Context.{Context}
 use Rattle.um_fine.specs.Continues.{newborn}
 use Rattle.um_fine.specs.Follows.{filled_up}
-use Rattle.um_fine.specs.Places.{Todo, Todos, drops, fine_steps, next_steps, passes}
+use Rattle.um_fine.specs.Places.{Todo, Todos, drops, fine_steps, passes}
 use Rattle.um_processor.specs.declared.phase.Phase.{Phase}
 use Rattle.um_processor.specs.declared.running.Running.{Running}
-use Rattle.um_processor.specs.Phases.{first_of, first_phase, is_direct, passed_to, phase_of, queue_of, showing, todo_in}
+use Rattle.um_processor.specs.Phases.{first_of, first_phase, passed_to, phase_of, queue_of, showing, todo_in}
 use Rattle.um_tables.specs.Contexts.{born, steps_behind}
-use Rattle.um_processor.specs.Processors.{in_phase, processor_of, refilled, todo_behind, visiting, with_todo}
+use Rattle.um_processor.specs.Processors.{in_phase, processor_of, todo_behind, visiting, with_todo}
 
 -- the fine steps of a step are those from its first phase on
 pub places : (image : Image) (c : Context) (p : Pending) (rest : Steps)
@@ -53,22 +52,6 @@ pub readied : (image : Image) (r : Running) (p : Pending) (rest : Steps) → r.p
     → processor_of r ≡ with_todo r (fine_steps image r.context.value p rest)
 readied image r p rest phase queue new steps =
     (λ i. in_phase (phase i) r) ∙ (first-is p r ∙ ap (with_todo r) ((λ i. todo_in (first_phase p) (steps i) (queue i) (new i)) ∙ places image r.context.value p rest))
-
--- a processor that is ready for a direct step
-pub directly : (image : Image) (r : Running) (p : Pending) (rest : Steps) → is_direct p ≡ true → r.context.value.pending ≡ p ∷ rest
-    → processor_of (record r { visited = false; phase = first_phase p }) ≡ refilled image r
-directly image r p rest direct steps =
-    (λ i. with_todo r (todo_in (first_phase p) (steps i) r.queue (born r.newborn))) ∙ by p direct ∙ (λ i. with_todo r (next_steps image r.context.value (sym steps i)))
-  where
-    by : (p : Pending) → is_direct p ≡ true
-        → with_todo r (todo_in (first_phase p) (p ∷ rest) r.queue (born r.newborn)) ≡ with_todo r (next_steps image r.context.value (p ∷ rest))
-    by Pending.Resume h = absurd (false≢true h)
-    by (Pending.Inherit who) h = absurd (false≢true h)
-    by (Pending.Drops from) h = absurd (false≢true h)
-    by (Pending.Probe a amount) h = absurd (false≢true h)
-    by (Pending.CopyIn a amount) h = absurd (false≢true h)
-    by (Pending.Start who script stack priority mode) h = absurd (false≢true h)
-    by p h = refl
 
 -- after a visit the next one comes, or the step
 step-behind : (image : Image) (r : Running) (row : ℕ) → let steps = drop 1 r.context.value.pending in

@@ -25,6 +25,7 @@ ghost use Rattle.um_fine.specs.Processor.{idle};
 ghost use Rattle.um_processor.specs.{Phases.{is_idle}, Processors.{processor_of}};
 
 use crate::phase::Phase;
+pub use calls::Wanted;
 pub use next::row_named;
 use std::alloc::Global;
 use um_base::{OutOfMemory, Parts, Piece, Reply, ThreadIx, Told};

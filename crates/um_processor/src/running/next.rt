@@ -1,6 +1,6 @@
 //! The first fine step of a thread's next step.
 
-ghost use Rattle.std.specs.Prelude.{◌≡◌, ◌<◌, ◌∷◌, [], if◌then◌else◌, IfSome, MatchOption};
+ghost use Rattle.std.specs.Prelude.{◌≡◌, ◌<◌, ◌∷◌, [], false, if◌then◌else◌, IfSome, MatchOption};
 ghost use Rattle.um_base.specs.declared.limits.TheConstants.{ROWS};
 ghost use Rattle.um_fine.specs.{Addresses.{row_named}, Continues.{newborn}, Places.{but}};
 ghost use Rattle.um_machine.specs.Limits.{IsSound};
@@ -141,6 +141,24 @@ pub fn but(own: usize, row: u8) -> u8
 }
 
 impl Running {
+    /// Whether visits of rows came before the next step.
+    pub fn has_visited(&self) -> bool
+        ensures { result ≡ self.now.visited }
+    {
+        self.visited
+    }
+
+    /// The next step, if there is one. No visits came before it.
+    #[inline(always)]
+    pub fn first(&self) -> Option<Pending>
+        requires { self.now.visited ≡ false }
+        ensures step { let steps = steps_behind self.now.visited self.now.context.value.pending
+            in MatchOption result (steps ≡ []) (λ step. steps ≡ step ∷ rest_of self.now) }
+        ensures sound { IfSome result IsSound }
+    {
+        self.context.first()
+    }
+
     /// The next step after the visits, if there is one.
     #[tactic(auto, using(um_tables::proofs::Fronts::dropped_twice))]
     #[inline(always)]
@@ -186,7 +204,6 @@ impl Running {
     }
 
     /// Goes to the first fine step of the thread's next step. Most steps are direct, and of these no more than the kind is looked at.
-    #[tactic(auto, using(crate::proofs::Phased::directly))]
     pub fn expands(&mut self, image: &Image)
         ensures { processor_of self.new ≡ refilled image.now self.old }
     {
