@@ -79,6 +79,16 @@ first_phase (Pending.DomMove d who) = Phase.MoveClaim
 first_phase (Pending.Start who script stack priority mode) = Phase.StartHold
 first_phase p = Phase.Show
 
+-- whether no visits come before a step, and its fine steps name no queue and no new thread
+abbrev pub is_direct : Pending → Bool
+is_direct Pending.Resume = false
+is_direct (Pending.Inherit who) = false
+is_direct (Pending.Drops from) = false
+is_direct (Pending.Probe a amount) = false
+is_direct (Pending.CopyIn a amount) = false
+is_direct (Pending.Start who script stack priority mode) = false
+is_direct p = true
+
 abbrev pub phase_of : Steps → Phase
 phase_of steps = first_phase (first_of steps)
 

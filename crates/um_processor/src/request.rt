@@ -46,6 +46,7 @@ pub enum Onward {
 
 impl Request {
     /// Asks the site for the step.
+    #[inline(always)]
     pub fn make<S: Sites>(&self, here: &Here, sites: &mut S) -> Turn
         requires image { S.IsOf here.now.image.now sites.old }
         requires few { IsTrue (is_short self.now) }

@@ -19,15 +19,16 @@ mod turns;
 mod visits;
 mod works;
 
-ghost use Rattle.std.specs.Prelude.{◌≡◌, ◌<◌, IfOk};
+ghost use Rattle.std.specs.Prelude.{◌≡◌, ◌<◌, [], IfOk};
 ghost use Rattle.um_base.specs.declared.limits.TheConstants.{THREADS};
 ghost use Rattle.um_fine.specs.Processor.{idle};
 ghost use Rattle.um_processor.specs.{Phases.{is_idle}, Processors.{processor_of}};
 
 use crate::phase::Phase;
+pub use calls::Wanted;
 pub use next::row_named;
 use std::alloc::Global;
-use um_base::{OutOfMemory, Parts, Piece, Reply, ThreadIx, Told};
+use um_base::{Ask, OutOfMemory, Parts, Piece, Reply, ThreadIx, Told, Waiter};
 use um_fine::{Table, TableKey};
 use um_machine::Cost;
 use um_tables::{Context, NOBODY, Newborn};
@@ -61,6 +62,27 @@ pub struct Running {
     size: u32,
     /// What the buffer cost of the object that it cleans.
     charge: Option<Cost>,
+    /// Room for its thread as the caller of a call.
+    caller: Waiter,
+}
+
+/// Leaves no byte.
+fn empties(piece: &mut Piece)
+    ensures { piece.new ≡ [] }
+{
+    if piece.len() > 0 {
+        *piece = Piece::new();
+    }
+}
+
+/// No caller.
+fn no_caller() -> Waiter {
+    Waiter {
+        thread: ThreadIx(0),
+        priority: 0,
+        ask: Ask::SemGive,
+        bytes: Piece::new(),
+    }
 }
 
 /// A region table into which nothing was loaded.
@@ -101,6 +123,7 @@ impl Running {
             reply: Reply::Void,
             size: 0,
             charge: None,
+            caller: no_caller(),
         })
     }
 

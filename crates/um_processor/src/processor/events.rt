@@ -3,13 +3,13 @@
 ghost use Rattle.std.specs.Prelude.{IsTrue};
 ghost use Rattle.um_machine.specs.Limits.{IsSound, is_sound_ask};
 ghost use Rattle.um_machine.specs.declared.pending.Pending.TheVariants as Pending;
-ghost use Rattle.um_processor.specs.{Events.{shows, parks, shows_next}, Standing.{IsClear}, Subjects.{ends_claims}, Turns.{CanTurn, HasStepped}};
+ghost use Rattle.um_processor.specs.{Events.{check_for, parks, shows, shows_next}, Standing.{IsClear}, Subjects.{ends_claims}, Turns.{CanTurn, HasStepped}};
 
 use crate::phase::Turn;
 use crate::processor::Processor;
-use crate::running::row_named;
+use crate::running::{Wanted, row_named};
 use crate::turns::took;
-use um_base::{Addr, Ask, ThreadIx};
+use um_base::{Addr, Ask, Reply, ThreadIx};
 use um_machine::Pending;
 use um_tables::{Here, Sites};
 
@@ -95,8 +95,82 @@ impl Processor {
         self.running.park(here, sites)
     }
 
-    /// Makes the event of the thread's next step. A thread without one is put back.
+    /// Makes the event of a check.
+    fn check<S: Sites>(&mut self, here: &Here, wanted: &Wanted, sites: &mut S) -> Turn
+        requires clear { IsClear self.old }
+        requires goes { CanTurn S.Sites here.now sites.old (shows (check_for wanted.now) self.old.running) }
+        ensures turn { HasStepped S.Sites result here.now sites.old sites.new
+            (shows (check_for wanted.now) self.old.running) self.old self.new }
+    {
+        self.running.check(here, wanted, sites)
+    }
+
+    /// Makes the event of a load.
+    fn load<S: Sites>(&mut self, here: &Here, to: u8, addr: Addr, size: u32, sites: &mut S) -> Turn
+        requires clear { IsClear self.old }
+        requires goes { CanTurn S.Sites here.now sites.old
+            (shows (Pending.Load to addr size) self.old.running) }
+        ensures turn { HasStepped S.Sites result here.now sites.old sites.new
+            (shows (Pending.Load to addr size) self.old.running) self.old self.new }
+    {
+        self.running.load(here, to, addr, size, sites)
+    }
+
+    /// Makes the event of an answer, after which claims end.
+    fn answer<S: Sites>(
+        &mut self,
+        here: &Here,
+        reply: Option<Reply>,
+        to: Option<u8>,
+        sites: &mut S,
+    ) -> Turn
+        requires clear { IsClear self.old }
+        requires goes { CanTurn S.Sites here.now sites.old
+            (shows (Pending.Answer reply to) self.old.running) }
+        ensures turn { HasStepped S.Sites result here.now sites.old sites.new
+            (shows (Pending.Answer reply to) self.old.running) self.old self.new }
+    {
+        self.running.answer(here, &mut self.ends, reply, to, sites)
+    }
+
+    /// Makes the event of the thread's next step. A thread without one is put back. Of the most frequent steps no more is read than they
+    /// have.
     pub fn show<S: Sites>(&mut self, here: &Here, sites: &mut S) -> Turn
+        requires clear { IsClear self.old }
+        requires goes { CanTurn S.Sites here.now sites.old (shows_next self.old.running) }
+        ensures turn { HasStepped S.Sites result here.now sites.old sites.new
+            (shows_next self.old.running) self.old self.new }
+    {
+        if self.running.has_visited() {
+            return self.show_any(here, sites);
+        }
+        match self.running.first() {
+            Some(Pending::Work { addr, ask }) => self.work(here, addr, &ask, sites),
+            Some(
+                Pending::Check {
+                    addr,
+                    kind,
+                    want,
+                    refusal,
+                },
+            ) => {
+                let wanted = Wanted {
+                    addr,
+                    kind,
+                    want,
+                    refusal,
+                };
+                self.check(here, &wanted, sites)
+            }
+            Some(Pending::Answer { reply, to }) => self.answer(here, reply, to, sites),
+            Some(Pending::Load { to, addr, size }) => self.load(here, to, addr, size, sites),
+            _ => self.show_any(here, sites),
+        }
+    }
+
+    /// The same for any step.
+    #[inline(never)]
+    fn show_any<S: Sites>(&mut self, here: &Here, sites: &mut S) -> Turn
         requires clear { IsClear self.old }
         requires goes { CanTurn S.Sites here.now sites.old (shows_next self.old.running) }
         ensures turn { HasStepped S.Sites result here.now sites.old sites.new

@@ -1,10 +1,11 @@
 //! The first fine step of a thread's next step.
 
-ghost use Rattle.std.specs.Prelude.{◌≡◌, ◌<◌, ◌∷◌, [], IfSome, MatchOption};
+ghost use Rattle.std.specs.Prelude.{◌≡◌, ◌<◌, ◌∷◌, [], false, if◌then◌else◌, IfSome, MatchOption};
 ghost use Rattle.um_base.specs.declared.limits.TheConstants.{ROWS};
 ghost use Rattle.um_fine.specs.{Addresses.{row_named}, Continues.{newborn}, Places.{but}};
 ghost use Rattle.um_machine.specs.Limits.{IsSound};
-ghost use Rattle.um_processor.specs.{Events.{rest_of}, Phases.{domain_named, first_of, first_phase, phase_of_amount, queue_of, row_of_amount}, Processors.{processor_of, refilled}};
+ghost use Rattle.um_processor.specs.declared.phase.Phase.TheVariants as Phase;
+ghost use Rattle.um_processor.specs.{Events.{rest_of}, Phases.{domain_named, first_of, first_phase, is_direct, phase_of_amount, queue_of, row_of_amount}, Processors.{processor_of, refilled}};
 ghost use Rattle.um_tables.specs.Contexts.{born, steps_behind};
 
 use crate::phase::Phase;
@@ -26,6 +27,7 @@ fn phase_of_amount(amount: &Amount) -> Phase
 }
 
 /// The first phase of a step.
+#[inline(always)]
 pub fn first_phase(step: &Pending) -> Phase
     ensures { result ≡ first_phase step.now }
 {
@@ -48,6 +50,18 @@ pub fn first_phase(step: &Pending) -> Phase
         Pending::Unbuffer { .. } | Pending::EnterUser { .. } => Phase::Show,
         Pending::Fatal { .. } | Pending::Drops { .. } | Pending::Dooms { .. } => Phase::Show,
         Pending::CleanPair { .. } | Pending::Recycle => Phase::Show,
+    }
+}
+
+/// Whether no visits come before a step, and its fine steps name no queue and no new thread.
+#[inline(always)]
+fn is_direct(step: &Pending) -> bool
+    ensures { result ≡ is_direct step.now }
+{
+    match step {
+        Pending::Resume | Pending::Inherit { .. } | Pending::Drops { .. } => false,
+        Pending::Probe { .. } | Pending::CopyIn { .. } | Pending::Start { .. } => false,
+        _ => true,
     }
 }
 
@@ -127,8 +141,27 @@ pub fn but(own: usize, row: u8) -> u8
 }
 
 impl Running {
+    /// Whether visits of rows came before the next step.
+    pub fn has_visited(&self) -> bool
+        ensures { result ≡ self.now.visited }
+    {
+        self.visited
+    }
+
+    /// The next step, if there is one. No visits came before it.
+    #[inline(always)]
+    pub fn first(&self) -> Option<Pending>
+        requires { self.now.visited ≡ false }
+        ensures step { let steps = steps_behind self.now.visited self.now.context.value.pending
+            in MatchOption result (steps ≡ []) (λ step. steps ≡ step ∷ rest_of self.now) }
+        ensures sound { IfSome result IsSound }
+    {
+        self.context.first()
+    }
+
     /// The next step after the visits, if there is one.
     #[tactic(auto, using(um_tables::proofs::Fronts::dropped_twice))]
+    #[inline(always)]
     pub fn next_step(&self) -> Option<Pending>
         ensures step { let steps = steps_behind self.now.visited self.now.context.value.pending
             in MatchOption result (steps ≡ []) (λ step. steps ≡ step ∷ rest_of self.now) }
@@ -141,6 +174,7 @@ impl Running {
     }
 
     /// The next step after the visits.
+    #[inline(always)]
     pub fn step(&self) -> Pending
         ensures { result ≡ first_of (steps_behind self.now.visited self.now.context.value.pending) }
     {
@@ -151,6 +185,7 @@ impl Running {
     }
 
     /// Readies this step. `visited` says whether visits come before it.
+    #[inline(always)]
     fn readies(&mut self, image: &Image, step: &Pending, visited: bool)
         ensures queue { self.new.queue ≡ queue_of image.now step.now }
         ensures newborn { born self.new.newborn ≡ newborn image.now self.old.context.value step.now }
@@ -168,19 +203,39 @@ impl Running {
         self.phase = first_phase(step);
     }
 
-    /// Goes to the first fine step of the thread's next step.
+    /// Goes to the first fine step of the thread's next step. Most steps are direct, and of these no more than the kind is looked at.
     pub fn expands(&mut self, image: &Image)
         ensures { processor_of self.new ≡ refilled image.now self.old }
     {
-        let first = match self.context.first() {
-            None => {
-                self.phase = if self.context.has_ended() {
-                    Phase::Done
-                } else {
-                    Phase::Park
-                };
-                return;
+        match self.context.first() {
+            Some(step) if is_direct(&step) => {
+                self.visited = false;
+                self.phase = first_phase(&step);
             }
+            None => self.ends_turn(),
+            _ => self.expands_far(image),
+        }
+    }
+
+    /// Goes to the end of the thread's turn, where no step is left.
+    fn ends_turn(&mut self)
+        ensures { self.new
+            ≡ record self.old { phase = if self.old.context.value.ended then Phase.Done else Phase.Park } }
+    {
+        self.phase = if self.context.has_ended() {
+            Phase::Done
+        } else {
+            Phase::Park
+        };
+    }
+
+    /// The same for any step.
+    #[inline(never)]
+    fn expands_far(&mut self, image: &Image)
+        ensures { processor_of self.new ≡ refilled image.now self.old }
+    {
+        let first = match self.context.first() {
+            None => return self.ends_turn(),
             Some(first) => first,
         };
         let second = self.context.second();

@@ -240,6 +240,7 @@ impl Running {
     }
 
     /// Goes on after such a step.
+    #[inline(always)]
     fn goes(&mut self, image: &Image, onward: Onward)
         ensures { processor_of self.new ≡ gone_on image.now onward self.old }
     {
@@ -272,6 +273,7 @@ impl Running {
     }
 
     /// Makes the event of such a step.
+    #[inline(never)]
     pub fn show_quiet<S: Sites>(&mut self, here: &Here, step: &Pending, sites: &mut S) -> Turn
         requires quiet { IsTrue (is_quiet step.now) }
         requires goes { CanTurn S.Sites here.now sites.old (shows step.now self.old) }
@@ -288,6 +290,7 @@ impl Running {
     }
 
     /// Makes a fine step before or after an event, as a request.
+    #[inline(always)]
     pub fn ask<S: Sites>(
         &mut self,
         here: &Here,

@@ -12,32 +12,45 @@ ghost use Rattle.um_machine.specs.declared.pending.Pending.TheVariants as Pendin
 ghost use Rattle.um_processor.specs.{Events.{gone_by, shows, with_woken}, Phases.{is_idle}, Processors.{OnMade, UnlessMade, processor_of}, Turns.{CanTurn, TurnsAt}};
 
 use crate::phase::Turn;
-use crate::running::Running;
+use crate::running::{Running, empties};
 use crate::running::next::row_named;
 use crate::turns::made;
-use um_base::{Addr, Answer, Ask, Image, Piece, Row, ThreadIx, Waiter};
+use um_base::{Addr, Answer, Ask, Image, Piece, Row, ThreadIx};
 use um_service::Outcome;
-use um_steps::buffers::bytes_given;
 use um_tables::{Here, Sites};
 
 impl Running {
-    /// The thread as the caller of a call.
-    fn caller(&self, ask: &Ask) -> Waiter
-        ensures thread { result.thread.0 < THREADS }
-        ensures value { let c = self.now.context.value in result
-            ≡ record {
-              thread = to_thread c.thread;
-              priority = c.priority;
-              ask = ask.now;
-              bytes = bytes_given c.buffer ask.now;
+    /// Writes down the bytes that a call gives of the thread's buffer.
+    fn gives(&mut self, ask: &Ask)
+        ensures { self.new
+            ≡ record self.old {
+              caller = record self.old.caller { bytes = bytes_given self.old.context.value.buffer ask.now };
             } }
     {
-        Waiter {
-            thread: ThreadIx(self.context.thread()),
-            priority: self.context.priority(),
-            ask: *ask,
-            bytes: bytes_given(self.context.buffer(), ask),
+        match ask {
+            Ask::MsgqPut { .. } | Ask::PipeWrite { .. } =>
+                self.caller.bytes = *self.context.buffer(),
+            _ => empties(&mut self.caller.bytes),
         }
+    }
+
+    /// Writes the thread down as the caller of a call.
+    fn calls(&mut self, ask: &Ask)
+        ensures thread { self.new.caller.thread.0 < THREADS }
+        ensures value { let c = self.old.context.value in self.new
+            ≡ record self.old {
+              caller = record {
+                thread = to_thread c.thread;
+                priority = c.priority;
+                ask = ask.now;
+                bytes = bytes_given c.buffer ask.now;
+              };
+            } }
+    {
+        self.gives(ask);
+        self.caller.thread = ThreadIx(self.context.thread());
+        self.caller.priority = self.context.priority();
+        self.caller.ask = *ask;
     }
 
     /// Goes on after the work of the thread's call.
@@ -72,8 +85,8 @@ impl Running {
             (with_woken outcome.new.woken (processor_of self.new)) }
     {
         let row = Row(row_named(here.image, addr));
-        let who = self.caller(ask);
-        made!(sites.work(here, row, addr, &who, outcome));
+        self.calls(ask);
+        made!(sites.work(here, row, addr, &self.caller, outcome));
         self.works(here.image, ask, outcome.answer, &outcome.taken);
         Turn::Made
     }

@@ -1,5 +1,5 @@
 use Rattle.um_processor.proofs.Lifted.{at-none, at-step, stepped-from}
-use Rattle.um_processor.proofs.processor.Processor.show.Goals as goal
+use Rattle.um_processor.proofs.processor.Processor.show_any.Goals as goal
 
 pub returns-in-None : goal.returns-in-None
 returns-in-None g c =
