@@ -16,6 +16,7 @@ pub struct DomainCell {
 }
 
 /// The partitions for a region table: none where the domain isn't initialised.
+#[inline(always)]
 pub fn parts_or_none(parts: &Option<Parts>) -> Parts
     ensures { result ≡ parts_or_none parts.now }
 {

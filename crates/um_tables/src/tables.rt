@@ -253,6 +253,7 @@ impl Sites for Tables {
 
     ghost Contended = { λ image old site new. IsFull old };
 
+    #[inline(always)]
     fn row(&mut self, here: &Here, row: Row, act: &RowAct) -> Said<RowSaid> {
         if is_full(&self.log) {
             return Said::Changed;
@@ -266,6 +267,7 @@ impl Sites for Tables {
         Said::Made(said)
     }
 
+    #[inline(always)]
     fn thread(&mut self, here: &Here, thread: ThreadIx, act: &ThreadAct) -> Said<ThreadWord> {
         if is_full(&self.log) {
             return Said::Changed;
@@ -279,6 +281,7 @@ impl Sites for Tables {
         Said::Made(next)
     }
 
+    #[inline(always)]
     fn domain(&mut self, here: &Here, domain: u8, act: &DomainAct) -> Said<DomWord> {
         if is_full(&self.log) {
             return Said::Changed;

@@ -5,7 +5,7 @@ ghost use Rattle.um_machine.specs.Goes.{Change, Next, Way, copied, no_access, te
 ghost use Rattle.um_machine.specs.Order.{Steps};
 ghost use Rattle.um_fine.specs.Continues.{gone_part};
 
-use crate::context::Context;
+use crate::context::{Context, copies};
 use um_base::{Cause, Errno, Found, Image, Piece};
 use um_machine::Pending;
 use um_steps::order::{answer_error, copy_fails};
@@ -63,7 +63,7 @@ impl Context {
             (copied self.old.mode fits)) self.old }
     {
         if fits {
-            self.own.buffer = *bytes;
+            copies(&mut self.own.buffer, bytes);
             self.own.goes_on(image, taken);
         } else {
             self.fails_to_copy(image);
@@ -77,7 +77,7 @@ impl Context {
     {
         match found {
             Found::Length(_) => {
-                self.own.buffer = *bytes;
+                copies(&mut self.own.buffer, bytes);
                 self.own.goes_on(image, taken);
             }
             Found::Unreadable => self.own.turns_to(&answer_error(Errno::EFAULT)),

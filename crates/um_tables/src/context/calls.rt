@@ -6,48 +6,34 @@ ghost use Rattle.um_machine.specs.{
   Goes.{Next, checked_way, work_change, work_way},
   Limits.{is_sound_ask},
 };
-ghost use Rattle.um_fine.specs.{
-  Addresses.{row_named},
-  Continues.{gone_part, reply_of, resumed},
-};
+ghost use Rattle.um_fine.specs.Continues.{gone_part, reply_of, resumed};
 
-use crate::context::Context;
-use um_base::{Addr, Answer, Ask, Errno, Image, Piece, Reply, Told};
+use crate::context::{Context, copies};
+use um_base::{Answer, Ask, Errno, Image, Piece, Reply, Told};
 use um_machine::{Pending, Refusal};
 use um_steps::order::{after_error, refused};
 use um_steps::registers::put_answer;
-use um_steps::rows::row_at;
-
-/// The row at an address that was checked.
-fn row_named(image: &Image, addr: Addr) -> u8
-    ensures value { result ≡ row_named image.now addr }
-    ensures small { result < ROWS }
-{
-    match row_at(image, addr.0) {
-        Some(x) => x as u8,
-        None => 0,
-    }
-}
 
 impl Context {
-    /// Goes on after a check of an address: it holds the object there where the check is ok.
+    /// Goes on after a check of the address of a row: it holds the object there where the check is ok.
     pub fn checks(
         &mut self,
         image: &Image,
-        addr: Addr,
+        row: u8,
         refusal: Refusal,
         verdict: Option<Errno>,
         taken: usize,
     )
-        requires { length self.old.claims < 2 }
+        requires room { length self.old.claims < 2 }
+        requires row { row < ROWS }
         ensures { self.new ≡ gone_part image.now (drop taken self.old.pending)
-            (Next.checks (row_named image.now addr) verdict
+            (Next.checks row verdict
             (checked_way self.old.mode refusal verdict)) self.old }
     {
         let mode = self.own.mode;
         match verdict {
             None => {
-                self.claims.push(row_named(image, addr));
+                self.claims.push(row);
                 self.own.goes_on(image, taken);
             }
             Some(e) => self.own.turns_to(&refused(mode, refusal, e)),
@@ -65,7 +51,7 @@ impl Context {
             Answer::Wait => self.own.goes_to(&Pending::Resume, taken),
             Answer::Now(reply) => {
                 self.own.reply = reply;
-                self.own.buffer = *bytes;
+                copies(&mut self.own.buffer, bytes);
                 match reply {
                     Reply::Fail(e) => after_error(image, &mut self.own, ask, e, taken),
                     _ => self.own.goes_on(image, taken),
@@ -83,7 +69,7 @@ impl Context {
             _ => return,
         }
         self.own.reply = told.reply;
-        self.own.buffer = told.taken;
+        copies(&mut self.own.buffer, &told.taken);
         match told.reply {
             Reply::Fail(_) => self.own.skips_copy(image, 1),
             _ => self.own.goes_on(image, 1),
