@@ -69,7 +69,12 @@ fn run_summary(alloc: Global, image: &Image, options: Options) -> Result<Vec<u8>
     one_dump();
     let sites = ran(alloc, image, options)?;
     let mut text = Vec::with_capacity(alloc, SUMMARY_ROOM)?;
-    um_trace::summary_text(image, sites.events(), &Closing::new(image, &sites), &mut text);
+    um_trace::summary_text(
+        image,
+        sites.events(),
+        &Closing::new(image, &sites),
+        &mut text,
+    );
     Ok(text)
 }
 

@@ -62,11 +62,11 @@ first-taken (u ∷ r) ready places running t x y c woken told first rest here sh
     let woken-is = told-there (u ∷ r) places running t x here short in (
       ap (λ (o : Option Context). is_some o && nat_lt running 255) at ∙ ap (λ (b : Bool). b && nat_lt running 255) there ∙ lt-ltb running 255 few,
       (let taken : map context_at (slice_set places t y) ≡ slice_set (map context_at places) t None =
-      map-set context_at places t y ∙ ap (λ (p : Parked). slice_set (map context_at places) t p.context) left in
-      let heard : map told_at (slice_set places t y) ≡ slice_set (map told_at places) t None =
-      map-set told_at places t y ∙ ap (λ (p : Parked). slice_set (map told_at places) t p.told) left in
-      let noted : map priority_at (slice_set places t y) ≡ map priority_at places = map-set_same priority_at places t y x (ap priority_at left ∙ ap priority_at here) in
-      λ i. of_parts (rest i) (taken i) (heard i) (noted i) (running + 1)),
+          map-set context_at places t y ∙ ap (λ (p : Parked). slice_set (map context_at places) t p.context) left in
+          let heard : map told_at (slice_set places t y) ≡ slice_set (map told_at places) t None =
+          map-set told_at places t y ∙ ap (λ (p : Parked). slice_set (map told_at places) t p.told) left in
+          let noted : map priority_at (slice_set places t y) ≡ map priority_at places = map-set_same priority_at places t y x (ap priority_at left ∙ ap priority_at here) in
+          λ i. of_parts (rest i) (taken i) (heard i) (noted i) (running + 1)),
       ap (λ (o : Option Context). Exchange.thread (unwrap_or o no_context) (Contents.told_at s t)) at
           ∙ ap (λ (o : Option Told). Exchange.thread (unwrap_or x.context no_context) o) (woken-is ∙ sym said)
           ∙ ap (λ (d : Context). Exchange.thread d (some_if woken told)) (sym is),

@@ -166,10 +166,12 @@ impl Tables {
             MatchOption result (cell.parts ≡ None) (λ parts. cell.parts ≡ Some parts.now) }
     {
         match self.domain_cells.get(domain) {
-            Some(DomainCell {
-                parts: Some(parts),
-                steps: _,
-            }) => Some(parts),
+            Some(
+                DomainCell {
+                    parts: Some(parts),
+                    steps: _,
+                },
+            ) => Some(parts),
             _ => None,
         }
     }

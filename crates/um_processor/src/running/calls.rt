@@ -73,7 +73,8 @@ impl Running {
         };
         let said = made!(sites.row(here, row, &act));
         let taken = self.taken();
-        self.context.checks(here.image, row.0, wanted.refusal, said.verdict, taken);
+        self.context
+            .checks(here.image, row.0, wanted.refusal, said.verdict, taken);
         self.leaves(here.image);
         Turn::Made
     }
@@ -96,7 +97,8 @@ impl Running {
         };
         made!(sites.thread(here, thread, &act));
         let taken = self.taken();
-        self.context.checks(here.image, 0, wanted.refusal, Some(Errno::EBADF), taken);
+        self.context
+            .checks(here.image, 0, wanted.refusal, Some(Errno::EBADF), taken);
         self.leaves(here.image);
         Turn::Made
     }

@@ -12,8 +12,8 @@ ghost use Rattle.um_machine.specs.declared.pending.Pending.TheVariants as Pendin
 ghost use Rattle.um_processor.specs.{Events.{gone_by, shows, with_woken}, Phases.{is_idle}, Processors.{OnMade, UnlessMade, processor_of}, Turns.{CanTurn, TurnsAt}};
 
 use crate::phase::Turn;
-use crate::running::{Running, empties};
 use crate::running::next::row_named;
+use crate::running::{Running, empties};
 use crate::turns::made;
 use um_base::{Addr, Answer, Ask, Image, Piece, Row, ThreadIx};
 use um_service::Outcome;
@@ -28,8 +28,9 @@ impl Running {
             } }
     {
         match ask {
-            Ask::MsgqPut { .. } | Ask::PipeWrite { .. } =>
-                self.caller.bytes = *self.context.buffer(),
+            Ask::MsgqPut { .. } | Ask::PipeWrite { .. } => self.caller.bytes = *self
+                .context
+                .buffer(),
             _ => empties(&mut self.caller.bytes),
         }
     }
