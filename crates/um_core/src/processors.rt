@@ -72,6 +72,7 @@ impl Core {
 
     /// Has a processor make its next step, if it can make one now. Returns whether it did. If so, that step continues the fine run so far;
     /// if not, no step of that processor may follow. It takes no memory.
+    #[inline(always)]
     pub fn step(&mut self, image: &Image, cpu: u8) -> bool
         requires given { IsGiven image.now }
         requires rodata { self.old.sites.rodata ≡ rodata_of image.now }

@@ -127,6 +127,7 @@ impl Processor {
 
     /// Makes its next step. A processor without a thread takes one. Otherwise objects to clean come first, then claims to end, then threads
     /// to wake, and then the thread's own step.
+    #[inline(always)]
     pub fn step<S: Sites>(&mut self, image: &Image, cpu: u8, sites: &mut S) -> Turn
         requires sites { S.IsOf image.now sites.old }
         requires given { IsGiven image.now }
