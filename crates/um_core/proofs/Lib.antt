@@ -5,7 +5,7 @@
 -- may follow. StepsOn and CoreRefusals say the same of a core with tables: how it goes on (SitesSet has what a step leaves of tables), and
 -- when nobody goes on. LogRoom: a log has room for what is shown. CoreTurns has what comes of a processor's turn in code, CoreExact what
 -- that does to the run so far, and CoreRuns how a core goes on as an order of processors (OrderLemmas) picks its steps (Picked), until all
--- halt.
+-- halt; AloneRuns the same of one processor.
 pub mod Filling
 pub mod OneStep
 pub mod Sorts
@@ -28,3 +28,4 @@ pub mod Picked
 pub mod CoreExact
 pub mod CoreTurns
 pub mod CoreRuns
+pub mod AloneRuns

@@ -1,10 +1,11 @@
 //! A whole run of processors.
 
-ghost use Rattle.std.specs.Prelude.{◌≤◌, IfOk};
+ghost use Rattle.std.specs.Prelude.{◌≡◌, ◌≤◌, ℕ, [], IfOk, Option};
 ghost use Rattle.um_base.specs.{Lawful.{IsLawful}, Weight.{weight}};
+ghost use Rattle.um_machine.specs.Memory.{rodata_of};
 ghost use Rattle.um_invariants.specs.Described.{IsDescribed};
 ghost use Rattle.um_refinement.specs.Room.{CanRun};
-ghost use Rattle.um_core.specs.Ended.{HasEnded, HasStopped};
+ghost use Rattle.um_core.specs.{Cores.{Stands}, Ended.{HasEnded, HasStopped}};
 
 use crate::laws::every_order;
 use crate::order::Order;
@@ -14,6 +15,26 @@ use um_base::{Image, OutOfMemory};
 use um_closing::every_closing;
 use um_fine_measure::longest_fine_run;
 use um_tables::Tables;
+
+/// Has the one processor of a core make its steps until it can make no other one, and returns what they leave at the sites. Whatever the pick,
+/// that processor is the preferred one.
+fn alone(image: &Image, core: Core) -> Tables
+    requires described { IsDescribed image.now }
+    requires can { CanRun image.now 1 }
+    requires stands { Stands image.now 1 [] core }
+    requires rodata { core.sites.rodata ≡ rodata_of image.now }
+    requires room { weight image.now ≤ core.sites.most }
+    ensures { (pick : Option ℕ) → HasStopped image.now 1 pick result }
+{
+    // no run has more steps than the image's weight
+    longest_fine_run();
+    let mut core = core;
+    let mut count: usize = 0;
+    'steps: while core.step(image, 0) {
+        count += 1;
+    }
+    core.into_sites()
+}
 
 /// Runs this many processors in the order of a pick, and returns what they leave at the sites.
 fn picked(
@@ -31,6 +52,9 @@ fn picked(
     // no run has more steps than the image's weight
     longest_fine_run();
     let mut core = Core::boot(alloc, image, cpus, most)?;
+    if cpus == 1 {
+        return Ok(alone(image, core));
+    }
     let mut order = Order::new(pick);
     let mut count: usize = 0;
     'turns: while core.next(image, order.next(cpus)) {
