@@ -121,7 +121,7 @@ refused image cpu n w z u moved s mid t a b d taken back says got saw denied =
 
 -- a scheduler without threads
 abbrev pub nobody : Scheduler
-nobody = record { ready = []; parked = []; told = []; running = 0 }
+nobody = record { ready = []; parked = []; told = []; priorities = []; running = 0 }
 
 pub none-shut : (image : Image) (cpu w : ℕ) (s t : Seat Known) → Got s t 306 w → SawAt s 306 w → (cell_of w).ready ≡ 0 → SawShut image s t (taken_made image cpu 0 nobody)
 none-shut image cpu w s t got saw none = SawShut.none_ready w refl got saw none refl

@@ -1,5 +1,5 @@
 -- Lists by what stands at each number, and what the cells of the scheduler and the heap keep of all threads and all objects.
-use Rattle.std.proofs.Common.{◌≡◌, ◌<◌, ◌≤◌, ◌+◌, ◌-◌, ◌++◌, ℕ, zero, suc, Bool, true, false, List, [], ◌∷◌, length, length-append, refl, sym, ap, ◌∙◌, subst, append_assoc, arith, drop, map, take, replicate}
+use Rattle.std.proofs.Common.{◌≡◌, ◌<◌, ◌≤◌, ◌+◌, ◌-◌, ◌++◌, ℕ, ℤ, zero, suc, Bool, true, false, List, [], ◌∷◌, length, length-append, refl, sym, ap, ◌∙◌, subst, append_assoc, arith, drop, map, take, replicate}
 use Rattle.std.specs.Prelude.{Option, None, Result, Ok, Err, IfOk, nat_le, slice_index_or, slice_set}
 use Rattle.std.proofs.lemmas.List.{drop_all, drop_more, get_or_append_left, get_or-append_right, get_or_push, length-take-le, map-append, set_at, take_all, take_more}
 use borrow.Author.Count.{below_more}
@@ -16,7 +16,7 @@ use Rattle.um_fine.specs.Context.{Context, context_of}
 use Rattle.um_fine.specs.Cells.{Cell}
 use Rattle.um_fine.specs.Heap.{Heap}
 use Rattle.um_fine.specs.Opening.{boot_index, count, heap_cell, indexed, parked_if}
-use Rattle.um_tables.specs.Parked.{context_at, resting, scheduler_of, told_at}
+use Rattle.um_tables.specs.Parked.{context_at, priority_at, resting, scheduler_of, told_at}
 use Rattle.um_tables.specs.ObjectCells.{cleared}
 use Rattle.um_tables.specs.declared.object_cell.ObjectCell.{ObjectCell}
 use Rattle.um_opening.specs.Opened.{kept_by}
@@ -95,19 +95,28 @@ told-none : (i : ℕ) (xs : List Thread) → map told_at (indexed resting i xs) 
 told-none i [] = refl
 told-none i (x ∷ xs) = ap (λ (ts : List (Option Told)). None ∷ ts) (told-none (i + 1) xs)
 
+noted-all : (i : ℕ) (xs : List Thread) → map priority_at (indexed resting i xs) ≡ map (λ (me : Thread). me.priority) xs
+noted-all i [] = refl
+noted-all i (x ∷ xs) = ap (λ (ps : List ℤ). x.priority ∷ ps) (noted-all (i + 1) xs)
+
 pub scheduler-is : (s : State) (n : ℕ) → length s.threads ≡ n
     → scheduler_of (map (boot_index s) s.image.boots) (indexed resting 0 s.threads) 0
     ≡ record {
       ready = map (boot_index s) s.image.boots;
       parked = indexed (λ t (me : Thread). parked_if (is_living me.life) (context_of t me)) 0 s.threads;
       told = replicate n None;
+      priorities = map (λ (me : Thread). me.priority) s.threads;
       running = 0;
     }
 scheduler-is s n long =
-    let ready = map (boot_index s) s.image.boots in
-    ap (λ (ps : List (Option Context)). record { ready = ready; parked = ps; told = map told_at (indexed resting 0 s.threads); running = 0 }) (parked-all 0 s.threads)
-    ∙ ap (λ (ts : List (Option Told)). record { ready = ready; parked = indexed (λ t (me : Thread). parked_if (is_living me.life) (context_of t me)) 0 s.threads; told = ts; running = 0 })
-    (told-none 0 s.threads ∙ ap (λ (k : ℕ). replicate k None) long)
+    let told : map told_at (indexed resting 0 s.threads) ≡ replicate n None = told-none 0 s.threads ∙ ap (λ (k : ℕ). replicate k None) long in
+    λ i. record {
+      ready = map (boot_index s) s.image.boots;
+      parked = parked-all 0 s.threads i;
+      told = told i;
+      priorities = noted-all 0 s.threads i;
+      running = 0;
+    }
 
 -- The cells of objects.
 
