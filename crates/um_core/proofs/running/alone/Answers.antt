@@ -7,20 +7,20 @@ use Rattle.um_core.proofs.running.alone.Goals as goal
 pub steps-init : goal.steps-init
 steps-init c = record { so_far = alone-opens c.args.image.now c.args.core c.requires.stands; rodata = c.requires.rodata; room = c.requires.room }
 
-pub step-requires-in-steps-clause-given : goal.step-requires-in-steps-clause-given
+pub step-requires-clause-given : goal.step-requires-clause-given
 unfolding IsGiven
-step-requires-in-steps-clause-given c = c.requires.described.lawful
+step-requires-clause-given c = c.requires.described.lawful
 
-pub step-requires-in-steps-clause-cpu : goal.step-requires-in-steps-clause-cpu
-step-requires-in-steps-clause-cpu c = let count = c.steps.invariant.so_far.stands.count in omega (arith, count)
+pub step-requires-clause-cpu : goal.step-requires-clause-cpu
+step-requires-clause-cpu c = let count = c.steps.invariant.so_far.stands.count in omega (arith, count)
 
 pub overflow_add-count : goal.overflow_add-count
 overflow_add-count c =
     let image = c.args.image.now in
     let so = c.steps.invariant.so_far in
     let is = alone-is image c.requires.described c.requires.can c.longest_fine_run.ensures c.steps.count c.steps.core so c.steps.invariant.room in
-    let more = alone-short image c.requires.described c.requires.can c.longest_fine_run.ensures c.steps.count c.steps.core so c.steps.invariant.room c.step-in-steps.new.self
-    (c.step-in-steps.ensures.goes 1 so.done is (omega arith) c.steps-test.true) in
+    let more = alone-short image c.requires.described c.requires.can c.longest_fine_run.ensures c.steps.count c.steps.core so c.steps.invariant.room c.step.new.self
+    (c.step.ensures.goes 1 so.done is (omega arith) c.steps-test.true) in
     let light = c.requires.described.lawful.light in
     omega (arith, more, light)
 
@@ -29,8 +29,8 @@ steps-smaller c =
     let image = c.args.image.now in
     let so = c.steps.invariant.so_far in
     let is = alone-is image c.requires.described c.requires.can c.longest_fine_run.ensures c.steps.count c.steps.core so c.steps.invariant.room in
-    let more = alone-short image c.requires.described c.requires.can c.longest_fine_run.ensures c.steps.count c.steps.core so c.steps.invariant.room c.step-in-steps.new.self
-    (c.step-in-steps.ensures.goes 1 so.done is (omega arith) c.steps-test.true) in
+    let more = alone-short image c.requires.described c.requires.can c.longest_fine_run.ensures c.steps.count c.steps.core so c.steps.invariant.room c.step.new.self
+    (c.step.ensures.goes 1 so.done is (omega arith) c.steps-test.true) in
     omega (arith, more)
 
 pub steps-preserved : goal.steps-preserved
@@ -38,11 +38,11 @@ steps-preserved c =
     let image = c.args.image.now in
     let so = c.steps.invariant.so_far in
     let is = alone-is image c.requires.described c.requires.can c.longest_fine_run.ensures c.steps.count c.steps.core so c.steps.invariant.room in
-    let most = alone-room image c.requires.described c.requires.can c.longest_fine_run.ensures c.steps.count c.steps.core so c.steps.invariant.room c.step-in-steps.new.self (c.step-in-steps.ensures.steps c.steps-test.true) in
+    let most = alone-room image c.requires.described c.requires.can c.longest_fine_run.ensures c.steps.count c.steps.core so c.steps.invariant.room c.step.new.self (c.step.ensures.steps c.steps-test.true) in
     record {
-      so_far = alone-goes image c.requires.described c.requires.can c.longest_fine_run.ensures c.steps.count c.steps.core so c.steps.invariant.room c.step-in-steps.new.self
-          (c.step-in-steps.ensures.goes 1 so.done is (omega arith) c.steps-test.true);
-      rodata = c.step-in-steps.ensures.rodata;
+      so_far = alone-goes image c.requires.described c.requires.can c.longest_fine_run.ensures c.steps.count c.steps.core so c.steps.invariant.room c.step.new.self
+          (c.step.ensures.goes 1 so.done is (omega arith) c.steps-test.true);
+      rodata = c.step.ensures.rodata;
       room = let room = c.steps.invariant.room in omega (arith, most, room);
     }
 
@@ -52,4 +52,4 @@ returns c =
     let so = c.steps.invariant.so_far in
     let is = alone-is image c.requires.described c.requires.can c.longest_fine_run.ensures c.steps.count c.steps.core so c.steps.invariant.room in
     λ pick. alone-over image c.requires.described c.requires.can c.longest_fine_run.ensures c.steps.count c.steps.core so c.steps.invariant.room
-    (c.step-in-steps.ensures.none 1 so.done is (omega arith) c.steps-test.false) _ (c.into_sites.ensures ∙ ap (λ (core : Core). core.sites) (c.step-in-steps.ensures.same c.steps-test.false)) pick
+    (c.step.ensures.none 1 so.done is (omega arith) c.steps-test.false) _ (c.into_sites.ensures ∙ ap (λ (core : Core). core.sites) (c.step.ensures.same c.steps-test.false)) pick
