@@ -27,7 +27,7 @@ fn a_waiting_call_holds_its_object(rt: HostRuntime) -> Result<(), Fail> {
         },
     );
     assert!(rt; matches!(context.first(), Some(Pending::Check { addr: SEM, .. })));
-    context.checks(&image, SEM, Refusal::Fails, None, 1);
+    context.checks(&image, 96, Refusal::Fails, None, 1);
     assert!(rt; matches!(context.claims(), [96]));
     assert!(rt; context.first() == Some(Pending::Work { addr: SEM, ask }));
     context.works(&image, &ask, Answer::Wait, &Piece::new(), 1);
@@ -55,7 +55,7 @@ fn a_waiting_call_holds_its_object(rt: HostRuntime) -> Result<(), Fail> {
 fn a_refused_check_holds_nothing(rt: HostRuntime) -> Result<(), Fail> {
     let image = image(rt.alloc());
     let mut context = Context::idle();
-    context.checks(&image, SEM, Refusal::Fails, Some(Errno::EPERM), 1);
+    context.checks(&image, 96, Refusal::Fails, Some(Errno::EPERM), 1);
     let fatal = Pending::Fatal {
         reason: 3,
         cause: Cause::Refused(Errno::EPERM),
