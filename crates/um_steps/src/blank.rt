@@ -116,7 +116,7 @@ pub fn set_up(contents: &mut Contents, setup: Setup)
 }
 
 /// Whether a description initialises an object by its setup.
-fn is_set_up(setup: Setup) -> bool
+pub fn is_set_up(setup: Setup) -> bool
     ensures { result ≡ is_set_up setup }
 {
     match setup {
@@ -130,7 +130,7 @@ fn is_set_up(setup: Setup) -> bool
 }
 
 /// Whether a boot entry has a row as its thread or its stack.
-fn boots_row(boots: &[Boot], x: usize) -> bool
+pub fn boots_row(boots: &[Boot], x: usize) -> bool
     ensures { result ≡ list_any (boots_row x) boots.now }
 {
     boots.iter().any(|boot| boot.thread.0 as usize == x || boot.stack.0 as usize == x)

@@ -85,6 +85,7 @@ fn end_read(word: &mut DomWord)
 
 impl DomainAct {
     /// Whether the word takes it.
+    #[inline(always)]
     fn is_taken(&self, word: &DomWord) -> bool
         ensures { result ≡ domain_takes word.now (domain_act self.now) }
     {
@@ -100,6 +101,7 @@ impl DomainAct {
     }
 
     /// What is left but for the step number.
+    #[inline(always)]
     fn take(&self, word: &mut DomWord)
         requires { IsTrue (domain_takes word.old (domain_act self.now)) }
         ensures { word.new ≡ domain_after word.old (domain_act self.now) }
@@ -116,6 +118,7 @@ impl DomainAct {
     }
 
     /// The word that the step leaves; nothing where the word takes no such step.
+    #[inline(always)]
     pub fn make(&self, word: &DomWord) -> Option<DomWord>
         ensures { MatchOption result
             (domain_takes_at word.now self.now ≡ false)
@@ -141,6 +144,7 @@ impl DomainAct {
     }
 
     /// The event of the step, if a trace shows it.
+    #[inline(always)]
     pub fn event(&self) -> Option<Event>
         ensures { result ≡ event_of (domain_act self.now) }
     {

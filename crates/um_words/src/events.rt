@@ -7,6 +7,7 @@ ghost use Rattle.um_words.specs.ShownActs.{by_thread};
 use um_base::{Act, Addr, Errno, Event, Kind, ThreadIx, Want};
 
 /// An event of a thread, which a trace shows.
+#[inline(always)]
 pub fn shown(thread: ThreadIx, act: Act) -> Option<Event>
     ensures { result ≡ Some (by_thread thread act) }
 {
@@ -14,6 +15,7 @@ pub fn shown(thread: ThreadIx, act: Act) -> Option<Event>
 }
 
 /// The event of a check, with its verdict.
+#[inline(always)]
 pub fn checked(
     thread: ThreadIx,
     addr: Addr,

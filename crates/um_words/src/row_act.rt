@@ -118,6 +118,7 @@ fn drops(word: &mut RowWord, who: ThreadIx) -> RowSaid
 
 impl RowAct {
     /// Whether the word takes it.
+    #[inline(always)]
     fn is_taken(&self, word: &RowWord) -> bool
         ensures { result ≡ row_takes word.now (row_act_at word.now self.now) }
     {
@@ -138,6 +139,7 @@ impl RowAct {
     }
 
     /// What the word says, and the word that is left but for its step number.
+    #[inline(always)]
     fn take(&self, word: &mut RowWord) -> RowSaid
         requires { IsTrue (row_takes word.old (row_act_at word.old self.now)) }
         ensures word { word.new ≡ row_after word.old (row_act_at word.old self.now) }
@@ -213,6 +215,7 @@ impl RowAct {
     }
 
     /// The word that the step leaves, with what it says; nothing where the word takes no such step.
+    #[inline(always)]
     pub fn make(&self, word: &RowWord) -> Option<(RowWord, RowSaid)>
         ensures { MatchOption result
             (row_takes_at word.now self.now ≡ false)
@@ -242,6 +245,7 @@ impl RowAct {
     }
 
     /// The event of the step, by what the word says, if a trace shows it.
+    #[inline(always)]
     pub fn event(&self, said: &RowSaid) -> Option<Event>
         ensures { result ≡ row_event self.now said.now }
     {

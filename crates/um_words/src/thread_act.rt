@@ -89,6 +89,7 @@ impl ThreadWord {
 
 impl ThreadAct {
     /// Whether the word takes it.
+    #[inline(always)]
     fn is_taken(&self, word: &ThreadWord) -> bool
         ensures { result ≡ thread_takes word.now (thread_act_at word.now self.now) }
     {
@@ -109,6 +110,7 @@ impl ThreadAct {
     }
 
     /// What is left but for the step number.
+    #[inline(always)]
     fn take(&self, word: &mut ThreadWord)
         requires { IsTrue (thread_takes word.old (thread_act_at word.old self.now)) }
         ensures domain { word.old.domain < DOMAINS → word.new.domain < DOMAINS }
@@ -139,6 +141,7 @@ impl ThreadAct {
     }
 
     /// The word that the step leaves; nothing where the word takes no such step.
+    #[inline(always)]
     pub fn make(&self, word: &ThreadWord) -> Option<ThreadWord>
         ensures domain { word.now.domain < DOMAINS → IfSome result (λ next. next.domain < DOMAINS) }
         ensures made { MatchOption result
@@ -165,6 +168,7 @@ impl ThreadAct {
     }
 
     /// The event of the step, by the word that it leaves, if a trace shows it.
+    #[inline(always)]
     pub fn event(&self, next: &ThreadWord) -> Option<Event>
         ensures { result ≡ thread_event self.now next.now }
     {
