@@ -1,6 +1,6 @@
--- A matrix makes the machine's steps. BootLemmas is about its tables; PairLemmas, StringLemmas, WorkLemmas and StartLemmas about what steps
+-- A matrix makes the machine's steps. TableLemmas is about its rows; PairLemmas, StringLemmas, WorkLemmas and StartLemmas about what steps
 -- change. OfferLemmas has which steps a thread is offered; RunLemmas is about runs.
-pub mod BootLemmas
+mod TableLemmas
 pub mod OfferLemmas
 mod PairLemmas
 mod RunLemmas

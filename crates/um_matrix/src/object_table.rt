@@ -43,7 +43,7 @@ impl Model for ObjectTable {
 }
 
 /// The objects of a description.
-#[tactic(auto, using(crate::proofs::BootLemmas::in_limits))]
+#[tactic(auto, using(um_boot::proofs::BootLemmas::in_limits))]
 fn statics(alloc: Global, image: &Image) -> Result<Vec<Object>, OutOfMemory>
     requires { IsLawful image.now }
     ensures items { IfOk result

@@ -51,7 +51,7 @@ pub fn domain_cells(alloc: Global, matrix: &Matrix) -> Result<Vec<DomainCell>, O
 }
 
 /// The cells of all rows.
-#[tactic(auto, using(um_matrix::proofs::BootLemmas::in_limits))]
+#[tactic(auto, using(um_boot::proofs::BootLemmas::in_limits))]
 pub fn objects(alloc: Global, image: &Image) -> Result<ObjectCells, OutOfMemory>
     requires { IsLawful image.now }
     ensures cells { IfOk result

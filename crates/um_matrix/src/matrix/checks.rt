@@ -7,12 +7,13 @@ ghost use Rattle.std.specs.{
 ghost use Rattle.um_machine.specs.{Objects.{any_holds, init_verdict}, Table.{set_said}};
 
 use crate::matrix::Matrix;
-use crate::matrix::moves::{flag, holders_of, put};
+use crate::matrix::moves::{flag, holders_of};
 use crate::places::row_at;
 use um_base::{
     Addr, Errno, Given, Image, Kind, Leftover, Mode, ROWS, STATIC_ROWS, STATIC_THREADS, SetSaid,
     THREADS, ThreadIx, Want,
 };
+use um_boot::flags::put;
 use um_machine::{Object, Status, Thread};
 use um_steps::holds::holds;
 use um_steps::kinds::has_kind;

@@ -1,10 +1,11 @@
 //! What steps have in common: pairs come and go, and pools pay.
 
-ghost use Rattle.std.specs.Prelude.{◌≡◌, ◌<◌, ◌≤◌, [], true, false, not, ◌&&◌, slice_index_or, slice_set, map, length, List, Bool};
+ghost use Rattle.std.specs.Prelude.{◌≡◌, ◌<◌, ◌≤◌, [], true, false, not, ◌&&◌, slice_index_or, map, length, List, Bool};
 ghost use Rattle.um_machine.specs.Table.{stays_due, with_dues};
 
 use crate::matrix::Matrix;
 use um_base::{Given, Leftover, ROWS, THREADS, ThreadIx};
+use um_boot::flags::put;
 use um_machine::{Status, Thread};
 
 impl<'a> Matrix<'a> {
@@ -62,15 +63,6 @@ pub(crate) fn flag(flags: &[bool], i: usize) -> bool
     ensures { result ≡ slice_index_or flags.now i false }
 {
     i < flags.len() && flags[i]
-}
-
-/// Writes a flag, if there is one.
-pub(crate) fn put(flags: &mut [bool], i: usize, there: bool)
-    ensures { flags.new ≡ slice_set flags.old i there }
-{
-    if i < flags.len() {
-        flags[i] = there;
-    }
 }
 
 /// The rows with which a thread has a pair.

@@ -3,8 +3,9 @@
 ghost use Rattle.std.specs.Prelude.{◌≡◌, ◌<◌, drop};
 
 use crate::matrix::Matrix;
-use crate::matrix::moves::{put, rows_to_pass};
+use crate::matrix::moves::rows_to_pass;
 use um_base::{Addr, THREADS, ThreadIx};
+use um_boot::flags::put;
 use um_machine::Pending;
 use um_steps::rows::own_row;
 

@@ -4,7 +4,7 @@ use Rattle.um_base.specs.declared.image.Boot.{Boot}
 use Rattle.um_base.specs.declared.image.ObjectDef.{ObjectDef}
 use Rattle.um_machine.specs.declared.object.Object.{Object}
 use Rattle.um_machine.specs.Run.{objects_from, opening_object}
-use Rattle.um_matrix.proofs.BootLemmas.{filled_last}
+use Rattle.um_matrix.proofs.TableLemmas.{filled_last}
 use Rattle.um_matrix.proofs.object_table.statics.Goals as goal
 
 pub loop-x-preserved : goal.loop-x-preserved

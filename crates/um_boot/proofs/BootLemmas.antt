@@ -1,7 +1,6 @@
 -- States by their parts, and what a lawful description sets up.
 use Rattle.std.proofs.lemmas.Bool.{and_parts}
-use Rattle.std.proofs.Common.{◌≡◌, ◌<◌, ◌+◌, ◌-◌, ◌++◌, ◌∙◌, ℕ, zero, suc, List, [], ◌∷◌, Bool, Option, ap, length, get_or, replicate, slice_set, arith, refl}
-use Rattle.std.proofs.lemmas.List.{set_at}
+use Rattle.std.proofs.Common.{◌≡◌, ◌<◌, ℕ, zero, suc, List, [], ◌∷◌, Bool, Option, length, get_or, arith, refl}
 use Rattle.std.specs.Prelude.{IsTrue, nat_le}
 use Rattle.std.specs.List.{list_all}
 use Rattle.um_base.specs.Lawful.{IsLawful, is_setup_of, is_within}
@@ -14,15 +13,15 @@ use Rattle.um_base.specs.declared.image.Image.{Image}
 use Rattle.um_base.specs.Regions.{Partitions}
 use Rattle.um_machine.specs.declared.object.Object.{Object}
 use Rattle.um_machine.specs.declared.thread.Thread.{Thread}
-use Rattle.um_machine.specs.State.{State, vacant}
+use Rattle.um_machine.specs.State.{State}
 
 -- a state by the equations of its tables
-pub state-like : (image : Image) {threads threads2 : List Thread} {objects objects2 : List Object} {pairs pairs2 : List (List Bool)} {domains domains2 : List (Option Partitions)}
-    {memory memory2 stacks stacks2 pools pools2 : List ℕ}
-    → threads ≡ threads2 → objects ≡ objects2 → pairs ≡ pairs2 → domains ≡ domains2 → memory ≡ memory2 → stacks ≡ stacks2 → pools ≡ pools2
-    → ◌≡◌ {A = State} (record { image = image; threads = threads; objects = objects; pairs = pairs; domains = domains; memory = memory; stacks = stacks; pools = pools })
-    (record { image = image; threads = threads2; objects = objects2; pairs = pairs2; domains = domains2; memory = memory2; stacks = stacks2; pools = pools2 })
-state-like image t o p d m s q = cc
+pub state-is : (s : State) {image : Image} {threads : List Thread} {objects : List Object} {pairs : List (List Bool)} {domains : List (Option Partitions)}
+    {memory stacks pools : List ℕ}
+    → image ≡ s.image → threads ≡ s.threads → objects ≡ s.objects → pairs ≡ s.pairs → domains ≡ s.domains → memory ≡ s.memory → stacks ≡ s.stacks → pools ≡ s.pools
+    → ◌≡◌ {A = State} (record { image = image; threads = threads; objects = objects; pairs = pairs; domains = domains; memory = memory; stacks = stacks; pools = pools }) s
+state-is s i t o p d m k q =
+    λ j. record { image = i j; threads = t j; objects = o j; pairs = p j; domains = d j; memory = m j; stacks = k j; pools = q j }
 
 -- a setup of a kind keeps the limits
 setup-limits : (mpu : Mpu) (kind : Kind) (setup : Setup) → IsTrue (is_setup_of mpu kind setup) → IsTrue (is_in_limits setup)
@@ -47,9 +46,3 @@ all-in-limits mpu (o ∷ os) (suc x) d h all =
 -- the objects of a lawful image keep the limits
 pub in_limits : (image : Image) (x : ℕ) (d : ObjectDef) → IsLawful image → x < length image.objects → IsTrue (is_in_limits (get_or image.objects x d).setup)
 in_limits image x d lawful h = all-in-limits image.mpu image.objects x d h lawful.objects
-
--- a row that was just filled up to is written
-pub filled_last : (rows : List Object) (x : ℕ) (o : Object) → length rows ≡ x → slice_set (rows ++ replicate (x + 1 - length rows) vacant) x o ≡ rows ++ o ∷ []
-filled_last rows x o count =
-    let one : x + 1 - length rows ≡ 1 = omega arith in
-    ap (λ (k : ℕ). slice_set (rows ++ replicate k vacant) x o) one ∙ set_at rows vacant [] o x count

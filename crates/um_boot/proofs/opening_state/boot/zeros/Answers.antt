@@ -2,8 +2,8 @@ use Rattle.std.proofs.Common.{◌≡◌, ◌∙◌, ◌+◌, ◌*◌, ◌++◌, 
 use Rattle.std.proofs.Math.Nat.{mul-add}
 use Rattle.std.proofs.lemmas.List.{replicate-append-replicate}
 use Rattle.um_base.specs.declared.limits.TheConstants.{AREA_SIZE}
-use Rattle.um_matrix.specs.declared.matrix.boot.TheConstants.{PAGE}
-use Rattle.um_matrix.proofs.matrix.boot.zeros.Goals as goal
+use Rattle.um_boot.specs.declared.opening_state.boot.TheConstants.{PAGE}
+use Rattle.um_boot.proofs.opening_state.boot.zeros.Goals as goal
 
 pub loop-preserved : goal.loop-preserved
 loop-preserved c =
