@@ -1,25 +1,27 @@
 -- Lists by what stands at each number, and what the cells of the scheduler and the heap keep of all threads and all objects.
 use Rattle.std.proofs.Common.{◌≡◌, ◌<◌, ◌≤◌, ◌+◌, ◌-◌, ◌++◌, ℕ, ℤ, zero, suc, Bool, true, false, List, [], ◌∷◌, length, length-append, refl, sym, ap, ◌∙◌, subst, append_assoc, arith, drop, map, take, replicate}
-use Rattle.std.specs.Prelude.{Option, None, Result, Ok, Err, IfOk, nat_le, slice_index_or, slice_set}
-use Rattle.std.proofs.lemmas.List.{drop_all, drop_more, get_or_append_left, get_or-append_right, get_or_push, length-take-le, map-append, set_at, take_all, take_more}
+use Rattle.std.specs.Prelude.{Option, None, Result, Ok, Err, IfOk, nat_le, slice_get, slice_index_or, slice_set}
+use Rattle.std.proofs.lemmas.Bool.{false≢true}
+use Rattle.std.proofs.lemmas.List.{drop_all, drop_more, get_or_append_left, get_or-append_right, get_or_push, length-take-le, set-get_or, set_at, take_more}
 use borrow.Author.Count.{below_more}
 use Rattle.um_base.specs.declared.ask.Told.{Told}
 use Rattle.um_base.specs.declared.image.Boot.{Boot}
 use Rattle.um_base.specs.declared.image.ObjectDef.{ObjectDef}
+use Rattle.um_base.specs.declared.image.Setup.{Setup}
 use Rattle.um_base.specs.declared.limits.TheConstants.{ROWS, STATIC_ROWS}
+use Rattle.um_machine.specs.declared.contents.Contents.{Contents}
 use Rattle.um_machine.specs.declared.object.Cost.{Cost}
 use Rattle.um_machine.specs.declared.object.Object.{Object}
 use Rattle.um_machine.specs.declared.thread.Thread.{Thread}
-use Rattle.um_machine.specs.Run.{objects_from, opening_object}
-use Rattle.um_machine.specs.State.{State, is_living, vacant}
+use Rattle.um_machine.specs.Run.{is_set_up, objects_from, opening_object, setup_contents}
+use Rattle.um_machine.specs.State.{State, is_living, object_at, vacant}
 use Rattle.um_fine.specs.Context.{Context, context_of}
 use Rattle.um_fine.specs.Cells.{Cell}
-use Rattle.um_fine.specs.Heap.{Heap}
 use Rattle.um_fine.specs.Opening.{boot_index, count, heap_cell, indexed, parked_if}
 use Rattle.um_tables.specs.Parked.{context_at, priority_at, resting, scheduler_of, told_at}
 use Rattle.um_tables.specs.ObjectCells.{cleared}
 use Rattle.um_tables.specs.declared.object_cell.ObjectCell.{ObjectCell}
-use Rattle.um_opening.specs.Opened.{kept_by}
+use Rattle.um_opening.specs.Opened.{heap_of, kept_by, object_of, opened}
 
 -- one more item at the end of a list of items that are as they have to be
 pub each-more : {A : Type 0} (P : ℕ → A → Type 0) (d x : A) (xs ys : List A) (n : ℕ) → ys ≡ xs ++ x ∷ [] → length xs ≡ n → P n x
@@ -33,22 +35,6 @@ each-more {A} P d x xs ys n push long here before =
 pub ok-more : {A E : Type 0} (P Q : A → Type 0) → ((x : A) → P x → Q x) → (r : Result A E) → IfOk r P → IfOk r Q
 ok-more P Q more (Ok x) p = more x p
 ok-more P Q more (Err e) p = tt
-
--- the front of a numbered list
-pub indexed-push : {A B : Type 0} (f : ℕ → A → B) (i : ℕ) (xs : List A) (x : A) → indexed f i (xs ++ x ∷ []) ≡ indexed f i xs ++ f (i + length xs) x ∷ []
-indexed-push f i [] x = let e : i ≡ i + 0 = omega arith in ap (λ (n : ℕ). f n x ∷ []) e
-indexed-push {A} {B} f i (y ∷ xs) x =
-    let e : i + 1 + length xs ≡ i + length (y ∷ xs) = omega arith in
-    ap (λ (zs : List B). f i y ∷ zs) (indexed-push f (i + 1) xs x ∙ ap (λ (n : ℕ). indexed f (i + 1) xs ++ f n x ∷ []) e)
-
-pub indexed-more : {A B : Type 0} (f : ℕ → A → B) (xs : List A) (n : ℕ) (d : A) → n < length xs → indexed f 0 (take (n + 1) xs) ≡ indexed f 0 (take n xs) ++ f n (slice_index_or xs n d) ∷ []
-indexed-more {A} {B} f xs n d h =
-    let long : 0 + length (take n xs) ≡ n = omega (arith, length-take-le n xs (omega (arith, h))) in
-    ap (indexed f 0) (take_more xs n d h) ∙ indexed-push f 0 (take n xs) (slice_index_or xs n d)
-    ∙ ap (λ (k : ℕ). indexed f 0 (take n xs) ++ f k (slice_index_or xs n d) ∷ []) long
-
-pub map_more : {A B : Type 0} (f : A → B) (xs : List A) (n : ℕ) (d : A) → n < length xs → map f (take (n + 1) xs) ≡ map f (take n xs) ++ f (slice_index_or xs n d) ∷ []
-map_more f xs n d h = ap (map f) (take_more xs n d h) ∙ map-append f (take n xs) (slice_index_or xs n d ∷ [])
 
 -- Flags and counts.
 
@@ -75,15 +61,50 @@ count_more {A} f xs t d h =
 
 -- The heap's cell.
 
-pub heap-is : (s : State) (h : Heap) (pools : List ℕ) (free : List Bool) (costs : List (Option Cost)) (n : ℕ)
-    → h ≡ record { pools = pools; free = free; costs = costs } → pools ≡ s.pools → free ≡ indexed (λ x (o : Object). nat_le STATIC_ROWS x) 0 (take n s.objects)
-    → costs ≡ map (λ (o : Object). o.cost) (take n s.objects) → length s.objects ≤ n → Cell.heap h ≡ heap_cell s
-heap-is s h pools free costs n is p f k few =
-    let all : take n s.objects ≡ s.objects = take_all n s.objects few in
-    ap Cell.heap is ∙ ap (λ (ps : List ℕ). Cell.heap (record { pools = ps; free = free; costs = costs })) p
-    ∙ ap (λ (fs : List Bool). Cell.heap (record { pools = s.pools; free = fs; costs = costs })) f
-    ∙ ap (λ (cs : List (Option Cost)). Cell.heap (record { pools = s.pools; free = indexed (λ x (o : Object). nat_le STATIC_ROWS x) 0 (take n s.objects); costs = cs })) k
-    ∙ ap (λ (os : List Object). Cell.heap (record { pools = s.pools; free = indexed (λ x (o : Object). nat_le STATIC_ROWS x) 0 os; costs = map (λ (o : Object). o.cost) os })) all
+-- what is made of the numbers alone
+numbers-alone : {A B : Type 0} (f : ℕ → B) (i : ℕ) (xs : List A) (d : A) → indexed (λ n (x : A). f n) i xs ≡ indexed (λ n (x : A). f n) i (replicate (length xs) d)
+numbers-alone f i [] d = refl
+numbers-alone {A} {B} f i (x ∷ xs) d = ap (λ (ys : List B). f i ∷ ys) (numbers-alone f (i + 1) xs d)
+
+free-rows : (os : List Object) → length os ≡ ROWS → indexed (λ x (o : Object). nat_le STATIC_ROWS x) 0 os ≡ replicate {A = Bool} STATIC_ROWS false ++ replicate {A = Bool} (ROWS - STATIC_ROWS) true
+free-rows os all =
+    numbers-alone (nat_le STATIC_ROWS) 0 os vacant ∙ ap (λ (n : ℕ). indexed (λ x (o : Object). nat_le STATIC_ROWS x) 0 (replicate n vacant)) all
+
+cost-none : (n : ℕ) → map (λ (o : Object). o.cost) (replicate n vacant) ≡ replicate (length (replicate n vacant)) None
+cost-none zero = refl
+cost-none (suc n) = ap (λ (cs : List (Option Cost)). None ∷ cs) (cost-none n)
+
+costs-none : (boots : List Boot) (x : ℕ) (os : List ObjectDef) → map (λ (o : Object). o.cost) (objects_from boots x os) ≡ replicate (length (objects_from boots x os)) None
+costs-none boots x [] = cost-none (ROWS - x)
+costs-none boots x (o ∷ os) = ap (λ (cs : List (Option Cost)). None ∷ cs) (costs-none boots (x + 1) os)
+
+pub heap-is : (s : State) (pools : List ℕ) → pools ≡ s.pools → s.objects ≡ objects_from s.image.boots 0 s.image.objects → length s.objects ≡ ROWS → Cell.heap (heap_of pools) ≡ heap_cell s
+heap-is s pools p is all =
+    let free = free-rows s.objects all in
+    let costs : map (λ (o : Object). o.cost) s.objects ≡ replicate {A = Option Cost} ROWS None =
+    ap (map (λ (o : Object). o.cost)) is ∙ costs-none s.image.boots 0 s.image.objects ∙ ap (λ (os : List Object). replicate {A = Option Cost} (length os) None) (sym is)
+    ∙ ap (λ (n : ℕ). replicate {A = Option Cost} n None) all in
+    λ j. Cell.heap (record { pools = p j; free = sym free j; costs = sym costs j })
+
+-- The objects at the opening.
+
+objects-at : (boots : List Boot) (i : ℕ) (os : List ObjectDef) (x : ℕ) → slice_index_or (objects_from boots i os) x vacant ≡ object_of boots (i + x) (slice_get os x)
+objects-at boots i [] x = vacant-at (ROWS - i) x
+  where
+    vacant-at : (n x : ℕ) → slice_index_or (replicate n vacant) x vacant ≡ vacant
+    vacant-at zero x = refl
+    vacant-at (suc n) zero = refl
+    vacant-at (suc n) (suc x) = vacant-at n x
+objects-at boots i (o ∷ os) zero = let e : i ≡ i + 0 = omega arith in ap (λ (n : ℕ). opening_object boots n o) e
+objects-at boots i (o ∷ os) (suc x) =
+    let e : i + 1 + x ≡ i + suc x = omega arith in objects-at boots (i + 1) os x ∙ ap (λ (n : ℕ). object_of boots n (slice_get os x)) e
+
+-- each row has the object of its description
+pub object-is : (s : State) (x : ℕ) → s.objects ≡ objects_from s.image.boots 0 s.image.objects → object_at s x ≡ object_of s.image.boots x (slice_get s.image.objects x)
+object-is s x is =
+    let e : 0 + x ≡ x = omega arith in
+    ap (λ (os : List Object). slice_index_or os x vacant) is ∙ objects-at s.image.boots 0 s.image.objects x
+    ∙ ap (λ (n : ℕ). object_of s.image.boots n (slice_get s.image.objects x)) e
 
 -- The scheduler's cell.
 
@@ -119,6 +140,19 @@ scheduler-is s n long =
     }
 
 -- The cells of objects.
+
+-- an object that isn't set up has no contents
+no-contents : (setup : Setup) → is_set_up setup ≡ false → setup_contents setup ≡ Contents.Nothing
+no-contents (Setup.Thread index) h = refl
+no-contents (Setup.ThreadStack range declared) h = refl
+no-contents Setup.Bare h = refl
+no-contents setup h = absurd (false≢true (sym h))
+
+-- its cell stays as it was
+pub stays_empty : (cells : List ObjectCell) (x : ℕ) (setup : Setup) → is_set_up setup ≡ false → slice_index_or cells x (cleared 0) ≡ cleared 0 → cells ≡ slice_set cells x (opened setup)
+stays_empty cells x setup h empty =
+    sym (ap (λ (contents : Contents). slice_set cells x (record (cleared 0) { contents = contents })) (no-contents setup h)
+    ∙ ap (slice_set cells x) (sym empty) ∙ set-get_or cells x (cleared 0))
 
 pub none-kept : (n : ℕ) → map kept_by (replicate n vacant) ≡ replicate n (cleared 0)
 none-kept zero = refl

@@ -1,7 +1,7 @@
 //! The contents of all cells, as a state of the machine has them.
 
 ghost use Rattle.std.specs.{
-  Prelude.{◌≡◌, ◌<◌, IfOk, length, map},
+  Prelude.{◌≡◌, ◌<◌, IfOk, IsTrue, length, map, slice_index_or, slice_set},
   List.{All},
 };
 ghost use Rattle.um_base.specs.{
@@ -10,44 +10,53 @@ ghost use Rattle.um_base.specs.{
   Lawful.{IsLawful},
   Places.{thread_of_row},
 };
-ghost use Rattle.um_machine.specs.{Run.{index_or, objects_from}, Table.{domain_at}};
-ghost use Rattle.um_fine.specs.{
-  Cells.{Cell},
-  Memory.{bytes_of},
-  Opening.{boot_index, heap_cell, scheduler_cell},
-};
-ghost use Rattle.um_tables.specs.Contexts.{rests};
-ghost use Rattle.um_opening.specs.Opened.{AreParts, kept_by};
+ghost use Rattle.um_machine.specs.{Limits.{is_in_limits}, Run.{index_or, objects_from}, Table.{domain_at}};
+ghost use Rattle.um_fine.specs.{Cells.{Cell}, Opening.{boot_index, scheduler_cell}};
+ghost use Rattle.um_tables.specs.{Contexts.{rests}, ObjectCells.{cleared}};
+ghost use Rattle.um_opening.specs.Opened.{AreParts, heap_of, kept_by, opened};
 
 use arrayvec::ArrayVec;
 use std::alloc::Global;
-use um_base::{Boot, DOMAINS, Image, OutOfMemory, Parts, ROWS, STATIC_ROWS, THREADS};
-use um_matrix::Matrix;
-use um_steps::blank::set_up;
+use um_base::{Boot, DOMAINS, Image, OutOfMemory, Parts, ROWS, STATIC_ROWS, Setup, THREADS};
+use um_boot::OpeningState;
+use um_steps::blank::{is_set_up, set_up};
 use um_steps::rows::thread_of_row;
-use um_tables::{Bytes, DomainCell, Heap, ObjectCells, Scheduler};
+use um_tables::{DomainCell, Heap, ObjectCells, Scheduler};
 
 /// The partitions of a domain.
-fn parts_of(matrix: &Matrix, d: usize) -> Option<Parts>
-    ensures { result ≡ domain_at matrix.now d }
+fn parts_of(state: &OpeningState, d: usize) -> Option<Parts>
+    ensures { result ≡ domain_at state.now d }
 {
-    match matrix.domains().get(d) {
+    match state.domains().get(d) {
         Some(parts) => *parts,
         None => None,
     }
 }
 
 /// The cells of all domains.
-pub fn domain_cells(alloc: Global, matrix: &Matrix) -> Result<Vec<DomainCell>, OutOfMemory>
-    ensures parts { IfOk result (λ cells. AreParts matrix.now DOMAINS cells.items) }
+pub fn domain_cells(alloc: Global, state: &OpeningState) -> Result<Vec<DomainCell>, OutOfMemory>
+    ensures parts { IfOk result (λ cells. AreParts state.now DOMAINS cells.items) }
     ensures all { IfOk result (λ cells. length cells.items ≡ DOMAINS) }
 {
     let mut cells = Vec::with_capacity(alloc, DOMAINS)?;
     for d in 0..DOMAINS {
-        let parts = parts_of(matrix, d);
+        let parts = parts_of(state, d);
         cells.push(DomainCell { parts, steps: 0 })?;
     }
     Ok(cells)
+}
+
+/// Opens the cell of an object. Where the setup has no contents, no cell is asked for: it keeps nothing, as before.
+#[tactic(auto, using(crate::proofs::Lists::stays_empty))]
+fn open_cell(cells: &mut ObjectCells, x: usize, setup: Setup)
+    requires limits { IsTrue (is_in_limits setup) }
+    requires row { x < ROWS }
+    requires empty { slice_index_or cells.old x (cleared 0) ≡ cleared 0 }
+    ensures { cells.new ≡ slice_set cells.old x (opened setup) }
+{
+    if is_set_up(setup) {
+        set_up(&mut cells.row_mut(x).contents, setup);
+    }
 }
 
 /// The cells of all rows.
@@ -60,31 +69,20 @@ pub fn objects(alloc: Global, image: &Image) -> Result<ObjectCells, OutOfMemory>
 {
     let mut cells = ObjectCells::new(alloc)?;
     for (x, object) in image.objects.as_slice().iter().enumerate() {
-        set_up(&mut cells.row_mut(x).contents, object.setup);
+        open_cell(&mut cells, x, object.setup);
     }
     Ok(cells)
 }
 
-/// The bytes of the partitions and of the thread stacks.
-pub fn memory(alloc: Global, matrix: &Matrix) -> Result<Bytes, OutOfMemory>
-    ensures { IfOk result (λ bytes. bytes ≡ bytes_of matrix.now) }
+/// What is left in the pools, the dynamic addresses, which are free, and what each object cost: none did.
+pub fn heap(alloc: Global, pools: Vec<u32>) -> Result<Heap, OutOfMemory>
+    ensures { IfOk result (λ heap. heap ≡ heap_of pools.items) }
 {
-    let memory = matrix.memory().to_vec(alloc)?;
-    let stacks = matrix.stacks().to_vec(alloc)?;
-    Ok(Bytes::new(memory, stacks))
-}
-
-/// What is left in the pools, the dynamic addresses, which are free, and what each object cost.
-pub fn heap(alloc: Global, matrix: &Matrix) -> Result<Heap, OutOfMemory>
-    ensures { IfOk result (λ heap. Cell.heap heap ≡ heap_cell matrix.now) }
-{
-    let pools = matrix.pools().to_vec(alloc)?;
     let mut free = Vec::with_capacity(alloc, ROWS)?;
+    free.resize(STATIC_ROWS, false)?;
+    free.resize(ROWS, true)?;
     let mut costs = Vec::with_capacity(alloc, ROWS)?;
-    for x in 0..ROWS {
-        free.push(x >= STATIC_ROWS)?;
-        costs.push(matrix.object(x).cost)?;
-    }
+    costs.resize(ROWS, None)?;
     Ok(Heap::new(pools, free, costs))
 }
 
@@ -99,10 +97,10 @@ fn index_of(image: &Image, boot: &Boot) -> u8
 }
 
 /// The threads of the boot entries, in their order.
-fn ready(matrix: &Matrix) -> ArrayVec<u8, THREADS>
-    ensures { result.items ≡ map (boot_index matrix.now) matrix.now.image.boots }
+fn ready(state: &OpeningState) -> ArrayVec<u8, THREADS>
+    ensures { result.items ≡ map (boot_index state.now) state.now.image.boots }
 {
-    let image = matrix.image();
+    let image = state.image();
     let mut ready = ArrayVec::new();
     for boot in image.boots.as_slice() {
         ready.push(index_of(image, boot));
@@ -111,10 +109,10 @@ fn ready(matrix: &Matrix) -> ArrayVec<u8, THREADS>
 }
 
 /// The ready list, and the threads, all at rest.
-pub fn scheduler(alloc: Global, matrix: &Matrix) -> Result<Scheduler, OutOfMemory>
-    requires boots { All (λ (boot : Boot). boot_index matrix.now boot < THREADS) matrix.now.image.boots }
-    requires rest { All rests matrix.now.threads }
-    ensures { IfOk result (λ scheduler. Cell.scheduler scheduler ≡ scheduler_cell matrix.now) }
+pub fn scheduler(alloc: Global, state: &OpeningState) -> Result<Scheduler, OutOfMemory>
+    requires boots { All (λ (boot : Boot). boot_index state.now boot < THREADS) state.now.image.boots }
+    requires rest { All rests state.now.threads }
+    ensures { IfOk result (λ scheduler. Cell.scheduler scheduler ≡ scheduler_cell state.now) }
 {
-    Scheduler::at_rest(alloc, ready(matrix), matrix.threads())
+    Scheduler::at_rest(alloc, ready(state), state.threads())
 }

@@ -7,35 +7,35 @@ ghost use Rattle.um_fine.specs.{Opening.{s_start, site_state}, Sites.{is_site}, 
 ghost use Rattle.um_tables.specs.Sited.{IsSized, state_at};
 ghost use Rattle.um_opening.specs.Opened.{IsFresh};
 
-use crate::cells::{domain_cells, heap, memory, objects, scheduler};
+use crate::cells::{domain_cells, heap, objects, scheduler};
 use crate::words::{domains, rows, threads};
 use std::alloc::Global;
 use um_base::{Image, OutOfMemory};
-use um_matrix::Matrix;
-use um_tables::Tables;
+use um_boot::OpeningState;
+use um_tables::{Bytes, Tables};
 
 /// Tables of a state in which nobody has run.
-fn tables_of(alloc: Global, matrix: &Matrix, most: usize) -> Result<Tables, OutOfMemory>
-    requires lawful { IsLawful matrix.now.image }
-    requires fresh { IsFresh matrix.now }
+fn tables_of(alloc: Global, state: OpeningState, most: usize) -> Result<Tables, OutOfMemory>
+    requires lawful { IsLawful state.image }
+    requires fresh { IsFresh state }
     ensures sites { IfOk result
-        (λ t. (i : Site) → IsTrue (is_site i) → state_at t i ≡ site_state matrix.now i) }
+        (λ t. (i : Site) → IsTrue (is_site i) → state_at t i ≡ site_state state.entry i) }
     ensures sized { IfOk result (λ t. IsSized t) }
-    ensures rodata { IfOk result (λ t. t.rodata ≡ rodata_of matrix.now.image) }
+    ensures rodata { IfOk result (λ t. t.rodata ≡ rodata_of state.entry.image) }
     ensures log { IfOk result (λ t. t.log ≡ []) }
     ensures room { IfOk result (λ t. most ≤ t.most) }
 {
     // no more domains than have words
-    let _few = matrix.domains().len();
-    let rows = rows(alloc, matrix)?;
-    let threads = threads(alloc, matrix)?;
-    let domains = domains(alloc, matrix)?;
-    let domain_cells = domain_cells(alloc, matrix)?;
-    let objects = objects(alloc, matrix.image())?;
-    let rodata = matrix.rodata().to_vec(alloc)?;
-    let memory = memory(alloc, matrix)?;
-    let heap = heap(alloc, matrix)?;
-    let scheduler = scheduler(alloc, matrix)?;
+    let _few = state.domains().len();
+    let rows = rows(alloc, &state)?;
+    let threads = threads(alloc, &state)?;
+    let domains = domains(alloc, &state)?;
+    let domain_cells = domain_cells(alloc, &state)?;
+    let objects = objects(alloc, state.image())?;
+    let scheduler = scheduler(alloc, &state)?;
+    let parts = state.into_parts();
+    let memory = Bytes::new(parts.memory, parts.stacks);
+    let heap = heap(alloc, parts.pools)?;
     let log = Vec::with_capacity(alloc, most)?;
     Ok(Tables::new(
         rows,
@@ -43,7 +43,7 @@ fn tables_of(alloc: Global, matrix: &Matrix, most: usize) -> Result<Tables, OutO
         domains,
         domain_cells,
         objects,
-        rodata,
+        parts.rodata,
         memory,
         heap,
         scheduler,
@@ -60,6 +60,6 @@ pub fn opening(alloc: Global, image: &Image, most: usize) -> Result<Tables, OutO
     ensures log { IfOk result (λ t. t.log ≡ []) }
     ensures room { IfOk result (λ t. most ≤ t.most) }
 {
-    let matrix = Matrix::boot(alloc, image)?;
-    tables_of(alloc, &matrix, most)
+    let state = OpeningState::boot(alloc, image)?;
+    tables_of(alloc, state, most)
 }

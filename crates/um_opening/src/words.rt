@@ -1,6 +1,9 @@
 //! The words of rows, threads and domains, as a state of the machine has them.
 
-ghost use Rattle.std.specs.{Prelude.{◌≡◌, ◌+◌, ◌<◌, ◌≤◌, [], ◌∷◌, IfOk, length, slice_set}, List.{All}};
+ghost use Rattle.std.specs.{
+  Prelude.{◌≡◌, ◌+◌, ◌<◌, ◌≤◌, [], ◌∷◌, IfOk, length, slice_get, slice_set},
+  List.{All},
+};
 ghost use Rattle.um_base.specs.declared.limits.TheConstants.{DOMAINS, ROWS, THREADS};
 ghost use Rattle.um_machine.specs.Objects.{thread_holds};
 ghost use Rattle.um_fine.specs.{
@@ -8,12 +11,13 @@ ghost use Rattle.um_fine.specs.{
   Sites.{SiteState},
 };
 ghost use Rattle.um_tables.specs.Sited.{in_domains};
-ghost use Rattle.um_opening.specs.Opened.{AreDomains, AreRows, AreThreads, in_a_domain};
+ghost use Rattle.um_opening.specs.Opened.{AreDomains, AreRows, AreThreads, in_a_domain, object_of};
 
 use std::alloc::Global;
 use um_base::{DOMAINS, Image, OutOfMemory, ROWS, THREADS};
-use um_machine::{Object, Status, Thread};
-use um_matrix::Matrix;
+use um_boot::OpeningState;
+use um_machine::Thread;
+use um_steps::blank::{boots_row, is_set_up};
 use um_steps::holds::holds;
 use um_words::{DomWord, Permissions, RowWord, Stage, ThreadWord};
 
@@ -41,12 +45,32 @@ fn permissions(flags: &[bool; THREADS]) -> Permissions
 }
 
 /// Whether an object stands at a row.
-fn stage_of(object: &Object) -> Stage
-    ensures { result ≡ stage_of object.now }
+fn stage_of(image: &Image, x: usize) -> Stage
+    ensures { result ≡ stage_of (object_of image.now.boots x (slice_get image.now.objects x)) }
 {
-    match object.status {
-        Status::Live => Stage::Live,
-        _ => Stage::Free,
+    match image.objects.as_slice().get(x) {
+        Some(_) => Stage::Live,
+        None => Stage::Free,
+    }
+}
+
+/// Whether the object of a row is initialised.
+fn is_init(image: &Image, x: usize) -> bool
+    ensures { result ≡ (object_of image.now.boots x (slice_get image.now.objects x)).init }
+{
+    match image.objects.as_slice().get(x) {
+        Some(object) => is_set_up(object.setup) || boots_row(image.boots.as_slice(), x),
+        None => false,
+    }
+}
+
+/// Whether the object of a row is public.
+fn is_public(image: &Image, x: usize) -> bool
+    ensures { result ≡ (object_of image.now.boots x (slice_get image.now.objects x)).public }
+{
+    match image.objects.as_slice().get(x) {
+        Some(object) => object.public,
+        None => false,
     }
 }
 
@@ -73,42 +97,42 @@ fn claims(image: &Image, x: usize, threads: &[Thread]) -> u8
 }
 
 /// The word of a row.
-fn row_word(matrix: &Matrix, x: usize) -> RowWord
+fn row_word(state: &OpeningState, x: usize) -> RowWord
     requires { x < ROWS }
-    ensures { SiteState.row result ≡ row_state matrix.now x }
+    ensures { SiteState.row result ≡ row_state state.now x }
 {
-    let object = matrix.object(x);
+    let image = state.image();
     RowWord {
-        permissions: permissions(&matrix.pairs()[x]),
-        init: object.init,
-        public: object.public,
+        permissions: permissions(&state.pairs()[x]),
+        init: is_init(image, x),
+        public: is_public(image, x),
         dynamic: false,
-        stage: stage_of(object),
-        claims: claims(matrix.image(), x, matrix.threads()),
+        stage: stage_of(image, x),
+        claims: claims(image, x, state.threads()),
         number: 0,
     }
 }
 
 /// The words of all rows.
-pub fn rows(alloc: Global, matrix: &Matrix) -> Result<Vec<RowWord>, OutOfMemory>
-    ensures words { IfOk result (λ words. AreRows matrix.now ROWS words.items) }
+pub fn rows(alloc: Global, state: &OpeningState) -> Result<Vec<RowWord>, OutOfMemory>
+    ensures words { IfOk result (λ words. AreRows state.now ROWS words.items) }
     ensures all { IfOk result (λ words. length words.items ≡ ROWS) }
 {
     let mut words = Vec::with_capacity(alloc, ROWS)?;
     for x in 0..ROWS {
-        words.push(row_word(matrix, x))?;
+        words.push(row_word(state, x))?;
     }
     Ok(words)
 }
 
 /// The word of a thread.
-fn thread_word(matrix: &Matrix, t: usize) -> ThreadWord
+fn thread_word(state: &OpeningState, t: usize) -> ThreadWord
     requires index { t < THREADS }
-    requires named { All in_a_domain matrix.now.threads }
-    ensures word { SiteState.thread result ≡ thread_state matrix.now t }
+    requires named { All in_a_domain state.now.threads }
+    ensures word { SiteState.thread result ≡ thread_state state.now t }
     ensures named { in_domains result }
 {
-    let me = &matrix.threads()[t];
+    let me = &state.threads()[t];
     ThreadWord {
         life: me.life,
         doomed: me.doomed,
@@ -120,24 +144,24 @@ fn thread_word(matrix: &Matrix, t: usize) -> ThreadWord
 }
 
 /// The words of all threads.
-pub fn threads(alloc: Global, matrix: &Matrix) -> Result<Vec<ThreadWord>, OutOfMemory>
-    requires { All in_a_domain matrix.now.threads }
-    ensures words { IfOk result (λ words. AreThreads matrix.now THREADS words.items) }
+pub fn threads(alloc: Global, state: &OpeningState) -> Result<Vec<ThreadWord>, OutOfMemory>
+    requires { All in_a_domain state.now.threads }
+    ensures words { IfOk result (λ words. AreThreads state.now THREADS words.items) }
     ensures all { IfOk result (λ words. length words.items ≡ THREADS) }
     ensures named { IfOk result (λ words. All in_domains words.items) }
 {
     let mut words = Vec::with_capacity(alloc, THREADS)?;
     for t in 0..THREADS {
-        words.push(thread_word(matrix, t))?;
+        words.push(thread_word(state, t))?;
     }
     Ok(words)
 }
 
 /// The word of a domain.
-fn domain_word(matrix: &Matrix, d: usize) -> DomWord
-    ensures { SiteState.domain result ≡ domain_state matrix.now d }
+fn domain_word(state: &OpeningState, d: usize) -> DomWord
+    ensures { SiteState.domain result ≡ domain_state state.now d }
 {
-    let init = match matrix.domains().get(d) {
+    let init = match state.domains().get(d) {
         Some(Some(_)) => true,
         _ => false,
     };
@@ -151,13 +175,13 @@ fn domain_word(matrix: &Matrix, d: usize) -> DomWord
 }
 
 /// The words of all domains.
-pub fn domains(alloc: Global, matrix: &Matrix) -> Result<Vec<DomWord>, OutOfMemory>
-    ensures words { IfOk result (λ words. AreDomains matrix.now DOMAINS words.items) }
+pub fn domains(alloc: Global, state: &OpeningState) -> Result<Vec<DomWord>, OutOfMemory>
+    ensures words { IfOk result (λ words. AreDomains state.now DOMAINS words.items) }
     ensures all { IfOk result (λ words. length words.items ≡ DOMAINS) }
 {
     let mut words = Vec::with_capacity(alloc, DOMAINS)?;
     for d in 0..DOMAINS {
-        words.push(domain_word(matrix, d))?;
+        words.push(domain_word(state, d))?;
     }
     Ok(words)
 }

@@ -11,7 +11,7 @@ use Rattle.um_opening.proofs.cells.domain_cells.Goals as goal
 pub loop-d-preserved : goal.loop-d-preserved
 loop-d-preserved c = record {
   parts =
-      each-more (λ (d : ℕ) (cell : DomainCell). domain_cell_state cell ≡ new_cell (Cell.parts (domain_at c.args.matrix.now d))) no_domain_cell _ _ _ _
+      each-more (λ (d : ℕ) (cell : DomainCell). domain_cell_state cell ≡ new_cell (Cell.parts (domain_at c.args.state.now d))) no_domain_cell _ _ _ _
       c.in_ok-push.ensures.items c.loop-d.invariant.long (ap (λ (parts : Option Partitions). new_cell (Cell.parts parts)) c.parts_of-parts.ensures) c.loop-d.invariant.parts;
   long = rw c.in_ok-push.ensures.items (omega (arith, length-append {A = DomainCell}, c.loop-d.invariant.long));
 }

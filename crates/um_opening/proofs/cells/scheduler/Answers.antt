@@ -12,16 +12,16 @@ use Rattle.um_opening.proofs.cells.scheduler.Goals as goal
 
 pub at_rest-requires-clause-ready : goal.at_rest-requires-clause-ready
 at_rest-requires-clause-ready c =
-    let s = c.args.matrix.now in
+    let s = c.args.state.now in
     All-same (λ (t : ℕ). t < THREADS) c.ready.result.items (map (boot_index s) s.image.boots) c.ready.ensures
     (All-map (λ (t : ℕ). t < THREADS) (boot_index s) s.image.boots c.requires.boots)
 
 pub at_rest-requires-clause-rest : goal.at_rest-requires-clause-rest
-at_rest-requires-clause-rest c = All-same rests c.threads.result.now c.args.matrix.now.threads c.threads.ensures.value c.requires.rest
+at_rest-requires-clause-rest c = All-same rests c.threads.result.now c.args.state.now.threads c.threads.ensures.value c.requires.rest
 
 pub returns : goal.returns
 returns c =
-    let s = c.args.matrix.now in
+    let s = c.args.state.now in
     let threads = c.threads.result.now in
     let long : length s.threads ≡ THREADS = ap (λ (ts : List Thread). length ts) (sym c.threads.ensures.value) ∙ c.threads.ensures.all in
     ok-more (λ (kept : Scheduler). kept ≡ scheduler_of c.ready.result.items (indexed resting 0 threads) 0) (λ (kept : Scheduler). Cell.scheduler kept ≡ scheduler_cell s)

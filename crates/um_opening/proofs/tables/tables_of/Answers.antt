@@ -1,26 +1,36 @@
-use Rattle.std.proofs.Common.{◌∙◌, ◌≤◌, ap, map, subst, sym}
+use Rattle.std.proofs.Common.{◌≡◌, ◌∙◌, ◌≤◌, List, ap, length, map, subst, sym}
+use Rattle.std.proofs.lemmas.List.{length-map}
 use Rattle.um_base.specs.declared.image.Image.{Image}
+use Rattle.um_base.specs.declared.limits.TheConstants.{ROWS}
 use Rattle.um_machine.specs.Run.{objects_from}
 use Rattle.um_fine.specs.Cells.{Cell}
-use Rattle.um_fine.specs.Memory.{Bytes}
+use Rattle.um_fine.specs.Heap.{Heap}
+use Rattle.um_fine.specs.Memory.{Bytes, bytes_of}
 use Rattle.um_fine.specs.Sites.{SiteState}
 use Rattle.um_tables.specs.Sited.{IsSized, Sited}
+use Rattle.um_tables.specs.declared.object_cell.ObjectCell.{ObjectCell}
 use Rattle.um_opening.specs.Opened.{kept_by}
+use Rattle.um_opening.proofs.Lists.{heap-is}
 use Rattle.um_opening.proofs.SitesAre.{Keeps, sites-are}
 use Rattle.um_opening.proofs.tables.tables_of.Goals as goal
 
 pub returns-clause-sites : goal.returns-clause-sites
 returns-clause-sites c =
-    let s = c.args.matrix.now in
+    let s = c.args.state in
+    let parts = c.into_parts-parts.ensures in
+    let objects : c.in_ok-objects.objects ≡ map kept_by s.objects =
+    c.in_ok-objects.ensures.cells ∙ ap (λ (i : Image). map kept_by (objects_from i.boots 0 i.objects)) c.image.ensures.value ∙ ap (map kept_by) (sym c.requires.fresh.objects) in
+    let all : length s.objects ≡ ROWS = sym (length-map s.objects kept_by) ∙ ap (λ (cells : List ObjectCell). length cells) (sym objects) ∙ c.in_ok-objects.ensures.all in
+    let bytes : c.new-memory.result ≡ bytes_of s = c.new-memory.ensures ∙ (λ j. record { memory = parts.memory j; stacks = parts.stacks j }) in
     let keeps : Keeps s c.new.result = subst (λ (t : Sited). Keeps s t) (sym c.new.ensures)
     (record {
       rows = c.in_ok-rows.ensures.words;
       threads = c.in_ok-threads.ensures.words;
       domains = c.in_ok-domains.ensures.words;
       parts = c.in_ok-domain_cells.ensures.parts;
-      objects = c.in_ok-objects.ensures.cells ∙ ap (λ (i : Image). map kept_by (objects_from i.boots 0 i.objects)) c.image.ensures ∙ ap (map kept_by) (sym c.requires.fresh.objects);
-      memory = ap (λ (bytes : Bytes). SiteState.cell 0 (Cell.memory bytes)) c.in_ok-memory.ensures;
-      heap = ap (SiteState.cell 0) c.in_ok-heap.ensures;
+      objects = objects;
+      memory = ap (λ (bytes : Bytes). SiteState.cell 0 (Cell.memory bytes)) bytes;
+      heap = ap (λ (heap : Heap). SiteState.cell 0 (Cell.heap heap)) c.in_ok-heap.ensures ∙ ap (SiteState.cell 0) (heap-is s _ parts.pools c.requires.fresh.objects all);
       scheduler = ap (SiteState.cell 0) c.in_ok-scheduler.ensures;
     }) in
     sites-are s c.new.result keeps
@@ -35,6 +45,9 @@ returns-clause-sized c =
       domain_cells = c.in_ok-domain_cells.ensures.all;
       objects = c.in_ok-objects.ensures.all;
     })
+
+pub returns-clause-rodata : goal.returns-clause-rodata
+returns-clause-rodata c = ap (λ (t : Sited). t.rodata) c.new.ensures ∙ c.into_parts-parts.ensures.rodata
 
 pub returns-clause-log : goal.returns-clause-log
 returns-clause-log c = ap (λ (t : Sited). t.log) c.new.ensures ∙ c.in_ok-log.ensures.items

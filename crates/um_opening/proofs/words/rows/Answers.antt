@@ -9,7 +9,7 @@ use Rattle.um_opening.proofs.words.rows.Goals as goal
 pub loop-x-preserved : goal.loop-x-preserved
 loop-x-preserved c = record {
   words =
-      each-more (λ (x : ℕ) (w : RowWord). SiteState.row w ≡ row_state c.args.matrix.now x) no_row _ _ _ _ c.in_ok-push.ensures.items c.loop-x.invariant.long
+      each-more (λ (x : ℕ) (w : RowWord). SiteState.row w ≡ row_state c.args.state.now x) no_row _ _ _ _ c.in_ok-push.ensures.items c.loop-x.invariant.long
       c.row_word.ensures c.loop-x.invariant.words;
   long = rw c.in_ok-push.ensures.items (omega (arith, length-append {A = RowWord}, c.loop-x.invariant.long));
 }

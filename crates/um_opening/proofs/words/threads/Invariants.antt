@@ -5,4 +5,4 @@ use Rattle.um_opening.specs.Opened.{AreThreads}
 use Rattle.um_opening.proofs.words.threads.Given as goal
 
 abbrev pub invariant-loop-t : goal.invariant-loop-t
-invariant-loop-t l = record { words : AreThreads l.matrix l.t l.words.items; long : length l.words.items ≡ l.t; named : All in_domains l.words.items }
+invariant-loop-t l = record { words : AreThreads l.state l.t l.words.items; long : length l.words.items ≡ l.t; named : All in_domains l.words.items }
