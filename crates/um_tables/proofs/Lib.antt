@@ -4,6 +4,7 @@ pub mod Celled
 pub mod Fronts
 pub mod HeapLemmas
 pub mod Noted
+pub mod PlacedLemmas
 pub mod Places
 pub mod Scheduled
 pub mod Tabled

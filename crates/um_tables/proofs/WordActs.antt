@@ -1,5 +1,5 @@
 -- What a row, a thread or a domain makes of what is asked, as a step at its site of the fine machine.
-use Rattle.std.proofs.Common.{◌≡◌, ℕ, ◌<◌, Bool, true, false, ◌&&◌, not, IsTrue, None, Some, if◌then◌else◌, nat_lt, refl, sym, ap, ◌∙◌, subst}
+use Rattle.std.proofs.Common.{◌≡◌, ℕ, ◌<◌, Bool, true, false, ◌&&◌, not, IsTrue, if◌then◌else◌, nat_lt, refl, sym, ap, ◌∙◌, subst}
 use Rattle.std.proofs.lemmas.Bool.{lt-ltb}
 use Rattle.um_base.specs.declared.act.Act.{Act}
 use Rattle.um_base.specs.declared.act.Leftover.{Leftover}
@@ -17,9 +17,9 @@ use Rattle.um_words.specs.declared.row_word.RowWord.{RowWord}
 use Rattle.um_words.specs.declared.thread_act.ThreadAct.{ThreadAct}
 use Rattle.um_words.specs.declared.thread_word.ThreadWord.{ThreadWord}
 use Rattle.um_words.specs.DomainActs.{domain_act, domain_takes_at}
-use Rattle.um_words.specs.Domains.{DomainMay, counted_domain, domain_after, domain_takes}
+use Rattle.um_words.specs.Domains.{DomainMay, domain_takes}
 use Rattle.um_words.specs.RowActs.{drop_said, quiet, row_act, row_act_at, row_answers, row_takes_at}
-use Rattle.um_words.specs.Rows.{RowMay, counted_row, dropped, has, left_of, row_after, row_says, row_takes}
+use Rattle.um_words.specs.Rows.{RowMay, counted_row, dropped, has, left_of, row_takes}
 use Rattle.um_words.specs.ShownActs.{shown}
 use Rattle.um_words.specs.ThreadActs.{thread_act, thread_act_at, thread_takes_at}
 use Rattle.um_words.specs.Threads.{ThreadMay, counted_thread, thread_after, thread_takes}

@@ -10,5 +10,6 @@ pub mod SchedulerActs
 pub mod DomainCells
 pub mod HeapActs
 pub mod MemoryActs
+pub mod Placed
 pub mod ObjectCells
 pub mod Lending

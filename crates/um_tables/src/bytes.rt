@@ -16,11 +16,11 @@ ghost use Rattle.um_fine.specs.{
 ghost use Rattle.um_tables.specs.MemoryActs.{has_room, memory_answered, memory_given, memory_said, taken_after, text_taken};
 
 use crate::memory_act::{MemoryAct, MemorySaid};
+use crate::pieces::copies_first;
 use std::marker::Model;
 use um_base::{
     AREA_SIZE, Found, Image, PARTITION_AREA, Piece, RODATA, Range, Row, STACK_AREA, Setup,
 };
-use um_steps::buffers::first_bytes;
 use um_steps::bytes::{clear, le_value, part, write};
 use um_steps::rows::setup_at;
 
@@ -250,7 +250,7 @@ impl Bytes {
                 ..
             } => {
                 if *fits {
-                    *buffer = first_bytes(self.read(image, rodata, addr.0, *size));
+                    copies_first(buffer, self.read(image, rodata, addr.0, *size));
                 }
                 NOTHING
             }

@@ -16,19 +16,9 @@ ghost use Rattle.um_tables.specs.Contexts.{rests};
 
 use arrayvec::ArrayVec;
 use std::marker::Model;
-use um_base::{Image, Piece};
+use um_base::Image;
 use um_machine::{Pending, Thread};
 use um_steps::blank::nobody;
-
-/// Writes these bytes over what was there. Nothing is written where both are empty.
-#[inline(always)]
-pub(crate) fn copies(to: &mut Piece, from: &Piece)
-    ensures { to.new ≡ from.now }
-{
-    if from.len() > 0 || to.len() > 0 {
-        *to = *from;
-    }
-}
 
 /// A thread's own part: what no site keeps of a thread while a processor runs it. Several methods get the number of pending steps to take
 /// off, `taken`. It is 1 for the step that was made, and 2 if an inheritance or an end's drops stood before that step, since these are over

@@ -15,14 +15,14 @@ pub struct DomainCell {
     pub steps: u32,
 }
 
-/// The partitions for a region table: none where the domain isn't initialised.
-#[inline(always)]
-pub fn parts_or_none(parts: &Option<Parts>) -> Parts
-    ensures { result ≡ parts_or_none parts.now }
+/// Loads the partitions into a region table: none where the domain isn't initialised.
+#[inline]
+pub fn load(table: &mut Parts, parts: &Option<Parts>)
+    ensures { table.new ≡ parts_or_none parts.now }
 {
     match parts {
-        Some(all) => *all,
-        None => Parts::new(),
+        Some(all) => *table = *all,
+        None => *table = Parts::new(),
     }
 }
 

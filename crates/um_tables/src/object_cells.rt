@@ -1,62 +1,69 @@
 //! The cells of all objects.
 
 ghost use Rattle.std.specs.{
-  Prelude.{◌≡◌, ◌+◌, ◌<◌, ◌≤◌, ◌-◌, ◌++◌, IfOk, length, replicate, slice_index_or, vec_capacity, MatchOption},
+  Prelude.{◌≡◌, ◌<◌, ◌≤◌, IfOk, length, replicate, slice_index_or, slice_set, vec_capacity, MatchOption},
   Borrow.{sem},
 };
 ghost use Rattle.um_base.specs.declared.limits.TheConstants.{ROWS};
-ghost use Rattle.um_tables.specs.{Lending.{LendsCell}, ObjectCells.{cleared}};
+ghost use Rattle.um_tables.specs.{Lending.{LendsCell}, ObjectCells.{cleared}, Placed.{ArePlaces, item_at, placed}};
 
 use crate::object_cell::ObjectCell;
 use std::alloc::Global;
 use std::marker::Model;
-use um_base::{OutOfMemory, ROWS, STATIC_ROWS};
+use std::mem;
+use um_base::{OutOfMemory, ROWS};
 
-/// The cells of all rows. Of the static rows, and of the dynamic ones, it has those up to the last that was ever asked for; the others
-/// keep nothing. Room for all rows is reserved from the beginning.
+/// The place of a row without a cell.
+const NONE: u8 = 255;
+
+/// The cells of all rows. It has those that were ever asked for, in the order in which that happened; the others keep nothing. Room for
+/// all rows is reserved from the beginning.
 #[derive(Drop)]
 pub struct ObjectCells {
-    statics: Vec<ObjectCell>,
-    dynamics: Vec<ObjectCell>,
+    /// By row: the number of its cell, or NONE.
+    places: Vec<u8>,
+    cells: Vec<ObjectCell>,
 }
 
 impl Model for ObjectCells {
-    ghost use Rattle.std.specs.Prelude.{List, ◌≤◌, ◌-◌, ◌++◌, length, vec_capacity};
-    ghost use Rattle.um_base.specs.declared.limits.TheConstants.{ROWS, STATIC_ROWS};
-    ghost use Rattle.um_steps.specs.Padded.{padded};
-    ghost use Rattle.um_tables.specs.{declared.object_cell.ObjectCell.{ObjectCell}, ObjectCells.{cleared}};
+    ghost use Rattle.std.specs.Prelude.{List, ◌≡◌, ◌≤◌, length, vec_capacity};
+    ghost use Rattle.um_base.specs.declared.limits.TheConstants.{ROWS};
+    ghost use Rattle.um_tables.specs.{
+      declared.object_cell.ObjectCell.{ObjectCell},
+      ObjectCells.{cleared},
+      Placed.{ArePlaces, placed},
+    };
 
     ghost Value = { List ObjectCell };
 
-    ghost view = { λ t. padded (cleared 0) STATIC_ROWS t.statics.items ++ padded (cleared 0)
-        (ROWS - STATIC_ROWS) t.dynamics.items };
+    ghost view = { λ t. placed (cleared 0) t.cells.items t.places.items };
 
-    ghost invariant = { λ t.
-        (length t.statics.items ≤ STATIC_ROWS) × (ROWS ≤ vec_capacity t.statics)
-        × (length t.dynamics.items ≤ ROWS - STATIC_ROWS) × (ROWS - STATIC_ROWS ≤ vec_capacity t.dynamics) };
+    ghost invariant = { λ t. (length t.places.items ≡ ROWS) × (ROWS ≤ vec_capacity t.cells)
+        × ArePlaces (length t.cells.items) t.places.items };
 }
 
-/// Adds empty cells until there are this many. The room is reserved.
-fn fill(cells: &mut Vec<ObjectCell>, n: usize)
-    requires { n ≤ vec_capacity cells.old }
-    ensures items { cells.new.items ≡ cells.old.items ++ replicate (n - length cells.old.items) (cleared 0) }
-    ensures room { vec_capacity cells.new ≡ vec_capacity cells.old }
+/// The number of a row's cell. If it has none, it gets an empty one. The room is reserved.
+fn place(places: &mut Vec<u8>, cells: &mut Vec<ObjectCell>, x: usize) -> usize
+    requires row { x < ROWS }
+    requires rows { length places.old.items ≡ ROWS }
+    requires room { ROWS ≤ vec_capacity cells.old }
+    requires places { ArePlaces (length cells.old.items) places.old.items }
+    ensures place { result ≡ item_at places.new.items x }
+    ensures cell { result < length cells.new.items }
+    ensures rows { length places.new.items ≡ ROWS }
+    ensures room { ROWS ≤ vec_capacity cells.new }
+    ensures places { ArePlaces (length cells.new.items) places.new.items }
+    ensures same { placed (cleared 0) cells.new.items places.new.items
+        ≡ placed (cleared 0) cells.old.items places.old.items }
 {
-    let missing = n.saturating_sub(cells.len());
-    'cells: for _ in 0..missing {
-        cells.push_reserved(ObjectCell::empty());
+    let place = places[x];
+    if place != NONE {
+        return place as usize;
     }
-}
-
-/// Puts these cells behind the others. The room is reserved.
-fn append(cells: &mut Vec<ObjectCell>, more: Vec<ObjectCell>)
-    requires { length cells.old.items + length more.items ≤ vec_capacity cells.old }
-    ensures items { cells.new.items ≡ cells.old.items ++ more.items }
-    ensures room { vec_capacity cells.new ≡ vec_capacity cells.old }
-{
-    for cell in more {
-        cells.push_reserved(cell);
-    }
+    let last = cells.len();
+    places[x] = last as u8;
+    cells.push_reserved(ObjectCell::empty());
+    last
 }
 
 impl ObjectCells {
@@ -64,9 +71,9 @@ impl ObjectCells {
     pub fn new(alloc: Global) -> Result<ObjectCells, OutOfMemory>
         ensures { IfOk result (λ cells. cells ≡ replicate ROWS (cleared 0)) }
     {
-        let statics = Vec::with_capacity(alloc, ROWS)?;
-        let dynamics = Vec::with_capacity(alloc, ROWS - STATIC_ROWS)?;
-        Ok(ObjectCells { statics, dynamics })
+        let places = vec![in alloc; NONE; ROWS]?;
+        let cells = Vec::with_capacity(alloc, ROWS)?;
+        Ok(ObjectCells { places, cells })
     }
 
     /// The cell of a row, if it was ever asked for. If not, the cell keeps nothing.
@@ -75,11 +82,7 @@ impl ObjectCells {
         ensures { MatchOption result (slice_index_or self.now x (cleared 0) ≡ cleared 0)
             (λ cell. slice_index_or self.now x (cleared 0) ≡ cell.now) }
     {
-        if x < STATIC_ROWS {
-            self.statics.get(x)
-        } else {
-            self.dynamics.get(x - STATIC_ROWS)
-        }
+        self.cells.get(self.places[x] as usize)
     }
 
     /// The cell of a row, to change it. It takes no memory.
@@ -88,23 +91,19 @@ impl ObjectCells {
         ensures* lends { sem 𝓛 (LendsCell self.entry x result) }
         ensures value { result.now ≡ slice_index_or self.old x (cleared 0) }
     {
-        if x < STATIC_ROWS {
-            fill(&mut self.statics, x + 1);
-            &mut self.statics[x]
-        } else {
-            fill(&mut self.dynamics, x - STATIC_ROWS + 1);
-            &mut self.dynamics[x - STATIC_ROWS]
-        }
+        let place = place(&mut self.places, &mut self.cells, x);
+        &mut self.cells[place]
     }
 
-    /// The cells of all rows, one by one. It takes no memory.
-    pub fn into_cells(self) -> Vec<ObjectCell>
-        ensures { result.items ≡ self }
+    /// Takes the cell of a row, and leaves an empty one there.
+    pub fn take(&mut self, x: usize) -> ObjectCell
+        requires { x < ROWS }
+        ensures cell { result ≡ slice_index_or self.old x (cleared 0) }
+        ensures left { self.new ≡ slice_set self.old x (cleared 0) }
     {
-        let mut cells = self.statics;
-        fill(&mut cells, STATIC_ROWS);
-        append(&mut cells, self.dynamics);
-        fill(&mut cells, ROWS);
-        cells
+        match self.cells.get_mut(self.places[x] as usize) {
+            Some(cell) => mem::replace(cell, ObjectCell::empty()),
+            None => ObjectCell::empty(),
+        }
     }
 }

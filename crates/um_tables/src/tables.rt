@@ -10,7 +10,7 @@ ghost use Rattle.um_tables.specs.{ObjectCells.{cleared}, Sited.{in_domains, no_d
 
 use crate::bytes::Bytes;
 use crate::context::Context;
-use crate::domain_cell::{DomainCell, edited, parts_or_none};
+use crate::domain_cell::{DomainCell, edited, load};
 use crate::heap::Heap;
 use crate::heap_act::{HeapAct, HeapSaid};
 use crate::here::Here;
@@ -137,13 +137,6 @@ impl Tables {
         }
     }
 
-    /// The events of all steps, in their order.
-    pub fn events(&self) -> &[Event]
-        ensures { result.now ≡ self.now.log }
-    {
-        self.log.as_slice()
-    }
-
     /// The word of a row.
     pub fn row_word(&self, row: usize) -> &RowWord
         requires { row < ROWS }
@@ -160,8 +153,8 @@ impl Tables {
         &self.threads[thread]
     }
 
-    /// The partitions of a domain, where it is initialised.
-    pub fn partitions(&self, domain: usize) -> Option<&Parts>
+    /// The partitions in the cell of a domain, where it is initialised.
+    pub fn domain_cell(&self, domain: usize) -> Option<&Parts>
         ensures { let cell = slice_index_or self.now.domain_cells domain no_domain_cell in
             MatchOption result (cell.parts ≡ None) (λ parts. cell.parts ≡ Some parts.now) }
     {
@@ -185,25 +178,32 @@ impl Tables {
         self.objects.row(row)
     }
 
-    /// The bytes of the memory.
-    pub fn bytes(&self) -> &Bytes
+    /// The contents of the memory's cell.
+    pub fn memory_cell(&self) -> &Bytes
         ensures { result.now ≡ self.now.memory }
     {
         &self.memory
     }
 
-    /// The contents of the heap.
-    pub fn heap_contents(&self) -> &Heap
+    /// The contents of the heap's cell.
+    pub fn heap_cell(&self) -> &Heap
         ensures { result.now ≡ self.now.heap }
     {
         &self.heap
     }
 
     /// The contents of the scheduler's cell.
-    pub fn scheduler(&self) -> &Scheduler
+    pub fn scheduler_cell(&self) -> &Scheduler
         ensures { result.now ≡ self.now.scheduler }
     {
         &self.scheduler
+    }
+
+    /// The events of all steps, in their order.
+    pub fn events(&self) -> &[Event]
+        ensures { result.now ≡ self.now.log }
+    {
+        self.log.as_slice()
     }
 
     /// The same, and drops the tables.
@@ -302,7 +302,7 @@ impl Sites for Tables {
         if cell.steps >= LAST {
             return Said::Busy;
         }
-        *parts = parts_or_none(&cell.parts);
+        load(parts, &cell.parts);
         cell.steps += 1;
         Said::Made(())
     }

@@ -5,7 +5,8 @@ ghost use Rattle.um_machine.specs.Goes.{Change, Next, Way, copied, no_access, te
 ghost use Rattle.um_machine.specs.Order.{Steps};
 ghost use Rattle.um_fine.specs.Continues.{gone_part};
 
-use crate::context::{Context, copies};
+use crate::context::Context;
+use crate::pieces::copies;
 use um_base::{Cause, Errno, Found, Image, Piece};
 use um_machine::Pending;
 use um_steps::order::{answer_error, copy_fails};

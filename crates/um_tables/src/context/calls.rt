@@ -8,7 +8,8 @@ ghost use Rattle.um_machine.specs.{
 };
 ghost use Rattle.um_fine.specs.Continues.{gone_part, reply_of, resumed};
 
-use crate::context::{Context, copies};
+use crate::context::Context;
+use crate::pieces::copies;
 use um_base::{Answer, Ask, Errno, Image, Piece, Reply, Told};
 use um_machine::{Pending, Refusal};
 use um_steps::order::{after_error, refused};

@@ -1,12 +1,13 @@
-use Rattle.std.proofs.Common.{◌∙◌, ◌++◌, List, [], ap, arith}
-use Rattle.um_steps.specs.Padded.{padded}
-use Rattle.um_steps.proofs.PaddedLemmas.{padded-front}
-use Rattle.um_tables.specs.ObjectCells.{cleared}
+use Rattle.std.proofs.Common.{List, arith, length, subst, sym}
+use Rattle.um_tables.specs.Placed.{ArePlaces}
 use Rattle.um_tables.specs.declared.object_cell.ObjectCell.{ObjectCell}
+use Rattle.um_tables.proofs.PlacedLemmas.{no-items}
 use Rattle.um_tables.proofs.object_cells.ObjectCells.new.Goals as goal
 
-pub returns : goal.returns
-returns c =
-    ap (λ (cells : List ObjectCell). padded (cleared 0) 96 cells ++ padded (cleared 0) 32 c.in_ok-dynamics.dynamics.items) c.in_ok-statics.ensures.items
-    ∙ ap (λ (cells : List ObjectCell). padded (cleared 0) 96 [] ++ padded (cleared 0) 32 cells) c.in_ok-dynamics.ensures.items
-    ∙ padded-front (cleared 0) 96 32 [] (omega arith)
+pub invariant_of-result : goal.invariant_of-result
+invariant_of-result c = (
+  omega (arith, c.in_ok-places.places.ok.0, c.in_ok-places.ensures.len),
+  omega (arith, c.in_ok-cells.ensures.capacity),
+  subst (λ (cells : List ObjectCell). ArePlaces (length cells) c.in_ok-places.places.items) (sym c.in_ok-cells.ensures.items)
+      (subst (ArePlaces 0) (sym (c.in_ok-places.ensures.items_if_clones_equal (λ y same. same))) (no-items 128)),
+)

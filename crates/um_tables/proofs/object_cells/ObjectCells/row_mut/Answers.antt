@@ -1,35 +1,28 @@
-use Rattle.std.proofs.Common.{◌∙◌, List, ap, arith, refl, slice_index_or, slice_set}
-use Rattle.um_steps.proofs.PaddedLemmas.{set-static, set-dynamic, read-static, read-dynamic}
+use Rattle.std.proofs.Common.{◌≡◌, ◌∙◌, ℕ, List, ap, arith, refl, length, slice_index_or, slice_set, sym}
+use Rattle.std.proofs.lemmas.List.{get_or_read}
 use Rattle.um_tables.specs.ObjectCells.{cleared}
+use Rattle.um_tables.specs.Placed.{placed}
 use Rattle.um_tables.specs.declared.object_cell.ObjectCell.{ObjectCell}
+use Rattle.um_tables.proofs.PlacedLemmas.{no-more, placed-at, placed-set}
 use Rattle.um_tables.proofs.object_cells.ObjectCells.row_mut.Goals as goal
 
-pub returns-then-x-lt-STATIC_ROWS : goal.returns-then-x-lt-STATIC_ROWS
-returns-then-x-lt-STATIC_ROWS c =
+pub returns : goal.returns
+returns c =
     let x = c.args.x in
-    let statics = c.self.inside.statics.items in
-    let dynamics = c.self.inside.dynamics.items in
-    let cells = c.fill.new.cells.items in (
-      (refl, λ (w : ObjectCell). set-static (cleared 0) 96 32 x statics dynamics cells w (omega arith) (omega arith) c.fill.ensures.items ∙ ap (λ (all : List ObjectCell). slice_set all x w) c.self.view_is),
+    let cells = c.place-place.new.cells.items in
+    let places = c.place-place.new.places.items in
+    let given = c.place-place.ensures in
+    let most = no-more (length cells) places given.places in
+    let is : placed (cleared 0) cells places ≡ c.args.self.now = given.same ∙ c.self.view_is in (
+      (
+        refl,
+        λ (w : ObjectCell). ap (λ (n : ℕ). placed (cleared 0) (slice_set cells n w) places) given.place
+            ∙ placed-set (cleared 0) cells places x w (omega arith) given.places (omega arith) (omega arith) ∙ ap (λ (all : List ObjectCell). slice_set all x w) is,
+      ),
       record {
         lends = record {};
-        value = read-static (cleared 0) 96 32 x statics dynamics cells c.index_mut.result.now (omega arith) (omega arith) (omega arith) c.fill.ensures.items c.index_mut.ensures.value
-            ∙ ap (λ (all : List ObjectCell). slice_index_or all x (cleared 0)) c.self.view_is;
-      },
-    )
-
-pub returns-else-x-lt-STATIC_ROWS : goal.returns-else-x-lt-STATIC_ROWS
-returns-else-x-lt-STATIC_ROWS c =
-    let x = c.args.x in
-    let statics = c.self.inside.statics.items in
-    let dynamics = c.self.inside.dynamics.items in
-    let fill = c.fill-else-x-lt-STATIC_ROWS in
-    let cells = fill.new.cells.items in
-    let lent = c.index_mut-else-x-lt-STATIC_ROWS in (
-      (refl, λ (w : ObjectCell). set-dynamic (cleared 0) 96 32 x statics dynamics cells w (omega arith) (omega arith) (omega arith) (omega arith) fill.ensures.items ∙ ap (λ (all : List ObjectCell). slice_set all x w) c.self.view_is),
-      record {
-        lends = record {};
-        value = read-dynamic (cleared 0) 96 32 x statics dynamics cells lent.result.now (omega arith) (omega arith) (omega arith) (omega arith) fill.ensures.items lent.ensures.value
-            ∙ ap (λ (all : List ObjectCell). slice_index_or all x (cleared 0)) c.self.view_is;
+        value = get_or_read cells c.place-place.result c.index_mut.result.now given.cell c.index_mut.ensures.value (cleared 0)
+            ∙ ap (λ (n : ℕ). slice_index_or cells n (cleared 0)) given.place
+            ∙ sym (placed-at (cleared 0) cells places x (omega arith)) ∙ ap (λ (all : List ObjectCell). slice_index_or all x (cleared 0)) is;
       },
     )

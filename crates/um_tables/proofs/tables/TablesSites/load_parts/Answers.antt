@@ -13,7 +13,7 @@ returns-clause-said c =
       d.steps,
       d.parts,
       cell-taken c.args.here.now.image.now _ _ c.self.view_is c.args.here.now.cpu (Site.parts c.args.domain) d.steps (Cell.parts d.parts) (Cell.parts d.parts) (FineAct.Unseen Unseen.RegionLoad) Exchange.nothing here (omega arith) refl refl _ _ refl refl,
-      ap Exchange.parts (sym c.parts_or_none.ensures),
+      ap Exchange.parts (sym c.load.ensures),
     )
 
 pub returns-then-cell-ge-LAST-clause-said : goal.returns-then-cell-ge-LAST-clause-said
