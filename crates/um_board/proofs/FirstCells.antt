@@ -1,8 +1,9 @@
 -- The contents with which the cells of a board open.
-use Rattle.std.proofs.Common.{◌≡◌, ℕ, ◌+◌, ◌<◌, ◌++◌, List, [], ◌∷◌, ⊎_elim, refl, sym, ap, ◌∙◌, subst, arith, length, length-append}
-use Rattle.std.specs.Prelude.{IsTrue, slice_index_or}
+use Rattle.std.proofs.Common.{◌≡◌, ℕ, ◌+◌, ◌<◌, ◌≤◌, ◌++◌, List, [], ◌∷◌, ⊎_elim, refl, sym, ap, ◌∙◌, subst, arith, length, length-append}
+use Rattle.std.specs.Prelude.{IsTrue, slice_index_or, slice_set}
 use Rattle.std.proofs.Math.Seq.{get_or-append_seam}
 use Rattle.std.proofs.lemmas.Bool.Decides.{nat_tests}
+use Rattle.std.proofs.lemmas.List.{get_or-set_other}
 use mathlib.Core.Option.{some-ne-none}
 use lib.ListN.{get_elem?}
 use Rattle.um_base.specs.declared.image.Image.{Image}
@@ -45,17 +46,22 @@ cell-site image i s there e = ap (s_start image) (ap site_numbered e ∙ number-
 pub none-first : (image : Image) → AreFirst image []
 none-first image k c at = absurd (some-ne-none c (sym at))
 
--- the next object of a list of all
-pub object-opens : (image : Image) (objects front rest : List ObjectCell) (o : ObjectCell) (n : ℕ)
-    → ((x : ℕ) → x < ROWS → object_state (slice_index_or objects x (cleared 0)) ≡ s_start image (Site.object x)) → length objects ≡ ROWS → objects ≡ front ++ o ∷ rest → n ≡ length front
+-- the objects from this one on open so
+abbrev pub AreObjectsFrom : Image → ℕ → List ObjectCell → Type 0
+AreObjectsFrom image x objects = (k : ℕ) → x ≤ k → k < ROWS → object_state (slice_index_or objects k (cleared 0)) ≡ s_start image (Site.object k)
+
+-- the next object
+pub object-opens : (image : Image) (objects : List ObjectCell) (o : ObjectCell) (n x : ℕ) → AreObjectsFrom image x objects → x < ROWS → o ≡ slice_index_or objects x (cleared 0) → n ≡ x
     → s_start image (site_numbered (168 + n)) ≡ SiteState.cell 0 (Cell.object (kept_in o))
-object-opens image objects front rest o n are all split many =
-    let m = length front in
-    let low : m < ROWS = let l = ap (λ (xs : List ObjectCell). length xs) split in omega (arith, all, l, length-append front (o ∷ rest)) in
-    let read : slice_index_or objects m (cleared 0) ≡ o = ap (λ (xs : List ObjectCell). slice_index_or xs m (cleared 0)) split ∙ get_or-append_seam front o rest (cleared 0) in
+object-opens image objects o n x are low read many =
     ap (λ (k : ℕ). s_start image (site_numbered (168 + k))) many
-    ∙ cell-site image (168 + m) (Site.object m) (grind (arith, nat_tests)) refl
-    ∙ opened (s_start image (Site.object m)) o.steps (Cell.object (kept_in o)) (object_cell (opening image) m) refl (ap object_state (sym read) ∙ are m low)
+    ∙ cell-site image (168 + x) (Site.object x) (grind (arith, nat_tests)) refl
+    ∙ opened (s_start image (Site.object x)) o.steps (Cell.object (kept_in o)) (object_cell (opening image) x) refl (ap object_state read ∙ are x (omega arith) low)
+
+-- the objects after one that was taken
+pub objects-left : (image : Image) (objects : List ObjectCell) (x : ℕ) (o : ObjectCell) → AreObjectsFrom image x objects → AreObjectsFrom image (x + 1) (slice_set objects x o)
+objects-left image objects x o are k past low =
+    ap object_state (get_or-set_other objects x k o (cleared 0) (omega (arith, past))) ∙ are k (omega (arith, past)) low
 
 -- the next domain of a list of all
 pub parts-open : (image : Image) (cells front rest : List DomainCell) (c : DomainCell) (n : ℕ) → AreParts (opening image) DOMAINS cells → length cells ≡ DOMAINS → cells ≡ front ++ c ∷ rest → n ≡ ROWS + length front

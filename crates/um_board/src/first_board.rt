@@ -48,15 +48,7 @@ pub fn opening(
         threads.as_slice(),
         domains.as_slice(),
     )?;
-    let contents = first_contents(
-        alloc,
-        image,
-        objects.into_cells(),
-        domain_cells,
-        memory,
-        heap,
-        scheduler,
-    )?;
+    let contents = first_contents(alloc, image, objects, domain_cells, memory, heap, scheduler)?;
     let (board, mut seat) = Board::make(alloc, words, CELLS, image)?;
     let cells = Cells::make(&board, &mut seat, FIRST_CELL, contents);
     Ok((board, seat, cells))

@@ -7,8 +7,8 @@ ghost use Rattle.um_board.specs.{Kept.{cell_of}, Opening.{AreDomainCells, AreFir
 
 use crate::contents::{Contents, Kept};
 use std::alloc::Global;
-use um_base::{Image, OutOfMemory};
-use um_tables::{Bytes, DomainCell, Heap, ObjectCell, Scheduler};
+use um_base::{Image, OutOfMemory, ROWS};
+use um_tables::{Bytes, DomainCell, Heap, ObjectCells, Scheduler};
 
 /// How many cells a board has.
 const CELLS: usize = 139;
@@ -29,16 +29,16 @@ fn add_objects(
     alloc: Global,
     image: &Image,
     all: &mut Vec<Contents>,
-    objects: Vec<ObjectCell>,
+    mut objects: ObjectCells,
 ) -> Result<(), OutOfMemory>
     requires first { AreFirst image.now all.old.items }
     requires none { length all.old.items ≡ 0 }
-    requires objects { AreObjects image.now objects.items }
-    requires all { length objects.items ≡ ROWS }
+    requires objects { AreObjects image.now objects }
     ensures first { IfOk result (λ _. AreFirst image.now all.new.items) }
     ensures all { IfOk result (λ _. length all.new.items ≡ ROWS) }
 {
-    for object in objects {
+    for x in 0..ROWS {
+        let object = objects.take(x);
         add(image, all, Kept::Object(Box::new(alloc, object)?))?;
     }
     Ok(())
@@ -68,14 +68,13 @@ fn add_parts(
 pub fn first_contents(
     alloc: Global,
     image: &Image,
-    objects: Vec<ObjectCell>,
+    objects: ObjectCells,
     domain_cells: Vec<DomainCell>,
     memory: Bytes,
     heap: Heap,
     scheduler: Scheduler,
 ) -> Result<Vec<Contents>, OutOfMemory>
-    requires objects { AreObjects image.now objects.items }
-    requires all_objects { length objects.items ≡ ROWS }
+    requires objects { AreObjects image.now objects }
     requires parts { AreDomainCells image.now domain_cells.items }
     requires all_parts { length domain_cells.items ≡ DOMAINS }
     requires memory { OpensWith image.now Site.memory (Cell.memory memory) }

@@ -8,7 +8,7 @@ use um_machine::{Cost, Pending};
 use um_service::Outcome;
 use um_tables::{
     Bytes, Context, DomainCell, Heap, HeapAct, HeapSaid, Here, MemoryAct, MemorySaid, ObjectCell,
-    Said, Scheduler, Sites, edited, named, parts_or_none, resumed, worked,
+    Said, Scheduler, Sites, edited, load, named, resumed, worked,
 };
 use um_words::{CellWord, DomWord, DomainAct, RowAct, RowSaid, RowWord, ThreadAct, ThreadWord};
 
@@ -121,7 +121,7 @@ impl Sites for Seated<'_> {
         let Some((turn, cell)) = self.turn::<Box<DomainCell>>(here.image, site) else {
             return Said::Changed;
         };
-        *parts = parts_or_none(&cell.parts);
+        load(parts, &cell.parts);
         self.leave::<Brand, _, _>(here, site, domain, turn, cell, &None, &());
         Said::Made(())
     }

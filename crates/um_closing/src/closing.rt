@@ -90,7 +90,7 @@ impl<'a> Dumped for Closing<'a> {
 
     fn priority(&self, thread: usize) -> i8 {
         if thread < THREADS {
-            self.tables.scheduler().priority(thread)
+            self.tables.scheduler_cell().priority(thread)
         } else {
             0
         }
@@ -106,7 +106,7 @@ impl<'a> Dumped for Closing<'a> {
     }
 
     fn status(&self, row: usize) -> Status {
-        let is_reserved = row >= STATIC_ROWS && !self.tables.heap_contents().is_free(row);
+        let is_reserved = row >= STATIC_ROWS && !self.tables.heap_cell().is_free(row);
         status_of(self.tables.row_word(row).stage, is_reserved)
     }
 
@@ -147,21 +147,21 @@ impl<'a> Dumped for Closing<'a> {
 
     fn partitions(&self, domain: usize) -> Option<&Parts> {
         if domain < self.image.domains.len() {
-            self.tables.partitions(domain)
+            self.tables.domain_cell(domain)
         } else {
             None
         }
     }
 
     fn left_in_pool(&self, pool: usize) -> u32 {
-        self.tables.heap_contents().left_in_pool(pool)
+        self.tables.heap_cell().left_in_pool(pool)
     }
 
     fn memory(&self) -> &[u8] {
-        self.tables.bytes().memory()
+        self.tables.memory_cell().memory()
     }
 
     fn stacks(&self) -> &[u8] {
-        self.tables.bytes().stacks()
+        self.tables.memory_cell().stacks()
     }
 }

@@ -38,7 +38,7 @@ first_words-requires-clause-domains c =
 
 pub first_contents-requires-clause-objects : goal.first_contents-requires-clause-objects
 first_contents-requires-clause-objects c x low =
-    ap (λ (xs : List ObjectCell). object_state (slice_index_or xs x (cleared 0))) (c.into_cells.ensures ∙ c.into_parts-rows.ensures.objects)
+    ap (λ (xs : List ObjectCell). object_state (slice_index_or xs x (cleared 0))) c.into_parts-rows.ensures.objects
     ∙ objects-are c.args.image.now c.in_ok-tables.tables c.in_ok-tables.ensures.sites x low
 
 pub first_contents-requires-clause-parts : goal.first_contents-requires-clause-parts

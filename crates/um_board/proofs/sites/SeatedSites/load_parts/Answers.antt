@@ -13,7 +13,7 @@ pub returns-clause-said : goal.returns-clause-said
 returns-clause-said c =
     let d = c.in-Some.turn.before.value.value in
     let was : c.deref.result.now ≡ d = search rules in
-    (c.in-Some.turn.number, d.parts, noted-then _ _ _ _ _ _ _ c.in-Some.ensures.unnoted c.leave.ensures.made, ap Exchange.parts (sym (c.parts_or_none.ensures ∙ ap (λ (o : DomainCell). parts_or_none o.parts) was)))
+    (c.in-Some.turn.number, d.parts, noted-then _ _ _ _ _ _ _ c.in-Some.ensures.unnoted c.leave.ensures.made, ap Exchange.parts (sym (c.load.ensures ∙ ap (λ (o : DomainCell). parts_or_none o.parts) was)))
 
 pub returns-in_default-clause-said : goal.returns-in_default-clause-said
 returns-in_default-clause-said c = (c.turn.ensures.unnoted, c.in_default.ensures.turn.1, refl)
