@@ -9,6 +9,7 @@ pub mod Requests
 pub mod Readable
 pub mod Runs
 pub mod Shown
+pub mod Spared
 pub mod Standings
 pub mod Visited
 pub mod Wholes

@@ -1,5 +1,5 @@
 -- Events by which the claims of a call come to their end.
-use Rattle.std.proofs.Common.{◌≡◌, ℕ, List, [], refl, sym, subst}
+use Rattle.std.proofs.Common.{◌≡◌, ℕ, List, refl, sym, subst}
 use Rattle.std.specs.Prelude.{Option}
 use Rattle.um_base.specs.declared.act.Cause.{Cause}
 use Rattle.um_base.specs.declared.image.Image.{Image}

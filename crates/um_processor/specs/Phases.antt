@@ -1,13 +1,12 @@
 -- The fine steps that are left of a thread's next step, by the phase in which its processor is.
-use Rattle.std.specs.Prelude.{ℕ, Bool, true, false, [], ◌∷◌, drop, Some, None}
+use Rattle.std.specs.Prelude.{ℕ, Bool, true, false, [], ◌∷◌, Some, None}
 use Rattle.um_base.specs.declared.image.Image.{Image}
 use Rattle.um_machine.specs.declared.pending.Amount.{Amount}
 use Rattle.um_machine.specs.declared.pending.Pending.{Pending}
 use Rattle.um_machine.specs.Order.{Steps}
 use Rattle.um_fine.specs.Addresses.{row_named}
-use Rattle.um_fine.specs.Context.{Context, no_context}
+use Rattle.um_fine.specs.Context.{Context}
 use Rattle.um_fine.specs.Places.{Todo, Todos}
-use Rattle.um_tables.specs.declared.newborn.Newborn.{Newborn}
 use Rattle.um_processor.specs.declared.phase.Phase.{Phase}
 
 abbrev pub is_idle : Phase → Bool

@@ -7,7 +7,7 @@ use crate::phase::{Phase, Turn};
 use crate::turns::made;
 use um_base::{DOMAINS, Piece, ROWS, Row, THREADS, ThreadIx};
 use um_machine::Cost;
-use um_tables::{HeapAct, Here, MemoryAct, Sites};
+use um_tables::{HeapAct, Here, MemoryAct, Sites, empties};
 use um_words::{DomainAct, RowAct, ThreadAct};
 
 /// A step at a site, of which the processor needs no answer.
@@ -45,9 +45,9 @@ pub enum Onward {
 }
 
 impl Request {
-    /// Asks the site for the step.
+    /// Asks the site for the step. `spare` is room for bytes, and may hold any.
     #[inline(always)]
-    pub fn make<S: Sites>(&self, here: &Here, sites: &mut S) -> Turn
+    pub fn make<S: Sites>(&self, here: &Here, spare: &mut Piece, sites: &mut S) -> Turn
         requires image { S.IsOf here.now.image.now sites.old }
         requires few { IsTrue (is_short self.now) }
         requires goes { Each here.now.cpu here.now.image.now self.now (S.May here.now.image.now sites.old) }
@@ -81,8 +81,8 @@ impl Request {
                 Turn::Made
             }
             Request::Memory(act) => {
-                let mut none = Piece::new();
-                made!(sites.memory(here, act, &mut none));
+                empties(spare);
+                made!(sites.memory(here, act, spare));
                 Turn::Made
             }
             Request::Done => {

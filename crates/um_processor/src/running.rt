@@ -19,7 +19,7 @@ mod turns;
 mod visits;
 mod works;
 
-ghost use Rattle.std.specs.Prelude.{◌≡◌, ◌<◌, [], IfOk};
+ghost use Rattle.std.specs.Prelude.{◌≡◌, ◌<◌, IfOk};
 ghost use Rattle.um_base.specs.declared.limits.TheConstants.{THREADS};
 ghost use Rattle.um_fine.specs.Processor.{idle};
 ghost use Rattle.um_processor.specs.{Phases.{is_idle}, Processors.{processor_of}};
@@ -64,15 +64,8 @@ pub struct Running {
     charge: Option<Cost>,
     /// Room for its thread as the caller of a call.
     caller: Waiter,
-}
-
-/// Leaves no byte.
-fn empties(piece: &mut Piece)
-    ensures { piece.new ≡ [] }
-{
-    if piece.len() > 0 {
-        *piece = Piece::new();
-    }
+    /// Room for the bytes of a step at the memory.
+    spare: Piece,
 }
 
 /// No caller.
@@ -124,6 +117,7 @@ impl Running {
             size: 0,
             charge: None,
             caller: no_caller(),
+            spare: Piece::new(),
         })
     }
 

@@ -8,7 +8,7 @@ use crate::phase::Turn;
 use crate::processor::Processor;
 use crate::request::Request;
 use crate::turns::{made, took};
-use um_base::{Addr, ROWS, Row, ThreadIx};
+use um_base::{Addr, Piece, ROWS, Row, ThreadIx};
 use um_steps::rows::addr_of;
 use um_tables::{HeapAct, Here, Sites};
 use um_words::RowAct;
@@ -64,7 +64,8 @@ impl Processor {
             (whole self.old) self.old self.new }
     {
         let request = Request::Row(Row(row), RowAct::Vacate);
-        took!(request.make(here, sites));
+        let mut none = Piece::new();
+        took!(request.make(here, &mut none, sites));
         self.cleans.advance();
         Turn::Made
     }

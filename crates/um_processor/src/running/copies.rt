@@ -9,9 +9,9 @@ ghost use Rattle.um_processor.specs.{Events.{shows}, Processors.{in_phase}, Turn
 use crate::phase::{Phase, Turn};
 use crate::running::Running;
 use crate::turns::made;
-use um_base::{Access, Addr, Image, Piece};
+use um_base::{Access, Addr, Image};
 use um_machine::Amount;
-use um_tables::{Here, MemoryAct, Sites};
+use um_tables::{Here, MemoryAct, Sites, empties};
 
 impl Running {
     /// The number of bytes of a copy.
@@ -45,10 +45,10 @@ impl Running {
             size,
             fits,
         };
-        let mut bytes = Piece::new();
-        made!(sites.memory(here, &act, &mut bytes));
+        empties(&mut self.spare);
+        made!(sites.memory(here, &act, &mut self.spare));
         let taken = self.taken();
-        self.context.copies_in(here.image, fits, &bytes, taken);
+        self.context.copies_in(here.image, fits, &self.spare, taken);
         self.leaves(here.image);
         Turn::Made
     }
@@ -89,11 +89,11 @@ impl Running {
             addr,
             readable,
         };
-        let mut bytes = Piece::new();
-        let said = made!(sites.memory(here, &act, &mut bytes));
+        empties(&mut self.spare);
+        let said = made!(sites.memory(here, &act, &mut self.spare));
         let taken = self.taken();
         self.context
-            .copies_text(here.image, said.found, &bytes, taken);
+            .copies_text(here.image, said.found, &self.spare, taken);
         self.leaves(here.image);
         Turn::Made
     }

@@ -8,8 +8,8 @@ ghost use Rattle.um_processor.specs.{Accesses.{loaded}, Events.{gone_by, shows},
 use crate::phase::Turn;
 use crate::running::Running;
 use crate::turns::made;
-use um_base::{Access, Addr, Image, Piece, ThreadIx};
-use um_tables::{Here, MemoryAct, Sites};
+use um_base::{Access, Addr, Image, ThreadIx};
+use um_tables::{Here, MemoryAct, Sites, empties};
 
 /// An act where it is allowed, or else the fault of its access.
 fn or_fault(
@@ -68,8 +68,8 @@ impl Running {
         let allowed = self.allows(here.image, Access::Read, addr.0, size);
         let load = MemoryAct::Load { thread, addr, size };
         let act = or_fault(allowed, load, thread, Access::Read, addr, size);
-        let mut none = Piece::new();
-        let said = made!(sites.memory(here, &act, &mut none));
+        empties(&mut self.spare);
+        let said = made!(sites.memory(here, &act, &mut self.spare));
         self.loads_or_faults(here.image, allowed, to, said.value);
         Turn::Made
     }

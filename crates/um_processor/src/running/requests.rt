@@ -284,7 +284,7 @@ impl Running {
             None => return Turn::Stuck,
             Some(asked) => asked,
         };
-        took!(request.make(here, sites));
+        took!(request.make(here, &mut self.spare, sites));
         self.goes(here.image, onward);
         Turn::Made
     }
@@ -304,7 +304,7 @@ impl Running {
         ensures turn { HasRun S.Sites result here.now sites.old sites.new
             (processor_of self.old) self.old self.new }
     {
-        took!(request.make(here, sites));
+        took!(request.make(here, &mut self.spare, sites));
         self.goes(here.image, onward);
         Turn::Made
     }

@@ -12,12 +12,12 @@ ghost use Rattle.um_machine.specs.declared.pending.Pending.TheVariants as Pendin
 ghost use Rattle.um_processor.specs.{Events.{gone_by, shows, with_woken}, Phases.{is_idle}, Processors.{OnMade, UnlessMade, processor_of}, Turns.{CanTurn, TurnsAt}};
 
 use crate::phase::Turn;
+use crate::running::Running;
 use crate::running::next::row_named;
-use crate::running::{Running, empties};
 use crate::turns::made;
 use um_base::{Addr, Answer, Ask, Image, Piece, Row, ThreadIx};
 use um_service::Outcome;
-use um_tables::{Here, Sites};
+use um_tables::{Here, Sites, empties};
 
 impl Running {
     /// Writes down the bytes that a call gives of the thread's buffer.
