@@ -14,19 +14,26 @@ use Rattle.um_fine.specs.Steps.{FineStep}
 use Rattle.um_image.proofs.TextLemmas.{one_image}
 use Rattle.um_image.specs.Meaning.{Describes}
 use Rattle.um_invariants.specs.Described.{IsDescribed}
-use Rattle.um_machine.specs.Run.{IsRun}
+use Rattle.um_machine.specs.Run.{IsRun, opening}
 use Rattle.um_machine.specs.State.{State}
 use Rattle.um_site.specs.declared.closed.Closed.{Closed}
 use Rattle.um_trace.specs.Summary.{summary_text}
 use Rattle.um_trace.specs.Text.{text}
 use Rattle.um_app.proofs.Ends.{all_of_it}
-use Rattle.um_app.proofs.Replays.{one-end}
-use Rattle.um_audit.proofs.LawLemmas.{one-verdict}
+use Rattle.um_audit.proofs.LawLemmas.{led-one, one-verdict}
+use Rattle.um_audit.proofs.WholeLemmas.{led-run, lines}
+use Rattle.um_texts.proofs.NameLemmas.{are_named}
 use Rattle.um_audit.specs.Told.{verdict_text}
 use Rattle.um_app.specs.Audited.{IsAudit}
 use Rattle.um_app.specs.Inputs.{description_in, has_one_answer}
 use Rattle.um_app.specs.Threaded.{IsThreadRun}
 use Rattle.um_app.specs.Top.{Answers, IsOutput, IsRead, IsRunOf, Writes}
+
+-- the events of a run lead to one state
+one-end : (image : Image) → IsDescribed image → (events : List Event) (a b : State) → IsRun image events a → IsRun image events b → a ≡ b
+one-end image is events a b run other =
+    let named = are_named image is.lawful in
+    led-one image is (lines image events) a b (led-run image named events (opening image) a run) (led-run image named events (opening image) b other)
 
 -- events that the same steps show are one run, with one last state
 same_steps : (image : Image) (run run2 : List Event) (last last2 : State) (steps steps2 : List FineStep) → IsDescribed image → IsRun image run last → IsRun image run2 last2

@@ -1,5 +1,5 @@
 -- The run that tables have is that of an image with its options, and its text names it.
-use Rattle.std.proofs.Common.{◌≡◌, ◌≤◌, ℕ, List, Option, arith, subst, sym}
+use Rattle.std.proofs.Common.{◌≡◌, ◌≤◌, ℕ, List, Option, arith, sym}
 use Rattle.um_base.specs.declared.act.Event.{Event}
 use Rattle.um_base.specs.declared.image.Image.{Image}
 use Rattle.um_command.specs.declared.command.Options.{Options}
@@ -18,8 +18,7 @@ use Rattle.um_tables.specs.Sited.{Sited}
 use Rattle.um_texts.proofs.RunLemmas.{texts_differ}
 use Rattle.um_trace.specs.Text.{text}
 use Rattle.um_app.specs.Ended.{IsEnded}
-use Rattle.um_app.specs.Ordered.{IsOrdered}
-use Rattle.um_app.specs.Top.{IsRunOf, NamesRun}
+use Rattle.um_app.specs.Top.{NamesRun}
 use Rattle.um_app.proofs.OneProcessor.{in_order, picked}
 
 -- the text of a run names it

@@ -2,46 +2,24 @@
 
 ghost use Rattle.std.specs.Prelude.{◌≡◌, ◌≤◌, IfOk, length};
 ghost use Rattle.um_base.specs.{Lawful.{IsLawful}, Weight.{weight}};
-ghost use Rattle.um_machine.specs.{Run.{IsComplete, IsRun}, State.{State}};
-ghost use Rattle.um_invariants.specs.Described.{IsDescribed};
+ghost use Rattle.um_closing.specs.ReadOff.{read_off};
+ghost use Rattle.um_cpu.specs.Standing.{IsReadable, standing};
 ghost use Rattle.um_trace.specs.Text.{text};
-ghost use Rattle.um_app.specs.{Threaded.{IsThreadRun, MayRun}, Top.{IsThreadRunText, NamesRun}};
+ghost use Rattle.um_app.specs.{Ended.{HaveEnded}, Threaded.{MayRun}, Top.{IsThreadRunText}};
 
 use std::alloc::Global;
 use std::sync::Wait;
 use std::thread::Threads;
 use um_base::{Event, Image, OutOfMemory};
 use um_board::Contents;
+use um_closing::Closing;
 use um_core::one_whole;
-use um_cpu::{Ran, run_events};
+use um_cpu::{LeftBoard, Ran, run_events};
 use um_image::weight;
 use um_io::Gate;
-use um_matrix::Matrix;
 use um_order::one_order;
 use um_site::Closed;
-
-/// The state that the events of a run lead to.
-fn replayed<'a>(
-    alloc: Global,
-    image: &'a Image,
-    events: &[Event],
-) -> Result<Matrix<'a>, OutOfMemory>
-    requires described { IsDescribed image.now }
-    requires run { (last : State) × IsRun image.now events.now last × IsComplete last }
-    ensures run { IfOk result (λ last. IsRun image.now events.now last) }
-    ensures complete { IfOk result (λ last. IsComplete last) }
-{
-    let mut last = Matrix::boot(alloc, image)?;
-    last.judge(events).unwrap();
-    Ok(last)
-}
-
-/// A complete run of an image whose processors are threads, the state that it leads to, and the board on which it was made.
-struct ThreadRun<'a> {
-    events: Vec<Event>,
-    last: Matrix<'a>,
-    closed: Closed<Contents>,
-}
+use um_texts::one_dump;
 
 /// What `run` writes of an image, and the board on which the run was made.
 pub struct ThreadText {
@@ -49,52 +27,42 @@ pub struct ThreadText {
     pub closed: Closed<Contents>,
 }
 
-/// A complete run of an image whose processors are threads.
-fn thread_run<'a, R: Threads + Wait + Sync, G: Gate + Sync>(
+/// A complete run of an image whose processors are threads, and the board on which it was made. The gate is asked before each of their turns.
+fn thread_run<R: Threads + Wait + Sync, G: Gate + Sync>(
     rt: &R,
     alloc: Global,
-    image: &'a Image,
+    image: &Image,
     cpus: u8,
     gate: &G,
-) -> Result<ThreadRun<'a>, OutOfMemory>
+) -> Result<Ran, OutOfMemory>
     requires may { MayRun image.now cpus }
-    ensures run { IfOk result (λ made. IsThreadRun image.now cpus made.closed made.events.items made.last) }
-    ensures names { IfOk result
-        (λ made. NamesRun image.now (text image.now made.events.items made.last) made.events.items) }
+    ensures { IfOk result (λ ran. HaveEnded image.now cpus ran.closed ran.events.items) }
 {
+    // on one processor the events are in order, and the steps are those of every pick
     one_order();
     one_whole();
     let _objects = image.objects.len();
-    let most = weight(image) as usize;
-    let ran = run_events(rt, alloc, image, cpus, most, gate)?;
-    let Ran { events, closed } = ran;
-    match replayed(alloc, image, events.as_slice()) {
-        Ok(last) => Ok(ThreadRun {
-            events,
-            last,
-            closed,
-        }),
-        Err(memory) => {
-            closed.free();
-            Err(memory)
-        }
-    }
+    let ran = run_events(rt, alloc, image, cpus, weight(image) as usize, gate)?;
+    Ok(ran)
 }
 
-/// The text of a run that leads to this state.
+/// The text of a run that threads made on a board, whose last state is read off the board.
 fn text_of(
     alloc: Global,
     image: &Image,
     events: &[Event],
-    last: &Matrix<'_>,
+    closed: &Closed<Contents>,
 ) -> Result<Vec<u8>, OutOfMemory>
     requires lawful { IsLawful image.now }
-    requires run { IsRun image.now events.now last.now }
+    requires readable { IsReadable closed.now }
     requires few { length events.now ≤ weight image.now }
-    ensures { IfOk result (λ written. written.items ≡ text image.now events.now last.now) }
+    ensures { IfOk result
+        (λ written. written.items
+        ≡ text image.now events.now (read_off image.now (standing closed.now))) }
 {
+    let board = LeftBoard::new(closed);
     let mut text = Vec::with_capacity(alloc, um_trace::text_room(events))?;
-    um_trace::trace_text(image, events, last, &mut text);
+    um_trace::trace_text(image, events, &Closing::new(image, &board), &mut text);
     Ok(text)
 }
 
@@ -109,12 +77,10 @@ pub fn thread_text<R: Threads + Wait + Sync, G: Gate + Sync>(
     requires may { MayRun image.now cpus }
     ensures { IfOk result (λ made. IsThreadRunText image.now cpus made.closed made.text.items) }
 {
-    let ThreadRun {
-        events,
-        last,
-        closed,
-    } = thread_run(rt, alloc, image, cpus, gate)?;
-    match text_of(alloc, image, &events, &last) {
+    // the state that is read off the board has the text of the run's last state
+    one_dump();
+    let Ran { events, closed } = thread_run(rt, alloc, image, cpus, gate)?;
+    match text_of(alloc, image, events.as_slice(), &closed) {
         Ok(text) => Ok(ThreadText { text, closed }),
         Err(memory) => {
             closed.free();

@@ -1,9 +1,8 @@
 -- The contents with which the cells of a board open.
 use Rattle.std.proofs.Common.{◌≡◌, ℕ, ◌+◌, ◌<◌, ◌≤◌, ◌++◌, List, [], ◌∷◌, ⊎_elim, refl, sym, ap, ◌∙◌, subst, arith, length, length-append}
-use Rattle.std.specs.Prelude.{IsTrue, slice_index_or, slice_set}
+use Rattle.std.specs.Prelude.{IsTrue, slice_index_or}
 use Rattle.std.proofs.Math.Seq.{get_or-append_seam}
 use Rattle.std.proofs.lemmas.Bool.Decides.{nat_tests}
-use Rattle.std.proofs.lemmas.List.{get_or-set_other}
 use mathlib.Core.Option.{some-ne-none}
 use lib.ListN.{get_elem?}
 use Rattle.um_base.specs.declared.image.Image.{Image}
@@ -59,9 +58,8 @@ object-opens image objects o n x are low read many =
     ∙ opened (s_start image (Site.object x)) o.steps (Cell.object (kept_in o)) (object_cell (opening image) x) refl (ap object_state read ∙ are x (omega arith) low)
 
 -- the objects after one that was taken
-pub objects-left : (image : Image) (objects : List ObjectCell) (x : ℕ) (o : ObjectCell) → AreObjectsFrom image x objects → AreObjectsFrom image (x + 1) (slice_set objects x o)
-objects-left image objects x o are k past low =
-    ap object_state (get_or-set_other objects x k o (cleared 0) (omega (arith, past))) ∙ are k (omega (arith, past)) low
+pub objects-left : (image : Image) (old new : List ObjectCell) (x : ℕ) → ((k : ℕ) → x < k → slice_index_or new k (cleared 0) ≡ slice_index_or old k (cleared 0)) → AreObjectsFrom image x old → AreObjectsFrom image (x + 1) new
+objects-left image old new x same are k past low = ap object_state (same k (omega (arith, past))) ∙ are k (omega (arith, past)) low
 
 -- the next domain of a list of all
 pub parts-open : (image : Image) (cells front rest : List DomainCell) (c : DomainCell) (n : ℕ) → AreParts (opening image) DOMAINS cells → length cells ≡ DOMAINS → cells ≡ front ++ c ∷ rest → n ≡ ROWS + length front

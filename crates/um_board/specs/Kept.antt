@@ -5,7 +5,7 @@ use Rattle.um_board.specs.declared.contents.Kept.{Kept}
 
 -- the contents without the number of steps
 abbrev pub cell_of : Kept → Cell
-cell_of (Kept.Object object) = Cell.object (kept_in object.value)
+cell_of (Kept.Object object) = Cell.object (kept_in object)
 cell_of (Kept.Parts domain) = Cell.parts domain.value.parts
 cell_of (Kept.Memory memory) = Cell.memory memory.value
 cell_of (Kept.Heap heap) = Cell.heap heap.value

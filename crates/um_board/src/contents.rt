@@ -4,17 +4,18 @@ ghost use Rattle.std.specs.Prelude.{◌≡◌, ℕ};
 ghost use Rattle.um_fine.specs.Cells.{cell_word, quiet_word};
 ghost use Rattle.um_board.specs.Kept.{cell_of};
 
+use crate::object_room::ObjectRoom;
 use std::marker::Model;
 use std::snapshot::Snapshot;
 use um_base::Image;
-use um_tables::{Bytes, DomainCell, Heap, ObjectCell, Scheduler};
+use um_tables::{Bytes, DomainCell, Heap, Scheduler};
 use um_words::Content;
 
 /// What a cell keeps: an object's, a domain's, the memory's, the heap's or the scheduler's contents. The cell's word counts its steps; the
 /// counts inside an object's and a domain's contents aren't used.
 #[derive(Drop)]
 pub enum Kept {
-    Object(Box<ObjectCell>),
+    Object(ObjectRoom),
     Parts(Box<DomainCell>),
     Memory(Box<Bytes>),
     Heap(Box<Heap>),
@@ -63,6 +64,13 @@ impl Contents {
             Kept::Scheduler(scheduler) => (scheduler.ready(), scheduler.running()),
             Kept::Object(_) | Kept::Parts(_) | Kept::Memory(_) | Kept::Heap(_) => (0, 0),
         }
+    }
+
+    /// What is kept, to be read.
+    pub fn kept(&self) -> &Kept
+        ensures { self.now.cell ≡ cell_of result.now }
+    {
+        &self.kept
     }
 
     /// What is kept.

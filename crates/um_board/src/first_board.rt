@@ -1,6 +1,6 @@
 //! The board of an image as it stands at the opening.
 
-ghost use Rattle.std.specs.Prelude.{IfOk};
+ghost use Rattle.std.specs.Prelude.{◌≡◌, IfOk};
 ghost use Rattle.um_base.specs.Lawful.{IsLawful};
 ghost use Rattle.um_board.specs.{Opening.{AreOpening, IsFirst}, Seated.{IsSeated}};
 
@@ -27,6 +27,7 @@ pub fn opening(
 ) -> Result<(Board<Contents, NextStep>, Seat<Contents>, Cells<Contents>), OutOfMemory>
     requires lawful { IsLawful image.now }
     ensures seated { IfOk result (λ r. IsSeated image.now r.0.table.shared.table_id r.2 r.1) }
+    ensures slots { IfOk result (λ r. r.0.table.shared.table_id.slots ≡ 139) }
     ensures first { IfOk result (λ r. IsFirst r.1) }
     ensures words { IfOk result (λ r. AreOpening image.now r.1.token.me.0.opening) }
 {

@@ -1,11 +1,13 @@
 //! The contents with which the cells of an image's board open.
 
-ghost use Rattle.std.specs.Prelude.{◌≡◌, ◌+◌, IfOk, length};
+ghost use Rattle.std.specs.Prelude.{◌≡◌, ◌+◌, ◌<◌, ℕ, IfOk, length, slice_index_or};
 ghost use Rattle.um_base.specs.declared.limits.TheConstants.{DOMAINS, ROWS};
 ghost use Rattle.um_fine.specs.{Cells.{Cell}, Sites.{site_numbered}, Steps.{Site}};
+ghost use Rattle.um_tables.specs.ObjectCells.{cleared};
 ghost use Rattle.um_board.specs.{Kept.{cell_of}, Opening.{AreDomainCells, AreFirst, AreObjects, OpensWith}};
 
 use crate::contents::{Contents, Kept};
+use crate::object_room::ObjectRoom;
 use std::alloc::Global;
 use um_base::{Image, OutOfMemory, ROWS};
 use um_tables::{Bytes, DomainCell, Heap, ObjectCells, Scheduler};
@@ -24,6 +26,19 @@ fn add(image: &Image, all: &mut Vec<Contents>, kept: Kept) -> Result<(), OutOfMe
     Ok(())
 }
 
+/// Room with the cell of a row, which is taken out.
+fn room_of(alloc: Global, objects: &mut ObjectCells, x: usize) -> Result<ObjectRoom, OutOfMemory>
+    requires row { x < ROWS }
+    ensures cell { IfOk result (λ room. room ≡ slice_index_or objects.old x (cleared 0)) }
+    ensures others { IfOk result (λ room. (k : ℕ) → x < k
+        → slice_index_or objects.new k (cleared 0) ≡ slice_index_or objects.old k (cleared 0)) }
+{
+    match objects.row(x) {
+        Some(_) => ObjectRoom::with(alloc, objects.take(x)),
+        None => ObjectRoom::new(alloc),
+    }
+}
+
 /// The cells of the objects.
 fn add_objects(
     alloc: Global,
@@ -38,8 +53,8 @@ fn add_objects(
     ensures all { IfOk result (λ _. length all.new.items ≡ ROWS) }
 {
     for x in 0..ROWS {
-        let object = objects.take(x);
-        add(image, all, Kept::Object(Box::new(alloc, object)?))?;
+        let room = room_of(alloc, &mut objects, x)?;
+        add(image, all, Kept::Object(room))?;
     }
     Ok(())
 }

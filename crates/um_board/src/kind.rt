@@ -4,7 +4,8 @@ ghost use Rattle.std.specs.Prelude.{◌≡◌};
 ghost use Rattle.um_board.specs.{Kept.{cell_of}, Turned.{kind_of}};
 
 use crate::contents::Kept;
-use um_tables::{Bytes, DomainCell, Heap, ObjectCell, Scheduler};
+use crate::object_room::ObjectRoom;
+use um_tables::{Bytes, DomainCell, Heap, Scheduler};
 
 /// What cells of one kind keep.
 pub trait Kind {
@@ -27,14 +28,14 @@ pub trait Kind {
         ensures { cell_of result ≡ cell self };
 }
 
-impl Kind for Box<ObjectCell> {
+impl Kind for ObjectRoom {
     ghost use Rattle.um_words.specs.declared.kind.CellKind.{CellKind};
     ghost use Rattle.um_fine.specs.Cells.{Cell};
     ghost use Rattle.um_tables.specs.ObjectCells.{kept_in};
 
     ghost kind = { CellKind.Object };
 
-    ghost cell = { λ o. Cell.object (kept_in o.value) };
+    ghost cell = { λ o. Cell.object (kept_in o) };
 
     fn out_of(kept: Kept) -> Self {
         match kept {

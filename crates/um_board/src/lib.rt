@@ -9,6 +9,7 @@ mod first_contents;
 mod first_words;
 mod kind;
 mod next_step;
+mod object_room;
 mod seated;
 mod sites;
 
@@ -16,4 +17,5 @@ pub use contents::{Contents, Kept};
 pub use fine::{AsMade, Fine};
 pub use first_board::opening;
 pub use next_step::NextStep;
+pub use object_room::ObjectRoom;
 pub use seated::{Seated, Turn};

@@ -9,8 +9,4 @@ impl Local for NextStep {
     ghost use Rattle.um_board.specs.NextSteps.{NextGoes};
 
     ghost goes = { NextGoes };
-
-    ghost fact = { λ image words history. Unit {0} };
-
-    ghost fact_holds = { λ image opening words history first stands. tt };
 }

@@ -1,5 +1,6 @@
 //! The sites of a board, as a processor shares them with others.
 
+use crate::object_room::ObjectRoom;
 use crate::seated::Seated;
 use std::marker::Brand;
 use std::snapshot::Snapshot;
@@ -7,8 +8,8 @@ use um_base::{Addr, Image, Parts, Piece, Reply, Row, ThreadIx, Told, Waiter};
 use um_machine::{Cost, Pending};
 use um_service::Outcome;
 use um_tables::{
-    Bytes, Context, DomainCell, Heap, HeapAct, HeapSaid, Here, MemoryAct, MemorySaid, ObjectCell,
-    Said, Scheduler, Sites, edited, load, named, resumed, worked,
+    Bytes, Context, DomainCell, Heap, HeapAct, HeapSaid, Here, MemoryAct, MemorySaid, Said,
+    Scheduler, Sites, edited, load, named, resumed, worked,
 };
 use um_words::{CellWord, DomWord, DomainAct, RowAct, RowSaid, RowWord, ThreadAct, ThreadWord};
 
@@ -146,7 +147,7 @@ impl Sites for Seated<'_> {
         outcome: &mut Outcome,
     ) -> Said<()> {
         let site = OBJECTS_FROM + row.0 as u16;
-        let Some((turn, mut cell)) = self.turn::<Box<ObjectCell>>(here.image, site) else {
+        let Some((turn, mut cell)) = self.turn::<ObjectRoom>(here.image, site) else {
             return Said::Changed;
         };
         cell.work(who, outcome);
@@ -164,7 +165,7 @@ impl Sites for Seated<'_> {
         bytes: &Piece,
     ) -> Said<()> {
         let site = OBJECTS_FROM + row.0 as u16;
-        let Some((turn, mut cell)) = self.turn::<Box<ObjectCell>>(here.image, site) else {
+        let Some((turn, mut cell)) = self.turn::<ObjectRoom>(here.image, site) else {
             return Said::Changed;
         };
         cell.name(bytes);
@@ -175,7 +176,7 @@ impl Sites for Seated<'_> {
 
     fn message_size(&mut self, here: &Here, row: Row) -> Said<u32> {
         let site = OBJECTS_FROM + row.0 as u16;
-        let Some((turn, cell)) = self.turn::<Box<ObjectCell>>(here.image, site) else {
+        let Some((turn, cell)) = self.turn::<ObjectRoom>(here.image, site) else {
             return Said::Changed;
         };
         let size = cell.message_size();
@@ -185,7 +186,7 @@ impl Sites for Seated<'_> {
 
     fn clear(&mut self, here: &Here, row: Row) -> Said<Option<Cost>> {
         let site = OBJECTS_FROM + row.0 as u16;
-        let Some((turn, mut cell)) = self.turn::<Box<ObjectCell>>(here.image, site) else {
+        let Some((turn, mut cell)) = self.turn::<ObjectRoom>(here.image, site) else {
             return Said::Changed;
         };
         let buffer = cell.clear();

@@ -1,17 +1,16 @@
-//! The state that is read off tables, as a dump reads it.
+//! The state that is read off sites, as a dump reads it.
 #![tactic(auto, using(crate::proofs::Numbers::readings))]
 
 ghost use Rattle.std.specs.Prelude.{◌≡◌, ◌<◌};
 ghost use Rattle.um_machine.specs.State.{thread_at};
 ghost use Rattle.um_refinement.specs.Objects.{status_of};
-ghost use Rattle.um_tables.specs.Sited.{state_at};
 ghost use Rattle.um_closing.specs.ReadOff.{read_off, thread_off};
 
-use std::marker::Model;
+use crate::read_sites::ReadSites;
 use um_base::{Image, Kind, Mode, Parts, ROWS, STATIC_ROWS, THREADS, Waiter};
 use um_machine::{Contents, Life, Status};
 use um_steps::Dumped;
-use um_tables::{Tables, kind_of};
+use um_tables::kind_of;
 use um_words::{Stage, ThreadWord};
 
 /// The word of a thread index where nothing was started.
@@ -24,21 +23,11 @@ const UNBORN: ThreadWord = ThreadWord {
     number: 0,
 };
 
-/// Tables of an image, in which no processor has a step left. Contracts see the state that is read off them.
+/// Sites of an image, at which no processor has a step left. A dump reads the state that is read off them.
 #[derive(Drop)]
-pub struct Closing<'a> {
+pub struct Closing<'a, S: ReadSites> {
     image: &'a Image,
-    tables: &'a Tables,
-}
-
-impl<'a> Model for Closing<'a> {
-    ghost use Rattle.um_machine.specs.State.{State};
-    ghost use Rattle.um_tables.specs.Sited.{state_at};
-    ghost use Rattle.um_closing.specs.ReadOff.{read_off};
-
-    ghost Value = { State };
-
-    ghost view = { λ c. read_off c.image.now (state_at c.tables.now) };
+    sites: &'a S,
 }
 
 /// The status of a row at this stage, which has a reserved object or none.
@@ -53,28 +42,32 @@ fn status_of(stage: Stage, is_reserved: bool) -> Status
     }
 }
 
-impl<'a> Closing<'a> {
-    /// The state that is read off these tables.
-    pub fn new(image: &'a Image, tables: &'a Tables) -> Closing<'a>
-        ensures { result ≡ read_off image.now (state_at tables.now) }
+impl<'a, S: ReadSites> Closing<'a, S> {
+    /// The state that is read off these sites.
+    pub fn new(image: &'a Image, sites: &'a S) -> Closing<'a, S>
+        ensures { read_off result.image.now (S.sites result.sites.now)
+            ≡ read_off image.now (S.sites sites.now) }
     {
-        Closing { image, tables }
+        Closing { image, sites }
     }
 
     /// The word of a thread. Past the last one nothing was started.
     fn word(&self, thread: usize) -> ThreadWord
-        ensures { thread_at self.now thread ≡ thread_off result (thread_at self.now thread).priority }
+        ensures { let state = read_off self.now.image.now (S.sites self.now.sites.now) in
+            thread_at state thread ≡ thread_off result (thread_at state thread).priority }
     {
         if thread < THREADS {
-            *self.tables.thread_word(thread)
+            self.sites.read_thread(thread)
         } else {
             UNBORN
         }
     }
 }
 
-impl<'a> Dumped for Closing<'a> {
-    ghost state = { λ s. s };
+impl<'a, S: ReadSites> Dumped for Closing<'a, S> {
+    ghost use Rattle.um_closing.specs.ReadOff.{read_off};
+
+    ghost state = { λ c. read_off c.image.now (S.sites c.sites.now) };
 
     fn life(&self, thread: usize) -> Life {
         self.word(thread).life
@@ -90,7 +83,7 @@ impl<'a> Dumped for Closing<'a> {
 
     fn priority(&self, thread: usize) -> i8 {
         if thread < THREADS {
-            self.tables.scheduler_cell().priority(thread)
+            self.sites.read_scheduler().priority(thread)
         } else {
             0
         }
@@ -101,13 +94,13 @@ impl<'a> Dumped for Closing<'a> {
     }
 
     fn rows(&self) -> usize {
-        let _ = &self.tables;
+        let _ = &self.sites;
         ROWS
     }
 
     fn status(&self, row: usize) -> Status {
-        let is_reserved = row >= STATIC_ROWS && !self.tables.heap_cell().is_free(row);
-        status_of(self.tables.row_word(row).stage, is_reserved)
+        let is_reserved = row >= STATIC_ROWS && !self.sites.read_heap().is_free(row);
+        status_of(self.sites.read_row(row).stage, is_reserved)
     }
 
     fn kind(&self, row: usize) -> Option<Kind> {
@@ -120,48 +113,48 @@ impl<'a> Dumped for Closing<'a> {
     }
 
     fn is_public(&self, row: usize) -> bool {
-        self.tables.row_word(row).public
+        self.sites.read_row(row).public
     }
 
     fn is_initialised(&self, row: usize) -> bool {
-        self.tables.row_word(row).init
+        self.sites.read_row(row).init
     }
 
     fn contents(&self, row: usize) -> Option<&Contents> {
-        match self.tables.object_cell(row) {
+        match self.sites.read_object(row) {
             Some(cell) => Some(&cell.contents),
             None => None,
         }
     }
 
     fn waiters(&self, row: usize) -> &[Waiter] {
-        match self.tables.object_cell(row) {
+        match self.sites.read_object(row) {
             Some(cell) => cell.waiters.as_slice(),
             None => &[],
         }
     }
 
     fn has_pair(&self, thread: usize, row: usize) -> bool {
-        self.tables.row_word(row).permissions.has(thread as u8)
+        self.sites.read_row(row).permissions.has(thread as u8)
     }
 
     fn partitions(&self, domain: usize) -> Option<&Parts> {
         if domain < self.image.domains.len() {
-            self.tables.domain_cell(domain)
+            self.sites.read_parts(domain)
         } else {
             None
         }
     }
 
     fn left_in_pool(&self, pool: usize) -> u32 {
-        self.tables.heap_cell().left_in_pool(pool)
+        self.sites.read_heap().left_in_pool(pool)
     }
 
     fn memory(&self) -> &[u8] {
-        self.tables.memory_cell().memory()
+        self.sites.read_memory().memory()
     }
 
     fn stacks(&self) -> &[u8] {
-        self.tables.memory_cell().stacks()
+        self.sites.read_memory().stacks()
     }
 }

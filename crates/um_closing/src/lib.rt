@@ -3,6 +3,8 @@
 
 mod closing;
 mod laws;
+mod read_sites;
 
 pub use closing::Closing;
 pub use laws::every_closing;
+pub use read_sites::ReadSites;

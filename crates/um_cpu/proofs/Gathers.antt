@@ -1,7 +1,7 @@
 -- What a first seat knows when a processor's seat is split off, and when it is joined in.
 use Rattle.std.proofs.Common.{◌≡◌, ℕ, zero, suc, ◌+◌, ◌<◌, List, [], ◌∷◌, ◌++◌, ◌⊎◌, length, inl, inr, ⊎_elim, refl, sym, ap, ◌∙◌, subst, arith}
 use Rattle.std.proofs.lemmas.Bool.Decides.{leb_tells}
-use Rattle.std.specs.Mem.Slots.{slots_items}
+use Rattle.std.specs.Mem.Slots.{slots_items, slots_len}
 use Rattle.atomic_table.specs.Seated.{TableId}
 use Rattle.um_base.specs.declared.image.Image.{Image}
 use Rattle.um_fine.specs.Steps.{FineStep}
@@ -136,7 +136,8 @@ module _ (image : Image) (board : TableId) (v : View) (n cpus : ℕ) (logs : Lis
 
 -- all are joined in, and the board is closed
 module _ (image : Image) (v : View) (cpus : ℕ) (board : Closed Known) (logs : List Log) (seen : board.token.me.0 ≡ shadow_of v) (gathered : HasGathered image v 0 cpus logs)
-    (closed : IsClosedWithCells Opens Follows NextGoes v (slots_items board.table.words)) where
+    (words : slots_len board.table.words ≡ 307) (slots : slots_len board.table.slots ≡ 139)
+    (closed : IsClosedWithCells Opens Follows NextGoes v (slots_items board.table.words) (slots_items board.table.slots)) where
   abbrev Left : ℕ → List FineStep → Type 0
   Left k steps = ((made : List Made) × StandsUnder v.joined (k ∷ []) made × Played image k made (log_at logs k) steps) × SawNone image v.got steps
 
@@ -152,6 +153,8 @@ module _ (image : Image) (v : View) (cpus : ℕ) (board : Closed Known) (logs : 
       record {
         view = v;
         seen = seen;
+        words = words;
+        slots = slots;
         steps = pick.0;
         played = record {
           image_is = gathered.image_is;
@@ -168,5 +171,6 @@ module _ (image : Image) (v : View) (cpus : ℕ) (board : Closed Known) (logs : 
 
 -- the same, where this many are all
 pub all-ended : (image : Image) (v : View) (n cpus : ℕ) (board : Closed Known) (logs : List Log) → n ≡ cpus → board.token.me.0 ≡ shadow_of v → HasGathered image v 0 n logs
-    → IsClosedWithCells Opens Follows NextGoes v (slots_items board.table.words) → HasEnded image cpus board logs
-all-ended image v n cpus board logs same seen gathered closed = subst (λ (m : ℕ). HasEnded image m board logs) same (has-ended image v n board logs seen gathered closed)
+    → slots_len board.table.words ≡ 307 → slots_len board.table.slots ≡ 139
+    → IsClosedWithCells Opens Follows NextGoes v (slots_items board.table.words) (slots_items board.table.slots) → HasEnded image cpus board logs
+all-ended image v n cpus board logs same seen gathered words slots closed = subst (λ (m : ℕ). HasEnded image m board logs) same (has-ended image v n board logs seen gathered words slots closed)

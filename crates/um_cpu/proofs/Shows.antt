@@ -1,7 +1,7 @@
 -- What the logs of processors that have played say of a list of their steps: each step is at a site, its events are those of a fine run, and that run is
 -- what the closed board has.
 use Rattle.std.proofs.Common.{◌≡◌, ℕ, zero, suc, ◌<◌, ◌≤◌, Bool, true, false, List, [], ◌∷◌, length, map, sym, ap, ◌∙◌, subst, arith, cond}
-use Rattle.std.specs.Prelude.{IsTrue}
+use Rattle.std.specs.Prelude.{IsTrue, Option}
 use Rattle.std.specs.Mem.Slots.{slots_items}
 use Rattle.um_base.specs.declared.image.Image.{Image}
 use Rattle.um_base.specs.declared.limits.TheConstants.{DOMAINS, STATIC_ROWS}
@@ -23,6 +23,7 @@ use Rattle.um_site.specs.declared.view.View.{View}
 use Rattle.um_board.specs.Contents.{Known}
 use Rattle.um_board.specs.Noted.{logged_of, made_of}
 use Rattle.um_history.specs.Fine.{IsFineOf}
+use Rattle.um_history.specs.Left.{AreLeft}
 use Rattle.um_history.specs.Played.{Each, IsPlayed, StandsUnder}
 use Rattle.um_cpu.specs.OnBoard.{HasRun}
 
@@ -48,18 +49,19 @@ noted-placed (x ∷ xs) e zero less = let bound = number-bound x.site e.0 in ome
 noted-placed (x ∷ xs) e (suc k) less = noted-placed xs e.1 k (omega (arith, less))
 
 -- each step of a log is at a site
-pub at-sites : (image : Image) (cpus : ℕ) (v : View) (words : List ℕ) (logs : List Log) (steps : ℕ → List FineStep) → IsPlayed image cpus v words logs steps
+pub at-sites : (image : Image) (cpus : ℕ) (v : View) (words : List ℕ) (slots : List (Option Known)) (logs : List Log) (steps : ℕ → List FineStep) → IsPlayed image cpus v words slots logs steps
     → (g : List FineStep) → IsFineOf image cpus words steps g → AreAtSites logs
-at-sites image cpus v words logs steps played g fine k there =
+at-sites image cpus v words slots logs steps played g fine k there =
     let less : k < cpus = (let same = played.logs_are in omega (arith, same, there)) in
     let log : map logged_of (sublist same_cpu cpu_of k g) ≡ log_at logs k = ap (map logged_of) (fine.own k less) ∙ sym (played.lists k less).2.log_is in
     subst ArePlaced log (noted-placed (sublist same_cpu cpu_of k g) (sited-sub (λ (e : FineStep). same_cpu e.cpu k) g fine.sited))
 
 -- the closed board has the fine run that has the steps of each processor
 pub left-on : (image : Image) (cpus : ℕ) (closed : Closed Known) (v : View) (logs : List Log) (steps : ℕ → List FineStep) → closed.token.me.0 ≡ shadow_of v
-    → IsPlayed image cpus v (slots_items closed.table.words) logs steps → (g : List FineStep) → IsFineOf image cpus (slots_items closed.table.words) steps g → IsOver image cpus g
+    → IsPlayed image cpus v (slots_items closed.table.words) (slots_items closed.table.slots) logs steps → (g : List FineStep) → IsFineOf image cpus (slots_items closed.table.words) steps g → IsOver image cpus g
+    → AreLeft image (slots_items closed.table.words) (slots_items closed.table.slots) g
     → HasRun image cpus closed g
-left-on image cpus closed v logs steps seen played g fine over =
+left-on image cpus closed v logs steps seen played g fine over left =
     record {
       image_is = ap (λ (w : View). w.image) seen ∙ played.image_is;
       run = fine.run;
@@ -74,4 +76,5 @@ left-on image cpus closed v logs steps seen played g fine over =
       first = ap (λ (w : View). w.made) seen ∙ played.first;
       numbered = fine.numbered;
       words_are = fine.words_are;
+      left = left;
     }

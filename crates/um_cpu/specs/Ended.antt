@@ -1,6 +1,6 @@
 -- Processors at seats that one seat of a board has split off, and what is left of them when they have ended.
 use Rattle.std.specs.Prelude.{◌≡◌, ℕ, ◌+◌, ◌<◌, ◌≤◌, List, [], ◌∷◌, length, slice_index_or, None, true}
-use Rattle.std.specs.Mem.Slots.{slots_items}
+use Rattle.std.specs.Mem.Slots.{slots_items, slots_len}
 use Rattle.atomic_table.specs.Seated.{TableId}
 use Rattle.um_base.specs.declared.image.Image.{Image}
 use Rattle.um_fine.specs.Processor.{idle}
@@ -91,6 +91,8 @@ pub record Gathered (image : Image) (board : TableId) (seat : Seat Known) (from 
 pub record HasEnded (image : Image) (cpus : ℕ) (closed : Closed Known) (logs : List Log) : Type 0 where
   pub view : View
   pub seen : closed.token.me.0 ≡ shadow_of view
+  pub words : slots_len closed.table.words ≡ 307
+  pub slots : slots_len closed.table.slots ≡ 139
   pub steps : ℕ → List FineStep
-  pub played : IsPlayed image cpus view (slots_items closed.table.words) logs steps
+  pub played : IsPlayed image cpus view (slots_items closed.table.words) (slots_items closed.table.slots) logs steps
   pub saw : (k : ℕ) → k < cpus → SawNone image view.got (steps k)

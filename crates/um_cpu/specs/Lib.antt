@@ -2,3 +2,4 @@ pub mod Cpus
 pub mod Ended
 pub mod OnBoard
 pub mod Playing
+pub mod Standing

@@ -15,11 +15,13 @@ use Rattle.um_site.specs.History.{Among, Distinct}
 use Rattle.um_site.specs.declared.closed.Closed.{Closed}
 use Rattle.um_board.specs.Contents.{Known}
 use Rattle.um_board.specs.Noted.{logged_of, made_of, packed}
+use Rattle.um_history.specs.Left.{AreLeft}
 use Rattle.um_history.specs.Played.{StandsUnder}
 
 -- The board is that of an image, and was closed after these steps, which are a fine run of this many processors; none of them can make
 -- another step. The steps of each processor stand in the list of a seat of its own, in their order; no other seat has made any, and no name
--- stands for two lists. The steps of each site are numbered from 1 without a gap, and have left the board's words, a cell's turn aside.
+-- stands for two lists. The steps of each site are numbered from 1 without a gap, and have left the board's words, a cell's turn aside, and
+-- the contents of its cells.
 pub record HasRun (image : Image) (cpus : ℕ) (closed : Closed Known) (steps : List FineStep) : Type 0 where
   pub image_is : closed.token.me.0.image ≡ image
   pub run : IsFineRun image cpus steps
@@ -31,3 +33,4 @@ pub record HasRun (image : Image) (cpus : ℕ) (closed : Closed Known) (steps : 
   pub numbered : (site : ℕ) → AreNumbered 0 (sublist eqb Merged.site_of site (map logged_of steps))
   pub words_are : (i : ℕ) → i < 307
       → packed (word_of (state_at same_site site_of (s_next image) (s_start image) steps (site_numbered i))) ≡ bare i (slice_index (slots_items closed.table.words) i)
+  pub left : AreLeft image (slots_items closed.table.words) (slots_items closed.table.slots) steps

@@ -5,7 +5,7 @@ ghost use Rattle.um_base.specs.{Lawful.{IsLawful}, Weight.{weight}};
 ghost use Rattle.um_fine.specs.{Erasure.{shown}, Steps.{FineStep}};
 ghost use Rattle.um_merge.specs.Logs.{events_of};
 ghost use Rattle.um_refinement.specs.Shows.{AreCompleteRun};
-ghost use Rattle.um_cpu.specs.OnBoard.{HasRun};
+ghost use Rattle.um_cpu.specs.{OnBoard.{HasRun}, Standing.{IsLastState}};
 
 use crate::run::{Ended, run_cpus};
 use std::alloc::Global;
@@ -13,6 +13,7 @@ use std::sync::Wait;
 use std::thread::Threads;
 use um_base::{Event, Image, OutOfMemory};
 use um_board::Contents;
+use um_closing::every_closing;
 use um_fine_measure::longest_fine_run;
 use um_history::every_played_board;
 use um_io::Gate;
@@ -26,7 +27,7 @@ pub struct Ran {
 }
 
 /// Runs this many processors on a board of the image, each in a thread of its own if one can be made, and merges the steps that they made
-/// there into one list. Its events are a complete run. Each log and the list have room for `most` steps, which is at least the image's
+/// there into one list. Its events are a complete run, whose last state the board keeps. Each log and the list have room for `most` steps, which is at least the image's
 /// weight. A gate can hold each processor before its turns.
 pub fn run_events<R: Threads + Wait + Sync, G: Gate + Sync>(
     rt: &R,
@@ -44,9 +45,11 @@ pub fn run_events<R: Threads + Wait + Sync, G: Gate + Sync>(
     ensures board { IfOk result
         (λ ran. (steps : List FineStep) × HasRun image.now cpus ran.closed steps
         × (ran.events.items ≡ shown steps)) }
+    ensures closes { IfOk result (λ ran. IsLastState image.now ran.closed ran.events.items) }
     ensures few { IfOk result (λ ran. length ran.events.items ≤ weight image.now) }
 {
     every_played_board();
+    every_closing();
     longest_fine_run();
     let _objects = image.objects.len();
     let _domains = image.domains.len();

@@ -3,6 +3,7 @@
 
 mod cpu;
 mod events;
+mod left_board;
 mod run;
 mod seats;
 mod turn;
@@ -10,5 +11,6 @@ mod turns;
 
 pub use cpu::Cpu;
 pub use events::{Ran, run_events};
+pub use left_board::LeftBoard;
 pub use run::{Ended, run_cpus};
 pub use turn::Turn;

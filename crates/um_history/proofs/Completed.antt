@@ -1,7 +1,7 @@
 -- Where each processor saw after its last step that no thread is ready, none can make another step: every fine run of their steps is over, and what any
 -- list in the order of the logs shows is a complete run.
 use Rattle.std.proofs.Common.{◌≡◌, ℕ, ◌<◌, ◌≤◌, false, eqb, List, [], length, map, Some, None, sym, ap, ◌∙◌, subst, arith}
-use Rattle.std.specs.Prelude.{IsTrue}
+use Rattle.std.specs.Prelude.{IsTrue, Option}
 use Rattle.std.proofs.lemmas.Bool.{and_parts}
 use Rattle.um_base.specs.Weight.{weight}
 use Rattle.um_base.specs.declared.act.Act.{Act}
@@ -30,10 +30,13 @@ use Rattle.um_refinement.specs.Room.{CanCount, CanRun, IsStuck}
 use Rattle.um_refinement.specs.Shows.{AreCompleteRun, AreRun}
 use Rattle.um_core.specs.PickedRun.{IsOver, processor_after, site_after}
 use Rattle.um_core.proofs.Counts.{can-count}
+use Rattle.um_board.specs.Contents.{Known}
 use Rattle.um_board.specs.Noted.{logged_of}
 use Rattle.um_history.specs.Fine.{IsFineOf}
+use Rattle.um_history.specs.Left.{AreLeft}
 use Rattle.um_history.specs.Played.{IsPlayed, SawNone}
 use Rattle.um_history.proofs.Fine.{is-fine-of}
+use Rattle.um_history.proofs.Left.{left-in-order}
 use Rattle.um_history.proofs.Moments.{all}
 use Rattle.um_history.proofs.Played.{history, of-played, own-steps}
 use Rattle.um_history.proofs.Granted.{granted}
@@ -66,21 +69,21 @@ over-at image cpus g done (n, s, state, none) e follows =
     refuses image p n s e (done e.cpu by.named) none by.may (subst (λ (z : SiteState). SiteMay image z e) state there)
 
 -- every fine run of the steps of processors that saw this is over
-pub over : (image : Image) (cpus : ℕ) (v : View) (words : List ℕ) (logs : List Log) (steps : ℕ → List FineStep) → IsDescribed image → CanRun image cpus
-    → IsPlayed image cpus v words logs steps → ((k : ℕ) → k < cpus → SawNone image v.got (steps k)) → (g : List FineStep) → IsFineOf image cpus words steps g → IsOver image cpus g
-over image cpus v words logs steps described can played saw g of =
+pub over : (image : Image) (cpus : ℕ) (v : View) (words : List ℕ) (slots : List (Option Known)) (logs : List Log) (steps : ℕ → List FineStep) → IsDescribed image → CanRun image cpus
+    → IsPlayed image cpus v words slots logs steps → ((k : ℕ) → k < cpus → SawNone image v.got (steps k)) → (g : List FineStep) → IsFineOf image cpus words steps g → IsOver image cpus g
+over image cpus v words slots logs steps described can played saw g of =
     over-at image cpus g (λ k less. ap (λ (l : List FineStep). (ends (p_next image) idle l).todo) (of.own k less) ∙ (saw k less).done)
-    (none-ready image cpus v words logs steps described can played saw g of)
+    (none-ready image cpus v words slots logs steps described can played saw g of)
 
-module _ (image : Image) (cpus : ℕ) (v : View) (words : List ℕ) (logs : List Log) (steps : ℕ → List FineStep) (described : IsDescribed image) (can : CanRun image cpus) (well : OpensWell image)
-    (played : IsPlayed image cpus v words logs steps) (longest : (run : List FineStep) → IsFineRun image cpus run → length run ≤ weight image) where
+module _ (image : Image) (cpus : ℕ) (v : View) (words : List ℕ) (slots : List (Option Known)) (logs : List Log) (steps : ℕ → List FineStep) (described : IsDescribed image) (can : CanRun image cpus) (well : OpensWell image)
+    (played : IsPlayed image cpus v words slots logs steps) (longest : (run : List FineStep) → IsFineRun image cpus run → length run ≤ weight image) where
   abbrev pub g : List FineStep
-  g = all image cpus words (history image cpus v words logs steps played) (of-played image cpus v words logs steps played)
+  g = all image cpus words (history image cpus v words slots logs steps played) (of-played image cpus v words slots logs steps played)
 
   pub fine : IsFineOf image cpus words steps g
   fine =
-      is-fine-of image cpus words (history image cpus v words logs steps played) (of-played image cpus v words logs steps played) can.few well (granted image cpus described can) steps
-      (own-steps image cpus v words logs steps played)
+      is-fine-of image cpus words (history image cpus v words slots logs steps played) (of-played image cpus v words slots logs steps played) can.few well (granted image cpus described can) steps
+      (own-steps image cpus v words slots logs steps played)
 
   ordered : IsOrder logs (map logged_of g)
   ordered = is-order image cpus words steps g fine logs played.logs_are (λ k less. (played.lists k less).2.log_is)
@@ -90,27 +93,27 @@ module _ (image : Image) (cpus : ℕ) (v : View) (words : List ℕ) (logs : List
 
   -- what a list in the order of the logs is noted of
   noted-of : (list : List Logged) → ((order : List Logged) → IsOrder logs order → Merged.SameOrder list order)
-      → (h : List FineStep) × (map logged_of h ≡ list) × IsFineOf image cpus words steps h
+      → (h : List FineStep) × (map logged_of h ≡ list) × IsFineOf image cpus words steps h × AreLeft image words slots h
   noted-of list same =
       let order = same (map logged_of g) ordered in
       let (h, is, alike, sited) = lifted g fine.sited list order in
-      (h, is, fine-of-same image cpus words steps g h fine alike sited (λ n. ap (sublist eqb Merged.site_of n) is ∙ order.1 n))
+      (h, is, fine-of-same image cpus words steps g h fine alike sited (λ n. ap (sublist eqb Merged.site_of n) is ∙ order.1 n), left-in-order image cpus v words slots logs steps well played h alike)
 
   -- and what it shows
   pub noted-run : ((run : List FineStep) → IsFineRun image cpus run → AreRun image (shown run)) → (list : List Logged) → ((order : List Logged) → IsOrder logs order → Merged.SameOrder list order)
-      → (h : List FineStep) × (map logged_of h ≡ list) × IsFineOf image cpus words steps h × AreRun image (events_of list)
+      → (h : List FineStep) × (map logged_of h ≡ list) × IsFineOf image cpus words steps h × AreRun image (events_of list) × AreLeft image words slots h
   noted-run runs list same =
-      let (h, is, of) = noted-of list same in
-      (h, is, of, subst (AreRun image) (sym (shown-noted h) ∙ ap events_of is) (runs h of.run))
+      let (h, is, of, left) = noted-of list same in
+      (h, is, of, subst (AreRun image) (sym (shown-noted h) ∙ ap events_of is) (runs h of.run), left)
 
   pub complete : ((k : ℕ) → k < cpus → SawNone image v.got (steps k))
       → ((run : List FineStep) → IsFineRun image cpus run → IsStuck (left_by image cpus run) → CanCount (left_by image cpus run) → AreCompleteRun image (shown run))
       → (list : List Logged) → ((order : List Logged) → IsOrder logs order → Merged.SameOrder list order) → AreCompleteRun image (events_of list)
   complete saw completes list same =
-      let (h, is, of) = noted-of list same in
+      let (h, is, of, left) = noted-of list same in
       let few = longest h of.run in
       let light = described.lawful.light in
-      let none = over image cpus v words logs steps described can played saw h of in
+      let none = over image cpus v words slots logs steps described can played saw h of in
       let stuck : IsStuck (left_by image cpus h) = λ e by takes. none e (record { makes = by; takes = takes }) in
       let end = completes h of.run stuck (can-count image h (omega (arith, few, light)) cpus) in
       subst (AreCompleteRun image) (sym (shown-noted h) ∙ ap events_of is) end

@@ -4,7 +4,7 @@
 -- step numbers, Played that history of a closed board, AtMoment that of any moment. Stood has the fine run of the moment of a look, and what
 -- the word that the seat read tells of it. NeverStuck: a processor has a step to ask for. Hindered: which causes for making no step never
 -- come up. Waiting: what a processor waits for whose site refuses. LastHolder: who cleans a row. The end: Lifts and Ordered are about the
--- order of the logs, NoneReady and Completed about the last state. For callers: Playing has what a processor's seat has while it plays,
+-- order of the logs, NoneReady and Completed about the last state, Left what the closed board has of it. For callers: Playing has what a processor's seat has while it plays,
 -- Joins the lists under names when seats are joined, Chosen one list of steps for each processor. Lists and Numbers have facts of lists and
 -- of sites' numbers.
 pub mod Lists
@@ -26,6 +26,7 @@ pub mod Lifts
 pub mod Fine
 pub mod Ordered
 pub mod ReadyFew
+pub mod Left
 pub mod NoneReady
 pub mod Completed
 pub mod Openings

@@ -1,6 +1,6 @@
 -- Where each processor saw after its last step that no thread is ready, every fine run of their steps leaves the scheduler's cell with none.
 use Rattle.std.proofs.Common.{◌≡◌, ℕ, ◌+◌, ◌*◌, ◌-◌, ◌<◌, ◌≤◌, ◌/◌, ◌%◌, List, [], ◌∷◌, ◌⊎◌, inl, inr, ⊎_elim, length, map, refl, sym, ap, ◌∙◌, subst, arith}
-use Rattle.std.specs.Prelude.{IsTrue, slice_index}
+use Rattle.std.specs.Prelude.{IsTrue, Option, slice_index}
 use Rattle.std.proofs.lemmas.Bool.{false≢true}
 use Rattle.um_base.specs.declared.image.Image.{Image}
 use Rattle.um_base.specs.declared.limits.TheConstants.{THREADS}
@@ -19,6 +19,7 @@ use Rattle.um_site.specs.declared.view.View.{View}
 use Rattle.um_site.proofs.Bare.{bare-high, bare-number}
 use Rattle.um_site.proofs.Sublists.{same_itself}
 use Rattle.um_merge.specs.Logs.{Log}
+use Rattle.um_board.specs.Contents.{Known}
 use Rattle.um_board.specs.Noted.{made_of, packed}
 use Rattle.um_board.specs.Saw.{WasGot}
 use Rattle.um_refinement.specs.Fine.{scheduler_state}
@@ -58,13 +59,13 @@ no-length (x ∷ xs) e = absurd (omega arith)
 pub ready-kept : (w z : ℕ) → w - w % 2 ≡ z → w / 2 % 256 ≡ z / 2 % 256
 ready-kept w z e = let h : w / 2 ≡ z / 2 = omega arith in ap (λ n. n % 256) h
 
-module _ (image : Image) (cpus : ℕ) (v : View) (words : List ℕ) (logs : List Log) (steps : ℕ → List FineStep) (described : IsDescribed image) (can : CanRun image cpus)
-    (played : IsPlayed image cpus v words logs steps) (saw : (k : ℕ) → k < cpus → SawNone image v.got (steps k)) where
+module _ (image : Image) (cpus : ℕ) (v : View) (words : List ℕ) (slots : List (Option Known)) (logs : List Log) (steps : ℕ → List FineStep) (described : IsDescribed image) (can : CanRun image cpus)
+    (played : IsPlayed image cpus v words slots logs steps) (saw : (k : ℕ) → k < cpus → SawNone image v.got (steps k)) where
   abbrev entries : List Entry
-  entries = history image cpus v words logs steps played
+  entries = history image cpus v words slots logs steps played
 
   abbrev of : IsHistoryOf image cpus words entries
-  of = of-played image cpus v words logs steps played
+  of = of-played image cpus v words slots logs steps played
 
   abbrev stands : ℕ
   stands = slice_index words 306
@@ -78,7 +79,7 @@ module _ (image : Image) (cpus : ℕ) (v : View) (words : List ℕ) (logs : List
       (λ none. subst (Each Seen) (sym none) tt)
       (λ (k, less, is).
       let Q : Made → Type 0 = λ (m : Made). m.site ≡ 306 → number 306 m.word ≤ number 306 (saw k less).word in
-      let list : map History.made_of (sub (is_by n) entries) ≡ map made_of (steps k) = ap (λ (m : List ℕ). by_seat m entries) is ∙ list-of image cpus v words logs steps played k less in
+      let list : map History.made_of (sub (is_by n) entries) ≡ map made_of (steps k) = ap (λ (m : List ℕ). by_seat m entries) is ∙ list-of image cpus v words slots logs steps played k less in
       each-map (λ (e : Entry). Q e.1) Seen (λ e q. (k, less, q)) (sub (is_by n) entries) (same-images History.made_of made_of Q (sub (is_by n) entries) (steps k) list (saw k less).newest))
       (names-of image cpus words entries of n)
 

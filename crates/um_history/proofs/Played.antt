@@ -28,7 +28,7 @@ told-under h [] n made told stands = absurd stands
 told-under h (e ∷ es) n made told (inl is) = ap (λ (k : List ℕ). by_seat k h) (sym is.0) ∙ told.0 ∙ is.1
 told-under h (e ∷ es) n made told (inr in-rest) = told-under h es n made told.1 in-rest
 
-module _ (image : Image) (cpus : ℕ) (v : View) (words : List ℕ) (logs : List Log) (steps : ℕ → List FineStep) (played : IsPlayed image cpus v words logs steps) where
+module _ (image : Image) (cpus : ℕ) (v : View) (words : List ℕ) (slots : List (Option Known)) (logs : List Log) (steps : ℕ → List FineStep) (played : IsPlayed image cpus v words slots logs steps) where
   abbrev pub history : List Entry
   history = played.closed.history
 
@@ -42,7 +42,7 @@ module _ (image : Image) (cpus : ℕ) (v : View) (words : List ℕ) (logs : List
         opens = played.opening;
         stands = subst (λ (i : Image). IsHistory (NextGoes i) v.opening words history) played.image_is played.closed.stands;
         owned = λ n. ⊎_elim inl (λ has. ⊎_elim (λ is. inl (first-none n is)) (λ among. inr (played.names n among)) has) (played.closed.only n);
-        contents = λ n far near. subst (λ (i : Image). (y : Option Known) × ContentsAre Opens Follows i n (by_site n history) y) played.image_is (played.closed.contents n (played.filled n far near));
+        contents = λ n far near. let (y, at, are) = played.closed.contents n (played.filled n far near) in (y, subst (λ (i : Image). ContentsAre Opens Follows i n (by_site n history) y) played.image_is are);
       }
 
   -- what stands under the name of a processor

@@ -1,3 +1,4 @@
 pub mod Fine
 pub mod LastHolder
+pub mod Left
 pub mod Played

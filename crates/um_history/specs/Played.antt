@@ -71,13 +71,13 @@ pub record IsMoment (image : Image) (v : View) (i w : ℕ) : Type 0 where
   pub opens : AreOpening image v.opening
   pub filled : (j : ℕ) → 168 ≤ j → j < 307 → AmongCells v.filled j
 
--- The board of an image is closed with these words. Its first seat, which made no step itself, knows what was made: this many processors
+-- The board of an image is closed with these words and slots. Its first seat, which made no step itself, knows what was made: this many processors
 -- have made these steps, only such as each asked for, and have these logs.
-pub record IsPlayed (image : Image) (cpus : ℕ) (v : View) (words : List ℕ) (logs : List Log) (steps : ℕ → List FineStep) : Type 0 where
+pub record IsPlayed (image : Image) (cpus : ℕ) (v : View) (words : List ℕ) (slots : List (Option Known)) (logs : List Log) (steps : ℕ → List FineStep) : Type 0 where
   pub image_is : v.image ≡ image
   pub opening : AreOpening image v.opening
   pub filled : (i : ℕ) → 168 ≤ i → i < 307 → AmongCells v.filled i
-  pub closed : IsClosedWithCells Opens Follows NextGoes v words
+  pub closed : IsClosedWithCells Opens Follows NextGoes v words slots
   pub first : v.made ≡ []
   pub names : (n : List ℕ) → Among v.joined n → (k : ℕ) × (k < cpus) × (n ≡ k ∷ [])
   pub lists : (k : ℕ) → k < cpus → (made : List Made) × StandsUnder v.joined (k ∷ []) made × Played image k made (log_at logs k) (steps k)

@@ -1,6 +1,6 @@
 //! The laws over every board on which processors play, and have played.
 
-ghost use Rattle.std.specs.Prelude.{◌≡◌, ℕ, ◌<◌, ◌≤◌, List, [], ◌∷◌, length, map};
+ghost use Rattle.std.specs.Prelude.{◌≡◌, ℕ, ◌<◌, ◌≤◌, List, [], ◌∷◌, Option, length, map};
 ghost use Rattle.um_base.specs.{
   Weight.{weight},
   declared.limits.TheConstants.{ROWS},
@@ -16,7 +16,7 @@ ghost use Rattle.um_merge.specs.{
   declared.logged.Logged.{Logged},
 };
 ghost use Rattle.um_site.specs.declared.view.View.{View};
-ghost use Rattle.um_board.specs.{Noted.{logged_of}, ReadBack.{fine_at}};
+ghost use Rattle.um_board.specs.{Contents.{Known}, Noted.{logged_of}, ReadBack.{fine_at}};
 ghost use Rattle.um_refinement.specs.{
   After.{left_by},
   Relation.{Rel},
@@ -27,6 +27,7 @@ ghost use Rattle.um_core.specs.PickedRun.{IsOver};
 ghost use Rattle.um_history.specs.{
   Fine.{IsFineOf},
   LastHolder.{AreHeld, HasLastHolder},
+  Left.{AreLeft},
   Played.{IsMoment, IsPlayed, SawNone},
 };
 
@@ -71,29 +72,30 @@ pub fn every_board()
 /// - The board's history is one fine run that has the steps of each processor in their order, and no others.
 /// - The logs have an order, of no more steps than the image's weight.
 /// - Take a list of steps that orders each processor's and each site's steps as every order of the logs does. It is what the logs note of a
-///   fine run of these processors' steps, which leaves the same words, and its events are a run of the access-matrix machine.
+///   fine run of these processors' steps, which has left each site as the board has it, and its events are a run of the access-matrix
+///   machine.
 /// - If each processor saw after its last step that no thread is ready, and has no step to go on with, then none can make another step: each
 ///   fine run of their steps is over, and the events of such a list are a complete run.
 pub fn every_played_board()
-    ensures fine { (image : Image) (cpus : ℕ) (v : View) (words : List ℕ) (logs : List Log)
-        (steps : ℕ → List FineStep) → IsDescribed image → CanRun image cpus
-        → IsPlayed image cpus v words logs steps → (g : List FineStep) × IsFineOf image cpus words steps g }
-    ensures order { (image : Image) (cpus : ℕ) (v : View) (words : List ℕ) (logs : List Log)
-        (steps : ℕ → List FineStep) → IsDescribed image → CanRun image cpus
-        → IsPlayed image cpus v words logs steps → HaveOrder logs (weight image) }
-    ensures run { (image : Image) (cpus : ℕ) (v : View) (words : List ℕ) (logs : List Log)
-        (steps : ℕ → List FineStep) → IsDescribed image → CanRun image cpus
-        → IsPlayed image cpus v words logs steps → (list : List Logged)
+    ensures fine { (image : Image) (cpus : ℕ) (v : View) (words : List ℕ) (slots : List (Option Known))
+        (logs : List Log) (steps : ℕ → List FineStep) → IsDescribed image → CanRun image cpus
+        → IsPlayed image cpus v words slots logs steps → (g : List FineStep) × IsFineOf image cpus words steps g }
+    ensures order { (image : Image) (cpus : ℕ) (v : View) (words : List ℕ) (slots : List (Option Known))
+        (logs : List Log) (steps : ℕ → List FineStep) → IsDescribed image → CanRun image cpus
+        → IsPlayed image cpus v words slots logs steps → HaveOrder logs (weight image) }
+    ensures run { (image : Image) (cpus : ℕ) (v : View) (words : List ℕ) (slots : List (Option Known))
+        (logs : List Log) (steps : ℕ → List FineStep) → IsDescribed image → CanRun image cpus
+        → IsPlayed image cpus v words slots logs steps → (list : List Logged)
         → ((order : List Logged) → IsOrder logs order → SameOrder list order)
         → (g : List FineStep) × (map logged_of g ≡ list) × IsFineOf image cpus words steps g
-        × AreRun image (events_of list) }
-    ensures over { (image : Image) (cpus : ℕ) (v : View) (words : List ℕ) (logs : List Log)
-        (steps : ℕ → List FineStep) → IsDescribed image → CanRun image cpus
-        → IsPlayed image cpus v words logs steps → ((k : ℕ) → k < cpus → SawNone image v.got (steps k))
+        × AreRun image (events_of list) × AreLeft image words slots g }
+    ensures over { (image : Image) (cpus : ℕ) (v : View) (words : List ℕ) (slots : List (Option Known))
+        (logs : List Log) (steps : ℕ → List FineStep) → IsDescribed image → CanRun image cpus
+        → IsPlayed image cpus v words slots logs steps → ((k : ℕ) → k < cpus → SawNone image v.got (steps k))
         → (g : List FineStep) → IsFineOf image cpus words steps g → IsOver image cpus g }
-    ensures complete { (image : Image) (cpus : ℕ) (v : View) (words : List ℕ) (logs : List Log)
-        (steps : ℕ → List FineStep) → IsDescribed image → CanRun image cpus
-        → IsPlayed image cpus v words logs steps → ((k : ℕ) → k < cpus → SawNone image v.got (steps k))
+    ensures complete { (image : Image) (cpus : ℕ) (v : View) (words : List ℕ) (slots : List (Option Known))
+        (logs : List Log) (steps : ℕ → List FineStep) → IsDescribed image → CanRun image cpus
+        → IsPlayed image cpus v words slots logs steps → ((k : ℕ) → k < cpus → SawNone image v.got (steps k))
         → (list : List Logged) → ((order : List Logged) → IsOrder logs order → SameOrder list order)
         → AreCompleteRun image (events_of list) }
 {

@@ -268,10 +268,10 @@ module _ {T : Type 0} (opens : Image → ℕ → T → Type 0) (follows : T → 
         (subst (λ (z : Image × List ℕ). (h : List Entry) × IsHistory (goes z.0) z.1 s.words h × Knows z.0 z.1 s.words h v × Tidy v × ((n : List ℕ) → (by_seat n h ≡ []) ⊎ Has v n)) (λ i. (sym k.image_is i, sym k.opening_is i))
         (h, r.1.stands, k, r.1.tidy id v at lives, all_told (goes image) image opening s.words s.views h r.1 id v at lives first nil))
 
-    pub closes_cells : (id : ℕ) (v : View) (ws : List ℕ) (xs : List (Option T)) → v.live ≡ true → v.name ≡ [] → length v.children ≡ 0 → v.turn ≡ None → Final (Seen Holds id v) ws xs → IsClosedWithCells opens follows goes v ws
-    closes_cells id v ws xs lives first none_out idle (s, seen, e, _, _) = let r = seen.0 in let h = r.0 in let at = seen.1 in let k = r.1.know id v at lives in let o = own_words goes image opening s.words h v k r.1.stands in
+    pub closes_cells : (id : ℕ) (v : View) (ws : List ℕ) (xs : List (Option T)) → v.live ≡ true → v.name ≡ [] → length v.children ≡ 0 → v.turn ≡ None → Final (Seen Holds id v) ws xs → IsClosedWithCells opens follows goes v ws xs
+    closes_cells id v ws xs lives first none_out idle (s, seen, e, _, at_home) = let r = seen.0 in let h = r.0 in let at = seen.1 in let k = r.1.know id v at lives in let o = own_words goes image opening s.words h v k r.1.stands in
         let nil : v.children ≡ [] = no_items v.children none_out in
-        subst (λ (l : List ℕ). IsClosedWithCells opens follows goes v l) e (record {
+        subst (λ (l : List ℕ). IsClosedWithCells opens follows goes v l xs) e (record {
           history = h;
           stands = o.0;
           knows = o.1;
@@ -281,7 +281,7 @@ module _ {T : Type 0} (opens : Image → ℕ → T → Type 0) (follows : T → 
               let even = is_free s r id v i at lives first nil idle cell in' in
               let b = r.2.home (i - 168) (omega arith) (omega arith) (subst (λ n. get_or s.words n 0 % 2 ≡ 0) (sym (cell_slot i cell)) even) in
               let y = subst (λ n. ContentsAre opens follows image n (by_site n h) b.0) (cell_slot i cell) (b.2 id v at lives (subst (AmongCells v.filled) (sym (cell_slot i cell)) a)) in
-              (b.0, subst (λ (im : Image). ContentsAre opens follows im i (by_site i h) b.0) (sym k.image_is) y);
+              (b.0, at_home (i - 168) b.0 b.1, subst (λ (im : Image). ContentsAre opens follows im i (by_site i h) b.0) (sym k.image_is) y);
         })
 
     abbrev pub nothing : Option T

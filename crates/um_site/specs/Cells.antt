@@ -1,5 +1,5 @@
 -- The cells of a board: sites from 168 on, of which the site 168 + k has its contents in the slot k while nobody has its turn.
-use Rattle.std.specs.Prelude.{◌≡◌, ◌≢◌, ℕ, ◌+◌, ◌%◌, ◌<◌, ◌≤◌, ◌⊎◌, true, List, [], ◌∷◌, length, slice_index, Option, Some}
+use Rattle.std.specs.Prelude.{◌≡◌, ◌≢◌, ℕ, ◌+◌, ◌-◌, ◌%◌, ◌<◌, ◌≤◌, ◌⊎◌, true, List, [], ◌∷◌, length, slice_index, Option, Some}
 use mathlib.Core.Option as found
 use mathlib.Core.Option.{some}
 use lib.ListN.{get_elem?}
@@ -78,12 +78,12 @@ module _ {T : Type 0} (opens : Image → ℕ → T → Type 0) (follows : T → 
     pub inside : i < length words
     pub word : slice_index words i ≡ w
 
-  -- the words of a closed board, and what its first seat has: there is one history, whose steps stand in that seat's lists and nowhere
-  -- else, and the contents of each cell that the seat knows as filled follow from the cell's steps
-  pub record IsClosedWithCells (goes : Image → List ℕ → List Made → Made → Type 0) (v : View) (words : List ℕ) : Type 0 where
+  -- the words and slots of a closed board, and what its first seat has: there is one history, whose steps stand in that seat's lists and
+  -- nowhere else, and each cell that the seat knows as filled has its contents in its slot, as they follow from the cell's steps
+  pub record IsClosedWithCells (goes : Image → List ℕ → List Made → Made → Type 0) (v : View) (words : List ℕ) (slots : List (Option T)) : Type 0 where
     pub history : List Entry
     pub stands : IsHistory (goes v.image) v.opening words history
     pub knows : Knows v.image v.opening words history v
     pub tidy : Tidy v
     pub only : (n : List ℕ) → (by_seat n history ≡ []) ⊎ Has v n
-    pub contents : (i : ℕ) → AmongCells v.filled i → (y : Option T) × ContentsAre v.image i (by_site i history) y
+    pub contents : (i : ℕ) → AmongCells v.filled i → (y : Option T) × (get_elem? slots (i - 168) ≡ some y) × ContentsAre v.image i (by_site i history) y

@@ -133,7 +133,3 @@ shadow_of v = record v { live = false }
 -- the words of a closed board, and what its first seat has: there is one history, whose steps stand in that seat's lists and nowhere else
 abbrev pub IsClosed : (Image → List ℕ → List Made → Made → Type 0) → View → List ℕ → Type 0
 IsClosed goes v words = (h : List Entry) × IsHistory (goes v.image) v.opening words h × Knows v.image v.opening words h v × Tidy v × ((n : List ℕ) → (by_seat n h ≡ []) ⊎ Has v n)
-
--- the fact holds of such a history
-abbrev pub IsClosedWithFact : (Image → List ℕ → List Made → Made → Type 0) → (Image → List ℕ → List Entry → Type 0) → View → List ℕ → Type 0
-IsClosedWithFact goes fact v words = (h : List Entry) × IsHistory (goes v.image) v.opening words h × Knows v.image v.opening words h v × fact v.image words h

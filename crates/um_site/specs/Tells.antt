@@ -31,10 +31,6 @@ module _ (goes : Image → List ℕ → List Made → Made → Type 0) where
   abbrev pub Stands : View → ℕ → ℕ → Type 0
   Stands v i w = (words : List ℕ) × (h : List Entry) × IsHistory (goes v.image) v.opening words h × Knows v.image v.opening words h v × (i < length words) × (slice_index words i ≡ w)
 
-  -- the same, and the fact holds of it
-  abbrev pub StandsWithFact : (Image → List ℕ → List Entry → Type 0) → View → ℕ → ℕ → Type 0
-  StandsWithFact fact v i w = (words : List ℕ) × (h : List Entry) × IsHistory (goes v.image) v.opening words h × Knows v.image v.opening words h v × fact v.image words h × (i < length words) × (slice_index words i ≡ w)
-
   -- one history stood, and goes on with the step
   abbrev pub GoesOn : View → Made → ℕ → Type 0
   GoesOn v m seen = (words : List ℕ) × (h : List Entry) × IsHistory (goes v.image) v.opening words h × Knows v.image v.opening words h v × (m.site < length words) × (slice_index words m.site ≡ seen)

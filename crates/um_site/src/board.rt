@@ -6,8 +6,8 @@ ghost use Rattle.std.specs.{
 };
 ghost use Rattle.um_words.specs.Steps.{number, WordMay};
 ghost use Rattle.um_site.specs.{
-  Tells.{made, last_got, with_made, GoesOn, Looked, StandsWithFact, stepped_by},
-  History.{opening_view, splitter, newborn, joiner, AmongNames, IsClosed, IsClosedWithFact, shadow_of},
+  Tells.{made, last_got, with_made, GoesOn, Looked, stepped_by},
+  History.{opening_view, splitter, newborn, joiner, AmongNames, IsClosed, shadow_of},
   Cells.{IsClosedWithCells, Moment},
 };
 ghost use Rattle.atomic_table.specs.Table.{step};
@@ -28,6 +28,7 @@ use um_words::{Content, Local, step_number};
 #[derive(Drop)]
 pub struct Board<T: Content, L: Local> {
     pub table: Table<Option<T>, View, Opening, Ruled<L>, Global>,
+    sealed: (),
     pub ghost sized: { table.shared.table_id.words ≡ length table.shared.key.1.value.items },
 }
 
@@ -58,7 +59,6 @@ impl<T: Content, L: Local> Board<T, L> {
     ) -> Result<(Board<T, L>, Seat<T>), OutOfMemory>
         requires unstepped { (i : ℕ) → i < length words.items → number i (slice_index words.items i) ≡ 0 }
         requires turns { (i : ℕ) → 168 ≤ i → i < length words.items → slice_index words.items i % 2 ≡ 0 }
-        requires fact { L.fact image.now words.items [] }
         ensures same { IfOk result (λ r. r.1.token.table_id ≡ r.0.table.shared.table_id) }
         ensures sites { IfOk result
             (λ r. (r.0.table.shared.table_id.words ≡ length words.items)
@@ -70,12 +70,13 @@ impl<T: Content, L: Local> Board<T, L> {
         let about = (Snapshot::of(image), Snapshot::of(&words));
         let (table, token) = Table::vacant(alloc, words.as_slice(), slots as usize, &about)?;
         Ok((
-            Board { table },
+            Board { table, sealed: () },
             Seat {
                 token,
                 split: 0,
                 joined: 0,
                 first: true,
+                sealed: (),
             },
         ))
     }
@@ -96,8 +97,6 @@ impl<T: Content, L: Local> Board<T, L> {
             × (seat.new.token.me.0.turn ≡ seat.old.token.me.0.turn)
             × (seat.new.token.me.0.filled ≡ seat.old.token.me.0.filled) }
         ensures last { last_got seat.new.token.me.0.got site ≡ Some result }
-        ensures fact { L.fact seat.old.token.me.0.image seat.old.token.me.0.opening []
-            → StandsWithFact L.goes L.fact seat.old.token.me.0 site result }
     {
         self.table
             .shared
@@ -187,6 +186,7 @@ impl<T: Content, L: Local> Board<T, L> {
             split: 0,
             joined: 0,
             first: false,
+            sealed: (),
         }
     }
 
@@ -211,6 +211,7 @@ impl<T: Content, L: Local> Board<T, L> {
             split,
             joined,
             first: _,
+            sealed: _,
         } = other;
         self.table.shared.join_seat::<Fork>(&mut seat.token, token);
         seat.split += split;
@@ -224,13 +225,13 @@ impl<T: Content, L: Local> Board<T, L> {
         ensures closed { IfOk result
             (λ c. (c.token.me.0 ≡ shadow_of seat.token.me.0) × IsFull c.table.words
             × IsClosed L.goes seat.token.me.0 (slots_items c.table.words)) }
-        ensures fact { IfOk result
-            (λ c. L.fact seat.token.me.0.image seat.token.me.0.opening []
-            → IsClosedWithFact L.goes L.fact seat.token.me.0 (slots_items c.table.words)) }
         ensures cells { IfOk result
             (λ c. seat.token.me.0.turn ≡ None
-            → IsClosedWithCells T.opens T.follows L.goes seat.token.me.0 (slots_items c.table.words)) }
-        ensures sites { IfOk result (λ c. slots_len c.table.words ≡ self.table.shared.table_id.words) }
+            → IsClosedWithCells T.opens T.follows L.goes seat.token.me.0 (slots_items c.table.words)
+            (slots_items c.table.slots)) }
+        ensures sites { IfOk result
+            (λ c. (slots_len c.table.words ≡ self.table.shared.table_id.words)
+            × (slots_len c.table.slots ≡ self.table.shared.table_id.slots)) }
         ensures back { IfErr result (λ e. (e.board ≡ self) × (e.seat ≡ seat)) }
         ensures out { IfErr result
             (λ e. (0 < e.seats) × ((seat.first ≡ false) ⊎ (seat.split ≢ seat.joined))) }
@@ -245,18 +246,20 @@ impl<T: Content, L: Local> Board<T, L> {
                 seats,
             });
         }
-        let Board { table } = self;
+        let Board { table, sealed: _ } = self;
         let Seat {
             mut token,
             split: _,
             joined: _,
             first: _,
+            sealed: _,
         } = seat;
         let shadow = table.shared.split_seat::<Shadow>(&mut token);
         let table = table.close_with(token);
         Ok(Closed {
             table,
             token: shadow,
+            sealed: (),
         })
     }
 }

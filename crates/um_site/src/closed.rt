@@ -12,6 +12,8 @@ use std::alloc::Global;
 pub struct Closed<T> {
     pub table: Ended<Option<T>, Global>,
     pub token: Token<Option<T>, View>,
+    /// Closing a board alone makes one.
+    pub(crate) sealed: (),
     pub ghost full: { IsFull table.words × IsFull table.slots },
 }
 
@@ -23,6 +25,14 @@ impl<T> Closed<T> {
     {
         self.table.word(site as usize)
     }
+
+    /// What is in a slot.
+    pub fn slot(&self, slot: u16) -> &Option<T>
+        requires { slot < slots_len self.now.table.slots }
+        ensures { get_elem? (slots_items self.now.table.slots) slot ≡ some result.now }
+    {
+        self.table.slots.get(slot as usize)
+    }
 }
 
 impl<T: Drop> Closed<T> {
@@ -31,6 +41,7 @@ impl<T: Drop> Closed<T> {
         let Closed {
             mut table,
             token: _,
+            sealed: _,
         } = self;
         let mut slot = 0;
         while slot < table.slot_count() {

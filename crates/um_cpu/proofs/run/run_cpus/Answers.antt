@@ -1,4 +1,4 @@
-use Rattle.std.proofs.Common.{◌≡◌, ◌++◌, List, ap, arith, drop, length, length-append, take}
+use Rattle.std.proofs.Common.{◌≡◌, ◌∙◌, ◌++◌, List, ap, arith, drop, length, length-append, take}
 use Rattle.std.proofs.lemmas.List.{length-take}
 use Rattle.um_steps.specs.Given.{IsGiven}
 use Rattle.um_cpu.specs.declared.cpu.Cpu.{Cpu}
@@ -23,4 +23,5 @@ returns g c =
     let many = c.in_ok-all.ensures.count in
     omega (arith, taken, long, count, value, all.ok.0, many)
     ) in
-    all-ended c.args.image.now c.gather.new.seat.token.me.0 (length (take all.len (new ++ rest))) c.args.cpus c.in-Ok.closed c.gather.new.logs.items same c.in-Ok.ensures.closed.0 it.knows (c.in-Ok.ensures.cells it.knows.turn)
+    all-ended c.args.image.now c.gather.new.seat.token.me.0 (length (take all.len (new ++ rest))) c.args.cpus c.in-Ok.closed c.gather.new.logs.items same c.in-Ok.ensures.closed.0 it.knows (c.in-Ok.ensures.sites.0 ∙ c.in_ok-board.ensures.seated.words) (c.in-Ok.ensures.sites.1 ∙ c.in_ok-board.ensures.slots)
+    (c.in-Ok.ensures.cells it.knows.turn)

@@ -2,4 +2,4 @@ use Rattle.um_tables.specs.ObjectCells.{kept_in, looked_made}
 use Rattle.um_board.proofs.sites.SeatedSites.message_size.Given as goal
 
 abbrev pub ghosts-leave : goal.ghosts-leave
-ghosts-leave a = record { step = looked_made a.here.now.image.now a.here.now.cpu a.which a.turn.number (kept_in a.turn.before.value.value) }
+ghosts-leave a = record { step = looked_made a.here.now.image.now a.here.now.cpu a.which a.turn.number (kept_in a.turn.before.value) }

@@ -20,9 +20,6 @@ returns-clause-closed g c = let key = c.args.self.table.shared.key in let v = c.
       closes g.T.Content.opens g.T.Content.follows g.L.Local.goes key.0.value key.1.value.items _ v _ _ c.args.seat.live (c.args.seat.is_first first) none (rw is at fin),
     )
 
-pub returns-clause-fact : goal.returns-clause-fact
-returns-clause-fact g c = let v = c.args.seat.token.me.0 in let is = (returns-clause-closed g c).2 in λ first. (is.0, is.1, is.2, g.L.Local.fact_holds v.image v.opening _ is.0 first is.1)
-
 pub returns-clause-cells : goal.returns-clause-cells
 returns-clause-cells g c = let key = c.args.self.table.shared.key in let v = c.args.seat.token.me.0 in let is = ap (λ m. m.0) c.split_seat-shadow.ensures.2 in
     let first : c.args.seat.first ≡ true = not_false c.args.seat.first c.if-not-seat.false in
