@@ -18,20 +18,18 @@ const BLOCKS: usize = AREA_SIZE as usize / BLOCK;
 /// The blocks of a page.
 const PAGE: usize = 32;
 
-/// The bytes after the first sixteen, if there are sixteen and they are all zero.
-fn behind_zeros(bytes: &[u8]) -> Option<&[u8]>
-    ensures same { IfSome result
-        (λ rest. list_all (λ b. b == 0) bytes.now ≡ list_all (λ b. b == 0) rest.now) }
-    ensures fewer { IfSome result (λ rest. length rest.now < length bytes.now) }
+/// How many bytes are looked at together.
+const CHUNK: usize = 64;
+
+/// Whether all bytes of a chunk are zero. It looks at all of them, whatever it finds, so that they can be taken many at a time.
+fn is_zero(chunk: &[u8; CHUNK]) -> bool
+    ensures { result ≡ list_all (λ b. b == 0) chunk.now }
 {
-    match bytes {
-        [a, b, c, d, e, f, g, h, i, j, k, l, m, n, o, p, rest @ ..] => {
-            let front = *a | *b | *c | *d | *e | *f | *g | *h;
-            let back = *i | *j | *k | *l | *m | *n | *o | *p;
-            if front | back == 0 { Some(rest) } else { None }
-        }
-        _ => None,
+    let mut bits: u8 = 0;
+    'bytes: for b in chunk.as_slice() {
+        bits |= *b;
     }
+    bits == 0
 }
 
 /// Whether all bytes are zero, one after another.
@@ -41,15 +39,17 @@ fn each_is_zero(bytes: &[u8]) -> bool
     bytes.iter().all(|b| *b == 0)
 }
 
-/// Whether all bytes are zero, sixteen at a time.
+/// Whether all bytes are zero.
 fn are_zero(bytes: &[u8]) -> bool
     ensures { result ≡ list_all (λ b. b == 0) bytes.now }
 {
-    let mut left = bytes;
-    'sixteens: while let Some(rest) = behind_zeros(left) {
-        left = rest;
+    let (chunks, rest) = bytes.as_chunks::<CHUNK>();
+    'chunks: for chunk in chunks {
+        if !is_zero(chunk) {
+            return false;
+        }
     }
-    each_is_zero(left)
+    each_is_zero(rest)
 }
 
 /// The bytes from one place to another, as far as there are any.
