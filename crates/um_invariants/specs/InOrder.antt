@@ -1,11 +1,11 @@
 -- The order of the events of one processor, said of the events and of the states between them.
-use Rattle.std.specs.Prelude.{◌≡◌, ◌⊎◌, ℕ, ◌<◌, true, if◌then◌else◌, List, [], ◌∷◌, Option, Some, None, is_some}
+use Rattle.std.specs.Prelude.{◌≡◌, ◌⊎◌, ℕ, ◌<◌, Bool, true, false, if◌then◌else◌, List, [], ◌∷◌, Option, Some, None, is_some}
 use Rattle.um_base.specs.declared.act.Act.{Act}
 use Rattle.um_base.specs.declared.act.Event.{Event}
 use Rattle.um_base.specs.declared.image.Image.{Image}
 use Rattle.um_base.specs.declared.names.ThreadIx.{ThreadIx}
 use Rattle.um_machine.specs.declared.pending.Pending.{Pending}
-use Rattle.um_machine.specs.Run.{MayChoose, Step, is_tending, opening}
+use Rattle.um_machine.specs.Run.{MayChoose, Step, opening}
 use Rattle.um_machine.specs.State.{State}
 use Rattle.um_invariants.specs.NextSteps.{IsNext}
 use Rattle.um_invariants.specs.Ready.{behind_next, boots_ready, goes_on, next_ready, ready_after, running_or}
@@ -23,10 +23,16 @@ abbrev pub DropsLeast : State → ℕ → Pending → ℕ → Type 0
 DropsLeast s t (Pending.CleanPair who) row = (x : ℕ) → x < row → MayChoose s t x (Pending.CleanPair who) → ⊥
 DropsLeast s t step row = Unit {0}
 
+-- whether a step cleans
+abbrev pub is_cleaning : Pending → Bool
+is_cleaning (Pending.CleanPair who) = true
+is_cleaning Pending.Recycle = true
+is_cleaning step = false
+
 -- An event is a cleaning step: an object that is gone, and that nobody holds, is recycled, or a permission of its thread is dropped.
 pub record IsCleaning (s : State) (event : Event) (s2 : State) : Type 0 where
   pub made : Step s event s2
-  pub cleans : is_tending made.step ≡ true
+  pub cleans : is_cleaning made.step ≡ true
   pub least : DropsLeast s event.thread.0 made.step made.row
 
 -- no cleaning step of a thread is lawful

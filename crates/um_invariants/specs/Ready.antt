@@ -29,10 +29,15 @@ is_ready_step told (Some step) = true
 abbrev pub goes_on : State → ℕ → Bool
 goes_on s t = let me = thread_at s t in is_ready_step (is_some me.told) (slice_get me.pending 0)
 
--- whom an act starts or wakes
+-- whom an act starts, wakes or cuts
 abbrev pub readied : Act → List ℕ
 readied (Act.Start who) = who.0 ∷ []
 readied (Act.Work a answer woken) = map (λ (w : ThreadIx × Reply). w.0.0) woken
+readied (Act.Expire a woken) = map (λ (w : ThreadIx × Reply). w.0.0) woken
+readied (Act.Left who woken) = map (λ (w : ThreadIx × Reply). w.0.0) woken
+readied (Act.FutexWake a answer woken) = map (λ (w : ThreadIx × Reply). w.0.0) woken
+readied (Act.TimedOut who) = who.0 ∷ []
+readied (Act.Cut who) = who.0 ∷ []
 readied act = []
 
 -- the thread of a boot entry is ready
