@@ -1,5 +1,5 @@
 -- Objects that are gone are cleaned.
-use Rattle.std.proofs.Common.{◌≡◌, ℕ, true, refl, arith, Some}
+use Rattle.std.proofs.Common.{◌≡◌, ◌≤◌, ℕ, true, refl, arith, Some}
 use Rattle.std.specs.Prelude.{IsTrue}
 use Rattle.um_base.specs.Places.{own_row}
 use Rattle.um_base.specs.declared.names.ThreadIx.{ThreadIx}
@@ -9,7 +9,7 @@ use Rattle.um_machine.specs.Order.{Steps, to_thread}
 use Rattle.um_machine.specs.State.{State, vacant, object_at, pair_at, with_object}
 use Rattle.um_machine.specs.Table.{after}
 use Rattle.um_machine.proofs.EffectLemmas.{effects_of}
-use Rattle.um_measure.specs.Measure.{gone_cost}
+use Rattle.um_measure.specs.Measure.{object_cost}
 use Rattle.um_measure.specs.Reached.{IsReached}
 use Rattle.um_measure.proofs.MadeLemmas.{IsMade, lowers}
 use Rattle.um_measure.proofs.StoreLemmas.{store-set, store-object, store-dropped}
@@ -26,5 +26,5 @@ clean_pair s reached t x rest who held =
 pub recycle : (s : State) → IsReached s → (t x : ℕ) (rest : Steps) → IsTrue (is_gone (object_at s x).status) → IsMade s (after s t x Pending.Recycle rest) (Unit {0})
 recycle s reached t x rest gone =
     let set = store-set s.pairs s.objects x vacant in
-    let was : gone_cost (object_at s x) ≡ 1 = rw gone refl in
+    let was : 1 ≤ object_cost (object_at s x) = rw gone (omega arith) in
     lowers s reached (after s t x Pending.Recycle rest) 0 (base-wrote s reached.sized (effects_of s t x Pending.Recycle) refl) (omega (arith, set, was))

@@ -44,7 +44,7 @@ pub begun-living : (image : Image) (life : Life) (place : Place) → life ≡ Li
 begun-living image life place e = rw e refl
 
 -- what an ended one costs
-cost-ended : (image : Image) (me : Thread) (steps : Steps) (due checked : List Bool) → thread_cost image (record me { life = Life.Ended; checked = checked; told = None; child = None; due = due; pending = steps }) ≡ total (step_cost image) steps
+cost-ended : (image : Image) (me : Thread) (steps : Steps) (due checked : List Bool) → thread_cost image (record me { life = Life.Ended; checked = checked; until = None; told = None; child = None; due = due; pending = steps }) ≡ total (step_cost image) steps
 unfolding thread_cost
 cost-ended image me steps due checked = omega arith
 
@@ -82,6 +82,16 @@ pub exit : (s : State) → IsReached s → (t x : ℕ) (rest : Steps) → (threa
 exit s reached t x rest none living =
     let cost = cost-rests s.image (thread_at s t) none (life-living (thread_at s t).life living) in
     ends s reached t (end_steps s.image t (thread_at s t)) (end-last s.image t (thread_at s t)) (omega (arith, cost))
+
+-- an aborted thread ends at rest, or by its next step
+pub stop : (s : State) → IsReached s → (t x : ℕ) (rest : Steps) → (thread_at s t).pending ≡ [] → IsTrue (is_living (thread_at s t).life) → IsMade s (after s t x Pending.Killed rest) (Unit {0})
+stop s reached t x rest none living = exit s reached t x rest none living
+
+pub killed : (s : State) → IsReached s → (t x : ℕ) (rest : Steps) → IsReady s t Pending.Killed rest → IsMade s (after s t x Pending.Killed rest) (Unit {0})
+killed s reached t x rest ready =
+    let cost = cost-pending s.image (thread_at s t) ready.first ready.others ready.are in
+    let begun = begun-living s.image (thread_at s t).life (thread_at s t).place (ready-living s t Pending.Killed rest ready refl) in
+    ends s reached t (end_steps s.image t (thread_at s t)) (end-last s.image t (thread_at s t)) (omega (arith, cost, begun))
 
 pub fatal : (s : State) → IsReached s → (t x : ℕ) (rest : Steps) (reason : ℕ) (cause : Cause) → IsReady s t (Pending.Fatal reason cause) rest → IsMade s (after s t x (Pending.Fatal reason cause) rest) (Unit {0})
 fatal s reached t x rest reason cause ready =
