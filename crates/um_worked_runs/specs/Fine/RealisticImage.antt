@@ -85,6 +85,7 @@ image =
           ∷ script_1
           ∷ script_2
           ∷ script_3 ∷ [];
+      futexes = [];
     }
 
 -- which thread makes each step, and which one

@@ -56,6 +56,7 @@ image =
           ∷ record { thread = row 2; stack = row 3; script = 1; mode = Mode.User; priority = pos 0; domain = 0; pool = Some 0; grants = row 4 ∷ [] } ∷ [];
       scripts = script_0
           ∷ script_1 ∷ [];
+      futexes = [];
     }
 
 -- which thread makes each step, and which one
