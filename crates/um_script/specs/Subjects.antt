@@ -15,6 +15,6 @@ is_call mnemonic = is_of (codes "k_") mnemonic
 abbrev pub is_data_passing : Mnemonic → Bool
 is_data_passing mnemonic = is_of (codes "k_msgq_") mnemonic || is_of (codes "k_stack_") mnemonic || is_of (codes "k_pipe_") mnemonic
 
--- calls one of the five services
+-- calls one of the five services, or a timer
 abbrev pub is_service : Mnemonic → Bool
-is_service mnemonic = is_of (codes "k_sem_") mnemonic || is_of (codes "k_mutex_") mnemonic || is_data_passing mnemonic
+is_service mnemonic = is_of (codes "k_sem_") mnemonic || is_of (codes "k_mutex_") mnemonic || is_of (codes "k_timer_") mnemonic || is_data_passing mnemonic

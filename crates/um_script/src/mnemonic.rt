@@ -1,7 +1,7 @@
 //! The words that lines begin with, each by the name of its instruction. The calls have Zephyr's names.
 
-ghost use Rattle.std.specs.Prelude.{◌≡◌, ◌==◌, length, find, filter, bytes_eq};
-ghost use Rattle.um_script.specs.Instructions.{spelling, mnemonics};
+ghost use Rattle.std.specs.Prelude.{◌≡◌, ◌==◌, IfSome, IsTrue, length, find, filter, bytes_eq};
+ghost use Rattle.um_script.specs.Instructions.{spelling, mnemonics, is_offered};
 
 /// What a line does.
 #[derive(Clone, Copy)]
@@ -49,10 +49,20 @@ pub enum Mnemonic {
     PipeRead,
     PipeReset,
     PipeClose,
+    TimerStart,
+    TimerStop,
+    TimerStatus,
+    TimerSync,
+    Abort,
+    Join,
+    Suspend,
+    Continue,
+    FutexWait,
+    FutexWake,
 }
 
-/// All of them, the shortest words first.
-const ALL: [Mnemonic; 43] = [
+/// All that lines are read with, the shortest words first.
+const ALL: [Mnemonic; 47] = [
     Mnemonic::End,
     Mnemonic::Set,
     Mnemonic::Add,
@@ -79,6 +89,8 @@ const ALL: [Mnemonic; 43] = [
     Mnemonic::PipeWrite,
     Mnemonic::PipeReset,
     Mnemonic::PipeClose,
+    Mnemonic::TimerStop,
+    Mnemonic::TimerStart,
     Mnemonic::ObjectAlloc,
     Mnemonic::MutexUnlock,
     Mnemonic::Create,
@@ -88,7 +100,9 @@ const ALL: [Mnemonic; 43] = [
     Mnemonic::NameSet,
     Mnemonic::MsgqInit,
     Mnemonic::StackInit,
+    Mnemonic::TimerStatus,
     Mnemonic::MsgqUsed,
+    Mnemonic::TimerSync,
     Mnemonic::Grant,
     Mnemonic::Revoke,
     Mnemonic::DomainMove,
@@ -111,11 +125,12 @@ fn of_length(size: usize) -> &'static [Mnemonic]
         7 => &all[8..9],
         10 => &all[9..14],
         11 => &all[14..19],
-        12 => &all[19..26],
-        14 => &all[26..28],
-        15 => &all[28..30],
-        16 => &all[30..31],
-        17 => &all[31..34],
+        12 => &all[19..27],
+        13 => &all[27..28],
+        14 => &all[28..30],
+        15 => &all[30..32],
+        16 => &all[32..33],
+        17 => &all[33..36],
         _ => all,
     }
 }
@@ -178,12 +193,23 @@ impl Mnemonic {
             Mnemonic::PipeRead => b"k_pipe_read",
             Mnemonic::PipeReset => b"k_pipe_reset",
             Mnemonic::PipeClose => b"k_pipe_close",
+            Mnemonic::TimerStart => b"k_timer_start",
+            Mnemonic::TimerStop => b"k_timer_stop",
+            Mnemonic::TimerStatus => b"k_timer_status_get",
+            Mnemonic::TimerSync => b"k_timer_status_sync",
+            Mnemonic::Abort => b"k_thread_abort",
+            Mnemonic::Join => b"k_thread_join",
+            Mnemonic::Suspend => b"k_thread_suspend",
+            Mnemonic::Continue => b"k_thread_resume",
+            Mnemonic::FutexWait => b"k_futex_wait",
+            Mnemonic::FutexWake => b"k_futex_wake",
         }
     }
 
     /// The one whose word this is. It is looked for among those of the same length.
     pub fn of_word(word: &[u8]) -> Option<Mnemonic>
-        ensures { result ≡ find (λ m. bytes_eq word.now (spelling m)) mnemonics }
+        ensures value { result ≡ find (λ m. bytes_eq word.now (spelling m)) mnemonics }
+        ensures offered { IfSome result (λ m. IsTrue (is_offered m)) }
     {
         among(of_length(word.len()), word)
     }

@@ -4,6 +4,7 @@ ghost use Rattle.std.specs.Prelude.{◌≡◌, ◌-◌, ◌<◌, ◌^◌, length
 ghost use Rattle.um_script.specs.{
   Cursor.{words_left},
   Faults.{Gives},
+  Instructions.{is_offered},
   Lines.{instruction, alone, whole, line_of},
   Subjects.{is_call, is_service, is_data_passing},
   Writable.{is_line},
@@ -24,6 +25,7 @@ macro_rules! read {
 impl Words<'_> {
     /// The operands of an instruction.
     fn instruction(&mut self, mnemonic: Mnemonic) -> Result<Instr, LineFault>
+        requires { IsTrue (is_offered mnemonic) }
         ensures { Gives result (instruction mnemonic (words_left self.old)) (words_left self.new) }
     {
         match mnemonic {
@@ -40,7 +42,8 @@ impl Words<'_> {
 
     /// The operands of a call.
     fn call(&mut self, mnemonic: Mnemonic) -> Result<Instr, LineFault>
-        requires { IsTrue (is_call mnemonic) }
+        requires call { IsTrue (is_call mnemonic) }
+        requires offered { IsTrue (is_offered mnemonic) }
         ensures { Gives result (instruction mnemonic (words_left self.old)) (words_left self.new) }
     {
         match mnemonic {
@@ -65,7 +68,7 @@ impl Words<'_> {
         }
     }
 
-    /// The operands of a call of a service.
+    /// The operands of a call of a service or of a timer.
     fn service_call(&mut self, mnemonic: Mnemonic) -> Result<Instr, LineFault>
         requires { IsTrue (is_service mnemonic) }
         ensures { Gives result (instruction mnemonic (words_left self.old)) (words_left self.new) }
@@ -79,6 +82,10 @@ impl Words<'_> {
             Mnemonic::MutexInit => read!(self => MutexInit { object: term }),
             Mnemonic::MutexLock => read!(self => MutexLock { object: term, timeout: timeout }),
             Mnemonic::MutexUnlock => read!(self => MutexUnlock { object: term }),
+            Mnemonic::TimerStart => read!(self => TimerStart { object: term, ticks: term }),
+            Mnemonic::TimerStop => read!(self => TimerStop { object: term }),
+            Mnemonic::TimerStatus => read!(self => TimerStatus { object: term, to: register }),
+            Mnemonic::TimerSync => read!(self => TimerSync { object: term, to: register }),
             call => self.data_passing_call(call),
         }
     }
@@ -138,6 +145,7 @@ impl Words<'_> {
 
     /// The operands of an instruction, and no more words.
     fn whole(&mut self, mnemonic: Mnemonic) -> Result<Instr, LineFault>
+        requires { IsTrue (is_offered mnemonic) }
         ensures { result ≡ whole mnemonic (words_left self.old) }
     {
         let read = self.instruction(mnemonic);
