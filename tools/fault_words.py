@@ -27,7 +27,7 @@ KEYS = {
 }  # fmt: skip
 KEYS_OF_KIND = {
     "thread": [], "thread_stack": ["size"], "sem": ["count", "limit"], "mutex": ["init"], "msgq": ["msg_size", "max_msgs"],
-    "stack": ["entries"], "pipe": ["size"],
+    "stack": ["entries"], "pipe": ["size"], "timer": [],
 }  # fmt: skip
 KINDS = list(KEYS_OF_KIND)
 WORDS = {
