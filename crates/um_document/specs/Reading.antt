@@ -125,6 +125,7 @@ details_of Kind.Mutex t = Details.Mutex (truth_at Key.Init t)
 details_of Kind.Msgq t = Details.Msgq (msgq_numbers (number_given Key.MsgSize t) (number_given Key.MaxMsgs t))
 details_of Kind.Stack t = Details.Stack (number_given Key.Entries t)
 details_of Kind.Pipe t = Details.Pipe (number_given Key.Size t)
+details_of Kind.Timer t = Details.Timer
 
 abbrev pub object_of : Members → ObjectEntry
 object_of t =

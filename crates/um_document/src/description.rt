@@ -68,7 +68,7 @@ pub struct MsgqNumbers {
     pub max_msgs: i64,
 }
 
-/// The kind of an object, and what the description says of it beside. Without numbers it isn't initialised.
+/// The kind of an object, and what the description says of it beside. Where numbers could stand and don't it isn't initialised.
 #[derive(Clone, Copy, PartialEq, Eq)]
 pub enum Details {
     Thread,
@@ -78,6 +78,7 @@ pub enum Details {
     Msgq { numbers: Option<MsgqNumbers> },
     Stack { entries: Option<i64> },
     Pipe { size: Option<i64> },
+    Timer,
 }
 
 /// A static object.

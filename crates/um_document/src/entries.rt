@@ -163,6 +163,7 @@ fn details(table: &Table, kind: Kind) -> Details
         Kind::Pipe => Details::Pipe {
             size: number_given(table, Key::Size),
         },
+        Kind::Timer => Details::Timer,
     }
 }
 

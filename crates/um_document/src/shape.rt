@@ -332,7 +332,7 @@ pub fn kind_fields(kind: Kind) -> &'static [Field]
     ensures { result.now ≡ shape.kind_fields kind }
 {
     match kind {
-        Kind::Thread => &[],
+        Kind::Thread | Kind::Timer => &[],
         Kind::ThreadStack => THREAD_STACK,
         Kind::Sem => SEM,
         Kind::Mutex => MUTEX,
