@@ -187,6 +187,8 @@ lawful_image d words none =
       boot_threads = threads_once d d.boots booted new.boots;
       boot_stacks = stacks_once d d.boots booted new.boots;
       scripts = scripts_lawful d ps ss 0 d.scripts (as_many d) (record { limits = w.scripts; read = h.read; blocks = h.blocks; known = h.known; order = h.order });
+      futexes = refl;
+      futexes_apart = refl;
       light = light_by (weight (image_of d)) (none_if (nat_lt MOST_WEIGHT (weight (image_of d))) Flaw.Weight (no_front heavy large areas));
     }
 

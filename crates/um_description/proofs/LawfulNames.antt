@@ -1,6 +1,7 @@
 -- The names of an image are those of its description: lawful and distinct.
 use Rattle.std.proofs.Common.{◌≡◌, ℕ, ◌+◌, List, [], ◌∷◌, ◌++◌, length, map, drop, IsTrue, refl, ap, sym, ◌∙◌, subst, arith}
 use Rattle.std.specs.List.{list_all}
+use Rattle.std.proofs.lemmas.List.{append-nil}
 use Rattle.std.proofs.lemmas.List.Folds.{list_all-append}
 use Rattle.um_base.specs.declared.image.DomainDef.{DomainDef}
 use Rattle.um_base.specs.declared.image.ObjectDef.{ObjectDef}
@@ -48,7 +49,7 @@ names_again_in d ps ss h =
     let domains : map (λ (m : DomainDef). m.name) (map (domain_of (partition_names d)) d.domains) ≡ domain_names d = map_map (domain_of (partition_names d)) (λ (m : DomainDef). m.name) d.domains in
     let objects : map (λ (o : ObjectDef). o.name) (objects_from ss 0 0 d.objects) ≡ object_names d = object_names_again ss 0 0 d.objects in
     let scripts : map (λ (s : Script). s.name) (map (script_of (without_scripts d ps ss) d) d.scripts) ≡ script_names d = map_map (script_of (without_scripts d ps ss) d) (λ (s : Script). s.name) d.scripts in
-    rw (pools, partitions, domains, objects, scripts) refl
+    rw (pools, partitions, domains, objects, scripts) (append-nil (all_names d))
 
 -- ---- lawful
 

@@ -188,6 +188,7 @@ stack_right i (Details.Mutex init) h = All-nil IsSize
 stack_right i (Details.Msgq numbers) h = All-nil IsSize
 stack_right i (Details.Stack entries) h = All-nil IsSize
 stack_right i (Details.Pipe size) h = All-nil IsSize
+stack_right i Details.Timer h = All-nil IsSize
 
 object_right : (threads i : ℕ) (o : ObjectEntry) → object_limits threads i o ≡ [] → ((i == STATIC_ROWS) ≡ false) × All IsSize (asked_stack o)
 unfolding object_limits

@@ -82,6 +82,7 @@ details_limits i (Details.Stack None) = []
 details_limits i (Details.Stack (Some entries)) = outside Key.Entries (pos 1) (pos 64) (Place.Field Section.Object i Key.Entries) entries
 details_limits i (Details.Pipe None) = []
 details_limits i (Details.Pipe (Some size)) = outside Key.Size (pos 1) (pos 256) (Place.Field Section.Object i Key.Size) size
+details_limits i Details.Timer = []
 
 -- the first thread object too many, behind so many others
 abbrev pub one_thread_too_many : ℕ → ℕ → ObjectEntry → List Flaw

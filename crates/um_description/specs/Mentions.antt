@@ -73,6 +73,16 @@ mentions (Instr.StackPush object value) = in_term 1 object ++ in_term 2 value
 mentions (Instr.PipeInit object size) = in_term 1 object ++ in_term 2 size
 mentions (Instr.PipeWrite object addr n timeout) = in_term 1 object ++ in_term 2 addr ++ in_term 3 n
 mentions (Instr.PipeRead object addr n timeout) = in_term 1 object ++ in_term 2 addr ++ in_term 3 n
+mentions (Instr.TimerStart object ticks) = in_term 1 object ++ in_term 2 ticks
+mentions (Instr.TimerStop object) = in_term 1 object
+mentions (Instr.TimerStatus object to) = in_term 1 object
+mentions (Instr.TimerSync object to) = in_term 1 object
+mentions (Instr.Abort thread) = in_term 1 thread
+mentions (Instr.Join thread timeout) = in_term 1 thread
+mentions (Instr.Suspend thread) = in_term 1 thread
+mentions (Instr.Continue thread) = in_term 1 thread
+mentions (Instr.FutexWait addr value timeout) = in_term 1 addr ++ in_term 2 value
+mentions (Instr.FutexWake addr all) = in_term 1 addr
 mentions _ = []
 
 -- the column of a word of a line

@@ -120,6 +120,7 @@ object_def range x t o =
       | Details.Msgq numbers ↦ object_of o Kind.Msgq (row_addr x) (msgq_setup numbers)
       | Details.Stack entries ↦ object_of o Kind.Stack (row_addr x) (stack_setup entries)
       | Details.Pipe size ↦ object_of o Kind.Pipe (row_addr x) (pipe_setup size)
+      | Details.Timer ↦ object_of o Kind.Timer (row_addr x) Setup.Timer
     ]
 
 -- how many of the ranges an object takes
@@ -181,6 +182,7 @@ without_scripts d partitions stacks =
       objects = objects_from stacks 0 0 d.objects;
       boots = map (boot_of d) d.boots;
       scripts = [];
+      futexes = [];
     }
 
 -- Lines.
@@ -265,6 +267,16 @@ resolved image d (Instr.StackPush object value) = Instr.StackPush (term_of image
 resolved image d (Instr.PipeInit object size) = Instr.PipeInit (term_of image d object) (term_of image d size)
 resolved image d (Instr.PipeWrite object addr n timeout) = Instr.PipeWrite (term_of image d object) (term_of image d addr) (term_of image d n) timeout
 resolved image d (Instr.PipeRead object addr n timeout) = Instr.PipeRead (term_of image d object) (term_of image d addr) (term_of image d n) timeout
+resolved image d (Instr.TimerStart object ticks) = Instr.TimerStart (term_of image d object) (term_of image d ticks)
+resolved image d (Instr.TimerStop object) = Instr.TimerStop (term_of image d object)
+resolved image d (Instr.TimerStatus object to) = Instr.TimerStatus (term_of image d object) to
+resolved image d (Instr.TimerSync object to) = Instr.TimerSync (term_of image d object) to
+resolved image d (Instr.Abort thread) = Instr.Abort (term_of image d thread)
+resolved image d (Instr.Join thread timeout) = Instr.Join (term_of image d thread) timeout
+resolved image d (Instr.Suspend thread) = Instr.Suspend (term_of image d thread)
+resolved image d (Instr.Continue thread) = Instr.Continue (term_of image d thread)
+resolved image d (Instr.FutexWait addr value timeout) = Instr.FutexWait (term_of image d addr) (term_of image d value) timeout
+resolved image d (Instr.FutexWake addr all) = Instr.FutexWake (term_of image d addr) all
 resolved image d Instr.End = Instr.End
 resolved image d Instr.Oops = Instr.Oops
 resolved image d Instr.Panic = Instr.Panic

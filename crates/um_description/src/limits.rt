@@ -223,7 +223,7 @@ fn details_limit(i: usize, details: Details) -> Option<Flaw>
     ensures { result ≡ first_of (limits.details_limits i details) }
 {
     match details {
-        Details::Thread | Details::Mutex { .. } => None,
+        Details::Thread | Details::Mutex { .. } | Details::Timer => None,
         Details::ThreadStack { size } => object_number(i, Key::Size, 1, AREA_ENTRY as i64, size),
         Details::Sem {
             numbers: Some(numbers),

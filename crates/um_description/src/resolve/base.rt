@@ -103,5 +103,6 @@ pub fn without_scripts(
         objects,
         boots,
         scripts: BoundedVec::new(alloc),
+        futexes: BoundedVec::new(alloc),
     })
 }

@@ -171,5 +171,15 @@ pub fn resolved(image: &Image, d: &Indexed<'_>, instr: &Instr) -> Instr
         PipeInit { object: term, size: term },
         PipeWrite { object: term, addr: term, length: term, timeout: same },
         PipeRead { object: term, addr: term, length: term, timeout: same },
+        TimerStart { object: term, ticks: term },
+        TimerStop { object: term },
+        TimerStatus { object: term, to: same },
+        TimerSync { object: term, to: same },
+        Abort { thread: term },
+        Join { thread: term, timeout: same },
+        Suspend { thread: term },
+        Continue { thread: term },
+        FutexWait { addr: term, value: term, timeout: same },
+        FutexWake { addr: term, all: same },
     })
 }
