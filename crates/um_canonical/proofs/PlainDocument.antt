@@ -113,6 +113,8 @@ object_plain name true (Details.Pipe None) h k = ((refl, h), ((refl, refl), ((re
 object_plain name false (Details.Pipe None) h k = ((refl, h), ((refl, refl), tt))
 object_plain name true (Details.Pipe (Some n)) h k = ((refl, h), ((refl, refl), ((refl, tt), ((refl, k), tt))))
 object_plain name false (Details.Pipe (Some n)) h k = ((refl, h), ((refl, refl), ((refl, k), tt)))
+object_plain name true Details.Timer h k = ((refl, h), ((refl, refl), ((refl, tt), tt)))
+object_plain name false Details.Timer h k = ((refl, h), ((refl, refl), tt))
 
 abbrev pub PoolPlain : Option (List ℕ) → Type 0
 PoolPlain None = Unit {0}
@@ -210,6 +212,8 @@ object_apart name true (Details.Stack None) = refl
 object_apart name false (Details.Stack None) = refl
 object_apart name true (Details.Pipe None) = refl
 object_apart name false (Details.Pipe None) = refl
+object_apart name true Details.Timer = refl
+object_apart name false Details.Timer = refl
 object_apart name _ _ = refl
 
 boot_apart : (thread stack script : List ℕ) (priority : ℤ) (domain : List ℕ) (mode : Mode) (pool : Option (List ℕ)) (grants : List (List ℕ)) → are_apart (keys (boot_by thread stack script priority domain mode pool grants)) ≡ true

@@ -215,6 +215,7 @@ details_fit i (Details.Stack None) h = tt
 details_fit i (Details.Stack (Some n)) h = fits_in Key.Entries 1 64 (Place.Field Section.Object i Key.Entries) n (omega arith) h
 details_fit i (Details.Pipe None) h = tt
 details_fit i (Details.Pipe (Some n)) h = fits_in Key.Size 1 256 (Place.Field Section.Object i Key.Size) n (omega arith) h
+details_fit i Details.Timer h = tt
 
 -- ---- texts are names
 

@@ -73,6 +73,7 @@ details_by Kind.Stack (Setup.Stack entries) = Details.Stack (Some (pos entries))
 details_by Kind.Stack setup = Details.Stack None
 details_by Kind.Pipe (Setup.Pipe size) = Details.Pipe (Some (pos size))
 details_by Kind.Pipe setup = Details.Pipe None
+details_by Kind.Timer setup = Details.Timer
 
 abbrev pub object_entry : ObjectDef → ObjectEntry
 object_entry o = record { name = o.name; public = o.public; details = details_by o.kind o.setup }
