@@ -12,7 +12,7 @@ use um_samples::{LAST_BYTE, described};
 const LINES: &str = "\"store @p+31 1 0xab\", \"load r0 @p+32 1\"";
 
 /// Changes to `LAST_BYTE`, and what is told of each.
-const REFUSED: [(&str, &str, &str); 15] = [
+const REFUSED: [(&str, &str, &str); 19] = [
     (LAST_BYTE, "", "Version"),
     (LAST_BYTE, "version = \"1", "NotToml"),
     ("version = 1", "version = 1.0", "Version"),
@@ -47,6 +47,26 @@ const REFUSED: [(&str, &str, &str); 15] = [
         "priority = 0",
         "priority = 15",
         "Limit priority 14 boot[0].priority",
+    ),
+    (
+        "load r0 @p+32 1",
+        "k_sem_take @a K_TICKS(0)",
+        "Line Range script[0].lines[1]:15",
+    ),
+    (
+        "load r0 @p+32 1",
+        "k_timer_stop @tm",
+        "LineName script[0].lines[1]:14",
+    ),
+    (
+        "kind = \"thread\"}",
+        "kind = \"timer\"}",
+        "UnknownName boot[0].thread",
+    ),
+    (
+        "kind = \"thread\"}",
+        "kind = \"timer\", init = true}",
+        "UnknownKey object[0].init",
     ),
 ];
 
@@ -238,6 +258,26 @@ fn greatest_weight_is_read(rt: HostRuntime) -> Result<(), Fail> {
         )?;
         let found = answer_with(alloc, LINES, lines.as_str())?;
         assert_eq!(rt; found.as_str(), told);
+    }
+    Ok(())
+}
+
+/// A call of a timer costs twice what another call does, and ticks of a timeout cost nothing.
+#[test]
+fn timed_lines_are_weighed(rt: HostRuntime) -> Result<(), Fail> {
+    for (line, heavy) in [
+        ("k_timer_start @a 1", 320),
+        ("k_timer_stop @a", 320),
+        ("k_timer_status_get @a r0", 320),
+        ("k_timer_status_sync @a r0", 320),
+        ("k_sem_take @a K_TICKS(5)", 280),
+    ] {
+        let lines = format!(in rt.alloc(); "\"{line}\"")?;
+        let changed = LAST_BYTE.replacen(rt.alloc(), LINES, lines.as_str(), 1)?;
+        match read_image(rt.alloc(), changed.as_bytes()) {
+            Ok(image) => assert_eq!(rt; weight(&image), heavy, "{line}"),
+            Err(_) => assert!(rt; false, "{line}"),
+        }
     }
     Ok(())
 }
